@@ -1,0 +1,14 @@
+-- Going by cases on a test, and what follows from 0 being 1.
+use Prim.Native.Nat.{ℕ}
+use mathlib.Core.Path.{_≡_, refl}
+use mathlib.Core.Bool.{Bool, true, false}
+use native.Mathlib.Omega.{arith}
+
+-- either way of a test
+pub either : {A : Type 0} (t : Bool) → (t ≡ true → A) → (t ≡ false → A) → A
+either true f g = f refl
+either false f g = g refl
+
+-- two different constructors are equal only where 0 is 1
+pub clash : {A : Type 0} → _≡_ {A = ℕ} 0 1 → A
+clash e = absurd (omega arith)

@@ -1,0 +1,4 @@
+pub mod Cases
+pub mod Bytes
+pub mod Writing
+pub mod Lists

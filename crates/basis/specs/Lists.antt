@@ -1,0 +1,39 @@
+-- Laws of lists and of writing that several crates cite.
+use Prim.Native.Nat.{ℕ, zero, suc, _+_, _-_, _≤_, _<_}
+use mathlib.Core.Path.{_≡_, refl, sym, ap, _∙_}
+use mathlib.Core.List.{List, [], _∷_, _++_}
+use native.Mathlib.Omega.{arith}
+use native.Mathlib.Nat.{add-zero, zero-add}
+use lib.ListN.{length, set, take, drop, getD}
+use lib.Seq.{sets, sets-eq, getD-drop, getD-take}
+use borrow.Author.Tests.{le-leb, lt-leb}
+use Rattle.basis.specs.declared.Written.the-variants.{Bytes as Wrote, Room}
+use Rattle.basis.specs.Bytes.{Bytes}
+use Rattle.basis.specs.Writing.{answer, written}
+
+-- one write after another is one write
+pub sets-append : {A : Type 0} (l : List A) (i : ℕ) (xs ys : List A) → sets l i (xs ++ ys) ≡ sets (sets l i xs) (i + length xs) ys
+sets-append l i [] ys = rw (add-zero i)
+sets-append l i (x ∷ xs) ys = sets-append (set l i x) (suc i) xs ys ∙ ap (λ (k : ℕ). sets (sets (set l i x) (suc i) xs) k ys) {x = suc i + length xs} {y = i + suc (length xs)} (omega arith)
+
+-- a writer that has the room
+pub answer-fits : (xs out : List ℕ) → length xs ≤ length out → answer xs out ≡ Wrote (length xs)
+unfolding answer
+answer-fits xs out h = simp (le-leb _ _ h)
+
+pub written-fits : (xs out : List ℕ) → length xs ≤ length out → written xs out ≡ sets out 0 xs
+unfolding written
+written-fits xs out h = simp (le-leb _ _ h) (sym (simp zero-add at (sets-eq xs out 0 (omega arith))))
+
+-- a writer that has not
+pub answer-short : (xs out : List ℕ) → length out < length xs → answer xs out ≡ Room (length xs)
+unfolding answer
+answer-short xs out h = simp (lt-leb _ _ h)
+
+pub written-short : (xs out : List ℕ) → length out < length xs → written xs out ≡ out
+unfolding written
+written-short xs out h = simp (lt-leb _ _ h)
+
+-- parts of bytes are bytes
+pub drop-bytes : (n : ℕ) (s : List ℕ) → Bytes s → Bytes (drop n s)
+drop-bytes n s b i = rw (getD-drop n s i 0) (b (n + i))

@@ -1,0 +1,126 @@
+// Unsigned varints, from peer_id.rs: groups of seven bits, the low group first.
+ghost use mathlib.Core.Path.{_≡_};
+ghost use Prim.Native.Nat.{_+_, _≤_};
+ghost use lib.ListN.{length};
+ghost use lib.Seq.{sets};
+ghost use Rattle.basis.specs.Writing.{answer, written};
+ghost use Rattle.peer_id.specs.Uvarint.{uvarint, groupOf, readUvarint};
+use basis::Written;
+
+// Why there is no varint: refusals 1, 2 and 3.
+pub enum VarintError {
+    BufferTooShort,
+    Overflow,
+    NonCanonical,
+}
+
+// What reading finds: a value and how many bytes it took, or why there is none.
+pub enum Uvarint {
+    Value { value: u64, used: usize },
+    Refused(VarintError),
+}
+
+// What a byte says of the varint that it stands in.
+pub enum Group {
+    More,
+    Last,
+    Refused(VarintError),
+}
+
+// What the byte b says, with k bytes before it.
+fn group_says(k: usize, b: u8) -> Group
+    ensures { λ r. ⌜ r ≡ groupOf k b ⌝ }
+{
+    if k == 9 {
+        if 1 < b {
+            return Group::Refused(VarintError::Overflow);
+        }
+        if b == 0 {
+            return Group::Refused(VarintError::NonCanonical);
+        }
+        return Group::Last;
+    }
+    if 128 <= b {
+        return Group::More;
+    }
+    if b == 0 {
+        if k == 0 {
+            return Group::Last;
+        }
+        return Group::Refused(VarintError::NonCanonical);
+    }
+    Group::Last
+}
+
+// The varint that the input begins with.
+pub fn read_uvarint(input: &[u8]) -> Uvarint
+    ensures { λ r. ⌜ r ≡ readUvarint (now (input .entry)) ⌝ }
+{
+    let mut k: usize = 0;
+    let mut value: u64 = 0;
+    let mut weight: u64 = 1;
+    while k < input.len() {
+        let b = input[k];
+        let g = group_says(k, b);
+        match g {
+            Group::Refused(why) => {
+                return Uvarint::Refused(why);
+            }
+            Group::Last => {
+                return Uvarint::Value {
+                    value: value + weight * (b as u64),
+                    used: k + 1,
+                };
+            }
+            Group::More => {
+                value = value + weight * ((b % 128) as u64);
+                weight = weight * 128;
+                k = k + 1;
+            }
+        }
+    }
+    Uvarint::Refused(VarintError::BufferTooShort)
+}
+
+// How many bytes a value takes.
+pub fn uvarint_len(value: u64) -> usize
+    ensures { λ r. ⌜ r ≡ length (uvarint value) ⌝ }
+{
+    let mut v = value;
+    let mut len: usize = 1;
+    while 128 <= v {
+        v = v / 128;
+        len = len + 1;
+    }
+    len
+}
+
+// Writes a value at `at`, where it fits, and says where it ends. Shared by the writers of other crates, which measure first.
+pub fn put_uvarint(value: u64, out: &mut [u8], at: usize) -> usize
+    requires { ⌜ at + length (uvarint value) ≤ length (now out) ⌝ }
+    ensures { λ r. ⌜ r ≡ at + length (uvarint value) ⌝ }
+    ensures { λ _. ⌜ now (out .exit) ≡ sets (now (out .entry)) at (uvarint value) ⌝ }
+{
+    let mut v = value;
+    let mut i = at;
+    while 128 <= v {
+        out[i] = (v % 128) as u8 + 128;
+        v = v / 128;
+        i = i + 1;
+    }
+    out[i] = v as u8;
+    i + 1
+}
+
+// Writes a value at the front of out; where it does not fit, nothing.
+pub fn write_uvarint(value: u64, out: &mut [u8]) -> Written
+    ensures { λ r. ⌜ r ≡ answer (uvarint value) (now (out .entry)) ⌝ }
+    ensures { λ _. ⌜ now (out .exit) ≡ written (uvarint value) (now (out .entry)) ⌝ }
+{
+    let len = uvarint_len(value);
+    if out.len() < len {
+        return Written::Room(len);
+    }
+    let end = put_uvarint(value, out, 0);
+    Written::Bytes(end)
+}
