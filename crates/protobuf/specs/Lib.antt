@@ -1,0 +1,3 @@
+pub mod Refusal
+pub mod Field
+pub mod Encode

@@ -1,0 +1,545 @@
+// The fields of a Protocol Buffers body, from protobuf.rs: reading, passing over, writing, and the host's walk. A place past the end of the
+// input answers as the end does.
+ghost use mathlib.Core.Path.{_≡_};
+ghost use Prim.Native.Nat.{_+_, _≤_, _-_};
+ghost use lib.ListN.{length, drop};
+ghost use lib.Seq.{sets};
+ghost use Rattle.peer_id.specs.Uvarint.{uvarint, readUvarint};
+ghost use Rattle.protobuf.specs.Refusal.{refusalOf};
+ghost use Rattle.protobuf.specs.Field.{readTag, readLen, readString, readVarint, skipFixed, skipField, readValue, readField, walkStep};
+ghost use Rattle.protobuf.specs.Encode.{tag, varintField, bytesField, tagRefused, encoded, left};
+use basis::Written;
+use peer_id::Uvarint;
+use peer_id::VarintError;
+use peer_id::put_uvarint;
+use peer_id::read_uvarint;
+use peer_id::uvarint_len;
+
+// Wire types: varint, 64-bit, length-delimited, 32-bit.
+pub const WIRE_VARINT: u8 = 0;
+
+pub const WIRE_I64: u8 = 1;
+
+pub const WIRE_LEN: u8 = 2;
+
+pub const WIRE_I32: u8 = 5;
+
+// The largest field number, 2^29 - 1.
+const MAX_FIELD_NUMBER: u64 = 536870911;
+
+// The largest body, in bytes.
+pub const MAX_RPC_SIZE: usize = 65536;
+
+// Why a body is refused: 1 to 7 with the Rust's names, then 10 and 11, which the Rust does not have.
+pub enum WireError {
+    Varint(VarintError),
+    FieldOverflow {
+        offset: usize,
+        length: u64,
+        remaining: usize,
+    },
+    UnsupportedWireType {
+        wire_type: u8,
+        offset: usize,
+    },
+    InvalidFieldNumber {
+        field: u64,
+        offset: usize,
+    },
+    InvalidUtf8 {
+        offset: usize,
+    },
+    TooLarge {
+        len: usize,
+    },
+    TooManyRecords {
+        records: usize,
+    },
+}
+
+// The number of a refusal in 01's table, and how many values are returned beside it; the others are 0.
+pub struct Refusal {
+    pub number: u8,
+    pub count: u8,
+    pub first: u64,
+    pub second: u64,
+    pub third: u64,
+}
+
+pub enum Tag {
+    End,
+    Field {
+        field: u64,
+        wire_type: u8,
+        next: usize,
+    },
+    Refused(WireError),
+}
+
+// A part of the input.
+pub enum Part {
+    Bytes { start: usize, end: usize },
+    Refused(WireError),
+}
+
+pub enum VarintValue {
+    Value { value: u64, next: usize },
+    Refused(WireError),
+}
+
+pub enum Skip {
+    Next(usize),
+    Refused(WireError),
+}
+
+// A field that was read. `value` is the varint after the tag, a value (type 0) or a length (type 2), and `start` the place after it: the
+// bytes of a length-delimited field stand from start to next. The other types have none: value is 0 and start is tag_end.
+pub struct Field {
+    pub field: u64,
+    pub wire_type: u8,
+    pub tag_end: usize,
+    pub value: u64,
+    pub start: usize,
+    pub next: usize,
+}
+
+pub enum Step {
+    End,
+    At(Field),
+    Refused(WireError),
+}
+
+// The varint at idx.
+fn uvarint_at(input: &[u8], idx: usize) -> Uvarint
+    ensures { λ r. ⌜ r ≡ readUvarint (drop idx (now (input .entry))) ⌝ }
+{
+    if input.len() < idx {
+        return Uvarint::Refused(VarintError::BufferTooShort);
+    }
+    read_uvarint(&input[idx..])
+}
+
+// The tag at idx, or the end.
+pub fn read_tag(input: &[u8], idx: usize) -> Tag
+    ensures { λ r. ⌜ r ≡ readTag (now (input .entry)) idx ⌝ }
+{
+    if input.len() <= idx {
+        return Tag::End;
+    }
+    let v = uvarint_at(input, idx);
+    match v {
+        Uvarint::Refused(why) => Tag::Refused(WireError::Varint(why)),
+        Uvarint::Value { value, used } => {
+            let field = value / 8;
+            if field == 0 {
+                return Tag::Refused(WireError::InvalidFieldNumber { field, offset: idx });
+            }
+            if MAX_FIELD_NUMBER < field {
+                return Tag::Refused(WireError::InvalidFieldNumber { field, offset: idx });
+            }
+            Tag::Field {
+                field,
+                wire_type: (value % 8) as u8,
+                next: idx + used,
+            }
+        }
+    }
+}
+
+// The length at idx, and the bytes after it.
+pub fn read_len_delimited(input: &[u8], idx: usize) -> Part
+    ensures { λ r. ⌜ r ≡ readLen (now (input .entry)) idx ⌝ }
+{
+    let v = uvarint_at(input, idx);
+    match v {
+        Uvarint::Refused(why) => Part::Refused(WireError::Varint(why)),
+        Uvarint::Value { value, used } => {
+            let start = idx + used;
+            let remaining = input.len() - start;
+            if (remaining as u64) < value {
+                return Part::Refused(WireError::FieldOverflow {
+                    offset: start,
+                    length: value,
+                    remaining,
+                });
+            }
+            Part::Bytes {
+                start,
+                end: start + value as usize,
+            }
+        }
+    }
+}
+
+// The same, where the bytes must be UTF-8; a refusal points at the length.
+pub fn read_string(input: &[u8], idx: usize) -> Part
+    ensures { λ r. ⌜ r ≡ readString (now (input .entry)) idx ⌝ }
+{
+    let p = read_len_delimited(input, idx);
+    match p {
+        Part::Refused(why) => Part::Refused(why),
+        Part::Bytes { start, end } => {
+            if utf8::is_utf8(&input[start..end]) {
+                return Part::Bytes { start, end };
+            }
+            Part::Refused(WireError::InvalidUtf8 { offset: idx })
+        }
+    }
+}
+
+// The varint at idx, as the value of a field.
+pub fn read_varint_value(input: &[u8], idx: usize) -> VarintValue
+    ensures { λ r. ⌜ r ≡ readVarint (now (input .entry)) idx ⌝ }
+{
+    let v = uvarint_at(input, idx);
+    match v {
+        Uvarint::Refused(why) => VarintValue::Refused(WireError::Varint(why)),
+        Uvarint::Value { value, used } => VarintValue::Value {
+            value,
+            next: idx + used,
+        },
+    }
+}
+
+// Past n bytes at idx.
+fn advance(input: &[u8], idx: usize, n: usize) -> Skip
+    ensures { λ r. ⌜ r ≡ skipFixed (length (now (input .entry))) idx n ⌝ }
+{
+    let mut remaining: usize = 0;
+    if idx < input.len() {
+        remaining = input.len() - idx;
+    }
+    if remaining < n {
+        return Skip::Refused(WireError::FieldOverflow {
+            offset: idx,
+            length: n as u64,
+            remaining,
+        });
+    }
+    Skip::Next(idx + n)
+}
+
+// Past the value of a field whose tag ends at idx.
+pub fn skip_field(input: &[u8], idx: usize, wire_type: u8) -> Skip
+    ensures { λ r. ⌜ r ≡ skipField (now (input .entry)) idx «wire_type» ⌝ }
+{
+    if wire_type == WIRE_VARINT {
+        let v = read_varint_value(input, idx);
+        return match v {
+            VarintValue::Refused(why) => Skip::Refused(why),
+            VarintValue::Value { value: _, next } => Skip::Next(next),
+        };
+    }
+    if wire_type == WIRE_LEN {
+        let p = read_len_delimited(input, idx);
+        return match p {
+            Part::Refused(why) => Skip::Refused(why),
+            Part::Bytes { start: _, end } => Skip::Next(end),
+        };
+    }
+    if wire_type == WIRE_I32 {
+        return advance(input, idx, 4);
+    }
+    if wire_type == WIRE_I64 {
+        return advance(input, idx, 8);
+    }
+    Skip::Refused(WireError::UnsupportedWireType {
+        wire_type,
+        offset: idx,
+    })
+}
+
+// The value of a field whose tag ends at tag_end.
+fn read_value(input: &[u8], field: u64, wire_type: u8, tag_end: usize) -> Step
+    ensures { λ r. ⌜ r ≡ readValue (now (input .entry)) field «wire_type» «tag_end» ⌝ }
+{
+    if wire_type == WIRE_VARINT {
+        let v = read_varint_value(input, tag_end);
+        return match v {
+            VarintValue::Refused(why) => Step::Refused(why),
+            VarintValue::Value { value, next } => Step::At(Field {
+                field,
+                wire_type,
+                tag_end,
+                value,
+                start: next,
+                next,
+            }),
+        };
+    }
+    if wire_type == WIRE_LEN {
+        let p = read_len_delimited(input, tag_end);
+        return match p {
+            Part::Refused(why) => Step::Refused(why),
+            Part::Bytes { start, end } => Step::At(Field {
+                field,
+                wire_type,
+                tag_end,
+                value: (end - start) as u64,
+                start,
+                next: end,
+            }),
+        };
+    }
+    let k = skip_field(input, tag_end, wire_type);
+    match k {
+        Skip::Refused(why) => Step::Refused(why),
+        Skip::Next(next) => Step::At(Field {
+            field,
+            wire_type,
+            tag_end,
+            value: 0,
+            start: tag_end,
+            next,
+        }),
+    }
+}
+
+// The field at idx, its tag and its value: the step that every decoder of a submessage takes.
+pub fn read_field(input: &[u8], idx: usize) -> Step
+    ensures { λ r. ⌜ r ≡ readField (now (input .entry)) idx ⌝ }
+{
+    let t = read_tag(input, idx);
+    match t {
+        Tag::End => Step::End,
+        Tag::Refused(why) => Step::Refused(why),
+        Tag::Field {
+            field,
+            wire_type,
+            next,
+        } => read_value(input, field, wire_type, next),
+    }
+}
+
+// A place in a body, from which the host reads one top-level field after the other.
+pub struct Cursor {
+    pub at: usize,
+}
+
+// What a step of the walk finds: a field with the place after its tag and the next place, or the end, or why the body is refused.
+pub enum Walk {
+    End,
+    Field {
+        field: u64,
+        wire_type: u8,
+        tag_end: usize,
+        next: Cursor,
+    },
+    Refused(WireError),
+}
+
+impl Cursor {
+    // The field at the cursor, as read_tag and skip_field give it.
+    pub fn step(self, body: &[u8]) -> Walk
+        ensures { λ r. ⌜ r ≡ walkStep (now (body .entry)) (self .at) ⌝ }
+    {
+        let at = self.at;
+        if MAX_RPC_SIZE < body.len() {
+            return Walk::Refused(WireError::TooLarge { len: body.len() });
+        }
+        let t = read_tag(body, at);
+        match t {
+            Tag::End => Walk::End,
+            Tag::Refused(why) => Walk::Refused(why),
+            Tag::Field {
+                field,
+                wire_type,
+                next,
+            } => {
+                let k = skip_field(body, next, wire_type);
+                match k {
+                    Skip::Refused(why) => Walk::Refused(why),
+                    Skip::Next(end) => Walk::Field {
+                        field,
+                        wire_type,
+                        tag_end: next,
+                        next: Cursor { at: end },
+                    },
+                }
+            }
+        }
+    }
+}
+
+// What a writer of a field did: as `Written`, or it refused a field number or a wire type that no tag can have.
+pub enum Encoded {
+    Bytes(usize),
+    Room(usize),
+    Refused(WireError),
+}
+
+pub enum Checked {
+    Fine,
+    Refused(WireError),
+}
+
+// A tag has a field number from 1 to 2^29 - 1 and three bits of wire type.
+fn check_tag(field: u64, wire_type: u8) -> Checked
+    ensures { λ r. ⌜ r ≡ tagRefused field «wire_type» ⌝ }
+{
+    if field == 0 {
+        return Checked::Refused(WireError::InvalidFieldNumber { field, offset: 0 });
+    }
+    if MAX_FIELD_NUMBER < field {
+        return Checked::Refused(WireError::InvalidFieldNumber { field, offset: 0 });
+    }
+    if 7 < wire_type {
+        return Checked::Refused(WireError::UnsupportedWireType {
+            wire_type,
+            offset: 0,
+        });
+    }
+    Checked::Fine
+}
+
+// Writes a tag at the front of out.
+pub fn write_tag(out: &mut [u8], field: u64, wire_type: u8) -> Encoded
+    ensures { λ r. ⌜ r ≡ encoded field «wire_type» (tag field «wire_type») (now (out .entry)) ⌝ }
+    ensures { λ _. ⌜ now (out .exit) ≡ left field «wire_type» (tag field «wire_type») (now (out .entry)) ⌝ }
+{
+    let checked = check_tag(field, wire_type);
+    match checked {
+        Checked::Refused(why) => Encoded::Refused(why),
+        Checked::Fine => {
+            let value = field * 8 + wire_type as u64;
+            let len = uvarint_len(value);
+            if out.len() < len {
+                return Encoded::Room(len);
+            }
+            let end = put_uvarint(value, out, 0);
+            Encoded::Bytes(end)
+        }
+    }
+}
+
+// Writes a field that holds a varint at the front of out.
+pub fn encode_varint_field(out: &mut [u8], field: u64, value: u64) -> Encoded
+    ensures { λ r. ⌜ r ≡ encoded field 0 (varintField field value) (now (out .entry)) ⌝ }
+    ensures { λ _. ⌜ now (out .exit) ≡ left field 0 (varintField field value) (now (out .entry)) ⌝ }
+{
+    let checked = check_tag(field, WIRE_VARINT);
+    match checked {
+        Checked::Refused(why) => Encoded::Refused(why),
+        Checked::Fine => {
+            let total = uvarint_len(field * 8) + uvarint_len(value);
+            if out.len() < total {
+                return Encoded::Room(total);
+            }
+            let i = put_uvarint(field * 8, out, 0);
+            let end = put_uvarint(value, out, i);
+            Encoded::Bytes(end)
+        }
+    }
+}
+
+// Copies bytes to out from `at`, where they fit. Shared by the writers of other crates, which measure first.
+pub fn put_bytes(out: &mut [u8], at: usize, data: &[u8]) -> usize
+    requires { ⌜ at + length (now «data») ≤ length (now out) ⌝ }
+    ensures { λ r. ⌜ r ≡ at + length (now («data» .entry)) ⌝ }
+    ensures { λ _. ⌜ now (out .exit) ≡ sets (now (out .entry)) at (now («data» .entry)) ⌝ }
+{
+    let mut j = 0;
+    while j < data.len() {
+        out[at + j] = data[j];
+        j = j + 1;
+    }
+    at + data.len()
+}
+
+// Writes a field that holds bytes at the front of out: a string, or a submessage that is written already.
+pub fn encode_bytes_field(out: &mut [u8], field: u64, data: &[u8]) -> Encoded
+    ensures { λ r. ⌜ r ≡ encoded field 2 (bytesField field (now («data» .entry))) (now (out .entry)) ⌝ }
+    ensures { λ _. ⌜ now (out .exit) ≡ left field 2 (bytesField field (now («data» .entry))) (now (out .entry)) ⌝ }
+{
+    let checked = check_tag(field, WIRE_LEN);
+    match checked {
+        Checked::Refused(why) => Encoded::Refused(why),
+        Checked::Fine => {
+            let total = uvarint_len(field * 8 + 2) + uvarint_len(data.len() as u64) + data.len();
+            if out.len() < total {
+                return Encoded::Room(total);
+            }
+            let i = put_uvarint(field * 8 + 2, out, 0);
+            let j = put_uvarint(data.len() as u64, out, i);
+            let end = put_bytes(out, j, data);
+            Encoded::Bytes(end)
+        }
+    }
+}
+
+// A refusal's number and values, as 01's table has them.
+pub fn refusal_of(why: WireError) -> Refusal
+    ensures { λ r. ⌜ r ≡ refusalOf why ⌝ }
+{
+    match why {
+        WireError::Varint(v) => match v {
+            VarintError::BufferTooShort => Refusal {
+                number: 1,
+                count: 0,
+                first: 0,
+                second: 0,
+                third: 0,
+            },
+            VarintError::Overflow => Refusal {
+                number: 2,
+                count: 0,
+                first: 0,
+                second: 0,
+                third: 0,
+            },
+            VarintError::NonCanonical => Refusal {
+                number: 3,
+                count: 0,
+                first: 0,
+                second: 0,
+                third: 0,
+            },
+        },
+        WireError::FieldOverflow {
+            offset,
+            length,
+            remaining,
+        } => Refusal {
+            number: 4,
+            count: 3,
+            first: offset as u64,
+            second: length,
+            third: remaining as u64,
+        },
+        WireError::UnsupportedWireType { wire_type, offset } => Refusal {
+            number: 5,
+            count: 2,
+            first: wire_type as u64,
+            second: offset as u64,
+            third: 0,
+        },
+        WireError::InvalidFieldNumber { field, offset } => Refusal {
+            number: 6,
+            count: 2,
+            first: field,
+            second: offset as u64,
+            third: 0,
+        },
+        WireError::InvalidUtf8 { offset } => Refusal {
+            number: 7,
+            count: 1,
+            first: offset as u64,
+            second: 0,
+            third: 0,
+        },
+        WireError::TooLarge { len } => Refusal {
+            number: 10,
+            count: 1,
+            first: len as u64,
+            second: 0,
+            third: 0,
+        },
+        WireError::TooManyRecords { records } => Refusal {
+            number: 11,
+            count: 1,
+            first: records as u64,
+            second: 0,
+            third: 0,
+        },
+    }
+}
