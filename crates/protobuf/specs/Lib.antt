@@ -1,3 +1,4 @@
 pub mod Refusal
 pub mod Field
+pub mod Laws
 pub mod Encode
