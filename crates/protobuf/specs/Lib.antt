@@ -1,4 +1,8 @@
 pub mod Refusal
 pub mod Field
 pub mod Laws
+pub mod Grammar
+pub mod Walk
+pub mod WalkLaws
+pub mod Exactly
 pub mod Encode
