@@ -1,3 +1,4 @@
 pub mod Refusal
 pub mod Field
 pub mod Encode
+pub mod EncodeLaws
