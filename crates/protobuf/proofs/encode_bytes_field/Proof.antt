@@ -1,3 +1,14 @@
+-- `protobuf::encode_bytes_field` meets its contract: checked, measured, then the tag, the length and the bytes written where they fit, which are the field.
+use Prim.Native.Nat.{ℕ, _+_, _*_, _≤_, _<_}
+use mathlib.Core.Path.{_≡_, sym, ap, _∙_}
+use native.Mathlib.Omega.{arith}
+use lib.ListN.{length}
+use Rattle.peer_id.specs.Uvarint.{uvarint}
+use Rattle.peer_id.specs.Laws.{at-most-ten}
+use Rattle.protobuf.specs.declared.Checked.the-variants.{Fine}
+use Rattle.protobuf.specs.declared.Encoded.the-variants.{Bytes, Room}
+use Rattle.protobuf.specs.Encode.{tag, tagRefused, bytesField}
+use Rattle.protobuf.specs.EncodeLaws.{fine-tag, bytes-field-length, put-bytes-field, encoded-fits, encoded-short, encoded-refused, left-fits, left-short, left-refused}
 use borrow.Author.Needs.{needs}
 use Rattle.protobuf.proofs.encode_bytes_field.Statement.{statement}
 use Rattle.protobuf.proofs.encode_bytes_field.Tie as tie
@@ -8,77 +19,83 @@ use Rattle.peer_id.proofs.uvarint_len.Reads as uvarint-len-reads
 use Rattle.protobuf.proofs.check_tag.Reads as check-tag-reads
 use Rattle.protobuf.proofs.put_bytes.Reads as put-bytes-reads
 
--- src/lib.rt:454:9
 check-tag-requires : tie.Need-check-tag-requires
 check-tag-requires c κs = search needs
 
--- src/lib.rt:456:26
 enum-known-checked : tie.Need-enum-known-checked
 enum-known-checked c = search needs
 
--- src/lib.rt:458:37
 enum-told : tie.Need-enum-told
 enum-told c = search needs
 
--- src/lib.rt:458:37
 mul-uvarint-len : tie.Need-mul-uvarint-len
-mul-uvarint-len c = ?
+mul-uvarint-len c = let a = c .before .before .before .before .before .args in let t = fine-tag (a .field) 2 (sym (c .before .before .check-tag .ensures) ∙ c .enum-told .given .1) in omega arith
 
--- src/lib.rt:458:37
 add-uvarint-len : tie.Need-add-uvarint-len
-add-uvarint-len c = ?
+add-uvarint-len c = let a = c .before .before .before .before .before .args in let t = fine-tag (a .field) 2 (sym (c .before .before .check-tag .ensures) ∙ c .enum-told .given .1) in omega arith
 
--- src/lib.rt:458:25
 uvarint-len-requires : tie.Need-uvarint-len-requires
 uvarint-len-requires c κs = search needs
 
--- src/lib.rt:458:54
 uvarint-len-requires-2 : tie.Need-uvarint-len-requires-2
 uvarint-len-requires-2 c κs = search needs
 
--- src/lib.rt:458:25
 add-total : tie.Need-add-total
-add-total c = ?
+add-total c =
+    let a = c .before .before .before .before .before .before .before .args in
+    let t = fine-tag (a .field) 2 (sym (c .before .before .before .before .check-tag .ensures) ∙ c .before .before .enum-told .given .1) in
+    let m = at-most-ten (a .field * 8 + 2) (omega arith) in
+    let n = at-most-ten (length (a .«data» .now)) (omega arith) in
+    omega arith
 
--- src/lib.rt:458:25
 add-total-2 : tie.Need-add-total-2
-add-total-2 c = ?
+add-total-2 c =
+    let a = c .before .before .before .before .before .before .before .args in
+    let t = fine-tag (a .field) 2 (sym (c .before .before .before .before .check-tag .ensures) ∙ c .before .before .enum-told .given .1) in
+    let m = at-most-ten (a .field * 8 + 2) (omega arith) in
+    let n = at-most-ten (length (a .«data» .now)) (omega arith) in
+    omega arith
 
--- src/lib.rt:460:17
 returns : tie.Need-returns
-returns c = ?
+unfolding tag
+returns c =
+    let a = c .before .before .before .before .before .before .before .before .args in
+    let f : tagRefused (a .field) 2 ≡ Fine = sym (c .before .before .before .before .before .check-tag .ensures) ∙ c .before .before .before .enum-told .given .1 in
+    let e = bytes-field-length (a .field) (a .«data» .now) in
+    let h : length (a .out .now) < length (bytesField (a .field) (a .«data» .now)) = omega arith in
+    (ap Room (omega arith) ∙ sym (encoded-short _ _ _ _ f h), sym (left-short _ _ _ _ f h))
 
--- src/lib.rt:462:33
 mul-put-uvarint : tie.Need-mul-put-uvarint
-mul-put-uvarint c = ?
+mul-put-uvarint c = let a = c .before .before .before .before .before .before .before .before .args in let t = fine-tag (a .field) 2 (sym (c .before .before .before .before .before .check-tag .ensures) ∙ c .before .before .before .enum-told .given .1) in omega arith
 
--- src/lib.rt:462:33
 add-put-uvarint : tie.Need-add-put-uvarint
-add-put-uvarint c = ?
+add-put-uvarint c = let a = c .before .before .before .before .before .before .before .before .args in let t = fine-tag (a .field) 2 (sym (c .before .before .before .before .before .check-tag .ensures) ∙ c .before .before .before .enum-told .given .1) in omega arith
 
--- src/lib.rt:462:17
 put-uvarint-requires : tie.Need-put-uvarint-requires
 put-uvarint-requires c κs = search needs
 
--- src/lib.rt:463:17
 put-uvarint-requires-2 : tie.Need-put-uvarint-requires-2
 put-uvarint-requires-2 c κs = search needs
 
--- src/lib.rt:464:17
 put-bytes-requires : tie.Need-put-bytes-requires
 put-bytes-requires c κs = search needs
 
--- src/lib.rt:450:1
 returns-2 : tie.Need-returns-2
-returns-2 c = ?
+returns-2 c =
+    let e = sym (c .before .before .before .check-tag .ensures) ∙ c .before .checked .given .1 in (sym (encoded-refused _ _ _ _ _ e), sym (left-refused _ _ _ _ _ e))
 
--- src/lib.rt:450:1
 same-length : tie.Need-same-length
 same-length c = search needs
 
--- src/lib.rt:450:1
 returns-3 : tie.Need-returns-3
-returns-3 c = ?
+unfolding tag
+returns-3 c =
+    let a = c .before .before .before .before .before .before .before .before .before .before .before .before .before .before .before .before .before .before .before .before .args in
+    let f : tagRefused (a .field) 2 ≡ Fine = sym (c .before .before .before .before .before .before .before .before .before .before .before .before .before .before .before .before .before .check-tag .ensures) ∙ c .before .before .before .before .before .before .before .before .before .before .before .before .before .before .before .enum-told .given .1 in
+    let e = bytes-field-length (a .field) (a .«data» .now) in
+    let h : length (bytesField (a .field) (a .«data» .now)) ≤ length (a .out .now) = omega arith in
+    let p = put-bytes-field (a .out .now) _ _ _ 0 _ _ _ (a .field) (a .«data» .now) (c .before .before .before .before .before .before .before .before .before .before .put-uvarint .ensures) (c .before .before .before .before .before .before .put-uvarint2 .ensures) (c .before .before .put-bytes .ensures) in
+    (ap Bytes (omega (arith, p .0)) ∙ sym (encoded-fits _ _ _ _ f h), p .1 ∙ sym (left-fits _ _ _ _ f h))
 
 pub encode-bytes-field-spec : {M : Type 1} → statement M
 encode-bytes-field-spec =
