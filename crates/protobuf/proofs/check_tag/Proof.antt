@@ -3,8 +3,6 @@ use borrow.Author.Tests.{eq-eqb, ne-eqb, lt-ltb, le-ltb}
 use Rattle.protobuf.specs.Encode.{tagRefused}
 use Rattle.protobuf.proofs.check_tag.Statement.{statement}
 use Rattle.protobuf.proofs.check_tag.Tie as tie
-use Rattle.protobuf.proofs.check_tag.Reads as reads
-use Rattle.protobuf.proofs.check_tag.Lts as lts
 
 returns : tie.Need-returns
 unfolding tagRefused

@@ -1,9 +1,8 @@
 -- `protobuf::encode_varint_field` meets its contract: checked, measured, then the tag and the value written where they fit, which are the field.
-use Prim.Native.Nat.{ℕ, _+_, _*_, _≤_, _<_}
+use Prim.Native.Nat.{_*_, _≤_, _<_}
 use mathlib.Core.Path.{_≡_, sym, ap, _∙_}
 use native.Mathlib.Omega.{arith}
 use lib.ListN.{length}
-use Rattle.peer_id.specs.Uvarint.{uvarint}
 use Rattle.peer_id.specs.Laws.{at-most-ten}
 use Rattle.protobuf.specs.declared.Checked.the-variants.{Fine}
 use Rattle.protobuf.specs.declared.Encoded.the-variants.{Bytes, Room}
@@ -12,11 +11,6 @@ use Rattle.protobuf.specs.EncodeLaws.{fine-tag, tag-varint, varint-field
 use borrow.Author.Needs.{needs}
 use Rattle.protobuf.proofs.encode_varint_field.Statement.{statement}
 use Rattle.protobuf.proofs.encode_varint_field.Tie as tie
-use Rattle.protobuf.proofs.encode_varint_field.Reads as reads
-use Rattle.protobuf.proofs.encode_varint_field.Lts as lts
-use Rattle.peer_id.proofs.put_uvarint.Reads as put-uvarint-reads
-use Rattle.peer_id.proofs.uvarint_len.Reads as uvarint-len-reads
-use Rattle.protobuf.proofs.check_tag.Reads as check-tag-reads
 
 check-tag-requires : tie.Need-check-tag-requires
 check-tag-requires c κs = search needs

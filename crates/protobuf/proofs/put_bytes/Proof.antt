@@ -9,8 +9,6 @@ use lib.ListN.{length, drop, getD, set, length-set, drop-of-length-le}
 use lib.Seq.{sets, drop-cons}
 use Rattle.protobuf.proofs.put_bytes.Statement.{statement}
 use Rattle.protobuf.proofs.put_bytes.Tie as tie
-use Rattle.protobuf.proofs.put_bytes.Reads as reads
-use Rattle.protobuf.proofs.put_bytes.Lts as lts
 
 abbrev Inv-loop : tie.InvT-loop
 Inv-loop out₀ at «data» j₀ out j = (j ≤ length «data») × (length out ≡ length out₀) × (sets out (at + j) (drop j «data») ≡ sets out₀ at «data»)

@@ -6,8 +6,6 @@ use Rattle.protobuf.specs.Refusal.{refusalOf}
 use borrow.Author.Needs.{needs}
 use Rattle.protobuf.proofs.refusal_of.Statement.{statement}
 use Rattle.protobuf.proofs.refusal_of.Tie as tie
-use Rattle.protobuf.proofs.refusal_of.Reads as reads
-use Rattle.protobuf.proofs.refusal_of.Lts as lts
 
 enum-known-why : tie.Need-enum-known-why
 enum-known-why c = search needs

@@ -1,20 +1,15 @@
 -- `protobuf::write_tag` meets its contract: checked, measured, then written where it fits.
-use Prim.Native.Nat.{ℕ, _≤_, _<_}
+use Prim.Native.Nat.{_≤_, _<_}
 use mathlib.Core.Path.{_≡_, sym, ap, _∙_}
 use native.Mathlib.Omega.{arith}
 use lib.ListN.{length}
 use Rattle.protobuf.specs.declared.Checked.the-variants.{Fine}
-use Rattle.protobuf.specs.declared.Encoded.the-variants.{Bytes, Room, Refused}
+use Rattle.protobuf.specs.declared.Encoded.the-variants.{Bytes, Room}
 use Rattle.protobuf.specs.Encode.{tag, tagRefused}
 use Rattle.protobuf.specs.EncodeLaws.{fine-tag, encoded-fits, encoded-short, encoded-refused, left-fits, left-short, left-refused}
 use borrow.Author.Needs.{needs}
 use Rattle.protobuf.proofs.write_tag.Statement.{statement}
 use Rattle.protobuf.proofs.write_tag.Tie as tie
-use Rattle.protobuf.proofs.write_tag.Reads as reads
-use Rattle.protobuf.proofs.write_tag.Lts as lts
-use Rattle.peer_id.proofs.put_uvarint.Reads as put-uvarint-reads
-use Rattle.peer_id.proofs.uvarint_len.Reads as uvarint-len-reads
-use Rattle.protobuf.proofs.check_tag.Reads as check-tag-reads
 
 check-tag-requires : tie.Need-check-tag-requires
 check-tag-requires c κs = search needs
