@@ -1,5 +1,5 @@
--- `protobuf::encode_bytes_field` meets its contract: checked, measured, then the tag, the length and the bytes written where they fit, which are the field.
-use Prim.Native.Nat.{_+_, _*_, _≤_, _<_}
+-- `protobuf::encode_bytes_field` meets its contract: checked, measured, then its tag, length and bytes are written where they fit.
+use Prim.Native.Nat.{_≤_, _<_}
 use mathlib.Core.Path.{_≡_, sym, ap, _∙_}
 use native.Mathlib.Omega.{arith}
 use lib.ListN.{length}
@@ -7,7 +7,7 @@ use Rattle.peer_id.specs.Laws.{at-most-ten}
 use Rattle.protobuf.specs.declared.Checked.the-variants.{Fine}
 use Rattle.protobuf.specs.declared.Encoded.the-variants.{Bytes, Room}
 use Rattle.protobuf.specs.Encode.{tag, tagRefused, bytesField}
-use Rattle.protobuf.specs.EncodeLaws.{fine-tag, bytes-field-length, put-bytes-field, encoded-fits, encoded-short, encoded-refused, left-fits, left-short, left-refused}
+use Rattle.protobuf.specs.EncodeLaws.{fine-tag, tag-at-most-ten, bytes-field-length, put-bytes-field, encoded-fits, encoded-short, encoded-refused, left-fits, left-short, left-refused}
 use borrow.Author.Needs.{needs}
 use Rattle.protobuf.proofs.encode_bytes_field.Statement.{statement}
 use Rattle.protobuf.proofs.encode_bytes_field.Tie as tie
@@ -34,18 +34,20 @@ uvarint-len-requires-2 : tie.Need-uvarint-len-requires-2
 uvarint-len-requires-2 c κs = search needs
 
 add-total : tie.Need-add-total
+unfolding tag
 add-total c =
     let a = c .before .before .before .before .before .before .before .args in
     let t = fine-tag (a .field) 2 (sym (c .before .before .before .before .check-tag .ensures) ∙ c .before .before .enum-told .given .1) in
-    let m = at-most-ten (a .field * 8 + 2) (omega arith) in
+    let m = tag-at-most-ten (a .field) 2 t in
     let n = at-most-ten (length (a .«data» .now)) (omega arith) in
     omega arith
 
 add-total-2 : tie.Need-add-total-2
+unfolding tag
 add-total-2 c =
     let a = c .before .before .before .before .before .before .before .args in
     let t = fine-tag (a .field) 2 (sym (c .before .before .before .before .check-tag .ensures) ∙ c .before .before .enum-told .given .1) in
-    let m = at-most-ten (a .field * 8 + 2) (omega arith) in
+    let m = tag-at-most-ten (a .field) 2 t in
     let n = at-most-ten (length (a .«data» .now)) (omega arith) in
     omega arith
 

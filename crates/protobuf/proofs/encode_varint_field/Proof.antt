@@ -1,4 +1,4 @@
--- `protobuf::encode_varint_field` meets its contract: checked, measured, then the tag and the value written where they fit, which are the field.
+-- `protobuf::encode_varint_field` meets its contract: checked, measured, then its tag and value are written where they fit.
 use Prim.Native.Nat.{_*_, _≤_, _<_}
 use mathlib.Core.Path.{_≡_, sym, ap, _∙_}
 use native.Mathlib.Omega.{arith}
