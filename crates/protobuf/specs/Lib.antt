@@ -6,3 +6,4 @@ pub mod Walk
 pub mod WalkLaws
 pub mod Exactly
 pub mod Encode
+pub mod EncodeLaws
