@@ -1,0 +1,5 @@
+pub mod Schema
+pub mod Count
+pub mod Slots
+pub mod Rows
+pub mod Decode
