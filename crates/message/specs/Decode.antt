@@ -8,12 +8,12 @@ use lib.Dec.{ltb, eqb}
 use Rattle.protobuf.specs.declared.Field.{Field}
 use Rattle.protobuf.specs.declared.WireError.the-variants.{TooLarge, TooManyRecords}
 use Rattle.protobuf.specs.Walk.{Fields, end, refused, _then_, fieldsOf}
-use Rattle.message.specs.declared.Kind.the-variants as kind
-use Rattle.message.specs.declared.Counted.{Counted}
-use Rattle.message.specs.declared.Counted.the-variants as counted
+use Rattle.schema.specs.declared.Kind.the-variants as kind
+use Rattle.schema.specs.declared.Counted.{Counted}
+use Rattle.schema.specs.declared.Counted.the-variants as counted
 use Rattle.message.specs.declared.Decoded.{Decoded}
 use Rattle.message.specs.declared.Decoded.the-variants.{Records, Refused, Room}
-use Rattle.message.specs.Count.{counted as countedIn}
+use Rattle.schema.specs.Count.{counted as countedIn}
 use Rattle.message.specs.Rows.{rowsOf, wordsOfAll}
 
 -- a length-delimited field 3 is there, so the body has a control

@@ -1,5 +1,2 @@
-pub mod Schema
-pub mod Count
-pub mod Slots
 pub mod Rows
 pub mod Decode

@@ -7,20 +7,20 @@ use lib.ListN.{length, getD}
 use lib.Dec.{eqb, leb}
 use Rattle.protobuf.specs.declared.Field.{Field}
 use Rattle.protobuf.specs.Walk.{Fields, end, refused, _then_, fieldsOf, between}
-use Rattle.message.specs.declared.Kind.{Kind}
-use Rattle.message.specs.declared.Kind.the-variants as kind
-use Rattle.message.specs.declared.Role.{Role}
-use Rattle.message.specs.declared.Role.the-variants.{Skip, Number, Text, Bytes, Topic, MessageId, Sub}
-use Rattle.message.specs.declared.Place.{Place}
-use Rattle.message.specs.declared.Place.the-variants as place
-use Rattle.message.specs.declared.Number.{Number as Num}
-use Rattle.message.specs.declared.Number.the-variants as number
-use Rattle.message.specs.declared.Slots.{Slots}
+use Rattle.schema.specs.declared.Kind.{Kind}
+use Rattle.schema.specs.declared.Kind.the-variants as kind
+use Rattle.schema.specs.declared.Role.{Role}
+use Rattle.schema.specs.declared.Role.the-variants.{Skip, Number, Text, Bytes, Topic, MessageId, Sub}
+use Rattle.schema.specs.declared.Place.{Place}
+use Rattle.schema.specs.declared.Place.the-variants as place
+use Rattle.schema.specs.declared.Number.{Number as Num}
+use Rattle.schema.specs.declared.Number.the-variants as number
+use Rattle.schema.specs.declared.Slots.{Slots}
 use Rattle.message.specs.declared.Record.{Record}
 use Rattle.message.specs.declared.RecordAt.{RecordAt}
 use Rattle.message.specs.declared.RecordAt.the-variants as found
-use Rattle.message.specs.Schema.{roleOf, rank, ownOf}
-use Rattle.message.specs.Slots.{noSlots, slotsOf}
+use Rattle.schema.specs.Schema.{roleOf, rank, ownOf}
+use Rattle.schema.specs.Slots.{noSlots, slotsOf}
 
 -- ---- the records
 -- a topic or a message id: only its place
@@ -47,7 +47,7 @@ rowsAlong sub k base s (f then w) = roleRows sub base s f (roleOf k (f .field) (
 
 -- the message's own record, where its kind has one
 unfoldable pub ownRows : Kind → ℕ → List ℕ → List Record
-ownRows k base s = cond (eqb (ownOf k) 0) [] (record { kind = k; start = base; end = base + length s; slots = slotsOf k base s } ∷ [])
+ownRows k base s = cond (eqb (ownOf k) 0) [] (record { kind = k; start = base; end = base + length s; slots = slotsOf k s } ∷ [])
 
 -- the first number is how deep submessages are looked into: the kind's rank is enough
 unfoldable pub rowsTo : ℕ → Kind → ℕ → List ℕ → List Record

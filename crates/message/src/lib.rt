@@ -1,21 +1,29 @@
-// Reading a body, from message.rs: which records it has, where their fields stand, and why it is refused.
+// Reading a body, from message.rs: its records go to a table that the host lends.
 ghost use mathlib.Core.Path.{_≡_};
 ghost use mathlib.Core.List.{[], _∷_};
 ghost use Prim.Native.Nat.{_+_, _*_, _≤_};
 ghost use lib.ListN.{length};
 ghost use lib.Seq.{sets};
-ghost use Rattle.message.specs.Schema.{lenRole, varintField, roleOf, ownOf};
-ghost use Rattle.message.specs.Count.{Within, counted, fieldCount, textCount};
-ghost use Rattle.message.specs.Slots.{noSlots, setNumber, setPlace, withField, slotsOf};
+ghost use Rattle.schema.specs.Schema.{ownOf};
+ghost use Rattle.schema.specs.Count.{Within};
 ghost use Rattle.message.specs.Rows.{bareRow, ownRows, rowsOf, fieldRows, kindCode, numberWords, placeWords, placesWords, wordsOf, wordsOfAll, kindFrom, placeFrom, numberFrom, recordAt};
 ghost use Rattle.message.specs.Decode.{hasControl, decodeAnswer, decodeTable};
 use protobuf::Field;
 use protobuf::MAX_RPC_SIZE;
 use protobuf::Step;
 use protobuf::WIRE_LEN;
-use protobuf::WIRE_VARINT;
 use protobuf::WireError;
 use protobuf::read_field;
+use schema::Counted;
+use schema::Kind;
+use schema::Number;
+use schema::Place;
+use schema::Role;
+use schema::Slots;
+use schema::count;
+use schema::own;
+use schema::role_of;
+use schema::slots_of;
 
 // The most records that a body may have.
 pub const MAX_RECORDS: usize = 512;
@@ -23,67 +31,12 @@ pub const MAX_RECORDS: usize = 512;
 // How many words a record takes in the lent table.
 pub const RECORD_WORDS: usize = 20;
 
-// The messages of the gossipsub protobuf, and the two other kinds of record: a topic of a message and a message id.
-pub enum Kind {
-    Rpc,
-    SubOpts,
-    RawMessage,
-    Topic,
-    ControlMessage,
-    ControlIHave,
-    ControlIWant,
-    MessageId,
-    ControlGraft,
-    ControlPrune,
-    PeerInfo,
-}
-
-// What a field of a message is, by its number and wire type. A singular field of bytes or text has a slot of its message's record, 1 to 5;
-// the singular number, which a message has at most one of, has its own.
-pub enum Role {
-    Skip,
-    Number,
-    Text(u8),
-    Bytes(u8),
-    Topic,
-    MessageId,
-    Sub(Kind),
-}
-
-// An optional field: where its bytes stand, or that it is absent.
-pub enum Place {
-    Absent,
-    Present { start: usize, end: usize },
-}
-
-pub enum Number {
-    Absent,
-    Present(u64),
-}
-
-// The singular fields of a message. SubOpts: number is subscribe, first is topic_id. RawMessage: first to fifth are from, data, seqno,
-// signature, key. ControlIHave and ControlGraft: first is topic_id. ControlPrune: first is topic_id, number is backoff. PeerInfo: first and
-// second are peer_id and signed_peer_record.
-pub struct Slots {
-    pub number: Number,
-    pub first: Place,
-    pub second: Place,
-    pub third: Place,
-    pub fourth: Place,
-    pub fifth: Place,
-}
-
-// A record: its kind, where its bytes stand in the body, and its singular fields, with places in the body.
+// A record: its kind, where its bytes stand in the body, and its singular fields, whose places are counted from the record's start.
 pub struct Record {
     pub kind: Kind,
     pub start: usize,
     pub end: usize,
     pub slots: Slots,
-}
-
-pub enum Counted {
-    Records(usize),
-    Refused(WireError),
 }
 
 pub enum RecordAt {
@@ -95,342 +48,6 @@ pub enum Decoded {
     Records { count: usize, control: bool },
     Refused(WireError),
     Room(usize),
-}
-
-// The role of a length-delimited field.
-fn len_role(kind: Kind, field: u64) -> Role
-    ensures { λ r. ⌜ r ≡ lenRole kind field ⌝ }
-{
-    match kind {
-        Kind::Rpc => {
-            if field == 1 {
-                return Role::Sub(Kind::SubOpts);
-            }
-            if field == 2 {
-                return Role::Sub(Kind::RawMessage);
-            }
-            if field == 3 {
-                return Role::Sub(Kind::ControlMessage);
-            }
-            Role::Skip
-        }
-        Kind::SubOpts => {
-            if field == 2 {
-                return Role::Text(1);
-            }
-            Role::Skip
-        }
-        Kind::RawMessage => {
-            if field == 1 {
-                return Role::Bytes(1);
-            }
-            if field == 2 {
-                return Role::Bytes(2);
-            }
-            if field == 3 {
-                return Role::Bytes(3);
-            }
-            if field == 4 {
-                return Role::Topic;
-            }
-            if field == 5 {
-                return Role::Bytes(4);
-            }
-            if field == 6 {
-                return Role::Bytes(5);
-            }
-            Role::Skip
-        }
-        Kind::Topic => Role::Skip,
-        Kind::ControlMessage => {
-            if field == 1 {
-                return Role::Sub(Kind::ControlIHave);
-            }
-            if field == 2 {
-                return Role::Sub(Kind::ControlIWant);
-            }
-            if field == 3 {
-                return Role::Sub(Kind::ControlGraft);
-            }
-            if field == 4 {
-                return Role::Sub(Kind::ControlPrune);
-            }
-            Role::Skip
-        }
-        Kind::ControlIHave => {
-            if field == 1 {
-                return Role::Text(1);
-            }
-            if field == 2 {
-                return Role::MessageId;
-            }
-            Role::Skip
-        }
-        Kind::ControlIWant => {
-            if field == 1 {
-                return Role::MessageId;
-            }
-            Role::Skip
-        }
-        Kind::MessageId => Role::Skip,
-        Kind::ControlGraft => {
-            if field == 1 {
-                return Role::Text(1);
-            }
-            Role::Skip
-        }
-        Kind::ControlPrune => {
-            if field == 1 {
-                return Role::Text(1);
-            }
-            if field == 2 {
-                return Role::Sub(Kind::PeerInfo);
-            }
-            Role::Skip
-        }
-        Kind::PeerInfo => {
-            if field == 1 {
-                return Role::Bytes(1);
-            }
-            if field == 2 {
-                return Role::Bytes(2);
-            }
-            Role::Skip
-        }
-    }
-}
-
-// The number of the message's varint field, 0 where it has none.
-fn varint_field(kind: Kind) -> u64
-    ensures { λ r. ⌜ r ≡ varintField kind ⌝ }
-{
-    match kind {
-        Kind::Rpc => 0,
-        Kind::SubOpts => 1,
-        Kind::RawMessage => 0,
-        Kind::Topic => 0,
-        Kind::ControlMessage => 0,
-        Kind::ControlIHave => 0,
-        Kind::ControlIWant => 0,
-        Kind::MessageId => 0,
-        Kind::ControlGraft => 0,
-        Kind::ControlPrune => 3,
-        Kind::PeerInfo => 0,
-    }
-}
-
-// What a field of a message is.
-fn role_of(kind: Kind, field: u64, wire_type: u8) -> Role
-    ensures { λ r. ⌜ r ≡ roleOf kind field «wire_type» ⌝ }
-{
-    if wire_type == WIRE_LEN {
-        return len_role(kind, field);
-    }
-    if wire_type == WIRE_VARINT {
-        if field == varint_field(kind) {
-            return Role::Number;
-        }
-        return Role::Skip;
-    }
-    Role::Skip
-}
-
-// 1 where a submessage of that kind is a record of its own.
-fn own(kind: Kind) -> usize
-    ensures { λ r. ⌜ r ≡ ownOf kind ⌝ }
-{
-    match kind {
-        Kind::Rpc => 0,
-        Kind::SubOpts => 1,
-        Kind::RawMessage => 1,
-        Kind::Topic => 1,
-        Kind::ControlMessage => 0,
-        Kind::ControlIHave => 1,
-        Kind::ControlIWant => 1,
-        Kind::MessageId => 1,
-        Kind::ControlGraft => 1,
-        Kind::ControlPrune => 1,
-        Kind::PeerInfo => 1,
-    }
-}
-
-// n records for a field of text, or refusal 7.
-fn count_text(input: &[u8], f: Field, n: usize) -> Counted
-    requires { ⌜ Within (now input) f ⌝ }
-    ensures { λ r. ⌜ r ≡ textCount (now (input .entry)) f n ⌝ }
-{
-    let start = f.start;
-    let next = f.next;
-    if utf8::is_utf8(&input[start..next]) {
-        return Counted::Records(n);
-    }
-    Counted::Refused(WireError::InvalidUtf8 { offset: f.tag_end })
-}
-
-// How many records a field of a message has, or why the field is refused.
-fn count_field(input: &[u8], kind: Kind, f: Field) -> Counted
-    requires { ⌜ Within (now input) f ⌝ }
-    ensures { λ r. ⌜ r ≡ fieldCount kind (now (input .entry)) f ⌝ }
-{
-    let role = role_of(kind, f.field, f.wire_type);
-    match role {
-        Role::Skip => Counted::Records(0),
-        Role::Number => Counted::Records(0),
-        Role::Text(_) => count_text(input, f, 0),
-        Role::Bytes(_) => Counted::Records(0),
-        Role::Topic => count_text(input, f, 1),
-        Role::MessageId => Counted::Records(1),
-        Role::Sub(k) => {
-            let start = f.start;
-            let next = f.next;
-            let c = count(&input[start..next], k);
-            match c {
-                Counted::Refused(why) => Counted::Refused(why),
-                Counted::Records(n) => {
-                    let o = own(k);
-                    Counted::Records(o + n)
-                }
-            }
-        }
-    }
-}
-
-// How many records a message has, or why it is refused.
-fn count(input: &[u8], kind: Kind) -> Counted
-    ensures { λ r. ⌜ r ≡ counted kind (now (input .entry)) ⌝ }
-{
-    let mut at: usize = 0;
-    let mut n: usize = 0;
-    while at < input.len() {
-        let step = read_field(input, at);
-        match step {
-            Step::End => {
-                return Counted::Records(n);
-            }
-            Step::Refused(why) => {
-                return Counted::Refused(why);
-            }
-            Step::At(f) => {
-                let c = count_field(input, kind, f);
-                match c {
-                    Counted::Refused(why) => {
-                        return Counted::Refused(why);
-                    }
-                    Counted::Records(m) => {
-                        n = n + m;
-                        at = f.next;
-                    }
-                }
-            }
-        }
-    }
-    Counted::Records(n)
-}
-
-impl Slots {
-    pub fn none() -> Slots
-        ensures { λ r. ⌜ r ≡ noSlots ⌝ }
-    {
-        Slots {
-            number: Number::Absent,
-            first: Place::Absent,
-            second: Place::Absent,
-            third: Place::Absent,
-            fourth: Place::Absent,
-            fifth: Place::Absent,
-        }
-    }
-
-    // With a place in a slot.
-    fn with_place(self, slot: u8, place: Place) -> Slots
-        ensures { λ r. ⌜ r ≡ setPlace self slot place ⌝ }
-    {
-        let number = self.number;
-        let first = self.first;
-        let second = self.second;
-        let third = self.third;
-        let fourth = self.fourth;
-        let fifth = self.fifth;
-        if slot == 1 {
-            return Slots { number, first: place, second, third, fourth, fifth };
-        }
-        if slot == 2 {
-            return Slots { number, first, second: place, third, fourth, fifth };
-        }
-        if slot == 3 {
-            return Slots { number, first, second, third: place, fourth, fifth };
-        }
-        if slot == 4 {
-            return Slots { number, first, second, third, fourth: place, fifth };
-        }
-        Slots { number, first, second, third, fourth, fifth: place }
-    }
-
-    // With a number.
-    fn with_number(self, value: u64) -> Slots
-        ensures { λ r. ⌜ r ≡ setNumber self value ⌝ }
-    {
-        let first = self.first;
-        let second = self.second;
-        let third = self.third;
-        let fourth = self.fourth;
-        let fifth = self.fifth;
-        Slots { number: Number::Present(value), first, second, third, fourth, fifth }
-    }
-
-    // With a field of a message whose bytes begin at base: the last wins.
-    fn with_field(self, kind: Kind, base: usize, f: Field) -> Slots
-        requires { ⌜ (base + f .start ≤ 65536) × (base + f .next ≤ 65536) ⌝ }
-        ensures { λ r. ⌜ r ≡ withField kind base self f ⌝ }
-    {
-        let role = role_of(kind, f.field, f.wire_type);
-        match role {
-            Role::Skip => self,
-            Role::Number => self.with_number(f.value),
-            Role::Text(slot) => self.with_place(
-                slot,
-                Place::Present {
-                    start: base + f.start,
-                    end: base + f.next,
-                },
-            ),
-            Role::Bytes(slot) => self.with_place(
-                slot,
-                Place::Present {
-                    start: base + f.start,
-                    end: base + f.next,
-                },
-            ),
-            Role::Topic => self,
-            Role::MessageId => self,
-            Role::Sub(_) => self,
-        }
-    }
-}
-
-// The singular fields of a message whose bytes begin at base in the body.
-fn slots_of(input: &[u8], kind: Kind, base: usize) -> Slots
-    requires { ⌜ base + length (now input) ≤ 65536 ⌝ }
-    ensures { λ r. ⌜ r ≡ slotsOf kind base (now (input .entry)) ⌝ }
-{
-    let mut at: usize = 0;
-    let mut slots = Slots::none();
-    while at < input.len() {
-        let step = read_field(input, at);
-        match step {
-            Step::End => {
-                return slots;
-            }
-            Step::Refused(_) => {
-                return slots;
-            }
-            Step::At(f) => {
-                slots = slots.with_field(kind, base, f);
-                at = f.next;
-            }
-        }
-    }
-    slots
 }
 
 // The number that stands for a kind in the table.
@@ -516,21 +133,34 @@ fn put_places(table: &mut [u64], i: usize, slots: Slots) -> usize
 }
 
 // A record at a row of the table.
-fn put_record(table: &mut [u64], row: usize, record: Record)
+fn put_record(table: &mut [u64], row: usize, r: Record)
     requires { ⌜ (row + 1) * 20 ≤ length (now table) ⌝ }
-    ensures { λ _. ⌜ now (table .exit) ≡ sets (now (table .entry)) (row * 20) (wordsOf record) ⌝ }
+    ensures { λ _. ⌜ now (table .exit) ≡ sets (now (table .entry)) (row * 20) (wordsOf r) ⌝ }
 {
-    let kind = record.kind;
-    let slots = record.slots;
+    let kind = r.kind;
+    let slots = r.slots;
     let number = slots.number;
     let code = kind_code(kind);
-    let a = put_triple(table, row * RECORD_WORDS, code, record.start as u64, record.end as u64);
+    let a = put_triple(
+        table,
+        row * RECORD_WORDS,
+        code,
+        r.start as u64,
+        r.end as u64,
+    );
     let b = put_number(table, a, number);
     put_places(table, b, slots);
 }
 
 // Writes the records of a field of a message whose bytes begin at base, from a row on; the row after them.
-fn write_field(input: &[u8], kind: Kind, base: usize, f: Field, table: &mut [u64], row: usize) -> usize
+fn write_field(
+    input: &[u8],
+    kind: Kind,
+    base: usize,
+    f: Field,
+    table: &mut [u64],
+    row: usize,
+) -> usize
     requires { ⌜ (base + length (now input) ≤ 65536) × Within (now input) f × ((row + length (fieldRows kind base (now input) f)) * 20 ≤ length (now table)) ⌝ }
     ensures { λ r. ⌜ r ≡ row + length (fieldRows kind base (now (input .entry)) f) ⌝ }
     ensures { λ _. ⌜ now (table .exit) ≡ sets (now (table .entry)) (row * 20) (wordsOfAll (fieldRows kind base (now (input .entry)) f)) ⌝ }
@@ -556,7 +186,16 @@ fn write_leaf(kind: Kind, start: usize, end: usize, table: &mut [u64], row: usiz
     ensures { λ _. ⌜ now (table .exit) ≡ sets (now (table .entry)) (row * 20) (wordsOf (bareRow kind start end)) ⌝ }
 {
     let slots = Slots::none();
-    put_record(table, row, Record { kind, start, end, slots });
+    put_record(
+        table,
+        row,
+        Record {
+            kind,
+            start,
+            end,
+            slots,
+        },
+    );
     row + 1
 }
 
@@ -570,7 +209,7 @@ fn write_own(input: &[u8], kind: Kind, base: usize, table: &mut [u64], row: usiz
     if o == 0 {
         return row;
     }
-    let slots = slots_of(input, kind, base);
+    let slots = slots_of(input, kind);
     put_record(
         table,
         row,

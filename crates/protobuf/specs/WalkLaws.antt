@@ -1,6 +1,6 @@
 -- Laws of the walk: it moves, stays within the body, and ends.
 use Prim.Native.Nat.{ℕ, zero, suc, _+_, _-_, _≤_, _<_}
-use mathlib.Core.Path.{_≡_, refl, sym, ap, _∙_}
+use mathlib.Core.Path.{_≡_, refl, sym, ap, subst, _∙_}
 use mathlib.Core.List.{List, [], _∷_}
 use native.Mathlib.Omega.{arith}
 use lib.ListN.{length}
@@ -16,6 +16,7 @@ use Rattle.protobuf.specs.declared.VarintValue.{VarintValue}
 use Rattle.protobuf.specs.declared.VarintValue.the-variants as value
 use Rattle.protobuf.specs.declared.Skip.{Skip}
 use Rattle.protobuf.specs.declared.Skip.the-variants as skip
+use Rattle.protobuf.specs.declared.WireError.{WireError}
 use Rattle.protobuf.specs.declared.Walk.{Walk}
 use Rattle.protobuf.specs.declared.Walk.the-variants as walk
 use Rattle.protobuf.specs.declared.Field.{Field}
@@ -95,3 +96,19 @@ tag-outline s (tag.Field n type at) = read-outline s n type at
 pub walk-outline : (s : List ℕ) (at : ℕ) → length s ≤ 65536 → walkStep s at ≡ outline (readField s at)
 unfolding walkStep readField
 walk-outline s at h = simp (le-ltb _ _ h) (tag-outline s (readTag s at))
+
+-- ---- induction along the walk: what holds at the end and at a refusal, and before a field where it holds after it, holds from every place
+module _ (s : List ℕ) (P : ℕ → Fields → Type 0) (at-end : (at : ℕ) → P at end) (at-refusal : (at : ℕ) (why : WireError) → P at (refused why)) (at-field : (at : ℕ) (f : Field) → Stands s at f → step.At f ≡ readField s at → P (f .next) (walkAt s (f .next)) → P at (f then walkAt s (f .next))) where
+  along-step : (at : ℕ) (r : Step) → r ≡ readField s at → ((f : Field) → step.At f ≡ readField s at → P (f .next) (walkAt s (f .next))) → P at (onStep (walkAt s) r)
+  along-step at step.End e ih = at-end at
+  along-step at (step.Refused why) e ih = at-refusal at why
+  along-step at (step.At f) e ih = at-field at f (field-stands s at f e) e (ih f e)
+
+  along-from : (n at : ℕ) → length s - at < n → P at (walkAt s at)
+  along-from zero at h = absurd (omega arith)
+  along-from (suc n) at h =
+      subst (P at) (sym (walk-step s at))
+      (along-step at (readField s at) refl (λ f e. let m = field-stands s at f e in along-from n (f .next) (omega arith)))
+
+  pub along : (at : ℕ) → P at (walkAt s at)
+  along at = along-from (suc (length s - at)) at (omega arith)

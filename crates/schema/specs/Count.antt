@@ -7,12 +7,12 @@ use Rattle.utf8.specs.Utf8.{isUtf8}
 use Rattle.protobuf.specs.declared.Field.{Field}
 use Rattle.protobuf.specs.declared.WireError.the-variants.{InvalidUtf8}
 use Rattle.protobuf.specs.Walk.{Fields, end, refused, _then_, fieldsOf, between}
-use Rattle.message.specs.declared.Kind.{Kind}
-use Rattle.message.specs.declared.Role.{Role}
-use Rattle.message.specs.declared.Role.the-variants.{Skip, Number, Text, Bytes, Topic, MessageId, Sub}
-use Rattle.message.specs.declared.Counted.{Counted}
-use Rattle.message.specs.declared.Counted.the-variants.{Records, Refused}
-use Rattle.message.specs.Schema.{roleOf, rank, ownOf}
+use Rattle.schema.specs.declared.Kind.{Kind}
+use Rattle.schema.specs.declared.Role.{Role}
+use Rattle.schema.specs.declared.Role.the-variants.{Skip, Number, Text, Bytes, Topic, MessageId, Sub}
+use Rattle.schema.specs.declared.Counted.{Counted}
+use Rattle.schema.specs.declared.Counted.the-variants.{Records, Refused}
+use Rattle.schema.specs.Schema.{roleOf, rank, ownOf}
 
 -- the field's value lies within the bytes
 pub record Within (s : List ℕ) (f : Field) : Type 0 where
