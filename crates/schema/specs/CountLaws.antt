@@ -113,12 +113,12 @@ own-one kind.ControlGraft = omega arith
 own-one kind.ControlPrune = omega arith
 own-one kind.PeerInfo = omega arith
 
-text-fits : (s : List ℕ) (f : Field) (n m : ℕ) → textCount s f n ≡ Records m → m ≡ n
+pub text-fits : (s : List ℕ) (f : Field) (n m : ℕ) → textCount s f n ≡ Records m → m ≡ n
 unfolding textCount
 text-fits s f n m h =
     either (isUtf8 (between s (f .start) (f .next))) (λ t. let e = simp t at h in cc) (λ t. clash (let e = simp t at h in cc))
 
-plus-fits : (n m : ℕ) (r : Counted) → plus n r ≡ Records m → (x : ℕ) × (r ≡ Records x) × (m ≡ n + x)
+pub plus-fits : (n m : ℕ) (r : Counted) → plus n r ≡ Records m → (x : ℕ) × (r ≡ Records x) × (m ≡ n + x)
 plus-fits n m (Records x) h = (x, refl, cc)
 plus-fits n m (Refused why) h = clash (cc)
 
@@ -136,7 +136,7 @@ role-fits s at f (Sub k) sub m st h ih =
     let o = own-one k in
     omega (arith, t .2)
 
-then-fits : (a : Counted) (b : Counted) (n : ℕ) → andThen a b ≡ Records n → (x : ℕ) × (y : ℕ) × (a ≡ Records x) × (b ≡ Records y) × (n ≡ x + y)
+pub then-fits : (a : Counted) (b : Counted) (n : ℕ) → andThen a b ≡ Records n → (x : ℕ) × (y : ℕ) × (a ≡ Records x) × (b ≡ Records y) × (n ≡ x + y)
 then-fits (Records x) (Records y) n h = (x, y, refl, refl, cc)
 then-fits (Records x) (Refused why) n h = clash (cc)
 then-fits (Refused why) b n h = clash (cc)
