@@ -1,3 +1,4 @@
 pub mod Little
 pub mod Copy
 pub mod Hex
+pub mod Numbers

@@ -5,7 +5,8 @@ use mathlib.Core.List.{List, [], _∷_, _++_}
 use mathlib.Core.Bool.{Bool, true, false, cond}
 use native.Mathlib.Omega.{arith}
 use native.Mathlib.Nat.{pow-suc, one-le-pow}
-use lib.ListN.{length, take, drop, length-append}
+use native.Mathlib.Numerals.{add-one}
+use lib.ListN.{length, take, drop, set, length-append}
 use lib.Seq.{sets, length-sets}
 use lib.Dec.{ltb, eqb}
 use borrow.Author.Tests.{ltb-true, ltb-false, lt-ltb}
@@ -28,6 +29,13 @@ puts-then xs ys {b} {m} {a} {at} {i} {end} p q =
       place = omega (arith, length-append xs ys, p .place, q .place);
       bytes = q .bytes ∙ rw (p .bytes, p .place) (sym (sets-append b at xs ys));
     }
+
+-- one byte, and then a text
+pub puts-cons : (x : ℕ) (xs : List ℕ) {b a : List ℕ} {at end : ℕ} → Puts xs (set b at x) (at + 1) a end → Puts (x ∷ xs) b at a end
+puts-cons x xs {b} {a} {at} {end} p = record { place = omega (arith, p .place); bytes = p .bytes ∙ rw (add-one at) }
+
+pub puts-as : {xs ys b a : List ℕ} {at end : ℕ} → xs ≡ ys → Puts xs b at a end → Puts ys b at a end
+puts-as {b = b} {a = a} {at = at} {end = end} e p = subst (λ (l : List ℕ). Puts l b at a end) e p
 
 pub puts-length : {xs b a : List ℕ} {at end : ℕ} → Puts xs b at a end → length a ≡ length b
 puts-length {xs} {b} {a} {at} p = ap length (p .bytes) ∙ length-sets b at xs

@@ -1,4 +1,9 @@
+-- `text::put_decimal` meets its contract: the fewest digits, put as a text.
 use borrow.Author.Needs.{needs}
+use native.Mathlib.Omega.{arith}
+use mathlib.Core.Path.{ap, _∙_}
+use lib.ListN.{length}
+use Rattle.text.specs.Laws.{puts-as, fewest-decimal, decimal-twenty}
 use Rattle.text.proofs.put_decimal.Statement.{statement}
 use Rattle.text.proofs.put_decimal.Tie as tie
 use Rattle.text.proofs.put_decimal.Reads as reads
@@ -6,29 +11,23 @@ use Rattle.text.proofs.put_decimal.Lts as lts
 use Rattle.io.proofs.decimal.Reads as decimal-reads
 use Rattle.text.proofs.put_text.Reads as put-text-reads
 
--- src/lib.rt:76:9
 decimal-requires : tie.Need-decimal-requires
 decimal-requires c κs = search needs
 
--- src/lib.rt:77:23
 array-share-prefix-text : tie.Need-array-share-prefix-text
 array-share-prefix-text c = search needs
 
--- src/lib.rt:77:23
 slice-aggregate-put-text : tie.Need-slice-aggregate-put-text
 slice-aggregate-put-text c = search needs
 
--- src/lib.rt:77:5
 put-text-requires : tie.Need-put-text-requires
-put-text-requires c κs = ?
+put-text-requires c κs = let e = c .before .before .decimal .ensures .1 in omega (arith, decimal-twenty (c .before .before .before .before .before .args .n) (omega arith), ap length (e .1 ∙ fewest-decimal _ _ (e .0)))
 
--- src/lib.rt:71:1
 same-length : tie.Need-same-length
 same-length c = search needs
 
--- src/lib.rt:71:1
 returns : tie.Need-returns
-returns c = ?
+returns c = let e = c .before .before .before .before .before .decimal .ensures .1 in puts-as (e .1 ∙ fewest-decimal _ _ (e .0)) (c .before .before .put-text .ensures)
 
 pub put-decimal-spec : {M : Type 1} → statement M
 put-decimal-spec =

@@ -1,29 +1,31 @@
+-- `text::put_number` meets its contract: a blank, and then the digits.
 use borrow.Author.Needs.{needs}
+use mathlib.Core.Path.{_∙_}
+use native.Mathlib.Omega.{arith}
+use lib.ListN.{length-set}
+use Rattle.text.specs.Line.{number}
+use Rattle.text.specs.Laws.{puts-cons, puts-length}
 use Rattle.text.proofs.put_number.Statement.{statement}
 use Rattle.text.proofs.put_number.Tie as tie
 use Rattle.text.proofs.put_number.Reads as reads
 use Rattle.text.proofs.put_number.Lts as lts
 use Rattle.text.proofs.put_decimal.Reads as put-decimal-reads
 
--- src/lib.rt:85:5
 slice-write-out : tie.Need-slice-write-out
 slice-write-out c = search needs
 
--- src/lib.rt:86:22
 add-put-decimal : tie.Need-add-put-decimal
 add-put-decimal c = search needs
 
--- src/lib.rt:86:5
 put-decimal-requires : tie.Need-put-decimal-requires
-put-decimal-requires c κs = ?
+put-decimal-requires c κs = simp length-set (omega arith)
 
--- src/lib.rt:81:1
 same-length : tie.Need-same-length
-same-length c = ?
+same-length c = puts-length (c .before .before .put-decimal .ensures) ∙ simp length-set
 
--- src/lib.rt:81:1
 returns : tie.Need-returns
-returns c = ?
+unfolding number
+returns c = puts-cons _ _ (c .before .before .put-decimal .ensures)
 
 pub put-number-spec : {M : Type 1} → statement M
 put-number-spec =

@@ -1,49 +1,44 @@
+-- `text::put_numbers` meets its contract: one number after the other, as many as are counted.
 use borrow.Author.Needs.{needs}
+use Prim.Native.Nat.{_≤_}
+use native.Mathlib.Omega.{arith}
+use Rattle.text.specs.Laws.{puts-none, puts-then, puts-as, puts-length, length-number}
+use Rattle.text.proofs.Numbers.{none, one, two, three}
 use Rattle.text.proofs.put_numbers.Statement.{statement}
 use Rattle.text.proofs.put_numbers.Tie as tie
 use Rattle.text.proofs.put_numbers.Reads as reads
 use Rattle.text.proofs.put_numbers.Lts as lts
 use Rattle.text.proofs.put_number.Reads as put-number-reads
 
--- src/lib.rt:95:9
 returns : tie.Need-returns
-returns c = ?
+returns c = puts-as (none _ _ _ _ (c .if1 .taken)) (puts-none _ _)
 
--- src/lib.rt:97:9
 put-number-requires : tie.Need-put-number-requires
 put-number-requires c κs = search needs
 
--- src/lib.rt:99:9
 same-length : tie.Need-same-length
 same-length c = search needs
 
--- src/lib.rt:99:9
 returns-2 : tie.Need-returns-2
-returns-2 c = ?
+returns-2 c = puts-as (one _ _ _ _ (c .if2 .taken)) (c .before .before .before .put-number .ensures)
 
--- src/lib.rt:101:9
 put-number-requires-2 : tie.Need-put-number-requires-2
-put-number-requires-2 c κs = ?
+put-number-requires-2 c κs = omega (arith, length-number (c .before .before .before .before .before .before .before .before .args .first) (omega arith), c .before .before .before .before .put-number .ensures .place, puts-length (c .before .before .before .before .put-number .ensures))
 
--- src/lib.rt:103:9
 same-length-2 : tie.Need-same-length-2
 same-length-2 c = search needs
 
--- src/lib.rt:103:9
 returns-3 : tie.Need-returns-3
-returns-3 c = ?
+returns-3 c = puts-as (two _ _ _ _ (c .if3 .taken)) (puts-then _ _ (c .before .before .before .before .before .before .before .before .put-number .ensures) (c .before .before .before .put-number2 .ensures))
 
--- src/lib.rt:105:5
 put-number-requires-3 : tie.Need-put-number-requires-3
-put-number-requires-3 c κs = ?
+put-number-requires-3 c κs = omega (arith, length-number (c .before .before .before .before .before .before .before .before .before .before .before .before .before .args .first) (omega arith), length-number (c .before .before .before .before .before .before .before .before .before .before .before .before .before .args .second) (omega arith), c .before .before .before .before .before .before .before .before .before .put-number .ensures .place, puts-length (c .before .before .before .before .before .before .before .before .before .put-number .ensures), c .before .before .before .before .put-number2 .ensures .place, puts-length (c .before .before .before .before .put-number2 .ensures))
 
--- src/lib.rt:90:1
 same-length-3 : tie.Need-same-length-3
 same-length-3 c = search needs
 
--- src/lib.rt:90:1
 returns-4 : tie.Need-returns-4
-returns-4 c = ?
+returns-4 c = puts-as (three _ (c .before .before .before .before .before .before .before .before .before .before .before .before .before .before .before .before .args .first) (c .before .before .before .before .before .before .before .before .before .before .before .before .before .before .before .before .args .second) (c .before .before .before .before .before .before .before .before .before .before .before .before .before .before .before .before .args .third) (let z : 3 ≤ c .before .before .before .before .before .before .before .before .before .before .before .before .before .before .before .before .args .count = omega arith in z)) (puts-then _ _ (puts-then _ _ (c .before .before .before .before .before .before .before .before .before .before .before .before .put-number .ensures) (c .before .before .before .before .before .before .before .put-number2 .ensures)) (c .before .before .put-number3 .ensures))
 
 pub put-numbers-spec : {M : Type 1} → statement M
 put-numbers-spec =

@@ -1,4 +1,8 @@
+-- `text::put_refused` meets its contract: the word, the number and the values, one after the other.
 use borrow.Author.Needs.{needs}
+use native.Mathlib.Omega.{arith}
+use Rattle.text.specs.Line.{refused}
+use Rattle.text.specs.Laws.{puts-then, puts-length, length-number}
 use Rattle.text.proofs.put_refused.Statement.{statement}
 use Rattle.text.proofs.put_refused.Tie as tie
 use Rattle.text.proofs.put_refused.Reads as reads
@@ -7,29 +11,24 @@ use Rattle.text.proofs.put_number.Reads as put-number-reads
 use Rattle.text.proofs.put_numbers.Reads as put-numbers-reads
 use Rattle.text.proofs.put_text.Reads as put-text-reads
 
--- src/lib.rt:121:31
 slice-aggregate-put-text : tie.Need-slice-aggregate-put-text
 slice-aggregate-put-text c = search needs
 
--- src/lib.rt:121:9
 put-text-requires : tie.Need-put-text-requires
 put-text-requires c κs = search needs
 
--- src/lib.rt:122:9
 put-number-requires : tie.Need-put-number-requires
 put-number-requires c κs = search needs
 
--- src/lib.rt:123:5
 put-numbers-requires : tie.Need-put-numbers-requires
-put-numbers-requires c κs = ?
+put-numbers-requires c κs = omega (arith, length-number (c .before .before .before .before .before .before .before .before .before .before .before .args .refusal) (omega arith), c .before .before .before .before .before .before .before .put-text .ensures .place, puts-length (c .before .before .before .before .before .before .before .put-text .ensures), c .before .before .before .put-number .ensures .place, puts-length (c .before .before .before .put-number .ensures))
 
--- src/lib.rt:109:1
 same-length : tie.Need-same-length
 same-length c = search needs
 
--- src/lib.rt:109:1
 returns : tie.Need-returns
-returns c = ?
+unfolding refused
+returns c = puts-then _ _ (c .before .before .before .before .before .before .before .before .before .before .put-text .ensures) (puts-then _ _ (c .before .before .before .before .before .before .put-number .ensures) (c .before .before .put-numbers .ensures))
 
 pub put-refused-spec : {M : Type 1} → statement M
 put-refused-spec =
