@@ -7,16 +7,15 @@ use native.Mathlib.Omega.{arith}
 use native.Mathlib.Nat.{pow-suc, one-le-pow}
 use native.Mathlib.Numerals.{add-one}
 use lib.ListN.{length, take, drop, set, length-append}
-use lib.Seq.{sets, length-sets}
+use lib.Seq.{length-sets}
 use lib.Dec.{ltb, eqb}
 use borrow.Author.Tests.{ltb-true, ltb-false, lt-ltb}
 use Rattle.basis.specs.Cases.{either, clash}
 use Rattle.basis.specs.Lists.{sets-append}
 use Rattle.io.specs.Digits.{glyph, digits, Fewest}
-use Rattle.text.specs.declared.Header.{Header}
 use Rattle.text.specs.declared.Header.the-variants.{End, Bad, Long, Record}
 use Rattle.text.specs.Record.{little, headerOf}
-use Rattle.text.specs.Line.{Puts, width, decimal, number, numbers, refused, hex}
+use Rattle.text.specs.Line.{Puts, width, decimal, number, hex}
 
 -- ---- putting
 pub puts-none : (b : List ℕ) (at : ℕ) → Puts [] b at b at

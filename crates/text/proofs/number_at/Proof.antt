@@ -1,14 +1,12 @@
 -- `text::number_at` meets its contract: `value` is the number in the bytes from i on.
 use Prim.Native.Nat.{_+_, _-_, _^_, _≤_, _<_}
-use mathlib.Core.Path.{_≡_, refl, sym, ap, _∙_}
+use mathlib.Core.Path.{_≡_}
 use native.Mathlib.Omega.{arith}
-use lib.ListN.{length, take, drop}
+use lib.ListN.{take, drop}
 use Rattle.text.specs.Record.{little}
 use Rattle.text.proofs.Little.{turn, grows, room, none, all}
 use Rattle.text.proofs.number_at.Statement.{statement}
 use Rattle.text.proofs.number_at.Tie as tie
-use Rattle.text.proofs.number_at.Reads as reads
-use Rattle.text.proofs.number_at.Lts as lts
 
 abbrev Inv-loop : tie.InvT-loop
 Inv-loop s at n i₀ value₀ i value =

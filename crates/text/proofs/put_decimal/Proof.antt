@@ -6,10 +6,6 @@ use lib.ListN.{length}
 use Rattle.text.specs.Laws.{puts-as, fewest-decimal, decimal-twenty}
 use Rattle.text.proofs.put_decimal.Statement.{statement}
 use Rattle.text.proofs.put_decimal.Tie as tie
-use Rattle.text.proofs.put_decimal.Reads as reads
-use Rattle.text.proofs.put_decimal.Lts as lts
-use Rattle.io.proofs.decimal.Reads as decimal-reads
-use Rattle.text.proofs.put_text.Reads as put-text-reads
 
 decimal-requires : tie.Need-decimal-requires
 decimal-requires c κs = search needs

@@ -7,9 +7,6 @@ use Rattle.text.specs.Line.{number}
 use Rattle.text.specs.Laws.{puts-cons, puts-length}
 use Rattle.text.proofs.put_number.Statement.{statement}
 use Rattle.text.proofs.put_number.Tie as tie
-use Rattle.text.proofs.put_number.Reads as reads
-use Rattle.text.proofs.put_number.Lts as lts
-use Rattle.text.proofs.put_decimal.Reads as put-decimal-reads
 
 slice-write-out : tie.Need-slice-write-out
 slice-write-out c = search needs

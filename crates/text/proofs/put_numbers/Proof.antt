@@ -6,9 +6,6 @@ use Rattle.text.specs.Laws.{puts-none, puts-then, puts-as, puts-length, 
 use Rattle.text.proofs.Numbers.{none, one, two, three}
 use Rattle.text.proofs.put_numbers.Statement.{statement}
 use Rattle.text.proofs.put_numbers.Tie as tie
-use Rattle.text.proofs.put_numbers.Reads as reads
-use Rattle.text.proofs.put_numbers.Lts as lts
-use Rattle.text.proofs.put_number.Reads as put-number-reads
 
 returns : tie.Need-returns
 returns c = puts-as (none _ _ _ _ (c .if1 .taken)) (puts-none _ _)

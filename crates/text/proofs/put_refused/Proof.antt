@@ -5,11 +5,6 @@ use Rattle.text.specs.Line.{refused}
 use Rattle.text.specs.Laws.{puts-then, puts-length, length-number}
 use Rattle.text.proofs.put_refused.Statement.{statement}
 use Rattle.text.proofs.put_refused.Tie as tie
-use Rattle.text.proofs.put_refused.Reads as reads
-use Rattle.text.proofs.put_refused.Lts as lts
-use Rattle.text.proofs.put_number.Reads as put-number-reads
-use Rattle.text.proofs.put_numbers.Reads as put-numbers-reads
-use Rattle.text.proofs.put_text.Reads as put-text-reads
 
 slice-aggregate-put-text : tie.Need-slice-aggregate-put-text
 slice-aggregate-put-text c = search needs

@@ -1,15 +1,13 @@
 -- `text::put_text` meets its contract: what is left of the text, put at at + j, makes what all of it at `at` makes.
 use Prim.Native.Nat.{_+_, _-_, _≤_}
-use mathlib.Core.Path.{_≡_, refl, sym, ap, _∙_}
+use mathlib.Core.Path.{_≡_, refl, sym, _∙_}
 use native.Mathlib.Omega.{arith}
 use native.Mathlib.Nat.{add-zero}
-use lib.ListN.{length, drop, length-set, drop-of-length-le}
-use lib.Seq.{sets, drop-cons}
+use lib.ListN.{length, drop, length-set}
+use lib.Seq.{sets}
 use Rattle.text.proofs.Copy.{turn, done}
 use Rattle.text.proofs.put_text.Statement.{statement}
 use Rattle.text.proofs.put_text.Tie as tie
-use Rattle.text.proofs.put_text.Reads as reads
-use Rattle.text.proofs.put_text.Lts as lts
 
 abbrev Inv-loop : tie.InvT-loop
 Inv-loop out₀ at text j₀ out j = (j ≤ length text) × (length out ≡ length out₀) × (sets out (at + j) (drop j text) ≡ sets out₀ at text)

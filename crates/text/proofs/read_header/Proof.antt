@@ -5,9 +5,6 @@ use borrow.Author.Tests.{eq-eqb, ne-eqb, lt-ltb, le-ltb}
 use Rattle.text.specs.Record.{headerOf}
 use Rattle.text.proofs.read_header.Statement.{statement}
 use Rattle.text.proofs.read_header.Tie as tie
-use Rattle.text.proofs.read_header.Reads as reads
-use Rattle.text.proofs.read_header.Lts as lts
-use Rattle.text.proofs.number_at.Reads as number-at-reads
 
 returns : tie.Need-returns
 unfolding headerOf
