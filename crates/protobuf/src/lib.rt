@@ -201,14 +201,22 @@ pub fn read_varint_value(input: &[u8], idx: usize) -> VarintValue
     }
 }
 
+// How many bytes there are from idx.
+fn remaining_at(input: &[u8], idx: usize) -> usize
+    ensures { λ r. ⌜ r ≡ length (now (input .entry)) - idx ⌝ }
+{
+    if idx < input.len() {
+        input.len() - idx
+    } else {
+        0
+    }
+}
+
 // Past n bytes at idx.
 fn advance(input: &[u8], idx: usize, n: usize) -> Skip
     ensures { λ r. ⌜ r ≡ skipFixed (length (now (input .entry))) idx n ⌝ }
 {
-    let mut remaining: usize = 0;
-    if idx < input.len() {
-        remaining = input.len() - idx;
-    }
+    let remaining = remaining_at(input, idx);
     if remaining < n {
         return Skip::Refused(WireError::FieldOverflow {
             offset: idx,

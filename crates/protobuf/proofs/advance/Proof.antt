@@ -1,24 +1,27 @@
+-- `protobuf::advance` meets its contract.
+use mathlib.Core.Path.{sym}
+use borrow.Author.Tests.{lt-ltb, le-ltb}
+use Rattle.protobuf.specs.Field.{skipFixed}
 use borrow.Author.Needs.{needs}
 use Rattle.protobuf.proofs.advance.Statement.{statement}
 use Rattle.protobuf.proofs.advance.Tie as tie
 use Rattle.protobuf.proofs.advance.Reads as reads
 use Rattle.protobuf.proofs.advance.Lts as lts
+use Rattle.protobuf.proofs.remaining_at.Reads as remaining-at-reads
 
--- src/lib.rt:210:21
-sub-remaining : tie.Need-sub-remaining
-sub-remaining c = search needs
+remaining-at-requires : tie.Need-remaining-at-requires
+remaining-at-requires c κs = search needs
 
--- src/lib.rt:213:9
 returns : tie.Need-returns
-returns c = ?
+unfolding skipFixed
+returns c = simp (sym (c .before .remaining-at .ensures), lt-ltb _ _ (c .if1 .taken))
 
--- src/lib.rt:219:16
-add-t5 : tie.Need-add-t5
-add-t5 c = ?
+add-t8 : tie.Need-add-t8
+add-t8 c = search needs
 
--- src/lib.rt:205:1
 returns-2 : tie.Need-returns-2
-returns-2 c = ?
+unfolding skipFixed
+returns-2 c = simp (sym (c .before .remaining-at .ensures), le-ltb _ _ (c .if1 .left))
 
 pub advance-spec : {M : Type 1} → statement M
-advance-spec = tie.close (tie.spec sub-remaining returns add-t5 returns-2)
+advance-spec = tie.close (tie.spec remaining-at-requires returns add-t8 returns-2)

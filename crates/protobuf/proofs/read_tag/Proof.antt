@@ -1,3 +1,9 @@
+-- `protobuf::read_tag` meets its contract: the varint's answer and the tests on the field number pick the case.
+use mathlib.Core.Path.{_≡_, sym, _∙_}
+use native.Mathlib.Omega.{arith}
+use borrow.Author.Tests.{eq-eqb, ne-eqb, lt-ltb, le-ltb, le-leb, lt-leb}
+use Rattle.peer_id.specs.Laws.{used}
+use Rattle.protobuf.specs.Field.{readTag}
 use borrow.Author.Needs.{needs}
 use Rattle.protobuf.proofs.read_tag.Statement.{statement}
 use Rattle.protobuf.proofs.read_tag.Tie as tie
@@ -5,45 +11,40 @@ use Rattle.protobuf.proofs.read_tag.Reads as reads
 use Rattle.protobuf.proofs.read_tag.Lts as lts
 use Rattle.protobuf.proofs.uvarint_at.Reads as uvarint-at-reads
 
--- src/lib.rt:127:9
 returns : tie.Need-returns
-returns c = ?
+unfolding readTag
+returns c = simp (le-leb _ _ (c .if1 .taken))
 
--- src/lib.rt:129:9
 uvarint-at-requires : tie.Need-uvarint-at-requires
 uvarint-at-requires c κs = search needs
 
--- src/lib.rt:131:26
 enum-known-v : tie.Need-enum-known-v
 enum-known-v c = search needs
 
--- src/lib.rt:132:26
 enum-known-v-2 : tie.Need-enum-known-v-2
 enum-known-v-2 c = search needs
 
--- src/lib.rt:135:17
 returns-2 : tie.Need-returns-2
-returns-2 c = ?
+unfolding readTag
+returns-2 c = simp (lt-leb _ _ (c .before .before .before .before .before .if1 .left), sym (c .before .before .before .before .uvarint-at .ensures) ∙ c .before .before .v2 .given .1, eq-eqb _ _ (c .if2 .taken))
 
--- src/lib.rt:138:17
 returns-3 : tie.Need-returns-3
-returns-3 c = ?
+unfolding readTag
+returns-3 c = simp (lt-leb _ _ (c .before .before .before .before .before .before .if1 .left), sym (c .before .before .before .before .before .uvarint-at .ensures) ∙ c .before .before .before .v2 .given .1, ne-eqb _ _ (c .before .if2 .left), lt-ltb _ _ (c .if3 .taken))
 
--- src/lib.rt:142:28
 cast-t16 : tie.Need-cast-t16
 cast-t16 c = search needs
 
--- src/lib.rt:143:23
 add-t17 : tie.Need-add-t17
-add-t17 c = ?
+add-t17 c = let a = c .before .before .before .before .before .before .before .before .args in omega (arith, used (a .input .now) (a .idx) _ _ (sym (c .before .before .before .v2 .given .1) ∙ c .before .before .before .before .before .uvarint-at .ensures))
 
--- src/lib.rt:123:1
 returns-4 : tie.Need-returns-4
-returns-4 c = ?
+unfolding readTag
+returns-4 c = simp (lt-leb _ _ (c .before .before .before .before .if1 .left), sym (c .before .before .before .uvarint-at .ensures) ∙ c .before .v .given .1)
 
--- src/lib.rt:123:1
 returns-5 : tie.Need-returns-5
-returns-5 c = ?
+unfolding readTag
+returns-5 c = simp (lt-leb _ _ (c .before .before .before .before .before .before .if1 .left), sym (c .before .before .before .before .before .uvarint-at .ensures) ∙ c .before .before .before .v2 .given .1, ne-eqb _ _ (c .before .if2 .left), le-ltb _ _ (c .if3 .left))
 
 pub read-tag-spec : {M : Type 1} → statement M
 read-tag-spec =

@@ -1,3 +1,8 @@
+-- `protobuf::read_varint_value` meets its contract: the varint's answer picks the case.
+use mathlib.Core.Path.{_≡_, sym, _∙_}
+use native.Mathlib.Omega.{arith}
+use Rattle.peer_id.specs.Laws.{used}
+use Rattle.protobuf.specs.Field.{readVarint}
 use borrow.Author.Needs.{needs}
 use Rattle.protobuf.proofs.read_varint_value.Statement.{statement}
 use Rattle.protobuf.proofs.read_varint_value.Tie as tie
@@ -5,29 +10,25 @@ use Rattle.protobuf.proofs.read_varint_value.Reads as reads
 use Rattle.protobuf.proofs.read_varint_value.Lts as lts
 use Rattle.protobuf.proofs.uvarint_at.Reads as uvarint-at-reads
 
--- src/lib.rt:194:9
 uvarint-at-requires : tie.Need-uvarint-at-requires
 uvarint-at-requires c κs = search needs
 
--- src/lib.rt:196:26
 enum-known-v : tie.Need-enum-known-v
 enum-known-v c = search needs
 
--- src/lib.rt:197:26
 enum-known-v-2 : tie.Need-enum-known-v-2
 enum-known-v-2 c = search needs
 
--- src/lib.rt:199:19
 add-t9 : tie.Need-add-t9
-add-t9 c = ?
+add-t9 c = let a = c .before .before .before .before .before .args in omega (arith, used (a .input .now) (a .idx) _ _ (sym (c .before .v2 .given .1) ∙ c .before .before .before .uvarint-at .ensures))
 
--- src/lib.rt:191:1
 returns : tie.Need-returns
-returns c = ?
+unfolding readVarint
+returns c = simp (sym (c .before .before .before .uvarint-at .ensures) ∙ c .before .v .given .1)
 
--- src/lib.rt:191:1
 returns-2 : tie.Need-returns-2
-returns-2 c = ?
+unfolding readVarint
+returns-2 c = simp (sym (c .before .before .before .uvarint-at .ensures) ∙ c .before .v2 .given .1)
 
 pub read-varint-value-spec : {M : Type 1} → statement M
 read-varint-value-spec =

@@ -1,0 +1,60 @@
+-- The walk of a body: its fields one after the other, up to the end or to what refuses the body. It is written once over the step, and every
+-- submessage's decoder goes along it.
+use Prim.Native.Nat.{ℕ, zero, suc, _-_}
+use mathlib.Core.List.{List, [], _∷_}
+use mathlib.Core.Bool.{cond}
+use lib.ListN.{length, take, drop}
+use lib.Dec.{eqb}
+use Rattle.protobuf.specs.declared.WireError.{WireError}
+use Rattle.protobuf.specs.declared.Field.{Field}
+use Rattle.protobuf.specs.declared.Step.{Step}
+use Rattle.protobuf.specs.declared.Step.the-variants as step
+use Rattle.protobuf.specs.Field.{readField}
+use Rattle.protobuf.specs.Grammar.{Payload, number, eight, bytes, four, Entry}
+
+infixr 20 _then_
+pub data Fields : Type 0 where
+  end : Fields
+  refused : WireError → Fields
+  _then_ : Field → Fields → Fields
+
+-- a step, and the walk from the next place
+abbrev pub onStep : (ℕ → Fields) → Step → Fields
+onStep go step.End = end
+onStep go (step.Refused why) = refused why
+onStep go (step.At f) = f then go (f .next)
+
+-- the first number only bounds the recursion: each field takes a byte, so one more than the bytes left is always enough
+unfoldable pub walkFrom : ℕ → List ℕ → ℕ → Fields
+walkFrom zero s at = end
+walkFrom (suc n) s at = onStep (walkFrom n s) (readField s at)
+
+unfoldable pub walkAt : List ℕ → ℕ → Fields
+walkAt s at = walkFrom (suc (length s - at)) s at
+
+abbrev pub fieldsOf : List ℕ → Fields
+fieldsOf s = walkAt s 0
+
+-- fields and then the end
+abbrev pub whole : List Field → Fields
+whole [] = end
+whole (f ∷ fs) = f then whole fs
+
+-- the bytes of s from a up to e
+abbrev pub between : List ℕ → ℕ → ℕ → List ℕ
+between s a e = take (e - a) (drop a s)
+
+-- what a field of s holds
+unfoldable pub payloadOf : List ℕ → Field → Payload
+payloadOf s f =
+    cond (eqb (f .«wire_type») 0) (number (f .value))
+    (cond (eqb (f .«wire_type») 2) (bytes (between s (f .start) (f .next)))
+    (cond (eqb (f .«wire_type») 5) (four (between s (f .start) (f .next)))
+    (eight (between s (f .start) (f .next)))))
+
+unfoldable pub entryOf : List ℕ → Field → Entry
+entryOf s f = record { field = f .field; payload = payloadOf s f }
+
+abbrev pub entriesOf : List ℕ → List Field → List Entry
+entriesOf s [] = []
+entriesOf s (f ∷ fs) = entryOf s f ∷ entriesOf s fs
