@@ -3,8 +3,9 @@
 ghost use mathlib.Core.Path.{_≡_};
 ghost use Prim.Native.Nat.{_+_, _≤_};
 ghost use lib.ListN.{length, take};
+ghost use Rattle.text.specs.Record.{contentLength};
 ghost use Rattle.text.specs.Line.{Puts};
-ghost use Rattle.inspect.specs.Answers.{refusal, walk, varint, utf8, answerTo, lineOf};
+ghost use Rattle.inspect.specs.Answers.{refusal, walk, varint, answerTo, lineOf};
 use peer_id::Uvarint;
 use protobuf::Cursor;
 use protobuf::Walk;
@@ -136,10 +137,21 @@ fn last(word: &[u8]) -> bool {
     false
 }
 
+// Reads the header of the next record.
+fn next_header() -> Header
+    ensures { λ r. ⌜ contentLength r ≤ 65600 ⌝ }
+{
+    let mut head = [0u8; 6];
+    let got = io::read_full(0, &mut head);
+    text::read_header(&head[..got], 65600)
+}
+
 // Reads a record and prints its line. Answers whether to go on.
-fn turn(n: u64, head: &mut [u8; 6], content: &mut [u8; 65600], out: &mut [u8; 131328]) -> bool {
-    let got = io::read_full(0, head);
-    let h = text::read_header(&head[..got], 65600);
+fn turn(n: u64, content: &mut [u8], out: &mut [u8]) -> bool
+    requires { ⌜ 65600 ≤ length (now content) ⌝ }
+    requires { ⌜ 131328 ≤ length (now out) ⌝ }
+{
+    let h = next_header();
     match h {
         Header::End => false,
         Header::Bad => last(b"bad\n"),
@@ -160,11 +172,10 @@ fn turn(n: u64, head: &mut [u8; 6], content: &mut [u8; 65600], out: &mut [u8; 13
 
 // The count of records only bounds the loop: no run uses it up.
 fn main() {
-    let mut head = [0u8; 6];
     let mut content = [0u8; 65600];
     let mut out = [0u8; 131328];
     let mut n: u64 = 1;
-    while n < u64::MAX && turn(n, &mut head, &mut content, &mut out) {
+    while n < u64::MAX && turn(n, &mut content, &mut out) {
         n += 1;
     }
 }

@@ -221,7 +221,7 @@ tag-sound s at f es (tag.Field n type to) b q h w =
     let m = read-named s n type to f h in
     let tn : uvarint (f .field * 8 + f .«wire_type») ≡ uvarint (n * 8 + type) = ap₂ (λ (x y : ℕ). uvarint (x * 8 + y)) (m .number-of) (m .type-of) in
     let e : drop at s ≡ uvarint (f .field * 8 + f .«wire_type») ++ (v .bytes-of ++ drop (f .next) s) =
-        t .spells .here ∙ ap₂ (λ (x y : List ℕ). x ++ y) (sym tn) (v .here) in
+    t .spells .here ∙ ap₂ (λ (x y : List ℕ). x ++ y) (sym tn) (v .here) in
     let l : 1 ≤ f .field = omega (arith, m .number-of, t .least) in
     let u : f .field ≤ 536870911 = omega (arith, m .number-of, t .most) in
     subst (λ (x : List ℕ). Body x (record { field = f .field; payload = payloadOf s f } ∷ es)) (sym e) (field l u (v .is) w)
@@ -247,9 +247,11 @@ value-going s n type to h =
     of-value : (r : VarintValue) → step.End ≡ ofValue n type to r → ⊥
     of-value (value.Value x e) h = clash (cc)
     of-value (value.Refused why) h = clash (cc)
+
     of-part : (r : Part) → step.End ≡ ofPart n type to r → ⊥
     of-part (part.Bytes a e) h = clash (cc)
     of-part (part.Refused why) h = clash (cc)
+
     of-skip : (r : Skip) → step.End ≡ ofSkip n type to r → ⊥
     of-skip (skip.Next e) h = clash (cc)
     of-skip (skip.Refused why) h = clash (cc)

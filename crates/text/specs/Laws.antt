@@ -10,11 +10,11 @@ use lib.ListN.{length, take, drop, set, length-append}
 use lib.Seq.{length-sets}
 use lib.Dec.{ltb, eqb}
 use borrow.Author.Tests.{ltb-true, ltb-false, lt-ltb}
-use Rattle.basis.specs.Cases.{either, clash}
+use Rattle.basis.specs.Cases.{either}
 use Rattle.basis.specs.Lists.{sets-append}
 use Rattle.io.specs.Digits.{glyph, digits, Fewest}
 use Rattle.text.specs.declared.Header.the-variants.{End, Bad, Long, Record}
-use Rattle.text.specs.Record.{little, headerOf}
+use Rattle.text.specs.Record.{little, headerOf, contentLength}
 use Rattle.text.specs.Line.{Puts, width, decimal, number, hex}
 
 -- ---- putting
@@ -96,16 +96,14 @@ length-hex [] = refl
 length-hex (b ∷ s) = omega (arith, length-hex s)
 
 -- ---- a header
-tests : (a b c d : Bool) (k l x y : ℕ) → Record k l ≡ cond a End (cond b Bad (cond c Long (cond d Bad (Record x y)))) → (c ≡ false) × (l ≡ y)
-tests true b c d k l x y e = clash (cc)
-tests false true c d k l x y e = clash (cc)
-tests false false true d k l x y e = clash (cc)
-tests false false false true k l x y e = clash (cc)
-tests false false false false k l x y e = (refl, cc)
+tests : (a b c d : Bool) (k l most : ℕ) → (c ≡ false → l ≤ most) → contentLength (cond a End (cond b Bad (cond c Long (cond d Bad (Record k l))))) ≤ most
+tests true b c d k l most h = omega arith
+tests false true c d k l most h = omega arith
+tests false false true d k l most h = omega arith
+tests false false false true k l most h = omega arith
+tests false false false false k l most h = h refl
 
 -- a record's content has at most `most` bytes
-pub header-within : (most : ℕ) (s : List ℕ) (k l : ℕ) → Record k l ≡ headerOf most s → l ≤ most
+pub header-within : (most : ℕ) (s : List ℕ) → contentLength (headerOf most s) ≤ most
 unfolding headerOf
-header-within most s k l e =
-    let t = tests (eqb (length s) 0) (ltb (length s) 4) (ltb most (little (take 4 (drop 0 s)))) (ltb (length s) 6) k l _ _ e in
-    omega (arith, t .1, ltb-false most _ (t .0))
+header-within most s = tests (eqb (length s) 0) (ltb (length s) 4) (ltb most (little (take 4 (drop 0 s)))) (ltb (length s) 6) _ _ most (ltb-false most _)

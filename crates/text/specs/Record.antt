@@ -20,3 +20,10 @@ headerOf most s =
     (cond (ltb most (little (take 4 (drop 0 s)))) Long
     (cond (ltb (length s) 6) Bad
     (Record (little (take 2 (drop 4 s))) (little (take 4 (drop 0 s)))))))
+
+-- how much content follows a header
+abbrev pub contentLength : Header → ℕ
+contentLength (Record kind len) = len
+contentLength End = 0
+contentLength Bad = 0
+contentLength Long = 0
