@@ -17,7 +17,7 @@ use text::put_text;
 // A refusal of 01's table, with its values.
 fn put_refusal(out: &mut [u8], at: usize, why: WireError) -> usize
     requires { ⌜ at + 92 ≤ length (now out) ⌝ }
-    ensures { λ r. ⌜ Puts (refusal why) (now (out .entry)) at (now (out .exit)) r ⌝ }
+    ensures { λ r. ⌜ Puts 92 (refusal why) (now (out .entry)) at (now (out .exit)) r ⌝ }
 {
     let r = protobuf::refusal_of(why);
     text::put_refused(
@@ -34,7 +34,7 @@ fn put_refusal(out: &mut [u8], at: usize, why: WireError) -> usize
 // One step of the field walk.
 fn put_walk(out: &mut [u8], at: usize, w: Walk) -> usize
     requires { ⌜ at + 92 ≤ length (now out) ⌝ }
-    ensures { λ r. ⌜ Puts (walk w) (now (out .entry)) at (now (out .exit)) r ⌝ }
+    ensures { λ r. ⌜ Puts 92 (walk w) (now (out .entry)) at (now (out .exit)) r ⌝ }
 {
     match w {
         Walk::End => put_text(out, at, b" end"),
@@ -56,7 +56,7 @@ fn put_walk(out: &mut [u8], at: usize, w: Walk) -> usize
 
 fn put_varint(out: &mut [u8], at: usize, v: Uvarint) -> usize
     requires { ⌜ at + 92 ≤ length (now out) ⌝ }
-    ensures { λ r. ⌜ Puts (varint v) (now (out .entry)) at (now (out .exit)) r ⌝ }
+    ensures { λ r. ⌜ Puts 92 (varint v) (now (out .entry)) at (now (out .exit)) r ⌝ }
 {
     match v {
         Uvarint::Refused(why) => put_refusal(out, at, WireError::Varint(why)),
@@ -70,7 +70,7 @@ fn put_varint(out: &mut [u8], at: usize, v: Uvarint) -> usize
 // Kind 5: the place, and then the body.
 fn answer_walk(content: &[u8], out: &mut [u8], at: usize) -> usize
     requires { ⌜ at + 131200 ≤ length (now out) ⌝ }
-    ensures { λ r. ⌜ Puts (answerTo 5 (now (content .entry))) (now (out .entry)) at (now (out .exit)) r ⌝ }
+    ensures { λ r. ⌜ Puts 131200 (answerTo 5 (now (content .entry))) (now (out .entry)) at (now (out .exit)) r ⌝ }
 {
     if content.len() < 8 {
         return at;
@@ -85,7 +85,7 @@ fn answer_walk(content: &[u8], out: &mut [u8], at: usize) -> usize
 // Kind 6.
 fn answer_varint(content: &[u8], out: &mut [u8], at: usize) -> usize
     requires { ⌜ at + 131200 ≤ length (now out) ⌝ }
-    ensures { λ r. ⌜ Puts (answerTo 6 (now (content .entry))) (now (out .entry)) at (now (out .exit)) r ⌝ }
+    ensures { λ r. ⌜ Puts 131200 (answerTo 6 (now (content .entry))) (now (out .entry)) at (now (out .exit)) r ⌝ }
 {
     let v = peer_id::read_uvarint(content);
     let i = put_text(out, at, b" varint");
@@ -95,7 +95,7 @@ fn answer_varint(content: &[u8], out: &mut [u8], at: usize) -> usize
 // Kind 7.
 fn answer_utf8(content: &[u8], out: &mut [u8], at: usize) -> usize
     requires { ⌜ at + 131200 ≤ length (now out) ⌝ }
-    ensures { λ r. ⌜ Puts (answerTo 7 (now (content .entry))) (now (out .entry)) at (now (out .exit)) r ⌝ }
+    ensures { λ r. ⌜ Puts 131200 (answerTo 7 (now (content .entry))) (now (out .entry)) at (now (out .exit)) r ⌝ }
 {
     if utf8::is_utf8(content) {
         return put_text(out, at, b" utf8 yes");
@@ -106,7 +106,7 @@ fn answer_utf8(content: &[u8], out: &mut [u8], at: usize) -> usize
 // The call and the answer; nothing where the record is bad.
 fn answer(kind: u64, content: &[u8], out: &mut [u8], at: usize) -> usize
     requires { ⌜ at + 131200 ≤ length (now out) ⌝ }
-    ensures { λ r. ⌜ Puts (answerTo kind (now (content .entry))) (now (out .entry)) at (now (out .exit)) r ⌝ }
+    ensures { λ r. ⌜ Puts 131200 (answerTo kind (now (content .entry))) (now (out .entry)) at (now (out .exit)) r ⌝ }
 {
     match kind {
         5 => answer_walk(content, out, at),

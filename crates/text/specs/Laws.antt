@@ -1,13 +1,13 @@
 -- Laws of records and lines.
 use Prim.Native.Nat.{ℕ, zero, suc, _+_, _*_, _-_, _/_, _%_, _^_, _≤_, _<_}
-use mathlib.Core.Path.{_≡_, refl, sym, ap, subst, _∙_}
+use mathlib.Core.Path.{_≡_, refl, sym, ap, _∙_}
 use mathlib.Core.List.{List, [], _∷_, _++_}
 use mathlib.Core.Bool.{Bool, true, false, cond}
 use native.Mathlib.Omega.{arith}
 use native.Mathlib.Nat.{pow-suc, one-le-pow}
 use native.Mathlib.Numerals.{add-one}
 use lib.ListN.{length, take, drop, set, length-append}
-use lib.Seq.{length-sets}
+use lib.Seq.{sets-eq, length-sets, take-at}
 use lib.Dec.{ltb, eqb}
 use borrow.Author.Tests.{ltb-true, ltb-false, lt-ltb}
 use Rattle.basis.specs.Cases.{either}
@@ -18,26 +18,34 @@ use Rattle.text.specs.Record.{little, headerOf, contentLength}
 use Rattle.text.specs.Line.{Puts, width, decimal, number, hex}
 
 -- ---- putting
-pub puts-none : (b : List ℕ) (at : ℕ) → Puts [] b at b at
-puts-none b at = record { place = omega arith; bytes = refl }
+pub puts-none : (b : List ℕ) (at : ℕ) → Puts 0 [] b at b at
+puts-none b at = record { bytes = refl; place = omega arith; small = omega arith }
 
 -- one text after another is one text
-pub puts-then : (xs ys : List ℕ) {b m a : List ℕ} {at i end : ℕ} → Puts xs b at m i → Puts ys m i a end → Puts (xs ++ ys) b at a end
-puts-then xs ys {b} {m} {a} {at} {i} {end} p q =
+pub puts-then : {p q : ℕ} {xs ys b m a : List ℕ} {at i end : ℕ} → Puts p xs b at m i → Puts q ys m i a end → Puts (p + q) (xs ++ ys) b at a end
+puts-then {p} {q} {xs} {ys} {b} {m} {a} {at} {i} {end} f g =
     record {
-      place = omega (arith, length-append xs ys, p .place, q .place);
-      bytes = q .bytes ∙ rw (p .bytes, p .place) (sym (sets-append b at xs ys));
+      bytes = g .bytes ∙ rw (f .bytes, f .place) (sym (sets-append b at xs ys));
+      place = omega (arith, length-append xs ys);
+      small = omega arith;
     }
 
 -- one byte, and then a text
-pub puts-cons : (x : ℕ) (xs : List ℕ) {b a : List ℕ} {at end : ℕ} → Puts xs (set b at x) (at + 1) a end → Puts (x ∷ xs) b at a end
-puts-cons x xs {b} {a} {at} {end} p = record { place = omega (arith, p .place); bytes = p .bytes ∙ rw (add-one at) }
+pub puts-cons : {p x : ℕ} {xs b a : List ℕ} {at end : ℕ} → Puts p xs (set b at x) (at + 1) a end → Puts (1 + p) (x ∷ xs) b at a end
+puts-cons {at = at} f = record { bytes = f .bytes ∙ rw (add-one at); place = omega arith; small = omega arith }
 
-pub puts-as : {xs ys b a : List ℕ} {at end : ℕ} → xs ≡ ys → Puts xs b at a end → Puts ys b at a end
-puts-as {b = b} {a = a} {at = at} {end = end} e p = subst (λ (l : List ℕ). Puts l b at a end) e p
+-- the same text, and more room
+pub puts-as : {p q : ℕ} {xs ys b a : List ℕ} {at end : ℕ} → xs ≡ ys → p ≤ q → Puts p xs b at a end → Puts q ys b at a end
+puts-as {at = at} e h f = record { bytes = rw (← e) (f .bytes); place = omega (arith, ap length e); small = omega arith }
 
-pub puts-length : {xs b a : List ℕ} {at end : ℕ} → Puts xs b at a end → length a ≡ length b
-puts-length {xs} {b} {a} {at} p = ap length (p .bytes) ∙ length-sets b at xs
+pub puts-length : {p : ℕ} {xs b a : List ℕ} {at end : ℕ} → Puts p xs b at a end → length a ≡ length b
+puts-length {xs = xs} {b = b} {at = at} f = ap length (f .bytes) ∙ length-sets b at xs
+
+-- what was put at the front
+pub puts-front : {p : ℕ} {xs b a : List ℕ} {end : ℕ} → Puts p xs b 0 a end → end ≤ length b → take end a ≡ xs
+puts-front {p} {xs} {b} {a} {end} f h =
+    let l : length xs ≡ end = omega arith in
+    rw (f .bytes, sets-eq xs b 0 (omega arith)) (take-at xs (drop (0 + length xs) b) end l)
 
 -- ---- decimal numbers
 length-digits : (b k n : ℕ) → length (digits b k n) ≡ k

@@ -1,5 +1,5 @@
 -- What a line is made of, in ASCII.
-use Prim.Native.Nat.{ℕ, zero, suc, _+_, _/_, _%_}
+use Prim.Native.Nat.{ℕ, zero, suc, _+_, _/_, _%_, _≤_}
 use mathlib.Core.Path.{_≡_}
 use mathlib.Core.List.{List, [], _∷_, _++_}
 use mathlib.Core.Bool.{cond}
@@ -8,10 +8,11 @@ use lib.Seq.{sets}
 use lib.Dec.{ltb}
 use Rattle.io.specs.Digits.{glyph, digits}
 
--- xs was put at `at`, nothing else was written, and `end` is the place after xs
-pub record Puts (xs before : List ℕ) (at : ℕ) (after : List ℕ) (end : ℕ) : Type 0 where
-  pub place : end ≡ at + length xs
+-- xs, of at most `room` bytes, was put at `at`, nothing else was written, and `end` is the place after xs
+pub record Puts (room : ℕ) (xs before : List ℕ) (at : ℕ) (after : List ℕ) (end : ℕ) : Type 0 where
   pub bytes : after ≡ sets before at xs
+  pub place : end ≡ at + length xs
+  pub small : end ≤ at + room
 
 -- how many decimal digits n has; the first number only bounds the recursion, and n itself is always enough
 unfoldable pub width : ℕ → ℕ → ℕ

@@ -58,7 +58,7 @@ pub fn read_header(s: &[u8], most: u64) -> Header
 
 pub fn put_text(out: &mut [u8], at: usize, text: &[u8]) -> usize
     requires { ⌜ at + length (now text) ≤ length (now out) ⌝ }
-    ensures { λ r. ⌜ Puts (now (text .entry)) (now (out .entry)) at (now (out .exit)) r ⌝ }
+    ensures { λ r. ⌜ Puts (length (now (text .entry))) (now (text .entry)) (now (out .entry)) at (now (out .exit)) r ⌝ }
 {
     let mut j = 0;
     while j < text.len() {
@@ -70,7 +70,7 @@ pub fn put_text(out: &mut [u8], at: usize, text: &[u8]) -> usize
 
 pub fn put_decimal(out: &mut [u8], at: usize, n: u64) -> usize
     requires { ⌜ at + 20 ≤ length (now out) ⌝ }
-    ensures { λ r. ⌜ Puts (decimal n) (now (out .entry)) at (now (out .exit)) r ⌝ }
+    ensures { λ r. ⌜ Puts 20 (decimal n) (now (out .entry)) at (now (out .exit)) r ⌝ }
 {
     let mut text = [0u8; 20];
     let k = io::decimal(n, &mut text);
@@ -80,7 +80,7 @@ pub fn put_decimal(out: &mut [u8], at: usize, n: u64) -> usize
 // A blank and a number.
 pub fn put_number(out: &mut [u8], at: usize, n: u64) -> usize
     requires { ⌜ at + 21 ≤ length (now out) ⌝ }
-    ensures { λ r. ⌜ Puts (number n) (now (out .entry)) at (now (out .exit)) r ⌝ }
+    ensures { λ r. ⌜ Puts 21 (number n) (now (out .entry)) at (now (out .exit)) r ⌝ }
 {
     out[at] = b' ';
     put_decimal(out, at + 1, n)
@@ -89,7 +89,7 @@ pub fn put_number(out: &mut [u8], at: usize, n: u64) -> usize
 // The first `count` of three numbers.
 fn put_numbers(out: &mut [u8], at: usize, count: u64, first: u64, second: u64, third: u64) -> usize
     requires { ⌜ at + 63 ≤ length (now out) ⌝ }
-    ensures { λ r. ⌜ Puts (numbers (take count (first ∷ second ∷ third ∷ []))) (now (out .entry)) at (now (out .exit)) r ⌝ }
+    ensures { λ r. ⌜ Puts 63 (numbers (take count (first ∷ second ∷ third ∷ []))) (now (out .entry)) at (now (out .exit)) r ⌝ }
 {
     if count == 0 {
         return at;
@@ -116,7 +116,7 @@ pub fn put_refused(
     third: u64,
 ) -> usize
     requires { ⌜ at + 92 ≤ length (now out) ⌝ }
-    ensures { λ r. ⌜ Puts (refused refusal (take count (first ∷ second ∷ third ∷ []))) (now (out .entry)) at (now (out .exit)) r ⌝ }
+    ensures { λ r. ⌜ Puts 92 (refused refusal (take count (first ∷ second ∷ third ∷ []))) (now (out .entry)) at (now (out .exit)) r ⌝ }
 {
     let i = put_text(out, at, b" refused");
     let j = put_number(out, i, refusal);
@@ -134,7 +134,7 @@ fn glyph(d: u8) -> u8
 // Two lower-case digits for each byte.
 pub fn put_hex(out: &mut [u8], at: usize, s: &[u8]) -> usize
     requires { ⌜ at + 2 * length (now s) ≤ length (now out) ⌝ }
-    ensures { λ r. ⌜ Puts (hex (now (s .entry))) (now (out .entry)) at (now (out .exit)) r ⌝ }
+    ensures { λ r. ⌜ Puts (2 * length (now (s .entry))) (hex (now (s .entry))) (now (out .entry)) at (now (out .exit)) r ⌝ }
 {
     let mut i = at;
     let mut j = 0;

@@ -1,9 +1,8 @@
 -- `text::put_decimal` meets its contract: the fewest digits, put as a text.
 use borrow.Author.Needs.{needs}
 use native.Mathlib.Omega.{arith}
-use mathlib.Core.Path.{ap, _∙_}
-use lib.ListN.{length}
-use Rattle.text.specs.Laws.{puts-as, fewest-decimal, decimal-twenty}
+use Rattle.text.specs.Laws.{puts-as}
+use Rattle.text.proofs.Digits.{shown}
 use Rattle.text.proofs.put_decimal.Statement.{statement}
 use Rattle.text.proofs.put_decimal.Tie as tie
 
@@ -17,13 +16,13 @@ slice-aggregate-put-text : tie.Need-slice-aggregate-put-text
 slice-aggregate-put-text c = search needs
 
 put-text-requires : tie.Need-put-text-requires
-put-text-requires c κs = let e = c .before .before .decimal .ensures .1 in omega (arith, decimal-twenty (c .before .before .before .before .before .args .n) (omega arith), ap length (e .1 ∙ fewest-decimal _ _ (e .0)))
+put-text-requires c κs = omega (arith, shown (c .before .before .before .before .before .args .n) _ _ (omega arith) (c .before .before .decimal .ensures .1) .1)
 
 same-length : tie.Need-same-length
 same-length c = search needs
 
 returns : tie.Need-returns
-returns c = let e = c .before .before .before .before .before .decimal .ensures .1 in puts-as (e .1 ∙ fewest-decimal _ _ (e .0)) (c .before .before .put-text .ensures)
+returns c = let s = shown (c .before .before .before .before .before .before .before .before .args .n) _ _ (omega arith) (c .before .before .before .before .before .decimal .ensures .1) in puts-as (s .0) (s .1) (c .before .before .put-text .ensures)
 
 pub put-decimal-spec : {M : Type 1} → statement M
 put-decimal-spec =

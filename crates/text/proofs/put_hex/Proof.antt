@@ -56,7 +56,7 @@ same-length : tie.Need-same-length Inv-loop μ-loop
 same-length c = c .before .loop .inv .2
 
 returns : tie.Need-returns Inv-loop μ-loop
-returns c = let l = c .before .loop in record { place = omega (arith, length-hex (c .before .before .before .before .args .s .now)); bytes = done _ _ (l .i) (l .j) (c .loop-test .left) ∙ l .inv .3 }
+returns c = let l = c .before .loop in record { small = omega arith; place = omega (arith, length-hex (c .before .before .before .before .args .s .now)); bytes = done _ _ (l .i) (l .j) (c .loop-test .left) ∙ l .inv .3 }
 
 pub put-hex-spec : {M : Type 1} → statement M
 put-hex-spec =

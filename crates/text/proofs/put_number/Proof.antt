@@ -22,7 +22,7 @@ same-length c = puts-length (c .before .before .put-decimal .ensures) ∙ simp l
 
 returns : tie.Need-returns
 unfolding number
-returns c = puts-cons _ _ (c .before .before .put-decimal .ensures)
+returns c = puts-cons (c .before .before .put-decimal .ensures)
 
 pub put-number-spec : {M : Type 1} → statement M
 put-number-spec =

@@ -2,13 +2,13 @@
 use borrow.Author.Needs.{needs}
 use Prim.Native.Nat.{_≤_}
 use native.Mathlib.Omega.{arith}
-use Rattle.text.specs.Laws.{puts-none, puts-then, puts-as, puts-length, length-number}
+use Rattle.text.specs.Laws.{puts-none, puts-then, puts-as}
 use Rattle.text.proofs.Numbers.{none, one, two, three}
 use Rattle.text.proofs.put_numbers.Statement.{statement}
 use Rattle.text.proofs.put_numbers.Tie as tie
 
 returns : tie.Need-returns
-returns c = puts-as (none _ _ _ _ (c .if1 .taken)) (puts-none _ _)
+returns c = puts-as (none _ _ _ _ (c .if1 .taken)) (omega arith) (puts-none _ _)
 
 put-number-requires : tie.Need-put-number-requires
 put-number-requires c κs = search needs
@@ -17,25 +17,25 @@ same-length : tie.Need-same-length
 same-length c = search needs
 
 returns-2 : tie.Need-returns-2
-returns-2 c = puts-as (one _ _ _ _ (c .if2 .taken)) (c .before .before .before .put-number .ensures)
+returns-2 c = puts-as (one _ _ _ _ (c .if2 .taken)) (omega arith) (c .before .before .before .put-number .ensures)
 
 put-number-requires-2 : tie.Need-put-number-requires-2
-put-number-requires-2 c κs = omega (arith, length-number (c .before .before .before .before .before .before .before .before .args .first) (omega arith), c .before .before .before .before .put-number .ensures .place, puts-length (c .before .before .before .before .put-number .ensures))
+put-number-requires-2 c κs = search needs
 
 same-length-2 : tie.Need-same-length-2
 same-length-2 c = search needs
 
 returns-3 : tie.Need-returns-3
-returns-3 c = puts-as (two _ _ _ _ (c .if3 .taken)) (puts-then _ _ (c .before .before .before .before .before .before .before .before .put-number .ensures) (c .before .before .before .put-number2 .ensures))
+returns-3 c = puts-as (two _ _ _ _ (c .if3 .taken)) (omega arith) (puts-then (c .before .before .before .before .before .before .before .before .put-number .ensures) (c .before .before .before .put-number2 .ensures))
 
 put-number-requires-3 : tie.Need-put-number-requires-3
-put-number-requires-3 c κs = omega (arith, length-number (c .before .before .before .before .before .before .before .before .before .before .before .before .before .args .first) (omega arith), length-number (c .before .before .before .before .before .before .before .before .before .before .before .before .before .args .second) (omega arith), c .before .before .before .before .before .before .before .before .before .put-number .ensures .place, puts-length (c .before .before .before .before .before .before .before .before .before .put-number .ensures), c .before .before .before .before .put-number2 .ensures .place, puts-length (c .before .before .before .before .put-number2 .ensures))
+put-number-requires-3 c κs = search needs
 
 same-length-3 : tie.Need-same-length-3
 same-length-3 c = search needs
 
 returns-4 : tie.Need-returns-4
-returns-4 c = puts-as (three _ (c .before .before .before .before .before .before .before .before .before .before .before .before .before .before .before .before .args .first) (c .before .before .before .before .before .before .before .before .before .before .before .before .before .before .before .before .args .second) (c .before .before .before .before .before .before .before .before .before .before .before .before .before .before .before .before .args .third) (let z : 3 ≤ c .before .before .before .before .before .before .before .before .before .before .before .before .before .before .before .before .args .count = omega arith in z)) (puts-then _ _ (puts-then _ _ (c .before .before .before .before .before .before .before .before .before .before .before .before .put-number .ensures) (c .before .before .before .before .before .before .before .put-number2 .ensures)) (c .before .before .put-number3 .ensures))
+returns-4 c = let a = c .before .before .before .before .before .before .before .before .before .before .before .before .before .before .before .before .args in let h : 3 ≤ a .count = omega arith in puts-as (three _ (a .first) (a .second) (a .third) h) (omega arith) (puts-then (puts-then (c .before .before .before .before .before .before .before .before .before .before .before .before .put-number .ensures) (c .before .before .before .before .before .before .before .put-number2 .ensures)) (c .before .before .put-number3 .ensures))
 
 pub put-numbers-spec : {M : Type 1} → statement M
 put-numbers-spec =

@@ -1,8 +1,7 @@
 -- `text::put_refused` meets its contract: the word, the number and the values, one after the other.
 use borrow.Author.Needs.{needs}
-use native.Mathlib.Omega.{arith}
 use Rattle.text.specs.Line.{refused}
-use Rattle.text.specs.Laws.{puts-then, puts-length, length-number}
+use Rattle.text.specs.Laws.{puts-then}
 use Rattle.text.proofs.put_refused.Statement.{statement}
 use Rattle.text.proofs.put_refused.Tie as tie
 
@@ -16,14 +15,14 @@ put-number-requires : tie.Need-put-number-requires
 put-number-requires c κs = search needs
 
 put-numbers-requires : tie.Need-put-numbers-requires
-put-numbers-requires c κs = omega (arith, length-number (c .before .before .before .before .before .before .before .before .before .before .before .args .refusal) (omega arith), c .before .before .before .before .before .before .before .put-text .ensures .place, puts-length (c .before .before .before .before .before .before .before .put-text .ensures), c .before .before .before .put-number .ensures .place, puts-length (c .before .before .before .put-number .ensures))
+put-numbers-requires c κs = search needs
 
 same-length : tie.Need-same-length
 same-length c = search needs
 
 returns : tie.Need-returns
 unfolding refused
-returns c = puts-then _ _ (c .before .before .before .before .before .before .before .before .before .before .put-text .ensures) (puts-then _ _ (c .before .before .before .before .before .before .put-number .ensures) (c .before .before .put-numbers .ensures))
+returns c = puts-then (c .before .before .before .before .before .before .before .before .before .before .put-text .ensures) (puts-then (c .before .before .before .before .before .before .put-number .ensures) (c .before .before .put-numbers .ensures))
 
 pub put-refused-spec : {M : Type 1} → statement M
 put-refused-spec =

@@ -43,7 +43,7 @@ same-length : tie.Need-same-length Inv-loop μ-loop
 same-length c = c .before .loop .inv .1
 
 returns : tie.Need-returns Inv-loop μ-loop
-returns c = record { place = refl; bytes = sym (done _ _ _ _ (c .loop-test .left)) ∙ c .before .loop .inv .2 }
+returns c = record { place = refl; small = omega arith; bytes = sym (done _ _ _ _ (c .loop-test .left)) ∙ c .before .loop .inv .2 }
 
 pub put-text-spec : {M : Type 1} → statement M
 put-text-spec =
