@@ -1,4 +1,11 @@
+-- `inspect::answer` meets its contract: the kind picks the call.
 use borrow.Author.Needs.{needs}
+use Prim.Native.Nat.{ℕ}
+use mathlib.Core.Path.{_≡_, refl, sym, ap, _∙_}
+use native.Mathlib.Omega.{arith}
+use Rattle.text.specs.Laws.{puts-none, puts-then, puts-as, puts-length, puts-front, header-within}
+use Rattle.inspect.specs.Answers.{refusal, walk, varint, utf8, answerTo, lineOf}
+use Rattle.inspect.proofs.Answering.{told, walk-short, walk-answer, varint-answer, utf8-yes, utf8-no, unknown, closed-none, closed-some}
 use Rattle.inspect.proofs.answer.Statement.{statement}
 use Rattle.inspect.proofs.answer.Tie as tie
 use Rattle.inspect.proofs.answer.Reads as reads
@@ -7,45 +14,35 @@ use Rattle.inspect.proofs.answer_utf8.Reads as answer-utf8-reads
 use Rattle.inspect.proofs.answer_varint.Reads as answer-varint-reads
 use Rattle.inspect.proofs.answer_walk.Reads as answer-walk-reads
 
--- src/main.rt:112:14
 answer-walk-requires : tie.Need-answer-walk-requires
 answer-walk-requires c κs = search needs
 
--- src/main.rt:113:14
 answer-varint-requires : tie.Need-answer-varint-requires
 answer-varint-requires c κs = search needs
 
--- src/main.rt:114:14
 answer-utf8-requires : tie.Need-answer-utf8-requires
 answer-utf8-requires c κs = search needs
 
--- src/main.rt:107:1
 same-length : tie.Need-same-length
 same-length c = search needs
 
--- src/main.rt:107:1
 returns : tie.Need-returns
-returns c = ?
+returns c = let e : c .before .before .before .before .before .before .before .args .kind ≡ 5 = omega arith in puts-as (ap (λ (k : ℕ). answerTo k (c .before .before .before .before .before .before .before .args .content .now)) (sym e)) (omega arith) (c .before .before .answer-walk .ensures)
 
--- src/main.rt:107:1
 same-length-2 : tie.Need-same-length-2
 same-length-2 c = search needs
 
--- src/main.rt:107:1
 returns-2 : tie.Need-returns-2
-returns-2 c = ?
+returns-2 c = let e : c .before .before .before .before .before .before .before .args .kind ≡ 6 = omega arith in puts-as (ap (λ (k : ℕ). answerTo k (c .before .before .before .before .before .before .before .args .content .now)) (sym e)) (omega arith) (c .before .before .answer-varint .ensures)
 
--- src/main.rt:107:1
 same-length-3 : tie.Need-same-length-3
 same-length-3 c = search needs
 
--- src/main.rt:107:1
 returns-3 : tie.Need-returns-3
-returns-3 c = ?
+returns-3 c = let e : c .before .before .before .before .before .before .before .args .kind ≡ 7 = omega arith in puts-as (ap (λ (k : ℕ). answerTo k (c .before .before .before .before .before .before .before .args .content .now)) (sym e)) (omega arith) (c .before .before .answer-utf8 .ensures)
 
--- src/main.rt:107:1
 returns-4 : tie.Need-returns-4
-returns-4 c = ?
+returns-4 c = puts-as (unknown _ _ (λ e. omega arith) (λ e. omega arith) (λ e. omega arith)) (omega arith) (puts-none _ _)
 
 pub answer-spec : {M : Type 1} → statement M
 answer-spec =

@@ -1,4 +1,10 @@
+-- `inspect::answer_varint` meets its contract: the varint is read and put.
 use borrow.Author.Needs.{needs}
+use mathlib.Core.Path.{_≡_, refl, sym, ap, _∙_}
+use native.Mathlib.Omega.{arith}
+use Rattle.text.specs.Laws.{puts-none, puts-then, puts-as, puts-length, puts-front, header-within}
+use Rattle.inspect.specs.Answers.{refusal, walk, varint, utf8, answerTo, lineOf}
+use Rattle.inspect.proofs.Answering.{told, walk-short, walk-answer, varint-answer, utf8-yes, utf8-no, unknown, closed-none, closed-some}
 use Rattle.inspect.proofs.answer_varint.Statement.{statement}
 use Rattle.inspect.proofs.answer_varint.Tie as tie
 use Rattle.inspect.proofs.answer_varint.Reads as reads
@@ -7,29 +13,23 @@ use Rattle.inspect.proofs.put_varint.Reads as put-varint-reads
 use Rattle.peer_id.proofs.read_uvarint.Reads as read-uvarint-reads
 use Rattle.text.proofs.put_text.Reads as put-text-reads
 
--- src/main.rt:90:9
 read-uvarint-requires : tie.Need-read-uvarint-requires
 read-uvarint-requires c κs = search needs
 
--- src/main.rt:91:31
 slice-aggregate-put-text : tie.Need-slice-aggregate-put-text
 slice-aggregate-put-text c = search needs
 
--- src/main.rt:91:9
 put-text-requires : tie.Need-put-text-requires
 put-text-requires c κs = search needs
 
--- src/main.rt:92:5
 put-varint-requires : tie.Need-put-varint-requires
 put-varint-requires c κs = search needs
 
--- src/main.rt:86:1
 same-length : tie.Need-same-length
 same-length c = search needs
 
--- src/main.rt:86:1
 returns : tie.Need-returns
-returns c = ?
+returns c = puts-as (varint-answer _ _ (c .before .before .before .before .before .before .before .before .before .read-uvarint .ensures)) (omega arith) (puts-then (c .before .before .before .before .before .before .put-text .ensures) (c .before .before .put-varint .ensures))
 
 pub answer-varint-spec : {M : Type 1} → statement M
 answer-varint-spec =

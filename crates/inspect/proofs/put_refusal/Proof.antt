@@ -1,4 +1,10 @@
+-- `inspect::put_refusal` meets its contract: the struct's numbers are those of 01's table.
 use borrow.Author.Needs.{needs}
+use mathlib.Core.Path.{_≡_, refl, sym, ap, _∙_}
+use native.Mathlib.Omega.{arith}
+use Rattle.text.specs.Laws.{puts-none, puts-then, puts-as, puts-length, puts-front, header-within}
+use Rattle.inspect.specs.Answers.{refusal, walk, varint, utf8, answerTo, lineOf}
+use Rattle.inspect.proofs.Answering.{told, walk-short, walk-answer, varint-answer, utf8-yes, utf8-no, unknown, closed-none, closed-some}
 use Rattle.inspect.proofs.put_refusal.Statement.{statement}
 use Rattle.inspect.proofs.put_refusal.Tie as tie
 use Rattle.inspect.proofs.put_refusal.Reads as reads
@@ -6,29 +12,23 @@ use Rattle.inspect.proofs.put_refusal.Lts as lts
 use Rattle.protobuf.proofs.refusal_of.Reads as refusal-of-reads
 use Rattle.text.proofs.put_refused.Reads as put-refused-reads
 
--- src/main.rt:22:9
 refusal-of-requires : tie.Need-refusal-of-requires
 refusal-of-requires c κs = search needs
 
--- src/main.rt:26:9
 cast-put-refused : tie.Need-cast-put-refused
 cast-put-refused c = search needs
 
--- src/main.rt:27:9
 cast-put-refused-2 : tie.Need-cast-put-refused-2
 cast-put-refused-2 c = search needs
 
--- src/main.rt:23:5
 put-refused-requires : tie.Need-put-refused-requires
 put-refused-requires c κs = search needs
 
--- src/main.rt:18:1
 same-length : tie.Need-same-length
 same-length c = search needs
 
--- src/main.rt:18:1
 returns : tie.Need-returns
-returns c = ?
+returns c = puts-as (told _ _ (c .before .before .before .before .before .before .refusal-of .ensures)) (omega arith) (c .before .before .put-refused .ensures)
 
 pub put-refusal-spec : {M : Type 1} → statement M
 put-refusal-spec =

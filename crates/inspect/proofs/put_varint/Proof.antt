@@ -1,4 +1,10 @@
+-- `inspect::put_varint` meets its contract: the case says what is put.
 use borrow.Author.Needs.{needs}
+use mathlib.Core.Path.{_≡_, refl, sym, ap, _∙_}
+use native.Mathlib.Omega.{arith}
+use Rattle.text.specs.Laws.{puts-none, puts-then, puts-as, puts-length, puts-front, header-within}
+use Rattle.inspect.specs.Answers.{refusal, walk, varint, utf8, answerTo, lineOf}
+use Rattle.inspect.proofs.Answering.{told, walk-short, walk-answer, varint-answer, utf8-yes, utf8-no, unknown, closed-none, closed-some}
 use Rattle.inspect.proofs.put_varint.Statement.{statement}
 use Rattle.inspect.proofs.put_varint.Tie as tie
 use Rattle.inspect.proofs.put_varint.Reads as reads
@@ -6,41 +12,34 @@ use Rattle.inspect.proofs.put_varint.Lts as lts
 use Rattle.inspect.proofs.put_refusal.Reads as put-refusal-reads
 use Rattle.text.proofs.put_number.Reads as put-number-reads
 
--- src/main.rt:62:26
 enum-known-v : tie.Need-enum-known-v
 enum-known-v c = search needs
 
--- src/main.rt:62:34
 put-refusal-requires : tie.Need-put-refusal-requires
 put-refusal-requires c κs = search needs
 
--- src/main.rt:63:26
 enum-known-v-2 : tie.Need-enum-known-v-2
 enum-known-v-2 c = search needs
 
--- src/main.rt:64:17
 put-number-requires : tie.Need-put-number-requires
 put-number-requires c κs = search needs
 
--- src/main.rt:65:13
 put-number-requires-2 : tie.Need-put-number-requires-2
-put-number-requires-2 c κs = ?
+put-number-requires-2 c κs = search needs
 
--- src/main.rt:57:1
 same-length : tie.Need-same-length
 same-length c = search needs
 
--- src/main.rt:57:1
 returns : tie.Need-returns
-returns c = ?
+unfolding varint
+returns c = puts-as (ap varint (sym (c .before .before .before .before .before .v .given .1))) (omega arith) (c .before .before .put-refusal .ensures)
 
--- src/main.rt:57:1
 same-length-2 : tie.Need-same-length-2
 same-length-2 c = search needs
 
--- src/main.rt:57:1
 returns-2 : tie.Need-returns-2
-returns-2 c = ?
+unfolding varint
+returns-2 c = puts-as (ap varint (sym (c .before .before .before .before .before .before .before .before .before .v2 .given .1))) (omega arith) (puts-then (c .before .before .before .before .before .before .put-number .ensures) (c .before .before .put-number2 .ensures))
 
 pub put-varint-spec : {M : Type 1} → statement M
 put-varint-spec =

@@ -1,0 +1,74 @@
+-- What the pieces of a line make together.
+use Prim.Native.Nat.{ℕ, _+_, _-_, _≤_, _<_}
+use mathlib.Core.Path.{_≡_, refl, sym, ap, _∙_}
+use mathlib.Core.List.{List, [], _∷_, _++_}
+use mathlib.Core.Logic.{_≢_}
+use mathlib.Core.Bool.{Bool, true, false}
+use native.Mathlib.Omega.{arith}
+use lib.ListN.{length, take, drop, getD, length-drop}
+use lib.Seq.{take-all}
+use borrow.Author.Tests.{lt-ltb, le-ltb, ne-eqb}
+use Rattle.text.specs.Record.{little}
+use Rattle.text.specs.Line.{decimal, refused}
+use Rattle.peer_id.specs.declared.Uvarint.{Uvarint}
+use Rattle.peer_id.specs.Uvarint.{readUvarint}
+use Rattle.utf8.specs.Utf8.{isUtf8}
+use Rattle.protobuf.specs.declared.WireError.{WireError}
+use Rattle.protobuf.specs.declared.WireError.the-variants.{Varint, FieldOverflow, UnsupportedWireType, InvalidFieldNumber, InvalidUtf8, TooLarge, TooManyRecords}
+use Rattle.protobuf.specs.declared.Refusal.{Refusal}
+use Rattle.protobuf.specs.declared.Walk.{Walk}
+use Rattle.protobuf.specs.Field.{walkStep}
+use Rattle.protobuf.specs.Refusal.{refusalNumber, refusalValues, refusalOf}
+use Rattle.inspect.specs.Answers.{refusal, walk, varint, utf8, answerTo, closed}
+
+-- ---- a refusal
+values : (why : WireError) → take (length (refusalValues why)) (getD (refusalValues why) 0 0 ∷ getD (refusalValues why) 1 0 ∷ getD (refusalValues why) 2 0 ∷ []) ≡ refusalValues why
+values (Varint v) = refl
+values (FieldOverflow offset size remaining) = refl
+values (UnsupportedWireType type offset) = refl
+values (InvalidFieldNumber field offset) = refl
+values (InvalidUtf8 offset) = refl
+values (TooLarge size) = refl
+values (TooManyRecords records) = refl
+
+pub told : (why : WireError) (r : Refusal) → r ≡ refusalOf why → refused (r .number) (take (r .count) (r .first ∷ r .second ∷ r .third ∷ [])) ≡ refusal why
+unfolding refusal
+told why r e = rw e (ap (refused (refusalNumber why)) (values why))
+
+-- ---- an answer
+pub walk-short : (s : List ℕ) → length s < 8 → [] ≡ answerTo 5 s
+unfolding answerTo
+walk-short s h = simp (lt-ltb _ _ h)
+
+pub walk-answer : (s : List ℕ) (at : ℕ) (w : Walk) → 8 ≤ length s → at ≡ little (take 8 (drop 0 s)) → w ≡ walkStep (take (length s - 8) (drop 8 s)) at → (32 ∷ 119 ∷ 97 ∷ 108 ∷ 107 ∷ []) ++ walk w ≡ answerTo 5 s
+unfolding answerTo
+walk-answer s at w h p e =
+    let f : take (length s - 8) (drop 8 s) ≡ drop 8 s = take-all _ (drop 8 s) (rw (length-drop 8 s) (omega arith)) in
+    simp (le-ltb _ _ h, e, f, p)
+
+pub varint-answer : (s : List ℕ) (v : Uvarint) → v ≡ readUvarint s → (32 ∷ 118 ∷ 97 ∷ 114 ∷ 105 ∷ 110 ∷ 116 ∷ []) ++ varint v ≡ answerTo 6 s
+unfolding answerTo
+varint-answer s v e = rw e
+
+pub utf8-yes : (s : List ℕ) → isUtf8 s ≡ true → 32 ∷ 117 ∷ 116 ∷ 102 ∷ 56 ∷ 32 ∷ 121 ∷ 101 ∷ 115 ∷ [] ≡ answerTo 7 s
+unfolding answerTo utf8
+utf8-yes s e = rw e
+
+pub utf8-no : (s : List ℕ) → isUtf8 s ≡ false → 32 ∷ 117 ∷ 116 ∷ 102 ∷ 56 ∷ 32 ∷ 110 ∷ 111 ∷ [] ≡ answerTo 7 s
+unfolding answerTo utf8
+utf8-no s e = rw e
+
+pub unknown : (kind : ℕ) (s : List ℕ) → kind ≢ 5 → kind ≢ 6 → kind ≢ 7 → [] ≡ answerTo kind s
+unfolding answerTo
+unknown kind s a b c = simp (ne-eqb _ _ a, ne-eqb _ _ b, ne-eqb _ _ c)
+
+-- ---- a line
+pub closed-none : (n : ℕ) (xs : List ℕ) → length xs ≡ 0 → closed n xs ≡ []
+unfolding closed
+closed-none n [] h = refl
+closed-none n (x ∷ xs) h = absurd (omega arith)
+
+pub closed-some : (n : ℕ) (xs : List ℕ) → 0 < length xs → decimal n ++ (xs ++ (10 ∷ [])) ≡ closed n xs
+unfolding closed
+closed-some n [] h = absurd (omega arith)
+closed-some n (x ∷ xs) h = refl
