@@ -3,6 +3,7 @@
 ghost use mathlib.Core.Path.{_≡_};
 ghost use Prim.Native.Nat.{_+_, _≤_};
 ghost use lib.ListN.{length, take};
+ghost use Rattle.io.specs.Counts.{Counts};
 ghost use Rattle.text.specs.Record.{contentLength};
 ghost use Rattle.text.specs.Line.{Puts};
 ghost use Rattle.inspect.specs.Answers.{refusal, walk, varint, answerTo, lineOf};
@@ -120,6 +121,7 @@ fn answer(kind: u64, content: &[u8], out: &mut [u8], at: usize) -> usize
 fn line(n: u64, kind: u64, content: &[u8], out: &mut [u8]) -> usize
     requires { ⌜ 131328 ≤ length (now out) ⌝ }
     ensures { λ r. ⌜ r ≡ length (lineOf n kind (now (content .entry))) ⌝ }
+    ensures { λ r. ⌜ Counts r (now (out .exit)) ⌝ }
     ensures { λ r. ⌜ take r (now (out .exit)) ≡ lineOf n kind (now (content .entry)) ⌝ }
 {
     let i = text::put_decimal(out, 0, n);
@@ -146,7 +148,23 @@ fn next_header() -> Header
     text::read_header(&head[..got], 65600)
 }
 
-// Reads a record and prints its line. Answers whether to go on.
+// Reads the content of record n and prints its line. Answers whether to go on.
+fn reply(n: u64, kind: u64, len: usize, content: &mut [u8], out: &mut [u8]) -> bool
+    requires { ⌜ len ≤ length (now content) ⌝ }
+    requires { ⌜ 131328 ≤ length (now out) ⌝ }
+{
+    let got = io::read_full(0, &mut content[..len]);
+    if got < len {
+        return last(b"bad\n");
+    }
+    let k = line(n, kind, &content[..len], out);
+    if k == 0 {
+        return last(b"bad\n");
+    }
+    io::write_all(1, &out[..k])
+}
+
+// Reads a record and prints its line, or the word that ends the run. Answers whether to go on.
 fn turn(n: u64, content: &mut [u8], out: &mut [u8]) -> bool
     requires { ⌜ 65600 ≤ length (now content) ⌝ }
     requires { ⌜ 131328 ≤ length (now out) ⌝ }
@@ -156,17 +174,7 @@ fn turn(n: u64, content: &mut [u8], out: &mut [u8]) -> bool
         Header::End => false,
         Header::Bad => last(b"bad\n"),
         Header::Long => last(b"long\n"),
-        Header::Record { kind, len } => {
-            let read = io::read_full(0, &mut content[..len]);
-            if read < len {
-                return last(b"bad\n");
-            }
-            let k = line(n, kind, &content[..len], out);
-            if k == 0 {
-                return last(b"bad\n");
-            }
-            io::write_all(1, &out[..k])
-        }
+        Header::Record { kind, len } => reply(n, kind, len, content, out),
     }
 }
 

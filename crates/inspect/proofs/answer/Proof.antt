@@ -1,18 +1,13 @@
 -- `inspect::answer` meets its contract: the kind picks the call.
 use borrow.Author.Needs.{needs}
 use Prim.Native.Nat.{ℕ}
-use mathlib.Core.Path.{_≡_, refl, sym, ap, _∙_}
+use mathlib.Core.Path.{_≡_, sym, ap}
 use native.Mathlib.Omega.{arith}
-use Rattle.text.specs.Laws.{puts-none, puts-then, puts-as, puts-length, puts-front, header-within}
-use Rattle.inspect.specs.Answers.{refusal, walk, varint, utf8, answerTo, lineOf}
-use Rattle.inspect.proofs.Answering.{told, walk-short, walk-answer, varint-answer, utf8-yes, utf8-no, unknown, closed-none, closed-some}
+use Rattle.text.specs.Laws.{puts-none, puts-as}
+use Rattle.inspect.specs.Answers.{answerTo}
+use Rattle.inspect.proofs.Answering.{unknown}
 use Rattle.inspect.proofs.answer.Statement.{statement}
 use Rattle.inspect.proofs.answer.Tie as tie
-use Rattle.inspect.proofs.answer.Reads as reads
-use Rattle.inspect.proofs.answer.Lts as lts
-use Rattle.inspect.proofs.answer_utf8.Reads as answer-utf8-reads
-use Rattle.inspect.proofs.answer_varint.Reads as answer-varint-reads
-use Rattle.inspect.proofs.answer_walk.Reads as answer-walk-reads
 
 answer-walk-requires : tie.Need-answer-walk-requires
 answer-walk-requires c κs = search needs

@@ -1,16 +1,11 @@
 -- `inspect::answer_utf8` meets its contract: the test says what is put.
 use borrow.Author.Needs.{needs}
-use mathlib.Core.Path.{_≡_, refl, sym, ap, _∙_}
+use mathlib.Core.Path.{sym, _∙_}
 use native.Mathlib.Omega.{arith}
-use Rattle.text.specs.Laws.{puts-none, puts-then, puts-as, puts-length, puts-front, header-within}
-use Rattle.inspect.specs.Answers.{refusal, walk, varint, utf8, answerTo, lineOf}
-use Rattle.inspect.proofs.Answering.{told, walk-short, walk-answer, varint-answer, utf8-yes, utf8-no, unknown, closed-none, closed-some}
+use Rattle.text.specs.Laws.{puts-as}
+use Rattle.inspect.proofs.Answering.{utf8-yes, utf8-no}
 use Rattle.inspect.proofs.answer_utf8.Statement.{statement}
 use Rattle.inspect.proofs.answer_utf8.Tie as tie
-use Rattle.inspect.proofs.answer_utf8.Reads as reads
-use Rattle.inspect.proofs.answer_utf8.Lts as lts
-use Rattle.text.proofs.put_text.Reads as put-text-reads
-use Rattle.utf8.proofs.is_utf8.Reads as is-utf8-reads
 
 is-utf8-requires : tie.Need-is-utf8-requires
 is-utf8-requires c κs = search needs

@@ -1,17 +1,10 @@
 -- `inspect::answer_varint` meets its contract: the varint is read and put.
 use borrow.Author.Needs.{needs}
-use mathlib.Core.Path.{_≡_, refl, sym, ap, _∙_}
 use native.Mathlib.Omega.{arith}
-use Rattle.text.specs.Laws.{puts-none, puts-then, puts-as, puts-length, puts-front, header-within}
-use Rattle.inspect.specs.Answers.{refusal, walk, varint, utf8, answerTo, lineOf}
-use Rattle.inspect.proofs.Answering.{told, walk-short, walk-answer, varint-answer, utf8-yes, utf8-no, unknown, closed-none, closed-some}
+use Rattle.text.specs.Laws.{puts-then, puts-as}
+use Rattle.inspect.proofs.Answering.{varint-answer}
 use Rattle.inspect.proofs.answer_varint.Statement.{statement}
 use Rattle.inspect.proofs.answer_varint.Tie as tie
-use Rattle.inspect.proofs.answer_varint.Reads as reads
-use Rattle.inspect.proofs.answer_varint.Lts as lts
-use Rattle.inspect.proofs.put_varint.Reads as put-varint-reads
-use Rattle.peer_id.proofs.read_uvarint.Reads as read-uvarint-reads
-use Rattle.text.proofs.put_text.Reads as put-text-reads
 
 read-uvarint-requires : tie.Need-read-uvarint-requires
 read-uvarint-requires c κs = search needs

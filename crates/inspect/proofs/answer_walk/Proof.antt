@@ -1,18 +1,10 @@
 -- `inspect::answer_walk` meets its contract: the place is read, then the step is taken and put.
 use borrow.Author.Needs.{needs}
-use mathlib.Core.Path.{_≡_, refl, sym, ap, _∙_}
 use native.Mathlib.Omega.{arith}
-use Rattle.text.specs.Laws.{puts-none, puts-then, puts-as, puts-length, puts-front, header-within}
-use Rattle.inspect.specs.Answers.{refusal, walk, varint, utf8, answerTo, lineOf}
-use Rattle.inspect.proofs.Answering.{told, walk-short, walk-answer, varint-answer, utf8-yes, utf8-no, unknown, closed-none, closed-some}
+use Rattle.text.specs.Laws.{puts-none, puts-then, puts-as}
+use Rattle.inspect.proofs.Answering.{walk-short, walk-answer}
 use Rattle.inspect.proofs.answer_walk.Statement.{statement}
 use Rattle.inspect.proofs.answer_walk.Tie as tie
-use Rattle.inspect.proofs.answer_walk.Reads as reads
-use Rattle.inspect.proofs.answer_walk.Lts as lts
-use Rattle.inspect.proofs.put_walk.Reads as put-walk-reads
-use Rattle.protobuf.proofs.Cursor.step.Reads as step-reads
-use Rattle.text.proofs.number_at.Reads as number-at-reads
-use Rattle.text.proofs.put_text.Reads as put-text-reads
 
 returns : tie.Need-returns
 returns c = puts-as (walk-short _ (c .if1 .taken)) (omega arith) (puts-none _ _)

@@ -1,14 +1,10 @@
 -- `inspect::main` is safe and ends: the measure is how many records it still counts.
 use borrow.Author.Needs.{needs}
-use Prim.Native.Nat.{_-_, _^_, _≤_}
+use Prim.Native.Nat.{_-_, _^_}
 use mathlib.Core.Path.{_≡_}
-use native.Mathlib.Omega.{arith}
 use lib.ListN.{length}
 use Rattle.inspect.proofs.main.Statement.{statement}
 use Rattle.inspect.proofs.main.Tie as tie
-use Rattle.inspect.proofs.main.Reads as reads
-use Rattle.inspect.proofs.main.Lts as lts
-use Rattle.inspect.proofs.turn.Reads as turn-reads
 
 abbrev Inv-loop : tie.InvT-loop
 Inv-loop content₀ out₀ n₀ content out n = (65600 ≡ length content) × (131328 ≡ length out)

@@ -1,16 +1,8 @@
 -- `inspect::next_header` meets its contract: a longer content is no record.
 use borrow.Author.Needs.{needs}
-use mathlib.Core.Path.{_≡_, refl, sym, ap, _∙_}
-use native.Mathlib.Omega.{arith}
-use Rattle.text.specs.Laws.{puts-none, puts-then, puts-as, puts-length, puts-front, header-within}
-use Rattle.inspect.specs.Answers.{refusal, walk, varint, utf8, answerTo, lineOf}
-use Rattle.inspect.proofs.Answering.{told, walk-short, walk-answer, varint-answer, utf8-yes, utf8-no, unknown, closed-none, closed-some}
+use Rattle.text.specs.Laws.{header-within}
 use Rattle.inspect.proofs.next_header.Statement.{statement}
 use Rattle.inspect.proofs.next_header.Tie as tie
-use Rattle.inspect.proofs.next_header.Reads as reads
-use Rattle.inspect.proofs.next_header.Lts as lts
-use Rattle.io.proofs.read_full.Reads as read-full-reads
-use Rattle.text.proofs.read_header.Reads as read-header-reads
 
 slice-aggregate-read-full : tie.Need-slice-aggregate-read-full
 slice-aggregate-read-full c = search needs

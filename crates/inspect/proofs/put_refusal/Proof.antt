@@ -1,16 +1,10 @@
 -- `inspect::put_refusal` meets its contract: the struct's numbers are those of 01's table.
 use borrow.Author.Needs.{needs}
-use mathlib.Core.Path.{_≡_, refl, sym, ap, _∙_}
 use native.Mathlib.Omega.{arith}
-use Rattle.text.specs.Laws.{puts-none, puts-then, puts-as, puts-length, puts-front, header-within}
-use Rattle.inspect.specs.Answers.{refusal, walk, varint, utf8, answerTo, lineOf}
-use Rattle.inspect.proofs.Answering.{told, walk-short, walk-answer, varint-answer, utf8-yes, utf8-no, unknown, closed-none, closed-some}
+use Rattle.text.specs.Laws.{puts-as}
+use Rattle.inspect.proofs.Answering.{told}
 use Rattle.inspect.proofs.put_refusal.Statement.{statement}
 use Rattle.inspect.proofs.put_refusal.Tie as tie
-use Rattle.inspect.proofs.put_refusal.Reads as reads
-use Rattle.inspect.proofs.put_refusal.Lts as lts
-use Rattle.protobuf.proofs.refusal_of.Reads as refusal-of-reads
-use Rattle.text.proofs.put_refused.Reads as put-refused-reads
 
 refusal-of-requires : tie.Need-refusal-of-requires
 refusal-of-requires c κs = search needs

@@ -1,16 +1,11 @@
 -- `inspect::put_varint` meets its contract: the case says what is put.
 use borrow.Author.Needs.{needs}
-use mathlib.Core.Path.{_≡_, refl, sym, ap, _∙_}
+use mathlib.Core.Path.{sym, ap}
 use native.Mathlib.Omega.{arith}
-use Rattle.text.specs.Laws.{puts-none, puts-then, puts-as, puts-length, puts-front, header-within}
-use Rattle.inspect.specs.Answers.{refusal, walk, varint, utf8, answerTo, lineOf}
-use Rattle.inspect.proofs.Answering.{told, walk-short, walk-answer, varint-answer, utf8-yes, utf8-no, unknown, closed-none, closed-some}
+use Rattle.text.specs.Laws.{puts-then, puts-as}
+use Rattle.inspect.specs.Answers.{varint}
 use Rattle.inspect.proofs.put_varint.Statement.{statement}
 use Rattle.inspect.proofs.put_varint.Tie as tie
-use Rattle.inspect.proofs.put_varint.Reads as reads
-use Rattle.inspect.proofs.put_varint.Lts as lts
-use Rattle.inspect.proofs.put_refusal.Reads as put-refusal-reads
-use Rattle.text.proofs.put_number.Reads as put-number-reads
 
 enum-known-v : tie.Need-enum-known-v
 enum-known-v c = search needs
