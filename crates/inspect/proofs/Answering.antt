@@ -22,7 +22,7 @@ use Rattle.protobuf.specs.declared.Refusal.{Refusal}
 use Rattle.protobuf.specs.declared.Walk.{Walk}
 use Rattle.protobuf.specs.Field.{walkStep}
 use Rattle.protobuf.specs.Refusal.{refusalNumber, refusalValues, refusalOf}
-use Rattle.inspect.specs.Answers.{refusal, walk, varint, utf8, answerTo, closed, lineOf}
+use Rattle.inspect.specs.Answers.{refusal, walk, varint, walkAnswer, varintAnswer, utf8Answer, answerTo, closed, lineOf}
 
 -- ---- a refusal
 values : (why : WireError) → take (length (refusalValues why)) (getD (refusalValues why) 0 0 ∷ getD (refusalValues why) 1 0 ∷ getD (refusalValues why) 2 0 ∷ []) ≡ refusalValues why
@@ -39,31 +39,44 @@ unfolding refusal
 told why r e = rw e (ap (refused (refusalNumber why)) (values why))
 
 -- ---- an answer
-pub walk-short : (s : List ℕ) → length s < 8 → [] ≡ answerTo 5 s
-unfolding answerTo
+pub walk-short : (s : List ℕ) → length s < 8 → [] ≡ walkAnswer s
+unfolding walkAnswer
 walk-short s h = simp (lt-ltb _ _ h)
 
-pub walk-answer : (s : List ℕ) (at : ℕ) (w : Walk) → 8 ≤ length s → at ≡ little (take 8 (drop 0 s)) → w ≡ walkStep (take (length s - 8) (drop 8 s)) at → (32 ∷ 119 ∷ 97 ∷ 108 ∷ 107 ∷ []) ++ walk w ≡ answerTo 5 s
-unfolding answerTo
+pub walk-answer : (s : List ℕ) (at : ℕ) (w : Walk) → 8 ≤ length s → at ≡ little (take 8 (drop 0 s)) → w ≡ walkStep (take (length s - 8) (drop 8 s)) at → (32 ∷ 119 ∷ 97 ∷ 108 ∷ 107 ∷ []) ++ walk w ≡ walkAnswer s
+unfolding walkAnswer
 walk-answer s at w h p e =
     let f : take (length s - 8) (drop 8 s) ≡ drop 8 s = take-all (length s - 8) (drop 8 s) (rw (length-drop 8 s) (omega arith)) in
     simp (le-ltb _ _ h, e, f, p)
 
-pub varint-answer : (s : List ℕ) (v : Uvarint) → v ≡ readUvarint s → (32 ∷ 118 ∷ 97 ∷ 114 ∷ 105 ∷ 110 ∷ 116 ∷ []) ++ varint v ≡ answerTo 6 s
-unfolding answerTo
+pub varint-answer : (s : List ℕ) (v : Uvarint) → v ≡ readUvarint s → (32 ∷ 118 ∷ 97 ∷ 114 ∷ 105 ∷ 110 ∷ 116 ∷ []) ++ varint v ≡ varintAnswer s
+unfolding varintAnswer
 varint-answer s v e = rw e
 
-pub utf8-yes : (s : List ℕ) → isUtf8 s ≡ true → 32 ∷ 117 ∷ 116 ∷ 102 ∷ 56 ∷ 32 ∷ 121 ∷ 101 ∷ 115 ∷ [] ≡ answerTo 7 s
-unfolding answerTo utf8
+pub utf8-yes : (s : List ℕ) → isUtf8 s ≡ true → 32 ∷ 117 ∷ 116 ∷ 102 ∷ 56 ∷ 32 ∷ 121 ∷ 101 ∷ 115 ∷ [] ≡ utf8Answer s
+unfolding utf8Answer
 utf8-yes s e = rw e
 
-pub utf8-no : (s : List ℕ) → isUtf8 s ≡ false → 32 ∷ 117 ∷ 116 ∷ 102 ∷ 56 ∷ 32 ∷ 110 ∷ 111 ∷ [] ≡ answerTo 7 s
-unfolding answerTo utf8
+pub utf8-no : (s : List ℕ) → isUtf8 s ≡ false → 32 ∷ 117 ∷ 116 ∷ 102 ∷ 56 ∷ 32 ∷ 110 ∷ 111 ∷ [] ≡ utf8Answer s
+unfolding utf8Answer
 utf8-no s e = rw e
 
-pub unknown : (kind : ℕ) (s : List ℕ) → kind ≢ 5 → kind ≢ 6 → kind ≢ 7 → [] ≡ answerTo kind s
+-- ---- a kind
+pub kind-walk : (kind : ℕ) (s : List ℕ) → kind ≡ 5 → walkAnswer s ≡ answerTo kind s
 unfolding answerTo
-unknown kind s a b c = simp (ne-eqb _ _ a, ne-eqb _ _ b, ne-eqb _ _ c)
+kind-walk kind s e = rw e
+
+pub kind-varint : (kind : ℕ) (s : List ℕ) → kind ≡ 6 → varintAnswer s ≡ answerTo kind s
+unfolding answerTo
+kind-varint kind s e = rw e
+
+pub kind-utf8 : (kind : ℕ) (s : List ℕ) → kind ≡ 7 → utf8Answer s ≡ answerTo kind s
+unfolding answerTo
+kind-utf8 kind s e = rw e
+
+pub kind-unknown : (kind : ℕ) (s : List ℕ) → kind ≢ 5 → kind ≢ 6 → kind ≢ 7 → [] ≡ answerTo kind s
+unfolding answerTo
+kind-unknown kind s a b c = simp (ne-eqb _ _ a, ne-eqb _ _ b, ne-eqb _ _ c)
 
 -- ---- a line
 closed-none : (n : ℕ) (xs : List ℕ) → length xs ≡ 0 → [] ≡ closed n xs

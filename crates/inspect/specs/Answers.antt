@@ -1,7 +1,7 @@
--- The lines, in ASCII.
+-- The lines, in ASCII. A record that is bad, its kind unknown or its content too short, has none.
 use Prim.Native.Nat.{ℕ}
 use mathlib.Core.List.{List, [], _∷_, _++_}
-use mathlib.Core.Bool.{Bool, cond}
+use mathlib.Core.Bool.{cond}
 use lib.ListN.{length, take, drop}
 use lib.Dec.{ltb, eqb}
 use Rattle.text.specs.Record.{little}
@@ -32,19 +32,27 @@ unfoldable pub varint : Uvarint → List ℕ
 varint (Unread why) = refusal (Varint why)
 varint (Value x n) = number x ++ number n
 
--- ` yes` or ` no`
-unfoldable pub utf8 : Bool → List ℕ
-utf8 t = cond t (32 ∷ 121 ∷ 101 ∷ 115 ∷ []) (32 ∷ 110 ∷ 111 ∷ [])
+-- ---- the call and the answer to a content, for each kind
+-- ` walk`: a place and then a body; nothing where the place is cut
+unfoldable pub walkAnswer : List ℕ → List ℕ
+walkAnswer s = cond (ltb (length s) 8) [] (32 ∷ 119 ∷ 97 ∷ 108 ∷ 107 ∷ walk (walkStep (drop 8 s) (little (take 8 s))))
 
--- the call and the answer to a record: ` walk`, ` varint`, ` utf8`; nothing where the kind is unknown or the content too short for it
+-- ` varint`
+unfoldable pub varintAnswer : List ℕ → List ℕ
+varintAnswer s = 32 ∷ 118 ∷ 97 ∷ 114 ∷ 105 ∷ 110 ∷ 116 ∷ varint (readUvarint s)
+
+-- ` utf8`, and ` yes` or ` no`
+unfoldable pub utf8Answer : List ℕ → List ℕ
+utf8Answer s = 32 ∷ 117 ∷ 116 ∷ 102 ∷ 56 ∷ cond (isUtf8 s) (32 ∷ 121 ∷ 101 ∷ 115 ∷ []) (32 ∷ 110 ∷ 111 ∷ [])
+
+-- nothing where the kind is unknown
 unfoldable pub answerTo : ℕ → List ℕ → List ℕ
 answerTo kind s =
-    cond (eqb kind 5)
-    (cond (ltb (length s) 8) [] (32 ∷ 119 ∷ 97 ∷ 108 ∷ 107 ∷ walk (walkStep (drop 8 s) (little (take 8 s)))))
-    (cond (eqb kind 6) (32 ∷ 118 ∷ 97 ∷ 114 ∷ 105 ∷ 110 ∷ 116 ∷ varint (readUvarint s))
-    (cond (eqb kind 7) (32 ∷ 117 ∷ 116 ∷ 102 ∷ 56 ∷ utf8 (isUtf8 s)) []))
+    cond (eqb kind 5) (walkAnswer s)
+    (cond (eqb kind 6) (varintAnswer s)
+    (cond (eqb kind 7) (utf8Answer s) []))
 
--- record n's line, with its newline; nothing where the record is bad
+-- record n's line, with its newline
 unfoldable pub closed : ℕ → List ℕ → List ℕ
 closed n [] = []
 closed n (x ∷ xs) = decimal n ++ (x ∷ xs ++ (10 ∷ []))

@@ -6,7 +6,7 @@ ghost use lib.ListN.{length, take};
 ghost use Rattle.io.specs.Counts.{Counts};
 ghost use Rattle.text.specs.Record.{contentLength};
 ghost use Rattle.text.specs.Line.{Puts};
-ghost use Rattle.inspect.specs.Answers.{refusal, walk, varint, answerTo, lineOf};
+ghost use Rattle.inspect.specs.Answers.{refusal, walk, varint, walkAnswer, varintAnswer, utf8Answer, answerTo, lineOf};
 use peer_id::Uvarint;
 use protobuf::Cursor;
 use protobuf::Walk;
@@ -71,7 +71,7 @@ fn put_varint(out: &mut [u8], at: usize, v: Uvarint) -> usize
 // Kind 5: the place, and then the body.
 fn answer_walk(content: &[u8], out: &mut [u8], at: usize) -> usize
     requires { ⌜ at + 131200 ≤ length (now out) ⌝ }
-    ensures { λ r. ⌜ Puts 131200 (answerTo 5 (now (content .entry))) (now (out .entry)) at (now (out .exit)) r ⌝ }
+    ensures { λ r. ⌜ Puts 131200 (walkAnswer (now (content .entry))) (now (out .entry)) at (now (out .exit)) r ⌝ }
 {
     if content.len() < 8 {
         return at;
@@ -86,7 +86,7 @@ fn answer_walk(content: &[u8], out: &mut [u8], at: usize) -> usize
 // Kind 6.
 fn answer_varint(content: &[u8], out: &mut [u8], at: usize) -> usize
     requires { ⌜ at + 131200 ≤ length (now out) ⌝ }
-    ensures { λ r. ⌜ Puts 131200 (answerTo 6 (now (content .entry))) (now (out .entry)) at (now (out .exit)) r ⌝ }
+    ensures { λ r. ⌜ Puts 131200 (varintAnswer (now (content .entry))) (now (out .entry)) at (now (out .exit)) r ⌝ }
 {
     let v = peer_id::read_uvarint(content);
     let i = put_text(out, at, b" varint");
@@ -96,7 +96,7 @@ fn answer_varint(content: &[u8], out: &mut [u8], at: usize) -> usize
 // Kind 7.
 fn answer_utf8(content: &[u8], out: &mut [u8], at: usize) -> usize
     requires { ⌜ at + 131200 ≤ length (now out) ⌝ }
-    ensures { λ r. ⌜ Puts 131200 (answerTo 7 (now (content .entry))) (now (out .entry)) at (now (out .exit)) r ⌝ }
+    ensures { λ r. ⌜ Puts 131200 (utf8Answer (now (content .entry))) (now (out .entry)) at (now (out .exit)) r ⌝ }
 {
     if utf8::is_utf8(content) {
         return put_text(out, at, b" utf8 yes");

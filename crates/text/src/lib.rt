@@ -1,5 +1,6 @@
 // Records in and lines out, for the programs that run the libraries on bytes: the header of a record, little-endian numbers, and words, decimal
-// numbers and hex put into a line. A writer takes the line, a place in it and what to put there, and hands back the place after that.
+// numbers and hex put into a line. A writer takes the line, a place in it and what to put there, and hands back the place after that; its
+// caller sees to the room.
 ghost use mathlib.Core.Path.{_≡_};
 ghost use Prim.Native.Nat.{_+_, _*_, _≤_};
 ghost use mathlib.Core.List.{_∷_, []};

@@ -1,11 +1,8 @@
 -- `inspect::answer` meets its contract: the kind picks the call.
 use borrow.Author.Needs.{needs}
-use Prim.Native.Nat.{ℕ}
-use mathlib.Core.Path.{_≡_, sym, ap}
 use native.Mathlib.Omega.{arith}
 use Rattle.text.specs.Laws.{puts-none, puts-as}
-use Rattle.inspect.specs.Answers.{answerTo}
-use Rattle.inspect.proofs.Answering.{unknown}
+use Rattle.inspect.proofs.Answering.{kind-walk, kind-varint, kind-utf8, kind-unknown}
 use Rattle.inspect.proofs.answer.Statement.{statement}
 use Rattle.inspect.proofs.answer.Tie as tie
 
@@ -22,22 +19,22 @@ same-length : tie.Need-same-length
 same-length c = search needs
 
 returns : tie.Need-returns
-returns c = let e : c .before .before .before .before .before .before .before .args .kind ≡ 5 = omega arith in puts-as (ap (λ (k : ℕ). answerTo k (c .before .before .before .before .before .before .before .args .content .now)) (sym e)) (omega arith) (c .before .before .answer-walk .ensures)
+returns c = puts-as (kind-walk _ _ (c .before .before .before .before .match .keys1)) (omega arith) (c .before .before .answer-walk .ensures)
 
 same-length-2 : tie.Need-same-length-2
 same-length-2 c = search needs
 
 returns-2 : tie.Need-returns-2
-returns-2 c = let e : c .before .before .before .before .before .before .before .args .kind ≡ 6 = omega arith in puts-as (ap (λ (k : ℕ). answerTo k (c .before .before .before .before .before .before .before .args .content .now)) (sym e)) (omega arith) (c .before .before .answer-varint .ensures)
+returns-2 c = puts-as (kind-varint _ _ (c .before .before .before .before .match .keys2)) (omega arith) (c .before .before .answer-varint .ensures)
 
 same-length-3 : tie.Need-same-length-3
 same-length-3 c = search needs
 
 returns-3 : tie.Need-returns-3
-returns-3 c = let e : c .before .before .before .before .before .before .before .args .kind ≡ 7 = omega arith in puts-as (ap (λ (k : ℕ). answerTo k (c .before .before .before .before .before .before .before .args .content .now)) (sym e)) (omega arith) (c .before .before .answer-utf8 .ensures)
+returns-3 c = puts-as (kind-utf8 _ _ (c .before .before .before .before .match .keys3)) (omega arith) (c .before .before .answer-utf8 .ensures)
 
 returns-4 : tie.Need-returns-4
-returns-4 c = puts-as (unknown _ _ (λ e. omega arith) (λ e. omega arith) (λ e. omega arith)) (omega arith) (puts-none _ _)
+returns-4 c = puts-as (kind-unknown _ _ (λ e. omega arith) (λ e. omega arith) (λ e. omega arith)) (omega arith) (puts-none _ _)
 
 pub answer-spec : {M : Type 1} → statement M
 answer-spec =
