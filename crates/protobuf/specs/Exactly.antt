@@ -286,3 +286,149 @@ sound s [] at b h = step-sound s at [] (readField s at) b refl (sym (walk-on s a
 sound s (g ∷ hs) at b h =
     step-sound s at (g ∷ hs) (readField s at) b refl (sym (walk-on s at (readField s at) refl) ∙ h)
     (λ f gs w e. let eh : hs ≡ gs = cc in rw (← eh) (sound s hs (f .next) b (w ∙ ap whole (sym eh))))
+
+-- ---- from the grammar to the walk: each value is read where it stands
+-- a field of the grammar is read at its place, and what it holds is the grammar's
+record Found (s : List ℕ) (at n : ℕ) (p : Payload) (rest : List ℕ) : Type 0 where
+  f : Field
+  read : step.At f ≡ readField s at
+  entry : entryOf s f ≡ record { field = n; payload = p }
+  left : drop (f .next) s ≡ rest
+
+-- the same of a value, whose tag ends at `to`
+record Held (s : List ℕ) (n type to : ℕ) (p : Payload) (rest : List ℕ) : Type 0 where
+  f : Field
+  read : step.At f ≡ readValue s n type to
+  entry : entryOf s f ≡ record { field = n; payload = p }
+  left : drop (f .next) s ≡ rest
+
+-- what is left is no longer than all
+left-fits : (s : List ℕ) (at : ℕ) (xs rest : List ℕ) → 0 < length xs → drop at s ≡ xs ++ rest → at + length xs + length rest ≡ length s
+left-fits s at xs rest z h = let e : length s - at ≡ length xs + length rest = sym (length-drop at s) ∙ ap length h ∙ length-append xs rest in omega arith
+
+varint-held : (s : List ℕ) (n to v : ℕ) (rest : List ℕ) → v < 2 ^ 64 → drop to s ≡ uvarint v ++ rest → Held s n 0 to (number v) rest
+unfolding readValue readVarint entryOf payloadOf
+varint-held s n to v rest b h =
+    let e = to + length (uvarint v) in
+    record {
+      f = record { field = n; «wire_type» = 0; «tag_end» = to; value = v; start = e; next = e };
+      read = simp (reads-spelt s to v rest b h);
+      entry = refl;
+      left = drop-front s to (uvarint v) rest h;
+    }
+
+bytes-held : (s : List ℕ) (n to : ℕ) (d rest : List ℕ) → length d < 2 ^ 64 → drop to s ≡ (uvarint (length d) ++ d) ++ rest → Held s n 2 to (bytes d) rest
+unfolding readValue readLen entryOf payloadOf
+bytes-held s n to d rest b h =
+    let a = to + length (uvarint (length d)) in
+    let e = a + length d in
+    let h1 : drop to s ≡ uvarint (length d) ++ (d ++ rest) = h ∙ append-assoc (uvarint (length d)) d rest in
+    let h2 : drop a s ≡ d ++ rest = drop-front s to (uvarint (length d)) (d ++ rest) h1 in
+    let u = uvarint-some (length d) in
+    let l = left-fits s to (uvarint (length d)) (d ++ rest) (omega arith) h1 in
+    let k : length d ≤ length s - a = omega (arith, length-append d rest) in
+    let x : e - a ≡ length d = omega arith in
+    let t : take (e - a) (drop a s) ≡ d = ap (λ (i : ℕ). take i (drop a s)) x ∙ take-front s a d rest h2 in
+    record {
+      f = record { field = n; «wire_type» = 2; «tag_end» = to; value = e - a; start = a; next = e };
+      read = simp (reads-spelt s to (length d) (d ++ rest) b h1, le-ltb _ _ k);
+      entry = ap (λ (y : List ℕ). record { field = n; payload = bytes y }) t;
+      left = drop-front s a d rest h2;
+    }
+
+-- fixed numbers of bytes
+fixed-reads : (s : List ℕ) (to : ℕ) (d rest : List ℕ) (k : ℕ) → 0 < k → length d ≡ k → drop to s ≡ d ++ rest → skipFixed (length s) to k ≡ skip.Next (to + k)
+unfolding skipFixed
+fixed-reads s to d rest k z g h = let l = left-fits s to d rest (omega arith) h in let m : k ≤ length s - to = omega arith in simp (le-ltb _ _ m)
+
+fixed-bytes : (s : List ℕ) (to : ℕ) (d rest : List ℕ) (k : ℕ) → length d ≡ k → drop to s ≡ d ++ rest → (between s to (to + k) ≡ d) × (drop (to + k) s ≡ rest)
+fixed-bytes s to d rest k g h =
+    let x : to + k - to ≡ length d = omega arith in
+    (ap (λ (i : ℕ). take i (drop to s)) x ∙ take-front s to d rest h, ap (λ (i : ℕ). drop (to + i) s) (sym g) ∙ drop-front s to d rest h)
+
+four-held : (s : List ℕ) (n to : ℕ) (d rest : List ℕ) → length d ≡ 4 → drop to s ≡ d ++ rest → Held s n 5 to (four d) rest
+unfolding readValue skipField entryOf payloadOf
+four-held s n to d rest g h =
+    let t = fixed-bytes s to d rest 4 g h in
+    record {
+      f = record { field = n; «wire_type» = 5; «tag_end» = to; value = 0; start = to; next = to + 4 };
+      read = simp (fixed-reads s to d rest 4 (omega arith) g h);
+      entry = ap (λ (y : List ℕ). record { field = n; payload = four y }) (t .0);
+      left = t .1;
+    }
+
+eight-held : (s : List ℕ) (n to : ℕ) (d rest : List ℕ) → length d ≡ 8 → drop to s ≡ d ++ rest → Held s n 1 to (eight d) rest
+unfolding readValue skipField entryOf payloadOf
+eight-held s n to d rest g h =
+    let t = fixed-bytes s to d rest 8 g h in
+    record {
+      f = record { field = n; «wire_type» = 1; «tag_end» = to; value = 0; start = to; next = to + 8 };
+      read = simp (fixed-reads s to d rest 8 (omega arith) g h);
+      entry = ap (λ (y : List ℕ). record { field = n; payload = eight y }) (t .0);
+      left = t .1;
+    }
+
+held : {type : ℕ} {v : List ℕ} {p : Payload} (s : List ℕ) (n to : ℕ) (rest : List ℕ) → Value type v p → drop to s ≡ v ++ rest → Held s n type to p rest
+held s n to rest (varint b) h = varint-held s n to _ rest b h
+held s n to rest (i64 g) h = eight-held s n to _ rest g h
+held s n to rest (len-prefix b) h = bytes-held s n to _ rest b h
+held s n to rest (i32 g) h = four-held s n to _ rest g h
+
+type-bits : {type : ℕ} {v : List ℕ} {p : Payload} → Value type v p → type < 8
+type-bits (varint b) = omega arith
+type-bits (i64 g) = omega arith
+type-bits (len-prefix b) = omega arith
+type-bits (i32 g) = omega arith
+
+tag-reads : (s : List ℕ) (at n type : ℕ) (rest : List ℕ) → 1 ≤ n → n ≤ 536870911 → type < 8 → drop at s ≡ uvarint (n * 8 + type) ++ rest → readTag s at ≡ tag.Field n type (at + length (uvarint (n * 8 + type)))
+unfolding readTag
+tag-reads s at n type rest l m b h =
+    let u = uvarint-some (n * 8 + type) in
+    let k = left-fits s at (uvarint (n * 8 + type)) rest (omega arith) h in
+    let i : at < length s = omega arith in
+    let x : (n * 8 + type) / 8 ≡ n = omega arith in
+    let y : (n * 8 + type) % 8 ≡ type = omega arith in
+    simp (lt-leb _ _ i, reads-spelt s at (n * 8 + type) rest (omega arith) h, x, y, ne-eqb n 0 (λ z. omega arith), le-ltb 536870911 n m)
+
+found : (s : List ℕ) (at n type : ℕ) (v rest : List ℕ) (p : Payload) → 1 ≤ n → n ≤ 536870911 → Value type v p → drop at s ≡ uvarint (n * 8 + type) ++ (v ++ rest) → Found s at n p rest
+unfolding readField
+found s at n type v rest p l m w h =
+    let t = tag-reads s at n type (v ++ rest) l m (type-bits w) h in
+    let r = held s n (at + length (uvarint (n * 8 + type))) rest w (drop-front s at (uvarint (n * 8 + type)) (v ++ rest) h) in
+    record { f = r .f; read = r .read ∙ ap (ofTag s) (sym t); entry = r .entry; left = r .left }
+
+-- the walk that a body of the grammar has
+pub record Walks (s : List ℕ) (at : ℕ) (es : List Entry) : Type 0 where
+  pub fields : List Field
+  pub walked : walkAt s at ≡ whole fields
+  pub entries : entriesOf s fields ≡ es
+
+complete : {b : List ℕ} {es : List Entry} (s : List ℕ) (at : ℕ) → Body b es → drop at s ≡ b → Walks s at es
+complete s at none h =
+    let k : length s ≤ at = let e : length s - at ≡ 0 = sym (length-drop at s) ∙ ap length h in omega arith in
+    record { fields = []; walked = walk-end s at k; entries = refl }
+complete s at (field {n = n} {type = type} {v = v} {rest = rest} {p = p} l m w r) h =
+    let t = found s at n type v rest p l m w h in
+    let k = complete s (t .f .next) r (t .left) in
+    record {
+      fields = t .f ∷ k .fields;
+      walked = walk-on s at (step.At (t .f)) (t .read) ∙ ap (λ (y : Fields). t .f then y) (k .walked);
+      entries = ap₂ (λ (x : Entry) (y : List Entry). x ∷ y) (t .entry) (k .entries);
+    }
+
+-- a body is the grammar's exactly where its walk reaches the end, and the fields that the walk finds are the grammar's
+pub exactly : (s : List ℕ) (es : List Entry) → Bytes s → Walks s 0 es ↔ Body s es
+exactly s es b = (λ w. subst (Body s) (w .entries) (sound s (w .fields) 0 b (w .walked)), λ g. complete s 0 g refl)
+
+-- a body has one meaning
+whole-same : (fs gs : List Field) → whole fs ≡ whole gs → fs ≡ gs
+whole-same [] [] e = refl
+whole-same [] (g ∷ gs) e = clash (cc)
+whole-same (f ∷ fs) [] e = clash (cc)
+whole-same (f ∷ fs) (g ∷ gs) e = let h : f ≡ g = cc in let t : whole fs ≡ whole gs = cc in ap₂ (λ (x : Field) (y : List Field). x ∷ y) h (whole-same fs gs t)
+
+pub one-meaning : (s : List ℕ) (ds es : List Entry) → Body s ds → Body s es → ds ≡ es
+one-meaning s ds es p q =
+    let w = complete s 0 p refl in
+    let v = complete s 0 q refl in
+    sym (w .entries) ∙ ap (entriesOf s) (whole-same (w .fields) (v .fields) (sym (w .walked) ∙ v .walked)) ∙ v .entries

@@ -7,3 +7,4 @@ pub mod WalkLaws
 pub mod Exactly
 pub mod Encode
 pub mod EncodeLaws
+pub mod Rows

@@ -1,0 +1,3 @@
+pub mod Rows
+pub mod Decode
+pub mod RowsLaws

@@ -1,0 +1,2 @@
+pub mod Rpc
+pub mod Grammar

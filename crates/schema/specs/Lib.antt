@@ -1,0 +1,4 @@
+pub mod Schema
+pub mod Count
+pub mod Slots
+pub mod CountLaws
