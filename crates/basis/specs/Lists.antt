@@ -6,12 +6,13 @@ use native.Mathlib.Omega.{arith}
 use native.Mathlib.Nat.{add-zero, zero-add, sub-zero, zero-sub, suc-sub-suc}
 use lib.ListN.{length, set, take, drop, getD, length-take, List·getD-eq-default}
 use lib.Seq.{sets, sets-eq, getD-drop, getD-take, take-nil}
-use lib.Dec.{ltb}
+use mathlib.Core.Bool.{false}
+use lib.Dec.{ltb, leb}
 use borrow.Author.Tests.{le-leb, lt-leb, ltb-true, ltb-false}
 use Rattle.basis.specs.declared.Written.the-variants.{Bytes as Wrote, Room}
 use Rattle.basis.specs.Cases.{either}
 use Rattle.basis.specs.Bytes.{Bytes}
-use Rattle.basis.specs.Writing.{answer, written}
+use Rattle.basis.specs.Writing.{answer, written, endIn, setIn}
 
 -- one write after another is one write
 pub sets-append : {A : Type 0} (l : List A) (i : ℕ) (xs ys : List A) → sets l i (xs ++ ys) ≡ sets (sets l i xs) (i + length xs) ys
@@ -35,6 +36,23 @@ answer-short xs out h = simp (lt-leb _ _ h)
 pub written-short : (xs out : List ℕ) → length out < length xs → written xs out ≡ out
 unfolding written
 written-short xs out h = simp (lt-leb _ _ h)
+
+-- the same within a line or a body
+pub end-fits : (room at : ℕ) (xs out : List ℕ) → at + room ≤ length out → endIn room at xs out ≡ at + length xs
+unfolding endIn
+end-fits room at xs out h = simp (le-leb _ _ h)
+
+pub set-fits : (room at : ℕ) (xs out : List ℕ) → at + room ≤ length out → setIn room at xs out ≡ sets out at xs
+unfolding setIn
+set-fits room at xs out h = simp (le-leb _ _ h)
+
+pub end-short : (room at : ℕ) (xs out : List ℕ) → leb (at + room) (length out) ≡ false → endIn room at xs out ≡ at
+unfolding endIn
+end-short room at xs out h = simp h
+
+pub set-short : (room at : ℕ) (xs out : List ℕ) → leb (at + room) (length out) ≡ false → setIn room at xs out ≡ out
+unfolding setIn
+set-short room at xs out h = simp h
 
 -- parts of bytes are bytes
 pub drop-bytes : (n : ℕ) (s : List ℕ) → Bytes s → Bytes (drop n s)
