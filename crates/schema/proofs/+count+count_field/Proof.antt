@@ -1,4 +1,16 @@
-use Prim.Native.Nat.{ℕ, _<_}
+-- The cycle {count, count_field} meets its contracts. A submessage's kind ranks lower, and `count` calls `count_field` at its own kind, so it comes
+-- one higher. The loop's invariant: going on from `at` with n records gives the message's count, and there are no more records than bytes passed.
+use Prim.Native.Nat.{ℕ, _+_, _-_, _*_, _≤_, _<_}
+use mathlib.Core.Path.{_≡_, sym, _∙_}
+use native.Mathlib.Omega.{arith}
+use borrow.Author.Needs.{needs}
+use lib.ListN.{length, take, drop, length-take}
+use Rattle.protobuf.specs.Laws.{field-stands}
+use Rattle.protobuf.specs.Walk.{walkAt}
+use Rattle.schema.specs.Schema.{rank}
+use Rattle.schema.specs.Count.{plus, countAlong, counted, fieldCount}
+use Rattle.schema.specs.CountLaws.{sub-rank, count-along, count-fits, field-fits, own-one}
+use Rattle.schema.proofs.Turns.{plus-none, count-turn, count-end, count-refused, field-refused, count-done}
 use borrow.Fn.Kinds.{In}
 use borrow.Fn.PlainCycle.{Measures, is, falls, and}
 use Rattle.schema.proofs.count.Reads as count
@@ -15,10 +27,10 @@ use Rattle.schema.proofs.+count+count_field.{statement}
 use Rattle.schema.proofs.+count+count_field.Tie.{close}
 
 abbrev μ-count : Measures 1 count-kinds.ps ℕ
-μ-count κs a = ?
+μ-count κs a = 2 * rank (a .1 .0) + 1
 
 abbrev μ-count-field : Measures 1 count-field-kinds.ps ℕ
-μ-count-field κs a = ?
+μ-count-field κs a = 2 * rank (a .1 .0)
 
 abbrev count-at : ℕ → In 1 count-kinds.ps
 count-at t = and 1 count-kinds.ps (is 1 count-kinds.ps μ-count t) count.Pre
@@ -35,147 +47,157 @@ count-field-below t =
     and 1 count-field-kinds.ps (falls 1 count-field-kinds.ps _<_ μ-count-field t) count-field.Pre
 
 abbrev count-Inv-loop : count-lts.InvT-loop
-count-Inv-loop input kind at₀ n₀ at n = ?
+count-Inv-loop input kind at₀ n₀ at n = (at ≤ length input) × (n ≤ at) × (counted kind input ≡ plus n (countAlong counted kind input (walkAt input at)))
 
 abbrev count-μ-loop : count-lts.MeasureT-loop
-count-μ-loop input kind at₀ n₀ at n = ?
+count-μ-loop input kind at₀ n₀ at n = length input - at
 
--- src/lib.rt:273:5
 count-loop-holds : (t : ℕ) → count-lts.Need-loop-holds (
   read-field-reads.Asked,
   read-field-reads.Learnt,
   count-field-below t,
   count-field.Post,
 ) (count-at t) count.Post count-Inv-loop count-μ-loop
-count-loop-holds t c = ?
+count-loop-holds t c = let a = c .before .args in (omega arith, omega arith, count-along (a .kind) (a .input .now) ∙ plus-none _)
 
--- src/lib.rt:274:13
 count-read-field-requires : (t : ℕ) → count-lts.Need-read-field-requires (
   read-field-reads.Asked,
   read-field-reads.Learnt,
   count-field-below t,
   count-field.Post,
 ) (count-at t) count.Post count-Inv-loop count-μ-loop
-count-read-field-requires t c κs = ?
+count-read-field-requires t c κs = search needs
 
--- src/lib.rt:277:17
 count-enum-told : (t : ℕ) → count-lts.Need-enum-told (
   read-field-reads.Asked,
   read-field-reads.Learnt,
   count-field-below t,
   count-field.Post,
 ) (count-at t) count.Post count-Inv-loop count-μ-loop
-count-enum-told t c = ?
+count-enum-told t c = search needs
 
--- src/lib.rt:277:17
 count-returns : (t : ℕ) → count-lts.Need-returns (
   read-field-reads.Asked,
   read-field-reads.Learnt,
   count-field-below t,
   count-field.Post,
 ) (count-at t) count.Post count-Inv-loop count-μ-loop
-count-returns t c = ?
+count-returns t c =
+    let a = c .before .before .before .before .before .before .args in
+    sym (c .before .before .before .before .loop .inv .2 ∙ count-end (a .kind) (a .input .now) (c .before .before .before .before .loop .at) (c .before .before .before .before .loop .n) (sym (c .enum-told .given .1) ∙ c .before .before .read-field .ensures))
 
--- src/lib.rt:279:27
 count-enum-known-step : (t : ℕ) → count-lts.Need-enum-known-step (
   read-field-reads.Asked,
   read-field-reads.Learnt,
   count-field-below t,
   count-field.Post,
 ) (count-at t) count.Post count-Inv-loop count-μ-loop
-count-enum-known-step t c = ?
+count-enum-known-step t c = search needs
 
--- src/lib.rt:280:17
 count-returns-2 : (t : ℕ) → count-lts.Need-returns-2 (
   read-field-reads.Asked,
   read-field-reads.Learnt,
   count-field-below t,
   count-field.Post,
 ) (count-at t) count.Post count-Inv-loop count-μ-loop
-count-returns-2 t c = ?
+count-returns-2 t c =
+    let a = c .before .before .before .before .before .before .before .args in
+    sym (c .before .before .before .before .before .loop .inv .2 ∙ count-refused (a .kind) (a .input .now) (c .before .before .before .before .before .loop .at) (c .before .before .before .before .before .loop .n) _ (sym (c .before .step .given .1) ∙ c .before .before .before .read-field .ensures))
 
--- src/lib.rt:282:22
 count-enum-known-step-2 : (t : ℕ) → count-lts.Need-enum-known-step-2 (
   read-field-reads.Asked,
   read-field-reads.Learnt,
   count-field-below t,
   count-field.Post,
 ) (count-at t) count.Post count-Inv-loop count-μ-loop
-count-enum-known-step-2 t c = ?
+count-enum-known-step-2 t c = search needs
 
--- src/lib.rt:283:21
 count-count-field-requires : (t : ℕ) → count-lts.Need-count-field-requires (
   read-field-reads.Asked,
   read-field-reads.Learnt,
   count-field-below t,
   count-field.Post,
 ) (count-at t) count.Post count-Inv-loop count-μ-loop
-count-count-field-requires t c κs = ?
+count-count-field-requires t c κs =
+    let a = c .before .before .before .before .before .before .before .args in
+    let m = field-stands (a .input .now) (c .before .before .before .before .before .loop .at) _ (sym (c .before .step2 .given .1) ∙ c .before .before .before .read-field .ensures) in
+    (omega (arith, c .before .before .before .before .before .before .before .pre .0), record { order = m .ends; fits = m .within })
 
--- src/lib.rt:285:38
 count-enum-known-c : (t : ℕ) → count-lts.Need-enum-known-c (
   read-field-reads.Asked,
   read-field-reads.Learnt,
   count-field-below t,
   count-field.Post,
 ) (count-at t) count.Post count-Inv-loop count-μ-loop
-count-enum-known-c t c = ?
+count-enum-known-c t c = search needs
 
--- src/lib.rt:286:25
 count-returns-3 : (t : ℕ) → count-lts.Need-returns-3 (
   read-field-reads.Asked,
   read-field-reads.Learnt,
   count-field-below t,
   count-field.Post,
 ) (count-at t) count.Post count-Inv-loop count-μ-loop
-count-returns-3 t c = ?
+count-returns-3 t c =
+    let a = c .before .before .before .before .before .before .before .before .before .before .before .args in
+    let e = sym (c .before .before .before .before .before .step2 .given .1) ∙ c .before .before .before .before .before .before .before .read-field .ensures in
+    sym (c .before .before .before .before .before .before .before .before .before .loop .inv .2 ∙ field-refused (a .kind) (a .input .now) (c .before .before .before .before .before .before .before .before .before .loop .at) (c .before .before .before .before .before .before .before .before .before .loop .n) _ _ e (sym (c .before .before .before .count-field .ensures) ∙ c .before .c .given .1))
 
--- src/lib.rt:288:38
 count-enum-known-c-2 : (t : ℕ) → count-lts.Need-enum-known-c-2 (
   read-field-reads.Asked,
   read-field-reads.Learnt,
   count-field-below t,
   count-field.Post,
 ) (count-at t) count.Post count-Inv-loop count-μ-loop
-count-enum-known-c-2 t c = ?
+count-enum-known-c-2 t c = search needs
 
--- src/lib.rt:289:29
 count-add-n : (t : ℕ) → count-lts.Need-add-n (
   read-field-reads.Asked,
   read-field-reads.Learnt,
   count-field-below t,
   count-field.Post,
 ) (count-at t) count.Post count-Inv-loop count-μ-loop
-count-add-n t c = ?
+count-add-n t c =
+    let a = c .before .before .before .before .before .before .before .before .before .before .before .args in
+    let m = field-stands (a .input .now) (c .before .before .before .before .before .before .before .before .before .loop .at) _ (sym (c .before .before .before .before .before .step2 .given .1) ∙ c .before .before .before .before .before .before .before .read-field .ensures) in
+    let f = field-fits (a .kind) (a .input .now) (c .before .before .before .before .before .before .before .before .before .loop .at) _ _ m (sym (c .before .before .before .count-field .ensures) ∙ c .before .c2 .given .1) in
+    omega (arith, c .before .before .before .before .before .before .before .before .before .loop .inv .1, c .before .before .before .before .before .before .before .before .before .before .before .good .0 .1)
 
--- src/lib.rt:273:5
 count-loop-less : (t : ℕ) → count-lts.Need-loop-less (
   read-field-reads.Asked,
   read-field-reads.Learnt,
   count-field-below t,
   count-field.Post,
 ) (count-at t) count.Post count-Inv-loop count-μ-loop
-count-loop-less t c = ?
+count-loop-less t c =
+    let a = c .before .before .before .before .before .before .before .before .before .before .before .args in
+    let m = field-stands (a .input .now) (c .before .before .before .before .before .before .before .before .before .loop .at) _ (sym (c .before .before .before .before .before .step2 .given .1) ∙ c .before .before .before .before .before .before .before .read-field .ensures) in
+    omega arith
 
--- src/lib.rt:273:5
 count-loop-again : (t : ℕ) → count-lts.Need-loop-again (
   read-field-reads.Asked,
   read-field-reads.Learnt,
   count-field-below t,
   count-field.Post,
 ) (count-at t) count.Post count-Inv-loop count-μ-loop
-count-loop-again t c = ?
+count-loop-again t c =
+    let a = c .before .before .before .before .before .before .before .before .before .before .before .args in
+    let e = sym (c .before .before .before .before .before .step2 .given .1) ∙ c .before .before .before .before .before .before .before .read-field .ensures in
+    let g = sym (c .before .before .before .count-field .ensures) ∙ c .before .c2 .given .1 in
+    let m = field-stands (a .input .now) (c .before .before .before .before .before .before .before .before .before .loop .at) _ e in
+    let f = field-fits (a .kind) (a .input .now) (c .before .before .before .before .before .before .before .before .before .loop .at) _ _ m g in
+    (m .within, omega (arith, c .before .before .before .before .before .before .before .before .before .loop .inv .1), c .before .before .before .before .before .before .before .before .before .loop .inv .2 ∙ count-turn (a .kind) (a .input .now) (c .before .before .before .before .before .before .before .before .before .loop .at) (c .before .before .before .before .before .before .before .before .before .loop .n) _ _ e g)
 
--- src/lib.rt:268:1
 count-returns-4 : (t : ℕ) → count-lts.Need-returns-4 (
   read-field-reads.Asked,
   read-field-reads.Learnt,
   count-field-below t,
   count-field.Post,
 ) (count-at t) count.Post count-Inv-loop count-μ-loop
-count-returns-4 t c = ?
+count-returns-4 t c =
+    let a = c .before .before .before .args in
+    let h : length (a .input .now) ≤ c .before .loop .at = omega arith in
+    sym (c .before .loop .inv .2 ∙ count-done (a .kind) (a .input .now) (c .before .loop .at) (c .before .loop .n) h)
 
--- src/lib.rt:244:9
 count-field-role-of-requires : (t : ℕ) → count-field-lts.Need-role-of-requires (
   role-of-reads.Asked,
   role-of-reads.Learnt,
@@ -186,9 +208,8 @@ count-field-role-of-requires : (t : ℕ) → count-field-lts.Need-role-of-requir
   own-reads.Asked,
   own-reads.Learnt,
 ) (count-field-at t) count-field.Post
-count-field-role-of-requires t c κs = ?
+count-field-role-of-requires t c κs = search needs
 
--- src/lib.rt:246:23
 count-field-enum-told : (t : ℕ) → count-field-lts.Need-enum-told (
   role-of-reads.Asked,
   role-of-reads.Learnt,
@@ -199,9 +220,8 @@ count-field-enum-told : (t : ℕ) → count-field-lts.Need-enum-told (
   own-reads.Asked,
   own-reads.Learnt,
 ) (count-field-at t) count-field.Post
-count-field-enum-told t c = ?
+count-field-enum-told t c = search needs
 
--- src/lib.rt:247:25
 count-field-enum-told-2 : (t : ℕ) → count-field-lts.Need-enum-told-2 (
   role-of-reads.Asked,
   role-of-reads.Learnt,
@@ -212,9 +232,8 @@ count-field-enum-told-2 : (t : ℕ) → count-field-lts.Need-enum-told-2 (
   own-reads.Asked,
   own-reads.Learnt,
 ) (count-field-at t) count-field.Post
-count-field-enum-told-2 t c = ?
+count-field-enum-told-2 t c = search needs
 
--- src/lib.rt:248:26
 count-field-enum-told-3 : (t : ℕ) → count-field-lts.Need-enum-told-3 (
   role-of-reads.Asked,
   role-of-reads.Learnt,
@@ -225,9 +244,8 @@ count-field-enum-told-3 : (t : ℕ) → count-field-lts.Need-enum-told-3 (
   own-reads.Asked,
   own-reads.Learnt,
 ) (count-field-at t) count-field.Post
-count-field-enum-told-3 t c = ?
+count-field-enum-told-3 t c = search needs
 
--- src/lib.rt:248:26
 count-field-count-text-requires : (t : ℕ) → count-field-lts.Need-count-text-requires (
   role-of-reads.Asked,
   role-of-reads.Learnt,
@@ -238,9 +256,8 @@ count-field-count-text-requires : (t : ℕ) → count-field-lts.Need-count-text-
   own-reads.Asked,
   own-reads.Learnt,
 ) (count-field-at t) count-field.Post
-count-field-count-text-requires t c κs = ?
+count-field-count-text-requires t c κs = c .before .before .before .before .pre .1
 
--- src/lib.rt:249:27
 count-field-enum-told-4 : (t : ℕ) → count-field-lts.Need-enum-told-4 (
   role-of-reads.Asked,
   role-of-reads.Learnt,
@@ -251,9 +268,8 @@ count-field-enum-told-4 : (t : ℕ) → count-field-lts.Need-enum-told-4 (
   own-reads.Asked,
   own-reads.Learnt,
 ) (count-field-at t) count-field.Post
-count-field-enum-told-4 t c = ?
+count-field-enum-told-4 t c = search needs
 
--- src/lib.rt:250:24
 count-field-enum-told-5 : (t : ℕ) → count-field-lts.Need-enum-told-5 (
   role-of-reads.Asked,
   role-of-reads.Learnt,
@@ -264,9 +280,8 @@ count-field-enum-told-5 : (t : ℕ) → count-field-lts.Need-enum-told-5 (
   own-reads.Asked,
   own-reads.Learnt,
 ) (count-field-at t) count-field.Post
-count-field-enum-told-5 t c = ?
+count-field-enum-told-5 t c = search needs
 
--- src/lib.rt:250:24
 count-field-count-text-requires-2 : (t : ℕ) → count-field-lts.Need-count-text-requires-2 (
   role-of-reads.Asked,
   role-of-reads.Learnt,
@@ -277,9 +292,8 @@ count-field-count-text-requires-2 : (t : ℕ) → count-field-lts.Need-count-tex
   own-reads.Asked,
   own-reads.Learnt,
 ) (count-field-at t) count-field.Post
-count-field-count-text-requires-2 t c κs = ?
+count-field-count-text-requires-2 t c κs = c .before .before .before .before .pre .1
 
--- src/lib.rt:251:28
 count-field-enum-told-6 : (t : ℕ) → count-field-lts.Need-enum-told-6 (
   role-of-reads.Asked,
   role-of-reads.Learnt,
@@ -290,9 +304,8 @@ count-field-enum-told-6 : (t : ℕ) → count-field-lts.Need-enum-told-6 (
   own-reads.Asked,
   own-reads.Learnt,
 ) (count-field-at t) count-field.Post
-count-field-enum-told-6 t c = ?
+count-field-enum-told-6 t c = search needs
 
--- src/lib.rt:252:19
 count-field-enum-known-role : (t : ℕ) → count-field-lts.Need-enum-known-role (
   role-of-reads.Asked,
   role-of-reads.Learnt,
@@ -303,9 +316,8 @@ count-field-enum-known-role : (t : ℕ) → count-field-lts.Need-enum-known-role
   own-reads.Asked,
   own-reads.Learnt,
 ) (count-field-at t) count-field.Post
-count-field-enum-known-role t c = ?
+count-field-enum-known-role t c = search needs
 
--- src/lib.rt:255:27
 count-field-sub-count : (t : ℕ) → count-field-lts.Need-sub-count (
   role-of-reads.Asked,
   role-of-reads.Learnt,
@@ -316,9 +328,8 @@ count-field-sub-count : (t : ℕ) → count-field-lts.Need-sub-count (
   own-reads.Asked,
   own-reads.Learnt,
 ) (count-field-at t) count-field.Post
-count-field-sub-count t c = ?
+count-field-sub-count t c = c .before .before .before .before .before .pre .1 .order
 
--- src/lib.rt:255:27
 count-field-part-count-start : (t : ℕ) → count-field-lts.Need-part-count-start (
   role-of-reads.Asked,
   role-of-reads.Learnt,
@@ -329,9 +340,8 @@ count-field-part-count-start : (t : ℕ) → count-field-lts.Need-part-count-sta
   own-reads.Asked,
   own-reads.Learnt,
 ) (count-field-at t) count-field.Post
-count-field-part-count-start t c = ?
+count-field-part-count-start t c = c .before .before .before .before .before .pre .1 .order
 
--- src/lib.rt:255:27
 count-field-part-count-end : (t : ℕ) → count-field-lts.Need-part-count-end (
   role-of-reads.Asked,
   role-of-reads.Learnt,
@@ -342,9 +352,8 @@ count-field-part-count-end : (t : ℕ) → count-field-lts.Need-part-count-end (
   own-reads.Asked,
   own-reads.Learnt,
 ) (count-field-at t) count-field.Post
-count-field-part-count-end t c = ?
+count-field-part-count-end t c = c .before .before .before .before .before .pre .1 .fits
 
--- src/lib.rt:255:17
 count-field-count-requires : (t : ℕ) → count-field-lts.Need-count-requires (
   role-of-reads.Asked,
   role-of-reads.Learnt,
@@ -355,9 +364,11 @@ count-field-count-requires : (t : ℕ) → count-field-lts.Need-count-requires (
   own-reads.Asked,
   own-reads.Learnt,
 ) (count-field-at t) count-field.Post
-count-field-count-requires t c κs = ?
+count-field-count-requires t c κs =
+    let a = c .before .before .before .before .before .before .args in
+    let r = sub-rank (a .kind) _ _ _ (sym (c .before .before .before .before .role-of .ensures) ∙ c .before .before .role .given .1) in
+    (omega (arith, c .before .before .before .before .before .before .pre .0), tt)
 
--- src/lib.rt:257:34
 count-field-enum-known-c : (t : ℕ) → count-field-lts.Need-enum-known-c (
   role-of-reads.Asked,
   role-of-reads.Learnt,
@@ -368,9 +379,8 @@ count-field-enum-known-c : (t : ℕ) → count-field-lts.Need-enum-known-c (
   own-reads.Asked,
   own-reads.Learnt,
 ) (count-field-at t) count-field.Post
-count-field-enum-known-c t c = ?
+count-field-enum-known-c t c = search needs
 
--- src/lib.rt:258:34
 count-field-enum-known-c-2 : (t : ℕ) → count-field-lts.Need-enum-known-c-2 (
   role-of-reads.Asked,
   role-of-reads.Learnt,
@@ -381,9 +391,8 @@ count-field-enum-known-c-2 : (t : ℕ) → count-field-lts.Need-enum-known-c-2 (
   own-reads.Asked,
   own-reads.Learnt,
 ) (count-field-at t) count-field.Post
-count-field-enum-known-c-2 t c = ?
+count-field-enum-known-c-2 t c = search needs
 
--- src/lib.rt:259:25
 count-field-own-requires : (t : ℕ) → count-field-lts.Need-own-requires (
   role-of-reads.Asked,
   role-of-reads.Learnt,
@@ -394,9 +403,8 @@ count-field-own-requires : (t : ℕ) → count-field-lts.Need-own-requires (
   own-reads.Asked,
   own-reads.Learnt,
 ) (count-field-at t) count-field.Post
-count-field-own-requires t c κs = ?
+count-field-own-requires t c κs = search needs
 
--- src/lib.rt:260:38
 count-field-add-t18 : (t : ℕ) → count-field-lts.Need-add-t18 (
   role-of-reads.Asked,
   role-of-reads.Learnt,
@@ -407,9 +415,12 @@ count-field-add-t18 : (t : ℕ) → count-field-lts.Need-add-t18 (
   own-reads.Asked,
   own-reads.Learnt,
 ) (count-field-at t) count-field.Post
-count-field-add-t18 t c = ?
+count-field-add-t18 t c =
+    let a = c .before .before .before .before .before .before .before .before .before .before .before .args in
+    let s = a .input .now in
+    let f = count-fits _ _ _ (sym (c .before .before .before .before .count .ensures) ∙ c .before .before .c2 .given .1) in
+    omega (arith, own-one (c .before .before .before .before .before .before .before .role .given .0 .0), c .own .ensures, length-take (a .f .next - a .f .start) (drop (a .f .start) s), c .before .before .before .before .before .before .before .before .before .before .before .pre .1 .order, c .before .before .before .before .before .before .before .before .before .before .before .pre .1 .fits, c .before .before .before .before .before .before .before .before .before .before .before .good .0 .1)
 
--- src/lib.rt:240:1
 count-field-returns : (t : ℕ) → count-field-lts.Need-returns (
   role-of-reads.Asked,
   role-of-reads.Learnt,
@@ -420,9 +431,9 @@ count-field-returns : (t : ℕ) → count-field-lts.Need-returns (
   own-reads.Asked,
   own-reads.Learnt,
 ) (count-field-at t) count-field.Post
-count-field-returns t c = ?
+unfolding fieldCount
+count-field-returns t c = simp (sym (c .before .before .role-of .ensures) ∙ c .enum-told .given .1)
 
--- src/lib.rt:240:1
 count-field-returns-2 : (t : ℕ) → count-field-lts.Need-returns-2 (
   role-of-reads.Asked,
   role-of-reads.Learnt,
@@ -433,9 +444,9 @@ count-field-returns-2 : (t : ℕ) → count-field-lts.Need-returns-2 (
   own-reads.Asked,
   own-reads.Learnt,
 ) (count-field-at t) count-field.Post
-count-field-returns-2 t c = ?
+unfolding fieldCount
+count-field-returns-2 t c = simp (sym (c .before .before .role-of .ensures) ∙ c .enum-told2 .given .1)
 
--- src/lib.rt:240:1
 count-field-returns-3 : (t : ℕ) → count-field-lts.Need-returns-3 (
   role-of-reads.Asked,
   role-of-reads.Learnt,
@@ -446,9 +457,9 @@ count-field-returns-3 : (t : ℕ) → count-field-lts.Need-returns-3 (
   own-reads.Asked,
   own-reads.Learnt,
 ) (count-field-at t) count-field.Post
-count-field-returns-3 t c = ?
+unfolding fieldCount
+count-field-returns-3 t c = simp (sym (c .before .before .before .role-of .ensures) ∙ c .before .enum-told3 .given .1) (c .count-text .ensures)
 
--- src/lib.rt:240:1
 count-field-returns-4 : (t : ℕ) → count-field-lts.Need-returns-4 (
   role-of-reads.Asked,
   role-of-reads.Learnt,
@@ -459,9 +470,9 @@ count-field-returns-4 : (t : ℕ) → count-field-lts.Need-returns-4 (
   own-reads.Asked,
   own-reads.Learnt,
 ) (count-field-at t) count-field.Post
-count-field-returns-4 t c = ?
+unfolding fieldCount
+count-field-returns-4 t c = simp (sym (c .before .before .role-of .ensures) ∙ c .enum-told4 .given .1)
 
--- src/lib.rt:240:1
 count-field-returns-5 : (t : ℕ) → count-field-lts.Need-returns-5 (
   role-of-reads.Asked,
   role-of-reads.Learnt,
@@ -472,9 +483,9 @@ count-field-returns-5 : (t : ℕ) → count-field-lts.Need-returns-5 (
   own-reads.Asked,
   own-reads.Learnt,
 ) (count-field-at t) count-field.Post
-count-field-returns-5 t c = ?
+unfolding fieldCount
+count-field-returns-5 t c = simp (sym (c .before .before .before .role-of .ensures) ∙ c .before .enum-told5 .given .1) (c .count-text2 .ensures)
 
--- src/lib.rt:240:1
 count-field-returns-6 : (t : ℕ) → count-field-lts.Need-returns-6 (
   role-of-reads.Asked,
   role-of-reads.Learnt,
@@ -485,9 +496,9 @@ count-field-returns-6 : (t : ℕ) → count-field-lts.Need-returns-6 (
   own-reads.Asked,
   own-reads.Learnt,
 ) (count-field-at t) count-field.Post
-count-field-returns-6 t c = ?
+unfolding fieldCount
+count-field-returns-6 t c = simp (sym (c .before .before .role-of .ensures) ∙ c .enum-told6 .given .1)
 
--- src/lib.rt:240:1
 count-field-returns-7 : (t : ℕ) → count-field-lts.Need-returns-7 (
   role-of-reads.Asked,
   role-of-reads.Learnt,
@@ -498,9 +509,9 @@ count-field-returns-7 : (t : ℕ) → count-field-lts.Need-returns-7 (
   own-reads.Asked,
   own-reads.Learnt,
 ) (count-field-at t) count-field.Post
-count-field-returns-7 t c = ?
+unfolding fieldCount
+count-field-returns-7 t c = simp (sym (c .before .before .before .before .before .before .before .before .role-of .ensures) ∙ c .before .before .before .before .before .before .role .given .1, sym (c .before .before .before .count .ensures) ∙ c .before .c .given .1)
 
--- src/lib.rt:240:1
 count-field-returns-8 : (t : ℕ) → count-field-lts.Need-returns-8 (
   role-of-reads.Asked,
   role-of-reads.Learnt,
@@ -511,7 +522,8 @@ count-field-returns-8 : (t : ℕ) → count-field-lts.Need-returns-8 (
   own-reads.Asked,
   own-reads.Learnt,
 ) (count-field-at t) count-field.Post
-count-field-returns-8 t c = ?
+unfolding fieldCount
+count-field-returns-8 t c = simp (sym (c .before .before .before .before .before .before .before .before .before .role-of .ensures) ∙ c .before .before .before .before .before .before .before .role .given .1, sym (c .before .before .before .before .count .ensures) ∙ c .before .before .c2 .given .1, c .own .ensures)
 
 pub +count+count-field-spec : {M : Type 1} → statement M
 +count+count-field-spec = close μ-count μ-count-field (λ t. count-lts.spec (

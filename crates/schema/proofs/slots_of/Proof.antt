@@ -19,10 +19,10 @@ use Rattle.schema.proofs.Slots.none.Reads as none-reads
 use Rattle.schema.proofs.Slots.with_field.Reads as with-field-reads
 
 abbrev Inv-loop : tie.InvT-loop
-Inv-loop input kind at₀ slots₀ at slots = ?
+Inv-loop input kind at₀ slots₀ at slots = (at ≤ length input) × (slotsOf kind input ≡ slotsAlong kind slots (walkAt input at))
 
 abbrev μ-loop : tie.MeasureT-loop
-μ-loop input kind at₀ slots₀ at slots = ?
+μ-loop input kind at₀ slots₀ at slots = length input - at
 
 none-requires : tie.Need-none-requires Inv-loop μ-loop
 none-requires c κs = search needs
