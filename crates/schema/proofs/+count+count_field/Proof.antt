@@ -4,7 +4,7 @@ use Prim.Native.Nat.{ℕ, _+_, _-_, _*_, _≤_, _<_}
 use mathlib.Core.Path.{_≡_, sym, _∙_}
 use native.Mathlib.Omega.{arith}
 use borrow.Author.Needs.{needs}
-use lib.ListN.{length, take, drop, length-take}
+use lib.ListN.{length, drop, length-take}
 use Rattle.protobuf.specs.Laws.{field-stands}
 use Rattle.protobuf.specs.Walk.{walkAt}
 use Rattle.schema.specs.Schema.{rank}
@@ -84,7 +84,8 @@ count-returns : (t : ℕ) → count-lts.Need-returns (
 ) (count-at t) count.Post count-Inv-loop count-μ-loop
 count-returns t c =
     let a = c .before .before .before .before .before .before .args in
-    sym (c .before .before .before .before .loop .inv .2 ∙ count-end (a .kind) (a .input .now) (c .before .before .before .before .loop .at) (c .before .before .before .before .loop .n) (sym (c .enum-told .given .1) ∙ c .before .before .read-field .ensures))
+    let l = c .before .before .before .before .loop in
+    sym (l .inv .2 ∙ count-end (a .kind) (a .input .now) (l .at) (l .n) (sym (c .enum-told .given .1) ∙ c .before .before .read-field .ensures))
 
 count-enum-known-step : (t : ℕ) → count-lts.Need-enum-known-step (
   read-field-reads.Asked,
@@ -102,7 +103,8 @@ count-returns-2 : (t : ℕ) → count-lts.Need-returns-2 (
 ) (count-at t) count.Post count-Inv-loop count-μ-loop
 count-returns-2 t c =
     let a = c .before .before .before .before .before .before .before .args in
-    sym (c .before .before .before .before .before .loop .inv .2 ∙ count-refused (a .kind) (a .input .now) (c .before .before .before .before .before .loop .at) (c .before .before .before .before .before .loop .n) _ (sym (c .before .step .given .1) ∙ c .before .before .before .read-field .ensures))
+    let l = c .before .before .before .before .before .loop in
+    sym (l .inv .2 ∙ count-refused (a .kind) (a .input .now) (l .at) (l .n) _ (sym (c .before .step .given .1) ∙ c .before .before .before .read-field .ensures))
 
 count-enum-known-step-2 : (t : ℕ) → count-lts.Need-enum-known-step-2 (
   read-field-reads.Asked,
@@ -139,8 +141,9 @@ count-returns-3 : (t : ℕ) → count-lts.Need-returns-3 (
 ) (count-at t) count.Post count-Inv-loop count-μ-loop
 count-returns-3 t c =
     let a = c .before .before .before .before .before .before .before .before .before .before .before .args in
+    let l = c .before .before .before .before .before .before .before .before .before .loop in
     let e = sym (c .before .before .before .before .before .step2 .given .1) ∙ c .before .before .before .before .before .before .before .read-field .ensures in
-    sym (c .before .before .before .before .before .before .before .before .before .loop .inv .2 ∙ field-refused (a .kind) (a .input .now) (c .before .before .before .before .before .before .before .before .before .loop .at) (c .before .before .before .before .before .before .before .before .before .loop .n) _ _ e (sym (c .before .before .before .count-field .ensures) ∙ c .before .c .given .1))
+    sym (l .inv .2 ∙ field-refused (a .kind) (a .input .now) (l .at) (l .n) _ _ e (sym (c .before .before .before .count-field .ensures) ∙ c .before .c .given .1))
 
 count-enum-known-c-2 : (t : ℕ) → count-lts.Need-enum-known-c-2 (
   read-field-reads.Asked,
@@ -158,9 +161,10 @@ count-add-n : (t : ℕ) → count-lts.Need-add-n (
 ) (count-at t) count.Post count-Inv-loop count-μ-loop
 count-add-n t c =
     let a = c .before .before .before .before .before .before .before .before .before .before .before .args in
-    let m = field-stands (a .input .now) (c .before .before .before .before .before .before .before .before .before .loop .at) _ (sym (c .before .before .before .before .before .step2 .given .1) ∙ c .before .before .before .before .before .before .before .read-field .ensures) in
-    let f = field-fits (a .kind) (a .input .now) (c .before .before .before .before .before .before .before .before .before .loop .at) _ _ m (sym (c .before .before .before .count-field .ensures) ∙ c .before .c2 .given .1) in
-    omega (arith, c .before .before .before .before .before .before .before .before .before .loop .inv .1, c .before .before .before .before .before .before .before .before .before .before .before .good .0 .1)
+    let l = c .before .before .before .before .before .before .before .before .before .loop in
+    let m = field-stands (a .input .now) (l .at) _ (sym (c .before .before .before .before .before .step2 .given .1) ∙ c .before .before .before .before .before .before .before .read-field .ensures) in
+    let f = field-fits (a .kind) (a .input .now) (l .at) _ _ m (sym (c .before .before .before .count-field .ensures) ∙ c .before .c2 .given .1) in
+    omega (arith, l .inv .1, c .before .before .before .before .before .before .before .before .before .before .before .good .0 .1)
 
 count-loop-less : (t : ℕ) → count-lts.Need-loop-less (
   read-field-reads.Asked,
@@ -181,11 +185,12 @@ count-loop-again : (t : ℕ) → count-lts.Need-loop-again (
 ) (count-at t) count.Post count-Inv-loop count-μ-loop
 count-loop-again t c =
     let a = c .before .before .before .before .before .before .before .before .before .before .before .args in
+    let l = c .before .before .before .before .before .before .before .before .before .loop in
     let e = sym (c .before .before .before .before .before .step2 .given .1) ∙ c .before .before .before .before .before .before .before .read-field .ensures in
     let g = sym (c .before .before .before .count-field .ensures) ∙ c .before .c2 .given .1 in
-    let m = field-stands (a .input .now) (c .before .before .before .before .before .before .before .before .before .loop .at) _ e in
-    let f = field-fits (a .kind) (a .input .now) (c .before .before .before .before .before .before .before .before .before .loop .at) _ _ m g in
-    (m .within, omega (arith, c .before .before .before .before .before .before .before .before .before .loop .inv .1), c .before .before .before .before .before .before .before .before .before .loop .inv .2 ∙ count-turn (a .kind) (a .input .now) (c .before .before .before .before .before .before .before .before .before .loop .at) (c .before .before .before .before .before .before .before .before .before .loop .n) _ _ e g)
+    let m = field-stands (a .input .now) (l .at) _ e in
+    let f = field-fits (a .kind) (a .input .now) (l .at) _ _ m g in
+    (m .within, omega (arith, l .inv .1), l .inv .2 ∙ count-turn (a .kind) (a .input .now) (l .at) (l .n) _ _ e g)
 
 count-returns-4 : (t : ℕ) → count-lts.Need-returns-4 (
   read-field-reads.Asked,
@@ -195,8 +200,9 @@ count-returns-4 : (t : ℕ) → count-lts.Need-returns-4 (
 ) (count-at t) count.Post count-Inv-loop count-μ-loop
 count-returns-4 t c =
     let a = c .before .before .before .args in
-    let h : length (a .input .now) ≤ c .before .loop .at = omega arith in
-    sym (c .before .loop .inv .2 ∙ count-done (a .kind) (a .input .now) (c .before .loop .at) (c .before .loop .n) h)
+    let l = c .before .loop in
+    let h : length (a .input .now) ≤ l .at = omega arith in
+    sym (l .inv .2 ∙ count-done (a .kind) (a .input .now) (l .at) (l .n) h)
 
 count-field-role-of-requires : (t : ℕ) → count-field-lts.Need-role-of-requires (
   role-of-reads.Asked,

@@ -1,12 +1,9 @@
 -- `schema::count_text` meets its contract: the test of UTF-8 picks the case.
-use mathlib.Core.Path.{_≡_, sym, _∙_}
+use mathlib.Core.Path.{sym, _∙_}
 use Rattle.schema.specs.Count.{textCount}
 use borrow.Author.Needs.{needs}
 use Rattle.schema.proofs.count_text.Statement.{statement}
 use Rattle.schema.proofs.count_text.Tie as tie
-use Rattle.schema.proofs.count_text.Reads as reads
-use Rattle.schema.proofs.count_text.Lts as lts
-use Rattle.utf8.proofs.is_utf8.Reads as is-utf8-reads
 
 sub-is-utf8 : tie.Need-sub-is-utf8
 sub-is-utf8 c = search needs

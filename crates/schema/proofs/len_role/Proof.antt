@@ -3,8 +3,6 @@ use borrow.Author.Tests.{eq-eqb, ne-eqb}
 use borrow.Author.Needs.{needs}
 use Rattle.schema.proofs.len_role.Statement.{statement}
 use Rattle.schema.proofs.len_role.Tie as tie
-use Rattle.schema.proofs.len_role.Reads as reads
-use Rattle.schema.proofs.len_role.Lts as lts
 
 enum-told : tie.Need-enum-told
 enum-told c = search needs

@@ -3,8 +3,6 @@ use Rattle.schema.specs.Schema.{ownOf}
 use borrow.Author.Needs.{needs}
 use Rattle.schema.proofs.own.Statement.{statement}
 use Rattle.schema.proofs.own.Tie as tie
-use Rattle.schema.proofs.own.Reads as reads
-use Rattle.schema.proofs.own.Lts as lts
 
 enum-told : tie.Need-enum-told
 enum-told c = search needs

@@ -1,14 +1,10 @@
 -- `schema::role_of` meets its contract: the wire type and then the field's number pick the role.
-use mathlib.Core.Path.{_≡_, sym, _∙_}
+use mathlib.Core.Path.{sym}
 use borrow.Author.Tests.{eq-eqb, ne-eqb}
 use Rattle.schema.specs.Schema.{roleOf}
 use borrow.Author.Needs.{needs}
 use Rattle.schema.proofs.role_of.Statement.{statement}
 use Rattle.schema.proofs.role_of.Tie as tie
-use Rattle.schema.proofs.role_of.Reads as reads
-use Rattle.schema.proofs.role_of.Lts as lts
-use Rattle.schema.proofs.len_role.Reads as len-role-reads
-use Rattle.schema.proofs.varint_field.Reads as varint-field-reads
 
 len-role-requires : tie.Need-len-role-requires
 len-role-requires c κs = search needs

@@ -1,6 +1,6 @@
 -- `schema::slots_of` meets its contract. The invariant: going on from `at` with the slots so far gives the message's slots; the measure is what is
 -- left of the message.
-use Prim.Native.Nat.{ℕ, _-_, _≤_}
+use Prim.Native.Nat.{_-_, _≤_}
 use mathlib.Core.Path.{_≡_, sym, ap, _∙_}
 use native.Mathlib.Omega.{arith}
 use borrow.Author.Needs.{needs}
@@ -12,11 +12,6 @@ use Rattle.schema.specs.Slots.{slotsAlong, slotsOf}
 use Rattle.schema.proofs.Turns.{slots-turn, slots-end, slots-refused, slots-done}
 use Rattle.schema.proofs.slots_of.Statement.{statement}
 use Rattle.schema.proofs.slots_of.Tie as tie
-use Rattle.schema.proofs.slots_of.Reads as reads
-use Rattle.schema.proofs.slots_of.Lts as lts
-use Rattle.protobuf.proofs.read_field.Reads as read-field-reads
-use Rattle.schema.proofs.Slots.none.Reads as none-reads
-use Rattle.schema.proofs.Slots.with_field.Reads as with-field-reads
 
 abbrev Inv-loop : tie.InvT-loop
 Inv-loop input kind at₀ slots₀ at slots = (at ≤ length input) × (slotsOf kind input ≡ slotsAlong kind slots (walkAt input at))
@@ -38,13 +33,19 @@ enum-told : tie.Need-enum-told Inv-loop μ-loop
 enum-told c = search needs
 
 returns : tie.Need-returns Inv-loop μ-loop
-returns c = let a = c .before .before .before .before .before .before .before .args in sym (c .before .before .before .before .loop .inv .1 ∙ slots-end (a .kind) (a .input .now) (c .before .before .before .before .loop .at) (c .before .before .before .before .loop .slots) (sym (c .enum-told .given .1) ∙ c .before .before .read-field .ensures))
+returns c =
+    let a = c .before .before .before .before .before .before .before .args in
+    let l = c .before .before .before .before .loop in
+    sym (l .inv .1 ∙ slots-end (a .kind) (a .input .now) (l .at) (l .slots) (sym (c .enum-told .given .1) ∙ c .before .before .read-field .ensures))
 
 enum-told-2 : tie.Need-enum-told-2 Inv-loop μ-loop
 enum-told-2 c = search needs
 
 returns-2 : tie.Need-returns-2 Inv-loop μ-loop
-returns-2 c = let a = c .before .before .before .before .before .before .before .args in sym (c .before .before .before .before .loop .inv .1 ∙ slots-refused (a .kind) (a .input .now) (c .before .before .before .before .loop .at) (c .before .before .before .before .loop .slots) _ (sym (c .enum-told2 .given .1) ∙ c .before .before .read-field .ensures))
+returns-2 c =
+    let a = c .before .before .before .before .before .before .before .args in
+    let l = c .before .before .before .before .loop in
+    sym (l .inv .1 ∙ slots-refused (a .kind) (a .input .now) (l .at) (l .slots) _ (sym (c .enum-told2 .given .1) ∙ c .before .before .read-field .ensures))
 
 enum-known-step : tie.Need-enum-known-step Inv-loop μ-loop
 enum-known-step c = search needs
@@ -58,11 +59,16 @@ loop-less c = let a = c .before .before .before .before .before .before .before 
 loop-again : tie.Need-loop-again Inv-loop μ-loop
 loop-again c =
     let a = c .before .before .before .before .before .before .before .before .before .args in
+    let l = c .before .before .before .before .before .before .loop in
     let e = sym (c .before .before .step .given .1) ∙ c .before .before .before .before .read-field .ensures in
-    (field-stands (a .input .now) (c .before .before .before .before .before .before .loop .at) _ e .within, c .before .before .before .before .before .before .loop .inv .1 ∙ slots-turn (a .kind) (a .input .now) (c .before .before .before .before .before .before .loop .at) (c .before .before .before .before .before .before .loop .slots) _ _ e (c .with-field .ensures))
+    (field-stands (a .input .now) (l .at) _ e .within, l .inv .1 ∙ slots-turn (a .kind) (a .input .now) (l .at) (l .slots) _ _ e (c .with-field .ensures))
 
 returns-3 : tie.Need-returns-3 Inv-loop μ-loop
-returns-3 c = let a = c .before .before .before .before .args in let h : length (a .input .now) ≤ c .before .loop .at = omega arith in sym (c .before .loop .inv .1 ∙ slots-done (a .kind) (a .input .now) (c .before .loop .at) (c .before .loop .slots) h)
+returns-3 c =
+    let a = c .before .before .before .before .args in
+    let l = c .before .loop in
+    let h : length (a .input .now) ≤ l .at = omega arith in
+    sym (l .inv .1 ∙ slots-done (a .kind) (a .input .now) (l .at) (l .slots) h)
 
 pub slots-of-spec : {M : Type 1} → statement M
 slots-of-spec =

@@ -1,14 +1,9 @@
 -- `schema::Slots::with_field` meets its contract: the role picks the case.
-use mathlib.Core.Path.{_≡_, sym, _∙_}
+use mathlib.Core.Path.{sym, _∙_}
 use Rattle.schema.specs.Slots.{withField}
 use borrow.Author.Needs.{needs}
 use Rattle.schema.proofs.Slots.with_field.Statement.{statement}
 use Rattle.schema.proofs.Slots.with_field.Tie as tie
-use Rattle.schema.proofs.Slots.with_field.Reads as reads
-use Rattle.schema.proofs.Slots.with_field.Lts as lts
-use Rattle.schema.proofs.Slots.with_number.Reads as with-number-reads
-use Rattle.schema.proofs.Slots.with_place.Reads as with-place-reads
-use Rattle.schema.proofs.role_of.Reads as role-of-reads
 
 role-of-requires : tie.Need-role-of-requires
 role-of-requires c κs = search needs

@@ -3,8 +3,6 @@ use borrow.Author.Tests.{eq-eqb, ne-eqb}
 use Rattle.schema.specs.Slots.{setPlace}
 use Rattle.schema.proofs.Slots.with_place.Statement.{statement}
 use Rattle.schema.proofs.Slots.with_place.Tie as tie
-use Rattle.schema.proofs.Slots.with_place.Reads as reads
-use Rattle.schema.proofs.Slots.with_place.Lts as lts
 
 returns : tie.Need-returns
 unfolding setPlace
