@@ -61,7 +61,8 @@ loop-again c =
     let a = c .before .before .before .before .before .before .before .before .before .args in
     let l = c .before .before .before .before .before .before .loop in
     let e = sym (c .before .before .step .given .1) ∙ c .before .before .before .before .read-field .ensures in
-    (field-stands (a .input .now) (l .at) _ e .within, l .inv .1 ∙ slots-turn (a .kind) (a .input .now) (l .at) (l .slots) _ _ e (c .with-field .ensures))
+    let m = field-stands (a .input .now) (l .at) _ e in
+    (omega arith, l .inv .1 ∙ slots-turn (a .kind) (a .input .now) (l .at) (l .slots) _ _ e (c .with-field .ensures))
 
 returns-3 : tie.Need-returns-3 Inv-loop μ-loop
 returns-3 c =
