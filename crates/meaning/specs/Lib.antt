@@ -6,3 +6,4 @@ pub mod Last
 pub mod Back
 pub mod Table
 pub mod Size
+pub mod Decoded

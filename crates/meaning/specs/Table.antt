@@ -144,7 +144,7 @@ front-back t row (r ∷ rs) rest h =
     let h1 : drop (row * 20) t ≡ wordsOf r ++ (wordsOfAll rs ++ rest) = h ∙ append-assoc (wordsOf r) (wordsOfAll rs) rest in
     let e : (row + 1) * 20 ≡ row * 20 + 20 = omega arith in
     let h2 : drop ((row + 1) * 20) t ≡ wordsOfAll rs ++ rest =
-        ap (λ (k : ℕ). drop k t) e ∙ sym (drop-drop 20 (row * 20) t) ∙ ap (drop 20) h1 ∙ drop-at (wordsOf r) (wordsOfAll rs ++ rest) 20 (words-length r) in
+    ap (λ (k : ℕ). drop k t) e ∙ sym (drop-drop 20 (row * 20) t) ∙ ap (drop 20) h1 ∙ drop-at (wordsOf r) (wordsOfAll rs ++ rest) 20 (words-length r) in
     ap₂ (λ (x : Record) (y : List Record). x ∷ y) (record-back t (row * 20) r (wordsOfAll rs ++ rest) h1) (front-back t (row + 1) rs rest h2)
 
 -- what was written at the front of a table is read back from it
