@@ -3,13 +3,16 @@ use Prim.Native.Nat.{ℕ, zero, suc, _+_, _-_, _≤_, _<_}
 use mathlib.Core.Path.{_≡_, refl, sym, ap, _∙_}
 use mathlib.Core.List.{List, [], _∷_, _++_}
 use native.Mathlib.Omega.{arith}
-use native.Mathlib.Nat.{add-zero, zero-add}
-use lib.ListN.{length, set, take, drop, getD}
-use lib.Seq.{sets, sets-eq, getD-drop, getD-take}
-use borrow.Author.Tests.{le-leb, lt-leb}
+use native.Mathlib.Nat.{add-zero, zero-add, sub-zero, zero-sub, suc-sub-suc}
+use lib.ListN.{length, set, take, drop, getD, length-take, List·getD-eq-default}
+use lib.Seq.{sets, sets-eq, getD-drop, getD-take, take-nil}
+use mathlib.Core.Bool.{false}
+use lib.Dec.{ltb, leb}
+use borrow.Author.Tests.{le-leb, lt-leb, ltb-true, ltb-false}
 use Rattle.basis.specs.declared.Written.the-variants.{Bytes as Wrote, Room}
+use Rattle.basis.specs.Cases.{either}
 use Rattle.basis.specs.Bytes.{Bytes}
-use Rattle.basis.specs.Writing.{answer, written}
+use Rattle.basis.specs.Writing.{answer, written, endIn, setIn}
 
 -- one write after another is one write
 pub sets-append : {A : Type 0} (l : List A) (i : ℕ) (xs ys : List A) → sets l i (xs ++ ys) ≡ sets (sets l i xs) (i + length xs) ys
@@ -34,6 +37,39 @@ pub written-short : (xs out : List ℕ) → length out < length xs → written x
 unfolding written
 written-short xs out h = simp (lt-leb _ _ h)
 
+-- the same within a line or a body
+pub end-fits : (room at : ℕ) (xs out : List ℕ) → at + room ≤ length out → endIn room at xs out ≡ at + length xs
+unfolding endIn
+end-fits room at xs out h = simp (le-leb _ _ h)
+
+pub set-fits : (room at : ℕ) (xs out : List ℕ) → at + room ≤ length out → setIn room at xs out ≡ sets out at xs
+unfolding setIn
+set-fits room at xs out h = simp (le-leb _ _ h)
+
+pub end-short : (room at : ℕ) (xs out : List ℕ) → leb (at + room) (length out) ≡ false → endIn room at xs out ≡ at
+unfolding endIn
+end-short room at xs out h = simp h
+
+pub set-short : (room at : ℕ) (xs out : List ℕ) → leb (at + room) (length out) ≡ false → setIn room at xs out ≡ out
+unfolding setIn
+set-short room at xs out h = simp h
+
 -- parts of bytes are bytes
 pub drop-bytes : (n : ℕ) (s : List ℕ) → Bytes s → Bytes (drop n s)
 drop-bytes n s b i = rw (getD-drop n s i 0) (b (n + i))
+
+pub take-bytes : (n : ℕ) (s : List ℕ) → Bytes s → Bytes (take n s)
+take-bytes n s b i =
+    either (ltb i n) (λ t. rw (getD-take n s i 0 (ltb-true i n t)) (b i))
+    (λ t. let h : n ≤ i = ltb-false i n t in
+    let l : length (take n s) ≤ i = rw (length-take n s) (omega arith) in
+    rw (List·getD-eq-default (take n s) 0 l) (omega arith))
+
+-- what is left of a front
+pub drop-take : {A : Type 0} (n m : ℕ) (l : List A) → drop m (take n l) ≡ take (n - m) (drop m l)
+drop-take zero zero l = refl
+drop-take zero (suc m) [] = rw (zero-sub (suc m))
+drop-take zero (suc m) (x ∷ l) = rw (zero-sub (suc m))
+drop-take (suc n) zero l = rw (sub-zero (suc n))
+drop-take (suc n) (suc m) [] = sym (take-nil (suc n - suc m))
+drop-take (suc n) (suc m) (x ∷ l) = rw (suc-sub-suc n m) (drop-take n m l)

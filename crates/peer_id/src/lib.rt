@@ -3,9 +3,10 @@ ghost use mathlib.Core.Path.{_≡_};
 ghost use Prim.Native.Nat.{_+_, _≤_};
 ghost use lib.ListN.{length};
 ghost use lib.Seq.{sets};
-ghost use Rattle.basis.specs.Writing.{answer, written};
+ghost use Rattle.basis.specs.Writing.{answer, written, endIn, setIn};
 ghost use Rattle.peer_id.specs.Uvarint.{uvarint, groupOf, readUvarint};
 use basis::Written;
+use basis::has_room;
 
 // Why there is no varint: refusals 1, 2 and 3.
 pub enum VarintError {
@@ -95,8 +96,8 @@ pub fn uvarint_len(value: u64) -> usize
     len
 }
 
-// Writes a value at `at`, where it fits, and says where it ends. Shared by the writers of other crates, which measure first.
-pub fn put_uvarint(value: u64, out: &mut [u8], at: usize) -> usize
+// Writes a value at `at`, where it fits, and says where it ends.
+fn spell_uvarint(value: u64, out: &mut [u8], at: usize) -> usize
     requires { ⌜ at + length (uvarint value) ≤ length (now out) ⌝ }
     ensures { λ r. ⌜ r ≡ at + length (uvarint value) ⌝ }
     ensures { λ _. ⌜ now (out .exit) ≡ sets (now (out .entry)) at (uvarint value) ⌝ }
@@ -112,6 +113,18 @@ pub fn put_uvarint(value: u64, out: &mut [u8], at: usize) -> usize
     i + 1
 }
 
+// Writes a value at `at` and says where it ends; where it does not fit, it writes nothing and says `at`.
+pub fn put_uvarint(value: u64, out: &mut [u8], at: usize) -> usize
+    ensures { λ r. ⌜ r ≡ endIn (length (uvarint value)) at (uvarint value) (now (out .entry)) ⌝ }
+    ensures { λ _. ⌜ now (out .exit) ≡ setIn (length (uvarint value)) at (uvarint value) (now (out .entry)) ⌝ }
+{
+    let len = uvarint_len(value);
+    if has_room(out.len(), at, len) {
+        return spell_uvarint(value, out, at);
+    }
+    at
+}
+
 // Writes a value at the front of out; where it does not fit, nothing.
 pub fn write_uvarint(value: u64, out: &mut [u8]) -> Written
     ensures { λ r. ⌜ r ≡ answer (uvarint value) (now (out .entry)) ⌝ }
@@ -121,6 +134,6 @@ pub fn write_uvarint(value: u64, out: &mut [u8]) -> Written
     if out.len() < len {
         return Written::Room(len);
     }
-    let end = put_uvarint(value, out, 0);
+    let end = spell_uvarint(value, out, 0);
     Written::Bytes(end)
 }

@@ -416,9 +416,12 @@ complete s at (field {n = n} {type = type} {v = v} {rest = rest} {p = p} l m w r
       entries = ap₂ (λ (x : Entry) (y : List Entry). x ∷ y) (t .entry) (k .entries);
     }
 
+pub body-walks : (s : List ℕ) (es : List Entry) → Body s es → Walks s 0 es
+body-walks s es g = complete s 0 g refl
+
 -- a body is the grammar's exactly where its walk reaches the end, and the fields that the walk finds are the grammar's
 pub exactly : (s : List ℕ) (es : List Entry) → Bytes s → Walks s 0 es ↔ Body s es
-exactly s es b = (λ w. subst (Body s) (w .entries) (sound s (w .fields) 0 b (w .walked)), λ g. complete s 0 g refl)
+exactly s es b = (λ w. subst (Body s) (w .entries) (sound s (w .fields) 0 b (w .walked)), body-walks s es)
 
 -- a body has one meaning
 whole-same : (fs gs : List Field) → whole fs ≡ whole gs → fs ≡ gs

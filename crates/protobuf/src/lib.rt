@@ -4,11 +4,12 @@ ghost use mathlib.Core.Path.{_≡_};
 ghost use Prim.Native.Nat.{_+_, _≤_, _-_};
 ghost use lib.ListN.{length, drop};
 ghost use lib.Seq.{sets};
-ghost use Rattle.peer_id.specs.Uvarint.{uvarint, readUvarint};
+ghost use Rattle.basis.specs.Writing.{endIn, setIn};
+ghost use Rattle.peer_id.specs.Uvarint.{readUvarint};
 ghost use Rattle.protobuf.specs.Refusal.{refusalOf};
 ghost use Rattle.protobuf.specs.Field.{readTag, readLen, readString, readVarint, skipFixed, skipField, readValue, readField, walkStep};
 ghost use Rattle.protobuf.specs.Encode.{tag, varintField, bytesField, tagRefused, encoded, left};
-use basis::Written;
+use basis::has_room;
 use peer_id::Uvarint;
 use peer_id::VarintError;
 use peer_id::put_uvarint;
@@ -440,8 +441,8 @@ pub fn encode_varint_field(out: &mut [u8], field: u64, value: u64) -> Encoded
     }
 }
 
-// Copies bytes to out from `at`, where they fit. Shared by the writers of other crates, which measure first.
-pub fn put_bytes(out: &mut [u8], at: usize, data: &[u8]) -> usize
+// Copies bytes to out from `at`, where they fit.
+fn copy_to(out: &mut [u8], at: usize, data: &[u8]) -> usize
     requires { ⌜ at + length (now «data») ≤ length (now out) ⌝ }
     ensures { λ r. ⌜ r ≡ at + length (now («data» .entry)) ⌝ }
     ensures { λ _. ⌜ now (out .exit) ≡ sets (now (out .entry)) at (now («data» .entry)) ⌝ }
@@ -452,6 +453,17 @@ pub fn put_bytes(out: &mut [u8], at: usize, data: &[u8]) -> usize
         j = j + 1;
     }
     at + data.len()
+}
+
+// Writes bytes at `at` and says where they end; where they do not fit, it writes nothing and says `at`.
+pub fn put_bytes(out: &mut [u8], at: usize, data: &[u8]) -> usize
+    ensures { λ r. ⌜ r ≡ endIn (length (now («data» .entry))) at (now («data» .entry)) (now (out .entry)) ⌝ }
+    ensures { λ _. ⌜ now (out .exit) ≡ setIn (length (now («data» .entry))) at (now («data» .entry)) (now (out .entry)) ⌝ }
+{
+    if has_room(out.len(), at, data.len()) {
+        return copy_to(out, at, data);
+    }
+    at
 }
 
 // Writes a field that holds bytes at the front of out: a string, or a submessage that is written already.

@@ -1,81 +1,53 @@
--- `peer_id::put_uvarint` meets its contract: what is left to write at i makes what all of the value at `at` makes.
-use Prim.Native.Nat.{ℕ, _+_, _%_, _/_, _≤_, _<_}
-use mathlib.Core.Path.{_≡_, refl, sym, ap, _∙_}
-use native.Mathlib.Omega.{arith}
-use native.Mathlib.Numerals.{add-one}
-use lib.ListN.{length, length-set}
-use lib.Seq.{sets}
+-- `peer_id::put_uvarint` meets its contract: where it has the room, it is spelt there.
+use Prim.Native.Nat.{ℕ, _+_, _≤_}
+use mathlib.Core.Path.{_≡_, sym, ap, _∙_}
+use mathlib.Core.Bool.{true, false}
+use lib.ListN.{length}
+use lib.Dec.{leb}
+use borrow.Author.Tests.{leb-true}
+use Rattle.basis.specs.Lists.{end-fits, set-fits, end-short, set-short}
 use Rattle.peer_id.specs.Uvarint.{uvarint}
-use Rattle.peer_id.specs.Laws.{uvarint-small, uvarint-big}
+use borrow.Author.Needs.{needs}
 use Rattle.peer_id.proofs.put_uvarint.Statement.{statement}
 use Rattle.peer_id.proofs.put_uvarint.Tie as tie
 use Rattle.peer_id.proofs.put_uvarint.Reads as reads
 use Rattle.peer_id.proofs.put_uvarint.Lts as lts
+use Rattle.basis.proofs.has_room.Reads as has-room-reads
+use Rattle.peer_id.proofs.spell_uvarint.Reads as spell-uvarint-reads
+use Rattle.peer_id.proofs.uvarint_len.Reads as uvarint-len-reads
 
-abbrev Inv-loop : tie.InvT-loop
-Inv-loop value out₀ at v₀ i₀ out v i =
-    (i + length (uvarint v) ≡ at + length (uvarint value)) × (length out ≡ length out₀) × (sets out i (uvarint v) ≡ sets out₀ at (uvarint value))
+uvarint-len-requires : tie.Need-uvarint-len-requires
+uvarint-len-requires c κs = search needs
 
-abbrev μ-loop : tie.MeasureT-loop
-μ-loop value out₀ at v₀ i₀ out v i = v
+has-room-requires : tie.Need-has-room-requires
+has-room-requires c κs = search needs
 
-loop-holds : tie.Need-loop-holds Inv-loop μ-loop
-loop-holds c = (refl, refl, refl)
+spell-uvarint-requires : tie.Need-spell-uvarint-requires
+spell-uvarint-requires c κs = let a = c .before .before .before .before .before .args in leb-true _ _ (ap (λ (n : ℕ). leb (a .at + n) (length (a .out .now))) (sym (c .before .before .before .uvarint-len .ensures)) ∙ sym (c .before .before .has-room .ensures) ∙ c .before .if1 .taken)
 
-cast-out : tie.Need-cast-out Inv-loop μ-loop
-cast-out c = omega arith
+same-length : tie.Need-same-length
+same-length c = search needs
 
-add-out : tie.Need-add-out Inv-loop μ-loop
-add-out c = omega arith
-
-slice-write-out : tie.Need-slice-write-out Inv-loop μ-loop
-slice-write-out c = omega (arith, ap length (uvarint-big (c .before .loop .v) (c .loop-test .taken)))
-
-add-i : tie.Need-add-i Inv-loop μ-loop
-add-i c = omega (arith, ap length (uvarint-big (c .before .loop .v) (c .loop-test .taken)))
-
-loop-less : tie.Need-loop-less Inv-loop μ-loop
-loop-less c = omega arith
-
-loop-again : tie.Need-loop-again Inv-loop μ-loop
-loop-again c =
-    let l = c .before .loop in
-    let e = uvarint-big (l .v) (c .loop-test .taken) in
-    (omega (arith, ap length e), simp length-set (l .inv .1), rw (add-one (l .i)) (sym (ap (sets (l .out) (l .i)) e) ∙ l .inv .2))
-
-cast-out-2 : tie.Need-cast-out-2 Inv-loop μ-loop
-cast-out-2 c = omega arith
-
-slice-write-out-2 : tie.Need-slice-write-out-2 Inv-loop μ-loop
-slice-write-out-2 c = omega (arith, ap length (uvarint-small (c .before .loop .v) (c .loop-test .left)))
-
-add-result : tie.Need-add-result Inv-loop μ-loop
-add-result c = omega (arith, ap length (uvarint-small (c .before .loop .v) (c .loop-test .left)))
-
-same-length : tie.Need-same-length Inv-loop μ-loop
-same-length c = simp length-set (c .before .loop .inv .1)
-
-returns : tie.Need-returns Inv-loop μ-loop
+returns : tie.Need-returns
 returns c =
-    let l = c .before .loop in
-    let e = uvarint-small (l .v) (c .loop-test .left) in
-    (omega (arith, ap length e), sym (ap (sets (l .out) (l .i)) e) ∙ l .inv .2)
+    let a = c .before .before .before .before .before .before .before .before .args in
+    let h : a .at + length (uvarint (a .value)) ≤ length (a .out .now) = leb-true _ _ (ap (λ (n : ℕ). leb (a .at + n) (length (a .out .now))) (sym (c .before .before .before .before .before .before .uvarint-len .ensures)) ∙ sym (c .before .before .before .before .before .has-room .ensures) ∙ c .before .before .before .before .if1 .taken) in
+    let e = c .before .before .spell-uvarint .ensures in
+    (e .0 ∙ sym (end-fits _ _ _ _ h), e .1 ∙ sym (set-fits _ _ _ _ h))
+
+returns-2 : tie.Need-returns-2
+returns-2 c =
+    let a = c .before .before .before .before .args in
+    let h : leb (a .at + length (uvarint (a .value))) (length (a .out .now)) ≡ false = ap (λ (n : ℕ). leb (a .at + n) (length (a .out .now))) (sym (c .before .before .uvarint-len .ensures)) ∙ sym (c .before .has-room .ensures) ∙ c .if1 .left in
+    (sym (end-short _ _ _ _ h), sym (set-short _ _ _ _ h))
 
 pub put-uvarint-spec : {M : Type 1} → statement M
 put-uvarint-spec =
     tie.close
     (tie.spec
-    Inv-loop
-    μ-loop
-    loop-holds
-    cast-out
-    add-out
-    slice-write-out
-    add-i
-    loop-less
-    loop-again
-    cast-out-2
-    slice-write-out-2
-    add-result
+    uvarint-len-requires
+    has-room-requires
+    spell-uvarint-requires
     same-length
-    returns)
+    returns
+    returns-2)

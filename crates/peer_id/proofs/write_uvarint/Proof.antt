@@ -11,7 +11,7 @@ use Rattle.peer_id.proofs.write_uvarint.Statement.{statement}
 use Rattle.peer_id.proofs.write_uvarint.Tie as tie
 use Rattle.peer_id.proofs.write_uvarint.Reads as reads
 use Rattle.peer_id.proofs.write_uvarint.Lts as lts
-use Rattle.peer_id.proofs.put_uvarint.Reads as put-uvarint-reads
+use Rattle.peer_id.proofs.spell_uvarint.Reads as spell-uvarint-reads
 use Rattle.peer_id.proofs.uvarint_len.Reads as uvarint-len-reads
 
 uvarint-len-requires : tie.Need-uvarint-len-requires
@@ -23,8 +23,8 @@ returns c =
     let h : length (a .out .now) < length (uvarint (a .value)) = omega (arith, c .before .uvarint-len .ensures) in
     (ap Room (c .before .uvarint-len .ensures) ∙ sym (answer-short _ _ h), sym (written-short _ _ h))
 
-put-uvarint-requires : tie.Need-put-uvarint-requires
-put-uvarint-requires c κs = search needs
+spell-uvarint-requires : tie.Need-spell-uvarint-requires
+spell-uvarint-requires c κs = search needs
 
 same-length : tie.Need-same-length
 same-length c = search needs
@@ -33,9 +33,9 @@ returns-2 : tie.Need-returns-2
 returns-2 c =
     let a = c .before .before .before .before .before .before .before .args in
     let h : length (uvarint (a .value)) ≤ length (a .out .now) = omega (arith, c .before .before .before .before .before .uvarint-len .ensures) in
-    let e = c .before .before .put-uvarint .ensures in
+    let e = c .before .before .spell-uvarint .ensures in
     (ap Bytes (omega (arith, e .0)) ∙ sym (answer-fits _ _ h), e .1 ∙ sym (written-fits _ _ h))
 
 pub write-uvarint-spec : {M : Type 1} → statement M
 write-uvarint-spec =
-    tie.close (tie.spec uvarint-len-requires returns put-uvarint-requires same-length returns-2)
+    tie.close (tie.spec uvarint-len-requires returns spell-uvarint-requires same-length returns-2)

@@ -1,13 +1,15 @@
 -- `protobuf::encode_bytes_field` meets its contract: checked, measured, then its tag, length and bytes are written where they fit.
-use Prim.Native.Nat.{_≤_, _<_}
+use Prim.Native.Nat.{ℕ, _+_, _*_, _<_, _≤_}
 use mathlib.Core.Path.{_≡_, sym, ap, _∙_}
 use native.Mathlib.Omega.{arith}
 use lib.ListN.{length}
+use lib.Seq.{length-sets}
+use Rattle.peer_id.specs.Uvarint.{uvarint}
 use Rattle.peer_id.specs.Laws.{at-most-ten}
 use Rattle.protobuf.specs.declared.Checked.the-variants.{Fine}
 use Rattle.protobuf.specs.declared.Encoded.the-variants.{Bytes, Room}
 use Rattle.protobuf.specs.Encode.{tag, tagRefused, bytesField}
-use Rattle.protobuf.specs.EncodeLaws.{fine-tag, tag-at-most-ten, bytes-field-length, put-bytes-field, encoded-fits, encoded-short, encoded-refused, left-fits, left-short, left-refused}
+use Rattle.protobuf.specs.EncodeLaws.{put-fits, fine-tag, tag-at-most-ten, bytes-field-length, put-bytes-field, encoded-fits, encoded-short, encoded-refused, left-fits, left-short, left-refused}
 use borrow.Author.Needs.{needs}
 use Rattle.protobuf.proofs.encode_bytes_field.Statement.{statement}
 use Rattle.protobuf.proofs.encode_bytes_field.Tie as tie
@@ -89,7 +91,14 @@ returns-3 c =
     let f : tagRefused (a .field) 2 ≡ Fine = sym (c .before .before .before .before .before .before .before .before .before .before .before .before .before .before .before .before .before .check-tag .ensures) ∙ c .before .before .before .before .before .before .before .before .before .before .before .before .before .before .before .enum-told .given .1 in
     let e = bytes-field-length (a .field) (a .«data» .now) in
     let h : length (bytesField (a .field) (a .«data» .now)) ≤ length (a .out .now) = omega arith in
-    let p = put-bytes-field (a .out .now) _ _ _ 0 _ _ _ (a .field) (a .«data» .now) (c .before .before .before .before .before .before .before .before .before .before .put-uvarint .ensures) (c .before .before .before .before .before .before .put-uvarint2 .ensures) (c .before .before .put-bytes .ensures) in
+    let x = uvarint (a .field * 8 + 2) in
+    let y = uvarint (length (a .«data» .now)) in
+    let p₁ = put-fits (a .out .now) 0 x _ _ (omega arith) (c .before .before .before .before .before .before .before .before .before .before .put-uvarint .ensures) in
+    let l₁ = ap length (p₁ .1) ∙ length-sets (a .out .now) 0 x in
+    let p₂ = put-fits _ _ y _ _ (omega (arith, l₁, p₁ .0)) (c .before .before .before .before .before .before .put-uvarint2 .ensures) in
+    let l₂ = ap length (p₂ .1) ∙ length-sets _ _ y in
+    let p₃ = put-fits _ _ (a .«data» .now) _ _ (omega (arith, l₁, l₂, p₁ .0, p₂ .0)) (c .before .before .put-bytes .ensures) in
+    let p = put-bytes-field (a .out .now) _ _ _ 0 _ _ _ (a .field) (a .«data» .now) p₁ p₂ p₃ in
     (ap Bytes (omega (arith, p .0)) ∙ sym (encoded-fits _ _ _ _ f h), p .1 ∙ sym (left-fits _ _ _ _ f h))
 
 pub encode-bytes-field-spec : {M : Type 1} → statement M

@@ -3,11 +3,13 @@ use Prim.Native.Nat.{_*_, _≤_, _<_}
 use mathlib.Core.Path.{_≡_, sym, ap, _∙_}
 use native.Mathlib.Omega.{arith}
 use lib.ListN.{length}
+use lib.Seq.{length-sets}
+use Rattle.peer_id.specs.Uvarint.{uvarint}
 use Rattle.peer_id.specs.Laws.{at-most-ten}
 use Rattle.protobuf.specs.declared.Checked.the-variants.{Fine}
 use Rattle.protobuf.specs.declared.Encoded.the-variants.{Bytes, Room}
 use Rattle.protobuf.specs.Encode.{tagRefused, varintField}
-use Rattle.protobuf.specs.EncodeLaws.{fine-tag, tag-varint, varint-field-length, put-varint-field, encoded-fits, encoded-short, encoded-refused, left-fits, left-short, left-refused}
+use Rattle.protobuf.specs.EncodeLaws.{put-fits, fine-tag, tag-varint, varint-field-length, put-varint-field, encoded-fits, encoded-short, encoded-refused, left-fits, left-short, left-refused}
 use borrow.Author.Needs.{needs}
 use Rattle.protobuf.proofs.encode_varint_field.Statement.{statement}
 use Rattle.protobuf.proofs.encode_varint_field.Tie as tie
@@ -70,7 +72,10 @@ returns-3 c =
     let e = varint-field-length (a .field) (a .value) in
     let z = ap length (tag-varint (a .field)) in
     let h : length (varintField (a .field) (a .value)) ≤ length (a .out .now) = omega arith in
-    let p = put-varint-field (a .out .now) _ _ 0 _ _ (a .field) (a .value) (rw (tag-varint (a .field)) (c .before .before .before .before .before .before .put-uvarint .ensures)) (c .before .before .put-uvarint2 .ensures) in
+    let p₁ = put-fits (a .out .now) 0 (uvarint (a .field * 8)) _ _ (omega arith) (c .before .before .before .before .before .before .put-uvarint .ensures) in
+    let l₁ = ap length (p₁ .1) ∙ length-sets (a .out .now) 0 (uvarint (a .field * 8)) in
+    let p₂ = put-fits _ _ (uvarint (a .value)) _ _ (omega (arith, l₁, p₁ .0)) (c .before .before .put-uvarint2 .ensures) in
+    let p = put-varint-field (a .out .now) _ _ 0 _ _ (a .field) (a .value) (rw (tag-varint (a .field)) p₁) p₂ in
     (ap Bytes (omega (arith, p .0)) ∙ sym (encoded-fits _ _ _ _ f h), p .1 ∙ sym (left-fits _ _ _ _ f h))
 
 pub encode-varint-field-spec : {M : Type 1} → statement M

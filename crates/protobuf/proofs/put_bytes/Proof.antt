@@ -1,74 +1,40 @@
--- `protobuf::put_bytes` meets its contract: what is left of data, at its place, makes what all of it makes.
-use Prim.Native.Nat.{ℕ, suc, _+_, _-_, _≤_, _<_}
-use mathlib.Core.Path.{_≡_, refl, sym, ap, ap₂, _∙_}
-use mathlib.Core.List.{List}
-use native.Mathlib.Omega.{arith}
-use native.Mathlib.Numerals.{add-one}
-use native.Mathlib.Nat.{add-zero}
-use lib.ListN.{length, drop, getD, set, length-set, drop-of-length-le}
-use lib.Seq.{sets, drop-cons}
+-- `protobuf::put_bytes` meets its contract: where they have the room, they are copied there.
+use Prim.Native.Nat.{ℕ, _+_, _≤_}
+use mathlib.Core.Path.{_≡_, sym, _∙_}
+use mathlib.Core.Bool.{true, false}
+use lib.ListN.{length}
+use lib.Dec.{leb}
+use borrow.Author.Tests.{leb-true}
+use Rattle.basis.specs.Lists.{end-fits, set-fits, end-short, set-short}
+use borrow.Author.Needs.{needs}
 use Rattle.protobuf.proofs.put_bytes.Statement.{statement}
 use Rattle.protobuf.proofs.put_bytes.Tie as tie
+use Rattle.protobuf.proofs.put_bytes.Reads as reads
+use Rattle.protobuf.proofs.put_bytes.Lts as lts
+use Rattle.basis.proofs.has_room.Reads as has-room-reads
+use Rattle.protobuf.proofs.copy_to.Reads as copy-to-reads
 
-abbrev Inv-loop : tie.InvT-loop
-Inv-loop out₀ at «data» j₀ out j = (j ≤ length «data») × (length out ≡ length out₀) × (sets out (at + j) (drop j «data») ≡ sets out₀ at «data»)
+has-room-requires : tie.Need-has-room-requires
+has-room-requires c κs = search needs
 
-abbrev μ-loop : tie.MeasureT-loop
-μ-loop out₀ at «data» j₀ out j = length «data» - j
+copy-to-requires : tie.Need-copy-to-requires
+copy-to-requires c κs = leb-true _ _ (sym (c .before .before .has-room .ensures) ∙ c .before .if1 .taken)
 
-turn : (out d : List ℕ) (at j : ℕ) → j < length d → sets out (at + j) (drop j d) ≡ sets (set out (at + j) (getD d j 0)) (at + (j + 1)) (drop (j + 1) d)
-turn out d at j h =
-    let e : suc (at + j) ≡ at + (j + 1) = omega arith in
-    ap (sets out (at + j)) (drop-cons d j 0 h) ∙ ap₂ (λ (a b : ℕ). sets (set out (at + j) (getD d j 0)) a (drop b d)) e (sym (add-one j))
+same-length : tie.Need-same-length
+same-length c = search needs
 
-done : (out d : List ℕ) (i j : ℕ) → length d ≤ j → sets out i (drop j d) ≡ out
-done out d i j h = rw (drop-of-length-le d h)
+returns : tie.Need-returns
+returns c =
+    let a = c .before .before .before .before .before .before .before .before .args in
+    let h : a .at + length (a .«data» .now) ≤ length (a .out .now) = leb-true _ _ (sym (c .before .before .before .before .before .has-room .ensures) ∙ c .before .before .before .before .if1 .taken) in
+    let e = c .before .before .copy-to .ensures in
+    (e .0 ∙ sym (end-fits _ _ _ _ h), e .1 ∙ sym (set-fits _ _ _ _ h))
 
-loop-holds : tie.Need-loop-holds Inv-loop μ-loop
-loop-holds c = (omega arith, refl, rw (add-zero (c .args .at)))
-
-shared-slice-read-out : tie.Need-shared-slice-read-out Inv-loop μ-loop
-shared-slice-read-out c = omega arith
-
-add-out : tie.Need-add-out Inv-loop μ-loop
-add-out c = omega arith
-
-slice-write-out : tie.Need-slice-write-out Inv-loop μ-loop
-slice-write-out c = omega arith
-
-add-j : tie.Need-add-j Inv-loop μ-loop
-add-j c = omega arith
-
-loop-less : tie.Need-loop-less Inv-loop μ-loop
-loop-less c = omega arith
-
-loop-again : tie.Need-loop-again Inv-loop μ-loop
-loop-again c =
-    let l = c .before .before .loop in let a = c .before .before .before .args in
-    (omega arith, simp length-set (l .inv .1), sym (turn (l .out) (a .«data» .now) (a .at) (l .j) (c .before .loop-test .taken)) ∙ l .inv .2)
-
-add-result : tie.Need-add-result Inv-loop μ-loop
-add-result c = omega arith
-
-same-length : tie.Need-same-length Inv-loop μ-loop
-same-length c = c .before .loop .inv .1
-
-returns : tie.Need-returns Inv-loop μ-loop
-returns c = let l = c .before .loop in let a = c .before .before .args in (refl, sym (done (l .out) (a .«data» .now) (a .at + l .j) (l .j) (c .loop-test .left)) ∙ l .inv .2)
+returns-2 : tie.Need-returns-2
+returns-2 c =
+    let h = sym (c .before .has-room .ensures) ∙ c .if1 .left in
+    (sym (end-short _ _ _ _ h), sym (set-short _ _ _ _ h))
 
 pub put-bytes-spec : {M : Type 1} → statement M
 put-bytes-spec =
-    tie.close
-    (tie.spec
-    Inv-loop
-    μ-loop
-    loop-holds
-    shared-slice-read-out
-    add-out
-    slice-write-out
-    add-j
-    loop-less
-    loop-again
-    add-result
-    same-length
-    returns)
+    tie.close (tie.spec has-room-requires copy-to-requires same-length returns returns-2)

@@ -6,7 +6,7 @@ use lib.ListN.{length}
 use Rattle.protobuf.specs.declared.Checked.the-variants.{Fine}
 use Rattle.protobuf.specs.declared.Encoded.the-variants.{Bytes, Room}
 use Rattle.protobuf.specs.Encode.{tag, tagRefused}
-use Rattle.protobuf.specs.EncodeLaws.{fine-tag, encoded-fits, encoded-short, encoded-refused, left-fits, left-short, left-refused}
+use Rattle.protobuf.specs.EncodeLaws.{put-fits, fine-tag, encoded-fits, encoded-short, encoded-refused, left-fits, left-short, left-refused}
 use borrow.Author.Needs.{needs}
 use Rattle.protobuf.proofs.write_tag.Statement.{statement}
 use Rattle.protobuf.proofs.write_tag.Tie as tie
@@ -55,7 +55,7 @@ returns-3 c =
     let u = c .before .before .before .before .before .uvarint-len .ensures in
     let f : tagRefused (a .field) (a .wire-type) ≡ Fine = sym (c .before .before .before .before .before .before .before .before .check-tag .ensures) ∙ c .before .before .before .before .before .before .enum-told .given .1 in
     let h : length (tag (a .field) (a .wire-type)) ≤ length (a .out .now) = omega arith in
-    let p = c .before .before .put-uvarint .ensures in
+    let p = put-fits (a .out .now) 0 (tag (a .field) (a .wire-type)) _ _ (omega arith) (c .before .before .put-uvarint .ensures) in
     (ap Bytes (omega (arith, p .0)) ∙ sym (encoded-fits _ _ _ _ f h), p .1 ∙ sym (left-fits _ _ _ _ f h))
 
 pub write-tag-spec : {M : Type 1} → statement M

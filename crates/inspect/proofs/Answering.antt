@@ -1,0 +1,109 @@
+-- What the pieces of a line make together.
+use Prim.Native.Nat.{ℕ, _+_, _-_, _≤_, _<_}
+use mathlib.Core.Path.{_≡_, refl, sym, ap}
+use mathlib.Core.List.{List, [], _∷_, _++_}
+use mathlib.Core.Logic.{_≢_}
+use mathlib.Core.Bool.{true, false}
+use native.Mathlib.Omega.{arith}
+use lib.ListN.{length, take, drop, getD, set, length-drop}
+use lib.Seq.{take-all, length-take-le}
+use borrow.Author.Tests.{lt-ltb, le-ltb, ne-eqb}
+use Rattle.text.specs.declared.Header.{Header}
+use Rattle.text.specs.declared.Header.the-variants.{Record}
+use Rattle.text.specs.Record.{little, contentLength}
+use Rattle.text.specs.Line.{Puts, decimal, refused}
+use Rattle.text.specs.Laws.{puts-none, puts-cons, puts-then, puts-as}
+use Rattle.peer_id.specs.declared.Uvarint.{Uvarint}
+use Rattle.peer_id.specs.Uvarint.{readUvarint}
+use Rattle.utf8.specs.Utf8.{isUtf8}
+use Rattle.protobuf.specs.declared.WireError.{WireError}
+use Rattle.protobuf.specs.declared.WireError.the-variants.{Varint, FieldOverflow, UnsupportedWireType, InvalidFieldNumber, InvalidUtf8, TooLarge, TooManyRecords}
+use Rattle.protobuf.specs.declared.Refusal.{Refusal}
+use Rattle.protobuf.specs.declared.Walk.{Walk}
+use Rattle.protobuf.specs.Field.{walkStep}
+use Rattle.protobuf.specs.Refusal.{refusalNumber, refusalValues, refusalOf}
+use Rattle.inspect.specs.Answers.{refusal, walk, varint, walkAnswer, varintAnswer, utf8Answer, answerTo, closed, lineOf}
+
+-- ---- a refusal
+values : (why : WireError) → take (length (refusalValues why)) (getD (refusalValues why) 0 0 ∷ getD (refusalValues why) 1 0 ∷ getD (refusalValues why) 2 0 ∷ []) ≡ refusalValues why
+values (Varint v) = refl
+values (FieldOverflow offset size remaining) = refl
+values (UnsupportedWireType type offset) = refl
+values (InvalidFieldNumber field offset) = refl
+values (InvalidUtf8 offset) = refl
+values (TooLarge size) = refl
+values (TooManyRecords records) = refl
+
+pub told : (why : WireError) (r : Refusal) → r ≡ refusalOf why → refused (r .number) (take (r .count) (r .first ∷ r .second ∷ r .third ∷ [])) ≡ refusal why
+unfolding refusal
+told why r e = rw e (ap (refused (refusalNumber why)) (values why))
+
+-- ---- an answer
+pub walk-short : (s : List ℕ) → length s < 8 → [] ≡ walkAnswer s
+unfolding walkAnswer
+walk-short s h = simp (lt-ltb _ _ h)
+
+pub walk-answer : (s : List ℕ) (at : ℕ) (w : Walk) → 8 ≤ length s → at ≡ little (take 8 (drop 0 s)) → w ≡ walkStep (take (length s - 8) (drop 8 s)) at → (32 ∷ 119 ∷ 97 ∷ 108 ∷ 107 ∷ []) ++ walk w ≡ walkAnswer s
+unfolding walkAnswer
+walk-answer s at w h p e =
+    let f : take (length s - 8) (drop 8 s) ≡ drop 8 s = take-all (length s - 8) (drop 8 s) (rw (length-drop 8 s) (omega arith)) in
+    simp (le-ltb _ _ h, e, f, p)
+
+pub varint-answer : (s : List ℕ) (v : Uvarint) → v ≡ readUvarint s → (32 ∷ 118 ∷ 97 ∷ 114 ∷ 105 ∷ 110 ∷ 116 ∷ []) ++ varint v ≡ varintAnswer s
+unfolding varintAnswer
+varint-answer s v e = rw e
+
+pub utf8-yes : (s : List ℕ) → isUtf8 s ≡ true → 32 ∷ 117 ∷ 116 ∷ 102 ∷ 56 ∷ 32 ∷ 121 ∷ 101 ∷ 115 ∷ [] ≡ utf8Answer s
+unfolding utf8Answer
+utf8-yes s e = rw e
+
+pub utf8-no : (s : List ℕ) → isUtf8 s ≡ false → 32 ∷ 117 ∷ 116 ∷ 102 ∷ 56 ∷ 32 ∷ 110 ∷ 111 ∷ [] ≡ utf8Answer s
+unfolding utf8Answer
+utf8-no s e = rw e
+
+-- ---- a kind
+pub kind-walk : (kind : ℕ) (s : List ℕ) → kind ≡ 5 → walkAnswer s ≡ answerTo kind s
+unfolding answerTo
+kind-walk kind s e = rw e
+
+pub kind-varint : (kind : ℕ) (s : List ℕ) → kind ≡ 6 → varintAnswer s ≡ answerTo kind s
+unfolding answerTo
+kind-varint kind s e = rw e
+
+pub kind-utf8 : (kind : ℕ) (s : List ℕ) → kind ≡ 7 → utf8Answer s ≡ answerTo kind s
+unfolding answerTo
+kind-utf8 kind s e = rw e
+
+pub kind-unknown : (kind : ℕ) (s : List ℕ) → kind ≢ 5 → kind ≢ 6 → kind ≢ 7 → [] ≡ answerTo kind s
+unfolding answerTo
+kind-unknown kind s a b c = simp (ne-eqb _ _ a, ne-eqb _ _ b, ne-eqb _ _ c)
+
+-- ---- a line
+closed-none : (n : ℕ) (xs : List ℕ) → length xs ≡ 0 → [] ≡ closed n xs
+unfolding closed
+closed-none n [] h = refl
+closed-none n (x ∷ xs) h = absurd (omega arith)
+
+closed-some : (n : ℕ) (xs : List ℕ) → 0 < length xs → decimal n ++ (xs ++ (10 ∷ [])) ≡ closed n xs
+unfolding closed
+closed-some n [] h = absurd (omega arith)
+closed-some n (x ∷ xs) h = refl
+
+-- no answer, no line
+pub line-none : (n kind : ℕ) (s : List ℕ) {p i j : ℕ} {b a : List ℕ} → Puts p (answerTo kind s) b i a j → j ≡ i → [] ≡ lineOf n kind s
+unfolding lineOf
+line-none n kind s f e = closed-none n (answerTo kind s) (omega arith)
+
+pub line-some : (n kind : ℕ) (s : List ℕ) {p q i j : ℕ} {b m a : List ℕ} → Puts p (decimal n) b 0 m i → Puts q (answerTo kind s) m i a j → j ≢ i → Puts (p + (q + 1)) (lineOf n kind s) b 0 (set a j 10) (j + 1)
+unfolding lineOf
+line-some n kind s {j = j} {a = a} f g h =
+    let l : 0 < length (answerTo kind s) = omega arith in
+    puts-as (closed-some n (answerTo kind s) l) (omega arith) (puts-then f (puts-then g (puts-cons (puts-none (set a j 10) (j + 1)))))
+
+-- ---- a header
+pub content-fits : {m : ℕ} (h : Header) (k l : ℕ) → h ≡ Record k l → contentLength h ≤ m → l ≤ m
+content-fits h k l e p = rw e at p
+
+-- a part of a slice from its front, and its length
+pub prefix : (k : ℕ) (l : List ℕ) → k ≤ length l → k ≡ length (take k l)
+prefix k l h = sym (length-take-le k l h)

@@ -1,0 +1,52 @@
+-- `inspect::answer` meets its contract: the kind picks the call.
+use borrow.Author.Needs.{needs}
+use native.Mathlib.Omega.{arith}
+use Rattle.text.specs.Laws.{puts-none, puts-as}
+use Rattle.inspect.proofs.Answering.{kind-walk, kind-varint, kind-utf8, kind-unknown}
+use Rattle.inspect.proofs.answer.Statement.{statement}
+use Rattle.inspect.proofs.answer.Tie as tie
+
+answer-walk-requires : tie.Need-answer-walk-requires
+answer-walk-requires c κs = search needs
+
+answer-varint-requires : tie.Need-answer-varint-requires
+answer-varint-requires c κs = search needs
+
+answer-utf8-requires : tie.Need-answer-utf8-requires
+answer-utf8-requires c κs = search needs
+
+same-length : tie.Need-same-length
+same-length c = search needs
+
+returns : tie.Need-returns
+returns c = puts-as (kind-walk _ _ (c .before .before .before .before .match .keys1)) (omega arith) (c .before .before .answer-walk .ensures)
+
+same-length-2 : tie.Need-same-length-2
+same-length-2 c = search needs
+
+returns-2 : tie.Need-returns-2
+returns-2 c = puts-as (kind-varint _ _ (c .before .before .before .before .match .keys2)) (omega arith) (c .before .before .answer-varint .ensures)
+
+same-length-3 : tie.Need-same-length-3
+same-length-3 c = search needs
+
+returns-3 : tie.Need-returns-3
+returns-3 c = puts-as (kind-utf8 _ _ (c .before .before .before .before .match .keys3)) (omega arith) (c .before .before .answer-utf8 .ensures)
+
+returns-4 : tie.Need-returns-4
+returns-4 c = puts-as (kind-unknown _ _ (λ e. omega arith) (λ e. omega arith) (λ e. omega arith)) (omega arith) (puts-none _ _)
+
+pub answer-spec : {M : Type 1} → statement M
+answer-spec =
+    tie.close
+    (tie.spec
+    answer-walk-requires
+    answer-varint-requires
+    answer-utf8-requires
+    same-length
+    returns
+    same-length-2
+    returns-2
+    same-length-3
+    returns-3
+    returns-4)

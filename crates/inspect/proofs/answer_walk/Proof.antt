@@ -1,0 +1,56 @@
+-- `inspect::answer_walk` meets its contract: the place is read, then the step is taken and put.
+use borrow.Author.Needs.{needs}
+use native.Mathlib.Omega.{arith}
+use Rattle.text.specs.Laws.{puts-none, puts-then, puts-as}
+use Rattle.inspect.proofs.Answering.{walk-short, walk-answer}
+use Rattle.inspect.proofs.answer_walk.Statement.{statement}
+use Rattle.inspect.proofs.answer_walk.Tie as tie
+
+returns : tie.Need-returns
+returns c = puts-as (walk-short _ (c .if1 .taken)) (omega arith) (puts-none _ _)
+
+number-at-requires : tie.Need-number-at-requires
+number-at-requires c κs = search needs
+
+sub-step : tie.Need-sub-step
+sub-step c = search needs
+
+part-step-start : tie.Need-part-step-start
+part-step-start c = search needs
+
+part-step-end : tie.Need-part-step-end
+part-step-end c = search needs
+
+step-requires : tie.Need-step-requires
+step-requires c κs = search needs
+
+slice-aggregate-put-text : tie.Need-slice-aggregate-put-text
+slice-aggregate-put-text c = search needs
+
+put-text-requires : tie.Need-put-text-requires
+put-text-requires c κs = search needs
+
+put-walk-requires : tie.Need-put-walk-requires
+put-walk-requires c κs = search needs
+
+same-length : tie.Need-same-length
+same-length c = search needs
+
+returns-2 : tie.Need-returns-2
+returns-2 c = puts-as (walk-answer _ _ _ (c .before .before .before .before .before .before .before .before .before .before .before .before .if1 .left) (c .before .before .before .before .before .before .before .before .before .before .before .number-at .ensures) (c .before .before .before .before .before .before .before .before .before .step .ensures)) (omega arith) (puts-then (c .before .before .before .before .before .before .put-text .ensures) (c .before .before .put-walk .ensures))
+
+pub answer-walk-spec : {M : Type 1} → statement M
+answer-walk-spec =
+    tie.close
+    (tie.spec
+    returns
+    number-at-requires
+    sub-step
+    part-step-start
+    part-step-end
+    step-requires
+    slice-aggregate-put-text
+    put-text-requires
+    put-walk-requires
+    same-length
+    returns-2)

@@ -1,0 +1,46 @@
+-- `inspect::line` meets its contract: the number, the answer and a newline, at the front.
+use borrow.Author.Needs.{needs}
+use mathlib.Core.Path.{refl, ap, _∙_}
+use native.Mathlib.Omega.{arith}
+use lib.ListN.{length, length-set}
+use Rattle.text.specs.Laws.{puts-length, puts-front}
+use Rattle.inspect.proofs.Answering.{line-none, line-some, prefix}
+use Rattle.inspect.proofs.line.Statement.{statement}
+use Rattle.inspect.proofs.line.Tie as tie
+
+put-decimal-requires : tie.Need-put-decimal-requires
+put-decimal-requires c κs = search needs
+
+answer-requires : tie.Need-answer-requires
+answer-requires c κs = search needs
+
+same-length : tie.Need-same-length
+same-length c = search needs
+
+returns : tie.Need-returns
+returns c = let e = line-none (c .before .before .before .before .before .before .before .before .before .before .before .args .n) (c .before .before .before .before .before .before .before .before .before .before .before .args .kind) _ (c .before .before .before .answer .ensures) (c .if1 .taken) in (ap length e, ((omega arith, refl), e))
+
+slice-write-out : tie.Need-slice-write-out
+slice-write-out c = search needs
+
+add-result : tie.Need-add-result
+add-result c = search needs
+
+same-length-2 : tie.Need-same-length-2
+same-length-2 c = simp length-set (puts-length (c .before .before .before .answer .ensures) ∙ puts-length (c .before .before .before .before .before .before .before .put-decimal .ensures))
+
+returns-2 : tie.Need-returns-2
+returns-2 c = let f = line-some (c .before .before .before .before .before .before .before .before .before .before .before .args .n) (c .before .before .before .before .before .before .before .before .before .before .before .args .kind) _ (c .before .before .before .before .before .before .before .put-decimal .ensures) (c .before .before .before .answer .ensures) (c .if1 .left) in let l = puts-length f in (omega (arith, f .place), ((omega arith, prefix _ _ (omega arith)), puts-front f (omega arith)))
+
+pub line-spec : {M : Type 1} → statement M
+line-spec =
+    tie.close
+    (tie.spec
+    put-decimal-requires
+    answer-requires
+    same-length
+    returns
+    slice-write-out
+    add-result
+    same-length-2
+    returns-2)

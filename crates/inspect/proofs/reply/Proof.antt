@@ -1,0 +1,94 @@
+-- `inspect::reply` is safe: what is read and printed lies within what is lent.
+use borrow.Author.Needs.{needs}
+use Rattle.inspect.proofs.Answering.{prefix}
+use Rattle.inspect.proofs.reply.Statement.{statement}
+use Rattle.inspect.proofs.reply.Tie as tie
+
+slice-relend-prefix-read-full : tie.Need-slice-relend-prefix-read-full
+slice-relend-prefix-read-full c = search needs
+
+slice-aggregate-read-full : tie.Need-slice-aggregate-read-full
+slice-aggregate-read-full c = prefix _ _ (search needs)
+
+read-full-requires : tie.Need-read-full-requires
+read-full-requires c κs = search needs
+
+slice-aggregate-last : tie.Need-slice-aggregate-last
+slice-aggregate-last c = search needs
+
+last-requires : tie.Need-last-requires
+last-requires c κs = search needs
+
+same-length : tie.Need-same-length
+same-length c = search needs
+
+returns : tie.Need-returns
+returns c = search needs
+
+slice-reshare-prefix-line : tie.Need-slice-reshare-prefix-line
+slice-reshare-prefix-line c = search needs
+
+slice-aggregate-line : tie.Need-slice-aggregate-line
+slice-aggregate-line c = prefix _ _ (search needs)
+
+line-requires : tie.Need-line-requires
+line-requires c κs = search needs
+
+slice-aggregate-last-2 : tie.Need-slice-aggregate-last-2
+slice-aggregate-last-2 c = search needs
+
+last-requires-2 : tie.Need-last-requires-2
+last-requires-2 c κs = search needs
+
+same-length-2 : tie.Need-same-length-2
+same-length-2 c = search needs
+
+same-length-3 : tie.Need-same-length-3
+same-length-3 c = search needs
+
+returns-2 : tie.Need-returns-2
+returns-2 c = search needs
+
+slice-reshare-prefix-write-all : tie.Need-slice-reshare-prefix-write-all
+slice-reshare-prefix-write-all c = search needs
+
+slice-aggregate-write-all : tie.Need-slice-aggregate-write-all
+slice-aggregate-write-all c = search needs
+
+write-all-requires : tie.Need-write-all-requires
+write-all-requires c κs = search needs
+
+same-length-4 : tie.Need-same-length-4
+same-length-4 c = search needs
+
+same-length-5 : tie.Need-same-length-5
+same-length-5 c = search needs
+
+returns-3 : tie.Need-returns-3
+returns-3 c = search needs
+
+pub reply-spec : {M : Type 1} → statement M
+reply-spec =
+    tie.close
+    (tie.spec
+    slice-relend-prefix-read-full
+    slice-aggregate-read-full
+    read-full-requires
+    slice-aggregate-last
+    last-requires
+    same-length
+    returns
+    slice-reshare-prefix-line
+    slice-aggregate-line
+    line-requires
+    slice-aggregate-last-2
+    last-requires-2
+    same-length-2
+    same-length-3
+    returns-2
+    slice-reshare-prefix-write-all
+    slice-aggregate-write-all
+    write-all-requires
+    same-length-4
+    same-length-5
+    returns-3)

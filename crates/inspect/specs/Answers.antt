@@ -1,0 +1,61 @@
+-- The lines, in ASCII. A record that is bad, its kind unknown or its content too short, has none.
+use Prim.Native.Nat.{ℕ}
+use mathlib.Core.List.{List, [], _∷_, _++_}
+use mathlib.Core.Bool.{cond}
+use lib.ListN.{length, take, drop}
+use lib.Dec.{ltb, eqb}
+use Rattle.text.specs.Record.{little}
+use Rattle.text.specs.Line.{decimal, number, refused}
+use Rattle.peer_id.specs.declared.Uvarint.{Uvarint}
+use Rattle.peer_id.specs.declared.Uvarint.the-variants.{Value, Refused as Unread}
+use Rattle.peer_id.specs.Uvarint.{readUvarint}
+use Rattle.utf8.specs.Utf8.{isUtf8}
+use Rattle.protobuf.specs.declared.WireError.{WireError}
+use Rattle.protobuf.specs.declared.WireError.the-variants.{Varint}
+use Rattle.protobuf.specs.declared.Walk.{Walk}
+use Rattle.protobuf.specs.declared.Walk.the-variants.{End, Field, Refused}
+use Rattle.protobuf.specs.Field.{walkStep}
+use Rattle.protobuf.specs.Refusal.{refusalNumber, refusalValues}
+
+-- ` refused`, the number in 01's table, the values beside it
+unfoldable pub refusal : WireError → List ℕ
+refusal why = refused (refusalNumber why) (refusalValues why)
+
+-- ` end`; or the field, its wire type, the place after its tag and the next place
+unfoldable pub walk : Walk → List ℕ
+walk End = 32 ∷ 101 ∷ 110 ∷ 100 ∷ []
+walk (Refused why) = refusal why
+walk (Field f type at next) = number f ++ (number type ++ (number at ++ number (next .at)))
+
+-- the value and how many bytes it took
+unfoldable pub varint : Uvarint → List ℕ
+varint (Unread why) = refusal (Varint why)
+varint (Value x n) = number x ++ number n
+
+-- ---- the call and the answer to a content, for each kind
+-- ` walk`: a place and then a body; nothing where the place is cut
+unfoldable pub walkAnswer : List ℕ → List ℕ
+walkAnswer s = cond (ltb (length s) 8) [] (32 ∷ 119 ∷ 97 ∷ 108 ∷ 107 ∷ walk (walkStep (drop 8 s) (little (take 8 s))))
+
+-- ` varint`
+unfoldable pub varintAnswer : List ℕ → List ℕ
+varintAnswer s = 32 ∷ 118 ∷ 97 ∷ 114 ∷ 105 ∷ 110 ∷ 116 ∷ varint (readUvarint s)
+
+-- ` utf8`, and ` yes` or ` no`
+unfoldable pub utf8Answer : List ℕ → List ℕ
+utf8Answer s = 32 ∷ 117 ∷ 116 ∷ 102 ∷ 56 ∷ cond (isUtf8 s) (32 ∷ 121 ∷ 101 ∷ 115 ∷ []) (32 ∷ 110 ∷ 111 ∷ [])
+
+-- nothing where the kind is unknown
+unfoldable pub answerTo : ℕ → List ℕ → List ℕ
+answerTo kind s =
+    cond (eqb kind 5) (walkAnswer s)
+    (cond (eqb kind 6) (varintAnswer s)
+    (cond (eqb kind 7) (utf8Answer s) []))
+
+-- record n's line, with its newline
+unfoldable pub closed : ℕ → List ℕ → List ℕ
+closed n [] = []
+closed n (x ∷ xs) = decimal n ++ (x ∷ xs ++ (10 ∷ []))
+
+unfoldable pub lineOf : ℕ → ℕ → List ℕ → List ℕ
+lineOf n kind s = closed n (answerTo kind s)

@@ -1,0 +1,189 @@
+// Answers records from standard input, a line for each: the record's number from 1, the call, the answer. A record is its content's length
+// (u32), its kind (u16) and its content, little-endian. Kinds: 5 walk (place u64, body), 6 varint (bytes), 7 utf8 (bytes).
+ghost use mathlib.Core.Path.{_≡_};
+ghost use Prim.Native.Nat.{_+_, _≤_};
+ghost use lib.ListN.{length, take};
+ghost use Rattle.io.specs.Counts.{Counts};
+ghost use Rattle.text.specs.Record.{contentLength};
+ghost use Rattle.text.specs.Line.{Puts};
+ghost use Rattle.inspect.specs.Answers.{refusal, walk, varint, walkAnswer, varintAnswer, utf8Answer, answerTo, lineOf};
+use peer_id::Uvarint;
+use protobuf::Cursor;
+use protobuf::Walk;
+use protobuf::WireError;
+use text::Header;
+use text::put_number;
+use text::put_text;
+
+// A refusal of 01's table, with its values.
+fn put_refusal(out: &mut [u8], at: usize, why: WireError) -> usize
+    requires { ⌜ at + 92 ≤ length (now out) ⌝ }
+    ensures { λ r. ⌜ Puts 92 (refusal why) (now (out .entry)) at (now (out .exit)) r ⌝ }
+{
+    let r = protobuf::refusal_of(why);
+    text::put_refused(
+        out,
+        at,
+        r.number as u64,
+        r.count as u64,
+        r.first,
+        r.second,
+        r.third,
+    )
+}
+
+// One step of the field walk.
+fn put_walk(out: &mut [u8], at: usize, w: Walk) -> usize
+    requires { ⌜ at + 92 ≤ length (now out) ⌝ }
+    ensures { λ r. ⌜ Puts 92 (walk w) (now (out .entry)) at (now (out .exit)) r ⌝ }
+{
+    match w {
+        Walk::End => put_text(out, at, b" end"),
+        Walk::Refused(why) => put_refusal(out, at, why),
+        Walk::Field {
+            field,
+            wire_type,
+            tag_end,
+            next,
+        } => {
+            let to = next.at;
+            let i = put_number(out, at, field);
+            let j = put_number(out, i, wire_type as u64);
+            let k = put_number(out, j, tag_end as u64);
+            put_number(out, k, to as u64)
+        }
+    }
+}
+
+fn put_varint(out: &mut [u8], at: usize, v: Uvarint) -> usize
+    requires { ⌜ at + 92 ≤ length (now out) ⌝ }
+    ensures { λ r. ⌜ Puts 92 (varint v) (now (out .entry)) at (now (out .exit)) r ⌝ }
+{
+    match v {
+        Uvarint::Refused(why) => put_refusal(out, at, WireError::Varint(why)),
+        Uvarint::Value { value, used } => {
+            let i = put_number(out, at, value);
+            put_number(out, i, used as u64)
+        }
+    }
+}
+
+// Kind 5: the place, and then the body.
+fn answer_walk(content: &[u8], out: &mut [u8], at: usize) -> usize
+    requires { ⌜ at + 131200 ≤ length (now out) ⌝ }
+    ensures { λ r. ⌜ Puts 131200 (walkAnswer (now (content .entry))) (now (out .entry)) at (now (out .exit)) r ⌝ }
+{
+    if content.len() < 8 {
+        return at;
+    }
+    let place = text::number_at(content, 0, 8);
+    let cursor = Cursor { at: place as usize };
+    let w = cursor.step(&content[8..]);
+    let i = put_text(out, at, b" walk");
+    put_walk(out, i, w)
+}
+
+// Kind 6.
+fn answer_varint(content: &[u8], out: &mut [u8], at: usize) -> usize
+    requires { ⌜ at + 131200 ≤ length (now out) ⌝ }
+    ensures { λ r. ⌜ Puts 131200 (varintAnswer (now (content .entry))) (now (out .entry)) at (now (out .exit)) r ⌝ }
+{
+    let v = peer_id::read_uvarint(content);
+    let i = put_text(out, at, b" varint");
+    put_varint(out, i, v)
+}
+
+// Kind 7.
+fn answer_utf8(content: &[u8], out: &mut [u8], at: usize) -> usize
+    requires { ⌜ at + 131200 ≤ length (now out) ⌝ }
+    ensures { λ r. ⌜ Puts 131200 (utf8Answer (now (content .entry))) (now (out .entry)) at (now (out .exit)) r ⌝ }
+{
+    if utf8::is_utf8(content) {
+        return put_text(out, at, b" utf8 yes");
+    }
+    put_text(out, at, b" utf8 no")
+}
+
+// The call and the answer; nothing where the record is bad.
+fn answer(kind: u64, content: &[u8], out: &mut [u8], at: usize) -> usize
+    requires { ⌜ at + 131200 ≤ length (now out) ⌝ }
+    ensures { λ r. ⌜ Puts 131200 (answerTo kind (now (content .entry))) (now (out .entry)) at (now (out .exit)) r ⌝ }
+{
+    match kind {
+        5 => answer_walk(content, out, at),
+        6 => answer_varint(content, out, at),
+        7 => answer_utf8(content, out, at),
+        _ => at,
+    }
+}
+
+// Puts the line of record n at the front of out and says how long it is: 0 where the record is bad.
+fn line(n: u64, kind: u64, content: &[u8], out: &mut [u8]) -> usize
+    requires { ⌜ 131328 ≤ length (now out) ⌝ }
+    ensures { λ r. ⌜ r ≡ length (lineOf n kind (now (content .entry))) ⌝ }
+    ensures { λ r. ⌜ Counts r (now (out .exit)) ⌝ }
+    ensures { λ r. ⌜ take r (now (out .exit)) ≡ lineOf n kind (now (content .entry)) ⌝ }
+{
+    let i = text::put_decimal(out, 0, n);
+    let j = answer(kind, content, out, i);
+    if j == i {
+        return 0;
+    }
+    out[j] = b'\n';
+    j + 1
+}
+
+// Prints the word that ends the run.
+fn last(word: &[u8]) -> bool {
+    io::write_all(1, word);
+    false
+}
+
+// Reads the header of the next record.
+fn next_header() -> Header
+    ensures { λ r. ⌜ contentLength r ≤ 65600 ⌝ }
+{
+    let mut head = [0u8; 6];
+    let got = io::read_full(0, &mut head);
+    text::read_header(&head[..got], 65600)
+}
+
+// Reads the content of record n and prints its line. Answers whether to go on.
+fn reply(n: u64, kind: u64, len: usize, content: &mut [u8], out: &mut [u8]) -> bool
+    requires { ⌜ len ≤ length (now content) ⌝ }
+    requires { ⌜ 131328 ≤ length (now out) ⌝ }
+{
+    let got = io::read_full(0, &mut content[..len]);
+    if got < len {
+        return last(b"bad\n");
+    }
+    let k = line(n, kind, &content[..len], out);
+    if k == 0 {
+        return last(b"bad\n");
+    }
+    io::write_all(1, &out[..k])
+}
+
+// Reads a record and prints its line, or the word that ends the run. Answers whether to go on.
+fn turn(n: u64, content: &mut [u8], out: &mut [u8]) -> bool
+    requires { ⌜ 65600 ≤ length (now content) ⌝ }
+    requires { ⌜ 131328 ≤ length (now out) ⌝ }
+{
+    let h = next_header();
+    match h {
+        Header::End => false,
+        Header::Bad => last(b"bad\n"),
+        Header::Long => last(b"long\n"),
+        Header::Record { kind, len } => reply(n, kind, len, content, out),
+    }
+}
+
+// The count of records only bounds the loop: no run uses it up.
+fn main() {
+    let mut content = [0u8; 65600];
+    let mut out = [0u8; 131328];
+    let mut n: u64 = 1;
+    while n < u64::MAX && turn(n, &mut content, &mut out) {
+        n += 1;
+    }
+}

@@ -1,0 +1,289 @@
+-- A body is accepted exactly where the grammar has it: for each kind of message, both ways.
+use Prim.Native.Nat.{ℕ, _-_}
+use mathlib.Core.Path.{_≡_, refl, sym, ap, subst, _∙_}
+use mathlib.Core.Bool.{Bool, true, false, cond}
+use mathlib.Core.List.{List, [], _∷_}
+use mathlib.Core.Logic.{_↔_}
+use lib.ListN.{take, drop}
+use lib.Dec.{eqb}
+use borrow.Author.Tests.{eqb-true}
+use Rattle.basis.specs.Cases.{either}
+use Rattle.basis.specs.Bytes.{Bytes}
+use Rattle.basis.specs.Lists.{drop-bytes, take-bytes}
+use Rattle.utf8.specs.Grammar.{Utf8}
+use Rattle.protobuf.specs.declared.Field.{Field}
+use Rattle.protobuf.specs.Grammar.{Entry, Body}
+use Rattle.protobuf.specs.Walk.{fieldsOf, whole, entriesOf}
+use Rattle.protobuf.specs.Exactly.{Walks, exactly, body-walks}
+use Rattle.schema.specs.declared.Kind.{Kind}
+use Rattle.schema.specs.declared.Kind.the-variants as kind
+use Rattle.schema.specs.declared.Role.{Role}
+use Rattle.schema.specs.declared.Role.the-variants.{Skip, Number, Text, Bytes as BytesRole, Topic, MessageId, Sub}
+use Rattle.schema.specs.Schema.{roleOf}
+use Rattle.rpc.specs.Rpc.{SubOpts, RawMessage, ControlIHave, ControlIWant, ControlGraft, PeerInfo, ControlPrune, ControlMessage, Rpc}
+use Rattle.rpc.specs.Grammar.{bytesIn, Each, none-left, _and_, Pairs, no-pairs, _paired_, IsSubOpts, is-sub-opts, IsMessage, is-message, IsIHave, is-ihave, IsIWant, is-iwant, IsGraft, is-graft, IsPeerInfo, is-peer-info, IsPrune, is-prune, IsControl, is-control, IsRpc, is-rpc}
+use Rattle.meaning.specs.Entries.{isBytes, valueIn, put-bytes}
+use Rattle.meaning.specs.Good.{Accepted, GoodRole, Good, walked-good, good-walked, accepted-walks, each-put}
+
+-- ---- lists of bytes
+map-each : {P Q : List ℕ → Type 0} {ds : List (List ℕ)} → ((d : List ℕ) → P d → Q d) → Each P ds → Each Q ds
+map-each f none-left = none-left
+map-each f (p and ps) = f _ p and map-each f ps
+
+zip-each : {P Q : List ℕ → Type 0} {ds : List (List ℕ)} → Each P ds → Each Q ds → Each (λ d. P d × Q d) ds
+zip-each none-left none-left = none-left
+zip-each (p and ps) (q and qs) = (p, q) and zip-each ps qs
+
+all-each : {P : List ℕ → Type 0} (ds : List (List ℕ)) → ((d : List ℕ) → P d) → Each P ds
+all-each [] f = none-left
+all-each (d ∷ ds) f = f d and all-each ds f
+
+-- what each means
+pub record Some {X : Type 0} (R : List ℕ → X → Type 0) (d : List ℕ) : Type 0 where
+  pub value : X
+  pub means : R d value
+
+pairs-each : {X : Type 0} {R : List ℕ → X → Type 0} {ds : List (List ℕ)} → Each (Some R) ds → (xs : List X) × Pairs R ds xs
+pairs-each none-left = ([], no-pairs)
+pairs-each (p and ps) = let r = pairs-each ps in (p .value ∷ r .0, p .means paired r .1)
+
+each-pairs : {X : Type 0} {R : List ℕ → X → Type 0} {ds : List (List ℕ)} {xs : List X} → Pairs R ds xs → Each (Some R) ds
+each-pairs no-pairs = none-left
+each-pairs (p paired ps) = record { value = _; means = p } and each-pairs ps
+
+-- the bytes in a field of bytes are bytes
+bytes-each : (s : List ℕ) (fs : List Field) (m : ℕ) → Bytes s → Each Bytes (bytesIn m (entriesOf s fs))
+bytes-each s [] m b = none-left
+bytes-each s (f ∷ fs) m b =
+    subst (Each Bytes) (sym (put-bytes s m f (bytesIn m (entriesOf s fs))))
+    (each-put Bytes (isBytes m f) (valueIn s f) (bytesIn m (entriesOf s fs)) (λ t. take-bytes (f .next - f .start) (drop (f .start) s) (drop-bytes (f .start) s b)) (bytes-each s fs m b))
+
+-- ---- from acceptance: the body, and its good fields
+record Read (k : Kind) (s : List ℕ) : Type 0 where
+  entries : List Entry
+  body : Body s entries
+  good : Good k entries
+  small : (m : ℕ) → Each Bytes (bytesIn m entries)
+
+read : (k : Kind) (s : List ℕ) → Bytes s → Accepted k s → Read k s
+read k s b a =
+    let w = accepted-walks k s a in
+    record {
+      entries = entriesOf s (w .0);
+      body = exactly s (entriesOf s (w .0)) b .0 (record { fields = w .0; walked = w .1; entries = refl });
+      good = walked-good k s (w .0) (w .1) a;
+      small = λ m. bytes-each s (w .0) m b;
+    }
+
+-- and back
+written : (k : Kind) (s : List ℕ) (es : List Entry) → Body s es → Good k es → Accepted k s
+written k s es g h =
+    let w = body-walks s es g in
+    good-walked k s (w .fields) (w .walked) (subst (Good k) (sym (w .entries)) h)
+
+-- a field of text, and of submessages
+texts : (k : Kind) (s : List ℕ) (r : Read k s) (m : ℕ) → ((d : List ℕ) → GoodRole (roleOf k m 2) d → Utf8 d) → Each Utf8 (bytesIn m (r .entries))
+texts k s r m f = map-each f (r .good m)
+
+subs : (k j : Kind) (s : List ℕ) (r : Read k s) (m : ℕ) {X : Type 0} {R : List ℕ → X → Type 0} → ((d : List ℕ) → GoodRole (roleOf k m 2) d → Accepted j d) → ((d : List ℕ) → Bytes d → Accepted j d → Some R d) → (xs : List X) × Pairs R (bytesIn m (r .entries)) xs
+subs k j s r m f g = pairs-each (map-each (λ d p. g d (p .1) (f d (p .0))) (zip-each (r .good m) (r .small m)))
+
+accepted-subs : {X : Type 0} {R : List ℕ → X → Type 0} {ds : List (List ℕ)} {xs : List X} (j : Kind) → ((d : List ℕ) → Some R d → Accepted j d) → Pairs R ds xs → Each (Accepted j) ds
+accepted-subs j f ps = map-each f (each-pairs ps)
+
+-- ---- each kind of message
+sub-opts-good : (es : List Entry) → Each Utf8 (bytesIn 2 es) → Good kind.SubOpts es
+unfolding roleOf
+sub-opts-good es t2 m =
+    either (eqb m 2) (λ e2. let z = eqb-true m 2 e2 in rw z (map-each (λ d u. u) t2))
+    (λ e2. all-each (bytesIn m es) (λ d. simp (e2) tt))
+
+pub sub-opts-means : (s : List ℕ) → Bytes s → Accepted kind.SubOpts s → Some IsSubOpts s
+unfolding roleOf
+sub-opts-means s b a =
+    let r = read kind.SubOpts s b a in
+    record { value = _; means = is-sub-opts (r .body) (texts kind.SubOpts s r 2 (λ d u. u)) }
+
+sub-opts-written : {s : List ℕ} {v : SubOpts} → IsSubOpts s v → Accepted kind.SubOpts s
+sub-opts-written (is-sub-opts {s = s} {es = es} g t2) = written kind.SubOpts s es g (sub-opts-good es t2)
+
+pub sub-opts-accepted : (s : List ℕ) → Some IsSubOpts s → Accepted kind.SubOpts s
+sub-opts-accepted s x = sub-opts-written (x .means)
+
+message-good : (es : List Entry) → Each Utf8 (bytesIn 4 es) → Good kind.RawMessage es
+unfolding roleOf
+message-good es t4 m =
+    either (eqb m 1) (λ e1. all-each (bytesIn m es) (λ d. simp (e1) tt))
+    (λ e1.
+    either (eqb m 2) (λ e2. all-each (bytesIn m es) (λ d. simp (e1, e2) tt))
+    (λ e2.
+    either (eqb m 3) (λ e3. all-each (bytesIn m es) (λ d. simp (e1, e2, e3) tt))
+    (λ e3.
+    either (eqb m 4) (λ e4. let z = eqb-true m 4 e4 in rw z (map-each (λ d u. u) t4))
+    (λ e4.
+    either (eqb m 5) (λ e5. all-each (bytesIn m es) (λ d. simp (e1, e2, e3, e4, e5) tt))
+    (λ e5.
+    either (eqb m 6) (λ e6. all-each (bytesIn m es) (λ d. simp (e1, e2, e3, e4, e5, e6) tt))
+    (λ e6. all-each (bytesIn m es) (λ d. simp (e1, e2, e3, e4, e5, e6) tt)))))))
+
+pub message-means : (s : List ℕ) → Bytes s → Accepted kind.RawMessage s → Some IsMessage s
+unfolding roleOf
+message-means s b a =
+    let r = read kind.RawMessage s b a in
+    record { value = _; means = is-message (r .body) (texts kind.RawMessage s r 4 (λ d u. u)) }
+
+message-written : {s : List ℕ} {v : RawMessage} → IsMessage s v → Accepted kind.RawMessage s
+message-written (is-message {s = s} {es = es} g t4) = written kind.RawMessage s es g (message-good es t4)
+
+pub message-accepted : (s : List ℕ) → Some IsMessage s → Accepted kind.RawMessage s
+message-accepted s x = message-written (x .means)
+
+ihave-good : (es : List Entry) → Each Utf8 (bytesIn 1 es) → Good kind.ControlIHave es
+unfolding roleOf
+ihave-good es t1 m =
+    either (eqb m 1) (λ e1. let z = eqb-true m 1 e1 in rw z (map-each (λ d u. u) t1))
+    (λ e1.
+    either (eqb m 2) (λ e2. all-each (bytesIn m es) (λ d. simp (e1, e2) tt))
+    (λ e2. all-each (bytesIn m es) (λ d. simp (e1, e2) tt)))
+
+pub ihave-means : (s : List ℕ) → Bytes s → Accepted kind.ControlIHave s → Some IsIHave s
+unfolding roleOf
+ihave-means s b a =
+    let r = read kind.ControlIHave s b a in
+    record { value = _; means = is-ihave (r .body) (texts kind.ControlIHave s r 1 (λ d u. u)) }
+
+ihave-written : {s : List ℕ} {v : ControlIHave} → IsIHave s v → Accepted kind.ControlIHave s
+ihave-written (is-ihave {s = s} {es = es} g t1) = written kind.ControlIHave s es g (ihave-good es t1)
+
+pub ihave-accepted : (s : List ℕ) → Some IsIHave s → Accepted kind.ControlIHave s
+ihave-accepted s x = ihave-written (x .means)
+
+iwant-good : (es : List Entry) → Good kind.ControlIWant es
+unfolding roleOf
+iwant-good es m =
+    either (eqb m 1) (λ e1. all-each (bytesIn m es) (λ d. simp (e1) tt))
+    (λ e1. all-each (bytesIn m es) (λ d. simp (e1) tt))
+
+pub iwant-means : (s : List ℕ) → Bytes s → Accepted kind.ControlIWant s → Some IsIWant s
+unfolding roleOf
+iwant-means s b a =
+    let r = read kind.ControlIWant s b a in
+    record { value = _; means = is-iwant (r .body) }
+
+iwant-written : {s : List ℕ} {v : ControlIWant} → IsIWant s v → Accepted kind.ControlIWant s
+iwant-written (is-iwant {s = s} {es = es} g) = written kind.ControlIWant s es g (iwant-good es)
+
+pub iwant-accepted : (s : List ℕ) → Some IsIWant s → Accepted kind.ControlIWant s
+iwant-accepted s x = iwant-written (x .means)
+
+graft-good : (es : List Entry) → Each Utf8 (bytesIn 1 es) → Good kind.ControlGraft es
+unfolding roleOf
+graft-good es t1 m =
+    either (eqb m 1) (λ e1. let z = eqb-true m 1 e1 in rw z (map-each (λ d u. u) t1))
+    (λ e1. all-each (bytesIn m es) (λ d. simp (e1) tt))
+
+pub graft-means : (s : List ℕ) → Bytes s → Accepted kind.ControlGraft s → Some IsGraft s
+unfolding roleOf
+graft-means s b a =
+    let r = read kind.ControlGraft s b a in
+    record { value = _; means = is-graft (r .body) (texts kind.ControlGraft s r 1 (λ d u. u)) }
+
+graft-written : {s : List ℕ} {v : ControlGraft} → IsGraft s v → Accepted kind.ControlGraft s
+graft-written (is-graft {s = s} {es = es} g t1) = written kind.ControlGraft s es g (graft-good es t1)
+
+pub graft-accepted : (s : List ℕ) → Some IsGraft s → Accepted kind.ControlGraft s
+graft-accepted s x = graft-written (x .means)
+
+peer-info-good : (es : List Entry) → Good kind.PeerInfo es
+unfolding roleOf
+peer-info-good es m =
+    either (eqb m 1) (λ e1. all-each (bytesIn m es) (λ d. simp (e1) tt))
+    (λ e1.
+    either (eqb m 2) (λ e2. all-each (bytesIn m es) (λ d. simp (e1, e2) tt))
+    (λ e2. all-each (bytesIn m es) (λ d. simp (e1, e2) tt)))
+
+pub peer-info-means : (s : List ℕ) → Bytes s → Accepted kind.PeerInfo s → Some IsPeerInfo s
+unfolding roleOf
+peer-info-means s b a =
+    let r = read kind.PeerInfo s b a in
+    record { value = _; means = is-peer-info (r .body) }
+
+peer-info-written : {s : List ℕ} {v : PeerInfo} → IsPeerInfo s v → Accepted kind.PeerInfo s
+peer-info-written (is-peer-info {s = s} {es = es} g) = written kind.PeerInfo s es g (peer-info-good es)
+
+pub peer-info-accepted : (s : List ℕ) → Some IsPeerInfo s → Accepted kind.PeerInfo s
+peer-info-accepted s x = peer-info-written (x .means)
+
+prune-good : (es : List Entry) → Each Utf8 (bytesIn 1 es) → Each (Accepted kind.PeerInfo) (bytesIn 2 es) → Good kind.ControlPrune es
+unfolding roleOf
+prune-good es t1 p2 m =
+    either (eqb m 1) (λ e1. let z = eqb-true m 1 e1 in rw z (map-each (λ d u. u) t1))
+    (λ e1.
+    either (eqb m 2) (λ e2. let z = eqb-true m 2 e2 in rw z (map-each (λ d u. u) p2))
+    (λ e2. all-each (bytesIn m es) (λ d. simp (e1, e2) tt)))
+
+pub prune-means : (s : List ℕ) → Bytes s → Accepted kind.ControlPrune s → Some IsPrune s
+unfolding roleOf
+prune-means s b a =
+    let r = read kind.ControlPrune s b a in
+    let x0 = subs kind.ControlPrune kind.PeerInfo s r 2 {R = IsPeerInfo} (λ d u. u) peer-info-means in
+    record { value = _; means = is-prune (r .body) (texts kind.ControlPrune s r 1 (λ d u. u)) (x0 .1) }
+
+prune-written : {s : List ℕ} {v : ControlPrune} → IsPrune s v → Accepted kind.ControlPrune s
+prune-written (is-prune {s = s} {es = es} g t1 p2) = written kind.ControlPrune s es g (prune-good es t1 (accepted-subs kind.PeerInfo peer-info-accepted p2))
+
+pub prune-accepted : (s : List ℕ) → Some IsPrune s → Accepted kind.ControlPrune s
+prune-accepted s x = prune-written (x .means)
+
+control-good : (es : List Entry) → Each (Accepted kind.ControlIHave) (bytesIn 1 es) → Each (Accepted kind.ControlIWant) (bytesIn 2 es) → Each (Accepted kind.ControlGraft) (bytesIn 3 es) → Each (Accepted kind.ControlPrune) (bytesIn 4 es) → Good kind.ControlMessage es
+unfolding roleOf
+control-good es p1 p2 p3 p4 m =
+    either (eqb m 1) (λ e1. let z = eqb-true m 1 e1 in rw z (map-each (λ d u. u) p1))
+    (λ e1.
+    either (eqb m 2) (λ e2. let z = eqb-true m 2 e2 in rw z (map-each (λ d u. u) p2))
+    (λ e2.
+    either (eqb m 3) (λ e3. let z = eqb-true m 3 e3 in rw z (map-each (λ d u. u) p3))
+    (λ e3.
+    either (eqb m 4) (λ e4. let z = eqb-true m 4 e4 in rw z (map-each (λ d u. u) p4))
+    (λ e4. all-each (bytesIn m es) (λ d. simp (e1, e2, e3, e4) tt)))))
+
+pub control-means : (s : List ℕ) → Bytes s → Accepted kind.ControlMessage s → Some IsControl s
+unfolding roleOf
+control-means s b a =
+    let r = read kind.ControlMessage s b a in
+    let x0 = subs kind.ControlMessage kind.ControlIHave s r 1 {R = IsIHave} (λ d u. u) ihave-means in
+    let x1 = subs kind.ControlMessage kind.ControlIWant s r 2 {R = IsIWant} (λ d u. u) iwant-means in
+    let x2 = subs kind.ControlMessage kind.ControlGraft s r 3 {R = IsGraft} (λ d u. u) graft-means in
+    let x3 = subs kind.ControlMessage kind.ControlPrune s r 4 {R = IsPrune} (λ d u. u) prune-means in
+    record { value = _; means = is-control (r .body) (x0 .1) (x1 .1) (x2 .1) (x3 .1) }
+
+control-written : {s : List ℕ} {v : ControlMessage} → IsControl s v → Accepted kind.ControlMessage s
+control-written (is-control {s = s} {es = es} g p1 p2 p3 p4) = written kind.ControlMessage s es g (control-good es (accepted-subs kind.ControlIHave ihave-accepted p1) (accepted-subs kind.ControlIWant iwant-accepted p2) (accepted-subs kind.ControlGraft graft-accepted p3) (accepted-subs kind.ControlPrune prune-accepted p4))
+
+pub control-accepted : (s : List ℕ) → Some IsControl s → Accepted kind.ControlMessage s
+control-accepted s x = control-written (x .means)
+
+rpc-good : (es : List Entry) → Each (Accepted kind.SubOpts) (bytesIn 1 es) → Each (Accepted kind.RawMessage) (bytesIn 2 es) → Each (Accepted kind.ControlMessage) (bytesIn 3 es) → Good kind.Rpc es
+unfolding roleOf
+rpc-good es p1 p2 p3 m =
+    either (eqb m 1) (λ e1. let z = eqb-true m 1 e1 in rw z (map-each (λ d u. u) p1))
+    (λ e1.
+    either (eqb m 2) (λ e2. let z = eqb-true m 2 e2 in rw z (map-each (λ d u. u) p2))
+    (λ e2.
+    either (eqb m 3) (λ e3. let z = eqb-true m 3 e3 in rw z (map-each (λ d u. u) p3))
+    (λ e3. all-each (bytesIn m es) (λ d. simp (e1, e2, e3) tt))))
+
+pub rpc-means : (s : List ℕ) → Bytes s → Accepted kind.Rpc s → Some IsRpc s
+unfolding roleOf
+rpc-means s b a =
+    let r = read kind.Rpc s b a in
+    let x0 = subs kind.Rpc kind.SubOpts s r 1 {R = IsSubOpts} (λ d u. u) sub-opts-means in
+    let x1 = subs kind.Rpc kind.RawMessage s r 2 {R = IsMessage} (λ d u. u) message-means in
+    let x2 = subs kind.Rpc kind.ControlMessage s r 3 {R = IsControl} (λ d u. u) control-means in
+    record { value = _; means = is-rpc (r .body) (x0 .1) (x1 .1) (x2 .1) }
+
+rpc-written : {s : List ℕ} {v : Rpc} → IsRpc s v → Accepted kind.Rpc s
+rpc-written (is-rpc {s = s} {es = es} g p1 p2 p3) = written kind.Rpc s es g (rpc-good es (accepted-subs kind.SubOpts sub-opts-accepted p1) (accepted-subs kind.RawMessage message-accepted p2) (accepted-subs kind.ControlMessage control-accepted p3))
+
+pub rpc-accepted : (s : List ℕ) → Some IsRpc s → Accepted kind.Rpc s
+rpc-accepted s x = rpc-written (x .means)

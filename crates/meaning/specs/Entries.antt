@@ -1,0 +1,45 @@
+-- Of a walk that reaches the end: what each field gives to the values of a field number.
+use Prim.Native.Nat.{ℕ}
+use mathlib.Core.Path.{_≡_, refl, sym, ap, _∙_}
+use mathlib.Core.Bool.{Bool, true, false, cond, _&&_}
+use mathlib.Core.List.{List, [], _∷_}
+use lib.Dec.{eqb}
+use borrow.Author.Tests.{eqb-true}
+use Rattle.basis.specs.Cases.{either}
+use Rattle.protobuf.specs.declared.Field.{Field}
+use Rattle.protobuf.specs.Grammar.{Payload, number, eight, bytes, four}
+use Rattle.protobuf.specs.Walk.{between, payloadOf, entryOf}
+use Rattle.rpc.specs.Grammar.{putNumber, putBytes}
+
+-- a field gives its bytes where it is length-delimited, and of that number
+abbrev pub isBytes : ℕ → Field → Bool
+isBytes m f = eqb (f .«wire_type») 2 && eqb (f .field) m
+
+abbrev pub isNumber : ℕ → Field → Bool
+isNumber m f = eqb (f .«wire_type») 0 && eqb (f .field) m
+
+abbrev pub valueIn : List ℕ → Field → List ℕ
+valueIn s f = between s (f .start) (f .next)
+
+payload-bytes : (s : List ℕ) (m : ℕ) (f : Field) (ds : List (List ℕ)) → putBytes (eqb (f .field) m) (payloadOf s f) ds ≡ cond (isBytes m f) (valueIn s f ∷ ds) ds
+unfolding payloadOf
+payload-bytes s m f ds =
+    either (eqb (f .«wire_type») 2)
+    (λ t2. let z : eqb (f .«wire_type») 0 ≡ false = rw (eqb-true (f .«wire_type») 2 t2) in simp (z, t2))
+    (λ t2. either (eqb (f .«wire_type») 0) (λ t0. simp (t0, t2))
+    (λ t0. either (eqb (f .«wire_type») 5) (λ t5. simp (t0, t2, t5)) (λ t5. simp (t0, t2, t5))))
+
+payload-number : (s : List ℕ) (m : ℕ) (f : Field) (vs : List ℕ) → putNumber (eqb (f .field) m) (payloadOf s f) vs ≡ cond (isNumber m f) (f .value ∷ vs) vs
+unfolding payloadOf
+payload-number s m f vs =
+    either (eqb (f .«wire_type») 0) (λ t0. simp t0)
+    (λ t0. either (eqb (f .«wire_type») 2) (λ t2. simp (t0, t2))
+    (λ t2. either (eqb (f .«wire_type») 5) (λ t5. simp (t0, t2, t5)) (λ t5. simp (t0, t2, t5))))
+
+pub put-bytes : (s : List ℕ) (m : ℕ) (f : Field) (ds : List (List ℕ)) → putBytes (eqb (entryOf s f .field) m) (entryOf s f .payload) ds ≡ cond (isBytes m f) (valueIn s f ∷ ds) ds
+unfolding entryOf
+put-bytes s m f ds = payload-bytes s m f ds
+
+pub put-number : (s : List ℕ) (m : ℕ) (f : Field) (vs : List ℕ) → putNumber (eqb (entryOf s f .field) m) (entryOf s f .payload) vs ≡ cond (isNumber m f) (f .value ∷ vs) vs
+unfolding entryOf
+put-number s m f vs = payload-number s m f vs

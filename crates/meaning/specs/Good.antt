@@ -1,0 +1,158 @@
+-- A message of any kind is accepted exactly where its body is well formed and the bytes of each of its fields are good: text is UTF-8, and a
+-- submessage is accepted.
+use Prim.Native.Nat.{ℕ, _+_}
+use mathlib.Core.Path.{_≡_, refl, sym, ap, ap₂, subst, _∙_}
+use mathlib.Core.Bool.{Bool, true, false, cond, _&&_}
+use mathlib.Core.List.{List, [], _∷_}
+use lib.Dec.{eqb}
+use borrow.Author.Tests.{eqb-true, eq-eqb}
+use native.Mathlib.Omega.{arith}
+use Rattle.basis.specs.Cases.{either, clash}
+use Rattle.utf8.specs.Grammar.{Utf8}
+use Rattle.utf8.specs.Utf8.{isUtf8}
+use Rattle.utf8.specs.Laws.{exactly}
+use Rattle.protobuf.specs.declared.Field.{Field}
+use Rattle.protobuf.specs.declared.WireError.{WireError}
+use Rattle.protobuf.specs.Grammar.{Entry}
+use Rattle.protobuf.specs.Walk.{Fields, end, refused, _then_, walkAt, fieldsOf, whole, between, entriesOf}
+use Rattle.schema.specs.declared.Kind.{Kind}
+use Rattle.schema.specs.declared.Role.{Role}
+use Rattle.schema.specs.declared.Role.the-variants.{Skip, Number, Text, Bytes, Topic, MessageId, Sub}
+use Rattle.schema.specs.declared.Counted.{Counted}
+use Rattle.schema.specs.declared.Counted.the-variants.{Records, Refused}
+use Rattle.schema.specs.Schema.{lenRole, varintField, roleOf, ownOf}
+use Rattle.schema.specs.Count.{plus, andThen, textCount, roleCount, countAlong, counted}
+use Rattle.schema.specs.CountLaws.{plus-fits, then-fits, count-along}
+use Rattle.rpc.specs.Grammar.{putBytes, bytesIn, Each, none-left, _and_}
+use Rattle.meaning.specs.Entries.{isBytes, valueIn, put-bytes}
+
+-- a message of kind k with the bytes p is accepted
+pub record Accepted (k : Kind) (p : List ℕ) : Type 0 where
+  pub records : ℕ
+  pub counts : counted k p ≡ Records records
+
+-- the bytes of a length-delimited field are good for its role
+abbrev pub GoodRole : Role → List ℕ → Type 0
+GoodRole Skip d = Unit {0}
+GoodRole Number d = Unit {0}
+GoodRole (Text slot) d = Utf8 d
+GoodRole (Bytes slot) d = Unit {0}
+GoodRole Topic d = Utf8 d
+GoodRole MessageId d = Unit {0}
+GoodRole (Sub j) d = Accepted j d
+
+-- all bytes in the fields m are good
+abbrev pub Good : Kind → List Entry → Type 0
+Good k es = (m : ℕ) → Each (GoodRole (roleOf k m 2)) (bytesIn m es)
+
+-- ---- one field
+abbrev RoleAt : Kind → Field → Role
+RoleAt k f = roleOf k (f .field) (f .«wire_type»)
+
+text-good : (s : List ℕ) (f : Field) (n m : ℕ) → textCount s f n ≡ Records m → Utf8 (valueIn s f)
+unfolding textCount
+text-good s f n m h =
+    either (isUtf8 (valueIn s f)) (λ t. exactly (valueIn s f) .0 t) (λ t. clash (let e = simp t at h in cc))
+
+good-text : (s : List ℕ) (f : Field) (n : ℕ) → Utf8 (valueIn s f) → textCount s f n ≡ Records n
+unfolding textCount
+good-text s f n u = let t : isUtf8 (valueIn s f) ≡ true = exactly (valueIn s f) .1 u in simp t
+
+counts-good : (s : List ℕ) (f : Field) (r : Role) (m : ℕ) → roleCount counted s f r ≡ Records m → GoodRole r (valueIn s f)
+counts-good s f Skip m h = tt
+counts-good s f Number m h = tt
+counts-good s f (Text slot) m h = text-good s f 0 m h
+counts-good s f (Bytes slot) m h = tt
+counts-good s f Topic m h = text-good s f 1 m h
+counts-good s f MessageId m h = tt
+counts-good s f (Sub j) m h = let t = plus-fits (ownOf j) m (counted j (valueIn s f)) h in record { records = t .0; counts = t .1 }
+
+good-counts : (s : List ℕ) (f : Field) (r : Role) → GoodRole r (valueIn s f) → (m : ℕ) × (roleCount counted s f r ≡ Records m)
+good-counts s f Skip g = (0, refl)
+good-counts s f Number g = (0, refl)
+good-counts s f (Text slot) g = (0, good-text s f 0 g)
+good-counts s f (Bytes slot) g = (0, refl)
+good-counts s f Topic g = (1, good-text s f 1 g)
+good-counts s f MessageId g = (1, refl)
+good-counts s f (Sub j) g = (ownOf j + g .records, ap (plus (ownOf j)) (g .counts))
+
+-- a field that is not length-delimited is passed over or a number
+other-counts : (k : Kind) (s : List ℕ) (f : Field) → eqb (f .«wire_type») 2 ≡ false → (m : ℕ) × (roleCount counted s f (RoleAt k f) ≡ Records m)
+unfolding roleOf
+other-counts k s f t2 =
+    either (eqb (f .«wire_type») 0)
+    (λ t0. either (eqb (f .field) (varintField k)) (λ t. (0, simp (t2, t0, t))) (λ t. (0, simp (t2, t0, t))))
+    (λ t0. (0, simp (t2, t0)))
+
+-- ---- all fields of a walk that reaches the end
+pub each-put : (P : List ℕ → Type 0) (t : Bool) (d : List ℕ) (ds : List (List ℕ)) → (t ≡ true → P d) → Each P ds → Each P (cond t (d ∷ ds) ds)
+each-put P true d ds p ps = p refl and ps
+each-put P false d ds p ps = ps
+
+both : (a b : Bool) → a && b ≡ true → (a ≡ true) × (b ≡ true)
+both true true h = (refl, refl)
+both true false h = clash (cc)
+both false true h = clash (cc)
+both false false h = clash (cc)
+
+pub is-bytes : (m : ℕ) (f : Field) → isBytes m f ≡ true → (f .«wire_type» ≡ 2) × (f .field ≡ m)
+is-bytes m f h = let t = both (eqb (f .«wire_type») 2) (eqb (f .field) m) h in (eqb-true _ _ (t .0), eqb-true _ _ (t .1))
+
+along-good : (k : Kind) (s : List ℕ) (fs : List Field) (n : ℕ) → countAlong counted k s (whole fs) ≡ Records n → Good k (entriesOf s fs)
+along-good k s [] n h m = none-left
+along-good k s (f ∷ fs) n h m =
+    let t = then-fits (roleCount counted s f (RoleAt k f)) (countAlong counted k s (whole fs)) n h in
+    subst (Each (GoodRole (roleOf k m 2))) (sym (put-bytes s m f (bytesIn m (entriesOf s fs))))
+    (each-put (GoodRole (roleOf k m 2)) (isBytes m f) (valueIn s f) (bytesIn m (entriesOf s fs))
+    (λ b. let q = is-bytes m f b in
+    let r : RoleAt k f ≡ roleOf k m 2 = ap₂ (roleOf k) (q .1) (q .0) in
+    subst (λ (x : Role). GoodRole x (valueIn s f)) r (counts-good s f (RoleAt k f) (t .0) (t .2)))
+    (along-good k s fs (t .1) (t .3) m))
+
+each-head : (P : List ℕ → Type 0) (d : List ℕ) (ds : List (List ℕ)) → Each P (d ∷ ds) → P d × Each P ds
+each-head P d ds (p and ps) = (p, ps)
+
+good-rest : (k : Kind) (s : List ℕ) (f : Field) (fs : List Field) → Good k (entriesOf s (f ∷ fs)) → Good k (entriesOf s fs)
+good-rest k s f fs g m =
+    let h : Each (GoodRole (roleOf k m 2)) (cond (isBytes m f) (valueIn s f ∷ bytesIn m (entriesOf s fs)) (bytesIn m (entriesOf s fs))) =
+    subst (Each (GoodRole (roleOf k m 2))) (put-bytes s m f (bytesIn m (entriesOf s fs))) (g m) in
+    either (isBytes m f) (λ b. each-head (GoodRole (roleOf k m 2)) (valueIn s f) (bytesIn m (entriesOf s fs)) (simp b at h) .1) (λ b. simp b at h)
+
+good-first : (k : Kind) (s : List ℕ) (f : Field) (fs : List Field) → Good k (entriesOf s (f ∷ fs)) → eqb (f .«wire_type») 2 ≡ true → GoodRole (RoleAt k f) (valueIn s f)
+good-first k s f fs g t2 =
+    let m = f .field in
+    let b : isBytes m f ≡ true = simp (t2, eq-eqb m m refl) in
+    let h : Each (GoodRole (roleOf k m 2)) (cond (isBytes m f) (valueIn s f ∷ bytesIn m (entriesOf s fs)) (bytesIn m (entriesOf s fs))) =
+    subst (Each (GoodRole (roleOf k m 2))) (put-bytes s m f (bytesIn m (entriesOf s fs))) (g m) in
+    let r : roleOf k m 2 ≡ RoleAt k f = ap (roleOf k m) (sym (eqb-true (f .«wire_type») 2 t2)) in
+    subst (λ (x : Role). GoodRole x (valueIn s f)) r (each-head (GoodRole (roleOf k m 2)) (valueIn s f) (bytesIn m (entriesOf s fs)) (simp b at h) .0)
+
+field-counts : (k : Kind) (s : List ℕ) (f : Field) (fs : List Field) → Good k (entriesOf s (f ∷ fs)) → (m : ℕ) × (roleCount counted s f (RoleAt k f) ≡ Records m)
+field-counts k s f fs g =
+    either (eqb (f .«wire_type») 2) (λ t2. good-counts s f (RoleAt k f) (good-first k s f fs g t2)) (λ t2. other-counts k s f t2)
+
+good-along : (k : Kind) (s : List ℕ) (fs : List Field) → Good k (entriesOf s fs) → (n : ℕ) × (countAlong counted k s (whole fs) ≡ Records n)
+good-along k s [] g = (0, refl)
+good-along k s (f ∷ fs) g =
+    let a = field-counts k s f fs g in
+    let b = good-along k s fs (good-rest k s f fs g) in
+    (a .0 + b .0, ap₂ andThen (a .1) (b .1))
+
+-- ---- a message is accepted where its walk reaches the end, and its fields are good
+pub walked-good : (k : Kind) (s : List ℕ) (fs : List Field) → fieldsOf s ≡ whole fs → Accepted k s → Good k (entriesOf s fs)
+walked-good k s fs w a = along-good k s fs (a .records) (ap (countAlong counted k s) (sym w) ∙ sym (count-along k s) ∙ a .counts)
+
+pub good-walked : (k : Kind) (s : List ℕ) (fs : List Field) → fieldsOf s ≡ whole fs → Good k (entriesOf s fs) → Accepted k s
+good-walked k s fs w g = let a = good-along k s fs g in record { records = a .0; counts = count-along k s ∙ ap (countAlong counted k s) w ∙ a .1 }
+
+-- what is accepted has a walk that reaches the end
+ends : (k : Kind) (s : List ℕ) (w : Fields) (n : ℕ) → countAlong counted k s w ≡ Records n → (fs : List Field) × (w ≡ whole fs)
+ends k s end n h = ([], refl)
+ends k s (refused why) n h = clash (cc)
+ends k s (f then w) n h =
+    let t = then-fits (roleCount counted s f (RoleAt k f)) (countAlong counted k s w) n h in
+    let r = ends k s w (t .1) (t .3) in
+    (f ∷ r .0, ap (λ (x : Fields). f then x) (r .1))
+
+pub accepted-walks : (k : Kind) (s : List ℕ) → Accepted k s → (fs : List Field) × (fieldsOf s ≡ whole fs)
+accepted-walks k s a = ends k s (fieldsOf s) (a .records) (sym (count-along k s) ∙ a .counts)

@@ -1,0 +1,6 @@
+pub mod ReadBack
+pub mod Entries
+pub mod Good
+pub mod Accepted
+pub mod Last
+pub mod Back

@@ -1,0 +1,28 @@
+-- `schema::Slots::with_place` meets its contract: the slot picks the field.
+use borrow.Author.Tests.{eq-eqb, ne-eqb}
+use Rattle.schema.specs.Slots.{setPlace}
+use Rattle.schema.proofs.Slots.with_place.Statement.{statement}
+use Rattle.schema.proofs.Slots.with_place.Tie as tie
+
+returns : tie.Need-returns
+unfolding setPlace
+returns c = simp (eq-eqb _ _ (c .if1 .taken))
+
+returns-2 : tie.Need-returns-2
+unfolding setPlace
+returns-2 c = simp (ne-eqb _ _ (c .before .if1 .left), eq-eqb _ _ (c .if2 .taken))
+
+returns-3 : tie.Need-returns-3
+unfolding setPlace
+returns-3 c = simp (ne-eqb _ _ (c .before .before .if1 .left), ne-eqb _ _ (c .before .if2 .left), eq-eqb _ _ (c .if3 .taken))
+
+returns-4 : tie.Need-returns-4
+unfolding setPlace
+returns-4 c = simp (ne-eqb _ _ (c .before .before .before .if1 .left), ne-eqb _ _ (c .before .before .if2 .left), ne-eqb _ _ (c .before .if3 .left), eq-eqb _ _ (c .if4 .taken))
+
+returns-5 : tie.Need-returns-5
+unfolding setPlace
+returns-5 c = simp (ne-eqb _ _ (c .before .before .before .if1 .left), ne-eqb _ _ (c .before .before .if2 .left), ne-eqb _ _ (c .before .if3 .left), ne-eqb _ _ (c .if4 .left))
+
+pub with-place-spec : {M : Type 1} → statement M
+with-place-spec = tie.close (tie.spec returns returns-2 returns-3 returns-4 returns-5)

@@ -1,0 +1,64 @@
+-- One turn of the walk over a message's fields, as the loops of `count` and `slots_of` make it.
+use Prim.Native.Nat.{ℕ, _+_, _≤_}
+use mathlib.Core.Path.{_≡_, refl, sym, ap, _∙_}
+use mathlib.Core.List.{List}
+use native.Mathlib.Omega.{arith}
+use lib.ListN.{length}
+use Rattle.protobuf.specs.declared.Field.{Field}
+use Rattle.protobuf.specs.declared.WireError.{WireError}
+use Rattle.protobuf.specs.declared.Step.the-variants as step
+use Rattle.protobuf.specs.Field.{readField}
+use Rattle.protobuf.specs.Walk.{Fields, walkAt}
+use Rattle.protobuf.specs.WalkLaws.{walk-on, walk-end}
+use Rattle.schema.specs.declared.Kind.{Kind}
+use Rattle.schema.specs.declared.Slots.{Slots}
+use Rattle.schema.specs.declared.Counted.{Counted}
+use Rattle.schema.specs.declared.Counted.the-variants.{Records, Refused}
+use Rattle.schema.specs.Count.{plus, andThen, countAlong, counted, fieldCount}
+use Rattle.schema.specs.Slots.{slotsAlong, withField}
+
+-- ---- counting: n records before the place `at`
+pub plus-none : (r : Counted) → r ≡ plus 0 r
+plus-none (Records m) = ap Records (omega arith)
+plus-none (Refused why) = refl
+
+plus-plus : (n m : ℕ) (r : Counted) → plus n (plus m r) ≡ plus (n + m) r
+plus-plus n m (Records x) = ap Records (omega arith)
+plus-plus n m (Refused why) = refl
+
+module _ (k : Kind) (s : List ℕ) (at n : ℕ) where
+  abbrev going : Fields → Counted
+  going w = plus n (countAlong counted k s w)
+
+  pub count-done : length s ≤ at → going (walkAt s at) ≡ Records n
+  count-done h = ap going (walk-end s at h) ∙ ap Records (omega arith)
+
+  pub count-end : step.End ≡ readField s at → going (walkAt s at) ≡ Records n
+  count-end h = ap going (walk-on s at step.End h) ∙ ap Records (omega arith)
+
+  pub count-refused : (why : WireError) → step.Refused why ≡ readField s at → going (walkAt s at) ≡ Refused why
+  count-refused why h = ap going (walk-on s at (step.Refused why) h)
+
+  on-field : (f : Field) (c : Counted) → step.At f ≡ readField s at → fieldCount k s f ≡ c → going (walkAt s at) ≡ plus n (andThen c (countAlong counted k s (walkAt s (f .next))))
+  unfolding fieldCount
+  on-field f c h g = ap going (walk-on s at (step.At f) h) ∙ ap (λ (x : Counted). plus n (andThen x (countAlong counted k s (walkAt s (f .next))))) g
+
+  pub field-refused : (f : Field) (why : WireError) → step.At f ≡ readField s at → fieldCount k s f ≡ Refused why → going (walkAt s at) ≡ Refused why
+  field-refused f why h g = on-field f (Refused why) h g
+
+  pub count-turn : (f : Field) (m : ℕ) → step.At f ≡ readField s at → fieldCount k s f ≡ Records m → going (walkAt s at) ≡ plus (n + m) (countAlong counted k s (walkAt s (f .next)))
+  count-turn f m h g = on-field f (Records m) h g ∙ plus-plus n m (countAlong counted k s (walkAt s (f .next)))
+
+-- ---- the slots: t before the place `at`
+module _ (k : Kind) (s : List ℕ) (at : ℕ) (t : Slots) where
+  pub slots-done : length s ≤ at → slotsAlong k t (walkAt s at) ≡ t
+  slots-done h = ap (slotsAlong k t) (walk-end s at h)
+
+  pub slots-end : step.End ≡ readField s at → slotsAlong k t (walkAt s at) ≡ t
+  slots-end h = ap (slotsAlong k t) (walk-on s at step.End h)
+
+  pub slots-refused : (why : WireError) → step.Refused why ≡ readField s at → slotsAlong k t (walkAt s at) ≡ t
+  slots-refused why h = ap (slotsAlong k t) (walk-on s at (step.Refused why) h)
+
+  pub slots-turn : (f : Field) (u : Slots) → step.At f ≡ readField s at → u ≡ withField k t f → slotsAlong k t (walkAt s at) ≡ slotsAlong k u (walkAt s (f .next))
+  slots-turn f u h d = ap (slotsAlong k t) (walk-on s at (step.At f) h) ∙ ap (λ (x : Slots). slotsAlong k x (walkAt s (f .next))) (sym d)

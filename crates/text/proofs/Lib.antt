@@ -1,0 +1,5 @@
+pub mod Little
+pub mod Copy
+pub mod Digits
+pub mod Numbers
+pub mod Hex

@@ -1,0 +1,4 @@
+pub mod Record
+pub mod Line
+pub mod Laws
+pub mod Rows

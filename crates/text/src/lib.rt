@@ -1,0 +1,150 @@
+// Records in and lines out, for the programs that run the libraries on bytes: the header of a record, little-endian numbers, and words, decimal
+// numbers and hex put into a line. A writer takes the line, a place in it and what to put there, and hands back the place after that; its
+// caller sees to the room.
+ghost use mathlib.Core.Path.{_≡_};
+ghost use Prim.Native.Nat.{_+_, _*_, _≤_};
+ghost use mathlib.Core.List.{_∷_, []};
+ghost use lib.ListN.{length, take, drop};
+ghost use Rattle.io.specs.Digits.{glyph as glyphOf};
+ghost use Rattle.text.specs.Record.{little, headerOf};
+ghost use Rattle.text.specs.Line.{Puts, decimal, number, numbers, refused, hex};
+
+// What the start of a record says.
+pub enum Header {
+    End,
+    Bad,
+    Long,
+    Record { kind: u64, len: usize },
+}
+
+// The number in n bytes at `at`, the low byte first.
+pub fn number_at(s: &[u8], at: usize, n: usize) -> u64
+    requires { ⌜ n ≤ 8 ⌝ }
+    requires { ⌜ at + n ≤ length (now s) ⌝ }
+    ensures { λ r. ⌜ r ≡ little (take n (drop at (now (s .entry)))) ⌝ }
+{
+    let mut i = at + n;
+    let mut value: u64 = 0;
+    while at < i {
+        i = i - 1;
+        value = value * 256 + s[i] as u64;
+    }
+    value
+}
+
+// The header of a record, of which s was read: at the end of the input nothing, of a cut one less than six bytes. The length is tested as
+// soon as it is there.
+pub fn read_header(s: &[u8], most: u64) -> Header
+    ensures { λ r. ⌜ r ≡ headerOf most (now (s .entry)) ⌝ }
+{
+    if s.len() == 0 {
+        return Header::End;
+    }
+    if s.len() < 4 {
+        return Header::Bad;
+    }
+    let len = number_at(s, 0, 4);
+    if most < len {
+        return Header::Long;
+    }
+    if s.len() < 6 {
+        return Header::Bad;
+    }
+    let kind = number_at(s, 4, 2);
+    Header::Record {
+        kind,
+        len: len as usize,
+    }
+}
+
+pub fn put_text(out: &mut [u8], at: usize, text: &[u8]) -> usize
+    requires { ⌜ at + length (now text) ≤ length (now out) ⌝ }
+    ensures { λ r. ⌜ Puts (length (now (text .entry))) (now (text .entry)) (now (out .entry)) at (now (out .exit)) r ⌝ }
+{
+    let mut j = 0;
+    while j < text.len() {
+        out[at + j] = text[j];
+        j = j + 1;
+    }
+    at + text.len()
+}
+
+pub fn put_decimal(out: &mut [u8], at: usize, n: u64) -> usize
+    requires { ⌜ at + 20 ≤ length (now out) ⌝ }
+    ensures { λ r. ⌜ Puts 20 (decimal n) (now (out .entry)) at (now (out .exit)) r ⌝ }
+{
+    let mut text = [0u8; 20];
+    let k = io::decimal(n, &mut text);
+    put_text(out, at, &text[..k])
+}
+
+// A blank and a number.
+pub fn put_number(out: &mut [u8], at: usize, n: u64) -> usize
+    requires { ⌜ at + 21 ≤ length (now out) ⌝ }
+    ensures { λ r. ⌜ Puts 21 (number n) (now (out .entry)) at (now (out .exit)) r ⌝ }
+{
+    out[at] = b' ';
+    put_decimal(out, at + 1, n)
+}
+
+// The first `count` of three numbers.
+fn put_numbers(out: &mut [u8], at: usize, count: u64, first: u64, second: u64, third: u64) -> usize
+    requires { ⌜ at + 63 ≤ length (now out) ⌝ }
+    ensures { λ r. ⌜ Puts 63 (numbers (take count (first ∷ second ∷ third ∷ []))) (now (out .entry)) at (now (out .exit)) r ⌝ }
+{
+    if count == 0 {
+        return at;
+    }
+    let i = put_number(out, at, first);
+    if count == 1 {
+        return i;
+    }
+    let j = put_number(out, i, second);
+    if count == 2 {
+        return j;
+    }
+    put_number(out, j, third)
+}
+
+// A refusal: its number and the first `count` of three values.
+pub fn put_refused(
+    out: &mut [u8],
+    at: usize,
+    refusal: u64,
+    count: u64,
+    first: u64,
+    second: u64,
+    third: u64,
+) -> usize
+    requires { ⌜ at + 92 ≤ length (now out) ⌝ }
+    ensures { λ r. ⌜ Puts 92 (refused refusal (take count (first ∷ second ∷ third ∷ []))) (now (out .entry)) at (now (out .exit)) r ⌝ }
+{
+    let i = put_text(out, at, b" refused");
+    let j = put_number(out, i, refusal);
+    put_numbers(out, j, count, first, second, third)
+}
+
+// A digit of a byte.
+fn glyph(d: u8) -> u8
+    requires { ⌜ d ≤ 15 ⌝ }
+    ensures { λ r. ⌜ r ≡ glyphOf d ⌝ }
+{
+    if d < 10 { 48 + d } else { 87 + d }
+}
+
+// Two lower-case digits for each byte.
+pub fn put_hex(out: &mut [u8], at: usize, s: &[u8]) -> usize
+    requires { ⌜ at + 2 * length (now s) ≤ length (now out) ⌝ }
+    ensures { λ r. ⌜ Puts (2 * length (now (s .entry))) (hex (now (s .entry))) (now (out .entry)) at (now (out .exit)) r ⌝ }
+{
+    let mut i = at;
+    let mut j = 0;
+    while j < s.len() {
+        let b = s[j];
+        out[i] = glyph(b / 16);
+        out[i + 1] = glyph(b % 16);
+        i = i + 2;
+        j = j + 1;
+    }
+    i
+}
