@@ -22,11 +22,13 @@ slots-put t₀ t₁ t₂ t₃ t₄ t₅ i a b c d e s p q r v w =
     let y = placeWords (s .second) in
     let z = placeWords (s .third) in
     let m = placeWords (s .fourth) in
-    let n = placeWords (s .fifth) in
-    (omega arith, put-append t₀ t₁ t₅ i a e x (y ++ (z ++ (m ++ n))) (sized t₀ t₁ i a 3 x (place-length (s .first)) p)
-    (put-append t₁ t₂ t₅ a b e y (z ++ (m ++ n)) (sized t₁ t₂ a b 3 y (place-length (s .second)) q)
-    (put-append t₂ t₃ t₅ b c e z (m ++ n) (sized t₂ t₃ b c 3 z (place-length (s .third)) r)
-    (put-append t₃ t₄ t₅ c d e m n (sized t₃ t₄ c d 3 m (place-length (s .fourth)) v) (sized t₄ t₅ d e 3 n (place-length (s .fifth)) w)))) .1)
+    let n = placeWords (s .fifth) in (
+      omega arith,
+      put-append t₀ t₁ t₅ i a e x (y ++ (z ++ (m ++ n))) (sized t₀ t₁ i a 3 x (place-length (s .first)) p)
+          (put-append t₁ t₂ t₅ a b e y (z ++ (m ++ n)) (sized t₁ t₂ a b 3 y (place-length (s .second)) q)
+          (put-append t₂ t₃ t₅ b c e z (m ++ n) (sized t₂ t₃ b c 3 z (place-length (s .third)) r)
+          (put-append t₃ t₄ t₅ c d e m n (sized t₃ t₄ c d 3 m (place-length (s .fourth)) v) (sized t₄ t₅ d e 3 n (place-length (s .fifth)) w)))) .1,
+    )
 
 pub record-put : (t₀ t₁ t₂ t₃ : List ℕ) (i a b k : ℕ) (r : Record) → k ≡ kindCode (r .kind) → (a ≡ i + 3) × (t₁ ≡ sets t₀ i (k ∷ r .start ∷ r .end ∷ [])) → (b ≡ a + 2) × (t₂ ≡ sets t₁ a (numberWords (r .slots .number))) → t₃ ≡ sets t₂ b (placesWords (r .slots)) → t₃ ≡ sets t₀ i (wordsOf r)
 unfolding wordsOf
