@@ -261,7 +261,10 @@ write-field-returns : (t : ℕ) → write-field-lts.Need-returns (
   write-message-below t,
   write-message.Post,
 ) (write-field-at t) write-field.Post
-write-field-returns t c = let a = c .before .before .before .before .before .args in puts-field (a .kind) (a .base) (a .input .now) (a .f) _ (sym (c .before .before .role-of .ensures) ∙ c .enum-told .given .1) (a .table .now) _ (a .row) _ (puts-none (a .table .now) (a .row))
+write-field-returns t c =
+    let a = c .before .before .before .before .before .args in
+    let e = sym (c .before .before .role-of .ensures) ∙ c .enum-told .given .1 in
+    puts-field (a .kind) (a .base) (a .input .now) (a .f) _ e (a .table .now) _ (a .row) _ (puts-none (a .table .now) (a .row))
 
 write-field-returns-2 : (t : ℕ) → write-field-lts.Need-returns-2 (
   role-of-reads.Asked,
@@ -271,7 +274,10 @@ write-field-returns-2 : (t : ℕ) → write-field-lts.Need-returns-2 (
   write-message-below t,
   write-message.Post,
 ) (write-field-at t) write-field.Post
-write-field-returns-2 t c = let a = c .before .before .before .before .before .args in puts-field (a .kind) (a .base) (a .input .now) (a .f) _ (sym (c .before .before .role-of .ensures) ∙ c .enum-told2 .given .1) (a .table .now) _ (a .row) _ (puts-none (a .table .now) (a .row))
+write-field-returns-2 t c =
+    let a = c .before .before .before .before .before .args in
+    let e = sym (c .before .before .role-of .ensures) ∙ c .enum-told2 .given .1 in
+    puts-field (a .kind) (a .base) (a .input .now) (a .f) _ e (a .table .now) _ (a .row) _ (puts-none (a .table .now) (a .row))
 
 write-field-returns-3 : (t : ℕ) → write-field-lts.Need-returns-3 (
   role-of-reads.Asked,
@@ -281,7 +287,10 @@ write-field-returns-3 : (t : ℕ) → write-field-lts.Need-returns-3 (
   write-message-below t,
   write-message.Post,
 ) (write-field-at t) write-field.Post
-write-field-returns-3 t c = let a = c .before .before .before .before .before .args in puts-field (a .kind) (a .base) (a .input .now) (a .f) _ (sym (c .before .before .role-of .ensures) ∙ c .enum-told3 .given .1) (a .table .now) _ (a .row) _ (puts-none (a .table .now) (a .row))
+write-field-returns-3 t c =
+    let a = c .before .before .before .before .before .args in
+    let e = sym (c .before .before .role-of .ensures) ∙ c .enum-told3 .given .1 in
+    puts-field (a .kind) (a .base) (a .input .now) (a .f) _ e (a .table .now) _ (a .row) _ (puts-none (a .table .now) (a .row))
 
 write-field-returns-4 : (t : ℕ) → write-field-lts.Need-returns-4 (
   role-of-reads.Asked,
@@ -291,7 +300,10 @@ write-field-returns-4 : (t : ℕ) → write-field-lts.Need-returns-4 (
   write-message-below t,
   write-message.Post,
 ) (write-field-at t) write-field.Post
-write-field-returns-4 t c = let a = c .before .before .before .before .before .args in puts-field (a .kind) (a .base) (a .input .now) (a .f) _ (sym (c .before .before .role-of .ensures) ∙ c .enum-told4 .given .1) (a .table .now) _ (a .row) _ (puts-none (a .table .now) (a .row))
+write-field-returns-4 t c =
+    let a = c .before .before .before .before .before .args in
+    let e = sym (c .before .before .role-of .ensures) ∙ c .enum-told4 .given .1 in
+    puts-field (a .kind) (a .base) (a .input .now) (a .f) _ e (a .table .now) _ (a .row) _ (puts-none (a .table .now) (a .row))
 
 write-field-same-length : (t : ℕ) → write-field-lts.Need-same-length (
   role-of-reads.Asked,
@@ -311,7 +323,10 @@ write-field-returns-5 : (t : ℕ) → write-field-lts.Need-returns-5 (
   write-message-below t,
   write-message.Post,
 ) (write-field-at t) write-field.Post
-write-field-returns-5 t c = let a = c .before .before .before .before .before .before .before .before .before .args in puts-field (a .kind) (a .base) (a .input .now) (a .f) _ (sym (c .before .before .before .before .before .before .role-of .ensures) ∙ c .before .before .before .before .enum-told5 .given .1) (a .table .now) _ (a .row) _ (puts-one (a .table .now) _ (a .row) _ _ (c .before .before .write-leaf .ensures))
+write-field-returns-5 t c =
+    let a = c .before .before .before .before .before .before .before .before .before .args in
+    let e = sym (c .before .before .before .before .before .before .role-of .ensures) ∙ c .before .before .before .before .enum-told5 .given .1 in
+    puts-field (a .kind) (a .base) (a .input .now) (a .f) _ e (a .table .now) _ (a .row) _ (puts-one (a .table .now) _ (a .row) _ _ (c .before .before .write-leaf .ensures))
 
 write-field-same-length-2 : (t : ℕ) → write-field-lts.Need-same-length-2 (
   role-of-reads.Asked,
@@ -331,7 +346,10 @@ write-field-returns-6 : (t : ℕ) → write-field-lts.Need-returns-6 (
   write-message-below t,
   write-message.Post,
 ) (write-field-at t) write-field.Post
-write-field-returns-6 t c = let a = c .before .before .before .before .before .before .before .before .before .args in puts-field (a .kind) (a .base) (a .input .now) (a .f) _ (sym (c .before .before .before .before .before .before .role-of .ensures) ∙ c .before .before .before .before .enum-told6 .given .1) (a .table .now) _ (a .row) _ (puts-one (a .table .now) _ (a .row) _ _ (c .before .before .write-leaf2 .ensures))
+write-field-returns-6 t c =
+    let a = c .before .before .before .before .before .before .before .before .before .args in
+    let e = sym (c .before .before .before .before .before .before .role-of .ensures) ∙ c .before .before .before .before .enum-told6 .given .1 in
+    puts-field (a .kind) (a .base) (a .input .now) (a .f) _ e (a .table .now) _ (a .row) _ (puts-one (a .table .now) _ (a .row) _ _ (c .before .before .write-leaf2 .ensures))
 
 write-field-same-length-3 : (t : ℕ) → write-field-lts.Need-same-length-3 (
   role-of-reads.Asked,
@@ -351,7 +369,10 @@ write-field-returns-7 : (t : ℕ) → write-field-lts.Need-returns-7 (
   write-message-below t,
   write-message.Post,
 ) (write-field-at t) write-field.Post
-write-field-returns-7 t c = let a = c .before .before .before .before .before .before .before .before .before .before .before .args in puts-field (a .kind) (a .base) (a .input .now) (a .f) _ (sym (c .before .before .before .before .before .before .before .before .role-of .ensures) ∙ c .before .before .before .before .before .before .role .given .1) (a .table .now) _ (a .row) _ (c .before .before .write-message .ensures)
+write-field-returns-7 t c =
+    let a = c .before .before .before .before .before .before .before .before .before .before .before .args in
+    let e = sym (c .before .before .before .before .before .before .before .before .role-of .ensures) ∙ c .before .before .before .before .before .before .role .given .1 in
+    puts-field (a .kind) (a .base) (a .input .now) (a .f) _ e (a .table .now) _ (a .row) _ (c .before .before .write-message .ensures)
 
 abbrev write-message-Inv-loop : write-message-lts.InvT-loop
 write-message-Inv-loop input kind base table₀ row at₀ next-row₀ table at next-row = ((next-row₀ + length (alongAt kind base input 0)) * 20 ≤ length table₀) × Left table₀ next-row₀ (alongAt kind base input 0) table next-row (alongAt kind base input at)
@@ -485,7 +506,8 @@ write-message-write-field-requires t c κs =
     let f = c .before .before .step .given .0 .0 in
     let r = fieldRows (a .kind) (a .base) (a .input .now) f in
     let o = alongAt (a .kind) (a .base) (a .input .now) (f .next) in
-    (omega (arith, c .before .before .before .before .before .before .before .before .before .before .before .before .before .pre .0), (c .before .before .before .before .before .before .before .before .before .before .before .before .before .pre .1 .0, record { order = m .ends; fits = m .within }, left-room _ _ _ _ _ _ (l .inv .1) r o (along-field (a .kind) (a .base) (a .input .now) (l .at) f e) (l .inv .0)))
+    let d = along-field (a .kind) (a .base) (a .input .now) (l .at) f e in
+    (omega (arith, c .before .before .before .before .before .before .before .before .before .before .before .before .before .pre .0), (c .before .before .before .before .before .before .before .before .before .before .before .before .before .pre .1 .0, record { order = m .ends; fits = m .within }, left-room _ _ _ _ _ _ (l .inv .1) r o d (l .inv .0)))
 
 write-message-loop-less : (t : ℕ) → write-message-lts.Need-loop-less (
   write-own-reads.Asked,

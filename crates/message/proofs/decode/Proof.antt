@@ -53,7 +53,9 @@ unfolding ownOf
 room s t n e h = let l = rows-length kind.Rpc 0 s n (sym e) in omega arith
 
 returns : tie.Need-returns
-returns c = let a = c .before .before .before .args in decided (a .body .now) (a .table .now) _ (large (a .body .now) _ (c .if1 .taken))
+returns c =
+    let a = c .before .before .before .args in
+    decided (a .body .now) (a .table .now) _ (large (a .body .now) _ (c .if1 .taken))
 
 count-requires : tie.Need-count-requires
 count-requires c κs = search needs
@@ -65,19 +67,31 @@ enum-known-c-2 : tie.Need-enum-known-c-2
 enum-known-c-2 c = search needs
 
 returns-2 : tie.Need-returns-2
-returns-2 c = let a = c .before .before .before .before .before .before .before .before .args in decided (a .body .now) (a .table .now) _ (many (a .body .now) _ (c .before .before .before .before .before .if1 .left) _ (sym (c .before .before .c2 .given .1) ∙ c .before .before .before .before .count .ensures) (c .if2 .taken))
+returns-2 c =
+    let a = c .before .before .before .before .before .before .before .before .args in
+    let e = sym (c .before .before .c2 .given .1) ∙ c .before .before .before .before .count .ensures in
+    decided (a .body .now) (a .table .now) _ (many (a .body .now) _ (c .before .before .before .before .before .if1 .left) _ e (c .if2 .taken))
 
 returns-3 : tie.Need-returns-3
-returns-3 c = let a = c .before .before .before .before .before .before .before .before .before .args in decided (a .body .now) (a .table .now) _ (short (a .body .now) _ (c .before .before .before .before .before .before .if1 .left) _ (sym (c .before .before .before .c2 .given .1) ∙ c .before .before .before .before .before .count .ensures) (c .before .if2 .left) (c .if3 .taken))
+returns-3 c =
+    let a = c .before .before .before .before .before .before .before .before .before .args in
+    let e = sym (c .before .before .before .c2 .given .1) ∙ c .before .before .before .before .before .count .ensures in
+    decided (a .body .now) (a .table .now) _ (short (a .body .now) _ (c .before .before .before .before .before .before .if1 .left) _ e (c .before .if2 .left) (c .if3 .taken))
 
 has-control-requires : tie.Need-has-control-requires
 has-control-requires c κs = search needs
 
 write-message-requires : tie.Need-write-message-requires
-write-message-requires c κs = let a = c .before .before .before .before .before .before .before .before .before .before .before .args in (omega arith, room (a .body .now) (a .table .now) _ (sym (c .before .before .before .before .before .c2 .given .1) ∙ c .before .before .before .before .before .before .before .count .ensures) (c .before .before .if3 .left))
+write-message-requires c κs =
+    let a = c .before .before .before .before .before .before .before .before .before .before .before .args in
+    let e = sym (c .before .before .before .before .before .c2 .given .1) ∙ c .before .before .before .before .before .before .before .count .ensures in
+    (omega arith, room (a .body .now) (a .table .now) _ e (c .before .before .if3 .left))
 
 returns-4 : tie.Need-returns-4
-returns-4 c = let a = c .before .before .before .before .before .before .before .args in decided (a .body .now) (a .table .now) _ (small (a .body .now) _ (c .before .before .before .before .if1 .left) _ (sym (c .before .c .given .1) ∙ c .before .before .before .count .ensures))
+returns-4 c =
+    let a = c .before .before .before .before .before .before .before .args in
+    let e = sym (c .before .c .given .1) ∙ c .before .before .before .count .ensures in
+    decided (a .body .now) (a .table .now) _ (small (a .body .now) _ (c .before .before .before .before .if1 .left) _ e)
 
 same-length : tie.Need-same-length
 same-length c = search needs
@@ -85,7 +99,9 @@ same-length c = search needs
 returns-5 : tie.Need-returns-5
 returns-5 c =
     let a = c .before .before .before .before .before .before .before .before .before .before .before .before .before .before .args in
-    let d = decided (a .body .now) (a .table .now) _ (fits (a .body .now) _ (c .before .before .before .before .before .before .before .before .before .before .before .if1 .left) _ (sym (c .before .before .before .before .before .before .before .before .c2 .given .1) ∙ c .before .before .before .before .before .before .before .before .before .before .count .ensures) (c .before .before .before .before .before .before .if2 .left) _ (c .before .before .before .before .has-control .ensures) (c .before .before .before .before .before .if3 .left)) in
+    let e = sym (c .before .before .before .before .before .before .before .before .c2 .given .1) ∙ c .before .before .before .before .before .before .before .before .before .before .count .ensures in
+    let f = fits (a .body .now) _ (c .before .before .before .before .before .before .before .before .before .before .before .if1 .left) _ e (c .before .before .before .before .before .before .if2 .left) _ (c .before .before .before .before .has-control .ensures) (c .before .before .before .before .before .if3 .left) in
+    let d = decided (a .body .now) (a .table .now) _ f in
     (d .0, c .before .before .write-message .ensures .1 ∙ d .1)
 
 pub decode-spec : {M : Type 1} → statement M

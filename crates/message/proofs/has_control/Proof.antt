@@ -53,31 +53,55 @@ enum-told : tie.Need-enum-told Inv-loop μ-loop
 enum-told c = search needs
 
 returns : tie.Need-returns Inv-loop μ-loop
-returns c = let a = c .before .before .before .before .before .before .args in ends (a .body .now) (c .before .before .before .before .loop .at) _ (c .before .before .before .before .loop .inv) (sym (c .enum-told .given .1) ∙ c .before .before .read-field .ensures)
+returns c =
+    let a = c .before .before .before .before .before .before .args in
+    let l = c .before .before .before .before .loop in
+    ends (a .body .now) (l .at) _ (l .inv) (sym (c .enum-told .given .1) ∙ c .before .before .read-field .ensures)
 
 enum-told-2 : tie.Need-enum-told-2 Inv-loop μ-loop
 enum-told-2 c = search needs
 
 returns-2 : tie.Need-returns-2 Inv-loop μ-loop
-returns-2 c = let a = c .before .before .before .before .before .before .args in refuses (a .body .now) (c .before .before .before .before .loop .at) _ (c .before .before .before .before .loop .inv) _ (sym (c .enum-told2 .given .1) ∙ c .before .before .read-field .ensures)
+returns-2 c =
+    let a = c .before .before .before .before .before .before .args in
+    let l = c .before .before .before .before .loop in
+    refuses (a .body .now) (l .at) _ (l .inv) _ (sym (c .enum-told2 .given .1) ∙ c .before .before .read-field .ensures)
 
 enum-known-step : tie.Need-enum-known-step Inv-loop μ-loop
 enum-known-step c = search needs
 
 returns-3 : tie.Need-returns-3 Inv-loop μ-loop
-returns-3 c = let a = c .before .before .before .before .before .before .before .before .before .before .before .args in found (a .body .now) (c .before .before .before .before .before .before .before .before .before .loop .at) _ (c .before .before .before .before .before .before .before .before .before .loop .inv) _ (sym (c .before .before .before .before .before .step .given .1) ∙ c .before .before .before .before .before .before .before .read-field .ensures) (eq-eqb _ _ (c .before .before .if1 .taken)) (eq-eqb _ _ (c .if2 .taken))
+returns-3 c =
+    let a = c .before .before .before .before .before .before .before .before .before .before .before .args in
+    let l = c .before .before .before .before .before .before .before .before .before .loop in
+    let e = sym (c .before .before .before .before .before .step .given .1) ∙ c .before .before .before .before .before .before .before .read-field .ensures in
+    found (a .body .now) (l .at) _ (l .inv) _ e (eq-eqb _ _ (c .before .before .if1 .taken)) (eq-eqb _ _ (c .if2 .taken))
 
 loop-less : tie.Need-loop-less Inv-loop μ-loop
-loop-less c = let a = c .before .before .before .before .before .before .before .before .before .before .before .args in omega (arith, field-stands (a .body .now) (c .before .before .before .before .before .before .before .before .before .loop .at) _ (sym (c .before .before .before .before .before .step .given .1) ∙ c .before .before .before .before .before .before .before .read-field .ensures))
+loop-less c =
+    let a = c .before .before .before .before .before .before .before .before .before .before .before .args in
+    let e = sym (c .before .before .before .before .before .step .given .1) ∙ c .before .before .before .before .before .before .before .read-field .ensures in
+    omega (arith, field-stands (a .body .now) (c .before .before .before .before .before .before .before .before .before .loop .at) _ e)
 
 loop-again : tie.Need-loop-again Inv-loop μ-loop
-loop-again c = let a = c .before .before .before .before .before .before .before .before .before .before .before .args in other-type (a .body .now) (c .before .before .before .before .before .before .before .before .before .loop .at) _ (c .before .before .before .before .before .before .before .before .before .loop .inv) _ (sym (c .before .before .before .before .before .step .given .1) ∙ c .before .before .before .before .before .before .before .read-field .ensures) (eq-eqb _ _ (c .before .before .if1 .taken)) (ne-eqb _ _ (c .if2 .left))
+loop-again c =
+    let a = c .before .before .before .before .before .before .before .before .before .before .before .args in
+    let l = c .before .before .before .before .before .before .before .before .before .loop in
+    let e = sym (c .before .before .before .before .before .step .given .1) ∙ c .before .before .before .before .before .before .before .read-field .ensures in
+    other-type (a .body .now) (l .at) _ (l .inv) _ e (eq-eqb _ _ (c .before .before .if1 .taken)) (ne-eqb _ _ (c .if2 .left))
 
 loop-less-2 : tie.Need-loop-less-2 Inv-loop μ-loop
-loop-less-2 c = let a = c .before .before .before .before .before .before .before .before .before .args in omega (arith, field-stands (a .body .now) (c .before .before .before .before .before .before .before .loop .at) _ (sym (c .before .before .before .step .given .1) ∙ c .before .before .before .before .before .read-field .ensures))
+loop-less-2 c =
+    let a = c .before .before .before .before .before .before .before .before .before .args in
+    let e = sym (c .before .before .before .step .given .1) ∙ c .before .before .before .before .before .read-field .ensures in
+    omega (arith, field-stands (a .body .now) (c .before .before .before .before .before .before .before .loop .at) _ e)
 
 loop-again-2 : tie.Need-loop-again-2 Inv-loop μ-loop
-loop-again-2 c = let a = c .before .before .before .before .before .before .before .before .before .args in other-field (a .body .now) (c .before .before .before .before .before .before .before .loop .at) _ (c .before .before .before .before .before .before .before .loop .inv) _ (sym (c .before .before .before .step .given .1) ∙ c .before .before .before .before .before .read-field .ensures) (ne-eqb _ _ (c .if1 .left))
+loop-again-2 c =
+    let a = c .before .before .before .before .before .before .before .before .before .args in
+    let l = c .before .before .before .before .before .before .before .loop in
+    let e = sym (c .before .before .before .step .given .1) ∙ c .before .before .before .before .before .read-field .ensures in
+    other-field (a .body .now) (l .at) _ (l .inv) _ e (ne-eqb _ _ (c .if1 .left))
 
 returns-4 : tie.Need-returns-4 Inv-loop μ-loop
 returns-4 c = let a = c .before .before .before .args in sym (ap controlAlong (walk-end (a .body .now) (c .before .loop .at) (c .loop-test .left))) ∙ c .before .loop .inv

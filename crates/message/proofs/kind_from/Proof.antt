@@ -26,27 +26,83 @@ returns-5 c = simp (ne-eqb _ _ (c .before .before .before .before .if1 .left), n
 
 returns-6 : tie.Need-returns-6
 unfolding kindFrom
-returns-6 c = simp (ne-eqb _ _ (c .before .before .before .before .before .if1 .left), ne-eqb _ _ (c .before .before .before .before .if2 .left), ne-eqb _ _ (c .before .before .before .if3 .left), ne-eqb _ _ (c .before .before .if4 .left), ne-eqb _ _ (c .before .if5 .left), eq-eqb _ _ (c .if6 .taken))
+returns-6 c = simp (
+  ne-eqb _ _ (c .before .before .before .before .before .if1 .left),
+  ne-eqb _ _ (c .before .before .before .before .if2 .left),
+  ne-eqb _ _ (c .before .before .before .if3 .left),
+  ne-eqb _ _ (c .before .before .if4 .left),
+  ne-eqb _ _ (c .before .if5 .left),
+  eq-eqb _ _ (c .if6 .taken),
+)
 
 returns-7 : tie.Need-returns-7
 unfolding kindFrom
-returns-7 c = simp (ne-eqb _ _ (c .before .before .before .before .before .before .if1 .left), ne-eqb _ _ (c .before .before .before .before .before .if2 .left), ne-eqb _ _ (c .before .before .before .before .if3 .left), ne-eqb _ _ (c .before .before .before .if4 .left), ne-eqb _ _ (c .before .before .if5 .left), ne-eqb _ _ (c .before .if6 .left), eq-eqb _ _ (c .if7 .taken))
+returns-7 c = simp (
+  ne-eqb _ _ (c .before .before .before .before .before .before .if1 .left),
+  ne-eqb _ _ (c .before .before .before .before .before .if2 .left),
+  ne-eqb _ _ (c .before .before .before .before .if3 .left),
+  ne-eqb _ _ (c .before .before .before .if4 .left),
+  ne-eqb _ _ (c .before .before .if5 .left),
+  ne-eqb _ _ (c .before .if6 .left),
+  eq-eqb _ _ (c .if7 .taken),
+)
 
 returns-8 : tie.Need-returns-8
 unfolding kindFrom
-returns-8 c = simp (ne-eqb _ _ (c .before .before .before .before .before .before .before .if1 .left), ne-eqb _ _ (c .before .before .before .before .before .before .if2 .left), ne-eqb _ _ (c .before .before .before .before .before .if3 .left), ne-eqb _ _ (c .before .before .before .before .if4 .left), ne-eqb _ _ (c .before .before .before .if5 .left), ne-eqb _ _ (c .before .before .if6 .left), ne-eqb _ _ (c .before .if7 .left), eq-eqb _ _ (c .if8 .taken))
+returns-8 c = simp (
+  ne-eqb _ _ (c .before .before .before .before .before .before .before .if1 .left),
+  ne-eqb _ _ (c .before .before .before .before .before .before .if2 .left),
+  ne-eqb _ _ (c .before .before .before .before .before .if3 .left),
+  ne-eqb _ _ (c .before .before .before .before .if4 .left),
+  ne-eqb _ _ (c .before .before .before .if5 .left),
+  ne-eqb _ _ (c .before .before .if6 .left),
+  ne-eqb _ _ (c .before .if7 .left),
+  eq-eqb _ _ (c .if8 .taken),
+)
 
 returns-9 : tie.Need-returns-9
 unfolding kindFrom
-returns-9 c = simp (ne-eqb _ _ (c .before .before .before .before .before .before .before .before .if1 .left), ne-eqb _ _ (c .before .before .before .before .before .before .before .if2 .left), ne-eqb _ _ (c .before .before .before .before .before .before .if3 .left), ne-eqb _ _ (c .before .before .before .before .before .if4 .left), ne-eqb _ _ (c .before .before .before .before .if5 .left), ne-eqb _ _ (c .before .before .before .if6 .left), ne-eqb _ _ (c .before .before .if7 .left), ne-eqb _ _ (c .before .if8 .left), eq-eqb _ _ (c .if9 .taken))
+returns-9 c = simp (
+  ne-eqb _ _ (c .before .before .before .before .before .before .before .before .if1 .left),
+  ne-eqb _ _ (c .before .before .before .before .before .before .before .if2 .left),
+  ne-eqb _ _ (c .before .before .before .before .before .before .if3 .left),
+  ne-eqb _ _ (c .before .before .before .before .before .if4 .left),
+  ne-eqb _ _ (c .before .before .before .before .if5 .left),
+  ne-eqb _ _ (c .before .before .before .if6 .left),
+  ne-eqb _ _ (c .before .before .if7 .left),
+  ne-eqb _ _ (c .before .if8 .left),
+  eq-eqb _ _ (c .if9 .taken),
+)
 
 returns-10 : tie.Need-returns-10
 unfolding kindFrom
-returns-10 c = simp (ne-eqb _ _ (c .before .before .before .before .before .before .before .before .before .if1 .left), ne-eqb _ _ (c .before .before .before .before .before .before .before .before .if2 .left), ne-eqb _ _ (c .before .before .before .before .before .before .before .if3 .left), ne-eqb _ _ (c .before .before .before .before .before .before .if4 .left), ne-eqb _ _ (c .before .before .before .before .before .if5 .left), ne-eqb _ _ (c .before .before .before .before .if6 .left), ne-eqb _ _ (c .before .before .before .if7 .left), ne-eqb _ _ (c .before .before .if8 .left), ne-eqb _ _ (c .before .if9 .left), eq-eqb _ _ (c .if10 .taken))
+returns-10 c = simp (
+  ne-eqb _ _ (c .before .before .before .before .before .before .before .before .before .if1 .left),
+  ne-eqb _ _ (c .before .before .before .before .before .before .before .before .if2 .left),
+  ne-eqb _ _ (c .before .before .before .before .before .before .before .if3 .left),
+  ne-eqb _ _ (c .before .before .before .before .before .before .if4 .left),
+  ne-eqb _ _ (c .before .before .before .before .before .if5 .left),
+  ne-eqb _ _ (c .before .before .before .before .if6 .left),
+  ne-eqb _ _ (c .before .before .before .if7 .left),
+  ne-eqb _ _ (c .before .before .if8 .left),
+  ne-eqb _ _ (c .before .if9 .left),
+  eq-eqb _ _ (c .if10 .taken),
+)
 
 returns-11 : tie.Need-returns-11
 unfolding kindFrom
-returns-11 c = simp (ne-eqb _ _ (c .before .before .before .before .before .before .before .before .before .if1 .left), ne-eqb _ _ (c .before .before .before .before .before .before .before .before .if2 .left), ne-eqb _ _ (c .before .before .before .before .before .before .before .if3 .left), ne-eqb _ _ (c .before .before .before .before .before .before .if4 .left), ne-eqb _ _ (c .before .before .before .before .before .if5 .left), ne-eqb _ _ (c .before .before .before .before .if6 .left), ne-eqb _ _ (c .before .before .before .if7 .left), ne-eqb _ _ (c .before .before .if8 .left), ne-eqb _ _ (c .before .if9 .left), ne-eqb _ _ (c .if10 .left))
+returns-11 c = simp (
+  ne-eqb _ _ (c .before .before .before .before .before .before .before .before .before .if1 .left),
+  ne-eqb _ _ (c .before .before .before .before .before .before .before .before .if2 .left),
+  ne-eqb _ _ (c .before .before .before .before .before .before .before .if3 .left),
+  ne-eqb _ _ (c .before .before .before .before .before .before .if4 .left),
+  ne-eqb _ _ (c .before .before .before .before .before .if5 .left),
+  ne-eqb _ _ (c .before .before .before .before .if6 .left),
+  ne-eqb _ _ (c .before .before .before .if7 .left),
+  ne-eqb _ _ (c .before .before .if8 .left),
+  ne-eqb _ _ (c .before .if9 .left),
+  ne-eqb _ _ (c .if10 .left),
+)
 
 pub kind-from-spec : {M : Type 1} → statement M
 kind-from-spec =

@@ -23,7 +23,14 @@ same-length : tie.Need-same-length
 same-length c = search needs
 
 returns : tie.Need-returns
-returns c = let a = c .before .before .before .before .before .before .before .before .before .before .before .before .before .before .before .before .before .before .before .before .before .args in slots-put (a .table .now) _ _ _ _ _ (a .i) _ _ _ _ _ (a .slots) (c .before .before .before .before .before .before .before .before .before .before .before .before .before .before .before .before .before .before .put-place .ensures) (c .before .before .before .before .before .before .before .before .before .before .before .before .before .before .put-place2 .ensures) (c .before .before .before .before .before .before .before .before .before .before .put-place3 .ensures) (c .before .before .before .before .before .before .put-place4 .ensures) (c .before .before .put-place5 .ensures)
+returns c =
+    let a = c .before .before .before .before .before .before .before .before .before .before .before .before .before .before .before .before .before .before .before .before .before .args in
+    slots-put (a .table .now) _ _ _ _ _ (a .i) _ _ _ _ _ (a .slots)
+    (c .before .before .before .before .before .before .before .before .before .before .before .before .before .before .before .before .before .before .put-place .ensures)
+    (c .before .before .before .before .before .before .before .before .before .before .before .before .before .before .put-place2 .ensures)
+    (c .before .before .before .before .before .before .before .before .before .before .put-place3 .ensures)
+    (c .before .before .before .before .before .before .put-place4 .ensures)
+    (c .before .before .put-place5 .ensures)
 
 pub put-places-spec : {M : Type 1} → statement M
 put-places-spec =

@@ -24,7 +24,13 @@ same-length : tie.Need-same-length
 same-length c = search needs
 
 returns : tie.Need-returns
-returns c = let a = c .before .before .before .before .before .before .before .before .before .before .before .before .before .before .before .args in record-put (a .table .now) _ _ _ (a .row * 20) _ _ _ (a .r) (c .before .before .before .before .before .before .before .before .before .before .before .before .kind-code .ensures) (c .before .before .before .before .before .before .before .before .before .before .put-triple .ensures) (c .before .before .before .before .before .before .put-number .ensures) (c .before .before .put-places .ensures .1)
+returns c =
+    let a = c .before .before .before .before .before .before .before .before .before .before .before .before .before .before .before .args in
+    record-put (a .table .now) _ _ _ (a .row * 20) _ _ _ (a .r)
+    (c .before .before .before .before .before .before .before .before .before .before .before .before .kind-code .ensures)
+    (c .before .before .before .before .before .before .before .before .before .before .put-triple .ensures)
+    (c .before .before .before .before .before .before .put-number .ensures)
+    (c .before .before .put-places .ensures .1)
 
 pub put-record-spec : {M : Type 1} → statement M
 put-record-spec =

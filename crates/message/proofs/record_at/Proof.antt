@@ -212,7 +212,16 @@ shared-slice-read-t16 c = search needs
 
 returns-2 : tie.Need-returns-2
 unfolding recordAt recordFrom
-returns-2 c = simp (lt-leb _ _ (c .before .before .before .before .before .before .before .before .before .before .before .before .before .before .before .before .before .before .before .before .before .before .before .before .before .before .before .if1 .left), c .before .before .before .before .before .before .before .before .before .before .before .before .before .before .before .before .before .before .before .before .before .before .before .before .before .kind-from .ensures, c .before .before .before .before .before .before .before .before .before .before .before .before .before .before .before .before .before .before .before .before .before .before .number-from .ensures, c .before .before .before .before .before .before .before .before .before .before .before .before .before .before .before .before .before .before .place-from .ensures, c .before .before .before .before .before .before .before .before .before .before .before .before .before .before .place-from2 .ensures, c .before .before .before .before .before .before .before .before .before .before .place-from3 .ensures, c .before .before .before .before .before .before .place-from4 .ensures, c .before .before .place-from5 .ensures)
+returns-2 c = simp (
+  lt-leb _ _ (c .before .before .before .before .before .before .before .before .before .before .before .before .before .before .before .before .before .before .before .before .before .before .before .before .before .before .before .if1 .left),
+  c .before .before .before .before .before .before .before .before .before .before .before .before .before .before .before .before .before .before .before .before .before .before .before .before .before .kind-from .ensures,
+  c .before .before .before .before .before .before .before .before .before .before .before .before .before .before .before .before .before .before .before .before .before .before .number-from .ensures,
+  c .before .before .before .before .before .before .before .before .before .before .before .before .before .before .before .before .before .before .place-from .ensures,
+  c .before .before .before .before .before .before .before .before .before .before .before .before .before .before .place-from2 .ensures,
+  c .before .before .before .before .before .before .before .before .before .before .place-from3 .ensures,
+  c .before .before .before .before .before .before .place-from4 .ensures,
+  c .before .before .place-from5 .ensures,
+)
 
 pub record-at-spec : {M : Type 1} → statement M
 record-at-spec =

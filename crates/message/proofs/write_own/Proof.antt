@@ -9,7 +9,9 @@ own-requires : tie.Need-own-requires
 own-requires c κs = search needs
 
 returns : tie.Need-returns
-returns c = let a = c .before .before .before .before .args in puts-own-none (a .kind) (a .base) (a .input .now) (a .table .now) (a .row) (sym (c .before .own .ensures) ∙ c .if1 .taken)
+returns c =
+    let a = c .before .before .before .before .args in
+    puts-own-none (a .kind) (a .base) (a .input .now) (a .table .now) (a .row) (sym (c .before .own .ensures) ∙ c .if1 .taken)
 
 slots-of-requires : tie.Need-slots-of-requires
 slots-of-requires c κs = search needs
@@ -27,7 +29,12 @@ same-length : tie.Need-same-length
 same-length c = search needs
 
 returns-2 : tie.Need-returns-2
-returns-2 c = let a = c .before .before .before .before .before .before .before .before .before .args in puts-own (a .kind) (a .base) (a .input .now) (a .table .now) _ (a .row) _ (λ z. c .before .before .before .before .before .if1 .left (c .before .before .before .before .before .before .own .ensures ∙ z)) (c .before .before .before .before .slots-of .ensures) (c .before .before .put-record .ensures)
+returns-2 c =
+    let a = c .before .before .before .before .before .before .before .before .before .args in
+    puts-own (a .kind) (a .base) (a .input .now) (a .table .now) _ (a .row) _
+    (λ z. c .before .before .before .before .before .if1 .left (c .before .before .before .before .before .before .own .ensures ∙ z))
+    (c .before .before .before .before .slots-of .ensures)
+    (c .before .before .put-record .ensures)
 
 pub write-own-spec : {M : Type 1} → statement M
 write-own-spec =
