@@ -4,3 +4,5 @@ pub mod Good
 pub mod Accepted
 pub mod Last
 pub mod Back
+pub mod Table
+pub mod Size
