@@ -1,0 +1,3 @@
+pub mod Lengths
+pub mod Shorter
+pub mod Means
