@@ -1,3 +1,5 @@
 pub mod Lengths
 pub mod Shorter
 pub mod Means
+pub mod Written
+pub mod Canonical
