@@ -3,3 +3,4 @@ pub mod Shorter
 pub mod Means
 pub mod Written
 pub mod Canonical
+pub mod Rows

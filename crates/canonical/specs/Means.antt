@@ -23,7 +23,7 @@ body-append : {a b : List ℕ} {es fs : List Entry} → Body a es → Body b fs 
 body-append no-fields h = h
 body-append {b = b} {fs = fs} (field {n = n} {type = type} {v = v} {rest = rest} {p = p} {es = es} l m w r) h =
     let e : (uvarint (n * 8 + type) ++ (v ++ rest)) ++ b ≡ uvarint (n * 8 + type) ++ (v ++ (rest ++ b)) =
-        append-assoc (uvarint (n * 8 + type)) (v ++ rest) b ∙ ap (λ (x : List ℕ). uvarint (n * 8 + type) ++ x) (append-assoc v rest b) in
+    append-assoc (uvarint (n * 8 + type)) (v ++ rest) b ∙ ap (λ (x : List ℕ). uvarint (n * 8 + type) ++ x) (append-assoc v rest b) in
     subst (λ (x : List ℕ). Body x (record { field = n; payload = p } ∷ (es ++ fs))) (sym e) (field l m w (body-append r h))
 
 one-body : {type : ℕ} {v : List ℕ} {p : Payload} (n : ℕ) → 1 ≤ n → n ≤ 536870911 → Value type v p → Body (uvarint (n * 8 + type) ++ v) (record { field = n; payload = p } ∷ [])
@@ -261,7 +261,7 @@ prune-canonical _ _ (is-prune {s = s} {es = es} {ps = ps} g u h) =
     let d2 : bytesIn 2 (a ++ (b ++ c)) ≡ ds = found 2 a (b ++ c) [] (ds ++ []) (bytes-there 1 2 refl (opt t)) (found 2 b c ds [] (bytes-here 2 ds) (no-bytes 3 2 (opt q))) ∙ append-nil ds in
     let d3 : numbersIn 3 (a ++ (b ++ c)) ≡ opt q = counted 3 a (b ++ c) [] (opt q) (no-numbers 1 3 (opt t)) (counted 3 b c [] (opt q) (no-numbers 2 3 ds) (numbers-here 3 (opt q))) in
     let e : repeated (bytesField 1) (opt t) ++ (repeated (bytesField 2) ds ++ repeated (varintField 3) (opt q)) ≡ optional (bytesField 1) t ++ (repeated (λ p. bytesField 2 (encodePeerInfo p)) ps ++ optional (varintField 3) q) =
-        ap₂ (λ (y z : List ℕ). y ++ z) (optional-opt (bytesField 1) t) (ap₂ (λ (y z : List ℕ). y ++ z) (repeated-encodings 2 encodePeerInfo ps) (optional-opt (varintField 3) q)) in
+    ap₂ (λ (y z : List ℕ). y ++ z) (optional-opt (bytesField 1) t) (ap₂ (λ (y z : List ℕ). y ++ z) (repeated-encodings 2 encodePeerInfo ps) (optional-opt (varintField 3) q)) in
     means-as IsPrune e (same-prune ps (ap last d1 ∙ last-opt t) (ap last d3 ∙ last-opt q))
     (is-prune w (subst (Each Utf8) (sym d1) (each-last u)) (subst (λ (l : List (List ℕ)). Pairs IsPeerInfo l ps) (sym d2) (subs-mean encodePeerInfo peer-info-canonical h)))
 

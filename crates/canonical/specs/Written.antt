@@ -25,12 +25,12 @@ use Rattle.schema.specs.Slots.{noSlots, slotsOf}
 use Rattle.message.specs.Decode.{hasControl}
 use Rattle.rpc.specs.Rpc.{SubOpts, RawMessage, ControlIHave, ControlIWant, ControlGraft, PeerInfo, ControlPrune, ControlMessage, Rpc}
 use Rattle.rpc.specs.Grammar.{numbersIn, bytesIn, last, nonzero, Pairs, no-pairs, _paired_, IsSubOpts, is-sub-opts, IsMessage, is-message, IsIHave, is-ihave, IsIWant, is-iwant, IsGraft, is-graft, IsPeerInfo, is-peer-info, IsPrune, is-prune, IsControl, is-control, join, joined, IsRpc, is-rpc}
-use Rattle.rpc.specs.Encode.{optional, repeated, flag, encodeSubOpts, encodeIHave, encodeIWant, encodeGraft, encodePeerInfo, encodePrune, encodeControl, encodeRpc}
+use Rattle.rpc.specs.Encode.{optional, repeated, flag, encodeSubOpts, encodeIHave, encodeIWant, encodeGraft, encodePeerInfo, encodePrune, encodeControl, encodeRpc, signPrefix, signBytes}
 use Rattle.meaning.specs.ReadBack.{bytesAt, numberAt}
 use Rattle.meaning.specs.Entries.{put-bytes}
 use Rattle.meaning.specs.Last.{Part, Feeds, FeedsNumber}
 use Rattle.meaning.specs.Back.{sub-opts-topic, ihave-topic, graft-topic, prune-topic, peer-id, peer-record, message-from, message-data, message-seqno, sub-opts-subscribe, prune-backoff, slot-value, number-value, whole-part, flat, any, joined-flat, rpc-control}
-use Rattle.encode.specs.Canon.{eachAlong, placed, slotIn, valueOf, numbered, inner, four, canonTo, canon, partOf, entriesAlong, entriesOf, mergedControl, canonBody}
+use Rattle.encode.specs.Canon.{eachAlong, placed, slotIn, valueOf, numbered, inner, four, canonTo, canon, partOf, entriesAlong, entriesOf, mergedControl, canonBody, signOf}
 use Rattle.canonical.specs.Shorter.{repeated-append}
 
 -- ---- a singular field
@@ -227,3 +227,19 @@ canon-written (is-rpc {s = s} {es = es} {ss = ss} {ms = ms} {cs = cs} g h1 h2 h3
     let b = each-body (inner canon Topic) 2 s es g ∙ each-pairs (inner canon Topic) 2 (λ m. m .raw) raw-of h2 in
     let c = ap₂ (λ (t : Bool) (x : List ℕ). cond t (bytesField 3 x) []) (rpc-control s es cs g h3) (merged s es cs g h3) ∙ control-written cs in
     ap₂ (λ (x y : List ℕ). x ++ y) a (ap₂ (λ (x y : List ℕ). x ++ y) b c)
+
+-- ---- the bytes that are signed
+canon-message : (s : List ℕ) (es : List Entry) → Body s es → canon kind.RawMessage s ≡ optional (bytesField 1) (last (bytesIn 1 es)) ++ (optional (bytesField 2) (last (bytesIn 2 es)) ++ (optional (bytesField 3) (last (bytesIn 3 es)) ++ repeated (bytesField 4) (bytesIn 4 es)))
+unfolding canon canonTo rank roleOf slotIn
+canon-message s es g =
+    let i = inner (λ j p. p) Topic in
+    let a = slot-part 1 s kind.RawMessage (λ t. t .first) 1 es g message-from refl in
+    let b = slot-part 2 s kind.RawMessage (λ t. t .second) 2 es g message-data refl in
+    let c = slot-part 3 s kind.RawMessage (λ t. t .third) 3 es g message-seqno refl in
+    let d = each-body i 4 s es g ∙ as-they-are i 4 (λ d. refl) (bytesIn 4 es) in
+    ap₂ (λ (x y : List ℕ). x ++ y) a (ap₂ (λ (x y : List ℕ). x ++ y) b (ap₂ (λ (x y : List ℕ). x ++ y) c d))
+
+-- sign bytes are those of the message that the bytes mean: they depend only on its from, data, seqno and topics
+pub sign-written : {s : List ℕ} {m : RawMessage} → IsMessage s m → signOf s ≡ signBytes m
+unfolding signOf signBytes
+sign-written (is-message {s = s} {es = es} g u) = ap (λ (x : List ℕ). signPrefix ++ x) (canon-message s es g)
