@@ -4,3 +4,4 @@ pub mod Means
 pub mod Written
 pub mod Canonical
 pub mod Rows
+pub mod Messages
