@@ -1,36 +1,23 @@
 // Answers records from standard input, a line for each: the record's number from 1, the call, the answer. A record is its content's length
 // (u32), its kind (u16) and its content, little-endian. Kinds: 5 walk (place u64, body), 6 varint (bytes), 7 utf8 (bytes).
+mod put;
+
 ghost use mathlib.Core.Path.{_≡_};
 ghost use Prim.Native.Nat.{_+_, _≤_};
 ghost use lib.ListN.{length, take};
 ghost use Rattle.io.specs.Counts.{Counts};
 ghost use Rattle.text.specs.Record.{contentLength};
 ghost use Rattle.text.specs.Line.{Puts};
-ghost use Rattle.inspect.specs.Answers.{refusal, walk, varint, walkAnswer, varintAnswer, utf8Answer, answerTo, lineOf};
+ghost use Rattle.inspect.specs.Answers.{walk, varint, walkAnswer, varintAnswer, utf8Answer, answerTo, lineOf};
 use peer_id::Uvarint;
 use protobuf::Cursor;
 use protobuf::Walk;
 use protobuf::WireError;
+use put::put_refusal;
+use put::put_value;
+use put::put_word;
+use put::start_line;
 use text::Header;
-use text::put_number;
-use text::put_text;
-
-// A refusal of 01's table, with its values.
-fn put_refusal(out: &mut [u8], at: usize, why: WireError) -> usize
-    requires { ⌜ at + 92 ≤ length (now out) ⌝ }
-    ensures { λ r. ⌜ Puts 92 (refusal why) (now (out .entry)) at (now (out .exit)) r ⌝ }
-{
-    let r = protobuf::refusal_of(why);
-    text::put_refused(
-        out,
-        at,
-        r.number as u64,
-        r.count as u64,
-        r.first,
-        r.second,
-        r.third,
-    )
-}
 
 // One step of the field walk.
 fn put_walk(out: &mut [u8], at: usize, w: Walk) -> usize
@@ -38,7 +25,7 @@ fn put_walk(out: &mut [u8], at: usize, w: Walk) -> usize
     ensures { λ r. ⌜ Puts 92 (walk w) (now (out .entry)) at (now (out .exit)) r ⌝ }
 {
     match w {
-        Walk::End => put_text(out, at, b" end"),
+        Walk::End => put_word(out, at, b" end"),
         Walk::Refused(why) => put_refusal(out, at, why),
         Walk::Field {
             field,
@@ -47,10 +34,10 @@ fn put_walk(out: &mut [u8], at: usize, w: Walk) -> usize
             next,
         } => {
             let to = next.at;
-            let i = put_number(out, at, field);
-            let j = put_number(out, i, wire_type as u64);
-            let k = put_number(out, j, tag_end as u64);
-            put_number(out, k, to as u64)
+            let i = put_value(out, at, field);
+            let j = put_value(out, i, wire_type as u64);
+            let k = put_value(out, j, tag_end as u64);
+            put_value(out, k, to as u64)
         }
     }
 }
@@ -62,8 +49,8 @@ fn put_varint(out: &mut [u8], at: usize, v: Uvarint) -> usize
     match v {
         Uvarint::Refused(why) => put_refusal(out, at, WireError::Varint(why)),
         Uvarint::Value { value, used } => {
-            let i = put_number(out, at, value);
-            put_number(out, i, used as u64)
+            let i = put_value(out, at, value);
+            put_value(out, i, used as u64)
         }
     }
 }
@@ -79,7 +66,7 @@ fn answer_walk(content: &[u8], out: &mut [u8], at: usize) -> usize
     let place = text::number_at(content, 0, 8);
     let cursor = Cursor { at: place as usize };
     let w = cursor.step(&content[8..]);
-    let i = put_text(out, at, b" walk");
+    let i = put_word(out, at, b" walk");
     put_walk(out, i, w)
 }
 
@@ -89,7 +76,7 @@ fn answer_varint(content: &[u8], out: &mut [u8], at: usize) -> usize
     ensures { λ r. ⌜ Puts 131200 (varintAnswer (now (content .entry))) (now (out .entry)) at (now (out .exit)) r ⌝ }
 {
     let v = peer_id::read_uvarint(content);
-    let i = put_text(out, at, b" varint");
+    let i = put_word(out, at, b" varint");
     put_varint(out, i, v)
 }
 
@@ -99,9 +86,9 @@ fn answer_utf8(content: &[u8], out: &mut [u8], at: usize) -> usize
     ensures { λ r. ⌜ Puts 131200 (utf8Answer (now (content .entry))) (now (out .entry)) at (now (out .exit)) r ⌝ }
 {
     if utf8::is_utf8(content) {
-        return put_text(out, at, b" utf8 yes");
+        return put_word(out, at, b" utf8 yes");
     }
-    put_text(out, at, b" utf8 no")
+    put_word(out, at, b" utf8 no")
 }
 
 // The call and the answer; nothing where the record is bad.
@@ -124,7 +111,7 @@ fn line(n: u64, kind: u64, content: &[u8], out: &mut [u8]) -> usize
     ensures { λ r. ⌜ Counts r (now (out .exit)) ⌝ }
     ensures { λ r. ⌜ take r (now (out .exit)) ≡ lineOf n kind (now (content .entry)) ⌝ }
 {
-    let i = text::put_decimal(out, 0, n);
+    let i = start_line(out, n);
     let j = answer(kind, content, out, i);
     if j == i {
         return 0;

@@ -129,8 +129,8 @@ decimal-puts {n = n} l h e = puts-in h (decimal-twenty n l) e
 pub number-puts : {at end n : ℕ} {b a : List ℕ} → n < 2 ^ 64 → at + 21 ≤ length b → (end ≡ endIn 21 at (number n) b) × (a ≡ setIn 21 at (number n) b) → Puts 21 (number n) b at a end
 number-puts {n = n} l h e = puts-in h (length-number n l) e
 
-pub refused-puts : (n : ℕ) {at end m p q r : ℕ} {b a : List ℕ} → m < 2 ^ 64 → p < 2 ^ 64 → q < 2 ^ 64 → r < 2 ^ 64 → at + 92 ≤ length b → (end ≡ endIn 92 at (refused m (take n (p ∷ q ∷ r ∷ []))) b) × (a ≡ setIn 92 at (refused m (take n (p ∷ q ∷ r ∷ []))) b) → Puts 92 (refused m (take n (p ∷ q ∷ r ∷ []))) b at a end
-refused-puts n {m = m} {p = p} {q = q} {r = r} i j k l h e = puts-in h (length-refused m n p q r i j k l) e
+pub refused-puts : (n p q r : ℕ) {at end m : ℕ} {b a : List ℕ} → m < 2 ^ 64 → p < 2 ^ 64 → q < 2 ^ 64 → r < 2 ^ 64 → at + 92 ≤ length b → (end ≡ endIn 92 at (refused m (take n (p ∷ q ∷ r ∷ []))) b) × (a ≡ setIn 92 at (refused m (take n (p ∷ q ∷ r ∷ []))) b) → Puts 92 (refused m (take n (p ∷ q ∷ r ∷ []))) b at a end
+refused-puts n p q r {m = m} i j k l h e = puts-in h (length-refused m n p q r i j k l) e
 
 pub hex-puts : (s : List ℕ) {at end : ℕ} {b a : List ℕ} → at + 2 * length s ≤ length b → (end ≡ endIn (2 * length s) at (hex s) b) × (a ≡ setIn (2 * length s) at (hex s) b) → Puts (2 * length s) (hex s) b at a end
 hex-puts s h e = puts-in h (omega (arith, length-hex s)) e
