@@ -123,7 +123,7 @@ gather-append : (b : List ℕ) (rs ts : List Record) (g : Gathered) → gather b
 gather-append b [] ts g = refl
 gather-append b (r ∷ rs) ts g = ap (gatherKind (r .kind) b r) (gather-append b rs ts g)
 
-abbrev state : List (List ℕ) → List (List ℕ) → List PeerInfo → List SubOpts → List RawMessage → ControlMessage → Gathered
+abbrev pub state : List (List ℕ) → List (List ℕ) → List PeerInfo → List SubOpts → List RawMessage → ControlMessage → Gathered
 state ts is ps ss ms c = record { topics = ts; ids = is; peers = ps; subscriptions = ss; publish = ms; control = c }
 
 -- the rows of one field: only a length-delimited one has any
@@ -566,7 +566,7 @@ rpc-row-type : (base : ℕ) (p : List ℕ) (f : Field) → eqb (f .«wire_type»
 rpc-row-type base p f t = rpc-rows base p f ∙ ap (λ (x : Bool). cond x (rpcRows base p f (f .field)) []) t
 
 -- the controls, one after the other
-abbrev flat : List ControlMessage → ControlMessage
+abbrev pub flat : List ControlMessage → ControlMessage
 flat [] = emptyControl
 flat (c ∷ cs) = join c (flat cs)
 
@@ -617,7 +617,7 @@ any-pairs (p paired ps) = refl
 join-empty : (c : ControlMessage) → join c emptyControl ≡ c
 join-empty c = rw (append-nil (c .ihave), append-nil (c .iwant), append-nil (c .graft), append-nil (c .prune))
 
-joined-some : (c : ControlMessage) (cs : List ControlMessage) → joined (c ∷ cs) ≡ some (flat (c ∷ cs))
+pub joined-some : (c : ControlMessage) (cs : List ControlMessage) → joined (c ∷ cs) ≡ some (flat (c ∷ cs))
 joined-some c [] = ap some (sym (join-empty c))
 joined-some c (d ∷ cs) = ap (joinTo c) (joined-some d cs)
 
@@ -645,17 +645,25 @@ own-rpc : (base : ℕ) (p : List ℕ) → ownRows kind.Rpc base p ≡ []
 unfolding ownRows ownOf
 own-rpc base p = refl
 
-rpc-read : (b : List ℕ) (es : List Entry) (ss : List SubOpts) (ms : List RawMessage) (cs : List ControlMessage) → Body b es → Pairs IsSubOpts (bytesIn 1 es) ss → Pairs IsMessage (bytesIn 2 es) ms → Pairs IsControl (bytesIn 3 es) cs → readBack b (rowsOf kind.Rpc 0 b) (hasControl b) ≡ record { subscriptions = ss; publish = ms; control = joined cs }
-unfolding readBack hasControl
-rpc-read b es ss ms cs g h1 h2 h3 =
+pub rpc-gathered : (b : List ℕ) (es : List Entry) (ss : List SubOpts) (ms : List RawMessage) (cs : List ControlMessage) → Body b es → Pairs IsSubOpts (bytesIn 1 es) ss → Pairs IsMessage (bytesIn 2 es) ms → Pairs IsControl (bytesIn 3 es) cs → gather b (rowsOf kind.Rpc 0 b) nothing ≡ state [] [] [] ss ms (flat cs)
+rpc-gathered b es ss ms cs g h1 h2 h3 =
     let w = body-walks b es g in
     let fs = w .fields in
     let rows = rows-along kind.Rpc 0 b ∙ ap₂ (λ (x : List Record) (y : Fields). x ++ rowsAlong rowsOf kind.Rpc 0 b y) (own-rpc 0 b) (w .walked) in
     let e = sym (w .entries) in
-    let inner = rpc-along b 0 b (whole-part b) fs ss ms cs (subst (λ (l : List Entry). Pairs IsSubOpts (bytesIn 1 l) ss) e h1) (subst (λ (l : List Entry). Pairs IsMessage (bytesIn 2 l) ms) e h2) (subst (λ (l : List Entry). Pairs IsControl (bytesIn 3 l) cs) e h3) (walk-inside b fs (w .walked)) in
-    let has : controlAlong (fieldsOf b) ≡ any cs = ap controlAlong (w .walked) ∙ control-any b fs ∙ ap (λ (l : List Entry). any (bytesIn 3 l)) (w .entries) ∙ any-pairs h3 in
-    ap₂ (λ (x : Bool) (l : List Record). rpcFrom x (gather b l nothing)) has rows
-    ∙ ap (rpcFrom (any cs)) inner
+    ap (λ (l : List Record). gather b l nothing) rows
+    ∙ rpc-along b 0 b (whole-part b) fs ss ms cs (subst (λ (l : List Entry). Pairs IsSubOpts (bytesIn 1 l) ss) e h1) (subst (λ (l : List Entry). Pairs IsMessage (bytesIn 2 l) ms) e h2) (subst (λ (l : List Entry). Pairs IsControl (bytesIn 3 l) cs) e h3) (walk-inside b fs (w .walked))
+
+rpc-control : (b : List ℕ) (es : List Entry) (cs : List ControlMessage) → Body b es → Pairs IsControl (bytesIn 3 es) cs → hasControl b ≡ any cs
+unfolding hasControl
+rpc-control b es cs g h3 =
+    let w = body-walks b es g in
+    ap controlAlong (w .walked) ∙ control-any b (w .fields) ∙ ap (λ (l : List Entry). any (bytesIn 3 l)) (w .entries) ∙ any-pairs h3
+
+rpc-read : (b : List ℕ) (es : List Entry) (ss : List SubOpts) (ms : List RawMessage) (cs : List ControlMessage) → Body b es → Pairs IsSubOpts (bytesIn 1 es) ss → Pairs IsMessage (bytesIn 2 es) ms → Pairs IsControl (bytesIn 3 es) cs → readBack b (rowsOf kind.Rpc 0 b) (hasControl b) ≡ record { subscriptions = ss; publish = ms; control = joined cs }
+unfolding readBack
+rpc-read b es ss ms cs g h1 h2 h3 =
+    ap₂ rpcFrom (rpc-control b es cs g h3) (rpc-gathered b es ss ms cs g h1 h2 h3)
     ∙ ap (λ (x : Option ControlMessage). record { subscriptions = ss; publish = ms; control = x }) (joined-flat cs)
 
 -- the records of a body, read back, are the RPC that it means

@@ -4,3 +4,6 @@ pub mod Good
 pub mod Accepted
 pub mod Last
 pub mod Back
+pub mod Table
+pub mod Size
+pub mod Decoded

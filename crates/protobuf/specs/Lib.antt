@@ -3,6 +3,7 @@ pub mod Field
 pub mod Laws
 pub mod Grammar
 pub mod Walk
+pub mod RefusalLaws
 pub mod WalkLaws
 pub mod Exactly
 pub mod Encode

@@ -98,10 +98,10 @@ unfolding walkStep readField
 walk-outline s at h = simp (le-ltb _ _ h) (tag-outline s (readTag s at))
 
 -- ---- induction along the walk: what holds at the end and at a refusal, and before a field where it holds after it, holds from every place
-module _ (s : List ℕ) (P : ℕ → Fields → Type 0) (at-end : (at : ℕ) → P at end) (at-refusal : (at : ℕ) (why : WireError) → P at (refused why)) (at-field : (at : ℕ) (f : Field) → Stands s at f → step.At f ≡ readField s at → P (f .next) (walkAt s (f .next)) → P at (f then walkAt s (f .next))) where
+module _ (s : List ℕ) (P : ℕ → Fields → Type 0) (at-end : (at : ℕ) → P at end) (at-refusal : (at : ℕ) (why : WireError) → step.Refused why ≡ readField s at → P at (refused why)) (at-field : (at : ℕ) (f : Field) → Stands s at f → step.At f ≡ readField s at → P (f .next) (walkAt s (f .next)) → P at (f then walkAt s (f .next))) where
   along-step : (at : ℕ) (r : Step) → r ≡ readField s at → ((f : Field) → step.At f ≡ readField s at → P (f .next) (walkAt s (f .next))) → P at (onStep (walkAt s) r)
   along-step at step.End e ih = at-end at
-  along-step at (step.Refused why) e ih = at-refusal at why
+  along-step at (step.Refused why) e ih = at-refusal at why e
   along-step at (step.At f) e ih = at-field at f (field-stands s at f e) e (ih f e)
 
   along-from : (n at : ℕ) → length s - at < n → P at (walkAt s at)

@@ -146,7 +146,7 @@ walk-fits : (k : Kind) (s : List ℕ) → ((j : Kind) (p : List ℕ) (x : ℕ) �
 walk-fits k s ih =
     along s (λ (at : ℕ) (w : Fields). (n : ℕ) → countAlong counted k s w ≡ Records n → n ≤ length s - at)
     (λ at n h. let e : n ≡ 0 = cc in omega arith)
-    (λ at why n h. clash (cc))
+    (λ at why r n h. clash (cc))
     (λ at f st e rest n h.
     let t = then-fits (roleCount counted s f (roleOf k (f .field) (f .«wire_type»))) (countAlong counted k s (walkAt s (f .next))) n h in
     let a = role-fits s at f (roleOf k (f .field) (f .«wire_type»)) counted (t .0) st (t .2) (λ j p x q. ih j p x (sub-rank k j (f .field) (f .«wire_type») q)) in
