@@ -1,6 +1,8 @@
 // Answers records from standard input, a line for each: the record's number from 1, the call, the answer. A record is its content's length
-// (u32), its kind (u16) and its content, little-endian. Kinds: 5 walk (place u64, body), 6 varint (bytes), 7 utf8 (bytes).
+// (u32), its kind (u16) and its content, little-endian. Kinds: 1 decode (body), 5 walk (place u64, body), 6 varint (bytes), 7 utf8 (bytes). After
+// the line of a body come those of its records.
 mod put;
+mod records;
 
 ghost use mathlib.Core.Path.{_≡_};
 ghost use Prim.Native.Nat.{_+_, _≤_};
@@ -17,6 +19,9 @@ use put::put_refusal;
 use put::put_value;
 use put::put_word;
 use put::start_line;
+use records::decode_line;
+use records::records_in;
+use records::row_line;
 use text::Header;
 
 // One step of the field walk.
@@ -135,14 +140,55 @@ fn next_header() -> Header
     text::read_header(&head[..got], 65600)
 }
 
+// Prints the lines of the first `count` rows of the table. Answers whether they were printed.
+fn print_rows(body: &[u8], table: &[u64], count: usize, out: &mut [u8]) -> bool
+    requires { ⌜ length (now body) ≤ 65600 ⌝ }
+    requires { ⌜ 787456 ≤ length (now out) ⌝ }
+{
+    let mut row = 0;
+    while row < count {
+        let k = row_line(body, table, row, out);
+        if !io::write_all(1, &out[..k]) {
+            return false;
+        }
+        row += 1;
+    }
+    true
+}
+
+// Kind 1: prints the line of record n, and those of the body's records. Answers whether to go on.
+fn reply_decode(n: u64, body: &[u8], table: &mut [u64], out: &mut [u8]) -> bool
+    requires { ⌜ length (now body) ≤ 65600 ⌝ }
+    requires { ⌜ 787456 ≤ length (now out) ⌝ }
+{
+    let d = message::decode(body, table);
+    let k = decode_line(n, d, out);
+    if !io::write_all(1, &out[..k]) {
+        return false;
+    }
+    let count = records_in(d);
+    print_rows(body, table, count, out)
+}
+
 // Reads the content of record n and prints its line. Answers whether to go on.
-fn reply(n: u64, kind: u64, len: usize, content: &mut [u8], out: &mut [u8]) -> bool
+fn reply(
+    n: u64,
+    kind: u64,
+    len: usize,
+    content: &mut [u8],
+    table: &mut [u64],
+    out: &mut [u8],
+) -> bool
     requires { ⌜ len ≤ length (now content) ⌝ }
-    requires { ⌜ 131328 ≤ length (now out) ⌝ }
+    requires { ⌜ len ≤ 65600 ⌝ }
+    requires { ⌜ 787456 ≤ length (now out) ⌝ }
 {
     let got = io::read_full(0, &mut content[..len]);
     if got < len {
         return last(b"bad\n");
+    }
+    if kind == 1 {
+        return reply_decode(n, &content[..len], table, out);
     }
     let k = line(n, kind, &content[..len], out);
     if k == 0 {
@@ -152,25 +198,26 @@ fn reply(n: u64, kind: u64, len: usize, content: &mut [u8], out: &mut [u8]) -> b
 }
 
 // Reads a record and prints its line, or the word that ends the run. Answers whether to go on.
-fn turn(n: u64, content: &mut [u8], out: &mut [u8]) -> bool
+fn turn(n: u64, content: &mut [u8], table: &mut [u64], out: &mut [u8]) -> bool
     requires { ⌜ 65600 ≤ length (now content) ⌝ }
-    requires { ⌜ 131328 ≤ length (now out) ⌝ }
+    requires { ⌜ 787456 ≤ length (now out) ⌝ }
 {
     let h = next_header();
     match h {
         Header::End => false,
         Header::Bad => last(b"bad\n"),
         Header::Long => last(b"long\n"),
-        Header::Record { kind, len } => reply(n, kind, len, content, out),
+        Header::Record { kind, len } => reply(n, kind, len, content, table, out),
     }
 }
 
 // The count of records only bounds the loop: no run uses it up.
 fn main() {
     let mut content = [0u8; 65600];
-    let mut out = [0u8; 131328];
+    let mut table = [0u64; 10240];
+    let mut out = [0u8; 787456];
     let mut n: u64 = 1;
-    while n < u64::MAX && turn(n, &mut content, &mut out) {
+    while n < u64::MAX && turn(n, &mut content, &mut table, &mut out) {
         n += 1;
     }
 }
