@@ -22,7 +22,8 @@ use Rattle.schema.specs.declared.Role.the-variants.{Skip, Number, Text, Bytes a
 use Rattle.schema.specs.Schema.{roleOf}
 use Rattle.rpc.specs.Rpc.{SubOpts, RawMessage, ControlIHave, ControlIWant, ControlGraft, PeerInfo, ControlPrune, ControlMessage, Rpc}
 use Rattle.rpc.specs.Grammar.{bytesIn, Each, none-left, _and_, Pairs, no-pairs, _paired_, IsSubOpts, is-sub-opts, IsMessage, is-message, IsIHave, is-ihave, IsIWant, is-iwant, IsGraft, is-graft, IsPeerInfo, is-peer-info, IsPrune, is-prune, IsControl, is-control, IsRpc, is-rpc}
-use Rattle.meaning.specs.Entries.{isBytes, valueIn, put-bytes}
+use Rattle.protobuf.specs.Walk.{isBytes, valueIn}
+use Rattle.meaning.specs.Entries.{put-bytes}
 use Rattle.meaning.specs.Good.{Accepted, GoodRole, Good, walked-good, good-walked, accepted-walks, each-put}
 
 -- ---- lists of bytes

@@ -31,7 +31,8 @@ use Rattle.message.specs.Decode.{isControl, controlAlong, hasControl}
 use Rattle.rpc.specs.Rpc.{SubOpts, RawMessage, ControlIHave, ControlIWant, ControlGraft, PeerInfo, ControlPrune, ControlMessage, Rpc}
 use Rattle.rpc.specs.Grammar.{numbersIn, bytesIn, last, nonzero, Each, none-left, _and_, Pairs, no-pairs, _paired_, IsSubOpts, is-sub-opts, IsMessage, is-message, IsIHave, is-ihave, IsIWant, is-iwant, IsGraft, is-graft, IsPeerInfo, is-peer-info, IsPrune, is-prune, IsControl, is-control, join, joinTo, joined, IsRpc, is-rpc}
 use Rattle.meaning.specs.ReadBack.{bytesAt, numberAt, rawOf, Gathered, emptyControl, nothing, addIHave, addIWant, addGraft, addPrune, gatherKind, gather, rpcFrom, readBack}
-use Rattle.meaning.specs.Entries.{isBytes, isNumber, valueIn, put-bytes}
+use Rattle.protobuf.specs.Walk.{isBytes, isNumber, valueIn}
+use Rattle.meaning.specs.Entries.{put-bytes}
 use Rattle.meaning.specs.Last.{Part, Inside, walk-inside, part-value, part-part, Feeds, slot-last, FeedsNumber, number-last, six, feeds-from}
 
 -- ---- which fields feed which slots

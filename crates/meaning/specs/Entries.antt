@@ -8,18 +8,8 @@ use borrow.Author.Tests.{eqb-true}
 use Rattle.basis.specs.Cases.{either}
 use Rattle.protobuf.specs.declared.Field.{Field}
 use Rattle.protobuf.specs.Grammar.{Payload, number, eight, bytes, four}
-use Rattle.protobuf.specs.Walk.{between, payloadOf, entryOf}
+use Rattle.protobuf.specs.Walk.{between, payloadOf, entryOf, isBytes, isNumber, valueIn}
 use Rattle.rpc.specs.Grammar.{putNumber, putBytes}
-
--- a field gives its bytes where it is length-delimited, and of that number
-abbrev pub isBytes : ℕ → Field → Bool
-isBytes m f = eqb (f .«wire_type») 2 && eqb (f .field) m
-
-abbrev pub isNumber : ℕ → Field → Bool
-isNumber m f = eqb (f .«wire_type») 0 && eqb (f .field) m
-
-abbrev pub valueIn : List ℕ → Field → List ℕ
-valueIn s f = between s (f .start) (f .next)
 
 payload-bytes : (s : List ℕ) (m : ℕ) (f : Field) (ds : List (List ℕ)) → putBytes (eqb (f .field) m) (payloadOf s f) ds ≡ cond (isBytes m f) (valueIn s f ∷ ds) ds
 unfolding payloadOf

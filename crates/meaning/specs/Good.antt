@@ -24,7 +24,8 @@ use Rattle.schema.specs.Schema.{lenRole, varintField, roleOf, ownOf}
 use Rattle.schema.specs.Count.{plus, andThen, textCount, roleCount, countAlong, counted}
 use Rattle.schema.specs.CountLaws.{plus-fits, then-fits, count-along}
 use Rattle.rpc.specs.Grammar.{putBytes, bytesIn, Each, none-left, _and_}
-use Rattle.meaning.specs.Entries.{isBytes, valueIn, put-bytes}
+use Rattle.protobuf.specs.Walk.{isBytes, valueIn}
+use Rattle.meaning.specs.Entries.{put-bytes}
 
 -- a message of kind k with the bytes p is accepted
 pub record Accepted (k : Kind) (p : List ℕ) : Type 0 where

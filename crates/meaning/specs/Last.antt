@@ -29,7 +29,8 @@ use Rattle.schema.specs.Schema.{lenRole, varintField, roleOf}
 use Rattle.schema.specs.Slots.{setNumber, setPlace, placeOf, roleSlots, withField, slotsAlong}
 use Rattle.rpc.specs.Grammar.{numbersIn, bytesIn, orElse, last, Each, none-left, _and_}
 use Rattle.meaning.specs.ReadBack.{bytesAt, numberAt}
-use Rattle.meaning.specs.Entries.{isBytes, isNumber, valueIn, put-bytes, put-number}
+use Rattle.protobuf.specs.Walk.{isBytes, isNumber, valueIn}
+use Rattle.meaning.specs.Entries.{put-bytes, put-number}
 
 -- ---- a part of the body, and the fields inside it
 -- p stands in b from base on

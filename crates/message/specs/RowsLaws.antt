@@ -96,7 +96,7 @@ pub rows-length : (k : Kind) (base : ℕ) (s : List ℕ) (n : ℕ) → counted k
 rows-length k base s n h = length-to (suc (rank k)) k base s n (omega arith) h
 
 -- ---- a record takes twenty words
-number-length : (x : Num) → length (numberWords x) ≡ 2
+pub number-length : (x : Num) → length (numberWords x) ≡ 2
 unfolding numberWords
 number-length number.Absent = refl
 number-length (number.Present v) = refl

@@ -2,7 +2,7 @@
 -- submessage's decoder goes along it.
 use Prim.Native.Nat.{ℕ, zero, suc, _-_}
 use mathlib.Core.List.{List, [], _∷_}
-use mathlib.Core.Bool.{cond}
+use mathlib.Core.Bool.{Bool, cond, _&&_}
 use lib.ListN.{length, take, drop}
 use lib.Dec.{eqb}
 use Rattle.protobuf.specs.declared.WireError.{WireError}
@@ -58,3 +58,14 @@ entryOf s f = record { field = f .field; payload = payloadOf s f }
 abbrev pub entriesOf : List ℕ → List Field → List Entry
 entriesOf s [] = []
 entriesOf s (f ∷ fs) = entryOf s f ∷ entriesOf s fs
+
+-- a field is length-delimited and has the number m; or it is a varint with that number
+abbrev pub isBytes : ℕ → Field → Bool
+isBytes m f = eqb (f .«wire_type») 2 && eqb (f .field) m
+
+abbrev pub isNumber : ℕ → Field → Bool
+isNumber m f = eqb (f .«wire_type») 0 && eqb (f .field) m
+
+-- the bytes of a length-delimited field
+abbrev pub valueIn : List ℕ → Field → List ℕ
+valueIn s f = between s (f .start) (f .next)

@@ -1,2 +1,3 @@
 pub mod Rpc
 pub mod Grammar
+pub mod Encode

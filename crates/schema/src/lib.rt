@@ -170,7 +170,7 @@ fn len_role(kind: Kind, field: u64) -> Role
 }
 
 // The number of the message's varint field, 0 where it has none.
-fn varint_field(kind: Kind) -> u64
+pub fn varint_field(kind: Kind) -> u64
     ensures { λ r. ⌜ r ≡ varintField kind ⌝ }
 {
     match kind {
