@@ -96,9 +96,11 @@ fn put_sub(out: &mut [u8], s: &[u8], slots: Slots) -> usize
     requires { ⌜ 787455 ≤ length (now out) ⌝ }
     ensures { λ r. ⌜ Puts 787455 (subText (now (s .entry)) slots) (now (out .entry)) 0 (now (out .exit)) r ⌝ }
 {
+    let subscribe = slots.number;
+    let topic_id = slots.first;
     let i = put_word(out, 0, b"  sub");
-    let j = put_flag(out, i, slots.number);
-    put_place(out, j, s, slots.first)
+    let j = put_flag(out, i, subscribe);
+    put_place(out, j, s, topic_id)
 }
 
 fn put_message(out: &mut [u8], s: &[u8], slots: Slots) -> usize
@@ -106,12 +108,17 @@ fn put_message(out: &mut [u8], s: &[u8], slots: Slots) -> usize
     requires { ⌜ 787455 ≤ length (now out) ⌝ }
     ensures { λ r. ⌜ Puts 787455 (messageText (now (s .entry)) slots) (now (out .entry)) 0 (now (out .exit)) r ⌝ }
 {
+    let from = slots.first;
+    let data = slots.second;
+    let seqno = slots.third;
+    let signature = slots.fourth;
+    let key = slots.fifth;
     let i = put_whole(out, b"  message", s);
-    let j = put_place(out, i, s, slots.first);
-    let k = put_place(out, j, s, slots.second);
-    let l = put_place(out, k, s, slots.third);
-    let m = put_place(out, l, s, slots.fourth);
-    put_place(out, m, s, slots.fifth)
+    let j = put_place(out, i, s, from);
+    let k = put_place(out, j, s, data);
+    let l = put_place(out, k, s, seqno);
+    let m = put_place(out, l, s, signature);
+    put_place(out, m, s, key)
 }
 
 fn put_prune(out: &mut [u8], s: &[u8], slots: Slots) -> usize
@@ -119,8 +126,10 @@ fn put_prune(out: &mut [u8], s: &[u8], slots: Slots) -> usize
     requires { ⌜ 787455 ≤ length (now out) ⌝ }
     ensures { λ r. ⌜ Puts 787455 (pruneText (now (s .entry)) slots) (now (out .entry)) 0 (now (out .exit)) r ⌝ }
 {
-    let i = put_first(out, b"  prune", s, slots.first);
-    put_count(out, i, slots.number)
+    let topic_id = slots.first;
+    let backoff = slots.number;
+    let i = put_first(out, b"  prune", s, topic_id);
+    put_count(out, i, backoff)
 }
 
 fn put_peer(out: &mut [u8], s: &[u8], slots: Slots) -> usize
@@ -128,8 +137,10 @@ fn put_peer(out: &mut [u8], s: &[u8], slots: Slots) -> usize
     requires { ⌜ 787455 ≤ length (now out) ⌝ }
     ensures { λ r. ⌜ Puts 787455 (peerText (now (s .entry)) slots) (now (out .entry)) 0 (now (out .exit)) r ⌝ }
 {
-    let i = put_first(out, b"  peer", s, slots.first);
-    put_place(out, i, s, slots.second)
+    let peer_id = slots.first;
+    let signed_peer_record = slots.second;
+    let i = put_first(out, b"  peer", s, peer_id);
+    put_place(out, i, s, signed_peer_record)
 }
 
 // A record whose bytes are s. No record is an RPC or a control.
@@ -138,16 +149,17 @@ fn put_record(out: &mut [u8], s: &[u8], kind: Kind, slots: Slots) -> usize
     requires { ⌜ 787455 ≤ length (now out) ⌝ }
     ensures { λ r. ⌜ Puts 787455 (recordText kind (now (s .entry)) slots) (now (out .entry)) 0 (now (out .exit)) r ⌝ }
 {
+    let topic_id = slots.first;
     match kind {
         Kind::Rpc => put_word(out, 0, b"  rpc"),
         Kind::SubOpts => put_sub(out, s, slots),
         Kind::RawMessage => put_message(out, s, slots),
         Kind::Topic => put_whole(out, b"  topic", s),
         Kind::ControlMessage => put_word(out, 0, b"  control"),
-        Kind::ControlIHave => put_first(out, b"  ihave", s, slots.first),
+        Kind::ControlIHave => put_first(out, b"  ihave", s, topic_id),
         Kind::ControlIWant => put_word(out, 0, b"  iwant"),
         Kind::MessageId => put_whole(out, b"  id", s),
-        Kind::ControlGraft => put_first(out, b"  graft", s, slots.first),
+        Kind::ControlGraft => put_first(out, b"  graft", s, topic_id),
         Kind::ControlPrune => put_prune(out, s, slots),
         Kind::PeerInfo => put_peer(out, s, slots),
     }
@@ -168,7 +180,8 @@ fn record_line(body: &[u8], found: Record, out: &mut [u8]) -> usize
     if body.len() < end {
         return 0;
     }
-    let i = put_record(out, &body[start..end], found.kind, found.slots);
+    let kind = found.kind;
+    let i = put_record(out, &body[start..end], kind, found.slots);
     out[i] = b'\n';
     i + 1
 }
