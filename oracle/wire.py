@@ -1,12 +1,13 @@
 """Records for the program `inspect`, and the line that the Rust's answer makes.
 
-A case is (call, bytes, place): ("walk", body, place), ("varint", bytes, 0) or
-("utf8", bytes, 0). Everything random comes from one seeded `random.Random`.
+A case is (call, bytes, place): ("walk", body, place), ("varint", bytes, 0),
+("utf8", bytes, 0) or ("decode", body, 0), whose bodies and lines are those of
+bodies.py. Everything random comes from one seeded `random.Random`.
 """
 
 from oracle import NUMBER, hexed
 
-KIND = {"walk": 5, "varint": 6, "utf8": 7}
+KIND = {"decode": 1, "walk": 5, "varint": 6, "utf8": 7}
 MAX_CONTENT = 65600
 MAX_BODY = 65536
 TOP = 2**64 - 1
@@ -28,7 +29,7 @@ def command(case):
     call, data, place = case
     if call == "walk":
         return "walk %s %d" % (hexed(data), place)
-    return {"varint": "uvarint ", "utf8": "utf8 "}[call] + hexed(data)
+    return {"decode": "decode ", "varint": "uvarint ", "utf8": "utf8 "}[call] + hexed(data)
 
 
 def answer(asked, told):

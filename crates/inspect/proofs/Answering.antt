@@ -5,7 +5,7 @@ use mathlib.Core.List.{List, [], _∷_, _++_}
 use mathlib.Core.Logic.{_≢_}
 use mathlib.Core.Bool.{true, false}
 use native.Mathlib.Omega.{arith}
-use lib.ListN.{length, take, drop, getD, set, length-drop}
+use lib.ListN.{length, take, drop, getD, set, replicate, length-drop, length-take, length-replicate}
 use lib.Seq.{take-all, length-take-le}
 use borrow.Author.Tests.{lt-ltb, le-ltb, ne-eqb}
 use Rattle.text.specs.declared.Header.{Header}
@@ -107,3 +107,10 @@ content-fits h k l e p = rw e at p
 -- a part of a slice from its front, and its length
 pub prefix : (k : ℕ) (l : List ℕ) → k ≤ length l → k ≡ length (take k l)
 prefix k l h = sym (length-take-le k l h)
+
+pub front-small : (k m : ℕ) (l : List ℕ) → k ≤ m → length (take k l) ≤ m
+front-small k m l h = rw (length-take k l) (omega arith)
+
+-- an array as it is made
+pub filled : (n : ℕ) → n ≡ length {A = ℕ} (replicate n 0)
+filled n = sym (length-replicate {A = ℕ} n 0)

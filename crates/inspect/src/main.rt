@@ -1,36 +1,28 @@
 // Answers records from standard input, a line for each: the record's number from 1, the call, the answer. A record is its content's length
-// (u32), its kind (u16) and its content, little-endian. Kinds: 5 walk (place u64, body), 6 varint (bytes), 7 utf8 (bytes).
+// (u32), its kind (u16) and its content, little-endian. Kinds: 1 decode (body), 5 walk (place u64, body), 6 varint (bytes), 7 utf8 (bytes). After
+// the line of a body come those of its records.
+mod put;
+mod records;
+
 ghost use mathlib.Core.Path.{_≡_};
 ghost use Prim.Native.Nat.{_+_, _≤_};
 ghost use lib.ListN.{length, take};
 ghost use Rattle.io.specs.Counts.{Counts};
 ghost use Rattle.text.specs.Record.{contentLength};
 ghost use Rattle.text.specs.Line.{Puts};
-ghost use Rattle.inspect.specs.Answers.{refusal, walk, varint, walkAnswer, varintAnswer, utf8Answer, answerTo, lineOf};
+ghost use Rattle.inspect.specs.Answers.{walk, varint, walkAnswer, varintAnswer, utf8Answer, answerTo, lineOf};
 use peer_id::Uvarint;
 use protobuf::Cursor;
 use protobuf::Walk;
 use protobuf::WireError;
+use put::put_refusal;
+use put::put_value;
+use put::put_word;
+use put::start_line;
+use records::decode_line;
+use records::records_in;
+use records::row_line;
 use text::Header;
-use text::put_number;
-use text::put_text;
-
-// A refusal of 01's table, with its values.
-fn put_refusal(out: &mut [u8], at: usize, why: WireError) -> usize
-    requires { ⌜ at + 92 ≤ length (now out) ⌝ }
-    ensures { λ r. ⌜ Puts 92 (refusal why) (now (out .entry)) at (now (out .exit)) r ⌝ }
-{
-    let r = protobuf::refusal_of(why);
-    text::put_refused(
-        out,
-        at,
-        r.number as u64,
-        r.count as u64,
-        r.first,
-        r.second,
-        r.third,
-    )
-}
 
 // One step of the field walk.
 fn put_walk(out: &mut [u8], at: usize, w: Walk) -> usize
@@ -38,7 +30,7 @@ fn put_walk(out: &mut [u8], at: usize, w: Walk) -> usize
     ensures { λ r. ⌜ Puts 92 (walk w) (now (out .entry)) at (now (out .exit)) r ⌝ }
 {
     match w {
-        Walk::End => put_text(out, at, b" end"),
+        Walk::End => put_word(out, at, b" end"),
         Walk::Refused(why) => put_refusal(out, at, why),
         Walk::Field {
             field,
@@ -47,10 +39,10 @@ fn put_walk(out: &mut [u8], at: usize, w: Walk) -> usize
             next,
         } => {
             let to = next.at;
-            let i = put_number(out, at, field);
-            let j = put_number(out, i, wire_type as u64);
-            let k = put_number(out, j, tag_end as u64);
-            put_number(out, k, to as u64)
+            let i = put_value(out, at, field);
+            let j = put_value(out, i, wire_type as u64);
+            let k = put_value(out, j, tag_end as u64);
+            put_value(out, k, to as u64)
         }
     }
 }
@@ -62,8 +54,8 @@ fn put_varint(out: &mut [u8], at: usize, v: Uvarint) -> usize
     match v {
         Uvarint::Refused(why) => put_refusal(out, at, WireError::Varint(why)),
         Uvarint::Value { value, used } => {
-            let i = put_number(out, at, value);
-            put_number(out, i, used as u64)
+            let i = put_value(out, at, value);
+            put_value(out, i, used as u64)
         }
     }
 }
@@ -79,7 +71,7 @@ fn answer_walk(content: &[u8], out: &mut [u8], at: usize) -> usize
     let place = text::number_at(content, 0, 8);
     let cursor = Cursor { at: place as usize };
     let w = cursor.step(&content[8..]);
-    let i = put_text(out, at, b" walk");
+    let i = put_word(out, at, b" walk");
     put_walk(out, i, w)
 }
 
@@ -89,7 +81,7 @@ fn answer_varint(content: &[u8], out: &mut [u8], at: usize) -> usize
     ensures { λ r. ⌜ Puts 131200 (varintAnswer (now (content .entry))) (now (out .entry)) at (now (out .exit)) r ⌝ }
 {
     let v = peer_id::read_uvarint(content);
-    let i = put_text(out, at, b" varint");
+    let i = put_word(out, at, b" varint");
     put_varint(out, i, v)
 }
 
@@ -99,9 +91,9 @@ fn answer_utf8(content: &[u8], out: &mut [u8], at: usize) -> usize
     ensures { λ r. ⌜ Puts 131200 (utf8Answer (now (content .entry))) (now (out .entry)) at (now (out .exit)) r ⌝ }
 {
     if utf8::is_utf8(content) {
-        return put_text(out, at, b" utf8 yes");
+        return put_word(out, at, b" utf8 yes");
     }
-    put_text(out, at, b" utf8 no")
+    put_word(out, at, b" utf8 no")
 }
 
 // The call and the answer; nothing where the record is bad.
@@ -124,7 +116,7 @@ fn line(n: u64, kind: u64, content: &[u8], out: &mut [u8]) -> usize
     ensures { λ r. ⌜ Counts r (now (out .exit)) ⌝ }
     ensures { λ r. ⌜ take r (now (out .exit)) ≡ lineOf n kind (now (content .entry)) ⌝ }
 {
-    let i = text::put_decimal(out, 0, n);
+    let i = start_line(out, n);
     let j = answer(kind, content, out, i);
     if j == i {
         return 0;
@@ -148,14 +140,55 @@ fn next_header() -> Header
     text::read_header(&head[..got], 65600)
 }
 
+// Prints the lines of the first `count` rows of the table. Answers whether they were printed.
+fn print_rows(body: &[u8], table: &[u64], count: usize, out: &mut [u8]) -> bool
+    requires { ⌜ length (now body) ≤ 65600 ⌝ }
+    requires { ⌜ 787456 ≤ length (now out) ⌝ }
+{
+    let mut row = 0;
+    while row < count {
+        let k = row_line(body, table, row, out);
+        if !io::write_all(1, &out[..k]) {
+            return false;
+        }
+        row += 1;
+    }
+    true
+}
+
+// Kind 1: prints the line of record n, and those of the body's records. Answers whether to go on.
+fn reply_decode(n: u64, body: &[u8], table: &mut [u64], out: &mut [u8]) -> bool
+    requires { ⌜ length (now body) ≤ 65600 ⌝ }
+    requires { ⌜ 787456 ≤ length (now out) ⌝ }
+{
+    let d = message::decode(body, table);
+    let k = decode_line(n, d, out);
+    if !io::write_all(1, &out[..k]) {
+        return false;
+    }
+    let count = records_in(d);
+    print_rows(body, table, count, out)
+}
+
 // Reads the content of record n and prints its line. Answers whether to go on.
-fn reply(n: u64, kind: u64, len: usize, content: &mut [u8], out: &mut [u8]) -> bool
+fn reply(
+    n: u64,
+    kind: u64,
+    len: usize,
+    content: &mut [u8],
+    table: &mut [u64],
+    out: &mut [u8],
+) -> bool
     requires { ⌜ len ≤ length (now content) ⌝ }
-    requires { ⌜ 131328 ≤ length (now out) ⌝ }
+    requires { ⌜ len ≤ 65600 ⌝ }
+    requires { ⌜ 787456 ≤ length (now out) ⌝ }
 {
     let got = io::read_full(0, &mut content[..len]);
     if got < len {
         return last(b"bad\n");
+    }
+    if kind == 1 {
+        return reply_decode(n, &content[..len], table, out);
     }
     let k = line(n, kind, &content[..len], out);
     if k == 0 {
@@ -165,25 +198,26 @@ fn reply(n: u64, kind: u64, len: usize, content: &mut [u8], out: &mut [u8]) -> b
 }
 
 // Reads a record and prints its line, or the word that ends the run. Answers whether to go on.
-fn turn(n: u64, content: &mut [u8], out: &mut [u8]) -> bool
+fn turn(n: u64, content: &mut [u8], table: &mut [u64], out: &mut [u8]) -> bool
     requires { ⌜ 65600 ≤ length (now content) ⌝ }
-    requires { ⌜ 131328 ≤ length (now out) ⌝ }
+    requires { ⌜ 787456 ≤ length (now out) ⌝ }
 {
     let h = next_header();
     match h {
         Header::End => false,
         Header::Bad => last(b"bad\n"),
         Header::Long => last(b"long\n"),
-        Header::Record { kind, len } => reply(n, kind, len, content, out),
+        Header::Record { kind, len } => reply(n, kind, len, content, table, out),
     }
 }
 
 // The count of records only bounds the loop: no run uses it up.
 fn main() {
     let mut content = [0u8; 65600];
-    let mut out = [0u8; 131328];
+    let mut table = [0u64; 10240];
+    let mut out = [0u8; 787456];
     let mut n: u64 = 1;
-    while n < u64::MAX && turn(n, &mut content, &mut out) {
+    while n < u64::MAX && turn(n, &mut content, &mut table, &mut out) {
         n += 1;
     }
 }

@@ -1,4 +1,4 @@
--- The loop of put_text: one byte more, and none left.
+-- The loop of spell_text: one byte more, and none left.
 use Prim.Native.Nat.{ℕ, suc, _+_, _≤_, _<_}
 use mathlib.Core.Path.{_≡_}
 use mathlib.Core.List.{List}

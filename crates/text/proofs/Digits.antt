@@ -1,4 +1,4 @@
--- put_decimal: what io::decimal leaves is the decimal text, of at most 20 bytes.
+-- spell_decimal: what io::decimal leaves is the decimal text, of at most 20 bytes.
 use Prim.Native.Nat.{ℕ, _^_, _≤_, _<_}
 use mathlib.Core.Path.{_≡_, ap, _∙_}
 use mathlib.Core.List.{List}

@@ -1,4 +1,4 @@
--- The loop of put_hex: two digits more.
+-- The loop of spell_hex: two digits more.
 use Prim.Native.Nat.{ℕ, suc, _+_, _/_, _%_, _≤_, _<_}
 use mathlib.Core.Path.{_≡_}
 use mathlib.Core.List.{List}

@@ -3,3 +3,4 @@ pub mod Copy
 pub mod Digits
 pub mod Numbers
 pub mod Hex
+pub mod Room

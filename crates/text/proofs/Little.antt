@@ -1,4 +1,4 @@
--- The loop of number_at: a byte more, below what was read.
+-- The loop of read_number: a byte more, below what was read.
 use Prim.Native.Nat.{ℕ, zero, suc, _+_, _*_, _-_, _^_, _≤_, _<_}
 use mathlib.Core.Path.{_≡_, refl, _∙_}
 use mathlib.Core.List.{List}

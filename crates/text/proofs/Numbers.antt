@@ -1,4 +1,4 @@
--- put_numbers: the texts that are put, for each count.
+-- spell_numbers: the texts that are put, for each count.
 use Prim.Native.Nat.{ℕ, _≤_}
 use mathlib.Core.Path.{_≡_, sym}
 use mathlib.Core.List.{[], _∷_, _++_, append-nil, append-assoc}

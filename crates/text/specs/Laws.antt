@@ -7,19 +7,24 @@ use native.Mathlib.Omega.{arith}
 use native.Mathlib.Nat.{pow-suc, one-le-pow}
 use native.Mathlib.Numerals.{add-one}
 use lib.ListN.{length, take, drop, set, length-append}
-use lib.Seq.{sets-eq, length-sets, take-at}
+use lib.Seq.{sets-eq, length-sets, take-at, take-nil}
 use lib.Dec.{ltb, eqb}
 use borrow.Author.Tests.{ltb-true, ltb-false, lt-ltb}
 use Rattle.basis.specs.Cases.{either}
-use Rattle.basis.specs.Lists.{sets-append}
+use Rattle.basis.specs.Writing.{endIn, setIn}
+use Rattle.basis.specs.Lists.{sets-append, end-fits, set-fits}
 use Rattle.io.specs.Digits.{glyph, digits, Fewest}
 use Rattle.text.specs.declared.Header.the-variants.{End, Bad, Long, Record}
 use Rattle.text.specs.Record.{little, headerOf, contentLength}
-use Rattle.text.specs.Line.{Puts, width, decimal, number, hex}
+use Rattle.text.specs.Line.{Puts, width, decimal, number, numbers, refused, hex}
 
 -- ---- putting
 pub puts-none : (b : List ℕ) (at : ℕ) → Puts 0 [] b at b at
 puts-none b at = record { bytes = refl; place = omega arith; small = omega arith }
+
+-- what a public writer did, where it had the room
+pub puts-in : {room at end : ℕ} {xs b a : List ℕ} → at + room ≤ length b → length xs ≤ room → (end ≡ endIn room at xs b) × (a ≡ setIn room at xs b) → Puts room xs b at a end
+puts-in {room} {at} {end} {xs} {b} {a} h l e = record { bytes = e .1 ∙ set-fits room at xs b h; place = e .0 ∙ end-fits room at xs b h; small = omega (arith, e .0 ∙ end-fits room at xs b h) }
 
 -- one text after another is one text
 pub puts-then : {p q : ℕ} {xs ys b m a : List ℕ} {at i end : ℕ} → Puts p xs b at m i → Puts q ys m i a end → Puts (p + q) (xs ++ ys) b at a end
@@ -102,6 +107,33 @@ pub length-hex : (s : List ℕ) → length (hex s) ≡ 2 * length s
 unfolding hex
 length-hex [] = refl
 length-hex (b ∷ s) = omega (arith, length-hex s)
+
+length-numbers : (n a b c : ℕ) → a < 2 ^ 64 → b < 2 ^ 64 → c < 2 ^ 64 → length (numbers (take n (a ∷ b ∷ c ∷ []))) ≤ 63
+unfolding numbers
+length-numbers zero a b c p q r = omega arith
+length-numbers (suc zero) a b c p q r = rw (length-append (number a) []) (omega (arith, length-number a p))
+length-numbers (suc (suc zero)) a b c p q r = simp length-append (omega (arith, length-number a p, length-number b q))
+length-numbers (suc (suc (suc n))) a b c p q r = rw (take-nil n) (simp length-append (omega (arith, length-number a p, length-number b q, length-number c r)))
+
+pub length-refused : (m n a b c : ℕ) → m < 2 ^ 64 → a < 2 ^ 64 → b < 2 ^ 64 → c < 2 ^ 64 → length (refused m (take n (a ∷ b ∷ c ∷ []))) ≤ 92
+unfolding refused
+length-refused m n a b c h p q r = simp length-append (omega (arith, length-number m h, length-numbers n a b c p q r))
+
+-- ---- what each public writer did
+pub text-puts : {at end : ℕ} {xs b a : List ℕ} → at + length xs ≤ length b → (end ≡ endIn (length xs) at xs b) × (a ≡ setIn (length xs) at xs b) → Puts (length xs) xs b at a end
+text-puts h e = puts-in h (omega arith) e
+
+pub decimal-puts : {at end n : ℕ} {b a : List ℕ} → n < 2 ^ 64 → at + 20 ≤ length b → (end ≡ endIn 20 at (decimal n) b) × (a ≡ setIn 20 at (decimal n) b) → Puts 20 (decimal n) b at a end
+decimal-puts {n = n} l h e = puts-in h (decimal-twenty n l) e
+
+pub number-puts : {at end n : ℕ} {b a : List ℕ} → n < 2 ^ 64 → at + 21 ≤ length b → (end ≡ endIn 21 at (number n) b) × (a ≡ setIn 21 at (number n) b) → Puts 21 (number n) b at a end
+number-puts {n = n} l h e = puts-in h (length-number n l) e
+
+pub refused-puts : (n p q r : ℕ) {at end m : ℕ} {b a : List ℕ} → m < 2 ^ 64 → p < 2 ^ 64 → q < 2 ^ 64 → r < 2 ^ 64 → at + 92 ≤ length b → (end ≡ endIn 92 at (refused m (take n (p ∷ q ∷ r ∷ []))) b) × (a ≡ setIn 92 at (refused m (take n (p ∷ q ∷ r ∷ []))) b) → Puts 92 (refused m (take n (p ∷ q ∷ r ∷ []))) b at a end
+refused-puts n p q r {m = m} i j k l h e = puts-in h (length-refused m n p q r i j k l) e
+
+pub hex-puts : (s : List ℕ) {at end : ℕ} {b a : List ℕ} → at + 2 * length s ≤ length b → (end ≡ endIn (2 * length s) at (hex s) b) × (a ≡ setIn (2 * length s) at (hex s) b) → Puts (2 * length s) (hex s) b at a end
+hex-puts s h e = puts-in h (omega (arith, length-hex s)) e
 
 -- ---- a header
 tests : (a b c d : Bool) (k l most : ℕ) → (c ≡ false → l ≤ most) → contentLength (cond a End (cond b Bad (cond c Long (cond d Bad (Record k l))))) ≤ most

@@ -1,13 +1,15 @@
 // Records in and lines out, for the programs that run the libraries on bytes: the header of a record, little-endian numbers, and words, decimal
-// numbers and hex put into a line. A writer takes the line, a place in it and what to put there, and hands back the place after that; its
-// caller sees to the room.
+// numbers and hex put into a line. A writer takes the line, a place in it and what to put there, and hands back the place after that. Where the
+// line has not the room, a public writer writes nothing and hands back the place as it was.
 ghost use mathlib.Core.Path.{_≡_};
-ghost use Prim.Native.Nat.{_+_, _*_, _≤_};
+ghost use Prim.Native.Nat.{_+_, _*_, _≤_, min};
 ghost use mathlib.Core.List.{_∷_, []};
 ghost use lib.ListN.{length, take, drop};
 ghost use Rattle.io.specs.Digits.{glyph as glyphOf};
+ghost use Rattle.basis.specs.Writing.{endIn, setIn};
 ghost use Rattle.text.specs.Record.{little, headerOf};
 ghost use Rattle.text.specs.Line.{Puts, decimal, number, numbers, refused, hex};
+use basis::has_room;
 
 // What the start of a record says.
 pub enum Header {
@@ -17,8 +19,8 @@ pub enum Header {
     Record { kind: u64, len: usize },
 }
 
-// The number in n bytes at `at`, the low byte first.
-pub fn number_at(s: &[u8], at: usize, n: usize) -> u64
+// The number in n bytes at `at`, the low byte first, where they are there.
+fn read_number(s: &[u8], at: usize, n: usize) -> u64
     requires { ⌜ n ≤ 8 ⌝ }
     requires { ⌜ at + n ≤ length (now s) ⌝ }
     ensures { λ r. ⌜ r ≡ little (take n (drop at (now (s .entry)))) ⌝ }
@@ -32,6 +34,24 @@ pub fn number_at(s: &[u8], at: usize, n: usize) -> u64
     value
 }
 
+fn least(a: usize, b: usize) -> usize
+    ensures { λ r. ⌜ r ≡ min a b ⌝ }
+{
+    if a < b { a } else { b }
+}
+
+// The number in n bytes at `at`, the low byte first: in the first eight of them, and in those that are there.
+pub fn number_at(s: &[u8], at: usize, n: usize) -> u64
+    ensures { λ r. ⌜ r ≡ little (take (min n 8) (drop at (now (s .entry)))) ⌝ }
+{
+    if s.len() < at {
+        return 0;
+    }
+    let most = least(n, 8);
+    let m = least(most, s.len() - at);
+    read_number(s, at, m)
+}
+
 // The header of a record, of which s was read: at the end of the input nothing, of a cut one less than six bytes. The length is tested as
 // soon as it is there.
 pub fn read_header(s: &[u8], most: u64) -> Header
@@ -43,21 +63,22 @@ pub fn read_header(s: &[u8], most: u64) -> Header
     if s.len() < 4 {
         return Header::Bad;
     }
-    let len = number_at(s, 0, 4);
+    let len = read_number(s, 0, 4);
     if most < len {
         return Header::Long;
     }
     if s.len() < 6 {
         return Header::Bad;
     }
-    let kind = number_at(s, 4, 2);
+    let kind = read_number(s, 4, 2);
     Header::Record {
         kind,
         len: len as usize,
     }
 }
 
-pub fn put_text(out: &mut [u8], at: usize, text: &[u8]) -> usize
+// Puts a text at `at`, where it fits, and says where it ends.
+fn spell_text(out: &mut [u8], at: usize, text: &[u8]) -> usize
     requires { ⌜ at + length (now text) ≤ length (now out) ⌝ }
     ensures { λ r. ⌜ Puts (length (now (text .entry))) (now (text .entry)) (now (out .entry)) at (now (out .exit)) r ⌝ }
 {
@@ -69,41 +90,97 @@ pub fn put_text(out: &mut [u8], at: usize, text: &[u8]) -> usize
     at + text.len()
 }
 
-pub fn put_decimal(out: &mut [u8], at: usize, n: u64) -> usize
+pub fn put_text(out: &mut [u8], at: usize, text: &[u8]) -> usize
+    ensures { λ r. ⌜ r ≡ endIn (length (now (text .entry))) at (now (text .entry)) (now (out .entry)) ⌝ }
+    ensures { λ _. ⌜ now (out .exit) ≡ setIn (length (now (text .entry))) at (now (text .entry)) (now (out .entry)) ⌝ }
+{
+    if has_room(out.len(), at, text.len()) {
+        return spell_text(out, at, text);
+    }
+    at
+}
+
+fn spell_decimal(out: &mut [u8], at: usize, n: u64) -> usize
     requires { ⌜ at + 20 ≤ length (now out) ⌝ }
     ensures { λ r. ⌜ Puts 20 (decimal n) (now (out .entry)) at (now (out .exit)) r ⌝ }
 {
     let mut text = [0u8; 20];
     let k = io::decimal(n, &mut text);
-    put_text(out, at, &text[..k])
+    spell_text(out, at, &text[..k])
+}
+
+pub fn put_decimal(out: &mut [u8], at: usize, n: u64) -> usize
+    ensures { λ r. ⌜ r ≡ endIn 20 at (decimal n) (now (out .entry)) ⌝ }
+    ensures { λ _. ⌜ now (out .exit) ≡ setIn 20 at (decimal n) (now (out .entry)) ⌝ }
+{
+    if has_room(out.len(), at, 20) {
+        return spell_decimal(out, at, n);
+    }
+    at
 }
 
 // A blank and a number.
-pub fn put_number(out: &mut [u8], at: usize, n: u64) -> usize
+fn spell_number(out: &mut [u8], at: usize, n: u64) -> usize
     requires { ⌜ at + 21 ≤ length (now out) ⌝ }
     ensures { λ r. ⌜ Puts 21 (number n) (now (out .entry)) at (now (out .exit)) r ⌝ }
 {
     out[at] = b' ';
-    put_decimal(out, at + 1, n)
+    spell_decimal(out, at + 1, n)
+}
+
+// A blank and a number.
+pub fn put_number(out: &mut [u8], at: usize, n: u64) -> usize
+    ensures { λ r. ⌜ r ≡ endIn 21 at (number n) (now (out .entry)) ⌝ }
+    ensures { λ _. ⌜ now (out .exit) ≡ setIn 21 at (number n) (now (out .entry)) ⌝ }
+{
+    if has_room(out.len(), at, 21) {
+        return spell_number(out, at, n);
+    }
+    at
 }
 
 // The first `count` of three numbers.
-fn put_numbers(out: &mut [u8], at: usize, count: u64, first: u64, second: u64, third: u64) -> usize
+fn spell_numbers(
+    out: &mut [u8],
+    at: usize,
+    count: u64,
+    first: u64,
+    second: u64,
+    third: u64,
+) -> usize
     requires { ⌜ at + 63 ≤ length (now out) ⌝ }
     ensures { λ r. ⌜ Puts 63 (numbers (take count (first ∷ second ∷ third ∷ []))) (now (out .entry)) at (now (out .exit)) r ⌝ }
 {
     if count == 0 {
         return at;
     }
-    let i = put_number(out, at, first);
+    let i = spell_number(out, at, first);
     if count == 1 {
         return i;
     }
-    let j = put_number(out, i, second);
+    let j = spell_number(out, i, second);
     if count == 2 {
         return j;
     }
-    put_number(out, j, third)
+    spell_number(out, j, third)
+}
+
+// A refusal: its number and the first `count` of three values.
+fn spell_refused(
+    out: &mut [u8],
+    at: usize,
+    refusal: u64,
+    count: u64,
+    first: u64,
+    second: u64,
+    third: u64,
+) -> usize
+    requires { ⌜ at + 92 ≤ length (now out) ⌝ }
+    ensures { λ r. ⌜ Puts 92 (refused refusal (take count (first ∷ second ∷ third ∷ []))) (now (out .entry)) at (now (out .exit)) r ⌝ }
+{
+    let i = spell_text(out, at, b" refused");
+    let j = spell_number(out, i, refusal);
+    spell_numbers(out, j, count, first, second, third)
 }
 
 // A refusal: its number and the first `count` of three values.
@@ -116,12 +193,13 @@ pub fn put_refused(
     second: u64,
     third: u64,
 ) -> usize
-    requires { ⌜ at + 92 ≤ length (now out) ⌝ }
-    ensures { λ r. ⌜ Puts 92 (refused refusal (take count (first ∷ second ∷ third ∷ []))) (now (out .entry)) at (now (out .exit)) r ⌝ }
+    ensures { λ r. ⌜ r ≡ endIn 92 at (refused refusal (take count (first ∷ second ∷ third ∷ []))) (now (out .entry)) ⌝ }
+    ensures { λ _. ⌜ now (out .exit) ≡ setIn 92 at (refused refusal (take count (first ∷ second ∷ third ∷ []))) (now (out .entry)) ⌝ }
 {
-    let i = put_text(out, at, b" refused");
-    let j = put_number(out, i, refusal);
-    put_numbers(out, j, count, first, second, third)
+    if has_room(out.len(), at, 92) {
+        return spell_refused(out, at, refusal, count, first, second, third);
+    }
+    at
 }
 
 // A digit of a byte.
@@ -133,7 +211,7 @@ fn glyph(d: u8) -> u8
 }
 
 // Two lower-case digits for each byte.
-pub fn put_hex(out: &mut [u8], at: usize, s: &[u8]) -> usize
+fn spell_hex(out: &mut [u8], at: usize, s: &[u8]) -> usize
     requires { ⌜ at + 2 * length (now s) ≤ length (now out) ⌝ }
     ensures { λ r. ⌜ Puts (2 * length (now (s .entry))) (hex (now (s .entry))) (now (out .entry)) at (now (out .exit)) r ⌝ }
 {
@@ -147,4 +225,17 @@ pub fn put_hex(out: &mut [u8], at: usize, s: &[u8]) -> usize
         j = j + 1;
     }
     i
+}
+
+// Two lower-case digits for each byte. Twice their number could pass a usize, so the room is tested in two steps.
+pub fn put_hex(out: &mut [u8], at: usize, s: &[u8]) -> usize
+    ensures { λ r. ⌜ r ≡ endIn (2 * length (now (s .entry))) at (hex (now (s .entry))) (now (out .entry)) ⌝ }
+    ensures { λ _. ⌜ now (out .exit) ≡ setIn (2 * length (now (s .entry))) at (hex (now (s .entry))) (now (out .entry)) ⌝ }
+{
+    if has_room(out.len(), at, s.len()) {
+        if has_room(out.len(), at + s.len(), s.len()) {
+            return spell_hex(out, at, s);
+        }
+    }
+    at
 }

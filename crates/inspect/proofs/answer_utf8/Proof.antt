@@ -10,40 +10,40 @@ use Rattle.inspect.proofs.answer_utf8.Tie as tie
 is-utf8-requires : tie.Need-is-utf8-requires
 is-utf8-requires c κs = search needs
 
-slice-aggregate-put-text : tie.Need-slice-aggregate-put-text
-slice-aggregate-put-text c = search needs
+slice-aggregate-put-word : tie.Need-slice-aggregate-put-word
+slice-aggregate-put-word c = search needs
 
-put-text-requires : tie.Need-put-text-requires
-put-text-requires c κs = search needs
+put-word-requires : tie.Need-put-word-requires
+put-word-requires c κs = search needs
 
 same-length : tie.Need-same-length
 same-length c = search needs
 
 returns : tie.Need-returns
-returns c = puts-as (utf8-yes _ (sym (c .before .before .before .before .before .before .is-utf8 .ensures) ∙ c .before .before .before .before .before .if1 .taken)) (omega arith) (c .before .before .put-text .ensures)
+returns c = puts-as (utf8-yes _ (sym (c .before .before .before .before .before .before .is-utf8 .ensures) ∙ c .before .before .before .before .before .if1 .taken)) (omega arith) (c .before .before .put-word .ensures)
 
-slice-aggregate-put-text-2 : tie.Need-slice-aggregate-put-text-2
-slice-aggregate-put-text-2 c = search needs
+slice-aggregate-put-word-2 : tie.Need-slice-aggregate-put-word-2
+slice-aggregate-put-word-2 c = search needs
 
-put-text-requires-2 : tie.Need-put-text-requires-2
-put-text-requires-2 c κs = search needs
+put-word-requires-2 : tie.Need-put-word-requires-2
+put-word-requires-2 c κs = search needs
 
 same-length-2 : tie.Need-same-length-2
 same-length-2 c = search needs
 
 returns-2 : tie.Need-returns-2
-returns-2 c = puts-as (utf8-no _ (sym (c .before .before .before .before .before .before .is-utf8 .ensures) ∙ c .before .before .before .before .before .if1 .left)) (omega arith) (c .before .before .put-text2 .ensures)
+returns-2 c = puts-as (utf8-no _ (sym (c .before .before .before .before .before .before .is-utf8 .ensures) ∙ c .before .before .before .before .before .if1 .left)) (omega arith) (c .before .before .put-word2 .ensures)
 
 pub answer-utf8-spec : {M : Type 1} → statement M
 answer-utf8-spec =
     tie.close
     (tie.spec
     is-utf8-requires
-    slice-aggregate-put-text
-    put-text-requires
+    slice-aggregate-put-word
+    put-word-requires
     same-length
     returns
-    slice-aggregate-put-text-2
-    put-text-requires-2
+    slice-aggregate-put-word-2
+    put-word-requires-2
     same-length-2
     returns-2)

@@ -9,11 +9,11 @@ use Rattle.inspect.proofs.answer_varint.Tie as tie
 read-uvarint-requires : tie.Need-read-uvarint-requires
 read-uvarint-requires c κs = search needs
 
-slice-aggregate-put-text : tie.Need-slice-aggregate-put-text
-slice-aggregate-put-text c = search needs
+slice-aggregate-put-word : tie.Need-slice-aggregate-put-word
+slice-aggregate-put-word c = search needs
 
-put-text-requires : tie.Need-put-text-requires
-put-text-requires c κs = search needs
+put-word-requires : tie.Need-put-word-requires
+put-word-requires c κs = search needs
 
 put-varint-requires : tie.Need-put-varint-requires
 put-varint-requires c κs = search needs
@@ -22,15 +22,15 @@ same-length : tie.Need-same-length
 same-length c = search needs
 
 returns : tie.Need-returns
-returns c = puts-as (varint-answer _ _ (c .before .before .before .before .before .before .before .before .before .read-uvarint .ensures)) (omega arith) (puts-then (c .before .before .before .before .before .before .put-text .ensures) (c .before .before .put-varint .ensures))
+returns c = puts-as (varint-answer _ _ (c .before .before .before .before .before .before .before .before .before .read-uvarint .ensures)) (omega arith) (puts-then (c .before .before .before .before .before .before .put-word .ensures) (c .before .before .put-varint .ensures))
 
 pub answer-varint-spec : {M : Type 1} → statement M
 answer-varint-spec =
     tie.close
     (tie.spec
     read-uvarint-requires
-    slice-aggregate-put-text
-    put-text-requires
+    slice-aggregate-put-word
+    put-word-requires
     put-varint-requires
     same-length
     returns)

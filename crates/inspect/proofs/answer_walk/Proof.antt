@@ -24,11 +24,11 @@ part-step-end c = search needs
 step-requires : tie.Need-step-requires
 step-requires c κs = search needs
 
-slice-aggregate-put-text : tie.Need-slice-aggregate-put-text
-slice-aggregate-put-text c = search needs
+slice-aggregate-put-word : tie.Need-slice-aggregate-put-word
+slice-aggregate-put-word c = search needs
 
-put-text-requires : tie.Need-put-text-requires
-put-text-requires c κs = search needs
+put-word-requires : tie.Need-put-word-requires
+put-word-requires c κs = search needs
 
 put-walk-requires : tie.Need-put-walk-requires
 put-walk-requires c κs = search needs
@@ -37,7 +37,7 @@ same-length : tie.Need-same-length
 same-length c = search needs
 
 returns-2 : tie.Need-returns-2
-returns-2 c = puts-as (walk-answer _ _ _ (c .before .before .before .before .before .before .before .before .before .before .before .before .if1 .left) (c .before .before .before .before .before .before .before .before .before .before .before .number-at .ensures) (c .before .before .before .before .before .before .before .before .before .step .ensures)) (omega arith) (puts-then (c .before .before .before .before .before .before .put-text .ensures) (c .before .before .put-walk .ensures))
+returns-2 c = puts-as (walk-answer _ _ _ (c .before .before .before .before .before .before .before .before .before .before .before .before .if1 .left) (c .before .before .before .before .before .before .before .before .before .before .before .number-at .ensures) (c .before .before .before .before .before .before .before .before .before .step .ensures)) (omega arith) (puts-then (c .before .before .before .before .before .before .put-word .ensures) (c .before .before .put-walk .ensures))
 
 pub answer-walk-spec : {M : Type 1} → statement M
 answer-walk-spec =
@@ -49,8 +49,8 @@ answer-walk-spec =
     part-step-start
     part-step-end
     step-requires
-    slice-aggregate-put-text
-    put-text-requires
+    slice-aggregate-put-word
+    put-word-requires
     put-walk-requires
     same-length
     returns-2)

@@ -8,8 +8,8 @@ use Rattle.inspect.proofs.Answering.{line-none, line-some, prefix}
 use Rattle.inspect.proofs.line.Statement.{statement}
 use Rattle.inspect.proofs.line.Tie as tie
 
-put-decimal-requires : tie.Need-put-decimal-requires
-put-decimal-requires c κs = search needs
+start-line-requires : tie.Need-start-line-requires
+start-line-requires c κs = search needs
 
 answer-requires : tie.Need-answer-requires
 answer-requires c κs = search needs
@@ -27,16 +27,16 @@ add-result : tie.Need-add-result
 add-result c = search needs
 
 same-length-2 : tie.Need-same-length-2
-same-length-2 c = simp length-set (puts-length (c .before .before .before .answer .ensures) ∙ puts-length (c .before .before .before .before .before .before .before .put-decimal .ensures))
+same-length-2 c = simp length-set (puts-length (c .before .before .before .answer .ensures) ∙ puts-length (c .before .before .before .before .before .before .before .start-line .ensures))
 
 returns-2 : tie.Need-returns-2
-returns-2 c = let f = line-some (c .before .before .before .before .before .before .before .before .before .before .before .args .n) (c .before .before .before .before .before .before .before .before .before .before .before .args .kind) _ (c .before .before .before .before .before .before .before .put-decimal .ensures) (c .before .before .before .answer .ensures) (c .if1 .left) in let l = puts-length f in (omega (arith, f .place), ((omega arith, prefix _ _ (omega arith)), puts-front f (omega arith)))
+returns-2 c = let f = line-some (c .before .before .before .before .before .before .before .before .before .before .before .args .n) (c .before .before .before .before .before .before .before .before .before .before .before .args .kind) _ (c .before .before .before .before .before .before .before .start-line .ensures) (c .before .before .before .answer .ensures) (c .if1 .left) in let l = puts-length f in (omega (arith, f .place), ((omega arith, prefix _ _ (omega arith)), puts-front f (omega arith)))
 
 pub line-spec : {M : Type 1} → statement M
 line-spec =
     tie.close
     (tie.spec
-    put-decimal-requires
+    start-line-requires
     answer-requires
     same-length
     returns

@@ -3,23 +3,27 @@ use borrow.Author.Needs.{needs}
 use Prim.Native.Nat.{_-_, _^_}
 use mathlib.Core.Path.{_≡_}
 use lib.ListN.{length}
+use Rattle.inspect.proofs.Answering.{filled}
 use Rattle.inspect.proofs.main.Statement.{statement}
 use Rattle.inspect.proofs.main.Tie as tie
 
 abbrev Inv-loop : tie.InvT-loop
-Inv-loop content₀ out₀ n₀ content out n = (65600 ≡ length content) × (131328 ≡ length out)
+Inv-loop content₀ table₀ out₀ n₀ content table out n = (65600 ≡ length content) × (10240 ≡ length table) × (787456 ≡ length out)
 
 abbrev μ-loop : tie.MeasureT-loop
-μ-loop content₀ out₀ n₀ content out n = 2 ^ 64 - n
+μ-loop content₀ table₀ out₀ n₀ content table out n = 2 ^ 64 - n
 
 loop-holds : tie.Need-loop-holds Inv-loop μ-loop
-loop-holds c = search needs
+loop-holds c = (filled 65600, filled 10240, filled 787456)
 
 slice-aggregate-turn : tie.Need-slice-aggregate-turn Inv-loop μ-loop
 slice-aggregate-turn c = search needs
 
 slice-aggregate-turn-2 : tie.Need-slice-aggregate-turn-2 Inv-loop μ-loop
 slice-aggregate-turn-2 c = search needs
+
+slice-aggregate-turn-3 : tie.Need-slice-aggregate-turn-3 Inv-loop μ-loop
+slice-aggregate-turn-3 c = search needs
 
 turn-requires : tie.Need-turn-requires Inv-loop μ-loop
 turn-requires c κs = search needs
@@ -48,6 +52,7 @@ main-spec =
     loop-holds
     slice-aggregate-turn
     slice-aggregate-turn-2
+    slice-aggregate-turn-3
     turn-requires
     add-n
     loop-less

@@ -16,11 +16,11 @@ put-refusal-requires c κs = search needs
 enum-known-v-2 : tie.Need-enum-known-v-2
 enum-known-v-2 c = search needs
 
-put-number-requires : tie.Need-put-number-requires
-put-number-requires c κs = search needs
+put-value-requires : tie.Need-put-value-requires
+put-value-requires c κs = search needs
 
-put-number-requires-2 : tie.Need-put-number-requires-2
-put-number-requires-2 c κs = search needs
+put-value-requires-2 : tie.Need-put-value-requires-2
+put-value-requires-2 c κs = search needs
 
 same-length : tie.Need-same-length
 same-length c = search needs
@@ -34,7 +34,7 @@ same-length-2 c = search needs
 
 returns-2 : tie.Need-returns-2
 unfolding varint
-returns-2 c = puts-as (ap varint (sym (c .before .before .before .before .before .before .before .before .before .v2 .given .1))) (omega arith) (puts-then (c .before .before .before .before .before .before .put-number .ensures) (c .before .before .put-number2 .ensures))
+returns-2 c = puts-as (ap varint (sym (c .before .before .before .before .before .before .before .before .before .v2 .given .1))) (omega arith) (puts-then (c .before .before .before .before .before .before .put-value .ensures) (c .before .before .put-value2 .ensures))
 
 pub put-varint-spec : {M : Type 1} → statement M
 put-varint-spec =
@@ -43,8 +43,8 @@ put-varint-spec =
     enum-known-v
     put-refusal-requires
     enum-known-v-2
-    put-number-requires
-    put-number-requires-2
+    put-value-requires
+    put-value-requires-2
     same-length
     returns
     same-length-2

@@ -1,6 +1,7 @@
 -- `inspect::reply` is safe: what is read and printed lies within what is lent.
+use native.Mathlib.Omega.{arith}
+use Rattle.inspect.proofs.Answering.{prefix, front-small}
 use borrow.Author.Needs.{needs}
-use Rattle.inspect.proofs.Answering.{prefix}
 use Rattle.inspect.proofs.reply.Statement.{statement}
 use Rattle.inspect.proofs.reply.Tie as tie
 
@@ -25,6 +26,27 @@ same-length c = search needs
 returns : tie.Need-returns
 returns c = search needs
 
+slice-reshare-prefix-reply-decode : tie.Need-slice-reshare-prefix-reply-decode
+slice-reshare-prefix-reply-decode c = search needs
+
+slice-aggregate-reply-decode : tie.Need-slice-aggregate-reply-decode
+slice-aggregate-reply-decode c = prefix _ _ (search needs)
+
+reply-decode-requires : tie.Need-reply-decode-requires
+reply-decode-requires c κs = (front-small (c .before .before .before .before .before .before .before .before .before .before .before .before .args .len) _ _ (omega arith), omega arith)
+
+same-length-2 : tie.Need-same-length-2
+same-length-2 c = search needs
+
+same-length-3 : tie.Need-same-length-3
+same-length-3 c = search needs
+
+same-length-4 : tie.Need-same-length-4
+same-length-4 c = search needs
+
+returns-2 : tie.Need-returns-2
+returns-2 c = search needs
+
 slice-reshare-prefix-line : tie.Need-slice-reshare-prefix-line
 slice-reshare-prefix-line c = search needs
 
@@ -40,14 +62,14 @@ slice-aggregate-last-2 c = search needs
 last-requires-2 : tie.Need-last-requires-2
 last-requires-2 c κs = search needs
 
-same-length-2 : tie.Need-same-length-2
-same-length-2 c = search needs
+same-length-5 : tie.Need-same-length-5
+same-length-5 c = search needs
 
-same-length-3 : tie.Need-same-length-3
-same-length-3 c = search needs
+same-length-6 : tie.Need-same-length-6
+same-length-6 c = search needs
 
-returns-2 : tie.Need-returns-2
-returns-2 c = search needs
+returns-3 : tie.Need-returns-3
+returns-3 c = search needs
 
 slice-reshare-prefix-write-all : tie.Need-slice-reshare-prefix-write-all
 slice-reshare-prefix-write-all c = search needs
@@ -58,14 +80,14 @@ slice-aggregate-write-all c = search needs
 write-all-requires : tie.Need-write-all-requires
 write-all-requires c κs = search needs
 
-same-length-4 : tie.Need-same-length-4
-same-length-4 c = search needs
+same-length-7 : tie.Need-same-length-7
+same-length-7 c = search needs
 
-same-length-5 : tie.Need-same-length-5
-same-length-5 c = search needs
+same-length-8 : tie.Need-same-length-8
+same-length-8 c = search needs
 
-returns-3 : tie.Need-returns-3
-returns-3 c = search needs
+returns-4 : tie.Need-returns-4
+returns-4 c = search needs
 
 pub reply-spec : {M : Type 1} → statement M
 reply-spec =
@@ -78,17 +100,24 @@ reply-spec =
     last-requires
     same-length
     returns
+    slice-reshare-prefix-reply-decode
+    slice-aggregate-reply-decode
+    reply-decode-requires
+    same-length-2
+    same-length-3
+    same-length-4
+    returns-2
     slice-reshare-prefix-line
     slice-aggregate-line
     line-requires
     slice-aggregate-last-2
     last-requires-2
-    same-length-2
-    same-length-3
-    returns-2
+    same-length-5
+    same-length-6
+    returns-3
     slice-reshare-prefix-write-all
     slice-aggregate-write-all
     write-all-requires
-    same-length-4
-    same-length-5
-    returns-3)
+    same-length-7
+    same-length-8
+    returns-4)

@@ -1,7 +1,7 @@
 -- `inspect::turn` is safe: a record's content fits.
-use borrow.Author.Needs.{needs}
 use native.Mathlib.Omega.{arith}
 use Rattle.inspect.proofs.Answering.{content-fits}
+use borrow.Author.Needs.{needs}
 use Rattle.inspect.proofs.turn.Statement.{statement}
 use Rattle.inspect.proofs.turn.Tie as tie
 
@@ -33,7 +33,7 @@ enum-known-h : tie.Need-enum-known-h
 enum-known-h c = search needs
 
 reply-requires : tie.Need-reply-requires
-reply-requires c κs = (omega (arith, content-fits _ _ _ (c .before .before .before .h .given .1) (c .before .before .before .before .before .next-header .ensures)), omega arith)
+reply-requires c κs = let l = content-fits _ _ _ (c .before .before .before .before .h .given .1) (c .before .before .before .before .before .before .next-header .ensures) in (omega arith, (omega arith, omega arith))
 
 returns : tie.Need-returns
 returns c = search needs
@@ -49,6 +49,9 @@ same-length c = search needs
 
 same-length-2 : tie.Need-same-length-2
 same-length-2 c = search needs
+
+same-length-3 : tie.Need-same-length-3
+same-length-3 c = search needs
 
 returns-4 : tie.Need-returns-4
 returns-4 c = search needs
@@ -72,4 +75,5 @@ turn-spec =
     returns-3
     same-length
     same-length-2
+    same-length-3
     returns-4)

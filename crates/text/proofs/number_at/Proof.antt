@@ -1,66 +1,31 @@
--- `text::number_at` meets its contract: `value` is the number in the bytes from i on.
-use Prim.Native.Nat.{_+_, _-_, _^_, _≤_, _<_}
-use mathlib.Core.Path.{_≡_}
+-- `text::number_at` meets its contract: as many bytes are read as are there, up to eight.
+use Prim.Native.Nat.{min}
+use mathlib.Core.Path.{_∙_}
 use native.Mathlib.Omega.{arith}
-use lib.ListN.{take, drop}
-use Rattle.text.specs.Record.{little}
-use Rattle.text.proofs.Little.{turn, grows, room, none, all}
+use Rattle.text.proofs.Room.{past, there}
+use borrow.Author.Needs.{needs}
 use Rattle.text.proofs.number_at.Statement.{statement}
 use Rattle.text.proofs.number_at.Tie as tie
 
-abbrev Inv-loop : tie.InvT-loop
-Inv-loop s at n i₀ value₀ i value =
-    (at ≤ i) × (i ≤ at + n) × (value < 256 ^ (at + n - i)) × (value ≡ little (take (at + n - i) (drop i s)))
+returns : tie.Need-returns
+returns c = past _ (c .before .before .args .at) (min (c .before .before .args .n) 8) (c .if1 .taken)
 
-abbrev μ-loop : tie.MeasureT-loop
-μ-loop s at n i₀ value₀ i value = i
+least-requires : tie.Need-least-requires
+least-requires c κs = search needs
 
-add-i : tie.Need-add-i Inv-loop μ-loop
-add-i c = omega arith
+sub-least : tie.Need-sub-least
+sub-least c = search needs
 
-loop-holds : tie.Need-loop-holds Inv-loop μ-loop
-loop-holds c = let n = none _ _ in (omega arith, omega arith, n .0, n .1)
+least-requires-2 : tie.Need-least-requires-2
+least-requires-2 c κs = search needs
 
-sub-i : tie.Need-sub-i Inv-loop μ-loop
-sub-i c = omega arith
+read-number-requires : tie.Need-read-number-requires
+read-number-requires c κs = search needs
 
-mul-value : tie.Need-mul-value Inv-loop μ-loop
-mul-value c = omega (arith, room _ _ (omega arith) (c .before .loop .inv .2))
-
-shared-slice-read-value : tie.Need-shared-slice-read-value Inv-loop μ-loop
-shared-slice-read-value c = omega arith
-
-cast-value : tie.Need-cast-value Inv-loop μ-loop
-cast-value c = omega (arith, c .shared-slice-known .given (c .before .before .loop .i - 1))
-
-add-value : tie.Need-add-value Inv-loop μ-loop
-add-value c = omega (arith, c .shared-slice-known .given (c .before .before .loop .i - 1), room _ _ (omega arith) (c .before .before .loop .inv .2))
-
-loop-less : tie.Need-loop-less Inv-loop μ-loop
-loop-less c = omega arith
-
-loop-again : tie.Need-loop-again Inv-loop μ-loop
-loop-again c =
-    let l = c .before .before .loop in
-    let b = c .shared-slice-known .given (l .i - 1) in
-    (omega arith, omega arith, grows _ _ _ _ (omega arith) (l .inv .1) (l .inv .2) (omega arith), turn _ (l .i) _ _ (omega arith) (l .inv .1) (omega arith) (l .inv .3))
-
-returns : tie.Need-returns Inv-loop μ-loop
-returns c = let l = c .before .loop in all _ _ _ (l .i) _ (l .inv .0) (c .loop-test .left) (l .inv .3)
+returns-2 : tie.Need-returns-2
+returns-2 c = let a = c .before .before .before .before .before .args in c .read-number .ensures ∙ there _ (a .at) (min (a .n) 8) (c .before .least2 .result) (c .before .before .before .if1 .left) (omega arith)
 
 pub number-at-spec : {M : Type 1} → statement M
 number-at-spec =
     tie.close
-    (tie.spec
-    Inv-loop
-    μ-loop
-    add-i
-    loop-holds
-    sub-i
-    mul-value
-    shared-slice-read-value
-    cast-value
-    add-value
-    loop-less
-    loop-again
-    returns)
+    (tie.spec returns least-requires sub-least least-requires-2 read-number-requires returns-2)

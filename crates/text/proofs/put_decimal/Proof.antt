@@ -1,36 +1,26 @@
--- `text::put_decimal` meets its contract: the fewest digits, put as a text.
+-- `text::put_decimal` meets its contract: where it has the room, it is spelt there.
+use mathlib.Core.Path.{sym, _∙_}
+use borrow.Author.Tests.{leb-true}
+use Rattle.text.proofs.Room.{fits, short}
 use borrow.Author.Needs.{needs}
-use native.Mathlib.Omega.{arith}
-use Rattle.text.specs.Laws.{puts-as}
-use Rattle.text.proofs.Digits.{shown}
 use Rattle.text.proofs.put_decimal.Statement.{statement}
 use Rattle.text.proofs.put_decimal.Tie as tie
 
-decimal-requires : tie.Need-decimal-requires
-decimal-requires c κs = search needs
+has-room-requires : tie.Need-has-room-requires
+has-room-requires c κs = search needs
 
-array-share-prefix-text : tie.Need-array-share-prefix-text
-array-share-prefix-text c = search needs
-
-slice-aggregate-put-text : tie.Need-slice-aggregate-put-text
-slice-aggregate-put-text c = search needs
-
-put-text-requires : tie.Need-put-text-requires
-put-text-requires c κs = omega (arith, shown (c .before .before .before .before .before .args .n) _ _ (omega arith) (c .before .before .decimal .ensures .1) .1)
+spell-decimal-requires : tie.Need-spell-decimal-requires
+spell-decimal-requires c κs = leb-true _ _ (sym (c .before .before .has-room .ensures) ∙ c .before .if1 .taken)
 
 same-length : tie.Need-same-length
 same-length c = search needs
 
 returns : tie.Need-returns
-returns c = let s = shown (c .before .before .before .before .before .before .before .before .args .n) _ _ (omega arith) (c .before .before .before .before .before .decimal .ensures .1) in puts-as (s .0) (s .1) (c .before .before .put-text .ensures)
+returns c = fits (sym (c .before .before .before .before .before .has-room .ensures) ∙ c .before .before .before .before .if1 .taken) (c .before .before .spell-decimal .ensures)
+
+returns-2 : tie.Need-returns-2
+returns-2 c = short _ _ _ _ (sym (c .before .has-room .ensures) ∙ c .if1 .left)
 
 pub put-decimal-spec : {M : Type 1} → statement M
 put-decimal-spec =
-    tie.close
-    (tie.spec
-    decimal-requires
-    array-share-prefix-text
-    slice-aggregate-put-text
-    put-text-requires
-    same-length
-    returns)
+    tie.close (tie.spec has-room-requires spell-decimal-requires same-length returns returns-2)

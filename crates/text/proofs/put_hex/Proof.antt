@@ -1,79 +1,47 @@
--- `text::put_hex` meets its contract: the digits of what is left, put at i, make what all of them at `at` make.
-use Prim.Native.Nat.{_+_, _*_, _-_, _≤_}
-use mathlib.Core.Path.{_≡_, refl, _∙_}
+-- `text::put_hex` meets its contract: where it has the room, it is spelt there.
+use Prim.Native.Nat.{_+_}
+use mathlib.Core.Path.{sym, _∙_}
 use native.Mathlib.Omega.{arith}
-use lib.ListN.{length, drop, length-set}
-use lib.Seq.{sets}
-use Rattle.text.specs.Line.{hex}
-use Rattle.text.specs.Laws.{length-hex}
-use Rattle.text.proofs.Hex.{turn, done}
+use lib.ListN.{length}
+use borrow.Author.Tests.{leb-true}
+use Rattle.text.proofs.Room.{fits, short, twice, not-once, not-twice}
+use borrow.Author.Needs.{needs}
 use Rattle.text.proofs.put_hex.Statement.{statement}
 use Rattle.text.proofs.put_hex.Tie as tie
 
-abbrev Inv-loop : tie.InvT-loop
-Inv-loop out₀ at s i₀ j₀ out i j =
-    (j ≤ length s) × (i ≡ at + 2 * j) × (length out ≡ length out₀) × (sets out i (hex (drop j s)) ≡ sets out₀ at (hex s))
+has-room-requires : tie.Need-has-room-requires
+has-room-requires c κs = search needs
 
-abbrev μ-loop : tie.MeasureT-loop
-μ-loop out₀ at s i₀ j₀ out i j = length s - j
+add-has-room : tie.Need-add-has-room
+add-has-room c = let a = c .before .before .before .before .args in omega (arith, leb-true (a .at + length (a .s .now)) (length (a .out .now)) (sym (c .before .has-room .ensures) ∙ c .if1 .taken))
 
-loop-holds : tie.Need-loop-holds Inv-loop μ-loop
-loop-holds c = (omega arith, omega arith, refl, refl)
+has-room-requires-2 : tie.Need-has-room-requires-2
+has-room-requires-2 c κs = search needs
 
-shared-slice-read-b : tie.Need-shared-slice-read-b Inv-loop μ-loop
-shared-slice-read-b c = omega arith
+spell-hex-requires : tie.Need-spell-hex-requires
+spell-hex-requires c κs = leb-true _ _ (twice (c .before .before .before .before .before .before .before .args .at) (length (c .before .before .before .before .before .before .before .args .s .now)) _ (sym (c .before .before .has-room2 .ensures) ∙ c .before .if2 .taken))
 
-glyph-requires : tie.Need-glyph-requires Inv-loop μ-loop
-glyph-requires c κs = omega (arith, c .shared-slice-known2 .given (c .before .before .loop .j))
+same-length : tie.Need-same-length
+same-length c = search needs
 
-slice-write-out : tie.Need-slice-write-out Inv-loop μ-loop
-slice-write-out c = omega arith
+returns : tie.Need-returns
+returns c = fits (twice (c .before .before .before .before .before .before .before .before .before .before .args .at) (length (c .before .before .before .before .before .before .before .before .before .before .args .s .now)) _ (sym (c .before .before .before .before .before .has-room2 .ensures) ∙ c .before .before .before .before .if2 .taken)) (c .before .before .spell-hex .ensures)
 
-glyph-requires-2 : tie.Need-glyph-requires-2 Inv-loop μ-loop
-glyph-requires-2 c κs = omega arith
+returns-2 : tie.Need-returns-2
+returns-2 c = short _ _ _ _ (not-twice (c .before .before .before .before .before .before .args .at) (length (c .before .before .before .before .before .before .args .s .now)) _ (sym (c .before .has-room2 .ensures) ∙ c .if2 .left))
 
-add-out : tie.Need-add-out Inv-loop μ-loop
-add-out c = omega arith
-
-slice-write-out-2 : tie.Need-slice-write-out-2 Inv-loop μ-loop
-slice-write-out-2 c = simp length-set (omega arith)
-
-add-i : tie.Need-add-i Inv-loop μ-loop
-add-i c = omega arith
-
-add-j : tie.Need-add-j Inv-loop μ-loop
-add-j c = omega arith
-
-loop-less : tie.Need-loop-less Inv-loop μ-loop
-loop-less c = omega arith
-
-loop-again : tie.Need-loop-again Inv-loop μ-loop
-loop-again c =
-    let l = c .before .before .before .before .loop in
-    (omega arith, omega arith, simp length-set (l .inv .2), turn _ _ (l .i) (l .j) _ _ (c .before .before .before .loop-test .taken) (c .before .glyph .ensures) (c .glyph2 .ensures) ∙ l .inv .3)
-
-same-length : tie.Need-same-length Inv-loop μ-loop
-same-length c = c .before .loop .inv .2
-
-returns : tie.Need-returns Inv-loop μ-loop
-returns c = let l = c .before .loop in record { small = omega arith; place = omega (arith, length-hex (c .before .before .before .before .args .s .now)); bytes = done _ _ (l .i) (l .j) (c .loop-test .left) ∙ l .inv .3 }
+returns-3 : tie.Need-returns-3
+returns-3 c = short _ _ _ _ (not-once (c .before .before .before .before .args .at) (length (c .before .before .before .before .args .s .now)) _ (sym (c .before .has-room .ensures) ∙ c .if1 .left))
 
 pub put-hex-spec : {M : Type 1} → statement M
 put-hex-spec =
     tie.close
     (tie.spec
-    Inv-loop
-    μ-loop
-    loop-holds
-    shared-slice-read-b
-    glyph-requires
-    slice-write-out
-    glyph-requires-2
-    add-out
-    slice-write-out-2
-    add-i
-    add-j
-    loop-less
-    loop-again
+    has-room-requires
+    add-has-room
+    has-room-requires-2
+    spell-hex-requires
     same-length
-    returns)
+    returns
+    returns-2
+    returns-3)

@@ -1,29 +1,26 @@
--- `text::put_number` meets its contract: a blank, and then the digits.
+-- `text::put_number` meets its contract: where it has the room, it is spelt there.
+use mathlib.Core.Path.{sym, _∙_}
+use borrow.Author.Tests.{leb-true}
+use Rattle.text.proofs.Room.{fits, short}
 use borrow.Author.Needs.{needs}
-use mathlib.Core.Path.{_∙_}
-use native.Mathlib.Omega.{arith}
-use lib.ListN.{length-set}
-use Rattle.text.specs.Line.{number}
-use Rattle.text.specs.Laws.{puts-cons, puts-length}
 use Rattle.text.proofs.put_number.Statement.{statement}
 use Rattle.text.proofs.put_number.Tie as tie
 
-slice-write-out : tie.Need-slice-write-out
-slice-write-out c = search needs
+has-room-requires : tie.Need-has-room-requires
+has-room-requires c κs = search needs
 
-add-put-decimal : tie.Need-add-put-decimal
-add-put-decimal c = search needs
-
-put-decimal-requires : tie.Need-put-decimal-requires
-put-decimal-requires c κs = simp length-set (omega arith)
+spell-number-requires : tie.Need-spell-number-requires
+spell-number-requires c κs = leb-true _ _ (sym (c .before .before .has-room .ensures) ∙ c .before .if1 .taken)
 
 same-length : tie.Need-same-length
-same-length c = puts-length (c .before .before .put-decimal .ensures) ∙ simp length-set
+same-length c = search needs
 
 returns : tie.Need-returns
-unfolding number
-returns c = puts-cons (c .before .before .put-decimal .ensures)
+returns c = fits (sym (c .before .before .before .before .before .has-room .ensures) ∙ c .before .before .before .before .if1 .taken) (c .before .before .spell-number .ensures)
+
+returns-2 : tie.Need-returns-2
+returns-2 c = short _ _ _ _ (sym (c .before .has-room .ensures) ∙ c .if1 .left)
 
 pub put-number-spec : {M : Type 1} → statement M
 put-number-spec =
-    tie.close (tie.spec slice-write-out add-put-decimal put-decimal-requires same-length returns)
+    tie.close (tie.spec has-room-requires spell-number-requires same-length returns returns-2)

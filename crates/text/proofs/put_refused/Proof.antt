@@ -1,36 +1,26 @@
--- `text::put_refused` meets its contract: the word, the number and the values, one after the other.
+-- `text::put_refused` meets its contract: where it has the room, it is spelt there.
+use mathlib.Core.Path.{sym, _∙_}
+use borrow.Author.Tests.{leb-true}
+use Rattle.text.proofs.Room.{fits, short}
 use borrow.Author.Needs.{needs}
-use Rattle.text.specs.Line.{refused}
-use Rattle.text.specs.Laws.{puts-then}
 use Rattle.text.proofs.put_refused.Statement.{statement}
 use Rattle.text.proofs.put_refused.Tie as tie
 
-slice-aggregate-put-text : tie.Need-slice-aggregate-put-text
-slice-aggregate-put-text c = search needs
+has-room-requires : tie.Need-has-room-requires
+has-room-requires c κs = search needs
 
-put-text-requires : tie.Need-put-text-requires
-put-text-requires c κs = search needs
-
-put-number-requires : tie.Need-put-number-requires
-put-number-requires c κs = search needs
-
-put-numbers-requires : tie.Need-put-numbers-requires
-put-numbers-requires c κs = search needs
+spell-refused-requires : tie.Need-spell-refused-requires
+spell-refused-requires c κs = leb-true _ _ (sym (c .before .before .has-room .ensures) ∙ c .before .if1 .taken)
 
 same-length : tie.Need-same-length
 same-length c = search needs
 
 returns : tie.Need-returns
-unfolding refused
-returns c = puts-then (c .before .before .before .before .before .before .before .before .before .before .put-text .ensures) (puts-then (c .before .before .before .before .before .before .put-number .ensures) (c .before .before .put-numbers .ensures))
+returns c = fits (sym (c .before .before .before .before .before .has-room .ensures) ∙ c .before .before .before .before .if1 .taken) (c .before .before .spell-refused .ensures)
+
+returns-2 : tie.Need-returns-2
+returns-2 c = short _ _ _ _ (sym (c .before .has-room .ensures) ∙ c .if1 .left)
 
 pub put-refused-spec : {M : Type 1} → statement M
 put-refused-spec =
-    tie.close
-    (tie.spec
-    slice-aggregate-put-text
-    put-text-requires
-    put-number-requires
-    put-numbers-requires
-    same-length
-    returns)
+    tie.close (tie.spec has-room-requires spell-refused-requires same-length returns returns-2)

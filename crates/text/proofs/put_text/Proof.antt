@@ -1,63 +1,26 @@
--- `text::put_text` meets its contract: what is left of the text, put at at + j, makes what all of it at `at` makes.
-use Prim.Native.Nat.{_+_, _-_, _≤_}
-use mathlib.Core.Path.{_≡_, refl, sym, _∙_}
-use native.Mathlib.Omega.{arith}
-use native.Mathlib.Nat.{add-zero}
-use lib.ListN.{length, drop, length-set}
-use lib.Seq.{sets}
-use Rattle.text.proofs.Copy.{turn, done}
+-- `text::put_text` meets its contract: where it has the room, it is spelt there.
+use mathlib.Core.Path.{sym, _∙_}
+use borrow.Author.Tests.{leb-true}
+use Rattle.text.proofs.Room.{fits, short}
+use borrow.Author.Needs.{needs}
 use Rattle.text.proofs.put_text.Statement.{statement}
 use Rattle.text.proofs.put_text.Tie as tie
 
-abbrev Inv-loop : tie.InvT-loop
-Inv-loop out₀ at text j₀ out j = (j ≤ length text) × (length out ≡ length out₀) × (sets out (at + j) (drop j text) ≡ sets out₀ at text)
+has-room-requires : tie.Need-has-room-requires
+has-room-requires c κs = search needs
 
-abbrev μ-loop : tie.MeasureT-loop
-μ-loop out₀ at text j₀ out j = length text - j
+spell-text-requires : tie.Need-spell-text-requires
+spell-text-requires c κs = leb-true _ _ (sym (c .before .before .has-room .ensures) ∙ c .before .if1 .taken)
 
-loop-holds : tie.Need-loop-holds Inv-loop μ-loop
-loop-holds c = (omega arith, refl, rw add-zero)
+same-length : tie.Need-same-length
+same-length c = search needs
 
-shared-slice-read-out : tie.Need-shared-slice-read-out Inv-loop μ-loop
-shared-slice-read-out c = omega arith
+returns : tie.Need-returns
+returns c = fits (sym (c .before .before .before .before .before .has-room .ensures) ∙ c .before .before .before .before .if1 .taken) (c .before .before .spell-text .ensures)
 
-add-out : tie.Need-add-out Inv-loop μ-loop
-add-out c = omega arith
-
-slice-write-out : tie.Need-slice-write-out Inv-loop μ-loop
-slice-write-out c = omega arith
-
-add-j : tie.Need-add-j Inv-loop μ-loop
-add-j c = omega arith
-
-loop-less : tie.Need-loop-less Inv-loop μ-loop
-loop-less c = omega arith
-
-loop-again : tie.Need-loop-again Inv-loop μ-loop
-loop-again c = (omega arith, simp length-set (c .before .before .loop .inv .1), turn _ _ _ (c .before .before .loop .j) (c .before .loop-test .taken) ∙ c .before .before .loop .inv .2)
-
-add-result : tie.Need-add-result Inv-loop μ-loop
-add-result c = omega arith
-
-same-length : tie.Need-same-length Inv-loop μ-loop
-same-length c = c .before .loop .inv .1
-
-returns : tie.Need-returns Inv-loop μ-loop
-returns c = record { place = refl; small = omega arith; bytes = sym (done _ _ _ _ (c .loop-test .left)) ∙ c .before .loop .inv .2 }
+returns-2 : tie.Need-returns-2
+returns-2 c = short _ _ _ _ (sym (c .before .has-room .ensures) ∙ c .if1 .left)
 
 pub put-text-spec : {M : Type 1} → statement M
 put-text-spec =
-    tie.close
-    (tie.spec
-    Inv-loop
-    μ-loop
-    loop-holds
-    shared-slice-read-out
-    add-out
-    slice-write-out
-    add-j
-    loop-less
-    loop-again
-    add-result
-    same-length
-    returns)
+    tie.close (tie.spec has-room-requires spell-text-requires same-length returns returns-2)

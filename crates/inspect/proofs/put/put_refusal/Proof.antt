@@ -1,10 +1,10 @@
--- `inspect::put_refusal` meets its contract: the struct's numbers are those of 01's table.
-use borrow.Author.Needs.{needs}
+-- `inspect::put::put_refusal` meets its contract: the struct's numbers are those of 01's table.
 use native.Mathlib.Omega.{arith}
-use Rattle.text.specs.Laws.{puts-as}
+use Rattle.text.specs.Laws.{puts-as, refused-puts}
 use Rattle.inspect.proofs.Answering.{told}
-use Rattle.inspect.proofs.put_refusal.Statement.{statement}
-use Rattle.inspect.proofs.put_refusal.Tie as tie
+use borrow.Author.Needs.{needs}
+use Rattle.inspect.proofs.put.put_refusal.Statement.{statement}
+use Rattle.inspect.proofs.put.put_refusal.Tie as tie
 
 refusal-of-requires : tie.Need-refusal-of-requires
 refusal-of-requires c κs = search needs
@@ -22,7 +22,7 @@ same-length : tie.Need-same-length
 same-length c = search needs
 
 returns : tie.Need-returns
-returns c = puts-as (told _ _ (c .before .before .before .before .before .before .refusal-of .ensures)) (omega arith) (c .before .before .put-refused .ensures)
+returns c = let r = c .before .before .before .before .before .before .refusal-of .result in puts-as (told _ _ (c .before .before .before .before .before .before .refusal-of .ensures)) (omega arith) (refused-puts (r .count) (r .first) (r .second) (r .third) (omega arith) (omega arith) (omega arith) (omega arith) (c .before .before .before .before .before .before .before .before .pre) (c .before .before .put-refused .ensures))
 
 pub put-refusal-spec : {M : Type 1} → statement M
 put-refusal-spec =

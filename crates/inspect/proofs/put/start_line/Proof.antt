@@ -1,0 +1,18 @@
+-- `inspect::put::start_line` meets its contract: there is room.
+use native.Mathlib.Omega.{arith}
+use Rattle.text.specs.Laws.{decimal-puts}
+use borrow.Author.Needs.{needs}
+use Rattle.inspect.proofs.put.start_line.Statement.{statement}
+use Rattle.inspect.proofs.put.start_line.Tie as tie
+
+put-decimal-requires : tie.Need-put-decimal-requires
+put-decimal-requires c κs = search needs
+
+same-length : tie.Need-same-length
+same-length c = search needs
+
+returns : tie.Need-returns
+returns c = decimal-puts (omega arith) (omega arith) (c .before .before .put-decimal .ensures)
+
+pub start-line-spec : {M : Type 1} → statement M
+start-line-spec = tie.close (tie.spec put-decimal-requires same-length returns)

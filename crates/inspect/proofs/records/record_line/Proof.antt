@@ -1,0 +1,47 @@
+-- `inspect::records::record_line` meets its contract: the tests, and then the record and a newline.
+use native.Mathlib.Omega.{arith}
+use Rattle.inspect.proofs.Lines.{holds-none, holds-as, ends, record-turned, record-past, record-there}
+use borrow.Author.Needs.{needs}
+use Rattle.inspect.proofs.records.record_line.Statement.{statement}
+use Rattle.inspect.proofs.records.record_line.Tie as tie
+
+returns : tie.Need-returns
+returns c = holds-none _ (record-turned _ (c .before .before .before .args .found) (c .if1 .taken))
+
+returns-2 : tie.Need-returns-2
+returns-2 c = holds-none _ (record-past _ (c .before .before .before .before .args .found) (c .before .if1 .left) (c .if2 .taken))
+
+part-put-record-start : tie.Need-part-put-record-start
+part-put-record-start c = search needs
+
+part-put-record-end : tie.Need-part-put-record-end
+part-put-record-end c = search needs
+
+put-record-requires : tie.Need-put-record-requires
+put-record-requires c κs = search needs
+
+slice-write-out : tie.Need-slice-write-out
+slice-write-out c = search needs
+
+add-result : tie.Need-add-result
+add-result c = search needs
+
+same-length : tie.Need-same-length
+same-length c = search needs
+
+returns-3 : tie.Need-returns-3
+returns-3 c = holds-as (record-there _ (c .before .before .before .before .before .before .before .before .before .args .found) (c .before .before .before .before .before .before .if1 .left) (c .before .before .before .before .before .if2 .left)) (ends (c .before .before .put-record .ensures) (omega arith))
+
+pub record-line-spec : {M : Type 1} → statement M
+record-line-spec =
+    tie.close
+    (tie.spec
+    returns
+    returns-2
+    part-put-record-start
+    part-put-record-end
+    put-record-requires
+    slice-write-out
+    add-result
+    same-length
+    returns-3)

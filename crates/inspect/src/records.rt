@@ -1,0 +1,249 @@
+// The answer to a body: a line for the call, and a line for each record. Absent is `-`; bytes are `=` and their hex.
+ghost use Prim.Native.Nat.{_+_, _*_, _≤_};
+ghost use mathlib.Core.Path.{_≡_};
+ghost use mathlib.Core.List.{[], _∷_, _++_};
+ghost use lib.ListN.{length};
+ghost use Rattle.text.specs.Line.{Puts, refused};
+ghost use Rattle.message.specs.Rows.{recordAt};
+ghost use Rattle.inspect.specs.Records.{Holds, bytesText, placeText, countText, flagText, subText, messageText, pruneText, peerText, recordText, recordLine, rowLine, decodedText, decodeLine, recordsIn};
+use super::put::put_refusal;
+use super::put::put_value;
+use super::put::put_word;
+use super::put::start_line;
+use message::Decoded;
+use message::Record;
+use message::RecordAt;
+use schema::Kind;
+use schema::Number;
+use schema::Place;
+use schema::Slots;
+
+// A blank, `=` and hex.
+fn put_bytes(out: &mut [u8], at: usize, s: &[u8]) -> usize
+    requires { ⌜ at + (2 + 2 * length (now s)) ≤ length (now out) ⌝ }
+    ensures { λ r. ⌜ Puts (2 + 2 * length (now (s .entry))) (bytesText (now (s .entry))) (now (out .entry)) at (now (out .exit)) r ⌝ }
+{
+    let i = put_word(out, at, b" =");
+    text::put_hex(out, i, s)
+}
+
+// A field of a record whose bytes are s. After decode each place lies within s.
+fn put_place(out: &mut [u8], at: usize, s: &[u8], place: Place) -> usize
+    requires { ⌜ length (now s) ≤ 65600 ⌝ }
+    requires { ⌜ at + 131202 ≤ length (now out) ⌝ }
+    ensures { λ r. ⌜ Puts 131202 (placeText (now (s .entry)) place) (now (out .entry)) at (now (out .exit)) r ⌝ }
+{
+    match place {
+        Place::Absent => put_word(out, at, b" -"),
+        Place::Present { start, end } => {
+            if end < start {
+                return put_word(out, at, b" -");
+            }
+            if s.len() < end {
+                return put_word(out, at, b" -");
+            }
+            put_bytes(out, at, &s[start..end])
+        }
+    }
+}
+
+fn put_count(out: &mut [u8], at: usize, number: Number) -> usize
+    requires { ⌜ at + 21 ≤ length (now out) ⌝ }
+    ensures { λ r. ⌜ Puts 21 (countText number) (now (out .entry)) at (now (out .exit)) r ⌝ }
+{
+    match number {
+        Number::Absent => put_word(out, at, b" -"),
+        Number::Present(v) => put_value(out, at, v),
+    }
+}
+
+fn put_flag(out: &mut [u8], at: usize, number: Number) -> usize
+    requires { ⌜ at + 2 ≤ length (now out) ⌝ }
+    ensures { λ r. ⌜ Puts 2 (flagText number) (now (out .entry)) at (now (out .exit)) r ⌝ }
+{
+    match number {
+        Number::Absent => put_word(out, at, b" -"),
+        Number::Present(v) => {
+            if v == 0 {
+                return put_word(out, at, b" 0");
+            }
+            put_word(out, at, b" 1")
+        }
+    }
+}
+
+// A record that is only its bytes: a topic or a message id.
+fn put_whole(out: &mut [u8], word: &[u8], s: &[u8]) -> usize
+    requires { ⌜ length (now word) + (2 + 2 * length (now s)) ≤ length (now out) ⌝ }
+    ensures { λ r. ⌜ Puts (length (now (word .entry)) + (2 + 2 * length (now (s .entry)))) (now (word .entry) ++ bytesText (now (s .entry))) (now (out .entry)) 0 (now (out .exit)) r ⌝ }
+{
+    let i = put_word(out, 0, word);
+    put_bytes(out, i, s)
+}
+
+// A record's word and its first field.
+fn put_first(out: &mut [u8], word: &[u8], s: &[u8], first: Place) -> usize
+    requires { ⌜ length (now s) ≤ 65600 ⌝ }
+    requires { ⌜ length (now word) + 131202 ≤ length (now out) ⌝ }
+    ensures { λ r. ⌜ Puts (length (now (word .entry)) + 131202) (now (word .entry) ++ placeText (now (s .entry)) first) (now (out .entry)) 0 (now (out .exit)) r ⌝ }
+{
+    let i = put_word(out, 0, word);
+    put_place(out, i, s, first)
+}
+
+fn put_sub(out: &mut [u8], s: &[u8], slots: Slots) -> usize
+    requires { ⌜ length (now s) ≤ 65600 ⌝ }
+    requires { ⌜ 787455 ≤ length (now out) ⌝ }
+    ensures { λ r. ⌜ Puts 787455 (subText (now (s .entry)) slots) (now (out .entry)) 0 (now (out .exit)) r ⌝ }
+{
+    let subscribe = slots.number;
+    let topic_id = slots.first;
+    let i = put_word(out, 0, b"  sub");
+    let j = put_flag(out, i, subscribe);
+    put_place(out, j, s, topic_id)
+}
+
+fn put_message(out: &mut [u8], s: &[u8], slots: Slots) -> usize
+    requires { ⌜ length (now s) ≤ 65600 ⌝ }
+    requires { ⌜ 787455 ≤ length (now out) ⌝ }
+    ensures { λ r. ⌜ Puts 787455 (messageText (now (s .entry)) slots) (now (out .entry)) 0 (now (out .exit)) r ⌝ }
+{
+    let from = slots.first;
+    let data = slots.second;
+    let seqno = slots.third;
+    let signature = slots.fourth;
+    let key = slots.fifth;
+    let i = put_whole(out, b"  message", s);
+    let j = put_place(out, i, s, from);
+    let k = put_place(out, j, s, data);
+    let l = put_place(out, k, s, seqno);
+    let m = put_place(out, l, s, signature);
+    put_place(out, m, s, key)
+}
+
+fn put_prune(out: &mut [u8], s: &[u8], slots: Slots) -> usize
+    requires { ⌜ length (now s) ≤ 65600 ⌝ }
+    requires { ⌜ 787455 ≤ length (now out) ⌝ }
+    ensures { λ r. ⌜ Puts 787455 (pruneText (now (s .entry)) slots) (now (out .entry)) 0 (now (out .exit)) r ⌝ }
+{
+    let topic_id = slots.first;
+    let backoff = slots.number;
+    let i = put_first(out, b"  prune", s, topic_id);
+    put_count(out, i, backoff)
+}
+
+fn put_peer(out: &mut [u8], s: &[u8], slots: Slots) -> usize
+    requires { ⌜ length (now s) ≤ 65600 ⌝ }
+    requires { ⌜ 787455 ≤ length (now out) ⌝ }
+    ensures { λ r. ⌜ Puts 787455 (peerText (now (s .entry)) slots) (now (out .entry)) 0 (now (out .exit)) r ⌝ }
+{
+    let peer_id = slots.first;
+    let signed_peer_record = slots.second;
+    let i = put_first(out, b"  peer", s, peer_id);
+    put_place(out, i, s, signed_peer_record)
+}
+
+// A record whose bytes are s. No record is an RPC or a control.
+fn put_record(out: &mut [u8], s: &[u8], kind: Kind, slots: Slots) -> usize
+    requires { ⌜ length (now s) ≤ 65600 ⌝ }
+    requires { ⌜ 787455 ≤ length (now out) ⌝ }
+    ensures { λ r. ⌜ Puts 787455 (recordText kind (now (s .entry)) slots) (now (out .entry)) 0 (now (out .exit)) r ⌝ }
+{
+    let topic_id = slots.first;
+    match kind {
+        Kind::Rpc => put_word(out, 0, b"  rpc"),
+        Kind::SubOpts => put_sub(out, s, slots),
+        Kind::RawMessage => put_message(out, s, slots),
+        Kind::Topic => put_whole(out, b"  topic", s),
+        Kind::ControlMessage => put_word(out, 0, b"  control"),
+        Kind::ControlIHave => put_first(out, b"  ihave", s, topic_id),
+        Kind::ControlIWant => put_word(out, 0, b"  iwant"),
+        Kind::MessageId => put_whole(out, b"  id", s),
+        Kind::ControlGraft => put_first(out, b"  graft", s, topic_id),
+        Kind::ControlPrune => put_prune(out, s, slots),
+        Kind::PeerInfo => put_peer(out, s, slots),
+    }
+}
+
+// Puts the line of a record of the body at the front of out and says how long it is: 0 where the record does not lie within the body, which
+// no record does after decode.
+fn record_line(body: &[u8], found: Record, out: &mut [u8]) -> usize
+    requires { ⌜ length (now body) ≤ 65600 ⌝ }
+    requires { ⌜ 787456 ≤ length (now out) ⌝ }
+    ensures { λ r. ⌜ Holds (recordLine (now (body .entry)) found) (now (out .exit)) r ⌝ }
+{
+    let start = found.start;
+    let end = found.end;
+    if end < start {
+        return 0;
+    }
+    if body.len() < end {
+        return 0;
+    }
+    let kind = found.kind;
+    let i = put_record(out, &body[start..end], kind, found.slots);
+    out[i] = b'\n';
+    i + 1
+}
+
+// The line of the record at a row of the table; 0 where the table has no such row.
+pub(crate) fn row_line(body: &[u8], table: &[u64], row: usize, out: &mut [u8]) -> usize
+    requires { ⌜ length (now body) ≤ 65600 ⌝ }
+    requires { ⌜ 787456 ≤ length (now out) ⌝ }
+    ensures { λ r. ⌜ Holds (rowLine (now (body .entry)) (recordAt (now (table .entry)) row)) (now (out .exit)) r ⌝ }
+{
+    let at = message::record_at(table, row);
+    match at {
+        RecordAt::Nothing => 0,
+        RecordAt::Record(found) => record_line(body, found, out),
+    }
+}
+
+fn put_decoded(out: &mut [u8], at: usize, d: Decoded) -> usize
+    requires { ⌜ at + 131200 ≤ length (now out) ⌝ }
+    ensures { λ r. ⌜ Puts 131200 (decodedText d) (now (out .entry)) at (now (out .exit)) r ⌝ }
+{
+    let i = put_word(out, at, b" decode");
+    match d {
+        Decoded::Refused(why) => put_refusal(out, i, why),
+        Decoded::Room(needed) => put_room(out, i, needed as u64),
+        Decoded::Records { count, control } => {
+            let j = put_word(out, i, b" ok");
+            let k = put_value(out, j, count as u64);
+            if control {
+                return put_word(out, k, b" control");
+            }
+            put_word(out, k, b" plain")
+        }
+    }
+}
+
+// Refusal 12, with what is needed.
+fn put_room(out: &mut [u8], at: usize, needed: u64) -> usize
+    requires { ⌜ at + 92 ≤ length (now out) ⌝ }
+    ensures { λ r. ⌜ Puts 92 (refused 12 (needed ∷ [])) (now (out .entry)) at (now (out .exit)) r ⌝ }
+{
+    text::put_refused(out, at, 12, 1, needed, 0, 0)
+}
+
+// Puts the line of record n at the front of out and says how long it is.
+pub(crate) fn decode_line(n: u64, d: Decoded, out: &mut [u8]) -> usize
+    requires { ⌜ 131328 ≤ length (now out) ⌝ }
+    ensures { λ r. ⌜ Holds (decodeLine n d) (now (out .exit)) r ⌝ }
+{
+    let i = start_line(out, n);
+    let j = put_decoded(out, i, d);
+    out[j] = b'\n';
+    j + 1
+}
+
+// How many records were written to the table.
+pub(crate) fn records_in(d: Decoded) -> usize
+    ensures { λ r. ⌜ r ≡ recordsIn d ⌝ }
+{
+    match d {
+        Decoded::Records { count, control } => count,
+        Decoded::Refused(_) => 0,
+        Decoded::Room(_) => 0,
+    }
+}

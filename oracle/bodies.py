@@ -1,0 +1,293 @@
+"""Bodies for the call `decode` of the program `inspect`, and the lines that the Rust's answer makes.
+
+The values of every line come from the Rust's answer. Its JSON groups the records
+by kind, so the order in which the body has them is found here by `order`, a walk
+over the fields that looks at nothing but their numbers, types and lengths.
+Everything random comes from one seeded `random.Random`.
+"""
+
+import wire
+from oracle import parse_decode
+from wire import EDGES, MAX_BODY, MAX_CONTENT, blob, damaged, edge_field, varint
+
+MAX_RECORDS = 512
+
+
+# --- the lines, from the Rust's answer ---------------------------------------
+
+def number_at(data, at):
+    value, shift = 0, 0
+    while True:
+        value |= (data[at] & 127) << shift
+        shift += 7
+        at += 1
+        if data[at - 1] < 128:
+            return value, at
+
+
+def fields(data):
+    """(field, wire type, content) of bytes that the Rust took, one after the other."""
+    at = 0
+    while at < len(data):
+        tag, at = number_at(data, at)
+        if tag % 8 == 2:
+            size, at = number_at(data, at)
+        start = at
+        at = {0: lambda: number_at(data, at)[1], 1: lambda: at + 8, 2: lambda: at + size, 5: lambda: at + 4}[tag % 8]()
+        yield tag // 8, tag % 8, data[start:at]
+
+
+def order(body):
+    """Which list of the Rust's answer each next record comes from."""
+    for field, kind, content in fields(body):
+        if kind != 2:
+            continue
+        if field == 1:
+            yield "subscriptions"
+        elif field == 2:
+            yield "publish"
+        elif field == 3:
+            for part, kind, _ in fields(content):
+                if kind == 2 and 1 <= part <= 4:
+                    yield ("ihave", "iwant", "graft", "prune")[part - 1]
+
+
+def shown(text):
+    return "-" if text is None else "=" + text
+
+
+def lines_of(name, got):
+    """A record's line, and those of the records inside it."""
+    if name == "subscriptions":
+        flag = {None: "-", False: "0", True: "1"}[got["subscribe"]]
+        yield "  sub %s %s" % (flag, shown(got["topic_id"]))
+    elif name == "publish":
+        yield "  message " + " ".join(shown(got[key]) for key in ("raw", "from", "data", "seqno", "signature", "key"))
+        for topic in got["topic_ids"]:
+            yield "  topic =" + topic
+    elif name == "ihave":
+        yield "  ihave " + shown(got["topic_id"])
+        for one in got["message_ids"]:
+            yield "  id =" + one
+    elif name == "iwant":
+        yield "  iwant"
+        for one in got["message_ids"]:
+            yield "  id =" + one
+    elif name == "graft":
+        yield "  graft " + shown(got["topic_id"])
+    else:
+        backoff = "-" if got["backoff"] is None else str(got["backoff"])
+        yield "  prune %s %s" % (shown(got["topic_id"]), backoff)
+        for peer in got["peers"]:
+            yield "  peer %s %s" % (shown(peer["peer_id"]), shown(peer["signed_peer_record"]))
+
+
+def answer(body, told):
+    """The lines for a body from the oracle's answer, the first without its number."""
+    if len(body) > MAX_BODY:
+        # The Rust has no such limit, nor one of records: document 01's refusals 10 and 11.
+        return ["decode refused 10 %d" % len(body)]
+    told = parse_decode(told)
+    if told[0] == "err":
+        return [" ".join(["decode refused", str(told[1])] + [str(value) for value in told[2]])]
+    _, records, _, rpc = told
+    if records > MAX_RECORDS:
+        return ["decode refused 11 %d" % records]
+    lists = {"subscriptions": rpc["subscriptions"], "publish": rpc["publish"]}
+    lists.update(rpc["control"] or {})
+    rest = {name: iter(one) for name, one in lists.items()}
+    out = ["decode ok %d %s" % (records, "plain" if rpc["control"] is None else "control")]
+    for name in order(body):
+        out.extend(lines_of(name, next(rest[name])))
+    assert len(out) == records + 1 and all(next(one, None) is None for one in rest.values()), body.hex()
+    return out
+
+
+# --- what bodies are made of --------------------------------------------------
+
+def tagged(field, data):
+    return varint(field * 8 + 2) + varint(len(data)) + data
+
+
+def counted(field, n):
+    return varint(field * 8) + varint(n)
+
+
+TEXTS = [b"", b"t", b"topic", "\u20ac".encode(), "\U0010ffff".encode(), b"\xed\x9f\xbf", b"\x00"]
+BROKEN = [b"\xff", b"\xc0\x80", b"\xed\xa0\x80", b"\xf4\x90\x80\x80", b"a\x80", b"\xc3", b"\xe2\x82", b"\xf0\x9f\x98"]
+
+# What a field of a submessage holds: bytes, text, a number or another submessage.
+PARTS = {
+    "sub": {1: "number", 2: "text"},
+    "message": {1: "bytes", 2: "bytes", 3: "bytes", 4: "text", 5: "bytes", 6: "bytes"},
+    "control": {1: "ihave", 2: "iwant", 3: "graft", 4: "prune"},
+    "ihave": {1: "text", 2: "bytes"},
+    "iwant": {1: "bytes"},
+    "graft": {1: "text"},
+    "prune": {1: "text", 2: "peer", 3: "number"},
+    "peer": {1: "bytes", 2: "bytes"},
+}
+RPC = {1: "sub", 2: "message", 3: "control"}
+
+
+def other_field(r, known):
+    """A field that is skipped: an unknown one, or a known one with another type."""
+    if r.randrange(2):
+        field = r.choice((7, 8, 15, 16, 2047, 2048, 536870911, r.randrange(7, 2**29)))
+        kind = r.choice((0, 1, 2, 5))
+    else:
+        field = r.choice(list(known))
+        kind = r.choice((1, 5, 2 if known[field] == "number" else 0))
+    if kind == 2:
+        return tagged(field, blob(r, r.randrange(5)))
+    if kind == 0:
+        return counted(field, r.choice(EDGES))
+    return varint(field * 8 + kind) + blob(r, 8 if kind == 1 else 4)
+
+
+def part(r, field, what, spoil):
+    if what == "number":
+        return counted(field, r.choice((0, 1, 2, 127, 128, r.choice(EDGES))))
+    if what == "text":
+        if spoil and r.randrange(8) == 0:
+            return tagged(field, r.choice((b"", b"a")) + r.choice(BROKEN) + r.choice((b"", b"z")))
+        return tagged(field, r.choice(TEXTS))
+    if what == "bytes":
+        n = r.choice((0, 0, 1, 2, 3, 8, r.randrange(40), 127, 128) if r.randrange(12) == 0 else (0, 1, 2, 3))
+        return tagged(field, blob(r, n))
+    return tagged(field, within(r, PARTS[what], spoil))
+
+
+def within(r, known, spoil):
+    """The bytes of a submessage: known fields, some of them twice, and fields that are skipped."""
+    out = []
+    for _ in range(r.choice((0, 1, 1, 2, 2, 3, 4, 6))):
+        at = r.randrange(12)
+        if spoil and at == 0:
+            out.append(edge_field(r))
+        elif at < 3:
+            out.append(other_field(r, known))
+        else:
+            field = r.choice(list(known))
+            out.append(part(r, field, known[field], spoil))
+    return b"".join(out)
+
+
+def random_body(r):
+    kind = r.randrange(8)
+    body = within(r, RPC, kind > 5)
+    return damaged(r, body) if kind in (4, 5) else body
+
+
+def topic_bodies(data):
+    """A topic in each of the five places that hold one."""
+    yield tagged(1, counted(1, 1) + tagged(2, data))
+    yield tagged(2, tagged(4, b"t") + tagged(4, data))
+    for field in (1, 3, 4):
+        yield tagged(3, tagged(field, tagged(1, data)))
+
+
+# --- fixed bodies --------------------------------------------------------------
+
+def named():
+    """The rows of document 01 and of its readings, each kind of record, each refusal."""
+    for text in (
+            "", "1a001a00", "12060a01410a0142", "80", "8000", "00", "0b", "0a0508", "0a031201ff", "f8ffffff0f00", "8080808010",
+            "1a00", "1800", "1a032a0180", "0a0312 02ff", "0a01800b", "0a000b", "08", "0a", "09", "0d00", "03",
+            "0affffffffffffffffff01", "08" + "80" * 9 + "00", "08" + "80" * 9 + "01", "08" + "80" * 9 + "02", "08" + "80" * 9,
+            "0a00", "0a020800", "0a020801", "0a0b08ffffffffffffffffff01", "0a021200", "0a0408001200", "0a06080108001200",
+            "0a0a1201410801120142 0800", "0a020a00", "0a0110", "1200", "12020a00", "1206 12001a002a00", "12083200220022002200",
+            "120422014122 00", "1a020a00", "1a040a020a00", "1a060a0412001200", "1a021200", "1a0412020a00", "1a060a021200 1200",
+            "1a021a00", "1a041a020a00", "1a022200", "1a0422020a00", "1a0422021800", "1a0d220b18ffffffffffffffffff01",
+            "1a0422021200", "1a06220412020a00", "1a08220612040a001200", "1a0a22080a001200 18001200",
+            "1a0322010a", "1a0322010f", "1a0322010b", "1a04220212 05", "1a020a000a001200 1a0212001a021a001a022200",
+            "1a021a000a00120022001a020a001200", "0a0412021a00", "1a050a0312 01ff", "1a070a050a03eda080", "1a071a050a03c08041",
+            "1a082206 0a04f4908080", "1a0822060a04f48fbfbf", "120722 05f490808041", "0a0612 04f490808000", "1a0a1200 1a000a0022001200"):
+        yield bytes.fromhex(text.replace(" ", ""))
+
+
+def each(value, n, least=0):
+    """All tuples of up to n elements."""
+    rows = [b""]
+    for size in range(n + 1):
+        if size >= least:
+            yield from rows
+        rows = [row + bytes([one]) for row in rows for one in value]
+
+
+def enumerated():
+    """Every body of up to 2 bytes, every SubOpts, message and control of 2, and short bodies of an alphabet."""
+    yield from each(range(256), 2)
+    for outer in (0x0A, 0x12, 0x1A):
+        for inner in each(range(256), 2, 2):
+            yield bytes([outer, 2]) + inner
+    for inner in each(wire.WALK_BYTES, 3):
+        yield tagged(1, inner)
+        yield tagged(2, inner)
+        for field in (1, 2, 3, 4):
+            yield tagged(3, tagged(field, inner))
+        yield tagged(3, tagged(4, tagged(2, inner)))
+    for data in wire.utf8_rows():
+        yield from topic_bodies(data)
+
+
+def filled(size, field):
+    """One field of so many bytes."""
+    n = size - 4
+    return varint(field * 8 + 2) + varint(n) + bytes(n)
+
+
+def long(r):
+    """Bodies about the largest size, and about the most records."""
+    for size in (65535, 65536, 65537, MAX_CONTENT):
+        for field in (1, 2, 3, 4):
+            yield filled(size, field)
+        yield b"\x0a\x00" * (size // 2) + b"\x0a" * (size % 2)
+        yield b"\x08\x00" * (size // 2) + b"\x08" * (size % 2)
+        yield tagged(2, tagged(2, bytes(size - 8)))
+        yield tagged(2, tagged(4, b"t" * (size - 8)))
+        yield tagged(2, tagged(4, b"t" * (size - 9) + b"\xff"))
+        yield tagged(3, tagged(1, tagged(2, bytes(size - 12))))
+        yield blob(r, size)
+        yield b"\x0b" + bytes(size - 1)
+    for n in (511, 512, 513):
+        for one in (b"\x0a\x00", b"\x12\x00", b"\x1a\x02\x0a\x00", b"\x1a\x02\x12\x00", b"\x1a\x02\x1a\x00", b"\x1a\x02\x22\x00", b"\x12\x02\x22\x00"):
+            k = 2 if one == b"\x12\x02\x22\x00" else 1
+            yield one * (n // k) + b"\x0a\x00" * (n % k)
+        yield tagged(2, tagged(4, b"t") * (n - 1))
+        yield tagged(3, tagged(1, tagged(2, b"i") * (n - 1)))
+        yield tagged(3, tagged(2, tagged(1, b"") * (n - 1)))
+        yield tagged(3, tagged(4, tagged(2, b"") * (n - 1)))
+        yield tagged(3, b"\x0a\x00\x12\x00\x1a\x00\x22\x00" * (n // 4)) + b"\x12\x00" * (n % 4)
+        yield tagged(1, tagged(2, b"t")) * (n - 1) + tagged(2, tagged(1, b"f"))
+        for end in (b"\x0b", b"\x80", b"\x00", b"\x0a\x05", b"\x0a\x03\x12\x01\xff", b"\x1a\x00", b"\x20\x00"):
+            yield b"\x0a\x00" * n + end
+        for _ in range(20):
+            yield many(r, n)
+    yield b"\x0a\x00" * 513 + bytes(65537 - 1026)
+
+
+def many(r, n):
+    """A body of n records of random kinds, or of a few more."""
+    body, left = b"", n
+    while left > 0:
+        k = min(left, r.choice((1, 1, 2, 3, 50)))
+        rest = k - 1
+        body += r.choice((
+            lambda: tagged(1, tagged(2, r.choice(TEXTS))) * k,
+            lambda: tagged(2, tagged(1, blob(r, 2)) + tagged(4, r.choice(TEXTS)) * rest),
+            lambda: tagged(3, tagged(1, tagged(2, blob(r, 1)) * rest)),
+            lambda: tagged(3, tagged(2, tagged(1, blob(r, 1)) * rest)),
+            lambda: tagged(3, tagged(3, b"")) * k,
+            lambda: tagged(3, tagged(4, tagged(2, tagged(1, b"p")) * rest))))()
+        left -= k
+    return body
+
+
+def bodies(r, count):
+    """Every fixed body, and then `count` random ones."""
+    yield from named()
+    yield from enumerated()
+    yield from long(r)
+    for _ in range(count):
+        yield random_body(r)

@@ -1,0 +1,111 @@
+#!/usr/bin/env python3
+"""Compares decode of the program `inspect` with the Rust, by running both.
+
+    oracle/compare_decode.py BINARY [--seed N] [--count N]
+
+BINARY is target/bin/inspect, after `rt check inspect`. The bodies are all short
+ones, the rows of document 01, topics about every row of RFC 3629, bodies about
+the largest size and the most records, and --count random ones (bodies.py). Every
+field of every record is compared, in the order of the lent table, and every
+refusal with its values; 10 and 11 are document 01's own. Prints the counts, and
+the first differences; the exit status is 0 where there are none.
+"""
+
+import argparse
+import collections
+import itertools
+import os
+import random
+import subprocess
+import sys
+import tempfile
+
+import bodies
+import wire
+from compare_wire import SHOWN, build
+from oracle import PATH, hexed
+
+CHUNK = 40000
+
+
+def run(program, given, folder):
+    into, out = os.path.join(folder, "in"), os.path.join(folder, "out")
+    with open(into, "wb") as file:
+        for part in given:
+            file.write(part)
+    with open(into, "rb") as file, open(out, "wb") as made:
+        subprocess.run([program], stdin=file, stdout=made, check=True)
+    with open(out, newline="") as made:
+        return made.read().split("\n")
+
+
+def groups(lines):
+    """What `inspect` printed, record by record: a line, and those after it that begin with two blanks."""
+    group = []
+    for line in lines:
+        if group and not line.startswith("  "):
+            yield group
+            group = []
+        group.append(line)
+    if group != [""]:
+        yield group
+
+
+def compare(binary, given, folder, counts, differ):
+    """One run of each side."""
+    printed = groups(run(binary, (wire.record(("decode", body, 0)) for body in given), folder))
+    answers = run(PATH, (("decode %s\n" % hexed(body)).encode() for body in given), folder)
+    for n, (body, told) in enumerate(zip(given, answers), 1):
+        expected = bodies.answer(body, told)
+        expected[0] = "%d %s" % (n, expected[0])
+        words = expected[0].split(" ")
+        counts[" ".join((words[2], words[-1] if words[2] == "ok" else words[3]))] += 1
+        for line in expected[1:]:
+            counts["  " + line.split(" ")[2]] += 1
+        got = next(printed, [])
+        if got != expected:
+            differ.append((len(body), body, expected, got))
+    for got in printed:
+        differ.append((0, b"after the last record", [], got))
+
+
+def endings():
+    """(what it is, input, text): runs with an ending of their own."""
+    most = wire.MAX_CONTENT
+    yield "empty", wire.header(0, 1), "1 decode ok 0 plain\n"
+    yield "cut", wire.header(2, 1) + b"\x0a", "bad\n"
+    yield "the longest content", wire.header(most, 1) + bytes(most), "1 decode refused 10 %d\n" % most
+    yield "a longer one", wire.header(most + 1, 1) + bytes(most + 1), "long\n"
+    yield "cut after one", wire.header(2, 1) + b"\x0a\x00" + wire.header(1, 1), "1 decode ok 1 plain\n  sub - -\nbad\n"
+    yield "among other calls", wire.header(2, 1) + b"\x1a\x00" + wire.header(0, 7) + wire.header(1, 1) + b"\x80", \
+        "1 decode ok 0 control\n2 utf8 yes\n3 decode refused 1\n"
+
+
+def main():
+    parser = argparse.ArgumentParser(description=__doc__.split("\n")[0])
+    parser.add_argument("binary")
+    parser.add_argument("--seed", type=int, default=1)
+    parser.add_argument("--count", type=int, default=400000)
+    given = parser.parse_args()
+    build()
+    counts, differ, n = collections.Counter(), [], 0
+    source = bodies.bodies(random.Random(given.seed), given.count)
+    with tempfile.TemporaryDirectory() as folder:
+        while chunk := list(itertools.islice(source, CHUNK)):
+            compare(given.binary, chunk, folder, counts, differ)
+            n += len(chunk)
+    for name, text, expected in endings():
+        got = subprocess.run([given.binary], input=text, stdout=subprocess.PIPE, check=True).stdout.decode()
+        n += 1
+        if got != expected:
+            differ.append((len(text), name.encode(), expected.split("\n"), got.split("\n")))
+    for what, k in sorted(counts.items()):
+        print("%-12s %8d" % (what, k))
+    print("%d bodies, seed %d: %d differences" % (n, given.seed, len(differ)))
+    for size, body, expected, got in sorted(differ)[:SHOWN]:
+        print("%d bytes: %s\n  expected %s\n  printed  %s" % (size, body[:100].hex(), str(expected)[:300], str(got)[:300]))
+    sys.exit(1 if differ else 0)
+
+
+if __name__ == "__main__":
+    main()
