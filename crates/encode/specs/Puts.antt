@@ -1,0 +1,49 @@
+-- Writing at a place of lent bytes: where the bytes xs end, and that they stand there where there is room for them. Where there is none the
+-- answer is the same, so a writer that is lent nothing measures.
+use Prim.Native.Nat.{ℕ, _+_, _≤_, _<_}
+use mathlib.Core.Path.{_≡_, refl, sym, ap, _∙_}
+use mathlib.Core.List.{List, [], _++_}
+use native.Mathlib.Omega.{arith}
+use lib.ListN.{length, length-append}
+use lib.Seq.{sets, length-sets}
+use Rattle.basis.specs.Writing.{setIn}
+use Rattle.basis.specs.Lists.{sets-append, set-fits}
+
+-- xs were written at `at` of the bytes `out`, which are `after` then; they end at `end`
+pub record Puts (out : List ℕ) (at : ℕ) (xs after : List ℕ) (end : ℕ) : Type 0 where
+  pub ends : end ≡ at + length xs
+  pub holds : at + length xs ≤ length out → after ≡ sets out at xs
+
+-- the place after xs is a number of the machine, with some to spare
+abbrev pub Fits : ℕ → List ℕ → Type 0
+Fits at xs = at + length xs ≤ 4611686018427387904
+
+pub puts-none : (out : List ℕ) (at : ℕ) → Puts out at [] out at
+puts-none out at = record { ends = omega arith; holds = λ h. refl }
+
+-- what put_uvarint and put_bytes leave
+pub puts-set : (out : List ℕ) (at : ℕ) (xs after : List ℕ) (end : ℕ) → end ≡ at + length xs → after ≡ setIn (length xs) at xs out → Puts out at xs after end
+puts-set out at xs after end p e = record { ends = p; holds = λ h. e ∙ set-fits (length xs) at xs out h }
+
+-- without the room anything may be left
+pub puts-short : (out : List ℕ) (at : ℕ) (xs after : List ℕ) (end : ℕ) → end ≡ at + length xs → length out < end → Puts out at xs after end
+puts-short out at xs after end p h = record { ends = p; holds = λ r. absurd (omega arith) }
+
+pub puts-same : (out : List ℕ) (at : ℕ) (xs ys after : List ℕ) (end : ℕ) → xs ≡ ys → Puts out at xs after end → Puts out at ys after end
+puts-same out at xs ys after end e p = rw (← e) p
+
+-- xs, and ys where they end, are xs ++ ys
+pub puts-append : (out mid after : List ℕ) (at i end : ℕ) (xs ys : List ℕ) → Puts out at xs mid i → Puts mid i ys after end → Puts out at (xs ++ ys) after end
+puts-append out mid after at i end xs ys p q =
+    let l = length-append xs ys in
+    record {
+      ends = omega (arith, p .ends, q .ends);
+      holds = λ r.
+          let m = p .holds (omega arith) in
+          let k : length mid ≡ length out = ap length m ∙ length-sets out at xs in
+          let i' : i ≡ at + length xs = p .ends in
+          q .holds (omega arith)
+          ∙ ap (λ (x : List ℕ). sets x i ys) m
+          ∙ ap (λ (x : ℕ). sets (sets out at xs) x ys) i'
+          ∙ sym (sets-append out at xs ys);
+    }
