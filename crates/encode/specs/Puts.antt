@@ -47,3 +47,36 @@ puts-append out mid after at i end xs ys p q =
           ∙ ap (λ (x : ℕ). sets (sets out at xs) x ys) i'
           ∙ sym (sets-append out at xs ys);
     }
+
+-- ---- what fits whole fits in its parts
+pub fits-same : (at : ℕ) (xs ys : List ℕ) → xs ≡ ys → Fits at xs → Fits at ys
+fits-same at xs ys e h = omega (arith, ap length e)
+
+pub fits-first : (at : ℕ) (xs ys : List ℕ) → Fits at (xs ++ ys) → Fits at xs
+fits-first at xs ys h = omega (arith, length-append xs ys)
+
+pub fits-next : (out mid : List ℕ) (at i : ℕ) (xs ys : List ℕ) → Puts out at xs mid i → Fits at (xs ++ ys) → Fits i ys
+fits-next out mid at i xs ys p h = omega (arith, p .ends, length-append xs ys)
+
+-- ---- bytes written one part after the other: what is left of them, written at `end` of the bytes as they are, makes all of them
+pub record Going (out₀ : List ℕ) (at : ℕ) (all out : List ℕ) (end : ℕ) (rest : List ℕ) : Type 0 where
+  pub fits : Fits end rest
+  pub goes : (after : List ℕ) (e : ℕ) → Puts out end rest after e → Puts out₀ at all after e
+
+pub going-all : (out : List ℕ) (at : ℕ) (all : List ℕ) → Fits at all → Going out at all out at all
+going-all out at all h = record { fits = h; goes = λ after e p. p }
+
+module _ (out₀ : List ℕ) (at : ℕ) (all out : List ℕ) (end : ℕ) (rest : List ℕ) (g : Going out₀ at all out end rest) where
+  pub going-none : rest ≡ [] → Puts out₀ at all out end
+  going-none e = g .goes out end (puts-same out end [] rest out end (sym e) (puts-none out end))
+
+  module _ (xs ys : List ℕ) (e : rest ≡ xs ++ ys) where
+    pub going-fits : Fits end xs
+    going-fits = fits-first end xs ys (fits-same end rest (xs ++ ys) e (g .fits))
+
+    pub going-part : (mid : List ℕ) (i : ℕ) → Puts out end xs mid i → Going out₀ at all mid i ys
+    going-part mid i p =
+        record {
+          fits = fits-next out mid end i xs ys p (fits-same end rest (xs ++ ys) e (g .fits));
+          goes = λ after z q. g .goes after z (puts-same out end (xs ++ ys) rest after z (sym e) (puts-append out mid after end i z xs ys p q));
+        }

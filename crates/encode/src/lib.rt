@@ -250,3 +250,104 @@ fn emit_value(part: &[u8], role: Role, out: &mut [u8], at: usize) -> usize
         }
     }
 }
+
+// The entries m of a field, where it is a control.
+fn emit_entry(body: &[u8], f: Field, m: u64, out: &mut [u8], at: usize) -> usize
+    requires { ⌜ (m ≤ 6) × Within (now body) f × Fits at (cond (isBytes 3 f) (partOf Kind.ControlMessage m (valueIn (now body) f)) []) ⌝ }
+    ensures { λ r. ⌜ Puts (now (out .entry)) at (cond (isBytes 3 f) (partOf Kind.ControlMessage m (valueIn (now (body .entry)) f)) []) (now (out .exit)) r ⌝ }
+{
+    let start = f.start;
+    let next = f.next;
+    if f.wire_type == WIRE_LEN {
+        if f.field == 3 {
+            return emit_part(&body[start..next], Kind::ControlMessage, m, out, at);
+        }
+    }
+    at
+}
+
+// The entries m of each control, one control after the other.
+fn emit_entries(body: &[u8], m: u64, out: &mut [u8], at: usize) -> usize
+    requires { ⌜ (m ≤ 6) × Fits at (entriesOf m (now body)) ⌝ }
+    ensures { λ r. ⌜ Puts (now (out .entry)) at (entriesOf m (now (body .entry))) (now (out .exit)) r ⌝ }
+{
+    let mut i: usize = 0;
+    let mut end = at;
+    while i < body.len() {
+        let step = read_field(body, i);
+        match step {
+            Step::End => {
+                return end;
+            }
+            Step::Refused(_) => {
+                return end;
+            }
+            Step::At(f) => {
+                end = emit_entry(body, f, m, out, end);
+                i = f.next;
+            }
+        }
+    }
+    end
+}
+
+// The controls as one.
+fn emit_merged(body: &[u8], out: &mut [u8], at: usize) -> usize
+    requires { ⌜ Fits at (mergedControl (now body)) ⌝ }
+    ensures { λ r. ⌜ Puts (now (out .entry)) at (mergedControl (now (body .entry))) (now (out .exit)) r ⌝ }
+{
+    let a = emit_entries(body, 1, out, at);
+    let b = emit_entries(body, 2, out, a);
+    let c = emit_entries(body, 3, out, b);
+    emit_entries(body, 4, out, c)
+}
+
+// The control field, where the body has a control.
+fn emit_control(body: &[u8], out: &mut [u8], at: usize) -> usize
+    requires { ⌜ Fits at (cond (hasControl (now body)) (bytesField 3 (mergedControl (now body))) []) ⌝ }
+    ensures { λ r. ⌜ Puts (now (out .entry)) at (cond (hasControl (now (body .entry))) (bytesField 3 (mergedControl (now (body .entry)))) []) (now (out .exit)) r ⌝ }
+{
+    if has_control(body) {
+        let mut none = [0u8; 1];
+        let len = emit_merged(body, &mut none, 0);
+        let i = emit_head(3, len, out, at);
+        return emit_merged(body, out, i);
+    }
+    at
+}
+
+// Subscriptions, then the published messages as they stand, then the controls as one.
+fn emit_body(body: &[u8], out: &mut [u8], at: usize) -> usize
+    requires { ⌜ Fits at (canonBody (now body)) ⌝ }
+    ensures { λ r. ⌜ Puts (now (out .entry)) at (canonBody (now (body .entry))) (now (out .exit)) r ⌝ }
+{
+    let a = emit_each(body, 1, Role::Sub(Kind::SubOpts), out, at);
+    let b = emit_each(body, 2, Role::Topic, out, a);
+    emit_control(body, out, b)
+}
+
+// Writes a body anew at the front of the lent bytes: what it means, in its canonical bytes. A refusal, and a lack of room, leave them as they were.
+pub fn encode(body: &[u8], out: &mut [u8]) -> Encoded
+    ensures { λ r. ⌜ r ≡ encodeAnswer (now (body .entry)) (now (out .entry)) ⌝ }
+    ensures { λ _. ⌜ now (out .exit) ≡ encodeLeft (now (body .entry)) (now (out .entry)) ⌝ }
+{
+    if MAX_RPC_SIZE < body.len() {
+        return Encoded::Refused(WireError::TooLarge { len: body.len() });
+    }
+    let c = count(body, Kind::Rpc);
+    match c {
+        Counted::Refused(why) => Encoded::Refused(why),
+        Counted::Records(n) => {
+            if MAX_RECORDS < n {
+                return Encoded::Refused(WireError::TooManyRecords { records: n });
+            }
+            let mut none = [0u8; 1];
+            let needed = emit_body(body, &mut none, 0);
+            if out.len() < needed {
+                return Encoded::Room(needed);
+            }
+            emit_body(body, out, 0);
+            Encoded::Bytes(needed)
+        }
+    }
+}
