@@ -4,6 +4,7 @@ use mathlib.Core.Path.{_≡_, refl, sym, ap, _∙_}
 use mathlib.Core.List.{List, [], _++_, append-assoc}
 use mathlib.Core.Bool.{Bool, true, false, cond}
 use native.Mathlib.Omega.{arith}
+use native.Mathlib.Nat.{zero-add}
 use lib.ListN.{length, drop, length-append, length-take, length-drop}
 use lib.Dec.{eqb}
 use borrow.Author.Tests.{eq-eqb, ne-eqb}
@@ -29,6 +30,7 @@ use Rattle.schema.specs.Slots.{slotsOf}
 use Rattle.schema.specs.CountLaws.{sub-rank}
 use Rattle.encode.specs.Canon.{eachAlong, placed, slotIn, valueOf, numbered, inner, rolePart, canon, partOf, entriesAlong}
 use Rattle.encode.specs.CanonLaws.{canon-four}
+use Rattle.encode.specs.Puts.{Puts, Fits, puts-none, puts-short, puts-same, puts-append, fits-same, fits-first, fits-next}
 
 -- ---- one field
 pub number-none : (k : Kind) (n : ℕ) (x : Num) → x ≡ number.Absent → numbered k n x ≡ []
@@ -134,3 +136,36 @@ each-field g n s i f h = ap (eachAlong g n s) (walk-on s i (step.At f) h)
 
 pub entries-field : (m : ℕ) (s : List ℕ) (i : ℕ) (f : Field) → step.At f ≡ readField s i → entriesAlong m s (walkAt s i) ≡ cond (isBytes 3 f) (partOf kind.ControlMessage m (valueIn s f)) [] ++ entriesAlong m s (walkAt s (f .next))
 entries-field m s i f h = ap (entriesAlong m s) (walk-on s i (step.At f) h)
+
+-- ---- a field n that holds d, whose length was measured: where it is length-delimited and has that number, a head and d
+module _ (n : ℕ) (f : Field) (d : List ℕ) (at : ℕ) (p : f .«wire_type» ≡ 2) (q : f .field ≡ n) (h : Fits at (cond (isBytes n f) (bytesField n d) [])) where
+  pub measure-fits : Fits 0 d
+  measure-fits = let w = fits-same at _ _ (field-yes n f (bytesField n d) p q) h in let l = holds-less n d in omega arith
+
+  module _ (none after : List ℕ) (len : ℕ) (m : Puts none 0 d after len) where
+    whole-is : cond (isBytes n f) (bytesField n d) [] ≡ (tag n 2 ++ uvarint len) ++ d
+    whole-is = field-yes n f (bytesField n d) p q ∙ field-is n len d (m .ends ∙ zero-add (length d))
+
+    whole-fits : Fits at ((tag n 2 ++ uvarint len) ++ d)
+    whole-fits = fits-same at _ _ whole-is h
+
+    pub head-fits : Fits at (tag n 2 ++ uvarint len)
+    head-fits = fits-first at (tag n 2 ++ uvarint len) d whole-fits
+
+    module _ (out mid : List ℕ) (i : ℕ) (g : Puts out at (tag n 2 ++ uvarint len) mid i) where
+      pub value-fits : Fits i d
+      value-fits = fits-next out mid at i (tag n 2 ++ uvarint len) d g whole-fits
+
+      pub sum-fits : i + len ≤ 4611686018427387904
+      sum-fits = let v = value-fits in omega (arith, m .ends)
+
+      pub field-puts : (end : ℕ) (last : List ℕ) → Puts mid i d last end → Puts out at (cond (isBytes n f) (bytesField n d) []) last end
+      field-puts end last v = puts-same out at _ _ last end (sym whole-is) (puts-append out mid last at i end (tag n 2 ++ uvarint len) d g v)
+
+      pub field-short : length mid ≡ length out → length mid < i + len → Puts out at (cond (isBytes n f) (bytesField n d) []) mid (i + len)
+      field-short k z =
+          puts-same out at _ _ mid (i + len) (sym whole-is)
+          (puts-short out at ((tag n 2 ++ uvarint len) ++ d) mid (i + len) (omega (arith, m .ends, g .ends, length-append (tag n 2 ++ uvarint len) d)) (omega arith))
+
+pub field-none : (n : ℕ) (f : Field) (xs : List ℕ) (out : List ℕ) (at : ℕ) → cond (isBytes n f) xs [] ≡ [] → Puts out at (cond (isBytes n f) xs []) out at
+field-none n f xs out at e = puts-same out at [] _ out at (sym e) (puts-none out at)

@@ -1,5 +1,8 @@
 -- `encode::emit_place` meets its contract: nothing, or a tag, a length and the bytes that stand at the place.
 use Prim.Native.Nat.{_-_}
+use mathlib.Core.List.{_++_}
+use Rattle.peer_id.specs.Uvarint.{uvarint}
+use Rattle.protobuf.specs.Encode.{tag}
 use mathlib.Core.Path.{sym}
 use Rattle.encode.specs.Puts.{puts-none, puts-same, puts-append, fits-same, fits-first, fits-next}
 use Rattle.encode.proofs.Parts.{place-none, place-is}
@@ -25,7 +28,7 @@ emit-head-requires c κs =
     let a = c .before .before .before .before .before .before .args in
     let i = c .before .before .before .before .before .before .pre .1 _ _ (c .before .before .place .given .1) in
     let e = place-is (a .n) _ _ (a .input .now) (a .place) (c .before .before .place .given .1) (i .0) (i .1) in
-    (c .before .before .before .before .before .before .pre .0, fits-first (a .at) _ _ (fits-same (a .at) _ _ e (c .before .before .before .before .before .before .pre .2)))
+    (c .before .before .before .before .before .before .pre .0, fits-first (a .at) (tag (a .n) 2 ++ uvarint (c .before .before .place .given .0 .1 .0 - c .before .before .place .given .0 .0)) _ (fits-same (a .at) _ _ e (c .before .before .before .before .before .before .pre .2)))
 
 sub-emit-bytes : tie.Need-sub-emit-bytes
 sub-emit-bytes c = c .before .before .before .before .before .before .before .before .before .pre .1 _ _ (c .before .before .before .before .before .place .given .1) .0
