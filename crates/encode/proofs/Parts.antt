@@ -137,14 +137,14 @@ each-field g n s i f h = ap (eachAlong g n s) (walk-on s i (step.At f) h)
 pub entries-field : (m : ℕ) (s : List ℕ) (i : ℕ) (f : Field) → step.At f ≡ readField s i → entriesAlong m s (walkAt s i) ≡ cond (isBytes 3 f) (partOf kind.ControlMessage m (valueIn s f)) [] ++ entriesAlong m s (walkAt s (f .next))
 entries-field m s i f h = ap (entriesAlong m s) (walk-on s i (step.At f) h)
 
--- ---- a field n that holds d, whose length was measured: where it is length-delimited and has that number, a head and d
-module _ (n : ℕ) (f : Field) (d : List ℕ) (at : ℕ) (p : f .«wire_type» ≡ 2) (q : f .field ≡ n) (h : Fits at (cond (isBytes n f) (bytesField n d) [])) where
+-- ---- a field n that holds d, whose length was measured: a head, and d where it ends
+module _ (n : ℕ) (xs d : List ℕ) (at : ℕ) (y : xs ≡ bytesField n d) (h : Fits at xs) where
   pub measure-fits : Fits 0 d
-  measure-fits = let w = fits-same at _ _ (field-yes n f (bytesField n d) p q) h in let l = holds-less n d in omega arith
+  measure-fits = let w = fits-same at _ _ y h in let l = holds-less n d in omega arith
 
   module _ (none after : List ℕ) (len : ℕ) (m : Puts none 0 d after len) where
-    whole-is : cond (isBytes n f) (bytesField n d) [] ≡ (tag n 2 ++ uvarint len) ++ d
-    whole-is = field-yes n f (bytesField n d) p q ∙ field-is n len d (m .ends ∙ zero-add (length d))
+    whole-is : xs ≡ (tag n 2 ++ uvarint len) ++ d
+    whole-is = y ∙ field-is n len d (m .ends ∙ zero-add (length d))
 
     whole-fits : Fits at ((tag n 2 ++ uvarint len) ++ d)
     whole-fits = fits-same at _ _ whole-is h
@@ -159,10 +159,10 @@ module _ (n : ℕ) (f : Field) (d : List ℕ) (at : ℕ) (p : f .«wire_type» �
       pub sum-fits : i + len ≤ 4611686018427387904
       sum-fits = let v = value-fits in omega (arith, m .ends)
 
-      pub field-puts : (end : ℕ) (last : List ℕ) → Puts mid i d last end → Puts out at (cond (isBytes n f) (bytesField n d) []) last end
+      pub field-puts : (end : ℕ) (last : List ℕ) → Puts mid i d last end → Puts out at xs last end
       field-puts end last v = puts-same out at _ _ last end (sym whole-is) (puts-append out mid last at i end (tag n 2 ++ uvarint len) d g v)
 
-      pub field-short : length mid ≡ length out → length mid < i + len → Puts out at (cond (isBytes n f) (bytesField n d) []) mid (i + len)
+      pub field-short : length mid ≡ length out → length mid < i + len → Puts out at xs mid (i + len)
       field-short k z =
           puts-same out at _ _ mid (i + len) (sym whole-is)
           (puts-short out at ((tag n 2 ++ uvarint len) ++ d) mid (i + len) (omega (arith, m .ends, g .ends, length-append (tag n 2 ++ uvarint len) d)) (omega arith))

@@ -3,13 +3,14 @@
 -- end of what was written, makes all of it.
 use Prim.Native.Nat.{ℕ, suc, _+_, _-_, _*_, _≤_, _<_}
 use mathlib.Core.Path.{_≡_, refl, sym, ap, _∙_}
-use mathlib.Core.List.{List, _++_}
+use mathlib.Core.List.{List, [], _++_}
+use mathlib.Core.Bool.{cond}
 use native.Mathlib.Omega.{arith}
 use borrow.Author.Needs.{needs}
 use lib.ListN.{length}
 use Rattle.protobuf.specs.declared.Step.the-variants as step
 use Rattle.protobuf.specs.Laws.{field-stands}
-use Rattle.protobuf.specs.Walk.{walkAt, fieldsOf, valueIn}
+use Rattle.protobuf.specs.Walk.{walkAt, fieldsOf, isBytes, valueIn}
 use Rattle.protobuf.specs.WalkLaws.{walk-on, walk-end}
 use Rattle.protobuf.specs.Encode.{bytesField}
 use Rattle.schema.specs.declared.Role.{Role}
@@ -17,7 +18,7 @@ use Rattle.schema.specs.declared.Role.the-variants.{Skip, Number, Text, Bytes, 
 use Rattle.schema.specs.Schema.{rank}
 use Rattle.encode.specs.Canon.{eachAlong, inner, canon, partOf}
 use Rattle.encode.specs.Puts.{Puts, Fits, puts-none, puts-same, fits-same, Going, going-all, going-none, going-fits, going-part, fits-one, fits-two, fits-three, fits-four, puts-four}
-use Rattle.encode.proofs.Parts.{field-no, field-other, part-skip, part-number, part-text, part-bytes, part-topic, part-id, part-sub, value-is, value-sub, depth, depth-rank, each-field, measure-fits, head-fits, value-fits, sum-fits, field-puts, field-short, field-none}
+use Rattle.encode.proofs.Parts.{field-yes, field-no, field-other, part-skip, part-number, part-text, part-bytes, part-topic, part-id, part-sub, value-is, value-sub, depth, depth-rank, each-field, measure-fits, head-fits, value-fits, sum-fits, field-puts, field-short, field-none}
 use borrow.Fn.Kinds.{In}
 use borrow.Fn.PlainCycle.{Measures, is, falls, and}
 use Rattle.encode.proofs.emit_each.Reads as emit-each
@@ -178,8 +179,11 @@ emit-each-emit-field-requires t c κs =
     let l = c .before .before .before .before .before .before .loop in
     let e = sym (c .before .before .step .given .1) ∙ c .before .before .before .before .read-field .ensures in
     let m = field-stands (a .input .now) (l .i) _ e in
-    let d = each-field (inner canon (a .role)) (a .n) (a .input .now) (l .i) _ e in
-    (omega (arith, c .before .before .before .before .before .before .before .before .before .pre .0), (c .before .before .before .before .before .before .before .before .before .pre .1 .0, record { order = m .ends; fits = m .within }, going-fits _ _ _ _ _ _ (l .inv .0) _ _ d))
+    let f = c .before .before .step .given .0 .0 in
+    let x = cond (isBytes (a .n) f) (bytesField (a .n) (inner canon (a .role) (valueIn (a .input .now) f))) [] in
+    let o = eachAlong (inner canon (a .role)) (a .n) (a .input .now) (walkAt (a .input .now) (f .next)) in
+    let d = each-field (inner canon (a .role)) (a .n) (a .input .now) (l .i) f e in
+    (omega (arith, c .before .before .before .before .before .before .before .before .before .pre .0), (c .before .before .before .before .before .before .before .before .before .pre .1 .0, record { order = m .ends; fits = m .within }, going-fits _ _ _ _ _ _ (l .inv .0) x o d))
 
 emit-each-loop-less : (t : ℕ) → emit-each-lts.Need-loop-less (
   read-field-reads.Asked,
@@ -202,9 +206,12 @@ emit-each-loop-again t c =
     let a = c .before .before .before .before .before .before .before .before .before .before .before .before .args in
     let l = c .before .before .before .before .before .before .before .before .before .loop in
     let e = sym (c .before .before .before .before .before .step .given .1) ∙ c .before .before .before .before .before .before .before .read-field .ensures in
-    let d = each-field (inner canon (a .role)) (a .n) (a .input .now) (l .i) _ e in
+    let f = c .before .before .before .before .before .step .given .0 .0 in
+    let x = cond (isBytes (a .n) f) (bytesField (a .n) (inner canon (a .role) (valueIn (a .input .now) f))) [] in
+    let o = eachAlong (inner canon (a .role)) (a .n) (a .input .now) (walkAt (a .input .now) (f .next)) in
+    let d = each-field (inner canon (a .role)) (a .n) (a .input .now) (l .i) f e in
     let k = l .inv .1 in
-    (going-part _ _ _ _ _ _ (l .inv .0) _ _ d _ _ (c .before .before .emit-field .ensures), omega arith)
+    (going-part _ _ _ _ _ _ (l .inv .0) x o d _ _ (c .before .before .emit-field .ensures), omega arith)
 
 emit-each-same-length-3 : (t : ℕ) → emit-each-lts.Need-same-length-3 (
   read-field-reads.Asked,
@@ -267,7 +274,7 @@ emit-field-emit-value-requires : (t : ℕ) → emit-field-lts.Need-emit-value-re
 emit-field-emit-value-requires t c κs =
     let a = c .before .before .before .before .before .before .before .before .args in
     let d = inner canon (a .role) (valueIn (a .input .now) (a .f)) in
-    (omega (arith, c .before .before .before .before .before .before .before .before .pre .0), measure-fits (a .n) (a .f) d (a .at) (c .before .before .before .before .if1 .taken) (c .before .before .if2 .taken) (c .before .before .before .before .before .before .before .before .pre .1 .2))
+    (omega (arith, c .before .before .before .before .before .before .before .before .pre .0), measure-fits (a .n) _ d (a .at) (field-yes (a .n) (a .f) (bytesField (a .n) d) (c .before .before .before .before .if1 .taken) (c .before .before .if2 .taken)) (c .before .before .before .before .before .before .before .before .pre .1 .2))
 
 emit-field-emit-head-requires : (t : ℕ) → emit-field-lts.Need-emit-head-requires (
   emit-value-below t,
@@ -278,7 +285,7 @@ emit-field-emit-head-requires : (t : ℕ) → emit-field-lts.Need-emit-head-requ
 emit-field-emit-head-requires t c κs =
     let a = c .before .before .before .before .before .before .before .before .before .before .before .args in
     let d = inner canon (a .role) (valueIn (a .input .now) (a .f)) in
-    (c .before .before .before .before .before .before .before .before .before .before .before .pre .1 .0, head-fits (a .n) (a .f) d (a .at) (c .before .before .before .before .before .before .before .if1 .taken) (c .before .before .before .before .before .if2 .taken) (c .before .before .before .before .before .before .before .before .before .before .before .pre .1 .2) _ _ _ (c .before .before .emit-value .ensures))
+    (c .before .before .before .before .before .before .before .before .before .before .before .pre .1 .0, head-fits (a .n) _ d (a .at) (field-yes (a .n) (a .f) (bytesField (a .n) d) (c .before .before .before .before .before .before .before .if1 .taken) (c .before .before .before .before .before .if2 .taken)) (c .before .before .before .before .before .before .before .before .before .before .before .pre .1 .2) _ _ _ (c .before .before .emit-value .ensures))
 
 emit-field-add-if3 : (t : ℕ) → emit-field-lts.Need-add-if3 (
   emit-value-below t,
@@ -289,7 +296,7 @@ emit-field-add-if3 : (t : ℕ) → emit-field-lts.Need-add-if3 (
 emit-field-add-if3 t c =
     let a = c .before .before .before .before .before .before .before .before .before .before .before .before .before .before .args in
     let d = inner canon (a .role) (valueIn (a .input .now) (a .f)) in
-    let s = sum-fits (a .n) (a .f) d (a .at) (c .before .before .before .before .before .before .before .before .before .before .if1 .taken) (c .before .before .before .before .before .before .before .before .if2 .taken) (c .before .before .before .before .before .before .before .before .before .before .before .before .before .before .pre .1 .2) _ _ _ (c .before .before .before .before .before .emit-value .ensures) _ _ _ (c .before .before .emit-head .ensures) in
+    let s = sum-fits (a .n) _ d (a .at) (field-yes (a .n) (a .f) (bytesField (a .n) d) (c .before .before .before .before .before .before .before .before .before .before .if1 .taken) (c .before .before .before .before .before .before .before .before .if2 .taken)) (c .before .before .before .before .before .before .before .before .before .before .before .before .before .before .pre .1 .2) _ _ _ (c .before .before .before .before .before .emit-value .ensures) _ _ _ (c .before .before .emit-head .ensures) in
     omega arith
 
 emit-field-add-result : (t : ℕ) → emit-field-lts.Need-add-result (
@@ -301,7 +308,7 @@ emit-field-add-result : (t : ℕ) → emit-field-lts.Need-add-result (
 emit-field-add-result t c =
     let a = c .before .before .before .before .before .before .before .before .before .before .before .before .before .before .before .args in
     let d = inner canon (a .role) (valueIn (a .input .now) (a .f)) in
-    let s = sum-fits (a .n) (a .f) d (a .at) (c .before .before .before .before .before .before .before .before .before .before .before .if1 .taken) (c .before .before .before .before .before .before .before .before .before .if2 .taken) (c .before .before .before .before .before .before .before .before .before .before .before .before .before .before .before .pre .1 .2) _ _ _ (c .before .before .before .before .before .before .emit-value .ensures) _ _ _ (c .before .before .before .emit-head .ensures) in
+    let s = sum-fits (a .n) _ d (a .at) (field-yes (a .n) (a .f) (bytesField (a .n) d) (c .before .before .before .before .before .before .before .before .before .before .before .if1 .taken) (c .before .before .before .before .before .before .before .before .before .if2 .taken)) (c .before .before .before .before .before .before .before .before .before .before .before .before .before .before .before .pre .1 .2) _ _ _ (c .before .before .before .before .before .before .emit-value .ensures) _ _ _ (c .before .before .before .emit-head .ensures) in
     omega arith
 
 emit-field-same-length : (t : ℕ) → emit-field-lts.Need-same-length (
@@ -321,7 +328,7 @@ emit-field-returns : (t : ℕ) → emit-field-lts.Need-returns (
 emit-field-returns t c =
     let a = c .before .before .before .before .before .before .before .before .before .before .before .before .before .before .before .args in
     let d = inner canon (a .role) (valueIn (a .input .now) (a .f)) in
-    field-short (a .n) (a .f) d (a .at) (c .before .before .before .before .before .before .before .before .before .before .before .if1 .taken) (c .before .before .before .before .before .before .before .before .before .if2 .taken) (c .before .before .before .before .before .before .before .before .before .before .before .before .before .before .before .pre .1 .2) _ _ _ (c .before .before .before .before .before .before .emit-value .ensures) _ _ _ (c .before .before .before .emit-head .ensures) (search needs) (c .if3 .taken)
+    field-short (a .n) _ d (a .at) (field-yes (a .n) (a .f) (bytesField (a .n) d) (c .before .before .before .before .before .before .before .before .before .before .before .if1 .taken) (c .before .before .before .before .before .before .before .before .before .if2 .taken)) (c .before .before .before .before .before .before .before .before .before .before .before .before .before .before .before .pre .1 .2) _ _ _ (c .before .before .before .before .before .before .emit-value .ensures) _ _ _ (c .before .before .before .emit-head .ensures) (search needs) (c .if3 .taken)
 
 emit-field-sub-emit-value-2 : (t : ℕ) → emit-field-lts.Need-sub-emit-value-2 (
   emit-value-below t,
@@ -356,7 +363,7 @@ emit-field-emit-value-requires-2 : (t : ℕ) → emit-field-lts.Need-emit-value-
 emit-field-emit-value-requires-2 t c κs =
     let a = c .before .before .before .before .before .before .before .before .before .before .before .before .before .before .before .before .before .args in
     let d = inner canon (a .role) (valueIn (a .input .now) (a .f)) in
-    (omega (arith, c .before .before .before .before .before .before .before .before .before .before .before .before .before .before .before .before .before .pre .0), value-fits (a .n) (a .f) d (a .at) (c .before .before .before .before .before .before .before .before .before .before .before .before .before .if1 .taken) (c .before .before .before .before .before .before .before .before .before .before .before .if2 .taken) (c .before .before .before .before .before .before .before .before .before .before .before .before .before .before .before .before .before .pre .1 .2) _ _ _ (c .before .before .before .before .before .before .before .before .emit-value .ensures) _ _ _ (c .before .before .before .before .before .emit-head .ensures))
+    (omega (arith, c .before .before .before .before .before .before .before .before .before .before .before .before .before .before .before .before .before .pre .0), value-fits (a .n) _ d (a .at) (field-yes (a .n) (a .f) (bytesField (a .n) d) (c .before .before .before .before .before .before .before .before .before .before .before .before .before .if1 .taken) (c .before .before .before .before .before .before .before .before .before .before .before .if2 .taken)) (c .before .before .before .before .before .before .before .before .before .before .before .before .before .before .before .before .before .pre .1 .2) _ _ _ (c .before .before .before .before .before .before .before .before .emit-value .ensures) _ _ _ (c .before .before .before .before .before .emit-head .ensures))
 
 emit-field-same-length-2 : (t : ℕ) → emit-field-lts.Need-same-length-2 (
   emit-value-below t,
@@ -375,7 +382,7 @@ emit-field-returns-2 : (t : ℕ) → emit-field-lts.Need-returns-2 (
 emit-field-returns-2 t c =
     let a = c .before .before .before .before .before .before .before .before .before .before .before .before .before .before .before .before .before .before .before .before .args in
     let d = inner canon (a .role) (valueIn (a .input .now) (a .f)) in
-    field-puts (a .n) (a .f) d (a .at) (c .before .before .before .before .before .before .before .before .before .before .before .before .before .before .before .before .if1 .taken) (c .before .before .before .before .before .before .before .before .before .before .before .before .before .before .if2 .taken) (c .before .before .before .before .before .before .before .before .before .before .before .before .before .before .before .before .before .before .before .before .pre .1 .2) _ _ _ (c .before .before .before .before .before .before .before .before .before .before .before .emit-value .ensures) _ _ _ (c .before .before .before .before .before .before .before .before .emit-head .ensures) _ _ (c .before .before .emit-value2 .ensures)
+    field-puts (a .n) _ d (a .at) (field-yes (a .n) (a .f) (bytesField (a .n) d) (c .before .before .before .before .before .before .before .before .before .before .before .before .before .before .before .before .if1 .taken) (c .before .before .before .before .before .before .before .before .before .before .before .before .before .before .if2 .taken)) (c .before .before .before .before .before .before .before .before .before .before .before .before .before .before .before .before .before .before .before .before .pre .1 .2) _ _ _ (c .before .before .before .before .before .before .before .before .before .before .before .emit-value .ensures) _ _ _ (c .before .before .before .before .before .before .before .before .emit-head .ensures) _ _ (c .before .before .emit-value2 .ensures)
 
 emit-field-returns-3 : (t : ℕ) → emit-field-lts.Need-returns-3 (
   emit-value-below t,
