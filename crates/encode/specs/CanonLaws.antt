@@ -379,7 +379,7 @@ module _ (s : List ℕ) (b : Bytes s) (l : length s ≤ 65536) where
       let p = part-most 30420 m (valueIn s f) h (value-bytes s f b) (omega (arith, st .within)) kind.ControlMessage (λ j p q. canon-most j p) in
       step-most 60853 s at f (cond (isBytes 3 f) (partOf kind.ControlMessage m (valueIn s f)) []) (entriesAlong m s (walkAt s (f .next))) st (le-trans (cond-most (isBytes 3 f) (partOf kind.ControlMessage m (valueIn s f))) p) rest)
 
-  merged-most : length (mergedControl s) ≤ 243412 * length s
+  pub merged-most : length (mergedControl s) ≤ 243412 * length s
   unfolding mergedControl entriesOf
   merged-most = let z = four-most (λ m. entriesAlong m s (fieldsOf s)) (60853 * length s) (λ m h. let e = entries-most m h 0 in omega arith) in omega arith
 

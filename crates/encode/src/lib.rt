@@ -302,14 +302,15 @@ fn emit_merged(body: &[u8], out: &mut [u8], at: usize) -> usize
     emit_entries(body, 4, out, c)
 }
 
-// The control field, where the body has a control.
+// The control field, where the body has a control, be it empty.
 fn emit_control(body: &[u8], out: &mut [u8], at: usize) -> usize
-    requires { ⌜ Fits at (cond (hasControl (now body)) (bytesField 3 (mergedControl (now body))) []) ⌝ }
+    requires { ⌜ Fits 0 (mergedControl (now body)) × Fits at (cond (hasControl (now body)) (bytesField 3 (mergedControl (now body))) []) ⌝ }
     ensures { λ r. ⌜ Puts (now (out .entry)) at (cond (hasControl (now (body .entry))) (bytesField 3 (mergedControl (now (body .entry)))) []) (now (out .exit)) r ⌝ }
 {
-    if has_control(body) {
-        let mut none = [0u8; 1];
-        let len = emit_merged(body, &mut none, 0);
+    let control = has_control(body);
+    let mut none = [0u8; 1];
+    let len = emit_merged(body, &mut none, 0);
+    if control {
         let i = emit_head(3, len, out, at);
         return emit_merged(body, out, i);
     }
@@ -318,7 +319,7 @@ fn emit_control(body: &[u8], out: &mut [u8], at: usize) -> usize
 
 // Subscriptions, then the published messages as they stand, then the controls as one.
 fn emit_body(body: &[u8], out: &mut [u8], at: usize) -> usize
-    requires { ⌜ Fits at (canonBody (now body)) ⌝ }
+    requires { ⌜ Fits 0 (mergedControl (now body)) × Fits at (canonBody (now body)) ⌝ }
     ensures { λ r. ⌜ Puts (now (out .entry)) at (canonBody (now (body .entry))) (now (out .exit)) r ⌝ }
 {
     let a = emit_each(body, 1, Role::Sub(Kind::SubOpts), out, at);

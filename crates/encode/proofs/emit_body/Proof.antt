@@ -24,7 +24,7 @@ emit-each-requires c κs = let a = c .before .before .before .args in
     let x = eachAlong (inner canon (Sub kind.SubOpts)) 1 s (fieldsOf s) in
     let y = eachAlong (inner canon Topic) 2 s (fieldsOf s) in
     let z = cond (hasControl s) (bytesField 3 (mergedControl s)) [] in
-    (omega arith, fits-first (a .at) x (y ++ z) (c .before .before .before .pre))
+    (omega arith, fits-first (a .at) x (y ++ z) (c .before .before .before .pre .1))
 
 emit-each-requires-2 : tie.Need-emit-each-requires-2
 unfolding canonBody
@@ -33,7 +33,7 @@ emit-each-requires-2 c κs = let a = c .before .before .before .before .before .
     let x = eachAlong (inner canon (Sub kind.SubOpts)) 1 s (fieldsOf s) in
     let y = eachAlong (inner canon Topic) 2 s (fieldsOf s) in
     let z = cond (hasControl s) (bytesField 3 (mergedControl s)) [] in
-    (omega arith, fits-first _ y z (fits-next (a .out .now) _ (a .at) _ x (y ++ z) (c .before .before .before .emit-each .ensures) (c .before .before .before .before .before .before .before .pre)))
+    (omega arith, fits-first _ y z (fits-next (a .out .now) _ (a .at) _ x (y ++ z) (c .before .before .before .emit-each .ensures) (c .before .before .before .before .before .before .before .pre .1)))
 
 emit-control-requires : tie.Need-emit-control-requires
 unfolding canonBody
@@ -42,7 +42,7 @@ emit-control-requires c κs = let a = c .before .before .before .before .before 
     let x = eachAlong (inner canon (Sub kind.SubOpts)) 1 s (fieldsOf s) in
     let y = eachAlong (inner canon Topic) 2 s (fieldsOf s) in
     let z = cond (hasControl s) (bytesField 3 (mergedControl s)) [] in
-    fits-next _ _ _ _ y z (c .before .before .before .emit-each2 .ensures) (fits-next (a .out .now) _ (a .at) _ x (y ++ z) (c .before .before .before .before .before .before .before .emit-each .ensures) (c .before .before .before .before .before .before .before .before .before .before .before .pre))
+    (c .before .before .before .before .before .before .before .before .before .before .before .pre .0, fits-next _ _ _ _ y z (c .before .before .before .emit-each2 .ensures) (fits-next (a .out .now) _ (a .at) _ x (y ++ z) (c .before .before .before .before .before .before .before .emit-each .ensures) (c .before .before .before .before .before .before .before .before .before .before .before .pre .1)))
 
 same-length : tie.Need-same-length
 same-length c = search needs

@@ -26,7 +26,6 @@ own-yes k n o s t p q e = simp (eq-eqb _ _ (q ∙ p)) (ap (λ (x : Slots). numbe
 own-no : (k : Kind) (n o : ℕ) (xs : List ℕ) → o ≡ varintField k → (n ≡ o → ⊥) → cond (eqb n (varintField k)) xs [] ≡ []
 own-no k n o xs p q = simp (ne-eqb _ _ (λ h. q (h ∙ sym p)))
 
-
 varint-field-requires : tie.Need-varint-field-requires
 varint-field-requires c κs = search needs
 

@@ -17,7 +17,7 @@ use Rattle.schema.specs.declared.Counted.{Counted}
 use Rattle.schema.specs.declared.Counted.the-variants as count
 use Rattle.schema.specs.Count.{counted}
 use Rattle.encode.specs.Canon.{canonBody}
-use Rattle.encode.specs.CanonLaws.{body-most}
+use Rattle.encode.specs.CanonLaws.{merged-most, body-most}
 use Rattle.encode.specs.Encode.{onCount, encodeAnswer, leavesOn, encodeLeft}
 use Rattle.encode.specs.Puts.{Puts}
 use borrow.Author.Needs.{needs}
@@ -63,7 +63,6 @@ module _ (s out : List ℕ) where
             let k : length (canonBody s) ≤ length out = omega (arith, measured) in
             (ap Bytes measured ∙ sym (ap ofWritten (answer-fits (canonBody s) out k)) ∙ simp (le-ltb _ _ m) at (small (count.Records n) e .0), q .holds (omega arith) ∙ sym (written-fits (canonBody s) out k) ∙ simp (le-ltb _ _ m) at (small (count.Records n) e .1))
 
-
 returns : tie.Need-returns
 returns c = let a = c .before .before .before .args in large (a .body .now) (a .out .now) (c .if1 .taken)
 
@@ -83,13 +82,21 @@ slice-aggregate-emit-body : tie.Need-slice-aggregate-emit-body
 slice-aggregate-emit-body c = search needs
 
 emit-body-requires : tie.Need-emit-body-requires
-emit-body-requires c κs = let a = c .before .before .before .before .before .before .before .before .before .args in let b = body-most (a .body .now) (λ i. c .before .before .before .before .before .before .before .before .shared-slice-known .given i .fits) (c .before .before .before .before .before .before .if1 .left) in omega arith
+emit-body-requires c κs =
+    let a = c .before .before .before .before .before .before .before .before .before .args in
+    let b = body-most (a .body .now) (λ i. c .before .before .before .before .before .before .before .before .shared-slice-known .given i .fits) (c .before .before .before .before .before .before .if1 .left) in
+    let m = merged-most (a .body .now) (λ i. c .before .before .before .before .before .before .before .before .shared-slice-known .given i .fits) (c .before .before .before .before .before .before .if1 .left) in
+    (omega arith, omega arith)
 
 returns-3 : tie.Need-returns-3
 returns-3 c = let a = c .before .before .before .before .before .before .before .before .before .before .before .before .args in short (a .body .now) (a .out .now) (c .before .before .before .before .before .before .before .before .before .if1 .left) _ (sym (c .before .before .before .before .before .before .c2 .given .1) ∙ c .before .before .before .before .before .before .before .before .count .ensures) (c .before .before .before .before .if2 .left) _ _ _ (c .before .before .emit-body .ensures) (c .if3 .taken)
 
 emit-body-requires-2 : tie.Need-emit-body-requires-2
-emit-body-requires-2 c κs = let a = c .before .before .before .before .before .before .before .before .before .before .before .before .before .args in let b = body-most (a .body .now) (λ i. c .before .before .before .before .before .before .before .before .before .before .before .before .shared-slice-known .given i .fits) (c .before .before .before .before .before .before .before .before .before .before .if1 .left) in omega arith
+emit-body-requires-2 c κs =
+    let a = c .before .before .before .before .before .before .before .before .before .before .before .before .before .args in
+    let b = body-most (a .body .now) (λ i. c .before .before .before .before .before .before .before .before .before .before .before .before .shared-slice-known .given i .fits) (c .before .before .before .before .before .before .before .before .before .before .if1 .left) in
+    let m = merged-most (a .body .now) (λ i. c .before .before .before .before .before .before .before .before .before .before .before .before .shared-slice-known .given i .fits) (c .before .before .before .before .before .before .before .before .before .before .if1 .left) in
+    (omega arith, omega arith)
 
 returns-4 : tie.Need-returns-4
 returns-4 c = let a = c .before .before .before .before .before .before .before .args in small (a .body .now) (a .out .now) (c .before .before .before .before .if1 .left) _ (sym (c .before .c .given .1) ∙ c .before .before .before .count .ensures)
