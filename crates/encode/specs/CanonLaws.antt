@@ -2,12 +2,12 @@
 -- canonical bytes are not many times longer than the message.
 use Prim.Native.Nat.{ℕ, zero, suc, _+_, _-_, _*_, _/_, _^_, _≤_, _<_, zero-le}
 use mathlib.Core.Path.{_≡_, refl, sym, ap, ap₂, subst, _∙_}
-use mathlib.Core.List.{List, [], _∷_, _++_}
+use mathlib.Core.List.{List, [], _++_}
 use mathlib.Core.Bool.{Bool, true, false, cond}
 use mathlib.Core.Logic.{_⊎_, inl, inr, ⊎-elim}
 use native.Mathlib.Omega.{arith}
 use native.Mathlib.Nat.{le-trans, add-le-add, mul-le-mul-left, mul-add, add-mul, mul-assoc}
-use lib.ListN.{length, take, drop, length-append, length-take, length-drop}
+use lib.ListN.{length, drop, length-append, length-take}
 use lib.Dec.{ltb, eqb}
 use borrow.Author.Tests.{ltb-true, ltb-false}
 use Rattle.basis.specs.Cases.{either, clash}
@@ -31,7 +31,7 @@ use Rattle.protobuf.specs.Field.{after, readTag, readLen, readVarint, skipField
 use Rattle.protobuf.specs.Laws.{Stands, part-fits}
 use Rattle.protobuf.specs.WalkLaws.{along}
 use Rattle.protobuf.specs.Walk.{Fields, end, refused, _then_, walkAt, fieldsOf, between, isBytes, valueIn}
-use Rattle.protobuf.specs.Encode.{tag, varintField, bytesField}
+use Rattle.protobuf.specs.Encode.{tag, bytesField}
 use Rattle.protobuf.specs.EncodeLaws.{varint-field-length, bytes-field-length}
 use Rattle.schema.specs.declared.Kind.{Kind}
 use Rattle.schema.specs.declared.Kind.the-variants as kind
@@ -283,11 +283,11 @@ number-most k n (number.Present v) h g =
     omega (arith, varint-field-length n (valueOf k v))
 
 -- with x for each byte of a submessage and one more, 2 * x + 13 do for a field that holds it, and for any other
-above : (a c z m : ℕ) → c ≤ 13 * m → c ≤ a + 13 * m
-above a c z m h = omega arith
+above : (a c m : ℕ) → c ≤ 13 * m → c ≤ a + 13 * m
+above a c m h = omega arith
 
 plain-most : (x m c : ℕ) → c ≤ 13 * m → c ≤ (2 * x + 13) * m
-plain-most x m c h = subst (λ (z : ℕ). c ≤ z) (sym (add-mul (2 * x) 13 m)) (above (2 * x * m) c 0 m h)
+plain-most x m c h = subst (λ (z : ℕ). c ≤ z) (sym (add-mul (2 * x) 13 m)) (above (2 * x * m) c m h)
 
 twice : (c z m : ℕ) → c ≤ z → 1 ≤ m → 2 * c + 2 ≤ 2 * z + 13 * m
 twice c z m h o = omega arith

@@ -3,7 +3,7 @@
 -- end of what was written, makes all of it.
 use Prim.Native.Nat.{ℕ, suc, _+_, _-_, _*_, _≤_, _<_}
 use mathlib.Core.Path.{_≡_, refl, sym, ap, _∙_}
-use mathlib.Core.List.{List, [], _++_}
+use mathlib.Core.List.{[]}
 use mathlib.Core.Bool.{cond}
 use native.Mathlib.Omega.{arith}
 use borrow.Author.Needs.{needs}
@@ -13,11 +13,9 @@ use Rattle.protobuf.specs.Laws.{field-stands}
 use Rattle.protobuf.specs.Walk.{walkAt, fieldsOf, isBytes, valueIn}
 use Rattle.protobuf.specs.WalkLaws.{walk-on, walk-end}
 use Rattle.protobuf.specs.Encode.{bytesField}
-use Rattle.schema.specs.declared.Role.{Role}
-use Rattle.schema.specs.declared.Role.the-variants.{Skip, Number, Text, Bytes, Topic, MessageId, Sub}
 use Rattle.schema.specs.Schema.{rank}
 use Rattle.encode.specs.Canon.{eachAlong, inner, canon, partOf}
-use Rattle.encode.specs.Puts.{Puts, Fits, puts-none, puts-same, fits-same, Going, going-all, going-none, going-fits, going-part, fits-one, fits-two, fits-three, fits-four, puts-four}
+use Rattle.encode.specs.Puts.{puts-none, puts-same, fits-same, Going, going-all, going-none, going-fits, going-part, fits-one, fits-two, fits-three, fits-four, puts-four}
 use Rattle.encode.proofs.Parts.{field-yes, field-no, field-other, part-skip, part-number, part-text, part-bytes, part-topic, part-id, part-sub, value-is, value-sub, depth, depth-rank, each-field, measure-fits, head-fits, value-fits, sum-fits, field-puts, field-short, field-none}
 use borrow.Fn.Kinds.{In}
 use borrow.Fn.PlainCycle.{Measures, is, falls, and}

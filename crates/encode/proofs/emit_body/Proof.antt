@@ -1,5 +1,5 @@
 -- `encode::emit_body` meets its contract: its three parts, one after the other.
-use mathlib.Core.List.{List, [], _++_}
+use mathlib.Core.List.{[], _++_}
 use mathlib.Core.Bool.{cond}
 use native.Mathlib.Omega.{arith}
 use Rattle.protobuf.specs.Walk.{fieldsOf}
@@ -12,10 +12,6 @@ use Rattle.encode.specs.Puts.{puts-append, fits-first, fits-next}
 use borrow.Author.Needs.{needs}
 use Rattle.encode.proofs.emit_body.Statement.{statement}
 use Rattle.encode.proofs.emit_body.Tie as tie
-use Rattle.encode.proofs.emit_body.Reads as reads
-use Rattle.encode.proofs.emit_body.Lts as lts
-use Rattle.encode.proofs.emit_control.Reads as emit-control-reads
-use Rattle.encode.proofs.emit_each.Reads as emit-each-reads
 
 emit-each-requires : tie.Need-emit-each-requires
 unfolding canonBody

@@ -4,9 +4,6 @@ use Rattle.encode.specs.Puts.{puts-set}
 use borrow.Author.Needs.{needs}
 use Rattle.encode.proofs.emit_bytes.Statement.{statement}
 use Rattle.encode.proofs.emit_bytes.Tie as tie
-use Rattle.encode.proofs.emit_bytes.Reads as reads
-use Rattle.encode.proofs.emit_bytes.Lts as lts
-use Rattle.protobuf.proofs.put_bytes.Reads as put-bytes-reads
 
 put-bytes-requires : tie.Need-put-bytes-requires
 put-bytes-requires c κs = search needs

@@ -1,5 +1,5 @@
 -- `encode::emit_control` meets its contract: where the body has a control, a head and the controls as one.
-use mathlib.Core.Path.{_≡_, sym, ap, _∙_}
+use mathlib.Core.Path.{sym, ap, _∙_}
 use mathlib.Core.List.{[]}
 use mathlib.Core.Bool.{Bool, cond}
 use native.Mathlib.Omega.{arith}
@@ -10,11 +10,6 @@ use Rattle.encode.proofs.Parts.{head-fits, value-fits, field-puts}
 use borrow.Author.Needs.{needs}
 use Rattle.encode.proofs.emit_control.Statement.{statement}
 use Rattle.encode.proofs.emit_control.Tie as tie
-use Rattle.encode.proofs.emit_control.Reads as reads
-use Rattle.encode.proofs.emit_control.Lts as lts
-use Rattle.encode.proofs.emit_head.Reads as emit-head-reads
-use Rattle.encode.proofs.emit_merged.Reads as emit-merged-reads
-use Rattle.message.proofs.has_control.Reads as has-control-reads
 
 has-control-requires : tie.Need-has-control-requires
 has-control-requires c κs = search needs

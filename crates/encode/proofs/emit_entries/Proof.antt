@@ -1,6 +1,6 @@
 -- `encode::emit_entries` meets its contract. The loop's invariant: what is left along the fields, written at the end of what was written, makes
 -- all of it.
-use Prim.Native.Nat.{ℕ, _-_, _≤_}
+use Prim.Native.Nat.{_-_, _≤_}
 use mathlib.Core.Path.{_≡_, refl, sym, ap, _∙_}
 use mathlib.Core.List.{[]}
 use mathlib.Core.Bool.{cond}
@@ -17,10 +17,6 @@ use Rattle.encode.specs.Puts.{Going, going-all, going-none, going-fits, 
 use Rattle.encode.proofs.Parts.{entries-field}
 use Rattle.encode.proofs.emit_entries.Statement.{statement}
 use Rattle.encode.proofs.emit_entries.Tie as tie
-use Rattle.encode.proofs.emit_entries.Reads as reads
-use Rattle.encode.proofs.emit_entries.Lts as lts
-use Rattle.encode.proofs.emit_entry.Reads as emit-entry-reads
-use Rattle.protobuf.proofs.read_field.Reads as read-field-reads
 
 abbrev Inv-loop : tie.InvT-loop
 Inv-loop body m out₀ at i₀ end₀ out i end = Going out₀ at (entriesOf m body) out end (entriesAlong m body (walkAt body i)) × (length out ≡ length out₀)

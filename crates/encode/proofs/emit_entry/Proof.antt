@@ -8,9 +8,6 @@ use Rattle.encode.proofs.Parts.{field-yes, field-no, field-other, field
 use borrow.Author.Needs.{needs}
 use Rattle.encode.proofs.emit_entry.Statement.{statement}
 use Rattle.encode.proofs.emit_entry.Tie as tie
-use Rattle.encode.proofs.emit_entry.Reads as reads
-use Rattle.encode.proofs.emit_entry.Lts as lts
-use Rattle.encode.proofs.emit_part.Reads as emit-part-reads
 
 sub-emit-part : tie.Need-sub-emit-part
 sub-emit-part c = search needs

@@ -6,9 +6,6 @@ use Rattle.encode.specs.Puts.{puts-append, fits-first, fits-next}
 use borrow.Author.Needs.{needs}
 use Rattle.encode.proofs.emit_head.Statement.{statement}
 use Rattle.encode.proofs.emit_head.Tie as tie
-use Rattle.encode.proofs.emit_head.Reads as reads
-use Rattle.encode.proofs.emit_head.Lts as lts
-use Rattle.encode.proofs.emit_varint.Reads as emit-varint-reads
 
 mul-emit-varint : tie.Need-mul-emit-varint
 mul-emit-varint c = search needs

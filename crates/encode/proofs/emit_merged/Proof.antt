@@ -5,9 +5,6 @@ use Rattle.encode.specs.Puts.{fits-one, fits-two, fits-three, fits-four,
 use borrow.Author.Needs.{needs}
 use Rattle.encode.proofs.emit_merged.Statement.{statement}
 use Rattle.encode.proofs.emit_merged.Tie as tie
-use Rattle.encode.proofs.emit_merged.Reads as reads
-use Rattle.encode.proofs.emit_merged.Lts as lts
-use Rattle.encode.proofs.emit_entries.Reads as emit-entries-reads
 
 emit-entries-requires : tie.Need-emit-entries-requires
 unfolding mergedControl

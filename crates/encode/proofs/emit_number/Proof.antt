@@ -7,10 +7,6 @@ use Rattle.encode.proofs.Parts.{number-none, number-is}
 use borrow.Author.Needs.{needs}
 use Rattle.encode.proofs.emit_number.Statement.{statement}
 use Rattle.encode.proofs.emit_number.Tie as tie
-use Rattle.encode.proofs.emit_number.Reads as reads
-use Rattle.encode.proofs.emit_number.Lts as lts
-use Rattle.encode.proofs.emit_varint.Reads as emit-varint-reads
-use Rattle.encode.proofs.value_of.Reads as value-of-reads
 
 enum-told : tie.Need-enum-told
 enum-told c = search needs

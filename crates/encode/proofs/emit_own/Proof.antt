@@ -2,7 +2,7 @@
 use Prim.Native.Nat.{ℕ}
 use mathlib.Core.Path.{_≡_, sym, ap, _∙_}
 use mathlib.Core.List.{List, []}
-use mathlib.Core.Bool.{Bool, true, false, cond}
+use mathlib.Core.Bool.{cond}
 use lib.Dec.{eqb}
 use borrow.Author.Tests.{eq-eqb, ne-eqb}
 use Rattle.schema.specs.Schema.{varintField}
@@ -14,11 +14,6 @@ use Rattle.encode.specs.Puts.{puts-none, puts-same, fits-same}
 use borrow.Author.Needs.{needs}
 use Rattle.encode.proofs.emit_own.Statement.{statement}
 use Rattle.encode.proofs.emit_own.Tie as tie
-use Rattle.encode.proofs.emit_own.Reads as reads
-use Rattle.encode.proofs.emit_own.Lts as lts
-use Rattle.encode.proofs.emit_number.Reads as emit-number-reads
-use Rattle.schema.proofs.slots_of.Reads as slots-of-reads
-use Rattle.schema.proofs.varint_field.Reads as varint-field-reads
 
 own-yes : (k : Kind) (n o : ℕ) (s : List ℕ) (t : Slots) → o ≡ varintField k → n ≡ o → t ≡ slotsOf k s → cond (eqb n (varintField k)) (numbered k n (slotsOf k s .number)) [] ≡ numbered k n (t .number)
 own-yes k n o s t p q e = simp (eq-eqb _ _ (q ∙ p)) (ap (λ (x : Slots). numbered k n (x .number)) (sym e))

@@ -9,10 +9,6 @@ use Rattle.encode.proofs.Parts.{place-none, place-is}
 use borrow.Author.Needs.{needs}
 use Rattle.encode.proofs.emit_place.Statement.{statement}
 use Rattle.encode.proofs.emit_place.Tie as tie
-use Rattle.encode.proofs.emit_place.Reads as reads
-use Rattle.encode.proofs.emit_place.Lts as lts
-use Rattle.encode.proofs.emit_bytes.Reads as emit-bytes-reads
-use Rattle.encode.proofs.emit_head.Reads as emit-head-reads
 
 enum-told : tie.Need-enum-told
 enum-told c = search needs

@@ -1,20 +1,11 @@
 -- `encode::emit_slot` meets its contract: the slot's place lies within the message.
-use Prim.Native.Nat.{ℕ}
-use mathlib.Core.Path.{_≡_, sym, ap, subst, _∙_}
-use mathlib.Core.List.{List}
-use Rattle.schema.specs.declared.Place.{Place}
-use Rattle.schema.specs.Slots.{slotsOf}
+use mathlib.Core.Path.{sym, ap, subst, _∙_}
 use Rattle.encode.specs.Canon.{slotIn, placed}
 use Rattle.encode.specs.CanonLaws.{Inside, slots-inside}
 use Rattle.encode.specs.Puts.{puts-same, fits-same}
 use borrow.Author.Needs.{needs}
 use Rattle.encode.proofs.emit_slot.Statement.{statement}
 use Rattle.encode.proofs.emit_slot.Tie as tie
-use Rattle.encode.proofs.emit_slot.Reads as reads
-use Rattle.encode.proofs.emit_slot.Lts as lts
-use Rattle.encode.proofs.emit_place.Reads as emit-place-reads
-use Rattle.encode.proofs.slot_in.Reads as slot-in-reads
-use Rattle.schema.proofs.slots_of.Reads as slots-of-reads
 
 slots-of-requires : tie.Need-slots-of-requires
 slots-of-requires c κs = search needs

@@ -6,10 +6,6 @@ use Rattle.encode.specs.Puts.{puts-set}
 use borrow.Author.Needs.{needs}
 use Rattle.encode.proofs.emit_varint.Statement.{statement}
 use Rattle.encode.proofs.emit_varint.Tie as tie
-use Rattle.encode.proofs.emit_varint.Reads as reads
-use Rattle.encode.proofs.emit_varint.Lts as lts
-use Rattle.peer_id.proofs.put_uvarint.Reads as put-uvarint-reads
-use Rattle.peer_id.proofs.uvarint_len.Reads as uvarint-len-reads
 
 put-uvarint-requires : tie.Need-put-uvarint-requires
 put-uvarint-requires c κs = search needs

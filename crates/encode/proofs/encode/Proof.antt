@@ -1,12 +1,11 @@
 -- `encode::encode` meets its contract: the body's length, its count and the room pick the case, and the canonical bytes are measured and written.
-use Prim.Native.Nat.{ℕ, _+_, _≤_, _<_}
+use Prim.Native.Nat.{ℕ, _≤_, _<_}
 use mathlib.Core.Path.{_≡_, sym, ap, _∙_}
 use mathlib.Core.List.{List}
 use native.Mathlib.Omega.{arith}
 use native.Mathlib.Nat.{zero-add}
 use lib.ListN.{length}
 use borrow.Author.Tests.{lt-ltb, le-ltb}
-use Rattle.basis.specs.Bytes.{Bytes as Octets}
 use Rattle.basis.specs.Lists.{answer-fits, answer-short, written-fits, written-short}
 use Rattle.protobuf.specs.declared.WireError.the-variants.{TooLarge, TooManyRecords}
 use Rattle.protobuf.specs.declared.Encoded.{Encoded}
@@ -23,10 +22,6 @@ use Rattle.encode.specs.Puts.{Puts}
 use borrow.Author.Needs.{needs}
 use Rattle.encode.proofs.encode.Statement.{statement}
 use Rattle.encode.proofs.encode.Tie as tie
-use Rattle.encode.proofs.encode.Reads as reads
-use Rattle.encode.proofs.encode.Lts as lts
-use Rattle.encode.proofs.emit_body.Reads as emit-body-reads
-use Rattle.schema.proofs.count.Reads as count-reads
 
 -- what is answered and left, case by case
 abbrev Meets : List ℕ → List ℕ → Encoded → List ℕ → Type 0
@@ -41,9 +36,6 @@ module _ (s out : List ℕ) where
     small : (c : Counted) → c ≡ counted kind.Rpc s → Meets s out (onCount s out c) (leavesOn s out c)
     unfolding encodeAnswer encodeLeft
     small c e = (simp (le-ltb _ _ h) (ap (onCount s out) e), simp (le-ltb _ _ h) (ap (leavesOn s out) e))
-
-    refused-why : (r : Encoded) (after : List ℕ) (c : Counted) → c ≡ counted kind.Rpc s → r ≡ onCount s out c → after ≡ leavesOn s out c → Meets s out r after
-    refused-why r after c e p q = (p ∙ small c e .0, q ∙ small c e .1)
 
     module _ (n : ℕ) (e : count.Records n ≡ counted kind.Rpc s) where
       many : 512 < n → Meets s out (Refused (TooManyRecords n)) out

@@ -3,8 +3,6 @@ use borrow.Author.Tests.{eq-eqb, ne-eqb}
 use Rattle.encode.specs.Canon.{slotIn}
 use Rattle.encode.proofs.slot_in.Statement.{statement}
 use Rattle.encode.proofs.slot_in.Tie as tie
-use Rattle.encode.proofs.slot_in.Reads as reads
-use Rattle.encode.proofs.slot_in.Lts as lts
 
 returns : tie.Need-returns
 unfolding slotIn

@@ -4,8 +4,6 @@ use Rattle.encode.specs.Canon.{valueOf}
 use borrow.Author.Needs.{needs}
 use Rattle.encode.proofs.value_of.Statement.{statement}
 use Rattle.encode.proofs.value_of.Tie as tie
-use Rattle.encode.proofs.value_of.Reads as reads
-use Rattle.encode.proofs.value_of.Lts as lts
 
 enum-told : tie.Need-enum-told
 enum-told c = search needs
