@@ -363,7 +363,7 @@ rank-four kind.ControlGraft = omega arith
 rank-four kind.ControlPrune = omega arith
 rank-four kind.PeerInfo = omega arith
 
-canon-most : (k : Kind) (s : List ℕ) → Bytes s → length s ≤ 65536 → length (canon k s) ≤ 30420 * (length s + 1)
+pub canon-most : (k : Kind) (s : List ℕ) → Bytes s → length s ≤ 65536 → length (canon k s) ≤ 30420 * (length s + 1)
 unfolding most
 canon-most k s b l = most-to 4 k s (rank-four k) b l
 

@@ -2,3 +2,4 @@ pub mod Canon
 pub mod CanonLaws
 pub mod Encode
 pub mod Puts
+pub mod Sign

@@ -12,14 +12,23 @@ ghost use Rattle.schema.specs.Schema.{varintField};
 ghost use Rattle.schema.specs.Slots.{slotsOf};
 ghost use Rattle.schema.specs.Count.{Within};
 ghost use Rattle.message.specs.Decode.{hasControl};
-ghost use Rattle.encode.specs.Canon.{eachAlong, placed, slotIn, valueOf, numbered, inner, partOf, canon, entriesOf, mergedControl, canonBody};
+ghost use Rattle.encode.specs.Canon.{eachAlong, placed, slotIn, valueOf, numbered, inner, partOf, canon, entriesOf, mergedControl, canonBody, signOf};
 ghost use Rattle.encode.specs.CanonLaws.{Inside};
 ghost use Rattle.encode.specs.Encode.{encodeAnswer, encodeLeft};
+ghost use Rattle.encode.specs.Sign.{signAnswer, signLeft};
+ghost use Rattle.basis.specs.Writing.{answer, written};
+ghost use Rattle.ids.specs.Ids.{ofWritten};
+ghost use lib.ListN.{length};
 ghost use Rattle.encode.specs.Puts.{Puts, Fits};
+use ids::MessageAt;
+use ids::MessageBytes;
+use ids::accept;
+use ids::message_at;
 use message::MAX_RECORDS;
 use message::has_control;
 use peer_id::put_uvarint;
 use peer_id::uvarint_len;
+use protobuf::Checked;
 use protobuf::Encoded;
 use protobuf::Field;
 use protobuf::MAX_RPC_SIZE;
@@ -349,6 +358,41 @@ pub fn encode(body: &[u8], out: &mut [u8]) -> Encoded
             }
             emit_body(body, out, 0);
             Encoded::Bytes(needed)
+        }
+    }
+}
+
+// Writes the bytes of a message that are signed at the front of out.
+fn sign_part(part: &[u8], out: &mut [u8]) -> MessageBytes
+    requires { ⌜ length (now part) ≤ 65536 ⌝ }
+    ensures { λ r. ⌜ r ≡ ofWritten (answer (signOf (now (part .entry))) (now (out .entry))) ⌝ }
+    ensures { λ _. ⌜ now (out .exit) ≡ written (signOf (now (part .entry))) (now (out .entry)) ⌝ }
+{
+    let role = Role::Sub(Kind::RawMessage);
+    let mut none = [0u8; 1];
+    let needed = emit_value(part, role, &mut none, 14);
+    if out.len() < needed {
+        return MessageBytes::Room(needed);
+    }
+    let i = emit_bytes(b"libp2p-pubsub:", out, 0);
+    emit_value(part, role, out, i);
+    MessageBytes::Bytes(needed)
+}
+
+// Writes the bytes that are signed of the message at an index: the prefix, then from, data, seqno and every topic.
+pub fn sign_bytes(body: &[u8], index: usize, out: &mut [u8]) -> MessageBytes
+    ensures { λ r. ⌜ r ≡ signAnswer (now (body .entry)) index (now (out .entry)) ⌝ }
+    ensures { λ _. ⌜ now (out .exit) ≡ signLeft (now (body .entry)) index (now (out .entry)) ⌝ }
+{
+    let c = accept(body);
+    match c {
+        Checked::Refused(why) => MessageBytes::Refused(why),
+        Checked::Fine => {
+            let m = message_at(body, index);
+            match m {
+                MessageAt::Count(n) => MessageBytes::NoMessage(n),
+                MessageAt::At { start, end } => sign_part(&body[start..end], out),
+            }
         }
     }
 }

@@ -1,0 +1,60 @@
+-- Sign bytes: measured, and then the prefix and the message's canonical bytes one after the other.
+use Prim.Native.Nat.{ℕ, _+_, _-_, _≤_, _<_}
+use mathlib.Core.Path.{_≡_, refl, sym, ap, _∙_}
+use mathlib.Core.List.{List, _++_}
+use native.Mathlib.Omega.{arith}
+use native.Mathlib.Nat.{zero-add}
+use lib.ListN.{length, take, drop, length-append, length-take, length-drop}
+use Rattle.basis.specs.Writing.{answer, written}
+use Rattle.basis.specs.Lists.{answer-fits, answer-short, written-fits, written-short}
+use Rattle.protobuf.specs.declared.WireError.{WireError}
+use Rattle.protobuf.specs.declared.Checked.the-variants.{Fine, Refused as Wrong}
+use Rattle.protobuf.specs.Walk.{between}
+use Rattle.schema.specs.declared.Kind.the-variants as kind
+use Rattle.rpc.specs.Encode.{signPrefix}
+use Rattle.ids.specs.declared.MessageAt.the-variants.{At, Count}
+use Rattle.ids.specs.declared.MessageBytes.{MessageBytes}
+use Rattle.ids.specs.declared.MessageBytes.the-variants.{Bytes, Room, Refused, NoMessage}
+use Rattle.ids.specs.Ids.{acceptOf, messageAt, ofWritten}
+use Rattle.encode.specs.Canon.{canon, signOf}
+use Rattle.encode.specs.Puts.{Puts, puts-append}
+use Rattle.encode.specs.Sign.{signAt, signChecked, signAnswer, signedAt, signedChecked, signLeft}
+
+sign-length : (p : List ℕ) → length (signOf p) ≡ 14 + length (canon kind.RawMessage p)
+unfolding signOf
+sign-length p = length-append signPrefix (canon kind.RawMessage p)
+
+-- the room is short, or the bytes are written
+pub sign-short : (p none after out : List ℕ) (needed : ℕ) → Puts none 14 (canon kind.RawMessage p) after needed → length out < needed → (Room needed ≡ ofWritten (answer (signOf p) out)) × (out ≡ written (signOf p) out)
+sign-short p none after out needed m h =
+    let n = sign-length p in
+    let e : needed ≡ length (signOf p) = m .ends ∙ sym n in
+    let k : length out < length (signOf p) = omega arith in
+    (ap Room e ∙ sym (ap ofWritten (answer-short (signOf p) out k)), sym (written-short (signOf p) out k))
+
+pub sign-put : (p none after out o₁ o₂ : List ℕ) (needed i end : ℕ) → Puts none 14 (canon kind.RawMessage p) after needed → needed ≤ length out → Puts out 0 signPrefix o₁ i → Puts o₁ i (canon kind.RawMessage p) o₂ end → (Bytes needed ≡ ofWritten (answer (signOf p) out)) × (o₂ ≡ written (signOf p) out)
+unfolding signOf
+sign-put p none after out o₁ o₂ needed i end m h a b =
+    let n = sign-length p in
+    let e : needed ≡ length (signOf p) = m .ends ∙ sym n in
+    let k : length (signOf p) ≤ length out = omega arith in
+    let r = puts-append out o₁ o₂ 0 i end signPrefix (canon kind.RawMessage p) a b in
+    (ap Bytes e ∙ sym (ap ofWritten (answer-fits (signOf p) out k)), r .holds (omega arith) ∙ sym (written-fits (signOf p) out k))
+
+-- a part is no longer than the whole
+pub part-small : (s : List ℕ) (a e : ℕ) → length s ≤ 65536 → length (between s a e) ≤ 65536
+part-small s a e h = rw (length-take (e - a) (drop a s), length-drop a s) (omega arith)
+
+-- ---- which case it is
+pub sign-refused : (s : List ℕ) (i : ℕ) (out : List ℕ) (why : WireError) → acceptOf s ≡ Wrong why → (Refused why ≡ signAnswer s i out) × (out ≡ signLeft s i out)
+unfolding signAnswer signLeft
+sign-refused s i out why e = (ap (signChecked s i out) (sym e), ap (signedChecked s i out) (sym e))
+
+pub sign-missing : (s : List ℕ) (i : ℕ) (out : List ℕ) (n : ℕ) → acceptOf s ≡ Fine → messageAt s i ≡ Count n → (NoMessage n ≡ signAnswer s i out) × (out ≡ signLeft s i out)
+unfolding signAnswer signLeft
+sign-missing s i out n e f = (ap (signAt s out) (sym f) ∙ ap (signChecked s i out) (sym e), ap (signedAt s out) (sym f) ∙ ap (signedChecked s i out) (sym e))
+
+pub sign-found : (s : List ℕ) (i : ℕ) (out : List ℕ) (a e : ℕ) (r : MessageBytes) (left : List ℕ) → acceptOf s ≡ Fine → messageAt s i ≡ At a e → (r ≡ ofWritten (answer (signOf (between s a e)) out)) × (left ≡ written (signOf (between s a e)) out) → (r ≡ signAnswer s i out) × (left ≡ signLeft s i out)
+unfolding signAnswer signLeft
+sign-found s i out a e r left x f h =
+    (h .0 ∙ ap (signAt s out) (sym f) ∙ ap (signChecked s i out) (sym x), h .1 ∙ ap (signedAt s out) (sym f) ∙ ap (signedChecked s i out) (sym x))
