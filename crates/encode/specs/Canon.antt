@@ -20,6 +20,7 @@ use Rattle.schema.specs.declared.Slots.{Slots}
 use Rattle.schema.specs.Schema.{varintField as numberField, roleOf, rank}
 use Rattle.schema.specs.Slots.{slotsOf}
 use Rattle.message.specs.Decode.{hasControl}
+use Rattle.rpc.specs.Encode.{signPrefix}
 
 -- ---- one field number
 -- each length-delimited field n, its bytes changed by g
@@ -105,3 +106,7 @@ unfoldable pub canonBody : List ℕ → List ℕ
 canonBody s =
     eachAlong (inner canon (Sub kind.SubOpts)) 1 s (fieldsOf s)
     ++ (eachAlong (inner canon Topic) 2 s (fieldsOf s) ++ cond (hasControl s) (bytesField 3 (mergedControl s)) [])
+
+-- ---- the bytes that are signed, of a message: `libp2p-pubsub:`, then from, data, seqno and every topic
+unfoldable pub signOf : List ℕ → List ℕ
+signOf p = signPrefix ++ canon kind.RawMessage p

@@ -1,2 +1,4 @@
 pub mod Canon
+pub mod CanonLaws
 pub mod Encode
+pub mod Puts

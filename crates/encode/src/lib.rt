@@ -1,34 +1,43 @@
-// Writing a body anew, from message.rs: its canonical bytes, measured and then written.
+// Writing a body anew, from message.rs: its canonical bytes. Each writer says where its bytes end, and puts them there where there is room:
+// lent no bytes, it measures.
 ghost use mathlib.Core.Path.{_≡_};
-ghost use Prim.Native.Nat.{_+_, _≤_};
-ghost use lib.ListN.{length};
-ghost use lib.Seq.{sets};
+ghost use mathlib.Core.List.{[], _++_};
+ghost use mathlib.Core.Bool.{cond};
+ghost use Prim.Native.Nat.{_≤_};
+ghost use lib.Dec.{eqb};
 ghost use Rattle.peer_id.specs.Uvarint.{uvarint};
-ghost use Rattle.protobuf.specs.Walk.{fieldsOf, between};
+ghost use Rattle.protobuf.specs.Walk.{fieldsOf, isBytes, valueIn};
 ghost use Rattle.protobuf.specs.Encode.{tag, bytesField};
+ghost use Rattle.schema.specs.Schema.{varintField};
+ghost use Rattle.schema.specs.Slots.{slotsOf};
+ghost use Rattle.schema.specs.Count.{Within};
+ghost use Rattle.message.specs.Decode.{hasControl};
 ghost use Rattle.encode.specs.Canon.{eachAlong, placed, slotIn, valueOf, numbered, inner, partOf, canon, entriesOf, mergedControl, canonBody};
+ghost use Rattle.encode.specs.CanonLaws.{Inside};
+ghost use Rattle.encode.specs.Encode.{encodeAnswer, encodeLeft};
+ghost use Rattle.encode.specs.Puts.{Puts, Fits};
+use message::MAX_RECORDS;
+use message::has_control;
 use peer_id::put_uvarint;
 use peer_id::uvarint_len;
+use protobuf::Encoded;
+use protobuf::Field;
+use protobuf::MAX_RPC_SIZE;
 use protobuf::Step;
 use protobuf::WIRE_LEN;
+use protobuf::WireError;
 use protobuf::put_bytes;
 use protobuf::read_field;
+use schema::Counted;
 use schema::Kind;
 use schema::Number;
 use schema::Place;
 use schema::Role;
 use schema::Slots;
+use schema::count;
 use schema::role_of;
 use schema::slots_of;
 use schema::varint_field;
-
-// How long a length-delimited field n of so many bytes is.
-fn field_len(n: u64, len: usize) -> usize
-    requires { ⌜ (n ≤ 6) × (len ≤ 1099511627776) ⌝ }
-    ensures { λ r. ⌜ r ≡ length (tag n 2) + length (uvarint len) + len ⌝ }
-{
-    uvarint_len(n * 8 + 2) + uvarint_len(len as u64) + len
-}
 
 // The place in a slot.
 fn slot_in(slot: u8, slots: Slots) -> Place
@@ -75,5 +84,271 @@ fn value_of(kind: Kind, value: u64) -> u64
         Kind::ControlGraft => value,
         Kind::ControlPrune => value,
         Kind::PeerInfo => value,
+    }
+}
+
+// A varint.
+fn emit_varint(value: u64, out: &mut [u8], at: usize) -> usize
+    requires { ⌜ Fits at (uvarint value) ⌝ }
+    ensures { λ r. ⌜ Puts (now (out .entry)) at (uvarint value) (now (out .exit)) r ⌝ }
+{
+    put_uvarint(value, out, at);
+    at + uvarint_len(value)
+}
+
+// Bytes as they stand.
+fn emit_bytes(part: &[u8], out: &mut [u8], at: usize) -> usize
+    requires { ⌜ Fits at (now part) ⌝ }
+    ensures { λ r. ⌜ Puts (now (out .entry)) at (now (part .entry)) (now (out .exit)) r ⌝ }
+{
+    put_bytes(out, at, part);
+    at + part.len()
+}
+
+// The tag of a length-delimited field n, and its length.
+fn emit_head(n: u64, len: usize, out: &mut [u8], at: usize) -> usize
+    requires { ⌜ (n ≤ 6) × Fits at (tag n 2 ++ uvarint len) ⌝ }
+    ensures { λ r. ⌜ Puts (now (out .entry)) at (tag n 2 ++ uvarint len) (now (out .exit)) r ⌝ }
+{
+    let i = emit_varint(n * 8 + 2, out, at);
+    emit_varint(len as u64, out, i)
+}
+
+// A singular number.
+fn emit_number(kind: Kind, n: u64, number: Number, out: &mut [u8], at: usize) -> usize
+    requires { ⌜ (n ≤ 6) × Fits at (numbered kind n number) ⌝ }
+    ensures { λ r. ⌜ Puts (now (out .entry)) at (numbered kind n number) (now (out .exit)) r ⌝ }
+{
+    match number {
+        Number::Absent => at,
+        Number::Present(v) => {
+            let value = value_of(kind, v);
+            let i = emit_varint(n * 8, out, at);
+            emit_varint(value, out, i)
+        }
+    }
+}
+
+// A singular field of bytes.
+fn emit_place(n: u64, input: &[u8], place: Place, out: &mut [u8], at: usize) -> usize
+    requires { ⌜ (n ≤ 6) × Inside (now input) place × Fits at (placed n (now input) place) ⌝ }
+    ensures { λ r. ⌜ Puts (now (out .entry)) at (placed n (now (input .entry)) place) (now (out .exit)) r ⌝ }
+{
+    match place {
+        Place::Absent => at,
+        Place::Present { start, end } => {
+            let i = emit_head(n, end - start, out, at);
+            emit_bytes(&input[start..end], out, i)
+        }
+    }
+}
+
+// The message's number, where it is its field n.
+fn emit_own(input: &[u8], kind: Kind, n: u64, out: &mut [u8], at: usize) -> usize
+    requires { ⌜ (n ≤ 6) × Fits at (cond (eqb n (varintField kind)) (numbered kind n (slotsOf kind (now input) .number)) []) ⌝ }
+    ensures { λ r. ⌜ Puts (now (out .entry)) at (cond (eqb n (varintField kind)) (numbered kind n (slotsOf kind (now (input .entry)) .number)) []) (now (out .exit)) r ⌝ }
+{
+    let own = varint_field(kind);
+    if n == own {
+        let slots = slots_of(input, kind);
+        let number = slots.number;
+        return emit_number(kind, n, number, out, at);
+    }
+    at
+}
+
+// The bytes in a slot of the message, as its field n.
+fn emit_slot(input: &[u8], kind: Kind, n: u64, slot: u8, out: &mut [u8], at: usize) -> usize
+    requires { ⌜ (n ≤ 6) × Fits at (placed n (now input) (slotIn slot (slotsOf kind (now input)))) ⌝ }
+    ensures { λ r. ⌜ Puts (now (out .entry)) at (placed n (now (input .entry)) (slotIn slot (slotsOf kind (now (input .entry))))) (now (out .exit)) r ⌝ }
+{
+    let slots = slots_of(input, kind);
+    let place = slot_in(slot, slots);
+    emit_place(n, input, place, out, at)
+}
+
+// The part of a message's canonical bytes that stands for its field n.
+fn emit_part(input: &[u8], kind: Kind, n: u64, out: &mut [u8], at: usize) -> usize
+    requires { ⌜ (n ≤ 6) × Fits at (partOf kind n (now input)) ⌝ }
+    ensures { λ r. ⌜ Puts (now (out .entry)) at (partOf kind n (now (input .entry))) (now (out .exit)) r ⌝ }
+{
+    let role = role_of(kind, n, WIRE_LEN);
+    match role {
+        Role::Skip => emit_own(input, kind, n, out, at),
+        Role::Number => at,
+        Role::Text(slot) => emit_slot(input, kind, n, slot, out, at),
+        Role::Bytes(slot) => emit_slot(input, kind, n, slot, out, at),
+        Role::Topic => emit_each(input, n, role, out, at),
+        Role::MessageId => emit_each(input, n, role, out, at),
+        Role::Sub(_) => emit_each(input, n, role, out, at),
+    }
+}
+
+// Each length-delimited field n.
+fn emit_each(input: &[u8], n: u64, role: Role, out: &mut [u8], at: usize) -> usize
+    requires { ⌜ (n ≤ 6) × Fits at (eachAlong (inner canon role) n (now input) (fieldsOf (now input))) ⌝ }
+    ensures { λ r. ⌜ Puts (now (out .entry)) at (eachAlong (inner canon role) n (now (input .entry)) (fieldsOf (now (input .entry)))) (now (out .exit)) r ⌝ }
+{
+    let mut i: usize = 0;
+    let mut end = at;
+    while i < input.len() {
+        let step = read_field(input, i);
+        match step {
+            Step::End => {
+                return end;
+            }
+            Step::Refused(_) => {
+                return end;
+            }
+            Step::At(f) => {
+                end = emit_field(input, f, n, role, out, end);
+                i = f.next;
+            }
+        }
+    }
+    end
+}
+
+// A field, where it is length-delimited and has the number n.
+fn emit_field(input: &[u8], f: Field, n: u64, role: Role, out: &mut [u8], at: usize) -> usize
+    requires { ⌜ (n ≤ 6) × Within (now input) f × Fits at (cond (isBytes n f) (bytesField n (inner canon role (valueIn (now input) f))) []) ⌝ }
+    ensures { λ r. ⌜ Puts (now (out .entry)) at (cond (isBytes n f) (bytesField n (inner canon role (valueIn (now (input .entry)) f))) []) (now (out .exit)) r ⌝ }
+{
+    let start = f.start;
+    let next = f.next;
+    if f.wire_type == WIRE_LEN {
+        if f.field == n {
+            let mut none = [0u8; 1];
+            let len = emit_value(&input[start..next], role, &mut none, 0);
+            let i = emit_head(n, len, out, at);
+            if out.len() < i + len {
+                return i + len;
+            }
+            return emit_value(&input[start..next], role, out, i);
+        }
+    }
+    at
+}
+
+// What a field holds: of a submessage its canonical bytes, which are its fields 1 to 4.
+fn emit_value(part: &[u8], role: Role, out: &mut [u8], at: usize) -> usize
+    requires { ⌜ Fits at (inner canon role (now part)) ⌝ }
+    ensures { λ r. ⌜ Puts (now (out .entry)) at (inner canon role (now (part .entry))) (now (out .exit)) r ⌝ }
+{
+    match role {
+        Role::Skip => emit_bytes(part, out, at),
+        Role::Number => emit_bytes(part, out, at),
+        Role::Text(_) => emit_bytes(part, out, at),
+        Role::Bytes(_) => emit_bytes(part, out, at),
+        Role::Topic => emit_bytes(part, out, at),
+        Role::MessageId => emit_bytes(part, out, at),
+        Role::Sub(kind) => {
+            let a = emit_part(part, kind, 1, out, at);
+            let b = emit_part(part, kind, 2, out, a);
+            let c = emit_part(part, kind, 3, out, b);
+            emit_part(part, kind, 4, out, c)
+        }
+    }
+}
+
+// The entries m of a field, where it is a control.
+fn emit_entry(body: &[u8], f: Field, m: u64, out: &mut [u8], at: usize) -> usize
+    requires { ⌜ (m ≤ 6) × Within (now body) f × Fits at (cond (isBytes 3 f) (partOf Kind.ControlMessage m (valueIn (now body) f)) []) ⌝ }
+    ensures { λ r. ⌜ Puts (now (out .entry)) at (cond (isBytes 3 f) (partOf Kind.ControlMessage m (valueIn (now (body .entry)) f)) []) (now (out .exit)) r ⌝ }
+{
+    let start = f.start;
+    let next = f.next;
+    if f.wire_type == WIRE_LEN {
+        if f.field == 3 {
+            return emit_part(&body[start..next], Kind::ControlMessage, m, out, at);
+        }
+    }
+    at
+}
+
+// The entries m of each control, one control after the other.
+fn emit_entries(body: &[u8], m: u64, out: &mut [u8], at: usize) -> usize
+    requires { ⌜ (m ≤ 6) × Fits at (entriesOf m (now body)) ⌝ }
+    ensures { λ r. ⌜ Puts (now (out .entry)) at (entriesOf m (now (body .entry))) (now (out .exit)) r ⌝ }
+{
+    let mut i: usize = 0;
+    let mut end = at;
+    while i < body.len() {
+        let step = read_field(body, i);
+        match step {
+            Step::End => {
+                return end;
+            }
+            Step::Refused(_) => {
+                return end;
+            }
+            Step::At(f) => {
+                end = emit_entry(body, f, m, out, end);
+                i = f.next;
+            }
+        }
+    }
+    end
+}
+
+// The controls as one.
+fn emit_merged(body: &[u8], out: &mut [u8], at: usize) -> usize
+    requires { ⌜ Fits at (mergedControl (now body)) ⌝ }
+    ensures { λ r. ⌜ Puts (now (out .entry)) at (mergedControl (now (body .entry))) (now (out .exit)) r ⌝ }
+{
+    let a = emit_entries(body, 1, out, at);
+    let b = emit_entries(body, 2, out, a);
+    let c = emit_entries(body, 3, out, b);
+    emit_entries(body, 4, out, c)
+}
+
+// The control field, where the body has a control, be it empty.
+fn emit_control(body: &[u8], out: &mut [u8], at: usize) -> usize
+    requires { ⌜ Fits 0 (mergedControl (now body)) × Fits at (cond (hasControl (now body)) (bytesField 3 (mergedControl (now body))) []) ⌝ }
+    ensures { λ r. ⌜ Puts (now (out .entry)) at (cond (hasControl (now (body .entry))) (bytesField 3 (mergedControl (now (body .entry)))) []) (now (out .exit)) r ⌝ }
+{
+    let control = has_control(body);
+    let mut none = [0u8; 1];
+    let len = emit_merged(body, &mut none, 0);
+    if control {
+        let i = emit_head(3, len, out, at);
+        return emit_merged(body, out, i);
+    }
+    at
+}
+
+// Subscriptions, then the published messages as they stand, then the controls as one.
+fn emit_body(body: &[u8], out: &mut [u8], at: usize) -> usize
+    requires { ⌜ Fits 0 (mergedControl (now body)) × Fits at (canonBody (now body)) ⌝ }
+    ensures { λ r. ⌜ Puts (now (out .entry)) at (canonBody (now (body .entry))) (now (out .exit)) r ⌝ }
+{
+    let a = emit_each(body, 1, Role::Sub(Kind::SubOpts), out, at);
+    let b = emit_each(body, 2, Role::Topic, out, a);
+    emit_control(body, out, b)
+}
+
+// Writes a body anew at the front of the lent bytes: what it means, in its canonical bytes. A refusal, and a lack of room, leave them as they were.
+pub fn encode(body: &[u8], out: &mut [u8]) -> Encoded
+    ensures { λ r. ⌜ r ≡ encodeAnswer (now (body .entry)) (now (out .entry)) ⌝ }
+    ensures { λ _. ⌜ now (out .exit) ≡ encodeLeft (now (body .entry)) (now (out .entry)) ⌝ }
+{
+    if MAX_RPC_SIZE < body.len() {
+        return Encoded::Refused(WireError::TooLarge { len: body.len() });
+    }
+    let c = count(body, Kind::Rpc);
+    match c {
+        Counted::Refused(why) => Encoded::Refused(why),
+        Counted::Records(n) => {
+            if MAX_RECORDS < n {
+                return Encoded::Refused(WireError::TooManyRecords { records: n });
+            }
+            let mut none = [0u8; 1];
+            let needed = emit_body(body, &mut none, 0);
+            if out.len() < needed {
+                return Encoded::Room(needed);
+            }
+            emit_body(body, out, 0);
+            Encoded::Bytes(needed)
+        }
     }
 }

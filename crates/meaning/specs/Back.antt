@@ -36,67 +36,67 @@ use Rattle.meaning.specs.Entries.{put-bytes}
 use Rattle.meaning.specs.Last.{Part, Inside, walk-inside, part-value, part-part, Feeds, slot-last, FeedsNumber, number-last, six, feeds-from}
 
 -- ---- which fields feed which slots
-sub-opts-topic : Feeds kind.SubOpts (λ t. t .first) 2
+pub sub-opts-topic : Feeds kind.SubOpts (λ t. t .first) 2
 unfolding setPlace
 sub-opts-topic =
     feeds-from kind.SubOpts (λ t. t .first) 2 (λ t v. refl)
     (λ t f n. six (λ n. roleSlots t f (lenRole kind.SubOpts n) .first ≡ cond (eqb n 2) (placeOf f) (t .first)) refl refl refl refl refl refl (λ n e1 e2 e3 e4 e5 e6. simp (e2)) n)
 
-message-from : Feeds kind.RawMessage (λ t. t .first) 1
+pub message-from : Feeds kind.RawMessage (λ t. t .first) 1
 unfolding setPlace
 message-from =
     feeds-from kind.RawMessage (λ t. t .first) 1 (λ t v. refl)
     (λ t f n. six (λ n. roleSlots t f (lenRole kind.RawMessage n) .first ≡ cond (eqb n 1) (placeOf f) (t .first)) refl refl refl refl refl refl (λ n e1 e2 e3 e4 e5 e6. simp (e1, e2, e3, e4, e5, e6)) n)
 
-message-data : Feeds kind.RawMessage (λ t. t .second) 2
+pub message-data : Feeds kind.RawMessage (λ t. t .second) 2
 unfolding setPlace
 message-data =
     feeds-from kind.RawMessage (λ t. t .second) 2 (λ t v. refl)
     (λ t f n. six (λ n. roleSlots t f (lenRole kind.RawMessage n) .second ≡ cond (eqb n 2) (placeOf f) (t .second)) refl refl refl refl refl refl (λ n e1 e2 e3 e4 e5 e6. simp (e1, e2, e3, e4, e5, e6)) n)
 
-message-seqno : Feeds kind.RawMessage (λ t. t .third) 3
+pub message-seqno : Feeds kind.RawMessage (λ t. t .third) 3
 unfolding setPlace
 message-seqno =
     feeds-from kind.RawMessage (λ t. t .third) 3 (λ t v. refl)
     (λ t f n. six (λ n. roleSlots t f (lenRole kind.RawMessage n) .third ≡ cond (eqb n 3) (placeOf f) (t .third)) refl refl refl refl refl refl (λ n e1 e2 e3 e4 e5 e6. simp (e1, e2, e3, e4, e5, e6)) n)
 
-message-signature : Feeds kind.RawMessage (λ t. t .fourth) 5
+pub message-signature : Feeds kind.RawMessage (λ t. t .fourth) 5
 unfolding setPlace
 message-signature =
     feeds-from kind.RawMessage (λ t. t .fourth) 5 (λ t v. refl)
     (λ t f n. six (λ n. roleSlots t f (lenRole kind.RawMessage n) .fourth ≡ cond (eqb n 5) (placeOf f) (t .fourth)) refl refl refl refl refl refl (λ n e1 e2 e3 e4 e5 e6. simp (e1, e2, e3, e4, e5, e6)) n)
 
-message-key : Feeds kind.RawMessage (λ t. t .fifth) 6
+pub message-key : Feeds kind.RawMessage (λ t. t .fifth) 6
 unfolding setPlace
 message-key =
     feeds-from kind.RawMessage (λ t. t .fifth) 6 (λ t v. refl)
     (λ t f n. six (λ n. roleSlots t f (lenRole kind.RawMessage n) .fifth ≡ cond (eqb n 6) (placeOf f) (t .fifth)) refl refl refl refl refl refl (λ n e1 e2 e3 e4 e5 e6. simp (e1, e2, e3, e4, e5, e6)) n)
 
-ihave-topic : Feeds kind.ControlIHave (λ t. t .first) 1
+pub ihave-topic : Feeds kind.ControlIHave (λ t. t .first) 1
 unfolding setPlace
 ihave-topic =
     feeds-from kind.ControlIHave (λ t. t .first) 1 (λ t v. refl)
     (λ t f n. six (λ n. roleSlots t f (lenRole kind.ControlIHave n) .first ≡ cond (eqb n 1) (placeOf f) (t .first)) refl refl refl refl refl refl (λ n e1 e2 e3 e4 e5 e6. simp (e1, e2)) n)
 
-graft-topic : Feeds kind.ControlGraft (λ t. t .first) 1
+pub graft-topic : Feeds kind.ControlGraft (λ t. t .first) 1
 unfolding setPlace
 graft-topic =
     feeds-from kind.ControlGraft (λ t. t .first) 1 (λ t v. refl)
     (λ t f n. six (λ n. roleSlots t f (lenRole kind.ControlGraft n) .first ≡ cond (eqb n 1) (placeOf f) (t .first)) refl refl refl refl refl refl (λ n e1 e2 e3 e4 e5 e6. simp (e1)) n)
 
-prune-topic : Feeds kind.ControlPrune (λ t. t .first) 1
+pub prune-topic : Feeds kind.ControlPrune (λ t. t .first) 1
 unfolding setPlace
 prune-topic =
     feeds-from kind.ControlPrune (λ t. t .first) 1 (λ t v. refl)
     (λ t f n. six (λ n. roleSlots t f (lenRole kind.ControlPrune n) .first ≡ cond (eqb n 1) (placeOf f) (t .first)) refl refl refl refl refl refl (λ n e1 e2 e3 e4 e5 e6. simp (e1, e2)) n)
 
-peer-id : Feeds kind.PeerInfo (λ t. t .first) 1
+pub peer-id : Feeds kind.PeerInfo (λ t. t .first) 1
 unfolding setPlace
 peer-id =
     feeds-from kind.PeerInfo (λ t. t .first) 1 (λ t v. refl)
     (λ t f n. six (λ n. roleSlots t f (lenRole kind.PeerInfo n) .first ≡ cond (eqb n 1) (placeOf f) (t .first)) refl refl refl refl refl refl (λ n e1 e2 e3 e4 e5 e6. simp (e1, e2)) n)
 
-peer-record : Feeds kind.PeerInfo (λ t. t .second) 2
+pub peer-record : Feeds kind.PeerInfo (λ t. t .second) 2
 unfolding setPlace
 peer-record =
     feeds-from kind.PeerInfo (λ t. t .second) 2 (λ t v. refl)
@@ -111,11 +111,11 @@ numbers-from k lens t f =
     (λ t0. either (eqb (f .field) (varintField k)) (λ x. simp (t2, t0, x)) (λ x. simp (t2, t0, x)))
     (λ t0. simp (t2, t0)))
 
-sub-opts-subscribe : FeedsNumber kind.SubOpts 1
+pub sub-opts-subscribe : FeedsNumber kind.SubOpts 1
 unfolding setPlace
 sub-opts-subscribe = numbers-from kind.SubOpts (λ t f n. six (λ n. roleSlots t f (lenRole kind.SubOpts n) .number ≡ t .number) refl refl refl refl refl refl (λ n e1 e2 e3 e4 e5 e6. simp (e2)) n)
 
-prune-backoff : FeedsNumber kind.ControlPrune 3
+pub prune-backoff : FeedsNumber kind.ControlPrune 3
 unfolding setPlace
 prune-backoff = numbers-from kind.ControlPrune (λ t f n. six (λ n. roleSlots t f (lenRole kind.ControlPrune n) .number ≡ t .number) refl refl refl refl refl refl (λ n e1 e2 e3 e4 e5 e6. simp (e1, e2)) n)
 
@@ -218,12 +218,12 @@ raw-part : (b : List ℕ) (base : ℕ) (p : List ℕ) (k : Kind) → Part b base
 raw-part b base p k q = sym (q .here)
 
 -- a slot of the own record, as the grammar has it
-slot-value : (b : List ℕ) (base : ℕ) (p : List ℕ) (k : Kind) (g : Slots → Place) (m : ℕ) (fs : List Field) (es : List Entry) → Part b base p → Feeds k g m → fieldsOf p ≡ whole fs → entriesOf p fs ≡ es → bytesAt b base (g noSlots) ≡ none → bytesAt b base (g (slotsOf k p)) ≡ last (bytesIn m es)
+pub slot-value : (b : List ℕ) (base : ℕ) (p : List ℕ) (k : Kind) (g : Slots → Place) (m : ℕ) (fs : List Field) (es : List Entry) → Part b base p → Feeds k g m → fieldsOf p ≡ whole fs → entriesOf p fs ≡ es → bytesAt b base (g noSlots) ≡ none → bytesAt b base (g (slotsOf k p)) ≡ last (bytesIn m es)
 unfolding slotsOf
 slot-value b base p k g m fs es q feed w e z =
     ap (λ (x : Fields). bytesAt b base (g (slotsAlong k noSlots x))) w ∙ slot-last b base p k g m q feed fs noSlots (walk-inside p fs w) z ∙ ap (λ (x : List Entry). last (bytesIn m x)) e
 
-number-value : (p : List ℕ) (k : Kind) (m : ℕ) (fs : List Field) (es : List Entry) → FeedsNumber k m → fieldsOf p ≡ whole fs → entriesOf p fs ≡ es → numberAt (slotsOf k p .number) ≡ last (numbersIn m es)
+pub number-value : (p : List ℕ) (k : Kind) (m : ℕ) (fs : List Field) (es : List Entry) → FeedsNumber k m → fieldsOf p ≡ whole fs → entriesOf p fs ≡ es → numberAt (slotsOf k p .number) ≡ last (numbersIn m es)
 unfolding slotsOf
 number-value p k m fs es feed w e =
     ap (λ (x : Fields). numberAt (slotsAlong k noSlots x .number)) w ∙ number-last p k m feed fs noSlots refl ∙ ap (λ (x : List Entry). last (numbersIn m x)) e
@@ -603,11 +603,11 @@ rpc-along b base p q (f ∷ fs) ss ms cs h1 h2 h3 (i and ins) =
     (λ t2. let ih = rpc-along b base p q fs ss ms cs (pairs-skip p 1 f fs ss (bytes-type f 1 t2) h1) (pairs-skip p 2 f fs ms (bytes-type f 2 t2) h2) (pairs-skip p 3 f fs cs (bytes-type f 3 t2) h3) ins in
     go ∙ ap₂ (gather b) (rpc-row-type base p f t2) ih)
 
-whole-part : (b : List ℕ) → Part b 0 b
+pub whole-part : (b : List ℕ) → Part b 0 b
 whole-part b = let e : 0 + length b - 0 ≡ length b = omega arith in record { here = sym (ap (λ (n : ℕ). take n b) e ∙ take-length b); fits = omega arith }
 
 -- whether there is any
-abbrev any : {A : Type 0} → List A → Bool
+abbrev pub any : {A : Type 0} → List A → Bool
 any [] = false
 any (x ∷ xs) = true
 
@@ -622,7 +622,7 @@ pub joined-some : (c : ControlMessage) (cs : List ControlMessage) → joined (c 
 joined-some c [] = ap some (sym (join-empty c))
 joined-some c (d ∷ cs) = ap (joinTo c) (joined-some d cs)
 
-joined-flat : (cs : List ControlMessage) → cond (any cs) (some (flat cs)) none ≡ joined cs
+pub joined-flat : (cs : List ControlMessage) → cond (any cs) (some (flat cs)) none ≡ joined cs
 joined-flat [] = refl
 joined-flat (c ∷ cs) = sym (joined-some c cs)
 
@@ -655,7 +655,7 @@ rpc-gathered b es ss ms cs g h1 h2 h3 =
     ap (λ (l : List Record). gather b l nothing) rows
     ∙ rpc-along b 0 b (whole-part b) fs ss ms cs (subst (λ (l : List Entry). Pairs IsSubOpts (bytesIn 1 l) ss) e h1) (subst (λ (l : List Entry). Pairs IsMessage (bytesIn 2 l) ms) e h2) (subst (λ (l : List Entry). Pairs IsControl (bytesIn 3 l) cs) e h3) (walk-inside b fs (w .walked))
 
-rpc-control : (b : List ℕ) (es : List Entry) (cs : List ControlMessage) → Body b es → Pairs IsControl (bytesIn 3 es) cs → hasControl b ≡ any cs
+pub rpc-control : (b : List ℕ) (es : List Entry) (cs : List ControlMessage) → Body b es → Pairs IsControl (bytesIn 3 es) cs → hasControl b ≡ any cs
 unfolding hasControl
 rpc-control b es cs g h3 =
     let w = body-walks b es g in

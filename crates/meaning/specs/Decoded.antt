@@ -79,7 +79,7 @@ own-rpc : ownOf kind.Rpc ≡ 0
 unfolding ownOf
 own-rpc = refl
 
-counted-records : (s : List ℕ) (n : ℕ) (x : Rpc) → counted kind.Rpc s ≡ count.Records n → IsRpc s x → n ≡ recordsIn x
+pub counted-records : (s : List ℕ) (n : ℕ) (x : Rpc) → counted kind.Rpc s ≡ count.Records n → IsRpc s x → n ≡ recordsIn x
 counted-records s n x e i = let a = rows-length kind.Rpc 0 s n e in let b = rpc-records i in omega (arith, own-rpc)
 
 pub record Taken (s : List ℕ) (words : ℕ) : Type 0 where

@@ -250,7 +250,7 @@ fn write_message(input: &[u8], kind: Kind, base: usize, table: &mut [u64], row: 
 }
 
 // Whether a body has a control: a length-delimited field 3.
-fn has_control(body: &[u8]) -> bool
+pub fn has_control(body: &[u8]) -> bool
     ensures { λ r. ⌜ r ≡ hasControl (now (body .entry)) ⌝ }
 {
     let mut at: usize = 0;

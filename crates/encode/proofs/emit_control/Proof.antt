@@ -1,0 +1,49 @@
+-- `encode::emit_control` meets its contract: where the body has a control, a head and the controls as one.
+use mathlib.Core.Path.{sym, ap, _∙_}
+use mathlib.Core.List.{[]}
+use mathlib.Core.Bool.{Bool, cond}
+use native.Mathlib.Omega.{arith}
+use Rattle.protobuf.specs.Encode.{bytesField}
+use Rattle.encode.specs.Canon.{mergedControl}
+use Rattle.encode.specs.Puts.{puts-none, puts-same}
+use Rattle.encode.proofs.Parts.{head-fits, value-fits, field-puts}
+use borrow.Author.Needs.{needs}
+use Rattle.encode.proofs.emit_control.Statement.{statement}
+use Rattle.encode.proofs.emit_control.Tie as tie
+
+has-control-requires : tie.Need-has-control-requires
+has-control-requires c κs = search needs
+
+slice-aggregate-emit-merged : tie.Need-slice-aggregate-emit-merged
+slice-aggregate-emit-merged c = search needs
+
+emit-merged-requires : tie.Need-emit-merged-requires
+emit-merged-requires c κs = c .before .before .before .before .pre .0
+
+emit-head-requires : tie.Need-emit-head-requires
+emit-head-requires c κs = let a = c .before .before .before .before .before .before .before .before .args in let x = mergedControl (a .body .now) in (omega arith, head-fits 3 _ x (a .at) (ap (λ (t : Bool). cond t (bytesField 3 x) []) (sym (c .before .before .before .before .before .has-control .ensures) ∙ c .before .if1 .taken)) (c .before .before .before .before .before .before .before .before .pre .1) _ _ _ (c .before .before .before .emit-merged .ensures))
+
+emit-merged-requires-2 : tie.Need-emit-merged-requires-2
+emit-merged-requires-2 c κs = let a = c .before .before .before .before .before .before .before .before .before .before .before .before .args in let x = mergedControl (a .body .now) in value-fits 3 _ x (a .at) (ap (λ (t : Bool). cond t (bytesField 3 x) []) (sym (c .before .before .before .before .before .before .before .before .before .has-control .ensures) ∙ c .before .before .before .before .before .if1 .taken)) (c .before .before .before .before .before .before .before .before .before .before .before .before .pre .1) _ _ _ (c .before .before .before .before .before .before .before .emit-merged .ensures) _ _ _ (c .before .before .before .emit-head .ensures)
+
+same-length : tie.Need-same-length
+same-length c = search needs
+
+returns : tie.Need-returns
+returns c = let a = c .before .before .before .before .before .before .before .before .before .before .before .before .before .before .before .args in let x = mergedControl (a .body .now) in field-puts 3 _ x (a .at) (ap (λ (t : Bool). cond t (bytesField 3 x) []) (sym (c .before .before .before .before .before .before .before .before .before .before .before .before .has-control .ensures) ∙ c .before .before .before .before .before .before .before .before .if1 .taken)) (c .before .before .before .before .before .before .before .before .before .before .before .before .before .before .before .pre .1) _ _ _ (c .before .before .before .before .before .before .before .before .before .before .emit-merged .ensures) _ _ _ (c .before .before .before .before .before .before .emit-head .ensures) _ _ (c .before .before .emit-merged2 .ensures)
+
+returns-2 : tie.Need-returns-2
+returns-2 c = let a = c .before .before .before .before .before .before .before .args in let x = mergedControl (a .body .now) in puts-same (a .out .now) (a .at) [] _ _ _ (sym (ap (λ (t : Bool). cond t (bytesField 3 x) []) (sym (c .before .before .before .before .has-control .ensures) ∙ c .if1 .left))) (puts-none (a .out .now) (a .at))
+
+pub emit-control-spec : {M : Type 1} → statement M
+emit-control-spec =
+    tie.close
+    (tie.spec
+    has-control-requires
+    slice-aggregate-emit-merged
+    emit-merged-requires
+    emit-head-requires
+    emit-merged-requires-2
+    same-length
+    returns
+    returns-2)

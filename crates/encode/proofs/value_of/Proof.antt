@@ -1,0 +1,115 @@
+-- `encode::value_of` meets its contract, kind by kind; of `subscribe` the test picks the number.
+use borrow.Author.Tests.{eq-eqb, ne-eqb}
+use Rattle.encode.specs.Canon.{valueOf}
+use borrow.Author.Needs.{needs}
+use Rattle.encode.proofs.value_of.Statement.{statement}
+use Rattle.encode.proofs.value_of.Tie as tie
+
+enum-told : tie.Need-enum-told
+enum-told c = search needs
+
+enum-told-2 : tie.Need-enum-told-2
+enum-told-2 c = search needs
+
+returns : tie.Need-returns
+unfolding valueOf
+returns c = simp (c .before .enum-told2 .given .1, eq-eqb _ _ (c .if1 .taken))
+
+enum-told-3 : tie.Need-enum-told-3
+enum-told-3 c = search needs
+
+enum-told-4 : tie.Need-enum-told-4
+enum-told-4 c = search needs
+
+enum-told-5 : tie.Need-enum-told-5
+enum-told-5 c = search needs
+
+enum-told-6 : tie.Need-enum-told-6
+enum-told-6 c = search needs
+
+enum-told-7 : tie.Need-enum-told-7
+enum-told-7 c = search needs
+
+enum-told-8 : tie.Need-enum-told-8
+enum-told-8 c = search needs
+
+enum-told-9 : tie.Need-enum-told-9
+enum-told-9 c = search needs
+
+enum-told-10 : tie.Need-enum-told-10
+enum-told-10 c = search needs
+
+enum-told-11 : tie.Need-enum-told-11
+enum-told-11 c = search needs
+
+returns-2 : tie.Need-returns-2
+unfolding valueOf
+returns-2 c = simp (c .enum-told .given .1)
+
+returns-3 : tie.Need-returns-3
+unfolding valueOf
+returns-3 c = simp (c .before .enum-told2 .given .1, ne-eqb _ _ (c .if1 .left))
+
+returns-4 : tie.Need-returns-4
+unfolding valueOf
+returns-4 c = simp (c .enum-told3 .given .1)
+
+returns-5 : tie.Need-returns-5
+unfolding valueOf
+returns-5 c = simp (c .enum-told4 .given .1)
+
+returns-6 : tie.Need-returns-6
+unfolding valueOf
+returns-6 c = simp (c .enum-told5 .given .1)
+
+returns-7 : tie.Need-returns-7
+unfolding valueOf
+returns-7 c = simp (c .enum-told6 .given .1)
+
+returns-8 : tie.Need-returns-8
+unfolding valueOf
+returns-8 c = simp (c .enum-told7 .given .1)
+
+returns-9 : tie.Need-returns-9
+unfolding valueOf
+returns-9 c = simp (c .enum-told8 .given .1)
+
+returns-10 : tie.Need-returns-10
+unfolding valueOf
+returns-10 c = simp (c .enum-told9 .given .1)
+
+returns-11 : tie.Need-returns-11
+unfolding valueOf
+returns-11 c = simp (c .enum-told10 .given .1)
+
+returns-12 : tie.Need-returns-12
+unfolding valueOf
+returns-12 c = simp (c .enum-told11 .given .1)
+
+pub value-of-spec : {M : Type 1} → statement M
+value-of-spec =
+    tie.close
+    (tie.spec
+    enum-told
+    enum-told-2
+    returns
+    enum-told-3
+    enum-told-4
+    enum-told-5
+    enum-told-6
+    enum-told-7
+    enum-told-8
+    enum-told-9
+    enum-told-10
+    enum-told-11
+    returns-2
+    returns-3
+    returns-4
+    returns-5
+    returns-6
+    returns-7
+    returns-8
+    returns-9
+    returns-10
+    returns-11
+    returns-12)

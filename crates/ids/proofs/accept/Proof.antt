@@ -1,0 +1,40 @@
+-- `ids::accept` meets its contract: the length, the count and the number of records pick the case.
+use mathlib.Core.Path.{_≡_, sym, _∙_}
+use borrow.Author.Tests.{lt-ltb, le-ltb}
+use Rattle.ids.specs.Ids.{acceptOf}
+use borrow.Author.Needs.{needs}
+use Rattle.ids.proofs.accept.Statement.{statement}
+use Rattle.ids.proofs.accept.Tie as tie
+use Rattle.ids.proofs.accept.Reads as reads
+use Rattle.ids.proofs.accept.Lts as lts
+use Rattle.schema.proofs.count.Reads as count-reads
+
+returns : tie.Need-returns
+unfolding acceptOf
+returns c = simp (lt-ltb _ _ (c .if1 .taken))
+
+count-requires : tie.Need-count-requires
+count-requires c κs = search needs
+
+enum-known-c : tie.Need-enum-known-c
+enum-known-c c = search needs
+
+enum-known-c-2 : tie.Need-enum-known-c-2
+enum-known-c-2 c = search needs
+
+returns-2 : tie.Need-returns-2
+unfolding acceptOf
+returns-2 c = simp (le-ltb _ _ (c .before .before .before .before .before .if1 .left), sym (c .before .before .before .before .count .ensures) ∙ c .before .before .c2 .given .1, lt-ltb _ _ (c .if2 .taken))
+
+returns-3 : tie.Need-returns-3
+unfolding acceptOf
+returns-3 c = simp (le-ltb _ _ (c .before .before .before .before .if1 .left), sym (c .before .before .before .count .ensures) ∙ c .before .c .given .1)
+
+returns-4 : tie.Need-returns-4
+unfolding acceptOf
+returns-4 c = simp (le-ltb _ _ (c .before .before .before .before .before .if1 .left), sym (c .before .before .before .before .count .ensures) ∙ c .before .before .c2 .given .1, le-ltb _ _ (c .if2 .left))
+
+pub accept-spec : {M : Type 1} → statement M
+accept-spec =
+    tie.close
+    (tie.spec returns count-requires enum-known-c enum-known-c-2 returns-2 returns-3 returns-4)

@@ -1,0 +1,75 @@
+-- Laws of messages and ids: they stand within the bytes.
+use Prim.Native.Nat.{ℕ, _+_, _-_, _≤_, _<_}
+use mathlib.Core.Path.{_≡_, refl, sym, ap, _∙_}
+use mathlib.Core.Bool.{Bool, true, false, cond, _||_}
+use mathlib.Core.List.{List}
+use native.Mathlib.Omega.{arith}
+use lib.ListN.{length}
+use lib.Dec.{ltb, eqb}
+use borrow.Author.Tests.{ltb-false, eqb-false}
+use Rattle.basis.specs.Cases.{either, clash}
+use Rattle.protobuf.specs.Walk.{Fields, end, refused, _then_, walkAt, fieldsOf, isBytes}
+use Rattle.protobuf.specs.Laws.{Stands}
+use Rattle.protobuf.specs.WalkLaws.{along}
+use Rattle.schema.specs.declared.Kind.the-variants as kind
+use Rattle.schema.specs.declared.Place.{Place}
+use Rattle.schema.specs.declared.Place.the-variants as place
+use Rattle.schema.specs.Slots.{slotsOf}
+use Rattle.schema.specs.SlotsLaws.{Inside, slots-inside}
+use Rattle.ids.specs.declared.MessageAt.{MessageAt}
+use Rattle.ids.specs.declared.MessageAt.the-variants.{At, Count}
+use Rattle.ids.specs.declared.MessageId.{MessageId}
+use Rattle.ids.specs.declared.MessageId.the-variants as id
+use Rattle.ids.specs.Ids.{messageAlong, messageAt, onSeqno, onFrom, idParts}
+
+-- a message that is found lies within the body
+along-inside : (s : List ℕ) (i a e : ℕ) (at n : ℕ) → messageAlong i n (walkAt s at) ≡ At a e → (a ≤ e) × (e ≤ length s)
+along-inside s i a e =
+    along s (λ (at : ℕ) (w : Fields). (n : ℕ) → messageAlong i n w ≡ At a e → (a ≤ e) × (e ≤ length s))
+    (λ at n h. clash (cc))
+    (λ at why r n h. clash (cc))
+    (λ at f st r rest n h.
+    either (isBytes 2 f)
+    (λ t. either (eqb n i)
+    (λ u. let k = simp (t, u) at h in let p : a ≡ f .start = cc in let q : e ≡ f .next = cc in (omega (arith, st .ends), omega (arith, st .within)))
+    (λ u. rest (n + 1) (simp (t, u) at h)))
+    (λ t. rest n (simp t at h)))
+
+pub message-inside : (s : List ℕ) (i a e : ℕ) → messageAt s i ≡ At a e → (a ≤ e) × (e ≤ length s)
+unfolding messageAt
+message-inside s i a e h = along-inside s i a e 0 0 h
+
+-- from and seqno lie within their message, and have at most 64 bytes
+pub record Fits (p : List ℕ) (a e b f : ℕ) : Type 0 where
+  pub from : (a ≤ e) × (e ≤ length p)
+  pub from-short : e - a ≤ 64
+  pub seqno : (b ≤ f) × (f ≤ length p)
+  pub seqno-short : f - b ≤ 64
+
+of-seqno : (p : List ℕ) (a e b f x y : ℕ) (q : Place) → Inside p q → onSeqno x y q ≡ id.Parts a e b f → (x ≡ a) × (y ≡ e) × (b ≤ f) × (f ≤ length p) × (f - b ≤ 64)
+of-seqno p a e b f x y place.Absent i h = clash (cc)
+of-seqno p a e b f x y (place.Present c d) i h =
+    either (eqb (d - c) 0) (λ t. clash (let k = simp t at h in cc))
+    (λ t. either (ltb 64 (d - c)) (λ u. clash (let k = simp (t, u) at h in cc))
+    (λ u. let k = simp (t, u) at h in
+    let l = ltb-false 64 (d - c) u in
+    let ex : x ≡ a = cc in let ey : y ≡ e = cc in let eb : b ≡ c = cc in let ef : f ≡ d = cc in
+    let m = i c d refl in
+    (ex, ey, omega arith, omega arith, omega arith)))
+
+of-from : (p : List ℕ) (a e b f : ℕ) (q r : Place) → Inside p q → Inside p r → onFrom q r ≡ id.Parts a e b f → Fits p a e b f
+of-from p a e b f place.Absent r i j h = clash (cc)
+of-from p a e b f (place.Present x y) r i j h =
+    either (eqb (y - x) 0) (λ t. clash (let k = simp t at h in cc))
+    (λ t. either (ltb 64 (y - x)) (λ u. clash (let k = simp (t, u) at h in cc))
+    (λ u. let k = simp (t, u) at h in
+    let l = ltb-false 64 (y - x) u in
+    let s = of-seqno p a e b f x y r j k in
+    let m = i x y refl in
+    record { from = omega (arith, s .0, s .1); from-short = omega (arith, s .0, s .1); seqno = (s .2, s .3); seqno-short = s .4 }))
+
+pub id-fits : (p : List ℕ) (a e b f : ℕ) → idParts p ≡ id.Parts a e b f → Fits p a e b f
+unfolding idParts
+id-fits p a e b f h =
+    let g = slots-inside kind.RawMessage p in
+    of-from p a e b f (slotsOf kind.RawMessage p .first) (slotsOf kind.RawMessage p .third) (g .first) (g .third) h

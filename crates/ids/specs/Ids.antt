@@ -1,0 +1,126 @@
+-- One message of a body, and its id: what `message_id` answers and leaves. Refusals come in the order of 01's table: 10, 1 to 7, 11, 20, 21, 22,
+-- 23, 12.
+use Prim.Native.Nat.{ℕ, _+_, _-_}
+use mathlib.Core.List.{List, [], _∷_, _++_}
+use mathlib.Core.Bool.{Bool, true, false, cond, _||_}
+use lib.ListN.{length}
+use lib.Dec.{ltb, eqb}
+use Rattle.basis.specs.declared.Written.{Written}
+use Rattle.basis.specs.declared.Written.the-variants as done
+use Rattle.basis.specs.Writing.{answer, written}
+use Rattle.protobuf.specs.declared.WireError.the-variants.{TooLarge, TooManyRecords}
+use Rattle.protobuf.specs.declared.Checked.{Checked}
+use Rattle.protobuf.specs.declared.Checked.the-variants.{Fine, Refused as Wrong}
+use Rattle.protobuf.specs.Refusal.{refusalNumber, refusalValues}
+use Rattle.protobuf.specs.Walk.{Fields, end, refused, _then_, fieldsOf, between, isBytes}
+use Rattle.schema.specs.declared.Kind.the-variants as kind
+use Rattle.schema.specs.declared.Counted.{Counted}
+use Rattle.schema.specs.declared.Counted.the-variants as count
+use Rattle.schema.specs.declared.Place.{Place}
+use Rattle.schema.specs.declared.Place.the-variants as place
+use Rattle.schema.specs.Count.{counted}
+use Rattle.schema.specs.Slots.{slotsOf}
+use Rattle.ids.specs.declared.MessageAt.{MessageAt}
+use Rattle.ids.specs.declared.MessageAt.the-variants.{At, Count}
+use Rattle.ids.specs.declared.MessageId.{MessageId}
+use Rattle.ids.specs.declared.MessageId.the-variants as id
+use Rattle.ids.specs.declared.MessageBytes.{MessageBytes}
+use Rattle.ids.specs.declared.MessageBytes.the-variants.{Bytes, Room, Refused, NoMessage, MissingFrom, InvalidFrom, InvalidSeqno}
+
+-- ---- 01's numbers and values
+abbrev pub messageNumber : MessageBytes → ℕ
+messageNumber (Bytes n) = 0
+messageNumber (Refused why) = refusalNumber why
+messageNumber (NoMessage n) = 20
+messageNumber MissingFrom = 21
+messageNumber (InvalidFrom n) = 22
+messageNumber InvalidSeqno = 23
+messageNumber (Room n) = 12
+
+abbrev pub messageValues : MessageBytes → List ℕ
+messageValues (Bytes n) = []
+messageValues (Refused why) = refusalValues why
+messageValues (NoMessage n) = n ∷ []
+messageValues MissingFrom = []
+messageValues (InvalidFrom n) = n ∷ []
+messageValues InvalidSeqno = []
+messageValues (Room n) = n ∷ []
+
+-- ---- whether the body is taken: 10, 1 to 7, 11
+abbrev pub onCounted : Counted → Checked
+onCounted (count.Refused why) = Wrong why
+onCounted (count.Records n) = cond (ltb 512 n) (Wrong (TooManyRecords n)) Fine
+
+unfoldable pub acceptOf : List ℕ → Checked
+acceptOf s = cond (ltb 65536 (length s)) (Wrong (TooLarge (length s))) (onCounted (counted kind.Rpc s))
+
+-- ---- the message at an index: length-delimited fields 2, counted from 0; or how many there are
+abbrev pub messageAlong : ℕ → ℕ → Fields → MessageAt
+messageAlong i n end = Count n
+messageAlong i n (refused why) = Count n
+messageAlong i n (f then w) = cond (isBytes 2 f) (cond (eqb n i) (At (f .start) (f .next)) (messageAlong i (n + 1) w)) (messageAlong i n w)
+
+unfoldable pub messageAt : List ℕ → ℕ → MessageAt
+messageAt s i = messageAlong i 0 (fieldsOf s)
+
+-- ---- an id: from and seqno, of 1 to 64 bytes each
+abbrev pub onSeqno : ℕ → ℕ → Place → MessageId
+onSeqno a e place.Absent = id.InvalidSeqno
+onSeqno a e (place.Present b f) = cond (eqb (f - b) 0 || ltb 64 (f - b)) id.InvalidSeqno (id.Parts a e b f)
+
+abbrev pub onFrom : Place → Place → MessageId
+onFrom place.Absent q = id.MissingFrom
+onFrom (place.Present a e) q = cond (eqb (e - a) 0 || ltb 64 (e - a)) (id.InvalidFrom (e - a)) (onSeqno a e q)
+
+-- where from and seqno stand in a message, or why it has no id
+unfoldable pub idParts : List ℕ → MessageId
+idParts p = onFrom (slotsOf kind.RawMessage p .first) (slotsOf kind.RawMessage p .third)
+
+-- ---- what is answered and left
+abbrev pub ofWritten : Written → MessageBytes
+ofWritten (done.Bytes n) = Bytes n
+ofWritten (done.Room n) = Room n
+
+-- the id's bytes, of a message p
+abbrev pub idBytes : List ℕ → ℕ → ℕ → ℕ → ℕ → List ℕ
+idBytes p a e b f = between p a e ++ between p b f
+
+-- the id after some bytes: none, or the mark byte under which it is seen
+abbrev pub answerId : List ℕ → List ℕ → List ℕ → MessageId → MessageBytes
+answerId pre p out id.MissingFrom = MissingFrom
+answerId pre p out (id.InvalidFrom n) = InvalidFrom n
+answerId pre p out id.InvalidSeqno = InvalidSeqno
+answerId pre p out (id.Parts a e b f) = ofWritten (answer (pre ++ idBytes p a e b f) out)
+
+abbrev pub leftId : List ℕ → List ℕ → List ℕ → MessageId → List ℕ
+leftId pre p out id.MissingFrom = out
+leftId pre p out (id.InvalidFrom n) = out
+leftId pre p out id.InvalidSeqno = out
+leftId pre p out (id.Parts a e b f) = written (pre ++ idBytes p a e b f) out
+
+abbrev pub answerAt : List ℕ → List ℕ → List ℕ → MessageAt → MessageBytes
+answerAt pre s out (Count n) = NoMessage n
+answerAt pre s out (At a e) = answerId pre (between s a e) out (idParts (between s a e))
+
+abbrev pub leftAt : List ℕ → List ℕ → List ℕ → MessageAt → List ℕ
+leftAt pre s out (Count n) = out
+leftAt pre s out (At a e) = leftId pre (between s a e) out (idParts (between s a e))
+
+abbrev pub answerChecked : List ℕ → List ℕ → ℕ → List ℕ → Checked → MessageBytes
+answerChecked pre s i out (Wrong why) = Refused why
+answerChecked pre s i out Fine = answerAt pre s out (messageAt s i)
+
+abbrev pub leftChecked : List ℕ → List ℕ → ℕ → List ℕ → Checked → List ℕ
+leftChecked pre s i out (Wrong why) = out
+leftChecked pre s i out Fine = leftAt pre s out (messageAt s i)
+
+unfoldable pub idAnswer : List ℕ → List ℕ → ℕ → List ℕ → MessageBytes
+idAnswer pre s i out = answerChecked pre s i out (acceptOf s)
+
+unfoldable pub idLeft : List ℕ → List ℕ → ℕ → List ℕ → List ℕ
+idLeft pre s i out = leftChecked pre s i out (acceptOf s)
+
+-- the mark byte: 1 for a signed message, 0 for one that is not
+abbrev pub mark : Bool → ℕ
+mark true = 1
+mark false = 0
