@@ -1,9 +1,11 @@
 -- The lines, in ASCII. A record that is bad, its kind unknown or its content too short, has none.
 use Prim.Native.Nat.{ℕ}
+use mathlib.Core.Path.{_≡_}
 use mathlib.Core.List.{List, [], _∷_, _++_}
 use mathlib.Core.Bool.{cond}
 use lib.ListN.{length, take, drop}
 use lib.Dec.{ltb, eqb}
+use Rattle.io.specs.Counts.{Counts}
 use Rattle.text.specs.Record.{little}
 use Rattle.text.specs.Line.{decimal, number, refused}
 use Rattle.peer_id.specs.declared.Uvarint.{Uvarint}
@@ -16,6 +18,12 @@ use Rattle.protobuf.specs.declared.Walk.{Walk}
 use Rattle.protobuf.specs.declared.Walk.the-variants.{End, Field, Refused}
 use Rattle.protobuf.specs.Field.{walkStep}
 use Rattle.protobuf.specs.Refusal.{refusalNumber, refusalValues}
+
+-- out begins with the line xs, of r bytes
+pub record Holds (xs out : List ℕ) (r : ℕ) : Type 0 where
+  pub size : r ≡ length xs
+  pub counts : Counts r out
+  pub text : take r out ≡ xs
 
 -- ` refused`, the number in 01's table, the values beside it
 unfoldable pub refusal : WireError → List ℕ

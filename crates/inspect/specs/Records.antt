@@ -1,11 +1,9 @@
 -- The lines that answer a body, in ASCII: one for the call, and one for each record. Absent is ` -`; bytes are ` =` and their hex.
 use Prim.Native.Nat.{ℕ}
-use mathlib.Core.Path.{_≡_}
-use mathlib.Core.List.{List, [], _∷_, _++_}
+use mathlib.Core.List.{List, [], _∷_, _++_, map}
 use mathlib.Core.Bool.{cond}
-use lib.ListN.{length, take}
+use lib.ListN.{length}
 use lib.Dec.{ltb, eqb}
-use Rattle.io.specs.Counts.{Counts}
 use Rattle.text.specs.Line.{decimal, number, refused, hex}
 use Rattle.protobuf.specs.Walk.{between}
 use Rattle.schema.specs.declared.Kind.{Kind}
@@ -20,13 +18,8 @@ use Rattle.message.specs.declared.RecordAt.{RecordAt}
 use Rattle.message.specs.declared.RecordAt.the-variants as found
 use Rattle.message.specs.declared.Decoded.{Decoded}
 use Rattle.message.specs.declared.Decoded.the-variants.{Records, Refused, Room}
+use Rattle.message.specs.Rows.{rowsOf}
 use Rattle.inspect.specs.Answers.{refusal}
-
--- out begins with the line xs, of r bytes
-pub record Holds (xs out : List ℕ) (r : ℕ) : Type 0 where
-  pub size : r ≡ length xs
-  pub counts : Counts r out
-  pub text : take r out ≡ xs
 
 -- ---- the fields of a record whose bytes are s
 unfoldable pub bytesText : List ℕ → List ℕ
@@ -90,6 +83,10 @@ recordLine b r =
 unfoldable pub rowLine : List ℕ → RecordAt → List ℕ
 rowLine b found.Nothing = []
 rowLine b (found.Record r) = recordLine b r
+
+-- the lines of the records of a body that decode takes
+unfoldable pub linesOf : List ℕ → List (List ℕ)
+linesOf b = map (recordLine b) (rowsOf kind.Rpc 0 b)
 
 -- ` decode`, and ` ok`, the number of records and ` control` or ` plain`, or a refusal; where the table is short, refusal 12
 unfoldable pub decodedText : Decoded → List ℕ

@@ -4,13 +4,11 @@
 mod put;
 mod records;
 
-ghost use mathlib.Core.Path.{_≡_};
 ghost use Prim.Native.Nat.{_+_, _≤_};
-ghost use lib.ListN.{length, take};
-ghost use Rattle.io.specs.Counts.{Counts};
+ghost use lib.ListN.{length};
 ghost use Rattle.text.specs.Record.{contentLength};
 ghost use Rattle.text.specs.Line.{Puts};
-ghost use Rattle.inspect.specs.Answers.{walk, varint, walkAnswer, varintAnswer, utf8Answer, answerTo, lineOf};
+ghost use Rattle.inspect.specs.Answers.{Holds, walk, varint, walkAnswer, varintAnswer, utf8Answer, answerTo, lineOf};
 use peer_id::Uvarint;
 use protobuf::Cursor;
 use protobuf::Walk;
@@ -112,9 +110,7 @@ fn answer(kind: u64, content: &[u8], out: &mut [u8], at: usize) -> usize
 // Puts the line of record n at the front of out and says how long it is: 0 where the record is bad.
 fn line(n: u64, kind: u64, content: &[u8], out: &mut [u8]) -> usize
     requires { ⌜ 131328 ≤ length (now out) ⌝ }
-    ensures { λ r. ⌜ r ≡ length (lineOf n kind (now (content .entry))) ⌝ }
-    ensures { λ r. ⌜ Counts r (now (out .exit)) ⌝ }
-    ensures { λ r. ⌜ take r (now (out .exit)) ≡ lineOf n kind (now (content .entry)) ⌝ }
+    ensures { λ r. ⌜ Holds (lineOf n kind (now (content .entry))) (now (out .exit)) r ⌝ }
 {
     let i = start_line(out, n);
     let j = answer(kind, content, out, i);

@@ -1,11 +1,13 @@
-// The answer to a body: a line for the call, and a line for each record. Absent is `-`; bytes are `=` and their hex.
+// The answer to a body: a line for the call, and a line for each record. Absent is `-`; bytes are `=` and their hex. A field takes at most
+// 131,202 bytes, the hex of 65,600 and two more; a message has six of them, and 787,456 hold each line.
 ghost use Prim.Native.Nat.{_+_, _*_, _≤_};
 ghost use mathlib.Core.Path.{_≡_};
 ghost use mathlib.Core.List.{[], _∷_, _++_};
 ghost use lib.ListN.{length};
 ghost use Rattle.text.specs.Line.{Puts, refused};
 ghost use Rattle.message.specs.Rows.{recordAt};
-ghost use Rattle.inspect.specs.Records.{Holds, bytesText, placeText, countText, flagText, subText, messageText, pruneText, peerText, recordText, recordLine, rowLine, decodedText, decodeLine, recordsIn};
+ghost use Rattle.inspect.specs.Answers.{Holds};
+ghost use Rattle.inspect.specs.Records.{bytesText, placeText, countText, flagText, subText, messageText, pruneText, peerText, recordText, recordLine, rowLine, decodedText, decodeLine, recordsIn};
 use super::put::put_refusal;
 use super::put::put_value;
 use super::put::put_word;
@@ -165,8 +167,8 @@ fn put_record(out: &mut [u8], s: &[u8], kind: Kind, slots: Slots) -> usize
     }
 }
 
-// Puts the line of a record of the body at the front of out and says how long it is: 0 where the record does not lie within the body, which
-// no record does after decode.
+// Puts the line of a record of the body at the front of out and says how long it is: 0 where the record does not lie within the body. After
+// decode each does.
 fn record_line(body: &[u8], found: Record, out: &mut [u8]) -> usize
     requires { ⌜ length (now body) ≤ 65600 ⌝ }
     requires { ⌜ 787456 ≤ length (now out) ⌝ }
@@ -200,8 +202,8 @@ pub(crate) fn row_line(body: &[u8], table: &[u64], row: usize, out: &mut [u8]) -
 }
 
 fn put_decoded(out: &mut [u8], at: usize, d: Decoded) -> usize
-    requires { ⌜ at + 131200 ≤ length (now out) ⌝ }
-    ensures { λ r. ⌜ Puts 131200 (decodedText d) (now (out .entry)) at (now (out .exit)) r ⌝ }
+    requires { ⌜ at + 99 ≤ length (now out) ⌝ }
+    ensures { λ r. ⌜ Puts 99 (decodedText d) (now (out .entry)) at (now (out .exit)) r ⌝ }
 {
     let i = put_word(out, at, b" decode");
     match d {
@@ -228,7 +230,7 @@ fn put_room(out: &mut [u8], at: usize, needed: u64) -> usize
 
 // Puts the line of record n at the front of out and says how long it is.
 pub(crate) fn decode_line(n: u64, d: Decoded, out: &mut [u8]) -> usize
-    requires { ⌜ 131328 ≤ length (now out) ⌝ }
+    requires { ⌜ 120 ≤ length (now out) ⌝ }
     ensures { λ r. ⌜ Holds (decodeLine n d) (now (out .exit)) r ⌝ }
 {
     let i = start_line(out, n);
@@ -242,7 +244,7 @@ pub(crate) fn records_in(d: Decoded) -> usize
     ensures { λ r. ⌜ r ≡ recordsIn d ⌝ }
 {
     match d {
-        Decoded::Records { count, control } => count,
+        Decoded::Records { count, control: _ } => count,
         Decoded::Refused(_) => 0,
         Decoded::Room(_) => 0,
     }

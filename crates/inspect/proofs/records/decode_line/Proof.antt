@@ -6,7 +6,7 @@ use lib.ListN.{length-set}
 use Rattle.text.specs.Line.{decimal}
 use Rattle.text.specs.Laws.{puts-then, puts-length}
 use Rattle.inspect.specs.Records.{decodedText, decodeLine}
-use Rattle.inspect.proofs.Lines.{holds-as, ends}
+use Rattle.inspect.proofs.Answering.{holds-as, ends}
 use borrow.Author.Needs.{needs}
 use Rattle.inspect.proofs.records.decode_line.Statement.{statement}
 use Rattle.inspect.proofs.records.decode_line.Tie as tie

@@ -1,6 +1,7 @@
 -- `inspect::records::record_line` meets its contract: the tests, and then the record and a newline.
 use native.Mathlib.Omega.{arith}
-use Rattle.inspect.proofs.Lines.{holds-none, holds-as, ends, record-turned, record-past, record-there}
+use Rattle.inspect.proofs.Answering.{holds-none, holds-as, ends}
+use Rattle.inspect.proofs.Lines.{record-turned, record-past, record-there}
 use borrow.Author.Needs.{needs}
 use Rattle.inspect.proofs.records.record_line.Statement.{statement}
 use Rattle.inspect.proofs.records.record_line.Tie as tie
