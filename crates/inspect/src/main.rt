@@ -1,6 +1,7 @@
 // Answers records from standard input, a line for each: the record's number from 1, the call, the answer. A record is its content's length
-// (u32), its kind (u16) and its content, little-endian. Kinds: 1 decode (body), 5 walk (place u64, body), 6 varint (bytes), 7 utf8 (bytes). After
-// the line of a body come those of its records.
+// (u32), its kind (u16) and its content, little-endian. Kinds: 1 decode (body), 2 encode (body), 3 sign (index u16, body),
+// 4 id (index u16, body), 5 walk (place u64, body), 6 varint (bytes), 7 utf8 (bytes). After the line of kind 1 come those of the body's records.
+mod made;
 mod put;
 mod records;
 
@@ -9,6 +10,8 @@ ghost use lib.ListN.{length};
 ghost use Rattle.text.specs.Record.{contentLength};
 ghost use Rattle.text.specs.Line.{Puts};
 ghost use Rattle.inspect.specs.Answers.{Holds, walk, varint, walkAnswer, varintAnswer, utf8Answer, answerTo, lineOf};
+use made::bytes_of;
+use made::made_line;
 use peer_id::Uvarint;
 use protobuf::Cursor;
 use protobuf::Walk;
@@ -166,6 +169,66 @@ fn reply_decode(n: u64, body: &[u8], table: &mut [u64], out: &mut [u8]) -> bool
     print_rows(body, table, count, out)
 }
 
+// Kind 2.
+fn reply_encode(n: u64, body: &[u8], made: &mut [u8], out: &mut [u8]) -> bool
+    requires { ⌜ length (now made) ≤ 65600 ⌝ }
+    requires { ⌜ 787456 ≤ length (now out) ⌝ }
+{
+    let e = encode::encode(body, made);
+    let r = bytes_of(e);
+    let k = made_line(n, b" encode", made, r, out);
+    io::write_all(1, &out[..k])
+}
+
+// Kind 3: the index, and then the body.
+fn reply_sign(n: u64, content: &[u8], made: &mut [u8], out: &mut [u8]) -> bool
+    requires { ⌜ length (now made) ≤ 65600 ⌝ }
+    requires { ⌜ 787456 ≤ length (now out) ⌝ }
+{
+    if content.len() < 2 {
+        return last(b"bad\n");
+    }
+    let index = text::number_at(content, 0, 2);
+    let r = encode::sign_bytes(&content[2..], index as usize, made);
+    let k = made_line(n, b" sign", made, r, out);
+    io::write_all(1, &out[..k])
+}
+
+// Kind 4: the index, and then the body.
+fn reply_id(n: u64, content: &[u8], made: &mut [u8], out: &mut [u8]) -> bool
+    requires { ⌜ length (now made) ≤ 65600 ⌝ }
+    requires { ⌜ 787456 ≤ length (now out) ⌝ }
+{
+    if content.len() < 2 {
+        return last(b"bad\n");
+    }
+    let index = text::number_at(content, 0, 2);
+    let r = ids::message_id(&content[2..], index as usize, made);
+    let k = made_line(n, b" id", made, r, out);
+    io::write_all(1, &out[..k])
+}
+
+// The kinds that write bytes, each with its buffer, and then the others.
+fn reply_line(n: u64, kind: u64, content: &[u8], made: &mut [u8], out: &mut [u8]) -> bool
+    requires { ⌜ 65600 ≤ length (now made) ⌝ }
+    requires { ⌜ 787456 ≤ length (now out) ⌝ }
+{
+    if kind == 2 {
+        return reply_encode(n, content, &mut made[..65536], out);
+    }
+    if kind == 3 {
+        return reply_sign(n, content, &mut made[..65600], out);
+    }
+    if kind == 4 {
+        return reply_id(n, content, &mut made[..65536], out);
+    }
+    let k = line(n, kind, content, out);
+    if k == 0 {
+        return last(b"bad\n");
+    }
+    io::write_all(1, &out[..k])
+}
+
 // Reads the content of record n and prints its line. Answers whether to go on.
 fn reply(
     n: u64,
@@ -173,10 +236,12 @@ fn reply(
     len: usize,
     content: &mut [u8],
     table: &mut [u64],
+    made: &mut [u8],
     out: &mut [u8],
 ) -> bool
     requires { ⌜ len ≤ length (now content) ⌝ }
     requires { ⌜ len ≤ 65600 ⌝ }
+    requires { ⌜ 65600 ≤ length (now made) ⌝ }
     requires { ⌜ 787456 ≤ length (now out) ⌝ }
 {
     let got = io::read_full(0, &mut content[..len]);
@@ -186,16 +251,13 @@ fn reply(
     if kind == 1 {
         return reply_decode(n, &content[..len], table, out);
     }
-    let k = line(n, kind, &content[..len], out);
-    if k == 0 {
-        return last(b"bad\n");
-    }
-    io::write_all(1, &out[..k])
+    reply_line(n, kind, &content[..len], made, out)
 }
 
 // Reads a record and prints its line, or the word that ends the run. Answers whether to go on.
-fn turn(n: u64, content: &mut [u8], table: &mut [u64], out: &mut [u8]) -> bool
+fn turn(n: u64, content: &mut [u8], table: &mut [u64], made: &mut [u8], out: &mut [u8]) -> bool
     requires { ⌜ 65600 ≤ length (now content) ⌝ }
+    requires { ⌜ 65600 ≤ length (now made) ⌝ }
     requires { ⌜ 787456 ≤ length (now out) ⌝ }
 {
     let h = next_header();
@@ -203,7 +265,7 @@ fn turn(n: u64, content: &mut [u8], table: &mut [u64], out: &mut [u8]) -> bool
         Header::End => false,
         Header::Bad => last(b"bad\n"),
         Header::Long => last(b"long\n"),
-        Header::Record { kind, len } => reply(n, kind, len, content, table, out),
+        Header::Record { kind, len } => reply(n, kind, len, content, table, made, out),
     }
 }
 
@@ -211,9 +273,10 @@ fn turn(n: u64, content: &mut [u8], table: &mut [u64], out: &mut [u8]) -> bool
 fn main() {
     let mut content = [0u8; 65600];
     let mut table = [0u64; 10240];
+    let mut made = [0u8; 65600];
     let mut out = [0u8; 787456];
     let mut n: u64 = 1;
-    while n < u64::MAX && turn(n, &mut content, &mut table, &mut out) {
+    while n < u64::MAX && turn(n, &mut content, &mut table, &mut made, &mut out) {
         n += 1;
     }
 }

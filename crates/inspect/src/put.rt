@@ -1,7 +1,8 @@
 // Pieces of a line, for callers that see to the room.
 ghost use Prim.Native.Nat.{_+_, _≤_};
+ghost use mathlib.Core.List.{[], _∷_};
 ghost use lib.ListN.{length};
-ghost use Rattle.text.specs.Line.{Puts, decimal, number};
+ghost use Rattle.text.specs.Line.{Puts, decimal, number, refused};
 ghost use Rattle.inspect.specs.Answers.{refusal};
 use protobuf::WireError;
 
@@ -43,4 +44,20 @@ pub(crate) fn put_refusal(out: &mut [u8], at: usize, why: WireError) -> usize
         r.second,
         r.third,
     )
+}
+
+// A refusal with no value.
+pub(crate) fn put_alone(out: &mut [u8], at: usize, number: u64) -> usize
+    requires { ⌜ at + 92 ≤ length (now out) ⌝ }
+    ensures { λ r. ⌜ Puts 92 (refused number []) (now (out .entry)) at (now (out .exit)) r ⌝ }
+{
+    text::put_refused(out, at, number, 0, 0, 0, 0)
+}
+
+// A refusal with one value.
+pub(crate) fn put_with(out: &mut [u8], at: usize, number: u64, value: u64) -> usize
+    requires { ⌜ at + 92 ≤ length (now out) ⌝ }
+    ensures { λ r. ⌜ Puts 92 (refused number (value ∷ [])) (now (out .entry)) at (now (out .exit)) r ⌝ }
+{
+    text::put_refused(out, at, number, 1, value, 0, 0)
 }

@@ -4,12 +4,13 @@ ghost use Prim.Native.Nat.{_+_, _*_, _≤_};
 ghost use mathlib.Core.Path.{_≡_};
 ghost use mathlib.Core.List.{[], _∷_, _++_};
 ghost use lib.ListN.{length};
-ghost use Rattle.text.specs.Line.{Puts, refused};
+ghost use Rattle.text.specs.Line.{Puts};
 ghost use Rattle.message.specs.Rows.{recordAt};
 ghost use Rattle.inspect.specs.Answers.{Holds};
 ghost use Rattle.inspect.specs.Records.{bytesText, placeText, countText, flagText, subText, messageText, pruneText, peerText, recordText, recordLine, rowLine, decodedText, decodeLine, recordsIn};
 use super::put::put_refusal;
 use super::put::put_value;
+use super::put::put_with;
 use super::put::put_word;
 use super::put::start_line;
 use message::Decoded;
@@ -208,7 +209,7 @@ fn put_decoded(out: &mut [u8], at: usize, d: Decoded) -> usize
     let i = put_word(out, at, b" decode");
     match d {
         Decoded::Refused(why) => put_refusal(out, i, why),
-        Decoded::Room(needed) => put_room(out, i, needed as u64),
+        Decoded::Room(needed) => put_with(out, i, 12, needed as u64),
         Decoded::Records { count, control } => {
             let j = put_word(out, i, b" ok");
             let k = put_value(out, j, count as u64);
@@ -218,14 +219,6 @@ fn put_decoded(out: &mut [u8], at: usize, d: Decoded) -> usize
             put_word(out, k, b" plain")
         }
     }
-}
-
-// Refusal 12, with what is needed.
-fn put_room(out: &mut [u8], at: usize, needed: u64) -> usize
-    requires { ⌜ at + 92 ≤ length (now out) ⌝ }
-    ensures { λ r. ⌜ Puts 92 (refused 12 (needed ∷ [])) (now (out .entry)) at (now (out .exit)) r ⌝ }
-{
-    text::put_refused(out, at, 12, 1, needed, 0, 0)
 }
 
 // Puts the line of record n at the front of out and says how long it is.

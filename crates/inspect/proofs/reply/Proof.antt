@@ -4,6 +4,12 @@ use Rattle.inspect.proofs.Answering.{prefix, front-small}
 use borrow.Author.Needs.{needs}
 use Rattle.inspect.proofs.reply.Statement.{statement}
 use Rattle.inspect.proofs.reply.Tie as tie
+use Rattle.inspect.proofs.reply.Reads as reads
+use Rattle.inspect.proofs.reply.Lts as lts
+use Rattle.inspect.proofs.last.Reads as last-reads
+use Rattle.inspect.proofs.reply_decode.Reads as reply-decode-reads
+use Rattle.inspect.proofs.reply_line.Reads as reply-line-reads
+use Rattle.io.proofs.read_full.Reads as read-full-reads
 
 slice-relend-prefix-read-full : tie.Need-slice-relend-prefix-read-full
 slice-relend-prefix-read-full c = search needs
@@ -33,7 +39,7 @@ slice-aggregate-reply-decode : tie.Need-slice-aggregate-reply-decode
 slice-aggregate-reply-decode c = prefix _ _ (search needs)
 
 reply-decode-requires : tie.Need-reply-decode-requires
-reply-decode-requires c κs = (front-small (c .before .before .before .before .before .before .before .before .before .before .before .before .args .len) _ _ (omega arith), omega arith)
+reply-decode-requires c κs = (front-small (c .before .before .before .before .before .before .before .before .before .before .before .before .before .args .len) _ _ (omega arith), omega arith)
 
 same-length-2 : tie.Need-same-length-2
 same-length-2 c = search needs
@@ -47,20 +53,14 @@ same-length-4 c = search needs
 returns-2 : tie.Need-returns-2
 returns-2 c = search needs
 
-slice-reshare-prefix-line : tie.Need-slice-reshare-prefix-line
-slice-reshare-prefix-line c = search needs
+slice-reshare-prefix-reply-line : tie.Need-slice-reshare-prefix-reply-line
+slice-reshare-prefix-reply-line c = search needs
 
-slice-aggregate-line : tie.Need-slice-aggregate-line
-slice-aggregate-line c = prefix _ _ (search needs)
+slice-aggregate-reply-line : tie.Need-slice-aggregate-reply-line
+slice-aggregate-reply-line c = prefix _ _ (search needs)
 
-line-requires : tie.Need-line-requires
-line-requires c κs = search needs
-
-slice-aggregate-last-2 : tie.Need-slice-aggregate-last-2
-slice-aggregate-last-2 c = search needs
-
-last-requires-2 : tie.Need-last-requires-2
-last-requires-2 c κs = search needs
+reply-line-requires : tie.Need-reply-line-requires
+reply-line-requires c κs = search needs
 
 same-length-5 : tie.Need-same-length-5
 same-length-5 c = search needs
@@ -68,26 +68,11 @@ same-length-5 c = search needs
 same-length-6 : tie.Need-same-length-6
 same-length-6 c = search needs
 
-returns-3 : tie.Need-returns-3
-returns-3 c = search needs
-
-slice-reshare-prefix-write-all : tie.Need-slice-reshare-prefix-write-all
-slice-reshare-prefix-write-all c = search needs
-
-slice-aggregate-write-all : tie.Need-slice-aggregate-write-all
-slice-aggregate-write-all c = search needs
-
-write-all-requires : tie.Need-write-all-requires
-write-all-requires c κs = search needs
-
 same-length-7 : tie.Need-same-length-7
 same-length-7 c = search needs
 
-same-length-8 : tie.Need-same-length-8
-same-length-8 c = search needs
-
-returns-4 : tie.Need-returns-4
-returns-4 c = search needs
+returns-3 : tie.Need-returns-3
+returns-3 c = search needs
 
 pub reply-spec : {M : Type 1} → statement M
 reply-spec =
@@ -107,17 +92,10 @@ reply-spec =
     same-length-3
     same-length-4
     returns-2
-    slice-reshare-prefix-line
-    slice-aggregate-line
-    line-requires
-    slice-aggregate-last-2
-    last-requires-2
+    slice-reshare-prefix-reply-line
+    slice-aggregate-reply-line
+    reply-line-requires
     same-length-5
     same-length-6
-    returns-3
-    slice-reshare-prefix-write-all
-    slice-aggregate-write-all
-    write-all-requires
     same-length-7
-    same-length-8
-    returns-4)
+    returns-3)

@@ -33,7 +33,7 @@ enum-known-h : tie.Need-enum-known-h
 enum-known-h c = search needs
 
 reply-requires : tie.Need-reply-requires
-reply-requires c κs = let l = content-fits _ _ _ (c .before .before .before .before .h .given .1) (c .before .before .before .before .before .before .next-header .ensures) in (omega arith, (omega arith, omega arith))
+reply-requires c κs = let l = content-fits _ _ _ (c .before .before .before .before .before .h .given .1) (c .before .before .before .before .before .before .before .next-header .ensures) in (omega arith, (omega arith, (omega arith, omega arith)))
 
 returns : tie.Need-returns
 returns c = search needs
@@ -52,6 +52,9 @@ same-length-2 c = search needs
 
 same-length-3 : tie.Need-same-length-3
 same-length-3 c = search needs
+
+same-length-4 : tie.Need-same-length-4
+same-length-4 c = search needs
 
 returns-4 : tie.Need-returns-4
 returns-4 c = search needs
@@ -76,4 +79,5 @@ turn-spec =
     same-length
     same-length-2
     same-length-3
+    same-length-4
     returns-4)

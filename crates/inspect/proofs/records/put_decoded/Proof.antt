@@ -23,8 +23,8 @@ put-refusal-requires c κs = search needs
 enum-known-d-2 : tie.Need-enum-known-d-2
 enum-known-d-2 c = search needs
 
-put-room-requires : tie.Need-put-room-requires
-put-room-requires c κs = search needs
+put-with-requires : tie.Need-put-with-requires
+put-with-requires c κs = search needs
 
 enum-known-d-3 : tie.Need-enum-known-d-3
 enum-known-d-3 c = search needs
@@ -69,7 +69,7 @@ same-length-3 c = search needs
 
 returns-3 : tie.Need-returns-3
 unfolding decodedText
-returns-3 c = puts-as (ap decodedText (sym (c .before .before .before .before .before .d2 .given .1))) (omega arith) (puts-then (c .before .before .before .before .before .before .before .before .before .put-word .ensures) (c .before .before .put-room .ensures))
+returns-3 c = puts-as (ap decodedText (sym (c .before .before .before .before .before .d2 .given .1))) (omega arith) (puts-then (c .before .before .before .before .before .before .before .before .before .put-word .ensures) (c .before .before .put-with .ensures))
 
 same-length-4 : tie.Need-same-length-4
 same-length-4 c = search needs
@@ -87,7 +87,7 @@ put-decoded-spec =
     enum-known-d
     put-refusal-requires
     enum-known-d-2
-    put-room-requires
+    put-with-requires
     enum-known-d-3
     slice-aggregate-put-word-2
     put-word-requires-2

@@ -1,0 +1,35 @@
+-- The lines that answer a call which writes bytes, in ASCII.
+use Prim.Native.Nat.{ℕ}
+use mathlib.Core.List.{List, [], _∷_, _++_}
+use mathlib.Core.Bool.{cond}
+use lib.ListN.{length, take}
+use lib.Dec.{ltb, eqb}
+use Rattle.text.specs.Line.{decimal, number, refused, hex}
+use Rattle.protobuf.specs.declared.Encoded.{Encoded}
+use Rattle.protobuf.specs.declared.Encoded.the-variants as body
+use Rattle.ids.specs.declared.MessageBytes.{MessageBytes}
+use Rattle.ids.specs.declared.MessageBytes.the-variants.{Bytes, Room, Refused, NoMessage, MissingFrom, InvalidFrom, InvalidSeqno}
+use Rattle.inspect.specs.Answers.{refusal}
+
+unfoldable pub bytesOf : Encoded → MessageBytes
+bytesOf (body.Bytes n) = Bytes n
+bytesOf (body.Room n) = Room n
+bytesOf (body.Refused why) = Refused why
+
+-- above 0, a blank and the hex of the first n bytes
+unfoldable pub shownText : List ℕ → ℕ → List ℕ
+shownText s n = cond (eqb n 0) [] (cond (ltb (length s) n) [] (32 ∷ hex (take n s)))
+
+-- the number of bytes and their hex, s being the buffer afterwards; or a refusal of 01's table
+unfoldable pub madeText : List ℕ → MessageBytes → List ℕ
+madeText s (Bytes n) = number n ++ shownText s n
+madeText s (Room n) = refused 12 (n ∷ [])
+madeText s (Refused why) = refusal why
+madeText s (NoMessage n) = refused 20 (n ∷ [])
+madeText s MissingFrom = refused 21 []
+madeText s (InvalidFrom n) = refused 22 (n ∷ [])
+madeText s InvalidSeqno = refused 23 []
+
+-- the line of the input's record n, with the call's word
+unfoldable pub madeLine : ℕ → List ℕ → List ℕ → MessageBytes → List ℕ
+madeLine n word s r = decimal n ++ ((word ++ madeText s r) ++ (10 ∷ []))
