@@ -245,7 +245,7 @@ def topic_bodies(data):
         yield tagged(3, tagged(field, tagged(1, data)))
 
 
-LENGTHS = [None, 0, 1, 2, 8, 34, 63, 64, 65, 66, 127, 128, 300]
+LENGTHS = [None, 0, 1, 2, 8, 34, 63, 64, 65, 66, 127, 128]
 
 
 def random_message(r):
