@@ -1,16 +1,19 @@
-"""Bodies for the call `decode` of the program `inspect`, and the lines that the Rust's answer makes.
+"""Bodies for the calls of the program `inspect` that take one, and the lines that the Rust's answers make.
 
-The values of every line come from the Rust's answer. Its JSON groups the records
-by kind, so the order in which the body has them is found here by `order`, a walk
-over the fields that looks at nothing but their numbers, types and lengths.
+The values of every line come from the Rust's answer. For `decode` its JSON groups
+the records by kind, so the order in which the body has them is found here by
+`order`, a walk over the fields that looks at nothing but their numbers, types and
+lengths. For `encode`, `sign` and `id` the oracle's `writes` tells all at once.
 Everything random comes from one seeded `random.Random`.
 """
 
 import wire
-from oracle import parse_decode
-from wire import EDGES, MAX_BODY, MAX_CONTENT, blob, damaged, edge_field, varint
+from oracle import NUMBER, parse_decode
+from wire import EDGES, MAX_BODY, MAX_CONTENT, PLACE, blob, damaged, edge_field, varint
 
 MAX_RECORDS = 512
+MAX_FROM = 64
+ROOM = {"encode": 65536, "sign": 65600, "id": 65536}
 
 
 # --- the lines, from the Rust's answer ---------------------------------------
@@ -82,17 +85,25 @@ def lines_of(name, got):
             yield "  peer %s %s" % (shown(peer["peer_id"]), shown(peer["signed_peer_record"]))
 
 
-def answer(body, told):
-    """The lines for a body from the oracle's answer, the first without its number."""
+def refusal(body, told):
+    """Why a body is refused, or None, from an answer that begins `err` or `ok records=N`."""
     if len(body) > MAX_BODY:
         # The Rust has no such limit, nor one of records: document 01's refusals 10 and 11.
-        return ["decode refused 10 %d" % len(body)]
-    told = parse_decode(told)
-    if told[0] == "err":
-        return [" ".join(["decode refused", str(told[1])] + [str(value) for value in told[2]])]
-    _, records, _, rpc = told
-    if records > MAX_RECORDS:
-        return ["decode refused 11 %d" % records]
+        return "refused 10 %d" % len(body)
+    words = told.split(" ")
+    if words[0] == "err":
+        return " ".join(["refused", str(NUMBER[words[1]])] + words[2:])
+    assert words[0] == "ok", told
+    records = int(words[1][len("records="):])
+    return "refused 11 %d" % records if records > MAX_RECORDS else None
+
+
+def answer(body, told):
+    """The lines for a body from the oracle's answer, the first without its number."""
+    refused = refusal(body, told)
+    if refused:
+        return ["decode " + refused]
+    _, records, _, rpc = parse_decode(told)
     lists = {"subscriptions": rpc["subscriptions"], "publish": rpc["publish"]}
     lists.update(rpc["control"] or {})
     rest = {name: iter(one) for name, one in lists.items()}
@@ -101,6 +112,53 @@ def answer(body, told):
         out.extend(lines_of(name, next(rest[name])))
     assert len(out) == records + 1 and all(next(one, None) is None for one in rest.values()), body.hex()
     return out
+
+
+def written(body, told):
+    """The answer to `writes`: (why refused or None, the encoding, [(sign bytes, id)]), all of them texts."""
+    refused = refusal(body, told)
+    if refused:
+        return refused, None, []
+    encoded, messages = (word.split("=")[1] for word in told.split(" ")[2:])
+    return None, encoded, [one.split("/") for one in messages.split(",")] if messages != "none" else []
+
+
+def output(call, text):
+    """A count and the bytes. No answer is longer than the program's buffer, so 12 is never met."""
+    n = 0 if text == "-" else len(text) // 2
+    assert n <= ROOM[call], call
+    return "%s %d %s" % (call, n, text) if n else call + " 0"
+
+
+def write_line(call, index, got):
+    """The line of `encode`, `sign` or `id`, without its number, from what `written` made."""
+    refused, encoded, messages = got
+    if refused:
+        return call + " " + refused
+    if call == "encode":
+        return output(call, encoded)
+    if index >= len(messages):
+        return "%s refused 20 %d" % (call, len(messages))
+    signed, name = messages[index]
+    if call == "sign":
+        return output(call, signed)
+    if name == "nofrom":
+        return "id refused 21"
+    size, name = name.split(":")
+    if not 1 <= int(size) <= MAX_FROM:
+        # The Rust wants a peer id; the lengths are document 01's.
+        return "id refused 22 " + size
+    return "id refused 23" if name == "noseqno" else output(call, name)
+
+
+def write_cases(body, got):
+    """(case, line): encode, and sign and id of messages 0 and 1, of the last one and of the one after it."""
+    asked = [("encode", 0)]
+    if len(body) + PLACE["sign"] <= MAX_CONTENT:
+        for index in sorted({0, 1, max(0, len(got[2]) - 1), len(got[2])}):
+            asked += [("sign", index), ("id", index)]
+    for call, index in asked:
+        yield (call, body, index), write_line(call, index, got)
 
 
 # --- what bodies are made of --------------------------------------------------
@@ -187,6 +245,24 @@ def topic_bodies(data):
         yield tagged(3, tagged(field, tagged(1, data)))
 
 
+LENGTHS = [None, 0, 1, 2, 8, 34, 63, 64, 65, 66, 127, 128]
+
+
+def random_message(r):
+    """A message that often has an id: from and seqno of lengths about the limits."""
+    parts = [tagged(field, blob(r, n)) for field in (1, 3) for n in [r.choice(LENGTHS)] if n is not None]
+    parts += [part(r, field, PARTS["message"][field], False) for field in r.choices(range(1, 7), k=r.randrange(4))]
+    if r.randrange(4) == 0:
+        parts.append(other_field(r, PARTS["message"]))
+    r.shuffle(parts)
+    return tagged(2, b"".join(parts))
+
+
+def messages_body(r):
+    """Up to four messages, sometimes with something else between them."""
+    return b"".join(random_message(r) if r.randrange(5) else within(r, RPC, False) for _ in range(r.randrange(1, 5)))
+
+
 # --- fixed bodies --------------------------------------------------------------
 
 def named():
@@ -204,6 +280,25 @@ def named():
             "1a021a000a00120022001a020a001200", "0a0412021a00", "1a050a0312 01ff", "1a070a050a03eda080", "1a071a050a03c08041",
             "1a082206 0a04f4908080", "1a0822060a04f48fbfbf", "120722 05f490808041", "0a0612 04f490808000", "1a0a1200 1a000a0022001200"):
         yield bytes.fromhex(text.replace(" ", ""))
+
+
+# The topics of document 01: the first three are refused.
+TOPICS = [bytes.fromhex(text) for text in ("eda080", "c080", "f4908080", "f48fbfbf")]
+
+
+def id_bodies():
+    """From and seqno of all lengths about the limits, in both orders, alone, twice and in a second message."""
+    for m in LENGTHS:
+        for n in LENGTHS:
+            one = tagged(1, b"f" * m) if m is not None else b""
+            two = tagged(3, b"s" * n) if n is not None else b""
+            yield tagged(2, one + two)
+            yield tagged(2, two + one)
+            yield tagged(2, tagged(1, b"F") + tagged(3, b"S") + one + two)
+            yield tagged(2, one + two + tagged(1, b"F"))
+            yield tagged(2, one + two + tagged(3, b"S"))
+            yield tagged(2, tagged(1, b"F") + tagged(3, b"S")) + tagged(2, one + two)
+            yield tagged(2, b"") + tagged(2, one + two) + tagged(2, b"\x08\x01")
 
 
 def each(value, n, least=0):

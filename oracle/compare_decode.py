@@ -81,15 +81,16 @@ def endings():
         "1 decode ok 0 control\n2 utf8 yes\n3 decode refused 1\n"
 
 
-def main():
-    parser = argparse.ArgumentParser(description=__doc__.split("\n")[0])
+def compare_all(about, source, compare, endings):
+    """The bodies of `source` by `compare`, chunk by chunk, then the runs of `endings`; prints what it found."""
+    parser = argparse.ArgumentParser(description=about.split("\n")[0])
     parser.add_argument("binary")
     parser.add_argument("--seed", type=int, default=1)
     parser.add_argument("--count", type=int, default=400000)
     given = parser.parse_args()
     build()
     counts, differ, n = collections.Counter(), [], 0
-    source = bodies.bodies(random.Random(given.seed), given.count)
+    source = source(random.Random(given.seed), given.count)
     with tempfile.TemporaryDirectory() as folder:
         while chunk := list(itertools.islice(source, CHUNK)):
             compare(given.binary, chunk, folder, counts, differ)
@@ -100,7 +101,7 @@ def main():
         if got != expected:
             differ.append((len(text), name.encode(), expected.split("\n"), got.split("\n")))
     for what, k in sorted(counts.items()):
-        print("%-12s %8d" % (what, k))
+        print("%-18s %8d" % (what, k))
     print("%d bodies, seed %d: %d differences" % (n, given.seed, len(differ)))
     for size, body, expected, got in sorted(differ)[:SHOWN]:
         print("%d bytes: %s\n  expected %s\n  printed  %s" % (size, body[:100].hex(), str(expected)[:300], str(got)[:300]))
@@ -108,4 +109,4 @@ def main():
 
 
 if __name__ == "__main__":
-    main()
+    compare_all(__doc__, bodies.bodies, compare, endings)

@@ -1,13 +1,15 @@
 """Records for the program `inspect`, and the line that the Rust's answer makes.
 
 A case is (call, bytes, place): ("walk", body, place), ("varint", bytes, 0),
-("utf8", bytes, 0) or ("decode", body, 0), whose bodies and lines are those of
-bodies.py. Everything random comes from one seeded `random.Random`.
+("utf8", bytes, 0), or one whose bodies and lines are those of bodies.py:
+("decode", body, 0), ("encode", body, 0), ("sign", body, index), ("id", body, index).
+Everything random comes from one seeded `random.Random`.
 """
 
 from oracle import NUMBER, hexed
 
-KIND = {"decode": 1, "walk": 5, "varint": 6, "utf8": 7}
+KIND = {"decode": 1, "encode": 2, "sign": 3, "id": 4, "walk": 5, "varint": 6, "utf8": 7}
+PLACE = {"sign": 2, "id": 2, "walk": 8}  # bytes of the number before the body
 MAX_CONTENT = 65600
 MAX_BODY = 65536
 TOP = 2**64 - 1
@@ -19,7 +21,7 @@ def header(length, kind):
 
 def record(case):
     call, data, place = case
-    content = place.to_bytes(8, "little") + data if call == "walk" else data
+    content = place.to_bytes(PLACE.get(call, 0), "little") + data
     assert len(content) <= MAX_CONTENT
     return header(len(content), KIND[call]) + content
 
@@ -29,7 +31,7 @@ def command(case):
     call, data, place = case
     if call == "walk":
         return "walk %s %d" % (hexed(data), place)
-    return {"decode": "decode ", "varint": "uvarint ", "utf8": "utf8 "}[call] + hexed(data)
+    return {"decode": "decode ", "varint": "uvarint ", "utf8": "utf8 "}.get(call, "writes ") + hexed(data)
 
 
 def answer(asked, told):

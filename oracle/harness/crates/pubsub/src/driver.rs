@@ -97,6 +97,19 @@ fn run(state: &mut State, line: &str) -> Res<String> {
             let rpc = Rpc::decode(&body).map_err(rpc_error)?;
             Ok(format!("ok {}", hex(&rpc.encode())))
         }
+        "writes" => {
+            let body = w.bytes()?;
+            w.end()?;
+            let rpc = Rpc::decode(&body).map_err(rpc_error)?;
+            let each: Vec<String> = rpc
+                .publish
+                .iter()
+                .map(|m| format!("{}/{}", hex(&m.sign_bytes()), id_word(m)))
+                .collect();
+            let messages = if each.is_empty() { String::from("none") } else { each.join(",") };
+            let (records, encoded) = (dump::records(&rpc), hex(&rpc.encode()));
+            Ok(format!("ok records={records} encode={encoded} messages={messages}"))
+        }
         "part" => {
             let kind = w.word()?;
             let body = w.bytes()?;
@@ -353,6 +366,21 @@ fn id_parts(message: &RawMessage) -> Res<(&[u8], &[u8])> {
     let from = message.from.as_deref().ok_or("nofrom")?;
     let seqno = message.seqno.as_deref().ok_or("noseqno")?;
     Ok((from, seqno))
+}
+
+/// `nofrom`, `LENGTH:noseqno` or `LENGTH:ID`, the length being that of `from`.
+/// `source_and_seqno` judges the seqno, in a copy whose `from` is a peer id.
+fn id_word(message: &RawMessage) -> String {
+    let Some(from) = message.from.as_deref() else {
+        assert!(matches!(message.source_and_seqno(), Err(MessageVerifyError::MissingFrom)));
+        return String::from("nofrom");
+    };
+    let named = RawMessage { from: Some(vec![0, 0]), ..message.clone() };
+    match named.source_and_seqno() {
+        Ok((_, seqno)) => format!("{}:{}", from.len(), hex(&message_id(from, &seqno))),
+        Err(MessageVerifyError::InvalidSeqno) => format!("{}:noseqno", from.len()),
+        Err(error) => panic!("{error:?}"),
+    }
 }
 
 fn cache(state: &mut State) -> Res<&mut Cache> {
