@@ -33,3 +33,10 @@ pub rows :
     × (decodeAnswer (0x0a ∷ 0x03 ∷ 0x12 ∷ 0x01 ∷ 0xff ∷ []) 10240 ≡ Refused (InvalidUtf8 1))
 unfolding uvarint bytesOf readUvarint readFrom groupOf isUtf8 run readTag readLen readVarint skipFixed skipField readValue readField walkFrom walkAt tag bytesField varintField roleOf rank ownOf textCount countTo counted setPlace withField slotsOf hasControl decodeAnswer placed slotIn numbered valueOf canonTo canon partOf entriesOf mergedControl canonBody signOf
 rows = ((refl, refl), (refl, refl), (refl, refl, refl), refl, refl, refl, refl, refl, refl)
+
+-- an unknown field of a control is not kept, and the control is; every topic is signed, not only the last
+pub worked :
+    (canonBody (0x1a ∷ 0x02 ∷ 0x28 ∷ 0x01 ∷ []) ≡ 0x1a ∷ 0x00 ∷ [])
+    × (signOf (0x22 ∷ 0x01 ∷ 0x61 ∷ 0x22 ∷ 0x01 ∷ 0x62 ∷ []) ≡ signPrefix ++ (0x22 ∷ 0x01 ∷ 0x61 ∷ 0x22 ∷ 0x01 ∷ 0x62 ∷ []))
+unfolding uvarint bytesOf readUvarint readFrom groupOf isUtf8 run readTag readLen readVarint skipFixed skipField readValue readField walkFrom walkAt tag bytesField varintField roleOf rank ownOf textCount countTo counted setPlace withField slotsOf hasControl decodeAnswer placed slotIn numbered valueOf canonTo canon partOf entriesOf mergedControl canonBody signOf
+worked = (refl, refl)
