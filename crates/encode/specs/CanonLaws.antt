@@ -1,5 +1,5 @@
--- Laws of the canonical bytes: the depth does not matter; the places of a message's slots lie within it, and its number has 64 bits; and the
--- canonical bytes are not many times longer than the message.
+-- Laws of the canonical bytes: the depth does not matter; a message's number has 64 bits; and the canonical bytes are not many times longer than
+-- the message.
 use Prim.Native.Nat.{ℕ, zero, suc, _+_, _-_, _*_, _/_, _^_, _≤_, _<_, zero-le}
 use mathlib.Core.Path.{_≡_, refl, sym, ap, ap₂, subst, _∙_}
 use mathlib.Core.List.{List, [], _++_}
@@ -45,6 +45,7 @@ use Rattle.schema.specs.declared.Slots.{Slots}
 use Rattle.schema.specs.Schema.{varintField as numberField, roleOf, rank}
 use Rattle.schema.specs.Slots.{noSlots, setPlace, placeOf, roleSlots, withField, slotsAlong, slotsOf}
 use Rattle.schema.specs.CountLaws.{sub-rank}
+use Rattle.schema.specs.SlotsLaws.{Inside, Good, slots-inside as all-inside}
 use Rattle.encode.specs.Canon.{eachAlong, placed, slotIn, valueOf, numbered, inner, rolePart, four, canonTo, canon, partOf, entriesAlong, entriesOf, mergedControl, canonBody}
 use Rattle.message.specs.Decode.{hasControl}
 
@@ -84,40 +85,9 @@ canon-four k s =
     ∙ same-four _ _ (λ n. same-part (canonTo (rank k)) canon k n s (roleOf k n 2) (λ j x r. let l = sub-rank k j n 2 r in deep (rank k) (rank j) j x (omega arith) (omega arith)))
 
 -- ---- a message's slots
--- a place lies within the message
-abbrev pub Inside : List ℕ → Place → Type 0
-Inside s p = (a e : ℕ) → p ≡ place.Present a e → (a ≤ e) × (e ≤ length s)
-
 -- a number has 64 bits
 abbrev pub Small : Num → Type 0
 Small x = (v : ℕ) → x ≡ number.Present v → v < 2 ^ 64
-
-record Good (s : List ℕ) (t : Slots) : Type 0 where
-  first : Inside s (t .first)
-  second : Inside s (t .second)
-  third : Inside s (t .third)
-  fourth : Inside s (t .fourth)
-  fifth : Inside s (t .fifth)
-
-absent-inside : (s : List ℕ) → Inside s place.Absent
-absent-inside s a e h = clash (cc)
-
-none-good : (s : List ℕ) → Good s noSlots
-none-good s =
-    record { first = absent-inside s; second = absent-inside s; third = absent-inside s; fourth = absent-inside s; fifth = absent-inside s }
-
-set-good : (s : List ℕ) (t : Slots) (slot : ℕ) (p : Place) → Good s t → Inside s p → Good s (setPlace t slot p)
-unfolding setPlace
-set-good s t slot p g h =
-    either (eqb slot 1)
-    (λ a. simp a (record { first = h; second = g .second; third = g .third; fourth = g .fourth; fifth = g .fifth }))
-    (λ a. either (eqb slot 2)
-    (λ b. simp (a, b) (record { first = g .first; second = h; third = g .third; fourth = g .fourth; fifth = g .fifth }))
-    (λ b. either (eqb slot 3)
-    (λ c. simp (a, b, c) (record { first = g .first; second = g .second; third = h; fourth = g .fourth; fifth = g .fifth }))
-    (λ c. either (eqb slot 4)
-    (λ d. simp (a, b, c, d) (record { first = g .first; second = g .second; third = g .third; fourth = h; fifth = g .fifth }))
-    (λ d. simp (a, b, c, d) (record { first = g .first; second = g .second; third = g .third; fourth = g .fourth; fifth = h })))))
 
 slot-inside : (s : List ℕ) (t : Slots) (slot : ℕ) → Good s t → Inside s (slotIn slot t)
 unfolding slotIn
@@ -128,30 +98,9 @@ slot-inside s t slot g =
     (λ c. either (eqb slot 4) (λ d. simp (a, b, c, d) (g .fourth))
     (λ d. simp (a, b, c, d) (g .fifth)))))
 
-field-inside : (s : List ℕ) (at : ℕ) (f : Field) → Stands s at f → Inside s (placeOf f)
-field-inside s at f st a e h = let p : f .start ≡ a = cc in let q : f .next ≡ e = cc in (omega (arith, st .ends), omega (arith, st .within))
-
-role-good : (s : List ℕ) (at : ℕ) (f : Field) (t : Slots) (r : Role) → Stands s at f → Good s t → Good s (roleSlots t f r)
-role-good s at f t Skip st g = g
-role-good s at f t Number st g = record { first = g .first; second = g .second; third = g .third; fourth = g .fourth; fifth = g .fifth }
-role-good s at f t (Text slot) st g = set-good s t slot (placeOf f) g (field-inside s at f st)
-role-good s at f t (Octets slot) st g = set-good s t slot (placeOf f) g (field-inside s at f st)
-role-good s at f t Topic st g = g
-role-good s at f t MessageId st g = g
-role-good s at f t (Sub k) st g = g
-
-good-along : (k : Kind) (s : List ℕ) (at : ℕ) (t : Slots) → Good s t → Good s (slotsAlong k t (walkAt s at))
-unfolding withField
-good-along k s =
-    along s (λ (at : ℕ) (w : Fields). (t : Slots) → Good s t → Good s (slotsAlong k t w))
-    (λ at t g. g)
-    (λ at why r t g. g)
-    (λ at f st e rest t g. rest _ (role-good s at f t (roleOf k (f .field) (f .«wire_type»)) st g))
-
 -- a slot's place lies within the message
 pub slots-inside : (k : Kind) (s : List ℕ) (slot : ℕ) → Inside s (slotIn slot (slotsOf k s))
-unfolding slotsOf
-slots-inside k s slot = slot-inside s _ slot (good-along k s 0 noSlots (none-good s))
+slots-inside k s slot = slot-inside s _ slot (all-inside k s)
 
 -- a value that is read has 64 bits
 read-small : (s : List ℕ) (at x e : ℕ) (r : Uvarint) → Bytes s → r ≡ readUvarint (drop at s) → value.Value x e ≡ after at value.Refused value.Value r → x < 2 ^ 64

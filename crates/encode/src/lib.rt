@@ -13,7 +13,7 @@ ghost use Rattle.schema.specs.Slots.{slotsOf};
 ghost use Rattle.schema.specs.Count.{Within};
 ghost use Rattle.message.specs.Decode.{hasControl};
 ghost use Rattle.encode.specs.Canon.{eachAlong, placed, slotIn, valueOf, numbered, inner, partOf, canon, entriesOf, mergedControl, canonBody, signOf};
-ghost use Rattle.encode.specs.CanonLaws.{Inside};
+ghost use Rattle.schema.specs.SlotsLaws.{Inside};
 ghost use Rattle.encode.specs.Encode.{encodeAnswer, encodeLeft};
 ghost use Rattle.encode.specs.Sign.{signAnswer, signLeft};
 ghost use Rattle.basis.specs.Writing.{answer, written};

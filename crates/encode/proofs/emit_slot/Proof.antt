@@ -1,7 +1,8 @@
 -- `encode::emit_slot` meets its contract: the slot's place lies within the message.
 use mathlib.Core.Path.{sym, ap, subst, _∙_}
 use Rattle.encode.specs.Canon.{slotIn, placed}
-use Rattle.encode.specs.CanonLaws.{Inside, slots-inside}
+use Rattle.schema.specs.SlotsLaws.{Inside}
+use Rattle.encode.specs.CanonLaws.{slots-inside}
 use Rattle.encode.specs.Puts.{puts-same, fits-same}
 use borrow.Author.Needs.{needs}
 use Rattle.encode.proofs.emit_slot.Statement.{statement}
