@@ -5,3 +5,4 @@ pub mod Written
 pub mod Canonical
 pub mod Rows
 pub mod Messages
+pub mod Calls

@@ -1,3 +1,4 @@
 pub mod Rpc
 pub mod Grammar
 pub mod Encode
+pub mod Id

@@ -1,0 +1,208 @@
+-- What the calls that write do with a body within capacity, said of the RPC that it means and of nothing else: `encode` writes the RPC,
+-- `sign_bytes` what is signed of its message i, `message_id` that message's id; and where there is no such message, 20 carries the number of
+-- messages. Bodies that are refused before that are those that mean no RPC within capacity.
+use Prim.Native.Nat.{ℕ, zero, suc, _+_, _-_, _≤_, _<_}
+use mathlib.Core.Path.{_≡_, refl, sym, ap, ap₂, subst, _∙_}
+use mathlib.Core.Bool.{Bool, true, false, cond, _||_}
+use mathlib.Core.List.{List, [], _∷_, _++_}
+use mathlib.Core.Option.{Option, none, some}
+use mathlib.Core.Logic.{_↔_}
+use native.Mathlib.Omega.{arith}
+use native.Mathlib.Nat.{zero-add}
+use lib.ListN.{length, drop, length-take, length-drop}
+use lib.Dec.{ltb, eqb}
+use borrow.Author.Tests.{le-ltb, ltb-false}
+use Rattle.basis.specs.Cases.{either, clash}
+use Rattle.basis.specs.Bytes.{Bytes}
+use Rattle.basis.specs.Writing.{answer, written}
+use Rattle.protobuf.specs.declared.Checked.{Checked}
+use Rattle.protobuf.specs.declared.Checked.the-variants.{Fine}
+use Rattle.protobuf.specs.declared.Encoded.{Encoded}
+use Rattle.protobuf.specs.Encode.{ofWritten}
+use Rattle.protobuf.specs.Grammar.{Entry}
+use Rattle.protobuf.specs.Walk.{between}
+use Rattle.protobuf.specs.Exactly.{Walks, body-walks}
+use Rattle.schema.specs.declared.Kind.the-variants as kind
+use Rattle.schema.specs.declared.Counted.{Counted}
+use Rattle.schema.specs.declared.Counted.the-variants as count
+use Rattle.schema.specs.declared.Place.{Place}
+use Rattle.schema.specs.declared.Place.the-variants as place
+use Rattle.schema.specs.Count.{counted}
+use Rattle.schema.specs.Slots.{slotsOf}
+use Rattle.schema.specs.SlotsLaws.{Inside, slots-inside}
+use Rattle.rpc.specs.Rpc.{RawMessage, Rpc}
+use Rattle.rpc.specs.Grammar.{IsMessage, is-message, IsRpc}
+use Rattle.rpc.specs.Encode.{encodeRpc, signBytes}
+use Rattle.rpc.specs.Id.{Id, no-from, bad-from, bad-seqno, id, withSeqno, withFrom, messageId}
+use Rattle.meaning.specs.ReadBack.{bytesAt}
+use Rattle.meaning.specs.Accepted.{Some, rpc-means, rpc-accepted}
+use Rattle.meaning.specs.Back.{message-from, message-seqno, slot-value, whole-part}
+use Rattle.meaning.specs.Decoded.{counted-records}
+use Rattle.ids.specs.declared.MessageAt.{MessageAt}
+use Rattle.ids.specs.declared.MessageAt.the-variants.{At, Count}
+use Rattle.ids.specs.declared.MessageId.{MessageId}
+use Rattle.ids.specs.declared.MessageId.the-variants as parts
+use Rattle.ids.specs.declared.MessageBytes.{MessageBytes}
+use Rattle.ids.specs.declared.MessageBytes.the-variants.{NoMessage, MissingFrom, InvalidFrom, InvalidSeqno}
+use Rattle.ids.specs.Ids.{onCounted, acceptOf, messageAt, onSeqno, onFrom, idParts, ofWritten as message, answerId, leftId, answerAt, leftAt, answerChecked, leftChecked, idAnswer, idLeft}
+use Rattle.encode.specs.Canon.{canonBody, signOf}
+use Rattle.encode.specs.Encode.{onCount, encodeAnswer, leavesOn, encodeLeft}
+use Rattle.encode.specs.Sign.{signAt, signChecked, signAnswer, signedAt, signedChecked, signLeft}
+use Rattle.canonical.specs.Canonical.{Within}
+use Rattle.canonical.specs.Written.{canon-written, sign-written}
+use Rattle.canonical.specs.Messages.{Nth, here, there, message-found, message-missing}
+
+-- ---- which bodies are taken
+counts : {s : List ℕ} {x : Rpc} → Within s x → (n : ℕ) × (counted kind.Rpc s ≡ count.Records n) × (n ≤ 512)
+counts {s} {x} w =
+    let a = rpc-accepted s (record { value = x; means = w .means }) in
+    let n = counted-records s (a .records) x (a .counts) (w .means) in
+    (a .records, a .counts, omega (arith, w .few))
+
+pub taken : {s : List ℕ} {x : Rpc} → Within s x → acceptOf s ≡ Fine
+unfolding acceptOf
+taken {s} w = let c = counts w in simp (le-ltb 65536 (length s) (w .small), c .1, le-ltb 512 (c .0) (c .2))
+
+of-counted : (s : List ℕ) (r : Counted) → Bytes s → length s ≤ 65536 → counted kind.Rpc s ≡ r → onCounted r ≡ Fine → (x : Rpc) × Within s x
+of-counted s (count.Refused why) b h e q = clash (cc)
+of-counted s (count.Records n) b h e q =
+    either (ltb 512 n) (λ t. clash (let k = simp t at q in cc))
+    (λ t. let x = rpc-means s b (record { records = n; counts = e }) in
+    let z = counted-records s n (x .value) e (x .means) in
+    let l = ltb-false 512 n t in
+    (x .value, record { means = x .means; small = h; few = omega arith }))
+
+only-taken : (s : List ℕ) → Bytes s → acceptOf s ≡ Fine → (x : Rpc) × Within s x
+unfolding acceptOf
+only-taken s b q =
+    either (ltb 65536 (length s)) (λ t. clash (let k = simp t at q in cc))
+    (λ t. of-counted s (counted kind.Rpc s) b (ltb-false 65536 (length s) t) refl (simp t at q))
+
+-- the calls take a body exactly when it means an RPC within capacity
+pub taken-exactly : (s : List ℕ) → Bytes s → (acceptOf s ≡ Fine) ↔ ((x : Rpc) × Within s x)
+taken-exactly s b = (only-taken s b, λ p. taken (p .1))
+
+-- ---- encode
+pub encode-writes : {s : List ℕ} {x : Rpc} → Within s x → (out : List ℕ) → (encodeAnswer s out ≡ ofWritten (answer (encodeRpc x) out)) × (encodeLeft s out ≡ written (encodeRpc x) out)
+unfolding encodeAnswer encodeLeft
+encode-writes {s} {x} w out =
+    let c = counts w in
+    let e = canon-written (w .means) in (
+      simp (le-ltb 65536 (length s) (w .small), c .1, le-ltb 512 (c .0) (c .2)) (ap (λ (b : List ℕ). ofWritten (answer b out)) e),
+      simp (le-ltb 65536 (length s) (w .small), c .1, le-ltb 512 (c .0) (c .2)) (ap (λ (b : List ℕ). written b out) e),
+    )
+
+-- ---- the message at an index
+nth-bound : {A : Type 0} {i : ℕ} {xs : List A} {x : A} → Nth i xs x → i < length xs
+nth-bound here = omega arith
+nth-bound (there n) = let l = nth-bound n in omega arith
+
+nth-same : {A : Type 0} {i : ℕ} {xs : List A} {x y : A} → Nth i xs x → Nth i xs y → x ≡ y
+nth-same here here = refl
+nth-same (there n) (there m) = nth-same n m
+
+-- where message i of the RPC stands in the body
+found-in : {s : List ℕ} {x : Rpc} {m : RawMessage} (i : ℕ) (r : MessageAt) → IsRpc s x → Nth i (x .publish) m → messageAt s i ≡ r → (a : ℕ) × (e : ℕ) × (messageAt s i ≡ At a e) × (IsMessage (between s a e) m)
+found-in {s} i (At a e) g n q =
+    let f = message-found i a e g q in
+    (a, e, q, subst (λ (y : RawMessage). IsMessage (between s a e) y) (nth-same (f .1) n) (f .2))
+found-in i (Count k) g n q = let l = message-missing i k g q in let b = nth-bound n in absurd (omega arith)
+
+none-in : {s : List ℕ} {x : Rpc} (i : ℕ) (r : MessageAt) → IsRpc s x → length (x .publish) ≤ i → messageAt s i ≡ r → messageAt s i ≡ Count (length (x .publish))
+none-in i (At a e) g l q = let f = message-found i a e g q in let b = nth-bound (f .1) in absurd (omega arith)
+none-in i (Count k) g l q = let m = message-missing i k g q in q ∙ ap Count (m .0)
+
+-- ---- sign_bytes
+pub sign-writes : {s : List ℕ} {x : Rpc} {m : RawMessage} → Within s x → (i : ℕ) → Nth i (x .publish) m → (out : List ℕ) → (signAnswer s i out ≡ message (answer (signBytes m) out)) × (signLeft s i out ≡ written (signBytes m) out)
+unfolding signAnswer signLeft
+sign-writes {s} w i n out =
+    let f = found-in i (messageAt s i) (w .means) n refl in
+    let e = sign-written (f .3) in (
+      ap (signChecked s i out) (taken w) ∙ ap (signAt s out) (f .2) ∙ ap (λ (b : List ℕ). message (answer b out)) e,
+      ap (signedChecked s i out) (taken w) ∙ ap (signedAt s out) (f .2) ∙ ap (λ (b : List ℕ). written b out) e,
+    )
+
+pub sign-none : {s : List ℕ} {x : Rpc} → Within s x → (i : ℕ) → length (x .publish) ≤ i → (out : List ℕ) → (signAnswer s i out ≡ NoMessage (length (x .publish))) × (signLeft s i out ≡ out)
+unfolding signAnswer signLeft
+sign-none {s} w i l out =
+    let f = none-in i (messageAt s i) (w .means) l refl in
+    (ap (signChecked s i out) (taken w) ∙ ap (signAt s out) f, ap (signedChecked s i out) (taken w) ∙ ap (signedAt s out) f)
+
+-- ---- message_id and seen_message_id, with what stands before the id
+-- what is answered and left, by the id
+abbrev pub idSaid : List ℕ → List ℕ → Id → MessageBytes
+idSaid pre out no-from = MissingFrom
+idSaid pre out (bad-from n) = InvalidFrom n
+idSaid pre out bad-seqno = InvalidSeqno
+idSaid pre out (id bs) = message (answer (pre ++ bs) out)
+
+abbrev pub idStays : List ℕ → List ℕ → Id → List ℕ
+idStays pre out no-from = out
+idStays pre out (bad-from n) = out
+idStays pre out bad-seqno = out
+idStays pre out (id bs) = written (pre ++ bs) out
+
+abbrev toId : List ℕ → MessageId → Id
+toId p parts.MissingFrom = no-from
+toId p (parts.InvalidFrom n) = bad-from n
+toId p parts.InvalidSeqno = bad-seqno
+toId p (parts.Parts a e b f) = id (between p a e ++ between p b f)
+
+said : (pre p out : List ℕ) (r : MessageId) → answerId pre p out r ≡ idSaid pre out (toId p r)
+said pre p out parts.MissingFrom = refl
+said pre p out (parts.InvalidFrom n) = refl
+said pre p out parts.InvalidSeqno = refl
+said pre p out (parts.Parts a e b f) = refl
+
+stays : (pre p out : List ℕ) (r : MessageId) → leftId pre p out r ≡ idStays pre out (toId p r)
+stays pre p out parts.MissingFrom = refl
+stays pre p out (parts.InvalidFrom n) = refl
+stays pre p out parts.InvalidSeqno = refl
+stays pre p out (parts.Parts a e b f) = refl
+
+bytes-there : (p : List ℕ) (a e : ℕ) → bytesAt p 0 (place.Present a e) ≡ some (between p a e)
+bytes-there p a e = ap₂ (λ (x y : ℕ). some (between p x y)) (zero-add a) (zero-add e)
+
+there-length : (p : List ℕ) (a e : ℕ) → e ≤ length p → length (between p a e) ≡ e - a
+there-length p a e h = rw (length-take (e - a) (drop a p), length-drop a p) (omega arith)
+
+seqno-same : (p : List ℕ) (a e : ℕ) (q : Place) → Inside p q → toId p (onSeqno a e q) ≡ withSeqno (between p a e) (bytesAt p 0 q)
+seqno-same p a e place.Absent h = refl
+seqno-same p a e (place.Present b f) h =
+    let l = there-length p b f (h b f refl .1) in
+    (either (eqb (f - b) 0 || ltb 64 (f - b)) (λ t. rw l (simp t)) (λ t. rw l (simp t)))
+    ∙ ap (withSeqno (between p a e)) (sym (bytes-there p b f))
+
+from-same : (p : List ℕ) (f q : Place) → Inside p f → Inside p q → toId p (onFrom f q) ≡ withFrom (bytesAt p 0 f) (bytesAt p 0 q)
+from-same p place.Absent q h k = refl
+from-same p (place.Present a e) q h k =
+    let l = there-length p a e (h a e refl .1) in
+    (either (eqb (e - a) 0 || ltb 64 (e - a)) (λ t. rw l (simp t)) (λ t. rw l (simp t (seqno-same p a e q k))))
+    ∙ ap (λ (o : Option (List ℕ)). withFrom o (bytesAt p 0 q)) (sym (bytes-there p a e))
+
+-- the places of from and seqno hold the id of the message that the bytes mean
+id-same : {p : List ℕ} {m : RawMessage} → IsMessage p m → toId p (idParts p) ≡ messageId m
+unfolding idParts messageId
+id-same (is-message {s = p} {es = es} g u) =
+    let w = body-walks p es g in
+    let i = slots-inside kind.RawMessage p in
+    from-same p (slotsOf kind.RawMessage p .first) (slotsOf kind.RawMessage p .third) (i .first) (i .third)
+    ∙ ap₂ withFrom
+    (slot-value p 0 p kind.RawMessage (λ t. t .first) 1 (w .fields) es (whole-part p) message-from (w .walked) (w .entries) refl)
+    (slot-value p 0 p kind.RawMessage (λ t. t .third) 3 (w .fields) es (whole-part p) message-seqno (w .walked) (w .entries) refl)
+
+pub id-writes : {s : List ℕ} {x : Rpc} {m : RawMessage} → Within s x → (pre : List ℕ) (i : ℕ) → Nth i (x .publish) m → (out : List ℕ) → (idAnswer pre s i out ≡ idSaid pre out (messageId m)) × (idLeft pre s i out ≡ idStays pre out (messageId m))
+unfolding idAnswer idLeft
+id-writes {s} w pre i n out =
+    let f = found-in i (messageAt s i) (w .means) n refl in
+    let p = between s (f .0) (f .1) in
+    let e = id-same (f .3) in (
+      ap (answerChecked pre s i out) (taken w) ∙ ap (answerAt pre s out) (f .2) ∙ said pre p out (idParts p) ∙ ap (idSaid pre out) e,
+      ap (leftChecked pre s i out) (taken w) ∙ ap (leftAt pre s out) (f .2) ∙ stays pre p out (idParts p) ∙ ap (idStays pre out) e,
+    )
+
+pub id-none : {s : List ℕ} {x : Rpc} → Within s x → (pre : List ℕ) (i : ℕ) → length (x .publish) ≤ i → (out : List ℕ) → (idAnswer pre s i out ≡ NoMessage (length (x .publish))) × (idLeft pre s i out ≡ out)
+unfolding idAnswer idLeft
+id-none {s} w pre i l out =
+    let f = none-in i (messageAt s i) (w .means) l refl in
+    (ap (answerChecked pre s i out) (taken w) ∙ ap (answerAt pre s out) f, ap (leftChecked pre s i out) (taken w) ∙ ap (leftAt pre s out) f)
