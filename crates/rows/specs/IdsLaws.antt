@@ -1,0 +1,192 @@
+-- Laws of ids: the test for equal bytes is exact, the order is a strict total order, and one step of each walk over bytes and over ids.
+use Prim.Native.Nat.{ℕ, suc, _+_, _≤_, _<_}
+use mathlib.Core.Path.{_≡_, refl, sym, ap, ap₂, subst, _∙_}
+use mathlib.Core.List.{List, [], _∷_, _++_}
+use mathlib.Core.Bool.{Bool, true, false, cond, not, _&&_, _||_}
+use mathlib.Core.Logic.{_↔_}
+use native.Mathlib.Omega.{arith}
+use native.Mathlib.Numerals.{add-one}
+use lib.ListN.{length, take, drop, getD, drop-of-length-le}
+use lib.Seq.{drop-cons}
+use lib.Dec.{eqb, ltb}
+use borrow.Author.Tests.{eqb-true, eqb-false, eq-eqb, ne-eqb, lt-ltb, le-ltb, ltb-true, ltb-false}
+use Rattle.basis.specs.Cases.{either, clash}
+use Rattle.rows.specs.Ids.{sameBytes, precedesBytes, among, distinct}
+
+-- ---- equal bytes
+pub same-self : (a : List ℕ) → sameBytes a a ≡ true
+unfolding sameBytes
+same-self [] = refl
+same-self (x ∷ xs) = simp (eq-eqb x x refl) (same-self xs)
+
+pub same-equal : (a b : List ℕ) → sameBytes a b ≡ true → a ≡ b
+unfolding sameBytes
+same-equal [] [] h = refl
+same-equal [] (y ∷ ys) h = clash (cc)
+same-equal (x ∷ xs) [] h = clash (cc)
+same-equal (x ∷ xs) (y ∷ ys) h =
+    either (eqb x y) (λ t. let k = simp t at h in ap₂ (λ (u : ℕ) (v : List ℕ). u ∷ v) (eqb-true x y t) (same-equal xs ys k))
+    (λ t. clash (let k = simp t at h in cc))
+
+-- bytes are the same exactly where the lists are equal
+pub same-exactly : (a b : List ℕ) → (sameBytes a b ≡ true) ↔ (a ≡ b)
+same-exactly a b = (same-equal a b, λ e. subst (λ (c : List ℕ). sameBytes a c ≡ true) e (same-self a))
+
+and-false : (b : Bool) → (b && false) ≡ false
+and-false true = refl
+and-false false = refl
+
+pub same-length : (a b : List ℕ) → (length a ≡ length b → ⊥) → sameBytes a b ≡ false
+unfolding sameBytes
+same-length [] [] h = absurd (h refl)
+same-length [] (y ∷ ys) h = refl
+same-length (x ∷ xs) [] h = refl
+same-length (x ∷ xs) (y ∷ ys) h = rw (same-length xs ys (λ e. h (ap suc e))) (and-false (eqb x y))
+
+-- one byte further
+same-step : (a b : List ℕ) (i : ℕ) → i < length a → i < length b
+    → sameBytes (drop i a) (drop i b) ≡ (eqb (getD a i 0) (getD b i 0) && sameBytes (drop (i + 1) a) (drop (i + 1) b))
+unfolding sameBytes
+same-step a b i h k = rw (add-one i, drop-cons a i 0 h, drop-cons b i 0 k)
+
+module _ (a b : List ℕ) (i : ℕ) (inv : sameBytes (drop i a) (drop i b) ≡ sameBytes a b) where
+  pub same-more : i < length a → i < length b → getD a i 0 ≡ getD b i 0 → sameBytes (drop (i + 1) a) (drop (i + 1) b) ≡ sameBytes a b
+  same-more h k e = sym (simp (eq-eqb (getD a i 0) (getD b i 0) e) at (same-step a b i h k)) ∙ inv
+
+  pub same-not : i < length a → i < length b → (getD a i 0 ≡ getD b i 0 → ⊥) → false ≡ sameBytes a b
+  same-not h k e = sym (simp (ne-eqb (getD a i 0) (getD b i 0) e) at (same-step a b i h k)) ∙ inv
+
+  pub same-all : length a ≤ i → length b ≤ i → true ≡ sameBytes a b
+  unfolding sameBytes
+  same-all h k = rw (drop-of-length-le a h, drop-of-length-le b k) at inv
+
+-- ---- byte order
+precedes-step : (a b : List ℕ) (i : ℕ) → i < length a → i < length b
+    → precedesBytes (drop i a) (drop i b) ≡ cond (eqb (getD a i 0) (getD b i 0)) (precedesBytes (drop (i + 1) a) (drop (i + 1) b)) (ltb (getD a i 0) (getD b i 0))
+unfolding precedesBytes
+precedes-step a b i h k = rw (add-one i, drop-cons a i 0 h, drop-cons b i 0 k)
+
+precedes-nil : (a : List ℕ) → precedesBytes a [] ≡ false
+unfolding precedesBytes
+precedes-nil [] = refl
+precedes-nil (x ∷ xs) = refl
+
+module _ (a b : List ℕ) (i : ℕ) (inv : precedesBytes (drop i a) (drop i b) ≡ precedesBytes a b) where
+  pub order-more : i < length a → i < length b → getD a i 0 ≡ getD b i 0 → precedesBytes (drop (i + 1) a) (drop (i + 1) b) ≡ precedesBytes a b
+  order-more h k e = sym (simp (eq-eqb (getD a i 0) (getD b i 0) e) at (precedes-step a b i h k)) ∙ inv
+
+  pub order-here : i < length a → i < length b → (getD a i 0 ≡ getD b i 0 → ⊥) → ltb (getD a i 0) (getD b i 0) ≡ precedesBytes a b
+  order-here h k e = sym (simp (ne-eqb (getD a i 0) (getD b i 0) e) at (precedes-step a b i h k)) ∙ inv
+
+  pub order-short : length b ≤ i → false ≡ precedesBytes a b
+  order-short h = sym (precedes-nil (drop i a)) ∙ (rw (drop-of-length-le b h) at inv)
+
+  pub order-prefix : length a ≤ i → ltb i (length b) ≡ precedesBytes a b
+  unfolding precedesBytes
+  order-prefix h =
+      either (ltb i (length b))
+      (λ t. t ∙ (rw (drop-of-length-le a h, drop-cons b i 0 (ltb-true i (length b) t)) at inv))
+      (λ t. t ∙ (rw (drop-of-length-le a h, drop-of-length-le b (ltb-false i (length b) t)) at inv))
+
+pub order-irreflexive : (a : List ℕ) → precedesBytes a a ≡ false
+unfolding precedesBytes
+order-irreflexive [] = refl
+order-irreflexive (x ∷ xs) = simp (eq-eqb x x refl) (order-irreflexive xs)
+
+-- of two ids that differ one comes first
+pub order-total : (a b : List ℕ) → sameBytes a b ≡ false → precedesBytes a b ≡ not (precedesBytes b a)
+unfolding precedesBytes sameBytes
+order-total [] [] h = clash (cc)
+order-total [] (y ∷ ys) h = refl
+order-total (x ∷ xs) [] h = refl
+order-total (x ∷ xs) (y ∷ ys) h =
+    either (eqb x y) (λ t. let e = eqb-true x y t in simp (t, eq-eqb y x (sym e)) (order-total xs ys (simp t at h)))
+    (λ t. let n = eqb-false x y t in
+    either (ltb x y) (λ u. let l = ltb-true x y u in simp (t, ne-eqb y x (λ e. n (sym e)), u, le-ltb y x (omega arith)))
+    (λ u. let l = ltb-false x y u in simp (t, ne-eqb y x (λ e. n (sym e)), u, lt-ltb y x (omega (arith, n)))))
+
+pub order-trans : (a b c : List ℕ) → precedesBytes a b ≡ true → precedesBytes b c ≡ true → precedesBytes a c ≡ true
+unfolding precedesBytes
+order-trans [] [] c h k = clash (cc)
+order-trans [] (y ∷ ys) [] h k = clash (cc)
+order-trans [] (y ∷ ys) (z ∷ zs) h k = refl
+order-trans (x ∷ xs) [] c h k = clash (cc)
+order-trans (x ∷ xs) (y ∷ ys) [] h k = clash (cc)
+order-trans (x ∷ xs) (y ∷ ys) (z ∷ zs) h k =
+    either (eqb x y)
+    (λ t. let e = eqb-true x y t in
+    either (eqb y z)
+    (λ u. let g = eqb-true y z u in simp (eq-eqb x z (e ∙ g)) (order-trans xs ys zs (simp t at h) (simp u at k)))
+    (λ u. let n = eqb-false y z u in let l = ltb-true y z (simp u at k) in simp (ne-eqb x z (λ g. n (sym e ∙ g))) (lt-ltb x z (omega arith))))
+    (λ t. let m = ltb-true x y (simp t at h) in
+    either (eqb y z)
+    (λ u. let g = eqb-true y z u in simp (ne-eqb x z (λ p. absurd (omega arith))) (lt-ltb x z (omega arith)))
+    (λ u. let l = ltb-true y z (simp u at k) in simp (ne-eqb x z (λ p. absurd (omega arith))) (lt-ltb x z (omega arith))))
+
+-- ---- an id among others, one further
+module _ (i : List ℕ) {j : List ℕ} {l js : List (List ℕ)} (w : Bool) (at-row : l ≡ j ∷ js) (inv : among i l ≡ w) where
+  pub among-more : sameBytes j i ≡ false → among i js ≡ w
+  unfolding among
+  among-more e = simp e at (rw at-row at inv)
+
+  pub among-here : sameBytes j i ≡ true → true ≡ w
+  unfolding among
+  among-here e = simp e at (rw at-row at inv)
+
+pub among-none : (i : List ℕ) (l : List (List ℕ)) (w : Bool) → l ≡ [] → among i l ≡ w → false ≡ w
+unfolding among
+among-none i l w e inv = rw e at inv
+
+module _ {j : List ℕ} {l js : List (List ℕ)} (w : Bool) (at-row : l ≡ j ∷ js) (inv : distinct l ≡ w) where
+  pub distinct-more : among j js ≡ false → distinct js ≡ w
+  unfolding distinct
+  distinct-more e = simp e at (rw at-row at inv)
+
+  pub distinct-twice : among j js ≡ true → false ≡ w
+  unfolding distinct
+  distinct-twice e = simp e at (rw at-row at inv)
+
+pub distinct-none : (l : List (List ℕ)) (w : Bool) → l ≡ [] → distinct l ≡ w → true ≡ w
+unfolding distinct
+distinct-none l w e inv = rw e at inv
+
+-- ---- ids one after the other
+or-assoc : (a b c : Bool) → ((a || b) || c) ≡ (a || (b || c))
+or-assoc true b c = refl
+or-assoc false b c = refl
+
+pub among-append : (i : List ℕ) (l r : List (List ℕ)) → among i (l ++ r) ≡ (among i l || among i r)
+unfolding among
+among-append i [] r = refl
+among-append i (j ∷ l) r = rw (among-append i l r) (sym (or-assoc (sameBytes j i) (among i l) (among i r)))
+
+pub among-drop : (i : List ℕ) (k : ℕ) (l : List (List ℕ)) → among i l ≡ false → among i (drop k l) ≡ false
+unfolding among
+among-drop i k [] h = rw (drop-of-length-le {A = List ℕ} [] {i = k} (omega arith))
+among-drop i ℕ.zero (j ∷ l) h = h
+among-drop i (suc k) (j ∷ l) h = either (sameBytes j i) (λ t. clash (let z = simp t at h in cc)) (λ t. among-drop i k l (simp t at h))
+
+-- the oldest leave, and the others still differ
+pub distinct-drop : (k : ℕ) (l : List (List ℕ)) → distinct l ≡ true → distinct (drop k l) ≡ true
+unfolding distinct
+distinct-drop k [] h = rw (drop-of-length-le {A = List ℕ} [] {i = k} (omega arith))
+distinct-drop ℕ.zero (j ∷ l) h = h
+distinct-drop (suc k) (j ∷ l) h = either (among j l) (λ t. clash (let z = simp t at h in cc)) (λ t. distinct-drop k l (simp t at h))
+
+same-sym : (a b : List ℕ) → sameBytes a b ≡ sameBytes b a
+unfolding sameBytes
+same-sym [] [] = refl
+same-sym [] (y ∷ ys) = refl
+same-sym (x ∷ xs) [] = refl
+same-sym (x ∷ xs) (y ∷ ys) =
+    either (eqb x y) (λ t. simp (t, eq-eqb y x (sym (eqb-true x y t))) (same-sym xs ys))
+    (λ t. simp (t, ne-eqb y x (λ e. eqb-false x y t (sym e))))
+
+-- an id that is not among others, and they, all differ
+pub distinct-snoc : (l : List (List ℕ)) (i : List ℕ) → distinct l ≡ true → among i l ≡ false → distinct (l ++ (i ∷ [])) ≡ true
+unfolding distinct among
+distinct-snoc [] i d n = refl
+distinct-snoc (j ∷ l) i d n =
+    either (sameBytes j i) (λ t. clash (let z = simp t at n in cc))
+    (λ t. either (among j l) (λ u. clash (let z = simp u at d in cc))
+    (λ u. simp (among-append j l (i ∷ []), u, same-sym i j, t) (distinct-snoc l i (simp u at d) (simp t at n))))

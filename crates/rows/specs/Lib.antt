@@ -1,0 +1,4 @@
+pub mod Rows
+pub mod Ids
+pub mod RowsLaws
+pub mod IdsLaws

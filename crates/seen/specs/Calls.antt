@@ -1,0 +1,162 @@
+-- What each call on the seen cache answers and leaves. Refusals come in the order of 01's table: 40, 41, 42, 33; a refused call leaves the cache
+-- and the store as they were.
+use Prim.Native.Nat.{ℕ, _+_, _-_, _*_, _/_, _%_}
+use mathlib.Core.List.{List, [], _∷_}
+use mathlib.Core.Bool.{Bool, true, false, cond, _&&_}
+use mathlib.Core.Option.{Option, none, some}
+use lib.ListN.{length, getD}
+use lib.Seq.{sets}
+use lib.Dec.{leb, ltb, eqb}
+use Rattle.rows.specs.Rows.{placeOf}
+use Rattle.rows.specs.Ids.{among}
+use Rattle.seen.specs.declared.SeenCache.{SeenCache}
+use Rattle.seen.specs.declared.Lent.{Lent}
+use Rattle.seen.specs.declared.Lent.the-variants as lent
+use Rattle.seen.specs.declared.Insert.{Insert}
+use Rattle.seen.specs.declared.Insert.the-variants as insert
+use Rattle.seen.specs.declared.Contains.{Contains}
+use Rattle.seen.specs.declared.Contains.the-variants as contains
+use Rattle.seen.specs.declared.Gc.{Gc}
+use Rattle.seen.specs.declared.Gc.the-variants as gc
+use Rattle.seen.specs.declared.NextExpiry.{NextExpiry}
+use Rattle.seen.specs.declared.NextExpiry.the-variants as next
+use Rattle.seen.specs.Entries.{until}
+use Rattle.seen.specs.State.{idsIn, expiriesIn, wellFormed, spent, dropped, appended}
+
+-- ---- 01's numbers and values
+abbrev pub lentNumber : Lent → ℕ
+lentNumber lent.Fine = 0
+lentNumber lent.BadStore = 41
+lentNumber lent.Malformed = 42
+
+abbrev pub insertNumber : Insert → ℕ
+insertNumber insert.Fresh = 0
+insertNumber insert.Held = 0
+insertNumber insert.BadSetting = 40
+insertNumber insert.BadStore = 41
+insertNumber insert.Malformed = 42
+insertNumber (insert.TooLong n) = 33
+
+abbrev pub insertValues : Insert → List ℕ
+insertValues insert.Fresh = []
+insertValues insert.Held = []
+insertValues insert.BadSetting = []
+insertValues insert.BadStore = []
+insertValues insert.Malformed = []
+insertValues (insert.TooLong n) = n ∷ []
+
+abbrev pub containsNumber : Contains → ℕ
+containsNumber contains.Yes = 0
+containsNumber contains.No = 0
+containsNumber contains.BadStore = 41
+containsNumber contains.Malformed = 42
+containsNumber (contains.TooLong n) = 33
+
+abbrev pub containsValues : Contains → List ℕ
+containsValues contains.Yes = []
+containsValues contains.No = []
+containsValues contains.BadStore = []
+containsValues contains.Malformed = []
+containsValues (contains.TooLong n) = n ∷ []
+
+abbrev pub gcNumber : Gc → ℕ
+gcNumber (gc.Left n) = 0
+gcNumber gc.BadStore = 41
+gcNumber gc.Malformed = 42
+
+abbrev pub nextNumber : NextExpiry → ℕ
+nextNumber next.None = 0
+nextNumber (next.At e) = 0
+nextNumber next.BadStore = 41
+nextNumber next.Malformed = 42
+
+-- ---- the lent state: 41, 42
+-- how many places a store has
+unfoldable pub capOf : List ℕ → ℕ
+capOf st = length st / 129
+
+-- whole rows, and at most 256
+unfoldable pub wholeRows : List ℕ → Bool
+wholeRows st = eqb (length st % 129) 0 && leb (capOf st) 256
+
+unfoldable pub lentOf : SeenCache → List ℕ → Lent
+lentOf c st = cond (wholeRows st) (cond (wellFormed (capOf st) c st) lent.Fine lent.Malformed) lent.BadStore
+
+-- ---- the calls on a state that was tested
+unfoldable pub heldIn : ℕ → SeenCache → List ℕ → List ℕ → Bool
+heldIn cap c st id = among id (idsIn cap (c .start) (c .count) (c .len) st)
+
+unfoldable pub cleaned : ℕ → ℕ → SeenCache → SeenCache
+cleaned cap at c = dropped cap (spent at (expiriesIn cap (c .start) (c .count) (c .expiry))) c
+
+-- the oldest leave, so that with one more at most `max` remain; then a row for an id of n bytes. With max 0 all leave, and none comes.
+unfoldable pub entered : ℕ → ℕ → ℕ → ℕ → SeenCache → SeenCache
+entered cap max n e c = cond (eqb max 0) (dropped cap (c .count) c) (appended cap n e (dropped cap ((c .count + 1) - max) c))
+
+-- the bytes of the id are written where that row is, and no others
+unfoldable pub enteredStore : ℕ → ℕ → SeenCache → List ℕ → List ℕ → List ℕ
+enteredStore cap max c st id =
+    cond (eqb max 0) st
+    (let d = dropped cap ((c .count + 1) - max) c in sets st (placeOf cap (d .start) (d .count) * 129) id)
+
+-- ---- insert: 40, 41, 42, 33
+abbrev pub insertOn : Lent → Insert → Insert
+insertOn lent.Fine r = r
+insertOn lent.BadStore r = insert.BadStore
+insertOn lent.Malformed r = insert.Malformed
+
+unfoldable pub insertAnswer : ℕ → SeenCache → List ℕ → List ℕ → Insert
+insertAnswer max c st id =
+    cond (ltb (capOf st) max) insert.BadSetting
+    (insertOn (lentOf c st) (cond (ltb 129 (length id)) (insert.TooLong (length id)) (cond (heldIn (capOf st) c st id) insert.Held insert.Fresh)))
+
+-- only a fresh id changes anything
+abbrev pub whenFresh : {A : Type 0} → Insert → A → A → A
+whenFresh insert.Fresh new old = new
+whenFresh insert.Held new old = old
+whenFresh insert.BadSetting new old = old
+whenFresh insert.BadStore new old = old
+whenFresh insert.Malformed new old = old
+whenFresh (insert.TooLong n) new old = old
+
+unfoldable pub insertCache : ℕ → ℕ → ℕ → SeenCache → List ℕ → List ℕ → SeenCache
+insertCache max at ttl c st id = whenFresh (insertAnswer max c st id) (entered (capOf st) max (length id) (until at ttl) c) c
+
+unfoldable pub insertStore : ℕ → SeenCache → List ℕ → List ℕ → List ℕ
+insertStore max c st id = whenFresh (insertAnswer max c st id) (enteredStore (capOf st) max c st id) st
+
+-- ---- contains: 41, 42, 33
+abbrev pub containsOn : Lent → Contains → Contains
+containsOn lent.Fine r = r
+containsOn lent.BadStore r = contains.BadStore
+containsOn lent.Malformed r = contains.Malformed
+
+unfoldable pub containsAnswer : SeenCache → List ℕ → List ℕ → Contains
+containsAnswer c st id =
+    containsOn (lentOf c st) (cond (ltb 129 (length id)) (contains.TooLong (length id)) (cond (heldIn (capOf st) c st id) contains.Yes contains.No))
+
+-- ---- clean-up: 41, 42
+abbrev pub whenFine : {A : Type 0} → Lent → A → A → A
+whenFine lent.Fine new old = new
+whenFine lent.BadStore new old = old
+whenFine lent.Malformed new old = old
+
+abbrev pub gcOn : Lent → ℕ → Gc
+gcOn lent.Fine n = gc.Left n
+gcOn lent.BadStore n = gc.BadStore
+gcOn lent.Malformed n = gc.Malformed
+
+unfoldable pub gcAnswer : ℕ → SeenCache → List ℕ → Gc
+gcAnswer at c st = gcOn (lentOf c st) (cleaned (capOf st) at c .count)
+
+unfoldable pub gcCache : ℕ → SeenCache → List ℕ → SeenCache
+gcCache at c st = whenFine (lentOf c st) (cleaned (capOf st) at c) c
+
+-- ---- the next expiry: 41, 42
+abbrev pub nextOn : Lent → NextExpiry → NextExpiry
+nextOn lent.Fine r = r
+nextOn lent.BadStore r = next.BadStore
+nextOn lent.Malformed r = next.Malformed
+
+unfoldable pub nextAnswer : SeenCache → List ℕ → NextExpiry
+nextAnswer c st = nextOn (lentOf c st) (cond (eqb (c .count) 0) next.None (next.At (getD (c .expiry) (placeOf (capOf st) (c .start) 0) 0)))

@@ -1,0 +1,391 @@
+// Recently seen message ids, from seen.rs: ids in a lent store, a row of 129 bytes each; their lengths and expiries by value. The rows are a ring,
+// so that an id that leaves moves no other, and a freed row is used again.
+ghost use mathlib.Core.Path.{_≡_};
+ghost use Prim.Native.Nat.{ℕ, _+_, _*_, _≤_, _<_};
+ghost use lib.ListN.{length, drop};
+ghost use lib.Seq.{sets};
+ghost use Rattle.rows.specs.Rows.{placeOf};
+ghost use Rattle.rows.specs.Ids.{among, distinct};
+ghost use Rattle.seen.specs.Entries.{until};
+ghost use Rattle.seen.specs.State.{Ring, Sound, lensIn, expiriesIn, idsIn, shortAll, spent, fresh, dropped, appended};
+ghost use Rattle.seen.specs.Calls.{capOf, lentOf, heldIn, cleaned, entered, enteredStore, insertAnswer, insertCache, insertStore, containsAnswer, gcAnswer, gcCache, nextAnswer};
+use rows::minus;
+use rows::place;
+use rows::same;
+
+pub const ID_SIZE: usize = 129;
+
+pub const MAX_IDS: usize = 256;
+
+pub struct SeenCache {
+    pub start: usize,
+    pub count: usize,
+    pub expiry: [u64; 256],
+    pub len: [u8; 256],
+}
+
+// Whether the lent state is one: 41 for a store that is no whole rows or has more than 256, 42 for a cache that is not well formed.
+pub enum Lent {
+    Fine,
+    BadStore,
+    Malformed,
+}
+
+pub enum Insert {
+    Fresh,
+    Held,
+    BadSetting,
+    BadStore,
+    Malformed,
+    TooLong(usize),
+}
+
+pub struct Inserted {
+    pub answer: Insert,
+    pub cache: SeenCache,
+}
+
+pub enum Contains {
+    Yes,
+    No,
+    BadStore,
+    Malformed,
+    TooLong(usize),
+}
+
+// How many are left.
+pub enum Gc {
+    Left(usize),
+    BadStore,
+    Malformed,
+}
+
+pub struct Cleaned {
+    pub answer: Gc,
+    pub cache: SeenCache,
+}
+
+pub enum NextExpiry {
+    None,
+    At(u64),
+    BadStore,
+    Malformed,
+}
+
+// now + ttl, stopping at the largest.
+fn expiry_of(at: u64, ttl: u64) -> u64
+    ensures { λ r. ⌜ r ≡ until at ttl ⌝ }
+{
+    if ttl <= u64::MAX - at {
+        return at + ttl;
+    }
+    u64::MAX
+}
+
+// Whether the ids in use have at most 129 bytes.
+fn lens_fit(lens: &[u8], cap: usize, start: usize, count: usize) -> bool
+    requires { ⌜ Ring cap start count (now lens) ⌝ }
+    ensures { λ r. ⌜ r ≡ shortAll (lensIn cap start count (now (lens .entry))) ⌝ }
+{
+    let mut i = 0;
+    while i < count {
+        let p = place(cap, start, i);
+        if 129 < lens[p] {
+            return false;
+        }
+        i += 1;
+    }
+    true
+}
+
+// Whether an id stands in a row from the i-th on.
+fn held_from(
+    lens: &[u8],
+    store: &[u8],
+    cap: usize,
+    start: usize,
+    count: usize,
+    from: usize,
+    id: &[u8],
+) -> bool
+    requires { ⌜ Sound cap start count (now lens) (now store) ⌝ }
+    requires { ⌜ from ≤ count ⌝ }
+    ensures { λ r. ⌜ r ≡ among (now (id .entry)) (drop from (idsIn cap start count (now (lens .entry)) (now (store .entry)))) ⌝ }
+{
+    let mut i = from;
+    while i < count {
+        let p = place(cap, start, i);
+        let base = p * 129;
+        let end = base + lens[p] as usize;
+        if same(&store[base..end], id) {
+            return true;
+        }
+        i += 1;
+    }
+    false
+}
+
+// Whether no id stands in two rows.
+fn ids_differ(lens: &[u8], store: &[u8], cap: usize, start: usize, count: usize) -> bool
+    requires { ⌜ Sound cap start count (now lens) (now store) ⌝ }
+    ensures { λ r. ⌜ r ≡ distinct (idsIn cap start count (now (lens .entry)) (now (store .entry))) ⌝ }
+{
+    let mut i = 0;
+    while i < count {
+        let p = place(cap, start, i);
+        let base = p * 129;
+        let end = base + lens[p] as usize;
+        let next = i + 1;
+        if held_from(lens, store, cap, start, count, next, &store[base..end]) {
+            return false;
+        }
+        i = next;
+    }
+    true
+}
+
+// How many of the oldest have expired: those in front of the first that has not.
+fn expired(expiry: &[u64], cap: usize, start: usize, count: usize, at: u64) -> usize
+    requires { ⌜ Ring cap start count (now expiry) ⌝ }
+    ensures { λ r. ⌜ r ≡ spent at (expiriesIn cap start count (now (expiry .entry))) ⌝ }
+{
+    let mut i = 0;
+    while i < count {
+        let p = place(cap, start, i);
+        if at < expiry[p] {
+            return i;
+        }
+        i += 1;
+    }
+    i
+}
+
+// Writes an id into the store from `at` on.
+fn write_id(store: &mut [u8], at: usize, id: &[u8])
+    requires { ⌜ at + length (now id) ≤ length (now store) ⌝ }
+    ensures { λ _. ⌜ now (store .exit) ≡ sets (now (store .entry)) at (now (id .entry)) ⌝ }
+{
+    bytes::copy(id, &mut store[at..]);
+}
+
+impl SeenCache {
+    // A cache that holds nothing.
+    pub fn new() -> Self
+        ensures { λ r. ⌜ r ≡ fresh ⌝ }
+    {
+        SeenCache {
+            start: 0,
+            count: 0,
+            expiry: [0; 256],
+            len: [0; 256],
+        }
+    }
+
+    // Whether a store and the cache can be used together.
+    pub fn lent(self, store: &[u8]) -> Lent
+        ensures { λ r. ⌜ r ≡ lentOf self (now (store .entry)) ⌝ }
+    {
+        let cap = store.len() / ID_SIZE;
+        if store.len() % ID_SIZE != 0 {
+            return Lent::BadStore;
+        }
+        if MAX_IDS < cap {
+            return Lent::BadStore;
+        }
+        let start = self.start;
+        let count = self.count;
+        if cap < start {
+            return Lent::Malformed;
+        }
+        if cap < count {
+            return Lent::Malformed;
+        }
+        let lens = self.len;
+        if lens_fit(&lens, cap, start, count) {
+            if ids_differ(&lens, store, cap, start, count) {
+                return Lent::Fine;
+            }
+        }
+        Lent::Malformed
+    }
+
+    // Without the k oldest.
+    fn without(mut self, cap: usize, k: usize) -> Self
+        requires { ⌜ k ≤ self .count ⌝ }
+        ensures { λ r. ⌜ r ≡ dropped cap k self ⌝ }
+    {
+        let start = place(cap, self.start, k);
+        self.start = start;
+        self.count = self.count - k;
+        self
+    }
+
+    // With a row more, the newest.
+    fn append(mut self, store: &mut [u8], cap: usize, id: &[u8], expires: u64) -> Self
+        requires { ⌜ Sound cap (self .start) (self .count) (self .len) (now store) ⌝ }
+        requires { ⌜ self .count < cap ⌝ }
+        requires { ⌜ length (now id) ≤ 129 ⌝ }
+        ensures { λ r. ⌜ r ≡ appended cap (length (now (id .entry))) expires self ⌝ }
+        ensures { λ _. ⌜ now (store .exit) ≡ sets (now (store .entry)) (placeOf cap (self .start) (self .count) * 129) (now (id .entry)) ⌝ }
+    {
+        let count = self.count;
+        let p = place(cap, self.start, count);
+        write_id(store, p * 129, id);
+        self.expiry[p] = expires;
+        self.len[p] = id.len() as u8;
+        self.count = count + 1;
+        self
+    }
+
+    // Whether an id is held, where the state was tested.
+    pub fn holds(self, store: &[u8], cap: usize, id: &[u8]) -> bool
+        requires { ⌜ Sound cap (self .start) (self .count) (self .len) (now store) ⌝ }
+        ensures { λ r. ⌜ r ≡ heldIn cap self (now (store .entry)) (now (id .entry)) ⌝ }
+    {
+        let lens = self.len;
+        held_from(&lens, store, cap, self.start, self.count, 0, id)
+    }
+
+    // Without what has expired, where the state was tested.
+    pub fn clean(self, cap: usize, at: u64) -> Self
+        requires { ⌜ Ring cap (self .start) (self .count) (self .expiry) ⌝ }
+        ensures { λ r. ⌜ r ≡ cleaned cap at self ⌝ }
+    {
+        let expiry = self.expiry;
+        let k = expired(&expiry, cap, self.start, self.count, at);
+        self.without(cap, k)
+    }
+
+    // With an id that is not held, where the state was tested: the oldest leave until at most `max` remain.
+    pub fn enter(self, store: &mut [u8], cap: usize, id: &[u8], expires: u64, max: usize) -> Self
+        requires { ⌜ Sound cap (self .start) (self .count) (self .len) (now store) ⌝ }
+        requires { ⌜ max ≤ cap ⌝ }
+        requires { ⌜ length (now id) ≤ 129 ⌝ }
+        ensures { λ r. ⌜ r ≡ entered cap max (length (now (id .entry))) expires self ⌝ }
+        ensures { λ _. ⌜ now (store .exit) ≡ enteredStore cap max self (now (store .entry)) (now (id .entry)) ⌝ }
+    {
+        let count = self.count;
+        if max == 0 {
+            return self.without(cap, count);
+        }
+        let k = minus(count + 1, max);
+        let rest = self.without(cap, k);
+        rest.append(store, cap, id, expires)
+    }
+
+    // Records an id; the oldest leave until at most `max_entries` remain.
+    pub fn insert(
+        self,
+        store: &mut [u8],
+        id: &[u8],
+        at: u64,
+        ttl: u64,
+        max_entries: usize,
+    ) -> Inserted
+        ensures { λ r. ⌜ r .answer ≡ insertAnswer max_entries self (now (store .entry)) (now (id .entry)) ⌝ }
+        ensures { λ r. ⌜ r .cache ≡ insertCache max_entries at ttl self (now (store .entry)) (now (id .entry)) ⌝ }
+        ensures { λ _. ⌜ now (store .exit) ≡ insertStore max_entries self (now (store .entry)) (now (id .entry)) ⌝ }
+    {
+        let cap = store.len() / ID_SIZE;
+        if cap < max_entries {
+            return Inserted {
+                answer: Insert::BadSetting,
+                cache: self,
+            };
+        }
+        let lent = self.lent(store);
+        match lent {
+            Lent::BadStore => Inserted {
+                answer: Insert::BadStore,
+                cache: self,
+            },
+            Lent::Malformed => Inserted {
+                answer: Insert::Malformed,
+                cache: self,
+            },
+            Lent::Fine => {
+                if ID_SIZE < id.len() {
+                    return Inserted {
+                        answer: Insert::TooLong(id.len()),
+                        cache: self,
+                    };
+                }
+                if self.holds(store, cap, id) {
+                    return Inserted {
+                        answer: Insert::Held,
+                        cache: self,
+                    };
+                }
+                let expires = expiry_of(at, ttl);
+                let cache = self.enter(store, cap, id, expires, max_entries);
+                Inserted {
+                    answer: Insert::Fresh,
+                    cache,
+                }
+            }
+        }
+    }
+
+    // Whether an id is held.
+    pub fn contains(self, store: &[u8], id: &[u8]) -> Contains
+        ensures { λ r. ⌜ r ≡ containsAnswer self (now (store .entry)) (now (id .entry)) ⌝ }
+    {
+        let lent = self.lent(store);
+        match lent {
+            Lent::BadStore => Contains::BadStore,
+            Lent::Malformed => Contains::Malformed,
+            Lent::Fine => {
+                if ID_SIZE < id.len() {
+                    return Contains::TooLong(id.len());
+                }
+                if self.holds(store, store.len() / ID_SIZE, id) {
+                    return Contains::Yes;
+                }
+                Contains::No
+            }
+        }
+    }
+
+    // Drops from the front while the expiry is at most `at`.
+    pub fn gc(self, store: &[u8], at: u64) -> Cleaned
+        ensures { λ r. ⌜ r .answer ≡ gcAnswer at self (now (store .entry)) ⌝ }
+        ensures { λ r. ⌜ r .cache ≡ gcCache at self (now (store .entry)) ⌝ }
+    {
+        let lent = self.lent(store);
+        match lent {
+            Lent::BadStore => Cleaned {
+                answer: Gc::BadStore,
+                cache: self,
+            },
+            Lent::Malformed => Cleaned {
+                answer: Gc::Malformed,
+                cache: self,
+            },
+            Lent::Fine => {
+                let cache = self.clean(store.len() / ID_SIZE, at);
+                Cleaned {
+                    answer: Gc::Left(cache.count),
+                    cache,
+                }
+            }
+        }
+    }
+
+    // The expiry of the oldest.
+    pub fn next_expiry(self, store: &[u8]) -> NextExpiry
+        ensures { λ r. ⌜ r ≡ nextAnswer self (now (store .entry)) ⌝ }
+    {
+        let lent = self.lent(store);
+        match lent {
+            Lent::BadStore => NextExpiry::BadStore,
+            Lent::Malformed => NextExpiry::Malformed,
+            Lent::Fine => {
+                if self.count == 0 {
+                    return NextExpiry::None;
+                }
+                let p = place(store.len() / ID_SIZE, self.start, 0);
+                NextExpiry::At(self.expiry[p])
+            }
+        }
+    }
+}
