@@ -282,9 +282,9 @@ impl SeenCache {
         ttl: u64,
         max_entries: usize,
     ) -> Inserted
-        ensures { λ r. ⌜ r .answer ≡ insertAnswer max_entries self (now (store .entry)) (now (id .entry)) ⌝ }
-        ensures { λ r. ⌜ r .cache ≡ insertCache max_entries at ttl self (now (store .entry)) (now (id .entry)) ⌝ }
-        ensures { λ _. ⌜ now (store .exit) ≡ insertStore max_entries self (now (store .entry)) (now (id .entry)) ⌝ }
+        ensures { λ r. ⌜ r .answer ≡ insertAnswer «max_entries» self (now (store .entry)) (now (id .entry)) ⌝ }
+        ensures { λ r. ⌜ r .cache ≡ insertCache «max_entries» at ttl self (now (store .entry)) (now (id .entry)) ⌝ }
+        ensures { λ _. ⌜ now (store .exit) ≡ insertStore «max_entries» self (now (store .entry)) (now (id .entry)) ⌝ }
     {
         let cap = store.len() / ID_SIZE;
         if cap < max_entries {
