@@ -2,11 +2,11 @@
 ghost use mathlib.Core.Path.{_≡_};
 ghost use mathlib.Core.Bool.{cond, _&&_, _||_};
 ghost use mathlib.Core.List.{[], _∷_};
-ghost use Prim.Native.Nat.{_+_, _≤_, _<_};
+ghost use Prim.Native.Nat.{_+_, _-_, _≤_, _<_};
 ghost use lib.Dec.{eqb, ltb};
 ghost use lib.ListN.{length};
 ghost use Rattle.protobuf.specs.Walk.{isBytes};
-ghost use Rattle.ids.specs.Ids.{acceptOf, messageAt, idParts, answerId, leftId, idAnswer, idLeft, mark};
+ghost use Rattle.ids.specs.Ids.{acceptOf, messageAt, onFrom, idParts, answerId, leftId, idAnswer, idLeft, mark};
 use message::MAX_RECORDS;
 use protobuf::Checked;
 use protobuf::Field;
@@ -126,17 +126,24 @@ pub fn message_at(body: &[u8], index: usize) -> MessageAt
     MessageAt::Count(n)
 }
 
-// Where from and seqno stand in a message. A message without from is refused before its seqno is looked at.
-pub fn id_parts(part: &[u8]) -> MessageId
-    ensures { λ r. ⌜ r ≡ idParts (now (part .entry)) ⌝ }
+// How many bytes lie from a to e.
+pub fn span(a: usize, e: usize) -> usize
+    ensures { λ r. ⌜ r ≡ e - a ⌝ }
 {
-    let slots = slots_of(part, Kind::RawMessage);
-    let from = slots.first;
-    let seqno = slots.third;
+    if e < a {
+        return 0;
+    }
+    e - a
+}
+
+// The id of a message whose from and seqno are there. A message without from is refused before its seqno is looked at.
+pub fn id_of(from: Place, seqno: Place) -> MessageId
+    ensures { λ r. ⌜ r ≡ onFrom from seqno ⌝ }
+{
     let Place::Present { start: a, end: e } = from else {
         return MessageId::MissingFrom;
     };
-    let from_len = e - a;
+    let from_len = span(a, e);
     if from_len == 0 {
         return MessageId::InvalidFrom(from_len);
     }
@@ -146,7 +153,7 @@ pub fn id_parts(part: &[u8]) -> MessageId
     let Place::Present { start: b, end: f } = seqno else {
         return MessageId::InvalidSeqno;
     };
-    let seqno_len = f - b;
+    let seqno_len = span(b, f);
     if seqno_len == 0 {
         return MessageId::InvalidSeqno;
     }
@@ -159,6 +166,14 @@ pub fn id_parts(part: &[u8]) -> MessageId
         seqno_start: b,
         seqno_end: f,
     }
+}
+
+// Where from and seqno stand in a message.
+pub fn id_parts(part: &[u8]) -> MessageId
+    ensures { λ r. ⌜ r ≡ idParts (now (part .entry)) ⌝ }
+{
+    let slots = slots_of(part, Kind::RawMessage);
+    id_of(slots.first, slots.third)
 }
 
 // Writes some bytes and then the id of a message, from and seqno, at the front of out.
