@@ -1,5 +1,5 @@
 -- Ids are bytes, compared byte by byte.
-use Prim.Native.Nat.{ℕ}
+use Prim.Native.Nat.{ℕ, suc}
 use mathlib.Core.List.{List, [], _∷_}
 use mathlib.Core.Bool.{Bool, true, false, cond, not, _&&_, _||_}
 use lib.Dec.{eqb, ltb}
@@ -26,3 +26,8 @@ among i (j ∷ js) = sameBytes j i || among i js
 unfoldable pub distinct : List (List ℕ) → Bool
 distinct [] = true
 distinct (i ∷ is) = not (among i is) && distinct is
+
+-- which of some ids is this one first; their number where none is
+unfoldable pub indexOf : List ℕ → List (List ℕ) → ℕ
+indexOf i [] = 0
+indexOf i (j ∷ js) = cond (sameBytes j i) 0 (suc (indexOf i js))

@@ -2,6 +2,7 @@
 use Prim.Native.Nat.{ℕ, zero, suc, _+_, _-_}
 use mathlib.Core.List.{List, [], _∷_}
 use mathlib.Core.Bool.{cond}
+use lib.ListN.{length, drop}
 use lib.Dec.{ltb}
 
 -- f 0 to f (n - 1)
@@ -16,3 +17,7 @@ placeOf cap start i = cond (ltb i (cap - start)) (start + i) (i - (cap - start))
 -- what stands in the rows in use, the oldest first, where f says what stands in a place
 unfoldable pub ring : {A : Type 0} → (ℕ → A) → ℕ → ℕ → ℕ → List A
 ring f cap start count = tab (λ (i : ℕ). f (placeOf cap start i)) count
+
+-- the newest `max`: the oldest leave until at most `max` remain
+unfoldable pub newest : {A : Type 0} → ℕ → List A → List A
+newest max l = drop (length l - max) l

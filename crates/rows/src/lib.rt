@@ -1,9 +1,11 @@
 // Fixed rows in age order, for the caches: where a row stands in a ring of places, and comparing ids by their bytes. A lent store has `cap`
 // places of one size; `count` of them are in use, from `start` on and from the last place to the first, the oldest first.
 ghost use mathlib.Core.Path.{_≡_};
-ghost use Prim.Native.Nat.{_-_};
+ghost use Prim.Native.Nat.{_+_, _-_, _≤_};
+ghost use lib.ListN.{drop};
 ghost use Rattle.rows.specs.Rows.{placeOf};
-ghost use Rattle.rows.specs.Ids.{sameBytes, precedesBytes};
+ghost use Rattle.rows.specs.Ids.{sameBytes, precedesBytes, indexOf, distinct};
+ghost use Rattle.rows.specs.Store.{Ring, Sound, lensIn, idsIn, allUpTo};
 
 // a less b, and 0 where b is more.
 pub fn minus(a: usize, b: usize) -> usize
@@ -58,4 +60,75 @@ pub fn precedes(a: &[u8], b: &[u8]) -> bool
         i += 1;
     }
     i < b.len()
+}
+
+// Whether the lengths in use are at most `most`.
+pub fn all_within(lens: &[u8], cap: usize, start: usize, count: usize, most: u8) -> bool
+    requires { ⌜ Ring cap start count (now lens) ⌝ }
+    ensures { λ r. ⌜ r ≡ allUpTo most (lensIn cap start count (now (lens .entry))) ⌝ }
+{
+    let mut i = 0;
+    while i < count {
+        let p = place(cap, start, i);
+        if most < lens[p] {
+            return false;
+        }
+        i += 1;
+    }
+    true
+}
+
+// Which row from the `from`-th on holds an id first, counted from the oldest; `count` where none does.
+pub fn find_from(
+    lens: &[u8],
+    ids: &[u8],
+    size: usize,
+    cap: usize,
+    start: usize,
+    count: usize,
+    from: usize,
+    id: &[u8],
+) -> usize
+    requires { ⌜ Sound size cap start count (now lens) (now ids) ⌝ }
+    requires { ⌜ from ≤ count ⌝ }
+    ensures { λ r. ⌜ r ≡ from + indexOf (now (id .entry)) (drop from (idsIn size cap start count (now (lens .entry)) (now (ids .entry)))) ⌝ }
+{
+    let mut i = from;
+    while i < count {
+        let p = place(cap, start, i);
+        let base = p * size;
+        let end = base + lens[p] as usize;
+        if same(&ids[base..end], id) {
+            return i;
+        }
+        i += 1;
+    }
+    i
+}
+
+// Whether no id stands in two rows.
+pub fn ids_differ(
+    lens: &[u8],
+    ids: &[u8],
+    size: usize,
+    cap: usize,
+    start: usize,
+    count: usize,
+) -> bool
+    requires { ⌜ Sound size cap start count (now lens) (now ids) ⌝ }
+    ensures { λ r. ⌜ r ≡ distinct (idsIn size cap start count (now (lens .entry)) (now (ids .entry))) ⌝ }
+{
+    let mut i = 0;
+    while i < count {
+        let p = place(cap, start, i);
+        let base = p * size;
+        let end = base + lens[p] as usize;
+        let next = i + 1;
+        let again = find_from(lens, ids, size, cap, start, count, next, &ids[base..end]);
+        if again < count {
+            return false;
+        }
+        i = next;
+    }
+    true
 }
