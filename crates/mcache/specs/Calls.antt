@@ -1,0 +1,205 @@
+-- What each call on the message cache answers and leaves. Refusals come in the order of 01's table: 40 at the start; 41, 42; then for `put` 10, 1 to
+-- 7, 11, 20, 21 to 26, 28, 29, 30, and for `gossip_ids` 29. A refused call leaves the cache and the store as they were.
+use Prim.Native.Nat.{ℕ, _+_, _-_, _*_}
+use mathlib.Core.List.{List, [], _∷_, _++_}
+use mathlib.Core.Bool.{Bool, true, false, cond}
+use lib.ListN.{length, drop, replicate}
+use lib.Seq.{sets}
+use lib.Dec.{ltb, eqb}
+use Rattle.rows.specs.Rows.{placeOf}
+use Rattle.rows.specs.Ids.{indexOf}
+use Rattle.rows.specs.Store.{idsIn, lensIn}
+use Rattle.protobuf.specs.declared.Checked.{Checked}
+use Rattle.protobuf.specs.declared.Checked.the-variants as checked
+use Rattle.protobuf.specs.Refusal.{refusalNumber, refusalValues}
+use Rattle.protobuf.specs.Walk.{between}
+use Rattle.ids.specs.declared.MessageAt.{MessageAt}
+use Rattle.ids.specs.declared.MessageAt.the-variants as at
+use Rattle.ids.specs.Ids.{acceptOf, messageAt, idBytes}
+use Rattle.admission.specs.declared.Admission.{Admission}
+use Rattle.admission.specs.declared.Admission.the-variants as admission
+use Rattle.admission.specs.Admission.{unfitNumber, unfitValues, admissionOf}
+use Rattle.mcache.specs.declared.MessageCache.{MessageCache}
+use Rattle.mcache.specs.declared.Lent.{Lent}
+use Rattle.mcache.specs.declared.Lent.the-variants as lent
+use Rattle.mcache.specs.declared.Start.{Start}
+use Rattle.mcache.specs.declared.Start.the-variants as start
+use Rattle.mcache.specs.declared.Put.{Put}
+use Rattle.mcache.specs.declared.Put.the-variants as put
+use Rattle.mcache.specs.declared.Lookup.{Lookup}
+use Rattle.mcache.specs.declared.Lookup.the-variants as lookup
+use Rattle.mcache.specs.declared.Gossip.{Gossip}
+use Rattle.mcache.specs.declared.Gossip.the-variants as gossip
+use Rattle.mcache.specs.State.{messageIn, legal, wellFormed, fresh, dropped, appended, passed, aged, stale, gathered}
+
+-- ---- 01's numbers and values
+abbrev pub lentNumber : Lent → ℕ
+lentNumber lent.Fine = 0
+lentNumber lent.BadStore = 41
+lentNumber lent.Malformed = 42
+
+abbrev pub startNumber : Start → ℕ
+startNumber start.Started = 0
+startNumber start.BadSetting = 40
+
+abbrev pub putNumber : Put → ℕ
+putNumber put.Stored = 0
+putNumber put.Held = 0
+putNumber put.BadStore = 41
+putNumber put.Malformed = 42
+putNumber (put.Refused why) = refusalNumber why
+putNumber (put.NoMessage n) = 20
+putNumber (put.Unfit why) = unfitNumber why
+
+abbrev pub putValues : Put → List ℕ
+putValues put.Stored = []
+putValues put.Held = []
+putValues put.BadStore = []
+putValues put.Malformed = []
+putValues (put.Refused why) = refusalValues why
+putValues (put.NoMessage n) = n ∷ []
+putValues (put.Unfit why) = unfitValues why
+
+abbrev pub lookupNumber : Lookup → ℕ
+lookupNumber lookup.Found = 0
+lookupNumber lookup.Missing = 0
+lookupNumber lookup.BadStore = 41
+lookupNumber lookup.Malformed = 42
+
+abbrev pub gossipNumber : Gossip → ℕ
+gossipNumber gossip.Ids = 0
+gossipNumber gossip.BadStore = 41
+gossipNumber gossip.Malformed = 42
+gossipNumber (gossip.TopicTooLong n) = 29
+
+abbrev pub gossipValues : Gossip → List ℕ
+gossipValues gossip.Ids = []
+gossipValues gossip.BadStore = []
+gossipValues gossip.Malformed = []
+gossipValues (gossip.TopicTooLong n) = n ∷ []
+
+-- ---- start: 40
+unfoldable pub startAnswer : ℕ → ℕ → Start
+startAnswer history max = cond (legal history max) start.Started start.BadSetting
+
+-- where the settings are refused, a cache that keeps nothing
+unfoldable pub startCache : ℕ → ℕ → MessageCache
+startCache history max = cond (legal history max) (fresh history max) (fresh 1 0)
+
+-- ---- the lent state: 41, 42
+unfoldable pub lentOf : MessageCache → List ℕ → Lent
+lentOf c st = cond (eqb (length st) (c .«max_messages» * 4096)) (cond (wellFormed c st) lent.Fine lent.Malformed) lent.BadStore
+
+abbrev pub whenFine : {A : Type 0} → Lent → A → A → A
+whenFine lent.Fine new old = new
+whenFine lent.BadStore new old = old
+whenFine lent.Malformed new old = old
+
+-- ---- the calls on a state that was tested
+-- which row holds an id, counted from the oldest; the count of rows where none does
+unfoldable pub indexIn : MessageCache → List ℕ → ℕ
+indexIn c id = indexOf id (idsIn 128 (c .«max_messages») (c .start) (c .count) (c .«id_len») (c .ids))
+
+-- the oldest leaves where there is no room; then a message of n bytes more. With max_messages 0 none is kept.
+unfoldable pub entered : ℕ → List ℕ → MessageCache → MessageCache
+entered n id c = cond (eqb (c .«max_messages») 0) (passed c) (appended n id (dropped ((c .count + 1) - c .«max_messages») c))
+
+-- the bytes of the message are written where it is kept, and no others
+unfoldable pub enteredStore : MessageCache → List ℕ → List ℕ → List ℕ
+enteredStore c st m =
+    cond (eqb (c .«max_messages») 0) st
+    (let d = dropped ((c .count + 1) - c .«max_messages») c in sets st (placeOf (c .«max_messages») (d .start) (d .count) * 4096) m)
+
+unfoldable pub shifted : MessageCache → MessageCache
+shifted c = dropped (stale (c .«history_len») (lensIn (c .«max_messages») (c .start) (c .count) (c .window))) (aged c)
+
+unfoldable pub found : MessageCache → List ℕ → List ℕ → List ℕ
+found c st id = cond (ltb (indexIn c id) (c .count)) (messageIn (c .len) st (placeOf (c .«max_messages») (c .start) (indexIn c id))) []
+
+-- the places of the messages that are told of, in the order of their ids
+unfoldable pub gossipList : MessageCache → List ℕ → List ℕ → ℕ → List ℕ
+gossipList c st topic windows =
+    gathered (c .«max_messages») (c .start) (c .count) (c .window) (c .len) (c .«id_len») (c .ids) st windows topic
+
+-- and zeros after them
+unfoldable pub gossipArray : MessageCache → List ℕ → List ℕ → ℕ → List ℕ
+gossipArray c st topic windows = gossipList c st topic windows ++ drop (length (gossipList c st topic windows)) (replicate 64 0)
+
+-- ---- put
+-- what a put is to do: keep a message under an id; or nothing, and answer so
+pub data Plan : Type 0 where
+  no : Put → Plan
+  keep : List ℕ → List ℕ → Plan
+
+abbrev pub answered : Plan → Put
+answered (no r) = r
+answered (keep m id) = put.Stored
+
+abbrev pub keptIn : MessageCache → Plan → MessageCache
+keptIn c (no r) = c
+keptIn c (keep m id) = entered (length m) id c
+
+abbrev pub storedIn : MessageCache → List ℕ → Plan → List ℕ
+storedIn c st (no r) = st
+storedIn c st (keep m id) = enteredStore c st m
+
+-- a message p: 21 to 30 without 27; a held id changes nothing
+abbrev pub planFit : MessageCache → List ℕ → Admission → Plan
+planFit c p (admission.Unfit why) = no (put.Unfit why)
+planFit c p (admission.Fit a e b f) = cond (ltb (indexIn c (idBytes p a e b f)) (c .count)) (no put.Held) (keep p (idBytes p a e b f))
+
+-- 20
+abbrev pub planAt : MessageCache → List ℕ → MessageAt → Plan
+planAt c body (at.Count n) = no (put.NoMessage n)
+planAt c body (at.At a e) = planFit c (between body a e) (admissionOf (between body a e) true)
+
+-- 10, 1 to 7, 11
+abbrev pub planBody : MessageCache → List ℕ → ℕ → Checked → Plan
+planBody c body i (checked.Refused why) = no (put.Refused why)
+planBody c body i checked.Fine = planAt c body (messageAt body i)
+
+-- 41, 42
+abbrev pub planLent : Lent → Plan → Plan
+planLent lent.Fine r = r
+planLent lent.BadStore r = no put.BadStore
+planLent lent.Malformed r = no put.Malformed
+
+unfoldable pub planned : MessageCache → List ℕ → List ℕ → ℕ → Plan
+planned c st body i = planLent (lentOf c st) (planBody c body i (acceptOf body))
+
+-- ---- shift
+unfoldable pub shiftCache : MessageCache → List ℕ → MessageCache
+shiftCache c st = whenFine (lentOf c st) (shifted c) c
+
+-- ---- get, and why
+unfoldable pub getPart : MessageCache → List ℕ → List ℕ → List ℕ
+getPart c st id = whenFine (lentOf c st) (found c st id) []
+
+abbrev pub lookupOn : Lent → Lookup → Lookup
+lookupOn lent.Fine r = r
+lookupOn lent.BadStore r = lookup.BadStore
+lookupOn lent.Malformed r = lookup.Malformed
+
+unfoldable pub lookupAnswer : MessageCache → List ℕ → List ℕ → Lookup
+lookupAnswer c st id = lookupOn (lentOf c st) (cond (ltb (indexIn c id) (c .count)) lookup.Found lookup.Missing)
+
+-- ---- gossip_ids: 41, 42, 29
+abbrev pub gossipOn : Lent → Gossip → Gossip
+gossipOn lent.Fine r = r
+gossipOn lent.BadStore r = gossip.BadStore
+gossipOn lent.Malformed r = gossip.Malformed
+
+unfoldable pub gossipAnswer : MessageCache → List ℕ → List ℕ → Gossip
+gossipAnswer c st topic = gossipOn (lentOf c st) (cond (ltb 1024 (length topic)) (gossip.TopicTooLong (length topic)) gossip.Ids)
+
+abbrev pub whenTold : {A : Type 0} → Gossip → A → A → A
+whenTold gossip.Ids x y = x
+whenTold gossip.BadStore x y = y
+whenTold gossip.Malformed x y = y
+whenTold (gossip.TopicTooLong n) x y = y
+
+unfoldable pub gossipCount : MessageCache → List ℕ → List ℕ → ℕ → ℕ
+gossipCount c st topic windows = whenTold (gossipAnswer c st topic) (length (gossipList c st topic windows)) 0
+
+unfoldable pub gossipRows : MessageCache → List ℕ → List ℕ → ℕ → List ℕ
+gossipRows c st topic windows = whenTold (gossipAnswer c st topic) (gossipArray c st topic windows) (replicate 64 0)

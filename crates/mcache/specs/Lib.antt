@@ -1,0 +1,3 @@
+pub mod Messages
+pub mod State
+pub mod Calls

@@ -1,0 +1,741 @@
+// The heartbeat-windowed message cache, from mcache.rs: messages in a lent store, a place of 4,096 bytes each; their ids, lengths, windows and
+// arrival numbers by value. The places are a ring, so that a message that leaves moves no other, and a freed place is used again.
+ghost use mathlib.Core.Path.{_≡_};
+ghost use mathlib.Core.Bool.{true};
+ghost use mathlib.Core.List.{map, _∷_, _++_};
+ghost use Prim.Native.Nat.{ℕ, _+_, _-_, _*_, _≤_, _<_};
+ghost use lib.ListN.{length, drop, take, getD, replicate};
+ghost use lib.Seq.{sets};
+ghost use Rattle.rows.specs.Rows.{placeOf};
+ghost use Rattle.rows.specs.Store.{Ring, Sound, lensIn, idAt};
+ghost use Rattle.ids.specs.Ids.{idBytes};
+ghost use Rattle.admission.specs.Admission.{admissionOf};
+ghost use Rattle.mcache.specs.State.{messageIn, fallsFrom, runsTo, givesIn, rowsFit, stale, older, Rows, Kept, fresh, dropped, appended, Listed, told, spotOf, gathered};
+ghost use Rattle.mcache.specs.Calls.{startAnswer, startCache, lentOf, indexIn, entered, enteredStore, shifted, found, gossipList, gossipArray, planFit, planned, answered, keptIn, storedIn, shiftCache, getPart, lookupAnswer, gossipAnswer, gossipCount, gossipRows};
+use admission::Admission;
+use admission::MAX_TOPIC_SIZE;
+use admission::Unfit;
+use admission::admission;
+use admission::carries;
+use admission::gives_id;
+use ids::MessageAt;
+use ids::accept;
+use ids::message_at;
+use protobuf::Checked;
+use protobuf::WireError;
+use protobuf::put_bytes;
+use rows::all_within;
+use rows::find_from;
+use rows::ids_differ;
+use rows::minus;
+use rows::place;
+use rows::precedes;
+
+pub const MESSAGE_SIZE: usize = 4096;
+
+pub const MAX_HISTORY: usize = 16;
+
+pub const MAX_MESSAGES: usize = 64;
+
+pub struct MessageCache {
+    pub history_len: usize,
+    pub max_messages: usize,
+    pub next_generation: u64,
+    pub start: usize,
+    pub count: usize,
+    pub generation: [u64; 64],
+    pub window: [u8; 64],
+    pub len: [u16; 64],
+    pub id_len: [u8; 64],
+    pub ids: [u8; 8192],
+}
+
+// Whether the lent state is one: 41 for a store of the wrong length, 42 for a cache that is not well formed.
+pub enum Lent {
+    Fine,
+    BadStore,
+    Malformed,
+}
+
+pub enum Start {
+    Started,
+    BadSetting,
+}
+
+pub struct Started {
+    pub answer: Start,
+    pub cache: MessageCache,
+}
+
+pub enum Put {
+    Stored,
+    Held,
+    BadStore,
+    Malformed,
+    Refused(WireError),
+    NoMessage(usize),
+    Unfit(Unfit),
+}
+
+pub struct PutDone {
+    pub answer: Put,
+    pub cache: MessageCache,
+}
+
+pub struct Shifted {
+    pub answer: Lent,
+    pub cache: MessageCache,
+}
+
+pub enum Lookup {
+    Found,
+    Missing,
+    BadStore,
+    Malformed,
+}
+
+pub enum Gossip {
+    Ids,
+    BadStore,
+    Malformed,
+    TopicTooLong(usize),
+}
+
+// The places of the messages that are told of, in the order of their ids: the first `count` of rows.
+pub struct GossipIds {
+    pub answer: Gossip,
+    pub count: usize,
+    pub rows: [u8; 64],
+}
+
+// ---- the test of the lent state
+
+// Whether each window's age is at most the one before it, the first at most `most`.
+fn windows_fall(window: &[u8], cap: usize, start: usize, count: usize, most: usize) -> bool
+    requires { ⌜ Ring cap start count (now window) ⌝ }
+    ensures { λ r. ⌜ r ≡ fallsFrom most (lensIn cap start count (now (window .entry))) ⌝ }
+{
+    let mut last = most;
+    let mut i = 0;
+    while i < count {
+        let p = place(cap, start, i);
+        let w = window[p] as usize;
+        if last < w {
+            return false;
+        }
+        last = w;
+        i += 1;
+    }
+    true
+}
+
+// Whether the arrival numbers go up by one from old to new and on to the next: the age of a row among those that live is a wrapping difference.
+fn generations_run(generation: &[u64], cap: usize, start: usize, count: usize, next: u64) -> bool
+    requires { ⌜ Ring cap start count (now generation) ⌝ }
+    ensures { λ r. ⌜ r ≡ runsTo next (lensIn cap start count (now (generation .entry))) ⌝ }
+{
+    let mut i = 0;
+    while i < count {
+        let p = place(cap, start, i);
+        let age = std::num::wrapping_sub_u64(next, generation[p]);
+        if age != (count - i) as u64 {
+            return false;
+        }
+        i += 1;
+    }
+    true
+}
+
+// Whether each message fits its place, may be taken, and gives its stored id.
+fn messages_fit(
+    lens: &[u16],
+    id_lens: &[u8],
+    ids: &[u8],
+    store: &[u8],
+    cap: usize,
+    start: usize,
+    count: usize,
+) -> bool
+    requires { ⌜ Rows cap start count (now lens) (now id_lens) (now ids) (now store) ⌝ }
+    ensures { λ r. ⌜ r ≡ givesIn cap start count (now (lens .entry)) (now (id_lens .entry)) (now (ids .entry)) (now (store .entry)) ⌝ }
+{
+    let mut i = 0;
+    while i < count {
+        let p = place(cap, start, i);
+        let n = lens[p] as usize;
+        if MESSAGE_SIZE < n {
+            return false;
+        }
+        let base = p * 4096;
+        let end = base + n;
+        let id_base = p * 128;
+        let id_end = id_base + id_lens[p] as usize;
+        if !gives_id(&store[base..end], &ids[id_base..id_end]) {
+            return false;
+        }
+        i += 1;
+    }
+    true
+}
+
+// ---- shifting
+
+// A window's age, a window later.
+fn older_than(age: u8) -> u8
+    ensures { λ r. ⌜ r ≡ older age ⌝ }
+{
+    if age < 255 {
+        return age + 1;
+    }
+    age
+}
+
+fn age_windows(window: &mut [u8])
+    ensures { λ _. ⌜ now (window .exit) ≡ map older (now (window .entry)) ⌝ }
+{
+    let mut i = 0;
+    while i < window.len() {
+        let w = window[i];
+        window[i] = older_than(w);
+        i += 1;
+    }
+}
+
+// How many of the oldest leave when a window is opened: those in front of the first that stays.
+fn stale_rows(window: &[u8], cap: usize, start: usize, count: usize, history_len: usize) -> usize
+    requires { ⌜ Ring cap start count (now window) ⌝ }
+    ensures { λ r. ⌜ r ≡ stale history_len (lensIn cap start count (now (window .entry))) ⌝ }
+{
+    let mut i = 0;
+    while i < count {
+        let p = place(cap, start, i);
+        let w = window[p] as usize;
+        if w + 1 < history_len {
+            return i;
+        }
+        i += 1;
+    }
+    i
+}
+
+// ---- putting
+
+// Writes the id of a message, from and then seqno, at the front of out.
+pub fn form_id(part: &[u8], a: usize, e: usize, b: usize, f: usize, out: &mut [u8]) -> usize
+    requires { ⌜ (a ≤ e) × (e ≤ length (now part)) × (b ≤ f) × (f ≤ length (now part)) ⌝ }
+    requires { ⌜ length (idBytes (now part) a e b f) ≤ length (now out) ⌝ }
+    ensures { λ r. ⌜ r ≡ length (idBytes (now (part .entry)) a e b f) ⌝ }
+    ensures { λ _. ⌜ now (out .exit) ≡ sets (now (out .entry)) 0 (idBytes (now (part .entry)) a e b f) ⌝ }
+{
+    let i = put_bytes(out, 0, &part[a..e]);
+    put_bytes(out, i, &part[b..f])
+}
+
+// Writes bytes into a store from `at` on.
+fn write_at(store: &mut [u8], at: usize, bytes: &[u8])
+    requires { ⌜ at + length (now bytes) ≤ length (now store) ⌝ }
+    ensures { λ _. ⌜ now (store .exit) ≡ sets (now (store .entry)) at (now (bytes .entry)) ⌝ }
+{
+    bytes::copy(bytes, &mut store[at..]);
+}
+
+// ---- telling
+
+// Whether the message in place p is in the newest windows asked for and carries the topic.
+fn is_told(
+    window: &[u8],
+    lens: &[u16],
+    store: &[u8],
+    p: usize,
+    windows: usize,
+    topic: &[u8],
+) -> bool
+    requires { ⌜ (p < 64) × (length (now window) ≡ 64) × (length (now lens) ≡ 64) × (p * 4096 + getD (now lens) p 0 ≤ length (now store)) ⌝ }
+    ensures { λ r. ⌜ r ≡ told (now (window .entry)) (now (lens .entry)) (now (store .entry)) windows (now (topic .entry)) p ⌝ }
+{
+    let w = window[p] as usize;
+    if windows <= w {
+        return false;
+    }
+    let base = p * 4096;
+    let end = base + lens[p] as usize;
+    carries(&store[base..end], topic)
+}
+
+// Where the row p goes among the first n of `rows`: before the first whose id does not come before its own.
+fn spot(rows: &[u8], n: usize, id_lens: &[u8], ids: &[u8], p: usize) -> usize
+    requires { ⌜ n ≤ length (now rows) ⌝ }
+    requires { ⌜ Listed n (now rows) (now id_lens) (now ids) ⌝ }
+    requires { ⌜ (p < 64) × (getD (now id_lens) p 0 ≤ 128) ⌝ }
+    ensures { λ r. ⌜ r ≡ spotOf (idAt 128 (now (id_lens .entry)) (now (ids .entry))) p (take n (now (rows .entry))) ⌝ }
+{
+    let base = p * 128;
+    let end = base + id_lens[p] as usize;
+    let mut i = 0;
+    while i < n {
+        let q = rows[i] as usize;
+        let q_base = q * 128;
+        let q_end = q_base + id_lens[q] as usize;
+        if precedes(&ids[q_base..q_end], &ids[base..end]) {
+            i += 1;
+        } else {
+            return i;
+        }
+    }
+    i
+}
+
+// Puts p at `at` among the first n of `rows`, and moves the rest of them up by one.
+fn put_row(rows: &mut [u8], n: usize, at: usize, p: u8)
+    requires { ⌜ (at ≤ n) × (n < length (now rows)) ⌝ }
+    ensures { λ _. ⌜ now (rows .exit) ≡ take at (now (rows .entry)) ++ (p ∷ (take (n - at) (drop at (now (rows .entry))) ++ drop (n + 1) (now (rows .entry)))) ⌝ }
+{
+    let mut v = p;
+    let mut i = at;
+    while i <= n {
+        let old = rows[i];
+        rows[i] = v;
+        v = old;
+        i += 1;
+    }
+}
+
+// The places of the messages that are told of, in the order of their ids, at the front of `rows`; and how many there are.
+fn gather(
+    window: &[u8],
+    lens: &[u16],
+    id_lens: &[u8],
+    ids: &[u8],
+    store: &[u8],
+    cap: usize,
+    start: usize,
+    count: usize,
+    windows: usize,
+    topic: &[u8],
+    rows: &mut [u8],
+) -> usize
+    requires { ⌜ Rows cap start count (now lens) (now id_lens) (now ids) (now store) ⌝ }
+    requires { ⌜ (length (now window) ≡ 64) × (length (now rows) ≡ 64) × ((i : ℕ) → i < count → getD (now lens) (placeOf cap start i) 0 ≤ 4096) ⌝ }
+    ensures { λ r. ⌜ r ≡ length (gathered cap start count (now (window .entry)) (now (lens .entry)) (now (id_lens .entry)) (now (ids .entry)) (now (store .entry)) windows (now (topic .entry))) ⌝ }
+    ensures { λ r. ⌜ now (rows .exit) ≡ gathered cap start count (now (window .entry)) (now (lens .entry)) (now (id_lens .entry)) (now (ids .entry)) (now (store .entry)) windows (now (topic .entry)) ++ drop r (now (rows .entry)) ⌝ }
+{
+    let mut n = 0;
+    let mut i = 0;
+    while i < count {
+        let p = place(cap, start, i);
+        if is_told(window, lens, store, p, windows, topic) {
+            let at = spot(rows, n, id_lens, ids, p);
+            put_row(rows, n, at, p as u8);
+            n += 1;
+        }
+        i += 1;
+    }
+    n
+}
+
+impl MessageCache {
+    // An empty cache. Settings out of range are 40: history_len 0, where the Rust can panic, or above 16, or max_messages above 64.
+    pub fn new(history_len: usize, max_messages: usize) -> Started
+        ensures { λ r. ⌜ r .answer ≡ startAnswer «history_len» «max_messages» ⌝ }
+        ensures { λ r. ⌜ r .cache ≡ startCache «history_len» «max_messages» ⌝ }
+    {
+        if history_len == 0 {
+            return MessageCache::refused();
+        }
+        if MAX_HISTORY < history_len {
+            return MessageCache::refused();
+        }
+        if MAX_MESSAGES < max_messages {
+            return MessageCache::refused();
+        }
+        Started {
+            answer: Start::Started,
+            cache: MessageCache::empty(history_len, max_messages),
+        }
+    }
+
+    fn empty(history_len: usize, max_messages: usize) -> Self
+        ensures { λ r. ⌜ r ≡ fresh «history_len» «max_messages» ⌝ }
+    {
+        MessageCache {
+            history_len,
+            max_messages,
+            next_generation: 0,
+            start: 0,
+            count: 0,
+            generation: [0; 64],
+            window: [0; 64],
+            len: [0; 64],
+            id_len: [0; 64],
+            ids: [0; 8192],
+        }
+    }
+
+    // The answer to settings out of range, beside a cache that keeps nothing.
+    fn refused() -> Started
+        ensures { λ r. ⌜ r .answer ≡ Start.BadSetting ⌝ }
+        ensures { λ r. ⌜ r .cache ≡ fresh 1 0 ⌝ }
+    {
+        Started {
+            answer: Start::BadSetting,
+            cache: MessageCache::empty(1, 0),
+        }
+    }
+
+    // Whether the rows are well formed, where the settings, the counts and the store's length were tested.
+    fn rows_fit(self, store: &[u8]) -> bool
+        requires { ⌜ (self .«max_messages» ≤ 64) × (self .start ≤ self .«max_messages») × (self .count ≤ self .«max_messages») × (length (now store) ≡ self .«max_messages» * 4096) ⌝ }
+        requires { ⌜ 1 ≤ self .«history_len» ⌝ }
+        ensures { λ r. ⌜ r ≡ rowsFit self (now (store .entry)) ⌝ }
+    {
+        let cap = self.max_messages;
+        let start = self.start;
+        let count = self.count;
+        let window = self.window;
+        if !windows_fall(&window, cap, start, count, self.history_len - 1) {
+            return false;
+        }
+        let generation = self.generation;
+        if !generations_run(&generation, cap, start, count, self.next_generation) {
+            return false;
+        }
+        let id_lens = self.id_len;
+        if !all_within(&id_lens, cap, start, count, 128) {
+            return false;
+        }
+        let lens = self.len;
+        let ids = self.ids;
+        if !messages_fit(&lens, &id_lens, &ids, store, cap, start, count) {
+            return false;
+        }
+        ids_differ(&id_lens, &ids, 128, cap, start, count)
+    }
+
+    // Whether a store and the cache can be used together.
+    pub fn lent(self, store: &[u8]) -> Lent
+        ensures { λ r. ⌜ r ≡ lentOf self (now (store .entry)) ⌝ }
+    {
+        let max = self.max_messages;
+        if store.len() / MESSAGE_SIZE != max {
+            return Lent::BadStore;
+        }
+        if store.len() % MESSAGE_SIZE != 0 {
+            return Lent::BadStore;
+        }
+        let history_len = self.history_len;
+        if history_len == 0 {
+            return Lent::Malformed;
+        }
+        if MAX_HISTORY < history_len {
+            return Lent::Malformed;
+        }
+        if MAX_MESSAGES < max {
+            return Lent::Malformed;
+        }
+        if max < self.start {
+            return Lent::Malformed;
+        }
+        if max < self.count {
+            return Lent::Malformed;
+        }
+        if self.rows_fit(store) {
+            return Lent::Fine;
+        }
+        Lent::Malformed
+    }
+
+    // Without the k oldest.
+    fn without(mut self, k: usize) -> Self
+        requires { ⌜ k ≤ self .count ⌝ }
+        ensures { λ r. ⌜ r ≡ dropped k self ⌝ }
+    {
+        let start = place(self.max_messages, self.start, k);
+        self.start = start;
+        self.count = self.count - k;
+        self
+    }
+
+    // With a message more, the newest.
+    fn append(mut self, store: &mut [u8], part: &[u8], id: &[u8]) -> Self
+        requires { ⌜ Kept self (now store) ⌝ }
+        requires { ⌜ self .count < self .«max_messages» ⌝ }
+        requires { ⌜ (length (now part) ≤ 4096) × (length (now id) ≤ 128) ⌝ }
+        ensures { λ r. ⌜ r ≡ appended (length (now (part .entry))) (now (id .entry)) self ⌝ }
+        ensures { λ _. ⌜ now (store .exit) ≡ sets (now (store .entry)) (placeOf (self .«max_messages») (self .start) (self .count) * 4096) (now (part .entry)) ⌝ }
+    {
+        let count = self.count;
+        let p = place(self.max_messages, self.start, count);
+        write_at(store, p * 4096, part);
+        let mut ids = self.ids;
+        write_at(&mut ids, p * 128, id);
+        self.ids = ids;
+        self.id_len[p] = id.len() as u8;
+        self.len[p] = part.len() as u16;
+        self.window[p] = 0;
+        self.generation[p] = self.next_generation;
+        self.next_generation = std::num::wrapping_add_u64(self.next_generation, 1);
+        self.count = count + 1;
+        self
+    }
+
+    // With a message whose id is not held, where the state was tested: past max_messages the oldest goes.
+    pub fn enter(mut self, store: &mut [u8], part: &[u8], id: &[u8]) -> Self
+        requires { ⌜ Kept self (now store) ⌝ }
+        requires { ⌜ (length (now part) ≤ 4096) × (length (now id) ≤ 128) ⌝ }
+        ensures { λ r. ⌜ r ≡ entered (length (now (part .entry))) (now (id .entry)) self ⌝ }
+        ensures { λ _. ⌜ now (store .exit) ≡ enteredStore self (now (store .entry)) (now (part .entry)) ⌝ }
+    {
+        let max = self.max_messages;
+        if max == 0 {
+            self.next_generation = std::num::wrapping_add_u64(self.next_generation, 1);
+            return self;
+        }
+        let k = minus(self.count + 1, max);
+        let rest = self.without(k);
+        rest.append(store, part, id)
+    }
+
+    // Which row holds an id, counted from the oldest, where the state was tested; the count of rows where none does.
+    pub fn find(self, id: &[u8]) -> usize
+        requires { ⌜ Sound 128 (self .«max_messages») (self .start) (self .count) (self .«id_len») (self .ids) ⌝ }
+        ensures { λ r. ⌜ r ≡ indexIn self (now (id .entry)) ⌝ }
+    {
+        let id_lens = self.id_len;
+        let ids = self.ids;
+        find_from(
+            &id_lens,
+            &ids,
+            128,
+            self.max_messages,
+            self.start,
+            self.count,
+            0,
+            id,
+        )
+    }
+
+    // Puts the message in a part, where the state was tested.
+    fn put_part(self, store: &mut [u8], part: &[u8]) -> PutDone
+        requires { ⌜ Kept self (now store) ⌝ }
+        ensures { λ r. ⌜ r .answer ≡ answered (planFit self (now (part .entry)) (admissionOf (now (part .entry)) true)) ⌝ }
+        ensures { λ r. ⌜ r .cache ≡ keptIn self (planFit self (now (part .entry)) (admissionOf (now (part .entry)) true)) ⌝ }
+        ensures { λ _. ⌜ now (store .exit) ≡ storedIn self (now (store .entry)) (planFit self (now (part .entry)) (admissionOf (now (part .entry)) true)) ⌝ }
+    {
+        let a = admission(part, true);
+        match a {
+            Admission::Unfit(why) => PutDone {
+                answer: Put::Unfit(why),
+                cache: self,
+            },
+            Admission::Fit {
+                from_start,
+                from_end,
+                seqno_start,
+                seqno_end,
+            } => {
+                let mut id = [0u8; 128];
+                let n = form_id(part, from_start, from_end, seqno_start, seqno_end, &mut id);
+                if self.find(&id[..n]) < self.count {
+                    return PutDone {
+                        answer: Put::Held,
+                        cache: self,
+                    };
+                }
+                let cache = self.enter(store, part, &id[..n]);
+                PutDone {
+                    answer: Put::Stored,
+                    cache,
+                }
+            }
+        }
+    }
+
+    // Puts the message at an index of a body. A held id changes nothing.
+    pub fn put(self, store: &mut [u8], body: &[u8], index: usize) -> PutDone
+        ensures { λ r. ⌜ r .answer ≡ answered (planned self (now (store .entry)) (now (body .entry)) index) ⌝ }
+        ensures { λ r. ⌜ r .cache ≡ keptIn self (planned self (now (store .entry)) (now (body .entry)) index) ⌝ }
+        ensures { λ _. ⌜ now (store .exit) ≡ storedIn self (now (store .entry)) (planned self (now (store .entry)) (now (body .entry)) index) ⌝ }
+    {
+        let lent = self.lent(store);
+        match lent {
+            Lent::BadStore => PutDone {
+                answer: Put::BadStore,
+                cache: self,
+            },
+            Lent::Malformed => PutDone {
+                answer: Put::Malformed,
+                cache: self,
+            },
+            Lent::Fine => {
+                let c = accept(body);
+                match c {
+                    Checked::Refused(why) => PutDone {
+                        answer: Put::Refused(why),
+                        cache: self,
+                    },
+                    Checked::Fine => {
+                        let m = message_at(body, index);
+                        match m {
+                            MessageAt::Count(n) => PutDone {
+                                answer: Put::NoMessage(n),
+                                cache: self,
+                            },
+                            MessageAt::At { start, end } => self.put_part(store, &body[start..end]),
+                        }
+                    }
+                }
+            }
+        }
+    }
+
+    // A window later, where the state was tested.
+    pub fn later(mut self) -> Self
+        requires { ⌜ Ring (self .«max_messages») (self .start) (self .count) (self .window) ⌝ }
+        ensures { λ r. ⌜ r ≡ shifted self ⌝ }
+    {
+        let mut window = self.window;
+        let k = stale_rows(
+            &window,
+            self.max_messages,
+            self.start,
+            self.count,
+            self.history_len,
+        );
+        age_windows(&mut window);
+        self.window = window;
+        self.without(k)
+    }
+
+    // Opens a window; what is in windows beyond history_len goes.
+    pub fn shift(self, store: &[u8]) -> Shifted
+        ensures { λ r. ⌜ r .answer ≡ lentOf self (now (store .entry)) ⌝ }
+        ensures { λ r. ⌜ r .cache ≡ shiftCache self (now (store .entry)) ⌝ }
+    {
+        let lent = self.lent(store);
+        match lent {
+            Lent::BadStore => Shifted {
+                answer: Lent::BadStore,
+                cache: self,
+            },
+            Lent::Malformed => Shifted {
+                answer: Lent::Malformed,
+                cache: self,
+            },
+            Lent::Fine => {
+                let cache = self.later();
+                Shifted {
+                    answer: Lent::Fine,
+                    cache,
+                }
+            }
+        }
+    }
+
+    // The part of the store that holds the message with an id, where the state was tested; empty for none.
+    pub fn message_of<'s, 'i>(self, store: &'s [u8], id: &'i [u8]) -> &'s [u8]
+        requires { ⌜ Kept self (now store) ⌝ }
+        ensures { λ r. ⌜ now r ≡ found self (now (store .entry)) (now (id .entry)) ⌝ }
+    {
+        let i = self.find(id);
+        if i < self.count {
+            let p = place(self.max_messages, self.start, i);
+            let base = p * 4096;
+            let end = base + self.len[p] as usize;
+            return &store[base..end];
+        }
+        &store[..0]
+    }
+
+    // The part of the store that holds the message with an id; empty for none, 41 and 42.
+    pub fn get<'s, 'i>(self, store: &'s [u8], id: &'i [u8]) -> &'s [u8]
+        ensures { λ r. ⌜ now r ≡ getPart self (now (store .entry)) (now (id .entry)) ⌝ }
+    {
+        let lent = self.lent(store);
+        match lent {
+            Lent::BadStore => &store[..0],
+            Lent::Malformed => &store[..0],
+            Lent::Fine => self.message_of(store, id),
+        }
+    }
+
+    // Why `get` gave what it gave.
+    pub fn lookup(self, store: &[u8], id: &[u8]) -> Lookup
+        ensures { λ r. ⌜ r ≡ lookupAnswer self (now (store .entry)) (now (id .entry)) ⌝ }
+    {
+        let lent = self.lent(store);
+        match lent {
+            Lent::BadStore => Lookup::BadStore,
+            Lent::Malformed => Lookup::Malformed,
+            Lent::Fine => {
+                if self.find(id) < self.count {
+                    return Lookup::Found;
+                }
+                Lookup::Missing
+            }
+        }
+    }
+
+    // The messages of the newest windows asked for that carry the topic, where the state was tested.
+    pub fn tell(self, store: &[u8], topic: &[u8], windows: usize) -> GossipIds
+        requires { ⌜ Kept self (now store) ⌝ }
+        ensures { λ r. ⌜ r .answer ≡ Gossip.Ids ⌝ }
+        ensures { λ r. ⌜ r .count ≡ length (gossipList self (now (store .entry)) (now (topic .entry)) windows) ⌝ }
+        ensures { λ r. ⌜ r .rows ≡ gossipArray self (now (store .entry)) (now (topic .entry)) windows ⌝ }
+    {
+        let window = self.window;
+        let lens = self.len;
+        let id_lens = self.id_len;
+        let ids = self.ids;
+        let mut rows = [0u8; 64];
+        let count = gather(
+            &window,
+            &lens,
+            &id_lens,
+            &ids,
+            store,
+            self.max_messages,
+            self.start,
+            self.count,
+            windows,
+            topic,
+            &mut rows,
+        );
+        GossipIds {
+            answer: Gossip::Ids,
+            count,
+            rows,
+        }
+    }
+
+    // No ids.
+    fn untold(answer: Gossip) -> GossipIds
+        ensures { λ r. ⌜ r .answer ≡ answer ⌝ }
+        ensures { λ r. ⌜ r .count ≡ 0 ⌝ }
+        ensures { λ r. ⌜ r .rows ≡ replicate 64 0 ⌝ }
+    {
+        GossipIds {
+            answer,
+            count: 0,
+            rows: [0; 64],
+        }
+    }
+
+    // The distinct ids of the newest windows asked for that carry the topic, in byte order, a prefix first.
+    pub fn gossip_ids(self, store: &[u8], topic: &[u8], windows: usize) -> GossipIds
+        ensures { λ r. ⌜ r .answer ≡ gossipAnswer self (now (store .entry)) (now (topic .entry)) ⌝ }
+        ensures { λ r. ⌜ r .count ≡ gossipCount self (now (store .entry)) (now (topic .entry)) windows ⌝ }
+        ensures { λ r. ⌜ r .rows ≡ gossipRows self (now (store .entry)) (now (topic .entry)) windows ⌝ }
+    {
+        let lent = self.lent(store);
+        match lent {
+            Lent::BadStore => MessageCache::untold(Gossip::BadStore),
+            Lent::Malformed => MessageCache::untold(Gossip::Malformed),
+            Lent::Fine => {
+                if MAX_TOPIC_SIZE < topic.len() {
+                    return MessageCache::untold(Gossip::TopicTooLong(topic.len()));
+                }
+                self.tell(store, topic, windows)
+            }
+        }
+    }
+}
