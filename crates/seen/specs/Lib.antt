@@ -1,3 +1,6 @@
 pub mod Entries
 pub mod State
 pub mod Calls
+pub mod StateLaws
+pub mod WellFormed
+pub mod Laws

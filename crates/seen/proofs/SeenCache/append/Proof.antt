@@ -1,0 +1,62 @@
+use borrow.Author.Needs.{needs}
+use Rattle.seen.proofs.SeenCache.append.Statement.{statement}
+use Rattle.seen.proofs.SeenCache.append.Tie as tie
+use Rattle.seen.proofs.SeenCache.append.Reads as reads
+use Rattle.seen.proofs.SeenCache.append.Lts as lts
+use Rattle.rows.proofs.place.Reads as place-reads
+use Rattle.seen.proofs.write_id.Reads as write-id-reads
+
+-- src/lib.rt:232:13
+place-requires : tie.Need-place-requires
+place-requires c κs = search needs
+
+-- src/lib.rt:233:25
+mul-write-id : tie.Need-mul-write-id
+mul-write-id c = ?
+
+-- src/lib.rt:233:9
+write-id-requires : tie.Need-write-id-requires
+write-id-requires c κs = ?
+
+-- src/lib.rt:234:9
+mul-self : tie.Need-mul-self
+mul-self c = ?
+
+-- src/lib.rt:234:9
+element-write-self : tie.Need-element-write-self
+element-write-self c = ?
+
+-- src/lib.rt:235:23
+cast-self : tie.Need-cast-self
+cast-self c = search needs
+
+-- src/lib.rt:235:9
+element-write-self-2 : tie.Need-element-write-self-2
+element-write-self-2 c = ?
+
+-- src/lib.rt:236:22
+add-self : tie.Need-add-self
+add-self c = search needs
+
+-- src/lib.rt:224:5
+same-length : tie.Need-same-length
+same-length c = search needs
+
+-- src/lib.rt:224:5
+returns : tie.Need-returns
+returns c = ?
+
+pub append-spec : {M : Type 1} → statement M
+append-spec =
+    tie.close
+    (tie.spec
+    place-requires
+    mul-write-id
+    write-id-requires
+    mul-self
+    element-write-self
+    cast-self
+    element-write-self-2
+    add-self
+    same-length
+    returns)

@@ -1,0 +1,104 @@
+use borrow.Author.Needs.{needs}
+use Rattle.seen.proofs.SeenCache.insert.Statement.{statement}
+use Rattle.seen.proofs.SeenCache.insert.Tie as tie
+use Rattle.seen.proofs.SeenCache.insert.Reads as reads
+use Rattle.seen.proofs.SeenCache.insert.Lts as lts
+use Rattle.seen.proofs.SeenCache.enter.Reads as enter-reads
+use Rattle.seen.proofs.SeenCache.holds.Reads as holds-reads
+use Rattle.seen.proofs.SeenCache.lent.Reads as lent-reads
+use Rattle.seen.proofs.expiry_of.Reads as expiry-of-reads
+
+-- src/lib.rt:291:13
+returns : tie.Need-returns
+returns c = ?
+
+-- src/lib.rt:296:13
+lent-requires : tie.Need-lent-requires
+lent-requires c κs = search needs
+
+-- src/lib.rt:299:25
+enum-told : tie.Need-enum-told
+enum-told c = search needs
+
+-- src/lib.rt:303:25
+enum-told-2 : tie.Need-enum-told-2
+enum-told-2 c = search needs
+
+-- src/lib.rt:307:30
+enum-told-3 : tie.Need-enum-told-3
+enum-told-3 c = search needs
+
+-- src/lib.rt:308:21
+same-length : tie.Need-same-length
+same-length c = search needs
+
+-- src/lib.rt:308:21
+returns-2 : tie.Need-returns-2
+returns-2 c = ?
+
+-- src/lib.rt:313:20
+holds-requires : tie.Need-holds-requires
+holds-requires c κs = ?
+
+-- src/lib.rt:314:21
+same-length-2 : tie.Need-same-length-2
+same-length-2 c = search needs
+
+-- src/lib.rt:314:21
+returns-3 : tie.Need-returns-3
+returns-3 c = ?
+
+-- src/lib.rt:319:21
+expiry-of-requires : tie.Need-expiry-of-requires
+expiry-of-requires c κs = search needs
+
+-- src/lib.rt:320:21
+enter-requires : tie.Need-enter-requires
+enter-requires c κs = ?
+
+-- src/lib.rt:277:5
+same-length-3 : tie.Need-same-length-3
+same-length-3 c = search needs
+
+-- src/lib.rt:277:5
+returns-4 : tie.Need-returns-4
+returns-4 c = ?
+
+-- src/lib.rt:277:5
+same-length-4 : tie.Need-same-length-4
+same-length-4 c = search needs
+
+-- src/lib.rt:277:5
+returns-5 : tie.Need-returns-5
+returns-5 c = ?
+
+-- src/lib.rt:277:5
+same-length-5 : tie.Need-same-length-5
+same-length-5 c = search needs
+
+-- src/lib.rt:277:5
+returns-6 : tie.Need-returns-6
+returns-6 c = ?
+
+pub insert-spec : {M : Type 1} → statement M
+insert-spec =
+    tie.close
+    (tie.spec
+    returns
+    lent-requires
+    enum-told
+    enum-told-2
+    enum-told-3
+    same-length
+    returns-2
+    holds-requires
+    same-length-2
+    returns-3
+    expiry-of-requires
+    enter-requires
+    same-length-3
+    returns-4
+    same-length-4
+    returns-5
+    same-length-5
+    returns-6)

@@ -1,0 +1,67 @@
+use borrow.Author.Needs.{needs}
+use Rattle.seen.proofs.SeenCache.lent.Statement.{statement}
+use Rattle.seen.proofs.SeenCache.lent.Tie as tie
+use Rattle.seen.proofs.SeenCache.lent.Reads as reads
+use Rattle.seen.proofs.SeenCache.lent.Lts as lts
+use Rattle.seen.proofs.ids_differ.Reads as ids-differ-reads
+use Rattle.seen.proofs.lens_fit.Reads as lens-fit-reads
+
+-- src/lib.rt:190:13
+returns : tie.Need-returns
+returns c = ?
+
+-- src/lib.rt:193:13
+returns-2 : tie.Need-returns-2
+returns-2 c = ?
+
+-- src/lib.rt:198:13
+returns-3 : tie.Need-returns-3
+returns-3 c = ?
+
+-- src/lib.rt:201:13
+returns-4 : tie.Need-returns-4
+returns-4 c = ?
+
+-- src/lib.rt:204:21
+slice-aggregate-lens-fit : tie.Need-slice-aggregate-lens-fit
+slice-aggregate-lens-fit c = search needs
+
+-- src/lib.rt:204:12
+lens-fit-requires : tie.Need-lens-fit-requires
+lens-fit-requires c κs = search needs
+
+-- src/lib.rt:205:27
+slice-aggregate-ids-differ : tie.Need-slice-aggregate-ids-differ
+slice-aggregate-ids-differ c = search needs
+
+-- src/lib.rt:205:16
+ids-differ-requires : tie.Need-ids-differ-requires
+ids-differ-requires c κs = ?
+
+-- src/lib.rt:206:17
+returns-5 : tie.Need-returns-5
+returns-5 c = ?
+
+-- src/lib.rt:185:5
+returns-6 : tie.Need-returns-6
+returns-6 c = ?
+
+-- src/lib.rt:185:5
+returns-7 : tie.Need-returns-7
+returns-7 c = ?
+
+pub lent-spec : {M : Type 1} → statement M
+lent-spec =
+    tie.close
+    (tie.spec
+    returns
+    returns-2
+    returns-3
+    returns-4
+    slice-aggregate-lens-fit
+    lens-fit-requires
+    slice-aggregate-ids-differ
+    ids-differ-requires
+    returns-5
+    returns-6
+    returns-7)

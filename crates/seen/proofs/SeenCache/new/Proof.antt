@@ -1,0 +1,11 @@
+use Rattle.seen.proofs.SeenCache.new.Statement.{statement}
+use Rattle.seen.proofs.SeenCache.new.Tie as tie
+use Rattle.seen.proofs.SeenCache.new.Reads as reads
+use Rattle.seen.proofs.SeenCache.new.Lts as lts
+
+-- src/lib.rt:173:5
+returns : tie.Need-returns
+returns c = ?
+
+pub new-spec : {M : Type 1} → statement M
+new-spec = tie.close (tie.spec returns)
