@@ -1,3 +1,6 @@
+use denote.Ref.{now}
+use Rattle.seen.proofs.Steps.{sets-part}
+-- pf
 use borrow.Author.Needs.{needs}
 use Rattle.seen.proofs.write_id.Statement.{statement}
 use Rattle.seen.proofs.write_id.Tie as tie
@@ -27,7 +30,7 @@ same-length c = search needs
 
 -- src/lib.rt:164:1
 returns : tie.Need-returns
-returns c = ?
+returns c = sets-part (now (c .before .before .before .before .before .before .args .store)) (now (c .before .before .before .before .before .before .args .id)) _ (c .before .before .before .before .before .before .args .at) (c .before .before .before .before .before .before .pre) (c .before .before .copy .ensures .1)
 
 pub write-id-spec : {M : Type 1} → statement M
 write-id-spec =

@@ -1,3 +1,7 @@
+use native.Mathlib.Omega.{arith}
+use Rattle.seen.specs.State.{appended}
+use Rattle.seen.specs.StateLaws.{place-in}
+-- pf
 use borrow.Author.Needs.{needs}
 use Rattle.seen.proofs.SeenCache.append.Statement.{statement}
 use Rattle.seen.proofs.SeenCache.append.Tie as tie
@@ -12,19 +16,19 @@ place-requires c κs = search needs
 
 -- src/lib.rt:233:25
 mul-write-id : tie.Need-mul-write-id
-mul-write-id c = ?
+mul-write-id c = let r = place-in ((c .before .before .before .before .pre .0 .rows)) (c .before .before .before .before .args .t1 .count) (c .before .place .result) (c .before .before .before .before .pre .1 .0) (c .before .place .ensures) in omega arith
 
 -- src/lib.rt:233:9
 write-id-requires : tie.Need-write-id-requires
-write-id-requires c κs = ?
+write-id-requires c κs = let r = place-in ((c .before .before .before .before .pre .0 .rows)) (c .before .before .before .before .args .t1 .count) (c .before .place .result) (c .before .before .before .before .pre .1 .0) (c .before .place .ensures) in omega (arith, (c .before .before .before .before .pre))
 
 -- src/lib.rt:234:9
 mul-self : tie.Need-mul-self
-mul-self c = ?
+mul-self c = let r = place-in ((c .before .before .before .before .before .before .before .pre .0 .rows)) (c .before .before .before .before .before .before .before .args .t1 .count) (c .before .before .before .before .place .result) (c .before .before .before .before .before .before .before .pre .1 .0) (c .before .before .before .before .place .ensures) in omega arith
 
 -- src/lib.rt:234:9
 element-write-self : tie.Need-element-write-self
-element-write-self c = ?
+element-write-self c = let r = place-in ((c .before .before .before .before .before .before .before .pre .0 .rows)) (c .before .before .before .before .before .before .before .args .t1 .count) (c .before .before .before .before .place .result) (c .before .before .before .before .before .before .before .pre .1 .0) (c .before .before .before .before .place .ensures) in omega (arith, (c .before .before .before .before .before .before .before .pre))
 
 -- src/lib.rt:235:23
 cast-self : tie.Need-cast-self
@@ -32,7 +36,7 @@ cast-self c = search needs
 
 -- src/lib.rt:235:9
 element-write-self-2 : tie.Need-element-write-self-2
-element-write-self-2 c = ?
+element-write-self-2 c = let r = place-in ((c .before .before .before .before .before .before .before .pre .0 .rows)) (c .before .before .before .before .before .before .before .args .t1 .count) (c .before .before .before .before .place .result) (c .before .before .before .before .before .before .before .pre .1 .0) (c .before .before .before .before .place .ensures) in omega (arith, (c .before .before .before .before .before .before .before .pre))
 
 -- src/lib.rt:236:22
 add-self : tie.Need-add-self
@@ -44,7 +48,8 @@ same-length c = search needs
 
 -- src/lib.rt:224:5
 returns : tie.Need-returns
-returns c = ?
+unfolding appended
+returns c = (cc ((c .before .before .before .before .place .ensures)), cc ((c .before .before .before .before .place .ensures), (c .before .before .write-id .ensures)))
 
 pub append-spec : {M : Type 1} → statement M
 append-spec =

@@ -1,3 +1,8 @@
+use denote.Ref.{now}
+use lib.ListN.{length}
+use native.Mathlib.Omega.{arith}
+use Rattle.seen.proofs.Steps.{entered-none, entered-some, enter-room}
+-- pf
 use borrow.Author.Needs.{needs}
 use Rattle.seen.proofs.SeenCache.enter.Statement.{statement}
 use Rattle.seen.proofs.SeenCache.enter.Tie as tie
@@ -13,7 +18,7 @@ without-requires c κs = search needs
 
 -- src/lib.rt:269:13
 returns : tie.Need-returns
-returns c = ?
+returns c = entered-none (c .before .before .before .before .args .cap) (c .before .before .before .before .args .max) (c .before .before .before .before .args .self) (now (c .before .before .before .before .args .store)) (now (c .before .before .before .before .args .id)) (length (now (c .before .before .before .before .args .id))) (c .before .before .before .before .args .expires) _ (c .before .if1 .taken) (c .without .ensures)
 
 -- src/lib.rt:271:23
 add-minus : tie.Need-add-minus
@@ -29,7 +34,7 @@ without-requires-2 c κs = search needs
 
 -- src/lib.rt:273:9
 append-requires : tie.Need-append-requires
-append-requires c κs = ?
+append-requires c κs = let r = enter-room (c .before .before .before .before .before .before .args .cap) (c .before .before .before .before .before .before .args .max) (c .before .before .before .before .before .before .args .self) (now (c .before .before .before .before .before .before .args .store)) (now (c .before .before .before .before .before .before .args .id)) (c .before .before .minus .result) (c .before .without2 .result) (c .before .before .before .if1 .left) (c .before .before .minus .ensures) (c .before .without2 .ensures) (c .before .before .before .before .before .before .pre .0) (omega arith) in (r .0, (r .1, omega arith))
 
 -- src/lib.rt:260:5
 same-length : tie.Need-same-length
@@ -37,7 +42,7 @@ same-length c = search needs
 
 -- src/lib.rt:260:5
 returns-2 : tie.Need-returns-2
-returns-2 c = ?
+returns-2 c = entered-some (c .before .before .before .before .before .before .before .before .before .args .cap) (c .before .before .before .before .before .before .before .before .before .args .max) (c .before .before .before .before .before .before .before .before .before .args .self) (now (c .before .before .before .before .before .before .before .before .before .args .store)) (now (c .before .before .before .before .before .before .before .before .before .args .id)) (c .before .before .before .before .before .minus .result) (c .before .before .before .before .without2 .result) (c .before .before .before .before .before .before .if1 .left) (c .before .before .before .before .before .minus .ensures) (c .before .before .before .before .without2 .ensures) (length (now (c .before .before .before .before .before .before .before .before .before .args .id))) (c .before .before .before .before .before .before .before .before .before .args .expires) _ _ (c .before .before .append .ensures .0) (c .before .before .append .ensures .1)
 
 pub enter-spec : {M : Type 1} → statement M
 enter-spec =

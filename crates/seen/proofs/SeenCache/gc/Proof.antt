@@ -1,3 +1,8 @@
+use denote.Ref.{now}
+use mathlib.Core.Path.{_≡_, refl, sym, _∙_}
+use lib.ListN.{length}
+use Rattle.seen.proofs.Answers.{tested-ring, gc-store, gc-malformed, gc-left}
+-- pf
 use borrow.Author.Needs.{needs}
 use Rattle.seen.proofs.SeenCache.gc.Statement.{statement}
 use Rattle.seen.proofs.SeenCache.gc.Tie as tie
@@ -24,19 +29,19 @@ enum-told-3 c = search needs
 
 -- src/lib.rt:365:21
 clean-requires : tie.Need-clean-requires
-clean-requires c κs = ?
+clean-requires c κs = tested-ring (c .before .before .before .before .args .self) (now (c .before .before .before .before .args .store)) (sym (c .enum-told3 .given .1) ∙ (c .before .before .lent .ensures)) (search needs) (search needs)
 
 -- src/lib.rt:350:5
 returns : tie.Need-returns
-returns c = ?
+returns c = gc-store (c .before .before .before .before .args .at) (c .before .before .before .before .args .self) (now (c .before .before .before .before .args .store)) (sym (c .enum-told .given .1) ∙ (c .before .before .lent .ensures))
 
 -- src/lib.rt:350:5
 returns-2 : tie.Need-returns-2
-returns-2 c = ?
+returns-2 c = gc-malformed (c .before .before .before .before .args .at) (c .before .before .before .before .args .self) (now (c .before .before .before .before .args .store)) (sym (c .enum-told2 .given .1) ∙ (c .before .before .lent .ensures))
 
 -- src/lib.rt:350:5
 returns-3 : tie.Need-returns-3
-returns-3 c = ?
+returns-3 c = gc-left (c .before .before .before .before .before .args .at) (c .before .before .before .before .before .args .self) (now (c .before .before .before .before .before .args .store)) (sym (c .before .enum-told3 .given .1) ∙ (c .before .before .before .lent .ensures)) _ (c .clean .ensures)
 
 pub gc-spec : {M : Type 1} → statement M
 gc-spec =

@@ -1,3 +1,5 @@
+use Rattle.seen.specs.Calls.{heldIn}
+-- pf
 use borrow.Author.Needs.{needs}
 use Rattle.seen.proofs.SeenCache.holds.Statement.{statement}
 use Rattle.seen.proofs.SeenCache.holds.Tie as tie
@@ -15,7 +17,8 @@ held-from-requires c κs = search needs
 
 -- src/lib.rt:241:5
 returns : tie.Need-returns
-returns c = ?
+unfolding heldIn
+returns c = (c .held-from .ensures)
 
 pub holds-spec : {M : Type 1} → statement M
 holds-spec = tie.close (tie.spec slice-aggregate-held-from held-from-requires returns)

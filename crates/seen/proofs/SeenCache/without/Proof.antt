@@ -1,3 +1,5 @@
+use Rattle.seen.specs.State.{dropped}
+-- pf
 use borrow.Author.Needs.{needs}
 use Rattle.seen.proofs.SeenCache.without.Statement.{statement}
 use Rattle.seen.proofs.SeenCache.without.Tie as tie
@@ -15,7 +17,8 @@ sub-self c = search needs
 
 -- src/lib.rt:213:5
 returns : tie.Need-returns
-returns c = ?
+unfolding dropped
+returns c = cc ((c .before .place .ensures))
 
 pub without-spec : {M : Type 1} → statement M
 without-spec = tie.close (tie.spec place-requires sub-self returns)
