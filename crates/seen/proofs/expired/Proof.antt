@@ -6,7 +6,6 @@ use native.Mathlib.Omega.{arith}
 use Rattle.seen.specs.State.{spent, expiriesIn}
 use Rattle.seen.specs.StateLaws.{place-in, spent-more, spent-stop, spent-end}
 use borrow.Author.Needs.{needs}
--- pf
 use Rattle.seen.proofs.expired.Statement.{statement}
 use Rattle.seen.proofs.expired.Tie as tie
 use Rattle.seen.proofs.expired.Reads as reads

@@ -1,6 +1,5 @@
 use native.Mathlib.Omega.{arith}
 use Rattle.seen.specs.Entries.{until}
--- pf
 use borrow.Author.Needs.{needs}
 use Rattle.seen.proofs.expiry_of.Statement.{statement}
 use Rattle.seen.proofs.expiry_of.Tie as tie

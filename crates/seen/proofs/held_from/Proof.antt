@@ -8,7 +8,6 @@ use Rattle.rows.specs.IdsLaws.{among-more, among-here, among-none}
 use Rattle.seen.specs.State.{idsIn}
 use Rattle.seen.specs.StateLaws.{row-in, ids-from, ids-end}
 use borrow.Author.Needs.{needs}
--- pf
 use Rattle.seen.proofs.held_from.Statement.{statement}
 use Rattle.seen.proofs.held_from.Tie as tie
 use Rattle.seen.proofs.held_from.Reads as reads

@@ -8,7 +8,6 @@ use Rattle.rows.specs.IdsLaws.{distinct-more, distinct-twice, distinct-none}
 use Rattle.seen.specs.State.{idsIn}
 use Rattle.seen.specs.StateLaws.{row-in, ids-from, ids-end}
 use borrow.Author.Needs.{needs}
--- pf
 use Rattle.seen.proofs.ids_differ.Statement.{statement}
 use Rattle.seen.proofs.ids_differ.Tie as tie
 use Rattle.seen.proofs.ids_differ.Reads as reads

@@ -6,7 +6,6 @@ use native.Mathlib.Omega.{arith}
 use Rattle.seen.specs.State.{shortAll, lensIn}
 use Rattle.seen.specs.StateLaws.{place-in, short-more, short-not, short-end}
 use borrow.Author.Needs.{needs}
--- pf
 use Rattle.seen.proofs.lens_fit.Statement.{statement}
 use Rattle.seen.proofs.lens_fit.Tie as tie
 use Rattle.seen.proofs.lens_fit.Reads as reads

@@ -1,6 +1,5 @@
 use denote.Ref.{now}
 use Rattle.seen.proofs.Steps.{sets-part}
--- pf
 use borrow.Author.Needs.{needs}
 use Rattle.seen.proofs.write_id.Statement.{statement}
 use Rattle.seen.proofs.write_id.Tie as tie

@@ -1,7 +1,6 @@
 use native.Mathlib.Omega.{arith}
 use Rattle.seen.specs.State.{appended}
 use Rattle.seen.specs.StateLaws.{place-in}
--- pf
 use borrow.Author.Needs.{needs}
 use Rattle.seen.proofs.SeenCache.append.Statement.{statement}
 use Rattle.seen.proofs.SeenCache.append.Tie as tie

@@ -1,7 +1,6 @@
 use mathlib.Core.Path.{_≡_, sym}
 use Rattle.seen.specs.StateLaws.{spent-in}
 use Rattle.seen.proofs.Steps.{cleaned-is}
--- pf
 use borrow.Author.Needs.{needs}
 use Rattle.seen.proofs.SeenCache.clean.Statement.{statement}
 use Rattle.seen.proofs.SeenCache.clean.Tie as tie

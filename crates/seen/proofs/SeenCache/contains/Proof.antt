@@ -3,7 +3,6 @@ use mathlib.Core.Path.{_≡_, refl, sym, _∙_}
 use lib.ListN.{length}
 use native.Mathlib.Omega.{arith}
 use Rattle.seen.proofs.Answers.{tested, contains-store, contains-malformed, contains-long, contains-yes, contains-no}
--- pf
 use borrow.Author.Needs.{needs}
 use Rattle.seen.proofs.SeenCache.contains.Statement.{statement}
 use Rattle.seen.proofs.SeenCache.contains.Tie as tie

@@ -2,7 +2,6 @@ use denote.Ref.{now}
 use lib.ListN.{length}
 use native.Mathlib.Omega.{arith}
 use Rattle.seen.proofs.Steps.{entered-none, entered-some, enter-room}
--- pf
 use borrow.Author.Needs.{needs}
 use Rattle.seen.proofs.SeenCache.enter.Statement.{statement}
 use Rattle.seen.proofs.SeenCache.enter.Tie as tie

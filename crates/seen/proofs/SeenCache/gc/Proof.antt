@@ -2,7 +2,6 @@ use denote.Ref.{now}
 use mathlib.Core.Path.{_≡_, refl, sym, _∙_}
 use lib.ListN.{length}
 use Rattle.seen.proofs.Answers.{tested-ring, gc-store, gc-malformed, gc-left}
--- pf
 use borrow.Author.Needs.{needs}
 use Rattle.seen.proofs.SeenCache.gc.Statement.{statement}
 use Rattle.seen.proofs.SeenCache.gc.Tie as tie

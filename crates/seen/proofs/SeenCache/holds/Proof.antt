@@ -1,5 +1,4 @@
 use Rattle.seen.specs.Calls.{heldIn}
--- pf
 use borrow.Author.Needs.{needs}
 use Rattle.seen.proofs.SeenCache.holds.Statement.{statement}
 use Rattle.seen.proofs.SeenCache.holds.Tie as tie

@@ -3,7 +3,6 @@ use mathlib.Core.Path.{_≡_, refl, sym, _∙_}
 use lib.ListN.{length}
 use native.Mathlib.Omega.{arith}
 use Rattle.seen.proofs.Answers.{tested, insert-setting, insert-store, insert-malformed, insert-long, insert-held, insert-fresh}
--- pf
 use borrow.Author.Needs.{needs}
 use Rattle.seen.proofs.SeenCache.insert.Statement.{statement}
 use Rattle.seen.proofs.SeenCache.insert.Tie as tie
@@ -16,7 +15,7 @@ use Rattle.seen.proofs.expiry_of.Reads as expiry-of-reads
 
 -- src/lib.rt:291:13
 returns : tie.Need-returns
-returns c = let r = insert-setting (c .before .before .before .args) .«max_entries» (c .before .before .before .args .at) (c .before .before .before .args .ttl) (c .before .before .before .args .self) (now (c .before .before .before .args .store)) (now (c .before .before .before .args .id)) (omega arith) in (r .0, (r .1, r .2))
+returns c = let r = insert-setting (c .before .before .before .args .max-entries) (c .before .before .before .args .at) (c .before .before .before .args .ttl) (c .before .before .before .args .self) (now (c .before .before .before .args .store)) (now (c .before .before .before .args .id)) (omega arith) in (r .0, (r .1, r .2))
 
 -- src/lib.rt:296:13
 lent-requires : tie.Need-lent-requires
@@ -40,7 +39,7 @@ same-length c = search needs
 
 -- src/lib.rt:308:21
 returns-2 : tie.Need-returns-2
-returns-2 c = let r = insert-long (c .before .before .before .before .before .before .before .before .args) .«max_entries» (c .before .before .before .before .before .before .before .before .args .at) (c .before .before .before .before .before .before .before .before .args .ttl) (c .before .before .before .before .before .before .before .before .args .self) (now (c .before .before .before .before .before .before .before .before .args .store)) (now (c .before .before .before .before .before .before .before .before .args .id)) (omega arith) (sym (c .before .enum-told3 .given .1) ∙ (c .before .before .before .lent .ensures)) (omega arith) in (r .0, (r .1, r .2))
+returns-2 c = let r = insert-long (c .before .before .before .before .before .before .before .before .args .max-entries) (c .before .before .before .before .before .before .before .before .args .at) (c .before .before .before .before .before .before .before .before .args .ttl) (c .before .before .before .before .before .before .before .before .args .self) (now (c .before .before .before .before .before .before .before .before .args .store)) (now (c .before .before .before .before .before .before .before .before .args .id)) (omega arith) (sym (c .before .enum-told3 .given .1) ∙ (c .before .before .before .lent .ensures)) (omega arith) in (r .0, (r .1, r .2))
 
 -- src/lib.rt:313:20
 holds-requires : tie.Need-holds-requires
@@ -52,7 +51,7 @@ same-length-2 c = search needs
 
 -- src/lib.rt:314:21
 returns-3 : tie.Need-returns-3
-returns-3 c = let r = insert-held (c .before .before .before .before .before .before .before .before .before .before .before .args) .«max_entries» (c .before .before .before .before .before .before .before .before .before .before .before .args .at) (c .before .before .before .before .before .before .before .before .before .before .before .args .ttl) (c .before .before .before .before .before .before .before .before .before .before .before .args .self) (now (c .before .before .before .before .before .before .before .before .before .before .before .args .store)) (now (c .before .before .before .before .before .before .before .before .before .before .before .args .id)) (omega arith) (sym (c .before .before .before .before .enum-told3 .given .1) ∙ (c .before .before .before .before .before .before .lent .ensures)) (omega arith) (sym (c .before .holds .ensures) ∙ (c .if3 .taken)) in (r .0, (r .1, r .2))
+returns-3 c = let r = insert-held (c .before .before .before .before .before .before .before .before .before .before .before .args .max-entries) (c .before .before .before .before .before .before .before .before .before .before .before .args .at) (c .before .before .before .before .before .before .before .before .before .before .before .args .ttl) (c .before .before .before .before .before .before .before .before .before .before .before .args .self) (now (c .before .before .before .before .before .before .before .before .before .before .before .args .store)) (now (c .before .before .before .before .before .before .before .before .before .before .before .args .id)) (omega arith) (sym (c .before .before .before .before .enum-told3 .given .1) ∙ (c .before .before .before .before .before .before .lent .ensures)) (omega arith) (sym (c .before .holds .ensures) ∙ (c .if3 .taken)) in (r .0, (r .1, r .2))
 
 -- src/lib.rt:319:21
 expiry-of-requires : tie.Need-expiry-of-requires
@@ -68,7 +67,7 @@ same-length-3 c = search needs
 
 -- src/lib.rt:277:5
 returns-4 : tie.Need-returns-4
-returns-4 c = let r = insert-store (c .before .before .before .before .before .before .before .args) .«max_entries» (c .before .before .before .before .before .before .before .args .at) (c .before .before .before .before .before .before .before .args .ttl) (c .before .before .before .before .before .before .before .args .self) (now (c .before .before .before .before .before .before .before .args .store)) (now (c .before .before .before .before .before .before .before .args .id)) (omega arith) (sym (c .enum-told .given .1) ∙ (c .before .before .lent .ensures)) in (r .0, (r .1, r .2))
+returns-4 c = let r = insert-store (c .before .before .before .before .before .before .before .args .max-entries) (c .before .before .before .before .before .before .before .args .at) (c .before .before .before .before .before .before .before .args .ttl) (c .before .before .before .before .before .before .before .args .self) (now (c .before .before .before .before .before .before .before .args .store)) (now (c .before .before .before .before .before .before .before .args .id)) (omega arith) (sym (c .enum-told .given .1) ∙ (c .before .before .lent .ensures)) in (r .0, (r .1, r .2))
 
 -- src/lib.rt:277:5
 same-length-4 : tie.Need-same-length-4
@@ -76,7 +75,7 @@ same-length-4 c = search needs
 
 -- src/lib.rt:277:5
 returns-5 : tie.Need-returns-5
-returns-5 c = let r = insert-malformed (c .before .before .before .before .before .before .before .args) .«max_entries» (c .before .before .before .before .before .before .before .args .at) (c .before .before .before .before .before .before .before .args .ttl) (c .before .before .before .before .before .before .before .args .self) (now (c .before .before .before .before .before .before .before .args .store)) (now (c .before .before .before .before .before .before .before .args .id)) (omega arith) (sym (c .enum-told2 .given .1) ∙ (c .before .before .lent .ensures)) in (r .0, (r .1, r .2))
+returns-5 c = let r = insert-malformed (c .before .before .before .before .before .before .before .args .max-entries) (c .before .before .before .before .before .before .before .args .at) (c .before .before .before .before .before .before .before .args .ttl) (c .before .before .before .before .before .before .before .args .self) (now (c .before .before .before .before .before .before .before .args .store)) (now (c .before .before .before .before .before .before .before .args .id)) (omega arith) (sym (c .enum-told2 .given .1) ∙ (c .before .before .lent .ensures)) in (r .0, (r .1, r .2))
 
 -- src/lib.rt:277:5
 same-length-5 : tie.Need-same-length-5
@@ -84,7 +83,7 @@ same-length-5 c = search needs
 
 -- src/lib.rt:277:5
 returns-6 : tie.Need-returns-6
-returns-6 c = let r = insert-fresh (c .before .before .before .before .before .before .before .before .before .before .before .before .before .before .before .before .args) .«max_entries» (c .before .before .before .before .before .before .before .before .before .before .before .before .before .before .before .before .args .at) (c .before .before .before .before .before .before .before .before .before .before .before .before .before .before .before .before .args .ttl) (c .before .before .before .before .before .before .before .before .before .before .before .before .before .before .before .before .args .self) (now (c .before .before .before .before .before .before .before .before .before .before .before .before .before .before .before .before .args .store)) (now (c .before .before .before .before .before .before .before .before .before .before .before .before .before .before .before .before .args .id)) (omega arith) (sym (c .before .before .before .before .before .before .before .before .before .enum-told3 .given .1) ∙ (c .before .before .before .before .before .before .before .before .before .before .before .lent .ensures)) (omega arith) (sym (c .before .before .before .before .before .before .holds .ensures) ∙ (c .before .before .before .before .before .if3 .left)) (c .before .before .before .before .expiry-of .result) (c .before .before .before .before .expiry-of .ensures) _ _ (c .before .before .enter .ensures .0) (c .before .before .enter .ensures .1) in (r .0, (r .1, r .2))
+returns-6 c = let r = insert-fresh (c .before .before .before .before .before .before .before .before .before .before .before .before .before .before .before .before .args .max-entries) (c .before .before .before .before .before .before .before .before .before .before .before .before .before .before .before .before .args .at) (c .before .before .before .before .before .before .before .before .before .before .before .before .before .before .before .before .args .ttl) (c .before .before .before .before .before .before .before .before .before .before .before .before .before .before .before .before .args .self) (now (c .before .before .before .before .before .before .before .before .before .before .before .before .before .before .before .before .args .store)) (now (c .before .before .before .before .before .before .before .before .before .before .before .before .before .before .before .before .args .id)) (omega arith) (sym (c .before .before .before .before .before .before .before .before .before .enum-told3 .given .1) ∙ (c .before .before .before .before .before .before .before .before .before .before .before .lent .ensures)) (omega arith) (sym (c .before .before .before .before .before .before .holds .ensures) ∙ (c .before .before .before .before .before .if3 .left)) (c .before .before .before .before .expiry-of .result) (c .before .before .before .before .expiry-of .ensures) _ _ (c .before .before .enter .ensures .0) (c .before .before .enter .ensures .1) in (r .0, (r .1, r .2))
 
 pub insert-spec : {M : Type 1} → statement M
 insert-spec =

@@ -3,7 +3,6 @@ use mathlib.Core.Path.{_≡_, refl, sym, _∙_}
 use lib.ListN.{length}
 use native.Mathlib.Omega.{arith}
 use Rattle.seen.proofs.Answers.{lent-part, lent-many, lent-start, lent-count, lent-long, lent-rows, lent-twice, lent-fine}
--- pf
 use borrow.Author.Needs.{needs}
 use Rattle.seen.proofs.SeenCache.lent.Statement.{statement}
 use Rattle.seen.proofs.SeenCache.lent.Tie as tie

@@ -1,7 +1,6 @@
 use mathlib.Core.Path.{refl}
 use Rattle.seen.specs.State.{fresh}
 use borrow.Author.Needs.{needs}
--- pf
 use Rattle.seen.proofs.SeenCache.new.Statement.{statement}
 use Rattle.seen.proofs.SeenCache.new.Tie as tie
 use Rattle.seen.proofs.SeenCache.new.Reads as reads

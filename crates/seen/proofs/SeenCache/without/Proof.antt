@@ -1,5 +1,4 @@
 use Rattle.seen.specs.State.{dropped}
--- pf
 use borrow.Author.Needs.{needs}
 use Rattle.seen.proofs.SeenCache.without.Statement.{statement}
 use Rattle.seen.proofs.SeenCache.without.Tie as tie
