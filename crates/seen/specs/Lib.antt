@@ -3,4 +3,5 @@ pub mod State
 pub mod Calls
 pub mod StateLaws
 pub mod WellFormed
+pub mod EntriesLaws
 pub mod Laws
