@@ -2,16 +2,17 @@
 use Prim.Native.Nat.{ℕ, zero, suc, _+_, _-_, _*_, _≤_, _<_, zero-le}
 use mathlib.Core.Path.{_≡_, refl, sym, ap, _∙_}
 use mathlib.Core.List.{List, [], _∷_, _++_, map}
-use mathlib.Core.Bool.{Bool, true, false, cond, _&&_}
+use mathlib.Core.Bool.{Bool, true, false, cond, not, _&&_, _||_, or-true}
 use native.Mathlib.Omega.{arith}
-use native.Mathlib.Nat.{add-sub-cancel-left}
+use native.Mathlib.Nat.{add-sub-cancel-left, zero-lt-suc}
 use lib.ListN.{length, take, drop, getD, set}
 use lib.Dec.{leb, ltb}
 use borrow.Author.Tests.{le-leb, lt-leb, leb-true}
 use Rattle.basis.specs.Cases.{either, clash}
 use Rattle.rows.specs.Rows.{tab, placeOf, ring}
 use Rattle.rows.specs.RowsLaws.{length-tab, getD-tab, place-lt, place-le, place-place, length-ring, ring-from, ring-end}
-use Rattle.rows.specs.Ids.{among, distinct}
+use Rattle.rows.specs.Ids.{sameBytes, among, distinct}
+use Rattle.rows.specs.IdsLaws.{same-self, same-equal}
 use Rattle.seen.specs.declared.SeenCache.{SeenCache}
 use Rattle.seen.specs.Entries.{Entry}
 use Rattle.seen.specs.State.{Ring, Sound, idAt, idsIn, expiriesIn, lensIn, shortAll, spent, dropped}
@@ -102,6 +103,60 @@ short-in lens cap start count h i k =
     let l : i < length (tab f count) = rw (length-tab f count) k in
     let e : getD (tab f count) i 0 ≤ 129 = short-each (tab f count) i h l in
     rw (getD-tab f count i 0 k) at e
+
+each-short : (l : List ℕ) → ((i : ℕ) → i < length l → getD l i 0 ≤ 129) → shortAll l ≡ true
+unfolding shortAll
+each-short [] h = refl
+each-short (n ∷ l) h = simp (le-leb n 129 (h 0 (zero-lt-suc (length l)))) (each-short l (λ i k. h (suc i) (omega arith)))
+
+pub short-all : (lens : List ℕ) (cap start count : ℕ) → ((i : ℕ) → i < count → getD lens (placeOf cap start i) 0 ≤ 129) → shortAll (lensIn cap start count lens) ≡ true
+unfolding lensIn ring
+short-all lens cap start count h =
+    let f : ℕ → ℕ = λ (j : ℕ). getD lens (placeOf cap start j) 0 in
+    each-short (tab f count) (λ i k. let l : i < count = rw (length-tab f count) at k in rw (getD-tab f count i 0 l) (h i l))
+
+among-at : (x : List ℕ) (l : List (List ℕ)) (j : ℕ) → j < length l → x ≡ getD l j [] → among x l ≡ true
+unfolding among
+among-at x [] j k e = absurd (omega arith)
+among-at x (y ∷ l) zero k e = rw (e, same-self y)
+among-at x (y ∷ l) (suc j) k e = rw (among-at x l j (omega arith) e) (or-true (sameBytes y x))
+
+none-among : (x : List ℕ) (l : List (List ℕ)) → ((j : ℕ) → j < length l → x ≡ getD l j [] → ⊥) → among x l ≡ false
+unfolding among
+none-among x [] h = refl
+none-among x (y ∷ l) h =
+    either (sameBytes y x) (λ t. absurd (h 0 (zero-lt-suc (length l)) (sym (same-equal y x t))))
+    (λ t. simp t (none-among x l (λ j k. h (suc j) (omega arith))))
+
+distinct-each : (l : List (List ℕ)) (i j : ℕ) → distinct l ≡ true → i < j → j < length l → getD l i [] ≡ getD l j [] → ⊥
+unfolding distinct
+distinct-each [] i j d a b e = omega arith
+distinct-each (x ∷ l) i zero d a b e = omega arith
+distinct-each (x ∷ l) zero (suc j) d a b e = clash (let z = simp (among-at x l j (omega arith) e) at d in cc)
+distinct-each (x ∷ l) (suc i) (suc j) d a b e = either (among x l) (λ t. clash (let z = simp t at d in cc)) (λ t. distinct-each l i j (simp t at d) (omega arith) (omega arith) e)
+
+each-distinct : (l : List (List ℕ)) → ((i j : ℕ) → i < j → j < length l → getD l i [] ≡ getD l j [] → ⊥) → distinct l ≡ true
+unfolding distinct
+each-distinct [] h = refl
+each-distinct (x ∷ l) h =
+    simp (none-among x l (λ j k. h 0 (suc j) (zero-lt-suc j) (omega arith))) (each-distinct l (λ i j a b. h (suc i) (suc j) (omega arith) (omega arith)))
+
+-- no id stands in two rows
+pub once-in : (lens st : List ℕ) (cap start count : ℕ) → distinct (idsIn cap start count lens st) ≡ true → (i j : ℕ) → i < j → j < count
+    → idAt lens st (placeOf cap start i) ≡ idAt lens st (placeOf cap start j) → ⊥
+unfolding idsIn ring
+once-in lens st cap start count d i j a b e =
+    let f : ℕ → List ℕ = λ (k : ℕ). idAt lens st (placeOf cap start k) in
+    let l : j < length (tab f count) = rw (length-tab f count) b in
+    distinct-each (tab f count) i j d a l (getD-tab f count i [] (omega arith) ∙ e ∙ sym (getD-tab f count j [] b))
+
+pub all-once : (lens st : List ℕ) (cap start count : ℕ) → ((i j : ℕ) → i < j → j < count → idAt lens st (placeOf cap start i) ≡ idAt lens st (placeOf cap start j) → ⊥)
+    → distinct (idsIn cap start count lens st) ≡ true
+unfolding idsIn ring
+all-once lens st cap start count h =
+    let f : ℕ → List ℕ = λ (k : ℕ). idAt lens st (placeOf cap start k) in
+    each-distinct (tab f count)
+    (λ i j a b e. let l : j < count = rw (length-tab f count) at b in h i j a l (sym (getD-tab f count i [] (omega arith)) ∙ e ∙ getD-tab f count j [] l))
 
 -- ---- without the k oldest
 pub sound-dropped : (cap k : ℕ) (c : SeenCache) (st : List ℕ) → Sound cap (c .start) (c .count) (c .len) st → k ≤ c .count
