@@ -1,31 +1,25 @@
 -- The answers, case by case as the code comes to them.
-use Prim.Native.Nat.{ℕ, _+_, _-_, _*_, _/_, _%_, _≤_, _<_}
-use mathlib.Core.Path.{_≡_, refl, sym, ap, _∙_}
+use Prim.Native.Nat.{ℕ, _-_, _/_, _%_, _≤_, _<_}
+use mathlib.Core.Path.{_≡_, sym, ap, _∙_}
 use mathlib.Core.List.{List}
-use mathlib.Core.Bool.{Bool, true, false, cond, _&&_}
+use mathlib.Core.Bool.{true, false}
 use native.Mathlib.Omega.{arith}
 use lib.ListN.{length, getD}
-use lib.Dec.{leb, ltb, eqb}
 use borrow.Author.Tests.{eq-eqb, ne-eqb, le-leb, lt-leb, lt-ltb, le-ltb}
 use Rattle.basis.specs.Cases.{clash}
 use Rattle.rows.specs.Rows.{placeOf}
 use Rattle.rows.specs.Ids.{distinct}
 use Rattle.seen.specs.declared.SeenCache.{SeenCache}
-use Rattle.seen.specs.declared.Lent.{Lent}
 use Rattle.seen.specs.declared.Lent.the-variants as lent
 use Rattle.seen.specs.declared.Insert.{Insert}
 use Rattle.seen.specs.declared.Insert.the-variants as insert
-use Rattle.seen.specs.declared.Contains.{Contains}
 use Rattle.seen.specs.declared.Contains.the-variants as contains
-use Rattle.seen.specs.declared.Gc.{Gc}
 use Rattle.seen.specs.declared.Gc.the-variants as gc
-use Rattle.seen.specs.declared.NextExpiry.{NextExpiry}
 use Rattle.seen.specs.declared.NextExpiry.the-variants as next
 use Rattle.seen.specs.Entries.{until}
 use Rattle.seen.specs.State.{Ring, Sound, idsIn, lensIn, shortAll, wellFormed}
 use Rattle.seen.specs.StateLaws.{short-in}
 use Rattle.seen.specs.Calls.{capOf, wholeRows, lentOf, heldIn, cleaned, entered, enteredStore, insertAnswer, insertCache, insertStore, containsAnswer, gcAnswer, gcCache, nextAnswer}
-use Rattle.seen.specs.WellFormed.{Sized}
 use Rattle.seen.specs.Laws.{lent-sound, not-fresh-stays}
 
 -- ---- the lent state

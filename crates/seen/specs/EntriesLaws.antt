@@ -1,8 +1,7 @@
 -- What the steps on the rows do to the entries: the oldest leave, and a row more is an entry more at the end. Both leave the rows sound.
-use Prim.Native.Nat.{ℕ, zero, suc, _+_, _-_, _*_, _≤_, _<_}
+use Prim.Native.Nat.{ℕ, suc, _+_, _-_, _*_, _≤_, _<_}
 use mathlib.Core.Path.{_≡_, refl, sym, ap, _∙_}
 use mathlib.Core.List.{List, [], _∷_, _++_, map, append-assoc}
-use mathlib.Core.Bool.{Bool, true, false, cond, _&&_}
 use mathlib.Core.Logic.{_⊎_, inl, inr, ⊎-elim}
 use native.Mathlib.Omega.{arith}
 use lib.ListN.{length, take, drop, getD, set, length-append, length-set, drop-of-length-le}
@@ -10,13 +9,13 @@ use lib.Seq.{sets, sets-eq, length-sets, take-at, drop-at, length-take-le, drop-
 use lib.Dec.{leb, ltb, eqb}
 use borrow.Author.Count.{below-more}
 use borrow.Author.Tests.{eqb-true, eqb-false, ltb-true, ltb-false}
-use Rattle.basis.specs.Cases.{either, clash}
-use Rattle.rows.specs.Rows.{placeOf, ring}
-use Rattle.rows.specs.RowsLaws.{place-lt, place-differs, length-ring, ring-drop, ring-more, ring-ext, map-ring}
+use Rattle.basis.specs.Cases.{either}
+use Rattle.rows.specs.Rows.{placeOf}
+use Rattle.rows.specs.RowsLaws.{place-differs, length-ring, ring-drop, ring-more, ring-ext, map-ring}
 use Rattle.rows.specs.Ids.{among}
 use Rattle.seen.specs.declared.SeenCache.{SeenCache}
 use Rattle.seen.specs.Entries.{Entry, idsOf, holds, newest, live}
-use Rattle.seen.specs.State.{Ring, Sound, idAt, rowAt, idsIn, expiriesIn, entriesIn, spent, dropped, appended}
+use Rattle.seen.specs.State.{Sound, idAt, rowAt, idsIn, expiriesIn, entriesIn, spent, dropped, appended}
 use Rattle.seen.specs.StateLaws.{place-in, spent-in, sound-dropped}
 use Rattle.seen.specs.Calls.{heldIn, cleaned, entered, enteredStore}
 use Rattle.seen.specs.WellFormed.{Sized}

@@ -1,22 +1,20 @@
 -- What the calls on a seen cache mean: they do to the entries what 01 says, a refused call changes nothing, and every state that the calls reach is
 -- well formed.
-use Prim.Native.Nat.{ℕ, zero, suc, _+_, _-_, _*_, _/_, _%_, _≤_, _<_}
-use mathlib.Core.Path.{_≡_, refl, sym, ap, subst, _∙_}
+use Prim.Native.Nat.{ℕ, zero, suc, _+_, _-_, _*_, _/_, _%_, _≤_}
+use mathlib.Core.Path.{_≡_, refl, sym, ap, _∙_}
 use mathlib.Core.List.{List, [], _∷_, _++_, map, map-append}
 use mathlib.Core.Bool.{Bool, true, false, cond, not, _&&_}
 use mathlib.Core.Option.{Option, none, some}
 use mathlib.Core.Logic.{_↔_}
 use native.Mathlib.Omega.{arith}
-use native.Mathlib.Nat.{zero-lt-suc}
-use lib.ListN.{length, drop, getD, length-replicate}
+use lib.ListN.{length, drop, length-replicate}
 use lib.Seq.{length-sets}
 use lib.Dec.{leb, ltb, eqb}
 use borrow.Author.Tests.{leb-true, eqb-true, le-leb, eq-eqb, ne-eqb, le-ltb, ltb-false}
 use Rattle.basis.specs.Cases.{either, clash}
-use Rattle.rows.specs.Rows.{tab, placeOf, ring}
-use Rattle.rows.specs.RowsLaws.{length-tab, getD-tab}
-use Rattle.rows.specs.Ids.{sameBytes, among, distinct}
-use Rattle.rows.specs.IdsLaws.{same-self, same-equal, distinct-drop, distinct-snoc, among-drop}
+use Rattle.rows.specs.Rows.{placeOf, ring}
+use Rattle.rows.specs.Ids.{among, distinct}
+use Rattle.rows.specs.IdsLaws.{distinct-drop, distinct-snoc}
 use Rattle.seen.specs.declared.SeenCache.{SeenCache}
 use Rattle.seen.specs.declared.Lent.{Lent}
 use Rattle.seen.specs.declared.Lent.the-variants as lent
@@ -27,10 +25,10 @@ use Rattle.seen.specs.declared.Gc.the-variants as gc
 use Rattle.seen.specs.declared.NextExpiry.{NextExpiry}
 use Rattle.seen.specs.declared.NextExpiry.the-variants as next
 use Rattle.seen.specs.Entries.{Entry, idsOf, holds, until, newest, inserted, live, frontExpiry}
-use Rattle.seen.specs.State.{Ring, Sound, idAt, idsIn, lensIn, entriesIn, rowAt, shortAll, wellFormed, expiriesIn, spent, fresh, dropped}
+use Rattle.seen.specs.State.{Sound, idsIn, lensIn, entriesIn, rowAt, shortAll, wellFormed, expiriesIn, spent, fresh, dropped}
 use Rattle.seen.specs.StateLaws.{short-in, short-all, once-in, all-once, spent-in, sound-dropped}
 use Rattle.seen.specs.EntriesLaws.{length-entries, ids-entries, holds-entries, entries-dropped, entries-entered, sound-entered, sized-entered, entries-cleaned}
-use Rattle.seen.specs.Calls.{capOf, wholeRows, lentOf, heldIn, cleaned, entered, enteredStore, insertNumber, insertOn, insertAnswer, insertCache, insertStore, containsAnswer, gcNumber, gcAnswer, gcCache, nextAnswer}
+use Rattle.seen.specs.Calls.{capOf, wholeRows, lentOf, heldIn, cleaned, entered, enteredStore, insertNumber, insertAnswer, insertCache, insertStore, containsAnswer, gcNumber, gcAnswer, gcCache, nextAnswer}
 use Rattle.seen.specs.WellFormed.{Sized, WellFormed, Reached, begun, recorded, swept}
 
 -- ---- the tests

@@ -1,12 +1,12 @@
 -- Laws of the rows: where they stand, one step of each walk over them, and what a step on them leaves sound.
 use Prim.Native.Nat.{ℕ, zero, suc, _+_, _-_, _*_, _≤_, _<_, zero-le}
-use mathlib.Core.Path.{_≡_, refl, sym, ap, _∙_}
-use mathlib.Core.List.{List, [], _∷_, _++_, map}
-use mathlib.Core.Bool.{Bool, true, false, cond, not, _&&_, _||_, or-true}
+use mathlib.Core.Path.{_≡_, refl, sym, _∙_}
+use mathlib.Core.List.{List, [], _∷_}
+use mathlib.Core.Bool.{Bool, true, false, cond, _&&_, or-true}
 use native.Mathlib.Omega.{arith}
 use native.Mathlib.Nat.{add-sub-cancel-left, zero-lt-suc}
-use lib.ListN.{length, take, drop, getD, set}
-use lib.Dec.{leb, ltb}
+use lib.ListN.{length, take, drop, getD}
+use lib.Dec.{leb}
 use borrow.Author.Tests.{le-leb, lt-leb, leb-true}
 use Rattle.basis.specs.Cases.{either, clash}
 use Rattle.rows.specs.Rows.{tab, placeOf, ring}
@@ -14,7 +14,6 @@ use Rattle.rows.specs.RowsLaws.{length-tab, getD-tab, place-lt, place-le, place
 use Rattle.rows.specs.Ids.{sameBytes, among, distinct}
 use Rattle.rows.specs.IdsLaws.{same-self, same-equal}
 use Rattle.seen.specs.declared.SeenCache.{SeenCache}
-use Rattle.seen.specs.Entries.{Entry}
 use Rattle.seen.specs.State.{Ring, Sound, idAt, idsIn, expiriesIn, lensIn, shortAll, spent, dropped}
 
 -- ---- places

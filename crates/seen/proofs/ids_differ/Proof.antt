@@ -1,7 +1,8 @@
+-- `seen::ids_differ` meets its contract: the ids that are left differ exactly where all do.
 use denote.Ref.{now}
-use Prim.Native.Nat.{ℕ, _+_, _-_, _≤_, _<_}
-use mathlib.Core.Path.{_≡_, refl, sym, _∙_}
-use lib.ListN.{length, drop}
+use Prim.Native.Nat.{_-_, _≤_}
+use mathlib.Core.Path.{_≡_, sym, _∙_}
+use lib.ListN.{drop}
 use native.Mathlib.Omega.{arith}
 use Rattle.rows.specs.Ids.{distinct}
 use Rattle.rows.specs.IdsLaws.{distinct-more, distinct-twice, distinct-none}
@@ -10,10 +11,6 @@ use Rattle.seen.specs.StateLaws.{row-in, ids-from, ids-end}
 use borrow.Author.Needs.{needs}
 use Rattle.seen.proofs.ids_differ.Statement.{statement}
 use Rattle.seen.proofs.ids_differ.Tie as tie
-use Rattle.seen.proofs.ids_differ.Reads as reads
-use Rattle.seen.proofs.ids_differ.Lts as lts
-use Rattle.rows.proofs.place.Reads as place-reads
-use Rattle.seen.proofs.held_from.Reads as held-from-reads
 
 abbrev Inv-loop : tie.InvT-loop
 Inv-loop lens store cap start count i₀ i = (i ≤ count) × (distinct (drop i (idsIn cap start count lens store)) ≡ distinct (idsIn cap start count lens store))
@@ -21,65 +18,56 @@ Inv-loop lens store cap start count i₀ i = (i ≤ count) × (distinct (drop i 
 abbrev μ-loop : tie.MeasureT-loop
 μ-loop lens store cap start count i₀ i = count - i
 
--- src/lib.rt:134:5
 loop-holds : tie.Need-loop-holds Inv-loop μ-loop
 loop-holds c = search needs
 
--- src/lib.rt:135:13
 place-requires : tie.Need-place-requires Inv-loop μ-loop
 place-requires c κs = search needs
 
--- src/lib.rt:136:20
 mul-base : tie.Need-mul-base Inv-loop μ-loop
 mul-base c = let r = row-in (c .before .before .before .before .before .pre) (c .before .before .loop .i) (c .place .result) (omega arith) (c .place .ensures) in omega arith
 
--- src/lib.rt:137:26
 shared-slice-read-end : tie.Need-shared-slice-read-end Inv-loop μ-loop
 shared-slice-read-end c = let r = row-in (c .before .before .before .before .before .before .pre) (c .before .before .before .loop .i) (c .before .place .result) (omega arith) (c .before .place .ensures) in omega arith
 
--- src/lib.rt:137:26
 cast-end : tie.Need-cast-end Inv-loop μ-loop
 cast-end c = let r = row-in (c .before .before .before .before .before .before .pre) (c .before .before .before .loop .i) (c .before .place .result) (omega arith) (c .before .place .ensures) in omega arith
 
--- src/lib.rt:137:19
 add-end : tie.Need-add-end Inv-loop μ-loop
 add-end c = let r = row-in (c .before .before .before .before .before .before .pre) (c .before .before .before .loop .i) (c .before .place .result) (omega arith) (c .before .place .ensures) in omega arith
 
--- src/lib.rt:138:20
 add-next : tie.Need-add-next Inv-loop μ-loop
 add-next c = search needs
 
--- src/lib.rt:139:60
 sub-held-from : tie.Need-sub-held-from Inv-loop μ-loop
 sub-held-from c = search needs
 
--- src/lib.rt:139:60
 part-held-from-start : tie.Need-part-held-from-start Inv-loop μ-loop
 part-held-from-start c = search needs
 
--- src/lib.rt:139:60
 part-held-from-end : tie.Need-part-held-from-end Inv-loop μ-loop
 part-held-from-end c = let r = row-in (c .before .before .before .before .before .before .pre) (c .before .before .before .loop .i) (c .before .place .result) (omega arith) (c .before .place .ensures) in omega arith
 
--- src/lib.rt:139:12
 held-from-requires : tie.Need-held-from-requires Inv-loop μ-loop
 held-from-requires c κs = ((c .before .before .before .before .before .before .before .pre), omega arith)
 
--- src/lib.rt:140:13
 returns : tie.Need-returns Inv-loop μ-loop
-returns c = distinct-twice _ (ids-from (now (c .before .before .before .before .before .before .before .before .before .args .lens)) (now (c .before .before .before .before .before .before .before .before .before .args .store)) (c .before .before .before .before .before .before .before .before .before .args .cap) (c .before .before .before .before .before .before .before .before .before .args .start) (c .before .before .before .before .before .before .before .before .before .args .count) (c .before .before .before .before .before .before .loop .i) (c .before .before .before .before .place .result) (omega arith) (c .before .before .before .before .place .ensures)) (c .before .before .before .before .before .before .loop .inv .1) (sym (c .before .held-from .ensures) ∙ (c .if1 .taken))
+returns c =
+    let a = c .before .before .before .before .before .before .before .before .before .args in
+    distinct-twice _ (ids-from (now (a .lens)) (now (a .store)) (a .cap) (a .start) (a .count) (c .before .before .before .before .before .before .loop .i) (c .before .before .before .before .place .result) (omega arith) (c .before .before .before .before .place .ensures)) (c .before .before .before .before .before .before .loop .inv .1) (sym (c .before .held-from .ensures) ∙ (c .if1 .taken))
 
--- src/lib.rt:134:5
 loop-less : tie.Need-loop-less Inv-loop μ-loop
 loop-less c = search needs
 
--- src/lib.rt:134:5
 loop-again : tie.Need-loop-again Inv-loop μ-loop
-loop-again c = (omega arith, distinct-more _ (ids-from (now (c .before .before .before .before .before .before .before .before .before .args .lens)) (now (c .before .before .before .before .before .before .before .before .before .args .store)) (c .before .before .before .before .before .before .before .before .before .args .cap) (c .before .before .before .before .before .before .before .before .before .args .start) (c .before .before .before .before .before .before .before .before .before .args .count) (c .before .before .before .before .before .before .loop .i) (c .before .before .before .before .place .result) (omega arith) (c .before .before .before .before .place .ensures)) (c .before .before .before .before .before .before .loop .inv .1) (sym (c .before .held-from .ensures) ∙ (c .if1 .left)))
+loop-again c =
+    let a = c .before .before .before .before .before .before .before .before .before .args in
+    (omega arith, distinct-more _ (ids-from (now (a .lens)) (now (a .store)) (a .cap) (a .start) (a .count) (c .before .before .before .before .before .before .loop .i) (c .before .before .before .before .place .result) (omega arith) (c .before .before .before .before .place .ensures)) (c .before .before .before .before .before .before .loop .inv .1) (sym (c .before .held-from .ensures) ∙ (c .if1 .left)))
 
--- src/lib.rt:129:1
 returns-2 : tie.Need-returns-2 Inv-loop μ-loop
-returns-2 c = distinct-none _ _ (ids-end (now (c .before .before .before .before .args .lens)) (now (c .before .before .before .before .args .store)) (c .before .before .before .before .args .cap) (c .before .before .before .before .args .start) (c .before .before .before .before .args .count) (c .before .loop .i) (omega arith)) (c .before .loop .inv .1)
+returns-2 c =
+    let a = c .before .before .before .before .args in
+    distinct-none _ _ (ids-end (now (a .lens)) (now (a .store)) (a .cap) (a .start) (a .count) (c .before .loop .i) (omega arith)) (c .before .loop .inv .1)
 
 pub ids-differ-spec : {M : Type 1} → statement M
 ids-differ-spec =

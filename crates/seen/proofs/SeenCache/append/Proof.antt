@@ -1,51 +1,38 @@
+-- `seen::SeenCache::append` meets its contract: the row in the next place is written, and it lies in the store.
 use native.Mathlib.Omega.{arith}
 use Rattle.seen.specs.State.{appended}
 use Rattle.seen.specs.StateLaws.{place-in}
 use borrow.Author.Needs.{needs}
 use Rattle.seen.proofs.SeenCache.append.Statement.{statement}
 use Rattle.seen.proofs.SeenCache.append.Tie as tie
-use Rattle.seen.proofs.SeenCache.append.Reads as reads
-use Rattle.seen.proofs.SeenCache.append.Lts as lts
-use Rattle.rows.proofs.place.Reads as place-reads
-use Rattle.seen.proofs.write_id.Reads as write-id-reads
 
--- src/lib.rt:232:13
 place-requires : tie.Need-place-requires
 place-requires c κs = search needs
 
--- src/lib.rt:233:25
 mul-write-id : tie.Need-mul-write-id
 mul-write-id c = let r = place-in ((c .before .before .before .before .pre .0 .rows)) (c .before .before .before .before .args .t1 .count) (c .before .place .result) (c .before .before .before .before .pre .1 .0) (c .before .place .ensures) in omega arith
 
--- src/lib.rt:233:9
 write-id-requires : tie.Need-write-id-requires
 write-id-requires c κs = let r = place-in ((c .before .before .before .before .pre .0 .rows)) (c .before .before .before .before .args .t1 .count) (c .before .place .result) (c .before .before .before .before .pre .1 .0) (c .before .place .ensures) in omega (arith, (c .before .before .before .before .pre))
 
--- src/lib.rt:234:9
 mul-self : tie.Need-mul-self
 mul-self c = let r = place-in ((c .before .before .before .before .before .before .before .pre .0 .rows)) (c .before .before .before .before .before .before .before .args .t1 .count) (c .before .before .before .before .place .result) (c .before .before .before .before .before .before .before .pre .1 .0) (c .before .before .before .before .place .ensures) in omega arith
 
--- src/lib.rt:234:9
 element-write-self : tie.Need-element-write-self
 element-write-self c = let r = place-in ((c .before .before .before .before .before .before .before .pre .0 .rows)) (c .before .before .before .before .before .before .before .args .t1 .count) (c .before .before .before .before .place .result) (c .before .before .before .before .before .before .before .pre .1 .0) (c .before .before .before .before .place .ensures) in omega (arith, (c .before .before .before .before .before .before .before .pre))
 
--- src/lib.rt:235:23
 cast-self : tie.Need-cast-self
 cast-self c = search needs
 
--- src/lib.rt:235:9
 element-write-self-2 : tie.Need-element-write-self-2
 element-write-self-2 c = let r = place-in ((c .before .before .before .before .before .before .before .pre .0 .rows)) (c .before .before .before .before .before .before .before .args .t1 .count) (c .before .before .before .before .place .result) (c .before .before .before .before .before .before .before .pre .1 .0) (c .before .before .before .before .place .ensures) in omega (arith, (c .before .before .before .before .before .before .before .pre))
 
--- src/lib.rt:236:22
 add-self : tie.Need-add-self
 add-self c = search needs
 
--- src/lib.rt:224:5
 same-length : tie.Need-same-length
 same-length c = search needs
 
--- src/lib.rt:224:5
 returns : tie.Need-returns
 unfolding appended
 returns c = (cc ((c .before .before .before .before .place .ensures)), cc ((c .before .before .before .before .place .ensures), (c .before .before .write-id .ensures)))
