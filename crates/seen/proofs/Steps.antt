@@ -3,7 +3,7 @@ use Prim.Native.Nat.{ℕ, _+_, _-_, _*_, _≤_, _<_}
 use mathlib.Core.Path.{_≡_, sym, ap, _∙_}
 use mathlib.Core.List.{List, [], _++_, append-assoc, append-nil}
 use native.Mathlib.Omega.{arith}
-use lib.ListN.{length, take, drop, length-drop, drop-of-length-le}
+use lib.ListN.{length, take, drop, set, length-drop, drop-of-length-le}
 use lib.Seq.{sets, sets-eq, take-all, take-length, drop-drop}
 use borrow.Rule.Slice.PartMut.{midOf, putMid}
 use borrow.Author.Tests.{eq-eqb, ne-eqb}
@@ -20,6 +20,18 @@ sets-part st id y at h e =
     let m : take (length st - at) (drop at st) ≡ drop at st = take-all (length st - at) (drop at st) l in
     let z : drop (length st - at) (drop at st) ≡ [] = drop-of-length-le (drop at st) l in
     rw (e, m, z, take-length, append-nil, drop-drop) (sym (sets-eq id st at h ∙ append-assoc (take at st) id (drop (at + length id) st)))
+
+pub dropped-is : (cap k p : ℕ) (c : SeenCache) → p ≡ placeOf cap (c .start) k → _≡_ {A = SeenCache} (record { start = p; count = c .count - k; expiry = c .expiry; len = c .len }) (dropped cap k c)
+unfolding dropped
+dropped-is cap k p c h = rw h
+
+pub appended-is : (cap n e p : ℕ) (c : SeenCache) → p ≡ placeOf cap (c .start) (c .count)
+    → _≡_ {A = SeenCache} (record { start = c .start; count = c .count + 1; expiry = set (c .expiry) p e; len = set (c .len) p n }) (appended cap n e c)
+unfolding appended
+appended-is cap n e p c h = rw h
+
+pub appended-store : (cap p : ℕ) (c : SeenCache) (st st2 id : List ℕ) → p ≡ placeOf cap (c .start) (c .count) → st2 ≡ sets st (p * 129) id → st2 ≡ sets st (placeOf cap (c .start) (c .count) * 129) id
+appended-store cap p c st st2 id h e = e ∙ ap (λ (i : ℕ). sets st (i * 129) id) h
 
 pub cleaned-is : (cap at k : ℕ) (c r : SeenCache) → k ≡ spent at (expiriesIn cap (c .start) (c .count) (c .expiry)) → r ≡ dropped cap k c → r ≡ cleaned cap at c
 unfolding cleaned

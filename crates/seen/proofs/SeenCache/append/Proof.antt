@@ -1,6 +1,8 @@
 -- `seen::SeenCache::append` meets its contract: the row in the next place is written, and it lies in the store.
 use native.Mathlib.Omega.{arith}
-use Rattle.seen.specs.State.{appended}
+use denote.Ref.{now}
+use lib.ListN.{length}
+use Rattle.seen.proofs.Steps.{appended-is, appended-store}
 use Rattle.seen.specs.StateLaws.{place-in}
 use borrow.Author.Needs.{needs}
 use Rattle.seen.proofs.SeenCache.append.Statement.{statement}
@@ -34,8 +36,12 @@ same-length : tie.Need-same-length
 same-length c = search needs
 
 returns : tie.Need-returns
-unfolding appended
-returns c = (cc ((c .before .before .before .before .place .ensures)), cc ((c .before .before .before .before .place .ensures), (c .before .before .write-id .ensures)))
+returns c =
+    let a = c .before .before .before .before .before .before .before .args in
+    let p = c .before .before .before .before .place in (
+      appended-is (a .cap) (length (now (a .id))) (a .expires) (p .result) (a .t1) (p .ensures),
+      appended-store (a .cap) (p .result) (a .t1) (now (a .store)) _ (now (a .id)) (p .ensures) (c .before .before .write-id .ensures),
+    )
 
 pub append-spec : {M : Type 1} → statement M
 append-spec =
