@@ -195,7 +195,11 @@ pub fn admission(part: &[u8], verified: bool) -> Admission
     ensures { λ r. ⌜ r ≡ admissionOf (now (part .entry)) verified ⌝ }
 {
     let slots = slots_of(part, Kind::RawMessage);
-    let id = id_of(slots.first, slots.third);
+    let from = slots.first;
+    let seqno = slots.third;
+    let signature = slots.fourth;
+    let key = slots.fifth;
+    let id = id_of(from, seqno);
     match id {
         MessageId::MissingFrom => Admission::Unfit(Unfit::MissingFrom),
         MessageId::InvalidFrom(n) => Admission::Unfit(Unfit::InvalidFrom(n)),
@@ -212,7 +216,7 @@ pub fn admission(part: &[u8], verified: bool) -> Admission
                 seqno_start,
                 seqno_end,
             };
-            signed(part, slots.fourth, slots.fifth, verified, fit)
+            signed(part, signature, key, verified, fit)
         }
     }
 }
