@@ -1,1 +1,2 @@
 pub mod Admission
+pub mod AdmissionLaws

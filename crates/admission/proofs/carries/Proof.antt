@@ -1,3 +1,15 @@
+-- `admission::carries` meets its contract: the topic is among those from here on exactly where it is among all.
+use Prim.Native.Nat.{ℕ, _+_, _-_, _≤_, _<_}
+use mathlib.Core.Path.{_≡_, refl, sym, _∙_}
+use native.Mathlib.Omega.{arith}
+use lib.ListN.{length}
+use Rattle.protobuf.specs.Walk.{walkAt}
+use Rattle.protobuf.specs.Laws.{field-stands}
+use Rattle.rows.specs.Ids.{among}
+use Rattle.rows.specs.IdsLaws.{among-none}
+use Rattle.admission.specs.Admission.{topicsAlong, topicsOf}
+use Rattle.admission.proofs.Turns.{topics-end, topics-refused, topics-past, carries-here, carries-other, carries-past}
+use borrow.Author.Needs.{needs}
 use Rattle.admission.proofs.carries.Statement.{statement}
 use Rattle.admission.proofs.carries.Tie as tie
 use Rattle.admission.proofs.carries.Reads as reads
@@ -7,82 +19,65 @@ use Rattle.protobuf.proofs.read_field.Reads as read-field-reads
 use Rattle.rows.proofs.same.Reads as same-reads
 
 abbrev Inv-loop : tie.InvT-loop
-Inv-loop part topic at₀ at = ?
+Inv-loop part topic at₀ at = (at ≤ length part) × (among topic (topicsAlong part (walkAt part at)) ≡ among topic (topicsOf part))
 
 abbrev μ-loop : tie.MeasureT-loop
-μ-loop part topic at₀ at = ?
+μ-loop part topic at₀ at = length part - at
 
--- src/lib.rt:129:5
 loop-holds : tie.Need-loop-holds Inv-loop μ-loop
-loop-holds c = ?
+unfolding topicsOf
+loop-holds c = (omega arith, refl)
 
--- src/lib.rt:130:13
 read-field-requires : tie.Need-read-field-requires Inv-loop μ-loop
-read-field-requires c κs = ?
+read-field-requires c κs = search needs
 
--- src/lib.rt:133:17
 enum-told : tie.Need-enum-told Inv-loop μ-loop
-enum-told c = ?
+enum-told c = search needs
 
--- src/lib.rt:133:17
 returns : tie.Need-returns Inv-loop μ-loop
-returns c = ?
+returns c = among-none _ _ _ (topics-end _ _ (sym (c .enum-told .given .1) ∙ (c .before .before .read-field .ensures))) ((c .before .before .before .before .loop .inv .1))
 
--- src/lib.rt:136:17
 enum-told-2 : tie.Need-enum-told-2 Inv-loop μ-loop
-enum-told-2 c = ?
+enum-told-2 c = search needs
 
--- src/lib.rt:136:17
 returns-2 : tie.Need-returns-2 Inv-loop μ-loop
-returns-2 c = ?
+returns-2 c = among-none _ _ _ (topics-refused _ _ _ (sym (c .enum-told2 .given .1) ∙ (c .before .before .read-field .ensures))) ((c .before .before .before .before .loop .inv .1))
 
--- src/lib.rt:138:22
 enum-known-step : tie.Need-enum-known-step Inv-loop μ-loop
-enum-known-step c = ?
+enum-known-step c = search needs
 
--- src/lib.rt:139:20
 is-topic-requires : tie.Need-is-topic-requires Inv-loop μ-loop
-is-topic-requires c κs = ?
+is-topic-requires c κs = search needs
 
--- src/lib.rt:142:29
 sub-same : tie.Need-sub-same Inv-loop μ-loop
-sub-same c = ?
+sub-same c = field-stands ((c .before .before .before .before .before .before .before .before .before .before .args .part .now)) ((c .before .before .before .before .before .before .before .loop .at)) _ (sym (c .before .before .before .step .given .1) ∙ (c .before .before .before .before .before .read-field .ensures)) .ends
 
--- src/lib.rt:142:29
 part-same-start : tie.Need-part-same-start Inv-loop μ-loop
-part-same-start c = ?
+part-same-start c = field-stands ((c .before .before .before .before .before .before .before .before .before .before .args .part .now)) ((c .before .before .before .before .before .before .before .loop .at)) _ (sym (c .before .before .before .step .given .1) ∙ (c .before .before .before .before .before .read-field .ensures)) .ends
 
--- src/lib.rt:142:29
 part-same-end : tie.Need-part-same-end Inv-loop μ-loop
-part-same-end c = ?
+part-same-end c = field-stands ((c .before .before .before .before .before .before .before .before .before .before .args .part .now)) ((c .before .before .before .before .before .before .before .loop .at)) _ (sym (c .before .before .before .step .given .1) ∙ (c .before .before .before .before .before .read-field .ensures)) .within
 
--- src/lib.rt:142:24
 same-requires : tie.Need-same-requires Inv-loop μ-loop
-same-requires c κs = ?
+same-requires c κs = search needs
 
--- src/lib.rt:143:25
 returns-3 : tie.Need-returns-3 Inv-loop μ-loop
-returns-3 c = ?
+returns-3 c = carries-here ((c .before .before .before .before .before .before .before .before .before .before .before .before .before .args .part .now)) ((c .before .before .before .before .before .before .before .before .before .before .before .before .before .args .topic .now)) ((c .before .before .before .before .before .before .before .before .before .before .loop .at)) ((c .before .before .before .before .before .before .step .given .0 .0)) _ (sym (c .before .before .before .before .before .before .step .given .1) ∙ (c .before .before .before .before .before .before .before .before .read-field .ensures)) (sym (c .before .before .before .before .is-topic .ensures) ∙ (c .before .before .before .if1 .taken)) ((c .before .before .before .before .before .before .before .before .before .before .loop .inv .1)) (sym (c .before .same .ensures) ∙ (c .if2 .taken))
 
--- src/lib.rt:129:5
 loop-less : tie.Need-loop-less Inv-loop μ-loop
-loop-less c = ?
+loop-less c = omega (arith, field-stands ((c .before .before .before .before .before .before .before .before .before .before .before .before .before .args .part .now)) ((c .before .before .before .before .before .before .before .before .before .before .loop .at)) ((c .before .before .before .before .before .before .step .given .0 .0)) (sym (c .before .before .before .before .before .before .step .given .1) ∙ (c .before .before .before .before .before .before .before .before .read-field .ensures)))
 
--- src/lib.rt:129:5
 loop-again : tie.Need-loop-again Inv-loop μ-loop
-loop-again c = ?
+loop-again c = (field-stands ((c .before .before .before .before .before .before .before .before .before .before .before .before .before .args .part .now)) ((c .before .before .before .before .before .before .before .before .before .before .loop .at)) ((c .before .before .before .before .before .before .step .given .0 .0)) (sym (c .before .before .before .before .before .before .step .given .1) ∙ (c .before .before .before .before .before .before .before .before .read-field .ensures)) .within, carries-other ((c .before .before .before .before .before .before .before .before .before .before .before .before .before .args .part .now)) ((c .before .before .before .before .before .before .before .before .before .before .before .before .before .args .topic .now)) ((c .before .before .before .before .before .before .before .before .before .before .loop .at)) ((c .before .before .before .before .before .before .step .given .0 .0)) _ (sym (c .before .before .before .before .before .before .step .given .1) ∙ (c .before .before .before .before .before .before .before .before .read-field .ensures)) (sym (c .before .before .before .before .is-topic .ensures) ∙ (c .before .before .before .if1 .taken)) ((c .before .before .before .before .before .before .before .before .before .before .loop .inv .1)) (sym (c .before .same .ensures) ∙ (c .if2 .left)))
 
--- src/lib.rt:129:5
 loop-less-2 : tie.Need-loop-less-2 Inv-loop μ-loop
-loop-less-2 c = ?
+loop-less-2 c = omega (arith, field-stands ((c .before .before .before .before .before .before .before .before .before .before .args .part .now)) ((c .before .before .before .before .before .before .before .loop .at)) ((c .before .before .before .step .given .0 .0)) (sym (c .before .before .before .step .given .1) ∙ (c .before .before .before .before .before .read-field .ensures)))
 
--- src/lib.rt:129:5
 loop-again-2 : tie.Need-loop-again-2 Inv-loop μ-loop
-loop-again-2 c = ?
+loop-again-2 c = (field-stands ((c .before .before .before .before .before .before .before .before .before .before .args .part .now)) ((c .before .before .before .before .before .before .before .loop .at)) ((c .before .before .before .step .given .0 .0)) (sym (c .before .before .before .step .given .1) ∙ (c .before .before .before .before .before .read-field .ensures)) .within, carries-past ((c .before .before .before .before .before .before .before .before .before .before .args .part .now)) ((c .before .before .before .before .before .before .before .before .before .before .args .topic .now)) ((c .before .before .before .before .before .before .before .loop .at)) ((c .before .before .before .step .given .0 .0)) _ (sym (c .before .before .before .step .given .1) ∙ (c .before .before .before .before .before .read-field .ensures)) (sym (c .before .is-topic .ensures) ∙ (c .if1 .left)) ((c .before .before .before .before .before .before .before .loop .inv .1)))
 
--- src/lib.rt:125:1
 returns-4 : tie.Need-returns-4 Inv-loop μ-loop
-returns-4 c = ?
+returns-4 c = among-none _ _ _ (topics-past _ _ (c .loop-test .left)) ((c .before .loop .inv .1))
 
 pub carries-spec : {M : Type 1} → statement M
 carries-spec =

@@ -1,3 +1,7 @@
+-- `admission::signed` meets its contract.
+use mathlib.Core.Path.{_≡_, sym, _∙_}
+use borrow.Author.Tests.{eq-eqb, ne-eqb}
+use Rattle.admission.proofs.Turns.{not-true, not-false}
 use borrow.Author.Needs.{needs}
 use Rattle.admission.proofs.signed.Statement.{statement}
 use Rattle.admission.proofs.signed.Tie as tie
@@ -6,48 +10,38 @@ use Rattle.admission.proofs.signed.Lts as lts
 use Rattle.admission.proofs.limits.Reads as limits-reads
 use Rattle.ids.proofs.span.Reads as span-reads
 
--- src/lib.rt:177:33
 enum-known-signature : tie.Need-enum-known-signature
 enum-known-signature c = search needs
 
--- src/lib.rt:178:9
 enum-told : tie.Need-enum-told
 enum-told c = search needs
 
--- src/lib.rt:179:37
 enum-told-2 : tie.Need-enum-told-2
 enum-told-2 c = search needs
 
--- src/lib.rt:179:13
 returns : tie.Need-returns
-returns c = ?
+returns c = simp ((c .before .before .enum-told .given .1), (c .enum-told2 .given .1))
 
 enum-told-3 : tie.Need-enum-told-3
 enum-told-3 c = search needs
 
--- src/lib.rt:181:9
 returns-2 : tie.Need-returns-2
-returns-2 c = ?
+returns-2 c = simp ((c .before .before .enum-told .given .1), (c .enum-told3 .given .1))
 
--- src/lib.rt:183:9
 span-requires : tie.Need-span-requires
 span-requires c κs = search needs
 
--- src/lib.rt:185:9
 returns-3 : tie.Need-returns-3
-returns-3 c = ?
+returns-3 c = simp ((c .before .before .before .signature .given .1), (c .before .span .ensures), ne-eqb _ _ (λ z. (c .if1 .taken) ((c .before .span .ensures) ∙ z)))
 
--- src/lib.rt:188:9
 returns-4 : tie.Need-returns-4
-returns-4 c = ?
+returns-4 c = simp ((c .before .before .before .before .signature .given .1), eq-eqb _ _ (sym (c .before .before .span .ensures) ∙ (c .before .if1 .left)), not-true (c .before .before .before .before .before .before .before .args .verified) (c .if2 .taken))
 
--- src/lib.rt:190:5
 limits-requires : tie.Need-limits-requires
 limits-requires c κs = search needs
 
--- src/lib.rt:174:1
 returns-5 : tie.Need-returns-5
-returns-5 c = ?
+returns-5 c = (c .limits .ensures) ∙ simp ((c .before .before .before .before .before .signature .given .1), eq-eqb _ _ (sym (c .before .before .before .span .ensures) ∙ (c .before .before .if1 .left)), not-false (c .before .before .before .before .before .before .before .before .args .verified) (c .before .if2 .left))
 
 pub signed-spec : {M : Type 1} → statement M
 signed-spec =

@@ -1,3 +1,13 @@
+-- `admission::topics_of` meets its contract: the topics passed and those from here on are all of them.
+use Prim.Native.Nat.{ℕ, _+_, _-_, _≤_, _<_}
+use mathlib.Core.Path.{_≡_, refl, sym, _∙_}
+use native.Mathlib.Omega.{arith}
+use lib.ListN.{length}
+use Rattle.protobuf.specs.Walk.{walkAt, isBytes}
+use Rattle.protobuf.specs.Laws.{field-stands}
+use Rattle.admission.specs.Admission.{topicsAlong, topicsOf, firstLong}
+use Rattle.admission.proofs.Turns.{topics-end, topics-refused, topics-past, count-more, at-most, longFrom, long-more, topics-done}
+use borrow.Author.Needs.{needs}
 use Rattle.admission.proofs.topics_of.Statement.{statement}
 use Rattle.admission.proofs.topics_of.Tie as tie
 use Rattle.admission.proofs.topics_of.Reads as reads
@@ -7,62 +17,52 @@ use Rattle.admission.proofs.long_after.Reads as long-after-reads
 use Rattle.protobuf.proofs.read_field.Reads as read-field-reads
 
 abbrev Inv-loop : tie.InvT-loop
-Inv-loop part at₀ n₀ long₀ at n long = ?
+Inv-loop part at₀ n₀ long₀ at n long = (at ≤ length part) × (n ≤ at) × (length (topicsOf part) ≡ n + length (topicsAlong part (walkAt part at))) × (firstLong (topicsOf part) ≡ longFrom long (topicsAlong part (walkAt part at)))
 
 abbrev μ-loop : tie.MeasureT-loop
-μ-loop part at₀ n₀ long₀ at n long = ?
+μ-loop part at₀ n₀ long₀ at n long = length part - at
 
--- src/lib.rt:105:5
 loop-holds : tie.Need-loop-holds Inv-loop μ-loop
-loop-holds c = ?
+unfolding topicsOf
+loop-holds c = (omega arith, omega arith, omega arith, refl)
 
--- src/lib.rt:106:13
 read-field-requires : tie.Need-read-field-requires Inv-loop μ-loop
-read-field-requires c κs = ?
+read-field-requires c κs = search needs
 
--- src/lib.rt:109:17
 enum-told : tie.Need-enum-told Inv-loop μ-loop
-enum-told c = ?
+enum-told c = search needs
 
--- src/lib.rt:109:17
 returns : tie.Need-returns Inv-loop μ-loop
-returns c = ?
+returns c = topics-done _ _ _ _ (topics-end _ _ (sym (c .enum-told .given .1) ∙ (c .before .before .read-field .ensures))) ((c .before .before .before .before .loop .inv .2)) ((c .before .before .before .before .loop .inv .3))
 
--- src/lib.rt:112:17
 enum-told-2 : tie.Need-enum-told-2 Inv-loop μ-loop
-enum-told-2 c = ?
+enum-told-2 c = search needs
 
--- src/lib.rt:112:17
 returns-2 : tie.Need-returns-2 Inv-loop μ-loop
-returns-2 c = ?
+returns-2 c = topics-done _ _ _ _ (topics-refused _ _ _ (sym (c .enum-told2 .given .1) ∙ (c .before .before .read-field .ensures))) ((c .before .before .before .before .loop .inv .2)) ((c .before .before .before .before .loop .inv .3))
 
--- src/lib.rt:114:22
 enum-known-step : tie.Need-enum-known-step Inv-loop μ-loop
-enum-known-step c = ?
+enum-known-step c = search needs
 
--- src/lib.rt:115:17
 count-after-requires : tie.Need-count-after-requires Inv-loop μ-loop
-count-after-requires c κs = ?
+count-after-requires c κs = omega arith
 
--- src/lib.rt:116:38
 sub-long-after : tie.Need-sub-long-after Inv-loop μ-loop
-sub-long-after c = ?
+sub-long-after c = field-stands ((c .before .before .before .before .before .before .before .before .before .args .part .now)) ((c .before .before .before .before .before .before .before .loop .at)) _ (sym (c .before .before .before .step .given .1) ∙ (c .before .before .before .before .before .read-field .ensures)) .ends
 
--- src/lib.rt:116:17
 long-after-requires : tie.Need-long-after-requires Inv-loop μ-loop
-long-after-requires c κs = ?
+long-after-requires c κs = search needs
 
--- src/lib.rt:105:5
 loop-less : tie.Need-loop-less Inv-loop μ-loop
-loop-less c = ?
+loop-less c = omega (arith, field-stands ((c .before .before .before .before .before .before .before .before .before .before .args .part .now)) ((c .before .before .before .before .before .before .before .before .loop .at)) ((c .before .before .before .before .step .given .0 .0)) (sym (c .before .before .before .before .step .given .1) ∙ (c .before .before .before .before .before .before .read-field .ensures)))
 
--- src/lib.rt:105:5
 loop-again : tie.Need-loop-again Inv-loop μ-loop
-loop-again c = ?
+loop-again c = let st = field-stands ((c .before .before .before .before .before .before .before .before .before .before .args .part .now)) ((c .before .before .before .before .before .before .before .before .loop .at)) ((c .before .before .before .before .step .given .0 .0)) (sym (c .before .before .before .before .step .given .1) ∙ (c .before .before .before .before .before .before .read-field .ensures)) in
+    let k = at-most (isBytes 4 ((c .before .before .before .before .step .given .0 .0))) ((c .before .before .before .before .before .before .before .before .loop .n)) (c .before .before .count-after .result) (c .before .before .count-after .ensures) in
+    (st .within, omega arith, (c .before .before .before .before .before .before .before .before .loop .inv .2) ∙ count-more ((c .before .before .before .before .before .before .before .before .before .before .args .part .now)) ((c .before .before .before .before .before .before .before .before .loop .at)) ((c .before .before .before .before .before .before .before .before .loop .n)) (c .before .before .count-after .result) ((c .before .before .before .before .step .given .0 .0)) (sym (c .before .before .before .before .step .given .1) ∙ (c .before .before .before .before .before .before .read-field .ensures)) (c .before .before .count-after .ensures), (c .before .before .before .before .before .before .before .before .loop .inv .3) ∙ long-more ((c .before .before .before .before .before .before .before .before .before .before .args .part .now)) ((c .before .before .before .before .before .before .before .before .loop .at)) ((c .before .before .before .before .before .before .before .before .loop .long)) (c .long-after .result) ((c .before .before .before .before .step .given .0 .0)) (sym (c .before .before .before .before .step .given .1) ∙ (c .before .before .before .before .before .before .read-field .ensures)) st (c .long-after .ensures))
 
--- src/lib.rt:98:1
 returns-3 : tie.Need-returns-3 Inv-loop μ-loop
-returns-3 c = ?
+returns-3 c = topics-done _ _ _ _ (topics-past _ _ (c .loop-test .left)) ((c .before .loop .inv .2)) ((c .before .loop .inv .3))
 
 pub topics-of-spec : {M : Type 1} → statement M
 topics-of-spec =
