@@ -19,19 +19,16 @@ use Rattle.protobuf.specs.WalkLaws.{walk-on, walk-end}
 use Rattle.rows.specs.Ids.{sameBytes, among}
 use Rattle.rows.specs.IdsLaws.{same-append, same-length, among-more, among-here}
 use Rattle.schema.specs.declared.Kind.the-variants as kind
-use Rattle.schema.specs.declared.Counted.the-variants as count
 use Rattle.schema.specs.declared.Slots.{Slots}
-use Rattle.schema.specs.Count.{counted}
 use Rattle.schema.specs.Slots.{slotsOf}
 use Rattle.ids.specs.declared.MessageId.{MessageId}
 use Rattle.ids.specs.declared.MessageId.the-variants as id
 use Rattle.ids.specs.Ids.{onFrom, idParts, idBytes}
 use Rattle.ids.specs.IdLaws.{part-length}
-use Rattle.admission.specs.declared.Unfit.{Unfit}
 use Rattle.admission.specs.declared.Unfit.the-variants.{TopicCount, TopicTooLong, MessageTooLong}
 use Rattle.admission.specs.declared.Admission.{Admission}
 use Rattle.admission.specs.declared.Admission.the-variants as admission
-use Rattle.admission.specs.Admission.{topicsAlong, topicsOf, firstLong, longAfter, onLimits, onId, idGiven, whereRead, admissionOf, givesId}
+use Rattle.admission.specs.Admission.{topicsAlong, topicsOf, firstLong, longAfter, onLimits, onId, admissionOf}
 
 -- ---- the topics from a place on
 pub topics-on : (p : List ℕ) (at : ℕ) (f : Field) → step.At f ≡ readField p at → topicsAlong p (walkAt p at) ≡ cond (isBytes 4 f) (valueIn p f ∷ topicsAlong p (walkAt p (f .next))) (topicsAlong p (walkAt p (f .next)))
@@ -158,16 +155,3 @@ module _ (p i : List ℕ) (a e b f : ℕ) (o : a ≤ e) (l : e ≤ length p) whe
 
   pub parts-differ : sameBytes (between p a e) (take (e - a) i) ≡ false → false ≡ sameBytes (idBytes p a e b f) i
   parts-differ h = sym (simp h at split)
-
--- ---- whether a message gives an id
-pub gives-refused : (p i : List ℕ) (why : WireError) → counted kind.RawMessage p ≡ count.Refused why → false ≡ givesId p i
-unfolding givesId
-gives-refused p i why h = ap (λ c. whereRead c (idGiven p i (admissionOf p true))) (sym h)
-
-pub gives-unfit : (p i : List ℕ) (n : ℕ) (why : Unfit) → counted kind.RawMessage p ≡ count.Records n → admissionOf p true ≡ admission.Unfit why → false ≡ givesId p i
-unfolding givesId
-gives-unfit p i n why h k = ap (idGiven p i) (sym k) ∙ ap (λ c. whereRead c (idGiven p i (admissionOf p true))) (sym h)
-
-pub gives-fit : (p i : List ℕ) (n a e b f : ℕ) (r : Bool) → counted kind.RawMessage p ≡ count.Records n → admissionOf p true ≡ admission.Fit a e b f → r ≡ sameBytes (idBytes p a e b f) i → r ≡ givesId p i
-unfolding givesId
-gives-fit p i n a e b f r h k g = g ∙ ap (idGiven p i) (sym k) ∙ ap (λ c. whereRead c (idGiven p i (admissionOf p true))) (sym h)

@@ -2,8 +2,7 @@
 use mathlib.Core.Path.{_≡_, sym, _∙_}
 use mathlib.Core.Bool.{true}
 use Rattle.ids.specs.IdLaws.{id-fits}
-use Rattle.admission.specs.AdmissionLaws.{fit-parts}
-use Rattle.admission.proofs.Turns.{gives-refused, gives-unfit, gives-fit}
+use Rattle.admission.specs.AdmissionLaws.{fit-parts, gives-refused, gives-unfit, gives-fit}
 use borrow.Author.Needs.{needs}
 use Rattle.admission.proofs.gives_id.Statement.{statement}
 use Rattle.admission.proofs.gives_id.Tie as tie
