@@ -1,8 +1,8 @@
 -- A turn of the walk over a message's topics, and which case it is.
 use Prim.Native.Nat.{ℕ, _+_, _-_, _≤_, _<_}
 use mathlib.Core.Path.{_≡_, refl, sym, ap, _∙_}
-use mathlib.Core.Bool.{Bool, true, false, cond, not, _&&_, _||_}
-use mathlib.Core.List.{List, [], _∷_, _++_}
+use mathlib.Core.Bool.{Bool, true, false, cond, not, _&&_}
+use mathlib.Core.List.{List, [], _∷_}
 use native.Mathlib.Omega.{arith}
 use lib.ListN.{length, take, drop, length-append, length-drop}
 use lib.Seq.{take-all}
@@ -14,7 +14,7 @@ use Rattle.protobuf.specs.declared.WireError.{WireError}
 use Rattle.protobuf.specs.declared.Step.the-variants as step
 use Rattle.protobuf.specs.Field.{readField}
 use Rattle.protobuf.specs.Laws.{Stands}
-use Rattle.protobuf.specs.Walk.{Fields, _then_, walkAt, isBytes, between, valueIn}
+use Rattle.protobuf.specs.Walk.{_then_, walkAt, isBytes, between, valueIn}
 use Rattle.protobuf.specs.WalkLaws.{walk-on, walk-end}
 use Rattle.rows.specs.Ids.{sameBytes, among}
 use Rattle.rows.specs.IdsLaws.{same-append, same-length, among-more, among-here}
@@ -22,7 +22,6 @@ use Rattle.schema.specs.declared.Kind.the-variants as kind
 use Rattle.schema.specs.declared.Slots.{Slots}
 use Rattle.schema.specs.Slots.{slotsOf}
 use Rattle.ids.specs.declared.MessageId.{MessageId}
-use Rattle.ids.specs.declared.MessageId.the-variants as id
 use Rattle.ids.specs.Ids.{onFrom, idParts, idBytes}
 use Rattle.ids.specs.IdLaws.{part-length}
 use Rattle.admission.specs.declared.Unfit.the-variants.{TopicCount, TopicTooLong, MessageTooLong}

@@ -1,19 +1,19 @@
 -- Laws of admission: a message that is taken has an id and keeps the limits; 27 comes from the host's word alone; and which id a message gives.
-use Prim.Native.Nat.{ℕ, _+_, _-_, _≤_, _<_}
+use Prim.Native.Nat.{ℕ, _+_, _-_, _≤_}
 use mathlib.Core.Path.{_≡_, refl, sym, ap, ap₂, _∙_}
-use mathlib.Core.Bool.{Bool, true, false, cond, _&&_, _||_}
-use mathlib.Core.List.{List}
+use mathlib.Core.Bool.{Bool, true, false}
+use mathlib.Core.List.{List, [], _∷_}
 use native.Mathlib.Omega.{arith}
 use lib.ListN.{length}
 use lib.Dec.{ltb, eqb}
-use borrow.Author.Tests.{ltb-false, eqb-true, eqb-false}
+use borrow.Author.Tests.{ltb-true, ltb-false, eqb-true, eqb-false}
 use Rattle.basis.specs.Cases.{either, clash}
 use Rattle.protobuf.specs.declared.Checked.the-variants.{Fine}
 use Rattle.protobuf.specs.declared.Field.{Field}
 use Rattle.protobuf.specs.declared.WireError.{WireError}
 use Rattle.protobuf.specs.Walk.{Fields, walkAt, between, isBytes}
 use Rattle.protobuf.specs.WalkLaws.{along}
-use Rattle.rows.specs.Ids.{sameBytes}
+use Rattle.rows.specs.Ids.{sameBytes, among}
 use Rattle.rows.specs.IdsLaws.{same-self, same-equal}
 use Rattle.schema.specs.declared.Kind.the-variants as kind
 use Rattle.schema.specs.declared.Role.the-variants.{Sub}
@@ -31,7 +31,7 @@ use Rattle.ids.specs.declared.MessageId.the-variants as id
 use Rattle.ids.specs.Ids.{onCounted, acceptOf, messageAlong, messageAt, idParts, idBytes}
 use Rattle.ids.specs.IdLaws.{id-size}
 use Rattle.admission.specs.declared.Unfit.{Unfit}
-use Rattle.admission.specs.declared.Unfit.the-variants.{MissingFrom, InvalidFrom, InvalidSeqno, KeyWithoutSignature, MissingSignature, InvalidSignatureLength, SignatureInvalid, TopicCount, TopicTooLong, MessageTooLong}
+use Rattle.admission.specs.declared.Unfit.the-variants.{MissingFrom, InvalidFrom, InvalidSeqno, SignatureInvalid}
 use Rattle.admission.specs.declared.Admission.{Admission}
 use Rattle.admission.specs.declared.Admission.the-variants as admission
 use Rattle.admission.specs.Admission.{topicsOf, firstLong, onLimits, onWord, onSignature, onId, admissionOf, idGiven, whereRead, givesId}
@@ -90,6 +90,15 @@ fit-limits p word a e b f h = of-id a e b f p word (idParts p) h .2
 pub fit-word : (p : List ℕ) (word : Bool) (a e b f : ℕ) → admissionOf p word ≡ admission.Fit a e b f → word ≡ true
 unfolding admissionOf
 fit-word p word a e b f h = of-id a e b f p word (idParts p) h .1
+
+-- where firstLong is 0, no topic is above 1,024 bytes
+pub topic-short : (t : List ℕ) (l : List (List ℕ)) → firstLong l ≡ 0 → among t l ≡ true → length t ≤ 1024
+unfolding firstLong among
+topic-short t [] h k = clash (cc)
+topic-short t (j ∷ l) h k =
+    either (ltb 1024 (length j)) (λ u. let z : length j ≡ 0 = simp u at h in let w = ltb-true 1024 (length j) u in absurd (omega arith))
+    (λ u. either (sameBytes j t) (λ v. let w = ltb-false 1024 (length j) u in let z = ap length (same-equal j t v) in omega arith)
+    (λ v. topic-short t l (simp u at h) (simp v at k)))
 
 -- its id has 2 to 128 bytes
 pub fit-id : (p : List ℕ) (word : Bool) (a e b f : ℕ) → admissionOf p word ≡ admission.Fit a e b f → (2 ≤ length (idBytes p a e b f)) × (length (idBytes p a e b f) ≤ 128)

@@ -1,5 +1,5 @@
 -- `admission::admit` meets its contract: the id's places pick the case.
-use mathlib.Core.Path.{_≡_, sym, ap, _∙_}
+use mathlib.Core.Path.{_≡_, ap, _∙_}
 use Rattle.schema.specs.declared.Slots.{Slots}
 use Rattle.admission.specs.declared.Admission.the-variants as admission
 use Rattle.admission.specs.Admission.{onLimits, onWord, onSignature}

@@ -1,6 +1,5 @@
 -- `admission::is_topic` meets its contract.
 use borrow.Author.Tests.{eq-eqb, ne-eqb}
-use borrow.Author.Needs.{needs}
 use Rattle.admission.proofs.is_topic.Statement.{statement}
 use Rattle.admission.proofs.is_topic.Tie as tie
 use Rattle.admission.proofs.is_topic.Reads as reads
