@@ -9,6 +9,8 @@ use borrow.Author.Tests.{eq-eqb, ne-eqb, le-leb, lt-leb, lt-ltb, le-ltb}
 use Rattle.basis.specs.Cases.{clash}
 use Rattle.rows.specs.Rows.{placeOf}
 use Rattle.rows.specs.Ids.{distinct}
+use Rattle.rows.specs.Store.{Ring, Sound, idsIn, lensIn, allUpTo}
+use Rattle.rows.specs.StoreLaws.{short-in}
 use Rattle.seen.specs.declared.SeenCache.{SeenCache}
 use Rattle.seen.specs.declared.Lent.the-variants as lent
 use Rattle.seen.specs.declared.Insert.{Insert}
@@ -17,8 +19,7 @@ use Rattle.seen.specs.declared.Contains.the-variants as contains
 use Rattle.seen.specs.declared.Gc.the-variants as gc
 use Rattle.seen.specs.declared.NextExpiry.the-variants as next
 use Rattle.seen.specs.Entries.{until}
-use Rattle.seen.specs.State.{Ring, Sound, idsIn, lensIn, shortAll, wellFormed}
-use Rattle.seen.specs.StateLaws.{short-in}
+use Rattle.seen.specs.State.{wellFormed}
 use Rattle.seen.specs.Calls.{capOf, wholeRows, lentOf, heldIn, cleaned, entered, enteredStore, insertAnswer, insertCache, insertStore, containsAnswer, gcAnswer, gcCache, nextAnswer}
 use Rattle.seen.specs.Laws.{lent-sound, not-fresh-stays}
 
@@ -47,36 +48,39 @@ module _ (c : SeenCache) (st : List ℕ) where
       lent-count h = simp (whole, le-leb (c .start) (length st / 129) a, lt-leb (c .count) (length st / 129) h)
 
       module _ (b : c .count ≤ length st / 129) where
-        pub lent-long : shortAll (lensIn (length st / 129) (c .start) (c .count) (c .len)) ≡ false → lent.Malformed ≡ lentOf c st
+        pub lent-ring : length (c .len) ≡ 256 → Ring (length st / 129) (c .start) (c .count) (c .len)
+        lent-ring z = record { starts = a; within = b; size = omega arith }
+
+        pub lent-long : allUpTo 129 (lensIn (length st / 129) (c .start) (c .count) (c .len)) ≡ false → lent.Malformed ≡ lentOf c st
         unfolding lentOf wellFormed capOf
         lent-long h = simp (whole, le-leb (c .start) (length st / 129) a, le-leb (c .count) (length st / 129) b, h)
 
-        module _ (s : shortAll (lensIn (length st / 129) (c .start) (c .count) (c .len)) ≡ true) where
-          pub lent-rows : length (c .len) ≡ 256 → Sound (length st / 129) (c .start) (c .count) (c .len) st
+        module _ (s : allUpTo 129 (lensIn (length st / 129) (c .start) (c .count) (c .len)) ≡ true) where
+          pub lent-rows : length (c .len) ≡ 256 → Sound 129 (length st / 129) (c .start) (c .count) (c .len) st
           lent-rows z =
               record {
-                rows = record { few = f; starts = a; within = b; size = z };
+                rows = lent-ring z;
                 room = omega arith;
-                short = short-in (c .len) (length st / 129) (c .start) (c .count) s;
+                short = short-in 129 (c .len) (length st / 129) (c .start) (c .count) s;
               }
 
-          pub lent-twice : distinct (idsIn (length st / 129) (c .start) (c .count) (c .len) st) ≡ false → lent.Malformed ≡ lentOf c st
+          pub lent-twice : distinct (idsIn 129 (length st / 129) (c .start) (c .count) (c .len) st) ≡ false → lent.Malformed ≡ lentOf c st
           unfolding lentOf wellFormed capOf
           lent-twice h = simp (whole, le-leb (c .start) (length st / 129) a, le-leb (c .count) (length st / 129) b, s, h)
 
-          pub lent-fine : distinct (idsIn (length st / 129) (c .start) (c .count) (c .len) st) ≡ true → lent.Fine ≡ lentOf c st
+          pub lent-fine : distinct (idsIn 129 (length st / 129) (c .start) (c .count) (c .len) st) ≡ true → lent.Fine ≡ lentOf c st
           unfolding lentOf wellFormed capOf
           lent-fine h = simp (whole, le-leb (c .start) (length st / 129) a, le-leb (c .count) (length st / 129) b, s, h)
 
   -- a state that was tested
-  pub tested : lent.Fine ≡ lentOf c st → length (c .expiry) ≡ 256 → length (c .len) ≡ 256 → Sound (length st / 129) (c .start) (c .count) (c .len) st
+  pub tested : lent.Fine ≡ lentOf c st → length (c .expiry) ≡ 256 → length (c .len) ≡ 256 → Sound 129 (length st / 129) (c .start) (c .count) (c .len) st
   unfolding capOf
   tested h y z = lent-sound c st (sym h) (y, z)
 
   pub tested-ring : lent.Fine ≡ lentOf c st → length (c .expiry) ≡ 256 → length (c .len) ≡ 256 → Ring (length st / 129) (c .start) (c .count) (c .expiry)
   tested-ring h y z =
       let r = tested h y z .rows in
-      record { few = r .few; starts = r .starts; within = r .within; size = y }
+      record { starts = r .starts; within = r .within; size = omega (arith, r .size) }
 
 -- ---- contains
 module _ (c : SeenCache) (st id : List ℕ) where

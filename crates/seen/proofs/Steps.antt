@@ -5,13 +5,17 @@ use mathlib.Core.List.{List, [], _++_, append-assoc, append-nil}
 use native.Mathlib.Omega.{arith}
 use lib.ListN.{length, take, drop, set, length-drop, drop-of-length-le}
 use lib.Seq.{sets, sets-eq, take-all, take-length, drop-drop}
+use lib.Dec.{ltb}
 use borrow.Rule.Slice.PartMut.{midOf, putMid}
 use borrow.Author.Tests.{eq-eqb, ne-eqb}
 use Rattle.rows.specs.Rows.{placeOf}
+use Rattle.rows.specs.Ids.{indexOf}
+use Rattle.rows.specs.Store.{idsIn, lensIn, Sound}
+use Rattle.rows.specs.StoreLaws.{find-among}
 use Rattle.seen.specs.declared.SeenCache.{SeenCache}
-use Rattle.seen.specs.State.{Sound, expiriesIn, spent, dropped, appended}
+use Rattle.seen.specs.State.{spent, dropped, appended}
 use Rattle.seen.specs.StateLaws.{sound-dropped}
-use Rattle.seen.specs.Calls.{cleaned, entered, enteredStore}
+use Rattle.seen.specs.Calls.{heldIn, cleaned, entered, enteredStore}
 
 -- what a copy into the part from `at` on leaves in the whole
 pub sets-part : (st id y : List ℕ) (at : ℕ) → at + length id ≤ length st → y ≡ take (length id) id ++ drop (length id) (midOf at (length st - at) st) → putMid at (length st - at) st y ≡ sets st at id
@@ -33,7 +37,11 @@ appended-is cap n e p c h = rw h
 pub appended-store : (cap p : ℕ) (c : SeenCache) (st st2 id : List ℕ) → p ≡ placeOf cap (c .start) (c .count) → st2 ≡ sets st (p * 129) id → st2 ≡ sets st (placeOf cap (c .start) (c .count) * 129) id
 appended-store cap p c st st2 id h e = e ∙ ap (λ (i : ℕ). sets st (i * 129) id) h
 
-pub cleaned-is : (cap at k : ℕ) (c r : SeenCache) → k ≡ spent at (expiriesIn cap (c .start) (c .count) (c .expiry)) → r ≡ dropped cap k c → r ≡ cleaned cap at c
+pub held-is : (cap r : ℕ) (c : SeenCache) (st id : List ℕ) → r ≡ indexOf id (idsIn 129 cap (c .start) (c .count) (c .len) st) → ltb r (c .count) ≡ heldIn cap c st id
+unfolding heldIn
+held-is cap r c st id e = sym (find-among 129 cap (c .start) (c .count) (c .len) st id 0 r (omega arith) (omega arith))
+
+pub cleaned-is : (cap at k : ℕ) (c r : SeenCache) → k ≡ spent at (lensIn cap (c .start) (c .count) (c .expiry)) → r ≡ dropped cap k c → r ≡ cleaned cap at c
 unfolding cleaned
 cleaned-is cap at k c r e h = h ∙ ap (λ (n : ℕ). dropped cap n c) e
 
@@ -44,7 +52,7 @@ module _ (cap max : ℕ) (c : SeenCache) (st id : List ℕ) where
   entered-none n e r h d = let z = eq-eqb max 0 h in (rw z d, rw z)
 
   module _ (k : ℕ) (d : SeenCache) (some : max ≡ 0 → ⊥) (ek : k ≡ (c .count + 1) - max) (ed : d ≡ dropped cap k c) where
-    pub enter-room : Sound cap (c .start) (c .count) (c .len) st → max ≤ cap → Sound cap (d .start) (d .count) (d .len) st × (d .count < cap)
+    pub enter-room : Sound 129 cap (c .start) (c .count) (c .len) st → max ≤ cap → Sound 129 cap (d .start) (d .count) (d .len) st × (d .count < cap)
     unfolding dropped
     enter-room s m =
         let w = s .rows .within in

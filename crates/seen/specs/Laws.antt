@@ -1,9 +1,9 @@
 -- What the calls on a seen cache mean: they do to the entries what 01 says, a refused call changes nothing, and every state that the calls reach is
 -- well formed.
-use Prim.Native.Nat.{ℕ, zero, suc, _+_, _-_, _*_, _/_, _%_, _≤_}
+use Prim.Native.Nat.{ℕ, zero, suc, _-_, _*_, _/_, _%_, _≤_}
 use mathlib.Core.Path.{_≡_, refl, sym, ap, _∙_}
-use mathlib.Core.List.{List, [], _∷_, _++_, map, map-append}
-use mathlib.Core.Bool.{Bool, true, false, cond, not, _&&_}
+use mathlib.Core.List.{List, [], _∷_, _++_, map-append}
+use mathlib.Core.Bool.{Bool, true, false, cond, _&&_}
 use mathlib.Core.Option.{Option, none, some}
 use mathlib.Core.Logic.{_↔_}
 use native.Mathlib.Omega.{arith}
@@ -12,9 +12,12 @@ use lib.Seq.{length-sets}
 use lib.Dec.{leb, ltb, eqb}
 use borrow.Author.Tests.{leb-true, eqb-true, le-leb, eq-eqb, ne-eqb, le-ltb, ltb-false}
 use Rattle.basis.specs.Cases.{either, clash}
-use Rattle.rows.specs.Rows.{placeOf, ring}
+use Rattle.rows.specs.Rows.{placeOf, ring, newest}
+use Rattle.rows.specs.ListLaws.{map-drop}
 use Rattle.rows.specs.Ids.{among, distinct}
 use Rattle.rows.specs.IdsLaws.{distinct-drop, distinct-snoc}
+use Rattle.rows.specs.Store.{idsIn, lensIn, allUpTo, Sound}
+use Rattle.rows.specs.StoreLaws.{short-in, short-all, once-in, all-once}
 use Rattle.seen.specs.declared.SeenCache.{SeenCache}
 use Rattle.seen.specs.declared.Lent.{Lent}
 use Rattle.seen.specs.declared.Lent.the-variants as lent
@@ -24,9 +27,9 @@ use Rattle.seen.specs.declared.Contains.the-variants as contains
 use Rattle.seen.specs.declared.Gc.the-variants as gc
 use Rattle.seen.specs.declared.NextExpiry.{NextExpiry}
 use Rattle.seen.specs.declared.NextExpiry.the-variants as next
-use Rattle.seen.specs.Entries.{Entry, idsOf, holds, until, newest, inserted, live, frontExpiry}
-use Rattle.seen.specs.State.{Sound, idsIn, lensIn, entriesIn, rowAt, shortAll, wellFormed, expiriesIn, spent, fresh, dropped}
-use Rattle.seen.specs.StateLaws.{short-in, short-all, once-in, all-once, spent-in, sound-dropped}
+use Rattle.seen.specs.Entries.{Entry, idsOf, holds, until, inserted, live, frontExpiry}
+use Rattle.seen.specs.State.{entriesIn, rowAt, wellFormed, spent, fresh, dropped}
+use Rattle.seen.specs.StateLaws.{spent-in, sound-dropped}
 use Rattle.seen.specs.EntriesLaws.{length-entries, ids-entries, holds-entries, entries-dropped, entries-entered, sound-entered, sized-entered, entries-cleaned}
 use Rattle.seen.specs.Calls.{capOf, wholeRows, lentOf, heldIn, cleaned, entered, enteredStore, insertNumber, insertAnswer, insertCache, insertStore, containsAnswer, gcNumber, gcAnswer, gcCache, nextAnswer}
 use Rattle.seen.specs.WellFormed.{Sized, WellFormed, Reached, begun, recorded, swept}
@@ -57,34 +60,34 @@ rows-whole st w f = simp (eq-eqb (length st % 129) 0 (omega arith), le-leb (leng
 record Tests (cap : ℕ) (c : SeenCache) (st : List ℕ) : Type 0 where
   starts : c .start ≤ cap
   within : c .count ≤ cap
-  short : shortAll (lensIn cap (c .start) (c .count) (c .len)) ≡ true
-  once : distinct (idsIn cap (c .start) (c .count) (c .len) st) ≡ true
+  short : allUpTo 129 (lensIn cap (c .start) (c .count) (c .len)) ≡ true
+  once : distinct (idsIn 129 cap (c .start) (c .count) (c .len) st) ≡ true
 
 tests : (cap : ℕ) (c : SeenCache) (st : List ℕ) → wellFormed cap c st ≡ true → Tests cap c st
 unfolding wellFormed
 tests cap c st h =
     let a = both (leb (c .start) cap) _ h in
     let b = both (leb (c .count) cap) _ (a .1) in
-    let d = both (shortAll (lensIn cap (c .start) (c .count) (c .len))) _ (b .1) in
+    let d = both (allUpTo 129 (lensIn cap (c .start) (c .count) (c .len))) _ (b .1) in
     record { starts = leb-true (c .start) cap (a .0); within = leb-true (c .count) cap (b .0); short = d .0; once = d .1 }
 
 -- a state that passes is sound
-pub lent-sound : (c : SeenCache) (st : List ℕ) → lentOf c st ≡ lent.Fine → Sized c → Sound (capOf st) (c .start) (c .count) (c .len) st
+pub lent-sound : (c : SeenCache) (st : List ℕ) → lentOf c st ≡ lent.Fine → Sized c → Sound 129 (capOf st) (c .start) (c .count) (c .len) st
 lent-sound c st h z =
     let f = fine-tests c st h in
     let w = whole-room st (f .0) in
     let t = tests (capOf st) c st (f .1) in
     record {
-      rows = record { few = w .1; starts = t .starts; within = t .within; size = z .1 };
-      room = w .0;
-      short = short-in (c .len) (capOf st) (c .start) (c .count) (t .short);
+      rows = record { starts = t .starts; within = t .within; size = omega arith };
+      room = omega arith;
+      short = short-in 129 (c .len) (capOf st) (c .start) (c .count) (t .short);
     }
 
 -- and what they ask is enough
-fine-of : (c : SeenCache) (st : List ℕ) → length st ≡ capOf st * 129 → capOf st ≤ 256 → c .start ≤ capOf st → c .count ≤ capOf st
-    → shortAll (lensIn (capOf st) (c .start) (c .count) (c .len)) ≡ true → distinct (idsIn (capOf st) (c .start) (c .count) (c .len) st) ≡ true → lentOf c st ≡ lent.Fine
+fine-of : (c : SeenCache) (st : List ℕ) → wholeRows st ≡ true → c .start ≤ capOf st → c .count ≤ capOf st
+    → allUpTo 129 (lensIn (capOf st) (c .start) (c .count) (c .len)) ≡ true → distinct (idsIn 129 (capOf st) (c .start) (c .count) (c .len) st) ≡ true → lentOf c st ≡ lent.Fine
 unfolding lentOf wellFormed
-fine-of c st w f a b s d = simp (rows-whole st w f, le-leb (c .start) (capOf st) a, le-leb (c .count) (capOf st) b, s, d)
+fine-of c st w a b s d = simp (w, le-leb (c .start) (capOf st) a, le-leb (c .count) (capOf st) b, s, d)
 
 -- ---- only a fresh id changes anything
 pub not-fresh-stays : (max at ttl : ℕ) (c : SeenCache) (st id : List ℕ) (a : Insert) → insertAnswer max c st id ≡ a → (a ≡ insert.Fresh → ⊥)
@@ -107,11 +110,6 @@ front-of : (f : ℕ → Entry) (cap start count : ℕ) → cond (eqb count 0) ne
 unfolding ring frontExpiry
 front-of f cap start zero = refl
 front-of f cap start (suc n) = rw (ne-eqb (suc n) 0 (λ e. omega arith))
-
-map-drop : {A B : Type 0} (f : A → B) (k : ℕ) (l : List A) → map f (drop k l) ≡ drop k (map f l)
-map-drop f zero l = refl
-map-drop f (suc k) [] = refl
-map-drop f (suc k) (x ∷ l) = map-drop f k l
 
 module _ (c : SeenCache) (st : List ℕ) (fine : lentOf c st ≡ lent.Fine) where
   -- an id is held or fresh
@@ -178,26 +176,24 @@ well-formed-exactly c st = (forth, back)
           few = w .1;
           starts = t .starts;
           within = t .within;
-          short = short-in (c .len) (capOf st) (c .start) (c .count) (t .short);
-          once = once-in (c .len) st (capOf st) (c .start) (c .count) (t .once);
+          short = short-in 129 (c .len) (capOf st) (c .start) (c .count) (t .short);
+          once = once-in 129 (c .len) st (capOf st) (c .start) (c .count) (t .once);
         }
 
     back : WellFormed c st → lentOf c st ≡ lent.Fine
     back w =
-        fine-of c st (w .whole) (w .few) (w .starts) (w .within) (short-all (c .len) (capOf st) (c .start) (c .count) (w .short))
-        (all-once (c .len) st (capOf st) (c .start) (c .count) (w .once))
+        fine-of c st (rows-whole st (w .whole) (w .few)) (w .starts) (w .within) (short-all 129 (c .len) (capOf st) (c .start) (c .count) (w .short))
+        (all-once 129 (c .len) st (capOf st) (c .start) (c .count) (w .once))
 
 -- ---- every state that the calls reach is well formed
-sound-fine : (c : SeenCache) (st : List ℕ) → Sound (capOf st) (c .start) (c .count) (c .len) st → distinct (idsIn (capOf st) (c .start) (c .count) (c .len) st) ≡ true → lentOf c st ≡ lent.Fine
-sound-fine c st s d =
+sound-fine : (c : SeenCache) (st : List ℕ) → wholeRows st ≡ true → Sound 129 (capOf st) (c .start) (c .count) (c .len) st → distinct (idsIn 129 (capOf st) (c .start) (c .count) (c .len) st) ≡ true → lentOf c st ≡ lent.Fine
+sound-fine c st w s d =
     let r = s .rows in
-    fine-of c st (s .room) (r .few) (r .starts) (r .within) (short-all (c .len) (capOf st) (c .start) (c .count) (s .short)) d
+    fine-of c st w (r .starts) (r .within) (short-all 129 (c .len) (capOf st) (c .start) (c .count) (s .short)) d
 
 pub fresh-fine : (st : List ℕ) → wholeRows st ≡ true → lentOf fresh st ≡ lent.Fine
-unfolding fresh idsIn lensIn ring shortAll distinct
-fresh-fine st h =
-    let w = whole-room st h in
-    fine-of fresh st (w .0) (w .1) (omega arith) (omega arith) refl refl
+unfolding fresh idsIn lensIn ring allUpTo distinct
+fresh-fine st h = fine-of fresh st h (omega arith) (omega arith) refl refl
 
 pub fresh-sized : Sized fresh
 unfolding fresh
@@ -212,13 +208,32 @@ fresh-tests max c st id f h =
     (λ u. either (heldIn (capOf st) c st id) (λ v. clash (let z = simp (t, f, u, v) at h in cc))
     (λ v. (ltb-false (capOf st) max t, ltb-false 129 (length id) u, v))))
 
+-- ---- an insert keeps the store's length
 same-cap : (st st2 : List ℕ) → length st2 ≡ length st → capOf st2 ≡ capOf st
 unfolding capOf
 same-cap st st2 e = ap (λ (n : ℕ). n / 129) e
 
+same-whole : (st st2 : List ℕ) → length st2 ≡ length st → wholeRows st2 ≡ wholeRows st
+unfolding wholeRows capOf
+same-whole st st2 e = ap (λ (n : ℕ). eqb (n % 129) 0 && leb (n / 129) 256) e
+
 length-entered : (cap max : ℕ) (c : SeenCache) (st id : List ℕ) → length (enteredStore cap max c st id) ≡ length st
 unfolding enteredStore
 length-entered cap max c st id = either (eqb max 0) (λ t. rw t) (λ t. rw t (length-sets st _ id))
+
+length-by : (max : ℕ) (c : SeenCache) (st id : List ℕ) (a : Insert) → insertAnswer max c st id ≡ a → length (insertStore max c st id) ≡ length st
+unfolding insertStore
+length-by max c st id insert.Fresh e = rw e (length-entered (capOf st) max c st id)
+length-by max c st id insert.Held e = rw e
+length-by max c st id insert.BadSetting e = rw e
+length-by max c st id insert.BadStore e = rw e
+length-by max c st id insert.Malformed e = rw e
+length-by max c st id (insert.TooLong n) e = rw e
+
+pub insert-length : (max : ℕ) (c : SeenCache) (st id : List ℕ) → (length (insertStore max c st id) ≡ length st) × (capOf (insertStore max c st id) ≡ capOf st)
+insert-length max c st id =
+    let e = length-by max c st id (insertAnswer max c st id) refl in
+    (e, same-cap st (insertStore max c st id) e)
 
 -- the ids that are left, and an id that is not among them, all differ
 distinct-newest : (max : ℕ) (es : List Entry) (x : Entry) → distinct (idsOf es) ≡ true → among (x .id) (idsOf es) ≡ false → distinct (idsOf (newest max (es ++ (x ∷ [])))) ≡ true
@@ -236,12 +251,13 @@ entered-fine max e c st id f z m k n =
     let st2 = enteredStore cap max c st id in
     let s = lent-sound c st f z in
     let t = tests cap c st (fine-tests c st f .1) in
-    let same : capOf st2 ≡ cap = same-cap st st2 (length-entered cap max c st id) in
+    let l : length st2 ≡ length st = length-entered cap max c st id in
+    let same : capOf st2 ≡ cap = same-cap st st2 l in
     let d : distinct (idsOf (entriesIn cap c st)) ≡ true = rw (ids-entries cap c st) (t .once) in
     let a : among id (idsOf (entriesIn cap c st)) ≡ false = rw (ids-entries cap c st) n in
-    let o : distinct (idsIn cap (c2 .start) (c2 .count) (c2 .len) st2) ≡ true =
+    let o : distinct (idsIn 129 cap (c2 .start) (c2 .count) (c2 .len) st2) ≡ true =
     rw (← ids-entries cap c2 st2, entries-entered cap max c st id e s z m k) (distinct-newest max (entriesIn cap c st) (record { id = id; expiry = e }) d a) in
-    sound-fine c2 st2 (rw same (sound-entered cap max c st id e s z m k)) (rw same o)
+    sound-fine c2 st2 (same-whole st st2 l ∙ fine-tests c st f .0) (rw same (sound-entered cap max c st id e s z m k)) (rw same o)
 
 insert-by : (max at ttl : ℕ) (c : SeenCache) (st id : List ℕ) → lentOf c st ≡ lent.Fine → Sized c → (a : Insert) → insertAnswer max c st id ≡ a
     → (lentOf (insertCache max at ttl c st id) (insertStore max c st id) ≡ lent.Fine) × Sized (insertCache max at ttl c st id)
@@ -269,12 +285,12 @@ module _ (c : SeenCache) (st : List ℕ) (f : lentOf c st ≡ lent.Fine) (z : Si
       let cap = capOf st in
       let s = lent-sound c st f z in
       let t = tests cap c st (fine-tests c st f .1) in
-      let k = spent at (expiriesIn cap (c .start) (c .count) (c .expiry)) in
+      let k = spent at (lensIn cap (c .start) (c .count) (c .expiry)) in
       let h : k ≤ c .count = spent-in at cap (c .start) (c .count) (c .expiry) in
       let d = dropped cap k c in
-      let i : idsIn cap (d .start) (d .count) (d .len) st ≡ drop k (idsIn cap (c .start) (c .count) (c .len) st) =
+      let i : idsIn 129 cap (d .start) (d .count) (d .len) st ≡ drop k (idsIn 129 cap (c .start) (c .count) (c .len) st) =
       sym (ids-entries cap d st) ∙ ap idsOf (entries-dropped cap k c st (t .starts) (t .within) h) ∙ map-drop (λ (e : Entry). e .id) k (entriesIn cap c st) ∙ ap (drop k) (ids-entries cap c st) in
-      rw f (sound-fine d st (sound-dropped cap k c st s h) (rw i (distinct-drop k (idsIn cap (c .start) (c .count) (c .len) st) (t .once))))
+      rw f (sound-fine d st (fine-tests c st f .0) (sound-dropped cap k c st s h) (rw i (distinct-drop k (idsIn 129 cap (c .start) (c .count) (c .len) st) (t .once))))
 
   pub gc-sized : (at : ℕ) → Sized (gcCache at c st)
   unfolding gcCache cleaned dropped

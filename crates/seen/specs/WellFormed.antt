@@ -5,8 +5,9 @@ use mathlib.Core.Bool.{true}
 use mathlib.Core.List.{List}
 use lib.ListN.{length, getD}
 use Rattle.rows.specs.Rows.{placeOf}
+use Rattle.rows.specs.Store.{idAt}
 use Rattle.seen.specs.declared.SeenCache.{SeenCache}
-use Rattle.seen.specs.State.{idAt, fresh}
+use Rattle.seen.specs.State.{fresh}
 use Rattle.seen.specs.Calls.{capOf, wholeRows, insertCache, insertStore, gcCache}
 
 -- true of every SeenCache, by its type
@@ -22,7 +23,7 @@ pub record WellFormed (c : SeenCache) (st : List ℕ) : Type 0 where
   -- the i-th row from the oldest stands in place `placeOf (capOf st) (c .start) i`
   pub short : (i : ℕ) → i < c .count → getD (c .len) (placeOf (capOf st) (c .start) i) 0 ≤ 129
   -- no id twice
-  pub once : (i j : ℕ) → i < j → j < c .count → idAt (c .len) st (placeOf (capOf st) (c .start) i) ≡ idAt (c .len) st (placeOf (capOf st) (c .start) j) → ⊥
+  pub once : (i j : ℕ) → i < j → j < c .count → idAt 129 (c .len) st (placeOf (capOf st) (c .start) i) ≡ idAt 129 (c .len) st (placeOf (capOf st) (c .start) j) → ⊥
 
 -- the states that the calls reach: a new cache with a store of whole rows; then inserts of anything, the refused ones too, and clean-ups
 pub data Reached : SeenCache → List ℕ → Type 0 where

@@ -4,14 +4,16 @@ use Prim.Native.Nat.{_+_, _-_, _≤_}
 use mathlib.Core.Path.{_≡_}
 use lib.ListN.{drop}
 use native.Mathlib.Omega.{arith}
-use Rattle.seen.specs.State.{spent, expiriesIn}
-use Rattle.seen.specs.StateLaws.{place-in, spent-more, spent-stop, spent-end}
+use Rattle.rows.specs.Store.{lensIn}
+use Rattle.seen.specs.State.{spent}
+use Rattle.rows.specs.StoreLaws.{place-in}
+use Rattle.seen.specs.StateLaws.{spent-more, spent-stop, spent-end}
 use borrow.Author.Needs.{needs}
 use Rattle.seen.proofs.expired.Statement.{statement}
 use Rattle.seen.proofs.expired.Tie as tie
 
 abbrev Inv-loop : tie.InvT-loop
-Inv-loop expiry cap start count at i₀ i = (i ≤ count) × (spent at (expiriesIn cap start count expiry) ≡ i + spent at (drop i (expiriesIn cap start count expiry)))
+Inv-loop expiry cap start count at i₀ i = (i ≤ count) × (spent at (lensIn cap start count expiry) ≡ i + spent at (drop i (lensIn cap start count expiry)))
 
 abbrev μ-loop : tie.MeasureT-loop
 μ-loop expiry cap start count at i₀ i = count - i

@@ -1,9 +1,10 @@
 -- `seen::SeenCache::append` meets its contract: the row in the next place is written, and it lies in the store.
-use native.Mathlib.Omega.{arith}
 use denote.Ref.{now}
+use mathlib.Core.Path.{_≡_}
+use native.Mathlib.Omega.{arith}
 use lib.ListN.{length}
 use Rattle.seen.proofs.Steps.{appended-is, appended-store}
-use Rattle.seen.specs.StateLaws.{place-in}
+use Rattle.rows.specs.StoreLaws.{place-in}
 use borrow.Author.Needs.{needs}
 use Rattle.seen.proofs.SeenCache.append.Statement.{statement}
 use Rattle.seen.proofs.SeenCache.append.Tie as tie
@@ -21,13 +22,19 @@ mul-self : tie.Need-mul-self
 mul-self c = let r = place-in ((c .before .before .before .before .before .before .before .pre .0 .rows)) (c .before .before .before .before .before .before .before .args .t1 .count) (c .before .before .before .before .place .result) (c .before .before .before .before .before .before .before .pre .1 .0) (c .before .before .before .before .place .ensures) in omega arith
 
 element-write-self : tie.Need-element-write-self
-element-write-self c = let r = place-in ((c .before .before .before .before .before .before .before .pre .0 .rows)) (c .before .before .before .before .before .before .before .args .t1 .count) (c .before .before .before .before .place .result) (c .before .before .before .before .before .before .before .pre .1 .0) (c .before .before .before .before .place .ensures) in omega (arith, (c .before .before .before .before .before .before .before .pre))
+element-write-self c =
+    let r = place-in (c .before .before .before .before .before .before .before .pre .0 .rows) (c .before .before .before .before .before .before .before .args .t1 .count) (c .before .before .before .before .place .result) (c .before .before .before .before .before .before .before .pre .1 .0) (c .before .before .before .before .place .ensures) in
+    let z : length (c .before .before .before .before .before .before .before .args .t1 .len) ≡ 256 = search needs in
+    omega arith
 
 cast-self : tie.Need-cast-self
 cast-self c = search needs
 
 element-write-self-2 : tie.Need-element-write-self-2
-element-write-self-2 c = let r = place-in ((c .before .before .before .before .before .before .before .pre .0 .rows)) (c .before .before .before .before .before .before .before .args .t1 .count) (c .before .before .before .before .place .result) (c .before .before .before .before .before .before .before .pre .1 .0) (c .before .before .before .before .place .ensures) in omega (arith, (c .before .before .before .before .before .before .before .pre))
+element-write-self-2 c =
+    let r = place-in (c .before .before .before .before .before .before .before .pre .0 .rows) (c .before .before .before .before .before .before .before .args .t1 .count) (c .before .before .before .before .place .result) (c .before .before .before .before .before .before .before .pre .1 .0) (c .before .before .before .before .place .ensures) in
+    let z : length (c .before .before .before .before .before .before .before .args .t1 .len) ≡ 256 = search needs in
+    omega arith
 
 add-self : tie.Need-add-self
 add-self c = search needs

@@ -1,10 +1,10 @@
 -- `seen::SeenCache::next_expiry` meets its contract: each refusal, no row and a front row is a case of the answer.
 use denote.Ref.{now}
 use Prim.Native.Nat.{_<_, _/_}
-use mathlib.Core.Path.{sym, _∙_}
+use mathlib.Core.Path.{_≡_, sym, _∙_}
 use lib.ListN.{length}
 use native.Mathlib.Omega.{arith}
-use Rattle.seen.specs.StateLaws.{place-in}
+use Rattle.rows.specs.StoreLaws.{place-in}
 use Rattle.seen.proofs.Answers.{tested-ring, next-store, next-malformed, next-none, next-at}
 use borrow.Author.Needs.{needs}
 use Rattle.seen.proofs.SeenCache.next_expiry.Statement.{statement}
@@ -40,6 +40,7 @@ element-copy-out-t14 c =
     let a = c .before .before .before .before .before .before .args in
     let r = tested-ring (a .t1) (now (a .store)) (sym (c .before .before .enum-told3 .given .1) ∙ (c .before .before .before .before .lent .ensures)) (search needs) (search needs) in
     let h : 0 < length (now (a .store)) / 129 = omega (arith, (c .before .if1 .left)) in
+    let z : length (a .t1 .expiry) ≡ 256 = search needs in
     let p = place-in r 0 (c .place .result) h (c .place .ensures) in omega arith
 
 returns-2 : tie.Need-returns-2
