@@ -1,14 +1,14 @@
 // Recently seen message ids, from seen.rs: ids in a lent store, a row of 129 bytes each; their lengths and expiries by value. The rows are a ring,
 // so that an id that leaves moves no other, and a freed row is used again.
 ghost use mathlib.Core.Path.{_≡_};
-ghost use Prim.Native.Nat.{ℕ, _+_, _*_, _≤_, _<_};
+ghost use Prim.Native.Nat.{_+_, _*_, _≤_, _<_};
 ghost use lib.ListN.{length};
 ghost use lib.Seq.{sets};
 ghost use Rattle.rows.specs.Rows.{placeOf};
 ghost use Rattle.rows.specs.Store.{Ring, Sound, lensIn};
 ghost use Rattle.seen.specs.Entries.{until};
 ghost use Rattle.seen.specs.State.{spent, fresh, dropped, appended};
-ghost use Rattle.seen.specs.Calls.{capOf, lentOf, heldIn, cleaned, entered, enteredStore, insertAnswer, insertCache, insertStore, containsAnswer, gcAnswer, gcCache, nextAnswer};
+ghost use Rattle.seen.specs.Calls.{lentOf, heldIn, cleaned, entered, enteredStore, insertAnswer, insertCache, insertStore, containsAnswer, gcAnswer, gcCache, nextAnswer};
 use rows::all_within;
 use rows::find_from;
 use rows::ids_differ;
