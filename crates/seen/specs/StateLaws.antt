@@ -1,4 +1,4 @@
--- Laws of the rows: one step of the walk over the expiries, and what the oldest leave sound.
+-- Laws of the rows: one step of the walk over the expiries; and the oldest leave, and the rows stay sound.
 use Prim.Native.Nat.{ℕ, suc, _+_, _≤_, _<_, zero-le}
 use mathlib.Core.Path.{_≡_}
 use mathlib.Core.List.{List, [], _∷_}
