@@ -9,7 +9,7 @@ Everything random comes from one seeded `random.Random`.
 
 import wire
 from oracle import NUMBER, parse_decode
-from wire import EDGES, MAX_BODY, MAX_CONTENT, PLACE, blob, damaged, edge_field, varint
+from wire import EDGES, MAX_BODY, MAX_CONTENT, PLACE, blob, damaged, edge_field, then_random, varint
 
 MAX_RECORDS = 512
 MAX_FROM = 64
@@ -380,9 +380,4 @@ def many(r, n):
 
 
 def bodies(r, count):
-    """Every fixed body, and then `count` random ones."""
-    yield from named()
-    yield from enumerated()
-    yield from long(r)
-    for _ in range(count):
-        yield random_body(r)
+    return then_random(r, count, (named(), enumerated(), long(r)), random_body)

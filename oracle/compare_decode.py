@@ -11,7 +11,6 @@ refusal with its values; 10 and 11 are document 01's own. Prints the counts, and
 the first differences; the exit status is 0 where there are none.
 """
 
-import argparse
 import collections
 import itertools
 import os
@@ -22,7 +21,7 @@ import tempfile
 
 import bodies
 import wire
-from compare_wire import SHOWN, build
+from compare_wire import SHOWN, arguments
 from oracle import PATH, hexed
 
 CHUNK = 40000
@@ -83,12 +82,7 @@ def endings():
 
 def compare_all(about, source, compare, endings):
     """The bodies of `source` by `compare`, chunk by chunk, then the runs of `endings`; prints what it found."""
-    parser = argparse.ArgumentParser(description=about.split("\n")[0])
-    parser.add_argument("binary")
-    parser.add_argument("--seed", type=int, default=1)
-    parser.add_argument("--count", type=int, default=400000)
-    given = parser.parse_args()
-    build()
+    given = arguments(about, 400000)
     counts, differ, n = collections.Counter(), [], 0
     source = source(random.Random(given.seed), given.count)
     with tempfile.TemporaryDirectory() as folder:

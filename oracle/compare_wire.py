@@ -30,6 +30,17 @@ def build():
         subprocess.run([os.path.join(HERE, "build.sh")], check=True, stdout=subprocess.DEVNULL)
 
 
+def arguments(about, count):
+    """What the command line gives; the oracle is built if it is not there."""
+    parser = argparse.ArgumentParser(description=about.split("\n")[0])
+    parser.add_argument("binary")
+    parser.add_argument("--seed", type=int, default=1)
+    parser.add_argument("--count", type=int, default=count)
+    given = parser.parse_args()
+    build()
+    return given
+
+
 def compare(binary, seed, count, folder):
     """All cases in one run of each side; (counts per call and answer, differences)."""
     name = {part: os.path.join(folder, part) for part in ("records", "commands", "lines", "answers")}
@@ -109,12 +120,7 @@ def ends(binary):
 
 
 def main():
-    parser = argparse.ArgumentParser(description=__doc__.split("\n")[0])
-    parser.add_argument("binary")
-    parser.add_argument("--seed", type=int, default=1)
-    parser.add_argument("--count", type=int, default=800000)
-    given = parser.parse_args()
-    build()
+    given = arguments(__doc__, 800000)
     with tempfile.TemporaryDirectory() as folder:
         n, counts, differ = compare(given.binary, given.seed, given.count, folder)
     for (call, what), k in sorted(counts.items()):

@@ -1,20 +1,23 @@
 #!/usr/bin/env python3
-"""Makes crates/inspect/stdin and crates/inspect/stdout.
+"""Makes stdin and stdout in crates/inspect and in crates/caches.
 
     oracle/make_vectors.py
 
-The records are the rows of document 01, a few of the short inputs, bodies of
-65,536 and 65,537 bytes and of 511 to 513 records, and random ones (wire.py,
-bodies.py, seeds below). A second part has encode, sign and id of some 700 bodies,
-and the topics of document 01 by every call. The answers in stdout are the Rust's,
-from the oracle, never the program's; 10, 11 and the lengths of 22 are document
-01's own. The run ends with a length that is too long, its kind cut off.
+The records of `inspect` are the rows of document 01, a few of the short inputs,
+bodies of 65,536 and 65,537 bytes and of 511 to 513 records, and random ones
+(wire.py, bodies.py, seeds below). A second part has encode, sign and id of some 700
+bodies, and the topics of document 01 by every call. Those of `caches` are the fixed
+histories of caches.py and some random ones; they show every call and every refusal.
+The answers in stdout are the Rust's, from the oracle, never the program's; the
+limits that the Rust does not have are document 01's own. Each run ends with a length
+that is too long, its kind cut off.
 """
 
 import os
 import random
 
 import bodies
+import caches
 import wire
 from compare_wire import build
 from oracle import HERE, Oracle
@@ -26,7 +29,8 @@ RANDOM_BODIES = 320
 WRITES_SEED = 22
 RANDOM_WRITES = 400
 RANDOM_MESSAGES = 60
-CRATE = os.path.join(HERE, "../crates/inspect")
+CACHES_SEED = 23
+CACHES_RECORDS = 1550
 
 
 def chosen(r):
@@ -97,25 +101,50 @@ def lines(case, asked, told):
     return [wire.answer(asked, told)]
 
 
-def main():
-    build()
+def save(name, records, lines):
+    """A run that ends with `long`: its records, and the lines without their numbers."""
+    folder = os.path.join(HERE, "../crates", name)
+    os.makedirs(folder, exist_ok=True)
+    with open(os.path.join(folder, "stdin"), "wb") as out:
+        for one in records:
+            out.write(one)
+        out.write(wire.header(wire.MAX_CONTENT + 1, 7)[:4])
+    with open(os.path.join(folder, "stdout"), "w") as out:
+        for n, line in enumerate(lines, 1):
+            out.write("%d %s\n" % (n, line))
+        out.write("long\n")
+    print("%s: %d records" % (name, len(records)))
+
+
+def make_inspect(oracle):
     cases = list(chosen(random.Random(SEED)))
     cases += [("decode", body, 0) for body in chosen_bodies(random.Random(BODIES_SEED))]
     cases += [("decode", body, 0) for body in topics()]
+    cases += write_cases(random.Random(WRITES_SEED), oracle)
+    cases += long_writes()
+    commands = [wire.command(case) for case in cases]
+    answers = oracle.batch(commands)
+    save("inspect", [wire.record(case) for case in cases],
+         ["\n".join(lines(*one)) for one in zip(cases, commands, answers)])
+
+
+def make_caches(oracle):
+    r = random.Random(CACHES_SEED)
+    steps = [step for one in caches.named() for step in one]
+    while len(steps) < CACHES_RECORDS:
+        steps += caches.history(r)
+    told = [line.split(" ", 1)[1] for line in caches.expected(oracle, caches.records(steps))]
+    assert len(told) == len(steps) and {step[0] for step in steps} == set(caches.FORM)
+    refused = {tuple(line.split(" ")[0:3:2]) for line in told if line.split(" ")[1] == "refused"}
+    assert refused == {(call, str(number)) for call, numbers in caches.REFUSALS.items() for number in numbers}
+    save("caches", [caches.record(step) for step in steps], told)
+
+
+def main():
+    build()
     with Oracle() as oracle:
-        cases += write_cases(random.Random(WRITES_SEED), oracle)
-        cases += long_writes()
-        commands = [wire.command(case) for case in cases]
-        answers = oracle.batch(commands)
-    with open(os.path.join(CRATE, "stdin"), "wb") as out:
-        for case in cases:
-            out.write(wire.record(case))
-        out.write(wire.header(wire.MAX_CONTENT + 1, 7)[:4])
-    with open(os.path.join(CRATE, "stdout"), "w") as out:
-        for n, (case, asked, told) in enumerate(zip(cases, commands, answers), 1):
-            out.write("%d %s\n" % (n, "\n".join(lines(case, asked, told))))
-        out.write("long\n")
-    print("%d records" % len(cases))
+        make_inspect(oracle)
+        make_caches(oracle)
 
 
 if __name__ == "__main__":

@@ -279,10 +279,13 @@ def long(r):
         yield ("varint", b"\x01" + blob(r, size - 1), 0)
 
 
-def cases(r, count):
-    """Every fixed input, and then `count` random ones."""
-    yield from named()
-    yield from enumerated()
-    yield from long(r)
+def then_random(r, count, fixed, one):
+    """All of each list in `fixed`, and then `count` random ones made by `one`."""
+    for part in fixed:
+        yield from part
     for _ in range(count):
-        yield random_case(r)
+        yield one(r)
+
+
+def cases(r, count):
+    return then_random(r, count, (named(), enumerated(), long(r)), random_case)

@@ -1,0 +1,188 @@
+#!/usr/bin/env python3
+"""Compares the program `caches` with the Rust, by running both.
+
+    oracle/compare_caches.py BINARY [--seed N] [--count N]
+
+BINARY is target/bin/caches, after `rt check caches`. The histories are fixed ones
+about every edge and every refusal, and --count random ones (caches.py), many in one
+run. Then come short runs that end in `bad` or `long`: random ones, one for ten
+histories, and fixed ones whose texts are written here. Every line is compared; the
+limits that the Rust does not have are document 01's own. Prints the counts, and the
+first differences with the steps that lead to them; the exit status is 0 where there
+are none.
+"""
+
+import collections
+import itertools
+import random
+import subprocess
+import sys
+import tempfile
+import time
+
+import caches
+import wire
+from compare_decode import run
+from compare_wire import SHOWN, arguments
+from oracle import Oracle
+
+CHUNK = 400
+COUNT = 12000
+
+
+def what(line):
+    """The call and the sort of answer, for the counts."""
+    words = line.split(" ")
+    if len(words) == 1:
+        return line
+    none = {"clean": "0", "next": "none", "gossip": "0", "get": "-"}.get(words[1])
+    if words[2] == "refused":
+        return " ".join(words[1:4])
+    return words[1] + " " + (words[2] if none in (None, words[2]) else "some")
+
+
+def shown(step):
+    """A step to read; of bytes the first hundred."""
+    def word(one):
+        if not isinstance(one, bytes):
+            return str(one)
+        return "=" + one[:100].hex() + ("... %d bytes" % len(one) if len(one) > 100 else "")
+
+    return " ".join(map(word, step))
+
+
+def first_difference(told, printed):
+    """The place of the first line that differs, or None. Both end in the text after the last newline."""
+    pairs = itertools.zip_longest(told, printed)
+    return next((n for n, (one, other) in enumerate(pairs) if one != other), None)
+
+
+def line_at(lines, n):
+    return lines[n] if n < len(lines) else "nothing"
+
+
+def play(binary, oracle, histories, folder, counts, differ):
+    """Many histories in one run; of each the first difference, as (steps to it, steps, expected, printed)."""
+    data = b"".join(map(caches.records, histories))
+    told = caches.expected(oracle, data)
+    counts.update(map(what, told))
+    printed = run(binary, [data], folder)
+    at = 0
+    for steps in histories:
+        n = first_difference(told[at:at + len(steps)], printed[at:at + len(steps)])
+        if n is not None:
+            got = line_at(printed, at + n)
+            differ.append((n + 1, list(map(shown, steps[:n + 1])), told[at + n], got))
+            if not got.startswith("%d " % (at + n + 1)):
+                return  # the lines after it belong to other records
+        at += len(steps)
+    if printed[at:] != [""]:
+        differ.append((0, ["after the last record"], "", line_at(printed, at)))
+
+
+def play_ending(binary, name, data, told, counts, differ):
+    """One run that may end early; `told` are its lines."""
+    counts.update(map(what, told))
+    printed = subprocess.run([binary], input=data, stdout=subprocess.PIPE, check=True).stdout.decode().split("\n")
+    n = first_difference(told + [""], printed)
+    if n is not None:
+        steps = list(map(shown, caches.steps_of(data)[0][:n + 1])) or [data[:100].hex()]
+        differ.append((n + 1, [name] + steps, line_at(told, n), line_at(printed, n)))
+
+
+def endings():
+    """(what it is, input, text): fixed runs."""
+    most = wire.MAX_CONTENT
+    seen, cache = caches.record(("seen", 2)), caches.record(("cache", 2, 2, 0))
+    refused = caches.record(("cache", 0, 2, 0))
+    begun = seen + cache
+    yield "nothing", b"", ""
+    for n in range(1, 6):
+        yield "header cut after %d bytes" % n, seen[:n], "bad\n"
+    for n in (4, 5, 6):
+        yield "too long, %d bytes of the header" % n, wire.header(most + 1, 1)[:n], "long\n"
+    yield "too long, with its content", begun + wire.header(most + 1, 5) + bytes(most + 1), "1 seen ok\n2 cache ok\nlong\n"
+    yield "too long, of no kind", wire.header(most + 1, 65535), "long\n"
+    yield "too long, before a start", wire.header(most + 1, 10) + bytes(9), "long\n"
+    yield "the largest length, kind cut", seen + wire.header(2**32 - 1, 5)[:4] + seen, "1 seen ok\nlong\n"
+    yield "the longest content", begun + wire.header(most, 5) + bytes(most) + wire.header(most, 10) + bytes(most), \
+        "1 seen ok\n2 cache ok\n3 contains refused 33 65600\n4 get -\n"
+    yield "the longest content, cut", begun + wire.header(most, 10) + bytes(most - 1), "1 seen ok\n2 cache ok\nbad\n"
+    yield "the longest put, gossip and insert", begun + b"".join(wire.header(most, kind) + bytes(most) for kind in (7, 9, 2)), \
+        "1 seen ok\n2 cache ok\n3 put refused 10 65598\n4 gossip refused 29 65598\n5 insert refused 33 65582\n"
+    for kind in (0, 11, 255, 256, 257, 0x0101, 0x0100, 0x0A00, 65535):
+        yield "kind %d" % kind, begun + wire.header(0, kind) + seen, "1 seen ok\n2 cache ok\nbad\n"
+        yield "kind %d with two bytes" % kind, wire.header(2, kind) + b"\x02\x00" + seen, "bad\n"
+    for call, (kind, sizes, rest) in caches.FORM.items():
+        least = sum(sizes)
+        for n in range(least):
+            yield "%s with %d bytes" % (call, n), begun + wire.header(n, kind) + bytes(n) + seen, "1 seen ok\n2 cache ok\nbad\n"
+        for n in (least + 1, least + 2, 65536 + least) if not rest else ():
+            content = b"\x01\x00" * (n // 2) + bytes(n % 2)
+            yield "%s with %d bytes" % (call, n), begun + wire.header(n, kind) + content + seen, \
+                "1 seen ok\n2 cache ok\n%s\n" % ("long" if n > most else "bad")
+        other, started = (cache, "cache") if kind <= 5 else (seen, "seen")
+        whole = wire.header(least, kind) + bytes(least)
+        if call not in ("seen", "cache"):
+            yield "%s before its part" % call, other + whole + begun, "1 %s ok\nbad\n" % started
+            yield "%s first" % call, whole, "bad\n"
+        if kind > 6:
+            yield "%s after a refused start" % call, seen + refused + whole, "1 seen ok\n2 cache refused 40\nbad\n"
+    for rows in (257, 512, 65535):
+        yield "%d rows" % rows, begun + caches.record(("seen", rows)) + seen, "1 seen ok\n2 cache ok\nbad\n"
+    yield "256 rows", caches.record(("seen", 256)), "1 seen ok\n"
+    yield "refused settings", refused + refused, "1 cache refused 40\n2 cache refused 40\n"
+    put = caches.put_step(caches.X)
+    steps = [("seen", 1), ("insert", 5, 0, 1, b""), ("next",), ("clean", 4), ("contains", b""), ("insert", 6, 1, 1, b"a"), ("clean", 7),
+             ("cache", 1, 0, wire.TOP), put, put, ("cache", 1, 1, wire.TOP), put, put, ("gossip", 1, b"t"), ("get", b"A\x01"), ("shift",),
+             ("gossip", 1, b"t"), ("get", b"A\x01")]
+    yield "each call", caches.records(steps), \
+        "1 seen ok\n2 insert fresh\n3 next 5\n4 clean 1\n5 contains yes\n6 insert fresh\n7 clean 0\n8 cache ok\n9 put stored\n" \
+        "10 put stored\n11 cache ok\n12 put stored\n13 put held\n14 gossip 1 =4101\n15 get =0a01411a01012201742a40%s\n" \
+        "16 shift ok\n17 gossip 0\n18 get -\n" % ("00" * 64)
+
+
+def slowly(binary, oracle, counts, differ):
+    """Byte by byte, so that every read is short."""
+    data = caches.records([("seen", 1), ("insert", 1, 2, 1, b"a"), ("cache", 1, 1, 0), caches.put_step(caches.X), ("get", b"A\x01")])
+    program = subprocess.Popen([binary], stdin=subprocess.PIPE, stdout=subprocess.PIPE)
+    for byte in data:
+        program.stdin.write(bytes([byte]))
+        program.stdin.flush()
+        time.sleep(0.002)
+    printed, told = program.communicate()[0].decode().split("\n"), caches.expected(oracle, data)
+    if printed != told + [""]:
+        differ.append((0, ["byte by byte"], told, printed))
+
+
+def main():
+    given = arguments(__doc__, COUNT)
+    r = random.Random(given.seed)
+    counts, differ, played, runs = collections.Counter(), [], 0, 1
+    source = caches.histories(r, given.count)
+    with tempfile.TemporaryDirectory() as folder, Oracle() as oracle:
+        while chunk := list(itertools.islice(source, CHUNK)):
+            play(given.binary, oracle, chunk, folder, counts, differ)
+            played += len(chunk)
+        for _ in range(given.count // 10):
+            data = caches.ending(r)
+            play_ending(given.binary, "a run of its own", data, caches.expected(oracle, data), counts, differ)
+            runs += 1
+        for name, data, text in endings():
+            play_ending(given.binary, name, data, text.split("\n")[:-1], counts, differ)
+            runs += 1
+        slowly(given.binary, oracle, counts, differ)
+    for name, k in sorted(counts.items()):
+        print("%-20s %8d" % (name, k))
+    print("%d histories and %d runs of their own, %d lines, seed %d: %d differences"
+          % (played, runs, sum(counts.values()), given.seed, len(differ)))
+    for n, steps, expected, got in sorted(differ, key=lambda one: one[0])[:SHOWN]:
+        print("after %d steps:" % n)
+        for step in steps:
+            print("    " + step)
+        print("  expected %s\n  printed  %s" % (str(expected)[:300], str(got)[:300]))
+    sys.exit(1 if differ else 0)
+
+
+if __name__ == "__main__":
+    main()
