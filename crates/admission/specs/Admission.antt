@@ -1,12 +1,12 @@
 -- Which messages may be taken, from 01's table: 21 to 30 in their order. p is the message's own bytes.
-use Prim.Native.Nat.{ℕ, zero, suc, _+_, _-_}
-use mathlib.Core.List.{List, [], _∷_, _++_}
+use Prim.Native.Nat.{ℕ, _-_}
+use mathlib.Core.List.{List, [], _∷_}
 use mathlib.Core.Bool.{Bool, true, false, cond, _&&_, _||_}
 use lib.ListN.{length}
 use lib.Dec.{ltb, eqb}
 use Rattle.rows.specs.Ids.{sameBytes}
 use Rattle.protobuf.specs.declared.Field.{Field}
-use Rattle.protobuf.specs.Walk.{Fields, end, refused, _then_, fieldsOf, between, isBytes, valueIn}
+use Rattle.protobuf.specs.Walk.{Fields, end, refused, _then_, fieldsOf, isBytes, valueIn}
 use Rattle.schema.specs.declared.Kind.the-variants as kind
 use Rattle.schema.specs.declared.Counted.{Counted}
 use Rattle.schema.specs.declared.Counted.the-variants as count

@@ -1,1 +1,3 @@
 pub mod Admission
+pub mod AdmissionLaws
+pub mod Rows

@@ -95,7 +95,7 @@ fn long_after(f: Field, len: usize, long: usize) -> usize
     long
 }
 
-pub fn topics(part: &[u8]) -> Topics
+pub fn topics_of(part: &[u8]) -> Topics
     ensures { λ r. ⌜ r .count ≡ length (topicsOf (now (part .entry))) ⌝ }
     ensures { λ r. ⌜ r .long ≡ firstLong (topicsOf (now (part .entry))) ⌝ }
 {
@@ -154,7 +154,7 @@ pub fn carries(part: &[u8], topic: &[u8]) -> bool
 fn limits(part: &[u8], fit: Admission) -> Admission
     ensures { λ r. ⌜ r ≡ onLimits (now (part .entry)) fit ⌝ }
 {
-    let t = topics(part);
+    let t = topics_of(part);
     if t.count == 0 {
         return Admission::Unfit(Unfit::TopicCount(t.count));
     }
@@ -191,11 +191,15 @@ fn signed(part: &[u8], signature: Place, key: Place, verified: bool, fit: Admiss
 }
 
 // Whether a message may be taken, given the host's word on its signature: 21 to 30, in their order.
-pub fn admission(part: &[u8], verified: bool) -> Admission
+pub fn admit(part: &[u8], verified: bool) -> Admission
     ensures { λ r. ⌜ r ≡ admissionOf (now (part .entry)) verified ⌝ }
 {
     let slots = slots_of(part, Kind::RawMessage);
-    let id = id_of(slots.first, slots.third);
+    let from = slots.first;
+    let seqno = slots.third;
+    let signature = slots.fourth;
+    let key = slots.fifth;
+    let id = id_of(from, seqno);
     match id {
         MessageId::MissingFrom => Admission::Unfit(Unfit::MissingFrom),
         MessageId::InvalidFrom(n) => Admission::Unfit(Unfit::InvalidFrom(n)),
@@ -212,7 +216,7 @@ pub fn admission(part: &[u8], verified: bool) -> Admission
                 seqno_start,
                 seqno_end,
             };
-            signed(part, slots.fourth, slots.fifth, verified, fit)
+            signed(part, signature, key, verified, fit)
         }
     }
 }
@@ -240,7 +244,7 @@ pub fn gives_id(part: &[u8], id: &[u8]) -> bool
     match c {
         Counted::Refused(_) => false,
         Counted::Records(_) => {
-            let r = admission(part, true);
+            let r = admit(part, true);
             match r {
                 Admission::Unfit(_) => false,
                 Admission::Fit {

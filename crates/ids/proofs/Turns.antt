@@ -4,8 +4,8 @@ use mathlib.Core.Path.{_≡_, refl, sym, ap, _∙_}
 use mathlib.Core.Bool.{Bool, true, false, cond, _&&_}
 use mathlib.Core.List.{List, _++_}
 use native.Mathlib.Omega.{arith}
-use lib.ListN.{length, drop, length-append, length-drop}
-use lib.Seq.{length-sets, length-take-le}
+use lib.ListN.{length, length-append}
+use lib.Seq.{length-sets}
 use lib.Dec.{eqb}
 use Rattle.basis.specs.Cases.{either, clash}
 use Rattle.protobuf.specs.declared.Field.{Field}
@@ -24,7 +24,7 @@ use Rattle.protobuf.specs.declared.Checked.the-variants.{Fine, Refused as Wrong
 use Rattle.ids.specs.declared.MessageBytes.{MessageBytes}
 use Rattle.ids.specs.declared.MessageBytes.the-variants.{Bytes, Room, Refused, NoMessage}
 use Rattle.ids.specs.Ids.{acceptOf, messageAlong, messageAt, idParts, ofWritten, idBytes, answerId, leftId, answerAt, leftAt, answerChecked, leftChecked, idAnswer, idLeft}
-use Rattle.ids.specs.IdLaws.{Fits}
+use Rattle.ids.specs.IdLaws.{Fits, part-length}
 
 hit : (f : Field) (i n : ℕ) (w : Fields) → isBytes 2 f && eqb n i ≡ true → messageAlong i n (f then w) ≡ At (f .start) (f .next)
 hit f i n w h =
@@ -59,9 +59,6 @@ at-most true n m e = omega arith
 at-most false n m e = omega arith
 
 -- ---- writing an id: its length, and its three parts
-part-length : (p : List ℕ) (a e : ℕ) → a ≤ e → e ≤ length p → length (between p a e) ≡ e - a
-part-length p a e h k = length-take-le (e - a) (drop a p) (rw (length-drop a p) (omega arith))
-
 pub id-length : (pre p : List ℕ) (a e b f : ℕ) → Fits p a e b f → length (pre ++ idBytes p a e b f) ≡ length pre + (e - a) + (f - b)
 id-length pre p a e b f h =
     let x = part-length p a e (h .from .0) (h .from .1) in

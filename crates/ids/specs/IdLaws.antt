@@ -2,13 +2,14 @@
 use Prim.Native.Nat.{ℕ, _+_, _-_, _≤_, _<_}
 use mathlib.Core.Path.{_≡_, refl, sym, ap, _∙_}
 use mathlib.Core.Bool.{Bool, true, false, cond, _||_}
-use mathlib.Core.List.{List}
+use mathlib.Core.List.{List, _++_}
 use native.Mathlib.Omega.{arith}
-use lib.ListN.{length}
+use lib.ListN.{length, drop, length-append, length-drop}
+use lib.Seq.{length-take-le}
 use lib.Dec.{ltb, eqb}
 use borrow.Author.Tests.{ltb-false, eqb-false}
 use Rattle.basis.specs.Cases.{either, clash}
-use Rattle.protobuf.specs.Walk.{Fields, end, refused, _then_, walkAt, fieldsOf, isBytes}
+use Rattle.protobuf.specs.Walk.{Fields, end, refused, _then_, walkAt, fieldsOf, isBytes, between}
 use Rattle.protobuf.specs.Laws.{Stands}
 use Rattle.protobuf.specs.WalkLaws.{along}
 use Rattle.schema.specs.declared.Kind.the-variants as kind
@@ -21,7 +22,7 @@ use Rattle.ids.specs.declared.MessageAt.the-variants.{At, Count}
 use Rattle.ids.specs.declared.MessageId.{MessageId}
 use Rattle.ids.specs.declared.MessageId.the-variants as id
 use Rattle.protobuf.specs.declared.Checked.the-variants.{Fine}
-use Rattle.ids.specs.Ids.{acceptOf, messageAlong, messageAt, onSeqno, onFrom, idParts}
+use Rattle.ids.specs.Ids.{acceptOf, messageAlong, messageAt, onSeqno, onFrom, idParts, idBytes}
 
 -- a message that is found lies within the body
 along-inside : (s : List ℕ) (i a e : ℕ) (at n : ℕ) → messageAlong i n (walkAt s at) ≡ At a e → (a ≤ e) × (e ≤ length s)
@@ -79,3 +80,41 @@ id-fits p a e b f h =
 pub accept-small : (s : List ℕ) → acceptOf s ≡ Fine → length s ≤ 65536
 unfolding acceptOf
 accept-small s h = either (ltb 65536 (length s)) (λ t. clash (let k = simp t at h in cc)) (λ t. ltb-false 65536 (length s) t)
+
+-- the bytes from a up to e
+pub part-length : (p : List ℕ) (a e : ℕ) → a ≤ e → e ≤ length p → length (between p a e) ≡ e - a
+part-length p a e h k = length-take-le (e - a) (drop a p) (rw (length-drop a p) (omega arith))
+
+-- from and seqno are not empty
+some-seqno : (x y a e b f : ℕ) (q : Place) → onSeqno x y q ≡ id.Parts a e b f → (x ≡ a) × (y ≡ e) × (1 ≤ f - b)
+some-seqno x y a e b f place.Absent h = clash (cc)
+some-seqno x y a e b f (place.Present c d) h =
+    either (eqb (d - c) 0) (λ t. clash (let k = simp t at h in cc))
+    (λ t. either (ltb 64 (d - c)) (λ u. clash (let k = simp (t, u) at h in cc))
+    (λ u. let k = simp (t, u) at h in
+    let ex : x ≡ a = cc in let ey : y ≡ e = cc in let eb : b ≡ c = cc in let ef : f ≡ d = cc in
+    let n = eqb-false (d - c) 0 t in
+    (ex, ey, omega arith)))
+
+some-from : (a e b f : ℕ) (q r : Place) → onFrom q r ≡ id.Parts a e b f → (1 ≤ e - a) × (1 ≤ f - b)
+some-from a e b f place.Absent r h = clash (cc)
+some-from a e b f (place.Present x y) r h =
+    either (eqb (y - x) 0) (λ t. clash (let k = simp t at h in cc))
+    (λ t. either (ltb 64 (y - x)) (λ u. clash (let k = simp (t, u) at h in cc))
+    (λ u. let s = some-seqno x y a e b f r (simp (t, u) at h) in
+    let n = eqb-false (y - x) 0 t in
+    (omega (arith, s .0, s .1), s .2)))
+
+pub id-some : (p : List ℕ) (a e b f : ℕ) → idParts p ≡ id.Parts a e b f → (1 ≤ e - a) × (1 ≤ f - b)
+unfolding idParts
+id-some p a e b f h = some-from a e b f (slotsOf kind.RawMessage p .first) (slotsOf kind.RawMessage p .third) h
+
+-- an id has 2 to 128 bytes
+pub id-size : (p : List ℕ) (a e b f : ℕ) → idParts p ≡ id.Parts a e b f → (2 ≤ length (idBytes p a e b f)) × (length (idBytes p a e b f) ≤ 128)
+id-size p a e b f h =
+    let g = id-fits p a e b f h in
+    let m = id-some p a e b f h in
+    let n = length-append (between p a e) (between p b f) in
+    let x = part-length p a e (g .from .0) (g .from .1) in
+    let y = part-length p b f (g .seqno .0) (g .seqno .1) in
+    (omega (arith, m .0, m .1), omega (arith, g .from-short, g .seqno-short))

@@ -173,7 +173,9 @@ pub fn id_parts(part: &[u8]) -> MessageId
     ensures { λ r. ⌜ r ≡ idParts (now (part .entry)) ⌝ }
 {
     let slots = slots_of(part, Kind::RawMessage);
-    id_of(slots.first, slots.third)
+    let from = slots.first;
+    let seqno = slots.third;
+    id_of(from, seqno)
 }
 
 // Writes some bytes and then the id of a message, from and seqno, at the front of out.

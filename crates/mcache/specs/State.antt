@@ -2,7 +2,7 @@
 -- place; its id is the first `id_len[p]` bytes of the p-th 128 bytes of `ids`.
 use Prim.Native.Nat.{ℕ, zero, suc, _+_, _-_, _*_, _%_, _^_, _≤_, _<_}
 use mathlib.Core.Path.{_≡_}
-use mathlib.Core.List.{List, [], _∷_, map}
+use mathlib.Core.List.{List, [], _∷_, _++_, map}
 use mathlib.Core.Bool.{Bool, true, cond, _&&_}
 use lib.ListN.{length, take, drop, getD, set, replicate}
 use lib.Seq.{sets}
@@ -176,6 +176,10 @@ told window lens st windows topic p = ltb (getD window p 0) windows && among top
 unfoldable pub spotOf : (ℕ → List ℕ) → ℕ → List ℕ → ℕ
 spotOf id p [] = 0
 spotOf id p (q ∷ qs) = cond (precedesBytes (id q) (id p)) (suc (spotOf id p qs)) 0
+
+-- x at a place of a list, the rest after it
+unfoldable pub putAt : ℕ → ℕ → List ℕ → List ℕ
+putAt at x l = take at l ++ (x ∷ drop at l)
 
 unfoldable pub insertRow : (ℕ → List ℕ) → ℕ → List ℕ → List ℕ
 insertRow id p [] = p ∷ []

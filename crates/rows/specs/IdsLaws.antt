@@ -190,3 +190,10 @@ distinct-snoc (j ∷ l) i d n =
     either (sameBytes j i) (λ t. clash (let z = simp t at n in cc))
     (λ t. either (among j l) (λ u. clash (let z = simp u at d in cc))
     (λ u. simp (among-append j l (i ∷ []), u, same-sym i j, t) (distinct-snoc l i (simp u at d) (simp t at n))))
+
+-- the bytes of two parts: those of the first, and then those of the second
+pub same-append : (a b c : List ℕ) → sameBytes (a ++ b) c ≡ (sameBytes a (take (length a) c) && sameBytes b (drop (length a) c))
+unfolding sameBytes
+same-append [] b c = refl
+same-append (x ∷ a) b [] = refl
+same-append (x ∷ a) b (y ∷ c) = either (eqb x y) (λ t. simp t (same-append a b c)) (λ t. simp t)
