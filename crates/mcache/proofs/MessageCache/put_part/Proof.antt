@@ -1,0 +1,89 @@
+use borrow.Author.Needs.{needs}
+use Rattle.mcache.proofs.MessageCache.put_part.Statement.{statement}
+use Rattle.mcache.proofs.MessageCache.put_part.Tie as tie
+use Rattle.mcache.proofs.MessageCache.put_part.Reads as reads
+use Rattle.mcache.proofs.MessageCache.put_part.Lts as lts
+use Rattle.admission.proofs.admit.Reads as admit-reads
+use Rattle.mcache.proofs.MessageCache.enter.Reads as enter-reads
+use Rattle.mcache.proofs.MessageCache.find.Reads as find-reads
+use Rattle.mcache.proofs.form_id.Reads as form-id-reads
+
+-- src/lib.rt:549:13
+admit-requires : tie.Need-admit-requires
+admit-requires c κs = search needs
+
+-- src/lib.rt:551:30
+enum-known-a : tie.Need-enum-known-a
+enum-known-a c = search needs
+
+-- src/lib.rt:556:17
+enum-known-a-2 : tie.Need-enum-known-a-2
+enum-known-a-2 c = search needs
+
+-- src/lib.rt:562:85
+slice-aggregate-form-id : tie.Need-slice-aggregate-form-id
+slice-aggregate-form-id c = search needs
+
+-- src/lib.rt:562:21
+form-id-requires : tie.Need-form-id-requires
+form-id-requires c κs = ?
+
+-- src/lib.rt:563:30
+array-share-prefix-id : tie.Need-array-share-prefix-id
+array-share-prefix-id c = ?
+
+-- src/lib.rt:563:30
+slice-aggregate-find : tie.Need-slice-aggregate-find
+slice-aggregate-find c = ?
+
+-- src/lib.rt:563:20
+find-requires : tie.Need-find-requires
+find-requires c κs = search needs
+
+-- src/lib.rt:564:21
+returns : tie.Need-returns
+returns c = ?
+
+-- src/lib.rt:569:53
+array-share-prefix-id-2 : tie.Need-array-share-prefix-id-2
+array-share-prefix-id-2 c = ?
+
+-- src/lib.rt:569:53
+slice-aggregate-enter : tie.Need-slice-aggregate-enter
+slice-aggregate-enter c = ?
+
+-- src/lib.rt:569:21
+enter-requires : tie.Need-enter-requires
+enter-requires c κs = ?
+
+-- src/lib.rt:543:5
+returns-2 : tie.Need-returns-2
+returns-2 c = ?
+
+-- src/lib.rt:543:5
+same-length : tie.Need-same-length
+same-length c = search needs
+
+-- src/lib.rt:543:5
+returns-3 : tie.Need-returns-3
+returns-3 c = ?
+
+pub put-part-spec : {M : Type 1} → statement M
+put-part-spec =
+    tie.close
+    (tie.spec
+    admit-requires
+    enum-known-a
+    enum-known-a-2
+    slice-aggregate-form-id
+    form-id-requires
+    array-share-prefix-id
+    slice-aggregate-find
+    find-requires
+    returns
+    array-share-prefix-id-2
+    slice-aggregate-enter
+    enter-requires
+    returns-2
+    same-length
+    returns-3)
