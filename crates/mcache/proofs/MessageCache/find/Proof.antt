@@ -1,3 +1,5 @@
+use denote.Ref.{now}
+use Rattle.mcache.proofs.Steps.{index-is}
 use borrow.Author.Needs.{needs}
 use Rattle.mcache.proofs.MessageCache.find.Statement.{statement}
 use Rattle.mcache.proofs.MessageCache.find.Tie as tie
@@ -19,7 +21,7 @@ find-from-requires c κs = search needs
 
 -- src/lib.rt:524:5
 returns : tie.Need-returns
-returns c = ?
+returns c = index-is (c .before .before .before .before .before .before .args .self) (now (c .before .before .before .before .before .before .args .id)) (c .find-from .result) (c .find-from .ensures)
 
 pub find-spec : {M : Type 1} → statement M
 find-spec =

@@ -1,3 +1,4 @@
+use Rattle.mcache.proofs.Steps.{stale-within, shifted-is}
 use borrow.Author.Needs.{needs}
 use Rattle.mcache.proofs.MessageCache.later.Statement.{statement}
 use Rattle.mcache.proofs.MessageCache.later.Tie as tie
@@ -25,11 +26,11 @@ age-windows-requires c κs = search needs
 
 -- src/lib.rt:631:9
 without-requires : tie.Need-without-requires
-without-requires c κs = ?
+without-requires c κs = stale-within ((c .before .before .before .before .before .before .args .self .«history_len»)) ((c .before .before .before .before .before .before .args .self .«max_messages»)) (c .before .before .before .before .before .before .args .self .start) (c .before .before .before .before .before .before .args .self .count) (c .before .before .before .before .before .before .args .self .window) (c .before .before .before .stale-rows .result) (c .before .before .before .stale-rows .ensures)
 
 -- src/lib.rt:617:5
 returns : tie.Need-returns
-returns c = ?
+returns c = shifted-is (c .before .before .before .before .before .before .before .args .self) (c .before .before .before .before .stale-rows .result) _ _ (c .before .before .before .before .stale-rows .ensures) (c .before .before .age-windows .ensures) (c .without .ensures)
 
 pub later-spec : {M : Type 1} → statement M
 later-spec =

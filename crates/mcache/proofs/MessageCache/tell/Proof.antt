@@ -1,3 +1,7 @@
+use denote.Ref.{now}
+use mathlib.Core.Path.{refl}
+use Rattle.mcache.specs.Calls.{gossipList}
+use Rattle.mcache.proofs.Steps.{told-rows}
 use borrow.Author.Needs.{needs}
 use Rattle.mcache.proofs.MessageCache.tell.Statement.{statement}
 use Rattle.mcache.proofs.MessageCache.tell.Tie as tie
@@ -31,7 +35,8 @@ gather-requires c κs = search needs
 
 -- src/lib.rt:704:5
 returns : tie.Need-returns
-returns c = ?
+unfolding gossipList
+returns c = let r = told-rows (c .before .before .before .before .before .before .before .before .before .before .before .before .before .args .self) (now (c .before .before .before .before .before .before .before .before .before .before .before .before .before .args .store)) (now (c .before .before .before .before .before .before .before .before .before .before .before .before .before .args .topic)) (c .before .before .before .before .before .before .before .before .before .before .before .before .before .args .windows) (c .before .gather .result) _ _ refl ((c .before .gather .ensures .0)) ((c .before .gather .ensures .1)) in (refl, (r .0, r .1))
 
 pub tell-spec : {M : Type 1} → statement M
 tell-spec =

@@ -1,3 +1,4 @@
+use Rattle.mcache.proofs.Steps.{dropped-is}
 use borrow.Author.Needs.{needs}
 use Rattle.mcache.proofs.MessageCache.without.Statement.{statement}
 use Rattle.mcache.proofs.MessageCache.without.Tie as tie
@@ -15,7 +16,7 @@ sub-self c = search needs
 
 -- src/lib.rt:473:5
 returns : tie.Need-returns
-returns c = ?
+returns c = dropped-is (c .before .before .args .k) (c .before .place .result) (c .before .before .args .self) (c .before .place .ensures)
 
 pub without-spec : {M : Type 1} → statement M
 without-spec = tie.close (tie.spec place-requires sub-self returns)

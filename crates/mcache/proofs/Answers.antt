@@ -1,0 +1,1 @@
+-- The answers, case by case as the code comes to them.
