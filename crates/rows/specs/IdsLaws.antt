@@ -1,10 +1,11 @@
 -- Laws of ids: the test for equal bytes is exact, the order is a strict total order, and one step of each walk over bytes and over ids.
-use Prim.Native.Nat.{ℕ, suc, _+_, _≤_, _<_}
+use Prim.Native.Nat.{ℕ, zero, suc, _+_, _≤_, _<_}
 use mathlib.Core.Path.{_≡_, refl, sym, ap, ap₂, subst, _∙_}
 use mathlib.Core.List.{List, [], _∷_, _++_}
-use mathlib.Core.Bool.{Bool, true, false, cond, not, _&&_, _||_}
+use mathlib.Core.Bool.{Bool, true, false, cond, not, _&&_, _||_, or-true}
 use mathlib.Core.Logic.{_↔_}
 use native.Mathlib.Omega.{arith}
+use native.Mathlib.Nat.{zero-lt-suc}
 use native.Mathlib.Numerals.{add-one}
 use lib.ListN.{length, take, drop, getD, drop-of-length-le}
 use lib.Seq.{drop-cons}
@@ -163,14 +164,14 @@ among-append i (j ∷ l) r = rw (among-append i l r) (sym (or-assoc (sameBytes j
 pub among-drop : (i : List ℕ) (k : ℕ) (l : List (List ℕ)) → among i l ≡ false → among i (drop k l) ≡ false
 unfolding among
 among-drop i k [] h = rw (drop-of-length-le {A = List ℕ} [] {i = k} (omega arith))
-among-drop i ℕ.zero (j ∷ l) h = h
+among-drop i zero (j ∷ l) h = h
 among-drop i (suc k) (j ∷ l) h = either (sameBytes j i) (λ t. clash (let z = simp t at h in cc)) (λ t. among-drop i k l (simp t at h))
 
 -- the oldest leave, and the others still differ
 pub distinct-drop : (k : ℕ) (l : List (List ℕ)) → distinct l ≡ true → distinct (drop k l) ≡ true
 unfolding distinct
 distinct-drop k [] h = rw (drop-of-length-le {A = List ℕ} [] {i = k} (omega arith))
-distinct-drop ℕ.zero (j ∷ l) h = h
+distinct-drop zero (j ∷ l) h = h
 distinct-drop (suc k) (j ∷ l) h = either (among j l) (λ t. clash (let z = simp t at h in cc)) (λ t. distinct-drop k l (simp t at h))
 
 same-sym : (a b : List ℕ) → sameBytes a b ≡ sameBytes b a
@@ -190,6 +191,33 @@ distinct-snoc (j ∷ l) i d n =
     either (sameBytes j i) (λ t. clash (let z = simp t at n in cc))
     (λ t. either (among j l) (λ u. clash (let z = simp u at d in cc))
     (λ u. simp (among-append j l (i ∷ []), u, same-sym i j, t) (distinct-snoc l i (simp u at d) (simp t at n))))
+
+-- ---- ids by their places
+pub among-at : (x : List ℕ) (l : List (List ℕ)) (j : ℕ) → j < length l → x ≡ getD l j [] → among x l ≡ true
+unfolding among
+among-at x [] j k e = absurd (omega arith)
+among-at x (y ∷ l) zero k e = rw (e, same-self y)
+among-at x (y ∷ l) (suc j) k e = rw (among-at x l j (omega arith) e) (or-true (sameBytes y x))
+
+pub none-among : (x : List ℕ) (l : List (List ℕ)) → ((j : ℕ) → j < length l → x ≡ getD l j [] → ⊥) → among x l ≡ false
+unfolding among
+none-among x [] h = refl
+none-among x (y ∷ l) h =
+    either (sameBytes y x) (λ t. absurd (h 0 (zero-lt-suc (length l)) (sym (same-equal y x t))))
+    (λ t. simp t (none-among x l (λ j k. h (suc j) (omega arith))))
+
+pub distinct-each : (l : List (List ℕ)) (i j : ℕ) → distinct l ≡ true → i < j → j < length l → getD l i [] ≡ getD l j [] → ⊥
+unfolding distinct
+distinct-each [] i j d a b e = omega arith
+distinct-each (x ∷ l) i zero d a b e = omega arith
+distinct-each (x ∷ l) zero (suc j) d a b e = clash (let z = simp (among-at x l j (omega arith) e) at d in cc)
+distinct-each (x ∷ l) (suc i) (suc j) d a b e = either (among x l) (λ t. clash (let z = simp t at d in cc)) (λ t. distinct-each l i j (simp t at d) (omega arith) (omega arith) e)
+
+pub each-distinct : (l : List (List ℕ)) → ((i j : ℕ) → i < j → j < length l → getD l i [] ≡ getD l j [] → ⊥) → distinct l ≡ true
+unfolding distinct
+each-distinct [] h = refl
+each-distinct (x ∷ l) h =
+    simp (none-among x l (λ j k. h 0 (suc j) (zero-lt-suc j) (omega arith))) (each-distinct l (λ i j a b. h (suc i) (suc j) (omega arith) (omega arith)))
 
 -- the bytes of two parts: those of the first, and then those of the second
 pub same-append : (a b c : List ℕ) → sameBytes (a ++ b) c ≡ (sameBytes a (take (length a) c) && sameBytes b (drop (length a) c))

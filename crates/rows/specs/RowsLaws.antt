@@ -2,7 +2,6 @@
 use Prim.Native.Nat.{ℕ, zero, suc, _+_, _-_, _≤_, _<_}
 use mathlib.Core.Path.{_≡_, refl, sym, ap, _∙_}
 use mathlib.Core.List.{List, [], _∷_, _++_, map}
-use mathlib.Core.Bool.{Bool, true, false, cond}
 use mathlib.Core.Logic.{_⊎_, inl, inr, ⊎-elim}
 use native.Mathlib.Omega.{arith}
 use native.Mathlib.Nat.{le-of-suc-le-suc, not-suc-le-zero, zero-lt-suc, zero-add, suc-add, sub-zero}
@@ -100,21 +99,19 @@ module _ {A : Type 0} (f : ℕ → A) (cap start count : ℕ) where
       (λ i j. ap f (place-place cap start k i a (omega arith)))
       ∙ sym (drop-tab (λ (i : ℕ). f (placeOf cap start i)) k count)
 
-  -- with a row more: g is what stands in the places afterwards
-  pub ring-more : (g : ℕ → A) → start ≤ cap → count < cap → ((p : ℕ) → p < cap → (p ≡ placeOf cap start count → ⊥) → g p ≡ f p)
-      → ring g cap start (count + 1) ≡ ring f cap start count ++ (g (placeOf cap start count) ∷ [])
-  unfolding ring
-  ring-more g a b same =
-      rw (add-one count)
-      (tab-snoc (λ (i : ℕ). g (placeOf cap start i)) count
-      ∙ ap (λ l. l ++ (g (placeOf cap start count) ∷ []))
-      (tab-ext (λ (i : ℕ). g (placeOf cap start i)) (λ (i : ℕ). f (placeOf cap start i)) count
-      (λ i h. same (placeOf cap start i) (place-lt cap start i a (omega arith)) (place-differs cap start i count a h b))))
-
   -- the same where f and g agree on the places in use
   pub ring-ext : (g : ℕ → A) → ((i : ℕ) → i < count → g (placeOf cap start i) ≡ f (placeOf cap start i)) → ring g cap start count ≡ ring f cap start count
   unfolding ring
   ring-ext g same = tab-ext (λ (i : ℕ). g (placeOf cap start i)) (λ (i : ℕ). f (placeOf cap start i)) count same
+
+  -- with a row more: g is what stands in the places afterwards, and the rows in use are as they were
+  pub ring-more : (g : ℕ → A) → ((i : ℕ) → i < count → g (placeOf cap start i) ≡ f (placeOf cap start i))
+      → ring g cap start (count + 1) ≡ ring f cap start count ++ (g (placeOf cap start count) ∷ [])
+  unfolding ring
+  ring-more g same =
+      rw (add-one count)
+      (tab-snoc (λ (i : ℕ). g (placeOf cap start i)) count
+      ∙ ap (λ l. l ++ (g (placeOf cap start count) ∷ [])) (tab-ext (λ (i : ℕ). g (placeOf cap start i)) (λ (i : ℕ). f (placeOf cap start i)) count same))
 
 pub map-ring : {A B : Type 0} (g : A → B) (f : ℕ → A) (cap start count : ℕ) → map g (ring f cap start count) ≡ ring (λ (p : ℕ). g (f p)) cap start count
 unfolding ring

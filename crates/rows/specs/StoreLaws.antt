@@ -1,19 +1,29 @@
--- Laws of ids in a store: where a row lies, and one step of each walk over the rows.
+-- Laws of ids in a store: where a row lies, one step of each walk over the rows, what the tests say of each row, and what a row more or some rows
+-- less leave.
 use Prim.Native.Nat.{ℕ, zero, suc, _+_, _-_, _*_, _≤_, _<_}
 use mathlib.Core.Path.{_≡_, refl, sym, ap, _∙_}
 use mathlib.Core.List.{List, [], _∷_}
-use mathlib.Core.Bool.{Bool, true, false, _&&_}
+use mathlib.Core.Bool.{true, false}
 use native.Mathlib.Omega.{arith}
-use native.Mathlib.Nat.{mul-le-mul-right, suc-mul}
-use lib.ListN.{length, take, drop, getD, length-drop}
+use native.Mathlib.Nat.{mul-le-mul-right, suc-mul, zero-lt-suc}
+use lib.ListN.{length, take, drop, getD, set, length-drop, length-set}
+use lib.Seq.{sets, length-sets, getD-set-same, getD-set-other}
 use lib.Dec.{leb, ltb}
-use borrow.Author.Tests.{le-leb, lt-leb, ltb-true, ltb-false, lt-ltb, le-ltb}
+use borrow.Author.Count.{below-more}
+use borrow.Author.Tests.{le-leb, lt-leb, leb-true, ltb-true, ltb-false, lt-ltb, le-ltb}
 use Rattle.basis.specs.Cases.{either, clash}
-use Rattle.rows.specs.Rows.{placeOf, ring}
+use Rattle.rows.specs.Rows.{tab, placeOf, ring}
 use Rattle.rows.specs.Ids.{sameBytes, among, distinct, indexOf}
-use Rattle.rows.specs.IdsLaws.{distinct-more, distinct-twice, distinct-none}
-use Rattle.rows.specs.RowsLaws.{length-ring, ring-from, ring-end, place-lt}
+use Rattle.rows.specs.IdsLaws.{distinct-more, distinct-twice, distinct-none, distinct-each, each-distinct}
+use Rattle.rows.specs.ListLaws.{drop-sets, part-sets, put-sets}
+use Rattle.rows.specs.RowsLaws.{length-tab, getD-tab, length-ring, ring-from, ring-end, place-lt, place-le, place-place, place-differs}
 use Rattle.rows.specs.Store.{idAt, idsIn, lensIn, allUpTo, Ring, Sound}
+
+-- ---- places
+pub place-in : {cap start count : ℕ} {l : List ℕ} → Ring cap start count l → (i p : ℕ) → i < cap → p ≡ placeOf cap start i → (p < cap) × (p < length l)
+place-in {cap} {start} r i p h at =
+    let b : p < cap = rw at (place-lt cap start i (r .starts) h) in
+    (b, omega (arith, r .size))
 
 -- a row lies within the store
 pub row-fits : (size cap p n m : ℕ) → p < cap → n ≤ size → cap * size ≤ m → p * size + n ≤ m
@@ -72,9 +82,9 @@ index-among i (j ∷ js) =
 -- the i-th row: its place has a length, and lies within the store
 pub row-within : (size cap start count : ℕ) (lens st : List ℕ) (i p : ℕ) → Sound size cap start count lens st → i < count → p ≡ placeOf cap start i → (p < length lens) × (p * size + getD lens p 0 ≤ length st)
 row-within size cap start count lens st i p ok h e =
-    let l : p < cap = rw e (place-lt cap start i (ok .rows .starts) (omega (arith, ok .rows .within))) in
+    let b = place-in (ok .rows) i p (omega (arith, ok .rows .within)) e in
     let n : getD lens p 0 ≤ size = rw e (ok .short i h) in
-    (omega (arith, ok .rows .size), row-fits size cap p (getD lens p 0) (length st) l n (ok .room))
+    (b .1, row-fits size cap p (getD lens p 0) (length st) (b .0) n (ok .room))
 
 -- the bytes of the i-th row
 pub row-id : (size cap start : ℕ) (lens st : List ℕ) (i p : ℕ) → p ≡ placeOf cap start i → take ((p * size + getD lens p 0) - p * size) (drop (p * size) st) ≡ idAt size lens st (placeOf cap start i)
@@ -83,15 +93,20 @@ row-id size cap start lens st i p e =
     let k : (p * size + getD lens p 0) - p * size ≡ getD lens p 0 = omega arith in
     rw (k, e)
 
--- ---- ids that differ
-ids-length : (size cap start count : ℕ) (lens st : List ℕ) → length (idsIn size cap start count lens st) ≡ count
-unfolding idsIn
-ids-length size cap start count lens st = length-ring (idAt size lens st) cap start count
-
+-- ---- what is found says whether an id is among those from the k-th on
 shifted : (a b r count k : ℕ) → r ≡ k + a → b ≡ count - k → k ≤ count → ltb a b ≡ ltb r count
 shifted a b r count k e f h =
     either (ltb a b) (λ t. let l = ltb-true a b t in t ∙ sym (lt-ltb r count (omega arith))) (λ t. let l = ltb-false a b t in t ∙ sym (le-ltb r count (omega arith)))
 
+pub find-among : (size cap start count : ℕ) (lens st id : List ℕ) (k r : ℕ) → k ≤ count → r ≡ k + indexOf id (drop k (idsIn size cap start count lens st))
+    → among id (drop k (idsIn size cap start count lens st)) ≡ ltb r count
+unfolding idsIn
+find-among size cap start count lens st id k r h e =
+    let ids : List (List ℕ) = ring (idAt size lens st) cap start count in
+    let l : length (drop k ids) ≡ count - k = length-drop k ids ∙ ap (λ (n : ℕ). n - k) (length-ring (idAt size lens st) cap start count) in
+    index-among id (drop k ids) ∙ shifted (indexOf id (drop k ids)) (length (drop k ids)) r count k e l h
+
+-- ---- ids that differ
 module _ (size cap start count : ℕ) (lens st : List ℕ) (i : ℕ) where
   abbrev ids : List (List ℕ)
   ids = idsIn size cap start count lens st
@@ -101,12 +116,8 @@ module _ (size cap start count : ℕ) (lens st : List ℕ) (i : ℕ) where
       → r ≡ (i + 1) + indexOf (take ((p * size + getD lens p 0) - p * size) (drop (p * size) st)) (drop (i + 1) ids)
       → among (idAt size lens st (placeOf cap start i)) (drop (i + 1) ids) ≡ ltb r count
   again p r h e f =
-      let k = row-id size cap start lens st i p e in
-      let j : ℕ = indexOf (idAt size lens st (placeOf cap start i)) (drop (i + 1) ids) in
-      let g : r ≡ (i + 1) + indexOf (idAt size lens st (placeOf cap start i)) (drop (i + 1) ids) = f ∙ ap (λ (x : List ℕ). (i + 1) + indexOf x (drop (i + 1) ids)) k in
-      let l : length (drop (i + 1) ids) ≡ count - (i + 1) = length-drop (i + 1) ids ∙ ap (λ (n : ℕ). n - (i + 1)) (ids-length size cap start count lens st) in
-      index-among (idAt size lens st (placeOf cap start i)) (drop (i + 1) ids)
-      ∙ shifted (indexOf (idAt size lens st (placeOf cap start i)) (drop (i + 1) ids)) (length (drop (i + 1) ids)) r count (i + 1) g l (omega arith)
+      find-among size cap start count lens st (idAt size lens st (placeOf cap start i)) (i + 1) r (omega arith)
+      (f ∙ ap (λ (x : List ℕ). (i + 1) + indexOf x (drop (i + 1) ids)) (row-id size cap start lens st i p e))
 
   pub differ-more : (p r : ℕ) → distinct (drop i ids) ≡ distinct ids → i < count → p ≡ placeOf cap start i
       → r ≡ (i + 1) + indexOf (take ((p * size + getD lens p 0) - p * size) (drop (p * size) st)) (drop (i + 1) ids) → count ≤ r → distinct (drop (i + 1) ids) ≡ distinct ids
@@ -121,3 +132,94 @@ module _ (size cap start count : ℕ) (lens st : List ℕ) (i : ℕ) where
   pub differ-all : distinct (drop i ids) ≡ distinct ids → count ≤ i → true ≡ distinct ids
   unfolding idsIn
   differ-all inv h = distinct-none (drop i ids) (distinct ids) (ring-end (idAt size lens st) cap start count i h) inv
+
+-- ---- what the tests on the numbers and on the ids say of each row
+number-within : (most : ℕ) (l : List ℕ) (i : ℕ) → allUpTo most l ≡ true → i < length l → getD l i 0 ≤ most
+unfolding allUpTo
+number-within most [] i h k = absurd (omega arith)
+number-within most (n ∷ l) zero h k = either (leb n most) (λ t. leb-true n most t) (λ t. clash (let z = simp t at h in cc))
+number-within most (n ∷ l) (suc i) h k = either (leb n most) (λ t. number-within most l i (simp t at h) (omega arith)) (λ t. clash (let z = simp t at h in cc))
+
+pub short-in : (most : ℕ) (lens : List ℕ) (cap start count : ℕ) → allUpTo most (lensIn cap start count lens) ≡ true → (i : ℕ) → i < count → getD lens (placeOf cap start i) 0 ≤ most
+unfolding lensIn ring
+short-in most lens cap start count h i k =
+    let f : ℕ → ℕ = λ (j : ℕ). getD lens (placeOf cap start j) 0 in
+    let l : i < length (tab f count) = rw (length-tab f count) k in
+    let e : getD (tab f count) i 0 ≤ most = number-within most (tab f count) i h l in
+    rw (getD-tab f count i 0 k) at e
+
+numbers-within : (most : ℕ) (l : List ℕ) → ((i : ℕ) → i < length l → getD l i 0 ≤ most) → allUpTo most l ≡ true
+unfolding allUpTo
+numbers-within most [] h = refl
+numbers-within most (n ∷ l) h = simp (le-leb n most (h 0 (zero-lt-suc (length l)))) (numbers-within most l (λ i k. h (suc i) (omega arith)))
+
+pub short-all : (most : ℕ) (lens : List ℕ) (cap start count : ℕ) → ((i : ℕ) → i < count → getD lens (placeOf cap start i) 0 ≤ most) → allUpTo most (lensIn cap start count lens) ≡ true
+unfolding lensIn ring
+short-all most lens cap start count h =
+    let f : ℕ → ℕ = λ (j : ℕ). getD lens (placeOf cap start j) 0 in
+    numbers-within most (tab f count) (λ i k. let l : i < count = rw (length-tab f count) at k in rw (getD-tab f count i 0 l) (h i l))
+
+-- no id stands in two rows
+pub once-in : (size : ℕ) (lens st : List ℕ) (cap start count : ℕ) → distinct (idsIn size cap start count lens st) ≡ true → (i j : ℕ) → i < j → j < count
+    → idAt size lens st (placeOf cap start i) ≡ idAt size lens st (placeOf cap start j) → ⊥
+unfolding idsIn ring
+once-in size lens st cap start count d i j a b e =
+    let f : ℕ → List ℕ = λ (k : ℕ). idAt size lens st (placeOf cap start k) in
+    let l : j < length (tab f count) = rw (length-tab f count) b in
+    distinct-each (tab f count) i j d a l (getD-tab f count i [] (omega arith) ∙ e ∙ sym (getD-tab f count j [] b))
+
+pub all-once : (size : ℕ) (lens st : List ℕ) (cap start count : ℕ) → ((i j : ℕ) → i < j → j < count → idAt size lens st (placeOf cap start i) ≡ idAt size lens st (placeOf cap start j) → ⊥)
+    → distinct (idsIn size cap start count lens st) ≡ true
+unfolding idsIn ring
+all-once size lens st cap start count h =
+    let f : ℕ → List ℕ = λ (k : ℕ). idAt size lens st (placeOf cap start k) in
+    each-distinct (tab f count)
+    (λ i j a b e. let l : j < count = rw (length-tab f count) at b in h i j a l (sym (getD-tab f count i [] (omega arith)) ∙ e ∙ getD-tab f count j [] l))
+
+-- ---- without the k oldest
+pub sound-less : (size cap start count k : ℕ) (lens st : List ℕ) → Sound size cap start count lens st → k ≤ count → Sound size cap (placeOf cap start k) (count - k) lens st
+sound-less size cap start count k lens st s h =
+    let r = s .rows in
+    record {
+      rows = record { starts = place-le cap start k (r .starts) (omega arith); within = omega arith; size = r .size };
+      room = s .room;
+      short = λ i j. rw (place-place cap start k i (r .starts) (omega arith)) (s .short (k + i) (omega arith));
+    }
+
+-- ---- an id put into place q
+module _ (size : ℕ) (lens st id : List ℕ) (q : ℕ) where
+  -- another place holds what it held
+  pub id-kept : length id ≤ size → (p : ℕ) → (p ≡ q → ⊥) → getD lens p 0 ≤ size → idAt size (set lens q (length id)) (sets st (q * size) id) p ≡ idAt size lens st p
+  unfolding idAt
+  id-kept k p other n =
+      rw (getD-set-other lens q p (length id) 0 other)
+      (either (ltb p q)
+      (λ t. part-sets st (q * size) id (getD lens p 0) (p * size) (row-fits size q p (getD lens p 0) (q * size) (ltb-true p q t) n (omega arith)))
+      (λ t. let l : q < p = let g = ltb-false p q t in omega (arith, other) in
+      ap (take (getD lens p 0)) (drop-sets st (q * size) id (p * size) (row-fits size p q (length id) (p * size) l k (omega arith)))))
+
+  pub id-put : q < length lens → q * size + length id ≤ length st → idAt size (set lens q (length id)) (sets st (q * size) id) q ≡ id
+  unfolding idAt
+  id-put h r = rw (getD-set-same lens q (length id) 0 h) (put-sets st (q * size) id r)
+
+-- ---- with a row more
+module _ (size cap start count : ℕ) (lens st : List ℕ) (s : Sound size cap start count lens st) (h : count < cap) where
+  -- its place has a length, and lies within the store
+  pub free-within : (n p : ℕ) → n ≤ size → p ≡ placeOf cap start count → (p < length lens) × (p * size + n ≤ length st)
+  free-within n p k e =
+      let b = place-in (s .rows) count p h e in
+      (b .1, row-fits size cap p n (length st) (b .0) k (s .room))
+
+  pub sound-more : (id : List ℕ) → length id ≤ size
+      → Sound size cap start (count + 1) (set lens (placeOf cap start count) (length id)) (sets st (placeOf cap start count * size) id)
+  sound-more id k =
+      let r = s .rows in
+      let q = placeOf cap start count in
+      record {
+        rows = record { starts = r .starts; within = omega arith; size = rw (length-set lens q (length id)) (r .size) };
+        room = rw (length-sets st (q * size) id) (s .room);
+        short =
+            below-more _ count
+            (λ i j. rw (getD-set-other lens q (placeOf cap start i) (length id) 0 (place-differs cap start i count (r .starts) j h)) (s .short i j))
+            (rw (getD-set-same lens q (length id) 0 (place-in r count q h refl .1)) k);
+      }

@@ -2,13 +2,13 @@
 -- and the store as they were.
 use Prim.Native.Nat.{ℕ, _+_, _-_, _*_, _/_, _%_}
 use mathlib.Core.List.{List, [], _∷_}
-use mathlib.Core.Bool.{Bool, true, false, cond, _&&_}
-use mathlib.Core.Option.{Option, none, some}
+use mathlib.Core.Bool.{Bool, cond, _&&_}
 use lib.ListN.{length, getD}
 use lib.Seq.{sets}
 use lib.Dec.{leb, ltb, eqb}
 use Rattle.rows.specs.Rows.{placeOf}
 use Rattle.rows.specs.Ids.{among}
+use Rattle.rows.specs.Store.{idsIn, lensIn}
 use Rattle.seen.specs.declared.SeenCache.{SeenCache}
 use Rattle.seen.specs.declared.Lent.{Lent}
 use Rattle.seen.specs.declared.Lent.the-variants as lent
@@ -21,7 +21,7 @@ use Rattle.seen.specs.declared.Gc.the-variants as gc
 use Rattle.seen.specs.declared.NextExpiry.{NextExpiry}
 use Rattle.seen.specs.declared.NextExpiry.the-variants as next
 use Rattle.seen.specs.Entries.{until}
-use Rattle.seen.specs.State.{idsIn, expiriesIn, wellFormed, spent, dropped, appended}
+use Rattle.seen.specs.State.{wellFormed, spent, dropped, appended}
 
 -- ---- 01's numbers and values
 abbrev pub lentNumber : Lent → ℕ
@@ -84,10 +84,10 @@ lentOf c st = cond (wholeRows st) (cond (wellFormed (capOf st) c st) lent.Fine l
 
 -- ---- the calls on a state that was tested
 unfoldable pub heldIn : ℕ → SeenCache → List ℕ → List ℕ → Bool
-heldIn cap c st id = among id (idsIn cap (c .start) (c .count) (c .len) st)
+heldIn cap c st id = among id (idsIn 129 cap (c .start) (c .count) (c .len) st)
 
 unfoldable pub cleaned : ℕ → ℕ → SeenCache → SeenCache
-cleaned cap at c = dropped cap (spent at (expiriesIn cap (c .start) (c .count) (c .expiry))) c
+cleaned cap at c = dropped cap (spent at (lensIn cap (c .start) (c .count) (c .expiry))) c
 
 -- the oldest leave, so that with one more at most `max` remain; then a row for an id of n bytes. With max 0 all leave, and none comes.
 unfoldable pub entered : ℕ → ℕ → ℕ → ℕ → SeenCache → SeenCache

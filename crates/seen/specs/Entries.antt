@@ -3,8 +3,8 @@ use Prim.Native.Nat.{ℕ, _+_, _-_, _^_, min}
 use mathlib.Core.List.{List, [], _∷_, _++_, map}
 use mathlib.Core.Bool.{Bool, cond}
 use mathlib.Core.Option.{Option, none, some}
-use lib.ListN.{length, drop}
 use lib.Dec.{leb}
+use Rattle.rows.specs.Rows.{newest}
 use Rattle.rows.specs.Ids.{among}
 
 pub record Entry : Type 0 where
@@ -21,10 +21,6 @@ holds id es = among id (idsOf es)
 -- now + ttl, stopping at 2^64 − 1
 unfoldable pub until : ℕ → ℕ → ℕ
 until at ttl = min (at + ttl) (2 ^ 64 - 1)
-
--- the newest `max`: the oldest leave until at most `max` remain
-unfoldable pub newest : ℕ → List Entry → List Entry
-newest max es = drop (length es - max) es
 
 -- an insert of a held id changes nothing; otherwise the id goes last, and the oldest leave
 unfoldable pub inserted : ℕ → List ℕ → ℕ → ℕ → List Entry → List Entry

@@ -1,17 +1,19 @@
 // Recently seen message ids, from seen.rs: ids in a lent store, a row of 129 bytes each; their lengths and expiries by value. The rows are a ring,
 // so that an id that leaves moves no other, and a freed row is used again.
 ghost use mathlib.Core.Path.{_≡_};
-ghost use Prim.Native.Nat.{ℕ, _+_, _*_, _≤_, _<_};
-ghost use lib.ListN.{length, drop};
+ghost use Prim.Native.Nat.{_+_, _*_, _≤_, _<_};
+ghost use lib.ListN.{length};
 ghost use lib.Seq.{sets};
 ghost use Rattle.rows.specs.Rows.{placeOf};
-ghost use Rattle.rows.specs.Ids.{among, distinct};
+ghost use Rattle.rows.specs.Store.{Ring, Sound, lensIn};
 ghost use Rattle.seen.specs.Entries.{until};
-ghost use Rattle.seen.specs.State.{Ring, Sound, lensIn, expiriesIn, idsIn, shortAll, spent, fresh, dropped, appended};
-ghost use Rattle.seen.specs.Calls.{capOf, lentOf, heldIn, cleaned, entered, enteredStore, insertAnswer, insertCache, insertStore, containsAnswer, gcAnswer, gcCache, nextAnswer};
+ghost use Rattle.seen.specs.State.{spent, fresh, dropped, appended};
+ghost use Rattle.seen.specs.Calls.{lentOf, heldIn, cleaned, entered, enteredStore, insertAnswer, insertCache, insertStore, containsAnswer, gcAnswer, gcCache, nextAnswer};
+use rows::all_within;
+use rows::find_from;
+use rows::ids_differ;
 use rows::minus;
 use rows::place;
-use rows::same;
 
 pub const ID_SIZE: usize = 129;
 
@@ -82,72 +84,10 @@ fn expiry_of(at: u64, ttl: u64) -> u64
     u64::MAX
 }
 
-// Whether the ids in use have at most 129 bytes.
-fn lens_fit(lens: &[u8], cap: usize, start: usize, count: usize) -> bool
-    requires { ⌜ Ring cap start count (now lens) ⌝ }
-    ensures { λ r. ⌜ r ≡ shortAll (lensIn cap start count (now (lens .entry))) ⌝ }
-{
-    let mut i = 0;
-    while i < count {
-        let p = place(cap, start, i);
-        if 129 < lens[p] {
-            return false;
-        }
-        i += 1;
-    }
-    true
-}
-
-// Whether an id stands in a row from the i-th on.
-fn held_from(
-    lens: &[u8],
-    store: &[u8],
-    cap: usize,
-    start: usize,
-    count: usize,
-    from: usize,
-    id: &[u8],
-) -> bool
-    requires { ⌜ Sound cap start count (now lens) (now store) ⌝ }
-    requires { ⌜ from ≤ count ⌝ }
-    ensures { λ r. ⌜ r ≡ among (now (id .entry)) (drop from (idsIn cap start count (now (lens .entry)) (now (store .entry)))) ⌝ }
-{
-    let mut i = from;
-    while i < count {
-        let p = place(cap, start, i);
-        let base = p * 129;
-        let end = base + lens[p] as usize;
-        if same(&store[base..end], id) {
-            return true;
-        }
-        i += 1;
-    }
-    false
-}
-
-// Whether no id stands in two rows.
-fn ids_differ(lens: &[u8], store: &[u8], cap: usize, start: usize, count: usize) -> bool
-    requires { ⌜ Sound cap start count (now lens) (now store) ⌝ }
-    ensures { λ r. ⌜ r ≡ distinct (idsIn cap start count (now (lens .entry)) (now (store .entry))) ⌝ }
-{
-    let mut i = 0;
-    while i < count {
-        let p = place(cap, start, i);
-        let base = p * 129;
-        let end = base + lens[p] as usize;
-        let next = i + 1;
-        if held_from(lens, store, cap, start, count, next, &store[base..end]) {
-            return false;
-        }
-        i = next;
-    }
-    true
-}
-
 // How many of the oldest have expired: those in front of the first that has not.
 fn expired(expiry: &[u64], cap: usize, start: usize, count: usize, at: u64) -> usize
     requires { ⌜ Ring cap start count (now expiry) ⌝ }
-    ensures { λ r. ⌜ r ≡ spent at (expiriesIn cap start count (now (expiry .entry))) ⌝ }
+    ensures { λ r. ⌜ r ≡ spent at (lensIn cap start count (now (expiry .entry))) ⌝ }
 {
     let mut i = 0;
     while i < count {
@@ -201,8 +141,8 @@ impl SeenCache {
             return Lent::Malformed;
         }
         let lens = self.len;
-        if lens_fit(&lens, cap, start, count) {
-            if ids_differ(&lens, store, cap, start, count) {
+        if all_within(&lens, cap, start, count, 129) {
+            if ids_differ(&lens, store, 129, cap, start, count) {
                 return Lent::Fine;
             }
         }
@@ -222,7 +162,7 @@ impl SeenCache {
 
     // With a row more, the newest.
     fn append(mut self, store: &mut [u8], cap: usize, id: &[u8], expires: u64) -> Self
-        requires { ⌜ Sound cap (self .start) (self .count) (self .len) (now store) ⌝ }
+        requires { ⌜ Sound 129 cap (self .start) (self .count) (self .len) (now store) ⌝ }
         requires { ⌜ self .count < cap ⌝ }
         requires { ⌜ length (now id) ≤ 129 ⌝ }
         ensures { λ r. ⌜ r ≡ appended cap (length (now (id .entry))) expires self ⌝ }
@@ -239,11 +179,12 @@ impl SeenCache {
 
     // Whether an id is held, where the state was tested.
     pub fn holds(self, store: &[u8], cap: usize, id: &[u8]) -> bool
-        requires { ⌜ Sound cap (self .start) (self .count) (self .len) (now store) ⌝ }
+        requires { ⌜ Sound 129 cap (self .start) (self .count) (self .len) (now store) ⌝ }
         ensures { λ r. ⌜ r ≡ heldIn cap self (now (store .entry)) (now (id .entry)) ⌝ }
     {
         let lens = self.len;
-        held_from(&lens, store, cap, self.start, self.count, 0, id)
+        let count = self.count;
+        find_from(&lens, store, 129, cap, self.start, count, 0, id) < count
     }
 
     // Without what has expired, where the state was tested.
@@ -258,7 +199,7 @@ impl SeenCache {
 
     // With an id that is not held, where the state was tested: the oldest leave until at most `max` remain.
     pub fn enter(self, store: &mut [u8], cap: usize, id: &[u8], expires: u64, max: usize) -> Self
-        requires { ⌜ Sound cap (self .start) (self .count) (self .len) (now store) ⌝ }
+        requires { ⌜ Sound 129 cap (self .start) (self .count) (self .len) (now store) ⌝ }
         requires { ⌜ max ≤ cap ⌝ }
         requires { ⌜ length (now id) ≤ 129 ⌝ }
         ensures { λ r. ⌜ r ≡ entered cap max (length (now (id .entry))) expires self ⌝ }

@@ -1,7 +1,7 @@
 use denote.Ref.{now}
-use Prim.Native.Nat.{ℕ, _+_, _-_, _≤_, _<_}
+use Prim.Native.Nat.{_-_, _≤_}
 use mathlib.Core.Path.{_≡_, refl, sym}
-use lib.ListN.{length, drop, getD}
+use lib.ListN.{drop}
 use native.Mathlib.Omega.{arith}
 use Rattle.rows.specs.Store.{allUpTo, lensIn}
 use Rattle.rows.specs.RowsLaws.{place-lt}
@@ -9,9 +9,6 @@ use Rattle.rows.specs.StoreLaws.{within-more, within-not, within-all}
 use borrow.Author.Needs.{needs}
 use Rattle.rows.proofs.all_within.Statement.{statement}
 use Rattle.rows.proofs.all_within.Tie as tie
-use Rattle.rows.proofs.all_within.Reads as reads
-use Rattle.rows.proofs.all_within.Lts as lts
-use Rattle.rows.proofs.place.Reads as place-reads
 
 abbrev Inv-loop : tie.InvT-loop
 Inv-loop lens cap start count most i₀ i = (i ≤ count) × (allUpTo most (drop i (lensIn cap start count lens)) ≡ allUpTo most (lensIn cap start count lens))

@@ -1,7 +1,7 @@
 use denote.Ref.{now}
-use Prim.Native.Nat.{ℕ, _+_, _-_, _*_, _≤_, _<_}
+use Prim.Native.Nat.{_+_, _-_, _≤_}
 use mathlib.Core.Path.{_≡_, refl, sym, ap, _∙_}
-use lib.ListN.{length, drop, getD}
+use lib.ListN.{drop}
 use native.Mathlib.Omega.{arith}
 use Rattle.rows.specs.Ids.{indexOf, sameBytes}
 use Rattle.rows.specs.Store.{idsIn}
@@ -9,10 +9,6 @@ use Rattle.rows.specs.StoreLaws.{row-within, row-id, find-more, find-her
 use borrow.Author.Needs.{needs}
 use Rattle.rows.proofs.find_from.Statement.{statement}
 use Rattle.rows.proofs.find_from.Tie as tie
-use Rattle.rows.proofs.find_from.Reads as reads
-use Rattle.rows.proofs.find_from.Lts as lts
-use Rattle.rows.proofs.place.Reads as place-reads
-use Rattle.rows.proofs.same.Reads as same-reads
 
 abbrev Inv-loop : tie.InvT-loop
 Inv-loop lens ids size cap start count from id i₀ i = (from ≤ i) × (i ≤ count) × (i + indexOf id (drop i (idsIn size cap start count lens ids)) ≡ from + indexOf id (drop from (idsIn size cap start count lens ids)))

@@ -1,18 +1,14 @@
 use denote.Ref.{now}
-use Prim.Native.Nat.{ℕ, _+_, _-_, _*_, _≤_, _<_}
-use mathlib.Core.Path.{_≡_, refl, sym, ap, _∙_}
-use lib.ListN.{length, drop, getD}
+use Prim.Native.Nat.{_-_, _≤_}
+use mathlib.Core.Path.{_≡_, refl}
+use lib.ListN.{drop}
 use native.Mathlib.Omega.{arith}
 use Rattle.rows.specs.Ids.{distinct}
 use Rattle.rows.specs.Store.{idsIn}
-use Rattle.rows.specs.StoreLaws.{row-within, row-id, differ-more, differ-not, differ-all}
+use Rattle.rows.specs.StoreLaws.{row-within, differ-more, differ-not, differ-all}
 use borrow.Author.Needs.{needs}
 use Rattle.rows.proofs.ids_differ.Statement.{statement}
 use Rattle.rows.proofs.ids_differ.Tie as tie
-use Rattle.rows.proofs.ids_differ.Reads as reads
-use Rattle.rows.proofs.ids_differ.Lts as lts
-use Rattle.rows.proofs.find_from.Reads as find-from-reads
-use Rattle.rows.proofs.place.Reads as place-reads
 
 abbrev Inv-loop : tie.InvT-loop
 Inv-loop lens ids size cap start count i₀ i = (i ≤ count) × (distinct (drop i (idsIn size cap start count lens ids)) ≡ distinct (idsIn size cap start count lens ids))

@@ -2,9 +2,6 @@ use Rattle.rows.specs.RowsLaws.{place-near, place-far}
 use borrow.Author.Needs.{needs}
 use Rattle.rows.proofs.place.Statement.{statement}
 use Rattle.rows.proofs.place.Tie as tie
-use Rattle.rows.proofs.place.Reads as reads
-use Rattle.rows.proofs.place.Lts as lts
-use Rattle.rows.proofs.minus.Reads as minus-reads
 
 -- src/lib.rt:22:9
 minus-requires : tie.Need-minus-requires

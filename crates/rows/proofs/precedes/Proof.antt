@@ -1,6 +1,6 @@
 use denote.Ref.{now}
-use Prim.Native.Nat.{ℕ, _+_, _-_, _≤_, _<_}
-use mathlib.Core.Path.{_≡_, refl, sym}
+use Prim.Native.Nat.{_-_, _≤_}
+use mathlib.Core.Path.{_≡_}
 use lib.ListN.{length, drop}
 use native.Mathlib.Omega.{arith}
 use Rattle.rows.specs.Ids.{precedesBytes}
@@ -8,8 +8,6 @@ use Rattle.rows.specs.IdsLaws.{order-more, order-here, order-short, orde
 use borrow.Author.Needs.{needs}
 use Rattle.rows.proofs.precedes.Statement.{statement}
 use Rattle.rows.proofs.precedes.Tie as tie
-use Rattle.rows.proofs.precedes.Reads as reads
-use Rattle.rows.proofs.precedes.Lts as lts
 
 abbrev Inv-loop : tie.InvT-loop
 Inv-loop a b i₀ i = (i ≤ length a) × (precedesBytes (drop i a) (drop i b) ≡ precedesBytes a b)

@@ -1,6 +1,6 @@
 use denote.Ref.{now}
-use Prim.Native.Nat.{ℕ, _+_, _-_, _≤_, _<_}
-use mathlib.Core.Path.{_≡_, refl, sym}
+use Prim.Native.Nat.{_-_, _≤_}
+use mathlib.Core.Path.{_≡_, sym}
 use lib.ListN.{length, drop}
 use native.Mathlib.Omega.{arith}
 use Rattle.rows.specs.Ids.{sameBytes}
@@ -8,8 +8,6 @@ use Rattle.rows.specs.IdsLaws.{same-length, same-more, same-not, same-al
 use borrow.Author.Needs.{needs}
 use Rattle.rows.proofs.same.Statement.{statement}
 use Rattle.rows.proofs.same.Tie as tie
-use Rattle.rows.proofs.same.Reads as reads
-use Rattle.rows.proofs.same.Lts as lts
 
 abbrev Inv-loop : tie.InvT-loop
 Inv-loop a b i₀ i = (i ≤ length a) × (sameBytes (drop i a) (drop i b) ≡ sameBytes a b)
