@@ -47,13 +47,17 @@ allTrue (b ∷ bs) = b && allTrue bs
 unfoldable pub givesIn : ℕ → ℕ → ℕ → List ℕ → List ℕ → List ℕ → List ℕ → Bool
 givesIn cap start count lens ilens ids st = allTrue (ring (givesAt lens ilens ids st) cap start count)
 
+unfoldable pub idsFit : MessageCache → List ℕ → Bool
+idsFit c st =
+    allUpTo 128 (lensIn (c .«max_messages») (c .start) (c .count) (c .«id_len»))
+    && (givesIn (c .«max_messages») (c .start) (c .count) (c .len) (c .«id_len») (c .ids) st
+    && distinct (idsIn 128 (c .«max_messages») (c .start) (c .count) (c .«id_len») (c .ids)))
+
 unfoldable pub rowsFit : MessageCache → List ℕ → Bool
 rowsFit c st =
     fallsFrom (c .«history_len» - 1) (lensIn (c .«max_messages») (c .start) (c .count) (c .window))
     && (runsTo (c .«next_generation») (lensIn (c .«max_messages») (c .start) (c .count) (c .generation))
-    && (allUpTo 128 (lensIn (c .«max_messages») (c .start) (c .count) (c .«id_len»))
-    && (givesIn (c .«max_messages») (c .start) (c .count) (c .len) (c .«id_len») (c .ids) st
-    && distinct (idsIn 128 (c .«max_messages») (c .start) (c .count) (c .«id_len») (c .ids)))))
+    && idsFit c st)
 
 -- settings: history_len 1 to 16, max_messages 0 to 64
 unfoldable pub legal : ℕ → ℕ → Bool

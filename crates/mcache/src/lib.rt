@@ -10,7 +10,7 @@ ghost use Rattle.rows.specs.Rows.{placeOf};
 ghost use Rattle.rows.specs.Store.{Ring, Sound, lensIn, idAt};
 ghost use Rattle.ids.specs.Ids.{idBytes};
 ghost use Rattle.admission.specs.Admission.{admissionOf};
-ghost use Rattle.mcache.specs.State.{messageIn, fallsFrom, runsTo, givesIn, rowsFit, stale, older, Rows, Kept, fresh, dropped, appended, Listed, told, spotOf, putAt, insertRow, gathered};
+ghost use Rattle.mcache.specs.State.{messageIn, fallsFrom, runsTo, givesIn, idsFit, rowsFit, stale, older, Rows, Kept, fresh, dropped, appended, Listed, told, spotOf, putAt, insertRow, gathered};
 ghost use Rattle.mcache.specs.Calls.{startAnswer, startCache, lentOf, indexIn, entered, enteredStore, shifted, found, gossipList, gossipArray, planFit, planned, answered, keptIn, storedIn, shiftCache, getPart, lookupAnswer, gossipAnswer, gossipCount, gossipRows};
 use admission::Admission;
 use admission::MAX_TOPIC_SIZE;
@@ -410,6 +410,25 @@ impl MessageCache {
         }
     }
 
+    // Whether the messages are well formed, where the settings, the counts and the store's length were tested.
+    fn ids_fit(self, store: &[u8]) -> bool
+        requires { ⌜ (self .«max_messages» ≤ 64) × (self .start ≤ self .«max_messages») × (self .count ≤ self .«max_messages») × (length (now store) ≡ self .«max_messages» * 4096) ⌝ }
+        ensures { λ r. ⌜ r ≡ idsFit self (now (store .entry)) ⌝ }
+    {
+        let cap = self.max_messages;
+        let start = self.start;
+        let count = self.count;
+        let id_lens = self.id_len;
+        let lens = self.len;
+        let ids = self.ids;
+        if all_within(&id_lens, cap, start, count, 128) {
+            if messages_fit(&lens, &id_lens, &ids, store, cap, start, count) {
+                return ids_differ(&id_lens, &ids, 128, cap, start, count);
+            }
+        }
+        false
+    }
+
     // Whether the rows are well formed, where the settings, the counts and the store's length were tested.
     fn rows_fit(self, store: &[u8]) -> bool
         requires { ⌜ (self .«max_messages» ≤ 64) × (self .start ≤ self .«max_messages») × (self .count ≤ self .«max_messages») × (length (now store) ≡ self .«max_messages» * 4096) ⌝ }
@@ -421,16 +440,9 @@ impl MessageCache {
         let count = self.count;
         let window = self.window;
         let generation = self.generation;
-        let id_lens = self.id_len;
         if windows_fall(&window, cap, start, count, self.history_len - 1) {
             if generations_run(&generation, cap, start, count, self.next_generation) {
-                if all_within(&id_lens, cap, start, count, 128) {
-                    let lens = self.len;
-                    let ids = self.ids;
-                    if messages_fit(&lens, &id_lens, &ids, store, cap, start, count) {
-                        return ids_differ(&id_lens, &ids, 128, cap, start, count);
-                    }
-                }
+                return self.ids_fit(store);
             }
         }
         false

@@ -1,3 +1,7 @@
+use denote.Ref.{now}
+use mathlib.Core.Path.{_≡_, sym, _∙_}
+use native.Mathlib.Omega.{arith}
+use Rattle.mcache.proofs.Answers.{kept-ring, shift-store, shift-malformed, shift-fine}
 use borrow.Author.Needs.{needs}
 use Rattle.mcache.proofs.MessageCache.shift.Statement.{statement}
 use Rattle.mcache.proofs.MessageCache.shift.Tie as tie
@@ -24,19 +28,19 @@ enum-told-3 c = search needs
 
 -- src/lib.rt:650:21
 later-requires : tie.Need-later-requires
-later-requires c κs = ?
+later-requires c κs = kept-ring (c .before .before .before .before .args .self) (now (c .before .before .before .before .args .store)) (sym ((c .enum-told3 .given .1)) ∙ (c .before .before .lent .ensures)) (search needs) (search needs) (search needs) (search needs) (search needs)
 
 -- src/lib.rt:635:5
 returns : tie.Need-returns
-returns c = ?
+returns c = shift-store (c .before .before .before .before .args .self) (now (c .before .before .before .before .args .store)) (sym ((c .enum-told .given .1)) ∙ (c .before .before .lent .ensures))
 
 -- src/lib.rt:635:5
 returns-2 : tie.Need-returns-2
-returns-2 c = ?
+returns-2 c = shift-malformed (c .before .before .before .before .args .self) (now (c .before .before .before .before .args .store)) (sym ((c .enum-told2 .given .1)) ∙ (c .before .before .lent .ensures))
 
 -- src/lib.rt:635:5
 returns-3 : tie.Need-returns-3
-returns-3 c = ?
+returns-3 c = shift-fine (c .before .before .before .before .before .args .self) (now (c .before .before .before .before .before .args .store)) (sym ((c .before .enum-told3 .given .1)) ∙ (c .before .before .before .lent .ensures)) _ (c .later .ensures)
 
 pub shift-spec : {M : Type 1} → statement M
 shift-spec =
