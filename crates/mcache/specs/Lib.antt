@@ -1,3 +1,12 @@
 pub mod Messages
 pub mod State
 pub mod Calls
+pub mod WellFormed
+pub mod StateLaws
+pub mod CachedLaws
+pub mod Laws
+pub mod GossipLaws
+pub mod FineLaws
+pub mod WellFormedLaws
+pub mod WrapLaws
+pub mod Readers

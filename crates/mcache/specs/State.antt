@@ -2,7 +2,7 @@
 -- place; its id is the first `id_len[p]` bytes of the p-th 128 bytes of `ids`.
 use Prim.Native.Nat.{ℕ, zero, suc, _+_, _-_, _*_, _%_, _^_, _≤_, _<_}
 use mathlib.Core.Path.{_≡_}
-use mathlib.Core.List.{List, [], _∷_, map}
+use mathlib.Core.List.{List, [], _∷_, _++_, map}
 use mathlib.Core.Bool.{Bool, true, cond, _&&_}
 use lib.ListN.{length, take, drop, getD, set, replicate}
 use lib.Seq.{sets}
@@ -47,13 +47,17 @@ allTrue (b ∷ bs) = b && allTrue bs
 unfoldable pub givesIn : ℕ → ℕ → ℕ → List ℕ → List ℕ → List ℕ → List ℕ → Bool
 givesIn cap start count lens ilens ids st = allTrue (ring (givesAt lens ilens ids st) cap start count)
 
+unfoldable pub idsFit : MessageCache → List ℕ → Bool
+idsFit c st =
+    allUpTo 128 (lensIn (c .«max_messages») (c .start) (c .count) (c .«id_len»))
+    && (givesIn (c .«max_messages») (c .start) (c .count) (c .len) (c .«id_len») (c .ids) st
+    && distinct (idsIn 128 (c .«max_messages») (c .start) (c .count) (c .«id_len») (c .ids)))
+
 unfoldable pub rowsFit : MessageCache → List ℕ → Bool
 rowsFit c st =
     fallsFrom (c .«history_len» - 1) (lensIn (c .«max_messages») (c .start) (c .count) (c .window))
     && (runsTo (c .«next_generation») (lensIn (c .«max_messages») (c .start) (c .count) (c .generation))
-    && (allUpTo 128 (lensIn (c .«max_messages») (c .start) (c .count) (c .«id_len»))
-    && (givesIn (c .«max_messages») (c .start) (c .count) (c .len) (c .«id_len») (c .ids) st
-    && distinct (idsIn 128 (c .«max_messages») (c .start) (c .count) (c .«id_len») (c .ids)))))
+    && idsFit c st)
 
 -- settings: history_len 1 to 16, max_messages 0 to 64
 unfoldable pub legal : ℕ → ℕ → Bool
@@ -176,6 +180,10 @@ told window lens st windows topic p = ltb (getD window p 0) windows && among top
 unfoldable pub spotOf : (ℕ → List ℕ) → ℕ → List ℕ → ℕ
 spotOf id p [] = 0
 spotOf id p (q ∷ qs) = cond (precedesBytes (id q) (id p)) (suc (spotOf id p qs)) 0
+
+-- x at a place of a list, the rest after it
+unfoldable pub putAt : ℕ → ℕ → List ℕ → List ℕ
+putAt at x l = take at l ++ (x ∷ drop at l)
 
 unfoldable pub insertRow : (ℕ → List ℕ) → ℕ → List ℕ → List ℕ
 insertRow id p [] = p ∷ []

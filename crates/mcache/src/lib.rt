@@ -1,8 +1,8 @@
 // The heartbeat-windowed message cache, from mcache.rs: messages in a lent store, a place of 4,096 bytes each; their ids, lengths, windows and
 // arrival numbers by value. The places are a ring, so that a message that leaves moves no other, and a freed place is used again.
 ghost use mathlib.Core.Path.{_≡_};
-ghost use mathlib.Core.Bool.{true};
-ghost use mathlib.Core.List.{map, _∷_, _++_};
+ghost use mathlib.Core.Bool.{true, cond};
+ghost use mathlib.Core.List.{map, _++_};
 ghost use Prim.Native.Nat.{ℕ, _+_, _-_, _*_, _≤_, _<_};
 ghost use lib.ListN.{length, drop, take, getD, replicate};
 ghost use lib.Seq.{sets};
@@ -10,12 +10,12 @@ ghost use Rattle.rows.specs.Rows.{placeOf};
 ghost use Rattle.rows.specs.Store.{Ring, Sound, lensIn, idAt};
 ghost use Rattle.ids.specs.Ids.{idBytes};
 ghost use Rattle.admission.specs.Admission.{admissionOf};
-ghost use Rattle.mcache.specs.State.{messageIn, fallsFrom, runsTo, givesIn, rowsFit, stale, older, Rows, Kept, fresh, dropped, appended, Listed, told, spotOf, gathered};
+ghost use Rattle.mcache.specs.State.{messageIn, fallsFrom, runsTo, givesIn, idsFit, rowsFit, stale, older, Rows, Kept, fresh, dropped, appended, Listed, told, spotOf, putAt, insertRow, gathered};
 ghost use Rattle.mcache.specs.Calls.{startAnswer, startCache, lentOf, indexIn, entered, enteredStore, shifted, found, gossipList, gossipArray, planFit, planned, answered, keptIn, storedIn, shiftCache, getPart, lookupAnswer, gossipAnswer, gossipCount, gossipRows};
 use admission::Admission;
 use admission::MAX_TOPIC_SIZE;
 use admission::Unfit;
-use admission::admission;
+use admission::admit;
 use admission::carries;
 use admission::gives_id;
 use ids::MessageAt;
@@ -156,8 +156,8 @@ fn messages_fit(
     start: usize,
     count: usize,
 ) -> bool
-    requires { ⌜ Rows cap start count (now lens) (now id_lens) (now ids) (now store) ⌝ }
-    ensures { λ r. ⌜ r ≡ givesIn cap start count (now (lens .entry)) (now (id_lens .entry)) (now (ids .entry)) (now (store .entry)) ⌝ }
+    requires { ⌜ Rows cap start count (now lens) (now «id_lens») (now ids) (now store) ⌝ }
+    ensures { λ r. ⌜ r ≡ givesIn cap start count (now (lens .entry)) (now («id_lens» .entry)) (now (ids .entry)) (now (store .entry)) ⌝ }
 {
     let mut i = 0;
     while i < count {
@@ -170,10 +170,11 @@ fn messages_fit(
         let end = base + n;
         let id_base = p * 128;
         let id_end = id_base + id_lens[p] as usize;
-        if !gives_id(&store[base..end], &ids[id_base..id_end]) {
+        if gives_id(&store[base..end], &ids[id_base..id_end]) {
+            i += 1;
+        } else {
             return false;
         }
-        i += 1;
     }
     true
 }
@@ -204,7 +205,7 @@ fn age_windows(window: &mut [u8])
 // How many of the oldest leave when a window is opened: those in front of the first that stays.
 fn stale_rows(window: &[u8], cap: usize, start: usize, count: usize, history_len: usize) -> usize
     requires { ⌜ Ring cap start count (now window) ⌝ }
-    ensures { λ r. ⌜ r ≡ stale history_len (lensIn cap start count (now (window .entry))) ⌝ }
+    ensures { λ r. ⌜ r ≡ stale «history_len» (lensIn cap start count (now (window .entry))) ⌝ }
 {
     let mut i = 0;
     while i < count {
@@ -229,14 +230,6 @@ pub fn form_id(part: &[u8], a: usize, e: usize, b: usize, f: usize, out: &mut [u
 {
     let i = put_bytes(out, 0, &part[a..e]);
     put_bytes(out, i, &part[b..f])
-}
-
-// Writes bytes into a store from `at` on.
-fn write_at(store: &mut [u8], at: usize, bytes: &[u8])
-    requires { ⌜ at + length (now bytes) ≤ length (now store) ⌝ }
-    ensures { λ _. ⌜ now (store .exit) ≡ sets (now (store .entry)) at (now (bytes .entry)) ⌝ }
-{
-    bytes::copy(bytes, &mut store[at..]);
 }
 
 // ---- telling
@@ -265,9 +258,9 @@ fn is_told(
 // Where the row p goes among the first n of `rows`: before the first whose id does not come before its own.
 fn spot(rows: &[u8], n: usize, id_lens: &[u8], ids: &[u8], p: usize) -> usize
     requires { ⌜ n ≤ length (now rows) ⌝ }
-    requires { ⌜ Listed n (now rows) (now id_lens) (now ids) ⌝ }
-    requires { ⌜ (p < 64) × (getD (now id_lens) p 0 ≤ 128) ⌝ }
-    ensures { λ r. ⌜ r ≡ spotOf (idAt 128 (now (id_lens .entry)) (now (ids .entry))) p (take n (now (rows .entry))) ⌝ }
+    requires { ⌜ Listed n (now rows) (now «id_lens») (now ids) ⌝ }
+    requires { ⌜ (p < 64) × (getD (now «id_lens») p 0 ≤ 128) ⌝ }
+    ensures { λ r. ⌜ r ≡ spotOf (idAt 128 (now («id_lens» .entry)) (now (ids .entry))) p (take n (now (rows .entry))) ⌝ }
 {
     let base = p * 128;
     let end = base + id_lens[p] as usize;
@@ -288,7 +281,7 @@ fn spot(rows: &[u8], n: usize, id_lens: &[u8], ids: &[u8], p: usize) -> usize
 // Puts p at `at` among the first n of `rows`, and moves the rest of them up by one.
 fn put_row(rows: &mut [u8], n: usize, at: usize, p: u8)
     requires { ⌜ (at ≤ n) × (n < length (now rows)) ⌝ }
-    ensures { λ _. ⌜ now (rows .exit) ≡ take at (now (rows .entry)) ++ (p ∷ (take (n - at) (drop at (now (rows .entry))) ++ drop (n + 1) (now (rows .entry)))) ⌝ }
+    ensures { λ _. ⌜ now (rows .exit) ≡ putAt at p (take n (now (rows .entry))) ++ drop (n + 1) (now (rows .entry)) ⌝ }
 {
     let mut v = p;
     let mut i = at;
@@ -298,6 +291,34 @@ fn put_row(rows: &mut [u8], n: usize, at: usize, p: u8)
         v = old;
         i += 1;
     }
+}
+
+// Puts the row p into its spot among the first n of `rows`, where its message is told of; and how many there are then.
+fn tell_row(
+    window: &[u8],
+    lens: &[u16],
+    id_lens: &[u8],
+    ids: &[u8],
+    store: &[u8],
+    p: usize,
+    windows: usize,
+    topic: &[u8],
+    rows: &mut [u8],
+    n: usize,
+) -> usize
+    requires { ⌜ (p < 64) × (length (now window) ≡ 64) × (length (now lens) ≡ 64) × (p * 4096 + getD (now lens) p 0 ≤ length (now store)) ⌝ }
+    requires { ⌜ n < length (now rows) ⌝ }
+    requires { ⌜ Listed n (now rows) (now «id_lens») (now ids) ⌝ }
+    requires { ⌜ getD (now «id_lens») p 0 ≤ 128 ⌝ }
+    ensures { λ r. ⌜ r ≡ cond (told (now (window .entry)) (now (lens .entry)) (now (store .entry)) windows (now (topic .entry)) p) (n + 1) n ⌝ }
+    ensures { λ _. ⌜ now (rows .exit) ≡ cond (told (now (window .entry)) (now (lens .entry)) (now (store .entry)) windows (now (topic .entry)) p) (insertRow (idAt 128 (now («id_lens» .entry)) (now (ids .entry))) p (take n (now (rows .entry))) ++ drop (n + 1) (now (rows .entry))) (now (rows .entry)) ⌝ }
+{
+    if is_told(window, lens, store, p, windows, topic) {
+        let at = spot(rows, n, id_lens, ids, p);
+        put_row(rows, n, at, p as u8);
+        return n + 1;
+    }
+    n
 }
 
 // The places of the messages that are told of, in the order of their ids, at the front of `rows`; and how many there are.
@@ -314,20 +335,27 @@ fn gather(
     topic: &[u8],
     rows: &mut [u8],
 ) -> usize
-    requires { ⌜ Rows cap start count (now lens) (now id_lens) (now ids) (now store) ⌝ }
+    requires { ⌜ Rows cap start count (now lens) (now «id_lens») (now ids) (now store) ⌝ }
     requires { ⌜ (length (now window) ≡ 64) × (length (now rows) ≡ 64) × ((i : ℕ) → i < count → getD (now lens) (placeOf cap start i) 0 ≤ 4096) ⌝ }
-    ensures { λ r. ⌜ r ≡ length (gathered cap start count (now (window .entry)) (now (lens .entry)) (now (id_lens .entry)) (now (ids .entry)) (now (store .entry)) windows (now (topic .entry))) ⌝ }
-    ensures { λ r. ⌜ now (rows .exit) ≡ gathered cap start count (now (window .entry)) (now (lens .entry)) (now (id_lens .entry)) (now (ids .entry)) (now (store .entry)) windows (now (topic .entry)) ++ drop r (now (rows .entry)) ⌝ }
+    ensures { λ r. ⌜ r ≡ length (gathered cap start count (now (window .entry)) (now (lens .entry)) (now («id_lens» .entry)) (now (ids .entry)) (now (store .entry)) windows (now (topic .entry))) ⌝ }
+    ensures { λ r. ⌜ now (rows .exit) ≡ gathered cap start count (now (window .entry)) (now (lens .entry)) (now («id_lens» .entry)) (now (ids .entry)) (now (store .entry)) windows (now (topic .entry)) ++ drop r (now (rows .entry)) ⌝ }
 {
     let mut n = 0;
     let mut i = 0;
     while i < count {
         let p = place(cap, start, i);
-        if is_told(window, lens, store, p, windows, topic) {
-            let at = spot(rows, n, id_lens, ids, p);
-            put_row(rows, n, at, p as u8);
-            n += 1;
-        }
+        n = tell_row(
+            window,
+            lens,
+            id_lens,
+            ids,
+            store,
+            p,
+            windows,
+            topic,
+            rows,
+            n,
+        );
         i += 1;
     }
     n
@@ -382,6 +410,25 @@ impl MessageCache {
         }
     }
 
+    // Whether the messages are well formed, where the settings, the counts and the store's length were tested.
+    fn ids_fit(self, store: &[u8]) -> bool
+        requires { ⌜ (self .«max_messages» ≤ 64) × (self .start ≤ self .«max_messages») × (self .count ≤ self .«max_messages») × (length (now store) ≡ self .«max_messages» * 4096) ⌝ }
+        ensures { λ r. ⌜ r ≡ idsFit self (now (store .entry)) ⌝ }
+    {
+        let cap = self.max_messages;
+        let start = self.start;
+        let count = self.count;
+        let id_lens = self.id_len;
+        let lens = self.len;
+        let ids = self.ids;
+        if all_within(&id_lens, cap, start, count, 128) {
+            if messages_fit(&lens, &id_lens, &ids, store, cap, start, count) {
+                return ids_differ(&id_lens, &ids, 128, cap, start, count);
+            }
+        }
+        false
+    }
+
     // Whether the rows are well formed, where the settings, the counts and the store's length were tested.
     fn rows_fit(self, store: &[u8]) -> bool
         requires { ⌜ (self .«max_messages» ≤ 64) × (self .start ≤ self .«max_messages») × (self .count ≤ self .«max_messages») × (length (now store) ≡ self .«max_messages» * 4096) ⌝ }
@@ -392,23 +439,13 @@ impl MessageCache {
         let start = self.start;
         let count = self.count;
         let window = self.window;
-        if !windows_fall(&window, cap, start, count, self.history_len - 1) {
-            return false;
-        }
         let generation = self.generation;
-        if !generations_run(&generation, cap, start, count, self.next_generation) {
-            return false;
+        if windows_fall(&window, cap, start, count, self.history_len - 1) {
+            if generations_run(&generation, cap, start, count, self.next_generation) {
+                return self.ids_fit(store);
+            }
         }
-        let id_lens = self.id_len;
-        if !all_within(&id_lens, cap, start, count, 128) {
-            return false;
-        }
-        let lens = self.len;
-        let ids = self.ids;
-        if !messages_fit(&lens, &id_lens, &ids, store, cap, start, count) {
-            return false;
-        }
-        ids_differ(&id_lens, &ids, 128, cap, start, count)
+        false
     }
 
     // Whether a store and the cache can be used together.
@@ -465,9 +502,9 @@ impl MessageCache {
     {
         let count = self.count;
         let p = place(self.max_messages, self.start, count);
-        write_at(store, p * 4096, part);
+        put_bytes(store, p * 4096, part);
         let mut ids = self.ids;
-        write_at(&mut ids, p * 128, id);
+        put_bytes(&mut ids, p * 128, id);
         self.ids = ids;
         self.id_len[p] = id.len() as u8;
         self.len[p] = part.len() as u16;
@@ -521,7 +558,7 @@ impl MessageCache {
         ensures { λ r. ⌜ r .cache ≡ keptIn self (planFit self (now (part .entry)) (admissionOf (now (part .entry)) true)) ⌝ }
         ensures { λ _. ⌜ now (store .exit) ≡ storedIn self (now (store .entry)) (planFit self (now (part .entry)) (admissionOf (now (part .entry)) true)) ⌝ }
     {
-        let a = admission(part, true);
+        let a = admit(part, true);
         match a {
             Admission::Unfit(why) => PutDone {
                 answer: Put::Unfit(why),

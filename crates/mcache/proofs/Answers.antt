@@ -1,0 +1,351 @@
+-- The answers, case by case as the code comes to them.
+use Prim.Native.Nat.{ℕ, _+_, _-_, _*_, _/_, _%_, _≤_, _<_}
+use mathlib.Core.Path.{_≡_, refl, sym, ap, _∙_}
+use mathlib.Core.List.{List, [], _++_}
+use mathlib.Core.Bool.{Bool, true, false, _&&_}
+use native.Mathlib.Omega.{arith}
+use lib.ListN.{length, take, drop, getD, replicate}
+use lib.Seq.{sets, sets-eq, length-sets, take-at}
+use lib.Dec.{leb, ltb, eqb}
+use borrow.Author.Tests.{eq-eqb, ne-eqb, eqb-true, le-leb, lt-leb, leb-true, lt-ltb, le-ltb}
+use Rattle.basis.specs.Cases.{either, clash}
+use Rattle.rows.specs.Rows.{placeOf}
+use Rattle.rows.specs.Ids.{distinct}
+use Rattle.rows.specs.RowsLaws.{place-lt}
+use Rattle.rows.specs.Store.{lensIn, idsIn, allUpTo, Ring, Sound}
+use Rattle.rows.specs.StoreLaws.{short-in}
+use Rattle.protobuf.specs.declared.WireError.{WireError}
+use Rattle.protobuf.specs.declared.Checked.the-variants as checked
+use Rattle.protobuf.specs.Walk.{between}
+use Rattle.ids.specs.declared.MessageAt.the-variants as at
+use Rattle.ids.specs.Ids.{acceptOf, messageAt, idBytes}
+use Rattle.admission.specs.declared.Unfit.{Unfit}
+use Rattle.admission.specs.declared.Admission.{Admission}
+use Rattle.admission.specs.declared.Admission.the-variants as admission
+use Rattle.admission.specs.Admission.{admissionOf}
+use Rattle.admission.specs.AdmissionLaws.{fit-parts, fit-limits, fit-id}
+use Rattle.ids.specs.IdLaws.{id-fits}
+use Rattle.mcache.specs.declared.MessageCache.{MessageCache}
+use Rattle.mcache.specs.declared.Lent.{Lent}
+use Rattle.mcache.specs.declared.Lent.the-variants as lent
+use Rattle.mcache.specs.declared.Put.{Put}
+use Rattle.mcache.specs.declared.Put.the-variants as put
+use Rattle.mcache.specs.declared.Lookup.the-variants as lookup
+use Rattle.mcache.specs.declared.Gossip.{Gossip}
+use Rattle.mcache.specs.declared.Gossip.the-variants as gossip
+use Rattle.mcache.specs.State.{messageIn, fallsFrom, runsTo, givesIn, idsFit, rowsFit, legal, wellFormed, Rows, Kept}
+use Rattle.mcache.specs.Calls.{lentOf, indexIn, entered, enteredStore, shifted, found, gossipList, gossipArray, Plan, no, keep, answered, keptIn, storedIn, planFit, planned, shiftCache, getPart, lookupAnswer, gossipAnswer, gossipCount, gossipRows}
+use Rattle.mcache.specs.StateLaws.{lent-kept}
+use Rattle.mcache.proofs.Walks.{part-from}
+
+-- ---- the rows
+module _ (c : MessageCache) (st : List ℕ) where
+  abbrev falls : Bool
+  falls = fallsFrom (c .«history_len» - 1) (lensIn (c .«max_messages») (c .start) (c .count) (c .window))
+
+  abbrev runs : Bool
+  runs = runsTo (c .«next_generation») (lensIn (c .«max_messages») (c .start) (c .count) (c .generation))
+
+  abbrev shorts : Bool
+  shorts = allUpTo 128 (lensIn (c .«max_messages») (c .start) (c .count) (c .«id_len»))
+
+  abbrev gives : Bool
+  gives = givesIn (c .«max_messages») (c .start) (c .count) (c .len) (c .«id_len») (c .ids) st
+
+  abbrev differ : Bool
+  differ = distinct (idsIn 128 (c .«max_messages») (c .start) (c .count) (c .«id_len») (c .ids))
+
+  pub rows-falls : falls ≡ false → false ≡ rowsFit c st
+  unfolding rowsFit
+  rows-falls h = sym (simp h)
+
+  pub rows-runs : falls ≡ true → runs ≡ false → false ≡ rowsFit c st
+  unfolding rowsFit
+  rows-runs a h = sym (simp (a, h))
+
+  pub rows-ids : falls ≡ true → runs ≡ true → (r : Bool) → r ≡ idsFit c st → r ≡ rowsFit c st
+  unfolding rowsFit
+  rows-ids a b r h = h ∙ sym (simp (a, b))
+
+  pub ids-short : shorts ≡ false → false ≡ idsFit c st
+  unfolding idsFit
+  ids-short h = sym (simp h)
+
+  pub ids-gives : shorts ≡ true → gives ≡ false → false ≡ idsFit c st
+  unfolding idsFit
+  ids-gives d h = sym (simp (d, h))
+
+  pub ids-differ : shorts ≡ true → gives ≡ true → (r : Bool) → r ≡ differ → r ≡ idsFit c st
+  unfolding idsFit
+  ids-differ d e r h = h ∙ sym (simp (d, e))
+
+  -- what the walks need of the rows
+  module _ (few : c .«max_messages» ≤ 64) (starts : c .start ≤ c .«max_messages») (within : c .count ≤ c .«max_messages») where
+    pub ring-of : (l : List ℕ) → length l ≡ 64 → Ring (c .«max_messages») (c .start) (c .count) l
+    ring-of l z = record { starts = starts; within = within; size = omega arith }
+
+    pub rows-of : length (c .len) ≡ 64 → length (c .«id_len») ≡ 64 → length (c .ids) ≡ 8192 → length st ≡ c .«max_messages» * 4096 → shorts ≡ true
+        → Rows (c .«max_messages») (c .start) (c .count) (c .len) (c .«id_len») (c .ids) st
+    rows-of x y z r s =
+        record {
+          few = few;
+          starts = starts;
+          within = within;
+          lengths = x;
+          id-lengths = y;
+          id-room = z;
+          room = r;
+          id-short = short-in 128 (c .«id_len») (c .«max_messages») (c .start) (c .count) s;
+        }
+
+    pub sound-of : length (c .«id_len») ≡ 64 → length (c .ids) ≡ 8192 → shorts ≡ true → Sound 128 (c .«max_messages») (c .start) (c .count) (c .«id_len») (c .ids)
+    sound-of y z s =
+        record {
+          rows = record { starts = starts; within = within; size = omega arith };
+          room = omega arith;
+          short = short-in 128 (c .«id_len») (c .«max_messages») (c .start) (c .count) s;
+        }
+
+-- ---- the lent state
+module _ (c : MessageCache) (st : List ℕ) where
+  pub lent-other : (length st / 4096 ≡ c .«max_messages» → ⊥) → lent.BadStore ≡ lentOf c st
+  unfolding lentOf
+  lent-other h = simp (ne-eqb (length st) (c .«max_messages» * 4096) (λ e. h (omega arith)))
+
+  pub lent-part : (length st % 4096 ≡ 0 → ⊥) → lent.BadStore ≡ lentOf c st
+  unfolding lentOf
+  lent-part h = simp (ne-eqb (length st) (c .«max_messages» * 4096) (λ e. h (omega arith)))
+
+  module _ (w : length st / 4096 ≡ c .«max_messages») (z : length st % 4096 ≡ 0) where
+    whole : eqb (length st) (c .«max_messages» * 4096) ≡ true
+    whole = eq-eqb (length st) (c .«max_messages» * 4096) (omega arith)
+
+    pub lent-none : c .«history_len» ≡ 0 → lent.Malformed ≡ lentOf c st
+    unfolding lentOf wellFormed legal
+    lent-none h = simp (whole, lt-leb 1 (c .«history_len») (omega arith))
+
+    module _ (n : c .«history_len» ≡ 0 → ⊥) where
+      pub lent-long : 16 < c .«history_len» → lent.Malformed ≡ lentOf c st
+      unfolding lentOf wellFormed legal
+      lent-long h = simp (whole, le-leb 1 (c .«history_len») (omega (arith, n)), lt-leb (c .«history_len») 16 h)
+
+      module _ (a : c .«history_len» ≤ 16) where
+        pub lent-many : 64 < c .«max_messages» → lent.Malformed ≡ lentOf c st
+        unfolding lentOf wellFormed legal
+        lent-many h = simp (whole, le-leb 1 (c .«history_len») (omega (arith, n)), le-leb (c .«history_len») 16 a, lt-leb (c .«max_messages») 64 h)
+
+        module _ (m : c .«max_messages» ≤ 64) where
+          settings : legal (c .«history_len») (c .«max_messages») ≡ true
+          unfolding legal
+          settings = simp (le-leb 1 (c .«history_len») (omega (arith, n)), le-leb (c .«history_len») 16 a, le-leb (c .«max_messages») 64 m)
+
+          pub lent-start : c .«max_messages» < c .start → lent.Malformed ≡ lentOf c st
+          unfolding lentOf wellFormed
+          lent-start h = simp (whole, settings, lt-leb (c .start) (c .«max_messages») h)
+
+          module _ (s : c .start ≤ c .«max_messages») where
+            pub lent-count : c .«max_messages» < c .count → lent.Malformed ≡ lentOf c st
+            unfolding lentOf wellFormed
+            lent-count h = simp (whole, settings, le-leb (c .start) (c .«max_messages») s, lt-leb (c .count) (c .«max_messages») h)
+
+            pub lent-rows : c .count ≤ c .«max_messages» → rowsFit c st ≡ false → lent.Malformed ≡ lentOf c st
+            unfolding lentOf wellFormed
+            lent-rows k h = simp (whole, settings, le-leb (c .start) (c .«max_messages») s, le-leb (c .count) (c .«max_messages») k, h)
+
+            pub lent-fine : c .count ≤ c .«max_messages» → rowsFit c st ≡ true → lent.Fine ≡ lentOf c st
+            unfolding lentOf wellFormed
+            lent-fine k h = simp (whole, settings, le-leb (c .start) (c .«max_messages») s, le-leb (c .count) (c .«max_messages») k, h)
+
+-- ---- get
+module _ (c : MessageCache) (st id : List ℕ) where
+  pub found-none : c .count ≤ indexIn c id → [] ≡ found c st id
+  unfolding found
+  found-none h = sym (simp (le-ltb (indexIn c id) (c .count) h))
+
+  pub found-at : (i p : ℕ) → i ≡ indexIn c id → i < c .count → p ≡ placeOf (c .«max_messages») (c .start) i → take ((p * 4096 + getD (c .len) p 0) - p * 4096) (drop (p * 4096) st) ≡ found c st id
+  unfolding found messageIn
+  found-at i p e h k =
+      part-from (p * 4096) (getD (c .len) p 0) (drop (p * 4096) st)
+      ∙ ap (λ (q : ℕ). messageIn (c .len) st q) (k ∙ ap (placeOf (c .«max_messages») (c .start)) e)
+      ∙ sym (simp (lt-ltb (indexIn c id) (c .count) (omega arith)))
+
+  pub found-lies : (i p : ℕ) → Kept c st → i < c .count → p ≡ placeOf (c .«max_messages») (c .start) i → (p < 64) × (p < length (c .len)) × (p * 4096 + getD (c .len) p 0 ≤ length st)
+  found-lies i p ok h e =
+      let r = ok .rows in
+      let l : p < c .«max_messages» = rw e (place-lt (c .«max_messages») (c .start) i (r .starts) (omega (arith, r .within))) in
+      let s : getD (c .len) p 0 ≤ 4096 = rw e (ok .short i h) in
+      (omega (arith, r .few), omega (arith, r .few, r .lengths), omega (arith, r .room))
+
+  pub get-store : lent.BadStore ≡ lentOf c st → [] ≡ getPart c st id
+  unfolding getPart
+  get-store e = rw (← e)
+
+  pub get-malformed : lent.Malformed ≡ lentOf c st → [] ≡ getPart c st id
+  unfolding getPart
+  get-malformed e = rw (← e)
+
+  pub get-found : lent.Fine ≡ lentOf c st → (r : List ℕ) → r ≡ found c st id → r ≡ getPart c st id
+  unfolding getPart
+  get-found e r h = rw (← e) h
+
+  pub lookup-store : lent.BadStore ≡ lentOf c st → lookup.BadStore ≡ lookupAnswer c st id
+  unfolding lookupAnswer
+  lookup-store e = rw (← e)
+
+  pub lookup-malformed : lent.Malformed ≡ lentOf c st → lookup.Malformed ≡ lookupAnswer c st id
+  unfolding lookupAnswer
+  lookup-malformed e = rw (← e)
+
+  pub lookup-found : lent.Fine ≡ lentOf c st → (i : ℕ) → i ≡ indexIn c id → i < c .count → lookup.Found ≡ lookupAnswer c st id
+  unfolding lookupAnswer
+  lookup-found e i f h = rw (← e, lt-ltb (indexIn c id) (c .count) (omega arith))
+
+  pub lookup-missing : lent.Fine ≡ lentOf c st → (i : ℕ) → i ≡ indexIn c id → c .count ≤ i → lookup.Missing ≡ lookupAnswer c st id
+  unfolding lookupAnswer
+  lookup-missing e i f h = rw (← e, le-ltb (indexIn c id) (c .count) (omega arith))
+
+-- ---- shift
+module _ (c : MessageCache) (st : List ℕ) where
+  pub shift-store : lent.BadStore ≡ lentOf c st → (lent.BadStore ≡ lentOf c st) × (c ≡ shiftCache c st)
+  unfolding shiftCache
+  shift-store e = (e, rw (← e))
+
+  pub shift-malformed : lent.Malformed ≡ lentOf c st → (lent.Malformed ≡ lentOf c st) × (c ≡ shiftCache c st)
+  unfolding shiftCache
+  shift-malformed e = (e, rw (← e))
+
+  pub shift-fine : lent.Fine ≡ lentOf c st → (r : MessageCache) → r ≡ shifted c → (lent.Fine ≡ lentOf c st) × (r ≡ shiftCache c st)
+  unfolding shiftCache
+  shift-fine e r h = (e, rw (← e) h)
+
+-- ---- gossip_ids
+abbrev Tells : (c : MessageCache) (st topic : List ℕ) (windows : ℕ) → Gossip → ℕ → List ℕ → Type 0
+Tells c st topic windows a n rows = (a ≡ gossipAnswer c st topic) × (n ≡ gossipCount c st topic windows) × (rows ≡ gossipRows c st topic windows)
+
+module _ (c : MessageCache) (st topic : List ℕ) (windows : ℕ) where
+  untold : (a : Gossip) → gossipAnswer c st topic ≡ a → (a ≡ gossip.Ids → ⊥) → Tells c st topic windows a 0 (replicate 64 0)
+  unfolding gossipCount gossipRows
+  untold gossip.Ids e n = absurd (n refl)
+  untold gossip.BadStore e n = (sym e, rw e, rw e)
+  untold gossip.Malformed e n = (sym e, rw e, rw e)
+  untold (gossip.TopicTooLong m) e n = (sym e, rw e, rw e)
+
+  says-store : lent.BadStore ≡ lentOf c st → gossipAnswer c st topic ≡ gossip.BadStore
+  unfolding gossipAnswer
+  says-store e = rw (← e)
+
+  says-malformed : lent.Malformed ≡ lentOf c st → gossipAnswer c st topic ≡ gossip.Malformed
+  unfolding gossipAnswer
+  says-malformed e = rw (← e)
+
+  says-long : lent.Fine ≡ lentOf c st → 1024 < length topic → gossipAnswer c st topic ≡ gossip.TopicTooLong (length topic)
+  unfolding gossipAnswer
+  says-long e h = rw (← e, lt-ltb 1024 (length topic) h)
+
+  says-ids : lent.Fine ≡ lentOf c st → length topic ≤ 1024 → gossipAnswer c st topic ≡ gossip.Ids
+  unfolding gossipAnswer
+  says-ids e h = rw (← e, le-ltb 1024 (length topic) h)
+
+  pub gossip-store : lent.BadStore ≡ lentOf c st → Tells c st topic windows gossip.BadStore 0 (replicate 64 0)
+  gossip-store e = untold gossip.BadStore (says-store e) (λ k. clash (cc))
+
+  pub gossip-malformed : lent.Malformed ≡ lentOf c st → Tells c st topic windows gossip.Malformed 0 (replicate 64 0)
+  gossip-malformed e = untold gossip.Malformed (says-malformed e) (λ k. clash (cc))
+
+  pub gossip-long : lent.Fine ≡ lentOf c st → 1024 < length topic → Tells c st topic windows (gossip.TopicTooLong (length topic)) 0 (replicate 64 0)
+  gossip-long e h = untold (gossip.TopicTooLong (length topic)) (says-long e h) (λ k. clash (cc))
+
+  pub gossip-told : lent.Fine ≡ lentOf c st → length topic ≤ 1024 → (n : ℕ) (rows : List ℕ) → n ≡ length (gossipList c st topic windows) → rows ≡ gossipArray c st topic windows
+      → Tells c st topic windows gossip.Ids n rows
+  unfolding gossipCount gossipRows
+  gossip-told e h n rows f g = let s = says-ids e h in (sym s, rw s f, rw s g)
+
+-- ---- put
+abbrev Puts : MessageCache → List ℕ → Plan → Put → MessageCache → List ℕ → Type 0
+Puts c st plan a r s = (a ≡ answered plan) × (r ≡ keptIn c plan) × (s ≡ storedIn c st plan)
+
+pub puts-no : (c : MessageCache) (st : List ℕ) (plan : Plan) (a : Put) → plan ≡ no a → Puts c st plan a c st
+puts-no c st plan a e = (rw e, rw e, rw e)
+
+pub puts-keep : (c : MessageCache) (st m id : List ℕ) (plan : Plan) (r : MessageCache) (s : List ℕ) → plan ≡ keep m id → r ≡ entered (length m) id c → s ≡ enteredStore c st m → Puts c st plan put.Stored r s
+puts-keep c st m id plan r s e f g = (rw e, rw e f, rw e g)
+
+pub puts-as : (c : MessageCache) (st : List ℕ) (plan other : Plan) (a : Put) (r : MessageCache) (s : List ℕ) → plan ≡ other → Puts c st other a r s → Puts c st plan a r s
+puts-as c st plan other a r s e p = (rw e (p .0), rw e (p .1), rw e (p .2))
+
+module _ (c : MessageCache) (p : List ℕ) where
+  pub plan-unfit : (why : Unfit) → admission.Unfit why ≡ admissionOf p true → planFit c p (admissionOf p true) ≡ no (put.Unfit why)
+  plan-unfit why e = rw (← e)
+
+  pub plan-held : (a e b f i : ℕ) → admission.Fit a e b f ≡ admissionOf p true → i ≡ indexIn c (idBytes p a e b f) → i < c .count → planFit c p (admissionOf p true) ≡ no put.Held
+  plan-held a e b f i h k l = rw (← h, lt-ltb (indexIn c (idBytes p a e b f)) (c .count) (omega arith))
+
+  pub plan-keep : (a e b f i : ℕ) → admission.Fit a e b f ≡ admissionOf p true → i ≡ indexIn c (idBytes p a e b f) → c .count ≤ i → planFit c p (admissionOf p true) ≡ keep p (idBytes p a e b f)
+  plan-keep a e b f i h k l = rw (← h, le-ltb (indexIn c (idBytes p a e b f)) (c .count) (omega arith))
+
+module _ (c : MessageCache) (st body : List ℕ) (i : ℕ) where
+  pub plan-store : lent.BadStore ≡ lentOf c st → planned c st body i ≡ no put.BadStore
+  unfolding planned
+  plan-store e = rw (← e)
+
+  pub plan-malformed : lent.Malformed ≡ lentOf c st → planned c st body i ≡ no put.Malformed
+  unfolding planned
+  plan-malformed e = rw (← e)
+
+  pub plan-refused : (why : WireError) → lent.Fine ≡ lentOf c st → checked.Refused why ≡ acceptOf body → planned c st body i ≡ no (put.Refused why)
+  unfolding planned
+  plan-refused why e f = rw (← e, ← f)
+
+  pub plan-missing : (n : ℕ) → lent.Fine ≡ lentOf c st → checked.Fine ≡ acceptOf body → at.Count n ≡ messageAt body i → planned c st body i ≡ no (put.NoMessage n)
+  unfolding planned
+  plan-missing n e f g = rw (← e, ← f, ← g)
+
+  pub plan-at : (a b : ℕ) → lent.Fine ≡ lentOf c st → checked.Fine ≡ acceptOf body → at.At a b ≡ messageAt body i → planned c st body i ≡ planFit c (between body a b) (admissionOf (between body a b) true)
+  unfolding planned
+  plan-at a b e f g = rw (← e, ← f, ← g)
+
+-- ---- a state that was tested
+module _ (c : MessageCache) (st : List ℕ) (h : lent.Fine ≡ lentOf c st) (g : length (c .generation) ≡ 64) (w : length (c .window) ≡ 64) (l : length (c .len) ≡ 64) (i : length (c .«id_len») ≡ 64) (r : length (c .ids) ≡ 8192) where
+  pub tested : Kept c st
+  tested = lent-kept c st (sym h) (record { generations = g; windows = w; lengths = l; id-lengths = i; id-room = r })
+
+  pub kept-ring : Ring (c .«max_messages») (c .start) (c .count) (c .window)
+  kept-ring = let k = tested .rows in record { starts = k .starts; within = k .within; size = omega (arith, k .few) }
+
+pub told-as : (c : MessageCache) (st topic : List ℕ) (windows : ℕ) {a b : Gossip} {n : ℕ} {rows : List ℕ} → (a ≡ b) × ((n ≡ 0) × (rows ≡ replicate 64 0)) → Tells c st topic windows b 0 (replicate 64 0)
+    → (a ≡ gossipAnswer c st topic) × ((n ≡ gossipCount c st topic windows) × (rows ≡ gossipRows c st topic windows))
+told-as c st topic windows e t = (e .0 ∙ t .0, (e .1 .0 ∙ t .1, e .1 .1 ∙ t .2))
+
+-- ---- the id of a message that may be taken
+module _ (p : List ℕ) (a e b f : ℕ) (h : admissionOf p true ≡ admission.Fit a e b f) where
+  pub fit-room : (out : List ℕ) → length out ≡ 128 → ((a ≤ e) × (e ≤ length p) × (b ≤ f) × (f ≤ length p)) × (length (idBytes p a e b f) ≤ length out)
+  fit-room out z =
+      let w = id-fits p a e b f (fit-parts p true a e b f h) in
+      ((w .from .0, w .from .1, w .seqno .0, w .seqno .1), omega (arith, fit-id p true a e b f h))
+
+  module _ (n : ℕ) (first out : List ℕ) (z : length first ≡ 128) (k : (n ≡ length (idBytes p a e b f)) × (out ≡ sets first 0 (idBytes p a e b f))) where
+    pub id-whole : take n out ≡ idBytes p a e b f
+    id-whole =
+        let l = fit-id p true a e b f h in
+        rw (k .1, sets-eq (idBytes p a e b f) first 0 (omega arith)) (take-at (idBytes p a e b f) (drop (0 + length (idBytes p a e b f)) first) n (sym (k .0)))
+
+    pub id-fits-in : n ≤ length out
+    id-fits-in = let l = fit-id p true a e b f h in let o : length out ≡ length first = ap length (k .1) ∙ length-sets first 0 (idBytes p a e b f) in omega (arith, k .0)
+
+    pub id-counts : n ≡ length (take n out)
+    id-counts = k .0 ∙ sym (ap length id-whole)
+
+    pub id-small : (length p ≤ 4096) × (length (take n out) ≤ 128)
+    id-small = let l = fit-id p true a e b f h in (fit-limits p true a e b f h .small, omega (arith, id-counts, k .0))
+
+    -- an id that is held, and one that is not
+    pub put-held : (c : MessageCache) (st : List ℕ) (i : ℕ) → i ≡ indexIn c (take n out) → i < c .count → Puts c st (planFit c p (admissionOf p true)) put.Held c st
+    put-held c st i q l = puts-no c st (planFit c p (admissionOf p true)) put.Held (plan-held c p a e b f i (sym h) (q ∙ ap (indexIn c) id-whole) l)
+
+    pub put-keep : (c : MessageCache) (st : List ℕ) (i : ℕ) (r : MessageCache) (s : List ℕ) → i ≡ indexIn c (take n out) → c .count ≤ i → (r ≡ entered (length p) (take n out) c) × (s ≡ enteredStore c st p)
+        → Puts c st (planFit c p (admissionOf p true)) put.Stored r s
+    put-keep c st i r s q l g =
+        puts-keep c st p (idBytes p a e b f) (planFit c p (admissionOf p true)) r s (plan-keep c p a e b f i (sym h) (q ∙ ap (indexIn c) id-whole) l) (g .0 ∙ ap (λ (d : List ℕ). entered (length p) d c) id-whole) (g .1)
+
+pub nested : {A B C : Type 0} → A × B × C → A × (B × C)
+nested t = (t .0, (t .1, t .2))

@@ -1,0 +1,443 @@
+-- Every state that the calls reach is well formed.
+use Prim.Native.Nat.{ℕ, zero, suc, _+_, _-_, _*_, _%_, _^_, _≤_, _<_}
+use mathlib.Core.Path.{_≡_, refl, _∙_}
+use mathlib.Core.List.{List, [], _∷_, _++_}
+use mathlib.Core.Bool.{Bool, true, false, _&&_}
+use native.Mathlib.Omega.{arith}
+use lib.ListN.{length, drop, getD, set, replicate, length-append, length-set, length-map, length-replicate}
+use lib.Seq.{sets, length-sets, getD-set-same, getD-set-other, set-out}
+use lib.Dec.{leb, ltb, eqb}
+use borrow.Author.Tests.{le-leb, leb-true, ltb-true, ltb-false, eqb-true, eqb-false, eq-eqb}
+use Rattle.basis.specs.Cases.{either, clash}
+use Rattle.rows.specs.Rows.{placeOf, ring, newest}
+use Rattle.rows.specs.RowsLaws.{place-le, ring-drop}
+use Rattle.rows.specs.Ids.{among, distinct}
+use Rattle.rows.specs.IdsLaws.{distinct-drop, distinct-snoc}
+use Rattle.rows.specs.Store.{idAt, idsIn, lensIn, allUpTo}
+use Rattle.protobuf.specs.declared.Checked.{Checked}
+use Rattle.protobuf.specs.declared.Checked.the-variants as checked
+use Rattle.protobuf.specs.Walk.{between}
+use Rattle.schema.specs.declared.Kind.the-variants as kind
+use Rattle.schema.specs.declared.Counted.the-variants as count
+use Rattle.schema.specs.Count.{counted}
+use Rattle.ids.specs.declared.MessageAt.{MessageAt}
+use Rattle.ids.specs.declared.MessageAt.the-variants as at
+use Rattle.ids.specs.Ids.{acceptOf, messageAt, idBytes}
+use Rattle.admission.specs.declared.Admission.{Admission}
+use Rattle.admission.specs.declared.Admission.the-variants as admission
+use Rattle.admission.specs.Admission.{admissionOf, givesId}
+use Rattle.admission.specs.AdmissionLaws.{fit-limits, fit-id, gives-own, message-read}
+use Rattle.mcache.specs.declared.MessageCache.{MessageCache}
+use Rattle.mcache.specs.declared.Lent.{Lent}
+use Rattle.mcache.specs.declared.Lent.the-variants as lent
+use Rattle.mcache.specs.Messages.{Cached, shift}
+use Rattle.mcache.specs.State.{cachedIn, fallsFrom, runsTo, givesAt, allTrue, givesIn, legal, fresh, dropped, passed, older, aged, stale}
+use Rattle.mcache.specs.Calls.{lentOf, whenFine, indexIn, entered, enteredStore, shifted, Plan, no, keep, keptIn, storedIn, planFit, planAt, planBody, planned, shiftCache}
+use Rattle.mcache.specs.WellFormed.{Sized, Typed, freshAt, Reached, begun, given, opened}
+use Rattle.mcache.specs.StateLaws.{both, Tests, fine-tests, tests-fine}
+use Rattle.mcache.specs.CachedLaws.{windowsOf, windows-cached, cached-shifted, stale-in, leaving, spot, left-few, rest-starts, ring-entered, kept-id, kept-message, kept-number, new-id, new-message, new-number, grown, entered-some, entered-none, stored-some, stored-none}
+use Rattle.mcache.specs.Laws.{held-rows}
+
+-- ---- the oldest leave, and what was true of the rows still is
+falls-less : (most more : ℕ) (l : List ℕ) → most ≤ more → fallsFrom most l ≡ true → fallsFrom more l ≡ true
+unfolding fallsFrom
+falls-less most more [] h f = refl
+falls-less most more (w ∷ l) h f =
+    let b = both (leb w most) (fallsFrom w l) f in
+    let k = leb-true w most (b .0) in
+    rw (le-leb w more (omega arith)) (b .1)
+
+falls-drop : (most k : ℕ) (l : List ℕ) → fallsFrom most l ≡ true → fallsFrom most (drop k l) ≡ true
+unfolding fallsFrom
+falls-drop most zero l f = f
+falls-drop most (suc k) [] f = refl
+falls-drop most (suc k) (w ∷ l) f =
+    let b = both (leb w most) (fallsFrom w l) f in
+    falls-drop most k l (falls-less w most l (leb-true w most (b .0)) (b .1))
+
+falls-snoc : (most : ℕ) (l : List ℕ) → fallsFrom most l ≡ true → fallsFrom most (l ++ (0 ∷ [])) ≡ true
+unfolding fallsFrom
+falls-snoc most [] f = rw (le-leb 0 most (omega arith))
+falls-snoc most (w ∷ l) f =
+    let b = both (leb w most) (fallsFrom w l) f in
+    rw (b .0) (falls-snoc w l (b .1))
+
+runs-drop : (next k : ℕ) (l : List ℕ) → runsTo next l ≡ true → runsTo next (drop k l) ≡ true
+unfolding runsTo
+runs-drop next zero l r = r
+runs-drop next (suc k) [] r = refl
+runs-drop next (suc k) (g ∷ l) r = runs-drop next k l (both (eqb ((g + length (g ∷ l)) % 2 ^ 64) next) (runsTo next l) r .1)
+
+-- the next arrival number is given to a row more
+runs-snoc : (next : ℕ) (l : List ℕ) → runsTo next l ≡ true → runsTo ((next + 1) % 2 ^ 64) (l ++ (next ∷ [])) ≡ true
+unfolding runsTo
+runs-snoc next [] r = rw (eq-eqb ((next + 1) % 2 ^ 64) ((next + 1) % 2 ^ 64) refl)
+runs-snoc next (g ∷ l) r =
+    let b = both (eqb ((g + length (g ∷ l)) % 2 ^ 64) next) (runsTo next l) r in
+    let e : (g + suc (length l)) % 2 ^ 64 ≡ next = eqb-true ((g + length (g ∷ l)) % 2 ^ 64) next (b .0) in
+    let n = length-append l (next ∷ []) in
+    rw (eq-eqb ((g + suc (length (l ++ (next ∷ [])))) % 2 ^ 64) ((next + 1) % 2 ^ 64) (omega arith)) (runs-snoc next l (b .1))
+
+upto-drop : (most k : ℕ) (l : List ℕ) → allUpTo most l ≡ true → allUpTo most (drop k l) ≡ true
+unfolding allUpTo
+upto-drop most zero l u = u
+upto-drop most (suc k) [] u = refl
+upto-drop most (suc k) (n ∷ l) u = upto-drop most k l (both (leb n most) (allUpTo most l) u .1)
+
+upto-snoc : (most x : ℕ) (l : List ℕ) → x ≤ most → allUpTo most l ≡ true → allUpTo most (l ++ (x ∷ [])) ≡ true
+unfolding allUpTo
+upto-snoc most x [] h u = rw (le-leb x most h)
+upto-snoc most x (n ∷ l) h u =
+    let b = both (leb n most) (allUpTo most l) u in
+    rw (b .0) (upto-snoc most x l h (b .1))
+
+true-drop : (k : ℕ) (l : List Bool) → allTrue l ≡ true → allTrue (drop k l) ≡ true
+unfolding allTrue
+true-drop zero l u = u
+true-drop (suc k) [] u = refl
+true-drop (suc k) (n ∷ l) u = true-drop k l (both n (allTrue l) u .1)
+
+true-snoc : (l : List Bool) → allTrue l ≡ true → allTrue (l ++ (true ∷ [])) ≡ true
+unfolding allTrue
+true-snoc [] u = refl
+true-snoc (n ∷ l) u = let b = both n (allTrue l) u in rw (b .0) (true-snoc l (b .1))
+
+-- ---- start
+pub fresh-first : (history max : ℕ) → fresh history max ≡ freshAt 0 history max
+unfolding fresh freshAt
+fresh-first history max = refl
+
+fresh-tests : (next history max : ℕ) (st : List ℕ) → legal history max ≡ true → length st ≡ max * 4096 → Tests (freshAt next history max) st
+unfolding freshAt legal lensIn idsIn givesIn ring fallsFrom runsTo allUpTo allTrue distinct
+fresh-tests next history max st l r =
+    let a = both (leb 1 history) (leb history 16 && leb max 64) l in
+    let b = both (leb history 16) (leb max 64) (a .1) in
+    record {
+      room = r;
+      history-some = leb-true 1 history (a .0);
+      history-few = leb-true history 16 (b .0);
+      few = leb-true max 64 (b .1);
+      starts = omega arith;
+      within = omega arith;
+      falls = refl;
+      runs = refl;
+      id-short = refl;
+      gives = refl;
+      once = refl;
+    }
+
+pub start-at-fine : (next history max : ℕ) (st : List ℕ) → legal history max ≡ true → length st ≡ max * 4096 → lentOf (freshAt next history max) st ≡ lent.Fine
+start-at-fine next history max st l r = tests-fine (freshAt next history max) st (fresh-tests next history max st l r)
+
+pub start-fine : (history max : ℕ) (st : List ℕ) → legal history max ≡ true → length st ≡ max * 4096 → lentOf (fresh history max) st ≡ lent.Fine
+start-fine history max st l r = rw (fresh-first history max) (start-at-fine 0 history max st l r)
+
+-- ---- shift
+shift-falls : (history most more : ℕ) (ms : List Cached) → fallsFrom most (windowsOf ms) ≡ true → ((w : ℕ) → w ≤ most → suc w < history → suc w ≤ more)
+    → fallsFrom more (windowsOf (shift history ms)) ≡ true
+unfolding shift fallsFrom
+shift-falls history most more [] f up = refl
+shift-falls history most more (m ∷ ms) f up =
+    let b = both (leb (m .window) most) (fallsFrom (m .window) (windowsOf ms)) f in
+    let k = leb-true (m .window) most (b .0) in
+    either (ltb (suc (m .window)) history)
+    (λ t.
+    let h = ltb-true (suc (m .window)) history t in
+    rw (t, le-leb (suc (m .window)) more (up (m .window) k h)) (shift-falls history (m .window) (suc (m .window)) ms (b .1) (λ w i j. omega arith)))
+    (λ t. rw t (shift-falls history (m .window) more ms (b .1) (λ w i j. up w (omega arith) j)))
+
+shifted-windows : (c : MessageCache) (st : List ℕ) → Tests c st → Sized c
+    → fallsFrom (c .«history_len» - 1) (lensIn (shifted c .«max_messages») (shifted c .start) (shifted c .count) (shifted c .window)) ≡ true
+shifted-windows c st t z =
+    rw (← windows-cached (shifted c) st, cached-shifted c st t z)
+    (shift-falls (c .«history_len») (c .«history_len» - 1) (c .«history_len» - 1) (cachedIn c st) (rw (windows-cached c st) (t .falls)) (λ w i j. omega arith))
+
+-- the numbers of the rows that stay
+lens-less : (k cap start count : ℕ) (l : List ℕ) → start ≤ cap → count ≤ cap → k ≤ count → lensIn cap (placeOf cap start k) (count - k) l ≡ drop k (lensIn cap start count l)
+unfolding lensIn
+lens-less k cap start count l a b h = ring-drop (λ (p : ℕ). getD l p 0) cap start count k a b h
+
+ids-less : (k cap start count : ℕ) (lens ids : List ℕ) → start ≤ cap → count ≤ cap → k ≤ count → idsIn 128 cap (placeOf cap start k) (count - k) lens ids ≡ drop k (idsIn 128 cap start count lens ids)
+unfolding idsIn
+ids-less k cap start count lens ids a b h = ring-drop (idAt 128 lens ids) cap start count k a b h
+
+gives-less : (k cap start count : ℕ) (lens ilens ids st : List ℕ) → start ≤ cap → count ≤ cap → k ≤ count → givesIn cap start count lens ilens ids st ≡ true
+    → givesIn cap (placeOf cap start k) (count - k) lens ilens ids st ≡ true
+unfolding givesIn
+gives-less k cap start count lens ilens ids st a b h g =
+    rw (ring-drop (givesAt lens ilens ids st) cap start count k a b h) (true-drop k (ring (givesAt lens ilens ids st) cap start count) g)
+
+shifted-tests : (c : MessageCache) (st : List ℕ) → Tests c st → Sized c → Tests (shifted c) st
+unfolding shifted aged dropped
+shifted-tests c st t z =
+    let cap = c .«max_messages» in
+    let k = stale (c .«history_len») (lensIn cap (c .start) (c .count) (c .window)) in
+    let h : k ≤ c .count = stale-in (c .«history_len») cap (c .start) (c .count) (c .window) in
+    record {
+      room = t .room;
+      history-some = t .history-some;
+      history-few = t .history-few;
+      few = t .few;
+      starts = place-le cap (c .start) k (t .starts) (omega (arith, t .within));
+      within = omega (arith, t .within);
+      falls = shifted-windows c st t z;
+      runs = rw (lens-less k cap (c .start) (c .count) (c .generation) (t .starts) (t .within) h) (runs-drop (c .«next_generation») k (lensIn cap (c .start) (c .count) (c .generation)) (t .runs));
+      id-short = rw (lens-less k cap (c .start) (c .count) (c .«id_len») (t .starts) (t .within) h) (upto-drop 128 k (lensIn cap (c .start) (c .count) (c .«id_len»)) (t .id-short));
+      gives = gives-less k cap (c .start) (c .count) (c .len) (c .«id_len») (c .ids) st (t .starts) (t .within) h (t .gives);
+      once = rw (ids-less k cap (c .start) (c .count) (c .«id_len») (c .ids) (t .starts) (t .within) h) (distinct-drop k (idsIn 128 cap (c .start) (c .count) (c .«id_len») (c .ids)) (t .once));
+    }
+
+pub shift-fine : (c : MessageCache) (st : List ℕ) → lentOf c st ≡ lent.Fine → Sized c → lentOf (shiftCache c st) st ≡ lent.Fine
+unfolding shiftCache
+shift-fine c st f z = rw f (tests-fine (shifted c) st (shifted-tests c st (fine-tests c st f) z))
+
+-- ---- put
+-- what a message that is kept, and its id, are
+pub record Keeps (c : MessageCache) (m id : List ℕ) : Type 0 where
+  pub small : length m ≤ 4096
+  pub id-small : length id ≤ 128
+  pub own : givesId m id ≡ true
+  pub fresh : ltb (indexIn c id) (c .count) ≡ false
+
+of-fit : (c : MessageCache) (p m id : List ℕ) (n : ℕ) (r : Admission) → counted kind.RawMessage p ≡ count.Records n → admissionOf p true ≡ r → planFit c p r ≡ keep m id → Keeps c m id
+of-fit c p m id n (admission.Unfit why) k e h = clash (cc)
+of-fit c p m id n (admission.Fit x y z w) k e h =
+    either (ltb (indexIn c (idBytes p x y z w)) (c .count))
+    (λ t. clash (let q = rw t at h in cc))
+    (λ t.
+    let q : keep p (idBytes p x y z w) ≡ keep m id = rw t at h in
+    let a : p ≡ m = cc in
+    let b : idBytes p x y z w ≡ id = cc in
+    record {
+      small = rw (← a) (fit-limits p true x y z w e .small);
+      id-small = rw (← b) (fit-id p true x y z w e .1);
+      own = rw (← a, ← b) (gives-own p n x y z w k e);
+      fresh = rw (← b) t;
+    })
+
+of-at : (c : MessageCache) (body m id : List ℕ) (i : ℕ) (r : MessageAt) → acceptOf body ≡ checked.Fine → messageAt body i ≡ r → planAt c body r ≡ keep m id → Keeps c m id
+of-at c body m id i (at.Count n) a e h = clash (cc)
+of-at c body m id i (at.At x y) a e h =
+    let q = message-read body i x y a e in
+    of-fit c (between body x y) m id (q .0) (admissionOf (between body x y) true) (q .1) refl h
+
+of-body : (c : MessageCache) (body m id : List ℕ) (i : ℕ) (r : Checked) → acceptOf body ≡ r → planBody c body i r ≡ keep m id → Keeps c m id
+of-body c body m id i (checked.Refused why) a h = clash (cc)
+of-body c body m id i checked.Fine a h = of-at c body m id i (messageAt body i) a refl h
+
+pub planned-keeps : (c : MessageCache) (st body m id : List ℕ) (i : ℕ) → lentOf c st ≡ lent.Fine → planned c st body i ≡ keep m id → Keeps c m id
+unfolding planned
+planned-keeps c st body m id i f h = of-body c body m id i (acceptOf body) refl (rw f at h)
+
+not-held : (c : MessageCache) (m id : List ℕ) → Keeps c m id → among id (idsIn 128 (c .«max_messages») (c .start) (c .count) (c .«id_len») (c .ids)) ≡ false
+not-held c m id k = held-rows c id ∙ k .fresh
+
+module _ (c : MessageCache) (st m id : List ℕ) (t : Tests c st) (z : Sized c) (k : Keeps c m id) (some : c .«max_messages» ≡ 0 → ⊥) where
+  lens-more : (l : List ℕ) (x : ℕ) → length l ≡ 64
+      → lensIn (c .«max_messages») (placeOf (c .«max_messages») (c .start) (leaving c)) ((c .count - leaving c) + 1) (set l (spot c) x) ≡ newest (c .«max_messages») (lensIn (c .«max_messages») (c .start) (c .count) l ++ (x ∷ []))
+  unfolding lensIn
+  lens-more l x e =
+      ring-entered c (t .starts) (t .within) some (λ (p : ℕ). getD l p 0) (λ (p : ℕ). getD (set l (spot c) x) p 0) x
+      (kept-number c st m id t z (k .id-small) (k .small) some l x) (new-number c st m id t z (k .id-small) (k .small) some l x e)
+
+  ids-more : idsIn 128 (c .«max_messages») (placeOf (c .«max_messages») (c .start) (leaving c)) ((c .count - leaving c) + 1) (set (c .«id_len») (spot c) (length id)) (sets (c .ids) (spot c * 128) id)
+      ≡ newest (c .«max_messages») (idsIn 128 (c .«max_messages») (c .start) (c .count) (c .«id_len») (c .ids) ++ (id ∷ []))
+  unfolding idsIn
+  ids-more =
+      ring-entered c (t .starts) (t .within) some (idAt 128 (c .«id_len») (c .ids)) (idAt 128 (set (c .«id_len») (spot c) (length id)) (sets (c .ids) (spot c * 128) id)) id
+      (kept-id c st m id t z (k .id-small) (k .small) some) (new-id c st m id t z (k .id-small) (k .small) some)
+
+  gives-more : givesIn (c .«max_messages») (placeOf (c .«max_messages») (c .start) (leaving c)) ((c .count - leaving c) + 1) (set (c .len) (spot c) (length m))
+      (set (c .«id_len») (spot c) (length id)) (sets (c .ids) (spot c * 128) id) (sets st (spot c * 4096) m) ≡ true
+  unfolding givesIn givesAt newest
+  gives-more =
+      let old = givesAt (c .len) (c .«id_len») (c .ids) st in
+      let l = ring old (c .«max_messages») (c .start) (c .count) ++ (true ∷ []) in
+      rw
+      (ring-entered c (t .starts) (t .within) some old
+      (givesAt (set (c .len) (spot c) (length m)) (set (c .«id_len») (spot c) (length id)) (sets (c .ids) (spot c * 128) id) (sets st (spot c * 4096) m)) true
+      (λ i h.
+      rw (kept-number c st m id t z (k .id-small) (k .small) some (c .len) (length m) i h, kept-message c st m id t z (k .id-small) (k .small) some i h, kept-id c st m id t z (k .id-small) (k .small) some i h))
+      (rw (
+        new-number c st m id t z (k .id-small) (k .small) some (c .len) (length m) (z .lengths),
+        new-message c st m id t z (k .id-small) (k .small) some,
+        new-id c st m id t z (k .id-small) (k .small) some,
+        le-leb (length m) 4096 (k .small),
+      ) (k .own)))
+      (true-drop (length l - c .«max_messages») l (true-snoc (ring old (c .«max_messages») (c .start) (c .count)) (t .gives)))
+
+  grown-tests : Tests (grown (length m) id c) (sets st (spot c * 4096) m)
+  unfolding grown newest
+  grown-tests =
+      let windows = lensIn (c .«max_messages») (c .start) (c .count) (c .window) in
+      let numbers = lensIn (c .«max_messages») (c .start) (c .count) (c .generation) in
+      let lens = lensIn (c .«max_messages») (c .start) (c .count) (c .«id_len») in
+      let ids = idsIn 128 (c .«max_messages») (c .start) (c .count) (c .«id_len») (c .ids) in
+      record {
+        room = length-sets st (spot c * 4096) m ∙ t .room;
+        history-some = t .history-some;
+        history-few = t .history-few;
+        few = t .few;
+        starts = rest-starts c (t .starts) (t .within) some;
+        within = omega (arith, left-few c (t .starts) (t .within) some);
+        falls = rw (lens-more (c .window) 0 (z .windows)) (falls-drop (c .«history_len» - 1) (length (windows ++ (0 ∷ [])) - c .«max_messages») (windows ++ (0 ∷ [])) (falls-snoc (c .«history_len» - 1) windows (t .falls)));
+        runs =
+            rw (lens-more (c .generation) (c .«next_generation») (z .generations))
+            (runs-drop ((c .«next_generation» + 1) % 2 ^ 64) (length (numbers ++ (c .«next_generation» ∷ [])) - c .«max_messages») (numbers ++ (c .«next_generation» ∷ [])) (runs-snoc (c .«next_generation») numbers (t .runs)));
+        id-short = rw (lens-more (c .«id_len») (length id) (z .id-lengths)) (upto-drop 128 (length (lens ++ (length id ∷ [])) - c .«max_messages») (lens ++ (length id ∷ [])) (upto-snoc 128 (length id) lens (k .id-small) (t .id-short)));
+        gives = gives-more;
+        once = rw ids-more (distinct-drop (length (ids ++ (id ∷ [])) - c .«max_messages») (ids ++ (id ∷ [])) (distinct-snoc ids id (t .once) (not-held c m id k)));
+      }
+
+passed-tests : (c : MessageCache) (st : List ℕ) → Tests c st → c .«max_messages» ≡ 0 → Tests (passed c) st
+unfolding passed lensIn ring runsTo
+passed-tests c st t e =
+    let n : c .count ≡ 0 = omega (arith, t .within) in
+    record {
+      room = t .room;
+      history-some = t .history-some;
+      history-few = t .history-few;
+      few = t .few;
+      starts = t .starts;
+      within = t .within;
+      falls = t .falls;
+      runs = rw n;
+      id-short = t .id-short;
+      gives = t .gives;
+      once = t .once;
+    }
+
+entered-fine : (c : MessageCache) (st m id : List ℕ) → Tests c st → Sized c → Keeps c m id → lentOf (entered (length m) id c) (enteredStore c st m) ≡ lent.Fine
+entered-fine c st m id t z k =
+    either (eqb (c .«max_messages») 0)
+    (λ u.
+    let e = eqb-true (c .«max_messages») 0 u in
+    rw (entered-none (length m) id c e, stored-none c st m e) (tests-fine (passed c) st (passed-tests c st t e)))
+    (λ u.
+    let some = eqb-false (c .«max_messages») 0 u in
+    rw (entered-some (length m) id c some, stored-some c st m some) (tests-fine (grown (length m) id c) (sets st (spot c * 4096) m) (grown-tests c st m id t z k some)))
+
+put-by : (c : MessageCache) (st body : List ℕ) (i : ℕ) → lentOf c st ≡ lent.Fine → Sized c → (r : Plan) → planned c st body i ≡ r → lentOf (keptIn c r) (storedIn c st r) ≡ lent.Fine
+put-by c st body i f z (no r) e = f
+put-by c st body i f z (keep m id) e = entered-fine c st m id (fine-tests c st f) z (planned-keeps c st body m id i f e)
+
+-- whatever is asked, refused puts too
+pub put-fine : (c : MessageCache) (st body : List ℕ) (i : ℕ) → lentOf c st ≡ lent.Fine → Sized c → lentOf (keptIn c (planned c st body i)) (storedIn c st (planned c st body i)) ≡ lent.Fine
+put-fine c st body i f z = put-by c st body i f z (planned c st body i) refl
+
+-- ---- sizes, and arrival numbers below 2 ^ 64, are kept
+grown-sized : (n : ℕ) (id : List ℕ) (c : MessageCache) → Sized c → Sized (grown n id c)
+unfolding grown
+grown-sized n id c z =
+    record {
+      generations = length-set (c .generation) (spot c) (c .«next_generation») ∙ z .generations;
+      windows = length-set (c .window) (spot c) 0 ∙ z .windows;
+      lengths = length-set (c .len) (spot c) n ∙ z .lengths;
+      id-lengths = length-set (c .«id_len») (spot c) (length id) ∙ z .id-lengths;
+      id-room = length-sets (c .ids) (spot c * 128) id ∙ z .id-room;
+    }
+
+passed-sized : (c : MessageCache) → Sized c → Sized (passed c)
+unfolding passed
+passed-sized c z = record { generations = z .generations; windows = z .windows; lengths = z .lengths; id-lengths = z .id-lengths; id-room = z .id-room }
+
+pub shifted-sized : (c : MessageCache) → Sized c → Sized (shifted c)
+unfolding shifted dropped aged
+shifted-sized c z = record { generations = z .generations; windows = length-map (c .window) older ∙ z .windows; lengths = z .lengths; id-lengths = z .id-lengths; id-room = z .id-room }
+
+pub fresh-sized : (next history max : ℕ) → Sized (freshAt next history max)
+unfolding freshAt
+fresh-sized next history max =
+    record {
+      generations = length-replicate {A = ℕ} 64 0;
+      windows = length-replicate {A = ℕ} 64 0;
+      lengths = length-replicate {A = ℕ} 64 0;
+      id-lengths = length-replicate {A = ℕ} 64 0;
+      id-room = length-replicate {A = ℕ} 8192 0;
+    }
+
+set-small : (l : List ℕ) (q x : ℕ) → ((p : ℕ) → getD l p 0 < 2 ^ 64) → x < 2 ^ 64 → (p : ℕ) → getD (set l q x) p 0 < 2 ^ 64
+set-small l q x s h p =
+    either (eqb p q)
+    (λ t.
+    let e = eqb-true p q t in
+    either (ltb q (length l)) (λ u. rw (e, getD-set-same l q x 0 (ltb-true q (length l) u)) h) (λ u. rw (set-out l q x (ltb-false q (length l) u)) (s p)))
+    (λ t. rw (getD-set-other l q p x 0 (eqb-false p q t)) (s p))
+
+grown-typed : (n : ℕ) (id : List ℕ) (c : MessageCache) → Typed c → Typed (grown n id c)
+unfolding grown
+grown-typed n id c y =
+    record { sized = grown-sized n id c (y .sized); next-small = omega arith; small = set-small (c .generation) (spot c) (c .«next_generation») (y .small) (y .next-small) }
+
+passed-typed : (c : MessageCache) → Typed c → Typed (passed c)
+unfolding passed
+passed-typed c y = record { sized = passed-sized c (y .sized); next-small = omega arith; small = y .small }
+
+shifted-typed : (c : MessageCache) → Typed c → Typed (shifted c)
+unfolding shifted dropped aged
+shifted-typed c y = record { sized = shifted-sized c (y .sized); next-small = y .next-small; small = y .small }
+
+zeros-small : (n p : ℕ) → getD (replicate n 0) p 0 < 2 ^ 64
+zeros-small zero p = omega arith
+zeros-small (suc n) zero = omega arith
+zeros-small (suc n) (suc p) = zeros-small n p
+
+fresh-typed : (next history max : ℕ) → next < 2 ^ 64 → Typed (freshAt next history max)
+unfolding freshAt
+fresh-typed next history max h = record { sized = fresh-sized next history max; next-small = h; small = zeros-small 64 }
+
+entered-sized : (n : ℕ) (id : List ℕ) (c : MessageCache) → Sized c → Sized (entered n id c)
+entered-sized n id c z =
+    either (eqb (c .«max_messages») 0)
+    (λ u. rw (entered-none n id c (eqb-true (c .«max_messages») 0 u)) (passed-sized c z))
+    (λ u. rw (entered-some n id c (eqb-false (c .«max_messages») 0 u)) (grown-sized n id c z))
+
+entered-typed : (n : ℕ) (id : List ℕ) (c : MessageCache) → Typed c → Typed (entered n id c)
+entered-typed n id c y =
+    either (eqb (c .«max_messages») 0)
+    (λ u. rw (entered-none n id c (eqb-true (c .«max_messages») 0 u)) (passed-typed c y))
+    (λ u. rw (entered-some n id c (eqb-false (c .«max_messages») 0 u)) (grown-typed n id c y))
+
+sized-by : (c : MessageCache) → Sized c → (r : Plan) → Sized (keptIn c r)
+sized-by c z (no r) = z
+sized-by c z (keep m id) = entered-sized (length m) id c z
+
+typed-by : (c : MessageCache) → Typed c → (r : Plan) → Typed (keptIn c r)
+typed-by c y (no r) = y
+typed-by c y (keep m id) = entered-typed (length m) id c y
+
+pub put-sized : (c : MessageCache) (st body : List ℕ) (i : ℕ) → Sized c → Sized (keptIn c (planned c st body i))
+put-sized c st body i z = sized-by c z (planned c st body i)
+
+pub put-typed : (c : MessageCache) (st body : List ℕ) (i : ℕ) → Typed c → Typed (keptIn c (planned c st body i))
+put-typed c st body i y = typed-by c y (planned c st body i)
+
+sized-shift : (c : MessageCache) → Sized c → (l : Lent) → Sized (whenFine l (shifted c) c)
+sized-shift c z lent.Fine = shifted-sized c z
+sized-shift c z lent.BadStore = z
+sized-shift c z lent.Malformed = z
+
+typed-shift : (c : MessageCache) → Typed c → (l : Lent) → Typed (whenFine l (shifted c) c)
+typed-shift c y lent.Fine = shifted-typed c y
+typed-shift c y lent.BadStore = y
+typed-shift c y lent.Malformed = y
+
+pub shift-sized : (c : MessageCache) (st : List ℕ) → Sized c → Sized (shiftCache c st)
+unfolding shiftCache
+shift-sized c st z = sized-shift c z (lentOf c st)
+
+pub shift-typed : (c : MessageCache) (st : List ℕ) → Typed c → Typed (shiftCache c st)
+unfolding shiftCache
+shift-typed c st y = typed-shift c y (lentOf c st)
+
+-- ---- every state that the calls reach
+reached-both : {c : MessageCache} {st : List ℕ} → Reached c st → (lentOf c st ≡ lent.Fine) × Typed c
+reached-both (begun next history max st n l r) = (start-at-fine next history max st l r, fresh-typed next history max n)
+reached-both (given {c} {st} r body i) = let b = reached-both r in (put-fine c st body i (b .0) (b .1 .sized), put-typed c st body i (b .1))
+reached-both (opened {c} {st} r) = let b = reached-both r in (shift-fine c st (b .0) (b .1 .sized), shift-typed c st (b .1))
+
+pub reached-fine : {c : MessageCache} {st : List ℕ} → Reached c st → lentOf c st ≡ lent.Fine
+reached-fine r = reached-both r .0
+
+pub reached-typed : {c : MessageCache} {st : List ℕ} → Reached c st → Typed c
+reached-typed r = reached-both r .1

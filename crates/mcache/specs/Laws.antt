@@ -1,0 +1,150 @@
+-- What the calls on a message cache mean: they do to the messages what 01 says, and a refused call changes nothing.
+use Prim.Native.Nat.{ℕ, suc, _≤_, _<_}
+use mathlib.Core.Path.{_≡_, refl, sym, ap, _∙_}
+use mathlib.Core.List.{List, [], _∷_}
+use mathlib.Core.Bool.{true, cond}
+use native.Mathlib.Omega.{arith}
+use lib.ListN.{length, getD}
+use lib.Dec.{ltb}
+use borrow.Author.Tests.{ltb-true, ltb-false}
+use Rattle.basis.specs.Cases.{either, clash}
+use Rattle.rows.specs.Rows.{placeOf, ring}
+use Rattle.rows.specs.RowsLaws.{getD-tab, length-ring}
+use Rattle.rows.specs.Ids.{sameBytes, among, indexOf}
+use Rattle.rows.specs.Store.{idAt, idsIn}
+use Rattle.rows.specs.StoreLaws.{index-among}
+use Rattle.protobuf.specs.declared.Checked.the-variants as checked
+use Rattle.protobuf.specs.Walk.{between}
+use Rattle.ids.specs.declared.MessageAt.the-variants as at
+use Rattle.ids.specs.Ids.{acceptOf, messageAt, idBytes}
+use Rattle.admission.specs.declared.Admission.the-variants as admission
+use Rattle.admission.specs.Admission.{admissionOf}
+use Rattle.admission.specs.AdmissionLaws.{fit-limits, fit-id}
+use Rattle.mcache.specs.declared.MessageCache.{MessageCache}
+use Rattle.mcache.specs.declared.Lent.{Lent}
+use Rattle.mcache.specs.declared.Lent.the-variants as lent
+use Rattle.mcache.specs.declared.Put.the-variants as put
+use Rattle.mcache.specs.declared.Lookup.the-variants as lookup
+use Rattle.mcache.specs.Messages.{Cached, idsOf, held, put as putIn, get, shift}
+use Rattle.mcache.specs.State.{messageIn, cachedAt, cachedIn}
+use Rattle.mcache.specs.Calls.{lentNumber, lentOf, whenFine, shifted, putNumber, indexIn, found, Plan, no, keep, answered, keptIn, storedIn, planned, shiftCache, getPart, lookupAnswer}
+use Rattle.mcache.specs.WellFormed.{Sized}
+use Rattle.mcache.specs.StateLaws.{fine-tests}
+use Rattle.mcache.specs.CachedLaws.{length-cached, ids-cached, cached-shifted, cached-entered, new}
+
+-- ---- shift
+pub shift-cached : (c : MessageCache) (st : List ℕ) → lentOf c st ≡ lent.Fine → Sized c → cachedIn (shiftCache c st) st ≡ shift (c .«history_len») (cachedIn c st)
+unfolding shiftCache
+shift-cached c st f z = rw f (cached-shifted c st (fine-tests c st f) z)
+
+shift-by : (c : MessageCache) (d : MessageCache) (l : Lent) → (lentNumber l ≡ 0 → ⊥) → whenFine l d c ≡ c
+shift-by c d lent.Fine n = absurd (n refl)
+shift-by c d lent.BadStore n = refl
+shift-by c d lent.Malformed n = refl
+
+-- where it is refused, nothing changes
+pub shift-refused : (c : MessageCache) (st : List ℕ) → (lentNumber (lentOf c st) ≡ 0 → ⊥) → shiftCache c st ≡ c
+unfolding shiftCache
+shift-refused c st n = shift-by c (shifted c) (lentOf c st) n
+
+-- ---- an id is held
+pub held-rows : (c : MessageCache) (id : List ℕ) → among id (idsIn 128 (c .«max_messages») (c .start) (c .count) (c .«id_len») (c .ids)) ≡ ltb (indexIn c id) (c .count)
+unfolding indexIn idsIn
+held-rows c id =
+    index-among id (ring (idAt 128 (c .«id_len») (c .ids)) (c .«max_messages») (c .start) (c .count))
+    ∙ ap (ltb (indexOf id (ring (idAt 128 (c .«id_len») (c .ids)) (c .«max_messages») (c .start) (c .count)))) (length-ring (idAt 128 (c .«id_len») (c .ids)) (c .«max_messages») (c .start) (c .count))
+
+pub held-index : (c : MessageCache) (st id : List ℕ) → held id (cachedIn c st) ≡ ltb (indexIn c id) (c .count)
+unfolding held
+held-index c st id = ap (among id) (ids-cached c st) ∙ held-rows c id
+
+-- ---- put
+-- of a message that may be taken
+module _
+    (c : MessageCache) (st body : List ℕ) (i a e x y z w : ℕ)
+    (fine : lentOf c st ≡ lent.Fine)
+    (ok : acceptOf body ≡ checked.Fine)
+    (there : messageAt body i ≡ at.At a e)
+    (fit : admissionOf (between body a e) true ≡ admission.Fit x y z w)
+  where
+    abbrev p : List ℕ
+    p = between body a e
+
+    abbrev id : List ℕ
+    id = idBytes (between body a e) x y z w
+
+    pub put-plan : planned c st body i ≡ cond (held id (cachedIn c st)) (no put.Held) (keep p id)
+    unfolding planned
+    put-plan = rw (fine, ok, there, fit, held-index c st id)
+
+    pub put-says : answered (planned c st body i) ≡ cond (held id (cachedIn c st)) put.Held put.Stored
+    put-says = rw put-plan (either (held id (cachedIn c st)) (λ t. rw t) (λ t. rw t))
+
+    pub put-cached : Sized c → cachedIn (keptIn c (planned c st body i)) (storedIn c st (planned c st body i)) ≡ putIn (c .«max_messages») id p (cachedIn c st)
+    unfolding putIn
+    put-cached s =
+        rw put-plan
+        (either (held id (cachedIn c st))
+        (λ t. rw t)
+        (λ t. rw t (cached-entered c st p id (fine-tests c st fine) s (fit-id p true x y z w fit .1) (fit-limits p true x y z w fit .small))))
+
+-- all else changes nothing
+not-stored : (c : MessageCache) (st : List ℕ) (r : Plan) → (answered r ≡ put.Stored → ⊥) → (keptIn c r ≡ c) × (storedIn c st r ≡ st)
+not-stored c st (no r) n = (refl, refl)
+not-stored c st (keep m id) n = absurd (n refl)
+
+pub put-refused : (c : MessageCache) (st body : List ℕ) (i : ℕ) → (putNumber (answered (planned c st body i)) ≡ 0 → ⊥)
+    → (keptIn c (planned c st body i) ≡ c) × (storedIn c st (planned c st body i) ≡ st)
+put-refused c st body i n = not-stored c st (planned c st body i) (λ e. n (ap putNumber e))
+
+pub put-held : (c : MessageCache) (st body : List ℕ) (i : ℕ) → answered (planned c st body i) ≡ put.Held
+    → (keptIn c (planned c st body i) ≡ c) × (storedIn c st (planned c st body i) ≡ st)
+put-held c st body i h = not-stored c st (planned c st body i) (λ e. clash (let q = sym h ∙ e in cc))
+
+-- ---- get
+get-here : (id : List ℕ) (ms : List Cached) (d : Cached) → indexOf id (idsOf ms) < length ms → get id ms ≡ getD ms (indexOf id (idsOf ms)) d .message
+unfolding get indexOf
+get-here id [] d h = absurd (omega arith)
+get-here id (m ∷ ms) d h =
+    either (sameBytes (m .id) id) (λ t. rw t)
+    (λ t. let k : suc (indexOf id (idsOf ms)) < suc (length ms) = rw t at h in rw t (get-here id ms d (omega arith)))
+
+get-none : (id : List ℕ) (ms : List Cached) → length ms ≤ indexOf id (idsOf ms) → get id ms ≡ []
+unfolding get indexOf
+get-none id [] h = refl
+get-none id (m ∷ ms) h =
+    either (sameBytes (m .id) id) (λ t. let k : suc (length ms) ≤ 0 = rw t at h in absurd (omega arith))
+    (λ t. let k : suc (length ms) ≤ suc (indexOf id (idsOf ms)) = rw t at h in rw t (get-none id ms (omega arith)))
+
+index-cached : (c : MessageCache) (st id : List ℕ) → indexOf id (idsOf (cachedIn c st)) ≡ indexIn c id
+unfolding indexIn
+index-cached c st id = ap (indexOf id) (ids-cached c st)
+
+row-cached : (c : MessageCache) (st : List ℕ) (i : ℕ) (d : Cached) → i < c .count → getD (cachedIn c st) i d ≡ cachedAt c st (placeOf (c .«max_messages») (c .start) i)
+unfolding cachedIn ring
+row-cached c st i d h = getD-tab (λ (j : ℕ). cachedAt c st (placeOf (c .«max_messages») (c .start) j)) (c .count) i d h
+
+message-at : (c : MessageCache) (st : List ℕ) (p : ℕ) → cachedAt c st p .message ≡ messageIn (c .len) st p
+unfolding cachedAt
+message-at c st p = refl
+
+pub found-cached : (c : MessageCache) (st id : List ℕ) → found c st id ≡ get id (cachedIn c st)
+unfolding found
+found-cached c st id =
+    let x = index-cached c st id in
+    let n = length-cached c st in
+    either (ltb (indexIn c id) (c .count))
+    (λ t.
+    let h = ltb-true (indexIn c id) (c .count) t in
+    rw t (sym (get-here id (cachedIn c st) (new [] []) (omega arith) ∙ ap (λ (j : ℕ). getD (cachedIn c st) j (new [] []) .message) x
+    ∙ ap (λ (m : Cached). m .message) (row-cached c st (indexIn c id) (new [] []) h) ∙ message-at c st (placeOf (c .«max_messages») (c .start) (indexIn c id)))))
+    (λ t. let h = ltb-false (indexIn c id) (c .count) t in rw t (sym (get-none id (cachedIn c st) (omega arith))))
+
+module _ (c : MessageCache) (st id : List ℕ) (fine : lentOf c st ≡ lent.Fine) where
+  pub get-cached : getPart c st id ≡ get id (cachedIn c st)
+  unfolding getPart
+  get-cached = rw fine (found-cached c st id)
+
+  pub lookup-says : lookupAnswer c st id ≡ cond (held id (cachedIn c st)) lookup.Found lookup.Missing
+  unfolding lookupAnswer
+  lookup-says = rw (fine, held-index c st id)

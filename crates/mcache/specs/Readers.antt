@@ -1,0 +1,128 @@
+-- Short theorems on the message cache, for readers.
+use Prim.Native.Nat.{ℕ, suc, _+_, _-_, _*_, _≤_, _<_}
+use mathlib.Core.Path.{_≡_, refl, ap, _∙_}
+use mathlib.Core.List.{List, [], _∷_, _++_}
+use mathlib.Core.Bool.{true, false}
+use mathlib.Core.Logic.{⊎-elim}
+use native.Mathlib.Omega.{arith}
+use lib.ListN.{length, drop}
+use lib.Seq.{sets}
+use Rattle.rows.specs.Rows.{placeOf}
+use Rattle.rows.specs.RowsLaws.{place-is, place-le}
+use Rattle.protobuf.specs.declared.Checked.the-variants as checked
+use Rattle.protobuf.specs.Walk.{between}
+use Rattle.ids.specs.declared.MessageAt.the-variants as at
+use Rattle.ids.specs.Ids.{acceptOf, messageAt, idBytes}
+use Rattle.admission.specs.declared.Admission.the-variants as admission
+use Rattle.admission.specs.Admission.{admissionOf}
+use Rattle.mcache.specs.declared.MessageCache.{MessageCache}
+use Rattle.mcache.specs.declared.Lent.the-variants as lent
+use Rattle.mcache.specs.declared.Put.the-variants as put
+use Rattle.mcache.specs.Messages.{Cached, held, put as putIn}
+use Rattle.mcache.specs.State.{cachedIn}
+use Rattle.mcache.specs.Calls.{lentOf, no, keep, answered, keptIn, storedIn, planned}
+use Rattle.mcache.specs.WellFormed.{Sized, rowOf}
+use Rattle.mcache.specs.StateLaws.{fine-tests}
+use Rattle.mcache.specs.CachedLaws.{newest-more, new, leaving, spot, stays, spot-in, spot-free, grown, entered-some, stored-some}
+use Rattle.mcache.specs.Laws.{put-plan, put-cached}
+
+-- ---- the messages
+-- a held id is not replaced, whatever message comes with it
+pub held-kept : (max : ℕ) (id m : List ℕ) (ms : List Cached) → held id ms ≡ true → putIn max id m ms ≡ ms
+unfolding putIn
+held-kept max id m ms h = rw h
+
+-- with room, all stay
+pub room-keeps-all : (max : ℕ) (id m : List ℕ) (ms : List Cached) → held id ms ≡ false → length ms < max → putIn max id m ms ≡ ms ++ (new id m ∷ [])
+unfolding putIn
+room-keeps-all max id m ms h r =
+    let e : (length ms + 1) - max ≡ 0 = omega arith in
+    rw h (newest-more max ms (new id m) (λ z. omega arith) ∙ ap (λ (n : ℕ). drop n ms ++ (new id m ∷ [])) e)
+
+-- a full cache loses its oldest, and the others stay
+pub oldest-leaves : (max : ℕ) (id m : List ℕ) (oldest : Cached) (ms : List Cached) → held id (oldest ∷ ms) ≡ false → length (oldest ∷ ms) ≡ max
+    → putIn max id m (oldest ∷ ms) ≡ ms ++ (new id m ∷ [])
+unfolding putIn
+oldest-leaves max id m oldest ms h f =
+    let e : (suc (length ms) + 1) - max ≡ 1 = omega arith in
+    rw h (newest-more max (oldest ∷ ms) (new id m) (λ z. omega arith) ∙ ap (λ (n : ℕ). drop n (oldest ∷ ms) ++ (new id m ∷ [])) e)
+
+-- ---- the calls
+module _
+    (c : MessageCache) (st body : List ℕ) (i a e x y z w : ℕ)
+    (fine : lentOf c st ≡ lent.Fine)
+    (ok : acceptOf body ≡ checked.Fine)
+    (there : messageAt body i ≡ at.At a e)
+    (fit : admissionOf (between body a e) true ≡ admission.Fit x y z w)
+  where
+    -- a put of a held id answers so and changes nothing, also where the message is another one with that id
+    pub held-not-replaced : held (idBytes (between body a e) x y z w) (cachedIn c st) ≡ true
+        → (answered (planned c st body i) ≡ put.Held) × (keptIn c (planned c st body i) ≡ c) × (storedIn c st (planned c st body i) ≡ st)
+    held-not-replaced h =
+        let p : planned c st body i ≡ no put.Held = rw h at (put-plan c st body i a e x y z w fine ok there fit) in
+        (ap answered p, ap (keptIn c) p, ap (storedIn c st) p)
+
+    -- a put into a full cache: the oldest goes, the others stay, and the message is the newest
+    pub oldest-leaves-put : Sized c → (oldest : Cached) (ms : List Cached) → cachedIn c st ≡ oldest ∷ ms → length (oldest ∷ ms) ≡ c .«max_messages»
+        → held (idBytes (between body a e) x y z w) (oldest ∷ ms) ≡ false
+        → cachedIn (keptIn c (planned c st body i)) (storedIn c st (planned c st body i)) ≡ ms ++ (new (idBytes (between body a e) x y z w) (between body a e) ∷ [])
+    oldest-leaves-put s oldest ms at-first full h =
+        put-cached c st body i a e x y z w fine ok there fit s
+        ∙ ap (putIn (c .«max_messages») (idBytes (between body a e) x y z w) (between body a e)) at-first
+        ∙ oldest-leaves (c .«max_messages») (idBytes (between body a e) x y z w) (between body a e) oldest ms h full
+
+-- ---- where a message is written: c and st before, d and st2 after
+pub record Written (c d : MessageCache) (st st2 m : List ℕ) : Type 0 where
+  pub place : ℕ
+  -- it is the newest row's place
+  pub last : place ≡ rowOf d (d .count - 1)
+  pub in-range : place < d .«max_messages»
+  -- and of no other row
+  pub free : (j : ℕ) → j < d .count - 1 → rowOf d j ≡ place → ⊥
+  -- of a full cache it is the place that the oldest left
+  pub freed : c .count ≡ c .«max_messages» → place ≡ rowOf c 0
+  -- and the message is all that is written
+  pub stored : st2 ≡ sets st (place * 4096) m
+
+full-place : (cap start : ℕ) → start ≤ cap → 1 ≤ cap → placeOf cap (placeOf cap start 1) (cap - 1) ≡ placeOf cap start 0
+full-place cap start a b =
+    let l = place-le cap start 1 a b in
+    ⊎-elim
+    (λ u. ⊎-elim (λ v. ⊎-elim (λ r. omega arith) (λ r. omega arith) (place-is cap start 0 a)) (λ v. ⊎-elim (λ r. omega arith) (λ r. omega arith) (place-is cap start 0 a))
+    (place-is cap (placeOf cap start 1) (cap - 1) l))
+    (λ u. ⊎-elim (λ v. ⊎-elim (λ r. omega arith) (λ r. omega arith) (place-is cap start 0 a)) (λ v. ⊎-elim (λ r. omega arith) (λ r. omega arith) (place-is cap start 0 a))
+    (place-is cap (placeOf cap start 1) (cap - 1) l))
+    (place-is cap start 1 a)
+
+spot-freed : (c : MessageCache) → c .start ≤ c .«max_messages» → (c .«max_messages» ≡ 0 → ⊥) → c .count ≡ c .«max_messages» → spot c ≡ rowOf c 0
+unfolding spot
+spot-freed c a some full =
+    let k : (c .count + 1) - c .«max_messages» ≡ 1 = omega arith in
+    rw (k, full) (full-place (c .«max_messages») (c .start) a (omega (arith, some)))
+
+spot-is : (c : MessageCache) → spot c ≡ placeOf (c .«max_messages») (placeOf (c .«max_messages») (c .start) (leaving c)) (c .count - leaving c)
+unfolding spot
+spot-is c = refl
+
+stays-row : (c : MessageCache) (j : ℕ) → stays c j ≡ placeOf (c .«max_messages») (placeOf (c .«max_messages») (c .start) (leaving c)) j
+unfolding stays
+stays-row c j = refl
+
+grown-written : (c : MessageCache) (st m id : List ℕ) → lentOf c st ≡ lent.Fine → (c .«max_messages» ≡ 0 → ⊥) → Written c (grown (length m) id c) st (sets st (spot c * 4096) m) m
+unfolding grown
+grown-written c st m id fine some =
+    let t = fine-tests c st fine in
+    let n : ((c .count - leaving c) + 1) - 1 ≡ c .count - leaving c = omega arith in
+    record {
+      place = spot c;
+      last = rw n (spot-is c);
+      in-range = spot-in c (t .starts) (t .within) some;
+      free = λ j h e. spot-free c (t .starts) (t .within) some j (omega arith) (stays-row c j ∙ e);
+      freed = spot-freed c (t .starts) some;
+      stored = refl;
+    }
+
+pub freed-place-used : (c : MessageCache) (st body m id : List ℕ) (i : ℕ) → lentOf c st ≡ lent.Fine → (c .«max_messages» ≡ 0 → ⊥) → planned c st body i ≡ keep m id
+    → Written c (keptIn c (planned c st body i)) st (storedIn c st (planned c st body i)) m
+freed-place-used c st body m id i fine some e =
+    rw (e, entered-some (length m) id c some, stored-some c st m some) (grown-written c st m id fine some)

@@ -1,0 +1,161 @@
+-- Laws of the test for a well formed state: what it asks, part by part, and what that says of each row.
+use Prim.Native.Nat.{ℕ, zero, suc, _-_, _*_, _≤_, _<_}
+use mathlib.Core.Path.{_≡_, refl, sym, _∙_}
+use mathlib.Core.List.{List, [], _∷_}
+use mathlib.Core.Bool.{Bool, true, false, _&&_}
+use native.Mathlib.Omega.{arith}
+use lib.ListN.{length, getD}
+use lib.Dec.{leb, eqb}
+use borrow.Author.Tests.{le-leb, leb-true, eqb-true, eq-eqb}
+use Rattle.basis.specs.Cases.{either, clash}
+use Rattle.rows.specs.Rows.{tab, placeOf, ring}
+use Rattle.rows.specs.RowsLaws.{length-tab, getD-tab}
+use Rattle.rows.specs.Ids.{distinct}
+use Rattle.rows.specs.Store.{idAt, idsIn, lensIn, allUpTo}
+use Rattle.admission.specs.Admission.{givesId}
+use Rattle.mcache.specs.declared.MessageCache.{MessageCache}
+use Rattle.mcache.specs.declared.Lent.the-variants as lent
+use Rattle.mcache.specs.State.{messageIn, fallsFrom, runsTo, givesAt, allTrue, givesIn, idsFit, rowsFit, legal, wellFormed, Kept}
+use Rattle.mcache.specs.Calls.{lentOf}
+use Rattle.mcache.specs.WellFormed.{Sized}
+use Rattle.rows.specs.StoreLaws.{short-in}
+
+-- ---- tests one after the other
+pub both : (a b : Bool) → (a && b) ≡ true → (a ≡ true) × (b ≡ true)
+both true b h = (refl, h)
+both false b h = clash (cc)
+
+-- what is asked of a state
+pub record Tests (c : MessageCache) (st : List ℕ) : Type 0 where
+  pub room : length st ≡ c .«max_messages» * 4096
+  pub history-some : 1 ≤ c .«history_len»
+  pub history-few : c .«history_len» ≤ 16
+  pub few : c .«max_messages» ≤ 64
+  pub starts : c .start ≤ c .«max_messages»
+  pub within : c .count ≤ c .«max_messages»
+  pub falls : fallsFrom (c .«history_len» - 1) (lensIn (c .«max_messages») (c .start) (c .count) (c .window)) ≡ true
+  pub runs : runsTo (c .«next_generation») (lensIn (c .«max_messages») (c .start) (c .count) (c .generation)) ≡ true
+  pub id-short : allUpTo 128 (lensIn (c .«max_messages») (c .start) (c .count) (c .«id_len»)) ≡ true
+  pub gives : givesIn (c .«max_messages») (c .start) (c .count) (c .len) (c .«id_len») (c .ids) st ≡ true
+  pub once : distinct (idsIn 128 (c .«max_messages») (c .start) (c .count) (c .«id_len») (c .ids)) ≡ true
+
+fine-both : (c : MessageCache) (st : List ℕ) → lentOf c st ≡ lent.Fine → (length st ≡ c .«max_messages» * 4096) × (wellFormed c st ≡ true)
+unfolding lentOf
+fine-both c st h =
+    either (eqb (length st) (c .«max_messages» * 4096))
+    (λ t. either (wellFormed c st) (λ u. (eqb-true (length st) (c .«max_messages» * 4096) t, u)) (λ u. clash (let z = simp (t, u) at h in cc)))
+    (λ t. clash (let z = simp t at h in cc))
+
+pub fine-tests : (c : MessageCache) (st : List ℕ) → lentOf c st ≡ lent.Fine → Tests c st
+unfolding wellFormed legal rowsFit idsFit
+fine-tests c st h =
+    let f = fine-both c st h in
+    let a = both _ _ (f .1) in
+    let l = both _ _ (a .0) in
+    let m = both _ _ (l .1) in
+    let b = both _ _ (a .1) in
+    let d = both _ _ (b .1) in
+    let w = both _ _ (d .1) in
+    let g = both _ _ (w .1) in
+    let i = both _ _ (g .1) in
+    let j = both _ _ (i .1) in
+    record {
+      room = f .0;
+      history-some = leb-true 1 (c .«history_len») (l .0);
+      history-few = leb-true (c .«history_len») 16 (m .0);
+      few = leb-true (c .«max_messages») 64 (m .1);
+      starts = leb-true (c .start) (c .«max_messages») (b .0);
+      within = leb-true (c .count) (c .«max_messages») (d .0);
+      falls = w .0;
+      runs = g .0;
+      id-short = i .0;
+      gives = j .0;
+      once = j .1;
+    }
+
+-- and that it is enough
+pub tests-fine : (c : MessageCache) (st : List ℕ) → Tests c st → lentOf c st ≡ lent.Fine
+unfolding lentOf wellFormed legal rowsFit idsFit
+tests-fine c st t =
+    simp (
+      eq-eqb (length st) (c .«max_messages» * 4096) (t .room),
+      le-leb 1 (c .«history_len») (t .history-some),
+      le-leb (c .«history_len») 16 (t .history-few),
+      le-leb (c .«max_messages») 64 (t .few),
+      le-leb (c .start) (c .«max_messages») (t .starts),
+      le-leb (c .count) (c .«max_messages») (t .within),
+      t .falls,
+      t .runs,
+      t .id-short,
+      t .gives,
+      t .once,
+    )
+
+-- ---- a test of each row
+all-each : (l : List Bool) (i : ℕ) → allTrue l ≡ true → i < length l → getD l i true ≡ true
+unfolding allTrue
+all-each [] i h k = absurd (omega arith)
+all-each (b ∷ l) zero h k = both b (allTrue l) h .0
+all-each (b ∷ l) (suc i) h k = all-each l i (both b (allTrue l) h .1) (omega arith)
+
+each-all : (l : List Bool) → ((i : ℕ) → i < length l → getD l i true ≡ true) → allTrue l ≡ true
+unfolding allTrue
+each-all [] h = refl
+each-all (b ∷ l) h = simp (h 0 (omega arith)) (each-all l (λ i k. h (suc i) (omega arith)))
+
+module _ (f : ℕ → Bool) (cap start count : ℕ) where
+  pub true-in : allTrue (ring f cap start count) ≡ true → (i : ℕ) → i < count → f (placeOf cap start i) ≡ true
+  unfolding ring
+  true-in h i k =
+      let g : ℕ → Bool = λ (j : ℕ). f (placeOf cap start j) in
+      let l : i < length (tab g count) = rw (length-tab g count) k in
+      sym (getD-tab g count i true k) ∙ all-each (tab g count) i h l
+
+  pub in-true : ((i : ℕ) → i < count → f (placeOf cap start i) ≡ true) → allTrue (ring f cap start count) ≡ true
+  unfolding ring
+  in-true h =
+      let g : ℕ → Bool = λ (j : ℕ). f (placeOf cap start j) in
+      each-all (tab g count) (λ i k. let l : i < count = rw (length-tab g count) at k in getD-tab g count i true l ∙ h i l)
+
+-- ---- each row's message fits its place and gives its id
+module _ (c : MessageCache) (st : List ℕ) (t : Tests c st) (i : ℕ) (h : i < c .count) where
+  abbrev p : ℕ
+  p = placeOf (c .«max_messages») (c .start) i
+
+  gives-row : (leb (getD (c .len) p 0) 4096 ≡ true) × (givesId (messageIn (c .len) st p) (idAt 128 (c .«id_len») (c .ids) p) ≡ true)
+  unfolding givesIn givesAt
+  gives-row = both _ _ (true-in (givesAt (c .len) (c .«id_len») (c .ids) st) (c .«max_messages») (c .start) (c .count) (t .gives) i h)
+
+  pub row-short : getD (c .len) p 0 ≤ 4096
+  row-short = leb-true (getD (c .len) p 0) 4096 (gives-row .0)
+
+  pub row-gives : givesId (messageIn (c .len) st p) (idAt 128 (c .«id_len») (c .ids) p) ≡ true
+  row-gives = gives-row .1
+
+  pub row-id-short : getD (c .«id_len») p 0 ≤ 128
+  row-id-short = short-in 128 (c .«id_len») (c .«max_messages») (c .start) (c .count) (t .id-short) i h
+
+-- ---- a state that passes has its rows within the arrays and the store
+pub lent-kept : (c : MessageCache) (st : List ℕ) → lentOf c st ≡ lent.Fine → Sized c → Kept c st
+lent-kept c st h z =
+    let t = fine-tests c st h in
+    record {
+      rows =
+          record {
+            few = t .few;
+            starts = t .starts;
+            within = t .within;
+            lengths = z .lengths;
+            id-lengths = z .id-lengths;
+            id-room = z .id-room;
+            room = t .room;
+            id-short = row-id-short c st t;
+          };
+      short = row-short c st t;
+      windows = z .windows;
+      generations = z .generations;
+    }
+
+-- and a legal history
+pub lent-history : (c : MessageCache) (st : List ℕ) → lentOf c st ≡ lent.Fine → (1 ≤ c .«history_len») × (c .«history_len» ≤ 16)
+lent-history c st h = let t = fine-tests c st h in (t .history-some, t .history-few)

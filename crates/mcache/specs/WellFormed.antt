@@ -1,0 +1,86 @@
+-- A well formed message cache, as 01 has it: each clause by name. `well-formed-exactly` of WellFormedLaws says that this is what the test asks.
+use Prim.Native.Nat.{ℕ, suc, _+_, _*_, _%_, _^_, _≤_, _<_}
+use mathlib.Core.Path.{_≡_}
+use mathlib.Core.Bool.{true}
+use mathlib.Core.List.{List}
+use lib.ListN.{length, getD, replicate}
+use Rattle.rows.specs.Rows.{placeOf}
+use Rattle.rows.specs.Store.{idAt}
+use Rattle.admission.specs.AdmissionLaws.{Gives}
+use Rattle.mcache.specs.declared.MessageCache.{MessageCache}
+use Rattle.mcache.specs.State.{messageIn, legal}
+use Rattle.mcache.specs.Calls.{planned, keptIn, storedIn, shiftCache}
+
+-- ---- true of every MessageCache, by its type: its arrays have their sizes
+pub record Sized (c : MessageCache) : Type 0 where
+  pub generations : length (c .generation) ≡ 64
+  pub windows : length (c .window) ≡ 64
+  pub lengths : length (c .len) ≡ 64
+  pub id-lengths : length (c .«id_len») ≡ 64
+  pub id-room : length (c .ids) ≡ 8192
+
+-- and arrival numbers are below 2 ^ 64
+pub record Typed (c : MessageCache) : Type 0 where
+  pub sized : Sized c
+  pub next-small : c .«next_generation» < 2 ^ 64
+  pub small : (p : ℕ) → getD (c .generation) p 0 < 2 ^ 64
+
+-- ---- well formed
+-- the i-th row from the oldest stands in this place
+abbrev pub rowOf : MessageCache → ℕ → ℕ
+rowOf c i = placeOf (c .«max_messages») (c .start) i
+
+abbrev pub idOf : MessageCache → ℕ → List ℕ
+idOf c i = idAt 128 (c .«id_len») (c .ids) (rowOf c i)
+
+abbrev pub windowOf : MessageCache → ℕ → ℕ
+windowOf c i = getD (c .window) (rowOf c i) 0
+
+abbrev pub numberOf : MessageCache → ℕ → ℕ
+numberOf c i = getD (c .generation) (rowOf c i) 0
+
+pub record WellFormed (c : MessageCache) (st : List ℕ) : Type 0 where
+  -- the store has max_messages places of 4,096 bytes
+  pub room : length st ≡ c .«max_messages» * 4096
+  -- settings are legal
+  pub history-some : 1 ≤ c .«history_len»
+  pub history-few : c .«history_len» ≤ 16
+  pub few : c .«max_messages» ≤ 64
+  -- counts and lengths are within limits
+  pub starts : c .start ≤ c .«max_messages»
+  pub within : c .count ≤ c .«max_messages»
+  pub short : (i : ℕ) → i < c .count → getD (c .len) (rowOf c i) 0 ≤ 4096
+  pub id-short : (i : ℕ) → i < c .count → getD (c .«id_len») (rowOf c i) 0 ≤ 128
+  -- no id twice
+  pub once : (i j : ℕ) → i < j → j < c .count → idOf c i ≡ idOf c j → ⊥
+  -- window ages are below history_len and never rise from old to new
+  pub recent : (i : ℕ) → i < c .count → windowOf c i < c .«history_len»
+  pub falls : (i : ℕ) → suc i < c .count → windowOf c (suc i) ≤ windowOf c i
+  -- arrival numbers are consecutive from old to new, wrapping, and on to the next to be given
+  pub follows : (i : ℕ) → suc i < c .count → numberOf c (suc i) ≡ (numberOf c i + 1) % 2 ^ 64
+  pub last : (i : ℕ) → suc i ≡ c .count → c .«next_generation» ≡ (numberOf c i + 1) % 2 ^ 64
+  -- each cached message may be taken and gives its stored id
+  pub gives : (i : ℕ) → i < c .count → Gives (messageIn (c .len) st (rowOf c i)) (idOf c i)
+
+-- ---- the states that the calls reach
+-- a new cache whose first message gets the arrival number `next`; `start` gives the number 0
+unfoldable pub freshAt : ℕ → ℕ → ℕ → MessageCache
+freshAt next history max =
+    record {
+      «history_len» = history;
+      «max_messages» = max;
+      «next_generation» = next;
+      start = 0;
+      count = 0;
+      generation = replicate 64 0;
+      window = replicate 64 0;
+      len = replicate 64 0;
+      «id_len» = replicate 64 0;
+      ids = replicate 8192 0;
+    }
+
+-- a new cache with legal settings and a store of their length; then puts of anything, the refused ones too, and windows opened
+pub data Reached : MessageCache → List ℕ → Type 0 where
+  begun : (next history max : ℕ) (st : List ℕ) → next < 2 ^ 64 → legal history max ≡ true → length st ≡ max * 4096 → Reached (freshAt next history max) st
+  given : {c : MessageCache} {st : List ℕ} → Reached c st → (body : List ℕ) (i : ℕ) → Reached (keptIn c (planned c st body i)) (storedIn c st (planned c st body i))
+  opened : {c : MessageCache} {st : List ℕ} → Reached c st → Reached (shiftCache c st) st

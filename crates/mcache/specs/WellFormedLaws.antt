@@ -1,0 +1,150 @@
+-- The test for a well formed cache asks exactly what the clauses of WellFormed say.
+use Prim.Native.Nat.{ℕ, zero, suc, _+_, _-_, _%_, _^_, _≤_, _<_}
+use mathlib.Core.Path.{_≡_, refl, sym, ap, _∙_}
+use mathlib.Core.List.{List, [], _∷_}
+use mathlib.Core.Bool.{true}
+use mathlib.Core.Logic.{_↔_}
+use native.Mathlib.Omega.{arith}
+use native.Mathlib.Nat.{zero-lt-suc, sub-zero}
+use lib.ListN.{length, getD}
+use lib.Dec.{leb, eqb}
+use borrow.Author.Tests.{le-leb, eqb-true, eq-eqb}
+use Rattle.rows.specs.Rows.{tab, placeOf, ring}
+use Rattle.rows.specs.RowsLaws.{length-tab, getD-tab}
+use Rattle.rows.specs.Store.{lensIn}
+use Rattle.admission.specs.Admission.{givesId}
+use Rattle.admission.specs.AdmissionLaws.{Gives, gives-own, gives-only}
+use Rattle.mcache.specs.declared.MessageCache.{MessageCache}
+use Rattle.mcache.specs.declared.Lent.the-variants as lent
+use Rattle.mcache.specs.State.{messageIn, fallsFrom, runsTo, givesAt, givesIn}
+use Rattle.mcache.specs.Calls.{lentOf}
+use Rattle.rows.specs.StoreLaws.{short-all, once-in, all-once}
+use Rattle.mcache.specs.WellFormed.{Typed, rowOf, idOf, WellFormed}
+use Rattle.mcache.specs.StateLaws.{both, fine-tests, tests-fine, in-true, row-short, row-gives, row-id-short}
+use Rattle.mcache.specs.CachedLaws.{falls-each, falls-in}
+
+-- ---- windows that never rise
+falls-next : (most : ℕ) (l : List ℕ) (i : ℕ) → fallsFrom most l ≡ true → suc i < length l → getD l (suc i) 0 ≤ getD l i 0
+unfolding fallsFrom
+falls-next most [] i f h = absurd (omega arith)
+falls-next most (w ∷ l) zero f h = falls-each w l 0 (both (leb w most) (fallsFrom w l) f .1) (omega arith)
+falls-next most (w ∷ l) (suc i) f h = falls-next w l i (both (leb w most) (fallsFrom w l) f .1) (omega arith)
+
+next-falls : (most : ℕ) (l : List ℕ) → (0 < length l → getD l 0 0 ≤ most) → ((i : ℕ) → suc i < length l → getD l (suc i) 0 ≤ getD l i 0) → fallsFrom most l ≡ true
+unfolding fallsFrom
+next-falls most [] a f = refl
+next-falls most (w ∷ l) a f = rw (le-leb w most (a (zero-lt-suc (length l)))) (next-falls w l (λ h. f 0 (omega arith)) (λ i h. f (suc i) (omega arith)))
+
+-- ---- arrival numbers that run on
+runs-each : (next : ℕ) (l : List ℕ) (i : ℕ) → runsTo next l ≡ true → i < length l → (getD l i 0 + (length l - i)) % 2 ^ 64 ≡ next
+unfolding runsTo
+runs-each next [] i r h = absurd (omega arith)
+runs-each next (g ∷ l) zero r h = rw (sub-zero (suc (length l))) (eqb-true ((g + length (g ∷ l)) % 2 ^ 64) next (both (eqb ((g + length (g ∷ l)) % 2 ^ 64) next) (runsTo next l) r .0))
+runs-each next (g ∷ l) (suc i) r h =
+    let e = runs-each next l i (both (eqb ((g + length (g ∷ l)) % 2 ^ 64) next) (runsTo next l) r .1) (omega arith) in
+    let n : suc (length l) - suc i ≡ length l - i = omega arith in
+    rw n e
+
+each-runs : (next : ℕ) (l : List ℕ) → ((i : ℕ) → suc i < length l → getD l (suc i) 0 ≡ (getD l i 0 + 1) % 2 ^ 64)
+    → ((i : ℕ) → suc i ≡ length l → next ≡ (getD l i 0 + 1) % 2 ^ 64) → runsTo next l ≡ true
+unfolding runsTo
+each-runs next [] f a = refl
+each-runs next (g ∷ []) f a = rw (eq-eqb ((g + 1) % 2 ^ 64) next (sym (a 0 refl)))
+each-runs next (g ∷ h ∷ l) f a =
+    let r : runsTo next (h ∷ l) ≡ true = each-runs next (h ∷ l) (λ i k. f (suc i) (omega arith)) (λ i k. a (suc i) (ap suc k)) in
+    let b = both (eqb ((h + length (h ∷ l)) % 2 ^ 64) next) (runsTo next l) r in
+    let e : (h + suc (length l)) % 2 ^ 64 ≡ next = eqb-true ((h + length (h ∷ l)) % 2 ^ 64) next (b .0) in
+    let n : h ≡ (g + 1) % 2 ^ 64 = f 0 (omega arith) in
+    rw (eq-eqb ((g + suc (suc (length l))) % 2 ^ 64) next (omega arith)) r
+
+-- ---- the same of the rows
+module _ (l : List ℕ) (cap start count : ℕ) where
+  abbrev at : ℕ → ℕ
+  at i = getD l (placeOf cap start i) 0
+
+  pub falls-rows : (most : ℕ) → fallsFrom most (lensIn cap start count l) ≡ true → (i : ℕ) → suc i < count → getD l (placeOf cap start (suc i)) 0 ≤ getD l (placeOf cap start i) 0
+  unfolding lensIn ring
+  falls-rows most f i h =
+      let k : suc i < length (tab at count) = rw (length-tab at count) h in
+      let r = falls-next most (tab at count) i f k in
+      rw (getD-tab at count (suc i) 0 h, getD-tab at count i 0 (omega arith)) at r
+
+  pub rows-falls : (most : ℕ) → ((i : ℕ) → i < count → getD l (placeOf cap start i) 0 ≤ most)
+      → ((i : ℕ) → suc i < count → getD l (placeOf cap start (suc i)) 0 ≤ getD l (placeOf cap start i) 0) → fallsFrom most (lensIn cap start count l) ≡ true
+  unfolding lensIn ring
+  rows-falls most a f =
+      next-falls most (tab at count)
+      (λ h. let k : 0 < count = rw (length-tab at count) at h in rw (getD-tab at count 0 0 k) (a 0 k))
+      (λ i h. let k : suc i < count = rw (length-tab at count) at h in rw (getD-tab at count (suc i) 0 k, getD-tab at count i 0 (omega arith)) (f i k))
+
+  pub runs-rows : (next : ℕ) → runsTo next (lensIn cap start count l) ≡ true → (i : ℕ) → i < count → (getD l (placeOf cap start i) 0 + (count - i)) % 2 ^ 64 ≡ next
+  unfolding lensIn ring
+  runs-rows next r i h =
+      let k : i < length (tab at count) = rw (length-tab at count) h in
+      let e = runs-each next (tab at count) i r k in
+      rw (getD-tab at count i 0 h, length-tab at count) at e
+
+  pub rows-run : (next : ℕ) → ((i : ℕ) → suc i < count → getD l (placeOf cap start (suc i)) 0 ≡ (getD l (placeOf cap start i) 0 + 1) % 2 ^ 64)
+      → ((i : ℕ) → suc i ≡ count → next ≡ (getD l (placeOf cap start i) 0 + 1) % 2 ^ 64) → runsTo next (lensIn cap start count l) ≡ true
+  unfolding lensIn ring
+  rows-run next f a =
+      each-runs next (tab at count)
+      (λ i h. let k : suc i < count = rw (length-tab at count) at h in rw (getD-tab at count (suc i) 0 k, getD-tab at count i 0 (omega arith)) (f i k))
+      (λ i h. let k : suc i ≡ count = h ∙ length-tab at count in rw (getD-tab at count i 0 (omega arith)) (a i k))
+
+gives-back : (p i : List ℕ) → Gives p i → givesId p i ≡ true
+gives-back p i g = rw (g .named) (gives-own p (g .records) (g .from-start) (g .from-end) (g .seqno-start) (g .seqno-end) (g .read) (g .taken))
+
+rows-give : (c : MessageCache) (st : List ℕ) → WellFormed c st → givesIn (c .«max_messages») (c .start) (c .count) (c .len) (c .«id_len») (c .ids) st ≡ true
+unfolding givesIn givesAt
+rows-give c st w =
+    in-true (givesAt (c .len) (c .«id_len») (c .ids) st) (c .«max_messages») (c .start) (c .count)
+    (λ i h. rw (le-leb (getD (c .len) (rowOf c i) 0) 4096 (w .short i h)) (gives-back (messageIn (c .len) st (rowOf c i)) (idOf c i) (w .gives i h)))
+
+-- ---- well formed, exactly
+pub fine-well-formed : (c : MessageCache) (st : List ℕ) → Typed c → lentOf c st ≡ lent.Fine → WellFormed c st
+fine-well-formed c st y f =
+    let t = fine-tests c st f in
+    let cap = c .«max_messages» in
+    record {
+      room = t .room;
+      history-some = t .history-some;
+      history-few = t .history-few;
+      few = t .few;
+      starts = t .starts;
+      within = t .within;
+      short = row-short c st t;
+      id-short = row-id-short c st t;
+      once = once-in 128 (c .«id_len») (c .ids) cap (c .start) (c .count) (t .once);
+      recent = λ i h. omega (arith, falls-in (c .«history_len» - 1) (c .window) cap (c .start) (c .count) (t .falls) i h, t .history-some);
+      falls = falls-rows (c .window) cap (c .start) (c .count) (c .«history_len» - 1) (t .falls);
+      follows =
+          λ i h.
+          let a = runs-rows (c .generation) cap (c .start) (c .count) (c .«next_generation») (t .runs) i (omega arith) in
+          let b = runs-rows (c .generation) cap (c .start) (c .count) (c .«next_generation») (t .runs) (suc i) h in
+          let s = y .small (rowOf c (suc i)) in
+          omega arith;
+      last = λ i h. let a = runs-rows (c .generation) cap (c .start) (c .count) (c .«next_generation») (t .runs) i (omega arith) in omega arith;
+      gives = λ i h. gives-only (messageIn (c .len) st (rowOf c i)) (idOf c i) (row-gives c st t i h);
+    }
+
+pub well-formed-fine : (c : MessageCache) (st : List ℕ) → WellFormed c st → lentOf c st ≡ lent.Fine
+well-formed-fine c st w =
+    let cap = c .«max_messages» in
+    tests-fine c st
+    record {
+      room = w .room;
+      history-some = w .history-some;
+      history-few = w .history-few;
+      few = w .few;
+      starts = w .starts;
+      within = w .within;
+      falls = rows-falls (c .window) cap (c .start) (c .count) (c .«history_len» - 1) (λ i h. omega (arith, w .recent i h)) (w .falls);
+      runs = rows-run (c .generation) cap (c .start) (c .count) (c .«next_generation») (w .follows) (w .last);
+      id-short = short-all 128 (c .«id_len») cap (c .start) (c .count) (w .id-short);
+      gives = rows-give c st w;
+      once = all-once 128 (c .«id_len») (c .ids) cap (c .start) (c .count) (w .once);
+    }
+
+pub well-formed-exactly : (c : MessageCache) (st : List ℕ) → Typed c → (lentOf c st ≡ lent.Fine) ↔ WellFormed c st
+well-formed-exactly c st y = (fine-well-formed c st y, well-formed-fine c st)
