@@ -1,0 +1,48 @@
+// Lines of answers. A line that does not fit is cut; none of the program's is so long.
+
+// Prints the word that ends the run.
+pub(crate) fn last(word: &[u8]) -> bool {
+    io::write_all(1, word);
+    false
+}
+
+// Prints the first k bytes and a newline. Answers whether they were printed.
+pub(crate) fn print(out: &mut [u8], k: usize) -> bool {
+    if k < out.len() {
+        out[k] = b'\n';
+        let end = k + 1;
+        return io::write_all(1, &out[..end]);
+    }
+    false
+}
+
+// The record's number and some words.
+pub(crate) fn start(n: u64, words: &[u8], out: &mut [u8]) -> usize {
+    let i = text::put_decimal(out, 0, n);
+    text::put_text(out, i, words)
+}
+
+pub(crate) fn say(n: u64, words: &[u8], out: &mut [u8]) -> bool {
+    let k = start(n, words, out);
+    print(out, k)
+}
+
+pub(crate) fn say_number(n: u64, words: &[u8], value: u64, out: &mut [u8]) -> bool {
+    let i = start(n, words, out);
+    let k = text::put_number(out, i, value);
+    print(out, k)
+}
+
+// A refusal with no value.
+pub(crate) fn say_alone(n: u64, words: &[u8], number: u64, out: &mut [u8]) -> bool {
+    let i = start(n, words, out);
+    let k = text::put_refused(out, i, number, 0, 0, 0, 0);
+    print(out, k)
+}
+
+// A refusal with one value.
+pub(crate) fn say_with(n: u64, words: &[u8], number: u64, value: u64, out: &mut [u8]) -> bool {
+    let i = start(n, words, out);
+    let k = text::put_refused(out, i, number, 1, value, 0, 0);
+    print(out, k)
+}
