@@ -1,42 +1,26 @@
 -- What the pieces of a line make together.
-use Prim.Native.Nat.{ℕ, _+_, _-_, _≤_, _<_}
-use mathlib.Core.Path.{_≡_, refl, sym, ap, _∙_}
-use mathlib.Core.List.{List, [], _∷_, _++_, append-assoc}
+use Prim.Native.Nat.{ℕ, _-_, _≤_, _<_}
+use mathlib.Core.Path.{_≡_, refl, sym}
+use mathlib.Core.List.{List, [], _∷_, _++_}
 use mathlib.Core.Logic.{_≢_}
 use mathlib.Core.Bool.{true, false}
 use native.Mathlib.Omega.{arith}
-use lib.ListN.{length, take, drop, getD, set, replicate, length-drop, length-take, length-replicate}
+use lib.ListN.{length, take, drop, replicate, length-drop, length-take, length-replicate}
 use lib.Seq.{take-all, length-take-le}
 use borrow.Author.Tests.{lt-ltb, le-ltb, ne-eqb}
 use Rattle.text.specs.declared.Header.{Header}
 use Rattle.text.specs.declared.Header.the-variants.{Record}
 use Rattle.text.specs.Record.{little, contentLength}
-use Rattle.text.specs.Line.{Puts, decimal, refused}
-use Rattle.text.specs.Laws.{puts-none, puts-cons, puts-then, puts-length, puts-front}
+use Rattle.text.specs.Line.{Puts, decimal}
+use Rattle.text.specs.Laws.{puts-then}
 use Rattle.peer_id.specs.declared.Uvarint.{Uvarint}
 use Rattle.peer_id.specs.Uvarint.{readUvarint}
 use Rattle.utf8.specs.Utf8.{isUtf8}
-use Rattle.protobuf.specs.declared.WireError.{WireError}
-use Rattle.protobuf.specs.declared.WireError.the-variants.{Varint, FieldOverflow, UnsupportedWireType, InvalidFieldNumber, InvalidUtf8, TooLarge, TooManyRecords}
-use Rattle.protobuf.specs.declared.Refusal.{Refusal}
 use Rattle.protobuf.specs.declared.Walk.{Walk}
 use Rattle.protobuf.specs.Field.{walkStep}
-use Rattle.protobuf.specs.Refusal.{refusalNumber, refusalValues, refusalOf}
-use Rattle.inspect.specs.Answers.{Holds, refusal, walk, varint, walkAnswer, varintAnswer, utf8Answer, answerTo, closed, lineOf}
-
--- ---- a refusal
-values : (why : WireError) → take (length (refusalValues why)) (getD (refusalValues why) 0 0 ∷ getD (refusalValues why) 1 0 ∷ getD (refusalValues why) 2 0 ∷ []) ≡ refusalValues why
-values (Varint v) = refl
-values (FieldOverflow offset size remaining) = refl
-values (UnsupportedWireType type offset) = refl
-values (InvalidFieldNumber field offset) = refl
-values (InvalidUtf8 offset) = refl
-values (TooLarge size) = refl
-values (TooManyRecords records) = refl
-
-pub told : (why : WireError) (r : Refusal) → r ≡ refusalOf why → refused (r .number) (take (r .count) (r .first ∷ r .second ∷ r .third ∷ [])) ≡ refusal why
-unfolding refusal
-told why r e = rw e (ap (refused (refusalNumber why)) (values why))
+use Rattle.lines.specs.Lines.{Holds}
+use Rattle.lines.specs.Laws.{holds-none, holds-as, puts-holds}
+use Rattle.inspect.specs.Answers.{walk, varint, walkAnswer, varintAnswer, utf8Answer, answerTo, closed, lineOf}
 
 -- ---- an answer
 pub walk-short : (s : List ℕ) → length s < 8 → [] ≡ walkAnswer s
@@ -83,19 +67,6 @@ kind-unknown kind s a b c = simp (ne-eqb _ _ a, ne-eqb _ _ b, ne-eqb _ _ c)
 pub prefix : (k : ℕ) (l : List ℕ) → k ≤ length l → k ≡ length (take k l)
 prefix k l h = sym (length-take-le k l h)
 
-pub holds-none : {xs : List ℕ} (out : List ℕ) → [] ≡ xs → Holds xs out 0
-holds-none out e = record { size = ap length e; counts = (omega arith, refl); text = e }
-
-pub holds-as : {xs ys out : List ℕ} {r : ℕ} → xs ≡ ys → Holds xs out r → Holds ys out r
-holds-as e h = record { size = h .size ∙ ap length e; counts = h .counts; text = h .text ∙ e }
-
--- a newline ends it
-pub ends : {p j : ℕ} {xs b a : List ℕ} → Puts p xs b 0 a j → j < length b → Holds (xs ++ (10 ∷ [])) (set a j 10) (j + 1)
-ends {j = j} {b = b} {a = a} g h =
-    let f = puts-then g (puts-cons (puts-none (set a j 10) (j + 1))) in
-    let l = puts-length f in
-    record { size = omega (arith, f .place); counts = (omega arith, prefix _ _ (omega arith)); text = puts-front f (omega arith) }
-
 closed-none : (n : ℕ) (xs : List ℕ) → length xs ≡ 0 → [] ≡ closed n xs
 unfolding closed
 closed-none n [] h = refl
@@ -111,11 +82,11 @@ pub line-none : (n kind : ℕ) (s out : List ℕ) {p i j : ℕ} {b a : List ℕ}
 unfolding lineOf
 line-none n kind s out f e = holds-none out (closed-none n (answerTo kind s) (omega arith))
 
-pub line-some : (n kind : ℕ) (s : List ℕ) {p q i j : ℕ} {b m a : List ℕ} → Puts p (decimal n) b 0 m i → Puts q (answerTo kind s) m i a j → j ≢ i → j < length b → Holds (lineOf n kind s) (set a j 10) (j + 1)
+pub line-some : (n kind : ℕ) (s : List ℕ) {p q o i j r : ℕ} {b m a z : List ℕ} → Puts p (decimal n) b 0 m i → Puts q (answerTo kind s) m i a j → Puts o (10 ∷ []) a j z r → j ≢ i → r ≤ length b → Holds (lineOf n kind s) z r
 unfolding lineOf
-line-some n kind s f g h l =
+line-some n kind s f g e h l =
     let k : 0 < length (answerTo kind s) = omega arith in
-    holds-as (append-assoc (decimal n) (answerTo kind s) (10 ∷ []) ∙ closed-some n (answerTo kind s) k) (ends (puts-then f g) l)
+    holds-as (closed-some n (answerTo kind s) k) (puts-holds (puts-then f (puts-then g e)) l)
 
 -- ---- a header
 pub content-fits : {m : ℕ} (h : Header) (k l : ℕ) → h ≡ Record k l → contentLength h ≤ m → l ≤ m

@@ -1,33 +1,20 @@
 -- The lines, in ASCII. A record that is bad, its kind unknown or its content too short, has none.
 use Prim.Native.Nat.{ℕ}
-use mathlib.Core.Path.{_≡_}
 use mathlib.Core.List.{List, [], _∷_, _++_}
 use mathlib.Core.Bool.{cond}
 use lib.ListN.{length, take, drop}
 use lib.Dec.{ltb, eqb}
-use Rattle.io.specs.Counts.{Counts}
 use Rattle.text.specs.Record.{little}
-use Rattle.text.specs.Line.{decimal, number, refused}
+use Rattle.text.specs.Line.{decimal, number}
+use Rattle.lines.specs.Lines.{refusal}
 use Rattle.peer_id.specs.declared.Uvarint.{Uvarint}
 use Rattle.peer_id.specs.declared.Uvarint.the-variants.{Value, Refused as Unread}
 use Rattle.peer_id.specs.Uvarint.{readUvarint}
 use Rattle.utf8.specs.Utf8.{isUtf8}
-use Rattle.protobuf.specs.declared.WireError.{WireError}
 use Rattle.protobuf.specs.declared.WireError.the-variants.{Varint}
 use Rattle.protobuf.specs.declared.Walk.{Walk}
 use Rattle.protobuf.specs.declared.Walk.the-variants.{End, Field, Refused}
 use Rattle.protobuf.specs.Field.{walkStep}
-use Rattle.protobuf.specs.Refusal.{refusalNumber, refusalValues}
-
--- out begins with the line xs, of r bytes
-pub record Holds (xs out : List ℕ) (r : ℕ) : Type 0 where
-  pub size : r ≡ length xs
-  pub counts : Counts r out
-  pub text : take r out ≡ xs
-
--- ` refused`, the number in 01's table, the values beside it
-unfoldable pub refusal : WireError → List ℕ
-refusal why = refused (refusalNumber why) (refusalValues why)
 
 -- ` end`; or the field, its wire type, the place after its tag and the next place
 unfoldable pub walk : Walk → List ℕ

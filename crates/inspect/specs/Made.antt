@@ -9,7 +9,7 @@ use Rattle.protobuf.specs.declared.Encoded.{Encoded}
 use Rattle.protobuf.specs.declared.Encoded.the-variants as body
 use Rattle.ids.specs.declared.MessageBytes.{MessageBytes}
 use Rattle.ids.specs.declared.MessageBytes.the-variants.{Bytes, Room, Refused, NoMessage, MissingFrom, InvalidFrom, InvalidSeqno}
-use Rattle.inspect.specs.Answers.{refusal}
+use Rattle.ids.specs.Ids.{messageNumber, messageValues}
 
 unfoldable pub bytesOf : Encoded → MessageBytes
 bytesOf (body.Bytes n) = Bytes n
@@ -20,15 +20,19 @@ bytesOf (body.Refused why) = Refused why
 unfoldable pub shownText : List ℕ → ℕ → List ℕ
 shownText s n = cond (eqb n 0) [] (cond (ltb (length s) n) [] (32 ∷ hex (take n s)))
 
+-- ` refused`, the number in 01's table, the values beside it
+abbrev pub noBytes : MessageBytes → List ℕ
+noBytes r = refused (messageNumber r) (messageValues r)
+
 -- the number of bytes and their hex, s being the buffer afterwards; or a refusal of 01's table
 unfoldable pub madeText : List ℕ → MessageBytes → List ℕ
 madeText s (Bytes n) = number n ++ shownText s n
-madeText s (Room n) = refused 12 (n ∷ [])
-madeText s (Refused why) = refusal why
-madeText s (NoMessage n) = refused 20 (n ∷ [])
-madeText s MissingFrom = refused 21 []
-madeText s (InvalidFrom n) = refused 22 (n ∷ [])
-madeText s InvalidSeqno = refused 23 []
+madeText s (Room n) = noBytes (Room n)
+madeText s (Refused why) = noBytes (Refused why)
+madeText s (NoMessage n) = noBytes (NoMessage n)
+madeText s MissingFrom = noBytes MissingFrom
+madeText s (InvalidFrom n) = noBytes (InvalidFrom n)
+madeText s InvalidSeqno = noBytes InvalidSeqno
 
 -- the line of the input's record n, with the call's word
 unfoldable pub madeLine : ℕ → List ℕ → List ℕ → MessageBytes → List ℕ

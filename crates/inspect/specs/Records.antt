@@ -19,7 +19,7 @@ use Rattle.message.specs.declared.RecordAt.the-variants as found
 use Rattle.message.specs.declared.Decoded.{Decoded}
 use Rattle.message.specs.declared.Decoded.the-variants.{Records, Refused, Room}
 use Rattle.message.specs.Rows.{rowsOf}
-use Rattle.inspect.specs.Answers.{refusal}
+use Rattle.lines.specs.Lines.{refusal}
 
 -- ---- the fields of a record whose bytes are s
 unfoldable pub bytesText : List ℕ → List ℕ

@@ -13,8 +13,9 @@ use Rattle.schema.specs.Count.{textCount, countTo, counted}
 use Rattle.schema.specs.Slots.{setPlace, withField, slotsOf}
 use Rattle.message.specs.Rows.{ownRows, rowsTo, rowsOf}
 use Rattle.message.specs.Decode.{hasControl, decodeAnswer}
+use Rattle.lines.specs.Lines.{refusal}
 use Rattle.inspect.specs.Records.{bytesText, placeText, countText, flagText, subText, messageText, pruneText, recordText, recordLine, linesOf, decodedText, decodeLine}
-use Rattle.inspect.specs.Answers.{refusal, walk, varint, walkAnswer, varintAnswer, utf8Answer, answerTo, closed, lineOf}
+use Rattle.inspect.specs.Answers.{walk, varint, walkAnswer, varintAnswer, utf8Answer, answerTo, closed, lineOf}
 
 pub rows :
     (lineOf 1 5 (replicate 8 0 ++ (0x0a ∷ 0x05 ∷ 0x08 ∷ [])) ≡ 49 ∷ 32 ∷ 119 ∷ 97 ∷ 108 ∷ 107 ∷ 32 ∷ 114 ∷ 101 ∷ 102 ∷ 117 ∷ 115 ∷ 101 ∷ 100 ∷ 32 ∷ 52 ∷ 32 ∷ 50 ∷ 32 ∷ 53 ∷ 32 ∷ 49 ∷ 10 ∷ [])

@@ -4,15 +4,16 @@ ghost use Prim.Native.Nat.{_+_, _≤_};
 ghost use mathlib.Core.Path.{_≡_};
 ghost use lib.ListN.{length};
 ghost use Rattle.text.specs.Line.{Puts};
-ghost use Rattle.inspect.specs.Answers.{Holds};
+ghost use Rattle.lines.specs.Lines.{Holds};
 ghost use Rattle.inspect.specs.Made.{bytesOf, shownText, madeText, madeLine};
-use super::put::put_alone;
-use super::put::put_refusal;
-use super::put::put_value;
-use super::put::put_with;
-use super::put::put_word;
-use super::put::start_line;
 use ids::MessageBytes;
+use lines::end_line;
+use lines::put_alone;
+use lines::put_refusal;
+use lines::put_value;
+use lines::put_with;
+use lines::put_word;
+use lines::start_line;
 use protobuf::Encoded;
 
 // What the writer of a body did, among what the writers of a message's bytes do.
@@ -71,6 +72,5 @@ pub(crate) fn made_line(n: u64, word: &[u8], made: &[u8], r: MessageBytes, out: 
     let i = start_line(out, n);
     let j = put_word(out, i, word);
     let k = put_made(out, j, made, r);
-    out[k] = b'\n';
-    k + 1
+    end_line(out, k)
 }

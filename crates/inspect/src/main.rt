@@ -2,24 +2,25 @@
 // (u32), its kind (u16) and its content, little-endian. Kinds: 1 decode (body), 2 encode (body), 3 sign (index u16, body),
 // 4 id (index u16, body), 5 walk (place u64, body), 6 varint (bytes), 7 utf8 (bytes). After the line of kind 1 come those of the body's records.
 mod made;
-mod put;
 mod records;
 
 ghost use Prim.Native.Nat.{_+_, _≤_};
 ghost use lib.ListN.{length};
 ghost use Rattle.text.specs.Record.{contentLength};
 ghost use Rattle.text.specs.Line.{Puts};
-ghost use Rattle.inspect.specs.Answers.{Holds, walk, varint, walkAnswer, varintAnswer, utf8Answer, answerTo, lineOf};
+ghost use Rattle.lines.specs.Lines.{Holds};
+ghost use Rattle.inspect.specs.Answers.{walk, varint, walkAnswer, varintAnswer, utf8Answer, answerTo, lineOf};
+use lines::end_line;
+use lines::put_refusal;
+use lines::put_value;
+use lines::put_word;
+use lines::start_line;
 use made::bytes_of;
 use made::made_line;
 use peer_id::Uvarint;
 use protobuf::Cursor;
 use protobuf::Walk;
 use protobuf::WireError;
-use put::put_refusal;
-use put::put_value;
-use put::put_word;
-use put::start_line;
 use records::decode_line;
 use records::records_in;
 use records::row_line;
@@ -120,8 +121,7 @@ fn line(n: u64, kind: u64, content: &[u8], out: &mut [u8]) -> usize
     if j == i {
         return 0;
     }
-    out[j] = b'\n';
-    j + 1
+    end_line(out, j)
 }
 
 // Prints the word that ends the run.

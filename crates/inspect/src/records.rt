@@ -6,13 +6,14 @@ ghost use mathlib.Core.List.{[], _∷_, _++_};
 ghost use lib.ListN.{length};
 ghost use Rattle.text.specs.Line.{Puts};
 ghost use Rattle.message.specs.Rows.{recordAt};
-ghost use Rattle.inspect.specs.Answers.{Holds};
+ghost use Rattle.lines.specs.Lines.{Holds};
 ghost use Rattle.inspect.specs.Records.{bytesText, placeText, countText, flagText, subText, messageText, pruneText, peerText, recordText, recordLine, rowLine, decodedText, decodeLine, recordsIn};
-use super::put::put_refusal;
-use super::put::put_value;
-use super::put::put_with;
-use super::put::put_word;
-use super::put::start_line;
+use lines::end_line;
+use lines::put_refusal;
+use lines::put_value;
+use lines::put_with;
+use lines::put_word;
+use lines::start_line;
 use message::Decoded;
 use message::Record;
 use message::RecordAt;
@@ -185,8 +186,7 @@ fn record_line(body: &[u8], found: Record, out: &mut [u8]) -> usize
     }
     let kind = found.kind;
     let i = put_record(out, &body[start..end], kind, found.slots);
-    out[i] = b'\n';
-    i + 1
+    end_line(out, i)
 }
 
 // The line of the record at a row of the table; 0 where the table has no such row.
@@ -228,8 +228,7 @@ pub(crate) fn decode_line(n: u64, d: Decoded, out: &mut [u8]) -> usize
 {
     let i = start_line(out, n);
     let j = put_decoded(out, i, d);
-    out[j] = b'\n';
-    j + 1
+    end_line(out, j)
 }
 
 // How many records were written to the table.

@@ -50,16 +50,19 @@ same-step : (a b : List ℕ) (i : ℕ) → i < length a → i < length b
 unfolding sameBytes
 same-step a b i h k = rw (add-one i, drop-cons a i 0 h, drop-cons b i 0 k)
 
-module _ (a b : List ℕ) (i : ℕ) (inv : sameBytes (drop i a) (drop i b) ≡ sameBytes a b) where
-  pub same-more : i < length a → i < length b → getD a i 0 ≡ getD b i 0 → sameBytes (drop (i + 1) a) (drop (i + 1) b) ≡ sameBytes a b
-  same-more h k e = sym (simp (eq-eqb (getD a i 0) (getD b i 0) e) at (same-step a b i h k)) ∙ inv
+-- the bytes from i on are the same
+pub same-from : (a b : List ℕ) (i : ℕ) → length a ≤ i → length b ≤ i → sameBytes (drop i a) (drop i b) ≡ true
+unfolding sameBytes
+same-from a b i h k = rw (drop-of-length-le a h, drop-of-length-le b k)
 
-  pub same-not : i < length a → i < length b → (getD a i 0 ≡ getD b i 0 → ⊥) → false ≡ sameBytes a b
-  same-not h k e = sym (simp (ne-eqb (getD a i 0) (getD b i 0) e) at (same-step a b i h k)) ∙ inv
+-- and so are those from the byte before
+pub same-more : (a b : List ℕ) (i : ℕ) → i < length a → i < length b → sameBytes (drop (i + 1) a) (drop (i + 1) b) ≡ true → getD a i 0 ≡ getD b i 0 → sameBytes (drop i a) (drop i b) ≡ true
+same-more a b i h k r e = same-step a b i h k ∙ simp (eq-eqb (getD a i 0) (getD b i 0) e) r
 
-  pub same-all : length a ≤ i → length b ≤ i → true ≡ sameBytes a b
-  unfolding sameBytes
-  same-all h k = rw (drop-of-length-le a h, drop-of-length-le b k) at inv
+-- a byte differs
+pub same-not : (a b : List ℕ) (i : ℕ) → (getD a i 0 ≡ getD b i 0 → ⊥) → false ≡ sameBytes a b
+same-not a b i n =
+    either (sameBytes a b) (λ t. absurd (n (ap (λ (l : List ℕ). getD l i 0) (same-equal a b t)))) (λ t. sym t)
 
 -- ---- byte order
 precedes-step : (a b : List ℕ) (i : ℕ) → i < length a → i < length b

@@ -28,19 +28,19 @@ pub fn place(cap: usize, start: usize, i: usize) -> usize
     i - behind
 }
 
-// Whether two parts hold the same bytes.
+// Whether two parts hold the same bytes. Ids of one publisher differ at their ends, so the last bytes are compared first.
 pub fn same(a: &[u8], b: &[u8]) -> bool
     ensures { λ r. ⌜ r ≡ sameBytes (now (a .entry)) (now (b .entry)) ⌝ }
 {
     if a.len() != b.len() {
         return false;
     }
-    let mut i = 0;
-    while i < a.len() {
+    let mut i = a.len();
+    while 0 < i {
+        i = i - 1;
         if a[i] != b[i] {
             return false;
         }
-        i += 1;
     }
     true
 }

@@ -1,12 +1,14 @@
 -- `inspect::line` meets its contract: the number, the answer and a newline, at the front.
-use mathlib.Core.Path.{_∙_}
 use native.Mathlib.Omega.{arith}
-use lib.ListN.{length-set}
-use Rattle.text.specs.Laws.{puts-length}
 use Rattle.inspect.proofs.Answering.{line-none, line-some}
 use borrow.Author.Needs.{needs}
 use Rattle.inspect.proofs.line.Statement.{statement}
 use Rattle.inspect.proofs.line.Tie as tie
+use Rattle.inspect.proofs.line.Reads as reads
+use Rattle.inspect.proofs.line.Lts as lts
+use Rattle.inspect.proofs.answer.Reads as answer-reads
+use Rattle.lines.proofs.end_line.Reads as end-line-reads
+use Rattle.lines.proofs.start_line.Reads as start-line-reads
 
 start-line-requires : tie.Need-start-line-requires
 start-line-requires c κs = search needs
@@ -20,17 +22,14 @@ same-length c = search needs
 returns : tie.Need-returns
 returns c = line-none (c .before .before .before .before .before .before .before .before .before .before .before .args .n) (c .before .before .before .before .before .before .before .before .before .before .before .args .kind) _ _ (c .before .before .before .answer .ensures) (c .if1 .taken)
 
-slice-write-out : tie.Need-slice-write-out
-slice-write-out c = search needs
-
-add-result : tie.Need-add-result
-add-result c = search needs
+end-line-requires : tie.Need-end-line-requires
+end-line-requires c κs = search needs
 
 same-length-2 : tie.Need-same-length-2
-same-length-2 c = simp length-set (puts-length (c .before .before .before .answer .ensures) ∙ puts-length (c .before .before .before .before .before .before .before .start-line .ensures))
+same-length-2 c = search needs
 
 returns-2 : tie.Need-returns-2
-returns-2 c = line-some (c .before .before .before .before .before .before .before .before .before .before .before .args .n) (c .before .before .before .before .before .before .before .before .before .before .before .args .kind) _ (c .before .before .before .before .before .before .before .start-line .ensures) (c .before .before .before .answer .ensures) (c .if1 .left) (omega arith)
+returns-2 c = line-some (c .before .before .before .before .before .before .before .before .before .before .before .before .before .before .before .args .n) (c .before .before .before .before .before .before .before .before .before .before .before .before .before .before .before .args .kind) _ (c .before .before .before .before .before .before .before .before .before .before .before .start-line .ensures) (c .before .before .before .before .before .before .before .answer .ensures) (c .before .before .end-line .ensures) (c .before .before .before .before .if1 .left) (omega arith)
 
 pub line-spec : {M : Type 1} → statement M
 line-spec =
@@ -40,7 +39,6 @@ line-spec =
     answer-requires
     same-length
     returns
-    slice-write-out
-    add-result
+    end-line-requires
     same-length-2
     returns-2)

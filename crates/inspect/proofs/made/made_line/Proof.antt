@@ -1,20 +1,17 @@
 -- `inspect::made::made_line` meets its contract: the number, the call, the answer and a newline, at the front.
-use mathlib.Core.Path.{_∙_}
-use mathlib.Core.List.{[], _∷_, _++_, append-assoc}
 use native.Mathlib.Omega.{arith}
-use lib.ListN.{length-set}
-use Rattle.text.specs.Line.{decimal}
-use Rattle.text.specs.Laws.{puts-then, puts-length}
-use Rattle.inspect.specs.Made.{madeText, madeLine}
-use Rattle.inspect.proofs.Answering.{holds-as, ends}
+use Rattle.text.specs.Laws.{puts-then}
+use Rattle.lines.specs.Laws.{puts-holds}
+use Rattle.inspect.specs.Made.{madeLine}
 use borrow.Author.Needs.{needs}
 use Rattle.inspect.proofs.made.made_line.Statement.{statement}
 use Rattle.inspect.proofs.made.made_line.Tie as tie
 use Rattle.inspect.proofs.made.made_line.Reads as reads
 use Rattle.inspect.proofs.made.made_line.Lts as lts
 use Rattle.inspect.proofs.made.put_made.Reads as put-made-reads
-use Rattle.inspect.proofs.put.put_word.Reads as put-word-reads
-use Rattle.inspect.proofs.put.start_line.Reads as start-line-reads
+use Rattle.lines.proofs.end_line.Reads as end-line-reads
+use Rattle.lines.proofs.put_word.Reads as put-word-reads
+use Rattle.lines.proofs.start_line.Reads as start-line-reads
 
 start-line-requires : tie.Need-start-line-requires
 start-line-requires c κs = search needs
@@ -25,18 +22,15 @@ put-word-requires c κs = search needs
 put-made-requires : tie.Need-put-made-requires
 put-made-requires c κs = search needs
 
-slice-write-out : tie.Need-slice-write-out
-slice-write-out c = search needs
-
-add-result : tie.Need-add-result
-add-result c = search needs
+end-line-requires : tie.Need-end-line-requires
+end-line-requires c κs = search needs
 
 same-length : tie.Need-same-length
-same-length c = simp length-set (puts-length (c .before .before .put-made .ensures) ∙ (puts-length (c .before .before .before .before .before .before .put-word .ensures) ∙ puts-length (c .before .before .before .before .before .before .before .before .before .before .start-line .ensures)))
+same-length c = search needs
 
 returns : tie.Need-returns
 unfolding madeLine
-returns c = holds-as (append-assoc (decimal (c .before .before .before .before .before .before .before .before .before .before .before .before .before .before .before .args .n)) (c .before .before .before .before .before .before .before .before .before .before .before .before .before .before .before .args .word .now ++ madeText (c .before .before .before .before .before .before .before .before .before .before .before .before .before .before .before .args .made .now) (c .before .before .before .before .before .before .before .before .before .before .before .before .before .before .before .args .r)) (10 ∷ [])) (ends (puts-then (c .before .before .before .before .before .before .before .before .before .before .start-line .ensures) (puts-then (c .before .before .before .before .before .before .put-word .ensures) (c .before .before .put-made .ensures))) (omega arith))
+returns c = puts-holds (puts-then (c .before .before .before .before .before .before .before .before .before .before .before .before .before .before .start-line .ensures) (puts-then (puts-then (c .before .before .before .before .before .before .before .before .before .before .put-word .ensures) (c .before .before .before .before .before .before .put-made .ensures)) (c .before .before .end-line .ensures))) (omega arith)
 
 pub made-line-spec : {M : Type 1} → statement M
 made-line-spec =
@@ -45,7 +39,6 @@ made-line-spec =
     start-line-requires
     put-word-requires
     put-made-requires
-    slice-write-out
-    add-result
+    end-line-requires
     same-length
     returns)

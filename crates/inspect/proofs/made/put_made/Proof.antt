@@ -2,6 +2,7 @@
 use mathlib.Core.Path.{sym, ap}
 use native.Mathlib.Omega.{arith}
 use Rattle.text.specs.Laws.{puts-then, puts-as}
+use Rattle.lines.specs.Lines.{refusal}
 use Rattle.inspect.specs.Made.{madeText}
 use borrow.Author.Needs.{needs}
 use Rattle.inspect.proofs.made.put_made.Statement.{statement}
@@ -9,10 +10,10 @@ use Rattle.inspect.proofs.made.put_made.Tie as tie
 use Rattle.inspect.proofs.made.put_made.Reads as reads
 use Rattle.inspect.proofs.made.put_made.Lts as lts
 use Rattle.inspect.proofs.made.put_shown.Reads as put-shown-reads
-use Rattle.inspect.proofs.put.put_alone.Reads as put-alone-reads
-use Rattle.inspect.proofs.put.put_refusal.Reads as put-refusal-reads
-use Rattle.inspect.proofs.put.put_value.Reads as put-value-reads
-use Rattle.inspect.proofs.put.put_with.Reads as put-with-reads
+use Rattle.lines.proofs.put_alone.Reads as put-alone-reads
+use Rattle.lines.proofs.put_refusal.Reads as put-refusal-reads
+use Rattle.lines.proofs.put_value.Reads as put-value-reads
+use Rattle.lines.proofs.put_with.Reads as put-with-reads
 
 enum-known-r : tie.Need-enum-known-r
 enum-known-r c = search needs
@@ -77,7 +78,7 @@ same-length-3 : tie.Need-same-length-3
 same-length-3 c = search needs
 
 returns-3 : tie.Need-returns-3
-unfolding madeText
+unfolding madeText refusal
 returns-3 c = puts-as (ap (madeText (c .before .before .before .before .before .before .before .before .before .args .made .now)) (sym (c .before .before .before .before .before .r3 .given .1))) (omega arith) (c .before .before .put-refusal .ensures)
 
 same-length-4 : tie.Need-same-length-4

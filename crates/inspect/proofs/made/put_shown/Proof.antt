@@ -9,7 +9,7 @@ use Rattle.inspect.proofs.made.put_shown.Statement.{statement}
 use Rattle.inspect.proofs.made.put_shown.Tie as tie
 use Rattle.inspect.proofs.made.put_shown.Reads as reads
 use Rattle.inspect.proofs.made.put_shown.Lts as lts
-use Rattle.inspect.proofs.put.put_word.Reads as put-word-reads
+use Rattle.lines.proofs.put_word.Reads as put-word-reads
 use Rattle.text.proofs.put_hex.Reads as put-hex-reads
 
 returns : tie.Need-returns

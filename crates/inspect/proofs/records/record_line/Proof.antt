@@ -1,10 +1,15 @@
 -- `inspect::records::record_line` meets its contract: the tests, and then the record and a newline.
 use native.Mathlib.Omega.{arith}
-use Rattle.inspect.proofs.Answering.{holds-none, holds-as, ends}
+use Rattle.text.specs.Laws.{puts-then}
+use Rattle.lines.specs.Laws.{holds-none, holds-as, puts-holds}
 use Rattle.inspect.proofs.Lines.{record-turned, record-past, record-there}
 use borrow.Author.Needs.{needs}
 use Rattle.inspect.proofs.records.record_line.Statement.{statement}
 use Rattle.inspect.proofs.records.record_line.Tie as tie
+use Rattle.inspect.proofs.records.record_line.Reads as reads
+use Rattle.inspect.proofs.records.record_line.Lts as lts
+use Rattle.inspect.proofs.records.put_record.Reads as put-record-reads
+use Rattle.lines.proofs.end_line.Reads as end-line-reads
 
 returns : tie.Need-returns
 returns c = holds-none _ (record-turned _ (c .before .before .before .args .found) (c .if1 .taken))
@@ -21,17 +26,14 @@ part-put-record-end c = search needs
 put-record-requires : tie.Need-put-record-requires
 put-record-requires c κs = search needs
 
-slice-write-out : tie.Need-slice-write-out
-slice-write-out c = search needs
-
-add-result : tie.Need-add-result
-add-result c = search needs
+end-line-requires : tie.Need-end-line-requires
+end-line-requires c κs = search needs
 
 same-length : tie.Need-same-length
 same-length c = search needs
 
 returns-3 : tie.Need-returns-3
-returns-3 c = holds-as (record-there _ (c .before .before .before .before .before .before .before .before .before .args .found) (c .before .before .before .before .before .before .if1 .left) (c .before .before .before .before .before .if2 .left)) (ends (c .before .before .put-record .ensures) (omega arith))
+returns-3 c = holds-as (record-there _ (c .before .before .before .before .before .before .before .before .before .before .before .before .before .args .found) (c .before .before .before .before .before .before .before .before .before .before .if1 .left) (c .before .before .before .before .before .before .before .before .before .if2 .left)) (puts-holds (puts-then (c .before .before .before .before .before .before .put-record .ensures) (c .before .before .end-line .ensures)) (omega arith))
 
 pub record-line-spec : {M : Type 1} → statement M
 record-line-spec =
@@ -42,7 +44,6 @@ record-line-spec =
     part-put-record-start
     part-put-record-end
     put-record-requires
-    slice-write-out
-    add-result
+    end-line-requires
     same-length
     returns-3)

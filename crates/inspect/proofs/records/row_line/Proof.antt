@@ -1,7 +1,7 @@
 -- `inspect::records::row_line` meets its contract: the row's record, where there is one.
 use mathlib.Core.Path.{sym, ap, _∙_}
 use Rattle.inspect.specs.Records.{rowLine}
-use Rattle.inspect.proofs.Answering.{holds-none, holds-as}
+use Rattle.lines.specs.Laws.{holds-none, holds-as}
 use borrow.Author.Needs.{needs}
 use Rattle.inspect.proofs.records.row_line.Statement.{statement}
 use Rattle.inspect.proofs.records.row_line.Tie as tie

@@ -1,9 +1,9 @@
--- `inspect::put::put_value` meets its contract: there is room.
+-- `lines::put_value` meets its contract: there is room.
 use native.Mathlib.Omega.{arith}
 use Rattle.text.specs.Laws.{number-puts}
 use borrow.Author.Needs.{needs}
-use Rattle.inspect.proofs.put.put_value.Statement.{statement}
-use Rattle.inspect.proofs.put.put_value.Tie as tie
+use Rattle.lines.proofs.put_value.Statement.{statement}
+use Rattle.lines.proofs.put_value.Tie as tie
 
 put-number-requires : tie.Need-put-number-requires
 put-number-requires c κs = search needs

@@ -1,8 +1,8 @@
--- `inspect::put::put_word` meets its contract: there is room.
+-- `lines::put_word` meets its contract: there is room.
 use Rattle.text.specs.Laws.{text-puts}
 use borrow.Author.Needs.{needs}
-use Rattle.inspect.proofs.put.put_word.Statement.{statement}
-use Rattle.inspect.proofs.put.put_word.Tie as tie
+use Rattle.lines.proofs.put_word.Statement.{statement}
+use Rattle.lines.proofs.put_word.Tie as tie
 
 put-text-requires : tie.Need-put-text-requires
 put-text-requires c κs = search needs

@@ -1,9 +1,9 @@
--- `inspect::put::start_line` meets its contract: there is room.
+-- `lines::start_line` meets its contract: there is room.
 use native.Mathlib.Omega.{arith}
 use Rattle.text.specs.Laws.{decimal-puts}
 use borrow.Author.Needs.{needs}
-use Rattle.inspect.proofs.put.start_line.Statement.{statement}
-use Rattle.inspect.proofs.put.start_line.Tie as tie
+use Rattle.lines.proofs.start_line.Statement.{statement}
+use Rattle.lines.proofs.start_line.Tie as tie
 
 put-decimal-requires : tie.Need-put-decimal-requires
 put-decimal-requires c κs = search needs

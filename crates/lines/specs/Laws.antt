@@ -1,0 +1,22 @@
+-- What the pieces of a line make together.
+use Prim.Native.Nat.{ℕ, _≤_}
+use mathlib.Core.Path.{_≡_, refl, sym, ap, _∙_}
+use mathlib.Core.List.{List, []}
+use native.Mathlib.Omega.{arith}
+use lib.ListN.{length}
+use lib.Seq.{length-take-le}
+use Rattle.text.specs.Line.{Puts}
+use Rattle.text.specs.Laws.{puts-length, puts-front}
+use Rattle.lines.specs.Lines.{Holds}
+
+pub holds-none : {xs : List ℕ} (out : List ℕ) → [] ≡ xs → Holds xs out 0
+holds-none out e = record { size = ap length e; counts = (omega arith, refl); text = e }
+
+pub holds-as : {xs ys out : List ℕ} {r : ℕ} → xs ≡ ys → Holds xs out r → Holds ys out r
+holds-as e h = record { size = h .size ∙ ap length e; counts = h .counts; text = h .text ∙ e }
+
+-- what was put at the front is a line
+pub puts-holds : {p r : ℕ} {xs b a : List ℕ} → Puts p xs b 0 a r → r ≤ length b → Holds xs a r
+puts-holds {r = r} {a = a} f h =
+    let l = puts-length f in
+    record { size = omega (arith, f .place); counts = (omega arith, sym (length-take-le r a (omega arith))); text = puts-front f h }
