@@ -1,5 +1,5 @@
 -- Laws of ids: the test for equal bytes is exact, the order is a strict total order, and one step of each walk over bytes and over ids.
-use Prim.Native.Nat.{ℕ, zero, suc, _+_, _≤_, _<_}
+use Prim.Native.Nat.{ℕ, zero, suc, _+_, _-_, _≤_, _<_}
 use mathlib.Core.Path.{_≡_, refl, sym, ap, ap₂, subst, _∙_}
 use mathlib.Core.List.{List, [], _∷_, _++_}
 use mathlib.Core.Bool.{Bool, true, false, cond, not, _&&_, _||_, or-true}
@@ -56,8 +56,14 @@ unfolding sameBytes
 same-from a b i h k = rw (drop-of-length-le a h, drop-of-length-le b k)
 
 -- and so are those from the byte before
-pub same-more : (a b : List ℕ) (i : ℕ) → i < length a → i < length b → sameBytes (drop (i + 1) a) (drop (i + 1) b) ≡ true → getD a i 0 ≡ getD b i 0 → sameBytes (drop i a) (drop i b) ≡ true
-same-more a b i h k r e = same-step a b i h k ∙ simp (eq-eqb (getD a i 0) (getD b i 0) e) r
+pub same-more : (a b : List ℕ) (i : ℕ) → 0 < i → i ≤ length a → length a ≡ length b → sameBytes (drop i a) (drop i b) ≡ true → getD a (i - 1) 0 ≡ getD b (i - 1) 0 → sameBytes (drop (i - 1) a) (drop (i - 1) b) ≡ true
+same-more a b i h k l r e =
+    let n : (i - 1) + 1 ≡ i = omega arith in
+    let q : sameBytes (drop ((i - 1) + 1) a) (drop ((i - 1) + 1) b) ≡ true = rw n r in
+    same-step a b (i - 1) (omega arith) (omega arith) ∙ simp (eq-eqb (getD a (i - 1) 0) (getD b (i - 1) 0) e) q
+
+pub same-all : (a b : List ℕ) (i : ℕ) → i ≤ 0 → sameBytes (drop i a) (drop i b) ≡ true → true ≡ sameBytes a b
+same-all a b i h r = let z : i ≡ 0 = omega arith in sym (rw z at r)
 
 -- a byte differs
 pub same-not : (a b : List ℕ) (i : ℕ) → (getD a i 0 ≡ getD b i 0 → ⊥) → false ≡ sameBytes a b
