@@ -1,19 +1,19 @@
 // Kinds 6 to 10: the cache part.
+ghost use Prim.Native.Nat.{_≤_};
+ghost use lib.ListN.{length};
+use super::answers::put_line;
+use super::answers::shift_line;
 use super::say::last;
 use super::say::print;
 use super::say::say;
 use super::say::say_alone;
 use super::say::say_with;
 use super::say::start;
-use admission::Unfit;
 use mcache::Gossip;
 use mcache::GossipIds;
-use mcache::Lent;
 use mcache::Lookup;
 use mcache::MessageCache;
-use mcache::Put;
 use mcache::Start;
-use protobuf::WireError;
 
 pub(crate) struct CachePart {
     pub go: bool,
@@ -67,51 +67,10 @@ fn begin(n: u64, content: &[u8], part: CachePart, out: &mut [u8]) -> CachePart {
     }
 }
 
-// A refusal of a body.
-fn say_wire(n: u64, words: &[u8], why: WireError, out: &mut [u8]) -> bool {
-    let r = protobuf::refusal_of(why);
-    let i = start(n, words, out);
-    let k = text::put_refused(
-        out,
-        i,
-        r.number as u64,
-        r.count as u64,
-        r.first,
-        r.second,
-        r.third,
-    );
-    print(out, k)
-}
-
-fn say_unfit(n: u64, words: &[u8], why: Unfit, out: &mut [u8]) -> bool {
-    match why {
-        Unfit::MissingFrom => say_alone(n, words, 21, out),
-        Unfit::InvalidFrom(len) => say_with(n, words, 22, len as u64, out),
-        Unfit::InvalidSeqno => say_alone(n, words, 23, out),
-        Unfit::KeyWithoutSignature => say_alone(n, words, 24, out),
-        Unfit::MissingSignature => say_alone(n, words, 25, out),
-        Unfit::InvalidSignatureLength(len) => say_with(n, words, 26, len as u64, out),
-        Unfit::SignatureInvalid => say_alone(n, words, 27, out),
-        Unfit::TopicCount(count) => say_with(n, words, 28, count as u64, out),
-        Unfit::TopicTooLong(len) => say_with(n, words, 29, len as u64, out),
-        Unfit::MessageTooLong(len) => say_with(n, words, 30, len as u64, out),
-    }
-}
-
-fn say_put(n: u64, answer: Put, out: &mut [u8]) -> bool {
-    match answer {
-        Put::Stored => say(n, b" put stored", out),
-        Put::Held => say(n, b" put held", out),
-        Put::BadStore => say_alone(n, b" put", 41, out),
-        Put::Malformed => say_alone(n, b" put", 42, out),
-        Put::Refused(why) => say_wire(n, b" put", why, out),
-        Put::NoMessage(count) => say_with(n, b" put", 20, count as u64, out),
-        Put::Unfit(why) => say_unfit(n, b" put", why, out),
-    }
-}
-
 // Kind 7.
-fn put(n: u64, content: &[u8], part: CachePart, store: &mut [u8], out: &mut [u8]) -> CachePart {
+fn put(n: u64, content: &[u8], part: CachePart, store: &mut [u8], out: &mut [u8]) -> CachePart
+    requires { ⌜ 192 ≤ length (now out) ⌝ }
+{
     if content.len() < 2 {
         return bad(part);
     }
@@ -120,7 +79,8 @@ fn put(n: u64, content: &[u8], part: CachePart, store: &mut [u8], out: &mut [u8]
     let r = cache.put(store, &content[2..], index);
     let answer = r.answer;
     let left = r.cache;
-    let go = say_put(n, answer, out);
+    let k = put_line(n, answer, out);
+    let go = io::write_all(1, &out[..k]);
     CachePart {
         go,
         started: true,
@@ -128,16 +88,10 @@ fn put(n: u64, content: &[u8], part: CachePart, store: &mut [u8], out: &mut [u8]
     }
 }
 
-fn say_shift(n: u64, answer: Lent, out: &mut [u8]) -> bool {
-    match answer {
-        Lent::Fine => say(n, b" shift ok", out),
-        Lent::BadStore => say_alone(n, b" shift", 41, out),
-        Lent::Malformed => say_alone(n, b" shift", 42, out),
-    }
-}
-
 // Kind 8.
-fn shift(n: u64, content: &[u8], part: CachePart, store: &[u8], out: &mut [u8]) -> CachePart {
+fn shift(n: u64, content: &[u8], part: CachePart, store: &[u8], out: &mut [u8]) -> CachePart
+    requires { ⌜ 192 ≤ length (now out) ⌝ }
+{
     if content.len() != 0 {
         return bad(part);
     }
@@ -145,7 +99,8 @@ fn shift(n: u64, content: &[u8], part: CachePart, store: &[u8], out: &mut [u8]) 
     let r = cache.shift(store);
     let answer = r.answer;
     let left = r.cache;
-    let go = say_shift(n, answer, out);
+    let k = shift_line(n, answer, out);
+    let go = io::write_all(1, &out[..k]);
     CachePart {
         go,
         started: true,
@@ -240,7 +195,9 @@ fn call(
     part: CachePart,
     store: &mut [u8],
     out: &mut [u8],
-) -> CachePart {
+) -> CachePart
+    requires { ⌜ 192 ≤ length (now out) ⌝ }
+{
     match kind {
         7 => put(n, content, part, store, out),
         8 => shift(n, content, part, store, out),
@@ -257,7 +214,9 @@ pub(crate) fn cache_turn(
     part: CachePart,
     store: &mut [u8],
     out: &mut [u8],
-) -> CachePart {
+) -> CachePart
+    requires { ⌜ 192 ≤ length (now out) ⌝ }
+{
     if kind == 6 {
         return begin(n, content, part, out);
     }

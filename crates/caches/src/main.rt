@@ -2,6 +2,7 @@
 // content's length (u32), its kind (u16) and its content, little-endian. Kinds: 1 seen (rows u16), 2 insert (now u64, ttl u64, max u16, id),
 // 3 clean (now u64), 4 next, 5 contains (id), 6 cache (history_len u16, max_messages u16, next arrival number u64), 7 put (index u16, body),
 // 8 shift, 9 gossip (windows u16, topic), 10 get (id).
+mod answers;
 mod cache_part;
 mod say;
 mod seen_part;
@@ -51,7 +52,9 @@ fn play(
     seen_store: &mut [u8],
     cache_store: &mut [u8],
     out: &mut [u8],
-) -> Run {
+) -> Run
+    requires { ⌜ 192 ≤ length (now out) ⌝ }
+{
     let seen = run.seen;
     let cache = run.cache;
     if kind < 6 {
@@ -90,6 +93,7 @@ fn turn(
     cache_store: &mut [u8],
     out: &mut [u8],
 ) -> Run
+    requires { ⌜ 192 ≤ length (now out) ⌝ }
     requires { ⌜ 65600 ≤ length (now content) ⌝ }
 {
     let h = next_header();

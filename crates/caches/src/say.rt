@@ -27,12 +27,6 @@ pub(crate) fn say(n: u64, words: &[u8], out: &mut [u8]) -> bool {
     print(out, k)
 }
 
-pub(crate) fn say_number(n: u64, words: &[u8], value: u64, out: &mut [u8]) -> bool {
-    let i = start(n, words, out);
-    let k = text::put_number(out, i, value);
-    print(out, k)
-}
-
 // A refusal with no value.
 pub(crate) fn say_alone(n: u64, words: &[u8], number: u64, out: &mut [u8]) -> bool {
     let i = start(n, words, out);

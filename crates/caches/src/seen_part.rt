@@ -1,13 +1,12 @@
 // Kinds 1 to 5: the seen part.
+ghost use Prim.Native.Nat.{_≤_};
+ghost use lib.ListN.{length};
+use super::answers::clean_line;
+use super::answers::contains_line;
+use super::answers::insert_line;
+use super::answers::next_line;
 use super::say::last;
 use super::say::say;
-use super::say::say_alone;
-use super::say::say_number;
-use super::say::say_with;
-use seen::Contains;
-use seen::Gc;
-use seen::Insert;
-use seen::NextExpiry;
 use seen::SeenCache;
 
 pub(crate) struct SeenPart {
@@ -71,19 +70,10 @@ fn begin(n: u64, content: &[u8], part: SeenPart, out: &mut [u8]) -> SeenPart {
     }
 }
 
-fn say_insert(n: u64, answer: Insert, out: &mut [u8]) -> bool {
-    match answer {
-        Insert::Fresh => say(n, b" insert fresh", out),
-        Insert::Held => say(n, b" insert held", out),
-        Insert::BadSetting => say_alone(n, b" insert", 40, out),
-        Insert::BadStore => say_alone(n, b" insert", 41, out),
-        Insert::Malformed => say_alone(n, b" insert", 42, out),
-        Insert::TooLong(len) => say_with(n, b" insert", 33, len as u64, out),
-    }
-}
-
 // Kind 2.
-fn insert(n: u64, content: &[u8], part: SeenPart, store: &mut [u8], out: &mut [u8]) -> SeenPart {
+fn insert(n: u64, content: &[u8], part: SeenPart, store: &mut [u8], out: &mut [u8]) -> SeenPart
+    requires { ⌜ 192 ≤ length (now out) ⌝ }
+{
     if content.len() < 18 {
         return bad(part);
     }
@@ -93,20 +83,15 @@ fn insert(n: u64, content: &[u8], part: SeenPart, store: &mut [u8], out: &mut [u
     let cache = part.cache;
     let r = cache.insert(store, &content[18..], now, ttl, max);
     let answer = r.answer;
-    let go = say_insert(n, answer, out);
+    let k = insert_line(n, answer, out);
+    let go = io::write_all(1, &out[..k]);
     with_cache(part, r.cache, go)
 }
 
-fn say_clean(n: u64, answer: Gc, out: &mut [u8]) -> bool {
-    match answer {
-        Gc::Left(count) => say_number(n, b" clean", count as u64, out),
-        Gc::BadStore => say_alone(n, b" clean", 41, out),
-        Gc::Malformed => say_alone(n, b" clean", 42, out),
-    }
-}
-
 // Kind 3.
-fn clean(n: u64, content: &[u8], part: SeenPart, store: &[u8], out: &mut [u8]) -> SeenPart {
+fn clean(n: u64, content: &[u8], part: SeenPart, store: &[u8], out: &mut [u8]) -> SeenPart
+    requires { ⌜ 192 ≤ length (now out) ⌝ }
+{
     if content.len() != 8 {
         return bad(part);
     }
@@ -114,45 +99,33 @@ fn clean(n: u64, content: &[u8], part: SeenPart, store: &[u8], out: &mut [u8]) -
     let cache = part.cache;
     let r = cache.gc(store, now);
     let answer = r.answer;
-    let go = say_clean(n, answer, out);
+    let k = clean_line(n, answer, out);
+    let go = io::write_all(1, &out[..k]);
     with_cache(part, r.cache, go)
 }
 
-fn say_next(n: u64, answer: NextExpiry, out: &mut [u8]) -> bool {
-    match answer {
-        NextExpiry::None => say(n, b" next none", out),
-        NextExpiry::At(expiry) => say_number(n, b" next", expiry, out),
-        NextExpiry::BadStore => say_alone(n, b" next", 41, out),
-        NextExpiry::Malformed => say_alone(n, b" next", 42, out),
-    }
-}
-
 // Kind 4.
-fn next(n: u64, content: &[u8], part: SeenPart, store: &[u8], out: &mut [u8]) -> SeenPart {
+fn next(n: u64, content: &[u8], part: SeenPart, store: &[u8], out: &mut [u8]) -> SeenPart
+    requires { ⌜ 192 ≤ length (now out) ⌝ }
+{
     if content.len() != 0 {
         return bad(part);
     }
     let cache = part.cache;
     let answer = cache.next_expiry(store);
-    let go = say_next(n, answer, out);
+    let k = next_line(n, answer, out);
+    let go = io::write_all(1, &out[..k]);
     with_go(part, go)
 }
 
-fn say_contains(n: u64, answer: Contains, out: &mut [u8]) -> bool {
-    match answer {
-        Contains::Yes => say(n, b" contains yes", out),
-        Contains::No => say(n, b" contains no", out),
-        Contains::BadStore => say_alone(n, b" contains", 41, out),
-        Contains::Malformed => say_alone(n, b" contains", 42, out),
-        Contains::TooLong(len) => say_with(n, b" contains", 33, len as u64, out),
-    }
-}
-
 // Kind 5.
-fn contains(n: u64, content: &[u8], part: SeenPart, store: &[u8], out: &mut [u8]) -> SeenPart {
+fn contains(n: u64, content: &[u8], part: SeenPart, store: &[u8], out: &mut [u8]) -> SeenPart
+    requires { ⌜ 192 ≤ length (now out) ⌝ }
+{
     let cache = part.cache;
     let answer = cache.contains(store, content);
-    let go = say_contains(n, answer, out);
+    let k = contains_line(n, answer, out);
+    let go = io::write_all(1, &out[..k]);
     with_go(part, go)
 }
 
@@ -164,7 +137,9 @@ fn call(
     part: SeenPart,
     store: &mut [u8],
     out: &mut [u8],
-) -> SeenPart {
+) -> SeenPart
+    requires { ⌜ 192 ≤ length (now out) ⌝ }
+{
     match kind {
         2 => insert(n, content, part, store, out),
         3 => clean(n, content, part, store, out),
@@ -181,7 +156,9 @@ pub(crate) fn seen_turn(
     part: SeenPart,
     store: &mut [u8],
     out: &mut [u8],
-) -> SeenPart {
+) -> SeenPart
+    requires { ⌜ 192 ≤ length (now out) ⌝ }
+{
     if kind == 1 {
         return begin(n, content, part, out);
     }

@@ -1,0 +1,94 @@
+use denote.Ref.{now}
+use mathlib.Core.Path.{sym, ap}
+use Rattle.lines.specs.Laws.{holds-as}
+use Rattle.caches.specs.Lines.{shiftLine}
+use borrow.Author.Needs.{needs}
+use Rattle.caches.proofs.answers.shift_line.Statement.{statement}
+use Rattle.caches.proofs.answers.shift_line.Tie as tie
+use Rattle.caches.proofs.answers.shift_line.Reads as reads
+use Rattle.caches.proofs.answers.shift_line.Lts as lts
+use Rattle.caches.proofs.answers.alone_line.Reads as alone-line-reads
+use Rattle.lines.proofs.words_line.Reads as words-line-reads
+
+-- src/answers.rt:142:37
+enum-told : tie.Need-enum-told
+enum-told c = search needs
+
+-- src/answers.rt:142:37
+slice-aggregate-words-line : tie.Need-slice-aggregate-words-line
+slice-aggregate-words-line c = search needs
+
+-- src/answers.rt:142:23
+words-line-requires : tie.Need-words-line-requires
+words-line-requires c κs = search needs
+
+-- src/answers.rt:143:41
+enum-told-2 : tie.Need-enum-told-2
+enum-told-2 c = search needs
+
+-- src/answers.rt:143:41
+slice-aggregate-alone-line : tie.Need-slice-aggregate-alone-line
+slice-aggregate-alone-line c = search needs
+
+-- src/answers.rt:143:27
+alone-line-requires : tie.Need-alone-line-requires
+alone-line-requires c κs = search needs
+
+-- src/answers.rt:144:42
+enum-told-3 : tie.Need-enum-told-3
+enum-told-3 c = search needs
+
+-- src/answers.rt:144:42
+slice-aggregate-alone-line-2 : tie.Need-slice-aggregate-alone-line-2
+slice-aggregate-alone-line-2 c = search needs
+
+-- src/answers.rt:144:28
+alone-line-requires-2 : tie.Need-alone-line-requires-2
+alone-line-requires-2 c κs = search needs
+
+-- src/answers.rt:137:1
+same-length : tie.Need-same-length
+same-length c = search needs
+
+-- src/answers.rt:137:1
+returns : tie.Need-returns
+unfolding shiftLine
+returns c = holds-as (ap (shiftLine (c .before .before .before .before .before .before .before .before .args .n)) (sym ((c .before .before .before .before .before .enum-told .given .1)))) (c .before .before .words-line .ensures)
+
+-- src/answers.rt:137:1
+same-length-2 : tie.Need-same-length-2
+same-length-2 c = search needs
+
+-- src/answers.rt:137:1
+returns-2 : tie.Need-returns-2
+unfolding shiftLine
+returns-2 c = holds-as (ap (shiftLine (c .before .before .before .before .before .before .before .before .args .n)) (sym ((c .before .before .before .before .before .enum-told2 .given .1)))) (c .before .before .alone-line .ensures)
+
+-- src/answers.rt:137:1
+same-length-3 : tie.Need-same-length-3
+same-length-3 c = search needs
+
+-- src/answers.rt:137:1
+returns-3 : tie.Need-returns-3
+unfolding shiftLine
+returns-3 c = holds-as (ap (shiftLine (c .before .before .before .before .before .before .before .before .args .n)) (sym ((c .before .before .before .before .before .enum-told3 .given .1)))) (c .before .before .alone-line2 .ensures)
+
+pub shift-line-spec : {M : Type 1} → statement M
+shift-line-spec =
+    tie.close
+    (tie.spec
+    enum-told
+    slice-aggregate-words-line
+    words-line-requires
+    enum-told-2
+    slice-aggregate-alone-line
+    alone-line-requires
+    enum-told-3
+    slice-aggregate-alone-line-2
+    alone-line-requires-2
+    same-length
+    returns
+    same-length-2
+    returns-2
+    same-length-3
+    returns-3)
