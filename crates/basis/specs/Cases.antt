@@ -1,7 +1,7 @@
 -- Going by cases on a test, and what follows from 0 being 1.
 use Prim.Native.Nat.{ℕ}
 use mathlib.Core.Path.{_≡_, refl}
-use mathlib.Core.Bool.{Bool, true, false}
+use mathlib.Core.Bool.{Bool, true, false, _&&_}
 use native.Mathlib.Omega.{arith}
 
 -- either way of a test
@@ -12,3 +12,8 @@ either false f g = g refl
 -- two different constructors are equal only where 0 is 1
 pub clash : {A : Type 0} → _≡_ {A = ℕ} 0 1 → A
 clash e = absurd (omega arith)
+
+-- two tests that pass together pass each
+pub both : (a b : Bool) → (a && b) ≡ true → (a ≡ true) × (b ≡ true)
+both true b h = (refl, h)
+both false b h = clash (cc)

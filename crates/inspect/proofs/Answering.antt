@@ -5,12 +5,10 @@ use mathlib.Core.List.{List, [], _∷_, _++_}
 use mathlib.Core.Logic.{_≢_}
 use mathlib.Core.Bool.{true, false}
 use native.Mathlib.Omega.{arith}
-use lib.ListN.{length, take, drop, replicate, length-drop, length-take, length-replicate}
-use lib.Seq.{take-all, length-take-le}
+use lib.ListN.{length, take, drop, length-drop, length-take}
+use lib.Seq.{take-all}
 use borrow.Author.Tests.{lt-ltb, le-ltb, ne-eqb}
-use Rattle.text.specs.declared.Header.{Header}
-use Rattle.text.specs.declared.Header.the-variants.{Record}
-use Rattle.text.specs.Record.{little, contentLength}
+use Rattle.text.specs.Record.{little}
 use Rattle.text.specs.Line.{Puts, decimal}
 use Rattle.text.specs.Laws.{puts-then}
 use Rattle.peer_id.specs.declared.Uvarint.{Uvarint}
@@ -63,10 +61,6 @@ unfolding answerTo
 kind-unknown kind s a b c = simp (ne-eqb _ _ a, ne-eqb _ _ b, ne-eqb _ _ c)
 
 -- ---- a line
--- a part of a slice from its front, and its length
-pub prefix : (k : ℕ) (l : List ℕ) → k ≤ length l → k ≡ length (take k l)
-prefix k l h = sym (length-take-le k l h)
-
 closed-none : (n : ℕ) (xs : List ℕ) → length xs ≡ 0 → [] ≡ closed n xs
 unfolding closed
 closed-none n [] h = refl
@@ -88,14 +82,6 @@ line-some n kind s f g e h l =
     let k : 0 < length (answerTo kind s) = omega arith in
     holds-as (closed-some n (answerTo kind s) k) (puts-holds (puts-then f (puts-then g e)) l)
 
--- ---- a header
-pub content-fits : {m : ℕ} (h : Header) (k l : ℕ) → h ≡ Record k l → contentLength h ≤ m → l ≤ m
-content-fits h k l e p = rw e at p
-
 -- a part of a slice is no longer
 pub front-small : (k m : ℕ) (l : List ℕ) → k ≤ m → length (take k l) ≤ m
 front-small k m l h = rw (length-take k l) (omega arith)
-
--- an array as it is made
-pub filled : (n : ℕ) → n ≡ length {A = ℕ} (replicate n 0)
-filled n = sym (length-replicate {A = ℕ} n 0)

@@ -3,8 +3,11 @@ use Prim.Native.Nat.{ℕ, _≤_}
 use mathlib.Core.Path.{_≡_, refl, sym, ap, _∙_}
 use mathlib.Core.List.{List, []}
 use native.Mathlib.Omega.{arith}
-use lib.ListN.{length}
+use lib.ListN.{length, take, replicate, length-replicate}
 use lib.Seq.{length-take-le}
+use Rattle.text.specs.declared.Header.{Header}
+use Rattle.text.specs.declared.Header.the-variants.{Record}
+use Rattle.text.specs.Record.{contentLength}
 use Rattle.text.specs.Line.{Puts}
 use Rattle.text.specs.Laws.{puts-length, puts-front}
 use Rattle.lines.specs.Lines.{Holds}
@@ -20,3 +23,16 @@ pub puts-holds : {p r : ℕ} {xs b a : List ℕ} → Puts p xs b 0 a r → r ≤
 puts-holds {r = r} {a = a} f h =
     let l = puts-length f in
     record { size = omega (arith, f .place); counts = (omega arith, sym (length-take-le r a (omega arith))); text = puts-front f h }
+
+-- ---- buffers, as programs lend them
+-- a part from the front has as many elements as it was asked for
+pub prefix : (k : ℕ) (l : List ℕ) → k ≤ length l → k ≡ length (take k l)
+prefix k l h = sym (length-take-le k l h)
+
+-- a record's content is within what a header allows
+pub content-fits : {m : ℕ} (h : Header) (k l : ℕ) → h ≡ Record k l → contentLength h ≤ m → l ≤ m
+content-fits h k l e p = rw e at p
+
+-- an array as it is made
+pub filled : (n : ℕ) → n ≡ length {A = ℕ} (replicate n 0)
+filled n = sym (length-replicate {A = ℕ} n 0)

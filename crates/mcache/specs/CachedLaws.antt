@@ -10,7 +10,7 @@ use lib.ListN.{length, drop, getD, set, length-append, drop-of-length-le}
 use lib.Seq.{sets, drop-append-le, getD-set-same, getD-set-other}
 use lib.Dec.{leb, ltb, eqb}
 use borrow.Author.Tests.{leb-true, ltb-true, lt-ltb, eqb-true, eqb-false, eq-eqb, ne-eqb}
-use Rattle.basis.specs.Cases.{either}
+use Rattle.basis.specs.Cases.{either, both}
 use Rattle.rows.specs.Rows.{tab, placeOf, ring, newest}
 use Rattle.rows.specs.RowsLaws.{length-tab, getD-tab, place-lt, place-le, place-place, place-differs, length-ring, ring-drop, ring-ext, map-ring}
 use Rattle.rows.specs.Store.{idAt, idsIn, lensIn}
@@ -22,7 +22,7 @@ use Rattle.mcache.specs.Calls.{entered, enteredStore, shifted}
 use Rattle.rows.specs.RowsLaws.{ring-more}
 use Rattle.rows.specs.StoreLaws.{id-kept, id-put}
 use Rattle.mcache.specs.WellFormed.{Sized}
-use Rattle.mcache.specs.StateLaws.{both, Tests, row-short, row-id-short}
+use Rattle.mcache.specs.StateLaws.{Tests, row-short, row-id-short}
 
 abbrev pub windowsOf : List Cached → List ℕ
 windowsOf ms = map (λ (m : Cached). m .window) ms

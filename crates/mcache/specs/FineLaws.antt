@@ -8,7 +8,7 @@ use lib.ListN.{length, drop, getD, set, replicate, length-append, length-set, le
 use lib.Seq.{sets, length-sets, getD-set-same, getD-set-other, set-out}
 use lib.Dec.{leb, ltb, eqb}
 use borrow.Author.Tests.{le-leb, leb-true, ltb-true, ltb-false, eqb-true, eqb-false, eq-eqb}
-use Rattle.basis.specs.Cases.{either, clash}
+use Rattle.basis.specs.Cases.{either, clash, both}
 use Rattle.rows.specs.Rows.{placeOf, ring, newest}
 use Rattle.rows.specs.RowsLaws.{place-le, ring-drop}
 use Rattle.rows.specs.Ids.{among, distinct}
@@ -34,7 +34,7 @@ use Rattle.mcache.specs.Messages.{Cached, shift}
 use Rattle.mcache.specs.State.{cachedIn, fallsFrom, runsTo, givesAt, allTrue, givesIn, legal, fresh, dropped, passed, older, aged, stale}
 use Rattle.mcache.specs.Calls.{lentOf, whenFine, indexIn, entered, enteredStore, shifted, Plan, no, keep, keptIn, storedIn, planFit, planAt, planBody, planned, shiftCache}
 use Rattle.mcache.specs.WellFormed.{Sized, Typed, freshAt, Reached, begun, given, opened}
-use Rattle.mcache.specs.StateLaws.{both, Tests, fine-tests, tests-fine}
+use Rattle.mcache.specs.StateLaws.{Tests, fine-tests, tests-fine}
 use Rattle.mcache.specs.CachedLaws.{windowsOf, windows-cached, cached-shifted, stale-in, leaving, spot, left-few, rest-starts, ring-entered, kept-id, kept-message, kept-number, new-id, new-message, new-number, grown, entered-some, entered-none, stored-some, stored-none}
 use Rattle.mcache.specs.Laws.{held-rows}
 

@@ -9,7 +9,7 @@ use lib.ListN.{length, take, drop, getD, replicate}
 use lib.Seq.{take-append-seam}
 use lib.Dec.{ltb}
 use borrow.Author.Tests.{ltb-true, lt-ltb, le-ltb}
-use Rattle.basis.specs.Cases.{either, clash}
+use Rattle.basis.specs.Cases.{either, clash, both}
 use Rattle.rows.specs.Rows.{ring}
 use Rattle.rows.specs.RowsLaws.{map-ring}
 use Rattle.rows.specs.Ids.{sameBytes, precedesBytes, among, distinct}
@@ -22,7 +22,7 @@ use Rattle.mcache.specs.declared.Gossip.the-variants as gossip
 use Rattle.mcache.specs.Messages.{Cached, topics, idsOf, carrying, enterId, inOrder, gossipIds}
 use Rattle.mcache.specs.State.{messageIn, cachedAt, cachedIn, told, insertRow, gatherInto, gathered}
 use Rattle.mcache.specs.Calls.{lentOf, gossipList, gossipArray, gossipAnswer, gossipCount, gossipRows}
-use Rattle.mcache.specs.StateLaws.{both, fine-tests}
+use Rattle.mcache.specs.StateLaws.{fine-tests}
 
 -- ---- an id among others, exactly
 pub among-in : (x : List ℕ) (l : List (List ℕ)) → among x l ≡ true → List·Memᴰ x l

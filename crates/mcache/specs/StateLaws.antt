@@ -7,7 +7,7 @@ use native.Mathlib.Omega.{arith}
 use lib.ListN.{length, getD}
 use lib.Dec.{leb, eqb}
 use borrow.Author.Tests.{le-leb, leb-true, eqb-true, eq-eqb}
-use Rattle.basis.specs.Cases.{either, clash}
+use Rattle.basis.specs.Cases.{either, clash, both}
 use Rattle.rows.specs.Rows.{tab, placeOf, ring}
 use Rattle.rows.specs.RowsLaws.{length-tab, getD-tab}
 use Rattle.rows.specs.Ids.{distinct}
@@ -19,11 +19,6 @@ use Rattle.mcache.specs.State.{messageIn, fallsFrom, runsTo, givesAt, al
 use Rattle.mcache.specs.Calls.{lentOf}
 use Rattle.mcache.specs.WellFormed.{Sized}
 use Rattle.rows.specs.StoreLaws.{short-in}
-
--- ---- tests one after the other
-pub both : (a b : Bool) → (a && b) ≡ true → (a ≡ true) × (b ≡ true)
-both true b h = (refl, h)
-both false b h = clash (cc)
 
 -- what is asked of a state
 pub record Tests (c : MessageCache) (st : List ℕ) : Type 0 where

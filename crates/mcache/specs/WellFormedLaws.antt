@@ -9,6 +9,7 @@ use native.Mathlib.Nat.{zero-lt-suc, sub-zero}
 use lib.ListN.{length, getD}
 use lib.Dec.{leb, eqb}
 use borrow.Author.Tests.{le-leb, eqb-true, eq-eqb}
+use Rattle.basis.specs.Cases.{both}
 use Rattle.rows.specs.Rows.{tab, placeOf, ring}
 use Rattle.rows.specs.RowsLaws.{length-tab, getD-tab}
 use Rattle.rows.specs.Store.{lensIn}
@@ -20,7 +21,7 @@ use Rattle.mcache.specs.State.{messageIn, fallsFrom, runsTo, givesAt, gi
 use Rattle.mcache.specs.Calls.{lentOf}
 use Rattle.rows.specs.StoreLaws.{short-all, once-in, all-once}
 use Rattle.mcache.specs.WellFormed.{Typed, rowOf, idOf, WellFormed}
-use Rattle.mcache.specs.StateLaws.{both, fine-tests, tests-fine, in-true, row-short, row-gives, row-id-short}
+use Rattle.mcache.specs.StateLaws.{fine-tests, tests-fine, in-true, row-short, row-gives, row-id-short}
 use Rattle.mcache.specs.CachedLaws.{falls-each, falls-in}
 
 -- ---- windows that never rise

@@ -7,7 +7,7 @@ use native.Mathlib.Omega.{arith}
 use lib.ListN.{length, getD, set, length-map}
 use lib.Dec.{leb, eqb}
 use borrow.Author.Tests.{leb-true, eqb-true, eqb-false, eq-eqb, ne-eqb}
-use Rattle.basis.specs.Cases.{either}
+use Rattle.basis.specs.Cases.{either, both}
 use Rattle.rows.specs.Rows.{placeOf}
 use Rattle.rows.specs.RowsLaws.{place-lt, ring-ext, map-ring}
 use Rattle.rows.specs.Store.{lensIn}
@@ -26,7 +26,6 @@ use Rattle.mcache.specs.declared.Lent.the-variants as lent
 use Rattle.mcache.specs.State.{cachedAt, cachedIn, runsTo, rowsFit, idsFit, legal, wellFormed, dropped, passed, aged}
 use Rattle.mcache.specs.Calls.{lentOf, whenFine, indexIn, entered, enteredStore, shifted, found, gossipList, gossipArray, Plan, no, keep, answered, keptIn, storedIn, planFit, planAt, planBody, planned, shiftCache, getPart, lookupAnswer, gossipAnswer, gossipCount, gossipRows}
 use Rattle.mcache.specs.WellFormed.{Typed}
-use Rattle.mcache.specs.StateLaws.{both}
 use Rattle.mcache.specs.CachedLaws.{spot, grown, entered-some, entered-none}
 
 -- every arrival number, and the next, k further

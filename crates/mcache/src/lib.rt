@@ -222,7 +222,7 @@ fn stale_rows(window: &[u8], cap: usize, start: usize, count: usize, history_len
 // ---- putting
 
 // Writes the id of a message, from and then seqno, at the front of out.
-pub fn form_id(part: &[u8], a: usize, e: usize, b: usize, f: usize, out: &mut [u8]) -> usize
+fn form_id(part: &[u8], a: usize, e: usize, b: usize, f: usize, out: &mut [u8]) -> usize
     requires { ⌜ (a ≤ e) × (e ≤ length (now part)) × (b ≤ f) × (f ≤ length (now part)) ⌝ }
     requires { ⌜ length (idBytes (now part) a e b f) ≤ length (now out) ⌝ }
     ensures { λ r. ⌜ r ≡ length (idBytes (now (part .entry)) a e b f) ⌝ }
@@ -516,7 +516,7 @@ impl MessageCache {
     }
 
     // With a message whose id is not held, where the state was tested: past max_messages the oldest goes.
-    pub fn enter(mut self, store: &mut [u8], part: &[u8], id: &[u8]) -> Self
+    fn enter(mut self, store: &mut [u8], part: &[u8], id: &[u8]) -> Self
         requires { ⌜ Kept self (now store) ⌝ }
         requires { ⌜ (length (now part) ≤ 4096) × (length (now id) ≤ 128) ⌝ }
         ensures { λ r. ⌜ r ≡ entered (length (now (part .entry))) (now (id .entry)) self ⌝ }
@@ -533,7 +533,7 @@ impl MessageCache {
     }
 
     // Which row holds an id, counted from the oldest, where the state was tested; the count of rows where none does.
-    pub fn find(self, id: &[u8]) -> usize
+    fn find(self, id: &[u8]) -> usize
         requires { ⌜ Sound 128 (self .«max_messages») (self .start) (self .count) (self .«id_len») (self .ids) ⌝ }
         ensures { λ r. ⌜ r ≡ indexIn self (now (id .entry)) ⌝ }
     {
@@ -626,7 +626,7 @@ impl MessageCache {
     }
 
     // A window later, where the state was tested.
-    pub fn later(mut self) -> Self
+    fn later(mut self) -> Self
         requires { ⌜ Ring (self .«max_messages») (self .start) (self .count) (self .window) ⌝ }
         ensures { λ r. ⌜ r ≡ shifted self ⌝ }
     {
@@ -669,7 +669,7 @@ impl MessageCache {
     }
 
     // The part of the store that holds the message with an id, where the state was tested; empty for none.
-    pub fn message_of<'s, 'i>(self, store: &'s [u8], id: &'i [u8]) -> &'s [u8]
+    fn message_of<'s, 'i>(self, store: &'s [u8], id: &'i [u8]) -> &'s [u8]
         requires { ⌜ Kept self (now store) ⌝ }
         ensures { λ r. ⌜ now r ≡ found self (now (store .entry)) (now (id .entry)) ⌝ }
     {
@@ -713,7 +713,7 @@ impl MessageCache {
     }
 
     // The messages of the newest windows asked for that carry the topic, where the state was tested.
-    pub fn tell(self, store: &[u8], topic: &[u8], windows: usize) -> GossipIds
+    fn tell(self, store: &[u8], topic: &[u8], windows: usize) -> GossipIds
         requires { ⌜ Kept self (now store) ⌝ }
         ensures { λ r. ⌜ r .answer ≡ Gossip.Ids ⌝ }
         ensures { λ r. ⌜ r .count ≡ length (gossipList self (now (store .entry)) (now (topic .entry)) windows) ⌝ }

@@ -7,7 +7,7 @@ use mathlib.Core.List.{List, [], _∷_}
 use lib.Dec.{eqb}
 use borrow.Author.Tests.{eqb-true, eq-eqb}
 use native.Mathlib.Omega.{arith}
-use Rattle.basis.specs.Cases.{either, clash}
+use Rattle.basis.specs.Cases.{either, clash, both}
 use Rattle.utf8.specs.Grammar.{Utf8}
 use Rattle.utf8.specs.Utf8.{isUtf8}
 use Rattle.utf8.specs.Laws.{exactly}
@@ -89,12 +89,6 @@ other-counts k s f t2 =
 pub each-put : (P : List ℕ → Type 0) (t : Bool) (d : List ℕ) (ds : List (List ℕ)) → (t ≡ true → P d) → Each P ds → Each P (cond t (d ∷ ds) ds)
 each-put P true d ds p ps = p refl and ps
 each-put P false d ds p ps = ps
-
-both : (a b : Bool) → a && b ≡ true → (a ≡ true) × (b ≡ true)
-both true true h = (refl, refl)
-both true false h = clash (cc)
-both false true h = clash (cc)
-both false false h = clash (cc)
 
 pub is-bytes : (m : ℕ) (f : Field) → isBytes m f ≡ true → (f .«wire_type» ≡ 2) × (f .field ≡ m)
 is-bytes m f h = let t = both (eqb (f .«wire_type») 2) (eqb (f .field) m) h in (eqb-true _ _ (t .0), eqb-true _ _ (t .1))

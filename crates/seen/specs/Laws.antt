@@ -11,7 +11,7 @@ use lib.ListN.{length, drop, length-replicate}
 use lib.Seq.{length-sets}
 use lib.Dec.{leb, ltb, eqb}
 use borrow.Author.Tests.{leb-true, eqb-true, le-leb, eq-eqb, ne-eqb, le-ltb, ltb-false}
-use Rattle.basis.specs.Cases.{either, clash}
+use Rattle.basis.specs.Cases.{either, clash, both}
 use Rattle.rows.specs.Rows.{placeOf, ring, newest}
 use Rattle.rows.specs.ListLaws.{map-drop}
 use Rattle.rows.specs.Ids.{among, distinct}
@@ -35,10 +35,6 @@ use Rattle.seen.specs.Calls.{capOf, wholeRows, lentOf, heldIn, cleaned, 
 use Rattle.seen.specs.WellFormed.{Sized, WellFormed, Reached, begun, recorded, swept}
 
 -- ---- the tests
-both : (a b : Bool) → (a && b) ≡ true → (a ≡ true) × (b ≡ true)
-both true b h = (refl, h)
-both false b h = clash (cc)
-
 fine-tests : (c : SeenCache) (st : List ℕ) → lentOf c st ≡ lent.Fine → (wholeRows st ≡ true) × (wellFormed (capOf st) c st ≡ true)
 unfolding lentOf
 fine-tests c st h =

@@ -178,7 +178,7 @@ impl SeenCache {
     }
 
     // Whether an id is held, where the state was tested.
-    pub fn holds(self, store: &[u8], cap: usize, id: &[u8]) -> bool
+    fn holds(self, store: &[u8], cap: usize, id: &[u8]) -> bool
         requires { ⌜ Sound 129 cap (self .start) (self .count) (self .len) (now store) ⌝ }
         ensures { λ r. ⌜ r ≡ heldIn cap self (now (store .entry)) (now (id .entry)) ⌝ }
     {
@@ -188,7 +188,7 @@ impl SeenCache {
     }
 
     // Without what has expired, where the state was tested.
-    pub fn clean(self, cap: usize, at: u64) -> Self
+    fn clean(self, cap: usize, at: u64) -> Self
         requires { ⌜ Ring cap (self .start) (self .count) (self .expiry) ⌝ }
         ensures { λ r. ⌜ r ≡ cleaned cap at self ⌝ }
     {
@@ -198,7 +198,7 @@ impl SeenCache {
     }
 
     // With an id that is not held, where the state was tested: the oldest leave until at most `max` remain.
-    pub fn enter(self, store: &mut [u8], cap: usize, id: &[u8], expires: u64, max: usize) -> Self
+    fn enter(self, store: &mut [u8], cap: usize, id: &[u8], expires: u64, max: usize) -> Self
         requires { ⌜ Sound 129 cap (self .start) (self .count) (self .len) (now store) ⌝ }
         requires { ⌜ max ≤ cap ⌝ }
         requires { ⌜ length (now id) ≤ 129 ⌝ }

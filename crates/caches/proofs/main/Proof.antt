@@ -1,7 +1,7 @@
 use Prim.Native.Nat.{_-_, _^_}
 use mathlib.Core.Path.{_≡_}
 use lib.ListN.{length}
-use Rattle.caches.proofs.Buffers.{filled}
+use Rattle.lines.specs.Laws.{filled}
 use borrow.Author.Needs.{needs}
 use Rattle.caches.proofs.main.Statement.{statement}
 use Rattle.caches.proofs.main.Tie as tie

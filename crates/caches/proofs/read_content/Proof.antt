@@ -1,4 +1,4 @@
-use Rattle.caches.proofs.Buffers.{prefix}
+use Rattle.lines.specs.Laws.{prefix}
 use borrow.Author.Needs.{needs}
 use Rattle.caches.proofs.read_content.Statement.{statement}
 use Rattle.caches.proofs.read_content.Tie as tie

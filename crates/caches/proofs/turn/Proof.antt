@@ -1,5 +1,5 @@
 use native.Mathlib.Omega.{arith}
-use Rattle.caches.proofs.Buffers.{prefix, content-fits}
+use Rattle.lines.specs.Laws.{prefix, content-fits}
 use borrow.Author.Needs.{needs}
 use Rattle.caches.proofs.turn.Statement.{statement}
 use Rattle.caches.proofs.turn.Tie as tie

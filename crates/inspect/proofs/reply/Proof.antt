@@ -1,6 +1,7 @@
 -- `inspect::reply` is safe: what is read and printed lies within what is lent.
 use native.Mathlib.Omega.{arith}
-use Rattle.inspect.proofs.Answering.{prefix, front-small}
+use Rattle.lines.specs.Laws.{prefix}
+use Rattle.inspect.proofs.Answering.{front-small}
 use borrow.Author.Needs.{needs}
 use Rattle.inspect.proofs.reply.Statement.{statement}
 use Rattle.inspect.proofs.reply.Tie as tie

@@ -1,6 +1,7 @@
 -- `inspect::reply_line` is safe: each buffer is a part of what is lent.
 use native.Mathlib.Omega.{arith}
-use Rattle.inspect.proofs.Answering.{prefix, front-small}
+use Rattle.lines.specs.Laws.{prefix}
+use Rattle.inspect.proofs.Answering.{front-small}
 use borrow.Author.Needs.{needs}
 use Rattle.inspect.proofs.reply_line.Statement.{statement}
 use Rattle.inspect.proofs.reply_line.Tie as tie

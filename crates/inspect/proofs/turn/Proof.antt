@@ -1,6 +1,6 @@
 -- `inspect::turn` is safe: a record's content fits.
 use native.Mathlib.Omega.{arith}
-use Rattle.inspect.proofs.Answering.{content-fits}
+use Rattle.lines.specs.Laws.{content-fits}
 use borrow.Author.Needs.{needs}
 use Rattle.inspect.proofs.turn.Statement.{statement}
 use Rattle.inspect.proofs.turn.Tie as tie

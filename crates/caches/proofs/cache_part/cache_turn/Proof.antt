@@ -1,4 +1,4 @@
-use Rattle.caches.proofs.Buffers.{prefix}
+use Rattle.lines.specs.Laws.{prefix}
 use borrow.Author.Needs.{needs}
 use Rattle.caches.proofs.cache_part.cache_turn.Statement.{statement}
 use Rattle.caches.proofs.cache_part.cache_turn.Tie as tie

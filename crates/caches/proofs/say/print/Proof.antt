@@ -1,5 +1,6 @@
 use denote.Ref.{now}
-use Rattle.caches.proofs.Buffers.{prefix, after-set}
+use Rattle.lines.specs.Laws.{prefix}
+use Rattle.caches.proofs.Buffers.{after-set}
 use borrow.Author.Needs.{needs}
 use Rattle.caches.proofs.say.print.Statement.{statement}
 use Rattle.caches.proofs.say.print.Tie as tie

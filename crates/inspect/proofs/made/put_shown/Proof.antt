@@ -2,7 +2,7 @@
 use native.Mathlib.Omega.{arith}
 use lib.Seq.{length-take-le}
 use Rattle.text.specs.Laws.{puts-none, puts-then, puts-as, hex-puts}
-use Rattle.inspect.proofs.Answering.{prefix}
+use Rattle.lines.specs.Laws.{prefix}
 use Rattle.inspect.proofs.Making.{shown-none, shown-past, shown-there}
 use borrow.Author.Needs.{needs}
 use Rattle.inspect.proofs.made.put_shown.Statement.{statement}
