@@ -106,7 +106,7 @@ fn emit_varint(value: u64, out: &mut [u8], at: usize) -> usize
 }
 
 // Bytes as they stand.
-fn emit_bytes(part: &[u8], out: &mut [u8], at: usize) -> usize
+pub fn emit_bytes(part: &[u8], out: &mut [u8], at: usize) -> usize
     requires { ⌜ Fits at (now part) ⌝ }
     ensures { λ r. ⌜ Puts (now (out .entry)) at (now (part .entry)) (now (out .exit)) r ⌝ }
 {
@@ -115,7 +115,7 @@ fn emit_bytes(part: &[u8], out: &mut [u8], at: usize) -> usize
 }
 
 // The tag of a length-delimited field n, and its length.
-fn emit_head(n: u64, len: usize, out: &mut [u8], at: usize) -> usize
+pub fn emit_head(n: u64, len: usize, out: &mut [u8], at: usize) -> usize
     requires { ⌜ (n ≤ 6) × Fits at (tag n 2 ++ uvarint len) ⌝ }
     ensures { λ r. ⌜ Puts (now (out .entry)) at (tag n 2 ++ uvarint len) (now (out .exit)) r ⌝ }
 {

@@ -1,3 +1,2 @@
 pub mod Answering
 pub mod Lines
-pub mod Making

@@ -1,10 +1,8 @@
 -- The lines that answer a call which writes bytes, in ASCII.
 use Prim.Native.Nat.{ℕ}
 use mathlib.Core.List.{List, [], _∷_, _++_}
-use mathlib.Core.Bool.{cond}
-use lib.ListN.{length, take}
-use lib.Dec.{ltb, eqb}
-use Rattle.text.specs.Line.{decimal, number, refused, hex}
+use Rattle.text.specs.Line.{decimal, number, refused}
+use Rattle.lines.specs.Lines.{shownText}
 use Rattle.protobuf.specs.declared.Encoded.{Encoded}
 use Rattle.protobuf.specs.declared.Encoded.the-variants as body
 use Rattle.ids.specs.declared.MessageBytes.{MessageBytes}
@@ -15,10 +13,6 @@ unfoldable pub bytesOf : Encoded → MessageBytes
 bytesOf (body.Bytes n) = Bytes n
 bytesOf (body.Room n) = Room n
 bytesOf (body.Refused why) = Refused why
-
--- above 0, a blank and the hex of the first n bytes
-unfoldable pub shownText : List ℕ → ℕ → List ℕ
-shownText s n = cond (eqb n 0) [] (cond (ltb (length s) n) [] (32 ∷ hex (take n s)))
 
 -- ` refused`, the number in 01's table, the values beside it
 abbrev pub noBytes : MessageBytes → List ℕ

@@ -5,12 +5,12 @@ ghost use mathlib.Core.Path.{_≡_};
 ghost use lib.ListN.{length};
 ghost use Rattle.text.specs.Line.{Puts};
 ghost use Rattle.lines.specs.Lines.{Holds};
-ghost use Rattle.inspect.specs.Made.{bytesOf, shownText, madeText, madeLine};
+ghost use Rattle.inspect.specs.Made.{bytesOf, madeText, madeLine};
 use ids::MessageBytes;
 use lines::end_line;
 use lines::put_alone;
 use lines::put_refusal;
-use lines::put_value;
+use lines::put_shown;
 use lines::put_with;
 use lines::put_word;
 use lines::start_line;
@@ -27,32 +27,13 @@ pub(crate) fn bytes_of(e: Encoded) -> MessageBytes
     }
 }
 
-// The hex of the first bytes. A writer never counts more than it was lent.
-fn put_shown(out: &mut [u8], at: usize, made: &[u8], count: usize) -> usize
-    requires { ⌜ length (now made) ≤ 65600 ⌝ }
-    requires { ⌜ at + 131201 ≤ length (now out) ⌝ }
-    ensures { λ r. ⌜ Puts 131201 (shownText (now (made .entry)) count) (now (out .entry)) at (now (out .exit)) r ⌝ }
-{
-    if count == 0 {
-        return at;
-    }
-    if made.len() < count {
-        return at;
-    }
-    let i = put_word(out, at, b" ");
-    text::put_hex(out, i, &made[..count])
-}
-
 fn put_made(out: &mut [u8], at: usize, made: &[u8], r: MessageBytes) -> usize
     requires { ⌜ length (now made) ≤ 65600 ⌝ }
     requires { ⌜ at + 131222 ≤ length (now out) ⌝ }
     ensures { λ k. ⌜ Puts 131222 (madeText (now (made .entry)) r) (now (out .entry)) at (now (out .exit)) k ⌝ }
 {
     match r {
-        MessageBytes::Bytes(count) => {
-            let i = put_value(out, at, count as u64);
-            put_shown(out, i, made, count)
-        }
+        MessageBytes::Bytes(count) => put_shown(out, at, made, count),
         MessageBytes::Room(needed) => put_with(out, at, 12, needed as u64),
         MessageBytes::Refused(why) => put_refusal(out, at, why),
         MessageBytes::NoMessage(count) => put_with(out, at, 20, count as u64),

@@ -2,9 +2,11 @@
 use Prim.Native.Nat.{ℕ}
 use mathlib.Core.Path.{_≡_}
 use mathlib.Core.List.{List, [], _∷_, _++_}
+use mathlib.Core.Bool.{cond}
 use lib.ListN.{length, take}
+use lib.Dec.{ltb, eqb}
 use Rattle.io.specs.Counts.{Counts}
-use Rattle.text.specs.Line.{decimal, number, refused}
+use Rattle.text.specs.Line.{decimal, number, refused, hex}
 use Rattle.protobuf.specs.declared.WireError.{WireError}
 use Rattle.protobuf.specs.Refusal.{refusalNumber, refusalValues}
 
@@ -17,6 +19,10 @@ pub record Holds (xs out : List ℕ) (r : ℕ) : Type 0 where
 -- ` refused`, the number in 01's table, the values beside it
 unfoldable pub refusal : WireError → List ℕ
 refusal why = refused (refusalNumber why) (refusalValues why)
+
+-- above 0, a blank and the hex of the first n bytes
+unfoldable pub shownText : List ℕ → ℕ → List ℕ
+shownText s n = cond (eqb n 0) [] (cond (ltb (length s) n) [] (32 ∷ hex (take n s)))
 
 -- ---- the line of the input's record n, with its newline
 unfoldable pub wordsLine : ℕ → List ℕ → List ℕ

@@ -1,9 +1,9 @@
 // Lines and their pieces, for the programs that answer records: callers see to the room.
 ghost use Prim.Native.Nat.{_+_, _≤_, _<_};
-ghost use mathlib.Core.List.{[], _∷_};
+ghost use mathlib.Core.List.{[], _∷_, _++_};
 ghost use lib.ListN.{length, take};
 ghost use Rattle.text.specs.Line.{Puts, decimal, number, refused};
-ghost use Rattle.lines.specs.Lines.{Holds, refusal as refusalText, wordsLine, numberLine, refusedLine};
+ghost use Rattle.lines.specs.Lines.{Holds, refusal as refusalText, wordsLine, numberLine, refusedLine, shownText};
 use protobuf::WireError;
 
 pub fn put_word(out: &mut [u8], at: usize, word: &[u8]) -> usize
@@ -76,6 +76,32 @@ pub fn put_with(out: &mut [u8], at: usize, number: u64, value: u64) -> usize
     ensures { λ r. ⌜ Puts 92 (refused number (value ∷ [])) (now (out .entry)) at (now (out .exit)) r ⌝ }
 {
     put_refused(out, at, number, 1, value, 0, 0)
+}
+
+// The hex of the first bytes. A writer never counts more than it was lent.
+fn put_hex_of(out: &mut [u8], at: usize, made: &[u8], count: usize) -> usize
+    requires { ⌜ length (now made) ≤ 65600 ⌝ }
+    requires { ⌜ at + 131201 ≤ length (now out) ⌝ }
+    ensures { λ r. ⌜ Puts 131201 (shownText (now (made .entry)) count) (now (out .entry)) at (now (out .exit)) r ⌝ }
+{
+    if count == 0 {
+        return at;
+    }
+    if made.len() < count {
+        return at;
+    }
+    let i = put_word(out, at, b" ");
+    text::put_hex(out, i, &made[..count])
+}
+
+// How many bytes were made and, above 0, their hex.
+pub fn put_shown(out: &mut [u8], at: usize, made: &[u8], count: usize) -> usize
+    requires { ⌜ length (now made) ≤ 65600 ⌝ }
+    requires { ⌜ at + 131222 ≤ length (now out) ⌝ }
+    ensures { λ r. ⌜ Puts 131222 (number count ++ shownText (now (made .entry)) count) (now (out .entry)) at (now (out .exit)) r ⌝ }
+{
+    let i = put_value(out, at, count as u64);
+    put_hex_of(out, i, made, count)
 }
 
 // A newline.

@@ -34,7 +34,7 @@ use Rattle.mcache.specs.declared.Lookup.the-variants as lookup
 use Rattle.mcache.specs.declared.Gossip.{Gossip}
 use Rattle.mcache.specs.declared.Gossip.the-variants as gossip
 use Rattle.mcache.specs.State.{messageIn, fallsFrom, runsTo, givesIn, idsFit, rowsFit, legal, wellFormed, Rows, Kept}
-use Rattle.mcache.specs.Calls.{lentOf, indexIn, entered, enteredStore, shifted, found, gossipList, gossipArray, Plan, no, keep, answered, keptIn, storedIn, planFit, planned, shiftCache, getPart, lookupAnswer, gossipAnswer, gossipCount, gossipRows}
+use Rattle.mcache.specs.Calls.{lentOf, indexIn, entered, enteredStore, keptUnder, storedUnder, shifted, found, gossipList, gossipArray, Plan, no, keep, answered, keptIn, storedIn, planFit, planned, shiftCache, getPart, lookupAnswer, gossipAnswer, gossipCount, gossipRows}
 use Rattle.mcache.specs.StateLaws.{lent-kept}
 use Rattle.mcache.proofs.Walks.{part-from}
 
@@ -349,3 +349,13 @@ module _ (p : List ℕ) (a e b f : ℕ) (h : admissionOf p true ≡ admission.Fi
 
 pub nested : {A B C : Type 0} → A × B × C → A × (B × C)
 nested t = (t .0, (t .1, t .2))
+
+-- ---- a message under its id
+module _ (c : MessageCache) (st m id : List ℕ) (r : ℕ) (e : r ≡ indexIn c id) where
+  pub under-held : r < c .count → (c ≡ keptUnder m id c) × (st ≡ storedUnder c st m id)
+  unfolding keptUnder storedUnder
+  under-held h = let t : ltb (indexIn c id) (c .count) ≡ true = lt-ltb (indexIn c id) (c .count) (omega (arith, e)) in (simp t, simp t)
+
+  pub under-new : c .count ≤ r → (d : MessageCache) (st2 : List ℕ) → (d ≡ entered (length m) id c) × (st2 ≡ enteredStore c st m) → (d ≡ keptUnder m id c) × (st2 ≡ storedUnder c st m id)
+  unfolding keptUnder storedUnder
+  under-new h d st2 w = let t : ltb (indexIn c id) (c .count) ≡ false = le-ltb (indexIn c id) (c .count) (omega (arith, e)) in (simp t (w .0), simp t (w .1))

@@ -110,6 +110,13 @@ enteredStore c st m =
     cond (eqb (c .«max_messages») 0) st
     (let d = dropped ((c .count + 1) - c .«max_messages») c in sets st (placeOf (c .«max_messages») (d .start) (d .count) * 4096) m)
 
+-- a message under its id; a held id changes nothing
+unfoldable pub keptUnder : List ℕ → List ℕ → MessageCache → MessageCache
+keptUnder m id c = cond (ltb (indexIn c id) (c .count)) c (entered (length m) id c)
+
+unfoldable pub storedUnder : MessageCache → List ℕ → List ℕ → List ℕ → List ℕ
+storedUnder c st m id = cond (ltb (indexIn c id) (c .count)) st (enteredStore c st m)
+
 unfoldable pub shifted : MessageCache → MessageCache
 shifted c = dropped (stale (c .«history_len») (lensIn (c .«max_messages») (c .start) (c .count) (c .window))) (aged c)
 

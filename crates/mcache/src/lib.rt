@@ -11,7 +11,7 @@ ghost use Rattle.rows.specs.Store.{Ring, Sound, lensIn, idAt};
 ghost use Rattle.ids.specs.Ids.{idBytes};
 ghost use Rattle.admission.specs.Admission.{admissionOf};
 ghost use Rattle.mcache.specs.State.{messageIn, fallsFrom, runsTo, givesIn, idsFit, rowsFit, stale, older, Rows, Kept, fresh, dropped, appended, Listed, told, spotOf, putAt, insertRow, gathered};
-ghost use Rattle.mcache.specs.Calls.{startAnswer, startCache, lentOf, indexIn, entered, enteredStore, shifted, found, gossipList, gossipArray, planFit, planned, answered, keptIn, storedIn, shiftCache, getPart, lookupAnswer, gossipAnswer, gossipCount, gossipRows};
+ghost use Rattle.mcache.specs.Calls.{startAnswer, startCache, lentOf, indexIn, entered, enteredStore, keptUnder, storedUnder, shifted, found, gossipList, gossipArray, planFit, planned, answered, keptIn, storedIn, shiftCache, getPart, lookupAnswer, gossipAnswer, gossipCount, gossipRows};
 use admission::Admission;
 use admission::MAX_TOPIC_SIZE;
 use admission::Unfit;
@@ -222,7 +222,7 @@ fn stale_rows(window: &[u8], cap: usize, start: usize, count: usize, history_len
 // ---- putting
 
 // Writes the id of a message, from and then seqno, at the front of out.
-fn form_id(part: &[u8], a: usize, e: usize, b: usize, f: usize, out: &mut [u8]) -> usize
+pub fn form_id(part: &[u8], a: usize, e: usize, b: usize, f: usize, out: &mut [u8]) -> usize
     requires { ⌜ (a ≤ e) × (e ≤ length (now part)) × (b ≤ f) × (f ≤ length (now part)) ⌝ }
     requires { ⌜ length (idBytes (now part) a e b f) ≤ length (now out) ⌝ }
     ensures { λ r. ⌜ r ≡ length (idBytes (now (part .entry)) a e b f) ⌝ }
@@ -551,6 +551,19 @@ impl MessageCache {
         )
     }
 
+    // With a message under its id, where the state was tested. A held id changes nothing.
+    pub fn keep(self, store: &mut [u8], part: &[u8], id: &[u8]) -> Self
+        requires { ⌜ Kept self (now store) ⌝ }
+        requires { ⌜ (length (now part) ≤ 4096) × (length (now id) ≤ 128) ⌝ }
+        ensures { λ r. ⌜ r ≡ keptUnder (now (part .entry)) (now (id .entry)) self ⌝ }
+        ensures { λ _. ⌜ now (store .exit) ≡ storedUnder self (now (store .entry)) (now (part .entry)) (now (id .entry)) ⌝ }
+    {
+        if self.find(id) < self.count {
+            return self;
+        }
+        self.enter(store, part, id)
+    }
+
     // Puts the message in a part, where the state was tested.
     fn put_part(self, store: &mut [u8], part: &[u8]) -> PutDone
         requires { ⌜ Kept self (now store) ⌝ }
@@ -626,7 +639,7 @@ impl MessageCache {
     }
 
     // A window later, where the state was tested.
-    fn later(mut self) -> Self
+    pub fn later(mut self) -> Self
         requires { ⌜ Ring (self .«max_messages») (self .start) (self .count) (self .window) ⌝ }
         ensures { λ r. ⌜ r ≡ shifted self ⌝ }
     {
@@ -713,7 +726,7 @@ impl MessageCache {
     }
 
     // The messages of the newest windows asked for that carry the topic, where the state was tested.
-    fn tell(self, store: &[u8], topic: &[u8], windows: usize) -> GossipIds
+    pub fn tell(self, store: &[u8], topic: &[u8], windows: usize) -> GossipIds
         requires { ⌜ Kept self (now store) ⌝ }
         ensures { λ r. ⌜ r .answer ≡ Gossip.Ids ⌝ }
         ensures { λ r. ⌜ r .count ≡ length (gossipList self (now (store .entry)) (now (topic .entry)) windows) ⌝ }

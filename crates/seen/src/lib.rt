@@ -75,7 +75,7 @@ pub enum NextExpiry {
 }
 
 // now + ttl, stopping at the largest.
-fn expiry_of(at: u64, ttl: u64) -> u64
+pub fn expiry_of(at: u64, ttl: u64) -> u64
     ensures { λ r. ⌜ r ≡ until at ttl ⌝ }
 {
     if ttl <= u64::MAX - at {
@@ -178,7 +178,7 @@ impl SeenCache {
     }
 
     // Whether an id is held, where the state was tested.
-    fn holds(self, store: &[u8], cap: usize, id: &[u8]) -> bool
+    pub fn holds(self, store: &[u8], cap: usize, id: &[u8]) -> bool
         requires { ⌜ Sound 129 cap (self .start) (self .count) (self .len) (now store) ⌝ }
         ensures { λ r. ⌜ r ≡ heldIn cap self (now (store .entry)) (now (id .entry)) ⌝ }
     {
@@ -188,7 +188,7 @@ impl SeenCache {
     }
 
     // Without what has expired, where the state was tested.
-    fn clean(self, cap: usize, at: u64) -> Self
+    pub fn clean(self, cap: usize, at: u64) -> Self
         requires { ⌜ Ring cap (self .start) (self .count) (self .expiry) ⌝ }
         ensures { λ r. ⌜ r ≡ cleaned cap at self ⌝ }
     {
@@ -198,7 +198,7 @@ impl SeenCache {
     }
 
     // With an id that is not held, where the state was tested: the oldest leave until at most `max` remain.
-    fn enter(self, store: &mut [u8], cap: usize, id: &[u8], expires: u64, max: usize) -> Self
+    pub fn enter(self, store: &mut [u8], cap: usize, id: &[u8], expires: u64, max: usize) -> Self
         requires { ⌜ Sound 129 cap (self .start) (self .count) (self .len) (now store) ⌝ }
         requires { ⌜ max ≤ cap ⌝ }
         requires { ⌜ length (now id) ≤ 129 ⌝ }

@@ -1,7 +1,7 @@
 -- `inspect::made::put_made` meets its contract: the case says what is put.
 use mathlib.Core.Path.{sym, ap}
 use native.Mathlib.Omega.{arith}
-use Rattle.text.specs.Laws.{puts-then, puts-as}
+use Rattle.text.specs.Laws.{puts-as}
 use Rattle.lines.specs.Lines.{refusal}
 use Rattle.inspect.specs.Made.{madeText}
 use borrow.Author.Needs.{needs}
@@ -9,17 +9,13 @@ use Rattle.inspect.proofs.made.put_made.Statement.{statement}
 use Rattle.inspect.proofs.made.put_made.Tie as tie
 use Rattle.inspect.proofs.made.put_made.Reads as reads
 use Rattle.inspect.proofs.made.put_made.Lts as lts
-use Rattle.inspect.proofs.made.put_shown.Reads as put-shown-reads
 use Rattle.lines.proofs.put_alone.Reads as put-alone-reads
 use Rattle.lines.proofs.put_refusal.Reads as put-refusal-reads
-use Rattle.lines.proofs.put_value.Reads as put-value-reads
+use Rattle.lines.proofs.put_shown.Reads as put-shown-reads
 use Rattle.lines.proofs.put_with.Reads as put-with-reads
 
 enum-known-r : tie.Need-enum-known-r
 enum-known-r c = search needs
-
-put-value-requires : tie.Need-put-value-requires
-put-value-requires c κs = search needs
 
 put-shown-requires : tie.Need-put-shown-requires
 put-shown-requires c κs = search needs
@@ -65,7 +61,7 @@ same-length c = search needs
 
 returns : tie.Need-returns
 unfolding madeText
-returns c = puts-as (ap (madeText (c .before .before .before .before .before .before .before .before .before .before .before .before .before .args .made .now)) (sym (c .before .before .before .before .before .before .before .before .before .r .given .1))) (omega arith) (puts-then (c .before .before .before .before .before .before .put-value .ensures) (c .before .before .put-shown .ensures))
+returns c = puts-as (ap (madeText (c .before .before .before .before .before .before .before .before .before .args .made .now)) (sym (c .before .before .before .before .before .r .given .1))) (omega arith) (c .before .before .put-shown .ensures)
 
 same-length-2 : tie.Need-same-length-2
 same-length-2 c = search needs
@@ -114,7 +110,6 @@ put-made-spec =
     tie.close
     (tie.spec
     enum-known-r
-    put-value-requires
     put-shown-requires
     enum-known-r-2
     put-with-requires

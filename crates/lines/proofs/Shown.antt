@@ -1,4 +1,4 @@
--- What the pieces of the lines of the writing calls make together.
+-- What the pieces of a line that shows bytes make together.
 use Prim.Native.Nat.{ℕ, _≤_, _<_}
 use mathlib.Core.Path.{_≡_}
 use mathlib.Core.List.{List, [], _∷_, _++_}
@@ -6,7 +6,7 @@ use mathlib.Core.Logic.{_≢_}
 use lib.ListN.{length, take}
 use borrow.Author.Tests.{lt-ltb, le-ltb, eq-eqb, ne-eqb}
 use Rattle.text.specs.Line.{hex}
-use Rattle.inspect.specs.Made.{shownText}
+use Rattle.lines.specs.Lines.{shownText}
 
 pub shown-none : (s : List ℕ) (n : ℕ) → n ≡ 0 → [] ≡ shownText s n
 unfolding shownText

@@ -1,15 +1,15 @@
--- `inspect::made::put_shown` meets its contract: the tests say what is put.
+-- `lines::put_hex_of` meets its contract: the tests say what is put.
 use native.Mathlib.Omega.{arith}
 use lib.Seq.{length-take-le}
 use Rattle.text.specs.Laws.{puts-none, puts-then, puts-as, hex-puts}
 use Rattle.lines.specs.Laws.{prefix}
-use Rattle.inspect.proofs.Making.{shown-none, shown-past, shown-there}
+use Rattle.lines.proofs.Shown.{shown-none, shown-past, shown-there}
 use borrow.Author.Needs.{needs}
-use Rattle.inspect.proofs.made.put_shown.Statement.{statement}
-use Rattle.inspect.proofs.made.put_shown.Tie as tie
-use Rattle.inspect.proofs.made.put_shown.Reads as reads
-use Rattle.inspect.proofs.made.put_shown.Lts as lts
+use Rattle.lines.proofs.put_hex_of.Statement.{statement}
+use Rattle.lines.proofs.put_hex_of.Tie as tie
+use Rattle.lines.proofs.put_hex_of.Reads as reads
+use Rattle.lines.proofs.put_hex_of.Lts as lts
 use Rattle.lines.proofs.put_word.Reads as put-word-reads
 use Rattle.text.proofs.put_hex.Reads as put-hex-reads
 
 returns : tie.Need-returns
@@ -36,8 +36,8 @@ same-length c = search needs
 returns-3 : tie.Need-returns-3
 returns-3 c = let l = length-take-le (c .before .before .before .before .before .before .before .before .before .before .before .before .before .before .args .count) (c .before .before .before .before .before .before .before .before .before .before .before .before .before .before .args .made .now) (c .before .before .before .before .before .before .before .before .before .before .if2 .left) in puts-as (shown-there _ _ (c .before .before .before .before .before .before .before .before .before .before .before .if1 .left) (c .before .before .before .before .before .before .before .before .before .before .if2 .left)) (omega arith) (puts-then (c .before .before .before .before .before .before .before .put-word .ensures) (hex-puts _ (omega arith) (c .before .before .put-hex .ensures)))
 
-pub put-shown-spec : {M : Type 1} → statement M
-put-shown-spec =
+pub put-hex-of-spec : {M : Type 1} → statement M
+put-hex-of-spec =
     tie.close
     (tie.spec
     returns
