@@ -30,14 +30,15 @@ def build():
         subprocess.run([os.path.join(HERE, "build.sh")], check=True, stdout=subprocess.DEVNULL)
 
 
-def arguments(about, count):
-    """What the command line gives; the oracle is built if it is not there."""
+def arguments(about, count, rust=True):
+    """What the command line gives; where the Rust is asked, the oracle is built if it is not there."""
     parser = argparse.ArgumentParser(description=about.split("\n")[0])
     parser.add_argument("binary")
     parser.add_argument("--seed", type=int, default=1)
     parser.add_argument("--count", type=int, default=count)
     given = parser.parse_args()
-    build()
+    if rust:
+        build()
     return given
 
 

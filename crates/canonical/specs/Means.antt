@@ -19,7 +19,7 @@ use Rattle.rpc.specs.Encode.{optional, repeated, flag, encodeSubOpts, encodeIHa
 use Rattle.canonical.specs.Shorter.{repeated-append, sub-opts-shorter, ihave-shorter, iwant-shorter, graft-shorter, peer-info-shorter, prune-shorter, control-shorter, never-longer}
 
 -- ---- writing fields gives a body of them
-body-append : {a b : List ℕ} {es fs : List Entry} → Body a es → Body b fs → Body (a ++ b) (es ++ fs)
+pub body-append : {a b : List ℕ} {es fs : List Entry} → Body a es → Body b fs → Body (a ++ b) (es ++ fs)
 body-append no-fields h = h
 body-append {b = b} {fs = fs} (field {n = n} {type = type} {v = v} {rest = rest} {p = p} {es = es} l m w r) h =
     let e : (uvarint (n * 8 + type) ++ (v ++ rest)) ++ b ≡ uvarint (n * 8 + type) ++ (v ++ (rest ++ b)) =
@@ -30,13 +30,13 @@ one-body : {type : ℕ} {v : List ℕ} {p : Payload} (n : ℕ) → 1 ≤ n → n
 one-body {type} {v} {p} n l m w = subst (λ (x : List ℕ). Body (uvarint (n * 8 + type) ++ x) (record { field = n; payload = p } ∷ [])) (append-nil v) (field l m w no-fields)
 
 -- what fits a length
-abbrev Sized : List ℕ → Type 0
+abbrev pub Sized : List ℕ → Type 0
 Sized d = length d < 2 ^ 64
 
 abbrev Small : ℕ → Type 0
 Small v = v < 2 ^ 64
 
-abbrev bytesEntries : ℕ → List (List ℕ) → List Entry
+abbrev pub bytesEntries : ℕ → List (List ℕ) → List Entry
 bytesEntries n [] = []
 bytesEntries n (d ∷ ds) = record { field = n; payload = bytes d } ∷ bytesEntries n ds
 
@@ -44,7 +44,7 @@ abbrev numberEntries : ℕ → List ℕ → List Entry
 numberEntries n [] = []
 numberEntries n (v ∷ vs) = record { field = n; payload = number v } ∷ numberEntries n vs
 
-bytes-body : (n : ℕ) → 1 ≤ n → n ≤ 536870911 → (ds : List (List ℕ)) → Each Sized ds → Body (repeated (bytesField n) ds) (bytesEntries n ds)
+pub bytes-body : (n : ℕ) → 1 ≤ n → n ≤ 536870911 → (ds : List (List ℕ)) → Each Sized ds → Body (repeated (bytesField n) ds) (bytesEntries n ds)
 unfolding bytesField tag
 bytes-body n l m [] none-left = no-fields
 bytes-body n l m (d ∷ ds) (p and ps) = body-append (one-body n l m (len-prefix p)) (bytes-body n l m ds ps)
@@ -77,11 +77,11 @@ numbers-append m (e ∷ es) fs = ap (putNumber (eqb (e .field) m) (e .payload)) 
     put t (bytes d) xs ys = refl
     put t (four d) xs ys = refl
 
-bytes-here : (n : ℕ) (ds : List (List ℕ)) → bytesIn n (bytesEntries n ds) ≡ ds
+pub bytes-here : (n : ℕ) (ds : List (List ℕ)) → bytesIn n (bytesEntries n ds) ≡ ds
 bytes-here n [] = refl
 bytes-here n (d ∷ ds) = ap (λ (t : Bool). cond t (d ∷ bytesIn n (bytesEntries n ds)) (bytesIn n (bytesEntries n ds))) (eq-eqb n n refl) ∙ ap (λ (l : List (List ℕ)). d ∷ l) (bytes-here n ds)
 
-bytes-there : (n m : ℕ) → eqb n m ≡ false → (ds : List (List ℕ)) → bytesIn m (bytesEntries n ds) ≡ []
+pub bytes-there : (n m : ℕ) → eqb n m ≡ false → (ds : List (List ℕ)) → bytesIn m (bytesEntries n ds) ≡ []
 bytes-there n m e [] = refl
 bytes-there n m e (d ∷ ds) = ap (λ (t : Bool). cond t (d ∷ bytesIn m (bytesEntries n ds)) (bytesIn m (bytesEntries n ds))) e ∙ bytes-there n m e ds
 
@@ -164,7 +164,7 @@ means-as : {X : Type 0} (R : List ℕ → X → Type 0) {b c : List ℕ} {x y : 
 means-as R {c = c} {x = x} e f r = subst (R c) f (subst (λ (l : List ℕ). R l x) e r)
 
 -- a field found in two groups of fields
-found : (m : ℕ) (a b : List Entry) (xs ys : List (List ℕ)) → bytesIn m a ≡ xs → bytesIn m b ≡ ys → bytesIn m (a ++ b) ≡ xs ++ ys
+pub found : (m : ℕ) (a b : List Entry) (xs ys : List (List ℕ)) → bytesIn m a ≡ xs → bytesIn m b ≡ ys → bytesIn m (a ++ b) ≡ xs ++ ys
 found m a b xs ys p q = bytes-append m a b ∙ ap₂ (λ (x y : List (List ℕ)). x ++ y) p q
 
 counted : (m : ℕ) (a b : List Entry) (xs ys : List ℕ) → numbersIn m a ≡ xs → numbersIn m b ≡ ys → numbersIn m (a ++ b) ≡ xs ++ ys

@@ -115,7 +115,7 @@ join-length c d =
     let f = repeated-length (λ p. bytesField 4 (encodePrune p)) (c .prune) (d .prune) in
     control-length (join c d) ∙ omega (arith, control-length c, control-length d)
 
-field-sum : (n : ℕ) (x y z : List ℕ) → length z ≡ length x + length y → length (bytesField n z) ≤ length (bytesField n x) + length (bytesField n y)
+pub field-sum : (n : ℕ) (x y z : List ℕ) → length z ≡ length x + length y → length (bytesField n z) ≤ length (bytesField n x) + length (bytesField n y)
 field-sum n x y z e =
     let u = uvarint-sum (length x) (length y) in
     let w = ap (λ (k : ℕ). length (uvarint k)) e in

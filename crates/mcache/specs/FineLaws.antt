@@ -32,7 +32,7 @@ use Rattle.mcache.specs.declared.Lent.{Lent}
 use Rattle.mcache.specs.declared.Lent.the-variants as lent
 use Rattle.mcache.specs.Messages.{Cached, shift}
 use Rattle.mcache.specs.State.{cachedIn, fallsFrom, runsTo, givesAt, allTrue, givesIn, legal, fresh, dropped, passed, older, aged, stale}
-use Rattle.mcache.specs.Calls.{lentOf, whenFine, indexIn, entered, enteredStore, shifted, Plan, no, keep, keptIn, storedIn, planFit, planAt, planBody, planned, shiftCache}
+use Rattle.mcache.specs.Calls.{lentOf, whenFine, indexIn, entered, enteredStore, keptUnder, storedUnder, shifted, Plan, no, keep, keptIn, storedIn, planFit, planAt, planBody, planned, shiftCache}
 use Rattle.mcache.specs.WellFormed.{Sized, Typed, freshAt, Reached, begun, given, opened}
 use Rattle.mcache.specs.StateLaws.{Tests, fine-tests, tests-fine}
 use Rattle.mcache.specs.CachedLaws.{windowsOf, windows-cached, cached-shifted, stale-in, leaving, spot, left-few, rest-starts, ring-entered, kept-id, kept-message, kept-number, new-id, new-message, new-number, grown, entered-some, entered-none, stored-some, stored-none}
@@ -78,13 +78,13 @@ runs-snoc next (g ∷ l) r =
     let n = length-append l (next ∷ []) in
     rw (eq-eqb ((g + suc (length (l ++ (next ∷ [])))) % 2 ^ 64) ((next + 1) % 2 ^ 64) (omega arith)) (runs-snoc next l (b .1))
 
-upto-drop : (most k : ℕ) (l : List ℕ) → allUpTo most l ≡ true → allUpTo most (drop k l) ≡ true
+pub upto-drop : (most k : ℕ) (l : List ℕ) → allUpTo most l ≡ true → allUpTo most (drop k l) ≡ true
 unfolding allUpTo
 upto-drop most zero l u = u
 upto-drop most (suc k) [] u = refl
 upto-drop most (suc k) (n ∷ l) u = upto-drop most k l (both (leb n most) (allUpTo most l) u .1)
 
-upto-snoc : (most x : ℕ) (l : List ℕ) → x ≤ most → allUpTo most l ≡ true → allUpTo most (l ++ (x ∷ [])) ≡ true
+pub upto-snoc : (most x : ℕ) (l : List ℕ) → x ≤ most → allUpTo most l ≡ true → allUpTo most (l ++ (x ∷ [])) ≡ true
 unfolding allUpTo
 upto-snoc most x [] h u = rw (le-leb x most h)
 upto-snoc most x (n ∷ l) h u =
@@ -186,6 +186,9 @@ shifted-tests c st t z =
       gives = gives-less k cap (c .start) (c .count) (c .len) (c .«id_len») (c .ids) st (t .starts) (t .within) h (t .gives);
       once = rw (ids-less k cap (c .start) (c .count) (c .«id_len») (c .ids) (t .starts) (t .within) h) (distinct-drop k (idsIn 128 cap (c .start) (c .count) (c .«id_len») (c .ids)) (t .once));
     }
+
+pub shifted-fine : (c : MessageCache) (st : List ℕ) → lentOf c st ≡ lent.Fine → Sized c → lentOf (shifted c) st ≡ lent.Fine
+shifted-fine c st f z = tests-fine (shifted c) st (shifted-tests c st (fine-tests c st f) z)
 
 pub shift-fine : (c : MessageCache) (st : List ℕ) → lentOf c st ≡ lent.Fine → Sized c → lentOf (shiftCache c st) st ≡ lent.Fine
 unfolding shiftCache
@@ -325,6 +328,15 @@ put-by c st body i f z (keep m id) e = entered-fine c st m id (fine-tests c st f
 pub put-fine : (c : MessageCache) (st body : List ℕ) (i : ℕ) → lentOf c st ≡ lent.Fine → Sized c → lentOf (keptIn c (planned c st body i)) (storedIn c st (planned c st body i)) ≡ lent.Fine
 put-fine c st body i f z = put-by c st body i f z (planned c st body i) refl
 
+-- a message that may be taken, put under its id, whatever it came from
+pub under-fine : (c : MessageCache) (st m id : List ℕ) → lentOf c st ≡ lent.Fine → Sized c → length m ≤ 4096 → length id ≤ 128 → givesId m id ≡ true
+    → lentOf (keptUnder m id c) (storedUnder c st m id) ≡ lent.Fine
+unfolding keptUnder storedUnder
+under-fine c st m id f z n k g =
+    either (ltb (indexIn c id) (c .count))
+    (λ t. rw t f)
+    (λ t. rw t (entered-fine c st m id (fine-tests c st f) z (record { small = n; id-small = k; own = g; fresh = t })))
+
 -- ---- sizes, and arrival numbers below 2 ^ 64, are kept
 grown-sized : (n : ℕ) (id : List ℕ) (c : MessageCache) → Sized c → Sized (grown n id c)
 unfolding grown
@@ -373,7 +385,7 @@ passed-typed : (c : MessageCache) → Typed c → Typed (passed c)
 unfolding passed
 passed-typed c y = record { sized = passed-sized c (y .sized); next-small = omega arith; small = y .small }
 
-shifted-typed : (c : MessageCache) → Typed c → Typed (shifted c)
+pub shifted-typed : (c : MessageCache) → Typed c → Typed (shifted c)
 unfolding shifted dropped aged
 shifted-typed c y = record { sized = shifted-sized c (y .sized); next-small = y .next-small; small = y .small }
 
@@ -382,7 +394,7 @@ zeros-small zero p = omega arith
 zeros-small (suc n) zero = omega arith
 zeros-small (suc n) (suc p) = zeros-small n p
 
-fresh-typed : (next history max : ℕ) → next < 2 ^ 64 → Typed (freshAt next history max)
+pub fresh-typed : (next history max : ℕ) → next < 2 ^ 64 → Typed (freshAt next history max)
 unfolding freshAt
 fresh-typed next history max h = record { sized = fresh-sized next history max; next-small = h; small = zeros-small 64 }
 
@@ -411,6 +423,10 @@ put-sized c st body i z = sized-by c z (planned c st body i)
 
 pub put-typed : (c : MessageCache) (st body : List ℕ) (i : ℕ) → Typed c → Typed (keptIn c (planned c st body i))
 put-typed c st body i y = typed-by c y (planned c st body i)
+
+pub under-typed : (m id : List ℕ) (c : MessageCache) → Typed c → Typed (keptUnder m id c)
+unfolding keptUnder
+under-typed m id c y = either (ltb (indexIn c id) (c .count)) (λ t. rw t y) (λ t. rw t (entered-typed (length m) id c y))
 
 sized-shift : (c : MessageCache) → Sized c → (l : Lent) → Sized (whenFine l (shifted c) c)
 sized-shift c z lent.Fine = shifted-sized c z

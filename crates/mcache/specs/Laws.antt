@@ -5,7 +5,7 @@ use mathlib.Core.List.{List, [], _∷_}
 use mathlib.Core.Bool.{true, cond}
 use native.Mathlib.Omega.{arith}
 use lib.ListN.{length, getD}
-use lib.Dec.{ltb}
+use lib.Dec.{ltb, eqb}
 use borrow.Author.Tests.{ltb-true, ltb-false}
 use Rattle.basis.specs.Cases.{either, clash}
 use Rattle.rows.specs.Rows.{placeOf, ring}
@@ -26,8 +26,8 @@ use Rattle.mcache.specs.declared.Lent.the-variants as lent
 use Rattle.mcache.specs.declared.Put.the-variants as put
 use Rattle.mcache.specs.declared.Lookup.the-variants as lookup
 use Rattle.mcache.specs.Messages.{Cached, idsOf, held, put as putIn, get, shift}
-use Rattle.mcache.specs.State.{messageIn, cachedAt, cachedIn}
-use Rattle.mcache.specs.Calls.{lentNumber, lentOf, whenFine, shifted, putNumber, indexIn, found, Plan, no, keep, answered, keptIn, storedIn, planned, shiftCache, getPart, lookupAnswer}
+use Rattle.mcache.specs.State.{messageIn, cachedAt, cachedIn, dropped, appended, passed, aged}
+use Rattle.mcache.specs.Calls.{lentNumber, lentOf, whenFine, shifted, putNumber, indexIn, entered, keptUnder, storedUnder, found, Plan, no, keep, answered, keptIn, storedIn, planned, shiftCache, getPart, lookupAnswer}
 use Rattle.mcache.specs.WellFormed.{Sized}
 use Rattle.mcache.specs.StateLaws.{fine-tests}
 use Rattle.mcache.specs.CachedLaws.{length-cached, ids-cached, cached-shifted, cached-entered, new}
@@ -46,6 +46,10 @@ shift-by c d lent.Malformed n = refl
 pub shift-refused : (c : MessageCache) (st : List ℕ) → (lentNumber (lentOf c st) ≡ 0 → ⊥) → shiftCache c st ≡ c
 unfolding shiftCache
 shift-refused c st n = shift-by c (shifted c) (lentOf c st) n
+
+pub shifted-settings : (c : MessageCache) → (shifted c .«history_len» ≡ c .«history_len») × (shifted c .«max_messages» ≡ c .«max_messages»)
+unfolding shifted dropped aged
+shifted-settings c = (refl, refl)
 
 -- ---- an id is held
 pub held-rows : (c : MessageCache) (id : List ℕ) → among id (idsIn 128 (c .«max_messages») (c .start) (c .count) (c .«id_len») (c .ids)) ≡ ltb (indexIn c id) (c .count)
@@ -100,6 +104,21 @@ put-refused c st body i n = not-stored c st (planned c st body i) (λ e. n (ap p
 pub put-held : (c : MessageCache) (st body : List ℕ) (i : ℕ) → answered (planned c st body i) ≡ put.Held
     → (keptIn c (planned c st body i) ≡ c) × (storedIn c st (planned c st body i) ≡ st)
 put-held c st body i h = not-stored c st (planned c st body i) (λ e. clash (let q = sym h ∙ e in cc))
+
+-- ---- a message put under its id, whatever it came from
+pub under-settings : (m id : List ℕ) (c : MessageCache) → (keptUnder m id c .«history_len» ≡ c .«history_len») × (keptUnder m id c .«max_messages» ≡ c .«max_messages»)
+unfolding keptUnder entered passed appended dropped
+under-settings m id c =
+    either (ltb (indexIn c id) (c .count))
+    (λ t. rw t (refl, refl))
+    (λ t. either (eqb (c .«max_messages») 0) (λ u. rw (t, u) (refl, refl)) (λ u. rw (t, u) (refl, refl)))
+
+pub under-cached : (c : MessageCache) (st m id : List ℕ) → lentOf c st ≡ lent.Fine → Sized c → length id ≤ 128 → length m ≤ 4096
+    → cachedIn (keptUnder m id c) (storedUnder c st m id) ≡ putIn (c .«max_messages») id m (cachedIn c st)
+unfolding keptUnder storedUnder putIn
+under-cached c st m id f z k n =
+    rw (held-index c st id)
+    (either (ltb (indexIn c id) (c .count)) (λ t. rw t) (λ t. rw t (cached-entered c st m id (fine-tests c st f) z k n)))
 
 -- ---- get
 get-here : (id : List ℕ) (ms : List Cached) (d : Cached) → indexOf id (idsOf ms) < length ms → get id ms ≡ getD ms (indexOf id (idsOf ms)) d .message

@@ -1,0 +1,385 @@
+-- The answers, case by case as the code comes to them.
+use Prim.Native.Nat.{ℕ, suc, _+_, _-_, _*_, _/_, _%_, _≤_, _<_}
+use mathlib.Core.Path.{_≡_, refl, sym, ap, _∙_}
+use mathlib.Core.List.{List, [], _∷_, _++_, append-nil}
+use mathlib.Core.Bool.{Bool, true, false, cond}
+use native.Mathlib.Omega.{arith}
+use native.Mathlib.Numerals.{add-one}
+use lib.ListN.{length, take, drop, length-drop}
+use lib.Seq.{sets, sets-eq, length-sets, take-at, take-all}
+use lib.Dec.{leb, eqb}
+use borrow.Author.Tests.{eq-eqb, ne-eqb, le-leb, lt-leb, leb-true, leb-false, lt-ltb, le-ltb}
+use Rattle.basis.specs.Cases.{either, clash}
+use Rattle.basis.specs.Writing.{answer, written}
+use Rattle.rows.specs.Store.{Ring, Sound, lensIn}
+use Rattle.seen.specs.declared.SeenCache.{SeenCache}
+use Rattle.seen.specs.declared.Lent.the-variants as seenLent
+use Rattle.seen.specs.Entries.{until}
+use Rattle.seen.specs.State.{wellFormed as seenWellFormed, fresh as noIds, spent}
+use Rattle.seen.specs.StateLaws.{spent-in, sound-dropped}
+use Rattle.seen.specs.Calls.{capOf, wholeRows, lentOf as seenLentOf, heldIn, cleaned, entered, enteredStore}
+use Rattle.seen.specs.Laws.{lent-sound}
+use Rattle.mcache.specs.declared.MessageCache.{MessageCache}
+use Rattle.mcache.specs.declared.Lent.the-variants as cacheLent
+use Rattle.mcache.specs.declared.Start.the-variants as cacheStart
+use Rattle.mcache.specs.State.{legal, wellFormed as cacheWellFormed, fresh as noMessages}
+use Rattle.mcache.specs.StateLaws.{fine-tests as cache-tests}
+use Rattle.mcache.specs.Calls.{startAnswer as cacheStartAnswer, startCache, lentOf as cacheLentOf, keptUnder, storedUnder, shifted}
+use Rattle.protobuf.specs.declared.WireError.{WireError}
+use Rattle.protobuf.specs.declared.Checked.the-variants as checked
+use Rattle.protobuf.specs.Walk.{between}
+use Rattle.ids.specs.declared.MessageAt.the-variants as found
+use Rattle.ids.specs.Ids.{acceptOf, messageAt, idBytes}
+use Rattle.ids.specs.IdLaws.{id-fits}
+use Rattle.admission.specs.declared.Unfit.{Unfit}
+use Rattle.admission.specs.declared.Admission.the-variants as admission
+use Rattle.admission.specs.Admission.{admissionOf}
+use Rattle.admission.specs.AdmissionLaws.{fit-parts, fit-limits, fit-id}
+use Rattle.node.specs.declared.Node.{Node}
+use Rattle.node.specs.declared.Start.{Start}
+use Rattle.node.specs.declared.Start.the-variants as start
+use Rattle.node.specs.declared.Lent.the-variants as lent
+use Rattle.node.specs.declared.Fault.{Fault}
+use Rattle.node.specs.declared.Fault.the-variants as fault
+use Rattle.node.specs.State.{legalSettings, freshNode, risesFrom, seenFits, wellFormed, Ready}
+use Rattle.node.specs.declared.Admit.{Admit}
+use Rattle.node.specs.declared.Admit.the-variants as admit
+use Rattle.node.specs.declared.Beat.the-variants as beat
+use Rattle.node.specs.declared.Advertise.{Advertise}
+use Rattle.node.specs.declared.Advertise.the-variants as advertise
+use Rattle.node.specs.Gateway.{marked}
+use Rattle.node.specs.Calls.{startAnswer, startNode, rightSizes, lentOf, laterNode, Plan, no, taken, planFit, planned, swept, heldAt, admitAnswer, admitNode, admitSeen, admitCache, beatAnswer, beatNode, advertiseBytes, advertised, advertiseAnswer, advertiseLeft}
+use Rattle.node.specs.StateLaws.{room-cap, room-whole, fine-tests, lent-ready}
+
+-- ---- start
+pub fresh-is : (ttl m h x : ℕ) (s : SeenCache) (c : MessageCache) → s ≡ noIds → c ≡ noMessages h x
+    → _≡_ {A = Node} (record { ttl = ttl; «max_seen» = m; clock = 0; seen = s; cache = c }) (freshNode ttl m h x)
+unfolding freshNode
+fresh-is ttl m h x s c e f = rw (e, f)
+
+pub default-cache : startCache 1 0 ≡ noMessages 1 0
+unfolding startCache legal
+default-cache = refl
+
+module _ (ttl m h x : ℕ) where
+  cache-illegal : cacheStart.BadSetting ≡ cacheStartAnswer h x → legal h x ≡ false
+  unfolding cacheStartAnswer
+  cache-illegal e = either (legal h x) (λ t. clash (let z = simp t at e in cc)) (λ t. t)
+
+  cache-legal : cacheStart.Started ≡ cacheStartAnswer h x → legal h x ≡ true
+  unfolding cacheStartAnswer
+  cache-legal e = either (legal h x) (λ t. t) (λ t. clash (let z = simp t at e in cc))
+
+  refused-as : legalSettings m h x ≡ false → {a : Start} {n : Node} → (a ≡ start.BadSetting) × (n ≡ freshNode 0 0 1 0) → (a ≡ startAnswer m h x) × (n ≡ startNode ttl m h x)
+  unfolding startAnswer startNode
+  refused-as e w = (rw e (w .0), rw e (w .1))
+
+  pub start-refused : cacheStart.BadSetting ≡ cacheStartAnswer h x → {a : Start} {n : Node} → (a ≡ start.BadSetting) × (n ≡ freshNode 0 0 1 0) → (a ≡ startAnswer m h x) × (n ≡ startNode ttl m h x)
+  unfolding legalSettings
+  start-refused e w = refused-as (either (leb m 256) (λ t. simp (t, cache-illegal e)) (λ t. simp t)) w
+
+  pub start-many : 256 < m → {a : Start} {n : Node} → (a ≡ start.BadSetting) × (n ≡ freshNode 0 0 1 0) → (a ≡ startAnswer m h x) × (n ≡ startNode ttl m h x)
+  unfolding legalSettings
+  start-many k w = refused-as (simp (lt-leb m 256 k)) w
+
+  pub start-fits : cacheStart.Started ≡ cacheStartAnswer h x → m ≤ 256 → (s : SeenCache) (c : MessageCache) → s ≡ noIds → c ≡ startCache h x
+      → (start.Started ≡ startAnswer m h x) × (_≡_ {A = Node} (record { ttl = ttl; «max_seen» = m; clock = 0; seen = s; cache = c }) (startNode ttl m h x))
+  unfolding startAnswer startNode legalSettings startCache
+  start-fits e k s c p q =
+      let g = cache-legal e in
+      let l = le-leb m 256 k in
+      let r : c ≡ noMessages h x = simp g at q in
+      (simp (l, g), simp (l, g) (fresh-is ttl m h x s c p r))
+
+-- ---- whether the ids seen are well formed
+module _ (n : Node) (ss : List ℕ) (room : length ss ≡ n .«max_seen» * 129) where
+  abbrev ids : Bool
+  ids = seenWellFormed (n .«max_seen») (n .seen) ss
+
+  abbrev rises : Bool
+  rises = risesFrom 0 (lensIn (n .«max_seen») (n .seen .start) (n .seen .count) (n .seen .expiry))
+
+  -- the seen cache's own test
+  own : n .«max_seen» ≤ 256 → seenLentOf (n .seen) ss ≡ cond ids seenLent.Fine seenLent.Malformed
+  unfolding seenLentOf
+  own f = rw (room-whole n ss room f, room-cap n ss room)
+
+  many : 256 < n .«max_seen» → seenLentOf (n .seen) ss ≡ seenLent.BadStore
+  unfolding seenLentOf wholeRows capOf
+  many f = simp (eq-eqb (length ss % 129) 0 (omega arith), lt-leb (length ss / 129) 256 (omega arith))
+
+  pub fits-store : seenLent.BadStore ≡ seenLentOf (n .seen) ss → false ≡ seenFits n ss
+  unfolding seenFits
+  fits-store e =
+      either (leb (n .«max_seen») 256)
+      (λ t. let o = own (leb-true (n .«max_seen») 256 t) in either ids (λ u. clash (let z = simp u at o in cc)) (λ u. clash (let z = simp u at o in cc)))
+      (λ t. sym (simp t))
+
+  pub fits-malformed : seenLent.Malformed ≡ seenLentOf (n .seen) ss → false ≡ seenFits n ss
+  unfolding seenFits
+  fits-malformed e =
+      either (leb (n .«max_seen») 256)
+      (λ t. let o = own (leb-true (n .«max_seen») 256 t) in either ids (λ u. clash (let z = simp u at o in cc)) (λ u. sym (simp (t, u))))
+      (λ t. sym (simp t))
+
+  fine-few : seenLent.Fine ≡ seenLentOf (n .seen) ss → n .«max_seen» ≤ 256
+  fine-few e = either (leb (n .«max_seen») 256) (λ t. leb-true (n .«max_seen») 256 t) (λ t. clash (let o = many (leb-false (n .«max_seen») 256 t) in cc))
+
+  pub fits-fine : seenLent.Fine ≡ seenLentOf (n .seen) ss → (r : Bool) → r ≡ rises → r ≡ seenFits n ss
+  unfolding seenFits
+  fits-fine e r h =
+      let f = fine-few e in
+      let o = own f in
+      either ids (λ u. h ∙ sym (simp (le-leb (n .«max_seen») 256 f, u))) (λ u. clash (let z = simp u at o in cc))
+
+  pub fits-ring : seenLent.Fine ≡ seenLentOf (n .seen) ss → length (n .seen .expiry) ≡ 256 → length (n .seen .len) ≡ 256 → Ring (n .«max_seen») (n .seen .start) (n .seen .count) (n .seen .expiry)
+  fits-ring e y z =
+      let f = fine-few e in
+      let s : Sound 129 (n .«max_seen») (n .seen .start) (n .seen .count) (n .seen .len) ss = rw (← room-cap n ss room) (lent-sound (n .seen) ss (sym e) (y, z)) in
+      record { starts = s .rows .starts; within = s .rows .within; size = omega arith }
+
+-- ---- the lent node and its stores
+module _ (n : Node) (ss cs : List ℕ) where
+  pub lent-setting : length ss / 129 < n .«max_seen» → lent.Faulty fault.BadSetting ≡ lentOf n ss cs
+  unfolding lentOf capOf
+  lent-setting h = simp (lt-ltb (length ss / 129) (n .«max_seen») h)
+
+  module _ (a : n .«max_seen» ≤ length ss / 129) where
+    store-bad : rightSizes n ss cs ≡ false → lent.Faulty fault.BadStore ≡ lentOf n ss cs
+    unfolding lentOf capOf
+    store-bad h = simp (le-ltb (length ss / 129) (n .«max_seen») a, h)
+
+    pub lent-more : n .«max_seen» < length ss / 129 → lent.Faulty fault.BadStore ≡ lentOf n ss cs
+    unfolding rightSizes
+    lent-more h = store-bad (simp (ne-eqb (length ss) (n .«max_seen» * 129) (λ e. omega arith)))
+
+    pub lent-part : (length ss % 129 ≡ 0 → ⊥) → lent.Faulty fault.BadStore ≡ lentOf n ss cs
+    unfolding rightSizes
+    lent-part h = store-bad (simp (ne-eqb (length ss) (n .«max_seen» * 129) (λ e. h (omega arith))))
+
+    module _ (b : length ss / 129 ≤ n .«max_seen») (w : length ss % 129 ≡ 0) where
+      pub lent-room : length ss ≡ n .«max_seen» * 129
+      lent-room = omega arith
+
+      same : eqb (length ss) (n .«max_seen» * 129) ≡ true
+      same = eq-eqb (length ss) (n .«max_seen» * 129) lent-room
+
+      abbrev held : Bool
+      held = eqb (length cs) (n .cache .«max_messages» * 4096)
+
+      pub lent-store : cacheLent.BadStore ≡ cacheLentOf (n .cache) cs → lent.Faulty fault.BadStore ≡ lentOf n ss cs
+      unfolding rightSizes cacheLentOf
+      lent-store e =
+          either held
+          (λ t. either (cacheWellFormed (n .cache) cs) (λ u. clash (let z = simp (t, u) at e in cc)) (λ u. clash (let z = simp (t, u) at e in cc)))
+          (λ t. store-bad (simp (same, t)))
+
+      cache-malformed : cacheLent.Malformed ≡ cacheLentOf (n .cache) cs → (held ≡ true) × (cacheWellFormed (n .cache) cs ≡ false)
+      unfolding cacheLentOf
+      cache-malformed e =
+          either held
+          (λ t. either (cacheWellFormed (n .cache) cs) (λ u. clash (let z = simp (t, u) at e in cc)) (λ u. (t, u)))
+          (λ t. clash (let z = simp t at e in cc))
+
+      cache-fine : cacheLent.Fine ≡ cacheLentOf (n .cache) cs → (held ≡ true) × (cacheWellFormed (n .cache) cs ≡ true)
+      unfolding cacheLentOf
+      cache-fine e =
+          either held
+          (λ t. either (cacheWellFormed (n .cache) cs) (λ u. (t, u)) (λ u. clash (let z = simp (t, u) at e in cc)))
+          (λ t. clash (let z = simp t at e in cc))
+
+      pub lent-malformed : cacheLent.Malformed ≡ cacheLentOf (n .cache) cs → lent.Faulty fault.Malformed ≡ lentOf n ss cs
+      unfolding lentOf capOf rightSizes wellFormed
+      lent-malformed e = let f = cache-malformed e in simp (le-ltb (length ss / 129) (n .«max_seen») a, same, f .0, f .1)
+
+      pub lent-unfit : cacheLent.Fine ≡ cacheLentOf (n .cache) cs → seenFits n ss ≡ false → lent.Faulty fault.Malformed ≡ lentOf n ss cs
+      unfolding lentOf capOf rightSizes wellFormed
+      lent-unfit e h = let f = cache-fine e in simp (le-ltb (length ss / 129) (n .«max_seen») a, same, f .0, f .1, h)
+
+      pub lent-fine : cacheLent.Fine ≡ cacheLentOf (n .cache) cs → seenFits n ss ≡ true → lent.Fine ≡ lentOf n ss cs
+      unfolding lentOf capOf rightSizes wellFormed
+      lent-fine e h = let f = cache-fine e in simp (le-ltb (length ss / 129) (n .«max_seen») a, same, f .0, f .1, h)
+
+-- ---- a node that was tested: its expiries and its windows can be walked over
+module _ (n : Node) (ss cs : List ℕ) (h : lent.Fine ≡ lentOf n ss cs) where
+  pub fine-expiries : length (n .seen .expiry) ≡ 256 → length (n .seen .len) ≡ 256 → Ring (n .«max_seen») (n .seen .start) (n .seen .count) (n .seen .expiry)
+  fine-expiries y z = let t = fine-tests n ss cs (sym h) in fits-ring n ss (t .room) (sym (t .ids)) y z
+
+  pub fine-windows : length (n .cache .window) ≡ 64 → Ring (n .cache .«max_messages») (n .cache .start) (n .cache .count) (n .cache .window)
+  fine-windows w = let t = cache-tests (n .cache) cs (fine-tests n ss cs (sym h) .messages) in record { starts = t .starts; within = t .within; size = omega (arith, t .few) }
+
+-- and it is ready for every step
+module _ (n : Node) (ss cs : List ℕ) (h : lent.Fine ≡ lentOf n ss cs)
+    (e : length (n .seen .expiry) ≡ 256) (l : length (n .seen .len) ≡ 256)
+    (g : length (n .cache .generation) ≡ 64) (w : length (n .cache .window) ≡ 64) (m : length (n .cache .len) ≡ 64) (i : length (n .cache .«id_len») ≡ 64) (r : length (n .cache .ids) ≡ 8192) where
+  pub tested : Ready n ss cs
+  tested = lent-ready n ss cs (sym h) (e, l) (record { generations = g; windows = w; lengths = m; id-lengths = i; id-room = r })
+
+-- ---- admit
+abbrev Admits : Node → List ℕ → List ℕ → ℕ → Plan → Admit → Node → List ℕ → List ℕ → Type 0
+Admits n ss cs at plan a r s t = (a ≡ admitAnswer n ss at plan) × ((r ≡ admitNode n ss at plan) × ((s ≡ admitSeen n ss at plan) × (t ≡ admitCache n ss cs at plan)))
+
+module _ (n : Node) (ss cs : List ℕ) (at : ℕ) where
+  pub admits-no : (plan : Plan) (a : Admit) → plan ≡ no a → Admits n ss cs at plan a n ss cs
+  admits-no plan a e = (rw e, (rw e, (rw e, rw e)))
+
+  pub admits-as : (plan other : Plan) {a : Admit} {r : Node} {s t : List ℕ} → plan ≡ other → Admits n ss cs at other a r s t → Admits n ss cs at plan a r s t
+  admits-as plan other e p = (rw e (p .0), (rw e (p .1 .0), (rw e (p .1 .1 .0), rw e (p .1 .1 .1))))
+
+  -- the ids that are seen after the clean-up, and a key in its marked form
+  module _ (d : SeenCache) (ed : d ≡ cleaned (n .«max_seen») at (n .seen)) where
+    pub swept-sound : Sound 129 (n .«max_seen») (n .seen .start) (n .seen .count) (n .seen .len) ss → Sound 129 (n .«max_seen») (d .start) (d .count) (d .len) ss
+    unfolding cleaned
+    swept-sound s =
+        rw ed
+        (sound-dropped (n .«max_seen») (spent at (lensIn (n .«max_seen») (n .seen .start) (n .seen .count) (n .seen .expiry))) (n .seen) ss s
+        (spent-in at (n .«max_seen») (n .seen .start) (n .seen .count) (n .seen .expiry)))
+
+    module _ (key : List ℕ) (ek : key ≡ marked (drop 1 key)) where
+      held-is : heldIn (n .«max_seen») d ss key ≡ heldAt n ss at (drop 1 key)
+      unfolding heldAt swept
+      held-is = ap (λ (x : SeenCache). heldIn (n .«max_seen») x ss key) ed ∙ ap (λ (k : List ℕ). heldIn (n .«max_seen») (cleaned (n .«max_seen») at (n .seen)) ss k) ek
+
+      pub admits-held : (part : List ℕ) (h : Bool) → h ≡ heldIn (n .«max_seen») d ss key → h ≡ true → (r : Node) → r ≡ laterNode at d (n .cache) n
+          → Admits n ss cs at (taken part (drop 1 key)) admit.Duplicate r ss cs
+      unfolding swept
+      admits-held part h e t r f =
+          let k : heldAt n ss at (drop 1 key) ≡ true = sym held-is ∙ sym e ∙ t in
+          (rw k, (rw k (f ∙ ap (λ (x : SeenCache). laterNode at x (n .cache) n) ed), (rw k, rw k)))
+
+      -- what is behind the mark, as it is lent
+      behind : take (length key - 1) (drop 1 key) ≡ drop 1 key
+      behind = take-all (length key - 1) (drop 1 key) (rw (length-drop 1 key) (omega arith))
+
+      pub admits-new : (part : List ℕ) (h : Bool) → h ≡ heldIn (n .«max_seen») d ss key → h ≡ false → (x : ℕ) → x ≡ until at (n .ttl)
+          → (s : SeenCache) (ss2 : List ℕ) → (s ≡ entered (n .«max_seen») (n .«max_seen») (length key) x d) × (ss2 ≡ enteredStore (n .«max_seen») (n .«max_seen») d ss key)
+          → (c : MessageCache) (cs2 : List ℕ) → (c ≡ keptUnder part (take (length key - 1) (drop 1 key)) (n .cache)) × (cs2 ≡ storedUnder (n .cache) cs part (take (length key - 1) (drop 1 key)))
+          → (r : Node) → r ≡ laterNode at s c n → Admits n ss cs at (taken part (drop 1 key)) admit.New r ss2 cs2
+      unfolding swept
+      admits-new part h e t x ex s ss2 ws c cs2 wc r f =
+          let m = n .«max_seen» in
+          let k : heldAt n ss at (drop 1 key) ≡ false = sym held-is ∙ sym e ∙ t in
+          let es : s ≡ entered m m (length (marked (drop 1 key))) (until at (n .ttl)) (cleaned m at (n .seen)) =
+          ws .0
+          ∙ ap (λ (y : List ℕ). entered m m (length y) x d) ek
+          ∙ ap (λ (y : ℕ). entered m m (length (marked (drop 1 key))) y d) ex
+          ∙ ap (λ (y : SeenCache). entered m m (length (marked (drop 1 key))) (until at (n .ttl)) y) ed in
+          let et : ss2 ≡ enteredStore m m (cleaned m at (n .seen)) ss (marked (drop 1 key)) =
+          ws .1 ∙ ap (λ (y : List ℕ). enteredStore m m d ss y) ek ∙ ap (λ (y : SeenCache). enteredStore m m y ss (marked (drop 1 key))) ed in
+          let ec : c ≡ keptUnder part (drop 1 key) (n .cache) = wc .0 ∙ ap (λ (y : List ℕ). keptUnder part y (n .cache)) behind in
+          let eu : cs2 ≡ storedUnder (n .cache) cs part (drop 1 key) = wc .1 ∙ ap (storedUnder (n .cache) cs part) behind in (
+            rw k,
+            (
+              rw k (f ∙ ap (λ (y : SeenCache). laterNode at y c n) es ∙ ap (λ (y : MessageCache). laterNode at (entered m m (length (marked (drop 1 key))) (until at (n .ttl)) (cleaned m at (n .seen))) y n) ec),
+              (rw k et, rw k eu),
+            ),
+          )
+
+pub key-long : (key : List ℕ) → key ≡ marked (drop 1 key) → 1 ≤ length key
+key-long key e = let l = ap length e in omega arith
+
+pub key-small : (key : List ℕ) → key ≡ marked (drop 1 key) → length key ≤ 129 → length (take (length key - 1) (drop 1 key)) ≤ 128
+key-small key e h = let l = ap length e in rw (take-all (length key - 1) (drop 1 key) (rw (length-drop 1 key) (omega arith))) (omega arith)
+
+-- ---- the message in a part
+pub plan-unfit : (g : Node) (at : ℕ) (p : List ℕ) (word : Bool) (why : Unfit) → admission.Unfit why ≡ admissionOf p word → planFit g at p (admissionOf p word) ≡ no (admit.Unfit why)
+plan-unfit g at p word why e = rw (← e)
+
+module _ (p : List ℕ) (word : Bool) (a e b f : ℕ) (h : admissionOf p word ≡ admission.Fit a e b f) where
+  pub plan-back : (g : Node) (at : ℕ) → at < g .clock → planFit g at p (admissionOf p word) ≡ no (admit.ClockBack (g .clock))
+  plan-back g at k = rw (h, lt-ltb at (g .clock) k)
+
+  plan-taken : (g : Node) (at : ℕ) → g .clock ≤ at → planFit g at p (admissionOf p word) ≡ taken p (idBytes p a e b f)
+  plan-taken g at k = rw (h, le-ltb at (g .clock) k)
+
+  pub form-room : ((a ≤ e) × (e ≤ length p) × (b ≤ f) × (f ≤ length p)) × (length (idBytes p a e b f) ≤ 128)
+  form-room =
+      let w = id-fits p a e b f (fit-parts p word a e b f h) in
+      ((w .from .0, w .from .1, w .seqno .0, w .seqno .1), fit-id p word a e b f h .1)
+
+  -- the id was formed behind the mark
+  module _ (n : ℕ) (first y : List ℕ) (z : length first ≡ 128) (k : (n ≡ length (idBytes p a e b f)) × (y ≡ sets first 0 (idBytes p a e b f))) where
+    abbrev key : List ℕ
+    key = take (n + 1) (1 ∷ (y ++ []))
+
+    formed : take n y ≡ idBytes p a e b f
+    formed =
+        let l = fit-id p word a e b f h in
+        rw (k .1, sets-eq (idBytes p a e b f) first 0 (omega arith)) (take-at (idBytes p a e b f) (drop (0 + length (idBytes p a e b f)) first) n (sym (k .0)))
+
+    pub formed-small : n ≤ 128
+    formed-small = let l = fit-id p word a e b f h in omega (arith, k .0)
+
+    pub formed-room : n + 1 ≤ suc (length (y ++ []))
+    formed-room =
+        let l : length y ≡ length first = ap length (k .1) ∙ length-sets first 0 (idBytes p a e b f) in
+        let s = formed-small in
+        rw (append-nil y) (omega arith)
+
+    formed-key : key ≡ marked (idBytes p a e b f)
+    formed-key = rw (append-nil y, add-one n) (ap (λ (x : List ℕ). 1 ∷ x) formed)
+
+    pub formed-counts : n + 1 ≡ length key
+    formed-counts = let l = ap length formed-key in omega (arith, k .0)
+
+    pub formed-fits : (length p ≤ 4096) × (length key ≤ 129) × (key ≡ marked (drop 1 key))
+    formed-fits = (fit-limits p word a e b f h .small, omega (arith, formed-counts, formed-small), formed-key ∙ ap (λ (x : List ℕ). marked (drop 1 x)) (sym formed-key))
+
+    pub admits-formed : (g : Node) (ss cs : List ℕ) (at : ℕ) → g .clock ≤ at → {r : Admit} {g2 : Node} {s t : List ℕ}
+        → Admits g ss cs at (taken p (drop 1 key)) r g2 s t → Admits g ss cs at (planFit g at p (admissionOf p word)) r g2 s t
+    admits-formed g ss cs at c w =
+        admits-as g ss cs at (planFit g at p (admissionOf p word)) (taken p (drop 1 key)) (plan-taken g at c ∙ ap (λ (x : List ℕ). taken p (drop 1 x)) (sym formed-key)) w
+
+-- ---- the message at an index of a body
+module _ (n : Node) (ss cs body : List ℕ) (i : ℕ) (word : Bool) (at : ℕ) where
+  pub plan-faulty : (why : Fault) → lent.Faulty why ≡ lentOf n ss cs → planned n ss cs body i word at ≡ no (admit.Faulty why)
+  unfolding planned
+  plan-faulty why e = rw (← e)
+
+  pub plan-refused : (why : WireError) → lent.Fine ≡ lentOf n ss cs → checked.Refused why ≡ acceptOf body → planned n ss cs body i word at ≡ no (admit.Refused why)
+  unfolding planned
+  plan-refused why e f = rw (← e, ← f)
+
+  pub plan-missing : (k : ℕ) → lent.Fine ≡ lentOf n ss cs → checked.Fine ≡ acceptOf body → found.Count k ≡ messageAt body i → planned n ss cs body i word at ≡ no (admit.NoMessage k)
+  unfolding planned
+  plan-missing k e f g = rw (← e, ← f, ← g)
+
+  pub plan-at : (a b : ℕ) → lent.Fine ≡ lentOf n ss cs → checked.Fine ≡ acceptOf body → found.At a b ≡ messageAt body i
+      → planned n ss cs body i word at ≡ planFit n at (between body a b) (admissionOf (between body a b) word)
+  unfolding planned
+  plan-at a b e f g = rw (← e, ← f, ← g)
+
+-- ---- heartbeat
+module _ (n : Node) (ss cs : List ℕ) (at : ℕ) where
+  pub beat-faulty : (why : Fault) → lent.Faulty why ≡ lentOf n ss cs → (beat.Faulty why ≡ beatAnswer n ss cs at) × (n ≡ beatNode n ss cs at)
+  unfolding beatAnswer beatNode
+  beat-faulty why e = (rw (← e), rw (← e))
+
+  pub beat-back : lent.Fine ≡ lentOf n ss cs → at < n .clock → (beat.ClockBack (n .clock) ≡ beatAnswer n ss cs at) × (n ≡ beatNode n ss cs at)
+  unfolding beatAnswer beatNode
+  beat-back e k = let t = lt-ltb at (n .clock) k in (rw (← e, t), rw (← e, t))
+
+  pub beat-done : lent.Fine ≡ lentOf n ss cs → n .clock ≤ at → (s : SeenCache) → s ≡ cleaned (n .«max_seen») at (n .seen) → (c : MessageCache) → c ≡ shifted (n .cache)
+      → (r : Node) → r ≡ laterNode at s c n → (beat.Done ≡ beatAnswer n ss cs at) × (r ≡ beatNode n ss cs at)
+  unfolding beatAnswer beatNode swept
+  beat-done e k s es c ec r f =
+      let t = le-ltb at (n .clock) k in
+      (rw (← e, t), rw (← e, t) (f ∙ ap (λ (x : SeenCache). laterNode at x c n) es ∙ ap (λ (x : MessageCache). laterNode at (cleaned (n .«max_seen») at (n .seen)) x n) ec))
+
+-- ---- advertise
+module _ (n : Node) (ss cs topic : List ℕ) (windows : ℕ) (out : List ℕ) where
+  abbrev Advertises : Advertise → List ℕ → Type 0
+  Advertises a o = (a ≡ advertiseAnswer n ss cs topic windows out) × ((n ≡ n) × (o ≡ advertiseLeft n ss cs topic windows out))
+
+  pub advertise-faulty : (why : Fault) → lent.Faulty why ≡ lentOf n ss cs → Advertises (advertise.Faulty why) out
+  unfolding advertiseAnswer advertiseLeft
+  advertise-faulty why e = (rw (← e), (refl, rw (← e)))
+
+  pub advertise-long : lent.Fine ≡ lentOf n ss cs → 1024 < length topic → Advertises (advertise.TopicTooLong (length topic)) out
+  unfolding advertiseAnswer advertiseLeft
+  advertise-long e k = let t = lt-ltb 1024 (length topic) k in (rw (← e, t), (refl, rw (← e, t)))
+
+  pub advertise-told : lent.Fine ≡ lentOf n ss cs → length topic ≤ 1024 → (r : Advertise) (o : List ℕ)
+      → (r ≡ advertised (answer (advertiseBytes n cs topic windows) out)) × (o ≡ written (advertiseBytes n cs topic windows) out) → Advertises r o
+  unfolding advertiseAnswer advertiseLeft
+  advertise-told e k r o w = let t = le-ltb 1024 (length topic) k in (rw (← e, t) (w .0), (refl, rw (← e, t) (w .1)))

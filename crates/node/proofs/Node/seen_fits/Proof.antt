@@ -1,0 +1,48 @@
+-- `node::Node::seen_fits` meets its contract: the seen cache's own test, and then the expiries.
+use denote.Ref.{now}
+use mathlib.Core.Path.{sym, _∙_}
+use Rattle.node.proofs.Answers.{fits-store, fits-malformed, fits-fine, fits-ring}
+use borrow.Author.Needs.{needs}
+use Rattle.node.proofs.Node.seen_fits.Statement.{statement}
+use Rattle.node.proofs.Node.seen_fits.Tie as tie
+
+lent-requires : tie.Need-lent-requires
+lent-requires c κs = search needs
+
+enum-told : tie.Need-enum-told
+enum-told c = search needs
+
+enum-told-2 : tie.Need-enum-told-2
+enum-told-2 c = search needs
+
+enum-told-3 : tie.Need-enum-told-3
+enum-told-3 c = search needs
+
+slice-aggregate-expiries-rise : tie.Need-slice-aggregate-expiries-rise
+slice-aggregate-expiries-rise c = search needs
+
+expiries-rise-requires : tie.Need-expiries-rise-requires
+expiries-rise-requires c κs = let b = c .before .before .before .before .before .before .before in let a = b .args in fits-ring (a .self) (now (a .seen-store)) (b .pre) (sym (c .before .before .enum-told3 .given .1) ∙ (c .before .before .before .before .lent .ensures)) (search needs) (search needs)
+
+returns : tie.Need-returns
+returns c = let b = c .before .before .before .before .before in let a = b .args in fits-store (a .self) (now (a .seen-store)) (b .pre) (sym (c .enum-told .given .1) ∙ (c .before .before .lent .ensures))
+
+returns-2 : tie.Need-returns-2
+returns-2 c = let b = c .before .before .before .before .before in let a = b .args in fits-malformed (a .self) (now (a .seen-store)) (b .pre) (sym (c .enum-told2 .given .1) ∙ (c .before .before .lent .ensures))
+
+returns-3 : tie.Need-returns-3
+returns-3 c = let b = c .before .before .before .before .before .before .before .before in let a = b .args in fits-fine (a .self) (now (a .seen-store)) (b .pre) (sym (c .before .before .before .enum-told3 .given .1) ∙ (c .before .before .before .before .before .lent .ensures)) _ (c .expiries-rise .ensures)
+
+pub seen-fits-spec : {M : Type 1} → statement M
+seen-fits-spec =
+    tie.close
+    (tie.spec
+    lent-requires
+    enum-told
+    enum-told-2
+    enum-told-3
+    slice-aggregate-expiries-rise
+    expiries-rise-requires
+    returns
+    returns-2
+    returns-3)

@@ -1,0 +1,98 @@
+-- `unseen` meets its contract. The loop's invariant: the ids in `to`, and then those of `from` from i on that are not seen, are all that are not.
+use Prim.Native.Nat.{_-_}
+use mathlib.Core.Path.{_≡_, refl}
+use native.Mathlib.Omega.{arith}
+use borrow.Author.Needs.{needs}
+use lib.ListN.{length}
+use Rattle.rows.specs.Store.{idsIn}
+use Rattle.node.proofs.Asking.{Lacked, lacked-all, lacked-room, lacked-turn, lacked-done}
+use Rattle.node.proofs.unseen.Statement.{statement}
+use Rattle.node.proofs.unseen.Tie as tie
+
+abbrev Inv-loop : tie.InvT-loop
+Inv-loop lens store cap start count body from n to₀ k₀ i₀ to k i = Lacked (idsIn 129 cap start count lens store) body from n to k i × (length to ≡ length to₀)
+
+abbrev μ-loop : tie.MeasureT-loop
+μ-loop lens store cap start count body from n to₀ k₀ i₀ to k i = n - i
+
+loop-holds : tie.Need-loop-holds Inv-loop μ-loop
+loop-holds c = (lacked-all _ _ _ _ _, refl)
+
+mul-a : tie.Need-mul-a Inv-loop μ-loop
+mul-a c = let p = (c .before .before .before .before .before .before .before .pre .1 .0 .room) in omega arith
+
+mul-a-2 : tie.Need-mul-a-2 Inv-loop μ-loop
+mul-a-2 c = let p = (c .before .before .before .before .before .before .before .pre .1 .0 .room) in omega arith
+
+shared-slice-read-a : tie.Need-shared-slice-read-a Inv-loop μ-loop
+shared-slice-read-a c = let p = (c .before .before .before .before .before .before .before .before .pre .1 .0 .room) in omega arith
+
+mul-e : tie.Need-mul-e Inv-loop μ-loop
+mul-e c = let p = (c .before .before .before .before .before .before .before .before .pre .1 .0 .room) in omega arith
+
+add-e : tie.Need-add-e Inv-loop μ-loop
+add-e c = let p = (c .before .before .before .before .before .before .before .before .pre .1 .0 .room) in omega arith
+
+mul-e-2 : tie.Need-mul-e-2 Inv-loop μ-loop
+mul-e-2 c = let p = (c .before .before .before .before .before .before .before .before .pre .1 .0 .room) in omega arith
+
+shared-slice-read-e : tie.Need-shared-slice-read-e Inv-loop μ-loop
+shared-slice-read-e c = let p = (c .before .before .before .before .before .before .before .before .before .pre .1 .0 .room) in omega arith
+
+sub-is-unseen : tie.Need-sub-is-unseen Inv-loop μ-loop
+sub-is-unseen c = let w = (c .before .before .before .before .before .before .before .before .before .pre .1 .0 .within) (c .before .before .before .loop .i) (c .before .before .loop-test .taken) in w .0
+
+part-is-unseen-start : tie.Need-part-is-unseen-start Inv-loop μ-loop
+part-is-unseen-start c = let w = (c .before .before .before .before .before .before .before .before .before .pre .1 .0 .within) (c .before .before .before .loop .i) (c .before .before .loop-test .taken) in w .0
+
+part-is-unseen-end : tie.Need-part-is-unseen-end Inv-loop μ-loop
+part-is-unseen-end c = let w = (c .before .before .before .before .before .before .before .before .before .pre .1 .0 .within) (c .before .before .before .loop .i) (c .before .before .loop-test .taken) in w .1
+
+is-unseen-requires : tie.Need-is-unseen-requires Inv-loop μ-loop
+is-unseen-requires c κs = (c .before .before .before .before .before .before .before .before .before .before .pre .0)
+
+add-where-requires : tie.Need-add-where-requires Inv-loop μ-loop
+add-where-requires c κs = let m = (c .before .before .before .before .before .before .loop) in lacked-room _ _ _ _ _ _ _ (m .inv .0) _ (c .before .before .before .before .before .loop-test .taken) (c .before .before .before .before .before .before .before .before .before .before .before .before .pre .1 .1) (m .inv .1)
+
+add-i : tie.Need-add-i Inv-loop μ-loop
+add-i c = search needs
+
+loop-less : tie.Need-loop-less Inv-loop μ-loop
+loop-less c = search needs
+
+loop-again : tie.Need-loop-again Inv-loop μ-loop
+loop-again c = let m = (c .before .before .before .before .before .before .before .before .before .loop) in
+    let room = lacked-room _ _ _ _ _ _ _ (m .inv .0) _ (c .before .before .before .before .before .before .before .before .loop-test .taken) (c .before .before .before .before .before .before .before .before .before .before .before .before .before .before .before .pre .1 .1) (m .inv .1) in
+    let q = m .inv .1 in
+    (lacked-turn _ _ _ _ _ _ _ (m .inv .0) (c .before .before .before .before .before .before .before .before .loop-test .taken) (c .before .before .before .before .before .before .before .before .before .before .before .before .before .before .before .pre .1 .0) room _ (c .before .before .before .before .is-unseen .ensures) _ _ (c .before .before .add-where .ensures .0) (c .before .before .add-where .ensures .1), omega arith)
+
+same-length : tie.Need-same-length Inv-loop μ-loop
+same-length c = (c .before .loop .inv .1)
+
+returns : tie.Need-returns Inv-loop μ-loop
+returns c = lacked-done _ _ _ _ _ _ _ (c .before .loop .inv .0) (c .loop-test .left)
+
+pub unseen-spec : {M : Type 1} → statement M
+unseen-spec =
+    tie.close
+    (tie.spec
+    Inv-loop
+    μ-loop
+    loop-holds
+    mul-a
+    mul-a-2
+    shared-slice-read-a
+    mul-e
+    add-e
+    mul-e-2
+    shared-slice-read-e
+    sub-is-unseen
+    part-is-unseen-start
+    part-is-unseen-end
+    is-unseen-requires
+    add-where-requires
+    add-i
+    loop-less
+    loop-again
+    same-length
+    returns)

@@ -1,0 +1,328 @@
+-- What each call on a node answers and leaves. Refusals come in the order of 01's table: 40, 41, 42 for the lent node and stores; then what
+-- concerns the call. A refused call leaves the node and every lent byte as they were.
+use Prim.Native.Nat.{ℕ, _+_, _-_, _*_, _/_, min}
+use mathlib.Core.List.{List, [], _∷_, _++_, map}
+use mathlib.Core.Bool.{Bool, true, false, cond, _&&_}
+use lib.ListN.{length, take}
+use lib.Seq.{sets}
+use lib.Dec.{ltb, eqb}
+use Rattle.basis.specs.declared.Written.{Written}
+use Rattle.basis.specs.declared.Written.the-variants as done
+use Rattle.basis.specs.Writing.{answer, written}
+use Rattle.rows.specs.Rows.{placeOf}
+use Rattle.rows.specs.Ids.{among, indexOf}
+use Rattle.rows.specs.Store.{idAt, idsIn}
+use Rattle.protobuf.specs.declared.Checked.{Checked}
+use Rattle.protobuf.specs.declared.Checked.the-variants as checked
+use Rattle.protobuf.specs.Refusal.{refusalNumber, refusalValues}
+use Rattle.protobuf.specs.Walk.{between}
+use Rattle.protobuf.specs.Encode.{bytesField}
+use Rattle.rpc.specs.Rpc.{Rpc}
+use Rattle.rpc.specs.Encode.{encodeRpc, repeated}
+use Rattle.ids.specs.declared.MessageAt.{MessageAt}
+use Rattle.ids.specs.declared.MessageAt.the-variants as found
+use Rattle.ids.specs.Ids.{acceptOf, messageAt, idBytes}
+use Rattle.admission.specs.declared.Admission.{Admission}
+use Rattle.admission.specs.declared.Admission.the-variants as admission
+use Rattle.admission.specs.Admission.{unfitNumber, unfitValues, admissionOf}
+use Rattle.parts.specs.Parts.{atPath, once, fitting}
+use Rattle.seen.specs.declared.SeenCache.{SeenCache}
+use Rattle.seen.specs.Entries.{until}
+use Rattle.seen.specs.Calls.{capOf, heldIn, cleaned, entered, enteredStore}
+use Rattle.mcache.specs.declared.MessageCache.{MessageCache}
+use Rattle.mcache.specs.State.{messageIn}
+use Rattle.mcache.specs.Calls.{keptUnder, storedUnder, shifted, gossipList}
+use Rattle.node.specs.declared.Node.{Node}
+use Rattle.node.specs.declared.Lent.{Lent}
+use Rattle.node.specs.declared.Lent.the-variants as lent
+use Rattle.node.specs.declared.Fault.{Fault}
+use Rattle.node.specs.declared.Fault.the-variants as fault
+use Rattle.node.specs.declared.Start.{Start}
+use Rattle.node.specs.declared.Start.the-variants as start
+use Rattle.node.specs.declared.Admit.{Admit}
+use Rattle.node.specs.declared.Admit.the-variants as admit
+use Rattle.node.specs.declared.Beat.{Beat}
+use Rattle.node.specs.declared.Beat.the-variants as beat
+use Rattle.node.specs.declared.Advertise.{Advertise}
+use Rattle.node.specs.declared.Advertise.the-variants as advertise
+use Rattle.node.specs.declared.Ask.{Ask}
+use Rattle.node.specs.declared.Ask.the-variants as ask
+use Rattle.node.specs.declared.Serve.{Serve}
+use Rattle.node.specs.declared.Serve.the-variants as serve
+use Rattle.node.specs.Gateway.{marked, advertisement, request}
+use Rattle.node.specs.State.{legalSettings, freshNode, wellFormed}
+
+-- ---- 01's numbers and values
+abbrev pub faultNumber : Fault → ℕ
+faultNumber fault.BadSetting = 40
+faultNumber fault.BadStore = 41
+faultNumber fault.Malformed = 42
+
+abbrev pub lentNumber : Lent → ℕ
+lentNumber lent.Fine = 0
+lentNumber (lent.Faulty why) = faultNumber why
+
+abbrev pub startNumber : Start → ℕ
+startNumber start.Started = 0
+startNumber start.BadSetting = 40
+
+abbrev pub admitNumber : Admit → ℕ
+admitNumber admit.New = 0
+admitNumber admit.Duplicate = 0
+admitNumber (admit.Faulty why) = faultNumber why
+admitNumber (admit.Refused why) = refusalNumber why
+admitNumber (admit.NoMessage n) = 20
+admitNumber (admit.Unfit why) = unfitNumber why
+admitNumber (admit.ClockBack clock) = 31
+
+abbrev pub admitValues : Admit → List ℕ
+admitValues admit.New = []
+admitValues admit.Duplicate = []
+admitValues (admit.Faulty why) = []
+admitValues (admit.Refused why) = refusalValues why
+admitValues (admit.NoMessage n) = n ∷ []
+admitValues (admit.Unfit why) = unfitValues why
+admitValues (admit.ClockBack clock) = clock ∷ []
+
+abbrev pub beatNumber : Beat → ℕ
+beatNumber beat.Done = 0
+beatNumber (beat.Faulty why) = faultNumber why
+beatNumber (beat.ClockBack clock) = 31
+
+abbrev pub beatValues : Beat → List ℕ
+beatValues beat.Done = []
+beatValues (beat.Faulty why) = []
+beatValues (beat.ClockBack clock) = clock ∷ []
+
+abbrev pub advertiseNumber : Advertise → ℕ
+advertiseNumber (advertise.Bytes n) = 0
+advertiseNumber (advertise.Faulty why) = faultNumber why
+advertiseNumber (advertise.TopicTooLong n) = 29
+advertiseNumber (advertise.Room n) = 12
+
+abbrev pub advertiseValues : Advertise → List ℕ
+advertiseValues (advertise.Bytes n) = []
+advertiseValues (advertise.Faulty why) = []
+advertiseValues (advertise.TopicTooLong n) = n ∷ []
+advertiseValues (advertise.Room n) = n ∷ []
+
+abbrev pub askNumber : Ask → ℕ
+askNumber (ask.Bytes n) = 0
+askNumber (ask.Faulty why) = faultNumber why
+askNumber (ask.Refused why) = refusalNumber why
+askNumber (ask.Room n) = 12
+
+abbrev pub askValues : Ask → List ℕ
+askValues (ask.Bytes n) = []
+askValues (ask.Faulty why) = []
+askValues (ask.Refused why) = refusalValues why
+askValues (ask.Room n) = n ∷ []
+
+abbrev pub serveNumber : Serve → ℕ
+serveNumber (serve.Reply n messages left) = 0
+serveNumber (serve.Faulty why) = faultNumber why
+serveNumber (serve.Refused why) = refusalNumber why
+serveNumber (serve.Room n) = 12
+
+abbrev pub serveValues : Serve → List ℕ
+serveValues (serve.Reply n messages left) = []
+serveValues (serve.Faulty why) = []
+serveValues (serve.Refused why) = refusalValues why
+serveValues (serve.Room n) = n ∷ []
+
+-- ---- start: 40
+unfoldable pub startAnswer : ℕ → ℕ → ℕ → Start
+startAnswer max-seen history max = cond (legalSettings max-seen history max) start.Started start.BadSetting
+
+-- where the settings are refused, a node that keeps nothing
+unfoldable pub startNode : ℕ → ℕ → ℕ → ℕ → Node
+startNode ttl max-seen history max = cond (legalSettings max-seen history max) (freshNode ttl max-seen history max) (freshNode 0 0 1 0)
+
+-- ---- the lent node and its stores: 40, 41, 42
+unfoldable pub rightSizes : Node → List ℕ → List ℕ → Bool
+rightSizes n ss cs = eqb (length ss) (n .«max_seen» * 129) && eqb (length cs) (n .cache .«max_messages» * 4096)
+
+unfoldable pub lentOf : Node → List ℕ → List ℕ → Lent
+lentOf n ss cs =
+    cond (ltb (capOf ss) (n .«max_seen»)) (lent.Faulty fault.BadSetting)
+    (cond (rightSizes n ss cs) (cond (wellFormed n ss cs) lent.Fine (lent.Faulty fault.Malformed)) (lent.Faulty fault.BadStore))
+
+abbrev pub onLent : {A : Type 0} → (Fault → A) → Lent → A → A
+onLent bad lent.Fine r = r
+onLent bad (lent.Faulty why) r = bad why
+
+abbrev pub whenFine : {A : Type 0} → Lent → A → A → A
+whenFine lent.Fine new old = new
+whenFine (lent.Faulty why) new old = old
+
+-- ---- the node with another clock, seen cache and message cache
+unfoldable pub laterNode : ℕ → SeenCache → MessageCache → Node → Node
+laterNode at seen cache n = record { ttl = n .ttl; «max_seen» = n .«max_seen»; clock = at; seen = seen; cache = cache }
+
+-- ---- admit
+-- what an admit is to do: take a message under an id; or nothing, and answer so
+pub data Plan : Type 0 where
+  no : Admit → Plan
+  taken : List ℕ → List ℕ → Plan
+
+-- 21 to 30, and then 31
+abbrev pub planFit : Node → ℕ → List ℕ → Admission → Plan
+planFit n at p (admission.Unfit why) = no (admit.Unfit why)
+planFit n at p (admission.Fit a e b f) = cond (ltb at (n .clock)) (no (admit.ClockBack (n .clock))) (taken p (idBytes p a e b f))
+
+-- 20
+abbrev pub planAt : Node → ℕ → Bool → List ℕ → MessageAt → Plan
+planAt n at word body (found.Count k) = no (admit.NoMessage k)
+planAt n at word body (found.At a e) = planFit n at (between body a e) (admissionOf (between body a e) word)
+
+-- 10, 1 to 7, 11
+abbrev pub planBody : Node → ℕ → Bool → List ℕ → ℕ → Checked → Plan
+planBody n at word body i (checked.Refused why) = no (admit.Refused why)
+planBody n at word body i checked.Fine = planAt n at word body (messageAt body i)
+
+-- 40, 41, 42
+unfoldable pub planned : Node → List ℕ → List ℕ → List ℕ → ℕ → Bool → ℕ → Plan
+planned n ss cs body i word at = onLent (λ (why : Fault). no (admit.Faulty why)) (lentOf n ss cs) (planBody n at word body i (acceptOf body))
+
+-- the ids that are seen after the clean-up
+unfoldable pub swept : Node → ℕ → SeenCache
+swept n at = cleaned (n .«max_seen») at (n .seen)
+
+-- an id is seen then
+unfoldable pub heldAt : Node → List ℕ → ℕ → List ℕ → Bool
+heldAt n ss at id = heldIn (n .«max_seen») (swept n at) ss (marked id)
+
+abbrev pub admitAnswer : Node → List ℕ → ℕ → Plan → Admit
+admitAnswer n ss at (no r) = r
+admitAnswer n ss at (taken m id) = cond (heldAt n ss at id) admit.Duplicate admit.New
+
+abbrev pub admitNode : Node → List ℕ → ℕ → Plan → Node
+admitNode n ss at (no r) = n
+admitNode n ss at (taken m id) =
+    cond (heldAt n ss at id) (laterNode at (swept n at) (n .cache) n)
+    (laterNode at (entered (n .«max_seen») (n .«max_seen») (length (marked id)) (until at (n .ttl)) (swept n at)) (keptUnder m id (n .cache)) n)
+
+abbrev pub admitSeen : Node → List ℕ → ℕ → Plan → List ℕ
+admitSeen n ss at (no r) = ss
+admitSeen n ss at (taken m id) = cond (heldAt n ss at id) ss (enteredStore (n .«max_seen») (n .«max_seen») (swept n at) ss (marked id))
+
+abbrev pub admitCache : Node → List ℕ → List ℕ → ℕ → Plan → List ℕ
+admitCache n ss cs at (no r) = cs
+admitCache n ss cs at (taken m id) = cond (heldAt n ss at id) cs (storedUnder (n .cache) cs m id)
+
+-- ---- heartbeat: 40, 41, 42, 31
+unfoldable pub beatAnswer : Node → List ℕ → List ℕ → ℕ → Beat
+beatAnswer n ss cs at = onLent beat.Faulty (lentOf n ss cs) (cond (ltb at (n .clock)) (beat.ClockBack (n .clock)) beat.Done)
+
+abbrev pub whenDone : {A : Type 0} → Beat → A → A → A
+whenDone beat.Done new old = new
+whenDone (beat.Faulty why) new old = old
+whenDone (beat.ClockBack clock) new old = old
+
+unfoldable pub beatNode : Node → List ℕ → List ℕ → ℕ → Node
+beatNode n ss cs at = whenDone (beatAnswer n ss cs at) (laterNode at (swept n at) (shifted (n .cache)) n) n
+
+-- ---- writers: an RPC where there are ids to name, and else no bytes
+abbrev pub bytesFor : List (List ℕ) → Rpc → List ℕ
+bytesFor [] x = []
+bytesFor (i ∷ is) x = encodeRpc x
+
+-- ---- advertise: 40, 41, 42, 29, 12
+-- the ids that are told of, sorted
+unfoldable pub toldIn : Node → List ℕ → List ℕ → ℕ → List (List ℕ)
+toldIn n cs topic windows = map (idAt 128 (n .cache .«id_len») (n .cache .ids)) (gossipList (n .cache) cs topic windows)
+
+unfoldable pub advertiseBytes : Node → List ℕ → List ℕ → ℕ → List ℕ
+advertiseBytes n cs topic windows = bytesFor (toldIn n cs topic windows) (advertisement topic (toldIn n cs topic windows))
+
+abbrev pub advertised : Written → Advertise
+advertised (done.Bytes n) = advertise.Bytes n
+advertised (done.Room n) = advertise.Room n
+
+unfoldable pub advertiseAnswer : Node → List ℕ → List ℕ → List ℕ → ℕ → List ℕ → Advertise
+advertiseAnswer n ss cs topic windows out =
+    onLent advertise.Faulty (lentOf n ss cs)
+    (cond (ltb 1024 (length topic)) (advertise.TopicTooLong (length topic)) (advertised (answer (advertiseBytes n cs topic windows) out)))
+
+unfoldable pub advertiseLeft : Node → List ℕ → List ℕ → List ℕ → ℕ → List ℕ → List ℕ
+advertiseLeft n ss cs topic windows out =
+    whenFine (lentOf n ss cs) (cond (ltb 1024 (length topic)) out (written (advertiseBytes n cs topic windows) out)) out
+
+-- ---- ask: 40, 41, 42, 10, 1 to 7, 11, 12
+-- the ids in the IHAVEs of a body, each at its first mention
+unfoldable pub offered : List ℕ → List (List ℕ)
+offered body = once (atPath (3 ∷ 1 ∷ 2 ∷ []) body)
+
+-- those whose marked form is not among the ids seen
+unfoldable pub unseenFrom : List (List ℕ) → List (List ℕ) → List (List ℕ)
+unseenFrom seen [] = []
+unseenFrom seen (i ∷ is) = cond (among (marked i) seen) (unseenFrom seen is) (i ∷ unseenFrom seen is)
+
+unfoldable pub unseenOf : Node → List ℕ → List (List ℕ) → List (List ℕ)
+unseenOf n ss is = unseenFrom (idsIn 129 (n .«max_seen») (n .seen .start) (n .seen .count) (n .seen .len) ss) is
+
+unfoldable pub askBytes : Node → List ℕ → List ℕ → List ℕ
+askBytes n ss body = bytesFor (unseenOf n ss (offered body)) (request (unseenOf n ss (offered body)))
+
+abbrev pub asked : Written → Ask
+asked (done.Bytes n) = ask.Bytes n
+asked (done.Room n) = ask.Room n
+
+abbrev pub askOn : Ask → Checked → Ask
+askOn r checked.Fine = r
+askOn r (checked.Refused why) = ask.Refused why
+
+unfoldable pub askAnswer : Node → List ℕ → List ℕ → List ℕ → List ℕ → Ask
+askAnswer n ss cs body out = onLent ask.Faulty (lentOf n ss cs) (askOn (asked (answer (askBytes n ss body) out)) (acceptOf body))
+
+abbrev pub whenTaken : {A : Type 0} → Checked → A → A → A
+whenTaken checked.Fine new old = new
+whenTaken (checked.Refused why) new old = old
+
+unfoldable pub askLeft : Node → List ℕ → List ℕ → List ℕ → List ℕ → List ℕ
+askLeft n ss cs body out = whenFine (lentOf n ss cs) (whenTaken (acceptOf body) (written (askBytes n ss body) out) out) out
+
+-- ---- serve: 40, 41, 42, 10, 1 to 7, 11, 12
+-- the ids in the IWANTs of a body, each at its first mention
+unfoldable pub wanted : List ℕ → List (List ℕ)
+wanted body = once (atPath (3 ∷ 2 ∷ 1 ∷ []) body)
+
+-- the places of the messages with these ids; `held` are the ids in use, the oldest first
+unfoldable pub rowsFor : ℕ → ℕ → List (List ℕ) → List (List ℕ) → List ℕ
+rowsFor cap start held [] = []
+rowsFor cap start held (i ∷ is) =
+    cond (ltb (indexOf i held) (length held)) (placeOf cap start (indexOf i held) ∷ rowsFor cap start held is) (rowsFor cap start held is)
+
+-- the cached messages among those named
+unfoldable pub cachedOf : MessageCache → List ℕ → List (List ℕ) → List (List ℕ)
+cachedOf c cs is =
+    map (messageIn (c .len) cs) (rowsFor (c .«max_messages») (c .start) (idsIn 128 (c .«max_messages») (c .start) (c .count) (c .«id_len») (c .ids)) is)
+
+-- the reply room is the buffer or 65,536, the smaller
+unfoldable pub roomOf : List ℕ → ℕ
+roomOf out = min (length out) 65536
+
+-- how many messages are written
+unfoldable pub servedOf : List (List ℕ) → List ℕ → ℕ
+servedOf ms out = fitting 2 (roomOf out) ms
+
+unfoldable pub replyBytes : List (List ℕ) → List ℕ → List ℕ
+replyBytes ms out = repeated (bytesField 2) (take (servedOf ms out) ms)
+
+-- a first message that does not fit is 12, with the bytes of its field
+abbrev pub replyTo : List (List ℕ) → List ℕ → Serve
+replyTo [] out = serve.Reply 0 0 0
+replyTo (m ∷ ms) out =
+    cond (eqb (servedOf (m ∷ ms) out) 0) (serve.Room (length (bytesField 2 m)))
+    (serve.Reply (length (replyBytes (m ∷ ms) out)) (servedOf (m ∷ ms) out) (length (m ∷ ms) - servedOf (m ∷ ms) out))
+
+abbrev pub serveOn : Serve → Checked → Serve
+serveOn r checked.Fine = r
+serveOn r (checked.Refused why) = serve.Refused why
+
+unfoldable pub serveAnswer : Node → List ℕ → List ℕ → List ℕ → List ℕ → Serve
+serveAnswer n ss cs body out = onLent serve.Faulty (lentOf n ss cs) (serveOn (replyTo (cachedOf (n .cache) cs (wanted body)) out) (acceptOf body))
+
+unfoldable pub serveLeft : Node → List ℕ → List ℕ → List ℕ → List ℕ → List ℕ
+serveLeft n ss cs body out =
+    whenFine (lentOf n ss cs) (whenTaken (acceptOf body) (sets out 0 (replyBytes (cachedOf (n .cache) cs (wanted body)) out)) out) out

@@ -1,0 +1,10 @@
+pub mod Gateway
+pub mod State
+pub mod Calls
+pub mod WellFormed
+pub mod StateLaws
+pub mod WireLaws
+pub mod AskLaws
+pub mod Laws
+pub mod WellFormedLaws
+pub mod Readers

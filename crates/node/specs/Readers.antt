@@ -1,0 +1,314 @@
+-- Short theorems on the node, for readers: what is ruled out, and what the easy errors would get wrong.
+use Prim.Native.Nat.{ℕ, _+_, _-_, _^_, _≤_, _<_}
+use mathlib.Core.Path.{_≡_, refl, sym, ap, _∙_}
+use mathlib.Core.List.{List, [], _∷_, _++_, map-append}
+use mathlib.Core.Bool.{Bool, true, false, not, _&&_, or-true, and-false, Bool·not-not}
+use native.Mathlib.Omega.{arith}
+use lib.ListN.{length, take, drop, drop-of-length-le}
+use lib.Seq.{sets}
+use lib.Dec.{leb, eqb}
+use Rattle.basis.specs.Cases.{either, clash, both}
+use Rattle.rows.specs.Rows.{newest}
+use Rattle.rows.specs.Ids.{sameBytes, among}
+use Rattle.rows.specs.IdsLaws.{same-self, same-equal, among-append, among-drop}
+use Rattle.rows.specs.ListLaws.{map-drop}
+use Rattle.rows.specs.Store.{allUpTo}
+use Rattle.seen.specs.Entries.{Entry, holds, until, inserted, live}
+use Rattle.seen.specs.Entries as entries
+use Rattle.mcache.specs.Messages.{Cached, held, put, shift, get}
+use Rattle.mcache.specs.Messages as messages
+use Rattle.mcache.specs.CachedLaws.{newest-more, new}
+use Rattle.protobuf.specs.declared.Checked.{Checked}
+use Rattle.protobuf.specs.declared.Checked.the-variants as checked
+use Rattle.protobuf.specs.Walk.{between}
+use Rattle.protobuf.specs.Encode.{bytesField}
+use Rattle.rpc.specs.Rpc.{Rpc}
+use Rattle.rpc.specs.Encode.{encodeRpc, repeated}
+use Rattle.ids.specs.declared.MessageAt.the-variants as found
+use Rattle.ids.specs.Ids.{acceptOf, messageAt, idBytes}
+use Rattle.admission.specs.declared.Admission.the-variants as admission
+use Rattle.admission.specs.Admission.{admissionOf}
+use Rattle.parts.specs.Parts.{fitting}
+use Rattle.seen.specs.State.{entriesIn}
+use Rattle.seen.specs.EntriesLaws.{length-entries}
+use Rattle.seen.specs.Laws.{well-formed-exactly as seen-exactly}
+use Rattle.mcache.specs.State.{cachedIn}
+use Rattle.node.specs.declared.Node.{Node}
+use Rattle.node.specs.declared.Lent.{Lent}
+use Rattle.node.specs.declared.Lent.the-variants as lent
+use Rattle.node.specs.declared.Admit.the-variants as admit
+use Rattle.node.specs.declared.Beat.the-variants as beat
+use Rattle.node.specs.declared.Serve.the-variants as serve
+use Rattle.node.specs.declared.Advertised.{Advertised}
+use Rattle.node.specs.declared.Asked.{Asked}
+use Rattle.node.specs.declared.Served.{Served}
+use Rattle.node.specs.State.{gatewayIn}
+use Rattle.node.specs.Calls.{lentOf, whenFine, taken, planned, admitAnswer, admitNode, admitSeen, admitCache, beatAnswer, beatNode, bytesFor, advertiseAnswer, offered, unseenOf, askBytes, askAnswer, whenTaken, wanted, cachedOf, roomOf, servedOf, replyBytes, replyTo, serveAnswer, serveLeft}
+use Rattle.node.specs.WellFormed.{Typed, Reached}
+use Rattle.node.specs.StateLaws.{fine-tests, room-cap}
+use Rattle.node.specs.Laws.{plan-takes, plan-taken, admit-says, admit-gateway, beat-says, beat-clock, unseen-gateway, cached-gateway, serve-says}
+use Rattle.node.specs.Gateway.{Gateway, started, marked, isNew, afterAdmit, afterBeat, lacking, having, request}
+use Rattle.node.specs.WellFormedLaws.{expiriesOf, reached-ordered, upto-more, beat-fine}
+
+-- ---- a node that stores nothing
+holds-last : (i : List ℕ) (es : List Entry) (e : ℕ) → holds i (es ++ (record { id = i; expiry = e } ∷ [])) ≡ true
+unfolding holds among
+holds-last i es e =
+    rw (map-append (λ (x : Entry). x .id) es (record { id = i; expiry = e } ∷ []), among-append i (entries.idsOf es) (i ∷ []), same-self i) (or-true (among i (entries.idsOf es)))
+
+held-last : (i m : List ℕ) (ms : List Cached) → held i (ms ++ (new i m ∷ [])) ≡ true
+unfolding held among
+held-last i m ms =
+    rw (map-append (λ (x : Cached). x .id) ms (new i m ∷ []), among-append i (messages.idsOf ms) (i ∷ []), same-self i) (or-true (among i (messages.idsOf ms)))
+
+get-last : (i m : List ℕ) (ms : List Cached) → held i ms ≡ false → get i (ms ++ (new i m ∷ [])) ≡ m
+unfolding held among get
+get-last i m [] h = rw (same-self i)
+get-last i m (x ∷ ms) h =
+    either (sameBytes (x .id) i) (λ t. clash (let z = simp t at h in cc))
+    (λ t. rw t (get-last i m ms (simp t at h)))
+
+held-drop : (i : List ℕ) (k : ℕ) (ms : List Cached) → held i ms ≡ false → held i (drop k ms) ≡ false
+unfolding held
+held-drop i k ms h = rw (map-drop (λ (x : Cached). x .id) k ms) (among-drop i k (messages.idsOf ms) h)
+
+module _ (at : ℕ) (m id : List ℕ) (g : Gateway) (fresh : isNew at id g ≡ true) where
+  -- an id that was new is seen afterwards
+  pub new-is-seen : (g .max-seen ≡ 0 → ⊥) → holds (marked id) (afterAdmit at m id g .seen) ≡ true
+  unfolding afterAdmit isNew inserted
+  new-is-seen some =
+      let es = live at (g .seen) in
+      rw (sym (Bool·not-not (holds (marked id) es)) ∙ ap not fresh, newest-more (g .max-seen) es (record { id = marked id; expiry = until at (g .ttl) }) some)
+      (holds-last (marked id) (drop ((length es + 1) - g .max-seen) es) (until at (g .ttl)))
+
+  -- and its message is served
+  pub new-is-served : (g .max-messages ≡ 0 → ⊥) → held id (g .cache) ≡ false → having (afterAdmit at m id g) (id ∷ []) ≡ m ∷ []
+  unfolding having afterAdmit put
+  new-is-served some h =
+      let k = (length (g .cache) + 1) - g .max-messages in
+      rw (fresh, h, newest-more (g .max-messages) (g .cache) (new id m) some, held-last id m (drop k (g .cache)), get-last id m (drop k (g .cache)) (held-drop id k (g .cache) h))
+
+-- an id that is seen is not asked for
+seen-not-asked : (g : Gateway) (id : List ℕ) → holds (marked id) (g .seen) ≡ true → lacking g (id ∷ []) ≡ []
+unfolding lacking
+seen-not-asked g id h = rw h
+
+-- the same of the calls: after an admit that answers new, the id is not asked for, and its message is served
+module _ (n : Node) (ss cs body : List ℕ) (i : ℕ) (word : Bool) (at : ℕ) (m id : List ℕ) (typed : Typed n)
+    (plan : planned n ss cs body i word at ≡ taken m id)
+    (says : admitAnswer n ss at (planned n ss cs body i word at) ≡ admit.New)
+  where
+    was-new : isNew at id (gatewayIn n ss cs) ≡ true
+    was-new =
+        let s = admit-says n ss cs body i word at m id typed plan in
+        either (isNew at id (gatewayIn n ss cs)) (λ t. t) (λ t. clash (let z = rw (t, says) at s in cc))
+
+    pub admitted-not-asked : (n .«max_seen» ≡ 0 → ⊥)
+        → unseenOf (admitNode n ss at (planned n ss cs body i word at)) (admitSeen n ss at (planned n ss cs body i word at)) (id ∷ []) ≡ []
+    unfolding gatewayIn
+    admitted-not-asked some =
+        unseen-gateway (admitNode n ss at (planned n ss cs body i word at)) (admitSeen n ss at (planned n ss cs body i word at)) (admitCache n ss cs at (planned n ss cs body i word at)) (id ∷ [])
+        ∙ ap (λ (g : Gateway). lacking g (id ∷ [])) (admit-gateway n ss cs body i word at m id typed plan)
+        ∙ seen-not-asked (afterAdmit at m id (gatewayIn n ss cs)) id (new-is-seen at m id (gatewayIn n ss cs) was-new some)
+
+    pub admitted-served : (n .cache .«max_messages» ≡ 0 → ⊥) → held id (cachedIn (n .cache) cs) ≡ false
+        → cachedOf (admitNode n ss at (planned n ss cs body i word at) .cache) (admitCache n ss cs at (planned n ss cs body i word at)) (id ∷ []) ≡ m ∷ []
+    unfolding gatewayIn
+    admitted-served some h =
+        cached-gateway (admitNode n ss at (planned n ss cs body i word at)) (admitSeen n ss at (planned n ss cs body i word at)) (admitCache n ss cs at (planned n ss cs body i word at)) (id ∷ [])
+        ∙ ap (λ (g : Gateway). having g (id ∷ [])) (admit-gateway n ss cs body i word at m id typed plan)
+        ∙ new-is-served at m id (gatewayIn n ss cs) was-new some h
+
+-- ---- an ask that never asks
+-- an id that is not seen is asked for
+pub unseen-asked : (g : Gateway) (id : List ℕ) → holds (marked id) (g .seen) ≡ false → lacking g (id ∷ []) ≡ id ∷ []
+unfolding lacking
+unseen-asked g id h = rw h
+
+-- of the ids named, those and no others
+pub asked-exactly : (g : Gateway) (i : List ℕ) (is : List (List ℕ)) → among i (lacking g is) ≡ (among i is && not (holds (marked i) (g .seen)))
+unfolding lacking among
+asked-exactly g i [] = refl
+asked-exactly g i (j ∷ is) =
+    let r = asked-exactly g i is in
+    either (sameBytes j i)
+    (λ t.
+    let e : j ≡ i = same-equal j i t in
+    either (holds (marked i) (g .seen)) (λ u. rw (e, u, same-self i) (rw u at r ∙ and-false (among i is))) (λ u. rw (e, u, same-self i)))
+    (λ t. either (holds (marked j) (g .seen)) (λ u. rw (u, t) r) (λ u. rw (u, t) r))
+
+-- where such an id is named, an RPC is written that asks for it
+written-for : (i : List ℕ) (is : List (List ℕ)) (x : Rpc) → among i is ≡ true → bytesFor is x ≡ encodeRpc x
+unfolding among
+written-for i [] x h = clash (cc)
+written-for i (j ∷ is) x h = refl
+
+pub ask-asks : (n : Node) (ss cs body i : List ℕ) → among i (offered body) ≡ true → holds (marked i) (gatewayIn n ss cs .seen) ≡ false
+    → (among i (unseenOf n ss (offered body)) ≡ true) × (askBytes n ss body ≡ encodeRpc (request (unseenOf n ss (offered body))))
+unfolding askBytes
+ask-asks n ss cs body i h k =
+    let e : among i (unseenOf n ss (offered body)) ≡ true = ap (among i) (unseen-gateway n ss cs (offered body)) ∙ asked-exactly (gatewayIn n ss cs) i (offered body) ∙ rw (h, k) in
+    (e, written-for i (unseenOf n ss (offered body)) (request (unseenOf n ss (offered body))) e)
+
+-- ---- serve sends again in every round
+-- node k comes after any number of advertises, asks and serves from node n on, as their contracts have them; the stores are lent to be read
+pub data Quiet (n : Node) (ss cs : List ℕ) : Node → Type 0 where
+  first : Quiet n ss cs n
+  advertises : {k : Node} → Quiet n ss cs k → (topic : List ℕ) (windows : ℕ) (out : List ℕ) (r : Advertised) → r .answer ≡ advertiseAnswer k ss cs topic windows out → r .node ≡ k → Quiet n ss cs (r .node)
+  asks : {k : Node} → Quiet n ss cs k → (body out : List ℕ) (r : Asked) → r .answer ≡ askAnswer k ss cs body out → r .node ≡ k → Quiet n ss cs (r .node)
+  serves : {k : Node} → Quiet n ss cs k → (body out : List ℕ) (r : Served) → r .answer ≡ serveAnswer k ss cs body out → r .node ≡ k → Quiet n ss cs (r .node)
+
+quiet-same : {n : Node} {ss cs : List ℕ} {k : Node} → Quiet n ss cs k → k ≡ n
+quiet-same first = refl
+quiet-same (advertises q topic windows out r a e) = e ∙ quiet-same q
+quiet-same (asks q body out r a e) = e ∙ quiet-same q
+quiet-same (serves q body out r a e) = e ∙ quiet-same q
+
+-- a buffer's length is all that a reply takes from it
+reply-same : (ms : List (List ℕ)) (out out2 : List ℕ) → length out2 ≡ length out → (replyTo ms out2 ≡ replyTo ms out) × (replyBytes ms out2 ≡ replyBytes ms out)
+unfolding replyBytes servedOf roomOf
+reply-same [] out out2 e = (refl, rw e)
+reply-same (m ∷ ms) out out2 e = (rw e, rw e)
+
+-- the bytes that a serve writes at the front of the buffer; none where it is refused
+unfoldable pub servedBytes : Node → List ℕ → List ℕ → List ℕ → List ℕ → List ℕ
+servedBytes n ss cs body out = whenFine (lentOf n ss cs) (whenTaken (acceptOf body) (replyBytes (cachedOf (n .cache) cs (wanted body)) out) []) []
+
+module _ (n : Node) (ss cs body : List ℕ) where
+  writes-by : (out : List ℕ) (l : Lent) (r : Checked) → lentOf n ss cs ≡ l → acceptOf body ≡ r → serveLeft n ss cs body out ≡ sets out 0 (servedBytes n ss cs body out)
+  unfolding serveLeft servedBytes
+  writes-by out (lent.Faulty why) r e a = rw e
+  writes-by out lent.Fine (checked.Refused why) e a = rw (e, a)
+  writes-by out lent.Fine checked.Fine e a = rw (e, a)
+
+  pub serve-writes : (out : List ℕ) → serveLeft n ss cs body out ≡ sets out 0 (servedBytes n ss cs body out)
+  serve-writes out = writes-by out (lentOf n ss cs) (acceptOf body) refl refl
+
+  same-length : (out out2 : List ℕ) → length out2 ≡ length out
+      → (serveAnswer n ss cs body out2 ≡ serveAnswer n ss cs body out) × (servedBytes n ss cs body out2 ≡ servedBytes n ss cs body out)
+  unfolding serveAnswer servedBytes
+  same-length out out2 e =
+      let r = reply-same (cachedOf (n .cache) cs (wanted body)) out out2 e in
+      rw (r .0, r .1) (refl, refl)
+
+-- the same request later, with a buffer as long, gets the same answer and the same bytes
+pub serve-again : {n k : Node} {ss cs : List ℕ} → Quiet n ss cs k → (body out out2 : List ℕ) → length out2 ≡ length out
+    → (serveAnswer k ss cs body out2 ≡ serveAnswer n ss cs body out) × (servedBytes k ss cs body out2 ≡ servedBytes n ss cs body out)
+serve-again {n} {k} {ss} {cs} q body out out2 e = rw (quiet-same q) (same-length n ss cs body out out2 e)
+
+-- the counts: so many of the messages named and cached are written, the first ones, and the others are left
+fitting-le : (n room : ℕ) (ms : List (List ℕ)) → fitting n room ms ≤ length ms
+unfolding fitting
+fitting-le n room [] = omega arith
+fitting-le n room (m ∷ ms) =
+    let r = fitting-le n (room - length (bytesField n m)) ms in
+    either (leb (length (bytesField n m)) room) (λ t. rw t (omega arith)) (λ t. rw t (omega arith))
+
+pub record Counts (ms : List (List ℕ)) (bytes : List ℕ) (n messages left : ℕ) : Type 0 where
+  pub all : messages + left ≡ length ms
+  pub those : bytes ≡ repeated (bytesField 2) (take messages ms)
+  pub size : n ≡ length bytes
+
+reply-counts : (ms : List (List ℕ)) (out : List ℕ) (n k l : ℕ) → replyTo ms out ≡ serve.Reply n k l → Counts ms (replyBytes ms out) n k l
+unfolding replyBytes servedOf fitting
+reply-counts [] out n k l h =
+    let a : n ≡ 0 = cc in
+    let b : k ≡ 0 = cc in
+    let c : l ≡ 0 = cc in
+    record { all = omega arith; those = rw b; size = a }
+reply-counts (m ∷ ms) out n k l h =
+    either (eqb (servedOf (m ∷ ms) out) 0)
+    (λ t. clash (let z = rw t at h in cc))
+    (λ t.
+    let q = rw t at h in
+    let b : servedOf (m ∷ ms) out ≡ k = cc in
+    let a : length (replyBytes (m ∷ ms) out) ≡ n = cc in
+    let c : length (m ∷ ms) - servedOf (m ∷ ms) out ≡ l = cc in
+    let f : servedOf (m ∷ ms) out ≤ length (m ∷ ms) = fitting-le 2 (roomOf out) (m ∷ ms) in
+    record { all = omega arith; those = rw (← b); size = sym a })
+
+pub serve-counts : (n : Node) (ss cs body out : List ℕ) (b k l : ℕ) → lentOf n ss cs ≡ lent.Fine → acceptOf body ≡ checked.Fine → serveAnswer n ss cs body out ≡ serve.Reply b k l
+    → Counts (having (gatewayIn n ss cs) (wanted body)) (servedBytes n ss cs body out) b k l
+unfolding servedBytes
+serve-counts n ss cs body out b k l fine ok h =
+    rw (fine, ok, cached-gateway n ss cs (wanted body))
+    (reply-counts (having (gatewayIn n ss cs) (wanted body)) out b k l (sym (serve-says n ss cs out fine body ok .0) ∙ h))
+
+-- ---- line 8: an id whose entry has expired is new, whatever the cache holds
+live-none : (at : ℕ) (es : List Entry) → allUpTo at (expiriesOf es) ≡ true → live at es ≡ []
+unfolding live allUpTo
+live-none at [] h = refl
+live-none at (e ∷ es) h = let b = both (leb (e .expiry) at) (allUpTo at (expiriesOf es)) h in rw (b .0) (live-none at es (b .1))
+
+pub expired-new : (at : ℕ) (id : List ℕ) (g : Gateway) → allUpTo at (expiriesOf (g .seen)) ≡ true → isNew at id g ≡ true
+unfolding isNew holds among
+expired-new at id g h = rw (live-none at (g .seen) h)
+
+-- the sample: after the heartbeat at 1100 the message is still cached, and an admit at 1100 is new
+unfoldable pub sample : List ℕ → List ℕ → Gateway
+sample m id = afterBeat 1100 (afterAdmit 100 m id (started 1000 4 2 4))
+
+pub line-8-cached : (m id : List ℕ) → having (sample m id) (id ∷ []) ≡ m ∷ []
+unfolding sample having afterBeat afterAdmit started isNew inserted live holds among held put shift get newest until
+line-8-cached m id = rw (same-self id)
+
+pub line-8-new : (m id : List ℕ) → isNew 1100 id (sample m id) ≡ true
+unfolding sample afterBeat afterAdmit started isNew inserted live holds among newest until
+line-8-new m id = refl
+
+-- ---- readings at the edge
+-- a second clean-up at the same reading finds nothing
+live-twice : (at : ℕ) (es : List Entry) → live at (live at es) ≡ live at es
+unfolding live
+live-twice at [] = refl
+live-twice at (e ∷ es) = either (leb (e .expiry) at) (λ t. rw t (live-twice at es)) (λ t. rw (t, t))
+
+-- a second heartbeat at the same reading leaves the ids seen as they are
+pub beat-twice : (at : ℕ) (g : Gateway) → afterBeat at (afterBeat at g) .seen ≡ afterBeat at g .seen
+unfolding afterBeat
+beat-twice at g = live-twice at (g .seen)
+
+pub beat-twice-done : (n : Node) (ss cs : List ℕ) (at : ℕ) → Typed n → beatAnswer n ss cs at ≡ beat.Done → beatAnswer (beatNode n ss cs at) ss cs at ≡ beat.Done
+beat-twice-done n ss cs at typed h = beat-says (beatNode n ss cs at) ss cs at (beat-fine n ss cs at typed h) (omega (arith, beat-clock n ss cs at h))
+
+-- the last reading, 2^64 - 1, is taken: by a heartbeat, and by an admit
+pub last-beat : (n : Node) (ss cs : List ℕ) → lentOf n ss cs ≡ lent.Fine → n .clock < 2 ^ 64 → beatAnswer n ss cs (2 ^ 64 - 1) ≡ beat.Done
+last-beat n ss cs fine h = beat-says n ss cs (2 ^ 64 - 1) fine (omega arith)
+
+pub last-admit : (n : Node) (ss cs body : List ℕ) (i a e x y z w : ℕ) → lentOf n ss cs ≡ lent.Fine → acceptOf body ≡ checked.Fine → messageAt body i ≡ found.At a e
+    → admissionOf (between body a e) true ≡ admission.Fit x y z w → n .clock < 2 ^ 64 → planned n ss cs body i true (2 ^ 64 - 1) ≡ taken (between body a e) (idBytes (between body a e) x y z w)
+last-admit n ss cs body i a e x y z w fine ok there fit h = plan-taken n ss cs body i (2 ^ 64 - 1) a e x y z w fine ok there fit (omega arith)
+
+-- at it every id is new: no expiry is later
+until-last : (at ttl : ℕ) → until at ttl ≤ 2 ^ 64 - 1
+unfolding until
+until-last at ttl = omega arith
+
+pub last-new : {n : Node} {ss cs : List ℕ} → Reached n ss cs → (id : List ℕ) → isNew (2 ^ 64 - 1) id (gatewayIn n ss cs) ≡ true
+last-new {n} {ss} {cs} r id =
+    let g = gatewayIn n ss cs in
+    expired-new (2 ^ 64 - 1) id g (upto-more (until (g .clock) (g .ttl)) (2 ^ 64 - 1) (expiriesOf (g .seen)) (until-last (g .clock) (g .ttl)) (reached-ordered r .upto))
+
+-- with max_seen 0 every admit is new, and nothing is kept as seen
+pub none-seen : (at : ℕ) (m id : List ℕ) (g : Gateway) → g .max-seen ≡ 0 → g .seen ≡ [] → (isNew at id g ≡ true) × (afterAdmit at m id g .seen ≡ [])
+unfolding isNew afterAdmit inserted live holds among newest
+none-seen at m id g z e = rw (e, z) (refl, refl)
+
+-- of a node that passes, with max_seen 0
+pub no-room-none-seen : (n : Node) (ss cs : List ℕ) → lentOf n ss cs ≡ lent.Fine → n .«max_seen» ≡ 0 → gatewayIn n ss cs .seen ≡ []
+unfolding gatewayIn
+no-room-none-seen n ss cs fine z =
+    let t = fine-tests n ss cs fine in
+    let w = seen-exactly (n .seen) ss .0 (t .ids) in
+    let c = room-cap n ss (t .room) in
+    drop-of-length-le (entriesIn (n .«max_seen») (n .seen) ss) {i = 0} (omega (arith, length-entries (n .«max_seen») (n .seen) ss, w .within))
+
+pub no-room-admit : (n : Node) (ss cs body : List ℕ) (i : ℕ) (word : Bool) (at : ℕ) (m id : List ℕ) → Typed n → planned n ss cs body i word at ≡ taken m id → n .«max_seen» ≡ 0
+    → (admitAnswer n ss at (planned n ss cs body i word at) ≡ admit.New)
+    × (gatewayIn (admitNode n ss at (planned n ss cs body i word at)) (admitSeen n ss at (planned n ss cs body i word at)) (admitCache n ss cs at (planned n ss cs body i word at)) .seen ≡ [])
+unfolding gatewayIn
+no-room-admit n ss cs body i word at m id typed plan z =
+    let t = plan-takes n ss cs body i word at m id plan in
+    let e = no-room-none-seen n ss cs (t .fine) z in
+    let b = none-seen at m id (gatewayIn n ss cs) z e in
+    (admit-says n ss cs body i word at m id typed plan ∙ rw (b .0), ap (λ (g : Gateway). g .seen) (admit-gateway n ss cs body i word at m id typed plan) ∙ b .1)

@@ -1,0 +1,53 @@
+-- What a node and its two stores hold, and when they are well formed.
+use Prim.Native.Nat.{ℕ, _*_}
+use mathlib.Core.Path.{_≡_}
+use mathlib.Core.List.{List, [], _∷_}
+use mathlib.Core.Bool.{Bool, true, cond, _&&_}
+use lib.ListN.{length}
+use lib.Dec.{leb}
+use Rattle.rows.specs.Store.{Ring, Sound, lensIn}
+use Rattle.seen.specs.State.{entriesIn, wellFormed as seenWellFormed, fresh as noIds}
+use Rattle.mcache.specs.State.{Kept, cachedIn, legal, wellFormed as cacheWellFormed, fresh as noMessages}
+use Rattle.node.specs.declared.Node.{Node}
+use Rattle.node.specs.Gateway.{Gateway}
+
+-- the gateway that a node with its stores is
+unfoldable pub gatewayIn : Node → List ℕ → List ℕ → Gateway
+gatewayIn n ss cs =
+    record {
+      ttl = n .ttl;
+      max-seen = n .«max_seen»;
+      history-len = n .cache .«history_len»;
+      max-messages = n .cache .«max_messages»;
+      clock = n .clock;
+      seen = entriesIn (n .«max_seen») (n .seen) ss;
+      cache = cachedIn (n .cache) cs;
+    }
+
+-- ---- settings: max_seen 0 to 256, history_len 1 to 16, max_messages 0 to 64, any ttl
+unfoldable pub legalSettings : ℕ → ℕ → ℕ → Bool
+legalSettings max-seen history max = leb max-seen 256 && legal history max
+
+unfoldable pub freshNode : ℕ → ℕ → ℕ → ℕ → Node
+freshNode ttl max-seen history max = record { ttl = ttl; «max_seen» = max-seen; clock = 0; seen = noIds; cache = noMessages history max }
+
+-- ---- well formed
+-- expiries never fall from old to new, and the first is at least `least`
+unfoldable pub risesFrom : ℕ → List ℕ → Bool
+risesFrom least [] = true
+risesFrom least (e ∷ es) = leb least e && risesFrom e es
+
+unfoldable pub seenFits : Node → List ℕ → Bool
+seenFits n ss =
+    leb (n .«max_seen») 256
+    && (seenWellFormed (n .«max_seen») (n .seen) ss && risesFrom 0 (lensIn (n .«max_seen») (n .seen .start) (n .seen .count) (n .seen .expiry)))
+
+unfoldable pub wellFormed : Node → List ℕ → List ℕ → Bool
+wellFormed n ss cs = cacheWellFormed (n .cache) cs && seenFits n ss
+
+-- ---- what the steps need of a node that was tested
+pub record Ready (n : Node) (ss cs : List ℕ) : Type 0 where
+  pub seen-room : length ss ≡ n .«max_seen» * 129
+  pub rows : Sound 129 (n .«max_seen») (n .seen .start) (n .seen .count) (n .seen .len) ss
+  pub expiries : Ring (n .«max_seen») (n .seen .start) (n .seen .count) (n .seen .expiry)
+  pub kept : Kept (n .cache) cs

@@ -1,0 +1,823 @@
+// A gateway, 01's "The node": the settings, the clock, the ids seen and the messages held. The node goes in by value and comes back, beside two
+// lent stores: seen, max_seen rows of 129 bytes, and cache, max_messages places of 4,096 bytes. Each call tests them first.
+ghost use mathlib.Core.Path.{_≡_};
+ghost use mathlib.Core.Bool.{true, false, cond};
+ghost use mathlib.Core.List.{List, [], _∷_, _++_, map};
+ghost use Prim.Native.Nat.{ℕ, _+_, _-_, _*_, _≤_, _<_, min};
+ghost use lib.Dec.{ltb};
+ghost use lib.ListN.{length, drop, take, getD};
+ghost use lib.Seq.{sets};
+ghost use Rattle.basis.specs.Writing.{answer, written};
+ghost use Rattle.rows.specs.Rows.{placeOf};
+ghost use Rattle.rows.specs.Ids.{among};
+ghost use Rattle.rows.specs.Store.{Ring, Sound, lensIn, idsIn, idAt};
+ghost use Rattle.protobuf.specs.Walk.{between};
+ghost use Rattle.protobuf.specs.Encode.{bytesField};
+ghost use Rattle.rpc.specs.Encode.{encodeRpc, repeated};
+ghost use Rattle.encode.specs.Puts.{Puts, Fits};
+ghost use Rattle.ids.specs.Ids.{acceptOf, messageAt, idBytes};
+ghost use Rattle.admission.specs.Admission.{admissionOf};
+ghost use Rattle.parts.specs.Parts.{partsIn, Parts};
+ghost use Rattle.mcache.specs.State.{messageIn, Listed, Kept};
+ghost use Rattle.node.specs.Gateway.{marked, advertisement, request};
+ghost use Rattle.node.specs.State.{Ready, risesFrom, seenFits, freshNode};
+ghost use Rattle.node.specs.Calls.{startAnswer, startNode, lentOf, laterNode, taken, planFit, planned, swept, heldAt, admitAnswer, admitNode, admitSeen, admitCache, beatAnswer, beatNode, toldIn, advertiseBytes, advertised, advertiseAnswer, advertiseLeft, unseenFrom, unseenOf, offered, askBytes, asked, askAnswer, askLeft, rowsFor, cachedOf, wanted, replyTo, replyBytes, serveAnswer, serveLeft};
+use admission::Admission;
+use admission::MAX_TOPIC_SIZE;
+use admission::Unfit;
+use admission::admit;
+use encode::emit_bytes;
+use encode::emit_head;
+use ids::MessageAt;
+use ids::accept;
+use ids::message_at;
+use mcache::MessageCache;
+use mcache::form_id;
+use parts::add_part;
+use parts::emit_parts;
+use parts::first_mentions;
+use parts::parts_at;
+use parts::parts_that_fit;
+use protobuf::Checked;
+use protobuf::MAX_RPC_SIZE;
+use protobuf::WireError;
+use protobuf::put_bytes;
+use rows::find_from;
+use rows::place;
+use seen::ID_SIZE;
+use seen::MAX_IDS;
+use seen::SeenCache;
+use seen::expiry_of;
+
+pub struct Node {
+    pub ttl: u64,
+    pub max_seen: usize,
+    pub clock: u64,
+    pub seen: SeenCache,
+    pub cache: MessageCache,
+}
+
+// What is wrong with a lent node and its stores: 40, 41, 42.
+pub enum Fault {
+    BadSetting,
+    BadStore,
+    Malformed,
+}
+
+pub enum Lent {
+    Fine,
+    Faulty(Fault),
+}
+
+pub enum Start {
+    Started,
+    BadSetting,
+}
+
+pub struct Started {
+    pub answer: Start,
+    pub node: Node,
+}
+
+pub enum Admit {
+    New,
+    Duplicate,
+    Faulty(Fault),
+    Refused(WireError),
+    NoMessage(usize),
+    Unfit(Unfit),
+    ClockBack(u64),
+}
+
+pub struct Admitted {
+    pub answer: Admit,
+    pub node: Node,
+}
+
+pub enum Beat {
+    Done,
+    Faulty(Fault),
+    ClockBack(u64),
+}
+
+pub struct Beaten {
+    pub answer: Beat,
+    pub node: Node,
+}
+
+pub enum Advertise {
+    Bytes(usize),
+    Faulty(Fault),
+    TopicTooLong(usize),
+    Room(usize),
+}
+
+pub struct Advertised {
+    pub answer: Advertise,
+    pub node: Node,
+}
+
+pub enum Ask {
+    Bytes(usize),
+    Faulty(Fault),
+    Refused(WireError),
+    Room(usize),
+}
+
+pub struct Asked {
+    pub answer: Ask,
+    pub node: Node,
+}
+
+// How many bytes and messages were written, and how many cached ones were left.
+pub enum Serve {
+    Reply {
+        bytes: usize,
+        messages: usize,
+        left: usize,
+    },
+    Faulty(Fault),
+    Refused(WireError),
+    Room(usize),
+}
+
+pub struct Served {
+    pub answer: Serve,
+    pub node: Node,
+}
+
+// ---- the test of the lent state
+
+// Whether the expiries never fall from old to new.
+fn expiries_rise(expiry: &[u64], cap: usize, start: usize, count: usize) -> bool
+    requires { ⌜ Ring cap start count (now expiry) ⌝ }
+    ensures { λ r. ⌜ r ≡ risesFrom 0 (lensIn cap start count (now (expiry .entry))) ⌝ }
+{
+    let mut last: u64 = 0;
+    let mut i: usize = 0;
+    while i < count {
+        let p = place(cap, start, i);
+        let e = expiry[p];
+        if e < last {
+            return false;
+        }
+        last = e;
+        i += 1;
+    }
+    true
+}
+
+// ---- asking and serving
+
+// Puts a part into a table where it is to be there; how many there are then.
+fn add_where(there: bool, table: &mut [usize], n: usize, start: usize, end: usize) -> usize
+    requires { ⌜ (n + 1) * 2 ≤ length (now table) ⌝ }
+    ensures { λ r. ⌜ r ≡ cond there (n + 1) n ⌝ }
+    ensures { λ _. ⌜ now (table .exit) ≡ cond there (sets (now (table .entry)) (n * 2) (start ∷ end ∷ [])) (now (table .entry)) ⌝ }
+{
+    if there {
+        return add_part(table, n, start, end);
+    }
+    n
+}
+
+// Whether an id is not seen: its marked form is in no row. One above 128 bytes never is.
+fn is_unseen(lens: &[u8], store: &[u8], cap: usize, start: usize, count: usize, id: &[u8]) -> bool
+    requires { ⌜ Sound 129 cap start count (now lens) (now store) ⌝ }
+    ensures { λ r. ⌜ r ≡ cond (among (marked (now (id .entry))) (idsIn 129 cap start count (now (lens .entry)) (now (store .entry)))) false true ⌝ }
+{
+    let n = id.len();
+    if 128 < n {
+        return true;
+    }
+    let mut key = [0u8; 129];
+    key[0] = 1;
+    put_bytes(&mut key, 1, id);
+    count <= find_from(lens, store, 129, cap, start, count, 0, &key[..n + 1])
+}
+
+// Puts the parts that are ids not seen into another table; how many those are.
+fn unseen(
+    lens: &[u8],
+    store: &[u8],
+    cap: usize,
+    start: usize,
+    count: usize,
+    body: &[u8],
+    from: &[usize],
+    n: usize,
+    to: &mut [usize],
+) -> usize
+    requires { ⌜ Sound 129 cap start count (now lens) (now store) ⌝ }
+    requires { ⌜ Parts (now body) (now from) n ⌝ }
+    requires { ⌜ n * 2 ≤ length (now to) ⌝ }
+    ensures { λ r. ⌜ partsIn (now (body .entry)) (now (to .exit)) r ≡ unseenFrom (idsIn 129 cap start count (now (lens .entry)) (now (store .entry))) (partsIn (now (body .entry)) (now (from .entry)) n) ⌝ }
+    ensures { λ r. ⌜ Parts (now (body .entry)) (now (to .exit)) r ⌝ }
+    ensures { λ r. ⌜ r ≤ n ⌝ }
+{
+    let mut k: usize = 0;
+    let mut i: usize = 0;
+    while i < n {
+        let a = from[i * 2];
+        let e = from[i * 2 + 1];
+        let there = is_unseen(lens, store, cap, start, count, &body[a..e]);
+        k = add_where(there, to, k, a, e);
+        i += 1;
+    }
+    k
+}
+
+// Puts the places of the messages with the ids in some parts, those that are cached, into another table; how many those are.
+fn cached(
+    lens: &[u16],
+    id_lens: &[u8],
+    ids: &[u8],
+    cap: usize,
+    start: usize,
+    count: usize,
+    body: &[u8],
+    from: &[usize],
+    n: usize,
+    to: &mut [usize],
+) -> usize
+    requires { ⌜ Sound 128 cap start count (now «id_lens») (now ids) ⌝ }
+    requires { ⌜ (cap ≤ 64) × (length (now lens) ≡ 64) × ((i : ℕ) → i < count → getD (now lens) (placeOf cap start i) 0 ≤ 4096) ⌝ }
+    requires { ⌜ Parts (now body) (now from) n ⌝ }
+    requires { ⌜ n * 2 ≤ length (now to) ⌝ }
+    ensures { λ r. ⌜ ((cs : List ℕ) → partsIn cs (now (to .exit)) r ≡ map (messageIn (now (lens .entry)) cs) (rowsFor cap start (idsIn 128 cap start count (now («id_lens» .entry)) (now (ids .entry))) (partsIn (now (body .entry)) (now (from .entry)) n))) ⌝ }
+    ensures { λ r. ⌜ ((cs : List ℕ) → length cs ≡ cap * 4096 → Parts cs (now (to .exit)) r) ⌝ }
+    ensures { λ r. ⌜ r ≤ n ⌝ }
+{
+    let mut k: usize = 0;
+    let mut i: usize = 0;
+    while i < n {
+        let a = from[i * 2];
+        let e = from[i * 2 + 1];
+        let row = find_from(id_lens, ids, 128, cap, start, count, 0, &body[a..e]);
+        k = add_message(lens, cap, start, count, row, to, k);
+        i += 1;
+    }
+    k
+}
+
+// Puts the place of the message in a row into a table, where there is such a row; how many places there are then.
+fn add_message(
+    lens: &[u16],
+    cap: usize,
+    start: usize,
+    count: usize,
+    row: usize,
+    to: &mut [usize],
+    n: usize,
+) -> usize
+    requires { ⌜ (start ≤ cap) × (count ≤ cap) × (cap ≤ 64) × (length (now lens) ≡ 64) ⌝ }
+    requires { ⌜ (n + 1) * 2 ≤ length (now to) ⌝ }
+    ensures { λ r. ⌜ r ≡ cond (ltb row count) (n + 1) n ⌝ }
+    ensures { λ _. ⌜ now (to .exit) ≡ cond (ltb row count) (sets (now (to .entry)) (n * 2) ((placeOf cap start row * 4096) ∷ (placeOf cap start row * 4096 + getD (now (lens .entry)) (placeOf cap start row) 0) ∷ [])) (now (to .entry)) ⌝ }
+{
+    if row < count {
+        let p = place(cap, start, row);
+        let base = p * 4096;
+        return add_part(to, n, base, base + lens[p] as usize);
+    }
+    n
+}
+
+// The room for a reply: the buffer or 65,536, the smaller.
+fn reply_room(len: usize) -> usize
+    ensures { λ r. ⌜ r ≡ min len 65536 ⌝ }
+{
+    if len < MAX_RPC_SIZE {
+        return len;
+    }
+    MAX_RPC_SIZE
+}
+
+// ---- writing
+
+// An RPC with one IWANT that holds n parts.
+fn emit_request(body: &[u8], table: &[usize], n: usize, out: &mut [u8], at: usize) -> usize
+    requires { ⌜ Parts (now body) (now table) n ⌝ }
+    requires { ⌜ Fits at (encodeRpc (request (partsIn (now body) (now table) n))) ⌝ }
+    ensures { λ r. ⌜ Puts (now (out .entry)) at (encodeRpc (request (partsIn (now (body .entry)) (now (table .entry)) n))) (now (out .exit)) r ⌝ }
+{
+    let mut none = [0u8; 1];
+    let len = emit_parts(body, table, n, 1, &mut none, 0);
+    let entry = emit_head(2, len, &mut none, 0) + len;
+    let i = emit_head(3, entry, out, at);
+    let j = emit_head(2, len, out, i);
+    emit_parts(body, table, n, 1, out, j)
+}
+
+// The ids in n rows, as fields of an IHAVE.
+fn emit_ids(rows: &[u8], n: usize, id_lens: &[u8], ids: &[u8], out: &mut [u8], at: usize) -> usize
+    requires { ⌜ n ≤ length (now rows) ⌝ }
+    requires { ⌜ Listed n (now rows) (now «id_lens») (now ids) ⌝ }
+    requires { ⌜ Fits at (repeated (bytesField 2) (map (idAt 128 (now «id_lens») (now ids)) (take n (now rows)))) ⌝ }
+    ensures { λ r. ⌜ Puts (now (out .entry)) at (repeated (bytesField 2) (map (idAt 128 (now («id_lens» .entry)) (now (ids .entry))) (take n (now (rows .entry))))) (now (out .exit)) r ⌝ }
+{
+    let mut end = at;
+    let mut i: usize = 0;
+    while i < n {
+        let p = rows[i] as usize;
+        let len = id_lens[p] as usize;
+        let base = p * 128;
+        end = emit_head(2, len, out, end);
+        end = emit_bytes(&ids[base..base + len], out, end);
+        i += 1;
+    }
+    end
+}
+
+// An RPC with one IHAVE: the topic, and the ids in n rows.
+fn emit_advertisement(
+    topic: &[u8],
+    rows: &[u8],
+    n: usize,
+    id_lens: &[u8],
+    ids: &[u8],
+    out: &mut [u8],
+    at: usize,
+) -> usize
+    requires { ⌜ n ≤ length (now rows) ⌝ }
+    requires { ⌜ Listed n (now rows) (now «id_lens») (now ids) ⌝ }
+    requires { ⌜ Fits at (encodeRpc (advertisement (now topic) (map (idAt 128 (now «id_lens») (now ids)) (take n (now rows))))) ⌝ }
+    ensures { λ r. ⌜ Puts (now (out .entry)) at (encodeRpc (advertisement (now (topic .entry)) (map (idAt 128 (now («id_lens» .entry)) (now (ids .entry))) (take n (now (rows .entry)))))) (now (out .exit)) r ⌝ }
+{
+    let mut none = [0u8; 1];
+    let named = emit_ids(rows, n, id_lens, ids, &mut none, 0);
+    let topic_end = emit_head(1, topic.len(), &mut none, 0) + topic.len();
+    let len = topic_end + named;
+    let entry = emit_head(1, len, &mut none, 0) + len;
+    let i = emit_head(3, entry, out, at);
+    let j = emit_head(1, len, out, i);
+    let k = emit_head(1, topic.len(), out, j);
+    let l = emit_bytes(topic, out, k);
+    emit_ids(rows, n, id_lens, ids, out, l)
+}
+
+impl Node {
+    // A node that holds nothing. Settings out of range are 40.
+    pub fn start(ttl: u64, max_seen: usize, history_len: usize, max_messages: usize) -> Started
+        ensures { λ r. ⌜ r .answer ≡ startAnswer «max_seen» «history_len» «max_messages» ⌝ }
+        ensures { λ r. ⌜ r .node ≡ startNode ttl «max_seen» «history_len» «max_messages» ⌝ }
+    {
+        let c = MessageCache::new(history_len, max_messages);
+        let cache = c.cache;
+        let answer = c.answer;
+        match answer {
+            mcache::Start::BadSetting => Node::refused(),
+            mcache::Start::Started => {
+                if MAX_IDS < max_seen {
+                    return Node::refused();
+                }
+                Started {
+                    answer: Start::Started,
+                    node: Node {
+                        ttl,
+                        max_seen,
+                        clock: 0,
+                        seen: SeenCache::new(),
+                        cache,
+                    },
+                }
+            }
+        }
+    }
+
+    // The answer to settings out of range, beside a node that keeps nothing.
+    fn refused() -> Started
+        ensures { λ r. ⌜ r .answer ≡ Start.BadSetting ⌝ }
+        ensures { λ r. ⌜ r .node ≡ freshNode 0 0 1 0 ⌝ }
+    {
+        let c = MessageCache::new(1, 0);
+        let cache = c.cache;
+        Started {
+            answer: Start::BadSetting,
+            node: Node {
+                ttl: 0,
+                max_seen: 0,
+                clock: 0,
+                seen: SeenCache::new(),
+                cache,
+            },
+        }
+    }
+
+    // Whether the ids seen are well formed, where the store's length was tested.
+    fn seen_fits(self, seen_store: &[u8]) -> bool
+        requires { ⌜ length (now «seen_store») ≡ self .«max_seen» * 129 ⌝ }
+        ensures { λ r. ⌜ r ≡ seenFits self (now («seen_store» .entry)) ⌝ }
+    {
+        let seen = self.seen;
+        let lent = seen.lent(seen_store);
+        match lent {
+            seen::Lent::BadStore => false,
+            seen::Lent::Malformed => false,
+            seen::Lent::Fine => {
+                let expiry = seen.expiry;
+                expiries_rise(&expiry, self.max_seen, seen.start, seen.count)
+            }
+        }
+    }
+
+    // Whether the node and its stores can be used together.
+    pub fn lent(self, seen_store: &[u8], cache_store: &[u8]) -> Lent
+        ensures { λ r. ⌜ r ≡ lentOf self (now («seen_store» .entry)) (now («cache_store» .entry)) ⌝ }
+    {
+        let cap = seen_store.len() / ID_SIZE;
+        let max_seen = self.max_seen;
+        if cap < max_seen {
+            return Lent::Faulty(Fault::BadSetting);
+        }
+        if max_seen < cap {
+            return Lent::Faulty(Fault::BadStore);
+        }
+        if seen_store.len() % ID_SIZE != 0 {
+            return Lent::Faulty(Fault::BadStore);
+        }
+        let cache = self.cache;
+        let lent = cache.lent(cache_store);
+        match lent {
+            mcache::Lent::BadStore => Lent::Faulty(Fault::BadStore),
+            mcache::Lent::Malformed => Lent::Faulty(Fault::Malformed),
+            mcache::Lent::Fine => {
+                if self.seen_fits(seen_store) {
+                    return Lent::Fine;
+                }
+                Lent::Faulty(Fault::Malformed)
+            }
+        }
+    }
+
+    // With another clock and other caches.
+    fn later(mut self, at: u64, seen: SeenCache, cache: MessageCache) -> Self
+        ensures { λ r. ⌜ r ≡ laterNode at seen cache self ⌝ }
+    {
+        self.clock = at;
+        self.seen = seen;
+        self.cache = cache;
+        self
+    }
+
+    // Inserts a marked id that is not refused, and puts its message under the id, where the state was tested.
+    fn insert(
+        self,
+        seen_store: &mut [u8],
+        cache_store: &mut [u8],
+        part: &[u8],
+        key: &[u8],
+        at: u64,
+    ) -> Admitted
+        requires { ⌜ Ready self (now «seen_store») (now «cache_store») ⌝ }
+        requires { ⌜ (length (now part) ≤ 4096) × (length (now key) ≤ 129) × (now key ≡ marked (drop 1 (now key))) ⌝ }
+        ensures { λ r. ⌜ r .answer ≡ admitAnswer self (now («seen_store» .entry)) at (taken (now (part .entry)) (drop 1 (now (key .entry)))) ⌝ }
+        ensures { λ r. ⌜ r .node ≡ admitNode self (now («seen_store» .entry)) at (taken (now (part .entry)) (drop 1 (now (key .entry)))) ⌝ }
+        ensures { λ _. ⌜ now («seen_store» .exit) ≡ admitSeen self (now («seen_store» .entry)) at (taken (now (part .entry)) (drop 1 (now (key .entry)))) ⌝ }
+        ensures { λ _. ⌜ now («cache_store» .exit) ≡ admitCache self (now («seen_store» .entry)) (now («cache_store» .entry)) at (taken (now (part .entry)) (drop 1 (now (key .entry)))) ⌝ }
+    {
+        let cap = self.max_seen;
+        let before = self.seen;
+        let cache = self.cache;
+        let seen = before.clean(cap, at);
+        if seen.holds(seen_store, cap, key) {
+            return Admitted {
+                answer: Admit::Duplicate,
+                node: self.later(at, seen, cache),
+            };
+        }
+        let expires = expiry_of(at, self.ttl);
+        let seen = seen.enter(seen_store, cap, key, expires, cap);
+        let cache = cache.keep(cache_store, part, &key[1..]);
+        Admitted {
+            answer: Admit::New,
+            node: self.later(at, seen, cache),
+        }
+    }
+
+    // Admits the message in a part, where the state was tested: 21 to 30, 31.
+    fn admit_part(
+        self,
+        seen_store: &mut [u8],
+        cache_store: &mut [u8],
+        part: &[u8],
+        verified: bool,
+        at: u64,
+    ) -> Admitted
+        requires { ⌜ Ready self (now «seen_store») (now «cache_store») ⌝ }
+        ensures { λ r. ⌜ r .answer ≡ admitAnswer self (now («seen_store» .entry)) at (planFit self at (now (part .entry)) (admissionOf (now (part .entry)) verified)) ⌝ }
+        ensures { λ r. ⌜ r .node ≡ admitNode self (now («seen_store» .entry)) at (planFit self at (now (part .entry)) (admissionOf (now (part .entry)) verified)) ⌝ }
+        ensures { λ _. ⌜ now («seen_store» .exit) ≡ admitSeen self (now («seen_store» .entry)) at (planFit self at (now (part .entry)) (admissionOf (now (part .entry)) verified)) ⌝ }
+        ensures { λ _. ⌜ now («cache_store» .exit) ≡ admitCache self (now («seen_store» .entry)) (now («cache_store» .entry)) at (planFit self at (now (part .entry)) (admissionOf (now (part .entry)) verified)) ⌝ }
+    {
+        let a = admit(part, verified);
+        match a {
+            Admission::Unfit(why) => Admitted {
+                answer: Admit::Unfit(why),
+                node: self,
+            },
+            Admission::Fit {
+                from_start,
+                from_end,
+                seqno_start,
+                seqno_end,
+            } => {
+                if at < self.clock {
+                    return Admitted {
+                        answer: Admit::ClockBack(self.clock),
+                        node: self,
+                    };
+                }
+                let mut key = [0u8; 129];
+                key[0] = 1;
+                let n = form_id(
+                    part,
+                    from_start,
+                    from_end,
+                    seqno_start,
+                    seqno_end,
+                    &mut key[1..],
+                );
+                self.insert(seen_store, cache_store, part, &key[..n + 1], at)
+            }
+        }
+    }
+
+    // Admits the message at an index of a body, given the host's word on its signature and a reading of the clock.
+    pub fn admit(
+        self,
+        seen_store: &mut [u8],
+        cache_store: &mut [u8],
+        body: &[u8],
+        index: usize,
+        verified: bool,
+        at: u64,
+    ) -> Admitted
+        ensures { λ r. ⌜ r .answer ≡ admitAnswer self (now («seen_store» .entry)) at (planned self (now («seen_store» .entry)) (now («cache_store» .entry)) (now (body .entry)) index verified at) ⌝ }
+        ensures { λ r. ⌜ r .node ≡ admitNode self (now («seen_store» .entry)) at (planned self (now («seen_store» .entry)) (now («cache_store» .entry)) (now (body .entry)) index verified at) ⌝ }
+        ensures { λ _. ⌜ now («seen_store» .exit) ≡ admitSeen self (now («seen_store» .entry)) at (planned self (now («seen_store» .entry)) (now («cache_store» .entry)) (now (body .entry)) index verified at) ⌝ }
+        ensures { λ _. ⌜ now («cache_store» .exit) ≡ admitCache self (now («seen_store» .entry)) (now («cache_store» .entry)) at (planned self (now («seen_store» .entry)) (now («cache_store» .entry)) (now (body .entry)) index verified at) ⌝ }
+    {
+        let lent = self.lent(seen_store, cache_store);
+        match lent {
+            Lent::Faulty(why) => Admitted {
+                answer: Admit::Faulty(why),
+                node: self,
+            },
+            Lent::Fine => {
+                let c = accept(body);
+                match c {
+                    Checked::Refused(why) => Admitted {
+                        answer: Admit::Refused(why),
+                        node: self,
+                    },
+                    Checked::Fine => {
+                        let m = message_at(body, index);
+                        match m {
+                            MessageAt::Count(n) => Admitted {
+                                answer: Admit::NoMessage(n),
+                                node: self,
+                            },
+                            MessageAt::At { start, end } => self.admit_part(
+                                seen_store,
+                                cache_store,
+                                &body[start..end],
+                                verified,
+                                at,
+                            ),
+                        }
+                    }
+                }
+            }
+        }
+    }
+
+    // Cleans up, opens a window and sets the clock.
+    pub fn heartbeat(self, seen_store: &[u8], cache_store: &[u8], at: u64) -> Beaten
+        ensures { λ r. ⌜ r .answer ≡ beatAnswer self (now («seen_store» .entry)) (now («cache_store» .entry)) at ⌝ }
+        ensures { λ r. ⌜ r .node ≡ beatNode self (now («seen_store» .entry)) (now («cache_store» .entry)) at ⌝ }
+    {
+        let lent = self.lent(seen_store, cache_store);
+        match lent {
+            Lent::Faulty(why) => Beaten {
+                answer: Beat::Faulty(why),
+                node: self,
+            },
+            Lent::Fine => {
+                if at < self.clock {
+                    return Beaten {
+                        answer: Beat::ClockBack(self.clock),
+                        node: self,
+                    };
+                }
+                let before = self.seen;
+                let seen = before.clean(self.max_seen, at);
+                let held = self.cache;
+                let cache = held.later();
+                Beaten {
+                    answer: Beat::Done,
+                    node: self.later(at, seen, cache),
+                }
+            }
+        }
+    }
+
+    // Writes an advertisement of a topic, where the state and the topic were tested.
+    fn tell(self, cache_store: &[u8], topic: &[u8], windows: usize, out: &mut [u8]) -> Advertise
+        requires { ⌜ (Kept (self .cache) (now «cache_store»)) × (length (now topic) ≤ 1024) ⌝ }
+        ensures { λ r. ⌜ r ≡ advertised (answer (advertiseBytes self (now («cache_store» .entry)) (now (topic .entry)) windows) (now (out .entry))) ⌝ }
+        ensures { λ _. ⌜ now (out .exit) ≡ written (advertiseBytes self (now («cache_store» .entry)) (now (topic .entry)) windows) (now (out .entry)) ⌝ }
+    {
+        let cache = self.cache;
+        let told = cache.tell(cache_store, topic, windows);
+        let n = told.count;
+        if n == 0 {
+            return Advertise::Bytes(0);
+        }
+        let rows = told.rows;
+        let id_lens = cache.id_len;
+        let ids = cache.ids;
+        let mut none = [0u8; 1];
+        let needed = emit_advertisement(topic, &rows, n, &id_lens, &ids, &mut none, 0);
+        if out.len() < needed {
+            return Advertise::Room(needed);
+        }
+        emit_advertisement(topic, &rows, n, &id_lens, &ids, out, 0);
+        Advertise::Bytes(needed)
+    }
+
+    // Writes an RPC with one IHAVE: the topic, and the ids of the newest windows asked for that carry it. Without such ids, no bytes.
+    pub fn advertise(
+        self,
+        seen_store: &[u8],
+        cache_store: &[u8],
+        topic: &[u8],
+        windows: usize,
+        out: &mut [u8],
+    ) -> Advertised
+        ensures { λ r. ⌜ r .answer ≡ advertiseAnswer self (now («seen_store» .entry)) (now («cache_store» .entry)) (now (topic .entry)) windows (now (out .entry)) ⌝ }
+        ensures { λ r. ⌜ r .node ≡ self ⌝ }
+        ensures { λ _. ⌜ now (out .exit) ≡ advertiseLeft self (now («seen_store» .entry)) (now («cache_store» .entry)) (now (topic .entry)) windows (now (out .entry)) ⌝ }
+    {
+        let lent = self.lent(seen_store, cache_store);
+        match lent {
+            Lent::Faulty(why) => Advertised {
+                answer: Advertise::Faulty(why),
+                node: self,
+            },
+            Lent::Fine => {
+                if MAX_TOPIC_SIZE < topic.len() {
+                    return Advertised {
+                        answer: Advertise::TopicTooLong(topic.len()),
+                        node: self,
+                    };
+                }
+                let answer = self.tell(cache_store, topic, windows, out);
+                Advertised { answer, node: self }
+            }
+        }
+    }
+
+    // Writes a request for what a body offers and is not seen, where the state and the body were tested.
+    fn request_for(self, seen_store: &[u8], body: &[u8], out: &mut [u8]) -> Ask
+        requires { ⌜ Sound 129 (self .«max_seen») (self .seen .start) (self .seen .count) (self .seen .len) (now «seen_store») ⌝ }
+        requires { ⌜ acceptOf (now body) ≡ Checked.Fine ⌝ }
+        ensures { λ r. ⌜ r ≡ asked (answer (askBytes self (now («seen_store» .entry)) (now (body .entry))) (now (out .entry))) ⌝ }
+        ensures { λ _. ⌜ now (out .exit) ≡ written (askBytes self (now («seen_store» .entry)) (now (body .entry))) (now (out .entry)) ⌝ }
+    {
+        let mut named = [0usize; 1024];
+        let mut first = [0usize; 1024];
+        let path = [3u64, 1, 2];
+        let n = parts_at(body, 0, body.len(), &path, &mut named, 0);
+        let k = first_mentions(body, &named, n, &mut first);
+        let seen = self.seen;
+        let lens = seen.len;
+        let m = unseen(
+            &lens,
+            seen_store,
+            self.max_seen,
+            seen.start,
+            seen.count,
+            body,
+            &first,
+            k,
+            &mut named,
+        );
+        if m == 0 {
+            return Ask::Bytes(0);
+        }
+        let mut none = [0u8; 1];
+        let needed = emit_request(body, &named, m, &mut none, 0);
+        if out.len() < needed {
+            return Ask::Room(needed);
+        }
+        emit_request(body, &named, m, out, 0);
+        Ask::Bytes(needed)
+    }
+
+    // Writes an RPC with one IWANT that holds every id in the IHAVEs of a body whose marked form is not seen, each once. Without such ids, no bytes.
+    pub fn ask(self, seen_store: &[u8], cache_store: &[u8], body: &[u8], out: &mut [u8]) -> Asked
+        ensures { λ r. ⌜ r .answer ≡ askAnswer self (now («seen_store» .entry)) (now («cache_store» .entry)) (now (body .entry)) (now (out .entry)) ⌝ }
+        ensures { λ r. ⌜ r .node ≡ self ⌝ }
+        ensures { λ _. ⌜ now (out .exit) ≡ askLeft self (now («seen_store» .entry)) (now («cache_store» .entry)) (now (body .entry)) (now (out .entry)) ⌝ }
+    {
+        let lent = self.lent(seen_store, cache_store);
+        match lent {
+            Lent::Faulty(why) => Asked {
+                answer: Ask::Faulty(why),
+                node: self,
+            },
+            Lent::Fine => {
+                let c = accept(body);
+                match c {
+                    Checked::Refused(why) => Asked {
+                        answer: Ask::Refused(why),
+                        node: self,
+                    },
+                    Checked::Fine => {
+                        let answer = self.request_for(seen_store, body, out);
+                        Asked { answer, node: self }
+                    }
+                }
+            }
+        }
+    }
+
+    // Writes the cached messages that a body asks for, as many as the reply room takes, where the state and the body were tested.
+    fn reply_to(self, cache_store: &[u8], body: &[u8], out: &mut [u8]) -> Serve
+        requires { ⌜ Kept (self .cache) (now «cache_store») ⌝ }
+        requires { ⌜ acceptOf (now body) ≡ Checked.Fine ⌝ }
+        ensures { λ r. ⌜ r ≡ replyTo (cachedOf (self .cache) (now («cache_store» .entry)) (wanted (now (body .entry)))) (now (out .entry)) ⌝ }
+        ensures { λ _. ⌜ now (out .exit) ≡ sets (now (out .entry)) 0 (replyBytes (cachedOf (self .cache) (now («cache_store» .entry)) (wanted (now (body .entry)))) (now (out .entry))) ⌝ }
+    {
+        let mut named = [0usize; 1024];
+        let mut first = [0usize; 1024];
+        let path = [3u64, 2, 1];
+        let n = parts_at(body, 0, body.len(), &path, &mut named, 0);
+        let k = first_mentions(body, &named, n, &mut first);
+        let cache = self.cache;
+        let lens = cache.len;
+        let id_lens = cache.id_len;
+        let ids = cache.ids;
+        let m = cached(
+            &lens,
+            &id_lens,
+            &ids,
+            cache.max_messages,
+            cache.start,
+            cache.count,
+            body,
+            &first,
+            k,
+            &mut named,
+        );
+        if m == 0 {
+            return Serve::Reply {
+                bytes: 0,
+                messages: 0,
+                left: 0,
+            };
+        }
+        let room = reply_room(out.len());
+        let w = parts_that_fit(cache_store, &named, m, 2, room);
+        if w == 0 {
+            let mut none = [0u8; 1];
+            let needed = emit_parts(cache_store, &named, 1, 2, &mut none, 0);
+            return Serve::Room(needed);
+        }
+        let bytes = emit_parts(cache_store, &named, w, 2, out, 0);
+        Serve::Reply {
+            bytes,
+            messages: w,
+            left: m - w,
+        }
+    }
+
+    // Writes the cached messages that the IWANTs of a body name, each once, and stops before the first that would pass the reply room.
+    pub fn serve(self, seen_store: &[u8], cache_store: &[u8], body: &[u8], out: &mut [u8]) -> Served
+        ensures { λ r. ⌜ r .answer ≡ serveAnswer self (now («seen_store» .entry)) (now («cache_store» .entry)) (now (body .entry)) (now (out .entry)) ⌝ }
+        ensures { λ r. ⌜ r .node ≡ self ⌝ }
+        ensures { λ _. ⌜ now (out .exit) ≡ serveLeft self (now («seen_store» .entry)) (now («cache_store» .entry)) (now (body .entry)) (now (out .entry)) ⌝ }
+    {
+        let lent = self.lent(seen_store, cache_store);
+        match lent {
+            Lent::Faulty(why) => Served {
+                answer: Serve::Faulty(why),
+                node: self,
+            },
+            Lent::Fine => {
+                let c = accept(body);
+                match c {
+                    Checked::Refused(why) => Served {
+                        answer: Serve::Refused(why),
+                        node: self,
+                    },
+                    Checked::Fine => {
+                        let answer = self.reply_to(cache_store, body, out);
+                        Served { answer, node: self }
+                    }
+                }
+            }
+        }
+    }
+}

@@ -1,0 +1,128 @@
+-- The messages in a tested cache: each is a message of the grammar, with at most 4 topics, all UTF-8, and at most 4,096 bytes; and its id has at most
+-- 128.
+use Prim.Native.Nat.{ℕ, zero, suc, _+_, _*_, _≤_, _<_}
+use mathlib.Core.Path.{_≡_, refl, sym, ap₂, subst, _∙_}
+use mathlib.Core.List.{List, [], _∷_, map, List·Memᴰ, List·Memᴰ·not-nil, List·Memᴰ·cases-cons}
+use mathlib.Core.Bool.{true}
+use mathlib.Core.Logic.{⊎-elim}
+use native.Mathlib.Omega.{arith}
+use native.Mathlib.Nat.{zero-lt-suc}
+use lib.ListN.{length, take, drop, getD, length-take}
+use Rattle.basis.specs.Bytes.{Bytes}
+use Rattle.basis.specs.Lists.{drop-bytes, take-bytes}
+use Rattle.utf8.specs.Grammar.{Utf8}
+use Rattle.rows.specs.Rows.{tab, placeOf, ring}
+use Rattle.rows.specs.Store.{idAt}
+use Rattle.protobuf.specs.Walk.{Fields, end, refused, _then_, fieldsOf}
+use Rattle.rpc.specs.Rpc.{RawMessage}
+use Rattle.rpc.specs.Grammar.{Each, none-left, _and_, Pairs, no-pairs, _paired_, IsMessage, is-message}
+use Rattle.meaning.specs.Accepted.{message-means}
+use Rattle.meaning.specs.Size.{sumOf}
+use Rattle.admission.specs.Admission.{topicsAlong, topicsOf}
+use Rattle.admission.specs.AdmissionLaws.{Gives, gives-only, fit-limits}
+use Rattle.mcache.specs.declared.MessageCache.{MessageCache}
+use Rattle.mcache.specs.Messages.{Cached}
+use Rattle.mcache.specs.State.{messageIn, cachedAt, cachedIn}
+use Rattle.mcache.specs.StateLaws.{Tests, row-gives, row-id-short}
+use Rattle.parts.specs.Parts.{valuesAlong}
+use Rattle.canonical.specs.Means.{Sized}
+use Rattle.outputs.specs.Offered.{values-body}
+
+-- ---- each of a list
+pub each-take : {A : Type 0} {P : A → Type 0} (k : ℕ) {l : List A} → Each P l → Each P (take k l)
+each-take zero ps = none-left
+each-take (suc k) none-left = none-left
+each-take (suc k) (p and ps) = p and each-take k ps
+
+pub each-in : {A : Type 0} {P : A → Type 0} (a : A) {l : List A} → Each P l → List·Memᴰ a l → P a
+each-in a none-left m = absurd (List·Memᴰ·not-nil m)
+each-in {P = P} a (_and_ {x = b} {xs = l} p ps) m =
+    ⊎-elim (λ (e : a ≡ b). subst P (sym e) p) (λ (r : List·Memᴰ a l). each-in a ps r) (List·Memᴰ·cases-cons m)
+
+each-tab : {A : Type 0} {P : A → Type 0} (f : ℕ → A) (n : ℕ) → ((i : ℕ) → i < n → P (f i)) → Each P (tab f n)
+each-tab f zero h = none-left
+each-tab f (suc n) h = h 0 (zero-lt-suc n) and each-tab (λ (i : ℕ). f (suc i)) n (λ i k. h (suc i) (omega arith))
+
+-- ---- the topics of a message are those that it means
+topics-values : (p : List ℕ) (w : Fields) → topicsAlong p w ≡ valuesAlong 4 p w
+topics-values p end = refl
+topics-values p (refused why) = refl
+topics-values p (f then w) = rw (topics-values p w)
+
+topics-mean : {p : List ℕ} {m : RawMessage} → IsMessage p m → (m .«topic_ids» ≡ topicsOf p) × Each Utf8 (topicsOf p)
+unfolding topicsOf
+topics-mean (is-message {s = p} {es = es} g u) =
+    let e = topics-values p (fieldsOf p) ∙ values-body 4 p es g in
+    (sym e, subst (Each Utf8) (sym e) u)
+
+raw-own : {p : List ℕ} {m : RawMessage} → IsMessage p m → m .raw ≡ p
+raw-own (is-message g u) = refl
+
+-- ---- a message that may be taken
+pub record Message (p : List ℕ) : Type 0 where
+  pub value : RawMessage
+  pub means : IsMessage p value
+  pub few : length (value .«topic_ids») ≤ 4
+  pub texts : Each Utf8 (topicsOf p)
+  pub small : length p ≤ 4096
+
+pub message-given : (p i : List ℕ) → Bytes p → Gives p i → Message p
+message-given p i b g =
+    let l = fit-limits p true (g .from-start) (g .from-end) (g .seqno-start) (g .seqno-end) (g .taken) in
+    let m = message-means p b (record { records = g .records; counts = g .read }) in
+    let t = topics-mean (m .means) in
+    record { value = m .value; means = m .means; few = rw (t .0) (l .few); texts = t .1; small = l .small }
+
+-- ---- those of a tested cache
+bytes-in : (lens st : List ℕ) (p : ℕ) → Bytes st → Bytes (messageIn lens st p)
+unfolding messageIn
+bytes-in lens st p b = take-bytes (getD lens p 0) (drop (p * 4096) st) (drop-bytes (p * 4096) st b)
+
+module _ (c : MessageCache) (st : List ℕ) (t : Tests c st) (b : Bytes st) where
+  pub row-message : (i : ℕ) → i < c .count → Message (messageIn (c .len) st (placeOf (c .«max_messages») (c .start) i))
+  row-message i h =
+      let p = placeOf (c .«max_messages») (c .start) i in
+      message-given (messageIn (c .len) st p) (idAt 128 (c .«id_len») (c .ids) p) (bytes-in (c .len) st p b) (gives-only (messageIn (c .len) st p) (idAt 128 (c .«id_len») (c .ids) p) (row-gives c st t i h))
+
+-- a cached message with its id
+pub record CachedMessage (m : Cached) : Type 0 where
+  pub message : Message (m .message)
+  pub id-short : length (m .id) ≤ 128
+
+id-length : (lens ids : List ℕ) (p : ℕ) → getD lens p 0 ≤ 128 → length (idAt 128 lens ids p) ≤ 128
+unfolding idAt
+id-length lens ids p h = omega (arith, length-take (getD lens p 0) (drop (p * 128) ids))
+
+module _ (c : MessageCache) (st : List ℕ) (t : Tests c st) (b : Bytes st) where
+  row-cached : (i : ℕ) → i < c .count → CachedMessage (cachedAt c st (placeOf (c .«max_messages») (c .start) i))
+  unfolding cachedAt
+  row-cached i h =
+      record {
+        message = row-message c st t b i h;
+        id-short = id-length (c .«id_len») (c .ids) (placeOf (c .«max_messages») (c .start) i) (row-id-short c st t i h);
+      }
+
+  pub each-cached : Each CachedMessage (cachedIn c st)
+  unfolding cachedIn ring
+  each-cached = each-tab (λ (i : ℕ). cachedAt c st (placeOf (c .«max_messages») (c .start) i)) (c .count) row-cached
+
+-- ---- messages, one by one
+pub record Messages (ps : List (List ℕ)) : Type 0 where
+  pub values : List RawMessage
+  pub means : Pairs IsMessage ps values
+  pub raws : map (λ (m : RawMessage). m .raw) values ≡ ps
+  pub few : sumOf (λ m. 1 + length (m .«topic_ids»)) values ≤ 5 * length ps
+  pub sized : Each Sized ps
+
+pub all-messages : {ps : List (List ℕ)} → Each Message ps → Messages ps
+all-messages none-left = record { values = []; means = no-pairs; raws = refl; few = omega arith; sized = none-left }
+all-messages (_and_ {x = p} {xs = ps} m ms) =
+    let r = all-messages ms in
+    let k : Sized p = omega (arith, m .small) in
+    record {
+      values = m .value ∷ r .values;
+      means = m .means paired r .means;
+      raws = ap₂ (λ (x : List ℕ) (l : List (List ℕ)). x ∷ l) (raw-own (m .means)) (r .raws);
+      few = omega (arith, m .few, r .few);
+      sized = k and r .sized;
+    }

@@ -1,0 +1,127 @@
+-- The ids that stand in the IHAVEs and in the IWANTs of a body are those that its RPC names; and they are no more than its records.
+use Prim.Native.Nat.{ℕ, _+_, _≤_}
+use mathlib.Core.Path.{_≡_, refl, sym, ap, ap₂, _∙_}
+use mathlib.Core.Bool.{cond}
+use mathlib.Core.List.{List, [], _∷_, _++_, append-assoc, append-nil}
+use mathlib.Core.Option.{Option, none, some}
+use native.Mathlib.Omega.{arith}
+use lib.ListN.{length, length-append}
+use Rattle.protobuf.specs.declared.Field.{Field}
+use Rattle.protobuf.specs.Grammar.{Entry, Body}
+use Rattle.protobuf.specs.Walk.{whole, fieldsOf, entriesOf, isBytes, valueIn}
+use Rattle.protobuf.specs.Exactly.{body-walks}
+use Rattle.rpc.specs.Rpc.{ControlIHave, ControlIWant, ControlMessage, Rpc}
+use Rattle.rpc.specs.Grammar.{bytesIn, Pairs, no-pairs, _paired_, IsIHave, is-ihave, IsIWant, is-iwant, IsControl, is-control, joinTo, joined, IsRpc, is-rpc}
+use Rattle.meaning.specs.Entries.{put-bytes}
+use Rattle.meaning.specs.Size.{sumOf, someRecords, recordsIn}
+use Rattle.parts.specs.Parts.{valuesAlong, inEach, atPath, once}
+use Rattle.node.specs.Calls.{offered, wanted}
+use Rattle.outputs.specs.Named.{ihaveIds, iwantIds, offersIn, wantsIn, offersOf, wantsOf}
+
+-- ---- along the walk of a body stand the values of its fields
+values-list : (n : ℕ) (s : List ℕ) (fs : List Field) → valuesAlong n s (whole fs) ≡ bytesIn n (entriesOf s fs)
+values-list n s [] = refl
+values-list n s (f ∷ fs) =
+    let ds = bytesIn n (entriesOf s fs) in
+    ap (λ (l : List (List ℕ)). cond (isBytes n f) (valueIn s f ∷ l) l) (values-list n s fs) ∙ sym (put-bytes s n f ds)
+
+pub values-body : (n : ℕ) (s : List ℕ) (es : List Entry) → Body s es → valuesAlong n s (fieldsOf s) ≡ bytesIn n es
+values-body n s es g =
+    let w = body-walks s es g in
+    ap (valuesAlong n s) (w .walked) ∙ values-list n s (w .fields) ∙ ap (bytesIn n) (w .entries)
+
+-- ---- a path, one field further
+path-body : (n : ℕ) (ns s : List ℕ) (es : List Entry) → Body s es → atPath (n ∷ ns) s ≡ inEach (atPath ns) (bytesIn n es)
+unfolding atPath
+path-body n ns s es g = ap (inEach (atPath ns)) (values-body n s es g)
+
+each-itself : (ds : List (List ℕ)) → inEach (atPath []) ds ≡ ds
+unfolding atPath
+each-itself [] = refl
+each-itself (d ∷ ds) = ap (λ (l : List (List ℕ)). d ∷ l) (each-itself ds)
+
+-- ---- submessages, each with ids of its own: `all` are those of several, one after the other
+module _ {X : Type 0} (all : List X → List (List ℕ)) (own : X → List (List ℕ)) (empty : [] ≡ all []) (more : (x : X) (xs : List X) → own x ++ all xs ≡ all (x ∷ xs)) where
+  in-pairs : {R : List ℕ → X → Type 0} (g : List ℕ → List (List ℕ)) → ((d : List ℕ) (x : X) → R d x → g d ≡ own x) → {ds : List (List ℕ)} {xs : List X} → Pairs R ds xs → inEach g ds ≡ all xs
+  in-pairs g same no-pairs = empty
+  in-pairs g same (_paired_ {x = d} {y = x} {ys = xs} p ps) = ap₂ (λ (a b : List (List ℕ)). a ++ b) (same d x p) (in-pairs g same ps) ∙ more x xs
+
+  all-append : (xs ys : List X) → all xs ++ all ys ≡ all (xs ++ ys)
+  all-append [] ys = ap (λ (l : List (List ℕ)). l ++ all ys) (sym empty)
+  all-append (x ∷ xs) ys =
+      ap (λ (l : List (List ℕ)). l ++ all ys) (sym (more x xs)) ∙ append-assoc (own x) (all xs) (all ys) ∙ ap (λ (l : List (List ℕ)). own x ++ l) (all-append xs ys) ∙ more x (xs ++ ys)
+
+  -- each submessage is a record, and so is each id
+  all-few : (xs : List X) → sumOf (λ x. 1 + length (own x)) xs ≡ length xs + length (all xs)
+  all-few [] = omega (arith, ap length empty)
+  all-few (x ∷ xs) = omega (arith, length-append (own x) (all xs), ap length (more x xs), all-few xs)
+
+-- ---- one IHAVE, one IWANT, one control
+ihave-ids : (d : List ℕ) (h : ControlIHave) → IsIHave d h → atPath (2 ∷ []) d ≡ h .«message_ids»
+ihave-ids _ _ (is-ihave {s = s} {es = es} g u) = path-body 2 [] s es g ∙ each-itself (bytesIn 2 es)
+
+iwant-ids : (d : List ℕ) (w : ControlIWant) → IsIWant d w → atPath (1 ∷ []) d ≡ w .«message_ids»
+iwant-ids _ _ (is-iwant {s = s} {es = es} g) = path-body 1 [] s es g ∙ each-itself (bytesIn 1 es)
+
+control-offers : (d : List ℕ) (c : ControlMessage) → IsControl d c → atPath (1 ∷ 2 ∷ []) d ≡ ihaveIds (c .ihave)
+control-offers _ _ (is-control {s = s} {es = es} g h1 h2 h3 h4) =
+    path-body 1 (2 ∷ []) s es g ∙ in-pairs ihaveIds (λ h. h .«message_ids») refl (λ h hs. refl) (atPath (2 ∷ [])) ihave-ids h1
+
+control-wants : (d : List ℕ) (c : ControlMessage) → IsControl d c → atPath (2 ∷ 1 ∷ []) d ≡ iwantIds (c .iwant)
+control-wants _ _ (is-control {s = s} {es = es} g h1 h2 h3 h4) =
+    path-body 2 (1 ∷ []) s es g ∙ in-pairs iwantIds (λ w. w .«message_ids») refl (λ w ws. refl) (atPath (1 ∷ [])) iwant-ids h2
+
+-- ---- controls are joined, and so are the ids that they name
+offers-join : (c : ControlMessage) (o : Option ControlMessage) → ihaveIds (c .ihave) ++ offersIn o ≡ offersIn (joinTo c o)
+offers-join c none = append-nil (ihaveIds (c .ihave))
+offers-join c (some d) = all-append ihaveIds (λ h. h .«message_ids») refl (λ h hs. refl) (c .ihave) (d .ihave)
+
+wants-join : (c : ControlMessage) (o : Option ControlMessage) → iwantIds (c .iwant) ++ wantsIn o ≡ wantsIn (joinTo c o)
+wants-join c none = append-nil (iwantIds (c .iwant))
+wants-join c (some d) = all-append iwantIds (λ w. w .«message_ids») refl (λ w ws. refl) (c .iwant) (d .iwant)
+
+-- ---- the ids in the IHAVEs of a body, and in its IWANTs
+pub offered-means : {s : List ℕ} {x : Rpc} → IsRpc s x → atPath (3 ∷ 1 ∷ 2 ∷ []) s ≡ offersOf x
+offered-means (is-rpc {s = s} {es = es} g h1 h2 h3) =
+    path-body 3 (1 ∷ 2 ∷ []) s es g
+    ∙ in-pairs (λ cs. offersIn (joined cs)) (λ c. ihaveIds (c .ihave)) refl (λ c cs. offers-join c (joined cs)) (atPath (1 ∷ 2 ∷ [])) control-offers h3
+
+pub wanted-means : {s : List ℕ} {x : Rpc} → IsRpc s x → atPath (3 ∷ 2 ∷ 1 ∷ []) s ≡ wantsOf x
+wanted-means (is-rpc {s = s} {es = es} g h1 h2 h3) =
+    path-body 3 (2 ∷ 1 ∷ []) s es g
+    ∙ in-pairs (λ cs. wantsIn (joined cs)) (λ c. iwantIds (c .iwant)) refl (λ c cs. wants-join c (joined cs)) (atPath (2 ∷ 1 ∷ [])) control-wants h3
+
+-- each at its first mention
+pub offered-once : {s : List ℕ} {x : Rpc} → IsRpc s x → offered s ≡ once (offersOf x)
+unfolding offered
+offered-once h = ap once (offered-means h)
+
+pub wanted-once : {s : List ℕ} {x : Rpc} → IsRpc s x → wanted s ≡ once (wantsOf x)
+unfolding wanted
+wanted-once h = ap once (wanted-means h)
+
+-- ---- no more ids than records
+-- ids that are offered stand in an IHAVE, which is one record more
+offers-in : (o : Option ControlMessage) → (length (offersIn o) ≤ someRecords o) × (1 ≤ length (offersIn o) → 1 + length (offersIn o) ≤ someRecords o)
+offers-in none = (omega arith, λ h. absurd (omega arith))
+offers-in (some c) = let l = all-few ihaveIds (λ h. h .«message_ids») refl (λ h hs. refl) (c .ihave) in (omega arith, λ h. let k = some-ihave (c .ihave) h in omega arith)
+  where
+    some-ihave : (hs : List ControlIHave) → 1 ≤ length (ihaveIds hs) → 1 ≤ length hs
+    some-ihave [] h = h
+    some-ihave (h ∷ hs) k = omega arith
+
+wants-in : (o : Option ControlMessage) → length (wantsIn o) ≤ someRecords o
+wants-in none = omega arith
+wants-in (some c) = let l = all-few iwantIds (λ w. w .«message_ids») refl (λ w ws. refl) (c .iwant) in omega arith
+
+pub offers-few : (x : Rpc) → length (offersOf x) ≤ recordsIn x
+unfolding recordsIn
+offers-few x = omega (arith, offers-in (x .control) .0)
+
+pub offers-fewer : (x : Rpc) → 1 ≤ length (offersOf x) → 1 + length (offersOf x) ≤ recordsIn x
+unfolding recordsIn
+offers-fewer x h = omega (arith, offers-in (x .control) .1 h)
+
+pub wants-few : (x : Rpc) → length (wantsOf x) ≤ recordsIn x
+unfolding recordsIn
+wants-few x = omega (arith, wants-in (x .control))

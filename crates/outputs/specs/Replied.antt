@@ -1,0 +1,230 @@
+-- A reply to a body is a body that publishes cached messages, byte for byte, as many as the room has, from the first on; and it is canonical. What
+-- is answered counts them, and those that are left.
+use Prim.Native.Nat.{ℕ, suc, _+_, _-_, _≤_, _<_, min}
+use mathlib.Core.Path.{_≡_, refl, sym, ap, _∙_}
+use mathlib.Core.Bool.{Bool, true, false, cond, _||_}
+use mathlib.Core.List.{List, [], _∷_, _++_, map, append-nil}
+use mathlib.Core.Option.{none}
+use native.Mathlib.Omega.{arith}
+use lib.ListN.{length, take, length-map}
+use lib.Seq.{length-take-le}
+use lib.Dec.{ltb, eqb}
+use borrow.Author.Tests.{ltb-true, eqb-true}
+use Rattle.basis.specs.Cases.{either, clash}
+use Rattle.basis.specs.Bytes.{Bytes}
+use Rattle.rows.specs.Rows.{placeOf}
+use Rattle.rows.specs.RowsLaws.{length-ring}
+use Rattle.rows.specs.Ids.{sameBytes, among, distinct, indexOf}
+use Rattle.rows.specs.IdsLaws.{same-self, same-equal}
+use Rattle.rows.specs.Store.{idAt, idsIn}
+use Rattle.rows.specs.StoreLaws.{index-among}
+use Rattle.protobuf.specs.Encode.{bytesField}
+use Rattle.rpc.specs.Rpc.{RawMessage, Rpc}
+use Rattle.rpc.specs.Grammar.{Each, none-left, _and_}
+use Rattle.rpc.specs.Encode.{repeated, encodeRpc}
+use Rattle.meaning.specs.Size.{recordsIn}
+use Rattle.encode.specs.Canon.{canonBody}
+use Rattle.canonical.specs.Written.{canon-written}
+use Rattle.canonical.specs.Canonical.{Within}
+use Rattle.mcache.specs.declared.MessageCache.{MessageCache}
+use Rattle.mcache.specs.State.{messageIn}
+use Rattle.mcache.specs.StateLaws.{Tests, fine-tests}
+use Rattle.parts.specs.Parts.{atPath, fitting}
+use Rattle.parts.specs.PartsLaws.{once-distinct, fitting-le, fitting-room, fitting-next}
+use Rattle.node.specs.declared.Node.{Node}
+use Rattle.node.specs.declared.Lent.the-variants as lent
+use Rattle.node.specs.declared.Serve.the-variants as serve
+use Rattle.node.specs.Calls.{lentOf, wanted, rowsFor, cachedOf, roomOf, servedOf, replyBytes, replyTo}
+use Rattle.node.specs.StateLaws.{fine-tests as node-tests}
+use Rattle.outputs.specs.Bodies.{published, messages-mean}
+use Rattle.outputs.specs.Cached.{each-take, Message, row-message, all-messages}
+
+-- ---- of ids that differ, at most as many are among others as there are others
+-- without the first that is i
+without : List ℕ → List (List ℕ) → List (List ℕ)
+without i [] = []
+without i (j ∷ js) = cond (sameBytes j i) js (j ∷ without i js)
+
+without-shorter : (i : List ℕ) (l : List (List ℕ)) → among i l ≡ true → length l ≡ suc (length (without i l))
+unfolding among without
+without-shorter i [] h = clash (cc)
+without-shorter i (j ∷ l) h = either (sameBytes j i) (λ t. simp t) (λ t. simp t (ap suc (without-shorter i l (simp t at h))))
+
+-- another stays
+without-other : (i x : List ℕ) (l : List (List ℕ)) → sameBytes i x ≡ false → among x (without i l) ≡ among x l
+unfolding among without
+without-other i x [] h = refl
+without-other i x (j ∷ l) h =
+    either (sameBytes j i)
+    (λ t. let e = same-equal j i t in simp (t, ap (λ (y : List ℕ). sameBytes y x) e ∙ h))
+    (λ t. simp t (ap (λ (b : Bool). sameBytes j x || b) (without-other i x l h)))
+
+-- how many of is are among l
+shared : List (List ℕ) → List (List ℕ) → ℕ
+shared l [] = 0
+shared l (i ∷ is) = cond (among i l) (suc (shared l is)) (shared l is)
+
+shared-without : (i : List ℕ) (l is : List (List ℕ)) → among i is ≡ false → shared (without i l) is ≡ shared l is
+unfolding shared among
+shared-without i l [] h = refl
+shared-without i l (x ∷ is) h =
+    either (sameBytes x i) (λ t. clash (let k = simp t at h in cc))
+    (λ t. rw (without-other i x l (same-not i x t), shared-without i l is (simp t at h)))
+  where
+    same-not : (a b : List ℕ) → sameBytes b a ≡ false → sameBytes a b ≡ false
+    same-not a b h = either (sameBytes a b) (λ t. clash (let e = same-equal a b t in let k = same-self b in let g = rw e at h in cc)) (λ t. t)
+
+shared-few : (l is : List (List ℕ)) → distinct is ≡ true → shared l is ≤ length l
+unfolding shared distinct
+shared-few l [] d = omega arith
+shared-few l (i ∷ is) d =
+    either (among i is) (λ t. clash (let k = simp t at d in cc))
+    (λ t. let e : distinct is ≡ true = simp t at d in
+    either (among i l)
+    (λ u. let r = shared-few (without i l) is e in
+    let s = shared-without i l is t in
+    let n = without-shorter i l u in
+    simp u (omega arith))
+    (λ u. simp u (shared-few l is e)))
+
+-- ---- the rows with the ids that are named: as many as there are such ids, and each in use
+rows-shared : (cap start : ℕ) (held is : List (List ℕ)) → length (rowsFor cap start held is) ≡ shared held is
+unfolding rowsFor shared
+rows-shared cap start held [] = refl
+rows-shared cap start held (i ∷ is) =
+    let r = rows-shared cap start held is in
+    let e = index-among i held in
+    either (among i held) (λ t. simp (t, sym e ∙ t) (ap suc r)) (λ t. simp (t, sym e ∙ t) r)
+
+rows-each : {P : List ℕ → Type 0} (f : ℕ → List ℕ) (cap start : ℕ) (held is : List (List ℕ)) → ((j : ℕ) → j < length held → P (f (placeOf cap start j))) → Each P (map f (rowsFor cap start held is))
+unfolding rowsFor
+rows-each f cap start held [] h = none-left
+rows-each f cap start held (i ∷ is) h =
+    let r = rows-each f cap start held is h in
+    either (ltb (indexOf i held) (length held)) (λ t. simp t (h (indexOf i held) (ltb-true _ _ t) and r)) (λ t. simp t r)
+
+module _ (c : MessageCache) (st : List ℕ) (t : Tests c st) (is : List (List ℕ)) where
+  held-count : length (idsIn 128 (c .«max_messages») (c .start) (c .count) (c .«id_len») (c .ids)) ≡ c .count
+  unfolding idsIn
+  held-count = length-ring (idAt 128 (c .«id_len») (c .ids)) (c .«max_messages») (c .start) (c .count)
+
+  pub cached-few : distinct is ≡ true → length (cachedOf c st is) ≤ 64
+  unfolding cachedOf
+  cached-few d =
+      let held = idsIn 128 (c .«max_messages») (c .start) (c .count) (c .«id_len») (c .ids) in
+      let m = length-map (rowsFor (c .«max_messages») (c .start) held is) (messageIn (c .len) st) in
+      let r = rows-shared (c .«max_messages») (c .start) held is in
+      let s = shared-few held is d in
+      let n = held-count in
+      omega (arith, t .within, t .few)
+
+  pub cached-messages : Bytes st → Each Message (cachedOf c st is)
+  unfolding cachedOf
+  cached-messages b =
+      let held = idsIn 128 (c .«max_messages») (c .start) (c .count) (c .«id_len») (c .ids) in
+      rows-each (messageIn (c .len) st) (c .«max_messages») (c .start) held is (λ j h. row-message c st t b j (rw held-count at h))
+
+-- ---- the reply
+pub record Replies (ms : List (List ℕ)) (out : List ℕ) : Type 0 where
+  pub rpc : Rpc
+  pub within : Within (replyBytes ms out) rpc
+  pub no-subscriptions : rpc .subscriptions ≡ []
+  pub no-control : rpc .control ≡ none
+  -- the messages are the first of ms, byte for byte
+  pub messages : map (λ (m : RawMessage). m .raw) (rpc .publish) ≡ take (servedOf ms out) ms
+  pub count : length (rpc .publish) ≡ servedOf ms out
+  pub stays : canonBody (replyBytes ms out) ≡ replyBytes ms out
+
+served-le : (ms : List (List ℕ)) (out : List ℕ) → servedOf ms out ≤ length ms
+unfolding servedOf
+served-le ms out = fitting-le 2 (roomOf out) ms
+
+reply-small : (ms : List (List ℕ)) (out : List ℕ) → length (replyBytes ms out) ≤ 65536
+unfolding replyBytes servedOf roomOf
+reply-small ms out = omega (arith, fitting-room 2 (min (length out) 65536) ms)
+
+raw-fields : (vs : List RawMessage) → repeated (λ m. bytesField 2 (m .raw)) vs ≡ repeated (bytesField 2) (map (λ (m : RawMessage). m .raw) vs)
+raw-fields [] = refl
+raw-fields (v ∷ vs) = ap (λ (l : List ℕ). bytesField 2 (v .raw) ++ l) (raw-fields vs)
+
+published-bytes : (vs : List RawMessage) → encodeRpc (published vs) ≡ repeated (bytesField 2) (map (λ (m : RawMessage). m .raw) vs)
+unfolding encodeRpc
+published-bytes vs = append-nil (repeated (λ m. bytesField 2 (m .raw)) vs) ∙ raw-fields vs
+
+pub replies : (ms : List (List ℕ)) (out : List ℕ) → Each Message ms → length ms ≤ 64 → Replies ms out
+unfolding replyBytes recordsIn
+replies ms out h n =
+    let k = servedOf ms out in
+    let l = served-le ms out in
+    let t = length-take-le k ms l in
+    let r = all-messages (each-take k h) in
+    let w = messages-mean (r .sized) (r .means) in
+    let e = ap (repeated (bytesField 2)) (r .raws) in
+    record {
+      rpc = published (r .values);
+      within = record { means = w; small = reply-small ms out; few = omega (arith, r .few) };
+      no-subscriptions = refl;
+      no-control = refl;
+      messages = r .raws;
+      count = sym (length-map (r .values) (λ (m : RawMessage). m .raw)) ∙ ap length (r .raws) ∙ t;
+      stays = canon-written w ∙ published-bytes (r .values) ∙ e;
+    }
+
+module _ (n : Node) (ss cs body out : List ℕ) (fine : lentOf n ss cs ≡ lent.Fine) (bytes : Bytes cs) where
+  abbrev ms : List (List ℕ)
+  ms = cachedOf (n .cache) cs (wanted body)
+
+  pub serve-means : Replies (cachedOf (n .cache) cs (wanted body)) out
+  unfolding wanted
+  serve-means =
+      let t = fine-tests (n .cache) cs (node-tests n ss cs fine .messages) in
+      replies ms out (cached-messages (n .cache) cs t (wanted body) bytes) (cached-few (n .cache) cs t (wanted body) (once-distinct (atPath (3 ∷ 2 ∷ 1 ∷ []) body)))
+
+  pub serve-stays : canonBody (replyBytes (cachedOf (n .cache) cs (wanted body)) out) ≡ replyBytes (cachedOf (n .cache) cs (wanted body)) out
+  serve-stays = serve-means .stays
+
+-- ---- what is answered
+pub record Counts (ms : List (List ℕ)) (out : List ℕ) (bytes messages left : ℕ) : Type 0 where
+  pub written : bytes ≡ length (replyBytes ms out)
+  pub served : messages ≡ servedOf ms out
+  pub all : messages + left ≡ length ms
+  -- where some are left, one message more would pass the reply room
+  pub next : (left ≡ 0 → ⊥) → roomOf out < length (repeated (bytesField 2) (take (messages + 1) ms))
+
+none-count : (out : List ℕ) → (servedOf [] out ≡ 0) × (length (replyBytes [] out) ≡ 0)
+unfolding replyBytes servedOf fitting
+none-count out = (refl, refl)
+
+next-passes : (ms : List (List ℕ)) (out : List ℕ) → servedOf ms out < length ms → roomOf out < length (repeated (bytesField 2) (take (servedOf ms out + 1) ms))
+unfolding servedOf
+next-passes ms out h = fitting-next 2 (roomOf out) ms h
+
+pub serve-counts : (ms : List (List ℕ)) (out : List ℕ) (k w l : ℕ) → replyTo ms out ≡ serve.Reply k w l → Counts ms out k w l
+serve-counts [] out k w l h =
+    let a : k ≡ 0 = cc in let b : w ≡ 0 = cc in let c : l ≡ 0 = cc in
+    let n = none-count out in
+    record { written = a ∙ sym (n .1); served = b ∙ sym (n .0); all = omega arith; next = λ z. absurd (z c) }
+serve-counts (m ∷ ms) out k w l h =
+    let s = servedOf (m ∷ ms) out in
+    either (eqb s 0) (λ t. clash (let q = simp t at h in cc))
+    (λ t.
+    let q : serve.Reply (length (replyBytes (m ∷ ms) out)) s (length (m ∷ ms) - s) ≡ serve.Reply k w l = simp t at h in
+    let a : length (replyBytes (m ∷ ms) out) ≡ k = cc in let b : s ≡ w = cc in let c : length (m ∷ ms) - s ≡ l = cc in
+    let g = served-le (m ∷ ms) out in
+    record { written = sym a; served = sym b; all = omega arith; next = λ z. rw (← b) (next-passes (m ∷ ms) out (omega (arith, z))) })
+
+-- no room for the first message: its field is longer than the room, and no byte is written
+pub serve-room : (ms : List (List ℕ)) (out : List ℕ) (k : ℕ) → replyTo ms out ≡ serve.Room k → (roomOf out < k) × (replyBytes ms out ≡ [])
+unfolding replyBytes
+serve-room [] out k h = clash (cc)
+serve-room (m ∷ ms) out k h =
+    let s = servedOf (m ∷ ms) out in
+    either (eqb s 0)
+    (λ t.
+    let z = eqb-true s 0 t in
+    let q : serve.Room (length (bytesField 2 m)) ≡ serve.Room k = simp t at h in
+    let a : length (bytesField 2 m) ≡ k = cc in
+    let n = next-passes (m ∷ ms) out (omega arith) in
+    let f : length (repeated (bytesField 2) (take (s + 1) (m ∷ ms))) ≡ length (bytesField 2 m) = rw z (ap length (append-nil (bytesField 2 m))) in
+    (omega arith, rw z))
+    (λ t. clash (let q = simp t at h in cc))

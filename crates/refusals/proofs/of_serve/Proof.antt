@@ -1,0 +1,79 @@
+-- `refusals::of_serve` meets its contract: the case says which refusal it is.
+use mathlib.Core.Path.{sym, ap, _∙_}
+use Rattle.node.specs.declared.Serve.{Serve}
+use Rattle.node.specs.Calls.{serveNumber, serveValues}
+use Rattle.refusals.specs.Refusals.{refusalFrom}
+use borrow.Author.Needs.{needs}
+use Rattle.refusals.proofs.of_serve.Statement.{statement}
+use Rattle.refusals.proofs.of_serve.Tie as tie
+use Rattle.refusals.proofs.of_serve.Reads as reads
+use Rattle.refusals.proofs.of_serve.Lts as lts
+use Rattle.protobuf.proofs.refusal_of.Reads as refusal-of-reads
+use Rattle.refusals.proofs.alone.Reads as alone-reads
+use Rattle.refusals.proofs.of_fault.Reads as of-fault-reads
+use Rattle.refusals.proofs.with_value.Reads as with-value-reads
+
+-- src/lib.rt:134:14
+enum-told : tie.Need-enum-told
+enum-told c = search needs
+
+-- src/lib.rt:134:14
+alone-requires : tie.Need-alone-requires
+alone-requires c κs = search needs
+
+-- src/lib.rt:135:23
+enum-known-answer : tie.Need-enum-known-answer
+enum-known-answer c = search needs
+
+-- src/lib.rt:135:31
+of-fault-requires : tie.Need-of-fault-requires
+of-fault-requires c κs = search needs
+
+-- src/lib.rt:136:24
+enum-known-answer-2 : tie.Need-enum-known-answer-2
+enum-known-answer-2 c = search needs
+
+-- src/lib.rt:136:32
+refusal-of-requires : tie.Need-refusal-of-requires
+refusal-of-requires c κs = search needs
+
+-- src/lib.rt:137:21
+enum-known-answer-3 : tie.Need-enum-known-answer-3
+enum-known-answer-3 c = search needs
+
+-- src/lib.rt:137:32
+with-value-requires : tie.Need-with-value-requires
+with-value-requires c κs = search needs
+
+-- src/lib.rt:126:1
+returns : tie.Need-returns
+returns c = (c .alone .ensures) ∙ ap (λ (a : Serve). refusalFrom (serveNumber a) (serveValues a)) (sym (c .before .enum-told .given .1))
+
+-- src/lib.rt:126:1
+returns-2 : tie.Need-returns-2
+returns-2 c = (c .of-fault .ensures) ∙ ap (λ (a : Serve). refusalFrom (serveNumber a) (serveValues a)) (sym (c .before .before .answer .given .1))
+
+-- src/lib.rt:126:1
+returns-3 : tie.Need-returns-3
+returns-3 c = (c .refusal-of .ensures) ∙ ap (λ (a : Serve). refusalFrom (serveNumber a) (serveValues a)) (sym (c .before .before .answer2 .given .1))
+
+-- src/lib.rt:126:1
+returns-4 : tie.Need-returns-4
+returns-4 c = (c .with-value .ensures) ∙ ap (λ (a : Serve). refusalFrom (serveNumber a) (serveValues a)) (sym (c .before .before .answer3 .given .1))
+
+pub of-serve-spec : {M : Type 1} → statement M
+of-serve-spec =
+    tie.close
+    (tie.spec
+    enum-told
+    alone-requires
+    enum-known-answer
+    of-fault-requires
+    enum-known-answer-2
+    refusal-of-requires
+    enum-known-answer-3
+    with-value-requires
+    returns
+    returns-2
+    returns-3
+    returns-4)

@@ -1,0 +1,4 @@
+// Plays a trace: see the crate play.
+fn main() {
+    play::play();
+}

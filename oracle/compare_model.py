@@ -1,0 +1,144 @@
+#!/usr/bin/env python3
+"""Compares the model of the node with the Rust.
+
+    oracle/compare_model.py [--seed N] [--count N]
+
+Two parts of nodes.py are held to the Rust: what it reads in a body, with every refusal
+and its values (10 and 11 are document 01's own), and what the node keeps. For the
+second the same histories are played on a node that keeps nothing itself but asks the
+Rust's caches; every line is compared. The histories are the fixed ones of traces.py and
+--count random ones, the bodies those of bodies.py, with ten random ones for each random
+history. Prints the counts, and the first differences; the exit status is 0 where there
+are none.
+"""
+
+import argparse
+import collections
+import itertools
+import random
+import sys
+
+import bodies
+import nodes
+import traces
+from compare_caches import first_difference, line_at
+from compare_trace import shown, what
+from compare_wire import SHOWN, build
+from oracle import Oracle, hexed, parse_decode
+
+CHUNK = 4000
+COUNT = 2000
+SHORT = 40  # one of so many short bodies and short histories is taken
+
+
+class RustNode(nodes.Node):
+    """A node over the Rust's caches: document 01's calls, and nothing of the model's lists."""
+
+    def __init__(self, oracle, *settings):
+        super().__init__(*settings)
+        self.oracle = oracle
+        self.tell("seen_new", "ok")
+        self.tell("mc_new %d %d" % (self.history_len, self.max_messages), "ok")
+
+    def tell(self, command, answer):
+        told = self.oracle.ask(command)
+        assert told == answer, (command, told)
+
+    def clean(self, now):
+        self.tell("seen_gc %d" % now, "ok")
+
+    def is_seen(self, name):
+        return self.oracle.ask("seen_contains 01" + name.hex()) == "yes"
+
+    def see(self, name, now):
+        self.tell("seen_insert 01%s %d %d %d" % (name.hex(), now, self.ttl, self.max_seen), "fresh")
+
+    def cached(self, name):
+        told = self.oracle.ask("mc_get " + hexed(name)).split(" ")
+        return bytes.fromhex(told[1]) if told[0] == "some" else None
+
+    def put(self, name, raw, topics):
+        self.tell(" ".join(["mc_put_raw", name.hex(), raw.hex()] + list(map(hexed, topics))), "ok")
+
+    def shift(self):
+        self.tell("mc_shift", "ok")
+
+    def told(self, topic, windows):
+        told = self.oracle.ask("mc_gossip %s %d" % (hexed(topic), windows)).split(" ")
+        return list(map(bytes.fromhex, told[2:])) if told[0] == "ok" else []
+
+
+def read(body):
+    """What the model reads, in the form of the Rust's answer."""
+    try:
+        got = nodes.Body(body)
+    except nodes.Refused as why:
+        return " ".join(["refused"] + list(map(str, why.args)))
+    messages = []
+    for raw, known in got.messages:
+        last = {field: content.hex() for field, content in known}
+        messages.append([raw.hex(), [content.hex() for field, content in known if field == 4]] + [last.get(field) for field in (1, 2, 3, 5, 6)])
+    return got.records, messages, [one.hex() for one in got.have], [one.hex() for one in got.want]
+
+
+def rust_read(body, told):
+    refused = bodies.refusal(body, told)
+    if refused:
+        return refused
+    _, records, _, rpc = parse_decode(told)
+    messages = [[one[key] for key in ("raw", "topic_ids", "from", "data", "seqno", "signature", "key")] for one in rpc["publish"]]
+    control = rpc["control"] or {"ihave": [], "iwant": []}
+    return records, messages, *([name for one in control[key] for name in one["message_ids"]] for key in ("ihave", "iwant"))
+
+
+def some_bodies(r, count):
+    yield from bodies.named()
+    yield from itertools.islice(bodies.enumerated(), r.randrange(SHORT), None, SHORT)
+    yield from bodies.long(r)
+    for _ in range(10 * count):
+        yield r.choice((bodies.random_body, bodies.random_body, bodies.messages_body))(r)
+
+
+def compare_bodies(oracle, r, count, counts, differ):
+    source = some_bodies(r, count)
+    while chunk := list(itertools.islice(source, CHUNK)):
+        for body, told in zip(chunk, oracle.batch("decode " + hexed(body) for body in chunk)):
+            expected, got = rust_read(body, told), read(body)
+            counts["body " + (" ".join(expected.split(" ")[:2]) if isinstance(expected, str) else "read")] += 1
+            if expected != got:
+                differ.append((["body " + body[:200].hex()], expected, got))
+
+
+def compare_histories(oracle, r, count, counts, differ):
+    short = itertools.islice(traces.short_histories(), r.randrange(SHORT), None, SHORT)
+    for steps in itertools.chain(traces.named(), short, (traces.some_history(r) for _ in range(count))):
+        data = nodes.records(steps)
+        expected, got = nodes.expected(data, lambda *settings: RustNode(oracle, *settings)), nodes.expected(data)
+        counts.update(map(what, expected))
+        n = first_difference(expected, got)
+        if n is not None:
+            differ.append((list(map(shown, steps[:n + 1])), line_at(expected, n), line_at(got, n)))
+
+
+def main():
+    parser = argparse.ArgumentParser(description=__doc__.split("\n")[0])
+    parser.add_argument("--seed", type=int, default=1)
+    parser.add_argument("--count", type=int, default=COUNT)
+    given = parser.parse_args()
+    build()
+    r, counts, differ = random.Random(given.seed), collections.Counter(), []
+    with Oracle() as oracle:
+        compare_bodies(oracle, r, given.count, counts, differ)
+        compare_histories(oracle, r, given.count, counts, differ)
+    for name, k in sorted(counts.items()):
+        print("%-20s %8d" % (name, k))
+    print("%d bodies and lines, seed %d: %d differences" % (sum(counts.values()), given.seed, len(differ)))
+    for steps, expected, got in sorted(differ, key=lambda one: len(one[0]))[:SHOWN]:
+        for step in steps:
+            print("    " + step)
+        print("  the Rust  %s\n  the model %s" % (str(expected)[:300], str(got)[:300]))
+    sys.exit(1 if differ else 0)
+
+
+if __name__ == "__main__":
+    main()

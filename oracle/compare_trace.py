@@ -1,0 +1,162 @@
+#!/usr/bin/env python3
+"""Compares the program `trace` with a model of the node, by running both.
+
+    oracle/compare_trace.py BINARY [--seed N] [--count N]
+
+BINARY is target/bin/trace, after `rt check trace`. The model is nodes.py, written
+from document 01's sentences; the Rust has no node. The histories are fixed ones
+about every edge and every refusal that a trace can show, all short ones of a few
+calls, and --count random ones (traces.py), many in one run; two nodes that catch up
+with each other are played as one history after the other. Then come short runs that
+end in `bad` or `long`: random ones, one for five histories, and fixed ones whose texts
+are written in traces.py. Every line is compared. Prints the counts, and the first
+differences with the fewest steps found that lead to them, as text for tools/trace; the
+exit status is 0 where there are none.
+"""
+
+import collections
+import itertools
+import random
+import subprocess
+import sys
+import tempfile
+import time
+
+import nodes
+import traces
+from compare_caches import first_difference, line_at
+from compare_decode import run
+from compare_wire import SHOWN, arguments
+
+CHUNK = 400
+COUNT = 6000
+SHOWN_BYTES = 400
+
+
+def what(line):
+    """The call and the sort of answer, for the counts."""
+    words = line.split(" ")
+    if len(words) == 1:
+        return line
+    if words[2] == "refused":
+        return " ".join(words[1:4])
+    return words[1] + " " + (words[2] if words[1] in ("set", "admit", "beat") else "nothing" if words[2] == "0" else "bytes")
+
+
+def shown(step):
+    """A step as a line for tools/trace; of bytes the first ones."""
+    def word(one):
+        if not isinstance(one, bytes):
+            return str(one)
+        return ("=" if step[0] == "advertise" else "") + one[:SHOWN_BYTES].hex() \
+            + (" # and more, %d bytes" % len(one) if len(one) > SHOWN_BYTES else "")
+
+    return " ".join(map(word, step))
+
+
+def alone(binary, steps):
+    """The last lines of a run of these steps, (expected, printed), where they differ and those before do not; else None."""
+    data = nodes.records(steps)
+    told = nodes.expected(data) + [""]
+    printed = subprocess.run([binary], input=data, stdout=subprocess.PIPE, check=True).stdout.decode().split("\n")
+    n = first_difference(told, printed)
+    return None if n is None or n + 1 < len(steps) else (line_at(told, n), line_at(printed, n))
+
+
+def fewest(binary, steps):
+    """The steps of a difference without those that it does not need: (steps, expected, printed), or None where it is not there alone."""
+    found = alone(binary, steps)
+    if not found:
+        return None
+    at = len(steps) - 2
+    while at >= 0:
+        less = steps[:at] + steps[at + 1:]
+        if less[0][0] == "set":
+            still = alone(binary, less)
+            if still:
+                steps, found = less, still
+        at -= 1
+    return steps, *found
+
+
+def play(binary, histories, folder, counts, differ):
+    """Many histories in one run; of each the first difference, as (steps to it, expected, printed)."""
+    data = b"".join(map(nodes.records, histories))
+    told = nodes.expected(data)
+    counts.update(map(what, told))
+    printed = run(binary, [data], folder)
+    at = 0
+    for steps in histories:
+        n = first_difference(told[at:at + len(steps)], printed[at:at + len(steps)])
+        if n is not None:
+            got = line_at(printed, at + n)
+            differ.append((steps[:n + 1], told[at + n], got))
+            if not got.startswith("%d " % (at + n + 1)):
+                return  # the lines after it belong to other records
+        at += len(steps)
+    if printed[at:] != [""]:
+        differ.append(("after the last record", "", line_at(printed, at)))
+
+
+def play_ending(binary, name, data, told, counts, differ):
+    """One run that may end early; `told` are its lines."""
+    counts.update(map(what, told))
+    printed = subprocess.run([binary], input=data, stdout=subprocess.PIPE, check=True).stdout.decode().split("\n")
+    n = first_difference(told + [""], printed)
+    if n is not None:
+        differ.append(("%s: bytes %s" % (name, data[:SHOWN_BYTES].hex()), line_at(told, n), line_at(printed, n)))
+
+
+def slowly(binary, counts, differ):
+    """Byte by byte, so that every read is short."""
+    data = nodes.records(traces.sample()) + b"\x01"
+    program = subprocess.Popen([binary], stdin=subprocess.PIPE, stdout=subprocess.PIPE)
+    for byte in data:
+        program.stdin.write(bytes([byte]))
+        program.stdin.flush()
+        time.sleep(0.002)
+    printed, told = program.communicate()[0].decode().split("\n"), nodes.expected(data)
+    counts.update(map(what, told))
+    if printed != told + [""]:
+        differ.append(("byte by byte", told, printed))
+
+
+def report(binary, differ):
+    for steps, expected, got in sorted(differ, key=lambda one: len(one[0]) if isinstance(one[0], list) else 0)[:SHOWN]:
+        if isinstance(steps, list):
+            steps, expected, got = fewest(binary, steps) or (steps, expected, got)
+            print("%d steps:" % len(steps))
+            for step in steps:
+                print("    " + shown(step))
+        else:
+            print(steps)
+        print("  expected %s\n  printed  %s" % (str(expected)[:300], str(got)[:300]))
+
+
+def main():
+    given = arguments(__doc__, COUNT, rust=False)
+    r = random.Random(given.seed)
+    counts, differ, played, runs = collections.Counter(), [], 0, 1
+    source = traces.histories(r, given.count)
+    with tempfile.TemporaryDirectory() as folder:
+        while chunk := list(itertools.islice(source, CHUNK)):
+            play(given.binary, chunk, folder, counts, differ)
+            played += len(chunk)
+        for _ in range(given.count // 5):
+            data = traces.ending(r)
+            play_ending(given.binary, "a run of its own", data, nodes.expected(data), counts, differ)
+            runs += 1
+        for name, data, text in traces.endings():
+            play_ending(given.binary, name, data, text.split("\n")[:-1], counts, differ)
+            runs += 1
+        slowly(given.binary, counts, differ)
+    for name, k in sorted(counts.items()):
+        print("%-20s %8d" % (name, k))
+    print("%d histories and %d runs of their own, %d lines, seed %d: %d differences"
+          % (played, runs, sum(counts.values()), given.seed, len(differ)))
+    report(given.binary, differ)
+    sys.exit(1 if differ else 0)
+
+
+if __name__ == "__main__":
+    main()

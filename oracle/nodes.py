@@ -1,0 +1,369 @@
+"""A model of the node and of the trace program, from document 01's sentences.
+
+It reads bodies, refuses, keeps and answers by itself: it asks neither the Rust nor
+the program. Everything is a list that is searched from its start, and every answer
+is made anew, so that it can be read beside the document.
+
+A step is a call, its numbers and then its bytes: ("set", ttl, max_seen, history_len,
+max_messages), ("admit", now, index, verified, body), ("beat", now), ("advertise",
+windows, topic), ("ask", body), ("serve", body). `expected` takes an input as bytes
+and gives the lines of the run.
+"""
+
+from bodies import PARTS, RPC, tagged
+
+TOP = 2**64 - 1
+MAX_CONTENT = 32768
+MAX_BODY = 65536
+MAX_RECORDS = 512
+MAX_FIELD = 536870911
+MAX_SEEN = 256
+MAX_HISTORY = 16
+MAX_MESSAGES = 64
+TRACE_MESSAGES = 8
+MAX_NAME = 64  # of from, and of seqno
+SIGNATURE = 64
+MAX_TOPICS = 4
+MAX_TOPIC = 1024
+MAX_MESSAGE = 4096
+ROOM = 65536
+
+# Of each call: its kind, how many bytes its numbers have, and whether bytes follow them.
+FORM = {"set": (1, (8, 2, 2, 2), False), "admit": (2, (8, 2, 1), True), "beat": (3, (8,), False), "advertise": (4, (2,), True),
+        "ask": (5, (), True), "serve": (6, (), True)}
+CALL = {form[0]: call for call, form in FORM.items()}
+
+# Every refusal that a trace can show.
+BODY = set(range(1, 8)) | {11}
+REFUSALS = {"set": {40}, "admit": BODY | set(range(20, 32)), "beat": {31}, "advertise": {29}, "ask": BODY, "serve": BODY}
+
+
+class Refused(Exception):
+    """A refusal: its number, and the values beside it."""
+
+    def __init__(self, number, *values):
+        super().__init__(number, *values)
+        self.number = number
+
+
+# --- reading a body ------------------------------------------------------------
+
+def number_at(data, at):
+    """A varint and the place after it."""
+    value = 0
+    for n in range(10):
+        if at + n >= len(data):
+            raise Refused(1)
+        byte = data[at + n]
+        if n == 9 and byte > 1:
+            raise Refused(2)
+        value += byte % 128 << 7 * n
+        if byte < 128:
+            break
+    if byte == 0 and n > 0:
+        raise Refused(3)
+    return value, at + n + 1
+
+
+def fields(data):
+    """(field, wire type, place after the tag, content), one after the other. The content of type 0 is its number."""
+    at = 0
+    while at < len(data):
+        tag, place = number_at(data, at)
+        field, wire = tag // 8, tag % 8
+        if not 1 <= field <= MAX_FIELD:
+            raise Refused(6, field, at)
+        if wire not in (0, 1, 2, 5):
+            raise Refused(5, wire, place)
+        if wire == 0:
+            content, at = number_at(data, place)
+        else:
+            size, start = number_at(data, place) if wire == 2 else (8 if wire == 1 else 4, place)
+            if size > len(data) - start:
+                raise Refused(4, start, size, len(data) - start)
+            at = start + size
+            content = data[start:at]
+        yield field, wire, place, content
+
+
+def is_utf8(data):
+    try:
+        data.decode("utf-8")
+    except UnicodeDecodeError:
+        return False
+    return True
+
+
+# The field of a submessage whose entries are records of their own: topics and message ids.
+LISTED = {"message": 4, "ihave": 2, "iwant": 1}
+
+
+def read(data, name):
+    """The known fields of a submessage, as (field, content), and how many records stand inside it.
+    The content of a submessage is (its bytes, its own known fields)."""
+    known, got, records = PARTS.get(name, RPC), [], 0
+    for field, wire, place, content in fields(data):
+        what = known.get(field)
+        if what is None or wire != (0 if what == "number" else 2):
+            continue
+        if what == "text" and not is_utf8(content):
+            raise Refused(7, place)
+        if what in PARTS:
+            inner, inside = read(content, what)
+            content = content, inner
+            records += inside + (what != "control")
+        records += field == LISTED.get(name)
+        got.append((field, content))
+    return got, records
+
+
+class Body:
+    """What the calls need of a body: its messages, as (bytes, known fields), and the ids in its IHAVEs and in its IWANTs."""
+
+    def __init__(self, data):
+        if len(data) > MAX_BODY:
+            raise Refused(10, len(data))
+        rpc, self.records = read(data, "rpc")
+        if self.records > MAX_RECORDS:
+            raise Refused(11, self.records)
+        self.messages = [content for field, content in rpc if field == 2]
+        control = [entry for field, (_, entries) in rpc if field == 3 for entry in entries]
+        self.have = [one for field, content in control if field == 1 for number, one in content[1] if number == 2]
+        self.want = [one for field, content in control if field == 2 for number, one in content[1] if number == 1]
+
+
+# --- the node --------------------------------------------------------------------
+
+def admission(message, verified):
+    """(id, topics) of a message that may be taken: 21 to 30 are met here."""
+    raw, known = message
+    last = dict(known)
+    topics = [content for field, content in known if field == 4]
+    if 1 not in last:
+        raise Refused(21)
+    if not 1 <= len(last[1]) <= MAX_NAME:
+        raise Refused(22, len(last[1]))
+    if 3 not in last or not 1 <= len(last[3]) <= MAX_NAME:
+        raise Refused(23)
+    if 5 not in last:
+        raise Refused(24 if 6 in last else 25)
+    if len(last[5]) != SIGNATURE:
+        raise Refused(26, len(last[5]))
+    if not verified:
+        raise Refused(27)
+    if not 1 <= len(topics) <= MAX_TOPICS:
+        raise Refused(28, len(topics))
+    for topic in topics:
+        if len(topic) > MAX_TOPIC:
+            raise Refused(29, len(topic))
+    if len(raw) > MAX_MESSAGE:
+        raise Refused(30, len(raw))
+    return last[1] + last[3], topics
+
+
+def once(names):
+    """Each at its first mention."""
+    got = []
+    for name in names:
+        if name not in got:
+            got.append(name)
+    return got
+
+
+class Node:
+    def __init__(self, ttl, max_seen, history_len, max_messages):
+        if max_seen > MAX_SEEN or not 1 <= history_len <= MAX_HISTORY or max_messages > MAX_MESSAGES:
+            raise Refused(40)
+        self.ttl, self.max_seen, self.history_len, self.max_messages = ttl, max_seen, history_len, max_messages
+        self.clock = 0
+        self.seen = []  # (marked id, expiry), the oldest first
+        self.cache = []  # [id, bytes, topics, age of its window], the oldest first
+
+    # What the caches do.
+
+    def clean(self, now):
+        while self.seen and self.seen[0][1] <= now:
+            self.seen.pop(0)
+
+    def is_seen(self, name):
+        return any(one == b"\x01" + name for one, _ in self.seen)
+
+    def see(self, name, now):
+        self.seen.append((b"\x01" + name, min(now + self.ttl, TOP)))
+        while len(self.seen) > self.max_seen:
+            self.seen.pop(0)
+
+    def cached(self, name):
+        return next((raw for one, raw, _, _ in self.cache if one == name), None)
+
+    def put(self, name, raw, topics):
+        if self.cached(name) is None:
+            self.cache.append([name, raw, topics, 0])
+            while len(self.cache) > self.max_messages:
+                self.cache.pop(0)
+
+    def shift(self):
+        for entry in self.cache:
+            entry[3] += 1
+        self.cache = [entry for entry in self.cache if entry[3] < self.history_len]
+
+    def told(self, topic, windows):
+        if not is_utf8(topic):
+            return []
+        return sorted({name for name, _, topics, age in self.cache if age < windows and topic in topics})
+
+    # The calls.
+
+    def admit(self, now, index, verified, body):
+        messages = Body(body).messages
+        if index >= len(messages):
+            raise Refused(20, len(messages))
+        name, topics = admission(messages[index], verified)
+        if now < self.clock:
+            raise Refused(31, self.clock)
+        self.clock = now
+        self.clean(now)
+        if self.is_seen(name):
+            return "dup"
+        self.see(name, now)
+        self.put(name, messages[index][0], topics)
+        return "new"
+
+    def beat(self, now):
+        if now < self.clock:
+            raise Refused(31, self.clock)
+        self.clock = now
+        self.clean(now)
+        self.shift()
+
+    def advertise(self, windows, topic):
+        if len(topic) > MAX_TOPIC:
+            raise Refused(29, len(topic))
+        names = self.told(topic, windows)
+        if not names:
+            return b""
+        return fitted(tagged(3, tagged(1, tagged(1, topic) + b"".join(tagged(2, name) for name in names))))
+
+    def ask(self, body):
+        names = [name for name in once(Body(body).have) if not self.is_seen(name)]
+        return fitted(tagged(3, tagged(2, b"".join(tagged(1, name) for name in names)))) if names else b""
+
+    def serve(self, body):
+        """(the reply, how many messages were written, how many were left)."""
+        found = [raw for raw in map(self.cached, once(Body(body).want)) if raw is not None]
+        reply, written = b"", 0
+        for raw in found:
+            field = tagged(2, raw)
+            if len(reply) + len(field) > ROOM:
+                if not written:
+                    raise Refused(12, len(field))
+                break
+            reply, written = reply + field, written + 1
+        return reply, written, len(found) - written
+
+
+def fitted(out):
+    if len(out) > ROOM:
+        raise Refused(12, len(out))
+    return out
+
+
+# --- the trace program -------------------------------------------------------------
+
+def shown(out):
+    return "%d %s" % (len(out), out.hex()) if out else "0"
+
+
+class Run:
+    """The node of a run. Before settings are accepted there is none. `make` makes a node of its settings."""
+
+    def __init__(self, steps=(), make=Node):
+        self.node, self.make = None, make
+        for step in steps:
+            self.answer(step)
+
+    def answer(self, step):
+        """What a line says after its number and its call."""
+        try:
+            return self.played(*step)
+        except Refused as why:
+            return "refused %d" % why.number
+
+    def played(self, call, *given):
+        if call == "set":
+            if given[3] > TRACE_MESSAGES:
+                raise Refused(40)
+            self.node = self.make(*given)
+            return "ok"
+        if call == "beat":
+            self.node.beat(*given)
+            return "ok"
+        if call == "serve":
+            reply, written, left = self.node.serve(*given)
+            return "%s %d %d" % (shown(reply), written, left)
+        if call == "admit":
+            return self.node.admit(*given)
+        return shown({"advertise": self.node.advertise, "ask": self.node.ask}[call](*given))
+
+
+def made(answer):
+    """The bytes that an answer of advertise, ask or serve holds."""
+    words = answer.split(" ")
+    return bytes.fromhex(words[1]) if words[0] != "0" else b""
+
+
+def header(length, kind):
+    return length.to_bytes(4, "little") + kind.to_bytes(2, "little")
+
+
+def record(step):
+    kind, sizes, rest = FORM[step[0]]
+    assert len(step) == 1 + len(sizes) + rest, step[0]
+    content = b"".join(n.to_bytes(size, "little") for n, size in zip(step[1:], sizes)) + (step[-1] if rest else b"")
+    assert len(content) <= MAX_CONTENT, step[0]
+    return header(len(content), kind) + content
+
+
+def records(steps):
+    return b"".join(map(record, steps))
+
+
+def step_of(kind, content):
+    """The step of a record, or None where its kind, its length or the host's word is wrong."""
+    if kind not in CALL:
+        return None
+    call = CALL[kind]
+    _, sizes, rest = FORM[call]
+    if len(content) < sum(sizes) or (len(content) > sum(sizes) and not rest):
+        return None
+    step, at = [call], 0
+    for size in sizes:
+        step.append(int.from_bytes(content[at:at + size], "little"))
+        at += size
+    if call == "admit" and step[3] > 1:
+        return None
+    return tuple(step + [content[at:]] if rest else step)
+
+
+def played(data, make=Node):
+    """The steps of an input, each with its answer, and the line that ends it: "", "bad" or "long"."""
+    run, got, at = Run(make=make), [], 0
+    while at < len(data):
+        size = int.from_bytes(data[at:at + 4], "little")
+        if len(data) - at >= 4 and size > MAX_CONTENT:
+            return got, "long"
+        if len(data) - at < 6 + size:
+            return got, "bad"
+        step = step_of(int.from_bytes(data[at + 4:at + 6], "little"), data[at + 6:at + 6 + size])
+        if step is None or (step[0] != "set" and run.node is None):
+            return got, "bad"
+        got.append((step, run.answer(step)))
+        at += 6 + size
+    return got, ""
+
+
+def expected(data, make=Node):
+    """The lines for an input."""
+    got, end = played(data, make)
+    lines = ["%d %s %s" % (n, step[0], answer) for n, (step, answer) in enumerate(got, 1)]
+    return lines + [end] if end else lines
