@@ -9,7 +9,6 @@ mod seen_part;
 
 ghost use Prim.Native.Nat.{_≤_};
 ghost use lib.ListN.{length};
-ghost use Rattle.text.specs.Record.{contentLength};
 use cache_part::CachePart;
 use cache_part::cache_turn;
 use cache_part::no_cache;
@@ -18,23 +17,8 @@ use seen_part::SeenPart;
 use seen_part::no_seen;
 use seen_part::seen_turn;
 use text::Header;
-
-// Reads the header of the next record.
-fn next_header() -> Header
-    ensures { λ r. ⌜ contentLength r ≤ 65600 ⌝ }
-{
-    let mut head = [0u8; 6];
-    let got = io::read_full(0, &mut head);
-    text::read_header(&head[..got], 65600)
-}
-
-// Reads the content of a record. Answers whether it was there.
-fn read_content(content: &mut [u8], len: usize) -> bool
-    requires { ⌜ len ≤ length (now content) ⌝ }
-{
-    let got = io::read_full(0, &mut content[..len]);
-    got == len
-}
+use text::next_header;
+use text::read_content;
 
 // The two parts of a run, and whether to go on.
 struct Run {
@@ -96,7 +80,7 @@ fn turn(
     requires { ⌜ 192 ≤ length (now out) ⌝ }
     requires { ⌜ 65600 ≤ length (now content) ⌝ }
 {
-    let h = next_header();
+    let h = next_header(65600);
     match h {
         Header::End => stop(run, b""),
         Header::Bad => stop(run, b"bad\n"),

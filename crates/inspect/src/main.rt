@@ -6,7 +6,6 @@ mod records;
 
 ghost use Prim.Native.Nat.{_+_, _≤_};
 ghost use lib.ListN.{length};
-ghost use Rattle.text.specs.Record.{contentLength};
 ghost use Rattle.text.specs.Line.{Puts};
 ghost use Rattle.lines.specs.Lines.{Holds};
 ghost use Rattle.inspect.specs.Answers.{walk, varint, walkAnswer, varintAnswer, utf8Answer, answerTo, lineOf};
@@ -25,6 +24,7 @@ use records::decode_line;
 use records::records_in;
 use records::row_line;
 use text::Header;
+use text::next_header;
 
 // One step of the field walk.
 fn put_walk(out: &mut [u8], at: usize, w: Walk) -> usize
@@ -128,15 +128,6 @@ fn line(n: u64, kind: u64, content: &[u8], out: &mut [u8]) -> usize
 fn last(word: &[u8]) -> bool {
     io::write_all(1, word);
     false
-}
-
-// Reads the header of the next record.
-fn next_header() -> Header
-    ensures { λ r. ⌜ contentLength r ≤ 65600 ⌝ }
-{
-    let mut head = [0u8; 6];
-    let got = io::read_full(0, &mut head);
-    text::read_header(&head[..got], 65600)
 }
 
 // Prints the lines of the first `count` rows of the table. Answers whether they were printed.
@@ -260,7 +251,7 @@ fn turn(n: u64, content: &mut [u8], table: &mut [u64], made: &mut [u8], out: &mu
     requires { ⌜ 65600 ≤ length (now made) ⌝ }
     requires { ⌜ 787456 ≤ length (now out) ⌝ }
 {
-    let h = next_header();
+    let h = next_header(65600);
     match h {
         Header::End => false,
         Header::Bad => last(b"bad\n"),

@@ -3,7 +3,6 @@
 // u16, verified u8, body), 3 heartbeat (now u64), 4 advertise (windows u16, topic), 5 ask (body), 6 serve (body).
 ghost use Prim.Native.Nat.{_≤_};
 ghost use lib.ListN.{length};
-ghost use Rattle.text.specs.Record.{contentLength};
 use answers::admit_line;
 use answers::advertise_line;
 use answers::ask_line;
@@ -13,6 +12,8 @@ use answers::set_line;
 use node::Node;
 use node::Start;
 use text::Header;
+use text::next_header;
+use text::read_content;
 
 // The node of a run, whether settings were accepted, and whether to go on.
 struct Run {
@@ -286,23 +287,6 @@ fn answer(
     stop(run, b"bad\n")
 }
 
-// Reads the header of the next record.
-fn next_header() -> Header
-    ensures { λ r. ⌜ contentLength r ≤ 32768 ⌝ }
-{
-    let mut head = [0u8; 6];
-    let got = io::read_full(0, &mut head);
-    text::read_header(&head[..got], 32768)
-}
-
-// Reads the content of a record. Answers whether it was there.
-fn read_content(content: &mut [u8], len: usize) -> bool
-    requires { ⌜ len ≤ length (now content) ⌝ }
-{
-    let got = io::read_full(0, &mut content[..len]);
-    got == len
-}
-
 // Reads a record and answers it.
 fn turn(
     n: u64,
@@ -317,7 +301,7 @@ fn turn(
     requires { ⌜ length (now made) ≤ 65600 ⌝ }
     requires { ⌜ 131350 ≤ length (now out) ⌝ }
 {
-    let h = next_header();
+    let h = next_header(32768);
     match h {
         Header::End => stop(run, b""),
         Header::Bad => stop(run, b"bad\n"),

@@ -7,7 +7,7 @@ ghost use mathlib.Core.List.{_∷_, []};
 ghost use lib.ListN.{length, take, drop};
 ghost use Rattle.io.specs.Digits.{glyph as glyphOf};
 ghost use Rattle.basis.specs.Writing.{endIn, setIn};
-ghost use Rattle.text.specs.Record.{little, headerOf};
+ghost use Rattle.text.specs.Record.{little, headerOf, contentLength};
 ghost use Rattle.text.specs.Line.{Puts, decimal, number, numbers, refused, hex};
 use basis::has_room;
 
@@ -75,6 +75,24 @@ pub fn read_header(s: &[u8], most: u64) -> Header
         kind,
         len: len as usize,
     }
+}
+
+// Reads the header of the next record from standard input.
+pub fn next_header(most: u64) -> Header
+    ensures { λ r. ⌜ contentLength r ≤ most ⌝ }
+{
+    let mut head = [0u8; 6];
+    let got = io::read_full(0, &mut head);
+    read_header(&head[..got], most)
+}
+
+// Reads the content of a record from standard input. Answers whether it was there and had room.
+pub fn read_content(content: &mut [u8], len: usize) -> bool {
+    if content.len() < len {
+        return false;
+    }
+    let got = io::read_full(0, &mut content[..len]);
+    got == len
 }
 
 // Puts a text at `at`, where it fits, and says where it ends.

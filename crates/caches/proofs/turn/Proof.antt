@@ -5,9 +5,9 @@ use Rattle.caches.proofs.turn.Statement.{statement}
 use Rattle.caches.proofs.turn.Tie as tie
 use Rattle.caches.proofs.turn.Reads as reads
 use Rattle.caches.proofs.turn.Lts as lts
-use Rattle.caches.proofs.next_header.Reads as next-header-reads
+use Rattle.text.proofs.next_header.Reads as next-header-reads
 use Rattle.caches.proofs.play.Reads as play-reads
-use Rattle.caches.proofs.read_content.Reads as read-content-reads
+use Rattle.text.proofs.read_content.Reads as read-content-reads
 use Rattle.caches.proofs.stop.Reads as stop-reads
 
 -- src/main.rt:95:9
@@ -56,7 +56,7 @@ enum-known-h c = search needs
 
 -- src/main.rt:101:16
 read-content-requires : tie.Need-read-content-requires
-read-content-requires c κs = let l = content-fits _ _ _ ((c .before .before .h .given .1)) (c .before .before .before .before .next-header .ensures) in omega arith
+read-content-requires c κs = search needs
 
 -- src/main.rt:102:38
 slice-reshare-prefix-play : tie.Need-slice-reshare-prefix-play

@@ -7,8 +7,8 @@ use Rattle.play.proofs.turn.Tie as tie
 use Rattle.play.proofs.turn.Reads as reads
 use Rattle.play.proofs.turn.Lts as lts
 use Rattle.play.proofs.answer.Reads as answer-reads
-use Rattle.play.proofs.next_header.Reads as next-header-reads
-use Rattle.play.proofs.read_content.Reads as read-content-reads
+use Rattle.text.proofs.next_header.Reads as next-header-reads
+use Rattle.text.proofs.read_content.Reads as read-content-reads
 use Rattle.play.proofs.stop.Reads as stop-reads
 
 -- src/lib.rt:316:9
@@ -57,7 +57,7 @@ enum-known-h c = search needs
 
 -- src/lib.rt:322:16
 read-content-requires : tie.Need-read-content-requires
-read-content-requires c κs = let l = content-fits _ _ _ (c .before .before .h .given .1) (c .before .before .before .before .next-header .ensures) in omega arith
+read-content-requires c κs = search needs
 
 -- src/lib.rt:326:21
 slice-reshare-prefix-answer : tie.Need-slice-reshare-prefix-answer
