@@ -248,13 +248,13 @@ class Node:
         names = [name for name in once(Body(body).have) if not self.is_seen(name)]
         return fitted(tagged(3, tagged(2, b"".join(tagged(1, name) for name in names)))) if names else b""
 
-    def serve(self, body):
+    def serve(self, body, room=ROOM):
         """(the reply, how many messages were written, how many were left)."""
         found = [raw for raw in map(self.cached, once(Body(body).want)) if raw is not None]
         reply, written = b"", 0
         for raw in found:
             field = tagged(2, raw)
-            if len(reply) + len(field) > ROOM:
+            if len(reply) + len(field) > room:
                 if not written:
                     raise Refused(12, len(field))
                 break

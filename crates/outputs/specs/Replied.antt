@@ -2,7 +2,7 @@
 -- is answered counts them, and those that are left.
 use Prim.Native.Nat.{ℕ, suc, _+_, _-_, _≤_, _<_, min}
 use mathlib.Core.Path.{_≡_, refl, sym, ap, _∙_}
-use mathlib.Core.Bool.{Bool, true, false, cond, _||_}
+use mathlib.Core.Bool.{Bool, true, false, cond, _||_, or-true}
 use mathlib.Core.List.{List, [], _∷_, _++_, map, append-nil}
 use mathlib.Core.Option.{none}
 use native.Mathlib.Omega.{arith}
@@ -86,6 +86,16 @@ shared-few l (i ∷ is) d =
     let n = without-shorter i l u in
     simp u (omega arith))
     (λ u. simp u (shared-few l is e)))
+
+shared-all : (l is : List (List ℕ)) → ((i : List ℕ) → among i is ≡ true → among i l ≡ true) → shared l is ≡ length is
+unfolding shared among
+shared-all l [] h = refl
+shared-all l (i ∷ is) h =
+    let a : among i l ≡ true = h i (simp (same-self i)) in
+    simp a (ap suc (shared-all l is (λ k t. h k (rw t (or-true (sameBytes i k))))))
+
+pub all-few : (l is : List (List ℕ)) → distinct is ≡ true → ((i : List ℕ) → among i is ≡ true → among i l ≡ true) → length is ≤ length l
+all-few l is d h = let e = shared-all l is h in let r = shared-few l is d in omega arith
 
 -- ---- the rows with the ids that are named: as many as there are such ids, and each in use
 rows-shared : (cap start : ℕ) (held is : List (List ℕ)) → length (rowsFor cap start held is) ≡ shared held is

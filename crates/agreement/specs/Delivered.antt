@@ -1,0 +1,91 @@
+-- A round's reply, from node b that tells to node a that asks: it is taken, and the message at each index below the number served is, byte for
+-- byte, that of the messages that a lacks; at the number served there is no message more.
+use Prim.Native.Nat.{ℕ, _≤_, _<_}
+use mathlib.Core.Path.{_≡_, refl, sym, ap, subst, _∙_}
+use mathlib.Core.Bool.{Bool}
+use mathlib.Core.List.{List, [], map}
+use native.Mathlib.Omega.{arith}
+use lib.ListN.{length, getD}
+use lib.Seq.{getD-take}
+use Rattle.basis.specs.Bytes.{Bytes}
+use Rattle.protobuf.specs.declared.Checked.the-variants.{Fine}
+use Rattle.protobuf.specs.Walk.{between}
+use Rattle.rpc.specs.Rpc.{RawMessage, Rpc}
+use Rattle.rpc.specs.Grammar.{IsMessage, is-message, IsRpc}
+use Rattle.ids.specs.declared.MessageAt.{MessageAt}
+use Rattle.ids.specs.declared.MessageAt.the-variants.{At, Count}
+use Rattle.ids.specs.Ids.{acceptOf, messageAt}
+use Rattle.admission.specs.Admission.{admissionOf}
+use Rattle.canonical.specs.Calls.{taken}
+use Rattle.canonical.specs.Messages.{Nth, here, there, message-found, message-missing}
+use Rattle.node.specs.declared.Node.{Node}
+use Rattle.node.specs.declared.Lent.the-variants as lent
+use Rattle.node.specs.Gateway.{toldOf, lacking, having}
+use Rattle.node.specs.State.{gatewayIn}
+use Rattle.node.specs.Calls.{lentOf, planFit, planned, advertiseBytes, askBytes, servedOf, replyBytes}
+use Rattle.outputs.specs.Replied.{Replies, serve-means}
+use Rattle.agreement.specs.HandOver.{reply-has}
+
+-- ---- an element of a list of messages, and its bytes
+nth-bound : {i : ℕ} {xs : List RawMessage} {x : RawMessage} → Nth i xs x → i < length xs
+nth-bound here = omega arith
+nth-bound (there n) = let l = nth-bound n in omega arith
+
+nth-raw : {i : ℕ} {xs : List RawMessage} {x : RawMessage} → Nth i xs x → getD (map (λ (m : RawMessage). m .raw) xs) i [] ≡ x .raw
+nth-raw here = refl
+nth-raw (there n) = nth-raw n
+
+raw-is : {p : List ℕ} {m : RawMessage} → IsMessage p m → m .raw ≡ p
+raw-is (is-message g u) = refl
+
+-- ---- the message at an index of a body, byte for byte
+pub record Placed (s : List ℕ) (i : ℕ) (m : List ℕ) : Type 0 where
+  pub start : ℕ
+  pub next : ℕ
+  pub found : messageAt s i ≡ At start next
+  pub bytes : between s start next ≡ m
+
+placed-by : {s : List ℕ} {x : Rpc} (i : ℕ) (r : MessageAt) → IsRpc s x → i < length (x .publish) → messageAt s i ≡ r
+    → Placed s i (getD (map (λ (m : RawMessage). m .raw) (x .publish)) i [])
+placed-by i (At a e) g h q =
+    let f = message-found i a e g q in
+    record { start = a; next = e; found = q; bytes = sym (raw-is (f .2)) ∙ sym (nth-raw (f .1)) }
+placed-by i (Count k) g h q = let l = message-missing i k g q in absurd (omega (arith, l .1))
+
+none-by : {s : List ℕ} {x : Rpc} (i : ℕ) (r : MessageAt) → IsRpc s x → length (x .publish) ≤ i → messageAt s i ≡ r → messageAt s i ≡ Count (length (x .publish))
+none-by i (At a e) g l q = let f = message-found i a e g q in let b = nth-bound (f .1) in absurd (omega arith)
+none-by i (Count k) g l q = let m = message-missing i k g q in q ∙ ap Count (m .0)
+
+-- ---- a reply as it is read
+pub record Delivers (ms : List (List ℕ)) (out : List ℕ) : Type 0 where
+  pub accepted : acceptOf (replyBytes ms out) ≡ Fine
+  -- an admit at an index below the number served takes exactly that message
+  pub each : (i : ℕ) → i < servedOf ms out → Placed (replyBytes ms out) i (getD ms i [])
+  pub no-more : (i : ℕ) → servedOf ms out ≤ i → messageAt (replyBytes ms out) i ≡ Count (servedOf ms out)
+
+pub delivers : (ms : List (List ℕ)) (out : List ℕ) → Replies ms out → Delivers ms out
+delivers ms out r =
+    let s = replyBytes ms out in
+    let n = r .count in
+    record {
+      accepted = taken (r .within);
+      each = λ i h.
+          subst (λ (m : List ℕ). Placed s i m)
+          (ap (λ (l : List (List ℕ)). getD l i []) (r .messages) ∙ getD-take (servedOf ms out) ms i [] h)
+          (placed-by i (messageAt s i) (r .within .means) (omega arith) refl);
+      no-more = λ i h. none-by i (messageAt s i) (r .within .means) (omega arith) refl ∙ ap Count n;
+    }
+
+-- what an admit of such a message does is what it does with that message's bytes
+pub plan-delivered : (ms : List (List ℕ)) (out : List ℕ) → Delivers ms out → (n : Node) (ss cs : List ℕ) (i : ℕ) (word : Bool) (at : ℕ) → lentOf n ss cs ≡ lent.Fine → i < servedOf ms out
+    → planned n ss cs (replyBytes ms out) i word at ≡ planFit n at (getD ms i []) (admissionOf (getD ms i []) word)
+unfolding planned
+plan-delivered ms out d n ss cs i word at fine h = let p = d .each i h in rw (fine, d .accepted, p .found, p .bytes)
+
+-- ---- the reply to the request of node a for what node b tells of
+module _ (b : Node) (bs bc topic : List ℕ) (windows : ℕ) (fine : lentOf b bs bc ≡ lent.Fine) (bytes : Bytes bc) (short : length topic ≤ 1024) (a : Node) («as» ac out : List ℕ) where
+  pub reply-taken : Delivers (having (gatewayIn b bs bc) (lacking (gatewayIn a «as» ac) (toldOf topic windows (gatewayIn b bs bc)))) out
+  reply-taken =
+      let body = askBytes a «as» (advertiseBytes b bc topic windows) in
+      delivers (having (gatewayIn b bs bc) (lacking (gatewayIn a «as» ac) (toldOf topic windows (gatewayIn b bs bc)))) out
+      (subst (λ (ms : List (List ℕ)). Replies ms out) (reply-has b bs bc topic windows fine bytes short a «as» ac) (serve-means b bs bc body out fine bytes))

@@ -1,0 +1,11 @@
+pub mod History
+pub mod Premises
+pub mod Rows
+pub mod Holding
+pub mod Forward
+pub mod Once
+pub mod Sorted
+pub mod Fifteen
+pub mod Rounds
+pub mod HandOver
+pub mod Delivered

@@ -1,0 +1,129 @@
+-- Under the premises a message that is got is answered new once, the first time.
+use Prim.Native.Nat.{ℕ, _+_, _≤_, _<_}
+use mathlib.Core.Path.{_≡_, refl, sym, ap, _∙_}
+use mathlib.Core.Bool.{Bool, true, false, cond, not, _&&_, _||_, or-true}
+use mathlib.Core.List.{List, [], _∷_, _++_}
+use native.Mathlib.Omega.{arith}
+use lib.Dec.{leb}
+use borrow.Author.Tests.{le-leb, lt-leb}
+use Rattle.basis.specs.Cases.{either, clash}
+use Rattle.rows.specs.Ids.{sameBytes, among}
+use Rattle.rows.specs.IdsLaws.{same-self, same-equal, among-append}
+use Rattle.node.specs.Calls.{Plan, no, taken, heldAt}
+use Rattle.agreement.specs.History.{State, Call, admit, heartbeat, advertise, ask, serve, planIn, after, gets, news, gotAt, newAt, timesGot, timesNew}
+use Rattle.agreement.specs.Premises.{MessageSet, Settings, Premises}
+use Rattle.agreement.specs.Holding.{withGot, gotBy, gotNext, gotAll, Holding, admit-held, holding-start, holding-next}
+
+-- ---- a message among those got, and one more got
+with-again : (m p : List ℕ) (got : List (List ℕ)) → among m got ≡ true → among m (withGot p got) ≡ true
+with-again m p got h = either (among p got) (λ t. rw t h) (λ t. rw (t, among-append m got (p ∷ []), h))
+
+with-this : (m : List ℕ) (got : List (List ℕ)) → among m got ≡ false → among m (withGot m got) ≡ true
+unfolding among
+with-this m got h = rw (h, among-append m got (m ∷ []), h, same-self m)
+
+with-other : (m p : List ℕ) (got : List (List ℕ)) → among m got ≡ false → sameBytes p m ≡ false → among m (withGot p got) ≡ false
+unfolding among
+with-other m p got h d = either (among p got) (λ t. rw t h) (λ t. rw (t, among-append m got (p ∷ []), h, d))
+
+-- ---- one call: how often the message is got and new, and whether it is among those got after it
+-- where it was got before
+record Again (new : ℕ) (held : Bool) : Type 0 where
+  not-new : new ≡ 0
+  still : held ≡ true
+
+-- where it was not
+data First (got new : ℕ) (held : Bool) : Type 0 where
+  not-yet : got ≡ 0 → new ≡ 0 → held ≡ false → First got new held
+  now-new : got ≡ 1 → new ≡ 1 → held ≡ true → First got new held
+
+module _ (m : List ℕ) (s : State) (at : ℕ) (got : List (List ℕ)) where
+  plan-again : (p : Plan) → ((k id : List ℕ) → p ≡ taken k id → heldAt (s .node) (s .ids) at id ≡ among k got) → among m got ≡ true
+      → Again (news m s at p) (among m (gotBy got p))
+  plan-again (no r) f h = record { not-new = refl; still = h }
+  plan-again (taken k id) f h =
+      let e = f k id refl in
+      record {
+        not-new =
+            either (sameBytes k m)
+            (λ t. let w = same-equal k m t in let q : heldAt (s .node) (s .ids) at id ≡ true = e ∙ ap (λ (j : List ℕ). among j got) w ∙ h in rw (t, q))
+            (λ t. rw t);
+        still = with-again m k got h;
+      }
+
+  plan-first : (p : Plan) → ((k id : List ℕ) → p ≡ taken k id → heldAt (s .node) (s .ids) at id ≡ among k got) → among m got ≡ false
+      → First (gets m p) (news m s at p) (among m (gotBy got p))
+  plan-first (no r) f h = not-yet refl refl h
+  plan-first (taken k id) f h =
+      let e = f k id refl in
+      either (sameBytes k m)
+      (λ t.
+      let w = same-equal k m t in
+      let q : heldAt (s .node) (s .ids) at id ≡ false = e ∙ ap (λ (j : List ℕ). among j got) w ∙ h in
+      now-new (rw t) (rw (t, q)) (rw w (with-this m got h)))
+      (λ t. not-yet (rw t) (rw t) (with-other m k got h t))
+
+-- ---- some calls, where it was not got before them
+pub record Later (got new : ℕ) (held : Bool) : Type 0 where
+  pub once : 1 ≤ got → new ≡ 1
+  pub never : got ≡ 0 → new ≡ 0
+  pub exactly : held ≡ leb 1 got
+
+later-call : {a b d e : ℕ} {k h : Bool} → First a b k → (k ≡ false → Later d e h) → (k ≡ true → (e ≡ 0) × (h ≡ true)) → Later (a + d) (b + e) h
+later-call {a} {b} {d} {e} {k} {h} (not-yet p q r) f g =
+    let u : a + d ≡ d = omega arith in
+    let v : b + e ≡ e = omega arith in
+    rw (u, v) (f r)
+later-call {a} {b} {d} {e} {k} {h} (now-new p q r) f g =
+    let z = g r in
+    let w = z .0 in
+    record { once = λ y. omega arith; never = λ y. absurd (omega arith); exactly = z .1 ∙ sym (le-leb 1 (a + d) (omega arith)) }
+
+module _ {set : List (List ℕ)} (ms : MessageSet set) (m : List ℕ) {x : Settings} where
+  call-again : {got : List (List ℕ)} {s : State} (c : Call) (cs : List Call) → Holding set x (c ∷ cs) got s → among m got ≡ true
+      → Again (newAt m s c) (among m (gotNext got s c))
+  call-again {got} {s} (admit body i word at) cs h g = plan-again m s at got (planIn s body i word at) (λ k id e. admit-held body i word at cs h ms k id e) g
+  call-again (heartbeat at) cs h g = record { not-new = refl; still = g }
+  call-again (advertise topic windows out) cs h g = record { not-new = refl; still = g }
+  call-again (ask body out) cs h g = record { not-new = refl; still = g }
+  call-again (serve body out) cs h g = record { not-new = refl; still = g }
+
+  call-first : {got : List (List ℕ)} {s : State} (c : Call) (cs : List Call) → Holding set x (c ∷ cs) got s → among m got ≡ false
+      → First (gotAt m s c) (newAt m s c) (among m (gotNext got s c))
+  call-first {got} {s} (admit body i word at) cs h g = plan-first m s at got (planIn s body i word at) (λ k id e. admit-held body i word at cs h ms k id e) g
+  call-first (heartbeat at) cs h g = not-yet refl refl g
+  call-first (advertise topic windows out) cs h g = not-yet refl refl g
+  call-first (ask body out) cs h g = not-yet refl refl g
+  call-first (serve body out) cs h g = not-yet refl refl g
+
+  -- ---- a message got before is not new again, and stays
+  pub times-again : {got : List (List ℕ)} {s : State} (calls : List Call) → Holding set x calls got s → among m got ≡ true
+      → (timesNew m calls s ≡ 0) × (among m (gotAll got calls s) ≡ true)
+  unfolding timesNew gotAll
+  times-again [] h g = (refl, g)
+  times-again (c ∷ cs) h g =
+      let a = call-again c cs h g in
+      let r = times-again cs (holding-next ms c cs h) (a .still) in
+      let n = a .not-new in
+      (rw (n, r .0), r .1)
+
+  -- ---- one that was not is new once if it is got, and is then among those got
+  pub times-first : {got : List (List ℕ)} {s : State} (calls : List Call) → Holding set x calls got s → among m got ≡ false
+      → Later (timesGot m calls s) (timesNew m calls s) (among m (gotAll got calls s))
+  unfolding timesGot timesNew gotAll
+  times-first [] h g = record { once = λ z. absurd (omega arith); never = λ z. refl; exactly = g ∙ sym (lt-leb 1 0 (omega arith)) }
+  times-first (c ∷ cs) h g =
+      let n = holding-next ms c cs h in
+      later-call (call-first c cs h g) (λ t. times-first cs n t) (λ t. times-again cs n t)
+
+-- ---- a message of the set that is got at least once is answered new exactly once
+pub new-exactly-once : {set : List (List ℕ)} {x : Settings} {calls : List Call} {s : State} → MessageSet set → Premises set x calls s
+    → (m : List ℕ) → among m set ≡ true → 1 ≤ timesGot m calls s → timesNew m calls s ≡ 1
+unfolding among
+new-exactly-once {set} {x} {calls} {s} ms p m inside h = times-first ms m calls (holding-start p) refl .once h
+
+-- the messages got are those that some call got
+pub got-exactly : {set : List (List ℕ)} {x : Settings} {calls : List Call} {s : State} → MessageSet set → Premises set x calls s
+    → (m : List ℕ) → among m (gotAll [] calls s) ≡ leb 1 (timesGot m calls s)
+unfolding among
+got-exactly {set} {x} {calls} {s} ms p m = times-first ms m calls (holding-start p) refl .exactly

@@ -1,0 +1,65 @@
+-- 01's "Premises of demand 3", each named after its phrase.
+use Prim.Native.Nat.{ℕ, _+_, _-_, _*_, _^_, _≤_, _<_}
+use mathlib.Core.Path.{_≡_}
+use mathlib.Core.Bool.{Bool, true}
+use mathlib.Core.List.{List, [], _∷_}
+use lib.ListN.{length, getD}
+use Rattle.rows.specs.Ids.{among, distinct}
+use Rattle.admission.specs.Admission.{givesId}
+use Rattle.node.specs.State.{legalSettings, freshNode, risesFrom}
+use Rattle.node.specs.Calls.{Plan, no, taken}
+use Rattle.agreement.specs.History.{State, Call, admit, heartbeat, advertise, ask, serve, planIn, after, readings, beats}
+
+-- ---- the set of messages; a message is the bytes of the submessage
+pub record MessageSet (set : List (List ℕ)) : Type 0 where
+  pub each-once : distinct set ≡ true
+  -- every one passes admission with the host's word
+  pub admissible : (m : List ℕ) → among m set ≡ true → (id : List ℕ) × (givesId m id ≡ true)
+  -- different messages of the set have different ids
+  pub ids-differ : (m k id : List ℕ) → among m set ≡ true → among k set ≡ true → givesId m id ≡ true → givesId k id ≡ true → m ≡ k
+
+-- ---- settings, and a fresh node with stores of their lengths
+pub record Settings : Type 0 where
+  pub ttl : ℕ
+  pub max-seen : ℕ
+  pub history-len : ℕ
+  pub max-messages : ℕ
+
+pub record Fresh (x : Settings) (s : State) : Type 0 where
+  pub small : x .ttl < 2 ^ 64
+  pub legal : legalSettings (x .max-seen) (x .history-len) (x .max-messages) ≡ true
+  pub node : s .node ≡ freshNode (x .ttl) (x .max-seen) (x .history-len) (x .max-messages)
+  pub ids : length (s .ids) ≡ x .max-seen * 129
+  pub messages : length (s .messages) ≡ x .max-messages * 4096
+
+-- ---- admitting set members only; where the body is refused or the host's word withheld, the node gets nothing
+abbrev pub Member : List (List ℕ) → Plan → Type 0
+Member set (no r) = _≡_ {A = ℕ} 0 0
+Member set (taken m id) = among m set ≡ true
+
+abbrev pub MemberAt : List (List ℕ) → State → Call → Type 0
+MemberAt set s (admit body i word at) = Member set (planIn s body i word at)
+MemberAt set s (heartbeat at) = _≡_ {A = ℕ} 0 0
+MemberAt set s (advertise topic windows out) = _≡_ {A = ℕ} 0 0
+MemberAt set s (ask body out) = _≡_ {A = ℕ} 0 0
+MemberAt set s (serve body out) = _≡_ {A = ℕ} 0 0
+
+pub data Members (set : List (List ℕ)) : List Call → State → Type 0 where
+  none-left : {s : State} → Members set [] s
+  member : {c : Call} {cs : List Call} {s : State} → MemberAt set s c → Members set cs (after c s) → Members set (c ∷ cs) s
+
+-- ---- a history under the premises
+pub record Premises (set : List (List ℕ)) (x : Settings) (calls : List Call) (s : State) : Type 0 where
+  pub fresh : Fresh x s
+  pub members : Members set calls s
+  -- the set is no larger than max_seen or max_messages
+  pub set-seen : length set ≤ x .max-seen
+  pub set-cached : length set ≤ x .max-messages
+  -- the clock never falls
+  pub rises : risesFrom 0 (readings calls) ≡ true
+  -- its readings are less than ttl after its first
+  pub within-ttl : (i : ℕ) → i < length (readings calls) → getD (readings calls) i 0 < getD (readings calls) 0 0 + x .ttl
+  -- and below 2^64 - 1
+  pub below-last : (i : ℕ) → i < length (readings calls) → getD (readings calls) i 0 < 2 ^ 64 - 1
+  -- fewer heartbeats than history_len
+  pub few-heartbeats : beats calls < x .history-len

@@ -1,0 +1,186 @@
+#!/usr/bin/env python3
+"""Compares the program `states` with a model of the node and of its stores, by running both.
+
+    oracle/compare_states.py BINARY [--seed N] [--count N]
+
+BINARY is target/bin/states, after `rt check states`. The model is states.py, over the node of
+nodes.py. The histories (state_histories.py) are fixed ones, each a run of its own: every refusal
+with its values, every clause of 42 broken alone, states that look odd and are well formed, stores
+of other lengths, buffers that just fit and just do not, full capacities, arrival numbers at the
+wrap; the fixed histories of `trace`, many in one run; and --count random ones, in which numbers of
+the state are set. Then come runs that end in `bad` or `long`, whose texts are written here. Every
+line is compared. Prints the counts, and the first differences with the fewest steps found that
+lead to them; the exit status is 0 where there are none.
+"""
+
+import collections
+import itertools
+import random
+import subprocess
+import sys
+
+import state_histories
+import states
+from compare_caches import first_difference, line_at
+from compare_wire import SHOWN, arguments
+from state_histories import STATE
+from states import MAX_CONTENT, header, record, records
+from traces import beat
+
+CHUNK = 400
+COUNT = 2000
+SHOWN_BYTES = 200
+SHOWN_STEPS = 40
+
+
+def what(line):
+    """The call and the sort of answer, for the counts."""
+    words = line.split(" ")
+    if len(words) == 1:
+        return line
+    if words[2] == "refused":
+        return " ".join(words[1:4])
+    if words[1] in ("advertise", "ask"):
+        return words[1] + (" nothing" if words[2] == "0" else " bytes")
+    if words[1] == "serve":
+        return words[1] + (" nothing" if words[2] == "0" else " bytes" if words[-1] == "0" else " some left")
+    return words[1] if words[1] == "state" else " ".join(words[1:3])
+
+
+def printed_by(binary, data):
+    return subprocess.run([binary], input=data, stdout=subprocess.PIPE, check=True).stdout.decode().split("\n")
+
+
+def shown(step):
+    return " ".join(one[:SHOWN_BYTES].hex() + ("... %d bytes" % len(one) if len(one) > SHOWN_BYTES else "") if isinstance(one, bytes) else str(one)
+                    for one in step)
+
+
+def alone(binary, steps):
+    """The lines of the last step, (expected, printed), where they differ and those before do not; else None."""
+    told, printed = states.expected(records(steps)) + [""], printed_by(binary, records(steps))
+    n = first_difference(told, printed)
+    return None if n is None or n + 1 < len(steps) else (line_at(told, n), line_at(printed, n))
+
+
+def fewest(binary, steps):
+    """The steps of a difference without those that it does not need: (steps, expected, printed), or None where it is not there alone."""
+    found = alone(binary, steps)
+    if not found:
+        return None
+    at = len(steps) - 2
+    while at >= 0:
+        less = steps[:at] + steps[at + 1:]
+        still = alone(binary, less)
+        if still:
+            steps, found = less, still
+        at -= 1
+    return steps, *found
+
+
+class Broken:
+    """How often a call met a node with one clause of 42 broken."""
+
+    def __init__(self):
+        self.alone = collections.Counter()
+
+    def watch(self, run, step):
+        if step[0] in ("admit", "beat") and run.seen_len == run.max_seen * states.ROW and run.cache_len == run.cache.max_messages * states.MAX_MESSAGE:
+            broken = run.broken()
+            self.alone.update(broken if len(broken) == 1 else [])
+
+
+def play(binary, histories, counts, differ, watch=None):
+    """Histories in one run; the first difference, as (steps to it, expected, printed)."""
+    steps = list(itertools.chain.from_iterable(histories))
+    data = records(steps)
+    told = states.expected(data, watch)
+    counts.update(map(what, told))
+    printed = printed_by(binary, data)
+    n = first_difference(told + [""], printed)
+    if n is not None:
+        differ.append((steps[:n + 1], line_at(told, n), line_at(printed, n)))
+
+
+def endings():
+    """(what it is, input, text): runs that end early."""
+    begun, ok, most = record(("set", 10, 4, 2, 4)), "1 set ok\n", MAX_CONTENT
+    nothing = "1 state 0 0 0 0 0 0 0 0 0\n"
+    yield "nothing", b"", ""
+    yield "state first", record(STATE), nothing
+    yield "state with content", header(3, 11) + b"abc", nothing
+    yield "calls before settings", records([beat(5), ("contains", b""), ("lookup", b""), ("ask", 0, b""), ("serve", 0, b""), ("advertise", 0, 0, b"")]), \
+        "1 beat ok\n2 contains no\n3 lookup missing\n4 ask 0\n5 serve 0 0 0\n6 advertise 0\n"
+    for n in range(1, 6):
+        yield "header cut after %d bytes" % n, begun[:n], "bad\n"
+    for n in range(6, 20):
+        yield "settings cut after %d bytes" % n, begun[:n], "bad\n"
+    for n in (4, 5, 6):
+        yield "too long, %d bytes of the header" % n, begun + header(most + 1, 11)[:n], ok + "long\n"
+    yield "the longest content", begun + header(most, 11) + bytes(most) + begun, ok + "2 state 0 0 0 0 0 0 0 0 0\n3 set ok\n"
+    yield "the longest content, cut", begun + header(most, 11) + bytes(most - 1), ok + "bad\n"
+    for kind in (0, 12, 13, 255, 256, 257, 0x0b00, 65535):
+        for n in (0, 14):
+            yield "kind %d with %d bytes" % (kind, n), begun + header(n, kind) + bytes(n) + begun, ok + "bad\n"
+    for call, (kind, sizes, rest) in states.FORM.items():
+        least = sum(sizes)
+        for n in range(least):
+            yield "%s with %d bytes" % (call, n), begun + header(n, kind) + bytes(n) + begun, ok + "bad\n"
+        for n in (least + 1, least + 2, least + 256) if not rest else ():
+            yield "%s with %d bytes" % (call, n), begun + header(n, kind) + bytes(n) + begun, ok + "bad\n"
+    for call, given in (("advertise", (0, b"t")), ("ask", (b"",)), ("serve", (b"",))):
+        for room in (65601, 65602, 2**31, 2**32 - 1):
+            yield "%s with room %d" % (call, room), begun + record((call, room, *given)) + begun, ok + "bad\n"
+    for step in (("lend", states.SEEN_BYTES + 1, 0), ("lend", 0, states.CACHE_BYTES + 1), ("lend", 2**32 - 1, 0), ("lend", 0, 2**32 - 1)):
+        yield "lend %d %d" % step[1:], begun + record(step) + begun, ok + "bad\n"
+
+
+def report(binary, differ):
+    for steps, expected, got in sorted(differ, key=lambda one: len(one[0]) if isinstance(one[0], list) else 0)[:SHOWN]:
+        if isinstance(steps, list):
+            steps, expected, got = fewest(binary, steps) or (steps, expected, got)
+            print("%d steps:" % len(steps))
+            for step in steps[-SHOWN_STEPS:]:
+                print("    " + shown(step))
+        else:
+            print(steps)
+        print("  expected %s\n  printed  %s" % (str(expected)[:300], str(got)[:300]))
+
+
+def main():
+    given = arguments(__doc__, COUNT, rust=False)
+    r = random.Random(given.seed)
+    counts, differ, broken = collections.Counter(), [], Broken()
+    fixed = random_ones = others = runs = 0
+    for steps in state_histories.named():
+        play(given.binary, [steps], counts, differ, broken.watch)
+        fixed += 1
+    source = state_histories.of_traces()
+    while chunk := list(itertools.islice(source, CHUNK)):
+        play(given.binary, chunk, counts, differ)
+        others += len(chunk)
+    for _ in range(given.count):
+        play(given.binary, [state_histories.history(r)], counts, differ, broken.watch)
+        random_ones += 1
+    for name, data, text in endings():
+        told, printed = text.split("\n"), printed_by(given.binary, data)
+        assert told[:-1] == states.expected(data), name
+        counts.update(map(what, told[:-1]))
+        n = first_difference(told, printed)
+        if n is not None:
+            differ.append(("%s: bytes %s" % (name, data[:SHOWN_BYTES].hex()), line_at(told, n), line_at(printed, n)))
+        runs += 1
+    for name, k in sorted(counts.items()):
+        print("%-28s %8d" % (name, k))
+    for clause in states.CLAUSES:
+        print("%-38s %6d" % ("42 alone: " + clause, broken.alone[clause]))
+    missing = {(call, number) for call, numbers in states.REFUSALS.items() for number in numbers if not counts["%s refused %d" % (call, number)]}
+    assert not missing and all(broken.alone[clause] for clause in states.CLAUSES), missing
+    print("%d fixed histories, %d of traces, %d random ones and %d runs that end early, %d lines, seed %d: %d differences"
+          % (fixed, others, random_ones, runs, sum(counts.values()), given.seed, len(differ)))
+    report(given.binary, differ)
+    sys.exit(1 if differ else 0)
+
+
+if __name__ == "__main__":
+    main()

@@ -1,0 +1,709 @@
+"""Histories for the program `states`: fixed ones about every refusal and every clause of 42, and random ones.
+
+A history is a list of steps (states.py) that begins with settings, so histories can stand
+one after the other in one input; only the sums of kind 11 see what those before left in
+the stores and in the buffer. Most are made beside the model, which tells in which place a
+row stands, how many bytes an answer has and what a number was. Everything random comes from
+one seeded `random.Random`.
+"""
+
+import caches
+import states
+import traces
+from bodies import tagged
+from caches import REFUSED, X, grown, padded, plain, x_with
+from nodes import MAX_BODY, MAX_MESSAGE, ROOM, TOP
+from states import ARRIVAL, CACHE_BYTE, CACHE_BYTES, CLOCK, COUNT, EXPIRY, HISTORY_LEN, ID_LEN, IDS, LEN, MAX_HELD, MAX_ID, MAX_IDS, MAX_MADE, \
+    NEXT, ROW, SEEN_BYTE, SEEN_BYTES, SEEN_COUNT, SEEN_LEN, SEEN_START, START, TTL, WINDOW, Run
+from traces import admit, beat, body_of, control, ihave, tells, wants, x_body
+from wire import then_random
+
+STATE = ("state", b"")
+ROOMED = ("advertise", "ask", "serve")
+
+
+def wide(step, room=ROOM):
+    """A step of a trace, with this room."""
+    return (step[0], room) + step[1:] if step[0] in ROOMED else step
+
+
+def hurt(what, value, place=0):
+    return ("hurt", what, place, value)
+
+
+def advertise(windows=65535, topic=b"t", room=ROOM):
+    return ("advertise", room, windows, topic)
+
+
+def ask(*names, room=ROOM):
+    return ("ask", room, tells(*names))
+
+
+def serve(*names, room=ROOM):
+    return ("serve", room, wants(*names))
+
+
+def filled(parts, size):
+    """With data of bytes above 0, so that the message has so many bytes."""
+    parts = grown(parts, size)
+    return parts[:-1] + [(2, bytes(n % 255 + 1 for n in range(len(parts[-1][1]))))]
+
+
+class Play:
+    """Steps, played as they are added."""
+
+    def __init__(self, *steps):
+        self.run, self.steps = Run(), []
+        self.add(*steps)
+
+    def add(self, *steps):
+        for step in steps:
+            self.steps.append(step)
+            self.answer = self.run.answer(step)
+        return self
+
+    def needed(self, step):
+        """How many bytes a step writes, with room for all."""
+        held = self.run.made[:]
+        words = self.run.answer(wide(step)).split(" ")
+        self.run.made[:] = held
+        return int(words[0]) if words[0] != "refused" else 0
+
+    # The places of the rows, the oldest first.
+
+    def ids(self):
+        return self.run.seen.places(self.run.max_seen)
+
+    def messages(self):
+        return self.run.cache.places(self.run.cache.max_messages)
+
+
+def value_of(run, what, place):
+    """What a step of kind 8 would set."""
+    seen, cache = run.seen, run.cache
+    if what in (SEEN_BYTE, CACHE_BYTE):
+        store, lent = (run.seen_store, run.seen_len) if what == SEEN_BYTE else (run.cache_store, run.cache_len)
+        return store[place] if place < lent else 0
+    if what in (EXPIRY, SEEN_LEN):
+        return (seen.expiry if what == EXPIRY else seen.len)[place % 256]
+    rows = {ARRIVAL: cache.arrival, WINDOW: cache.window, LEN: cache.len, ID_LEN: cache.id_len}
+    if what in rows:
+        return rows[what][place % 64]
+    if what == IDS:
+        return cache.ids[place % len(cache.ids)]
+    return {TTL: run.ttl, MAX_IDS: run.max_seen, CLOCK: run.clock, SEEN_START: seen.start, SEEN_COUNT: seen.count, HISTORY_LEN: cache.history_len,
+            MAX_HELD: cache.max_messages, NEXT: cache.next, START: cache.start, COUNT: cache.count}[what]
+
+
+def healing(run, steps):
+    """What undoes these steps of kinds 7 and 8, where they are still to be played."""
+    back = []
+    for step in steps:
+        back.append(("lend", run.seen_len, run.cache_len) if step[0] == "lend" else (*step[:3], value_of(run, step[1], step[2])))
+    return back[::-1]
+
+
+def other_message(run, place, raw):
+    """Steps after which the message in a place is this one; its stored id stays."""
+    old = run.cache.message_at(run.cache_store, place)
+    steps = [hurt(CACHE_BYTE, byte, place * MAX_MESSAGE + n) for n, byte in enumerate(raw) if n >= len(old) or old[n] != byte]
+    return steps + ([] if run.cache.len[place] == len(raw) else [hurt(LEN, len(raw), place)])
+
+
+def other_id(run, place, name):
+    """Steps after which the id stored for a place is this one."""
+    steps = [hurt(IDS, byte, place * MAX_ID + n) for n, byte in enumerate(name) if run.cache.ids[place * MAX_ID + n] != byte]
+    return steps + ([] if run.cache.id_len[place] == len(name) else [hurt(ID_LEN, len(name), place)])
+
+
+def other_seen(run, place, name):
+    """Steps after which the seen id in a place is this one."""
+    old = run.seen.id_at(run.seen_store, place)
+    steps = [hurt(SEEN_BYTE, byte, place * ROW + n) for n, byte in enumerate(name) if n >= len(old) or old[n] != byte]
+    return steps + ([] if run.seen.len[place] == len(name) else [hurt(SEEN_LEN, len(name), place)])
+
+
+# --- states to start from ----------------------------------------------------------------
+
+def named_message(n, *topics, size=None):
+    parts = x_with(seqno=[bytes([n])], topic=topics or [b"t"])
+    return body_of(filled(parts, size) if size else parts)
+
+
+def turned():
+    """Both rings full and turned: four ids from place 1 on, three messages from place 2 on, in three windows."""
+    bodies = [named_message(n) for n in range(5)]
+    return Play(("set", 100, 4, 4, 3), admit(10, bodies[0]), admit(11, bodies[1]), admit(12, bodies[2]), beat(13), admit(14, bodies[3]), beat(15),
+                admit(16, bodies[4]))
+
+
+def straight():
+    """Both rings full, from place 0 on."""
+    return Play(("set", 100, 3, 4, 3), *[admit(10 + n, named_message(n)) for n in range(3)])
+
+
+def empty(*settings):
+    return Play(("set", *(settings or (100, 4, 4, 3))))
+
+
+FEW = [("contains", b"\x01A\x03"), ("lookup", b"A\x03"), advertise(), serve(b"A\x03", b"A\x04"), STATE]
+CALLS = [STATE, admit(20, named_message(9)), admit(20, named_message(4)), beat(20), advertise(), ask(b"A\x01", b"A\x04", b"B"),
+         serve(b"A\x02", b"A\x04"), ("contains", b"\x01A\x04"), ("lookup", b"A\x03"), STATE]
+# Refused for themselves, too: what is tested first is told.
+POOR = [admit(1, named_message(4)), admit(20, b"\x80"), beat(1), advertise(9, b"t" * 1025), ("ask", 0, b"\x0b"), ("serve", 0, wants(b"A\x03") + b"\x00"),
+        ("contains", bytes(130)), ("lookup", bytes(130))]
+
+
+# --- each clause of 42 ----------------------------------------------------------------------
+
+def unfit_messages():
+    """Messages that admission does not take, or that cannot be read."""
+    for parts in (x_with(from_=[]), x_with(from_=[b""]), x_with(from_=[b"f" * 65]), x_with(seqno=[]), x_with(seqno=[b""]), x_with(seqno=[b"s" * 65]),
+                  x_with(signature=[], key=[b"k"]), x_with(signature=[]), x_with(signature=[bytes(63)]), x_with(signature=[bytes(65)]),
+                  x_with(topic=[]), x_with(topic=[b"t"] * 5), x_with(topic=[b"t" * 1025])):
+        yield plain(parts)
+    for row in REFUSED[:-1]:
+        yield plain(X) + bytes.fromhex(row)
+    yield plain(x_with(topic=[b"\xff"]))
+    yield b""
+
+
+def breaks(play):
+    """(clause, steps that break it) for a state made by `turned`."""
+    run, ids, held = play.run, play.ids(), play.messages()
+    seen, cache = run.seen, run.cache
+    for value in (5, 6, 256, 2**32, TOP):
+        yield "seen start", [hurt(SEEN_START, value)]
+        yield "seen count", [hurt(SEEN_COUNT, value)]
+    for value in (4, 5, 64, 2**32 + 1, TOP):
+        yield "start", [hurt(START, value)]
+        yield "count", [hurt(COUNT, value)]
+    for place in ids:
+        for value in (130, 255):
+            yield "seen length", [hurt(SEEN_LEN, value, place)]
+    for place in held:
+        for value in (4097, 8192, 65535):
+            yield "message length", [hurt(LEN, value, place)]
+        for value in (129, 255):
+            yield "id length", [hurt(ID_LEN, value, place)]
+    for rows in (257, 258):
+        yield "max_seen", [hurt(MAX_IDS, rows), ("lend", rows * ROW, run.cache_len)]
+    for value in (17, 18, 256, 2**32 + 4, TOP):
+        yield "history_len above 16", [hurt(HISTORY_LEN, value)]
+    for one, other in ((0, 1), (1, 2), (2, 3), (0, 3), (3, 0), (2, 0)):
+        yield "seen id twice", other_seen(run, ids[other], seen.id_at(run.seen_store, ids[one]))
+    yield "seen id twice", [hurt(SEEN_LEN, 0, ids[0]), hurt(SEEN_LEN, 0, ids[3])]
+    yield "seen id twice", [hurt(SEEN_LEN, 1, ids[1]), hurt(SEEN_LEN, 1, ids[2])]
+    for one, other in ((0, 1), (1, 2), (2, 0)):
+        name = cache.id_at(held[one])
+        yield "cached id twice", other_id(run, held[other], name) + other_message(run, held[other], cache.message_at(run.cache_store, held[one]))
+    for older, newer in zip(ids, ids[1:]):
+        yield "expiry falls", [hurt(EXPIRY, seen.expiry[older] - 1, newer)]
+        yield "expiry falls", [hurt(EXPIRY, 0, newer)]
+        yield "expiry falls", [hurt(EXPIRY, TOP, older)]
+    for value in (4, 5, 16, 255):
+        yield "window too old", [hurt(WINDOW, value, held[0])]
+        yield "window too old", [hurt(WINDOW, value, place) for place in held]
+    yield "window too old", [hurt(HISTORY_LEN, 2)]
+    for older, newer in zip(held, held[1:]):
+        yield "window rises", [hurt(WINDOW, cache.window[older] + 1, newer)]
+    for place in held[:2]:
+        yield "arrival not consecutive", [hurt(ARRIVAL, cache.arrival[place] + 1, place)]
+    yield "arrival not consecutive", [hurt(ARRIVAL, cache.arrival[held[0]] - 1, held[0])]
+    yield "arrival not consecutive", [hurt(ARRIVAL, TOP, held[0])]
+    yield "arrival not consecutive", [hurt(ARRIVAL, cache.arrival[a], b) for a, b in ((held[0], held[1]), (held[1], held[0]))]
+    for value in (cache.next - 1, cache.next + 1, 0, TOP, cache.next + 2**32):
+        yield "arrival not on to the next", [hurt(NEXT, value)]
+    yield "arrival not on to the next", [hurt(ARRIVAL, cache.arrival[place] + 1, place) for place in held]
+    yield "arrival not on to the next", [hurt(COUNT, 2)]
+    for n, raw in enumerate(unfit_messages()):
+        yield "message not admissible", other_message(run, held[n % 3], raw)
+    for place in held:
+        yield "message not admissible", [hurt(LEN, cache.len[place] - 1, place)]
+        yield "message not admissible", [hurt(LEN, cache.len[place] + 1, place)]
+        yield "message not admissible", [hurt(LEN, MAX_MESSAGE, place)]
+        yield "message of another id", [hurt(IDS, 0x42, place * MAX_ID)]
+        yield "message of another id", [hurt(ID_LEN, 1, place)]
+        yield "message of another id", [hurt(ID_LEN, 3, place)]
+        yield "message of another id", [hurt(CACHE_BYTE, 0x42, place * MAX_MESSAGE + 2)]
+        yield "message of another id", other_message(run, place, plain(x_with(from_=[b"A\x00"], seqno=[bytes([run.cache.ids[place * MAX_ID + 1]])])))
+    yield "message of another id", [hurt(ID_LEN, 0, held[0])]
+
+
+def broken_empty():
+    """(clause, steps) for an empty node."""
+    for value in (17, TOP):
+        yield "history_len above 16", [hurt(HISTORY_LEN, value)]
+    yield "history_len 0", [hurt(HISTORY_LEN, 0)]
+    yield "max_messages", [hurt(MAX_HELD, 65), ("lend", 4 * ROW, CACHE_BYTES)]
+    yield "max_seen", [hurt(MAX_IDS, 257), ("lend", 257 * ROW, 3 * MAX_MESSAGE)]
+    yield "seen start", [hurt(SEEN_START, 5)]
+    yield "start", [hurt(START, 4)]
+
+
+BROKEN_FINDERS = ((turned, breaks), (empty, lambda play: broken_empty()))
+
+
+def harmed(play, clause, steps, *calls):
+    """A clause broken alone, calls, and all as it was."""
+    back = healing(play.run, steps)
+    play.add(STATE, *steps)
+    assert play.run.broken() == [clause], (clause, steps, play.run.broken())
+    return play.add(*calls, *back)
+
+
+def broken_histories():
+    """Each clause broken alone: every call is refused and changes nothing; then it is healed."""
+    for make, find in BROKEN_FINDERS:
+        for clause, steps in find(make()):
+            yield harmed(make(), clause, steps, *CALLS, *POOR, STATE).add(*(CALLS if make is turned else FEW)).steps
+
+
+def broken_once():
+    """Each clause broken alone, once, one after the other."""
+    got = set()
+    for make, find in BROKEN_FINDERS:
+        play = make()
+        for clause, steps in find(make()):
+            if clause not in got and len(steps) <= 8:
+                got.add(clause)
+                harmed(play, clause, steps, *CALLS[2:])
+        yield play.add(*CALLS).steps
+    assert got == set(states.CLAUSES)
+
+
+# --- states that look odd and are well formed -----------------------------------------------
+
+def odd_turned(play):
+    run, ids, held = play.run, play.ids(), play.messages()
+    for value in (0, 1, TOP):
+        yield [hurt(TTL, value)]
+    for value in (0, 16, 20):
+        yield [hurt(CLOCK, value)]
+    for value in (0, 1, 2, 3):
+        yield [hurt(SEEN_COUNT, value)]
+    for value in (0, 1, 20, 116, TOP):
+        yield [hurt(EXPIRY, value, place) for place in ids]
+    yield [hurt(EXPIRY, 114, ids[1])]
+    yield [hurt(EXPIRY, 0, ids[0])]
+    yield [hurt(EXPIRY, TOP, ids[3])]
+    for value in (3, 5, 16):
+        yield [hurt(HISTORY_LEN, value)]
+    for ages in ((3, 3, 3), (3, 3, 0), (3, 0, 0), (0, 0, 0), (2, 2, 1)):
+        yield [hurt(WINDOW, age, place) for age, place in zip(ages, held)]
+    for first in (TOP - 2, TOP - 1, TOP, 2**32 - 1, 2**63 - 1):
+        yield [hurt(ARRIVAL, (first + n) % 2**64, place) for n, place in enumerate(held)] + [hurt(NEXT, (first + 3) % 2**64)]
+    yield [hurt(COUNT, 0)]
+    yield [hurt(COUNT, 0), hurt(NEXT, TOP), hurt(START, 3)]
+    yield [hurt(COUNT, 1), hurt(NEXT, run.cache.next - 2)]
+    yield [hurt(COUNT, 2), hurt(NEXT, run.cache.next - 1)]
+    # Seen ids of any bytes, marked or not, up to 129.
+    yield [hurt(SEEN_LEN, 0, ids[0])]
+    yield [hurt(SEEN_LEN, 129, ids[1])]
+    yield [hurt(SEEN_BYTE, 0, ids[3] * ROW)]
+    yield other_seen(run, ids[2], b"\x01A\x09")
+    yield other_seen(run, ids[2], b"\x01A")
+    # Messages with other bytes and the same id.
+    for raw in (plain(x_with(seqno=[b"\x03"], data=[b"other"])), plain(x_with(seqno=[b"\x03"], topic=[b"u", b"t"])),
+                plain(x_with(seqno=[b"\x03"])) + b"\x7a\x00", b"\x38\x01" + plain(x_with(seqno=[b"\x03"])),
+                plain(x_with(from_=[b"Z"], seqno=[b"\x09"])) + tagged(1, b"A") + tagged(3, b"\x03")):
+        yield other_message(run, held[1], raw)
+    yield longest(run, held[1])
+    # What is in no row is not looked at.
+    yield [hurt(SEEN_LEN, 255, place) for place in (4, 255)] + [hurt(EXPIRY, TOP, 4)] + [hurt(what, 255, 3) for what in (ARRIVAL, WINDOW, LEN, ID_LEN)] \
+        + [hurt(IDS, 9, 3 * MAX_ID), hurt(SEEN_BYTE, 7, ids[0] * ROW + 100), hurt(CACHE_BYTE, 7, held[0] * MAX_MESSAGE + 4095),
+           hurt(IDS, 7, held[0] * MAX_ID + 100)]
+    yield [hurt(SEEN_COUNT, 3), hurt(SEEN_LEN, 200, ids[3]), hurt(EXPIRY, 0, ids[3])]
+    # The mark's value, places beyond the arrays and beyond what is lent, and values above a byte.
+    yield [hurt(EXPIRY, 0, 256), hurt(SEEN_LEN, 255, 256), hurt(SEEN_BYTE, 1, 4 * ROW), hurt(CACHE_BYTE, 1, 3 * MAX_MESSAGE),
+           hurt(WINDOW, 256, held[2] + 64), hurt(LEN, 65536 + 77, 9), hurt(ID_LEN, 256 + 2, held[1]), hurt(SEEN_LEN, 2**32 + 3, ids[0]),
+           hurt(IDS, 0x141, 8192 + held[0] * MAX_ID), hurt(SEEN_BYTE, 0x101, ids[0] * ROW)]
+
+
+def longest(run, place):
+    """Steps after which the message in a place has 4,096 bytes: an unknown field over what stands there."""
+    size = run.cache.len[place]
+    rest = MAX_MESSAGE - size - 3
+    field = bytes([15 * 8 + 2, rest % 128 + 128, rest // 128])
+    return [hurt(CACHE_BYTE, byte, place * MAX_MESSAGE + size + n) for n, byte in enumerate(field)] + [hurt(LEN, MAX_MESSAGE, place)]
+
+
+def odd_straight(play):
+    yield [hurt(SEEN_START, 3)]
+    yield [hurt(START, 3)]
+    yield [hurt(SEEN_START, 3), hurt(START, 3)]
+    yield [hurt(SEEN_COUNT, 1), hurt(SEEN_START, 3), hurt(START, 3), hurt(COUNT, 1), hurt(NEXT, 1)]
+    yield [hurt(SEEN_COUNT, 1), hurt(SEEN_START, 2)]
+    yield [hurt(SEEN_COUNT, 2), hurt(SEEN_START, 1)]
+    yield [hurt(START, 1), hurt(COUNT, 2)]
+    yield [hurt(START, 2), hurt(COUNT, 1)]
+
+
+def odd_empty(play):
+    for start in range(5):
+        yield [hurt(SEEN_START, start)]
+    for start in range(4):
+        yield [hurt(START, start)]
+    for value in (1, TOP - 1, TOP):
+        yield [hurt(NEXT, value)]
+    for rows in (0, 1, 2, 256):
+        yield [hurt(MAX_IDS, rows), ("lend", rows * ROW, 3 * MAX_MESSAGE)]
+    for most in (0, 1, 2, 64):
+        yield [hurt(MAX_HELD, most), ("lend", 4 * ROW, most * MAX_MESSAGE)]
+
+
+def odd_histories(few=False):
+    more = [admit(21, named_message(n)) for n in (10, 11, 12, 13)] + [beat(22), advertise(), serve(*[b"A" + bytes([n]) for n in range(14)]),
+                                                                     ask(*[b"A" + bytes([n]) for n in range(14)]), STATE]
+    if few:
+        more = [more[0], beat(22), ask(*[b"A" + bytes([n]) for n in range(4)]), STATE]
+    for make, find in ((turned, odd_turned), (straight, odd_straight), (empty, odd_empty)):
+        for n, steps in enumerate(find(make())):
+            if few and (n % 5 or len(steps) > 4):
+                continue
+            play = make().add(*steps)
+            assert play.run.broken() == [], (steps, play.run.broken())
+            yield play.add(*FEW, *(CALLS[1:] if not few else []), *more).steps
+
+
+# --- stores of other lengths -------------------------------------------------------------------
+
+def lent_histories(few=False):
+    lengths = (0, 1, 128, 129, 387, 515, 516, 517, 516 + 128, 645, 256 * ROW, 257 * ROW, SEEN_BYTES - 1, SEEN_BYTES)
+    sizes = (0, 1, 4096, 8192, 12287, 12288, 12289, 16384, 64 * 4096, CACHE_BYTES)
+    calls = CALLS[:-1]
+    if few:
+        lengths, sizes, calls = (0, 387, 515, 517, 645, 257 * ROW), (0, 12287, 16384), [CALLS[2], beat(20), CALLS[5], *FEW]
+    play = turned()
+    for seen_len in lengths:
+        play.add(("lend", seen_len, 12288), *calls)
+    for cache_len in sizes:
+        play.add(("lend", 516, cache_len), *calls)
+    for seen_len, cache_len in ((515, 0), (517, 0), (0, 0), (516, 12288)):
+        play.add(("lend", seen_len, cache_len), *calls)
+    yield play.steps
+    # What is tested first: 40, 41, 42, and then what concerns the call.
+    play = turned()
+    for wrong in ([hurt(SEEN_START, 9)], [hurt(COUNT, 9)]):
+        back = healing(play.run, wrong)
+        play.add(*wrong)
+        for seen_len, cache_len in ((515, 12288), (517, 12288), (516, 12287), (516, 12288)):
+            play.add(("lend", seen_len, cache_len), *(CALLS[1:4] + FEW if few else CALLS + POOR))
+        play.add(*back)
+    yield play.add(*POOR, STATE).steps
+    # Maxima whose products do not fit a number.
+    play = turned()
+    huge = [(MAX_IDS, value) for value in (5, 257, 516 * pow(129, -1, 2**64) % 2**64, 2**63, TOP)] \
+        + [(MAX_HELD, value) for value in (2, 4, 2**52, 2**52 + 3, 2**63 + 3, TOP)]
+    for what, value in huge:
+        back = healing(play.run, [hurt(what, value)])
+        play.add(hurt(what, value), *([CALLS[2], *FEW] if few else CALLS))
+        if what == MAX_HELD and value == 2**52:
+            play.add(("lend", 516, 0), *FEW, beat(20), ("lend", 516, 12288))
+        play.add(*back)
+    yield play.add(*FEW).steps
+    # Fewer rows, with the store that belongs to them.
+    for settings in ((3, 4, 3), (5, 4, 3), (4, 4, 2), (4, 4, 4), (0, 1, 0), (256, 16, 64)):
+        if few and settings[0] == 256:
+            continue
+        yield turned().add(hurt(MAX_IDS, settings[0]), hurt(MAX_HELD, settings[2]), ("lend", settings[0] * ROW, settings[2] * MAX_MESSAGE), *CALLS).steps
+
+
+# --- buffers --------------------------------------------------------------------------------------
+
+def buffer_histories(few=False):
+    """Buffers that just fit and just do not, in a buffer that is full of other bytes; and what is left of a reply."""
+    for sizes in ((90, 200, 131), (77, 4096, 129)) if not few else ((90, 200, 131),):
+        play = Play(("set", 100, 8, 4, 4), *[admit(1, named_message(n, b"t", b"u", size=size)) for n, size in enumerate(sizes)])
+        names = [b"A" + bytes([n]) for n in range(3)]
+        fields = [len(tagged(2, play.run.cache.message_at(play.run.cache_store, p))) for p in play.messages()]
+        play.add(serve(*names), STATE)
+        steps = [("advertise", 1, b"t"), ("advertise", 1, b"none"), ("ask", tells(b"A\x00", b"B", b"BC", b"B")), ("ask", tells(b"A\x01")),
+                 ("serve", wants(b"A\x01")), ("serve", wants(b"B"))]
+        for step in steps:
+            size = play.needed(step)
+            for room in sorted({0, 1, size - 1, size, size + 1, ROOM, MAX_MADE} if not few else {0, size - 1, size} | {MAX_MADE} if size else {0}):
+                if room >= 0:
+                    play.add(wide(step, room), STATE)
+        one, two, three = fields[0], sum(fields[:2]), sum(fields)
+        for room in (0, one - 1, one, one + 1, two - 1, two, two + 1, three - 1, three, three + 1):
+            play.add(serve(*names, room=room), STATE)
+        # A smaller one after the first that does not fit is left, too.
+        for order in ((0, 1, 2), (1, 0, 2), (2, 1, 0), (1, 2, 0)) if not few else ((2, 1, 0),):
+            room = fields[order[0]] + fields[order[1]] - 1
+            play.add(serve(*[names[n] for n in order], b"B", names[0], room=room), serve(*[names[n] for n in order], room=fields[order[0]] - 1), STATE)
+        yield play.steps
+
+
+# --- full capacities ---------------------------------------------------------------------------------
+
+def full_histories():
+    # 256 ids, and 64 messages of 4,096 bytes.
+    names = [b"f" + n.to_bytes(2, "big") for n in range(259)]
+    big = [body_of(filled(x_with(from_=[b"f"], seqno=[name[1:]]), MAX_MESSAGE)) for name in names]
+    play = Play(("set", 1000, 256, 16, 64), *[admit(n, x_body(b"f", name[1:])) for n, name in enumerate(names[:190])], STATE)
+    play.add(*[admit(200, body) for body in big[190:]], STATE, *full_looks(names))
+    yield play.add(*[beat(201)] * 15, STATE, advertise(15), advertise(16), beat(201), STATE, advertise(16), serve(names[258])).steps
+    # As many bytes as a reply may have, with 16 messages.
+    for last, rooms in ((4047, (ROOM,)), (4048, (ROOM - 1, ROOM, ROOM + 1, MAX_MADE)), (4049, (ROOM, ROOM + 1, MAX_MADE)),
+                        (4096, (ROOM, 65584, MAX_MADE))):
+        play = Play(("set", 1000, 16, 4, 16), *[admit(1, big[n]) for n in range(15)], admit(1, body_of(filled(
+            x_with(from_=[b"f"], seqno=[names[15][1:]]), last))))
+        for room in rooms:
+            play.add(serve(*names[:16], room=room), STATE)
+        yield play.steps
+    # The longest ids and the longest topic: 9,417 bytes.
+    topic = b"t" * 1024
+    bodies = [x_body(b"f" * 64, b"s" * 62 + n.to_bytes(2, "big"), topic) for n in range(64)]
+    play = Play(("set", 1000, 64, 16, 64), *[admit(1, body) for body in bodies], advertise(1, topic), STATE)
+    size = play.needed(("advertise", 1, topic))
+    assert size == 9417
+    told = bytes.fromhex(play.run.answer(advertise(1, topic)).split(" ")[1])
+    play.add(advertise(1, topic, size), advertise(1, topic, size - 1), ("ask", ROOM, told), STATE)
+    other = Play(("set", 1000, 64, 16, 64))
+    size = other.needed(("ask", told))
+    other.add(("ask", size, told), STATE, ("ask", size - 1, told), STATE)
+    wanted = bytes.fromhex(other.run.answer(("ask", ROOM, told)).split(" ")[1])
+    assert size == 8390
+    yield play.add(("serve", ROOM, wanted), ("serve", 1024, wanted)).steps
+    yield other.steps
+    # As many records as a body may have, and one more; bodies about the largest size.
+    for n in (510, 511, 512):
+        others = [b"%d" % k for k in range(n)]
+        yield turned().add(ask(*others), serve(*others[3:], b"A\x02", b"A\x03", b"A\x04"), ask(*[b"A\x04"] * n), ask(*others, room=100), STATE).steps
+    x = named_message(9)
+    for size in (MAX_BODY - 1, MAX_BODY, MAX_BODY + 1, MAX_BODY + 50):
+        yield turned().add(admit(20, padded(x, size)), ("ask", ROOM, padded(tells(b"A\x04", b"B"), size)),
+                           ("serve", ROOM, padded(wants(b"A\x04", b"B"), size)), ("ask", ROOM, b"\x80" * size), STATE).steps
+    # An offer of one id that fills a body, and of many.
+    yield turned().add(("ask", ROOM, control(ihave([b"x" * (MAX_BODY - 16)], None))), STATE,
+                       ask(*[bytes([n % 256, n // 256]) * 62 for n in range(500)]), STATE,
+                       ask(*[b"%d" % n * 20 for n in range(511)], room=20000), STATE).steps
+
+
+def full_in_few_bytes():
+    """256 ids and 64 messages of 4,096 bytes, which are made longer where they are; 511 ids named in one body; 16 windows."""
+    names = [b"f" + n.to_bytes(2, "big") for n in range(259)]
+    play = Play(("set", 1000, 256, 16, 64), *[admit(n, x_body(b"f", name[1:])) for n, name in enumerate(names)], STATE)
+    for place in play.messages():
+        play.add(*longest(play.run, place))
+    every = names[3:]
+    play.add(STATE, advertise(1), ask(*names), ("contains", b"\x01" + names[3]), ("contains", b"\x01" + names[2]), ("lookup", names[195]),
+             ("lookup", names[194]), serve(*reversed(every), room=4098), serve(*reversed(every), room=4099), serve(names[0], names[194]), STATE)
+    others = [b"%d" % n for n in range(512)]
+    play.add(ask(*others[:511]), ask(*others), serve(*others[:510], names[0]), serve(*others), STATE)
+    return play.add(*[beat(300)] * 15, advertise(15), advertise(16, room=20), STATE, beat(300), advertise(16), STATE,
+                    admit(300, named_message(1)), ("lookup", b"A\x01"), STATE).steps
+
+
+def full_looks(names):
+    every = names[3:]
+    return [advertise(1), STATE, ask(*names), ask(*every), ("contains", b"\x01" + names[3]), ("contains", b"\x01" + names[2]),
+            ("lookup", names[195]), ("lookup", names[194])] \
+        + [serve(*reversed(every), room=room) for room in (0, 4098, 4099, 8197, 8198, 61484, 61485, ROOM, MAX_MADE)] + [STATE]
+
+
+def wrap_histories():
+    """Arrival numbers at the wrap, from an empty cache."""
+    names = [b"A" + bytes([n]) for n in range(8)]
+    for first in (TOP - 3, TOP - 1, TOP, 0):
+        for most in (0, 1, 3, 4):
+            play = Play(("set", 100, 8, 3, most), hurt(NEXT, first), STATE)
+            for n in range(6):
+                play.add(admit(n, named_message(n)), advertise(1), serve(*names), *([beat(n)] if n % 3 == 2 else []), STATE)
+            yield play.add(("lookup", names[5]), ("lookup", names[0])).steps
+
+
+def unused_histories():
+    """Rows that left and come back: a message that is no longer held grows older, too, and 255 is as old as it gets. A ring that starts behind its
+    last place starts at its first place after a clean-up, a beat or a put."""
+    for beats in (2, 3, 4, 15, 16, 255, 256, 257, 258, 300):
+        play = Play(("set", 1000, 4, 2, 3), admit(1, named_message(0)), *[beat(2)] * beats, STATE, hurt(START, 0), hurt(COUNT, 1))
+        for history_len in (beats - 1, beats, beats + 1, 16):
+            play.add(hurt(HISTORY_LEN, history_len), ("lookup", b"A\x00"), beat(2) if history_len == 16 else advertise(beats), advertise(beats + 1))
+        yield play.add(STATE).steps
+    turns = [hurt(SEEN_START, 3), hurt(START, 3), STATE]
+    for step in (beat(13), admit(13, named_message(2)), admit(13, named_message(9)), admit(9, named_message(9)), admit(112, named_message(2))):
+        yield straight().add(*turns, serve(b"A\x00"), step, STATE, serve(b"A\x02", b"A\x01"), STATE).steps
+        yield straight().add(*turns, hurt(SEEN_COUNT, 1), hurt(COUNT, 1), hurt(NEXT, 1), step, STATE, *FEW, step, STATE).steps
+
+
+def small_histories():
+    """Maxima 0 and 1."""
+    for seen, most in ((0, 0), (0, 3), (3, 0), (1, 1), (0, 1), (1, 0)):
+        play = Play(("set", 5, seen, 1, most), STATE)
+        for n in (0, 1, 0, 1, 2):
+            play.add(admit(n or play.run.clock, named_message(n)), ask(b"A\x00", b"A\x01"), serve(b"A\x00", b"A\x01"), STATE)
+        yield play.add(beat(3), *FEW, beat(9), *FEW, ("lend", 1, 0), *FEW, ("lend", 0, 1), *FEW, ("lend", seen * ROW, most * MAX_MESSAGE),
+                       hurt(SEEN_COUNT, seen + 1), *FEW, hurt(SEEN_COUNT, 0), hurt(COUNT, most + 1), *FEW).steps
+
+
+def contains_histories():
+    play = turned()
+    for size in (0, 1, 128, 129, 130, 131, 255, 256, 257, 1000, 65600):
+        play.add(("contains", b"\x01" * size), ("lookup", b"\x01" * size))
+    for n in range(6):
+        play.add(("contains", b"\x01A" + bytes([n])), ("contains", b"A" + bytes([n])), ("lookup", b"A" + bytes([n])), ("lookup", b"\x01A" + bytes([n])))
+    yield play.add(*other_seen(play.run, 0, b"y" * 129), ("contains", b"y" * 129), ("contains", b"y" * 128), ("contains", b"y" * 130),
+                   hurt(SEEN_LEN, 128, 0), ("contains", b"y" * 129), ("contains", b"y" * 128), hurt(SEEN_LEN, 0, 0), ("contains", b""),
+                   hurt(EXPIRY, 0, 3), ("contains", b"\x01A\x04"), beat(20), STATE).steps  # alone, no expiry is looked at
+
+
+def each_refusal():
+    """Every refusal of a body, a message and a room, a few times, in few bytes; all but one of the bodies are short."""
+    play = turned()
+    bodies = [bytes.fromhex(row) for row in REFUSED] + [b"\x09", b"\x0a" + b"\xff" * 9 + b"\x01", b"\x0a\x03\x12\x02\xff", b"\x0a\x00\x0b"]
+    for body in bodies:
+        play.add(admit(20, body), ("ask", 0, body), ("serve", 0, body))
+    many = b"\x0a\x00" * 513
+    play.add(admit(20, many), ("ask", ROOM, many), ("serve", ROOM, many), STATE)
+    for parts in (x_with(from_=[]), x_with(from_=[b""]), x_with(from_=[b"f" * 65]), x_with(seqno=[]), x_with(seqno=[b"s" * 65]),
+                  x_with(signature=[], key=[b"k"]), x_with(signature=[]), x_with(signature=[bytes(63)]),
+                  x_with(topic=[]), x_with(topic=[b"t"] * 5), x_with(topic=[b"t" * 1025]), grown(X, 4097)):
+        play.add(admit(20, body_of(parts)))
+    play.add(admit(20, named_message(9), 1), admit(20, named_message(9), 65535), admit(20, named_message(9), 0, 0), admit(20, named_message(9), 0, 2),
+             admit(15, named_message(9)), beat(15), advertise(1, b"t" * 1025), advertise(1, b"t" * 1024), advertise(room=14), ask(b"B", room=4),
+             serve(b"A\x03", room=76), ("contains", bytes(129)), ("contains", bytes(130)), ("lookup", bytes(130)), STATE)
+    play.add(("set", 1, 257, 4, 3), ("set", 1, 4, 0, 3), ("set", 1, 4, 17, 3), ("set", 1, 4, 4, 65), ("set", 1, 65535, 65535, 65535))
+    return play.add(*CALLS).steps
+
+
+def refusal_histories():
+    """Every refusal of a body or a message, with its values, and nothing changed."""
+    play = turned()
+    long = b"t" * 1025
+    bodies = [bytes.fromhex(row) for row in REFUSED] + [
+        b"\x08", b"\x0a", b"\x09", b"\x0d\x00", b"\x08" + b"\x80" * 9 + b"\x00", b"\x0a" + b"\xff" * 9 + b"\x01", b"\x03", b"\x0a\x03\x12\x02\xff",
+        b"\x0a\x01\x80\x0b", b"\x0a\x00\x0b", b"\xff" * 9 + b"\x01", tagged(2, b"\x22\x02\xc0\x80"), b"\x0a\x00" * 513, b"\x0a\x00" * 600]
+    for body in bodies:
+        play.add(admit(20, body), ("ask", 0, body), ("serve", 0, body))
+    play.add(STATE)
+    for parts in [*caches.unfit_puts()]:
+        play.add(admit(20, body_of(parts), 0, 0), admit(1, body_of(parts)))
+    play.add(STATE)
+    for index in (1, 2, 255, 65535):
+        play.add(admit(20, named_message(9), index))
+    for word in (0, 2, 255):
+        play.add(admit(20, named_message(9), 0, word))
+    yield play.add(admit(15, named_message(9)), admit(15, named_message(4)), beat(15), beat(0), advertise(1, long), advertise(0, b"\xff" * 1025, 0),
+                   advertise(0, b"\xff" * 1024), advertise(1, b"t" * 2000), ("contains", long), STATE,
+                   *[("set", 5, *bad) for bad in traces.BAD_SETTINGS if max(bad) > 64 or bad[1] in (0, 17, 18)], STATE, *CALLS).steps
+
+
+def named():
+    for part in (refusal_histories, broken_histories, odd_histories, lent_histories, buffer_histories, full_histories, wrap_histories, unused_histories,
+                 small_histories, contains_histories):
+        yield from part()
+
+
+def of_traces():
+    """The fixed histories of `trace`, and all of three calls, with the state told after the last."""
+    for steps in traces.named():
+        yield [wide(step) for step in steps] + [STATE]
+    for steps in traces.short_histories(3):
+        yield [wide(step) for step in steps] + [STATE]
+
+
+# --- random histories -----------------------------------------------------------------------------------
+
+def some_room(r, play, step):
+    """A step of a trace, with a room: mostly enough, or about what is needed."""
+    how = r.randrange(6)
+    if how < 2:
+        return wide(step)
+    if how == 2:
+        return wide(step, r.choice((0, 1, 10, 77, 100, 200, 1000, 65535, 65537, MAX_MADE)))
+    needed = play.needed(step)
+    if step[0] == "serve" and how == 3 and needed:
+        needed = r.randrange(needed)
+    return wide(step, max(0, needed + r.choice((-2, -1, -1, 0, 0, 1))))
+
+
+def some_hurt(r, play):
+    """A number of the state or a byte of a store, often about what it was or what a row beside has."""
+    run = play.run
+    what = r.choice((TTL, MAX_IDS, CLOCK, SEEN_START, SEEN_COUNT, EXPIRY, EXPIRY, SEEN_LEN, SEEN_LEN, HISTORY_LEN, MAX_HELD, NEXT, START, COUNT,
+                     ARRIVAL, ARRIVAL, WINDOW, WINDOW, LEN, LEN, ID_LEN, IDS, SEEN_BYTE, SEEN_BYTE, CACHE_BYTE, CACHE_BYTE))
+    ids = play.ids() if run.seen.fits(run.max_seen) and run.max_seen <= 256 else []
+    held = play.messages() if run.cache.fits(run.cache.max_messages) and run.cache.max_messages <= 64 else []
+    places = ids if what in (EXPIRY, SEEN_LEN, SEEN_BYTE) else held
+    place = r.choice(places) if places and r.randrange(8) else r.randrange(8)
+    near = place
+    if what in (SEEN_BYTE, CACHE_BYTE, IDS):
+        size = {SEEN_BYTE: ROW, CACHE_BYTE: MAX_MESSAGE, IDS: MAX_ID}[what]
+        length = {SEEN_BYTE: run.seen.len[place % 256], CACHE_BYTE: run.cache.len[place % 64], IDS: run.cache.id_len[place % 64]}[what]
+        at = r.randrange(length + 1)
+        place, near = place * size + at, (r.choice(places) if places else 0) * size + at
+    elif places and what in (EXPIRY, SEEN_LEN, ARRIVAL, WINDOW, LEN, ID_LEN):
+        near = r.choice(places)
+    elif what not in (EXPIRY, SEEN_LEN, ARRIVAL, WINDOW, LEN, ID_LEN):
+        place = near = 0
+    old = value_of(run, what, place)
+    value = r.choice((old, old + 1, old - 1, old + 1, old - 1, old + r.choice((2, 3, 256)), value_of(run, what, near), value_of(run, what, near),
+                      0, 1, r.randrange(5), r.choice((16, 17, 64, 65, 128, 129, 130, 255, 256, 257, 4096, 4097)), r.randrange(2**64),
+                      r.choice((2**32, 2**52, 2**63, TOP - 1, TOP))))
+    return hurt(what, value % 2**64, place)
+
+
+def some_lend(r, play):
+    run = play.run
+    seen_len, cache_len = run.max_seen * ROW, run.cache.max_messages * MAX_MESSAGE
+
+    def about(n, size):
+        return n + r.choice((0, 0, -1, 1, -size, size, size - 1, -n, r.randrange(size)))
+    one, other = about(seen_len, ROW), about(cache_len, MAX_MESSAGE)
+    return ("lend", max(0, min(one, SEEN_BYTES)), max(0, min(other, CACHE_BYTES)))
+
+
+def some_alone(r, pool, marks=(b"", b"\x01", b"\x01", b"\x01", b"\x00")):
+    name = r.choice(traces.named_by(pool))
+    if r.randrange(4) == 0:
+        name = traces.near(r, name)
+    return ("contains", r.choice(marks) + name) if r.randrange(2) else ("lookup", name)
+
+
+def numbers(run):
+    return run.clock, run.seen.start, run.seen.count, run.cache.start, run.cache.count, run.cache.next
+
+
+def harm(r, play, calls):
+    """Some numbers set or another length lent, a few calls, and most often all as it was."""
+    for _ in range(r.choice((1, 1, 2, 4))):
+        steps = [some_hurt(r, play) if r.randrange(6) else some_lend(r, play) for _ in range(r.choice((1, 1, 1, 2, 3)))]
+        back = []
+        for step in steps:
+            back = healing(play.run, [step]) + back
+            play.add(step)
+        before = numbers(play.run)
+        play.add(*calls(r.choice((1, 2, 3))))
+        play.add(STATE)
+        if numbers(play.run) == before and r.randrange(8):
+            play.add(*back)
+
+
+def history(r):
+    """A random history of a trace with any rooms, in which numbers are set and other lengths are lent, with a look at the state now and then."""
+    steps = traces.history(r)
+    settings = list(steps[0])
+    settings[4] = r.choice((settings[4], settings[4], 16, 63, 64))
+    pool = [(who[:1], who[1:2]) for who in (b"ab", b"abc")] + caches.names(r)
+    play = Play(tuple(settings))
+
+    def calls(n):
+        got = r.sample(steps[1:], min(n, len(steps) - 1)) + ([some_alone(r, pool)] if r.randrange(3) == 0 else [])
+        return [wide(step) for step in got if step[0] != "set"]
+
+    for step in steps[1:]:
+        play.add(some_room(r, play, step) if step[0] in ROOMED else step)
+        how = r.randrange(16)
+        if how == 0:
+            play.add(STATE)
+        elif how == 1:
+            play.add(some_alone(r, pool))
+        elif how == 2:
+            harm(r, play, calls)
+    return play.add(STATE).steps
+
+
+def histories(r, count):
+    return then_random(r, count, (named(), of_traces()), history)

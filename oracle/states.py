@@ -1,0 +1,395 @@
+"""A model of the program `states`: the node of nodes.py, and how it lies in its arrays and its two stores.
+
+What a call answers is nodes.py's word. This file adds what a trace cannot show: the values
+beside a refusal, the room of the buffer, stores of any length (40, 41), the rings in which ids
+and messages stand, so that every number can be set (kind 8) and every sum told (kind 11),
+and document 01's sentence "Well formed (42)", clause by clause. The layout is the one of
+crates/seen/specs/State.antt and crates/mcache/specs/State.antt. After each call the rows are
+read back and held against what nodes.py keeps.
+
+A step is a call, its numbers and then its bytes: ("set", ttl, max_seen, history_len,
+max_messages), ("admit", now, index, verified, body), ("beat", now), ("advertise", room,
+windows, topic), ("ask", room, body), ("serve", room, body), ("lend", seen length, cache
+length), ("hurt", what, place, value), ("contains", id), ("lookup", id), ("state", b"").
+`expected` takes an input as bytes and gives the lines of the run.
+"""
+
+import functools
+import itertools
+
+import nodes
+from nodes import MAX_HISTORY, MAX_MESSAGE, MAX_MESSAGES, MAX_NAME, MAX_SEEN, ROOM, TOP, Refused, header, shown
+
+MAX_CONTENT = 65600
+MAX_MADE = 65600
+ROW = 129
+MAX_SEEN_ID = 129
+MAX_ID = 2 * MAX_NAME
+SEEN_BYTES = 258 * ROW
+CACHE_BYTES = 65 * MAX_MESSAGE
+
+# Of each call: its kind, how many bytes its numbers have, and whether bytes follow them.
+FORM = {"set": (1, (8, 2, 2, 2), False), "admit": (2, (8, 2, 1), True), "beat": (3, (8,), False), "advertise": (4, (4, 2), True),
+        "ask": (5, (4,), True), "serve": (6, (4,), True), "lend": (7, (4, 4), False), "hurt": (8, (1, 4, 8), False), "contains": (9, (), True),
+        "lookup": (10, (), True), "state": (11, (), True)}
+CALL = {form[0]: call for call, form in FORM.items()}
+
+# What a step of kind 8 sets.
+TTL, MAX_IDS, CLOCK, SEEN_START, SEEN_COUNT, EXPIRY, SEEN_LEN, HISTORY_LEN, MAX_HELD, NEXT, START, COUNT, ARRIVAL, WINDOW, LEN, ID_LEN, IDS, \
+    SEEN_BYTE, CACHE_BYTE = range(19)
+
+# Every refusal that the program can show.
+LENT = {40, 41, 42}
+BODY = set(range(1, 8)) | {10, 11}
+REFUSALS = {"set": {40}, "admit": LENT | BODY | set(range(20, 32)), "beat": LENT | {31}, "advertise": LENT | {29, 12}, "ask": LENT | BODY | {12},
+            "serve": LENT | BODY | {12}, "contains": {41, 42, 33}, "lookup": {41, 42}}
+
+# The clauses of 42, in the order of the sentence.
+CLAUSES = ["seen start", "seen count", "seen length", "start", "count", "message length", "id length", "max_seen", "history_len 0",
+           "history_len above 16", "max_messages", "seen id twice", "cached id twice", "expiry falls", "window too old", "window rises",
+           "arrival not consecutive", "arrival not on to the next", "message not admissible", "message of another id"]
+
+
+def placed(cap, start, i):
+    """The place of the i-th row from the oldest: after the last place comes the first."""
+    return start + i if i < cap - start else i - (cap - start)
+
+
+class Rows:
+    """A ring: `count` of the places are in use, from `start` on."""
+
+    def __init__(self):
+        self.start = self.count = 0
+
+    def places(self, cap):
+        return [placed(cap, self.start, i) for i in range(self.count)]
+
+    def drop(self, cap, k):
+        self.start, self.count = placed(cap, self.start, k), self.count - k
+
+    def fits(self, cap):
+        return self.start <= cap and self.count <= cap
+
+
+class Seen(Rows):
+    def __init__(self):
+        super().__init__()
+        self.expiry, self.len = [0] * MAX_SEEN, [0] * MAX_SEEN
+
+    def id_at(self, store, p):
+        return bytes(store[p * ROW:p * ROW + self.len[p]])
+
+    def broken(self, cap, store):
+        """The clauses that a seen part alone does not meet; what stands in the rows is looked at where the rows are there."""
+        if self.start > cap:
+            yield "seen start"
+        if self.count > cap:
+            yield "seen count"
+        if cap > MAX_SEEN or not self.fits(cap):
+            return
+        places = self.places(cap)
+        if any(self.len[p] > MAX_SEEN_ID for p in places):
+            yield "seen length"
+        elif len({self.id_at(store, p) for p in places}) < len(places):
+            yield "seen id twice"
+
+    def append(self, cap, store, name, expiry):
+        p = placed(cap, self.start, self.count)
+        self.count += 1
+        self.expiry[p], self.len[p] = expiry, len(name)
+        store[p * ROW:p * ROW + len(name)] = name
+
+
+class Cache(Rows):
+    def __init__(self, history_len, max_messages):
+        super().__init__()
+        self.history_len, self.max_messages, self.next = history_len, max_messages, 0
+        self.arrival, self.window, self.len, self.id_len = ([0] * MAX_MESSAGES for _ in range(4))
+        self.ids = bytearray(MAX_MESSAGES * MAX_ID)
+
+    def id_at(self, p):
+        return bytes(self.ids[p * MAX_ID:p * MAX_ID + self.id_len[p]])
+
+    def message_at(self, store, p):
+        return bytes(store[p * MAX_MESSAGE:p * MAX_MESSAGE + self.len[p]])
+
+    def broken(self, store):
+        cap = self.max_messages
+        if self.history_len < 1:
+            yield "history_len 0"
+        if self.history_len > MAX_HISTORY:
+            yield "history_len above 16"
+        if cap > MAX_MESSAGES:
+            yield "max_messages"
+        if self.start > cap:
+            yield "start"
+        if self.count > cap:
+            yield "count"
+        if cap > MAX_MESSAGES or not self.fits(cap):
+            return
+        places = self.places(cap)
+        ages, numbers = [self.window[p] for p in places], [self.arrival[p] for p in places]
+        if any(age >= self.history_len for age in ages):
+            yield "window too old"
+        if any(older < newer for older, newer in zip(ages, ages[1:])):
+            yield "window rises"
+        if any((older + 1) % 2**64 != newer for older, newer in zip(numbers, numbers[1:])):
+            yield "arrival not consecutive"
+        if numbers and (numbers[-1] + 1) % 2**64 != self.next:
+            yield "arrival not on to the next"
+        if any(self.id_len[p] > MAX_ID for p in places):
+            yield "id length"
+        elif len({self.id_at(p) for p in places}) < len(places):
+            yield "cached id twice"
+        if any(self.len[p] > MAX_MESSAGE for p in places):
+            yield "message length"
+            return
+        found = [taken(self.message_at(store, p)) for p in places]
+        if None in found:
+            yield "message not admissible"
+        if any(one and self.id_len[p] <= MAX_ID and one[0] != self.id_at(p) for one, p in zip(found, places)):
+            yield "message of another id"
+
+    def put(self, store, name, raw):
+        """A message more, the newest; the oldest goes where there is no room."""
+        cap = self.max_messages
+        if cap:
+            self.drop(cap, max(0, self.count + 1 - cap))
+            p = placed(cap, self.start, self.count)
+            self.count += 1
+            self.arrival[p], self.window[p], self.len[p], self.id_len[p] = self.next, 0, len(raw), len(name)
+            self.ids[p * MAX_ID:p * MAX_ID + len(name)] = name
+            store[p * MAX_MESSAGE:p * MAX_MESSAGE + len(raw)] = raw
+        self.next = (self.next + 1) % 2**64
+
+    def shift(self):
+        """Every place grows older, those not in use too."""
+        leave = itertools.takewhile(lambda p: self.window[p] + 1 >= self.history_len, self.places(self.max_messages))
+        self.drop(self.max_messages, len(list(leave)))
+        self.window = [min(age + 1, 255) for age in self.window]
+
+
+@functools.lru_cache(4096)
+def taken(raw):
+    """(id, topics) of a cached message that admission takes with the host's word, else None."""
+    try:
+        return nodes.admission((raw, nodes.read(raw, "message")[0]), True)
+    except Refused:
+        return None
+
+
+def total(store):
+    """The sum of the sums of all fronts, wrapping; from the last byte above 0 on they are all the same."""
+    some = store.rstrip(b"\x00")
+    return (sum(itertools.accumulate(some)) + (len(store) - len(some)) * sum(some)) % 2**64
+
+
+class Run:
+    """A run: the node, the stores, how much of them is lent, and the buffer. Settings leave the bytes of all three as they are."""
+
+    def __init__(self, steps=()):
+        self.seen_store, self.cache_store, self.made = bytearray(SEEN_BYTES), bytearray(CACHE_BYTES), bytearray(MAX_MADE)
+        self.begin(0, 0, 1, 0)
+        for step in steps:
+            self.answer(step)
+
+    def begin(self, ttl, max_seen, history_len, max_messages):
+        nodes.Node(ttl, max_seen, history_len, max_messages)  # 40
+        self.ttl, self.max_seen, self.clock = ttl, max_seen, 0
+        self.seen, self.cache = Seen(), Cache(history_len, max_messages)
+        self.seen_len, self.cache_len = max_seen * ROW, max_messages * MAX_MESSAGE
+
+    # The lent node and its stores.
+
+    def broken(self):
+        """The clauses of 42 that the node and its stores do not meet."""
+        got = list(self.seen.broken(self.max_seen, self.seen_store)) + list(self.cache.broken(self.cache_store))
+        if self.max_seen > MAX_SEEN:
+            got.append("max_seen")
+        elif self.seen.fits(self.max_seen):
+            expiries = [self.seen.expiry[p] for p in self.seen.places(self.max_seen)]
+            if any(older > newer for older, newer in zip(expiries, expiries[1:])):
+                got.append("expiry falls")
+        return got
+
+    def lent(self):
+        """The node of nodes.py that is lent, or 40, 41, 42."""
+        if self.max_seen > self.seen_len // ROW:
+            raise Refused(40)
+        if self.seen_len != self.max_seen * ROW or self.cache_len != self.cache.max_messages * MAX_MESSAGE:
+            raise Refused(41)
+        if self.broken():
+            raise Refused(42)
+        node = nodes.Node(self.ttl, self.max_seen, self.cache.history_len, self.cache.max_messages)
+        node.clock, node.seen, node.cache = self.clock, *self.held()
+        return node
+
+    def held(self):
+        """What the rows hold, in the form of nodes.py."""
+        seen, cache = self.seen, self.cache
+        messages = [self.cache.message_at(self.cache_store, p) for p in cache.places(cache.max_messages)]
+        return [(seen.id_at(self.seen_store, p), seen.expiry[p]) for p in seen.places(self.max_seen)], \
+            [[cache.id_at(p), raw, taken(raw)[1], cache.window[p]] for p, raw in zip(cache.places(cache.max_messages), messages)]
+
+    # The calls.
+
+    def answer(self, step):
+        """What a line says after its number and its call."""
+        try:
+            return getattr(self, step[0])(*step[1:])
+        except Refused as why:
+            return "refused " + " ".join(map(str, why.args))
+
+    def set(self, *settings):
+        self.begin(*settings)
+        return "ok"
+
+    def admit(self, now, index, verified, body):
+        node = self.lent()
+        known = [name for name, *_ in node.cache]
+        answer = node.admit(now, index, verified == 1, body)
+        self.clean(now)
+        if answer == "new":
+            message = nodes.Body(body).messages[index]
+            name = nodes.admission(message, True)[0]
+            if self.max_seen:
+                self.seen.drop(self.max_seen, max(0, self.seen.count + 1 - self.max_seen))
+                self.seen.append(self.max_seen, self.seen_store, b"\x01" + name, min(now + self.ttl, TOP))
+            if name not in known:
+                self.cache.put(self.cache_store, name, message[0])
+        self.left(node)
+        return answer
+
+    def beat(self, now):
+        node = self.lent()
+        node.beat(now)
+        self.clean(now)
+        self.cache.shift()
+        self.left(node)
+        return "ok"
+
+    def clean(self, now):
+        self.clock = now
+        spent = itertools.takewhile(lambda p: self.seen.expiry[p] <= now, self.seen.places(self.max_seen))
+        self.seen.drop(self.max_seen, len(list(spent)))
+
+    def left(self, node):
+        assert (self.clock, *self.held()) == (node.clock, node.seen, node.cache)
+
+    def write(self, out, room):
+        if len(out) > room:
+            raise Refused(12, len(out))
+        self.made[:len(out)] = out
+        return shown(out)
+
+    def advertise(self, room, windows, topic):
+        return self.write(self.lent().advertise(windows, topic), room)
+
+    def ask(self, room, body):
+        return self.write(self.lent().ask(body), room)
+
+    def serve(self, room, body):
+        reply, written, left = self.lent().serve(body, min(room, ROOM))
+        return "%s %d %d" % (self.write(reply, room), written, left)
+
+    def lend(self, seen_len, cache_len):
+        self.seen_len, self.cache_len = seen_len, cache_len
+        return "ok"
+
+    def hurt(self, what, p, value):
+        seen, cache = self.seen, self.cache
+        if what in (SEEN_BYTE, CACHE_BYTE):
+            store, lent = (self.seen_store, self.seen_len) if what == SEEN_BYTE else (self.cache_store, self.cache_len)
+            if p < lent:
+                store[p] = value % 256
+        elif what in (EXPIRY, SEEN_LEN):
+            if p < MAX_SEEN:
+                (seen.expiry if what == EXPIRY else seen.len)[p] = value if what == EXPIRY else value % 256
+        elif what in (ARRIVAL, WINDOW, LEN, ID_LEN):
+            row, most = {ARRIVAL: (cache.arrival, 2**64), WINDOW: (cache.window, 256), LEN: (cache.len, 65536), ID_LEN: (cache.id_len, 256)}[what]
+            row[p % MAX_MESSAGES] = value % most
+        elif what == IDS:
+            cache.ids[p % len(cache.ids)] = value % 256
+        else:
+            one, name = {TTL: (self, "ttl"), MAX_IDS: (self, "max_seen"), CLOCK: (self, "clock"), SEEN_START: (seen, "start"),
+                         SEEN_COUNT: (seen, "count"), HISTORY_LEN: (cache, "history_len"), MAX_HELD: (cache, "max_messages"),
+                         NEXT: (cache, "next"), START: (cache, "start"), COUNT: (cache, "count")}[what]
+            setattr(one, name, value)
+        return "ok"
+
+    def contains(self, name):
+        """The seen part alone: as many places as the store has."""
+        cap = self.seen_len // ROW
+        if self.seen_len % ROW or cap > MAX_SEEN:
+            raise Refused(41)
+        if list(self.seen.broken(cap, self.seen_store)):
+            raise Refused(42)
+        if len(name) > MAX_SEEN_ID:
+            raise Refused(33, len(name))
+        return "yes" if name in [self.seen.id_at(self.seen_store, p) for p in self.seen.places(cap)] else "no"
+
+    def lookup(self, name):
+        """The message cache alone."""
+        cache = self.cache
+        if self.cache_len != cache.max_messages * MAX_MESSAGE:
+            raise Refused(41)
+        if list(cache.broken(self.cache_store)):
+            raise Refused(42)
+        return "found" if name in map(cache.id_at, cache.places(cache.max_messages)) else "missing"
+
+    def state(self, _):
+        return "%d %d %d %d %d %d %d %d %d" % (
+            self.clock, self.seen.start, self.seen.count, self.cache.start, self.cache.count, self.cache.next,
+            total(self.seen_store[:self.seen_len]), total(self.cache_store[:self.cache_len]), total(self.made))
+
+
+# --- records -------------------------------------------------------------------
+
+def record(step):
+    kind, sizes, rest = FORM[step[0]]
+    assert len(step) == 1 + len(sizes) + rest, step[0]
+    content = b"".join(n.to_bytes(size, "little") for n, size in zip(step[1:], sizes)) + (step[-1] if rest else b"")
+    assert len(content) <= MAX_CONTENT, step[0]
+    return header(len(content), kind) + content
+
+
+def records(steps):
+    return b"".join(map(record, steps))
+
+
+def step_of(kind, content):
+    """The step of a record, or None where its kind, its length, a room or a length lent is wrong."""
+    if kind not in CALL:
+        return None
+    call = CALL[kind]
+    _, sizes, rest = FORM[call]
+    if len(content) < sum(sizes) or (len(content) > sum(sizes) and not rest):
+        return None
+    step, at = [call], 0
+    for size in sizes:
+        step.append(int.from_bytes(content[at:at + size], "little"))
+        at += size
+    if call in ("advertise", "ask", "serve") and step[1] > MAX_MADE:
+        return None
+    if call == "lend" and (step[1] > SEEN_BYTES or step[2] > CACHE_BYTES):
+        return None
+    return tuple(step + [content[at:]] if rest else step)
+
+
+def expected(data, watch=None):
+    """The lines for an input; `watch` is called with the run before each step."""
+    run, lines, at = Run(), [], 0
+    while at < len(data):
+        size = int.from_bytes(data[at:at + 4], "little")
+        if len(data) - at >= 4 and size > MAX_CONTENT:
+            return lines + ["long"]
+        if len(data) - at < 6 + size:
+            return lines + ["bad"]
+        step = step_of(int.from_bytes(data[at + 4:at + 6], "little"), data[at + 6:at + 6 + size])
+        if step is None:
+            return lines + ["bad"]
+        if watch:
+            watch(run, step)
+        lines.append("%d %s %s" % (len(lines) + 1, step[0], run.answer(step)))
+        at += 6 + size
+    return lines
