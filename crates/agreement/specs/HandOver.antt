@@ -252,7 +252,7 @@ module _ (b : Node) (bs bc topic : List ℕ) (windows : ℕ) (fine : lentOf b bs
     request-meant there =
         let t = toldOf topic windows (gatewayIn b bs bc) in
         let e : advertiseBytes b bc topic windows ≡ encodeRpc (advertisement topic t) =
-            ap (λ (l : List (List ℕ)). bytesFor l (advertisement topic l)) told-is ∙ some-bytes t (advertisement topic t) (some-told there) in
+        ap (λ (l : List (List ℕ)). bytesFor l (advertisement topic l)) told-is ∙ some-bytes t (advertisement topic t) (some-told there) in
         let w : Within (encodeRpc (advertisement topic t)) (advertisement topic t) = subst (λ (s : List ℕ). Within s (advertisement topic t)) e (advert-means (some-told there)) in
         subst (λ (s : List ℕ). Within s (request asked)) (sym (request-is ∙ some-bytes asked (request asked) there)) (request-within (gatewayIn a «as» ac) topic t w)
 

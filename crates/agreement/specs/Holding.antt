@@ -156,8 +156,13 @@ module _ {set : List (List ℕ)} {x : Settings} {first past : ℕ} {got : List (
           each-once = distinct-snoc got m (h .each-once) t;
           from-set = from-snoc set got m inside (h .from-set);
           rows =
-              rw (n, v, seen-room (g .max-seen) (marked id) at (g .ttl) (g .seen) (a .0 ∙ t) (omega (arith, h .max-seen, h .set-seen, l .0)),
-              room-keeps-all (g .max-messages) id m (g .cache) (a .1 ∙ t) (omega (arith, h .max-messages, h .set-cached, l .1)), h .ttl)
+              rw (
+                n,
+                v,
+                seen-room (g .max-seen) (marked id) at (g .ttl) (g .seen) (a .0 ∙ t) (omega (arith, h .max-seen, h .set-seen, l .0)),
+                room-keeps-all (g .max-messages) id m (g .cache) (a .1 ∙ t) (omega (arith, h .max-messages, h .set-cached, l .1)),
+                h .ttl,
+              )
               (rows-snoc (h .rows) (record { own = own; seen = refl; message = refl; lasts = u; young = omega arith }));
         }
 

@@ -1,6 +1,7 @@
 // Kind 8: a number of the node or of a store set to a value, so that 40, 41 and 42 can be seen. What: 0 ttl, 1 max_seen, 2 clock; of the seen part
 // 3 start, 4 count, 5 an expiry, 6 a length; of the cache 7 history_len, 8 max_messages, 9 the next arrival number, 10 start, 11 count, 12 an arrival
-// number, 13 a window, 14 a message's length, 15 an id's length, 16 a byte of the ids.
+// number, 13 a window, 14 a message's length, 15 an id's length, 16 and above 18 a byte of the ids; 17
+// and 18, bytes of the stores, are set where they are lent.
 use mcache::MessageCache;
 use node::Node;
 use seen::SeenCache;
