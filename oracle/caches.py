@@ -14,13 +14,15 @@ of the records. Everything random comes from one seeded `random.Random`.
 
 from bodies import BROKEN, MAX_RECORDS, PARTS, RPC, many, other_field, random_message, refusal, tagged, within
 from oracle import hexed, parse_decode
+from records import Records
 from wire import MAX_BODY, MAX_CONTENT, TOP, blob, damaged, edge_field, header, then_random, varint
 
 # Of each call: its kind, how many bytes its numbers have, and whether bytes follow them.
 FORM = {"seen": (1, (2,), False), "insert": (2, (8, 8, 2), True), "clean": (3, (8,), False), "next": (4, (), False),
         "contains": (5, (), True), "cache": (6, (2, 2, 8), False), "put": (7, (2,), True), "shift": (8, (), False),
         "gossip": (9, (2,), True), "get": (10, (), True)}
-CALL = {form[0]: call for call, form in FORM.items()}
+RECORDS = Records(FORM, MAX_CONTENT)
+record, records = RECORDS.record, RECORDS.records
 MAX_ROWS = 256
 MAX_SEEN_ID = 129
 MAX_HISTORY = 16
@@ -38,54 +40,23 @@ REFUSALS = {"insert": {33, 40}, "contains": {33}, "cache": {40}, "gossip": {29},
 
 # --- records -------------------------------------------------------------------
 
-def record(step):
-    kind, sizes, rest = FORM[step[0]]
-    assert len(step) == 1 + len(sizes) + rest, step[0]
-    content = b"".join(n.to_bytes(size, "little") for n, size in zip(step[1:], sizes)) + (step[-1] if rest else b"")
-    assert len(content) <= MAX_CONTENT, step[0]
-    return header(len(content), kind) + content
-
-
-def records(steps):
-    return b"".join(map(record, steps))
-
-
-def step_of(kind, content):
-    """The step of a record, or None where its kind or its length is wrong."""
-    if kind not in CALL:
-        return None
-    _, sizes, rest = FORM[CALL[kind]]
-    if len(content) < sum(sizes) or (len(content) > sum(sizes) and not rest):
-        return None
-    step, at = [CALL[kind]], 0
-    for size in sizes:
-        step.append(int.from_bytes(content[at:at + size], "little"))
-        at += size
-    return tuple(step + [content[at:]] if rest else step)
-
-
 def legal(step):
     return 1 <= step[1] <= MAX_HISTORY and step[2] <= MAX_MESSAGES
 
 
 def steps_of(data):
     """The steps of an input, and the line that ends it: "", "bad" or "long"."""
-    steps, at, begun = [], 0, set()
-    while at < len(data):
-        size = int.from_bytes(data[at:at + 4], "little")
-        if len(data) - at >= 4 and size > MAX_CONTENT:
-            return steps, "long"
-        if len(data) - at < 6 + size:
-            return steps, "bad"
-        step = step_of(int.from_bytes(data[at + 4:at + 6], "little"), data[at + 6:at + 6 + size])
-        if step is None or (step[0] == "seen" and step[1] > MAX_ROWS):
+    steps, begun = [], set()
+    for step in RECORDS.steps(data):
+        if isinstance(step, str):
+            return steps, step
+        if step[0] == "seen" and step[1] > MAX_ROWS:
             return steps, "bad"
         if step[0] == "seen" or (step[0] == "cache" and legal(step)):
             begun.add(step[0])
         if step[0] != "cache" and ("seen" if FORM[step[0]][0] <= 5 else "cache") not in begun:
             return steps, "bad"
         steps.append(step)
-        at += 6 + size
     return steps, ""
 
 

@@ -24,6 +24,7 @@ import caches
 import wire
 from compare_decode import run
 from compare_wire import SHOWN, arguments
+from differences import first_difference, line_at, printed_by
 from oracle import Oracle
 
 CHUNK = 400
@@ -51,16 +52,6 @@ def shown(step):
     return " ".join(map(word, step))
 
 
-def first_difference(told, printed):
-    """The place of the first line that differs, or None. Both end in the text after the last newline."""
-    pairs = itertools.zip_longest(told, printed)
-    return next((n for n, (one, other) in enumerate(pairs) if one != other), None)
-
-
-def line_at(lines, n):
-    return lines[n] if n < len(lines) else "nothing"
-
-
 def play(binary, oracle, histories, folder, counts, differ):
     """Many histories in one run; of each the first difference, as (steps to it, steps, expected, printed)."""
     data = b"".join(map(caches.records, histories))
@@ -83,7 +74,7 @@ def play(binary, oracle, histories, folder, counts, differ):
 def play_ending(binary, name, data, told, counts, differ):
     """One run that may end early; `told` are its lines."""
     counts.update(map(what, told))
-    printed = subprocess.run([binary], input=data, stdout=subprocess.PIPE, check=True).stdout.decode().split("\n")
+    printed = printed_by(binary, data)
     n = first_difference(told + [""], printed)
     if n is not None:
         steps = list(map(shown, caches.steps_of(data)[0][:n + 1])) or [data[:100].hex()]

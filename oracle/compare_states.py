@@ -16,15 +16,15 @@ lead to them; the exit status is 0 where there are none.
 import collections
 import itertools
 import random
-import subprocess
 import sys
 
 import state_histories
 import states
-from compare_caches import first_difference, line_at
-from compare_wire import SHOWN, arguments
+from compare_wire import arguments
+from differences import Model, first_difference, line_at, printed_by
+from records import header
 from state_histories import STATE
-from states import MAX_CONTENT, header, record, records
+from states import MAX_CONTENT, record, records
 from traces import beat
 
 CHUNK = 400
@@ -47,35 +47,9 @@ def what(line):
     return words[1] if words[1] == "state" else " ".join(words[1:3])
 
 
-def printed_by(binary, data):
-    return subprocess.run([binary], input=data, stdout=subprocess.PIPE, check=True).stdout.decode().split("\n")
-
-
 def shown(step):
     return " ".join(one[:SHOWN_BYTES].hex() + ("... %d bytes" % len(one) if len(one) > SHOWN_BYTES else "") if isinstance(one, bytes) else str(one)
                     for one in step)
-
-
-def alone(binary, steps):
-    """The lines of the last step, (expected, printed), where they differ and those before do not; else None."""
-    told, printed = states.expected(records(steps)) + [""], printed_by(binary, records(steps))
-    n = first_difference(told, printed)
-    return None if n is None or n + 1 < len(steps) else (line_at(told, n), line_at(printed, n))
-
-
-def fewest(binary, steps):
-    """The steps of a difference without those that it does not need: (steps, expected, printed), or None where it is not there alone."""
-    found = alone(binary, steps)
-    if not found:
-        return None
-    at = len(steps) - 2
-    while at >= 0:
-        less = steps[:at] + steps[at + 1:]
-        still = alone(binary, less)
-        if still:
-            steps, found = less, still
-        at -= 1
-    return steps, *found
 
 
 class Broken:
@@ -135,18 +109,6 @@ def endings():
         yield "lend %d %d" % step[1:], begun + record(step) + begun, ok + "bad\n"
 
 
-def report(binary, differ):
-    for steps, expected, got in sorted(differ, key=lambda one: len(one[0]) if isinstance(one[0], list) else 0)[:SHOWN]:
-        if isinstance(steps, list):
-            steps, expected, got = fewest(binary, steps) or (steps, expected, got)
-            print("%d steps:" % len(steps))
-            for step in steps[-SHOWN_STEPS:]:
-                print("    " + shown(step))
-        else:
-            print(steps)
-        print("  expected %s\n  printed  %s" % (str(expected)[:300], str(got)[:300]))
-
-
 def main():
     given = arguments(__doc__, COUNT, rust=False)
     r = random.Random(given.seed)
@@ -178,7 +140,7 @@ def main():
     assert not missing and all(broken.alone[clause] for clause in states.CLAUSES), missing
     print("%d fixed histories, %d of traces, %d random ones and %d runs that end early, %d lines, seed %d: %d differences"
           % (fixed, others, random_ones, runs, sum(counts.values()), given.seed, len(differ)))
-    report(given.binary, differ)
+    Model(given.binary, records, states.expected, shown, SHOWN_STEPS).report(differ)
     sys.exit(1 if differ else 0)
 
 

@@ -24,9 +24,9 @@ import time
 
 import nodes
 import traces
-from compare_caches import first_difference, line_at
 from compare_decode import run
-from compare_wire import SHOWN, arguments
+from compare_wire import arguments
+from differences import Model, first_difference, line_at, printed_by
 
 CHUNK = 400
 COUNT = 6000
@@ -54,31 +54,6 @@ def shown(step):
     return " ".join(map(word, step))
 
 
-def alone(binary, steps):
-    """The last lines of a run of these steps, (expected, printed), where they differ and those before do not; else None."""
-    data = nodes.records(steps)
-    told = nodes.expected(data) + [""]
-    printed = subprocess.run([binary], input=data, stdout=subprocess.PIPE, check=True).stdout.decode().split("\n")
-    n = first_difference(told, printed)
-    return None if n is None or n + 1 < len(steps) else (line_at(told, n), line_at(printed, n))
-
-
-def fewest(binary, steps):
-    """The steps of a difference without those that it does not need: (steps, expected, printed), or None where it is not there alone."""
-    found = alone(binary, steps)
-    if not found:
-        return None
-    at = len(steps) - 2
-    while at >= 0:
-        less = steps[:at] + steps[at + 1:]
-        if less[0][0] == "set":
-            still = alone(binary, less)
-            if still:
-                steps, found = less, still
-        at -= 1
-    return steps, *found
-
-
 def play(binary, histories, folder, counts, differ):
     """Many histories in one run; of each the first difference, as (steps to it, expected, printed)."""
     data = b"".join(map(nodes.records, histories))
@@ -101,7 +76,7 @@ def play(binary, histories, folder, counts, differ):
 def play_ending(binary, name, data, told, counts, differ):
     """One run that may end early; `told` are its lines."""
     counts.update(map(what, told))
-    printed = subprocess.run([binary], input=data, stdout=subprocess.PIPE, check=True).stdout.decode().split("\n")
+    printed = printed_by(binary, data)
     n = first_difference(told + [""], printed)
     if n is not None:
         differ.append(("%s: bytes %s" % (name, data[:SHOWN_BYTES].hex()), line_at(told, n), line_at(printed, n)))
@@ -119,18 +94,6 @@ def slowly(binary, counts, differ):
     counts.update(map(what, told))
     if printed != told + [""]:
         differ.append(("byte by byte", told, printed))
-
-
-def report(binary, differ):
-    for steps, expected, got in sorted(differ, key=lambda one: len(one[0]) if isinstance(one[0], list) else 0)[:SHOWN]:
-        if isinstance(steps, list):
-            steps, expected, got = fewest(binary, steps) or (steps, expected, got)
-            print("%d steps:" % len(steps))
-            for step in steps:
-                print("    " + shown(step))
-        else:
-            print(steps)
-        print("  expected %s\n  printed  %s" % (str(expected)[:300], str(got)[:300]))
 
 
 def main():
@@ -154,7 +117,7 @@ def main():
         print("%-20s %8d" % (name, k))
     print("%d histories and %d runs of their own, %d lines, seed %d: %d differences"
           % (played, runs, sum(counts.values()), given.seed, len(differ)))
-    report(given.binary, differ)
+    Model(given.binary, nodes.records, nodes.expected, shown, begins=lambda steps: steps[0][0] == "set").report(differ)
     sys.exit(1 if differ else 0)
 
 

@@ -17,6 +17,7 @@ import nodes
 import traces
 from caches import grown, x_with
 from oracle import HERE
+from records import header
 
 SEED = 24
 MOST_BYTES = 200000
@@ -48,7 +49,7 @@ def make_long():
     while len(nodes.records(steps)) < LONG_BYTES:
         one = traces.history(r)
         steps += one if len(nodes.records(one)) <= 4 * SHORT else []
-    words = save("trace_long", steps, "long", nodes.header(nodes.MAX_CONTENT + 1, 6)[:4])
+    words = save("trace_long", steps, "long", header(nodes.MAX_CONTENT + 1, 6)[:4])
     met = {(call, int(answer[1])) for _, call, *answer in words if answer[0] == "refused"}
     assert met == {(call, number) for call, numbers in nodes.REFUSALS.items() for number in numbers}
 

@@ -11,6 +11,7 @@ and gives the lines of the run.
 """
 
 from bodies import PARTS, RPC, tagged
+from records import Records
 
 TOP = 2**64 - 1
 MAX_CONTENT = 32768
@@ -31,7 +32,8 @@ ROOM = 65536
 # Of each call: its kind, how many bytes its numbers have, and whether bytes follow them.
 FORM = {"set": (1, (8, 2, 2, 2), False), "admit": (2, (8, 2, 1), True), "beat": (3, (8,), False), "advertise": (4, (2,), True),
         "ask": (5, (), True), "serve": (6, (), True)}
-CALL = {form[0]: call for call, form in FORM.items()}
+RECORDS = Records(FORM, MAX_CONTENT)
+record, records = RECORDS.record, RECORDS.records
 
 # Every refusal that a trace can show.
 BODY = set(range(1, 8)) | {11}
@@ -312,53 +314,15 @@ def made(answer):
     return bytes.fromhex(words[1]) if words[0] != "0" else b""
 
 
-def header(length, kind):
-    return length.to_bytes(4, "little") + kind.to_bytes(2, "little")
-
-
-def record(step):
-    kind, sizes, rest = FORM[step[0]]
-    assert len(step) == 1 + len(sizes) + rest, step[0]
-    content = b"".join(n.to_bytes(size, "little") for n, size in zip(step[1:], sizes)) + (step[-1] if rest else b"")
-    assert len(content) <= MAX_CONTENT, step[0]
-    return header(len(content), kind) + content
-
-
-def records(steps):
-    return b"".join(map(record, steps))
-
-
-def step_of(kind, content):
-    """The step of a record, or None where its kind, its length or the host's word is wrong."""
-    if kind not in CALL:
-        return None
-    call = CALL[kind]
-    _, sizes, rest = FORM[call]
-    if len(content) < sum(sizes) or (len(content) > sum(sizes) and not rest):
-        return None
-    step, at = [call], 0
-    for size in sizes:
-        step.append(int.from_bytes(content[at:at + size], "little"))
-        at += size
-    if call == "admit" and step[3] > 1:
-        return None
-    return tuple(step + [content[at:]] if rest else step)
-
-
 def played(data, make=Node):
     """The steps of an input, each with its answer, and the line that ends it: "", "bad" or "long"."""
-    run, got, at = Run(make=make), [], 0
-    while at < len(data):
-        size = int.from_bytes(data[at:at + 4], "little")
-        if len(data) - at >= 4 and size > MAX_CONTENT:
-            return got, "long"
-        if len(data) - at < 6 + size:
-            return got, "bad"
-        step = step_of(int.from_bytes(data[at + 4:at + 6], "little"), data[at + 6:at + 6 + size])
-        if step is None or (step[0] != "set" and run.node is None):
+    run, got = Run(make=make), []
+    for step in RECORDS.steps(data):
+        if isinstance(step, str):
+            return got, step
+        if (step[0] == "admit" and step[3] > 1) or (step[0] != "set" and run.node is None):
             return got, "bad"
         got.append((step, run.answer(step)))
-        at += 6 + size
     return got, ""
 
 

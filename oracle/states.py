@@ -18,7 +18,8 @@ import functools
 import itertools
 
 import nodes
-from nodes import MAX_HISTORY, MAX_MESSAGE, MAX_MESSAGES, MAX_NAME, MAX_SEEN, ROOM, TOP, Refused, header, shown
+from nodes import MAX_HISTORY, MAX_MESSAGE, MAX_MESSAGES, MAX_NAME, MAX_SEEN, ROOM, TOP, Refused, shown
+from records import Records
 
 MAX_CONTENT = 65600
 MAX_MADE = 65600
@@ -32,7 +33,8 @@ CACHE_BYTES = 65 * MAX_MESSAGE
 FORM = {"set": (1, (8, 2, 2, 2), False), "admit": (2, (8, 2, 1), True), "beat": (3, (8,), False), "advertise": (4, (4, 2), True),
         "ask": (5, (4,), True), "serve": (6, (4,), True), "lend": (7, (4, 4), False), "hurt": (8, (1, 4, 8), False), "contains": (9, (), True),
         "lookup": (10, (), True), "state": (11, (), True)}
-CALL = {form[0]: call for call, form in FORM.items()}
+RECORDS = Records(FORM, MAX_CONTENT)
+record, records = RECORDS.record, RECORDS.records
 
 # What a step of kind 8 sets.
 TTL, MAX_IDS, CLOCK, SEEN_START, SEEN_COUNT, EXPIRY, SEEN_LEN, HISTORY_LEN, MAX_HELD, NEXT, START, COUNT, ARRIVAL, WINDOW, LEN, ID_LEN, IDS, \
@@ -343,53 +345,23 @@ class Run:
             total(self.seen_store[:self.seen_len]), total(self.cache_store[:self.cache_len]), total(self.made))
 
 
-# --- records -------------------------------------------------------------------
+# --- the lines -----------------------------------------------------------------
 
-def record(step):
-    kind, sizes, rest = FORM[step[0]]
-    assert len(step) == 1 + len(sizes) + rest, step[0]
-    content = b"".join(n.to_bytes(size, "little") for n, size in zip(step[1:], sizes)) + (step[-1] if rest else b"")
-    assert len(content) <= MAX_CONTENT, step[0]
-    return header(len(content), kind) + content
-
-
-def records(steps):
-    return b"".join(map(record, steps))
-
-
-def step_of(kind, content):
-    """The step of a record, or None where its kind, its length, a room or a length lent is wrong."""
-    if kind not in CALL:
-        return None
-    call = CALL[kind]
-    _, sizes, rest = FORM[call]
-    if len(content) < sum(sizes) or (len(content) > sum(sizes) and not rest):
-        return None
-    step, at = [call], 0
-    for size in sizes:
-        step.append(int.from_bytes(content[at:at + size], "little"))
-        at += size
-    if call in ("advertise", "ask", "serve") and step[1] > MAX_MADE:
-        return None
-    if call == "lend" and (step[1] > SEEN_BYTES or step[2] > CACHE_BYTES):
-        return None
-    return tuple(step + [content[at:]] if rest else step)
+def wrong(step):
+    """Whether a room or a length lent is more than the program has."""
+    if step[0] in ("advertise", "ask", "serve"):
+        return step[1] > MAX_MADE
+    return step[0] == "lend" and (step[1] > SEEN_BYTES or step[2] > CACHE_BYTES)
 
 
 def expected(data, watch=None):
     """The lines for an input; `watch` is called with the run before each step."""
-    run, lines, at = Run(), [], 0
-    while at < len(data):
-        size = int.from_bytes(data[at:at + 4], "little")
-        if len(data) - at >= 4 and size > MAX_CONTENT:
-            return lines + ["long"]
-        if len(data) - at < 6 + size:
-            return lines + ["bad"]
-        step = step_of(int.from_bytes(data[at + 4:at + 6], "little"), data[at + 6:at + 6 + size])
-        if step is None:
-            return lines + ["bad"]
+    run, lines = Run(), []
+    for step in RECORDS.steps(data):
+        end = step if isinstance(step, str) else "bad" if wrong(step) else None
+        if end is not None:
+            return lines + [end] if end else lines
         if watch:
             watch(run, step)
         lines.append("%d %s %s" % (len(lines) + 1, step[0], run.answer(step)))
-        at += 6 + size
     return lines

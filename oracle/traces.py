@@ -12,7 +12,8 @@ import nodes
 from bodies import BROKEN, PARTS, many, other_field, random_body, tagged
 from caches import LONG_TOPICS, LONGEST_TOPICS, REFUSED, TOPICS, X
 from caches import clipped, fields_of, grown, message, padded, plain, some_put, unfit_puts, x_with
-from nodes import MAX_CONTENT, MAX_RECORDS, TOP, Run, header, made, record, records
+from nodes import MAX_CONTENT, MAX_RECORDS, TOP, Run, made, record, records
+from records import header
 from wire import blob, damaged, then_random
 
 ADMIT_BODY = MAX_CONTENT - 11

@@ -7,16 +7,13 @@ Everything random comes from one seeded `random.Random`.
 """
 
 from oracle import NUMBER, hexed
+from records import header
 
 KIND = {"decode": 1, "encode": 2, "sign": 3, "id": 4, "walk": 5, "varint": 6, "utf8": 7}
 PLACE = {"sign": 2, "id": 2, "walk": 8}  # bytes of the number before the body
 MAX_CONTENT = 65600
 MAX_BODY = 65536
 TOP = 2**64 - 1
-
-
-def header(length, kind):
-    return length.to_bytes(4, "little") + kind.to_bytes(2, "little")
 
 
 def record(case):
