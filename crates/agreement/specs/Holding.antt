@@ -36,6 +36,7 @@ use Rattle.node.specs.WellFormedLaws.{reached-fine, reached-typed}
 use Rattle.outputs.specs.Replied.{all-few}
 use Rattle.agreement.specs.History.{State, Call, admit, heartbeat, advertise, ask, serve, planIn, after, afterAll, reading, readings, beat, beats}
 use Rattle.agreement.specs.Premises.{MessageSet, Settings, Fresh, Member, MemberAt, Members, none-left, member, Clock, Premises}
+use Rattle.agreement.specs.Round.{gatewayOf}
 use Rattle.agreement.specs.Rows.{Row, Rows, none, row, rows-snoc, rows-lengths, rows-live, rows-shift, rows-held}
 
 -- ---- the messages got, each once, the oldest first
@@ -251,9 +252,6 @@ unfolding until
 until-small at first ttl h = omega arith
 
 -- ---- a state of a history, with the readings and heartbeats still to come
-abbrev pub gatewayOf : State → Gateway
-gatewayOf s = gatewayIn (s .node) (s .ids) (s .messages)
-
 -- `first` is the first reading of the history, `past` are the heartbeats so far
 pub record Holding (set : List (List ℕ)) (x : Settings) (first past : ℕ) (rs : List ℕ) (left : ℕ) (got : List (List ℕ)) (s : State) : Type 0 where
   pub reached : Reached (s .node) (s .ids) (s .messages)

@@ -1,6 +1,7 @@
 pub mod History
 pub mod Premises
 pub mod Rows
+pub mod Round
 pub mod Holding
 pub mod Forward
 pub mod Once
@@ -9,3 +10,7 @@ pub mod Fifteen
 pub mod Rounds
 pub mod HandOver
 pub mod Delivered
+pub mod Lacking
+pub mod Played
+pub mod Request
+pub mod Identical

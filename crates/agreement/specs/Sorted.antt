@@ -54,7 +54,7 @@ pub ordered-same : (is js : List (List ℕ)) → ((i : List ℕ) → among i (in
 ordered-same is js h =
     sym (absorbed js is (λ i m. h i ∙ m)) ∙ order-swap js is ∙ absorbed is js (λ i m. sym (h i) ∙ m)
 
-among-ordered : (x : List ℕ) (is : List (List ℕ)) → among x (inOrder is) ≡ among x is
+pub among-ordered : (x : List ℕ) (is : List (List ℕ)) → among x (inOrder is) ≡ among x is
 unfolding inOrder among
 among-ordered x [] = refl
 among-ordered x (i ∷ is) = among-enter x i (inOrder is) ∙ ap (λ (b : Bool). sameBytes i x || b) (among-ordered x is)
