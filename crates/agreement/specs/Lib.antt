@@ -14,3 +14,4 @@ pub mod Lacking
 pub mod Played
 pub mod Request
 pub mod Identical
+pub mod Arrive

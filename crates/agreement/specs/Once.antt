@@ -15,10 +15,10 @@ use Rattle.agreement.specs.Premises.{MessageSet, Settings, Member, Membe
 use Rattle.agreement.specs.Holding.{withGot, gotBy, gotNext, gotAll, Holding, admit-held, holding-start, holding-next, members-here, members-rest}
 
 -- ---- a message among those got, and one more got
-with-again : (m p : List ℕ) (got : List (List ℕ)) → among m got ≡ true → among m (withGot p got) ≡ true
+pub with-again : (m p : List ℕ) (got : List (List ℕ)) → among m got ≡ true → among m (withGot p got) ≡ true
 with-again m p got h = either (among p got) (λ t. rw t h) (λ t. rw (t, among-append m got (p ∷ []), h))
 
-with-this : (m : List ℕ) (got : List (List ℕ)) → among m got ≡ false → among m (withGot m got) ≡ true
+pub with-this : (m : List ℕ) (got : List (List ℕ)) → among m got ≡ false → among m (withGot m got) ≡ true
 unfolding among
 with-this m got h = rw (h, among-append m got (m ∷ []), h, same-self m)
 

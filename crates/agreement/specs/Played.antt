@@ -144,10 +144,10 @@ module _ {set : List (List ℕ)} {x y : Settings} {firstA pastA leftA firstB pas
   requested = rw (advert-is, request-answer, request-left) (front asking (p .request-out) asking-small)
 
   -- ---- the reply
-  pub wants : List (List ℕ)
+  unfoldable pub wants : List (List ℕ)
   wants = lacking (gatewayOf a) (toldOf (p .topic) (p .windows) (gatewayOf b))
 
-  pub replies : List (List ℕ)
+  unfoldable pub replies : List (List ℕ)
   replies = having (gatewayOf b) wants
 
   wants-told : (i : List ℕ) → among i wants ≡ true → among i (toldOf (p .topic) (p .windows) (gatewayOf b)) ≡ true
