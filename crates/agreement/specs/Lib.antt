@@ -7,7 +7,6 @@ pub mod Forward
 pub mod Once
 pub mod Sorted
 pub mod Fifteen
-pub mod Rounds
 pub mod HandOver
 pub mod Delivered
 pub mod Lacking
@@ -15,3 +14,4 @@ pub mod Played
 pub mod Request
 pub mod Identical
 pub mod Arrive
+pub mod CatchUp
