@@ -27,7 +27,7 @@ use Rattle.agreement.specs.Premises.{MessageSet, Settings, Member, Membe
 use Rattle.agreement.specs.Round.{gatewayOf, lacked, Play, Fair, advertOf, requestOf, replyOf, servedCount, admits, askerRound, tellerRound}
 use Rattle.agreement.specs.Rows.{rows-held}
 use Rattle.agreement.specs.Holding.{withGot, gotBy, gotAll, Holding, admit-forward, holding-admit}
-use Rattle.agreement.specs.Once.{with-again, with-this}
+use Rattle.agreement.specs.Once.{with-again, with-this, with-other}
 use Rattle.agreement.specs.HandOver.{lacking-exactly}
 use Rattle.agreement.specs.Delivered.{Delivers, plan-delivered}
 use Rattle.agreement.specs.Lacking.{Got, told-got, wants-once, wants-count}
@@ -87,6 +87,7 @@ pub record Admitted (set : List (List ℕ)) (x : Settings) (first past : ℕ) (r
   pub holding : Holding set x first past rs left (gotAll got calls s) (afterAll calls s)
   pub keeps : (m : List ℕ) → among m got ≡ true → among m (gotAll got calls s) ≡ true
   pub has : (j : ℕ) → i ≤ j → j < i + k → among (getD served j []) (gotAll got calls s) ≡ true
+  pub only : (m : List ℕ) → among m (gotAll got calls s) ≡ true → among m got ≡ false → among m served ≡ true
 
 withThis : (m : List ℕ) (got : List (List ℕ)) → among m (withGot m got) ≡ true
 withThis m got = either (among m got) (λ t. with-again m m got t) (λ t. with-this m got t)
@@ -96,12 +97,12 @@ taken-number s body i at m id e = rw e (either (heldAt (s .node) (s .ids) at id)
 
 module _ {set : List (List ℕ)} (ms : MessageSet set) {x : Settings} {first past : ℕ} (rs : List ℕ) {left : ℕ} (body : List ℕ) (at : ℕ → ℕ) (served ids : List (List ℕ)) (n : ℕ)
     (plans : (s : State) (i : ℕ) → lentOf (s .node) (s .ids) (s .messages) ≡ lent.Fine → s .node .clock ≤ at i → i < n → planIn s body i true (at i) ≡ taken (getD served i []) (getD ids i []))
-    (inside : (i : ℕ) → i < n → among (getD served i []) set ≡ true) where
+    (inside : (i : ℕ) → i < n → among (getD served i []) set ≡ true) (few : n ≤ length served) where
   pub all-admitted : (k i : ℕ) {got : List (List ℕ)} {s : State} → i + k ≤ n → Holding set x first past (readings (admits body at i k) ++ rs) left got s
       → Admitted set x first past rs left got served i k (admits body at i k) s
   unfolding admits readings gotAll afterAll
   all-admitted zero i l h =
-      record { members = none-left; none-refused = all-done; holding = h; keeps = λ m g. g; has = λ j a b. absurd (omega arith) }
+      record { members = none-left; none-refused = all-done; holding = h; keeps = λ m g. g; has = λ j a b. absurd (omega arith); only = λ m t u. clash (cc) }
   all-admitted (suc k) i {got} {s} l h =
       let m = getD served i [] in
       let c = admit body i true (at i) in
@@ -119,19 +120,24 @@ module _ {set : List (List ℕ)} (ms : MessageSet set) {x : Settings} {first pas
             either (eqb j i)
             (λ t. rw (eqb-true j i t) (r .keeps m (ap (among m) g ∙ withThis m got)))
             (λ t. let z = eqb-false j i t in r .has j (omega arith) (omega arith));
+        only = λ o t u.
+            either (sameBytes m o)
+            (λ v. among-at o served i (omega arith) (sym (same-equal m o v)))
+            (λ v. r .only o t (ap (among o) g ∙ with-other o m got u v));
       }
 
 -- ---- a round
-pub record RoundDone (set : List (List ℕ)) (x y : Settings) (firstA pastA leftA firstB pastB leftB : ℕ) (rsA rsB : List ℕ) (gotB : List (List ℕ)) (p : Play) (at : ℕ → ℕ) (a b : State) : Type 0 where
+pub record RoundDone (set : List (List ℕ)) (x y : Settings) (firstA pastA leftA firstB pastB leftB : ℕ) (rsA rsB : List ℕ) (gotA gotB : List (List ℕ)) (p : Play) (at : ℕ → ℕ) (a b : State) : Type 0 where
   pub asker-members : Members set (askerRound p at a b) a
   pub asker-done : NoneRefused (askerRound p at a b) a
   pub teller-members : Members set (tellerRound p a b) b
   pub teller-done : NoneRefused (tellerRound p a b) b
-  pub got : List (List ℕ)
-  pub asker-holds : Holding set x firstA pastA rsA leftA got (afterAll (askerRound p at a b) a)
+  pub asker-holds : Holding set x firstA pastA rsA leftA (gotAll gotA (askerRound p at a b) a) (afterAll (askerRound p at a b) a)
   pub teller-holds : Holding set y firstB pastB rsB leftB gotB (afterAll (tellerRound p a b) b)
   -- fifteen arrive, or all
   pub fewer : length (lacked (p .topic) (afterAll (askerRound p at a b) a) (afterAll (tellerRound p a b) b)) ≤ length (lacked (p .topic) a b) - 15
+  -- and nothing that the teller did not get
+  pub only : (m : List ℕ) → among m (gotAll gotA (askerRound p at a b) a) ≡ true → among m gotA ≡ false → among m gotB ≡ true
 
 module _ {set : List (List ℕ)} (ms : MessageSet set) {x y : Settings} {firstA pastA leftA firstB pastB leftB : ℕ} {rsB : List ℕ} {gotA gotB : List (List ℕ)} {a b : State} (p : Play)
     (fair : Fair p x y) (at : ℕ → ℕ) (rs : List ℕ) (ha : Holding set x firstA pastA (readings (askerRound p at a b) ++ rs) leftA gotA a)
@@ -166,7 +172,10 @@ module _ {set : List (List ℕ)} (ms : MessageSet set) {x y : Settings} {firstA 
 
   arrived : Admitted set x firstA pastA rs leftA gotA handed 0 (servedCount p a b) (admits (replyOf p a b) at 0 (servedCount p a b)) a
   unfolding askerRound readings
-  arrived = all-admitted ms rs (replyOf p a b) at handed named (servedCount p a b) plans inside (servedCount p a b) 0 (omega arith) ha
+  arrived =
+      let f = served-few in
+      let n = replies-count ha hb p fair in
+      all-admitted ms rs (replyOf p a b) at handed named (servedCount p a b) plans inside (omega arith) (servedCount p a b) 0 (omega arith) ha
 
   -- ---- the asker afterwards
   abbrev later : State
@@ -242,16 +251,28 @@ module _ {set : List (List ℕ)} (ms : MessageSet set) {x y : Settings} {firstA 
       let w = wants-count hb (p .topic) (p .windows) (fair .windows-y) later in
       omega arith
 
-  pub round-done : RoundDone set x y firstA pastA leftA firstB pastB leftB rs rsB gotB p at a b
-  unfolding askerRound tellerRound afterAll after
+  -- all that is handed over the teller got
+  take-all : (l : List (List ℕ)) → take (length l) l ≡ l
+  take-all [] = refl
+  take-all (m ∷ l) = ap (λ (k : List (List ℕ)). m ∷ k) (take-all l)
+
+  handed-got : (m : List ℕ) → among m handed ≡ true → among m gotB ≡ true
+  handed-got m t =
+      let q = stands (length handed) m handed (ap (among m) (take-all handed) ∙ t) in
+      let w = q .within in
+      let n = replies-count ha hb p fair in
+      ap (λ (o : List ℕ). among o gotB) (sym (q .there)) ∙ reply-got ha hb p fair (q .index) (omega arith) .among-got
+
+  pub round-done : RoundDone set x y firstA pastA leftA firstB pastB leftB rs rsB gotA gotB p at a b
+  unfolding askerRound tellerRound afterAll after gotAll
   round-done =
       record {
         asker-members = member refl (arrived .members);
         asker-done = done (request-done ha hb p fair) (arrived .none-refused);
         teller-members = member refl (member refl none-left);
         teller-done = done (advert-done ha hb p fair) (done (reply-done ha hb p fair) all-done);
-        got = more;
         asker-holds = arrived .holding;
         teller-holds = hb;
         fewer = fifteen-fewer;
+        only = λ m t u. handed-got m (arrived .only m t u);
       }

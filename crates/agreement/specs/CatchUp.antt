@@ -5,11 +5,14 @@ use mathlib.Core.Path.{_≡_, refl, sym, ap, subst, _∙_}
 use mathlib.Core.List.{List, [], _∷_, _++_, append-nil, append-assoc}
 use native.Mathlib.Omega.{arith}
 use lib.ListN.{length, getD}
+use mathlib.Core.Bool.{true, false}
+use Rattle.basis.specs.Cases.{either, clash}
+use Rattle.rows.specs.Ids.{among}
 use Rattle.mcache.specs.Messages.{Cached}
 use Rattle.agreement.specs.History.{State, Call, admit, after, afterAll, reading, readings, beat, beats, refusalAt, NoneRefused, all-done, done}
 use Rattle.agreement.specs.Premises.{MessageSet, Settings, Members, none-left, member, Clock, Premises}
 use Rattle.agreement.specs.Round.{lacked, Play, Fair, replyOf, servedCount, admits, askerRound, tellerRound, askerRounds, tellerRounds}
-use Rattle.agreement.specs.Holding.{gotAll, pastAll, firstOf, Holding, holding-fresh, holding-on, holding-all}
+use Rattle.agreement.specs.Holding.{gotNext, gotAll, pastAll, firstOf, Holding, holding-fresh, holding-on, holding-all}
 use Rattle.agreement.specs.Arrive.{RoundDone, round-done}
 
 -- ---- calls, and then more calls
@@ -27,6 +30,11 @@ beats-append : (cs ds : List Call) → beats (cs ++ ds) ≡ beats cs + beats ds
 unfolding beats
 beats-append [] ds = omega arith
 beats-append (c ∷ cs) ds = let r = beats-append cs ds in omega arith
+
+pub got-append : (got : List (List ℕ)) (cs ds : List Call) (s : State) → gotAll got (cs ++ ds) s ≡ gotAll (gotAll got cs s) ds (afterAll cs s)
+unfolding afterAll gotAll
+got-append got [] ds s = refl
+got-append got (c ∷ cs) ds s = got-append (gotNext got s c) cs ds (after c s)
 
 members-append : {set : List (List ℕ)} {cs ds : List Call} {s : State} → Members set cs s → Members set ds (afterAll cs s) → Members set (cs ++ ds) s
 unfolding afterAll
@@ -70,13 +78,20 @@ unfolding tellerRounds tellerRound readings
 teller-readings p zero at a b = refl
 teller-readings p (suc r) at a b = teller-readings p r (λ k. at (suc k)) (afterAll (askerRound p (at 0) a b) a) (afterAll (tellerRound p a b) b)
 
+-- and rounds leave the teller as it was
+pub teller-stays : (p : Play) (r : ℕ) (at : ℕ → ℕ → ℕ) (a b : State) → afterAll (tellerRounds p r at a b) b ≡ b
+unfolding tellerRounds tellerRound afterAll after
+teller-stays p zero at a b = refl
+teller-stays p (suc r) at a b = teller-stays p r (λ k. at (suc k)) (afterAll (askerRound p (at 0) a b) a) b
+
 -- ---- rounds, one after the other
-pub record RoundsDone (set : List (List ℕ)) (p : Play) (r : ℕ) (at : ℕ → ℕ → ℕ) (a b : State) : Type 0 where
+pub record RoundsDone (set gotA gotB : List (List ℕ)) (p : Play) (r : ℕ) (at : ℕ → ℕ → ℕ) (a b : State) : Type 0 where
   pub asker-members : Members set (askerRounds p r at a b) a
   pub asker-done : NoneRefused (askerRounds p r at a b) a
   pub teller-members : Members set (tellerRounds p r at a b) b
   pub teller-done : NoneRefused (tellerRounds p r at a b) b
   pub missing-left : length (lacked (p .topic) (afterAll (askerRounds p r at a b) a) (afterAll (tellerRounds p r at a b) b)) ≤ length (lacked (p .topic) a b) - 15 * r
+  pub only : (m : List ℕ) → among m (gotAll gotA (askerRounds p r at a b) a) ≡ true → among m gotA ≡ false → among m gotB ≡ true
 
 nil-left : (p : Play) (a b : State) → length (lacked (p .topic) (afterAll [] a) (afterAll [] b)) ≤ length (lacked (p .topic) a b) - 15 * 0
 unfolding afterAll
@@ -84,11 +99,11 @@ nil-left p a b = omega arith
 
 rounds-done : {set : List (List ℕ)} (ms : MessageSet set) {x y : Settings} {firstA pastA leftA firstB pastB leftB : ℕ} {rsB : List ℕ} {gotA gotB : List (List ℕ)} (p : Play) → Fair p x y
     → (r : ℕ) (at : ℕ → ℕ → ℕ) (rs : List ℕ) {a b : State} → Holding set x firstA pastA (readings (askerRounds p r at a b) ++ rs) leftA gotA a
-    → Holding set y firstB pastB rsB leftB gotB b → RoundsDone set p r at a b
-unfolding askerRounds tellerRounds
+    → Holding set y firstB pastB rsB leftB gotB b → RoundsDone set gotA gotB p r at a b
+unfolding askerRounds tellerRounds gotAll
 rounds-done ms p fair zero at rs {a} {b} ha hb =
-    record { asker-members = none-left; asker-done = all-done; teller-members = none-left; teller-done = all-done; missing-left = nil-left p a b }
-rounds-done {set} ms {x} {y} {firstA} {pastA} {leftA} {gotA} p fair (suc r) at rs {a} {b} ha hb =
+    record { asker-members = none-left; asker-done = all-done; teller-members = none-left; teller-done = all-done; missing-left = nil-left p a b; only = λ m t u. clash (cc) }
+rounds-done {set} ms {x} {y} {firstA} {pastA} {leftA} {gotA} {gotB} p fair (suc r) at rs {a} {b} ha hb =
     let c = askerRound p (at 0) a b in
     let t = tellerRound p a b in
     let d = askerRounds p r (λ k. at (suc k)) (afterAll c a) (afterAll t b) in
@@ -104,6 +119,9 @@ rounds-done {set} ms {x} {y} {firstA} {pastA} {leftA} {gotA} p fair (suc r) at r
       teller-members = members-append (one .teller-members) (rest .teller-members);
       teller-done = done-append (one .teller-done) (rest .teller-done);
       missing-left = rw (after-append c d a, after-append t u b) (omega arith);
+      only = λ m v w.
+          either (among m (gotAll gotA c a)) (λ z. one .only m z w)
+          (λ z. rest .only m (ap (among m) (sym (got-append gotA c d a)) ∙ v) z);
     }
 
 -- ---- for two histories under the premises
@@ -131,6 +149,8 @@ module _ (set : List (List ℕ)) (x y : Settings) (calls-a calls-b : List Call) 
     -- with the rounds, both histories are under the premises
     pub asker-history : Premises set x allAsked a
     pub teller-history : Premises set y allTold b
+    -- the asker got what it had before, and of the teller's
+    pub only : (m : List ℕ) → among m (gotAll [] allAsked a) ≡ true → among m (gotAll [] calls-a a) ≡ false → among m (gotAll [] calls-b b) ≡ true
 
 -- the premise on the asker's clock reaches over the rounds
 module _ {set : List (List ℕ)} {x y : Settings} {calls-a calls-b : List Call} {a b : State} (ms : MessageSet set) (pa : Premises set x calls-a a) (pb : Premises set y calls-b b)
@@ -153,7 +173,7 @@ module _ {set : List (List ℕ)} {x y : Settings} {calls-a calls-b : List Call} 
       (holding-fresh (readings calls-a ++ (readings askers ++ [])) (beats calls-a + 0) (pa .fresh) (pa .set-seen) (pa .set-cached) (subst (Clock x) e clock) (omega arith))
       (pa .members)
 
-  rounds : RoundsDone set p r at (afterAll calls-a a) (afterAll calls-b b)
+  rounds : RoundsDone set (gotAll [] calls-a a) (gotAll [] calls-b b) p r at (afterAll calls-a a) (afterAll calls-b b)
   rounds = rounds-done ms p fair r at [] before-rounds (holding-all ms pb)
 
   pub caught-up : CaughtUp set x y calls-a calls-b a b p r at
@@ -188,6 +208,7 @@ module _ {set : List (List ℕ)} {x y : Settings} {calls-a calls-b : List Call} 
               clock = subst (Clock y) (sym e) (pb .clock);
               few-heartbeats = omega arith;
             };
+        only = λ m t u. rounds .only m (ap (among m) (sym (got-append [] calls-a askers a)) ∙ t) u;
       }
 
   -- so nothing is missing after as many rounds as n/15, rounded up

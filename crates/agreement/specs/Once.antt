@@ -22,7 +22,7 @@ pub with-this : (m : List ℕ) (got : List (List ℕ)) → among m got ≡ false
 unfolding among
 with-this m got h = rw (h, among-append m got (m ∷ []), h, same-self m)
 
-with-other : (m p : List ℕ) (got : List (List ℕ)) → among m got ≡ false → sameBytes p m ≡ false → among m (withGot p got) ≡ false
+pub with-other : (m p : List ℕ) (got : List (List ℕ)) → among m got ≡ false → sameBytes p m ≡ false → among m (withGot p got) ≡ false
 unfolding among
 with-other m p got h d = either (among p got) (λ t. rw t h) (λ t. rw (t, among-append m got (p ∷ []), h, d))
 
