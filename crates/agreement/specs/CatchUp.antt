@@ -16,7 +16,7 @@ use Rattle.agreement.specs.Holding.{gotNext, gotAll, pastAll, firstOf, H
 use Rattle.agreement.specs.Arrive.{RoundDone, round-done}
 
 -- ---- calls, and then more calls
-after-append : (cs ds : List Call) (s : State) → afterAll (cs ++ ds) s ≡ afterAll ds (afterAll cs s)
+pub after-append : (cs ds : List Call) (s : State) → afterAll (cs ++ ds) s ≡ afterAll ds (afterAll cs s)
 unfolding afterAll
 after-append [] ds s = refl
 after-append (c ∷ cs) ds s = after-append cs ds (after c s)

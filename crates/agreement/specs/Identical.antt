@@ -26,11 +26,11 @@ use Rattle.agreement.specs.Lacking.{fine, all-recent}
 use Rattle.agreement.specs.Played.{advert-done, advert-is}
 
 -- ---- the rows, by message and by entry
-record Kept (c : Cached) (got : List (List ℕ)) : Type 0 where
-  was-got : among (c .message) got ≡ true
-  own : givesId (c .message) (c .id) ≡ true
+pub record Kept (c : Cached) (got : List (List ℕ)) : Type 0 where
+  pub was-got : among (c .message) got ≡ true
+  pub own : givesId (c .message) (c .id) ≡ true
 
-rows-kept : {least most : ℕ} {ms : List (List ℕ)} {es : List Entry} {cs : List Cached} (c : Cached) → Rows least most ms es cs → List·Memᴰ c cs → Kept c ms
+pub rows-kept : {least most : ℕ} {ms : List (List ℕ)} {es : List Entry} {cs : List Cached} (c : Cached) → Rows least most ms es cs → List·Memᴰ c cs → Kept c ms
 unfolding among
 rows-kept c none d = absurd (List·Memᴰ·not-nil d)
 rows-kept c (row {m} {c = k} {ms} x rs) d =
@@ -39,13 +39,13 @@ rows-kept c (row {m} {c = k} {ms} x rs) d =
     (λ r. let q = rows-kept c rs r in record { was-got = rw (q .was-got) (or-true (sameBytes m (c .message))); own = q .own })
     (List·Memᴰ·cases-cons d)
 
-record Entered (m : List ℕ) (cs : List Cached) : Type 0 where
-  entry : Cached
-  there : List·Memᴰ entry cs
-  message : entry .message ≡ m
-  own : givesId m (entry .id) ≡ true
+pub record Entered (m : List ℕ) (cs : List Cached) : Type 0 where
+  pub entry : Cached
+  pub there : List·Memᴰ entry cs
+  pub message : entry .message ≡ m
+  pub own : givesId m (entry .id) ≡ true
 
-rows-entry : {least most : ℕ} {ms : List (List ℕ)} {es : List Entry} {cs : List Cached} (m : List ℕ) → Rows least most ms es cs → among m ms ≡ true → Entered m cs
+pub rows-entry : {least most : ℕ} {ms : List (List ℕ)} {es : List Entry} {cs : List Cached} (m : List ℕ) → Rows least most ms es cs → among m ms ≡ true → Entered m cs
 unfolding among
 rows-entry m none h = clash (cc)
 rows-entry m (row {m = k} {c} {ms} x rs) h =
@@ -58,7 +58,7 @@ rows-entry m (row {m = k} {c} {ms} x rs) h =
     record { entry = r .entry; there = List·Memᴰ·tail (r .there); message = r .message; own = r .own })
 
 -- ---- where nothing is missing, what carries the topic is seen
-none-missing : (topic : List ℕ) (g : Gateway) (cs : List Cached) (c : Cached) → missing topic g cs ≡ [] → List·Memᴰ c cs → List·Memᴰ topic (topics c) → holds (marked (c .id)) (g .seen) ≡ true
+pub none-missing : (topic : List ℕ) (g : Gateway) (cs : List Cached) (c : Cached) → missing topic g cs ≡ [] → List·Memᴰ c cs → List·Memᴰ topic (topics c) → holds (marked (c .id)) (g .seen) ≡ true
 unfolding missing
 none-missing topic g [] c e d t = absurd (List·Memᴰ·not-nil d)
 none-missing topic g (k ∷ cs) c e d t =
