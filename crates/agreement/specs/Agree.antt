@@ -2,21 +2,21 @@
 -- advertise it in identical bytes.
 use Prim.Native.Nat.{ℕ, _+_, _/_, _≤_}
 use mathlib.Core.Path.{_≡_, refl, sym, ap, subst, _∙_}
-use mathlib.Core.Bool.{true, false, not, _&&_}
-use mathlib.Core.List.{List, [], _∷_, _++_, List·Memᴰ, List·Memᴰ·head, List·Memᴰ·tail}
+use mathlib.Core.Bool.{true, false}
+use mathlib.Core.List.{List, [], _∷_, List·Memᴰ, List·Memᴰ·head, List·Memᴰ·tail}
 use lib.ListN.{length}
-use Rattle.basis.specs.Cases.{either, clash}
+use Rattle.basis.specs.Cases.{either}
 use Rattle.rows.specs.Ids.{among}
 use Rattle.admission.specs.Admission.{topicsOf}
 use Rattle.seen.specs.Entries.{holds}
 use Rattle.mcache.specs.Messages.{Cached, topics}
 use Rattle.mcache.specs.GossipLaws.{among-in}
 use Rattle.node.specs.Gateway.{Gateway, marked}
-use Rattle.agreement.specs.History.{State, Call, afterAll, readings, NoneRefused}
+use Rattle.agreement.specs.History.{State, Call, afterAll, readings}
 use Rattle.agreement.specs.Premises.{MessageSet, Settings, Clock, Premises}
-use Rattle.agreement.specs.Round.{missing, gatewayOf, lacked, Play, Fair, turned, askerRounds, tellerRounds}
+use Rattle.agreement.specs.Round.{missing, gatewayOf, lacked, Play, Fair, turned, tellerRounds}
 use Rattle.agreement.specs.Rows.{one-id, rows-held}
-use Rattle.agreement.specs.Holding.{gotAll, Holding, holding-all}
+use Rattle.agreement.specs.Holding.{Holding, holding-all}
 use Rattle.agreement.specs.Identical.{rows-kept, rows-entry, none-missing, Identical, identical-bytes}
 use Rattle.agreement.specs.CatchUp.{after-append, teller-stays, CaughtUp, allAsked, allTold, caught-up, all-arrived}
 

@@ -1,14 +1,14 @@
 -- One round: every call in it is done, all that is served is got, and of what the asker lacks fifteen messages arrive, or all.
-use Prim.Native.Nat.{ℕ, zero, suc, _+_, _-_, _≤_, _<_, min}
+use Prim.Native.Nat.{ℕ, zero, suc, _+_, _-_, _≤_, _<_}
 use mathlib.Core.Path.{_≡_, refl, sym, ap, subst, _∙_}
-use mathlib.Core.Bool.{Bool, true, false, not, _&&_, _||_, or-true}
+use mathlib.Core.Bool.{true, false, _||_, or-true}
 use mathlib.Core.List.{List, [], _∷_, _++_}
 use native.Mathlib.Omega.{arith}
 use lib.ListN.{length, getD, take, length-append}
 use lib.Seq.{length-take-le}
 use lib.Dec.{eqb}
 use borrow.Author.Tests.{le-ltb, eqb-true, eqb-false}
-use Rattle.basis.specs.Cases.{either, clash, both}
+use Rattle.basis.specs.Cases.{either, clash}
 use Rattle.rows.specs.Ids.{sameBytes, among, distinct}
 use Rattle.rows.specs.IdsLaws.{same-self, same-equal, among-append, among-at}
 use Rattle.admission.specs.Admission.{admissionOf, givesId}
@@ -18,18 +18,18 @@ use Rattle.seen.specs.Entries.{holds}
 use Rattle.mcache.specs.Messages.{get}
 use Rattle.node.specs.declared.Node.{Node}
 use Rattle.node.specs.declared.Lent.the-variants as lent
-use Rattle.node.specs.Gateway.{Gateway, marked, toldOf, lacking}
-use Rattle.node.specs.Calls.{Plan, no, taken, lentOf, planFit, heldAt, servedOf, roomOf, replyBytes}
+use Rattle.node.specs.Gateway.{marked, toldOf, lacking}
+use Rattle.node.specs.Calls.{Plan, taken, lentOf, planFit, heldAt, servedOf, roomOf}
 use Rattle.node.specs.WellFormedLaws.{reached-fine}
 use Rattle.outputs.specs.Replied.{all-few}
 use Rattle.agreement.specs.History.{State, Call, admit, planIn, after, afterAll, readings, refusalAt, NoneRefused, all-done, done}
 use Rattle.agreement.specs.Premises.{MessageSet, Settings, Member, Members, none-left, member}
-use Rattle.agreement.specs.Round.{gatewayOf, lacked, Play, Fair, advertOf, requestOf, replyOf, servedCount, admits, askerRound, tellerRound}
+use Rattle.agreement.specs.Round.{gatewayOf, lacked, Play, Fair, replyOf, servedCount, admits, askerRound, tellerRound}
 use Rattle.agreement.specs.Rows.{rows-held}
 use Rattle.agreement.specs.Holding.{withGot, gotBy, gotAll, Holding, admit-forward, holding-admit}
 use Rattle.agreement.specs.Once.{with-again, with-this, with-other}
 use Rattle.agreement.specs.HandOver.{lacking-exactly}
-use Rattle.agreement.specs.Delivered.{Delivers, plan-delivered}
+use Rattle.agreement.specs.Delivered.{plan-delivered}
 use Rattle.agreement.specs.Lacking.{Got, told-got, wants-once, wants-count}
 use Rattle.agreement.specs.Played.{advert-done, request-done, reply-done, replied, served-is, wants, replies, replies-count, reply-at, reply-got, enough, reply-delivers}
 

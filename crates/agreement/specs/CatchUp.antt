@@ -1,6 +1,6 @@
 -- n missing messages arrive within n/15 rounds, rounded up: after so many undisturbed rounds at most n less fifteen for each are missing, and no call in
 -- them is refused. The calls of the rounds belong to the gateways' histories, which stay under the premises.
-use Prim.Native.Nat.{ℕ, zero, suc, _+_, _-_, _*_, _/_, _≤_, _<_}
+use Prim.Native.Nat.{ℕ, zero, suc, _+_, _-_, _*_, _/_, _≤_}
 use mathlib.Core.Path.{_≡_, refl, sym, ap, subst, _∙_}
 use mathlib.Core.List.{List, [], _∷_, _++_, append-nil, append-assoc}
 use native.Mathlib.Omega.{arith}
@@ -9,11 +9,11 @@ use mathlib.Core.Bool.{true, false}
 use Rattle.basis.specs.Cases.{either, clash}
 use Rattle.rows.specs.Ids.{among}
 use Rattle.mcache.specs.Messages.{Cached}
-use Rattle.agreement.specs.History.{State, Call, admit, after, afterAll, reading, readings, beat, beats, refusalAt, NoneRefused, all-done, done}
+use Rattle.agreement.specs.History.{State, Call, after, afterAll, reading, readings, beats, NoneRefused, all-done, done}
 use Rattle.agreement.specs.Premises.{MessageSet, Settings, Members, none-left, member, Clock, Premises}
 use Rattle.agreement.specs.Round.{lacked, Play, Fair, replyOf, servedCount, admits, askerRound, tellerRound, askerRounds, tellerRounds}
-use Rattle.agreement.specs.Holding.{gotNext, gotAll, pastAll, firstOf, Holding, holding-fresh, holding-on, holding-all}
-use Rattle.agreement.specs.Arrive.{RoundDone, round-done}
+use Rattle.agreement.specs.Holding.{gotNext, gotAll, pastAll, Holding, holding-fresh, holding-on, holding-all}
+use Rattle.agreement.specs.Arrive.{round-done}
 
 -- ---- calls, and then more calls
 pub after-append : (cs ds : List Call) (s : State) → afterAll (cs ++ ds) s ≡ afterAll ds (afterAll cs s)

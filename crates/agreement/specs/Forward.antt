@@ -1,9 +1,8 @@
 -- An admit whose reading is not before the clock is not refused by 31.
 use Prim.Native.Nat.{ℕ, _≤_}
-use mathlib.Core.Path.{_≡_, refl}
+use mathlib.Core.Path.{_≡_}
 use mathlib.Core.Bool.{Bool}
 use mathlib.Core.List.{List, _∷_}
-use lib.Dec.{ltb}
 use borrow.Author.Tests.{le-ltb}
 use Rattle.basis.specs.Cases.{clash}
 use Rattle.protobuf.specs.declared.Checked.{Checked}
@@ -20,7 +19,7 @@ use Rattle.node.specs.declared.Lent.{Lent}
 use Rattle.node.specs.declared.Lent.the-variants as lent
 use Rattle.node.specs.declared.Admit.the-variants as answer
 use Rattle.node.specs.declared.Fault.{Fault}
-use Rattle.node.specs.Calls.{Plan, no, taken, onLent, lentOf, planFit, planAt, planBody, planned}
+use Rattle.node.specs.Calls.{no, onLent, lentOf, planFit, planAt, planBody, planned}
 use Rattle.agreement.specs.History.{State, planIn}
 use Rattle.agreement.specs.Premises.{Settings}
 use Rattle.agreement.specs.Holding.{Holding, admit-forward}

@@ -1,8 +1,8 @@
 -- What a gateway holds in a history under the premises: the messages got, each once, the oldest first. Their marked ids are the ids seen, they are
 -- the messages cached, and nothing ever leaves.
-use Prim.Native.Nat.{ℕ, zero, suc, _+_, _-_, _*_, _^_, _≤_, _<_, min}
+use Prim.Native.Nat.{ℕ, zero, suc, _+_, _-_, _*_, _^_, _≤_, _<_}
 use mathlib.Core.Path.{_≡_, refl, sym, ap, subst, _∙_}
-use mathlib.Core.Bool.{Bool, true, false, cond, not, _&&_, _||_, Bool·not-not}
+use mathlib.Core.Bool.{Bool, true, false, cond, not, _||_, Bool·not-not}
 use mathlib.Core.List.{List, [], _∷_, _++_, append-nil, append-assoc}
 use native.Mathlib.Omega.{arith}
 use native.Mathlib.Nat.{zero-lt-suc}
@@ -12,32 +12,31 @@ use lib.Dec.{leb, ltb, eqb}
 use borrow.Author.Tests.{leb-true, le-leb}
 use Rattle.basis.specs.Cases.{either, clash, both}
 use Rattle.basis.specs.Bytes.{Bytes}
-use Rattle.rows.specs.Rows.{newest, placeOf}
+use Rattle.rows.specs.Rows.{placeOf}
 use Rattle.rows.specs.Ids.{sameBytes, among, distinct}
-use Rattle.rows.specs.IdsLaws.{same-self, same-equal, among-append, distinct-snoc}
+use Rattle.rows.specs.IdsLaws.{same-equal, among-append, distinct-snoc}
 use Rattle.admission.specs.Admission.{givesId}
-use Rattle.seen.specs.Entries.{Entry, holds, until, inserted, live}
+use Rattle.seen.specs.Entries.{Entry, holds, until, inserted}
 use Rattle.mcache.specs.declared.MessageCache.{MessageCache}
-use Rattle.mcache.specs.Messages.{Cached, held, put, shift}
+use Rattle.mcache.specs.Messages.{held}
 use Rattle.mcache.specs.State.{dropped}
 use Rattle.mcache.specs.Calls.{indexIn, enteredStore, storedUnder}
-use Rattle.mcache.specs.CachedLaws.{newest-more, new}
+use Rattle.mcache.specs.CachedLaws.{newest-more}
 use Rattle.mcache.specs.Readers.{room-keeps-all}
 use Rattle.node.specs.declared.Node.{Node}
-use Rattle.node.specs.declared.Lent.the-variants as lent
 use Rattle.node.specs.declared.Admit.{Admit}
 use Rattle.node.specs.declared.Beat.the-variants as beat
 use Rattle.node.specs.Gateway.{Gateway, started, marked, isNew, afterAdmit, afterBeat}
-use Rattle.node.specs.State.{gatewayIn, legalSettings, freshNode, risesFrom}
-use Rattle.node.specs.Calls.{Plan, no, taken, planned, lentOf, heldAt, admitNode, admitSeen, admitCache, beatAnswer, beatNode}
-use Rattle.node.specs.WellFormed.{Typed, Reached, begun, admitted, beaten}
-use Rattle.node.specs.Laws.{Takes, plan-takes, fresh-gateway, is-new, admit-gateway, beat-says, beat-gateway}
+use Rattle.node.specs.State.{gatewayIn, freshNode, risesFrom}
+use Rattle.node.specs.Calls.{Plan, no, taken, heldAt, admitCache, beatAnswer}
+use Rattle.node.specs.WellFormed.{Reached, begun, admitted, beaten}
+use Rattle.node.specs.Laws.{plan-takes, fresh-gateway, is-new, admit-gateway, beat-says, beat-gateway}
 use Rattle.node.specs.WellFormedLaws.{reached-fine, reached-typed}
 use Rattle.outputs.specs.Replied.{all-few}
 use Rattle.agreement.specs.History.{State, Call, admit, heartbeat, advertise, ask, serve, planIn, after, afterAll, reading, readings, beat, beats}
-use Rattle.agreement.specs.Premises.{MessageSet, Settings, Fresh, Member, MemberAt, Members, none-left, member, Clock, Premises}
+use Rattle.agreement.specs.Premises.{MessageSet, Settings, Fresh, Member, MemberAt, Members, member, Clock, Premises}
 use Rattle.agreement.specs.Round.{gatewayOf}
-use Rattle.agreement.specs.Rows.{Row, Rows, none, row, rows-snoc, rows-lengths, rows-live, rows-shift, rows-held}
+use Rattle.agreement.specs.Rows.{Rows, none, rows-snoc, rows-lengths, rows-live, rows-shift, rows-held}
 
 -- ---- the messages got, each once, the oldest first
 abbrev pub withGot : List ℕ → List (List ℕ) → List (List ℕ)

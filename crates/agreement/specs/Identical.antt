@@ -1,26 +1,24 @@
 -- Identical bytes: once neither gateway lacks anything of a topic, both advertise it in the same bytes.
 use Prim.Native.Nat.{ℕ, _≤_}
-use mathlib.Core.Path.{_≡_, refl, sym, ap, ap₂, subst, _∙_}
-use mathlib.Core.Bool.{Bool, true, false, not, _&&_, _||_, or-true}
+use mathlib.Core.Path.{_≡_, refl, sym, ap, subst, _∙_}
+use mathlib.Core.Bool.{true, not, _&&_, or-true}
 use mathlib.Core.List.{List, [], _∷_, List·Memᴰ, List·Memᴰ·not-nil, List·Memᴰ·cases-cons, List·Memᴰ·head, List·Memᴰ·tail}
-use mathlib.Core.Logic.{_↔_, ⊎-elim}
-use native.Mathlib.Omega.{arith}
-use lib.ListN.{length}
-use Rattle.basis.specs.Cases.{either, clash, both}
+use mathlib.Core.Logic.{⊎-elim}
+use Rattle.basis.specs.Cases.{either, clash}
 use Rattle.rows.specs.Ids.{sameBytes, among}
 use Rattle.rows.specs.IdsLaws.{same-self, same-equal}
 use Rattle.admission.specs.Admission.{givesId, topicsOf}
 use Rattle.seen.specs.Entries.{Entry, holds}
-use Rattle.mcache.specs.Messages.{Cached, topics, idsOf, held, gossipIds}
+use Rattle.mcache.specs.Messages.{Cached, topics, held}
 use Rattle.mcache.specs.GossipLaws.{in-among}
-use Rattle.node.specs.Gateway.{Gateway, marked, toldOf, advertisement}
+use Rattle.node.specs.Gateway.{Gateway, marked, advertisement}
 use Rattle.node.specs.Calls.{toldIn, bytesFor, advertiseBytes}
 use Rattle.node.specs.Laws.{told-gateway}
 use Rattle.agreement.specs.History.{State, Call, advertise, afterAll, refusalAt}
 use Rattle.agreement.specs.Premises.{MessageSet, Settings, Premises}
 use Rattle.agreement.specs.Round.{missing, gatewayOf, lacked, Play, Fair, turned, advertOf}
-use Rattle.agreement.specs.Rows.{Row, Rows, none, row, one-id, rows-held}
-use Rattle.agreement.specs.Holding.{Holds, Holding, holding-all}
+use Rattle.agreement.specs.Rows.{Rows, none, row, one-id, rows-held}
+use Rattle.agreement.specs.Holding.{Holding, holding-all}
 use Rattle.agreement.specs.Sorted.{Carried, told-carried}
 use Rattle.agreement.specs.Lacking.{fine, all-recent}
 use Rattle.agreement.specs.Played.{advert-done, advert-is}

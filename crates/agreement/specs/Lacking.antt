@@ -1,23 +1,23 @@
 -- The ids that are asked for are those of the messages that the asker lacks, each once; and of each the teller has the message.
-use Prim.Native.Nat.{ℕ, zero, suc, _+_, _≤_, _<_}
-use mathlib.Core.Path.{_≡_, refl, sym, ap, subst, _∙_}
-use mathlib.Core.Bool.{Bool, true, false, not, cond, _&&_, _||_, or-true, and-true, and-false}
+use Prim.Native.Nat.{ℕ, _≤_, _<_}
+use mathlib.Core.Path.{_≡_, refl, sym, ap, _∙_}
+use mathlib.Core.Bool.{true, false, not, _&&_, or-true, and-true, and-false}
 use mathlib.Core.List.{List, [], _∷_, List·Memᴰ, List·Memᴰ·not-nil, List·Memᴰ·cases-cons, List·Memᴰ·head, List·Memᴰ·tail}
 use mathlib.Core.Logic.{⊎-elim}
 use native.Mathlib.Omega.{arith}
-use lib.ListN.{length, getD, length-map}
-use lib.Dec.{ltb}
+use lib.ListN.{length, length-map}
 use borrow.Author.Tests.{lt-ltb}
-use Rattle.basis.specs.Cases.{either, clash, both}
+use Rattle.basis.specs.Cases.{either, clash}
 use Rattle.rows.specs.Ids.{sameBytes, among, distinct}
-use Rattle.rows.specs.IdsLaws.{same-self, same-equal, among-at}
+use Rattle.rows.specs.IdsLaws.{same-self, same-equal}
 use Rattle.admission.specs.Admission.{givesId}
 use Rattle.seen.specs.Entries.{Entry, holds}
 use Rattle.mcache.specs.Messages.{Cached, topics, idsOf, held, get, carrying, gossipIds}
 use Rattle.mcache.specs.StateLaws.{fine-tests}
 use Rattle.mcache.specs.CachedLaws.{ids-cached}
+use Rattle.mcache.specs.GossipLaws.{among-order}
 use Rattle.node.specs.declared.Lent.the-variants as lent
-use Rattle.node.specs.Gateway.{Gateway, marked, toldOf, lacking, having}
+use Rattle.node.specs.Gateway.{Gateway, marked, toldOf, lacking}
 use Rattle.node.specs.State.{gatewayIn}
 use Rattle.node.specs.Calls.{lentOf}
 use Rattle.node.specs.StateLaws.{fine-tests as node-tests}
@@ -25,12 +25,11 @@ use Rattle.node.specs.Readers.{asked-exactly}
 use Rattle.node.specs.WellFormedLaws.{reached-fine}
 use Rattle.outputs.specs.Replied.{all-few}
 use Rattle.agreement.specs.History.{State}
-use Rattle.agreement.specs.Premises.{MessageSet, Settings}
+use Rattle.agreement.specs.Premises.{Settings}
 use Rattle.agreement.specs.Round.{missing, gatewayOf, lacked}
-use Rattle.agreement.specs.Rows.{Row, Rows, none, row, rows-held}
-use Rattle.agreement.specs.Holding.{Holds, Ahead, Holding}
-use Rattle.agreement.specs.Sorted.{among-ordered}
-use Rattle.agreement.specs.HandOver.{lacking-distinct, lacking-exactly, told-distinct, told-held}
+use Rattle.agreement.specs.Rows.{Rows, none, row}
+use Rattle.agreement.specs.Holding.{Holding}
+use Rattle.agreement.specs.HandOver.{lacking-distinct, told-distinct, told-held}
 
 -- ---- what the rows say of a cached message
 pub rows-young : {least most : ℕ} {ms : List (List ℕ)} {es : List Entry} {cs : List Cached} (c : Cached) → Rows least most ms es cs → List·Memᴰ c cs → c .window ≤ most
@@ -132,7 +131,7 @@ module _ {set : List (List ℕ)} {y : Settings} {first past left : ℕ} {rs : Li
         asked-exactly (gatewayOf a) i told
         ∙ either (holds (marked i) (gatewayOf a .seen))
         (λ t. simp t (and-false (among i told) ∙ sym (missing-seen topic i (gatewayOf a) (gatewayOf b .cache) t)))
-        (λ t. simp t (and-true (among i told) ∙ among-ordered i (idsOf (carrying topic windows (gatewayOf b .cache))) ∙ missing-among topic i (gatewayOf a) windows (gatewayOf b .cache) all-recent t))
+        (λ t. simp t (and-true (among i told) ∙ among-order i (idsOf (carrying topic windows (gatewayOf b .cache))) ∙ missing-among topic i (gatewayOf a) windows (gatewayOf b .cache) all-recent t))
 
     pub wants-once : distinct (lacking (gatewayOf a) (toldOf topic windows (gatewayOf b))) ≡ true
     wants-once = lacking-distinct (gatewayOf a) told (told-distinct topic windows (gatewayOf b .cache))

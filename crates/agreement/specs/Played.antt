@@ -1,47 +1,38 @@
 -- What the calls of a round answer and write, with full buffers: none is refused; the advertisement, the request and the reply are those of the
 -- definitions; and the reply has fifteen messages, or all that are asked for.
-use Prim.Native.Nat.{ℕ, zero, suc, _+_, _-_, _≤_, _<_, min}
-use mathlib.Core.Path.{_≡_, refl, sym, ap, subst, _∙_}
-use mathlib.Core.Bool.{Bool, true, false}
+use Prim.Native.Nat.{ℕ, zero, suc, _-_, _≤_, _<_, min}
+use mathlib.Core.Path.{_≡_, refl, sym, subst}
+use mathlib.Core.Bool.{true}
 use mathlib.Core.List.{List, [], _∷_}
 use native.Mathlib.Omega.{arith}
 use lib.ListN.{length, getD, take}
 use lib.Seq.{sets}
-use lib.Dec.{ltb, eqb}
 use borrow.Author.Tests.{le-ltb, ne-eqb}
-use Rattle.basis.specs.Cases.{either, clash}
-use Rattle.basis.specs.declared.Written.the-variants as wrote
-use Rattle.basis.specs.Writing.{answer, written}
+use Rattle.basis.specs.Cases.{either}
 use Rattle.basis.specs.Lists.{answer-fits, written-fits}
 use Rattle.rows.specs.Ids.{sameBytes, among}
 use Rattle.rows.specs.IdsLaws.{same-self, among-at}
 use Rattle.rows.specs.ListLaws.{put-sets}
 use Rattle.protobuf.specs.declared.Checked.the-variants as checked
-use Rattle.protobuf.specs.Encode.{bytesField}
-use Rattle.rpc.specs.Encode.{repeated}
 use Rattle.ids.specs.Ids.{acceptOf}
-use Rattle.admission.specs.Admission.{givesId}
 use Rattle.admission.specs.AdmissionLaws.{gives-only, fit-limits}
 use Rattle.parts.specs.Parts.{fitting}
 use Rattle.parts.specs.PartsLaws.{fitting-room}
-use Rattle.mcache.specs.Messages.{Cached, held, get}
-use Rattle.node.specs.declared.Node.{Node}
+use Rattle.mcache.specs.Messages.{held, get}
 use Rattle.node.specs.declared.Lent.the-variants as lent
 use Rattle.node.specs.declared.Advertise.the-variants as told
 use Rattle.node.specs.declared.Ask.the-variants as asked
 use Rattle.node.specs.declared.Serve.{Serve}
-use Rattle.node.specs.declared.Serve.the-variants as served
 use Rattle.node.specs.Gateway.{Gateway, toldOf, lacking, having}
-use Rattle.node.specs.State.{gatewayIn}
 use Rattle.node.specs.Calls.{lentOf, advertiseAnswer, advertiseLeft, advertiseBytes, askAnswer, askLeft, askBytes, serveAnswer, serveLeft, cachedOf, wanted, roomOf, servedOf, replyBytes, replyTo, serveNumber}
-use Rattle.agreement.specs.History.{State, Call, advertise, ask, serve, refusalAt}
-use Rattle.agreement.specs.Premises.{MessageSet, Settings}
-use Rattle.agreement.specs.Round.{gatewayOf, lacked, toldBytes, askedBytes, servedBytes, servedMessages, Play, Fair, advertOf, requestOf, replyAnswer, replyOf, servedCount}
+use Rattle.agreement.specs.History.{State, advertise, ask, serve, refusalAt}
+use Rattle.agreement.specs.Premises.{Settings}
+use Rattle.agreement.specs.Round.{gatewayOf, servedBytes, servedMessages, Play, Fair, advertOf, requestOf, replyAnswer, replyOf, servedCount}
 use Rattle.agreement.specs.Holding.{Holding}
 use Rattle.agreement.specs.HandOver.{advert-rpc, advert-taken, request-rpc, request-taken, reply-has, reply-all, lacks-exactly, told-held}
 use Rattle.agreement.specs.Fifteen.{fifteen-fit}
 use Rattle.agreement.specs.Delivered.{Delivers, reply-taken}
-use Rattle.agreement.specs.Lacking.{Got, fine, told-got, wants-once, wants-count}
+use Rattle.agreement.specs.Lacking.{Got, fine, told-got}
 
 -- bytes at the front of a buffer
 front : (s out : List ℕ) → length s ≤ length out → take (length s) (sets out 0 s) ≡ s

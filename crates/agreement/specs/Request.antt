@@ -9,7 +9,7 @@ use native.Mathlib.Omega.{arith}
 use lib.ListN.{length}
 use Rattle.rows.specs.Ids.{among, distinct}
 use Rattle.canonical.specs.Canonical.{Within}
-use Rattle.mcache.specs.Messages.{Cached, idsOf}
+use Rattle.mcache.specs.Messages.{idsOf}
 use Rattle.node.specs.Gateway.{toldOf, lacking, request}
 use Rattle.agreement.specs.History.{State, Call, advertise, ask, afterAll, refusalAt}
 use Rattle.agreement.specs.Premises.{MessageSet, Settings, Premises}
