@@ -23,7 +23,6 @@ use message::decode;
 use node::Admit;
 use node::Advertise;
 use node::Ask;
-use node::Beat;
 use node::Node;
 use node::Serve;
 use node::Start;
@@ -32,12 +31,8 @@ use protobuf::Encoded;
 use protobuf::Refusal;
 use protobuf::Walk;
 use protobuf::refusal_of;
-use refusals::of_admit;
-use refusals::of_advertise;
-use refusals::of_ask;
 use refusals::of_beat;
 use refusals::of_fault;
-use refusals::of_serve;
 use refusals::of_unfit;
 use stored::load;
 use stored::store;
@@ -49,16 +44,20 @@ fn tell(why: Refusal, values: &mut [u64; 4]) -> u32
     ensures { λ r. ⌜ r ≡ why .number ⌝ }
     ensures { λ _. ⌜ now (values .exit) ≡ sets (now (values .entry)) 0 (valuesIn why) ⌝ }
 {
-    if 0 < why.count {
-        values[0] = why.first;
+    let number = why.number as u32;
+    if why.count == 0 {
+        return number;
     }
-    if 1 < why.count {
-        values[1] = why.second;
+    values[0] = why.first;
+    if why.count == 1 {
+        return number;
     }
-    if 2 < why.count {
-        values[2] = why.third;
+    values[1] = why.second;
+    if why.count == 2 {
+        return number;
     }
-    why.number as u32
+    values[2] = why.third;
+    number
 }
 
 // One value beside a number.
@@ -342,7 +341,12 @@ pub extern "C" fn pradulins_encode(body: &[u8], out: &mut [u8], values: &mut [u6
 
 // Writes the bytes to sign of the message at an index.
 #[no_mangle]
-pub extern "C" fn pradulins_sign_bytes(body: &[u8], index: usize, out: &mut [u8], values: &mut [u64; 4]) -> u32
+pub extern "C" fn pradulins_sign_bytes(
+    body: &[u8],
+    index: usize,
+    out: &mut [u8],
+    values: &mut [u64; 4],
+) -> u32
     ensures { λ r. ⌜ r ≡ messageNumber (signAnswer (now (body .entry)) index (now (out .entry))) ⌝ }
     ensures { λ _. ⌜ now (values .exit) ≡ sets (now (values .entry)) 0 (messageOut (signAnswer (now (body .entry)) index (now (out .entry)))) ⌝ }
     ensures { λ _. ⌜ now (out .exit) ≡ signLeft (now (body .entry)) index (now (out .entry)) ⌝ }
@@ -353,7 +357,12 @@ pub extern "C" fn pradulins_sign_bytes(body: &[u8], index: usize, out: &mut [u8]
 
 // Writes the id of the message at an index.
 #[no_mangle]
-pub extern "C" fn pradulins_message_id(body: &[u8], index: usize, out: &mut [u8], values: &mut [u64; 4]) -> u32
+pub extern "C" fn pradulins_message_id(
+    body: &[u8],
+    index: usize,
+    out: &mut [u8],
+    values: &mut [u64; 4],
+) -> u32
     ensures { λ r. ⌜ r ≡ messageNumber (idAnswer [] (now (body .entry)) index (now (out .entry))) ⌝ }
     ensures { λ _. ⌜ now (values .exit) ≡ sets (now (values .entry)) 0 (messageOut (idAnswer [] (now (body .entry)) index (now (out .entry)))) ⌝ }
     ensures { λ _. ⌜ now (out .exit) ≡ idLeft [] (now (body .entry)) index (now (out .entry)) ⌝ }
