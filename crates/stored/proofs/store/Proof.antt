@@ -1,0 +1,63 @@
+use borrow.Author.Needs.{needs}
+use Rattle.stored.proofs.store.Statement.{statement}
+use Rattle.stored.proofs.store.Tie as tie
+use Rattle.stored.proofs.store.Reads as reads
+use Rattle.stored.proofs.store.Lts as lts
+use Rattle.protobuf.proofs.put_bytes.Reads as put-bytes-reads
+use Rattle.stored.proofs.write_halves.Reads as write-halves-reads
+use Rattle.stored.proofs.write_words.Reads as write-words-reads
+
+-- src/lib.rt:167:25
+slice-aggregate-write-words : tie.Need-slice-aggregate-write-words
+slice-aggregate-write-words c = search needs
+
+-- src/lib.rt:167:5
+write-words-requires : tie.Need-write-words-requires
+write-words-requires c κs = search needs
+
+-- src/lib.rt:168:5
+write-words-requires-2 : tie.Need-write-words-requires-2
+write-words-requires-2 c κs = search needs
+
+-- src/lib.rt:169:5
+write-words-requires-3 : tie.Need-write-words-requires-3
+write-words-requires-3 c κs = search needs
+
+-- src/lib.rt:170:5
+write-halves-requires : tie.Need-write-halves-requires
+write-halves-requires c κs = search needs
+
+-- src/lib.rt:171:5
+put-bytes-requires : tie.Need-put-bytes-requires
+put-bytes-requires c κs = search needs
+
+-- src/lib.rt:172:5
+put-bytes-requires-2 : tie.Need-put-bytes-requires-2
+put-bytes-requires-2 c κs = search needs
+
+-- src/lib.rt:173:5
+put-bytes-requires-3 : tie.Need-put-bytes-requires-3
+put-bytes-requires-3 c κs = search needs
+
+-- src/lib.rt:174:5
+put-bytes-requires-4 : tie.Need-put-bytes-requires-4
+put-bytes-requires-4 c κs = search needs
+
+-- src/lib.rt:152:1
+returns : tie.Need-returns
+returns c = ?
+
+pub store-spec : {M : Type 1} → statement M
+store-spec =
+    tie.close
+    (tie.spec
+    slice-aggregate-write-words
+    write-words-requires
+    write-words-requires-2
+    write-words-requires-3
+    write-halves-requires
+    put-bytes-requires
+    put-bytes-requires-2
+    put-bytes-requires-3
+    put-bytes-requires-4
+    returns)
