@@ -53,32 +53,39 @@ fn read_halves(s: &[u8], at: usize, out: &mut [u16])
     }
 }
 
-// The node that a slice of as many bytes is.
-fn node_in(s: &[u8]) -> Node
+// The ids seen.
+fn seen_in(s: &[u8]) -> SeenCache
     requires { ⌜ length (now s) ≡ 11344 ⌝ }
-    ensures { λ r. ⌜ r ≡ nodeIn (now (s .entry)) ⌝ }
+    ensures { λ r. ⌜ r ≡ (nodeIn (now (s .entry))) .seen ⌝ }
 {
     let mut expiry = [0u64; 256];
     read_words(s, 80, &mut expiry);
-    let mut generation = [0u64; 64];
-    read_words(s, 2128, &mut generation);
-    let mut lens = [0u16; 64];
-    read_halves(s, 2640, &mut lens);
-    let mut seen_lens = [0u8; 256];
-    put_bytes(&mut seen_lens, 0, &s[2768..3024]);
-    let mut window = [0u8; 64];
-    put_bytes(&mut window, 0, &s[3024..3088]);
-    let mut id_lens = [0u8; 64];
-    put_bytes(&mut id_lens, 0, &s[3088..3152]);
-    let mut ids = [0u8; 8192];
-    put_bytes(&mut ids, 0, &s[3152..11344]);
-    let seen = SeenCache {
+    let mut len = [0u8; 256];
+    put_bytes(&mut len, 0, &s[2768..3024]);
+    SeenCache {
         start: read_word(s, 24) as usize,
         count: read_word(s, 32) as usize,
         expiry: expiry,
-        len: seen_lens,
-    };
-    let cache = MessageCache {
+        len: len,
+    }
+}
+
+// The messages held.
+fn cache_in(s: &[u8]) -> MessageCache
+    requires { ⌜ length (now s) ≡ 11344 ⌝ }
+    ensures { λ r. ⌜ r ≡ (nodeIn (now (s .entry))) .cache ⌝ }
+{
+    let mut generation = [0u64; 64];
+    read_words(s, 2128, &mut generation);
+    let mut len = [0u16; 64];
+    read_halves(s, 2640, &mut len);
+    let mut window = [0u8; 64];
+    put_bytes(&mut window, 0, &s[3024..3088]);
+    let mut id_len = [0u8; 64];
+    put_bytes(&mut id_len, 0, &s[3088..3152]);
+    let mut ids = [0u8; 8192];
+    put_bytes(&mut ids, 0, &s[3152..11344]);
+    MessageCache {
         history_len: read_word(s, 40) as usize,
         max_messages: read_word(s, 48) as usize,
         next_generation: read_word(s, 56),
@@ -86,16 +93,9 @@ fn node_in(s: &[u8]) -> Node
         count: read_word(s, 72) as usize,
         generation: generation,
         window: window,
-        len: lens,
-        id_len: id_lens,
+        len: len,
+        id_len: id_len,
         ids: ids,
-    };
-    Node {
-        ttl: read_word(s, 0),
-        max_seen: read_word(s, 8) as usize,
-        clock: read_word(s, 16),
-        seen: seen,
-        cache: cache,
     }
 }
 
@@ -103,7 +103,13 @@ fn node_in(s: &[u8]) -> Node
 pub fn load(bytes: &[u8; 11344]) -> Node
     ensures { λ r. ⌜ r ≡ nodeIn (now (bytes .entry)) ⌝ }
 {
-    node_in(bytes)
+    Node {
+        ttl: read_word(bytes, 0),
+        max_seen: read_word(bytes, 8) as usize,
+        clock: read_word(bytes, 16),
+        seen: seen_in(bytes),
+        cache: cache_in(bytes),
+    }
 }
 
 // ---- writing

@@ -1,3 +1,7 @@
+-- `stored::store` meets its contract.
+use Rattle.stored.specs.Layout.{headOf}
+use Rattle.stored.proofs.Parts.{node-written}
+-- pf
 use borrow.Author.Needs.{needs}
 use Rattle.stored.proofs.store.Statement.{statement}
 use Rattle.stored.proofs.store.Tie as tie
@@ -45,7 +49,8 @@ put-bytes-requires-4 c κs = search needs
 
 -- src/lib.rt:152:1
 returns : tie.Need-returns
-returns c = ?
+unfolding headOf
+returns c = node-written ((c .before .before .before .before .before .before .before .before .before .before .before .before .before .before .before .before .before .before .before .before .before .before .before .before .before .before .before .before .before .before .before .before .before .before .before .before .before .before .args .t1)) ((c .before .before .before .before .before .before .before .before .before .before .before .before .before .before .before .before .before .before .before .before .before .before .before .before .before .before .before .before .before .before .before .before .before .before .before .before .before .before .args .out .now)) _ _ _ _ _ _ _ _ (search needs) (search needs) (search needs) (search needs) (search needs) (search needs) (search needs) (search needs) (c .before .before .before .before .before .before .before .before .before .before .before .before .before .before .before .before .before .before .before .before .before .before .before .before .before .before .before .before .before .before .before .before .before .before .before .write-words .ensures) (c .before .before .before .before .before .before .before .before .before .before .before .before .before .before .before .before .before .before .before .before .before .before .before .before .before .before .before .before .before .before .write-words2 .ensures) (c .before .before .before .before .before .before .before .before .before .before .before .before .before .before .before .before .before .before .before .before .before .before .before .before .before .write-words3 .ensures) (c .before .before .before .before .before .before .before .before .before .before .before .before .before .before .before .before .before .before .before .before .write-halves .ensures) ((c .before .before .before .before .before .before .before .before .before .before .before .before .before .before .before .put-bytes .ensures .1)) ((c .before .before .before .before .before .before .before .before .before .before .put-bytes2 .ensures .1)) ((c .before .before .before .before .before .put-bytes3 .ensures .1)) ((c .put-bytes4 .ensures .1))
 
 pub store-spec : {M : Type 1} → statement M
 store-spec =
