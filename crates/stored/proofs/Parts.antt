@@ -48,41 +48,43 @@ unfolding nodeIn
 node-read s ttl most clock seen cache a b c d e = rw (a, b, c, d, e)
 
 -- ---- writing
--- numbers of w bytes each, from k to e
-pub put-numbers : (w : ℕ) (l after vs : List ℕ) (k e : ℕ) → e ≡ k + w * length vs → after ≡ sets l k (spread w vs) → Put l k (spread w vs) after e
-put-numbers w l after vs k e h z = (h ∙ ap (λ (n : ℕ). k + n) (sym (spread-length w vs)), z)
+-- l with xs from k up to e is after
+pub record Part (l : List ℕ) (k : ℕ) (xs after : List ℕ) (e : ℕ) : Type 0 where
+  pub ends : e ≡ k + length xs
+  pub now : after ≡ sets l k xs
 
--- bytes, from k to e
-pub put-part : (l after xs : List ℕ) (k e n : ℕ) → length l ≡ n → length xs ≡ e - k → k ≤ e → e ≤ n → after ≡ setIn (length xs) k xs l → Put l k xs after e
-put-part l after xs k e n h i a b z = (omega arith, z ∙ set-fits (length xs) k xs l (omega arith))
+-- numbers of w bytes each
+numbers : (w : ℕ) (l after vs : List ℕ) (k e : ℕ) → e ≡ k + w * length vs → after ≡ sets l k (spread w vs) → Part l k (spread w vs) after e
+numbers w l after vs k e h z = record { ends = h ∙ ap (λ (n : ℕ). k + n) (sym (spread-length w vs)); now = z }
 
--- a write leaves the length
-pub put-length : (l after xs : List ℕ) (k e n : ℕ) → Put l k xs after e → length l ≡ n → length after ≡ n
-put-length l after xs k e n (p, q) h = ap length q ∙ length-sets l k xs ∙ h
+-- bytes, with room for them
+bytes : (l after xs : List ℕ) (k e : ℕ) → e ≡ k + length xs → e ≤ length l → after ≡ setIn (length xs) k xs l → Part l k xs after e
+bytes l after xs k e h r z = record { ends = h; now = z ∙ set-fits (length xs) k xs l (omega arith) }
+
+kept : {l after xs : List ℕ} {k e n : ℕ} → Part l k xs after e → length l ≡ n → length after ≡ n
+kept {l} {after} {xs} {k} p h = ap length (p .now) ∙ length-sets l k xs ∙ h
+
+-- one after the other
+infixr 20 _then_
+_then_ : {l mid after xs ys : List ℕ} {k i e : ℕ} → Part l k xs mid i → Part mid i ys after e → Part l k (xs ++ ys) after e
+_then_ {l} {mid} {after} {xs} {ys} {k} {i} {e} p q =
+    let w = put-append l mid after k i e xs ys (p .ends, p .now) (q .ends, q .now) in
+    record { ends = w .0; now = w .1 }
 
 pub node-written : (n : Node) (o₀ o₁ o₂ o₃ o₄ o₅ o₆ o₇ o₈ : List ℕ) → length o₀ ≡ 11344 → length (n .seen .expiry) ≡ 256 → length (n .cache .generation) ≡ 64 → length (n .cache .len) ≡ 64 → length (n .seen .len) ≡ 256 → length (n .cache .window) ≡ 64 → length (n .cache .«id_len») ≡ 64 → length (n .cache .ids) ≡ 8192 → o₁ ≡ sets o₀ 0 (spread 8 (headOf n)) → o₂ ≡ sets o₁ 80 (spread 8 (n .seen .expiry)) → o₃ ≡ sets o₂ 2128 (spread 8 (n .cache .generation)) → o₄ ≡ sets o₃ 2640 (spread 2 (n .cache .len)) → o₅ ≡ setIn (length (n .seen .len)) 2768 (n .seen .len) o₄ → o₆ ≡ setIn (length (n .cache .window)) 3024 (n .cache .window) o₅ → o₇ ≡ setIn (length (n .cache .«id_len»)) 3088 (n .cache .«id_len») o₆ → o₈ ≡ setIn (length (n .cache .ids)) 3152 (n .cache .ids) o₇ → o₈ ≡ nodeBytes n
 unfolding nodeBytes headOf
 node-written n o₀ o₁ o₂ o₃ o₄ o₅ o₆ o₇ o₈ h i₂ i₃ i₄ i₅ i₆ i₇ i₈ e₁ e₂ e₃ e₄ e₅ e₆ e₇ e₈ =
-    let p₁ = put-numbers 8 o₀ o₁ (headOf n) 0 80 (omega arith) e₁ in
-    let p₂ = put-numbers 8 o₁ o₂ (n .seen .expiry) 80 2128 (omega arith) e₂ in
-    let p₃ = put-numbers 8 o₂ o₃ (n .cache .generation) 2128 2640 (omega arith) e₃ in
-    let p₄ = put-numbers 2 o₃ o₄ (n .cache .len) 2640 2768 (omega arith) e₄ in
-    let h₁ = put-length o₀ o₁ _ 0 80 11344 p₁ h in
-    let h₂ = put-length o₁ o₂ _ 80 2128 11344 p₂ h₁ in
-    let h₃ = put-length o₂ o₃ _ 2128 2640 11344 p₃ h₂ in
-    let h₄ = put-length o₃ o₄ _ 2640 2768 11344 p₄ h₃ in
-    let p₅ = put-part o₄ o₅ (n .seen .len) 2768 3024 11344 h₄ i₅ (omega arith) (omega arith) e₅ in
-    let h₅ = put-length o₄ o₅ _ 2768 3024 11344 p₅ h₄ in
-    let p₆ = put-part o₅ o₆ (n .cache .window) 3024 3088 11344 h₅ i₆ (omega arith) (omega arith) e₆ in
-    let h₆ = put-length o₅ o₆ _ 3024 3088 11344 p₆ h₅ in
-    let p₇ = put-part o₆ o₇ (n .cache .«id_len») 3088 3152 11344 h₆ i₇ (omega arith) (omega arith) e₇ in
-    let h₇ = put-length o₆ o₇ _ 3088 3152 11344 p₇ h₆ in
-    let p₈ = put-part o₇ o₈ (n .cache .ids) 3152 11344 11344 h₇ i₈ (omega arith) (omega arith) e₈ in
-    let q₇ = put-append o₆ o₇ o₈ 3088 3152 11344 _ _ p₇ p₈ in
-    let q₆ = put-append o₅ o₆ o₈ 3024 3088 11344 _ _ p₆ q₇ in
-    let q₅ = put-append o₄ o₅ o₈ 2768 3024 11344 _ _ p₅ q₆ in
-    let q₄ = put-append o₃ o₄ o₈ 2640 2768 11344 _ _ p₄ q₅ in
-    let q₃ = put-append o₂ o₃ o₈ 2128 2640 11344 _ _ p₃ q₄ in
-    let q₂ = put-append o₁ o₂ o₈ 80 2128 11344 _ _ p₂ q₃ in
-    let q : Put o₀ 0 (nodeBytes n) o₈ 11344 = put-append o₀ o₁ o₈ 0 80 11344 _ _ p₁ q₂ in
-    q .1 ∙ all-written (nodeBytes n) o₀ (omega (arith, q .0, h))
+    let p₁ = numbers 8 o₀ o₁ (headOf n) 0 80 (omega arith) e₁ in
+    let p₂ = numbers 8 o₁ o₂ (n .seen .expiry) 80 2128 (omega arith) e₂ in
+    let p₃ = numbers 8 o₂ o₃ (n .cache .generation) 2128 2640 (omega arith) e₃ in
+    let p₄ = numbers 2 o₃ o₄ (n .cache .len) 2640 2768 (omega arith) e₄ in
+    let h₄ : length o₄ ≡ 11344 = kept p₄ (kept p₃ (kept p₂ (kept p₁ h))) in
+    let p₅ = bytes o₄ o₅ (n .seen .len) 2768 3024 (omega arith) (omega arith) e₅ in
+    let h₅ : length o₅ ≡ 11344 = kept p₅ h₄ in
+    let p₆ = bytes o₅ o₆ (n .cache .window) 3024 3088 (omega arith) (omega arith) e₆ in
+    let h₆ : length o₆ ≡ 11344 = kept p₆ h₅ in
+    let p₇ = bytes o₆ o₇ (n .cache .«id_len») 3088 3152 (omega arith) (omega arith) e₇ in
+    let h₇ : length o₇ ≡ 11344 = kept p₇ h₆ in
+    let p₈ = bytes o₇ o₈ (n .cache .ids) 3152 11344 (omega arith) (omega arith) e₈ in
+    let q : Part o₀ 0 (nodeBytes n) o₈ 11344 = p₁ then p₂ then p₃ then p₄ then p₅ then p₆ then p₇ then p₈ in
+    q .now ∙ all-written (nodeBytes n) o₀ (omega (arith, q .ends))

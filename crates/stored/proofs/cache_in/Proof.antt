@@ -1,7 +1,6 @@
 -- `stored::cache_in` meets its contract.
 use mathlib.Core.Path.{_≡_, refl}
 use Rattle.stored.proofs.Parts.{cache-read}
--- pf
 use borrow.Author.Needs.{needs}
 use Rattle.stored.proofs.cache_in.Statement.{statement}
 use Rattle.stored.proofs.cache_in.Tie as tie
@@ -12,105 +11,80 @@ use Rattle.stored.proofs.read_halves.Reads as read-halves-reads
 use Rattle.stored.proofs.read_word.Reads as read-word-reads
 use Rattle.stored.proofs.read_words.Reads as read-words-reads
 
--- src/lib.rt:79:25
 slice-aggregate-read-words : tie.Need-slice-aggregate-read-words
 slice-aggregate-read-words c = search needs
 
--- src/lib.rt:79:5
 read-words-requires : tie.Need-read-words-requires
 read-words-requires c κs = search needs
 
--- src/lib.rt:81:26
 slice-aggregate-read-halves : tie.Need-slice-aggregate-read-halves
 slice-aggregate-read-halves c = search needs
 
--- src/lib.rt:81:5
 read-halves-requires : tie.Need-read-halves-requires
 read-halves-requires c κs = search needs
 
--- src/lib.rt:83:15
 slice-aggregate-put-bytes : tie.Need-slice-aggregate-put-bytes
 slice-aggregate-put-bytes c = search needs
 
--- src/lib.rt:83:31
 sub-put-bytes : tie.Need-sub-put-bytes
 sub-put-bytes c = search needs
 
--- src/lib.rt:83:31
 part-put-bytes-start : tie.Need-part-put-bytes-start
 part-put-bytes-start c = search needs
 
--- src/lib.rt:83:31
 part-put-bytes-end : tie.Need-part-put-bytes-end
 part-put-bytes-end c = search needs
 
--- src/lib.rt:83:5
 put-bytes-requires : tie.Need-put-bytes-requires
 put-bytes-requires c κs = search needs
 
--- src/lib.rt:85:15
 slice-aggregate-put-bytes-2 : tie.Need-slice-aggregate-put-bytes-2
 slice-aggregate-put-bytes-2 c = search needs
 
--- src/lib.rt:85:31
 sub-put-bytes-2 : tie.Need-sub-put-bytes-2
 sub-put-bytes-2 c = search needs
 
--- src/lib.rt:85:31
 part-put-bytes-start-2 : tie.Need-part-put-bytes-start-2
 part-put-bytes-start-2 c = search needs
 
--- src/lib.rt:85:31
 part-put-bytes-end-2 : tie.Need-part-put-bytes-end-2
 part-put-bytes-end-2 c = search needs
 
--- src/lib.rt:85:5
 put-bytes-requires-2 : tie.Need-put-bytes-requires-2
 put-bytes-requires-2 c κs = search needs
 
--- src/lib.rt:87:15
 slice-aggregate-put-bytes-3 : tie.Need-slice-aggregate-put-bytes-3
 slice-aggregate-put-bytes-3 c = search needs
 
--- src/lib.rt:87:28
 sub-put-bytes-3 : tie.Need-sub-put-bytes-3
 sub-put-bytes-3 c = search needs
 
--- src/lib.rt:87:28
 part-put-bytes-start-3 : tie.Need-part-put-bytes-start-3
 part-put-bytes-start-3 c = search needs
 
--- src/lib.rt:87:28
 part-put-bytes-end-3 : tie.Need-part-put-bytes-end-3
 part-put-bytes-end-3 c = search needs
 
--- src/lib.rt:87:5
 put-bytes-requires-3 : tie.Need-put-bytes-requires-3
 put-bytes-requires-3 c κs = search needs
 
--- src/lib.rt:89:22
 read-word-requires : tie.Need-read-word-requires
 read-word-requires c κs = search needs
 
--- src/lib.rt:90:23
 read-word-requires-2 : tie.Need-read-word-requires-2
 read-word-requires-2 c κs = search needs
 
--- src/lib.rt:91:26
 read-word-requires-3 : tie.Need-read-word-requires-3
 read-word-requires-3 c κs = search needs
 
--- src/lib.rt:92:16
 read-word-requires-4 : tie.Need-read-word-requires-4
 read-word-requires-4 c κs = search needs
 
--- src/lib.rt:93:16
 read-word-requires-5 : tie.Need-read-word-requires-5
 read-word-requires-5 c κs = search needs
 
--- src/lib.rt:74:1
 returns : tie.Need-returns
-returns c = cache-read ((c .before .before .before .before .before .before .before .before .before .before .before .before .before .before .before .before .before .before .before .before .before .before .before .before .args .s .now)) _ _ _ _ _ _ _ _ _ _ _ _ _ (c .before .before .before .before .before .before .before .before .before .before .before .before .before .before .before .before .before .before .before .before .before .before .before .before .pre) (c .before .before .before .before .read-word .ensures) (c .before .before .before .read-word2 .ensures) (c .before .before .read-word3 .ensures) (c .before .read-word4 .ensures) (c .read-word5 .ensures) (c .before .before .before .before .before .before .before .before .before .before .before .before .before .before .before .before .before .before .before .before .before .read-words .ensures) (c .before .before .before .before .before .before .before .before .before .before .before .before .before .before .before .before .before .before .read-halves .ensures) refl ((c .before .before .before .before .before .before .before .before .before .before .before .before .before .before .put-bytes .ensures .1)) refl ((c .before .before .before .before .before .before .before .before .before .before .put-bytes2 .ensures .1)) refl ((c .before .before .before .before .before .before .put-bytes3 .ensures .1))
+returns c = cache-read (c .before .before .before .before .before .before .before .before .before .before .before .before .before .before .before .before .before .before .before .before .before .before .before .before .args .s .now) _ _ _ _ _ _ _ _ _ _ _ _ _ (c .before .before .before .before .before .before .before .before .before .before .before .before .before .before .before .before .before .before .before .before .before .before .before .before .pre) (c .before .before .before .before .read-word .ensures) (c .before .before .before .read-word2 .ensures) (c .before .before .read-word3 .ensures) (c .before .read-word4 .ensures) (c .read-word5 .ensures) (c .before .before .before .before .before .before .before .before .before .before .before .before .before .before .before .before .before .before .before .before .before .read-words .ensures) (c .before .before .before .before .before .before .before .before .before .before .before .before .before .before .before .before .before .before .read-halves .ensures) refl (c .before .before .before .before .before .before .before .before .before .before .before .before .before .before .put-bytes .ensures .1) refl (c .before .before .before .before .before .before .before .before .before .before .put-bytes2 .ensures .1) refl (c .before .before .before .before .before .before .put-bytes3 .ensures .1)
 
 pub cache-in-spec : {M : Type 1} → statement M
 cache-in-spec =

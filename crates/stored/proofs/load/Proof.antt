@@ -1,6 +1,5 @@
 -- `stored::load` meets its contract.
 use Rattle.stored.proofs.Parts.{node-read}
--- pf
 use borrow.Author.Needs.{needs}
 use Rattle.stored.proofs.load.Statement.{statement}
 use Rattle.stored.proofs.load.Tie as tie
@@ -10,29 +9,23 @@ use Rattle.stored.proofs.cache_in.Reads as cache-in-reads
 use Rattle.stored.proofs.read_word.Reads as read-word-reads
 use Rattle.stored.proofs.seen_in.Reads as seen-in-reads
 
--- src/lib.rt:107:14
 read-word-requires : tie.Need-read-word-requires
 read-word-requires c κs = search needs
 
--- src/lib.rt:108:19
 read-word-requires-2 : tie.Need-read-word-requires-2
 read-word-requires-2 c κs = search needs
 
--- src/lib.rt:109:16
 read-word-requires-3 : tie.Need-read-word-requires-3
 read-word-requires-3 c κs = search needs
 
--- src/lib.rt:110:15
 seen-in-requires : tie.Need-seen-in-requires
 seen-in-requires c κs = search needs
 
--- src/lib.rt:111:16
 cache-in-requires : tie.Need-cache-in-requires
 cache-in-requires c κs = search needs
 
--- src/lib.rt:103:1
 returns : tie.Need-returns
-returns c = node-read ((c .before .before .before .before .before .before .before .before .before .before .args .bytes .now)) _ _ _ _ _ (c .before .before .before .before .before .before .before .before .read-word .ensures) (c .before .before .before .before .before .before .read-word2 .ensures) (c .before .before .before .before .read-word3 .ensures) (c .before .before .seen-in .ensures) (c .cache-in .ensures)
+returns c = node-read (c .before .before .before .before .before .before .before .before .before .before .args .bytes .now) _ _ _ _ _ (c .before .before .before .before .before .before .before .before .read-word .ensures) (c .before .before .before .before .before .before .read-word2 .ensures) (c .before .before .before .before .read-word3 .ensures) (c .before .before .seen-in .ensures) (c .cache-in .ensures)
 
 pub load-spec : {M : Type 1} → statement M
 load-spec =

@@ -6,7 +6,6 @@ use lib.ListN.{length, take, drop, length-set}
 use borrow.Author.Needs.{needs}
 use Rattle.stored.specs.Layout.{gathered}
 use Rattle.stored.proofs.Steps.{gathered-turn, gathered-done, half-turn}
--- pf
 use Rattle.stored.proofs.read_halves.Statement.{statement}
 use Rattle.stored.proofs.read_halves.Tie as tie
 use Rattle.stored.proofs.read_halves.Reads as reads
@@ -18,74 +17,57 @@ Inv-loop s at out₀ i₀ out i = (i ≤ length out₀) × ((length out ≡ leng
 abbrev μ-loop : tie.MeasureT-loop
 μ-loop s at out₀ i₀ out i = length out₀ - i
 
--- src/lib.rt:49:5
 loop-holds : tie.Need-loop-holds Inv-loop μ-loop
 unfolding gathered
 loop-holds c = (search needs, (refl, refl))
 
--- src/lib.rt:50:22
 mul-p : tie.Need-mul-p Inv-loop μ-loop
 mul-p c = search needs
 
--- src/lib.rt:50:17
 add-p : tie.Need-add-p Inv-loop μ-loop
 add-p c = search needs
 
--- src/lib.rt:51:18
 shared-slice-read-out : tie.Need-shared-slice-read-out Inv-loop μ-loop
 shared-slice-read-out c = search needs
 
--- src/lib.rt:51:18
 cast-out : tie.Need-cast-out Inv-loop μ-loop
 cast-out c = omega (arith, (c .shared-slice-known .given) ((c .before .before .before .args .at) + (c .before .before .loop .i) * 2))
 
--- src/lib.rt:51:34
 add-out : tie.Need-add-out Inv-loop μ-loop
 add-out c = search needs
 
--- src/lib.rt:51:32
 shared-slice-read-out-2 : tie.Need-shared-slice-read-out-2 Inv-loop μ-loop
 shared-slice-read-out-2 c = search needs
 
--- src/lib.rt:51:32
 cast-out-2 : tie.Need-cast-out-2 Inv-loop μ-loop
 cast-out-2 c = omega (arith, (c .before .shared-slice-known .given) ((c .before .before .before .before .args .at) + (c .before .before .before .loop .i) * 2 + 1))
 
--- src/lib.rt:51:32
 mul-out : tie.Need-mul-out Inv-loop μ-loop
 mul-out c = omega (arith, (c .before .shared-slice-known .given) ((c .before .before .before .before .args .at) + (c .before .before .before .loop .i) * 2 + 1))
 
--- src/lib.rt:51:18
 add-out-2 : tie.Need-add-out-2 Inv-loop μ-loop
 add-out-2 c = omega (arith, (c .before .shared-slice-known .given) ((c .before .before .before .before .args .at) + (c .before .before .before .loop .i) * 2), (c .before .shared-slice-known .given) ((c .before .before .before .before .args .at) + (c .before .before .before .loop .i) * 2 + 1))
 
--- src/lib.rt:51:9
 mul-out-2 : tie.Need-mul-out-2 Inv-loop μ-loop
 mul-out-2 c = search needs
 
--- src/lib.rt:51:9
 slice-write-out : tie.Need-slice-write-out Inv-loop μ-loop
 slice-write-out c = search needs
 
--- src/lib.rt:52:9
 add-i : tie.Need-add-i Inv-loop μ-loop
 add-i c = search needs
 
--- src/lib.rt:49:5
 loop-less : tie.Need-loop-less Inv-loop μ-loop
 loop-less c = search needs
 
--- src/lib.rt:49:5
 loop-again : tie.Need-loop-again Inv-loop μ-loop
-loop-again c = (search needs, (search needs, gathered-turn 2 ((c .before .before .before .before .args .s .now)) ((c .before .before .before .loop .out)) ((c .before .before .before .before .args .at)) ((c .before .before .before .loop .i)) _ (search needs) ((c .before .before .before .loop .inv .1 .1)) (half-turn ((c .before .before .before .before .args .s .now)) ((c .before .before .before .before .args .at) + (c .before .before .before .loop .i) * 2) (search needs))))
+loop-again c = (search needs, (search needs, gathered-turn 2 (c .before .before .before .before .args .s .now) (c .before .before .before .loop .out) (c .before .before .before .before .args .at) (c .before .before .before .loop .i) _ (search needs) (c .before .before .before .loop .inv .1 .1) (half-turn (c .before .before .before .before .args .s .now) ((c .before .before .before .before .args .at) + (c .before .before .before .loop .i) * 2) (search needs))))
 
--- src/lib.rt:44:1
 same-length : tie.Need-same-length Inv-loop μ-loop
 same-length c = search needs
 
--- src/lib.rt:44:1
 returns : tie.Need-returns Inv-loop μ-loop
-returns c = gathered-done 2 ((c .before .before .args .s .now)) ((c .before .loop .out)) ((c .before .before .args .at)) ((c .before .loop .i)) _ (search needs) (search needs) (search needs) ((c .before .loop .inv .1 .1))
+returns c = gathered-done 2 (c .before .before .args .s .now) (c .before .loop .out) (c .before .before .args .at) (c .before .loop .i) _ (search needs) (search needs) (search needs) (c .before .loop .inv .1 .1)
 
 pub read-halves-spec : {M : Type 1} → statement M
 read-halves-spec =

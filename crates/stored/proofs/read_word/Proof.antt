@@ -6,7 +6,6 @@ use lib.ListN.{length, take, drop}
 use borrow.Author.Needs.{needs}
 use Rattle.stored.specs.Layout.{numberOf}
 use Rattle.stored.proofs.Steps.{word-turn, word-fits, read-whole}
--- pf
 use Rattle.stored.proofs.read_word.Statement.{statement}
 use Rattle.stored.proofs.read_word.Tie as tie
 use Rattle.stored.proofs.read_word.Reads as reads
@@ -18,46 +17,36 @@ Inv-loop s at v₀ i₀ v i = (i ≤ 8) × (v ≡ numberOf (take (8 - i) (drop (
 abbrev μ-loop : tie.MeasureT-loop
 μ-loop s at v₀ i₀ v i = i
 
--- src/lib.rt:24:5
 loop-holds : tie.Need-loop-holds Inv-loop μ-loop
 unfolding numberOf
 loop-holds c = (omega arith, refl)
 
--- src/lib.rt:25:9
 sub-i : tie.Need-sub-i Inv-loop μ-loop
 sub-i c = search needs
 
--- src/lib.rt:26:15
 add-v : tie.Need-add-v Inv-loop μ-loop
 add-v c = search needs
 
--- src/lib.rt:26:13
 shared-slice-read-v : tie.Need-shared-slice-read-v Inv-loop μ-loop
 shared-slice-read-v c = search needs
 
--- src/lib.rt:26:13
 cast-v : tie.Need-cast-v Inv-loop μ-loop
 cast-v c = omega (arith, (c .shared-slice-known .given) ((c .before .before .before .args .at) + ((c .before .before .loop .i) - 1)))
 
--- src/lib.rt:26:32
 mul-v : tie.Need-mul-v Inv-loop μ-loop
-mul-v c = omega (arith, word-fits ((c .before .before .before .args .s .now)) ((c .before .before .before .args .at)) ((c .before .before .loop .i)) ((c .before .before .loop .v)) (search needs) (search needs) (search needs) ((c .before .before .loop .inv .1)) (λ k. omega (arith, (c .shared-slice-known .given) k)))
+mul-v c = omega (arith, word-fits (c .before .before .before .args .s .now) (c .before .before .before .args .at) (c .before .before .loop .i) (c .before .before .loop .v) (search needs) (search needs) (search needs) (c .before .before .loop .inv .1) (λ k. omega (arith, (c .shared-slice-known .given) k)))
 
--- src/lib.rt:26:13
 add-v-2 : tie.Need-add-v-2 Inv-loop μ-loop
-add-v-2 c = omega (arith, word-fits ((c .before .before .before .args .s .now)) ((c .before .before .before .args .at)) ((c .before .before .loop .i)) ((c .before .before .loop .v)) (search needs) (search needs) (search needs) ((c .before .before .loop .inv .1)) (λ k. omega (arith, (c .shared-slice-known .given) k)))
+add-v-2 c = omega (arith, word-fits (c .before .before .before .args .s .now) (c .before .before .before .args .at) (c .before .before .loop .i) (c .before .before .loop .v) (search needs) (search needs) (search needs) (c .before .before .loop .inv .1) (λ k. omega (arith, (c .shared-slice-known .given) k)))
 
--- src/lib.rt:24:5
 loop-less : tie.Need-loop-less Inv-loop μ-loop
 loop-less c = search needs
 
--- src/lib.rt:24:5
 loop-again : tie.Need-loop-again Inv-loop μ-loop
-loop-again c = (omega arith, word-turn ((c .before .before .before .args .s .now)) ((c .before .before .before .args .at)) ((c .before .before .loop .i)) ((c .before .before .loop .v)) (search needs) (search needs) (search needs) ((c .before .before .loop .inv .1)))
+loop-again c = (omega arith, word-turn (c .before .before .before .args .s .now) (c .before .before .before .args .at) (c .before .before .loop .i) (c .before .before .loop .v) (search needs) (search needs) (search needs) (c .before .before .loop .inv .1))
 
--- src/lib.rt:18:1
 returns : tie.Need-returns Inv-loop μ-loop
-returns c = read-whole ((c .before .before .args .s .now)) ((c .before .before .args .at)) ((c .before .loop .i)) ((c .before .loop .v)) (search needs) ((c .before .loop .inv .1))
+returns c = read-whole (c .before .before .args .s .now) (c .before .before .args .at) (c .before .loop .i) (c .before .loop .v) (search needs) (c .before .loop .inv .1)
 
 pub read-word-spec : {M : Type 1} → statement M
 read-word-spec =

@@ -6,7 +6,6 @@ use lib.ListN.{length, take, drop, length-set}
 use borrow.Author.Needs.{needs}
 use Rattle.stored.specs.Layout.{gathered}
 use Rattle.stored.proofs.Steps.{gathered-turn, gathered-done}
--- pf
 use Rattle.stored.proofs.read_words.Statement.{statement}
 use Rattle.stored.proofs.read_words.Tie as tie
 use Rattle.stored.proofs.read_words.Reads as reads
@@ -19,50 +18,39 @@ Inv-loop s at out₀ i₀ out i = (i ≤ length out₀) × ((length out ≡ leng
 abbrev μ-loop : tie.MeasureT-loop
 μ-loop s at out₀ i₀ out i = length out₀ - i
 
--- src/lib.rt:37:5
 loop-holds : tie.Need-loop-holds Inv-loop μ-loop
 unfolding gathered
 loop-holds c = (search needs, (refl, refl))
 
--- src/lib.rt:38:36
 mul-read-word : tie.Need-mul-read-word Inv-loop μ-loop
 mul-read-word c = search needs
 
--- src/lib.rt:38:31
 add-read-word : tie.Need-add-read-word Inv-loop μ-loop
 add-read-word c = search needs
 
--- src/lib.rt:38:18
 read-word-requires : tie.Need-read-word-requires Inv-loop μ-loop
 read-word-requires c κs = search needs
 
--- src/lib.rt:38:9
 mul-out : tie.Need-mul-out Inv-loop μ-loop
 mul-out c = search needs
 
--- src/lib.rt:38:9
 slice-write-out : tie.Need-slice-write-out Inv-loop μ-loop
 slice-write-out c = search needs
 
--- src/lib.rt:39:9
 add-i : tie.Need-add-i Inv-loop μ-loop
 add-i c = search needs
 
--- src/lib.rt:37:5
 loop-less : tie.Need-loop-less Inv-loop μ-loop
 loop-less c = search needs
 
--- src/lib.rt:37:5
 loop-again : tie.Need-loop-again Inv-loop μ-loop
-loop-again c = (search needs, (search needs, gathered-turn 8 ((c .before .before .before .before .before .args .s .now)) ((c .before .before .loop .out)) ((c .before .before .before .before .before .args .at)) ((c .before .before .loop .i)) _ (search needs) ((c .before .before .loop .inv .1 .1)) ((c .read-word .ensures))))
+loop-again c = (search needs, (search needs, gathered-turn 8 (c .before .before .before .before .before .args .s .now) (c .before .before .loop .out) (c .before .before .before .before .before .args .at) (c .before .before .loop .i) _ (search needs) (c .before .before .loop .inv .1 .1) (c .read-word .ensures)))
 
--- src/lib.rt:32:1
 same-length : tie.Need-same-length Inv-loop μ-loop
 same-length c = search needs
 
--- src/lib.rt:32:1
 returns : tie.Need-returns Inv-loop μ-loop
-returns c = gathered-done 8 ((c .before .before .before .before .args .s .now)) ((c .before .loop .out)) ((c .before .before .before .before .args .at)) ((c .before .loop .i)) _ (search needs) (search needs) (search needs) ((c .before .loop .inv .1 .1))
+returns c = gathered-done 8 (c .before .before .before .before .args .s .now) (c .before .loop .out) (c .before .before .before .before .args .at) (c .before .loop .i) _ (search needs) (search needs) (search needs) (c .before .loop .inv .1 .1)
 
 pub read-words-spec : {M : Type 1} → statement M
 read-words-spec =

@@ -8,7 +8,6 @@ use lib.Seq.{sets}
 use borrow.Author.Needs.{needs}
 use Rattle.stored.specs.Layout.{bytesOf, spread}
 use Rattle.stored.proofs.Steps.{spread-turn, spread-done, half-written}
--- pf
 use Rattle.stored.proofs.write_halves.Statement.{statement}
 use Rattle.stored.proofs.write_halves.Tie as tie
 use Rattle.stored.proofs.write_halves.Reads as reads
@@ -20,73 +19,56 @@ Inv-loop out₀ at values i₀ out i = (i ≤ length values) × ((length out ≡
 abbrev μ-loop : tie.MeasureT-loop
 μ-loop out₀ at values i₀ out i = length values - i
 
--- src/lib.rt:143:5
 loop-holds : tie.Need-loop-holds Inv-loop μ-loop
 loop-holds c = (search needs, (refl, rw add-zero))
 
--- src/lib.rt:144:22
 mul-p : tie.Need-mul-p Inv-loop μ-loop
 mul-p c = search needs
 
--- src/lib.rt:144:17
 add-p : tie.Need-add-p Inv-loop μ-loop
 add-p c = search needs
 
--- src/lib.rt:145:19
 mul-out : tie.Need-mul-out Inv-loop μ-loop
 mul-out c = search needs
 
--- src/lib.rt:145:19
 shared-slice-read-out : tie.Need-shared-slice-read-out Inv-loop μ-loop
 shared-slice-read-out c = search needs
 
--- src/lib.rt:145:18
 cast-out : tie.Need-cast-out Inv-loop μ-loop
 cast-out c = search needs
 
--- src/lib.rt:145:9
 slice-write-out : tie.Need-slice-write-out Inv-loop μ-loop
 slice-write-out c = search needs
 
--- src/lib.rt:146:23
 mul-out-2 : tie.Need-mul-out-2 Inv-loop μ-loop
 mul-out-2 c = search needs
 
--- src/lib.rt:146:23
 shared-slice-read-out-2 : tie.Need-shared-slice-read-out-2 Inv-loop μ-loop
 shared-slice-read-out-2 c = search needs
 
--- src/lib.rt:146:22
 cast-out-2 : tie.Need-cast-out-2 Inv-loop μ-loop
-cast-out-2 c = omega (arith, (c .before .shared-slice-known .given) ((c .before .before .before .loop .i)))
+cast-out-2 c = omega (arith, (c .before .shared-slice-known .given) (c .before .before .before .loop .i))
 
--- src/lib.rt:146:13
 add-out : tie.Need-add-out Inv-loop μ-loop
 add-out c = search needs
 
--- src/lib.rt:146:9
 slice-write-out-2 : tie.Need-slice-write-out-2 Inv-loop μ-loop
 slice-write-out-2 c = simp length-set (omega arith)
 
--- src/lib.rt:147:9
 add-i : tie.Need-add-i Inv-loop μ-loop
 add-i c = search needs
 
--- src/lib.rt:143:5
 loop-less : tie.Need-loop-less Inv-loop μ-loop
 loop-less c = search needs
 
--- src/lib.rt:143:5
 loop-again : tie.Need-loop-again Inv-loop μ-loop
-loop-again c = (search needs, (simp length-set ((c .before .before .before .loop .inv .1 .0)), spread-turn 2 _ ((c .before .before .before .loop .out)) _ ((c .before .before .before .before .args .values .now)) ((c .before .before .before .before .args .at)) ((c .before .before .before .loop .i)) (search needs) ((c .before .before .before .loop .inv .1 .1)) (sym (half-written ((c .before .before .before .loop .out)) ((c .before .before .before .before .args .at) + (c .before .before .before .loop .i) * 2) _ (omega (arith, (c .before .shared-slice-known .given) ((c .before .before .before .loop .i))))))))
+loop-again c = (search needs, (simp length-set (c .before .before .before .loop .inv .1 .0), spread-turn 2 _ (c .before .before .before .loop .out) _ (c .before .before .before .before .args .values .now) (c .before .before .before .before .args .at) (c .before .before .before .loop .i) (search needs) (c .before .before .before .loop .inv .1 .1) (sym (half-written (c .before .before .before .loop .out) ((c .before .before .before .before .args .at) + (c .before .before .before .loop .i) * 2) _ (omega (arith, (c .before .shared-slice-known .given) (c .before .before .before .loop .i)))))))
 
--- src/lib.rt:138:1
 same-length : tie.Need-same-length Inv-loop μ-loop
 same-length c = search needs
 
--- src/lib.rt:138:1
 returns : tie.Need-returns Inv-loop μ-loop
-returns c = spread-done 2 _ ((c .before .loop .out)) ((c .before .before .args .values .now)) ((c .before .before .args .at) + (c .before .loop .i) * 2) ((c .before .loop .i)) (search needs) ((c .before .loop .inv .1 .1))
+returns c = spread-done 2 _ (c .before .loop .out) (c .before .before .args .values .now) ((c .before .before .args .at) + (c .before .loop .i) * 2) (c .before .loop .i) (search needs) (c .before .loop .inv .1 .1)
 
 pub write-halves-spec : {M : Type 1} → statement M
 write-halves-spec =

@@ -8,7 +8,6 @@ use borrow.Author.Needs.{needs}
 use Rattle.stored.specs.Layout.{bytesOf}
 use Rattle.stored.proofs.Steps.{word-written, word-done}
 use native.Mathlib.Nat.{add-zero}
--- pf
 use Rattle.stored.proofs.write_word.Statement.{statement}
 use Rattle.stored.proofs.write_word.Tie as tie
 use Rattle.stored.proofs.write_word.Reads as reads
@@ -20,41 +19,32 @@ Inv-loop out₀ at value v₀ i₀ out v i = (i ≤ 8) × ((length out ≡ lengt
 abbrev μ-loop : tie.MeasureT-loop
 μ-loop out₀ at value v₀ i₀ out v i = 8 - i
 
--- src/lib.rt:118:5
 loop-holds : tie.Need-loop-holds Inv-loop μ-loop
 loop-holds c = (search needs, (refl, rw add-zero))
 
--- src/lib.rt:119:23
 cast-out : tie.Need-cast-out Inv-loop μ-loop
 cast-out c = search needs
 
--- src/lib.rt:119:13
 add-out : tie.Need-add-out Inv-loop μ-loop
 add-out c = search needs
 
--- src/lib.rt:119:9
 slice-write-out : tie.Need-slice-write-out Inv-loop μ-loop
 slice-write-out c = search needs
 
--- src/lib.rt:121:9
 add-i : tie.Need-add-i Inv-loop μ-loop
 add-i c = search needs
 
--- src/lib.rt:118:5
 loop-less : tie.Need-loop-less Inv-loop μ-loop
 loop-less c = search needs
 
--- src/lib.rt:118:5
 loop-again : tie.Need-loop-again Inv-loop μ-loop
-loop-again c = (search needs, (search needs, sym (word-written ((c .before .loop .out)) ((c .before .before .args .at)) ((c .before .loop .i)) ((c .before .loop .v)) (search needs)) ∙ (c .before .loop .inv .1 .1)))
+loop-again c = (search needs, (search needs, sym (word-written (c .before .loop .out) (c .before .before .args .at) (c .before .loop .i) (c .before .loop .v) (search needs)) ∙ (c .before .loop .inv .1 .1)))
 
--- src/lib.rt:112:1
 same-length : tie.Need-same-length Inv-loop μ-loop
 same-length c = search needs
 
--- src/lib.rt:112:1
 returns : tie.Need-returns Inv-loop μ-loop
-returns c = sym (word-done ((c .before .loop .out)) ((c .before .before .args .at) + (c .before .loop .i)) ((c .before .loop .i)) ((c .before .loop .v)) (search needs)) ∙ (c .before .loop .inv .1 .1)
+returns c = sym (word-done (c .before .loop .out) ((c .before .before .args .at) + (c .before .loop .i)) (c .before .loop .i) (c .before .loop .v) (search needs)) ∙ (c .before .loop .inv .1 .1)
 
 pub write-word-spec : {M : Type 1} → statement M
 write-word-spec =

@@ -8,7 +8,6 @@ use lib.Seq.{sets, length-sets}
 use borrow.Author.Needs.{needs}
 use Rattle.stored.specs.Layout.{bytesOf, spread}
 use Rattle.stored.proofs.Steps.{spread-turn, spread-done}
--- pf
 use Rattle.stored.proofs.write_words.Statement.{statement}
 use Rattle.stored.proofs.write_words.Tie as tie
 use Rattle.stored.proofs.write_words.Reads as reads
@@ -21,49 +20,38 @@ Inv-loop out₀ at values i₀ out i = (i ≤ length values) × ((length out ≡
 abbrev μ-loop : tie.MeasureT-loop
 μ-loop out₀ at values i₀ out i = length values - i
 
--- src/lib.rt:131:5
 loop-holds : tie.Need-loop-holds Inv-loop μ-loop
 loop-holds c = (search needs, (refl, rw add-zero))
 
--- src/lib.rt:132:30
 mul-write-word : tie.Need-mul-write-word Inv-loop μ-loop
 mul-write-word c = search needs
 
--- src/lib.rt:132:25
 add-write-word : tie.Need-add-write-word Inv-loop μ-loop
 add-write-word c = search needs
 
--- src/lib.rt:132:37
 mul-write-word-2 : tie.Need-mul-write-word-2 Inv-loop μ-loop
 mul-write-word-2 c = search needs
 
--- src/lib.rt:132:37
 shared-slice-read-write-word : tie.Need-shared-slice-read-write-word Inv-loop μ-loop
 shared-slice-read-write-word c = search needs
 
--- src/lib.rt:132:9
 write-word-requires : tie.Need-write-word-requires Inv-loop μ-loop
 write-word-requires c κs = omega arith
 
--- src/lib.rt:133:9
 add-i : tie.Need-add-i Inv-loop μ-loop
 add-i c = search needs
 
--- src/lib.rt:131:5
 loop-less : tie.Need-loop-less Inv-loop μ-loop
 loop-less c = search needs
 
--- src/lib.rt:131:5
 loop-again : tie.Need-loop-again Inv-loop μ-loop
-loop-again c = (search needs, (ap length (c .before .before .write-word .ensures) ∙ simp length-sets ((c .before .before .before .before .before .before .loop .inv .1 .0)), spread-turn 8 _ ((c .before .before .before .before .before .before .loop .out)) ((c .before .before .write-word .last .0)) ((c .before .before .before .before .before .before .before .before .before .args .values .now)) ((c .before .before .before .before .before .before .before .before .before .args .at)) ((c .before .before .before .before .before .before .loop .i)) (search needs) ((c .before .before .before .before .before .before .loop .inv .1 .1)) (c .before .before .write-word .ensures)))
+loop-again c = (search needs, (ap length (c .before .before .write-word .ensures) ∙ simp length-sets (c .before .before .before .before .before .before .loop .inv .1 .0), spread-turn 8 _ (c .before .before .before .before .before .before .loop .out) (c .before .before .write-word .last .0) (c .before .before .before .before .before .before .before .before .before .args .values .now) (c .before .before .before .before .before .before .before .before .before .args .at) (c .before .before .before .before .before .before .loop .i) (search needs) (c .before .before .before .before .before .before .loop .inv .1 .1) (c .before .before .write-word .ensures)))
 
--- src/lib.rt:126:1
 same-length : tie.Need-same-length Inv-loop μ-loop
 same-length c = search needs
 
--- src/lib.rt:126:1
 returns : tie.Need-returns Inv-loop μ-loop
-returns c = spread-done 8 _ ((c .before .loop .out)) ((c .before .before .before .before .args .values .now)) ((c .before .before .before .before .args .at) + (c .before .loop .i) * 8) ((c .before .loop .i)) (search needs) ((c .before .loop .inv .1 .1))
+returns c = spread-done 8 _ (c .before .loop .out) (c .before .before .before .before .args .values .now) ((c .before .before .before .before .args .at) + (c .before .loop .i) * 8) (c .before .loop .i) (search needs) (c .before .loop .inv .1 .1)
 
 pub write-words-spec : {M : Type 1} → statement M
 write-words-spec =
