@@ -23,7 +23,7 @@ fn read_word(s: &[u8], at: usize) -> u64
     let mut i: usize = 8;
     while 0 < i {
         i -= 1;
-        v = v * 256 + s[at + i] as u64;
+        v = s[at + i] as u64 + v * 256;
     }
     v
 }
@@ -53,48 +53,62 @@ fn read_halves(s: &[u8], at: usize, out: &mut [u16])
     }
 }
 
+// The ids seen.
+fn seen_in(s: &[u8]) -> SeenCache
+    requires { ⌜ length (now s) ≡ 11344 ⌝ }
+    ensures { λ r. ⌜ r ≡ (nodeIn (now (s .entry))) .seen ⌝ }
+{
+    let mut expiry = [0u64; 256];
+    read_words(s, 80, &mut expiry);
+    let mut len = [0u8; 256];
+    put_bytes(&mut len, 0, &s[2768..3024]);
+    SeenCache {
+        start: read_word(s, 24) as usize,
+        count: read_word(s, 32) as usize,
+        expiry: expiry,
+        len: len,
+    }
+}
+
+// The messages held.
+fn cache_in(s: &[u8]) -> MessageCache
+    requires { ⌜ length (now s) ≡ 11344 ⌝ }
+    ensures { λ r. ⌜ r ≡ (nodeIn (now (s .entry))) .cache ⌝ }
+{
+    let mut generation = [0u64; 64];
+    read_words(s, 2128, &mut generation);
+    let mut len = [0u16; 64];
+    read_halves(s, 2640, &mut len);
+    let mut window = [0u8; 64];
+    put_bytes(&mut window, 0, &s[3024..3088]);
+    let mut id_len = [0u8; 64];
+    put_bytes(&mut id_len, 0, &s[3088..3152]);
+    let mut ids = [0u8; 8192];
+    put_bytes(&mut ids, 0, &s[3152..11344]);
+    MessageCache {
+        history_len: read_word(s, 40) as usize,
+        max_messages: read_word(s, 48) as usize,
+        next_generation: read_word(s, 56),
+        start: read_word(s, 64) as usize,
+        count: read_word(s, 72) as usize,
+        generation: generation,
+        window: window,
+        len: len,
+        id_len: id_len,
+        ids: ids,
+    }
+}
+
 // The node that bytes are.
 pub fn load(bytes: &[u8; 11344]) -> Node
     ensures { λ r. ⌜ r ≡ nodeIn (now (bytes .entry)) ⌝ }
 {
-    let mut expiry = [0u64; 256];
-    read_words(bytes, 80, &mut expiry);
-    let mut generation = [0u64; 64];
-    read_words(bytes, 2128, &mut generation);
-    let mut lens = [0u16; 64];
-    read_halves(bytes, 2640, &mut lens);
-    let mut seen_lens = [0u8; 256];
-    put_bytes(&mut seen_lens, 0, &bytes[2768..3024]);
-    let mut window = [0u8; 64];
-    put_bytes(&mut window, 0, &bytes[3024..3088]);
-    let mut id_lens = [0u8; 64];
-    put_bytes(&mut id_lens, 0, &bytes[3088..3152]);
-    let mut ids = [0u8; 8192];
-    put_bytes(&mut ids, 0, &bytes[3152..11344]);
-    let seen = SeenCache {
-        start: read_word(bytes, 24) as usize,
-        count: read_word(bytes, 32) as usize,
-        expiry: expiry,
-        len: seen_lens,
-    };
-    let cache = MessageCache {
-        history_len: read_word(bytes, 40) as usize,
-        max_messages: read_word(bytes, 48) as usize,
-        next_generation: read_word(bytes, 56),
-        start: read_word(bytes, 64) as usize,
-        count: read_word(bytes, 72) as usize,
-        generation: generation,
-        window: window,
-        len: lens,
-        id_len: id_lens,
-        ids: ids,
-    };
     Node {
         ttl: read_word(bytes, 0),
         max_seen: read_word(bytes, 8) as usize,
         clock: read_word(bytes, 16),
-        seen: seen,
-        cache: cache,
+        seen: seen_in(bytes),
+        cache: cache_in(bytes),
     }
 }
 
@@ -144,33 +158,24 @@ fn write_halves(out: &mut [u8], at: usize, values: &[u16])
 pub fn store(node: Node, out: &mut [u8; 11344])
     ensures { λ _. ⌜ now (out .exit) ≡ nodeBytes node ⌝ }
 {
-    let seen = node.seen;
-    let cache = node.cache;
     let head = [
         node.ttl,
         node.max_seen as u64,
         node.clock,
-        seen.start as u64,
-        seen.count as u64,
-        cache.history_len as u64,
-        cache.max_messages as u64,
-        cache.next_generation,
-        cache.start as u64,
-        cache.count as u64,
+        node.seen.start as u64,
+        node.seen.count as u64,
+        node.cache.history_len as u64,
+        node.cache.max_messages as u64,
+        node.cache.next_generation,
+        node.cache.start as u64,
+        node.cache.count as u64,
     ];
     write_words(out, 0, &head);
-    let expiry = seen.expiry;
-    write_words(out, 80, &expiry);
-    let generation = cache.generation;
-    write_words(out, 2128, &generation);
-    let lens = cache.len;
-    write_halves(out, 2640, &lens);
-    let seen_lens = seen.len;
-    put_bytes(out, 2768, &seen_lens);
-    let window = cache.window;
-    put_bytes(out, 3024, &window);
-    let id_lens = cache.id_len;
-    put_bytes(out, 3088, &id_lens);
-    let ids = cache.ids;
-    put_bytes(out, 3152, &ids);
+    write_words(out, 80, &node.seen.expiry);
+    write_words(out, 2128, &node.cache.generation);
+    write_halves(out, 2640, &node.cache.len);
+    put_bytes(out, 2768, &node.seen.len);
+    put_bytes(out, 3024, &node.cache.window);
+    put_bytes(out, 3088, &node.cache.id_len);
+    put_bytes(out, 3152, &node.cache.ids);
 }
