@@ -10,7 +10,7 @@ use Rattle.basis.specs.Bytes.{Bytes}
 use Rattle.basis.specs.Lists.{drop-bytes, take-bytes}
 use Rattle.protobuf.specs.Walk.{between}
 use Rattle.node.specs.declared.Node.{Node}
-use Rattle.stored.specs.Layout.{bytesOf, numberOf, spread, gathered, wordAt, headOf, nodeBytes, nodeIn, Fits}
+use Rattle.stored.specs.Layout.{bytesOf, numberOf, spread, gathered, headOf, nodeBytes, nodeIn, Fits}
 
 -- ---- how many bytes
 pub bytes-length : (w v : ℕ) → length (bytesOf w v) ≡ w
