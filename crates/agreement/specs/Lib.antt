@@ -15,3 +15,4 @@ pub mod Request
 pub mod Identical
 pub mod Arrive
 pub mod CatchUp
+pub mod Needed
