@@ -16,3 +16,4 @@ pub mod Identical
 pub mod Arrive
 pub mod CatchUp
 pub mod Needed
+pub mod Script
