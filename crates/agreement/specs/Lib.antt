@@ -17,3 +17,4 @@ pub mod Arrive
 pub mod CatchUp
 pub mod Needed
 pub mod Script
+pub mod Example

@@ -9,16 +9,17 @@ use Rattle.rows.specs.Ids.{sameBytes, among}
 use Rattle.protobuf.specs.declared.Checked.the-variants as checked
 use Rattle.ids.specs.Ids.{acceptOf}
 use Rattle.admission.specs.Admission.{givesId}
+use Rattle.node.specs.declared.Node.{Node}
 use Rattle.node.specs.declared.Lent.the-variants as lent
-use Rattle.node.specs.Gateway.{Gateway, isNew, afterAdmit, afterBeat}
+use Rattle.node.specs.Gateway.{Gateway, started, isNew, afterAdmit, afterBeat}
 use Rattle.node.specs.State.{gatewayIn}
 use Rattle.node.specs.Calls.{Plan, no, taken, lentOf, planned, heldAt}
-use Rattle.node.specs.WellFormed.{Reached, admitted, beaten as reached-beaten}
+use Rattle.node.specs.WellFormed.{Reached, begun, admitted, beaten as reached-beaten}
 use Rattle.node.specs.WellFormedLaws.{reached-fine, reached-typed}
-use Rattle.node.specs.Laws.{is-new, admit-gateway, beat-says, beat-gateway}
+use Rattle.node.specs.Laws.{fresh-gateway, is-new, admit-gateway, beat-says, beat-gateway}
 use Rattle.agreement.specs.History.{State, Call, admit, heartbeat, ask, planIn, after, afterAll, countAt, times, timesGot, timesNew}
 use Rattle.agreement.specs.History.{isNew as newAnswer}
-use Rattle.agreement.specs.Premises.{Member, MemberAt, Members, none-left, member}
+use Rattle.agreement.specs.Premises.{Settings, Fresh, Member, MemberAt, Members, none-left, member}
 use Rattle.agreement.specs.Round.{gatewayOf}
 use Rattle.agreement.specs.Delivered.{Placed}
 use Rattle.agreement.specs.Arrive.{fit-plan}
@@ -168,3 +169,31 @@ acted {set} (beats at ∷ xs) s r (beaten forward small w) =
       times-new = λ k. ap (λ (n : ℕ). 0 + n) (rest .times-new k ∙ ap (newIn k xs) g);
     }
 acted {set} (asks body out ∷ xs) s r (asked w) = kept xs s body out (acted xs s r w)
+
+-- ---- from a fresh node
+pub fresh-reached : {x : Settings} {s : State} → Fresh x s → Reached (s .node) (s .ids) (s .messages)
+fresh-reached {x} {s} f =
+    subst (λ (n : Node). Reached n (s .ids) (s .messages)) (sym (f .node))
+    (begun (x .ttl) (x .max-seen) (x .history-len) (x .max-messages) (s .ids) (s .messages) (f .small) (f .legal) (f .ids) (f .messages))
+
+pub fresh-starts : {x : Settings} {s : State} → Fresh x s → gatewayOf s ≡ started (x .ttl) (x .max-seen) (x .history-len) (x .max-messages)
+fresh-starts {x} {s} f =
+    ap (λ (n : Node). gatewayIn n (s .ids) (s .messages)) (f .node) ∙ fresh-gateway (x .ttl) (x .max-seen) (x .history-len) (x .max-messages) (s .ids) (s .messages)
+
+started-clock : (x : Settings) → started (x .ttl) (x .max-seen) (x .history-len) (x .max-messages) .clock ≡ 0
+unfolding started
+started-clock x = refl
+
+pub fresh-acted : {set : List (List ℕ)} {x : Settings} {s : State} (xs : List Act) → Fresh x s → Written set 0 xs → Acted set xs s
+fresh-acted {set} {x} {s} xs f w =
+    acted xs s (fresh-reached f) (subst (λ (k : ℕ). Written set k xs) (sym (ap (λ (g : Gateway). g .clock) (fresh-starts f) ∙ started-clock x)) w)
+
+-- the gateway that they leave
+pub fresh-leaves : {set : List (List ℕ)} {x : Settings} {s : State} (xs : List Act) → Fresh x s → Written set 0 xs
+    → gatewayOf (afterAll (callsOf xs) s) ≡ gatewayAfter xs (started (x .ttl) (x .max-seen) (x .history-len) (x .max-messages))
+fresh-leaves xs f w = fresh-acted xs f w .gateway ∙ ap (gatewayAfter xs) (fresh-starts f)
+
+-- how often a message is new in them
+pub fresh-new : {set : List (List ℕ)} {x : Settings} {s : State} (xs : List Act) → Fresh x s → Written set 0 xs → (m : List ℕ)
+    → timesNew m (callsOf xs) s ≡ newIn m xs (started (x .ttl) (x .max-seen) (x .history-len) (x .max-messages))
+fresh-new xs f w m = fresh-acted xs f w .times-new m ∙ ap (newIn m xs) (fresh-starts f)
