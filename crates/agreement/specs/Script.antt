@@ -78,9 +78,9 @@ newIn m (x ∷ xs) g = newBy m x g + newIn m xs (gatewayBy x g)
 -- ---- they are what they say, for messages of a set and a clock that does not fall
 pub data Written (set : List (List ℕ)) : ℕ → List Act → Type 0 where
   nothing : {clock : ℕ} → Written set clock []
-  got : {clock : ℕ} {body m id : List ℕ} {at : ℕ} {xs : List Act} → Carries body m id → among m set ≡ true → clock ≤ at → at < 2 ^ 64
+  got : (clock at : ℕ) {body m id : List ℕ} {xs : List Act} → Carries body m id → among m set ≡ true → clock ≤ at → at < 2 ^ 64
       → Written set at xs → Written set clock (gets body m id at ∷ xs)
-  beaten : {clock at : ℕ} {xs : List Act} → clock ≤ at → at < 2 ^ 64 → Written set at xs → Written set clock (beats at ∷ xs)
+  beaten : (clock at : ℕ) {xs : List Act} → clock ≤ at → at < 2 ^ 64 → Written set at xs → Written set clock (beats at ∷ xs)
   asked : {clock : ℕ} {body out : List ℕ} {xs : List Act} → Written set clock xs → Written set clock (asks body out ∷ xs)
 
 -- ---- what follows for a node that calls reach from a fresh one
@@ -146,7 +146,7 @@ kept xs s body out rest = record { members = member refl (rest .members); gatewa
 pub acted : {set : List (List ℕ)} (xs : List Act) (s : State) → Reached (s .node) (s .ids) (s .messages) → Written set (gatewayOf s .clock) xs → Acted set xs s
 unfolding callsOf gatewayAfter gotIn newIn afterAll times
 acted [] s r nothing = record { members = none-left; gateway = refl; times-got = λ m. refl; times-new = λ m. refl }
-acted {set} (gets body m id at ∷ xs) s r (got c inside forward small w) =
+acted {set} (gets body m id at ∷ xs) s r (got clock now c inside forward small w) =
     let e = carried-plan s body m id at c (reached-fine r) (subst (λ (k : ℕ). k ≤ at) (node-clock s) forward) in
     let t = after (admit body 0 true at) s in
     let g = admit-leaves s r body m id at e in
@@ -157,7 +157,7 @@ acted {set} (gets body m id at ∷ xs) s r (got c inside forward small w) =
       times-got = λ k. ap₂ (λ (a b : ℕ). a + b) (admit-got s r body m id at e k) (rest .times-got k);
       times-new = λ k. ap₂ (λ (a b : ℕ). a + b) (admit-new s r body m id at e k) (rest .times-new k ∙ ap (newIn k xs) g);
     }
-acted {set} (beats at ∷ xs) s r (beaten forward small w) =
+acted {set} (beats at ∷ xs) s r (beaten clock now forward small w) =
     let f = subst (λ (k : ℕ). k ≤ at) (node-clock s) forward in
     let t = after (heartbeat at) s in
     let g = beat-leaves s r at f in
