@@ -333,3 +333,104 @@ first-at-b = counts first script-b calls-b fresh-b written-b calls-b-written
 pub second-at-b : Counts second calls-b (start settings-b) 2 1 1
 unfolding signature first second gotIn newIn started isNew afterAdmit afterBeat holds among sameBytes live inserted newest until held put shift
 second-at-b = counts second script-b calls-b fresh-b written-b calls-b-written
+
+-- ---- the gateways after these calls
+abbrev pub at-a : State
+at-a = afterAll calls-a (start settings-a)
+
+abbrev pub at-b : State
+at-b = afterAll calls-b (start settings-b)
+
+unfoldable gateway-a : Gateway
+gateway-a =
+    record {
+      ttl = 100;
+      max-seen = 2;
+      history-len = 2;
+      max-messages = 2;
+      clock = 12;
+      seen = record { id = marked first-id; expiry = 110 } ∷ [];
+      cache = record { id = first-id; message = first; window = 0 } ∷ [];
+    }
+
+unfoldable gateway-b : Gateway
+gateway-b =
+    record {
+      ttl = 50;
+      max-seen = 3;
+      history-len = 3;
+      max-messages = 4;
+      clock = 11;
+      seen = record { id = marked second-id; expiry = 57 } ∷ record { id = marked first-id; expiry = 58 } ∷ [];
+      cache = record { id = second-id; message = second; window = 1 } ∷ record { id = first-id; message = first; window = 1 } ∷ [];
+    }
+
+script-leaves-a : gatewayAfter script-a (started 100 2 2 2) ≡ gateway-a
+unfolding gateway-a gatewayAfter started isNew afterAdmit holds among sameBytes live inserted newest until held put
+script-leaves-a = refl
+
+script-leaves-b : gatewayAfter script-b (started 50 3 3 4) ≡ gateway-b
+unfolding gateway-b gatewayAfter started isNew afterAdmit afterBeat holds among sameBytes live inserted newest until held put shift
+script-leaves-b = refl
+
+a-is : gatewayOf at-a ≡ gateway-a
+a-is = ap (λ (cs : List Call). gatewayOf (afterAll cs (start settings-a))) (sym calls-a-written) ∙ fresh-leaves script-a fresh-a written-a ∙ script-leaves-a
+
+b-is : gatewayOf at-b ≡ gateway-b
+b-is = ap (λ (cs : List Call). gatewayOf (afterAll cs (start settings-b))) (sym calls-b-written) ∙ fresh-leaves script-b fresh-b written-b ∙ script-leaves-b
+
+-- ---- a lacks the second message, and b lacks nothing
+a-misses : missing topic gateway-a (gateway-b .cache) ≡ record { id = second-id; message = second; window = 1 } ∷ []
+unfolding gateway-a gateway-b missing holds among sameBytes signature first second walkAt walkFrom readField readValue skipField skipFixed readVarint readLen readTag readUvarint readFrom groupOf topicsOf
+a-misses = refl
+
+b-misses : missing topic gateway-b (gateway-a .cache) ≡ []
+unfolding gateway-a gateway-b missing holds among sameBytes signature first second walkAt walkFrom readField readValue skipField skipFixed readVarint readLen readTag readUvarint readFrom groupOf topicsOf
+b-misses = refl
+
+pub a-lacks-the-second : lacked topic at-a at-b ≡ record { id = second-id; message = second; window = 1 } ∷ []
+a-lacks-the-second = ap₂ (λ (g h : Gateway). missing topic g (h .cache)) a-is b-is ∙ a-misses
+
+pub b-lacks-nothing : lacked topic at-b at-a ≡ []
+b-lacks-nothing = ap₂ (λ (g h : Gateway). missing topic g (h .cache)) b-is a-is ∙ b-misses
+
+-- ---- a's request, given b's advertisement, names its id
+holding-a : Holding messages settings-a (firstOf calls-a) (pastAll 0 calls-a) [] 0 (gotAll [] calls-a (start settings-a)) at-a
+holding-a = holding-all message-set premises-a
+
+holding-b : Holding messages settings-b (firstOf calls-b) (pastAll 0 calls-b) [] 0 (gotAll [] calls-b (start settings-b)) at-b
+holding-b = holding-all message-set premises-b
+
+b-tells : toldOf topic 3 gateway-b ≡ first-id ∷ second-id ∷ []
+unfolding gateway-b gossipIds inOrder enterId carrying precedesBytes among sameBytes signature first second walkAt walkFrom readField readValue skipField skipFixed readVarint readLen readTag readUvarint readFrom groupOf topicsOf
+b-tells = refl
+
+a-wants : lacking gateway-a (first-id ∷ second-id ∷ []) ≡ second-id ∷ []
+unfolding gateway-a lacking holds among sameBytes
+a-wants = refl
+
+wanted-is : lacking (gatewayOf at-a) (toldOf topic 3 (gatewayOf at-b)) ≡ second-id ∷ []
+wanted-is = ap₂ (λ (g h : Gateway). lacking g (toldOf topic 3 h)) a-is b-is ∙ ap (lacking gateway-a) b-tells ∙ a-wants
+
+-- 26 and 6: the control. 18 and 4: the IWANT. 10 and 2: the id, which is `B` and 2
+request-written : bytesFor (second-id ∷ []) (request (second-id ∷ [])) ≡ 26 ∷ 6 ∷ 18 ∷ 4 ∷ 10 ∷ 2 ∷ 66 ∷ 2 ∷ []
+unfolding encodeRpc encodeControl encodeIWant encodeIHave bytesField tag uvarint bytesOf request advertisement
+request-written = refl
+
+pub request-bytes : requestOf play at-a at-b ≡ 26 ∷ 6 ∷ 18 ∷ 4 ∷ 10 ∷ 2 ∷ 66 ∷ 2 ∷ []
+request-bytes =
+    requested holding-a holding-b play fair
+    ∙ request-is (at-b .node) (at-b .ids) (at-b .messages) topic 3 (fine holding-b topic 3 (fair .windows-y)) (holding-b .bytes) (fair .topic-short) (at-a .node) (at-a .ids) (at-a .messages)
+    ∙ ap (λ (l : List (List ℕ)). bytesFor l (request l)) wanted-is
+    ∙ request-written
+
+-- and b asks for nothing
+b-wants : lacking (gatewayOf at-b) (toldOf topic 3 (gatewayOf at-a)) ≡ []
+unfolding gateway-a gateway-b lacking gossipIds inOrder enterId carrying holds among sameBytes signature first walkAt walkFrom readField readValue skipField skipFixed readVarint readLen readTag readUvarint readFrom groupOf topicsOf
+b-wants = ap₂ (λ (g h : Gateway). lacking g (toldOf topic 3 h)) b-is a-is
+
+pub no-request-bytes : requestOf play at-b at-a ≡ []
+no-request-bytes =
+    requested holding-b holding-a play (turned fair)
+    ∙ request-is (at-a .node) (at-a .ids) (at-a .messages) topic 3 (fine holding-a topic 3 (fair .windows-x)) (holding-a .bytes) (fair .topic-short) (at-b .node) (at-b .ids) (at-b .messages)
+    ∙ ap (λ (l : List (List ℕ)). bytesFor l (request l)) b-wants
