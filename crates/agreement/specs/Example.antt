@@ -434,3 +434,93 @@ no-request-bytes =
     requested holding-b holding-a play (turned fair)
     ∙ request-is (at-a .node) (at-a .ids) (at-a .messages) topic 3 (fine holding-a topic 3 (fair .windows-x)) (holding-a .bytes) (fair .topic-short) (at-b .node) (at-b .ids) (at-b .messages)
     ∙ ap (λ (l : List (List ℕ)). bytesFor l (request l)) b-wants
+
+-- ---- b's reply is the body with the second message
+room : roomOf buffer ≡ 65536
+unfolding roomOf
+room = let h = buffer-full in omega arith
+
+b-has : having gateway-b (second-id ∷ []) ≡ second ∷ []
+unfolding gateway-b having held get among sameBytes
+b-has = refl
+
+replies-are : replies holding-a holding-b play fair ≡ second ∷ []
+unfolding replies wants
+replies-are = ap (having (gatewayOf at-b)) wanted-is ∙ ap (λ (g : Gateway). having g (second-id ∷ [])) b-is ∙ b-has
+
+one-fits : fitting 2 65536 (second ∷ []) ≡ 1
+unfolding fitting bytesField tag uvarint bytesOf signature second
+one-fits = refl
+
+one-served : servedOf (second ∷ []) buffer ≡ 1
+unfolding servedOf
+one-served = rw room one-fits
+
+reply-written : replyBytes (second ∷ []) buffer ≡ second-body
+unfolding replyBytes second-body bytesField tag uvarint bytesOf signature second
+reply-written = rw one-served
+
+pub reply-bytes : replyOf play at-a at-b ≡ second-body
+reply-bytes = replied holding-a holding-b play fair ∙ ap (λ (ms : List (List ℕ)). replyBytes ms buffer) replies-are ∙ reply-written
+
+pub reply-count : servedCount play at-a at-b ≡ 1
+reply-count = served-is holding-a holding-b play fair ∙ ap (λ (ms : List (List ℕ)). servedOf ms buffer) replies-are ∙ one-served
+
+-- ---- one round, a's admits at 20
+abbrev pub reading : ℕ → ℕ → ℕ
+reading k i = 20
+
+round-calls : (p : Play) (at : ℕ → ℕ → ℕ) (a b : State) (body : List ℕ) → replyOf p a b ≡ body → servedCount p a b ≡ 1
+    → askerRounds p 1 at a b ≡ ask (advertOf p b) (p .request-out) ∷ admit body 0 true (at 0 0) ∷ []
+unfolding askerRounds askerRound admits
+round-calls p at a b body e n = rw (e, n)
+
+-- a's calls in it: it asks, and admits the message served
+pub one-round : askerRounds play 1 reading at-a at-b ≡ ask (advertOf play at-b) buffer ∷ admit second-body 0 true 20 ∷ []
+one-round = round-calls play reading at-a at-b second-body reply-bytes reply-count
+
+-- all calls of each, with the round
+abbrev pub all-a : List Call
+all-a = allAsked messages settings-a settings-b calls-a calls-b (start settings-a) (start settings-b) play 1 reading
+
+abbrev pub all-b : List Call
+all-b = allTold messages settings-a settings-b calls-a calls-b (start settings-a) (start settings-b) play 1 reading
+
+abbrev advert : List ℕ
+advert = advertOf play at-b
+
+abbrev script-all : List Act
+script-all = gets first-body first first-id 10 ∷ gets first-body first first-id 12 ∷ asks advert buffer ∷ gets second-body second second-id 20 ∷ []
+
+all-a-written : callsOf script-all ≡ all-a
+unfolding callsOf calls-a
+all-a-written = ap (λ (cs : List Call). admit first-body 0 true 10 ∷ admit first-body 0 true 12 ∷ cs) (sym one-round)
+
+written-all : Written messages 0 script-all
+written-all =
+    got 0 10 first-carried first-in (omega arith) (omega arith)
+    (got 10 12 first-carried first-in (omega arith) (omega arith) (asked (got 12 20 second-carried second-in (omega arith) (omega arith) nothing)))
+
+clock-script : Clock settings-a (readings (callsOf script-all))
+unfolding callsOf readings risesFrom allUpTo
+clock-script = clock-by settings-a (readings (callsOf script-all)) 20 refl refl (omega arith) (omega arith)
+
+clock-all : Clock settings-a (readings all-a)
+clock-all = subst (λ (cs : List Call). Clock settings-a (readings cs)) all-a-written clock-script
+
+-- no call in the round is refused, and both histories, with the round, are under the premises
+pub round-done : CaughtUp messages settings-a settings-b calls-a calls-b (start settings-a) (start settings-b) play 1 reading
+round-done = caught-up message-set premises-a premises-b play fair 1 reading clock-all
+
+-- ---- after it neither lacks anything
+abbrev pub later-a : State
+later-a = afterAll all-a (start settings-a)
+
+abbrev pub later-b : State
+later-b = afterAll all-b (start settings-b)
+
+one-lacking : length (lacked topic at-a at-b) ≡ 1
+one-lacking = ap length a-lacks-the-second
+
+pub a-lacks-nothing-then : lacked topic later-a later-b ≡ []
+a-lacks-nothing-then = all-arrived message-set premises-a premises-b play fair 1 reading clock-all 1 (omega (arith, one-lacking)) (omega arith)
