@@ -31,7 +31,7 @@ use Rattle.mcache.specs.Messages.{Cached, held, put, shift, get, carrying, ente
 use Rattle.mcache.specs.State.{legal}
 use Rattle.node.specs.Gateway.{Gateway, started, marked, isNew, afterAdmit, afterBeat, toldOf, lacking, having, advertisement, request}
 use Rattle.node.specs.State.{legalSettings, freshNode, risesFrom}
-use Rattle.node.specs.Calls.{bytesFor, advertiseBytes, roomOf, servedOf, replyBytes}
+use Rattle.node.specs.Calls.{toldIn, bytesFor, advertiseBytes, roomOf, servedOf, replyBytes}
 use Rattle.node.specs.Laws.{told-gateway}
 use Rattle.agreement.specs.History.{State, Call, admit, heartbeat, advertise, ask, serve, after, afterAll, readings, timesGot, timesNew, timesDuplicate}
 use Rattle.agreement.specs.History.{beats as beatsIn}
@@ -524,3 +524,68 @@ one-lacking = ap length a-lacks-the-second
 
 pub a-lacks-nothing-then : lacked topic later-a later-b ≡ []
 a-lacks-nothing-then = all-arrived message-set premises-a premises-b play fair 1 reading clock-all 1 (omega (arith, one-lacking)) (omega arith)
+
+unfoldable gateway-a-then : Gateway
+gateway-a-then =
+    record {
+      ttl = 100;
+      max-seen = 2;
+      history-len = 2;
+      max-messages = 2;
+      clock = 20;
+      seen = record { id = marked first-id; expiry = 110 } ∷ record { id = marked second-id; expiry = 120 } ∷ [];
+      cache = record { id = first-id; message = first; window = 0 } ∷ record { id = second-id; message = second; window = 0 } ∷ [];
+    }
+
+script-leaves-all : gatewayAfter script-all (started 100 2 2 2) ≡ gateway-a-then
+unfolding gateway-a-then gatewayAfter started isNew afterAdmit holds among sameBytes live inserted newest until held put
+script-leaves-all = refl
+
+a-is-then : gatewayOf later-a ≡ gateway-a-then
+a-is-then = ap (λ (cs : List Call). gatewayOf (afterAll cs (start settings-a))) (sym all-a-written) ∙ fresh-leaves script-all fresh-a written-all ∙ script-leaves-all
+
+-- advertise and serve leave b as it is
+b-stays : later-b ≡ at-b
+unfolding calls-b afterAll after tellerRounds tellerRound
+b-stays = refl
+
+b-is-then : gatewayOf later-b ≡ gateway-b
+b-is-then = ap gatewayOf b-stays ∙ b-is
+
+b-misses-then : missing topic gateway-b (gateway-a-then .cache) ≡ []
+unfolding gateway-a-then gateway-b missing holds among sameBytes signature first second walkAt walkFrom readField readValue skipField skipFixed readVarint readLen readTag readUvarint readFrom groupOf topicsOf
+b-misses-then = refl
+
+pub b-lacks-nothing-then : lacked topic later-b later-a ≡ []
+b-lacks-nothing-then = ap₂ (λ (g h : Gateway). missing topic g (h .cache)) b-is-then a-is-then ∙ b-misses-then
+
+-- ---- and both advertise in the same bytes
+pub same-bytes : Identical play play later-a later-b
+same-bytes =
+    identical-bytes message-set (round-done .asker-history) (round-done .teller-history) play play fair fair refl a-lacks-nothing-then b-lacks-nothing-then
+
+-- 26 and 13: the control. 10 and 11: the IHAVE. 10 and 1: the topic `t`. 18 and 2: each id, `A` and 1, `B` and 2
+advert-written : bytesFor (first-id ∷ second-id ∷ []) (advertisement topic (first-id ∷ second-id ∷ []))
+    ≡ 26 ∷ 13 ∷ 10 ∷ 11 ∷ 10 ∷ 1 ∷ 116 ∷ 18 ∷ 2 ∷ 65 ∷ 1 ∷ 18 ∷ 2 ∷ 66 ∷ 2 ∷ []
+unfolding encodeRpc encodeControl encodeIWant encodeIHave bytesField tag uvarint bytesOf request advertisement
+advert-written = refl
+
+later-holding-a : Holding messages settings-a (firstOf all-a) (pastAll 0 all-a) [] 0 (gotAll [] all-a (start settings-a)) later-a
+later-holding-a = holding-all message-set (round-done .asker-history)
+
+later-holding-b : Holding messages settings-b (firstOf all-b) (pastAll 0 all-b) [] 0 (gotAll [] all-b (start settings-b)) later-b
+later-holding-b = holding-all message-set (round-done .teller-history)
+
+told-bytes : (s : State) (ids : List (List ℕ)) → toldIn (s .node) (s .messages) topic 3 ≡ ids → advertiseBytes (s .node) (s .messages) topic 3 ≡ bytesFor ids (advertisement topic ids)
+unfolding advertiseBytes
+told-bytes s ids e = ap (λ (l : List (List ℕ)). bytesFor l (advertisement topic l)) e
+
+pub advert-bytes-b : advertOf play later-b ≡ 26 ∷ 13 ∷ 10 ∷ 11 ∷ 10 ∷ 1 ∷ 116 ∷ 18 ∷ 2 ∷ 65 ∷ 1 ∷ 18 ∷ 2 ∷ 66 ∷ 2 ∷ []
+advert-bytes-b =
+    advert-is later-holding-a later-holding-b play fair
+    ∙ told-bytes later-b (first-id ∷ second-id ∷ [])
+    (told-gateway (later-b .node) (later-b .ids) (later-b .messages) topic 3 (fine later-holding-b topic 3 (fair .windows-y)) ∙ ap (toldOf topic 3) b-is-then ∙ b-tells)
+    ∙ advert-written
+
+pub advert-bytes-a : advertOf play later-a ≡ 26 ∷ 13 ∷ 10 ∷ 11 ∷ 10 ∷ 1 ∷ 116 ∷ 18 ∷ 2 ∷ 65 ∷ 1 ∷ 18 ∷ 2 ∷ 66 ∷ 2 ∷ []
+advert-bytes-a = same-bytes .same ∙ advert-bytes-b
