@@ -1,9 +1,9 @@
 -- An example: two gateways, two messages, of which one is lost on the way to the first gateway, and histories that meet every premise. What the
 -- theorems promise is computed for it, to the byte.
-use Prim.Native.Nat.{ℕ, zero, suc, _+_, _-_, _*_, _/_, _^_, _≤_, _<_, min}
+use Prim.Native.Nat.{ℕ, zero, suc, _+_, _-_, _*_, _^_, _≤_, _<_}
 use mathlib.Core.Path.{_≡_, refl, sym, ap, ap₂, subst, _∙_}
-use mathlib.Core.Bool.{Bool, true, false, cond}
-use mathlib.Core.List.{List, [], _∷_, _++_}
+use mathlib.Core.Bool.{true}
+use mathlib.Core.List.{List, [], _∷_}
 use native.Mathlib.Omega.{arith}
 use lib.ListN.{length, getD, replicate, length-replicate}
 use lib.Dec.{leb}
@@ -26,14 +26,14 @@ use Rattle.rows.specs.Ids.{sameBytes, precedesBytes, among, distinct}
 use Rattle.rows.specs.IdsLaws.{same-equal}
 use Rattle.rows.specs.Store.{allUpTo}
 use Rattle.parts.specs.Parts.{fitting}
-use Rattle.seen.specs.Entries.{Entry, holds, until, inserted, live}
-use Rattle.mcache.specs.Messages.{Cached, held, put, shift, get, carrying, enterId, inOrder, gossipIds}
+use Rattle.seen.specs.Entries.{holds, until, inserted, live}
+use Rattle.mcache.specs.Messages.{Cached, idsOf, held, put, shift, get, carrying, enterId, inOrder, gossipIds}
 use Rattle.mcache.specs.State.{legal}
 use Rattle.node.specs.Gateway.{Gateway, started, marked, isNew, afterAdmit, afterBeat, toldOf, lacking, having, advertisement, request}
 use Rattle.node.specs.State.{legalSettings, freshNode, risesFrom}
 use Rattle.node.specs.Calls.{toldIn, bytesFor, advertiseBytes, roomOf, servedOf, replyBytes}
 use Rattle.node.specs.Laws.{told-gateway}
-use Rattle.agreement.specs.History.{State, Call, admit, heartbeat, advertise, ask, serve, after, afterAll, readings, timesGot, timesNew, timesDuplicate}
+use Rattle.agreement.specs.History.{State, Call, admit, heartbeat, ask, after, afterAll, readings, timesGot, timesNew, timesDuplicate}
 use Rattle.agreement.specs.History.{beats as beatsIn}
 use Rattle.agreement.specs.Premises.{MessageSet, Settings, Fresh, Members, Clock, Premises}
 use Rattle.agreement.specs.Round.{missing, gatewayOf, lacked, Play, Fair, turned, advertOf, requestOf, replyOf, servedCount, admits, askerRound, tellerRound, askerRounds, tellerRounds}
@@ -43,6 +43,7 @@ use Rattle.agreement.specs.Once.{new-or-duplicate}
 use Rattle.agreement.specs.HandOver.{request-is}
 use Rattle.agreement.specs.Lacking.{fine}
 use Rattle.agreement.specs.Played.{advert-is, requested, wants, replies, replied, served-is}
+use Rattle.agreement.specs.Request.{request-is-exact}
 use Rattle.agreement.specs.CatchUp.{allAsked, allTold, CaughtUp, caught-up, all-arrived}
 use Rattle.agreement.specs.Identical.{Identical, identical-bytes}
 use Rattle.agreement.specs.Script.{Carries, Act, gets, beats, asks, callsOf, gatewayAfter, gotIn, newIn, Written, nothing, got, beaten, asked, fresh-acted, fresh-leaves, fresh-new}
@@ -423,6 +424,23 @@ request-bytes =
     ∙ request-is (at-b .node) (at-b .ids) (at-b .messages) topic 3 (fine holding-b topic 3 (fair .windows-y)) (holding-b .bytes) (fair .topic-short) (at-a .node) (at-a .ids) (at-a .messages)
     ∙ ap (λ (l : List (List ℕ)). bytesFor l (request l)) wanted-is
     ∙ request-written
+
+-- the theorem's ids are this one
+only-one : (l : List (List ℕ)) (i : List ℕ) → length l ≡ 1 → among i l ≡ true → l ≡ i ∷ []
+unfolding among
+only-one [] i n h = absurd (omega arith)
+only-one (j ∷ []) i n h = either (sameBytes j i) (λ t. ap (λ (k : List ℕ). k ∷ []) (same-equal j i t)) (λ t. clash (let z = simp t at h in cc))
+only-one (j ∷ k ∷ l) i n h = absurd (omega arith)
+
+second-named : among second-id (second-id ∷ []) ≡ true
+unfolding among sameBytes
+second-named = refl
+
+pub request-names : request-is-exact message-set premises-a premises-b play fair .ids ≡ second-id ∷ []
+request-names =
+    let r = request-is-exact message-set premises-a premises-b play fair in
+    only-one (r .ids) second-id (r .count ∙ ap length a-lacks-the-second)
+    (r .exactly second-id ∙ ap (λ (l : List Cached). among second-id (idsOf l)) a-lacks-the-second ∙ second-named)
 
 -- and b asks for nothing
 b-wants : lacking (gatewayOf at-b) (toldOf topic 3 (gatewayOf at-a)) ≡ []

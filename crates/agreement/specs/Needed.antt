@@ -1,18 +1,15 @@
 -- Each premise of demand 3 is needed: for each, a small pair of gateways, or one gateway, where all else is as the premises have it and the promise
 -- fails. The theorem is named after the premise.
-use Prim.Native.Nat.{ℕ, _+_, _-_, _*_, _^_, _≤_, _<_, min}
+use Prim.Native.Nat.{ℕ, _-_, _^_, _<_, min}
 use mathlib.Core.Path.{_≡_, refl, ap, _∙_}
-use mathlib.Core.Bool.{Bool, true, false, cond}
+use mathlib.Core.Bool.{true, false}
 use mathlib.Core.List.{List, [], _∷_}
 use native.Mathlib.Omega.{arith}
-use native.Mathlib.Nat.{zero-lt-suc}
-use lib.ListN.{length, getD, replicate, length-replicate, getD-replicate}
-use lib.Dec.{ltb, eqb}
+use lib.ListN.{length, replicate, length-replicate, getD-replicate}
 use borrow.Author.Tests.{lt-ltb}
 use Rattle.peer_id.specs.Uvarint.{readUvarint, readFrom, groupOf}
 use Rattle.protobuf.specs.Field.{readTag, readLen, readVarint, skipFixed, skipField, readValue, readField}
 use Rattle.protobuf.specs.Walk.{walkFrom, walkAt, between}
-use Rattle.protobuf.specs.Encode.{bytesField}
 use Rattle.protobuf.specs.declared.Checked.the-variants as checked
 use Rattle.schema.specs.Schema.{roleOf}
 use Rattle.schema.specs.Slots.{setPlace, withField, slotsOf}
@@ -21,12 +18,12 @@ use Rattle.ids.specs.declared.MessageId.the-variants as parts
 use Rattle.ids.specs.Ids.{acceptOf, messageAt, idParts, idBytes}
 use Rattle.admission.specs.declared.Admission.the-variants as admission
 use Rattle.admission.specs.Admission.{admissionOf, topicsOf}
-use Rattle.rows.specs.Ids.{sameBytes, precedesBytes, among}
+use Rattle.rows.specs.Ids.{sameBytes, among}
 use Rattle.rows.specs.Rows.{newest}
 use Rattle.parts.specs.Parts.{fitting}
 use Rattle.parts.specs.PartsLaws.{fitting-stop}
-use Rattle.seen.specs.Entries.{Entry, holds, until, inserted, live}
-use Rattle.mcache.specs.Messages.{Cached, held, put, shift, get, carrying, enterId, inOrder, gossipIds}
+use Rattle.seen.specs.Entries.{holds, until, inserted, live}
+use Rattle.mcache.specs.Messages.{held, put, shift, get, carrying, enterId, inOrder, gossipIds}
 use Rattle.node.specs.declared.Node.{Node}
 use Rattle.node.specs.declared.Lent.the-variants as lent
 use Rattle.node.specs.declared.Admit.the-variants as admit

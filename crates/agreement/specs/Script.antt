@@ -2,7 +2,7 @@
 -- is got and new in them, is then computed over gateways, without their stores.
 use Prim.Native.Nat.{ℕ, _+_, _^_, _≤_, _<_}
 use mathlib.Core.Path.{_≡_, refl, sym, ap, ap₂, subst, _∙_}
-use mathlib.Core.Bool.{Bool, true, false, cond, not}
+use mathlib.Core.Bool.{true, cond}
 use mathlib.Core.List.{List, [], _∷_}
 use Rattle.basis.specs.Cases.{either}
 use Rattle.rows.specs.Ids.{sameBytes, among}
@@ -13,13 +13,13 @@ use Rattle.node.specs.declared.Node.{Node}
 use Rattle.node.specs.declared.Lent.the-variants as lent
 use Rattle.node.specs.Gateway.{Gateway, started, isNew, afterAdmit, afterBeat}
 use Rattle.node.specs.State.{gatewayIn}
-use Rattle.node.specs.Calls.{Plan, no, taken, lentOf, planned, heldAt}
+use Rattle.node.specs.Calls.{Plan, taken, lentOf, planned, heldAt}
 use Rattle.node.specs.WellFormed.{Reached, begun, admitted, beaten as reached-beaten}
 use Rattle.node.specs.WellFormedLaws.{reached-fine, reached-typed}
 use Rattle.node.specs.Laws.{fresh-gateway, is-new, admit-gateway, beat-says, beat-gateway}
 use Rattle.agreement.specs.History.{State, Call, admit, heartbeat, ask, planIn, after, afterAll, countAt, times, timesGot, timesNew}
 use Rattle.agreement.specs.History.{isNew as newAnswer}
-use Rattle.agreement.specs.Premises.{Settings, Fresh, Member, MemberAt, Members, none-left, member}
+use Rattle.agreement.specs.Premises.{Settings, Fresh, Member, Members, none-left, member}
 use Rattle.agreement.specs.Round.{gatewayOf}
 use Rattle.agreement.specs.Delivered.{Placed}
 use Rattle.agreement.specs.Arrive.{fit-plan}
