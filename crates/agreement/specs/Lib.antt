@@ -18,3 +18,4 @@ pub mod CatchUp
 pub mod Needed
 pub mod Script
 pub mod Example
+pub mod ExampleRound
