@@ -15,7 +15,7 @@ pub mod Request
 pub mod Identical
 pub mod Arrive
 pub mod CatchUp
-pub mod Needed
 pub mod Script
 pub mod Example
 pub mod ExampleRound
+pub mod Needed

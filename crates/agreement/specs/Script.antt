@@ -21,6 +21,7 @@ use Rattle.agreement.specs.History.{State, Call, admit, heartbeat, ask, 
 use Rattle.agreement.specs.History.{isNew as newAnswer}
 use Rattle.agreement.specs.Premises.{Settings, Fresh, Member, Members, none-left, member}
 use Rattle.agreement.specs.Round.{gatewayOf}
+use Rattle.agreement.specs.Holding.{node-clock, started-clock}
 use Rattle.agreement.specs.Delivered.{Placed}
 use Rattle.agreement.specs.Arrive.{fit-plan}
 
@@ -97,10 +98,6 @@ unfolding planned
 carried-plan s body m id at c fine h =
     let p = c .placed in
     rw (fine, c .accepted, p .found, p .bytes) (fit-plan (s .node) at m id (c .own) h)
-
-node-clock : (s : State) → gatewayOf s .clock ≡ s .node .clock
-unfolding gatewayIn
-node-clock s = refl
 
 module _ (s : State) (r : Reached (s .node) (s .ids) (s .messages)) (body m id : List ℕ) (at : ℕ) (e : planIn s body 0 true at ≡ taken m id) where
   admit-leaves : gatewayOf (after (admit body 0 true at) s) ≡ afterAdmit at m id (gatewayOf s)
@@ -179,10 +176,6 @@ fresh-reached {x} {s} f =
 pub fresh-starts : {x : Settings} {s : State} → Fresh x s → gatewayOf s ≡ started (x .ttl) (x .max-seen) (x .history-len) (x .max-messages)
 fresh-starts {x} {s} f =
     ap (λ (n : Node). gatewayIn n (s .ids) (s .messages)) (f .node) ∙ fresh-gateway (x .ttl) (x .max-seen) (x .history-len) (x .max-messages) (s .ids) (s .messages)
-
-started-clock : (x : Settings) → started (x .ttl) (x .max-seen) (x .history-len) (x .max-messages) .clock ≡ 0
-unfolding started
-started-clock x = refl
 
 pub fresh-acted : {set : List (List ℕ)} {x : Settings} {s : State} (xs : List Act) → Fresh x s → Written set 0 xs → Acted set xs s
 fresh-acted {set} {x} {s} xs f w =
