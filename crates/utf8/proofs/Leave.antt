@@ -16,11 +16,12 @@ use Rattle.utf8.specs.declared.State.the-variants.{Want}
 use Rattle.utf8.specs.Utf8.{run, isUtf8}
 
 -- where no tail is wanted, the range of the next does not matter
-pub start : (n lo hi : ℕ) (s : List ℕ) → n ≡ 0 → run (Want n lo hi) s ≡ isUtf8 s
+start : (n lo hi : ℕ) (s : List ℕ) → n ≡ 0 → run (Want n lo hi) s ≡ isUtf8 s
 unfolding run isUtf8
 start n lo hi [] e = rw e
 start n lo hi (b ∷ s) e = rw e
 
+-- one byte
 byte : (b : ℕ) (s : List ℕ) → b < 128 → isUtf8 (b ∷ s) ≡ isUtf8 s
 unfolding run isUtf8
 byte b s l = rw (le-leb b 127 (omega arith))
@@ -41,6 +42,7 @@ one-more s at i bits h f l =
     let k : at + (i + 1) ≡ at + i + 1 = omega arith in
     f (omega (arith, e, q, l)) ∙ (rw k (one s (at + i) h (omega (arith, e, p, l))))
 
+-- the end of a block
 pub all : (s : List ℕ) (at i n bits : ℕ) → i ≤ n → n ≤ i → (bits < 128 → isUtf8 (drop at s) ≡ isUtf8 (drop (at + i) s)) → ltb bits 128 ≡ true → isUtf8 (drop at s) ≡ isUtf8 (drop (at + n) s)
 all s at i n bits l m f t = let e : n ≡ i = omega arith in rw e (f (ltb-true bits 128 t))
 

@@ -101,7 +101,7 @@ fn step(st: State, b: u8) -> State
     }
 }
 
-// Whether the n bytes from a place on are ASCII, in which case they can be left out. Their bits are joined, so that n bytes cost one test.
+// Whether the n bytes from a place on are ASCII, and so can be left out. Their bits are joined, so that n bytes cost one test.
 fn ascii(s: &[u8], at: usize, n: usize) -> bool
     requires { ⌜ at + n ≤ length (now s) ⌝ }
     ensures { λ r. ⌜ (r ≡ true → isUtf8 (drop at (now (s .entry))) ≡ isUtf8 (drop (at + n) (now (s .entry)))) ⌝ }
@@ -119,12 +119,13 @@ fn ascii(s: &[u8], at: usize, n: usize) -> bool
 fn past(s: &[u8], at: usize, n: usize) -> usize
     requires { ⌜ at ≤ length (now s) ⌝ }
     requires { ⌜ 1 ≤ n ⌝ }
+    requires { ⌜ n ≤ 32 ⌝ }
     ensures { λ r. ⌜ at ≤ r ⌝ }
     ensures { λ r. ⌜ r ≤ length (now (s .entry)) ⌝ }
     ensures { λ r. ⌜ isUtf8 (drop at (now (s .entry))) ≡ isUtf8 (drop r (now (s .entry))) ⌝ }
 {
     let mut i = at;
-    while n <= s.len() - i {
+    while i + n <= s.len() {
         if !ascii(s, i, n) {
             return i;
         }
@@ -133,6 +134,7 @@ fn past(s: &[u8], at: usize, n: usize) -> usize
     i
 }
 
+// Past the ASCII bytes from a place on, by blocks first.
 fn past_ascii(s: &[u8], at: usize) -> usize
     requires { ⌜ at ≤ length (now s) ⌝ }
     ensures { λ r. ⌜ at ≤ r ⌝ }
@@ -144,7 +146,7 @@ fn past_ascii(s: &[u8], at: usize) -> usize
     past(s, j, 1)
 }
 
-// Past ASCII bytes, where a character may begin.
+// Past ASCII bytes, where a character may begin. A byte that is not ASCII costs no call.
 fn skip(s: &[u8], st: State, at: usize) -> usize
     requires { ⌜ at ≤ length (now s) ⌝ }
     ensures { λ r. ⌜ at ≤ r ⌝ }
@@ -157,10 +159,16 @@ fn skip(s: &[u8], st: State, at: usize) -> usize
             low: _,
             high: _,
         } => {
-            if tails == 0 {
-                return past_ascii(s, at);
+            if tails != 0 {
+                return at;
             }
-            at
+            if s.len() <= at {
+                return at;
+            }
+            if 0x80 <= s[at] {
+                return at;
+            }
+            past_ascii(s, at)
         }
     }
 }

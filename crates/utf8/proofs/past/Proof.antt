@@ -18,22 +18,22 @@ abbrev μ-loop : tie.MeasureT-loop
 μ-loop s at n i₀ i = length s - i
 
 loop-holds : tie.Need-loop-holds Inv-loop μ-loop
-loop-holds c = (omega arith, (omega (arith, c .before .pre), refl))
+loop-holds c = (omega arith, (c .before .pre .0, refl))
 
-sub-loop : tie.Need-sub-loop Inv-loop μ-loop
-sub-loop c = c .loop .inv .1 .0
+add-loop : tie.Need-add-loop Inv-loop μ-loop
+add-loop c = omega (arith, c .loop .inv .1 .0, c .before .before .good .0 .1, c .before .before .pre .1 .1)
 
 ascii-requires : tie.Need-ascii-requires Inv-loop μ-loop
-ascii-requires c κs = omega (arith, c .before .loop .inv .1 .0, c .loop-test .taken)
+ascii-requires c κs = c .loop-test .taken
 
 returns : tie.Need-returns Inv-loop μ-loop
 returns c = c .before .before .before .loop .inv
 
 add-i : tie.Need-add-i Inv-loop μ-loop
-add-i c = omega (arith, c .before .before .before .loop .inv .1 .0, c .before .before .loop-test .taken)
+add-i c = omega (arith, c .before .before .loop-test .taken)
 
 loop-less : tie.Need-loop-less Inv-loop μ-loop
-loop-less c = omega (arith, c .before .before .before .loop .inv .1 .0, c .before .before .loop-test .taken, c .before .before .before .before .before .pre)
+loop-less c = omega (arith, c .before .before .loop-test .taken, c .before .before .before .before .before .pre .1 .0)
 
 loop-again : tie.Need-loop-again Inv-loop μ-loop
 loop-again c =
@@ -41,7 +41,7 @@ loop-again c =
     let l = c .before .before .before .loop in (
       omega (arith, l .inv .0),
       (
-        omega (arith, l .inv .1 .0, c .before .before .loop-test .taken),
+        c .before .before .loop-test .taken,
         block (a .s .now) (a .at) (l .i) (a .n) (c .before .ascii .result) (l .inv .1 .1) (c .before .ascii .ensures) (c .if1 .left),
       ),
     )
@@ -56,7 +56,7 @@ past-spec =
     Inv-loop
     μ-loop
     loop-holds
-    sub-loop
+    add-loop
     ascii-requires
     returns
     add-i
