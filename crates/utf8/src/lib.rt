@@ -146,12 +146,15 @@ fn past_ascii(s: &[u8], at: usize) -> usize
     past(s, j, 1)
 }
 
-// Past ASCII bytes, where a character may begin. A byte that is not ASCII costs no call.
-fn skip(s: &[u8], st: State, at: usize) -> usize
+// Past ASCII bytes, where a character may begin and the byte before, b, is ASCII too: other bytes cost one test each.
+fn skip(s: &[u8], st: State, b: u8, at: usize) -> usize
     requires { ⌜ at ≤ length (now s) ⌝ }
     ensures { λ r. ⌜ at ≤ r ⌝ }
     ensures { λ r. ⌜ run st (drop at (now (s .entry))) ≡ run st (drop r (now (s .entry))) ⌝ }
 {
+    if 0x80 <= b {
+        return at;
+    }
     match st {
         State::Bad => at,
         State::Want {
@@ -160,12 +163,6 @@ fn skip(s: &[u8], st: State, at: usize) -> usize
             high: _,
         } => {
             if tails != 0 {
-                return at;
-            }
-            if s.len() <= at {
-                return at;
-            }
-            if 0x80 <= s[at] {
                 return at;
             }
             past_ascii(s, at)
@@ -183,8 +180,9 @@ pub fn is_utf8(s: &[u8]) -> bool
     };
     let mut i = past_ascii(s, 0);
     while i < s.len() {
-        st = step(st, s[i]);
-        i = skip(s, st, i + 1);
+        let b = s[i];
+        st = step(st, b);
+        i = skip(s, st, b, i + 1);
     }
     match st {
         State::Bad => false,

@@ -38,8 +38,8 @@ loop-holds : tie.Need-loop-holds Inv-loop μ-loop
 unfolding isUtf8
 loop-holds c = c .past-ascii .ensures .1 .1
 
-shared-slice-read-step : tie.Need-shared-slice-read-step Inv-loop μ-loop
-shared-slice-read-step c = omega arith
+shared-slice-read-b : tie.Need-shared-slice-read-b Inv-loop μ-loop
+shared-slice-read-b c = omega arith
 
 step-requires : tie.Need-step-requires Inv-loop μ-loop
 step-requires c κs = search needs
@@ -82,7 +82,7 @@ is-utf8-spec =
     μ-loop
     past-ascii-requires
     loop-holds
-    shared-slice-read-step
+    shared-slice-read-b
     step-requires
     add-skip
     skip-requires
