@@ -4,4 +4,4 @@ use mathlib.Core.List.{List, [], _∷_}
 
 unfoldable pub bucketOf : List ℕ → ℕ
 bucketOf [] = 0
-bucketOf (x ∷ xs) = (bucketOf xs * 2531 + x) % 4096
+bucketOf (x ∷ xs) = (bucketOf xs * 33 + x) % 4096

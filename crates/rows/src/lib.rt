@@ -116,7 +116,7 @@ fn bucket(id: &[u8]) -> usize
     let mut i = id.len();
     while 0 < i {
         i = i - 1;
-        x = (x * 2531 + id[i] as usize) % 4096;
+        x = (x * 33 + id[i] as usize) % 4096;
     }
     x
 }
@@ -167,7 +167,17 @@ pub fn ids_differ(
         let base = p * size;
         let end = base + lens[p] as usize;
         let b = bucket(&ids[base..end]);
-        if again(lens, ids, size, cap, start, count, next, &ids[base..end], met[b]) {
+        if again(
+            lens,
+            ids,
+            size,
+            cap,
+            start,
+            count,
+            next,
+            &ids[base..end],
+            met[b],
+        ) {
             return false;
         }
         met[b] = 1;

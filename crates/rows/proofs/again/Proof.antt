@@ -1,13 +1,9 @@
 use denote.Ref.{now}
 use mathlib.Core.Path.{sym}
 use Rattle.rows.specs.StoreLaws.{find-among}
--- pf
 use borrow.Author.Needs.{needs}
 use Rattle.rows.proofs.again.Statement.{statement}
 use Rattle.rows.proofs.again.Tie as tie
-use Rattle.rows.proofs.again.Reads as reads
-use Rattle.rows.proofs.again.Lts as lts
-use Rattle.rows.proofs.find_from.Reads as find-from-reads
 
 -- src/lib.rt:142:9
 returns : tie.Need-returns

@@ -6,11 +6,8 @@ use native.Mathlib.Omega.{arith}
 use Rattle.rows.specs.Buckets.{bucketOf}
 use Rattle.rows.specs.BucketsLaws.{bucket-none, bucket-more, bucket-all}
 use borrow.Author.Needs.{needs}
--- pf
 use Rattle.rows.proofs.bucket.Statement.{statement}
 use Rattle.rows.proofs.bucket.Tie as tie
-use Rattle.rows.proofs.bucket.Reads as reads
-use Rattle.rows.proofs.bucket.Lts as lts
 
 abbrev Inv-loop : tie.InvT-loop
 Inv-loop id x₀ i₀ x i = (i ≤ length id) × ((x < 4096) × (x ≡ bucketOf (drop i id)))

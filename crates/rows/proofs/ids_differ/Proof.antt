@@ -1,23 +1,17 @@
 use denote.Ref.{now}
-use Prim.Native.Nat.{_+_, _-_, _*_, _≤_}
+use Prim.Native.Nat.{_-_, _≤_}
 use mathlib.Core.Path.{_≡_, refl, sym, _∙_}
 use mathlib.Core.Bool.{true}
-use lib.ListN.{length, take, drop, getD, length-set}
+use lib.ListN.{length, drop, length-set}
 use native.Mathlib.Omega.{arith}
 use Rattle.rows.specs.Ids.{distinct}
 use Rattle.rows.specs.IdsLaws.{among-none}
 use Rattle.rows.specs.Store.{idsIn}
 use Rattle.rows.specs.StoreLaws.{row-within, row-before, differ-more, differ-not, ids-end, differ-none, differ-all}
-use Rattle.rows.specs.BucketsLaws.{Met, bucket-lt, met-flag, met-more}
+use Rattle.rows.specs.BucketsLaws.{Met, bucket-in, met-flag, met-more}
 use borrow.Author.Needs.{needs}
--- pf
 use Rattle.rows.proofs.ids_differ.Statement.{statement}
 use Rattle.rows.proofs.ids_differ.Tie as tie
-use Rattle.rows.proofs.ids_differ.Reads as reads
-use Rattle.rows.proofs.ids_differ.Lts as lts
-use Rattle.rows.proofs.again.Reads as again-reads
-use Rattle.rows.proofs.bucket.Reads as bucket-reads
-use Rattle.rows.proofs.place.Reads as place-reads
 
 abbrev Inv-loop : tie.InvT-loop
 Inv-loop lens ids size cap start count met₀ i₀ met i = (i ≤ count) × ((length met ≡ 4096) × ((distinct (drop i (idsIn size cap start count lens ids)) ≡ true) × Met met (drop i (idsIn size cap start count lens ids))))
@@ -83,7 +77,7 @@ part-again-end c = let w = row-within (c .before .before .before .before .before
 
 -- src/lib.rt:170:77
 array-read-again : tie.Need-array-read-again Inv-loop μ-loop
-array-read-again c = let b = bucket-lt (take (((c .before .before .before .before .place .result) * (c .before .before .before .before .before .before .before .before .before .args .size) + getD (now (c .before .before .before .before .before .before .before .before .before .args .lens)) (c .before .before .before .before .place .result) 0) - (c .before .before .before .before .place .result) * (c .before .before .before .before .before .before .before .before .before .args .size)) (drop ((c .before .before .before .before .place .result) * (c .before .before .before .before .before .before .before .before .before .args .size)) (now (c .before .before .before .before .before .before .before .before .before .args .ids)))) in let e = (c .before .bucket .ensures) in omega arith
+array-read-again c = bucket-in _ (c .before .bucket .result) (c .before .bucket .ensures)
 
 -- src/lib.rt:170:12
 again-requires : tie.Need-again-requires Inv-loop μ-loop
@@ -95,7 +89,7 @@ returns c = differ-not (c .before .before .before .before .before .before .befor
 
 -- src/lib.rt:173:9
 array-write-met : tie.Need-array-write-met Inv-loop μ-loop
-array-write-met c = let b = bucket-lt (take (((c .before .before .before .before .before .before .place .result) * (c .before .before .before .before .before .before .before .before .before .before .before .args .size) + getD (now (c .before .before .before .before .before .before .before .before .before .before .before .args .lens)) (c .before .before .before .before .before .before .place .result) 0) - (c .before .before .before .before .before .before .place .result) * (c .before .before .before .before .before .before .before .before .before .before .before .args .size)) (drop ((c .before .before .before .before .before .before .place .result) * (c .before .before .before .before .before .before .before .before .before .before .before .args .size)) (now (c .before .before .before .before .before .before .before .before .before .before .before .args .ids)))) in let e = (c .before .before .before .bucket .ensures) in omega arith
+array-write-met c = bucket-in _ (c .before .before .before .bucket .result) (c .before .before .before .bucket .ensures)
 
 -- src/lib.rt:163:5
 loop-less : tie.Need-loop-less Inv-loop μ-loop
