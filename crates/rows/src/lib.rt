@@ -166,18 +166,9 @@ pub fn ids_differ(
         let p = place(cap, start, i);
         let base = p * size;
         let end = base + lens[p] as usize;
-        let b = bucket(&ids[base..end]);
-        if again(
-            lens,
-            ids,
-            size,
-            cap,
-            start,
-            count,
-            next,
-            &ids[base..end],
-            met[b],
-        ) {
+        let id = &ids[base..end];
+        let b = bucket(id);
+        if again(lens, ids, size, cap, start, count, next, id, met[b]) {
             return false;
         }
         met[b] = 1;

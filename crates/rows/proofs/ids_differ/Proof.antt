@@ -47,49 +47,37 @@ cast-end c = omega (arith, (c .shared-slice-known3 .given) (c .before .place .re
 add-end : tie.Need-add-end Inv-loop μ-loop
 add-end c = let w = row-within (c .before .before .before .before .before .before .args .size) (c .before .before .before .before .before .before .args .cap) (c .before .before .before .before .before .before .args .start) (c .before .before .before .before .before .before .args .count) (now (c .before .before .before .before .before .before .args .lens)) (now (c .before .before .before .before .before .before .args .ids)) ((c .before .before .before .loop .i) - 1) (c .before .place .result) (c .before .before .before .before .before .before .pre) (omega arith) (c .before .place .ensures) in search needs
 
--- src/lib.rt:169:24
-sub-bucket : tie.Need-sub-bucket Inv-loop μ-loop
-sub-bucket c = search needs
+-- src/lib.rt:169:18
+sub-id : tie.Need-sub-id Inv-loop μ-loop
+sub-id c = search needs
 
--- src/lib.rt:169:24
-part-bucket-start : tie.Need-part-bucket-start Inv-loop μ-loop
-part-bucket-start c = search needs
+-- src/lib.rt:169:18
+part-id-start : tie.Need-part-id-start Inv-loop μ-loop
+part-id-start c = search needs
 
--- src/lib.rt:169:24
-part-bucket-end : tie.Need-part-bucket-end Inv-loop μ-loop
-part-bucket-end c = let w = row-within (c .before .before .before .before .before .before .args .size) (c .before .before .before .before .before .before .args .cap) (c .before .before .before .before .before .before .args .start) (c .before .before .before .before .before .before .args .count) (now (c .before .before .before .before .before .before .args .lens)) (now (c .before .before .before .before .before .before .args .ids)) ((c .before .before .before .loop .i) - 1) (c .before .place .result) (c .before .before .before .before .before .before .pre) (omega arith) (c .before .place .ensures) in omega arith
+-- src/lib.rt:169:18
+part-id-end : tie.Need-part-id-end Inv-loop μ-loop
+part-id-end c = let w = row-within (c .before .before .before .before .before .before .args .size) (c .before .before .before .before .before .before .args .cap) (c .before .before .before .before .before .before .args .start) (c .before .before .before .before .before .before .args .count) (now (c .before .before .before .before .before .before .args .lens)) (now (c .before .before .before .before .before .before .args .ids)) ((c .before .before .before .loop .i) - 1) (c .before .place .result) (c .before .before .before .before .before .before .pre) (omega arith) (c .before .place .ensures) in omega arith
 
--- src/lib.rt:169:13
+-- src/lib.rt:170:13
 bucket-requires : tie.Need-bucket-requires Inv-loop μ-loop
 bucket-requires c κs = search needs
 
--- src/lib.rt:170:60
-sub-again : tie.Need-sub-again Inv-loop μ-loop
-sub-again c = search needs
-
--- src/lib.rt:170:60
-part-again-start : tie.Need-part-again-start Inv-loop μ-loop
-part-again-start c = search needs
-
--- src/lib.rt:170:60
-part-again-end : tie.Need-part-again-end Inv-loop μ-loop
-part-again-end c = let w = row-within (c .before .before .before .before .before .before .before .before .args .size) (c .before .before .before .before .before .before .before .before .args .cap) (c .before .before .before .before .before .before .before .before .args .start) (c .before .before .before .before .before .before .before .before .args .count) (now (c .before .before .before .before .before .before .before .before .args .lens)) (now (c .before .before .before .before .before .before .before .before .args .ids)) ((c .before .before .before .before .before .loop .i) - 1) (c .before .before .before .place .result) (c .before .before .before .before .before .before .before .before .pre) (omega arith) (c .before .before .before .place .ensures) in omega arith
-
--- src/lib.rt:170:77
+-- src/lib.rt:171:64
 array-read-again : tie.Need-array-read-again Inv-loop μ-loop
-array-read-again c = bucket-in _ (c .before .bucket .result) (c .before .bucket .ensures)
+array-read-again c = bucket-in _ (c .bucket .result) (c .bucket .ensures)
 
--- src/lib.rt:170:12
+-- src/lib.rt:171:12
 again-requires : tie.Need-again-requires Inv-loop μ-loop
-again-requires c κs = ((c .before .before .before .before .before .before .before .before .before .pre), ((c .before .before .before .before .before .before .loop .inv .0), met-flag (c .before .before .before .before .before .before .loop .met) _ _ (c .before .bucket .result) (c .before .before .before .before .before .before .loop .inv .1 .1 .1) (c .before .bucket .ensures)))
+again-requires c κs = ((c .before .before .before .before .before .before .before .before .pre), ((c .before .before .before .before .before .loop .inv .0), met-flag (c .before .before .before .before .before .loop .met) _ _ (c .bucket .result) (c .before .before .before .before .before .loop .inv .1 .1 .1) (c .bucket .ensures)))
 
--- src/lib.rt:171:13
+-- src/lib.rt:172:13
 returns : tie.Need-returns Inv-loop μ-loop
-returns c = differ-not (c .before .before .before .before .before .before .before .before .before .before .before .args .size) (c .before .before .before .before .before .before .before .before .before .before .before .args .cap) (c .before .before .before .before .before .before .before .before .before .before .before .args .start) (c .before .before .before .before .before .before .before .before .before .before .before .args .count) (now (c .before .before .before .before .before .before .before .before .before .before .before .args .lens)) (now (c .before .before .before .before .before .before .before .before .before .before .before .args .ids)) (c .before .before .before .before .before .before .before .before .loop .i) (c .before .before .before .before .before .before .place .result) (c .before .before .before .before .before .before .before .loop-test .taken) (c .before .before .before .before .before .before .before .before .loop .inv .0) (c .before .before .before .before .before .before .place .ensures) (sym (c .before .again .ensures) ∙ (c .if1 .taken))
+returns c = differ-not (c .before .before .before .before .before .before .before .before .before .before .args .size) (c .before .before .before .before .before .before .before .before .before .before .args .cap) (c .before .before .before .before .before .before .before .before .before .before .args .start) (c .before .before .before .before .before .before .before .before .before .before .args .count) (now (c .before .before .before .before .before .before .before .before .before .before .args .lens)) (now (c .before .before .before .before .before .before .before .before .before .before .args .ids)) (c .before .before .before .before .before .before .before .loop .i) (c .before .before .before .before .before .place .result) (c .before .before .before .before .before .before .loop-test .taken) (c .before .before .before .before .before .before .before .loop .inv .0) (c .before .before .before .before .before .place .ensures) (sym (c .before .again .ensures) ∙ (c .if1 .taken))
 
--- src/lib.rt:173:9
+-- src/lib.rt:174:9
 array-write-met : tie.Need-array-write-met Inv-loop μ-loop
-array-write-met c = bucket-in _ (c .before .before .before .bucket .result) (c .before .before .before .bucket .ensures)
+array-write-met c = bucket-in _ (c .before .before .bucket .result) (c .before .before .bucket .ensures)
 
 -- src/lib.rt:163:5
 loop-less : tie.Need-loop-less Inv-loop μ-loop
@@ -97,7 +85,7 @@ loop-less c = search needs
 
 -- src/lib.rt:163:5
 loop-again : tie.Need-loop-again Inv-loop μ-loop
-loop-again c = (omega arith, (length-set (c .before .before .before .before .before .before .before .before .loop .met) (c .before .before .before .bucket .result) 1 ∙ (c .before .before .before .before .before .before .before .before .loop .inv .1 .0), (differ-more (c .before .before .before .before .before .before .before .before .before .before .before .args .size) (c .before .before .before .before .before .before .before .before .before .before .before .args .cap) (c .before .before .before .before .before .before .before .before .before .before .before .args .start) (c .before .before .before .before .before .before .before .before .before .before .before .args .count) (now (c .before .before .before .before .before .before .before .before .before .before .before .args .lens)) (now (c .before .before .before .before .before .before .before .before .before .before .before .args .ids)) (c .before .before .before .before .before .before .before .before .loop .i) (c .before .before .before .before .before .before .place .result) (c .before .before .before .before .before .before .before .loop-test .taken) (c .before .before .before .before .before .before .before .before .loop .inv .0) (c .before .before .before .before .before .before .place .ensures) (sym (c .before .again .ensures) ∙ (c .if1 .left)) (c .before .before .before .before .before .before .before .before .loop .inv .1 .1 .0), met-more (c .before .before .before .before .before .before .before .before .loop .met) (c .before .before .before .bucket .result) _ _ _ (row-before (c .before .before .before .before .before .before .before .before .before .before .before .args .size) (c .before .before .before .before .before .before .before .before .before .before .before .args .cap) (c .before .before .before .before .before .before .before .before .before .before .before .args .start) (c .before .before .before .before .before .before .before .before .before .before .before .args .count) (now (c .before .before .before .before .before .before .before .before .before .before .before .args .lens)) (now (c .before .before .before .before .before .before .before .before .before .before .before .args .ids)) (c .before .before .before .before .before .before .before .before .loop .i) (c .before .before .before .before .before .before .place .result) (c .before .before .before .before .before .before .before .loop-test .taken) (c .before .before .before .before .before .before .before .before .loop .inv .0) (c .before .before .before .before .before .before .place .ensures)) (c .before .before .before .bucket .ensures) (c .before .before .before .before .before .before .before .before .loop .inv .1 .0) (c .before .before .before .before .before .before .before .before .loop .inv .1 .1 .1))))
+loop-again c = (omega arith, (length-set (c .before .before .before .before .before .before .before .loop .met) (c .before .before .bucket .result) 1 ∙ (c .before .before .before .before .before .before .before .loop .inv .1 .0), (differ-more (c .before .before .before .before .before .before .before .before .before .before .args .size) (c .before .before .before .before .before .before .before .before .before .before .args .cap) (c .before .before .before .before .before .before .before .before .before .before .args .start) (c .before .before .before .before .before .before .before .before .before .before .args .count) (now (c .before .before .before .before .before .before .before .before .before .before .args .lens)) (now (c .before .before .before .before .before .before .before .before .before .before .args .ids)) (c .before .before .before .before .before .before .before .loop .i) (c .before .before .before .before .before .place .result) (c .before .before .before .before .before .before .loop-test .taken) (c .before .before .before .before .before .before .before .loop .inv .0) (c .before .before .before .before .before .place .ensures) (sym (c .before .again .ensures) ∙ (c .if1 .left)) (c .before .before .before .before .before .before .before .loop .inv .1 .1 .0), met-more (c .before .before .before .before .before .before .before .loop .met) (c .before .before .bucket .result) _ _ _ (row-before (c .before .before .before .before .before .before .before .before .before .before .args .size) (c .before .before .before .before .before .before .before .before .before .before .args .cap) (c .before .before .before .before .before .before .before .before .before .before .args .start) (c .before .before .before .before .before .before .before .before .before .before .args .count) (now (c .before .before .before .before .before .before .before .before .before .before .args .lens)) (now (c .before .before .before .before .before .before .before .before .before .before .args .ids)) (c .before .before .before .before .before .before .before .loop .i) (c .before .before .before .before .before .place .result) (c .before .before .before .before .before .before .loop-test .taken) (c .before .before .before .before .before .before .before .loop .inv .0) (c .before .before .before .before .before .place .ensures)) (c .before .before .bucket .ensures) (c .before .before .before .before .before .before .before .loop .inv .1 .0) (c .before .before .before .before .before .before .before .loop .inv .1 .1 .1))))
 
 -- src/lib.rt:150:1
 returns-2 : tie.Need-returns-2 Inv-loop μ-loop
@@ -116,13 +104,10 @@ ids-differ-spec =
     shared-slice-read-end
     cast-end
     add-end
-    sub-bucket
-    part-bucket-start
-    part-bucket-end
+    sub-id
+    part-id-start
+    part-id-end
     bucket-requires
-    sub-again
-    part-again-start
-    part-again-end
     array-read-again
     again-requires
     returns
