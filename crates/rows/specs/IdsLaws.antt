@@ -147,19 +147,6 @@ pub among-none : (i : List ℕ) (l : List (List ℕ)) (w : Bool) → l ≡ [] �
 unfolding among
 among-none i l w e inv = rw e at inv
 
-module _ {j : List ℕ} {l js : List (List ℕ)} (w : Bool) (at-row : l ≡ j ∷ js) (inv : distinct l ≡ w) where
-  pub distinct-more : among j js ≡ false → distinct js ≡ w
-  unfolding distinct
-  distinct-more e = simp e at (rw at-row at inv)
-
-  pub distinct-twice : among j js ≡ true → false ≡ w
-  unfolding distinct
-  distinct-twice e = simp e at (rw at-row at inv)
-
-pub distinct-none : (l : List (List ℕ)) (w : Bool) → l ≡ [] → distinct l ≡ w → true ≡ w
-unfolding distinct
-distinct-none l w e inv = rw e at inv
-
 -- ---- ids one after the other
 or-assoc : (a b c : Bool) → ((a || b) || c) ≡ (a || (b || c))
 or-assoc true b c = refl
@@ -182,6 +169,15 @@ unfolding distinct
 distinct-drop k [] h = rw (drop-of-length-le {A = List ℕ} [] {i = k} (omega arith))
 distinct-drop zero (j ∷ l) h = h
 distinct-drop (suc k) (j ∷ l) h = either (among j l) (λ t. clash (let z = simp t at h in cc)) (λ t. distinct-drop k l (simp t at h))
+
+-- an id in front of those from the k-th on
+pub distinct-more : {l : List (List ℕ)} (j : List ℕ) (js : List (List ℕ)) → l ≡ j ∷ js → among j js ≡ false → distinct js ≡ true → distinct l ≡ true
+unfolding distinct
+distinct-more j js e n d = rw e (simp n d)
+
+pub distinct-twice : {j : List ℕ} {js : List (List ℕ)} (k : ℕ) (l : List (List ℕ)) → drop k l ≡ j ∷ js → among j js ≡ true → false ≡ distinct l
+unfolding distinct
+distinct-twice k l e t = either (distinct l) (λ d. clash (let z = simp t at (rw e at (distinct-drop k l d)) in cc)) (λ d. sym d)
 
 same-sym : (a b : List ℕ) → sameBytes a b ≡ sameBytes b a
 unfolding sameBytes

@@ -1,7 +1,9 @@
 pub mod Rows
 pub mod Ids
 pub mod Store
+pub mod Buckets
 pub mod ListLaws
 pub mod RowsLaws
 pub mod IdsLaws
+pub mod BucketsLaws
 pub mod StoreLaws

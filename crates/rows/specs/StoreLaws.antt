@@ -14,7 +14,7 @@ use borrow.Author.Tests.{le-leb, lt-leb, leb-true, ltb-true, ltb-false, lt-ltb, 
 use Rattle.basis.specs.Cases.{either, clash}
 use Rattle.rows.specs.Rows.{tab, placeOf, ring}
 use Rattle.rows.specs.Ids.{sameBytes, among, distinct, indexOf}
-use Rattle.rows.specs.IdsLaws.{distinct-more, distinct-twice, distinct-none, distinct-each, each-distinct}
+use Rattle.rows.specs.IdsLaws.{distinct-more, distinct-twice, distinct-each, each-distinct}
 use Rattle.rows.specs.ListLaws.{drop-sets, part-sets, put-sets}
 use Rattle.rows.specs.RowsLaws.{length-tab, getD-tab, length-ring, ring-from, ring-end, place-lt, place-le, place-place, place-differs}
 use Rattle.rows.specs.Store.{idAt, idsIn, lensIn, allUpTo, Ring, Sound}
@@ -106,32 +106,39 @@ find-among size cap start count lens st id k r h e =
     let l : length (drop k ids) ≡ count - k = length-drop k ids ∙ ap (λ (n : ℕ). n - k) (length-ring (idAt size lens st) cap start count) in
     index-among id (drop k ids) ∙ shifted (indexOf id (drop k ids)) (length (drop k ids)) r count k e l h
 
--- ---- ids that differ
-module _ (size cap start count : ℕ) (lens st : List ℕ) (i : ℕ) where
+-- ---- ids that differ, from the newest to the oldest: the row before the i-th
+module _ (size cap start count : ℕ) (lens st : List ℕ) (i p : ℕ) (h : 0 < i) (k : i ≤ count) (e : p ≡ placeOf cap start (i - 1)) where
   abbrev ids : List (List ℕ)
   ids = idsIn size cap start count lens st
 
-  -- what is found after row i says whether its id stands again
-  again : (p r : ℕ) → i < count → p ≡ placeOf cap start i
-      → r ≡ (i + 1) + indexOf (take ((p * size + getD lens p 0) - p * size) (drop (p * size) st)) (drop (i + 1) ids)
-      → among (idAt size lens st (placeOf cap start i)) (drop (i + 1) ids) ≡ ltb r count
-  again p r h e f =
-      find-among size cap start count lens st (idAt size lens st (placeOf cap start i)) (i + 1) r (omega arith)
-      (f ∙ ap (λ (x : List ℕ). (i + 1) + indexOf x (drop (i + 1) ids)) (row-id size cap start lens st i p e))
+  abbrev id : List ℕ
+  id = take ((p * size + getD lens p 0) - p * size) (drop (p * size) st)
 
-  pub differ-more : (p r : ℕ) → distinct (drop i ids) ≡ distinct ids → i < count → p ≡ placeOf cap start i
-      → r ≡ (i + 1) + indexOf (take ((p * size + getD lens p 0) - p * size) (drop (p * size) st)) (drop (i + 1) ids) → count ≤ r → distinct (drop (i + 1) ids) ≡ distinct ids
+  pub row-before : drop (i - 1) ids ≡ id ∷ drop i ids
   unfolding idsIn
-  differ-more p r inv h e f g = distinct-more (distinct ids) (ring-from (idAt size lens st) cap start count i h) inv (again p r h e f ∙ le-ltb r count g)
+  row-before =
+      let n : (i - 1) + 1 ≡ i = omega arith in
+      ring-from (idAt size lens st) cap start count (i - 1) (omega arith)
+      ∙ ap (λ (x : List ℕ). x ∷ drop ((i - 1) + 1) ids) (sym (row-id size cap start lens st (i - 1) p e))
+      ∙ ap (λ (m : ℕ). id ∷ drop m ids) n
 
-  pub differ-not : (p r : ℕ) → distinct (drop i ids) ≡ distinct ids → i < count → p ≡ placeOf cap start i
-      → r ≡ (i + 1) + indexOf (take ((p * size + getD lens p 0) - p * size) (drop (p * size) st)) (drop (i + 1) ids) → r < count → false ≡ distinct ids
-  unfolding idsIn
-  differ-not p r inv h e f g = distinct-twice (distinct ids) (ring-from (idAt size lens st) cap start count i h) inv (again p r h e f ∙ lt-ltb r count g)
+  pub differ-more : among id (drop i ids) ≡ false → distinct (drop i ids) ≡ true → distinct (drop (i - 1) ids) ≡ true
+  differ-more n d = distinct-more id (drop i ids) row-before n d
 
-  pub differ-all : distinct (drop i ids) ≡ distinct ids → count ≤ i → true ≡ distinct ids
-  unfolding idsIn
-  differ-all inv h = distinct-none (drop i ids) (distinct ids) (ring-end (idAt size lens st) cap start count i h) inv
+  pub differ-not : among id (drop i ids) ≡ true → false ≡ distinct ids
+  differ-not t = distinct-twice (i - 1) ids row-before t
+
+-- after the newest, and at the oldest
+pub ids-end : (size cap start count : ℕ) (lens st : List ℕ) → drop count (idsIn size cap start count lens st) ≡ []
+unfolding idsIn
+ids-end size cap start count lens st = ring-end (idAt size lens st) cap start count count (omega arith)
+
+pub differ-none : (l : List (List ℕ)) → l ≡ [] → distinct l ≡ true
+unfolding distinct
+differ-none l e = rw e
+
+pub differ-all : (i : ℕ) (l : List (List ℕ)) → i ≤ 0 → distinct (drop i l) ≡ true → true ≡ distinct l
+differ-all i l h d = let z : i ≡ 0 = omega arith in sym (rw z at d)
 
 -- ---- what the tests on the numbers and on the ids say of each row
 number-within : (most : ℕ) (l : List ℕ) (i : ℕ) → allUpTo most l ≡ true → i < length l → getD l i 0 ≤ most

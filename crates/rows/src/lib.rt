@@ -1,10 +1,12 @@
 // Fixed rows in age order, for the caches: where a row stands in a ring of places, and comparing ids by their bytes. A lent store has `cap`
 // places of one size; `count` of them are in use, from `start` on and from the last place to the first, the oldest first.
 ghost use mathlib.Core.Path.{_≡_};
+ghost use mathlib.Core.Bool.{false};
 ghost use Prim.Native.Nat.{_+_, _-_, _≤_};
 ghost use lib.ListN.{drop};
 ghost use Rattle.rows.specs.Rows.{placeOf};
-ghost use Rattle.rows.specs.Ids.{sameBytes, precedesBytes, indexOf, distinct};
+ghost use Rattle.rows.specs.Ids.{sameBytes, precedesBytes, indexOf, among, distinct};
+ghost use Rattle.rows.specs.Buckets.{bucketOf};
 ghost use Rattle.rows.specs.Store.{Ring, Sound, lensIn, idsIn, allUpTo};
 
 // a less b, and 0 where b is more.
@@ -106,7 +108,45 @@ pub fn find_from(
     i
 }
 
-// Whether no id stands in two rows.
+// The bucket of an id, from all of its bytes.
+fn bucket(id: &[u8]) -> usize
+    ensures { λ r. ⌜ r ≡ bucketOf (now (id .entry)) ⌝ }
+{
+    let mut x: usize = 0;
+    let mut i = id.len();
+    while 0 < i {
+        i = i - 1;
+        x = (x * 33 + id[i] as usize) % 4096;
+    }
+    x
+}
+
+// Whether an id stands in a row from the `from`-th on, where its bucket's flag is 0 only if it does not.
+fn again(
+    lens: &[u8],
+    ids: &[u8],
+    size: usize,
+    cap: usize,
+    start: usize,
+    count: usize,
+    from: usize,
+    id: &[u8],
+    flag: u8,
+) -> bool
+    requires { ⌜ Sound size cap start count (now lens) (now ids) ⌝ }
+    requires { ⌜ from ≤ count ⌝ }
+    requires { ⌜ (flag ≡ 0 → among (now id) (drop from (idsIn size cap start count (now lens) (now ids))) ≡ false) ⌝ }
+    ensures { λ r. ⌜ r ≡ among (now (id .entry)) (drop from (idsIn size cap start count (now (lens .entry)) (now (ids .entry)))) ⌝ }
+{
+    if flag == 0 {
+        return false;
+    }
+    let row = find_from(lens, ids, size, cap, start, count, from, id);
+    row < count
+}
+
+// Whether no id stands in two rows. From the newest to the oldest: equal ids have one bucket, so an id is looked for in the later rows only where
+// its bucket has been met.
 pub fn ids_differ(
     lens: &[u8],
     ids: &[u8],
@@ -118,17 +158,20 @@ pub fn ids_differ(
     requires { ⌜ Sound size cap start count (now lens) (now ids) ⌝ }
     ensures { λ r. ⌜ r ≡ distinct (idsIn size cap start count (now (lens .entry)) (now (ids .entry))) ⌝ }
 {
-    let mut i = 0;
-    while i < count {
+    let mut met = [0u8; 4096];
+    let mut i = count;
+    while 0 < i {
+        let next = i;
+        i = i - 1;
         let p = place(cap, start, i);
         let base = p * size;
         let end = base + lens[p] as usize;
-        let next = i + 1;
-        let again = find_from(lens, ids, size, cap, start, count, next, &ids[base..end]);
-        if again < count {
+        let id = &ids[base..end];
+        let b = bucket(id);
+        if again(lens, ids, size, cap, start, count, next, id, met[b]) {
             return false;
         }
-        i = next;
+        met[b] = 1;
     }
     true
 }
