@@ -1,7 +1,8 @@
 /*
- * Plays the records of the programs `inspect`, `trace` and `states` through pradulins.h, and prints their lines: on the same input the same lines are expected. What the
- * interface does not have (kinds 6 and 7 of `inspect`, 9 and 10 of `states`) prints nothing. Beside that it watches the memory of each call: a refused one
- * changes none but `values`, one that succeeds writes only what it counts, and `values` gets as many numbers as the header says.
+ * Plays the records of the programs `inspect`, `trace` and `states` through pradulins.h, and prints their lines: on the same input the same lines are
+ * expected. For what the interface does not have (kinds 6 and 7 of `inspect`, 9 and 10 of `states`) the line is the record's number and `-`. Beside that
+ * it watches the memory of each call: a refused one changes none but `values`, one that succeeds writes only what it counts, and `values` gets as many
+ * numbers as the header says. Each call on a body is made again with room that just suffices and with one byte or number less.
  */
 #include "player.h"
 
@@ -160,6 +161,12 @@ static enum next next_record(size_t most, uint64_t *kind, size_t *len)
     return fread(content, 1, *len, stdin) == *len ? RECORD : BAD;
 }
 
+static int not_there(void)
+{
+    start_line("-\n");
+    return 1;
+}
+
 /* ---- inspect */
 
 static void put_place(const uint64_t *row, const uint8_t *body, int i)
@@ -229,33 +236,58 @@ static void put_record(const uint64_t *row, const uint8_t *body)
     default:
         expect(0, "a record of no known kind");
     }
-    putchar('\n');
 }
 
-static void inspect_decode(const uint8_t *body, size_t len)
+/* A call on a body, by its kind, with so much room. */
+static uint32_t body_call(uint64_t kind, const uint8_t *body, size_t len, size_t index, size_t room)
 {
-    uint32_t r = pradulins_decode(body, len, table, PRADULINS_TABLE_WORDS, values);
-    after(r, 2, 0, r ? 0 : values[0], 1);
-    start_line("decode");
+    switch (kind) {
+    case 1:
+        return pradulins_decode(body, len, table, room, values);
+    case 2:
+        return pradulins_encode(body, len, made, room, values);
+    case 3:
+        return pradulins_sign_bytes(body, len, index, made, room, values);
+    default:
+        return pradulins_message_id(body, len, index, made, room, values);
+    }
+}
+
+/* The same call with other room: what it answered before, with the room that it needed and with none to spare; and 12 with less. */
+static void rooms(uint64_t kind, const uint8_t *body, size_t len, size_t index, uint32_t r)
+{
+    uint64_t first = values[0];
+    size_t unit = kind == 1 ? PRADULINS_RECORD_WORDS : 1, needed = r ? 0 : first * unit;
+    before();
+    uint32_t again = body_call(kind, body, len, index, needed);
+    after(again, kind == 1 ? 2 : 1, kind == 1 || again ? 0 : values[0], kind == 1 && !again ? values[0] : 0, 1);
+    expect(again == r && (count_of(r) == 0 || values[0] == first), "another answer with just enough room");
+    if (needed > 0) {
+        before();
+        again = body_call(kind, body, len, index, needed - 1);
+        after(again, 0, 0, 0, 1);
+        expect(again == PRADULINS_ROOM && values[0] == first, "no refusal 12 with too little room");
+    }
+}
+
+static void inspect_body(uint64_t kind, const char *word, const uint8_t *body, size_t len, size_t index, size_t room)
+{
+    uint32_t r = body_call(kind, body, len, index, room);
+    after(r, kind == 1 ? 2 : 1, kind == 1 || r ? 0 : values[0], kind == 1 && !r ? values[0] : 0, 1);
+    start_line(word);
     if (r) {
         put_refused(r, 1);
-        putchar('\n');
-        return;
-    }
-    printf(" ok %llu %s\n", (unsigned long long)values[0], values[1] ? "control" : "plain");
-    for (uint64_t row = 0; row < values[0]; row++)
-        put_record(table + row * PRADULINS_RECORD_WORDS, body);
-}
-
-static void inspect_made(const char *word, uint32_t r)
-{
-    after(r, 1, r ? 0 : values[0], 0, 1);
-    start_line(word);
-    if (r)
-        put_refused(r, 1);
-    else
+    } else if (kind == 1) {
+        printf(" ok %llu %s", (unsigned long long)values[0], values[1] ? "control" : "plain");
+        for (uint64_t row = 0; row < values[0]; row++) {
+            putchar('\n');
+            put_record(table + row * PRADULINS_RECORD_WORDS, body);
+        }
+    } else {
         put_made();
+    }
     putchar('\n');
+    rooms(kind, body, len, index, r);
 }
 
 static void inspect_walk(const uint8_t *body, size_t len, size_t at)
@@ -278,20 +310,16 @@ static int inspect(uint64_t kind, size_t len)
     before();
     switch (kind) {
     case 1:
-        inspect_decode(content, len);
+        inspect_body(kind, "decode", content, len, 0, PRADULINS_TABLE_WORDS);
         return 1;
     case 2:
-        inspect_made("encode", pradulins_encode(content, len, made, 65536, values));
+        inspect_body(kind, "encode", content, len, 0, 65536);
         return 1;
     case 3:
-        if (len < 2)
-            return 0;
-        inspect_made("sign", pradulins_sign_bytes(content + 2, len - 2, number_at(content, 0, 2), made, 65600, values));
-        return 1;
     case 4:
         if (len < 2)
             return 0;
-        inspect_made("id", pradulins_message_id(content + 2, len - 2, number_at(content, 0, 2), made, 65536, values));
+        inspect_body(kind, kind == 3 ? "sign" : "id", content + 2, len - 2, number_at(content, 0, 2), kind == 3 ? 65600 : 65536);
         return 1;
     case 5:
         if (len < 8)
@@ -300,7 +328,7 @@ static int inspect(uint64_t kind, size_t len)
         return 1;
     case 6:
     case 7:
-        return 1;
+        return not_there();
     default:
         return 0;
     }
@@ -522,7 +550,7 @@ static int states(uint64_t kind, size_t len)
         return hurt(len);
     case 9:
     case 10:
-        return 1;
+        return not_there();
     case 11:
         return state();
     default:
