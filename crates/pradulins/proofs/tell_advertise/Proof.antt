@@ -1,0 +1,66 @@
+-- `pradulins::tell_advertise` meets its contract: the case says what is told.
+use denote.Ref.{now}
+use mathlib.Core.Path.{refl}
+use Rattle.node.specs.Calls.{advertiseNumber}
+use Rattle.pradulins.specs.Outs.{advertiseOut}
+use Rattle.pradulins.proofs.Told.{told-as, refused-as}
+use borrow.Author.Needs.{needs}
+use Rattle.pradulins.proofs.tell_advertise.Statement.{statement}
+use Rattle.pradulins.proofs.tell_advertise.Tie as tie
+
+enum-known-answer : tie.Need-enum-known-answer
+enum-known-answer c = search needs
+
+with-requires : tie.Need-with-requires
+with-requires c κs = search needs
+
+enum-known-answer-2 : tie.Need-enum-known-answer-2
+enum-known-answer-2 c = search needs
+
+of-fault-requires : tie.Need-of-fault-requires
+of-fault-requires c κs = search needs
+
+tell-requires : tie.Need-tell-requires
+tell-requires c κs = search needs
+
+enum-known-answer-3 : tie.Need-enum-known-answer-3
+enum-known-answer-3 c = search needs
+
+with-requires-2 : tie.Need-with-requires-2
+with-requires-2 c κs = search needs
+
+enum-known-answer-4 : tie.Need-enum-known-answer-4
+enum-known-answer-4 c = search needs
+
+with-requires-3 : tie.Need-with-requires-3
+with-requires-3 c κs = search needs
+
+returns : tie.Need-returns
+returns c = told-as advertiseNumber advertiseOut (now (c .before .before .before .before .before .args .values)) (c .before .before .before .answer .given .1) (c .with .ensures)
+
+returns-2 : tie.Need-returns-2
+returns-2 c = refused-as advertiseNumber advertiseOut (now (c .before .before .before .before .before .before .args .values)) (c .before .before .before .before .answer2 .given .1) (c .before .before .of-fault .ensures) refl (c .tell .ensures)
+
+returns-3 : tie.Need-returns-3
+returns-3 c = told-as advertiseNumber advertiseOut (now (c .before .before .before .before .before .args .values)) (c .before .before .before .answer3 .given .1) (c .with2 .ensures)
+
+returns-4 : tie.Need-returns-4
+returns-4 c = told-as advertiseNumber advertiseOut (now (c .before .before .before .before .before .args .values)) (c .before .before .before .answer4 .given .1) (c .with3 .ensures)
+
+pub tell-advertise-spec : {M : Type 1} → statement M
+tell-advertise-spec =
+    tie.close
+    (tie.spec
+    enum-known-answer
+    with-requires
+    enum-known-answer-2
+    of-fault-requires
+    tell-requires
+    enum-known-answer-3
+    with-requires-2
+    enum-known-answer-4
+    with-requires-3
+    returns
+    returns-2
+    returns-3
+    returns-4)

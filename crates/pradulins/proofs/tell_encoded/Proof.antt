@@ -1,0 +1,52 @@
+-- `pradulins::tell_encoded` meets its contract: the case says what is told.
+use denote.Ref.{now}
+use Rattle.pradulins.specs.Outs.{encodedNumber, encodedOut}
+use Rattle.pradulins.proofs.Told.{told-as, refused-as, wire-values}
+use borrow.Author.Needs.{needs}
+use Rattle.pradulins.proofs.tell_encoded.Statement.{statement}
+use Rattle.pradulins.proofs.tell_encoded.Tie as tie
+
+enum-known-answer : tie.Need-enum-known-answer
+enum-known-answer c = search needs
+
+with-requires : tie.Need-with-requires
+with-requires c κs = search needs
+
+enum-known-answer-2 : tie.Need-enum-known-answer-2
+enum-known-answer-2 c = search needs
+
+with-requires-2 : tie.Need-with-requires-2
+with-requires-2 c κs = search needs
+
+enum-known-answer-3 : tie.Need-enum-known-answer-3
+enum-known-answer-3 c = search needs
+
+refusal-of-requires : tie.Need-refusal-of-requires
+refusal-of-requires c κs = search needs
+
+tell-requires : tie.Need-tell-requires
+tell-requires c κs = search needs
+
+returns : tie.Need-returns
+returns c = told-as encodedNumber encodedOut (now (c .before .before .before .before .before .args .values)) (c .before .before .before .answer .given .1) (c .with .ensures)
+
+returns-2 : tie.Need-returns-2
+returns-2 c = told-as encodedNumber encodedOut (now (c .before .before .before .before .before .args .values)) (c .before .before .before .answer2 .given .1) (c .with2 .ensures)
+
+returns-3 : tie.Need-returns-3
+returns-3 c = refused-as encodedNumber encodedOut (now (c .before .before .before .before .before .before .args .values)) (c .before .before .before .before .answer3 .given .1) (c .before .before .refusal-of .ensures) (wire-values (c .before .before .before .before .answer3 .given .0 .0)) (c .tell .ensures)
+
+pub tell-encoded-spec : {M : Type 1} → statement M
+tell-encoded-spec =
+    tie.close
+    (tie.spec
+    enum-known-answer
+    with-requires
+    enum-known-answer-2
+    with-requires-2
+    enum-known-answer-3
+    refusal-of-requires
+    tell-requires
+    returns
+    returns-2
+    returns-3)

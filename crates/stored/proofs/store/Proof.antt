@@ -1,0 +1,70 @@
+-- `stored::store` meets its contract.
+use Prim.Native.Nat.{ℕ}
+use borrow.Author.Needs.{length-unmapped}
+use Rattle.stored.specs.Layout.{headOf}
+use Rattle.stored.proofs.Parts.{node-written}
+use borrow.Author.Needs.{needs}
+use Rattle.stored.proofs.store.Statement.{statement}
+use Rattle.stored.proofs.store.Tie as tie
+use Rattle.stored.proofs.store.Reads as reads
+use Rattle.stored.proofs.store.Lts as lts
+use Rattle.protobuf.proofs.put_bytes.Reads as put-bytes-reads
+use Rattle.stored.proofs.write_halves.Reads as write-halves-reads
+use Rattle.stored.proofs.write_words.Reads as write-words-reads
+
+slice-aggregate-write-words : tie.Need-slice-aggregate-write-words
+slice-aggregate-write-words c = search needs
+
+write-words-requires : tie.Need-write-words-requires
+write-words-requires c κs = search needs
+
+write-words-requires-2 : tie.Need-write-words-requires-2
+write-words-requires-2 c κs = search needs
+
+write-words-requires-3 : tie.Need-write-words-requires-3
+write-words-requires-3 c κs = search needs
+
+write-halves-requires : tie.Need-write-halves-requires
+write-halves-requires c κs = search needs
+
+put-bytes-requires : tie.Need-put-bytes-requires
+put-bytes-requires c κs = search needs
+
+put-bytes-requires-2 : tie.Need-put-bytes-requires-2
+put-bytes-requires-2 c κs = search needs
+
+put-bytes-requires-3 : tie.Need-put-bytes-requires-3
+put-bytes-requires-3 c κs = search needs
+
+put-bytes-requires-4 : tie.Need-put-bytes-requires-4
+put-bytes-requires-4 c κs = search needs
+
+returns : tie.Need-returns
+unfolding headOf
+returns c =
+    let n = (c .before .before .before .before .before .before .before .before .before .before .before .before .before .before .before .before .before .before .before .before .before .before .before .before .before .before .before .before .before .before .before .before .before .before .before .before .before .before .args .t1) in
+    let g = (c .before .before .before .before .before .before .before .before .before .before .before .before .before .before .before .before .before .before .before .before .before .before .before .before .before .before .before .before .before .before .before .before .before .before .before .before .before .before .good .0) in
+    node-written n (c .before .before .before .before .before .before .before .before .before .before .before .before .before .before .before .before .before .before .before .before .before .before .before .before .before .before .before .before .before .before .before .before .before .before .before .before .before .before .args .out .now) _ _ _ _ _ _ _ _ (c .before .before .before .before .before .before .before .before .before .before .before .before .before .before .before .before .before .before .before .before .before .before .before .before .before .before .before .before .before .before .before .before .before .before .before .before .before .write-words-arg .given .0 .1)
+    (length-unmapped ℕ (n .seen .expiry) 256 (g .1 .1 .1 .1 .1 .0 .1 .1 .1 .1 .0 .1 .0 .1))
+    (length-unmapped ℕ (n .cache .generation) 64 (g .1 .1 .1 .1 .1 .1 .0 .1 .1 .1 .1 .1 .1 .1 .0 .1 .0 .1))
+    (length-unmapped ℕ (n .cache .len) 64 (g .1 .1 .1 .1 .1 .1 .0 .1 .1 .1 .1 .1 .1 .1 .1 .1 .0 .1 .0 .1))
+    (length-unmapped ℕ (n .seen .len) 256 (g .1 .1 .1 .1 .1 .0 .1 .1 .1 .1 .1 .0 .1 .0 .1))
+    (length-unmapped ℕ (n .cache .window) 64 (g .1 .1 .1 .1 .1 .1 .0 .1 .1 .1 .1 .1 .1 .1 .1 .0 .1 .0 .1))
+    (length-unmapped ℕ (n .cache .«id_len») 64 (g .1 .1 .1 .1 .1 .1 .0 .1 .1 .1 .1 .1 .1 .1 .1 .1 .1 .0 .1 .0 .1))
+    (length-unmapped ℕ (n .cache .ids) 8192 (g .1 .1 .1 .1 .1 .1 .0 .1 .1 .1 .1 .1 .1 .1 .1 .1 .1 .1 .0 .1 .0 .1))
+    (c .before .before .before .before .before .before .before .before .before .before .before .before .before .before .before .before .before .before .before .before .before .before .before .before .before .before .before .before .before .before .before .before .before .before .before .write-words .ensures) (c .before .before .before .before .before .before .before .before .before .before .before .before .before .before .before .before .before .before .before .before .before .before .before .before .before .before .before .before .before .before .write-words2 .ensures) (c .before .before .before .before .before .before .before .before .before .before .before .before .before .before .before .before .before .before .before .before .before .before .before .before .before .write-words3 .ensures) (c .before .before .before .before .before .before .before .before .before .before .before .before .before .before .before .before .before .before .before .before .write-halves .ensures) (c .before .before .before .before .before .before .before .before .before .before .before .before .before .before .before .put-bytes .ensures .1) (c .before .before .before .before .before .before .before .before .before .before .put-bytes2 .ensures .1) (c .before .before .before .before .before .put-bytes3 .ensures .1) (c .put-bytes4 .ensures .1)
+
+pub store-spec : {M : Type 1} → statement M
+store-spec =
+    tie.close
+    (tie.spec
+    slice-aggregate-write-words
+    write-words-requires
+    write-words-requires-2
+    write-words-requires-3
+    write-halves-requires
+    put-bytes-requires
+    put-bytes-requires-2
+    put-bytes-requires-3
+    put-bytes-requires-4
+    returns)

@@ -1,0 +1,181 @@
+// A node as bytes that a host keeps between two calls: 11,344 of them, each number with its lowest byte first. Every such bytes are some node; whether
+// it is well formed each call tests.
+ghost use mathlib.Core.Path.{_≡_};
+ghost use Prim.Native.Nat.{_+_, _*_, _≤_};
+ghost use lib.ListN.{length, take, drop};
+ghost use lib.Seq.{sets};
+ghost use Rattle.stored.specs.Layout.{bytesOf, numberOf, spread, gathered, nodeBytes, nodeIn};
+use mcache::MessageCache;
+use node::Node;
+use protobuf::put_bytes;
+use seen::SeenCache;
+
+pub const NODE_SIZE: usize = 11344;
+
+// ---- reading
+
+// The number in the 8 bytes at a place.
+fn read_word(s: &[u8], at: usize) -> u64
+    requires { ⌜ at + 8 ≤ length (now s) ⌝ }
+    ensures { λ r. ⌜ r ≡ numberOf (take 8 (drop at (now (s .entry)))) ⌝ }
+{
+    let mut v: u64 = 0;
+    let mut i: usize = 8;
+    while 0 < i {
+        i -= 1;
+        v = s[at + i] as u64 + v * 256;
+    }
+    v
+}
+
+// The numbers in the bytes from a place on, 8 bytes each, as many as out holds.
+fn read_words(s: &[u8], at: usize, out: &mut [u64])
+    requires { ⌜ at + 8 * length (now out) ≤ length (now s) ⌝ }
+    ensures { λ _. ⌜ now (out .exit) ≡ gathered 8 (length (now (out .entry))) (drop at (now (s .entry))) ⌝ }
+{
+    let mut i: usize = 0;
+    while i < out.len() {
+        out[i] = read_word(s, at + i * 8);
+        i += 1;
+    }
+}
+
+// And those of 2 bytes each.
+fn read_halves(s: &[u8], at: usize, out: &mut [u16])
+    requires { ⌜ at + 2 * length (now out) ≤ length (now s) ⌝ }
+    ensures { λ _. ⌜ now (out .exit) ≡ gathered 2 (length (now (out .entry))) (drop at (now (s .entry))) ⌝ }
+{
+    let mut i: usize = 0;
+    while i < out.len() {
+        let p = at + i * 2;
+        out[i] = s[p] as u16 + s[p + 1] as u16 * 256;
+        i += 1;
+    }
+}
+
+// The ids seen.
+fn seen_in(s: &[u8]) -> SeenCache
+    requires { ⌜ length (now s) ≡ 11344 ⌝ }
+    ensures { λ r. ⌜ r ≡ (nodeIn (now (s .entry))) .seen ⌝ }
+{
+    let mut expiry = [0u64; 256];
+    read_words(s, 80, &mut expiry);
+    let mut len = [0u8; 256];
+    put_bytes(&mut len, 0, &s[2768..3024]);
+    SeenCache {
+        start: read_word(s, 24) as usize,
+        count: read_word(s, 32) as usize,
+        expiry: expiry,
+        len: len,
+    }
+}
+
+// The messages held.
+fn cache_in(s: &[u8]) -> MessageCache
+    requires { ⌜ length (now s) ≡ 11344 ⌝ }
+    ensures { λ r. ⌜ r ≡ (nodeIn (now (s .entry))) .cache ⌝ }
+{
+    let mut generation = [0u64; 64];
+    read_words(s, 2128, &mut generation);
+    let mut len = [0u16; 64];
+    read_halves(s, 2640, &mut len);
+    let mut window = [0u8; 64];
+    put_bytes(&mut window, 0, &s[3024..3088]);
+    let mut id_len = [0u8; 64];
+    put_bytes(&mut id_len, 0, &s[3088..3152]);
+    let mut ids = [0u8; 8192];
+    put_bytes(&mut ids, 0, &s[3152..11344]);
+    MessageCache {
+        history_len: read_word(s, 40) as usize,
+        max_messages: read_word(s, 48) as usize,
+        next_generation: read_word(s, 56),
+        start: read_word(s, 64) as usize,
+        count: read_word(s, 72) as usize,
+        generation: generation,
+        window: window,
+        len: len,
+        id_len: id_len,
+        ids: ids,
+    }
+}
+
+// The node that bytes are.
+pub fn load(bytes: &[u8; 11344]) -> Node
+    ensures { λ r. ⌜ r ≡ nodeIn (now (bytes .entry)) ⌝ }
+{
+    Node {
+        ttl: read_word(bytes, 0),
+        max_seen: read_word(bytes, 8) as usize,
+        clock: read_word(bytes, 16),
+        seen: seen_in(bytes),
+        cache: cache_in(bytes),
+    }
+}
+
+// ---- writing
+
+// The 8 bytes of a number, at a place.
+fn write_word(out: &mut [u8], at: usize, value: u64)
+    requires { ⌜ at + 8 ≤ length (now out) ⌝ }
+    ensures { λ _. ⌜ now (out .exit) ≡ sets (now (out .entry)) at (bytesOf 8 value) ⌝ }
+{
+    let mut v = value;
+    let mut i: usize = 0;
+    while i < 8 {
+        out[at + i] = (v % 256) as u8;
+        v = v / 256;
+        i += 1;
+    }
+}
+
+// The bytes of numbers, 8 each, from a place on.
+fn write_words(out: &mut [u8], at: usize, values: &[u64])
+    requires { ⌜ at + 8 * length (now values) ≤ length (now out) ⌝ }
+    ensures { λ _. ⌜ now (out .exit) ≡ sets (now (out .entry)) at (spread 8 (now (values .entry))) ⌝ }
+{
+    let mut i: usize = 0;
+    while i < values.len() {
+        write_word(out, at + i * 8, values[i]);
+        i += 1;
+    }
+}
+
+// And 2 each.
+fn write_halves(out: &mut [u8], at: usize, values: &[u16])
+    requires { ⌜ at + 2 * length (now values) ≤ length (now out) ⌝ }
+    ensures { λ _. ⌜ now (out .exit) ≡ sets (now (out .entry)) at (spread 2 (now (values .entry))) ⌝ }
+{
+    let mut i: usize = 0;
+    while i < values.len() {
+        let p = at + i * 2;
+        out[p] = (values[i] % 256) as u8;
+        out[p + 1] = (values[i] / 256) as u8;
+        i += 1;
+    }
+}
+
+// The bytes of a node.
+pub fn store(node: Node, out: &mut [u8; 11344])
+    ensures { λ _. ⌜ now (out .exit) ≡ nodeBytes node ⌝ }
+{
+    let head = [
+        node.ttl,
+        node.max_seen as u64,
+        node.clock,
+        node.seen.start as u64,
+        node.seen.count as u64,
+        node.cache.history_len as u64,
+        node.cache.max_messages as u64,
+        node.cache.next_generation,
+        node.cache.start as u64,
+        node.cache.count as u64,
+    ];
+    write_words(out, 0, &head);
+    write_words(out, 80, &node.seen.expiry);
+    write_words(out, 2128, &node.cache.generation);
+    write_halves(out, 2640, &node.cache.len);
+    put_bytes(out, 2768, &node.seen.len);
+    put_bytes(out, 3024, &node.cache.window);
+    put_bytes(out, 3088, &node.cache.id_len);
+    put_bytes(out, 3152, &node.cache.ids);
+}
