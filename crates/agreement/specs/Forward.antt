@@ -1,9 +1,8 @@
 -- An admit whose reading is not before the clock is not refused by 31.
 use Prim.Native.Nat.{ℕ, _≤_}
-use mathlib.Core.Path.{_≡_, refl}
+use mathlib.Core.Path.{_≡_}
 use mathlib.Core.Bool.{Bool}
 use mathlib.Core.List.{List, _∷_}
-use lib.Dec.{ltb}
 use borrow.Author.Tests.{le-ltb}
 use Rattle.basis.specs.Cases.{clash}
 use Rattle.protobuf.specs.declared.Checked.{Checked}
@@ -20,8 +19,8 @@ use Rattle.node.specs.declared.Lent.{Lent}
 use Rattle.node.specs.declared.Lent.the-variants as lent
 use Rattle.node.specs.declared.Admit.the-variants as answer
 use Rattle.node.specs.declared.Fault.{Fault}
-use Rattle.node.specs.Calls.{Plan, no, taken, onLent, lentOf, planFit, planAt, planBody, planned}
-use Rattle.agreement.specs.History.{State, Call, admit, planIn}
+use Rattle.node.specs.Calls.{no, onLent, lentOf, planFit, planAt, planBody, planned}
+use Rattle.agreement.specs.History.{State, planIn}
 use Rattle.agreement.specs.Premises.{Settings}
 use Rattle.agreement.specs.Holding.{Holding, admit-forward}
 
@@ -46,6 +45,6 @@ module _ (n : Node) (at : ℕ) (h : n .clock ≤ at) (k : ℕ) where
   unfolding planned
   never-back ss cs body i word e = of-lent word body i (lentOf n ss cs) e
 
-pub admit-not-back : {set : List (List ℕ)} {x : Settings} {got : List (List ℕ)} {s : State} (body : List ℕ) (i : ℕ) (word : Bool) (at : ℕ) (cs : List Call)
-    → Holding set x (admit body i word at ∷ cs) got s → (k : ℕ) → planIn s body i word at ≡ no (answer.ClockBack k) → ⊥
-admit-not-back {set} {x} {got} {s} body i word at cs h k e = never-back (s .node) at (admit-forward body i word at cs h) k (s .ids) (s .messages) body i word e
+pub admit-not-back : {set : List (List ℕ)} {x : Settings} {first past : ℕ} {got : List (List ℕ)} {s : State} (body : List ℕ) (i : ℕ) (word : Bool) (at : ℕ) {rs : List ℕ} {left : ℕ}
+    → Holding set x first past (at ∷ rs) left got s → (k : ℕ) → planIn s body i word at ≡ no (answer.ClockBack k) → ⊥
+admit-not-back {s} body i word at h k e = never-back (s .node) at (admit-forward body i word at h) k (s .ids) (s .messages) body i word e

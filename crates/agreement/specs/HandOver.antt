@@ -199,7 +199,8 @@ module _ (b : Node) (bs bc topic : List ℕ) (windows : ℕ) (fine : lentOf b bs
       subst (λ (l : List (List ℕ)). Within (advertiseBytes b bc topic windows) (advertisement topic l)) told-is
       (advertise-means b bs bc topic windows fine bytes short (λ e. there (sym told-is ∙ e)))
 
-  advert-rpc : (x : Rpc) × (Within (advertiseBytes b bc topic windows) x) × (offersOf x ≡ toldOf topic windows (gatewayIn b bs bc))
+  -- it is a body within capacity, also where it is empty
+  pub advert-rpc : (x : Rpc) × (Within (advertiseBytes b bc topic windows) x) × (offersOf x ≡ toldOf topic windows (gatewayIn b bs bc))
   unfolding advertisement
   advert-rpc =
       by-cases (toldOf topic windows (gatewayIn b bs bc))
@@ -225,7 +226,7 @@ module _ (b : Node) (bs bc topic : List ℕ) (windows : ℕ) (fine : lentOf b bs
     pub request-names : unseenOf a «as» (offered (advertiseBytes b bc topic windows)) ≡ lacking (gatewayIn a «as» ac) (toldOf topic windows (gatewayIn b bs bc))
     request-names = ap (unseenOf a «as») advert-offers ∙ unseen-gateway a «as» ac (toldOf topic windows (gatewayIn b bs bc))
 
-    request-is : askBytes a «as» (advertiseBytes b bc topic windows) ≡ bytesFor asked (request asked)
+    pub request-is : askBytes a «as» (advertiseBytes b bc topic windows) ≡ bytesFor asked (request asked)
     unfolding askBytes
     request-is = ap (λ (l : List (List ℕ)). bytesFor l (request l)) request-names
 
@@ -247,7 +248,7 @@ module _ (b : Node) (bs bc topic : List ℕ) (windows : ℕ) (fine : lentOf b bs
     unfolding lacking
     some-told there e = there (ap (lacking (gatewayIn a «as» ac)) e)
 
-    request-meant : (asked ≡ [] → ⊥) → Within (askBytes a «as» (advertiseBytes b bc topic windows)) (request asked)
+    pub request-meant : (asked ≡ [] → ⊥) → Within (askBytes a «as» (advertiseBytes b bc topic windows)) (request asked)
     unfolding advertiseBytes
     request-meant there =
         let t = toldOf topic windows (gatewayIn b bs bc) in
@@ -256,7 +257,8 @@ module _ (b : Node) (bs bc topic : List ℕ) (windows : ℕ) (fine : lentOf b bs
         let w : Within (encodeRpc (advertisement topic t)) (advertisement topic t) = subst (λ (s : List ℕ). Within s (advertisement topic t)) e (advert-means (some-told there)) in
         subst (λ (s : List ℕ). Within s (request asked)) (sym (request-is ∙ some-bytes asked (request asked) there)) (request-within (gatewayIn a «as» ac) topic t w)
 
-    request-rpc : (x : Rpc) × (Within (askBytes a «as» (advertiseBytes b bc topic windows)) x) × (wantsOf x ≡ asked)
+    -- and so is the request
+    pub request-rpc : (x : Rpc) × (Within (askBytes a «as» (advertiseBytes b bc topic windows)) x) × (wantsOf x ≡ asked)
     unfolding request
     request-rpc =
         by-cases asked

@@ -1,11 +1,14 @@
 -- Histories of a gateway: a fresh node, and calls one after the other, each lent the node and stores as the last one left them, refused calls
 -- included. A call is its input; what it answers and leaves are the definitions that its contract cites.
 use Prim.Native.Nat.{ℕ, _+_}
-use mathlib.Core.Bool.{Bool, cond, _&&_, not}
+use mathlib.Core.Path.{_≡_}
+use mathlib.Core.Bool.{Bool, cond}
 use mathlib.Core.List.{List, [], _∷_, _++_}
 use Rattle.rows.specs.Ids.{sameBytes}
 use Rattle.node.specs.declared.Node.{Node}
-use Rattle.node.specs.Calls.{Plan, no, taken, planned, heldAt, admitNode, admitSeen, admitCache, beatNode}
+use Rattle.node.specs.declared.Admit.{Admit}
+use Rattle.node.specs.declared.Admit.the-variants as answer
+use Rattle.node.specs.Calls.{Plan, no, taken, planned, admitNumber, admitAnswer, admitNode, admitSeen, admitCache, beatNumber, beatAnswer, beatNode, advertiseNumber, advertiseAnswer, askNumber, askAnswer, serveNumber, serveAnswer}
 
 -- a node with its two stores
 pub record State : Type 0 where
@@ -67,33 +70,58 @@ unfoldable pub beats : List Call → ℕ
 beats [] = 0
 beats (c ∷ cs) = beat c + beats cs
 
--- ---- how often a message is got, and how often it is answered new
-abbrev pub gets : List ℕ → Plan → ℕ
-gets m (no r) = 0
-gets m (taken p id) = cond (sameBytes p m) 1 0
+-- ---- refusals: the number of the one that a call meets, 0 where it is done
+abbrev pub refusalAt : State → Call → ℕ
+refusalAt s (admit body i word at) = admitNumber (admitAnswer (s .node) (s .ids) at (planIn s body i word at))
+refusalAt s (heartbeat at) = beatNumber (beatAnswer (s .node) (s .ids) (s .messages) at)
+refusalAt s (advertise topic windows out) = advertiseNumber (advertiseAnswer (s .node) (s .ids) (s .messages) topic windows out)
+refusalAt s (ask body out) = askNumber (askAnswer (s .node) (s .ids) (s .messages) body out)
+refusalAt s (serve body out) = serveNumber (serveAnswer (s .node) (s .ids) (s .messages) body out)
 
-abbrev pub news : List ℕ → State → ℕ → Plan → ℕ
-news m s at (no r) = 0
-news m s at (taken p id) = cond (sameBytes p m && not (heldAt (s .node) (s .ids) at id)) 1 0
+pub data NoneRefused : List Call → State → Type 0 where
+  all-done : {s : State} → NoneRefused [] s
+  done : {c : Call} {cs : List Call} {s : State} → refusalAt s c ≡ 0 → NoneRefused cs (after c s) → NoneRefused (c ∷ cs) s
 
-abbrev pub gotAt : List ℕ → State → Call → ℕ
-gotAt m s (admit body i word at) = gets m (planIn s body i word at)
-gotAt m s (heartbeat at) = 0
-gotAt m s (advertise topic windows out) = 0
-gotAt m s (ask body out) = 0
-gotAt m s (serve body out) = 0
+-- ---- how often a message is got, and how often it is answered new, and duplicate
+abbrev pub isNew : Admit → ℕ
+isNew answer.New = 1
+isNew answer.Duplicate = 0
+isNew (answer.Faulty why) = 0
+isNew (answer.Refused why) = 0
+isNew (answer.NoMessage n) = 0
+isNew (answer.Unfit why) = 0
+isNew (answer.ClockBack clock) = 0
 
-abbrev pub newAt : List ℕ → State → Call → ℕ
-newAt m s (admit body i word at) = news m s at (planIn s body i word at)
-newAt m s (heartbeat at) = 0
-newAt m s (advertise topic windows out) = 0
-newAt m s (ask body out) = 0
-newAt m s (serve body out) = 0
+abbrev pub isDuplicate : Admit → ℕ
+isDuplicate answer.New = 0
+isDuplicate answer.Duplicate = 1
+isDuplicate (answer.Faulty why) = 0
+isDuplicate (answer.Refused why) = 0
+isDuplicate (answer.NoMessage n) = 0
+isDuplicate (answer.Unfit why) = 0
+isDuplicate (answer.ClockBack clock) = 0
 
-unfoldable pub timesGot : List ℕ → List Call → State → ℕ
-timesGot m [] s = 0
-timesGot m (c ∷ cs) s = gotAt m s c + timesGot m cs (after c s)
+-- an admit that takes the message counts as its answer counts, and no other call does
+abbrev pub countPlan : (Admit → ℕ) → List ℕ → State → ℕ → Plan → ℕ
+countPlan f m s at (no r) = 0
+countPlan f m s at (taken p id) = cond (sameBytes p m) (f (admitAnswer (s .node) (s .ids) at (taken p id))) 0
 
-unfoldable pub timesNew : List ℕ → List Call → State → ℕ
-timesNew m [] s = 0
-timesNew m (c ∷ cs) s = newAt m s c + timesNew m cs (after c s)
+abbrev pub countAt : (Admit → ℕ) → List ℕ → State → Call → ℕ
+countAt f m s (admit body i word at) = countPlan f m s at (planIn s body i word at)
+countAt f m s (heartbeat at) = 0
+countAt f m s (advertise topic windows out) = 0
+countAt f m s (ask body out) = 0
+countAt f m s (serve body out) = 0
+
+unfoldable pub times : (Admit → ℕ) → List ℕ → List Call → State → ℕ
+times f m [] s = 0
+times f m (c ∷ cs) s = countAt f m s c + times f m cs (after c s)
+
+abbrev pub timesGot : List ℕ → List Call → State → ℕ
+timesGot m calls s = times (λ r. 1) m calls s
+
+abbrev pub timesNew : List ℕ → List Call → State → ℕ
+timesNew m calls s = times isNew m calls s
+
+abbrev pub timesDuplicate : List ℕ → List Call → State → ℕ
+timesDuplicate m calls s = times isDuplicate m calls s

@@ -1,37 +1,42 @@
 -- What a gateway holds in a history under the premises: the messages got, each once, the oldest first. Their marked ids are the ids seen, they are
 -- the messages cached, and nothing ever leaves.
-use Prim.Native.Nat.{ℕ, zero, suc, _+_, _-_, _^_, _≤_, _<_, min}
+use Prim.Native.Nat.{ℕ, zero, suc, _+_, _-_, _*_, _^_, _≤_, _<_}
 use mathlib.Core.Path.{_≡_, refl, sym, ap, subst, _∙_}
-use mathlib.Core.Bool.{Bool, true, false, cond, not, _&&_, _||_, Bool·not-not}
-use mathlib.Core.List.{List, [], _∷_, _++_, append-nil}
+use mathlib.Core.Bool.{Bool, true, false, cond, not, _||_, Bool·not-not}
+use mathlib.Core.List.{List, [], _∷_, _++_, append-nil, append-assoc}
 use native.Mathlib.Omega.{arith}
 use native.Mathlib.Nat.{zero-lt-suc}
-use lib.ListN.{length, getD, drop, length-append}
-use lib.Dec.{leb, ltb}
+use lib.ListN.{length, getD, drop, set, length-append}
+use lib.Seq.{sets}
+use lib.Dec.{leb, ltb, eqb}
 use borrow.Author.Tests.{leb-true, le-leb}
 use Rattle.basis.specs.Cases.{either, clash, both}
-use Rattle.rows.specs.Rows.{newest}
+use Rattle.basis.specs.Bytes.{Bytes}
+use Rattle.rows.specs.Rows.{placeOf}
 use Rattle.rows.specs.Ids.{sameBytes, among, distinct}
-use Rattle.rows.specs.IdsLaws.{same-self, same-equal, among-append, distinct-snoc}
+use Rattle.rows.specs.IdsLaws.{same-equal, among-append, distinct-snoc}
 use Rattle.admission.specs.Admission.{givesId}
-use Rattle.seen.specs.Entries.{Entry, holds, until, inserted, live}
-use Rattle.mcache.specs.Messages.{Cached, held, put, shift}
-use Rattle.mcache.specs.CachedLaws.{newest-more, new}
+use Rattle.seen.specs.Entries.{Entry, holds, until, inserted}
+use Rattle.mcache.specs.declared.MessageCache.{MessageCache}
+use Rattle.mcache.specs.Messages.{held}
+use Rattle.mcache.specs.State.{dropped}
+use Rattle.mcache.specs.Calls.{indexIn, enteredStore, storedUnder}
+use Rattle.mcache.specs.CachedLaws.{newest-more}
 use Rattle.mcache.specs.Readers.{room-keeps-all}
 use Rattle.node.specs.declared.Node.{Node}
-use Rattle.node.specs.declared.Lent.the-variants as lent
 use Rattle.node.specs.declared.Admit.{Admit}
 use Rattle.node.specs.declared.Beat.the-variants as beat
 use Rattle.node.specs.Gateway.{Gateway, started, marked, isNew, afterAdmit, afterBeat}
-use Rattle.node.specs.State.{gatewayIn, legalSettings, freshNode, risesFrom}
-use Rattle.node.specs.Calls.{Plan, no, taken, planned, lentOf, heldAt, admitNode, admitSeen, admitCache, beatAnswer, beatNode}
-use Rattle.node.specs.WellFormed.{Typed, Reached, begun, admitted, beaten}
-use Rattle.node.specs.Laws.{Takes, plan-takes, fresh-gateway, is-new, admit-gateway, beat-says, beat-gateway}
+use Rattle.node.specs.State.{gatewayIn, freshNode, risesFrom}
+use Rattle.node.specs.Calls.{Plan, no, taken, heldAt, admitCache, beatAnswer}
+use Rattle.node.specs.WellFormed.{Reached, begun, admitted, beaten}
+use Rattle.node.specs.Laws.{plan-takes, fresh-gateway, is-new, admit-gateway, beat-says, beat-gateway}
 use Rattle.node.specs.WellFormedLaws.{reached-fine, reached-typed}
 use Rattle.outputs.specs.Replied.{all-few}
-use Rattle.agreement.specs.History.{State, Call, admit, heartbeat, advertise, ask, serve, planIn, after, afterAll, readings, beats}
-use Rattle.agreement.specs.Premises.{MessageSet, Settings, Fresh, Member, MemberAt, Members, none-left, member, Premises}
-use Rattle.agreement.specs.Rows.{Row, Rows, none, row, rows-snoc, rows-lengths, rows-live, rows-shift, rows-held}
+use Rattle.agreement.specs.History.{State, Call, admit, heartbeat, advertise, ask, serve, planIn, after, afterAll, reading, readings, beat, beats}
+use Rattle.agreement.specs.Premises.{MessageSet, Settings, Fresh, Member, MemberAt, Members, member, Clock, Premises}
+use Rattle.agreement.specs.Round.{gatewayOf}
+use Rattle.agreement.specs.Rows.{Rows, none, rows-snoc, rows-lengths, rows-live, rows-shift, rows-held}
 
 -- ---- the messages got, each once, the oldest first
 abbrev pub withGot : List ℕ → List (List ℕ) → List (List ℕ)
@@ -241,26 +246,17 @@ pub reads-kept : {x : Settings} {first past clock at : ℕ} {rs : List ℕ} {lef
 reads-kept {x} {first} {past} {clock} {at} {rs} r =
     record { rises = rises-less clock at rs (r .forward) (r .rest .rises); from-first = r .rest .from-first; lasting = r .rest .lasting; few = r .rest .few }
 
--- a call that is no heartbeat
-no-beat : {x : Settings} {first past clock : ℕ} {rs : List ℕ} (left : ℕ) → Ahead x first past clock rs (0 + left) → Ahead x first past clock rs left
-no-beat left a = let f = a .few in record { rises = a .rises; from-first = a .from-first; lasting = a .lasting; few = omega arith }
-
 until-small : (at first ttl : ℕ) → at < until first ttl → at < 2 ^ 64
 unfolding until
 until-small at first ttl h = omega arith
 
--- ---- a state of a history, with the calls still to come
-abbrev pub gatewayOf : State → Gateway
-gatewayOf s = gatewayIn (s .node) (s .ids) (s .messages)
-
-pub record Holding (set : List (List ℕ)) (x : Settings) (calls : List Call) (got : List (List ℕ)) (s : State) : Type 0 where
-  -- the first reading of the history, and the heartbeats so far
-  pub first : ℕ
-  pub past : ℕ
+-- ---- a state of a history, with the readings and heartbeats still to come
+-- `first` is the first reading of the history, `past` are the heartbeats so far
+pub record Holding (set : List (List ℕ)) (x : Settings) (first past : ℕ) (rs : List ℕ) (left : ℕ) (got : List (List ℕ)) (s : State) : Type 0 where
   pub reached : Reached (s .node) (s .ids) (s .messages)
   pub held : Holds set x first past got (gatewayOf s)
-  pub members : Members set calls s
-  pub ahead : Ahead x first past (gatewayOf s .clock) (readings calls) (beats calls)
+  pub bytes : Bytes (s .messages)
+  pub ahead : Ahead x first past (gatewayOf s .clock) rs left
 
 node-clock : (s : State) → gatewayOf s .clock ≡ s .node .clock
 unfolding gatewayIn
@@ -281,31 +277,35 @@ until-within : (r first ttl : ℕ) → r < first + ttl → r < 2 ^ 64 - 1 → r 
 unfolding until
 until-within r first ttl h k = omega arith
 
-module _ {set : List (List ℕ)} {x : Settings} {calls : List Call} {s : State} (p : Premises set x calls s) where
-  pub holding-start : Holding set x calls [] s
-  holding-start =
-      let f = p .fresh in
-      let first = getD (readings calls) 0 0 in
-      let n = freshNode (x .ttl) (x .max-seen) (x .history-len) (x .max-messages) in
-      let g : gatewayOf s ≡ started (x .ttl) (x .max-seen) (x .history-len) (x .max-messages) =
-      ap (λ (m : Node). gatewayIn m (s .ids) (s .messages)) (f .node) ∙ fresh-gateway (x .ttl) (x .max-seen) (x .history-len) (x .max-messages) (s .ids) (s .messages) in
-      record {
-        first = first;
-        past = 0;
-        reached =
-            subst (λ (m : Node). Reached m (s .ids) (s .messages)) (sym (f .node))
-            (begun (x .ttl) (x .max-seen) (x .history-len) (x .max-messages) (s .ids) (s .messages) (f .small) (f .legal) (f .ids) (f .messages));
-        held = subst (λ (h : Gateway). Holds set x first 0 [] h) (sym g) (started-holds first (p .set-seen) (p .set-cached));
-        members = p .members;
-        ahead =
-            subst (λ (c : ℕ). Ahead x first 0 c (readings calls) (beats calls)) (sym (ap (λ (h : Gateway). h .clock) g ∙ started-clock x))
-            (record {
-              rises = p .rises;
-              from-first = first-least (readings calls) (p .rises);
-              lasting = λ i h. until-within (getD (readings calls) i 0) first (x .ttl) (p .within-ttl i h) (p .below-last i h);
-              few = let b = p .few-heartbeats in omega arith;
-            });
-      }
+pub holding-fresh : {set : List (List ℕ)} {x : Settings} {s : State} (rs : List ℕ) (left : ℕ) → Fresh x s → length set ≤ x .max-seen → length set ≤ x .max-messages → Clock x rs
+    → left < x .history-len → Holding set x (getD rs 0 0) 0 rs left [] s
+holding-fresh {set} {x} {s} rs left f room-seen room-cached k few =
+    let first = getD rs 0 0 in
+    let n = freshNode (x .ttl) (x .max-seen) (x .history-len) (x .max-messages) in
+    let g : gatewayOf s ≡ started (x .ttl) (x .max-seen) (x .history-len) (x .max-messages) =
+    ap (λ (m : Node). gatewayIn m (s .ids) (s .messages)) (f .node) ∙ fresh-gateway (x .ttl) (x .max-seen) (x .history-len) (x .max-messages) (s .ids) (s .messages) in
+    record {
+      reached =
+          subst (λ (m : Node). Reached m (s .ids) (s .messages)) (sym (f .node))
+          (begun (x .ttl) (x .max-seen) (x .history-len) (x .max-messages) (s .ids) (s .messages) (f .small) (f .legal) (f .ids) (f .messages));
+      held = subst (λ (h : Gateway). Holds set x first 0 [] h) (sym g) (started-holds first room-seen room-cached);
+      bytes = f .bytes;
+      ahead =
+          subst (λ (c : ℕ). Ahead x first 0 c rs left) (sym (ap (λ (h : Gateway). h .clock) g ∙ started-clock x))
+          (record {
+            rises = k .rises;
+            from-first = first-least rs (k .rises);
+            lasting = λ i h. until-within (getD rs i 0) first (x .ttl) (k .within-ttl i h) (k .below-last i h);
+            few = omega arith;
+          });
+    }
+
+abbrev pub firstOf : List Call → ℕ
+firstOf calls = getD (readings calls) 0 0
+
+pub holding-start : {set : List (List ℕ)} {x : Settings} {calls : List Call} {s : State} → Premises set x calls s
+    → Holding set x (firstOf calls) 0 (readings calls) (beats calls) [] s
+holding-start {set} {x} {calls} {s} p = holding-fresh (readings calls) (beats calls) (p .fresh) (p .set-seen) (p .set-cached) (p .clock) (p .few-heartbeats)
 
 -- ---- an admit: a refused one changes nothing; one that takes a message of the set
 after-admit-clock : (at : ℕ) (m id : List ℕ) (g : Gateway) → afterAdmit at m id g .clock ≡ at
@@ -316,90 +316,108 @@ after-beat-clock : (at : ℕ) (g : Gateway) → afterBeat at g .clock ≡ at
 unfolding afterBeat
 after-beat-clock at g = refl
 
-module _ {set : List (List ℕ)} {x : Settings} {got : List (List ℕ)} {s : State} (body : List ℕ) (i : ℕ) (word : Bool) (at : ℕ) (cs : List Call)
-    (h : Holding set x (admit body i word at ∷ cs) got s) where
+-- its message is bytes, and so is the store then
+set-bytes : (st : List ℕ) (k b : ℕ) → Bytes st → b < 256 → Bytes (set st k b)
+set-bytes [] k b h l i = h i
+set-bytes (x ∷ st) zero b h l zero = l
+set-bytes (x ∷ st) zero b h l (suc i) = h (suc i)
+set-bytes (x ∷ st) (suc k) b h l zero = h 0
+set-bytes (x ∷ st) (suc k) b h l (suc i) = set-bytes st k b (λ j. h (suc j)) l i
+
+sets-bytes : (st : List ℕ) (k : ℕ) (m : List ℕ) → Bytes st → Bytes m → Bytes (sets st k m)
+sets-bytes st k [] h g = h
+sets-bytes st k (b ∷ m) h g = sets-bytes (set st k b) (suc k) m (set-bytes st k b h (g 0)) (λ i. g (suc i))
+
+entered-bytes : (c : MessageCache) (st m : List ℕ) → Bytes st → Bytes m → Bytes (enteredStore c st m)
+unfolding enteredStore
+entered-bytes c st m h g =
+    let d = dropped ((c .count + 1) - c .«max_messages») c in
+    either (eqb (c .«max_messages») 0) (λ t. simp t h) (λ t. simp t (sets-bytes st (placeOf (c .«max_messages») (d .start) (d .count) * 4096) m h g))
+
+stored-bytes : (c : MessageCache) (st m id : List ℕ) → Bytes st → Bytes m → Bytes (storedUnder c st m id)
+unfolding storedUnder
+stored-bytes c st m id h g = either (ltb (indexIn c id) (c .count)) (λ t. simp t h) (λ t. simp t (entered-bytes c st m h g))
+
+admit-bytes : (n : Node) (ss cs : List ℕ) (at : ℕ) (m id : List ℕ) → Bytes cs → Bytes m → Bytes (admitCache n ss cs at (taken m id))
+admit-bytes n ss cs at m id h g = either (heldAt n ss at id) (λ t. simp t h) (λ t. simp t (stored-bytes (n .cache) cs m id h g))
+
+module _ {set : List (List ℕ)} {x : Settings} {first past : ℕ} {got : List (List ℕ)} {s : State} (body : List ℕ) (i : ℕ) (word : Bool) (at : ℕ) {rs : List ℕ} {left : ℕ}
+    (h : Holding set x first past (at ∷ rs) left got s) where
   -- its reading
-  pub admit-reads : Reads x (h .first) (h .past) (gatewayOf s .clock) at (readings cs) (beats cs)
-  unfolding readings beats
-  admit-reads = ahead-next (no-beat (beats cs) (h .ahead))
+  pub admit-reads : Reads x first past (gatewayOf s .clock) at rs left
+  admit-reads = ahead-next (h .ahead)
 
   -- it is not refused for its reading
   pub admit-forward : s .node .clock ≤ at
   admit-forward = rw (← node-clock s) (admit-reads .forward)
 
-  -- a message that it takes is one of the set
-  members-here : Members set (admit body i word at ∷ cs) s → Member set (planIn s body i word at)
-  members-here (member a rest) = a
-
-  members-rest : Members set (admit body i word at ∷ cs) s → Members set cs (after (admit body i word at) s)
-  members-rest (member a rest) = rest
-
-  pub admit-inside : (m id : List ℕ) → planIn s body i word at ≡ taken m id → among m set ≡ true
-  admit-inside m id e = subst (λ (p : Plan). Member set p) e (members-here (h .members))
-
   admit-reached : Reached (after (admit body i word at) s .node) (after (admit body i word at) s .ids) (after (admit body i word at) s .messages)
   unfolding after
-  admit-reached = admitted (h .reached) body i word at (until-small at (h .first) (x .ttl) (admit-reads .lasting))
+  admit-reached = admitted (h .reached) body i word at (until-small at first (x .ttl) (admit-reads .lasting))
 
   admit-none : (r : Admit) → planIn s body i word at ≡ no r → gatewayOf (after (admit body i word at) s) ≡ gatewayOf s
   unfolding after
   admit-none r e = rw e
 
+  none-stored : (r : Admit) → planIn s body i word at ≡ no r → after (admit body i word at) s .messages ≡ s .messages
+  unfolding after
+  none-stored r e = rw e
+
   admit-some : (m id : List ℕ) → planIn s body i word at ≡ taken m id → gatewayOf (after (admit body i word at) s) ≡ afterAdmit at m id (gatewayOf s)
   unfolding after
   admit-some m id e = admit-gateway (s .node) (s .ids) (s .messages) body i word at m id (reached-typed (h .reached)) e
 
-  -- its message is new exactly where it is not among those got
+  some-stored : (m id : List ℕ) → planIn s body i word at ≡ taken m id → Bytes m → Bytes (after (admit body i word at) s .messages)
+  unfolding after
+  some-stored m id e b = rw e (admit-bytes (s .node) (s .ids) (s .messages) at m id (h .bytes) b)
+
   module _ (ms : MessageSet set) where
-    pub admit-held : (m id : List ℕ) → planIn s body i word at ≡ taken m id → heldAt (s .node) (s .ids) at id ≡ among m got
-    admit-held m id e =
+    -- a message of the set is new exactly where it is not among those got
+    pub admit-held : (m id : List ℕ) → planIn s body i word at ≡ taken m id → among m set ≡ true → heldAt (s .node) (s .ids) at id ≡ among m got
+    admit-held m id e inside =
         let t = plan-takes (s .node) (s .ids) (s .messages) body i word at m id e in
-        let a = holds-new (h .held) at (admit-reads .lasting) ms (admit-reads .later) m id (admit-inside m id e) (t .own) in
+        let a = holds-new (h .held) at (admit-reads .lasting) ms (admit-reads .later) m id inside (t .own) in
         let b = is-new (s .node) (s .ids) (s .messages) (t .fine) at id in
         sym (Bool·not-not (heldAt (s .node) (s .ids) at id)) ∙ ap not (sym b ∙ a) ∙ Bool·not-not (among m got)
 
-    by-plan : (p : Plan) → planIn s body i word at ≡ p → Holding set x cs (gotBy got p) (after (admit body i word at) s)
-    by-plan (no r) e =
+    by-plan : (p : Plan) → planIn s body i word at ≡ p → Member set p → Holding set x first past rs left (gotBy got p) (after (admit body i word at) s)
+    by-plan (no r) e inside =
         let g = sym (admit-none r e) in
         record {
-          first = h .first;
-          past = h .past;
           reached = admit-reached;
-          held = subst (λ (k : Gateway). Holds set x (h .first) (h .past) got k) g (h .held);
-          members = members-rest (h .members);
-          ahead = subst (λ (k : Gateway). Ahead x (h .first) (h .past) (k .clock) (readings cs) (beats cs)) g (reads-kept admit-reads);
+          held = subst (λ (k : Gateway). Holds set x first past got k) g (h .held);
+          bytes = subst Bytes (sym (none-stored r e)) (h .bytes);
+          ahead = subst (λ (k : Gateway). Ahead x first past (k .clock) rs left) g (reads-kept admit-reads);
         }
-    by-plan (taken m id) e =
+    by-plan (taken m id) e inside =
         let g = sym (admit-some m id e) in
         let t = plan-takes (s .node) (s .ids) (s .messages) body i word at m id e in
         let c = ap (λ (k : Gateway). k .clock) (admit-some m id e) ∙ after-admit-clock at m id (gatewayOf s) in
         record {
-          first = h .first;
-          past = h .past;
           reached = admit-reached;
           held =
-              subst (λ (k : Gateway). Holds set x (h .first) (h .past) (withGot m got) k) g
-              (holds-admit (h .held) at (admit-reads .lasting) ms (admit-reads .later) m id (admit-inside m id e) (t .own));
-          members = members-rest (h .members);
-          ahead = subst (λ (k : ℕ). Ahead x (h .first) (h .past) k (readings cs) (beats cs)) (sym c) (admit-reads .rest);
+              subst (λ (k : Gateway). Holds set x first past (withGot m got) k) g
+              (holds-admit (h .held) at (admit-reads .lasting) ms (admit-reads .later) m id inside (t .own));
+          bytes = some-stored m id e (ms .bytes m inside);
+          ahead = subst (λ (k : ℕ). Ahead x first past k rs left) (sym c) (admit-reads .rest);
         }
 
-    pub holding-admit : Holding set x cs (gotNext got s (admit body i word at)) (after (admit body i word at) s)
-    holding-admit = by-plan (planIn s body i word at) refl
+    pub holding-admit : Member set (planIn s body i word at) → Holding set x first past rs left (gotNext got s (admit body i word at)) (after (admit body i word at) s)
+    holding-admit inside = by-plan (planIn s body i word at) refl inside
 
 -- ---- a heartbeat
-module _ {set : List (List ℕ)} {x : Settings} {got : List (List ℕ)} {s : State} (at : ℕ) (cs : List Call) (h : Holding set x (heartbeat at ∷ cs) got s) where
-  beat-ahead : Ahead x (h .first) (suc (h .past)) (gatewayOf s .clock) (at ∷ readings cs) (beats cs)
-  unfolding readings beats
+module _ {set : List (List ℕ)} {x : Settings} {first past : ℕ} {got : List (List ℕ)} {s : State} (at : ℕ) {rs : List ℕ} (left : ℕ)
+    (h : Holding set x first past (at ∷ rs) (suc left) got s) where
+  beat-ahead : Ahead x first (suc past) (gatewayOf s .clock) (at ∷ rs) left
   beat-ahead =
       let a = h .ahead in
       let f = a .few in
       record { rises = a .rises; from-first = a .from-first; lasting = a .lasting; few = omega arith }
 
-  beat-few : suc (h .past) < x .history-len
+  beat-few : suc past < x .history-len
   beat-few = let f = beat-ahead .few in omega arith
 
-  pub beat-reads : Reads x (h .first) (suc (h .past)) (gatewayOf s .clock) at (readings cs) (beats cs)
+  pub beat-reads : Reads x first (suc past) (gatewayOf s .clock) at rs left
   beat-reads = ahead-next beat-ahead
 
   pub beat-forward : s .node .clock ≤ at
@@ -415,46 +433,70 @@ module _ {set : List (List ℕ)} {x : Settings} {got : List (List ℕ)} {s : Sta
 
   beat-reached : Reached (after (heartbeat at) s .node) (after (heartbeat at) s .ids) (after (heartbeat at) s .messages)
   unfolding after
-  beat-reached = beaten (h .reached) at (until-small at (h .first) (x .ttl) (beat-reads .lasting))
+  beat-reached = beaten (h .reached) at (until-small at first (x .ttl) (beat-reads .lasting))
 
-  beat-members : Members set (heartbeat at ∷ cs) s → Members set cs (after (heartbeat at) s)
-  beat-members (member a rest) = rest
+  beat-bytes : Bytes (after (heartbeat at) s .messages)
+  unfolding after
+  beat-bytes = h .bytes
 
-  pub holding-beat : Holding set x cs got (after (heartbeat at) s)
+  pub holding-beat : Holding set x first (suc past) rs left got (after (heartbeat at) s)
   holding-beat =
       let c = ap (λ (k : Gateway). k .clock) beat-some ∙ after-beat-clock at (gatewayOf s) in
       record {
-        first = h .first;
-        past = suc (h .past);
         reached = beat-reached;
-        held = subst (λ (k : Gateway). Holds set x (h .first) (suc (h .past)) got k) (sym beat-some) (holds-beat (h .held) at (beat-reads .lasting) beat-few);
-        members = beat-members (h .members);
-        ahead = subst (λ (k : ℕ). Ahead x (h .first) (suc (h .past)) k (readings cs) (beats cs)) (sym c) (beat-reads .rest);
+        held = subst (λ (k : Gateway). Holds set x first (suc past) got k) (sym beat-some) (holds-beat (h .held) at (beat-reads .lasting) beat-few);
+        bytes = beat-bytes;
+        ahead = subst (λ (k : ℕ). Ahead x first (suc past) k rs left) (sym c) (beat-reads .rest);
       }
 
--- ---- the other calls change nothing
-other-members : {set : List (List ℕ)} {s : State} (c : Call) (cs : List Call) → Members set (c ∷ cs) s → Members set cs (after c s)
-other-members c cs (member a rest) = rest
+-- ---- any call
+left-same : {set : List (List ℕ)} {x : Settings} {first past : ℕ} {rs : List ℕ} {got : List (List ℕ)} {s : State} (a b : ℕ) → a ≡ b → Holding set x first past rs a got s → Holding set x first past rs b got s
+left-same {set} {x} {first} {past} {rs} {got} {s} a b e h = subst (λ (n : ℕ). Holding set x first past rs n got s) e h
 
-module _ {set : List (List ℕ)} {x : Settings} {got : List (List ℕ)} {s : State} (ms : MessageSet set) where
-  pub holding-next : (c : Call) (cs : List Call) → Holding set x (c ∷ cs) got s → Holding set x cs (gotNext got s c) (after c s)
-  unfolding after readings beats
-  holding-next (admit body i word at) cs h = holding-admit body i word at cs h ms
-  holding-next (heartbeat at) cs h = holding-beat at cs h
-  holding-next (advertise topic windows out) cs h =
-      record { first = h .first; past = h .past; reached = h .reached; held = h .held; members = other-members (advertise topic windows out) cs (h .members); ahead = no-beat (beats cs) (h .ahead) }
-  holding-next (ask body out) cs h =
-      record { first = h .first; past = h .past; reached = h .reached; held = h .held; members = other-members (ask body out) cs (h .members); ahead = no-beat (beats cs) (h .ahead) }
-  holding-next (serve body out) cs h =
-      record { first = h .first; past = h .past; reached = h .reached; held = h .held; members = other-members (serve body out) cs (h .members); ahead = no-beat (beats cs) (h .ahead) }
+abbrev pub pastNext : ℕ → Call → ℕ
+pastNext past (admit body i word at) = past
+pastNext past (heartbeat at) = suc past
+pastNext past (advertise topic windows out) = past
+pastNext past (ask body out) = past
+pastNext past (serve body out) = past
 
--- ---- after some of the calls, and after all
-pub holding-on : {set : List (List ℕ)} {x : Settings} {got : List (List ℕ)} {s : State} → MessageSet set → (done rest : List Call) → Holding set x (done ++ rest) got s
-    → Holding set x rest (gotAll got done s) (afterAll done s)
-unfolding gotAll afterAll
-holding-on ms [] rest h = h
-holding-on ms (c ∷ done) rest h = holding-on ms done rest (holding-next ms c (done ++ rest) h)
+unfoldable pub pastAll : ℕ → List Call → ℕ
+pastAll past [] = past
+pastAll past (c ∷ cs) = pastAll (pastNext past c) cs
+
+module _ {set : List (List ℕ)} {x : Settings} {first past : ℕ} {got : List (List ℕ)} {s : State} (ms : MessageSet set) (rs : List ℕ) (left : ℕ) where
+  -- with readings and heartbeats that come after it
+  pub holding-next : (c : Call) → Holding set x first past (reading c ++ rs) (beat c + left) got s → MemberAt set s c
+      → Holding set x first (pastNext past c) rs left (gotNext got s c) (after c s)
+  unfolding after
+  holding-next (admit body i word at) h inside = holding-admit body i word at (left-same (0 + left) left (omega arith) h) ms inside
+  holding-next (heartbeat at) h inside = holding-beat at left (left-same (1 + left) (suc left) (omega arith) h)
+  holding-next (advertise topic windows out) h inside = left-same (0 + left) left (omega arith) h
+  holding-next (ask body out) h inside = left-same (0 + left) left (omega arith) h
+  holding-next (serve body out) h inside = left-same (0 + left) left (omega arith) h
+
+-- ---- after some calls, with readings and heartbeats that come after them
+pub members-here : {set : List (List ℕ)} {c : Call} {cs : List Call} {s : State} → Members set (c ∷ cs) s → MemberAt set s c
+members-here (member a rest) = a
+
+pub members-rest : {set : List (List ℕ)} {c : Call} {cs : List Call} {s : State} → Members set (c ∷ cs) s → Members set cs (after c s)
+members-rest (member a rest) = rest
+
+pub holding-on : {set : List (List ℕ)} {x : Settings} {first past : ℕ} {got : List (List ℕ)} {s : State} → MessageSet set → (calls : List Call) (rs : List ℕ) (left : ℕ)
+    → Holding set x first past (readings calls ++ rs) (beats calls + left) got s → Members set calls s
+    → Holding set x first (pastAll past calls) rs left (gotAll got calls s) (afterAll calls s)
+unfolding gotAll afterAll readings beats pastAll
+holding-on ms [] rs left h ins = left-same (0 + left) left (omega arith) h
+holding-on {set} {x} {first} {past} {got} {s} ms (c ∷ cs) rs left h ins =
+    let e : (reading c ++ readings cs) ++ rs ≡ reading c ++ (readings cs ++ rs) = append-assoc (reading c) (readings cs) rs in
+    let f : (beat c + beats cs) + left ≡ beat c + (beats cs + left) = omega arith in
+    let k = left-same ((beat c + beats cs) + left) (beat c + (beats cs + left)) f (subst (λ (l : List ℕ). Holding set x first past l ((beat c + beats cs) + left) got s) e h) in
+    holding-on ms cs rs left (holding-next ms (readings cs ++ rs) (beats cs + left) c k (members-here ins)) (members-rest ins)
 
 pub holding-all : {set : List (List ℕ)} {x : Settings} {calls : List Call} {s : State} → MessageSet set → Premises set x calls s
-    → Holding set x [] (gotAll [] calls s) (afterAll calls s)
-holding-all {set} {x} {calls} {s} ms p = holding-on ms calls [] (subst (λ (l : List Call). Holding set x l [] s) (sym (append-nil calls)) (holding-start p))
+    → Holding set x (firstOf calls) (pastAll 0 calls) [] 0 (gotAll [] calls s) (afterAll calls s)
+holding-all {set} {x} {calls} {s} ms p =
+    holding-on ms calls [] 0
+    (left-same (beats calls) (beats calls + 0) (omega arith)
+    (subst (λ (l : List ℕ). Holding set x (firstOf calls) 0 l (beats calls) [] s) (sym (append-nil (readings calls))) (holding-start p)))
+    (p .members)

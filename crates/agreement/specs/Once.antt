@@ -1,28 +1,28 @@
 -- Under the premises a message that is got is answered new once, the first time.
-use Prim.Native.Nat.{ℕ, _+_, _≤_, _<_}
-use mathlib.Core.Path.{_≡_, refl, sym, ap, _∙_}
-use mathlib.Core.Bool.{Bool, true, false, cond, not, _&&_, _||_, or-true}
+use Prim.Native.Nat.{ℕ, _+_, _≤_}
+use mathlib.Core.Path.{_≡_, refl, sym, ap, subst, _∙_}
+use mathlib.Core.Bool.{Bool, true, false}
 use mathlib.Core.List.{List, [], _∷_, _++_}
 use native.Mathlib.Omega.{arith}
 use lib.Dec.{leb}
 use borrow.Author.Tests.{le-leb, lt-leb}
-use Rattle.basis.specs.Cases.{either, clash}
+use Rattle.basis.specs.Cases.{either}
 use Rattle.rows.specs.Ids.{sameBytes, among}
 use Rattle.rows.specs.IdsLaws.{same-self, same-equal, among-append}
 use Rattle.node.specs.Calls.{Plan, no, taken, heldAt}
-use Rattle.agreement.specs.History.{State, Call, admit, heartbeat, advertise, ask, serve, planIn, after, gets, news, gotAt, newAt, timesGot, timesNew}
-use Rattle.agreement.specs.Premises.{MessageSet, Settings, Premises}
-use Rattle.agreement.specs.Holding.{withGot, gotBy, gotNext, gotAll, Holding, admit-held, holding-start, holding-next}
+use Rattle.agreement.specs.History.{State, Call, admit, heartbeat, advertise, ask, serve, planIn, after, reading, readings, beat, beats, isNew, isDuplicate, countPlan, countAt, times, timesGot, timesNew, timesDuplicate}
+use Rattle.agreement.specs.Premises.{MessageSet, Settings, Member, MemberAt, Members, Premises}
+use Rattle.agreement.specs.Holding.{withGot, gotBy, gotNext, gotAll, Holding, admit-held, holding-start, holding-next, members-here, members-rest}
 
 -- ---- a message among those got, and one more got
-with-again : (m p : List ℕ) (got : List (List ℕ)) → among m got ≡ true → among m (withGot p got) ≡ true
+pub with-again : (m p : List ℕ) (got : List (List ℕ)) → among m got ≡ true → among m (withGot p got) ≡ true
 with-again m p got h = either (among p got) (λ t. rw t h) (λ t. rw (t, among-append m got (p ∷ []), h))
 
-with-this : (m : List ℕ) (got : List (List ℕ)) → among m got ≡ false → among m (withGot m got) ≡ true
+pub with-this : (m : List ℕ) (got : List (List ℕ)) → among m got ≡ false → among m (withGot m got) ≡ true
 unfolding among
 with-this m got h = rw (h, among-append m got (m ∷ []), h, same-self m)
 
-with-other : (m p : List ℕ) (got : List (List ℕ)) → among m got ≡ false → sameBytes p m ≡ false → among m (withGot p got) ≡ false
+pub with-other : (m p : List ℕ) (got : List (List ℕ)) → among m got ≡ false → sameBytes p m ≡ false → among m (withGot p got) ≡ false
 unfolding among
 with-other m p got h d = either (among p got) (λ t. rw t h) (λ t. rw (t, among-append m got (p ∷ []), h, d))
 
@@ -39,7 +39,7 @@ data First (got new : ℕ) (held : Bool) : Type 0 where
 
 module _ (m : List ℕ) (s : State) (at : ℕ) (got : List (List ℕ)) where
   plan-again : (p : Plan) → ((k id : List ℕ) → p ≡ taken k id → heldAt (s .node) (s .ids) at id ≡ among k got) → among m got ≡ true
-      → Again (news m s at p) (among m (gotBy got p))
+      → Again (countPlan isNew m s at p) (among m (gotBy got p))
   plan-again (no r) f h = record { not-new = refl; still = h }
   plan-again (taken k id) f h =
       let e = f k id refl in
@@ -52,7 +52,7 @@ module _ (m : List ℕ) (s : State) (at : ℕ) (got : List (List ℕ)) where
       }
 
   plan-first : (p : Plan) → ((k id : List ℕ) → p ≡ taken k id → heldAt (s .node) (s .ids) at id ≡ among k got) → among m got ≡ false
-      → First (gets m p) (news m s at p) (among m (gotBy got p))
+      → First (countPlan (λ r. 1) m s at p) (countPlan isNew m s at p) (among m (gotBy got p))
   plan-first (no r) f h = not-yet refl refl h
   plan-first (taken k id) f h =
       let e = f k id refl in
@@ -80,50 +80,75 @@ later-call {a} {b} {d} {e} {k} {h} (now-new p q r) f g =
     record { once = λ y. omega arith; never = λ y. absurd (omega arith); exactly = z .1 ∙ sym (le-leb 1 (a + d) (omega arith)) }
 
 module _ {set : List (List ℕ)} (ms : MessageSet set) (m : List ℕ) {x : Settings} where
-  call-again : {got : List (List ℕ)} {s : State} (c : Call) (cs : List Call) → Holding set x (c ∷ cs) got s → among m got ≡ true
-      → Again (newAt m s c) (among m (gotNext got s c))
-  call-again {got} {s} (admit body i word at) cs h g = plan-again m s at got (planIn s body i word at) (λ k id e. admit-held body i word at cs h ms k id e) g
-  call-again (heartbeat at) cs h g = record { not-new = refl; still = g }
-  call-again (advertise topic windows out) cs h g = record { not-new = refl; still = g }
-  call-again (ask body out) cs h g = record { not-new = refl; still = g }
-  call-again (serve body out) cs h g = record { not-new = refl; still = g }
+  -- what an admit takes is seen exactly where it was got
+  admit-got : {first past : ℕ} {got : List (List ℕ)} {s : State} {rs : List ℕ} {left : ℕ} (body : List ℕ) (i : ℕ) (word : Bool) (at : ℕ) → Holding set x first past (at ∷ rs) left got s
+      → Member set (planIn s body i word at) → (k id : List ℕ) → planIn s body i word at ≡ taken k id → heldAt (s .node) (s .ids) at id ≡ among k got
+  admit-got body i word at h inside k id e = admit-held body i word at h ms k id e (subst (λ (p : Plan). Member set p) e inside)
 
-  call-first : {got : List (List ℕ)} {s : State} (c : Call) (cs : List Call) → Holding set x (c ∷ cs) got s → among m got ≡ false
-      → First (gotAt m s c) (newAt m s c) (among m (gotNext got s c))
-  call-first {got} {s} (admit body i word at) cs h g = plan-first m s at got (planIn s body i word at) (λ k id e. admit-held body i word at cs h ms k id e) g
-  call-first (heartbeat at) cs h g = not-yet refl refl g
-  call-first (advertise topic windows out) cs h g = not-yet refl refl g
-  call-first (ask body out) cs h g = not-yet refl refl g
-  call-first (serve body out) cs h g = not-yet refl refl g
+  module _ {first past : ℕ} {got : List (List ℕ)} {s : State} (rs : List ℕ) (left : ℕ) where
+    call-again : (c : Call) → Holding set x first past (reading c ++ rs) (beat c + left) got s → MemberAt set s c → among m got ≡ true
+        → Again (countAt isNew m s c) (among m (gotNext got s c))
+    call-again (admit body i word at) h inside g = plan-again m s at got (planIn s body i word at) (admit-got body i word at h inside) g
+    call-again (heartbeat at) h inside g = record { not-new = refl; still = g }
+    call-again (advertise topic windows out) h inside g = record { not-new = refl; still = g }
+    call-again (ask body out) h inside g = record { not-new = refl; still = g }
+    call-again (serve body out) h inside g = record { not-new = refl; still = g }
+
+    call-first : (c : Call) → Holding set x first past (reading c ++ rs) (beat c + left) got s → MemberAt set s c → among m got ≡ false
+        → First (countAt (λ r. 1) m s c) (countAt isNew m s c) (among m (gotNext got s c))
+    call-first (admit body i word at) h inside g = plan-first m s at got (planIn s body i word at) (admit-got body i word at h inside) g
+    call-first (heartbeat at) h inside g = not-yet refl refl g
+    call-first (advertise topic windows out) h inside g = not-yet refl refl g
+    call-first (ask body out) h inside g = not-yet refl refl g
+    call-first (serve body out) h inside g = not-yet refl refl g
 
   -- ---- a message got before is not new again, and stays
-  pub times-again : {got : List (List ℕ)} {s : State} (calls : List Call) → Holding set x calls got s → among m got ≡ true
+  pub times-again : {first past : ℕ} {got : List (List ℕ)} {s : State} (calls : List Call) → Holding set x first past (readings calls) (beats calls) got s → Members set calls s → among m got ≡ true
       → (timesNew m calls s ≡ 0) × (among m (gotAll got calls s) ≡ true)
-  unfolding timesNew gotAll
-  times-again [] h g = (refl, g)
-  times-again (c ∷ cs) h g =
-      let a = call-again c cs h g in
-      let r = times-again cs (holding-next ms c cs h) (a .still) in
+  unfolding times gotAll readings beats
+  times-again [] h ins g = (refl, g)
+  times-again (c ∷ cs) h ins g =
+      let a = call-again (readings cs) (beats cs) c h (members-here ins) g in
+      let r = times-again cs (holding-next ms (readings cs) (beats cs) c h (members-here ins)) (members-rest ins) (a .still) in
       let n = a .not-new in
       (rw (n, r .0), r .1)
 
   -- ---- one that was not is new once if it is got, and is then among those got
-  pub times-first : {got : List (List ℕ)} {s : State} (calls : List Call) → Holding set x calls got s → among m got ≡ false
+  pub times-first : {first past : ℕ} {got : List (List ℕ)} {s : State} (calls : List Call) → Holding set x first past (readings calls) (beats calls) got s → Members set calls s → among m got ≡ false
       → Later (timesGot m calls s) (timesNew m calls s) (among m (gotAll got calls s))
-  unfolding timesGot timesNew gotAll
-  times-first [] h g = record { once = λ z. absurd (omega arith); never = λ z. refl; exactly = g ∙ sym (lt-leb 1 0 (omega arith)) }
-  times-first (c ∷ cs) h g =
-      let n = holding-next ms c cs h in
-      later-call (call-first c cs h g) (λ t. times-first cs n t) (λ t. times-again cs n t)
+  unfolding times gotAll readings beats
+  times-first [] h ins g = record { once = λ z. absurd (omega arith); never = λ z. refl; exactly = g ∙ sym (lt-leb 1 0 (omega arith)) }
+  times-first (c ∷ cs) h ins g =
+      let n = holding-next ms (readings cs) (beats cs) c h (members-here ins) in
+      later-call (call-first (readings cs) (beats cs) c h (members-here ins) g) (λ t. times-first cs n (members-rest ins) t) (λ t. times-again cs n (members-rest ins) t)
 
--- ---- a message of the set that is got at least once is answered new exactly once
+-- ---- a message that is got is answered new or duplicate, each time
+answered-plan : (m : List ℕ) (s : State) (at : ℕ) (p : Plan) → countPlan (λ r. 1) m s at p ≡ countPlan isNew m s at p + countPlan isDuplicate m s at p
+answered-plan m s at (no r) = refl
+answered-plan m s at (taken k id) = either (sameBytes k m) (λ t. either (heldAt (s .node) (s .ids) at id) (λ u. rw (t, u)) (λ u. rw (t, u))) (λ t. rw t)
+
+answered-at : (m : List ℕ) (s : State) (c : Call) → countAt (λ r. 1) m s c ≡ countAt isNew m s c + countAt isDuplicate m s c
+answered-at m s (admit body i word at) = answered-plan m s at (planIn s body i word at)
+answered-at m s (heartbeat at) = refl
+answered-at m s (advertise topic windows out) = refl
+answered-at m s (ask body out) = refl
+answered-at m s (serve body out) = refl
+
+pub new-or-duplicate : (m : List ℕ) (calls : List Call) (s : State) → timesGot m calls s ≡ timesNew m calls s + timesDuplicate m calls s
+unfolding times
+new-or-duplicate m [] s = refl
+new-or-duplicate m (c ∷ cs) s = let a = answered-at m s c in let r = new-or-duplicate m cs (after c s) in omega arith
+
+-- ---- a message of the set that is got at least once is answered new exactly once, and duplicate the other times
 pub new-exactly-once : {set : List (List ℕ)} {x : Settings} {calls : List Call} {s : State} → MessageSet set → Premises set x calls s
-    → (m : List ℕ) → among m set ≡ true → 1 ≤ timesGot m calls s → timesNew m calls s ≡ 1
+    → (m : List ℕ) → among m set ≡ true → 1 ≤ timesGot m calls s → (timesNew m calls s ≡ 1) × (timesGot m calls s ≡ 1 + timesDuplicate m calls s)
 unfolding among
-new-exactly-once {set} {x} {calls} {s} ms p m inside h = times-first ms m calls (holding-start p) refl .once h
+new-exactly-once {set} {x} {calls} {s} ms p m inside h =
+    let n = times-first ms m calls (holding-start p) (p .members) refl .once h in
+    (n, new-or-duplicate m calls s ∙ ap (λ (k : ℕ). k + timesDuplicate m calls s) n)
 
 -- the messages got are those that some call got
 pub got-exactly : {set : List (List ℕ)} {x : Settings} {calls : List Call} {s : State} → MessageSet set → Premises set x calls s
     → (m : List ℕ) → among m (gotAll [] calls s) ≡ leb 1 (timesGot m calls s)
 unfolding among
-got-exactly {set} {x} {calls} {s} ms p m = times-first ms m calls (holding-start p) refl .exactly
+got-exactly {set} {x} {calls} {s} ms p m = times-first ms m calls (holding-start p) (p .members) refl .exactly

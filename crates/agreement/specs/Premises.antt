@@ -1,9 +1,10 @@
 -- 01's "Premises of demand 3", each named after its phrase.
 use Prim.Native.Nat.{ℕ, _+_, _-_, _*_, _^_, _≤_, _<_}
 use mathlib.Core.Path.{_≡_}
-use mathlib.Core.Bool.{Bool, true}
+use mathlib.Core.Bool.{true}
 use mathlib.Core.List.{List, [], _∷_}
 use lib.ListN.{length, getD}
+use Rattle.basis.specs.Bytes.{Bytes}
 use Rattle.rows.specs.Ids.{among, distinct}
 use Rattle.admission.specs.Admission.{givesId}
 use Rattle.node.specs.State.{legalSettings, freshNode, risesFrom}
@@ -12,6 +13,7 @@ use Rattle.agreement.specs.History.{State, Call, admit, heartbeat, adver
 
 -- ---- the set of messages; a message is the bytes of the submessage
 pub record MessageSet (set : List (List ℕ)) : Type 0 where
+  pub bytes : (m : List ℕ) → among m set ≡ true → Bytes m
   pub each-once : distinct set ≡ true
   -- every one passes admission with the host's word
   pub admissible : (m : List ℕ) → among m set ≡ true → (id : List ℕ) × (givesId m id ≡ true)
@@ -31,6 +33,7 @@ pub record Fresh (x : Settings) (s : State) : Type 0 where
   pub node : s .node ≡ freshNode (x .ttl) (x .max-seen) (x .history-len) (x .max-messages)
   pub ids : length (s .ids) ≡ x .max-seen * 129
   pub messages : length (s .messages) ≡ x .max-messages * 4096
+  pub bytes : Bytes (s .messages)
 
 -- ---- admitting set members only; where the body is refused or the host's word withheld, the node gets nothing
 abbrev pub Member : List (List ℕ) → Plan → Type 0
@@ -48,6 +51,15 @@ pub data Members (set : List (List ℕ)) : List Call → State → Type 0 where
   none-left : {s : State} → Members set [] s
   member : {c : Call} {cs : List Call} {s : State} → MemberAt set s c → Members set cs (after c s) → Members set (c ∷ cs) s
 
+-- ---- the clock
+pub record Clock (x : Settings) (rs : List ℕ) : Type 0 where
+  -- it never falls
+  pub rises : risesFrom 0 rs ≡ true
+  -- its readings are less than ttl after its first
+  pub within-ttl : (i : ℕ) → i < length rs → getD rs i 0 < getD rs 0 0 + x .ttl
+  -- and below 2^64 - 1
+  pub below-last : (i : ℕ) → i < length rs → getD rs i 0 < 2 ^ 64 - 1
+
 -- ---- a history under the premises
 pub record Premises (set : List (List ℕ)) (x : Settings) (calls : List Call) (s : State) : Type 0 where
   pub fresh : Fresh x s
@@ -55,11 +67,6 @@ pub record Premises (set : List (List ℕ)) (x : Settings) (calls : List Call) (
   -- the set is no larger than max_seen or max_messages
   pub set-seen : length set ≤ x .max-seen
   pub set-cached : length set ≤ x .max-messages
-  -- the clock never falls
-  pub rises : risesFrom 0 (readings calls) ≡ true
-  -- its readings are less than ttl after its first
-  pub within-ttl : (i : ℕ) → i < length (readings calls) → getD (readings calls) i 0 < getD (readings calls) 0 0 + x .ttl
-  -- and below 2^64 - 1
-  pub below-last : (i : ℕ) → i < length (readings calls) → getD (readings calls) i 0 < 2 ^ 64 - 1
+  pub clock : Clock x (readings calls)
   -- fewer heartbeats than history_len
   pub few-heartbeats : beats calls < x .history-len

@@ -1,18 +1,16 @@
 -- The messages that a gateway got, beside the ids that it has seen and the messages that it holds: one row for each, the oldest first.
 use Prim.Native.Nat.{ℕ, suc, _+_, _-_, _≤_, _<_}
 use mathlib.Core.Path.{_≡_, refl, sym, ap, ap₂, _∙_}
-use mathlib.Core.Bool.{Bool, true, false, cond, not, _||_, or-true}
+use mathlib.Core.Bool.{Bool, true, _||_, or-true}
 use mathlib.Core.List.{List, [], _∷_, _++_}
 use native.Mathlib.Omega.{arith}
 use lib.ListN.{length}
-use lib.Dec.{leb, ltb}
 use borrow.Author.Tests.{lt-leb, lt-ltb}
 use Rattle.basis.specs.Cases.{either, clash}
-use Rattle.rows.specs.Ids.{sameBytes, among, distinct}
+use Rattle.rows.specs.Ids.{sameBytes, among}
 use Rattle.rows.specs.IdsLaws.{same-self, same-equal}
-use Rattle.ids.specs.Ids.{idBytes}
 use Rattle.admission.specs.declared.Admission.the-variants as admission
-use Rattle.admission.specs.Admission.{admissionOf, givesId}
+use Rattle.admission.specs.Admission.{givesId}
 use Rattle.admission.specs.AdmissionLaws.{gives-only}
 use Rattle.seen.specs.Entries.{Entry, holds, live}
 use Rattle.mcache.specs.Messages.{Cached, held, shift}

@@ -17,7 +17,7 @@ use Rattle.node.specs.declared.Ask.{Ask}
 use Rattle.node.specs.declared.Ask.the-variants as ask
 use Rattle.node.specs.declared.Serve.{Serve}
 use Rattle.node.specs.declared.Serve.the-variants as serve
-use Rattle.node.specs.Calls.{startNumber, admitNumber, admitValues, beatNumber, beatValues, advertiseNumber, advertiseValues, askNumber, askValues, serveNumber, serveValues}
+use Rattle.node.specs.Calls.{admitNumber, admitValues, beatNumber, beatValues, advertiseNumber, advertiseValues, askNumber, askValues, serveNumber, serveValues}
 
 -- a refusal, with its values where `full`
 unfoldable pub refusedTo : ℕ → List ℕ → Bool → ℕ → List ℕ → List ℕ

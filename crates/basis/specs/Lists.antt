@@ -4,7 +4,7 @@ use mathlib.Core.Path.{_≡_, refl, sym, ap, _∙_}
 use mathlib.Core.List.{List, [], _∷_, _++_}
 use native.Mathlib.Omega.{arith}
 use native.Mathlib.Nat.{add-zero, zero-add, sub-zero, zero-sub, suc-sub-suc}
-use lib.ListN.{length, set, take, drop, getD, length-take, List·getD-eq-default}
+use lib.ListN.{length, set, take, drop, length-take, List·getD-eq-default}
 use lib.Seq.{sets, sets-eq, getD-drop, getD-take, take-nil}
 use mathlib.Core.Bool.{false}
 use lib.Dec.{ltb, leb}

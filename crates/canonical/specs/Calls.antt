@@ -1,11 +1,11 @@
 -- What the calls that write do with a body within capacity, said of the RPC that it means and of nothing else: `encode` writes the RPC,
 -- `sign_bytes` what is signed of its message i, `message_id` that message's id; and where there is no such message, 20 carries the number of
 -- messages. Bodies that are refused before that are those that mean no RPC within capacity.
-use Prim.Native.Nat.{ℕ, zero, suc, _+_, _-_, _≤_, _<_}
+use Prim.Native.Nat.{ℕ, _+_, _-_, _≤_, _<_}
 use mathlib.Core.Path.{_≡_, refl, sym, ap, ap₂, subst, _∙_}
-use mathlib.Core.Bool.{Bool, true, false, cond, _||_}
-use mathlib.Core.List.{List, [], _∷_, _++_}
-use mathlib.Core.Option.{Option, none, some}
+use mathlib.Core.Bool.{_||_}
+use mathlib.Core.List.{List, _++_}
+use mathlib.Core.Option.{Option, some}
 use mathlib.Core.Logic.{_↔_}
 use native.Mathlib.Omega.{arith}
 use native.Mathlib.Nat.{zero-add}
@@ -15,13 +15,10 @@ use borrow.Author.Tests.{le-ltb, ltb-false}
 use Rattle.basis.specs.Cases.{either, clash}
 use Rattle.basis.specs.Bytes.{Bytes}
 use Rattle.basis.specs.Writing.{answer, written}
-use Rattle.protobuf.specs.declared.Checked.{Checked}
 use Rattle.protobuf.specs.declared.Checked.the-variants.{Fine}
-use Rattle.protobuf.specs.declared.Encoded.{Encoded}
 use Rattle.protobuf.specs.Encode.{ofWritten}
-use Rattle.protobuf.specs.Grammar.{Entry}
 use Rattle.protobuf.specs.Walk.{between}
-use Rattle.protobuf.specs.Exactly.{Walks, body-walks}
+use Rattle.protobuf.specs.Exactly.{body-walks}
 use Rattle.schema.specs.declared.Kind.the-variants as kind
 use Rattle.schema.specs.declared.Counted.{Counted}
 use Rattle.schema.specs.declared.Counted.the-variants as count
@@ -35,7 +32,7 @@ use Rattle.rpc.specs.Grammar.{IsMessage, is-message, IsRpc}
 use Rattle.rpc.specs.Encode.{encodeRpc, signBytes}
 use Rattle.rpc.specs.Id.{Id, no-from, bad-from, bad-seqno, id, withSeqno, withFrom, messageId}
 use Rattle.meaning.specs.ReadBack.{bytesAt}
-use Rattle.meaning.specs.Accepted.{Some, rpc-means, rpc-accepted}
+use Rattle.meaning.specs.Accepted.{rpc-means, rpc-accepted}
 use Rattle.meaning.specs.Back.{message-from, message-seqno, slot-value, whole-part}
 use Rattle.meaning.specs.Decoded.{counted-records}
 use Rattle.ids.specs.declared.MessageAt.{MessageAt}
@@ -45,8 +42,7 @@ use Rattle.ids.specs.declared.MessageId.the-variants as parts
 use Rattle.ids.specs.declared.MessageBytes.{MessageBytes}
 use Rattle.ids.specs.declared.MessageBytes.the-variants.{NoMessage, MissingFrom, InvalidFrom, InvalidSeqno}
 use Rattle.ids.specs.Ids.{onCounted, acceptOf, messageAt, onSeqno, onFrom, idParts, ofWritten as message, answerId, leftId, answerAt, leftAt, answerChecked, leftChecked, idAnswer, idLeft}
-use Rattle.encode.specs.Canon.{canonBody, signOf}
-use Rattle.encode.specs.Encode.{onCount, encodeAnswer, leavesOn, encodeLeft}
+use Rattle.encode.specs.Encode.{encodeAnswer, encodeLeft}
 use Rattle.encode.specs.Sign.{signAt, signChecked, signAnswer, signedAt, signedChecked, signLeft}
 use Rattle.canonical.specs.Canonical.{Within}
 use Rattle.canonical.specs.Written.{canon-written, sign-written}

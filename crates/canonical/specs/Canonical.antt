@@ -1,7 +1,7 @@
 -- Re-encoding is canonical: for every body that is well formed and within capacity its output is accepted and means the same RPC, is never
 -- longer, does not change when it is re-encoded, and is the same for every body that means that RPC; and given room it always succeeds.
-use Prim.Native.Nat.{ℕ, _/_, _^_, _≤_, _<_}
-use mathlib.Core.Path.{_≡_, refl, sym, ap, subst, _∙_}
+use Prim.Native.Nat.{ℕ, _≤_}
+use mathlib.Core.Path.{_≡_, sym, ap, subst, _∙_}
 use mathlib.Core.List.{List}
 use native.Mathlib.Omega.{arith}
 use lib.ListN.{length}
@@ -9,18 +9,10 @@ use borrow.Author.Tests.{le-ltb}
 use Rattle.basis.specs.Lists.{answer-fits}
 use Rattle.protobuf.specs.Encode.{ofWritten}
 use Rattle.protobuf.specs.declared.Encoded.the-variants.{Bytes}
-use Rattle.schema.specs.declared.Kind.the-variants as kind
-use Rattle.schema.specs.declared.Counted.the-variants as count
-use Rattle.schema.specs.Count.{counted}
-use Rattle.message.specs.Decode.{decodeAnswer}
-use Rattle.message.specs.declared.Decoded.the-variants.{Records}
-use Rattle.rpc.specs.Rpc.{RawMessage, Rpc}
+use Rattle.rpc.specs.Rpc.{Rpc}
 use Rattle.rpc.specs.Grammar.{IsRpc}
-use Rattle.rpc.specs.Encode.{encodeRpc}
-use Rattle.meaning.specs.Good.{Accepted}
-use Rattle.meaning.specs.Accepted.{Some, rpc-accepted}
+use Rattle.meaning.specs.Accepted.{rpc-accepted}
 use Rattle.meaning.specs.Size.{recordsIn}
-use Rattle.meaning.specs.Back.{one-rpc}
 use Rattle.meaning.specs.Decoded.{counted-records}
 use Rattle.encode.specs.Canon.{canonBody}
 use Rattle.encode.specs.Encode.{encodeAnswer}

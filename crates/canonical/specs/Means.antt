@@ -1,7 +1,7 @@
 -- The canonical bytes of an RPC mean it.
 use Prim.Native.Nat.{ℕ, _+_, _*_, _^_, _≤_, _<_}
 use mathlib.Core.Path.{_≡_, refl, sym, ap, ap₂, subst, _∙_}
-use mathlib.Core.Bool.{Bool, true, false, not, cond}
+use mathlib.Core.Bool.{Bool, true, false, cond}
 use mathlib.Core.List.{List, [], _∷_, _++_, append-assoc, append-nil}
 use mathlib.Core.Option.{Option, none, some}
 use native.Mathlib.Omega.{arith}
@@ -16,7 +16,7 @@ use Rattle.protobuf.specs.EncodeLaws.{bytes-field-length}
 use Rattle.rpc.specs.Rpc.{SubOpts, RawMessage, ControlIHave, ControlIWant, ControlGraft, PeerInfo, ControlPrune, ControlMessage, Rpc}
 use Rattle.rpc.specs.Grammar.{putNumber, numbersIn, putBytes, bytesIn, orElse, last, nonzero, Each, none-left, _and_, Pairs, no-pairs, _paired_, IsSubOpts, is-sub-opts, IsMessage, is-message, IsIHave, is-ihave, IsIWant, is-iwant, IsGraft, is-graft, IsPeerInfo, is-peer-info, IsPrune, is-prune, IsControl, is-control, join, joinTo, joined, IsRpc, is-rpc}
 use Rattle.rpc.specs.Encode.{optional, repeated, flag, encodeSubOpts, encodeIHave, encodeIWant, encodeGraft, encodePeerInfo, encodePrune, encodeControl, encodeRpc}
-use Rattle.canonical.specs.Shorter.{repeated-append, sub-opts-shorter, ihave-shorter, iwant-shorter, graft-shorter, peer-info-shorter, prune-shorter, control-shorter, never-longer}
+use Rattle.canonical.specs.Shorter.{sub-opts-shorter, ihave-shorter, iwant-shorter, graft-shorter, peer-info-shorter, prune-shorter, never-longer}
 
 -- ---- writing fields gives a body of them
 pub body-append : {a b : List ℕ} {es fs : List Entry} → Body a es → Body b fs → Body (a ++ b) (es ++ fs)

@@ -1,7 +1,7 @@
 -- The message at an index of a body is that message of the RPC that the body means; and where there is none, the number of messages is told.
 use Prim.Native.Nat.{ℕ, zero, suc, _+_, _≤_}
 use mathlib.Core.Path.{_≡_, refl, sym, ap, ap₂, subst, _∙_}
-use mathlib.Core.Bool.{Bool, true, false, cond}
+use mathlib.Core.Bool.{Bool, cond}
 use mathlib.Core.List.{List, [], _∷_}
 use native.Mathlib.Omega.{arith}
 use lib.ListN.{length}
@@ -9,9 +9,9 @@ use lib.Dec.{eqb}
 use borrow.Author.Tests.{eqb-true, eqb-false}
 use Rattle.basis.specs.Cases.{either, clash}
 use Rattle.protobuf.specs.declared.Field.{Field}
-use Rattle.protobuf.specs.Grammar.{Entry, Body}
+use Rattle.protobuf.specs.Grammar.{Entry}
 use Rattle.protobuf.specs.Walk.{whole, between, entriesOf, isBytes, valueIn}
-use Rattle.protobuf.specs.Exactly.{Walks, body-walks}
+use Rattle.protobuf.specs.Exactly.{body-walks}
 use Rattle.rpc.specs.Rpc.{RawMessage, Rpc}
 use Rattle.rpc.specs.Grammar.{bytesIn, Pairs, no-pairs, _paired_, IsMessage, IsRpc, is-rpc}
 use Rattle.meaning.specs.Entries.{put-bytes}

@@ -1,14 +1,13 @@
 -- The nine rows of 01's table "Bodies and answers" that are marked P, as one theorem.
-use Prim.Native.Nat.{ℕ}
 use mathlib.Core.Path.{_≡_, refl}
 use mathlib.Core.Bool.{true, false}
-use mathlib.Core.List.{List, [], _∷_, _++_}
+use mathlib.Core.List.{[], _∷_, _++_}
 use Rattle.peer_id.specs.declared.VarintError.the-variants.{BufferTooShort, NonCanonical}
 use Rattle.peer_id.specs.Uvarint.{uvarint, bytesOf, readUvarint, readFrom, groupOf}
 use Rattle.utf8.specs.Utf8.{isUtf8, run}
 use Rattle.protobuf.specs.declared.WireError.the-variants.{Varint, FieldOverflow, UnsupportedWireType, InvalidFieldNumber, InvalidUtf8}
 use Rattle.protobuf.specs.Field.{readTag, readLen, readVarint, skipFixed, skipField, readValue, readField}
-use Rattle.protobuf.specs.Walk.{walkFrom, walkAt, valueIn}
+use Rattle.protobuf.specs.Walk.{walkFrom, walkAt}
 use Rattle.protobuf.specs.Encode.{tag, bytesField, varintField}
 use Rattle.schema.specs.declared.Kind.the-variants as kind
 use Rattle.schema.specs.declared.Place.the-variants as place

@@ -1,7 +1,7 @@
 -- The canonical bytes of an RPC are never longer than a body that means it.
 use Prim.Native.Nat.{ℕ, _+_, _≤_}
-use mathlib.Core.Path.{_≡_, refl, sym, ap, ap₂, _∙_}
-use mathlib.Core.Bool.{Bool, true, false, not}
+use mathlib.Core.Path.{_≡_, refl, sym, ap, _∙_}
+use mathlib.Core.Bool.{not}
 use mathlib.Core.List.{List, [], _∷_, _++_, append-assoc}
 use mathlib.Core.Option.{Option, none, some}
 use native.Mathlib.Omega.{arith}
@@ -10,12 +10,12 @@ use lib.Dec.{eqb}
 use borrow.Author.Tests.{eqb-false}
 use Rattle.basis.specs.Cases.{either}
 use Rattle.peer_id.specs.Uvarint.{uvarint}
-use Rattle.protobuf.specs.Encode.{tag, varintField, bytesField}
-use Rattle.protobuf.specs.EncodeLaws.{bytes-field-length, tag-some}
+use Rattle.protobuf.specs.Encode.{varintField, bytesField}
+use Rattle.protobuf.specs.EncodeLaws.{bytes-field-length}
 use Rattle.rpc.specs.Rpc.{SubOpts, RawMessage, ControlIHave, ControlIWant, ControlGraft, PeerInfo, ControlPrune, ControlMessage, Rpc}
-use Rattle.rpc.specs.Grammar.{numbersIn, bytesIn, last, nonzero, Pairs, no-pairs, _paired_, IsSubOpts, is-sub-opts, IsMessage, is-message, IsIHave, is-ihave, IsIWant, is-iwant, IsGraft, is-graft, IsPeerInfo, is-peer-info, IsPrune, is-prune, IsControl, is-control, join, joinTo, joined, IsRpc, is-rpc}
+use Rattle.rpc.specs.Grammar.{numbersIn, bytesIn, last, nonzero, IsSubOpts, is-sub-opts, IsMessage, is-message, IsIHave, is-ihave, IsIWant, is-iwant, IsGraft, is-graft, IsPeerInfo, is-peer-info, IsPrune, is-prune, IsControl, is-control, join, joinTo, joined, IsRpc, is-rpc}
 use Rattle.rpc.specs.Encode.{optional, repeated, flag, encodeSubOpts, encodeIHave, encodeIWant, encodeGraft, encodePeerInfo, encodePrune, encodeControl, encodeRpc}
-use Rattle.canonical.specs.Lengths.{uvarint-sum, bytesLength, numbersLength, fields-fit, last-bytes, last-numbers, all-bytes, all-subs}
+use Rattle.canonical.specs.Lengths.{uvarint-sum, fields-fit, last-bytes, last-numbers, all-bytes, all-subs}
 
 -- ---- each message
 abbrev oneIfSome : ℕ → ℕ

@@ -1,16 +1,16 @@
 -- What the writer makes of a body is the canonical encoding of the RPC that the body means.
 use Prim.Native.Nat.{ℕ, zero, suc, _+_}
-use mathlib.Core.Path.{_≡_, refl, sym, ap, ap₂, subst, _∙_}
-use mathlib.Core.Bool.{Bool, true, false, not, cond}
-use mathlib.Core.List.{List, [], _∷_, _++_, append-assoc, append-nil}
+use mathlib.Core.Path.{_≡_, refl, sym, ap, ap₂, _∙_}
+use mathlib.Core.Bool.{Bool, true, false, cond}
+use mathlib.Core.List.{List, [], _∷_, _++_, append-nil}
 use mathlib.Core.Option.{Option, none, some}
 use native.Mathlib.Nat.{zero-add}
 use lib.Dec.{eqb}
 use Rattle.basis.specs.Cases.{either}
 use Rattle.protobuf.specs.declared.Field.{Field}
 use Rattle.protobuf.specs.Grammar.{Entry, Body}
-use Rattle.protobuf.specs.Walk.{Fields, fieldsOf, whole, between, entriesOf as fieldEntries, isBytes, valueIn}
-use Rattle.protobuf.specs.Exactly.{Walks, body-walks}
+use Rattle.protobuf.specs.Walk.{fieldsOf, whole, between, entriesOf as fieldEntries, isBytes, valueIn}
+use Rattle.protobuf.specs.Exactly.{body-walks}
 use Rattle.protobuf.specs.Encode.{varintField, bytesField}
 use Rattle.schema.specs.declared.Kind.{Kind}
 use Rattle.schema.specs.declared.Kind.the-variants as kind
@@ -22,15 +22,14 @@ use Rattle.schema.specs.declared.Number.the-variants as number
 use Rattle.schema.specs.declared.Slots.{Slots}
 use Rattle.schema.specs.Schema.{roleOf, rank}
 use Rattle.schema.specs.Slots.{noSlots, slotsOf}
-use Rattle.message.specs.Decode.{hasControl}
 use Rattle.rpc.specs.Rpc.{SubOpts, RawMessage, ControlIHave, ControlIWant, ControlGraft, PeerInfo, ControlPrune, ControlMessage, Rpc}
 use Rattle.rpc.specs.Grammar.{numbersIn, bytesIn, last, nonzero, Pairs, no-pairs, _paired_, IsSubOpts, is-sub-opts, IsMessage, is-message, IsIHave, is-ihave, IsIWant, is-iwant, IsGraft, is-graft, IsPeerInfo, is-peer-info, IsPrune, is-prune, IsControl, is-control, join, joined, IsRpc, is-rpc}
 use Rattle.rpc.specs.Encode.{optional, repeated, flag, encodeSubOpts, encodeIHave, encodeIWant, encodeGraft, encodePeerInfo, encodePrune, encodeControl, encodeRpc, signPrefix, signBytes}
 use Rattle.meaning.specs.ReadBack.{bytesAt, numberAt}
 use Rattle.meaning.specs.Entries.{put-bytes}
-use Rattle.meaning.specs.Last.{Part, Feeds, FeedsNumber}
+use Rattle.meaning.specs.Last.{Feeds, FeedsNumber}
 use Rattle.meaning.specs.Back.{sub-opts-topic, ihave-topic, graft-topic, prune-topic, peer-id, peer-record, message-from, message-data, message-seqno, sub-opts-subscribe, prune-backoff, slot-value, number-value, whole-part, flat, any, joined-flat, rpc-control}
-use Rattle.encode.specs.Canon.{eachAlong, placed, slotIn, valueOf, numbered, inner, four, canonTo, canon, partOf, entriesAlong, entriesOf, mergedControl, canonBody, signOf}
+use Rattle.encode.specs.Canon.{eachAlong, placed, slotIn, valueOf, numbered, inner, canonTo, canon, partOf, entriesAlong, entriesOf, mergedControl, canonBody, signOf}
 use Rattle.canonical.specs.Shorter.{repeated-append}
 
 -- ---- a singular field

@@ -1,11 +1,9 @@
 -- The canonical bytes of a message, as the writer makes them from its body: its known fields in the order of their numbers, of a singular one
 -- the last, of repeated ones each, submessages in the same way. specs of rpc say what these bytes are for the RPC that a body means.
 use Prim.Native.Nat.{ℕ, zero, suc, _+_}
-use mathlib.Core.Bool.{Bool, cond}
-use mathlib.Core.List.{List, [], _∷_, _++_}
-use lib.ListN.{length}
+use mathlib.Core.Bool.{cond}
+use mathlib.Core.List.{List, [], _++_}
 use lib.Dec.{eqb}
-use Rattle.protobuf.specs.declared.Field.{Field}
 use Rattle.protobuf.specs.Walk.{Fields, end, refused, _then_, fieldsOf, between, isBytes, valueIn}
 use Rattle.protobuf.specs.Encode.{varintField, bytesField}
 use Rattle.schema.specs.declared.Kind.{Kind}

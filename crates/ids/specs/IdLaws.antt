@@ -1,25 +1,21 @@
 -- Laws of messages and ids: they stand within the bytes.
-use Prim.Native.Nat.{ℕ, _+_, _-_, _≤_, _<_}
-use mathlib.Core.Path.{_≡_, refl, sym, ap, _∙_}
-use mathlib.Core.Bool.{Bool, true, false, cond, _||_}
-use mathlib.Core.List.{List, _++_}
+use Prim.Native.Nat.{ℕ, _+_, _-_, _≤_}
+use mathlib.Core.Path.{_≡_, refl}
+use mathlib.Core.List.{List}
 use native.Mathlib.Omega.{arith}
 use lib.ListN.{length, drop, length-append, length-drop}
 use lib.Seq.{length-take-le}
 use lib.Dec.{ltb, eqb}
 use borrow.Author.Tests.{ltb-false, eqb-false}
 use Rattle.basis.specs.Cases.{either, clash}
-use Rattle.protobuf.specs.Walk.{Fields, end, refused, _then_, walkAt, fieldsOf, isBytes, between}
-use Rattle.protobuf.specs.Laws.{Stands}
+use Rattle.protobuf.specs.Walk.{Fields, walkAt, isBytes, between}
 use Rattle.protobuf.specs.WalkLaws.{along}
 use Rattle.schema.specs.declared.Kind.the-variants as kind
 use Rattle.schema.specs.declared.Place.{Place}
 use Rattle.schema.specs.declared.Place.the-variants as place
 use Rattle.schema.specs.Slots.{slotsOf}
 use Rattle.schema.specs.SlotsLaws.{Inside, slots-inside}
-use Rattle.ids.specs.declared.MessageAt.{MessageAt}
-use Rattle.ids.specs.declared.MessageAt.the-variants.{At, Count}
-use Rattle.ids.specs.declared.MessageId.{MessageId}
+use Rattle.ids.specs.declared.MessageAt.the-variants.{At}
 use Rattle.ids.specs.declared.MessageId.the-variants as id
 use Rattle.protobuf.specs.declared.Checked.the-variants.{Fine}
 use Rattle.ids.specs.Ids.{acceptOf, messageAlong, messageAt, onSeqno, onFrom, idParts, idBytes}

@@ -131,15 +131,6 @@ pub index-is : (c : MessageCache) (id : List ℕ) (r : ℕ) → r ≡ 0 + indexO
 unfolding indexIn
 index-is c id r e = e ∙ zero-add (indexOf id (idsIn 128 (c .«max_messages») (c .start) (c .count) (c .«id_len») (c .ids)))
 
-pub kept-sound : (c : MessageCache) (st : List ℕ) → Kept c st → Sound 128 (c .«max_messages») (c .start) (c .count) (c .«id_len») (c .ids)
-kept-sound c st ok =
-    let r = ok .rows in
-    record {
-      rows = record { starts = r .starts; within = r .within; size = omega (arith, r .few, r .id-lengths) };
-      room = omega (arith, r .few, r .id-room);
-      short = r .id-short;
-    }
-
 -- ---- a window later
 stale-in : (history : ℕ) (l : List ℕ) → stale history l ≤ length l
 unfolding stale

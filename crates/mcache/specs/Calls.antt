@@ -2,7 +2,7 @@
 -- 7, 11, 20, 21 to 26, 28, 29, 30, and for `gossip_ids` 29. A refused call leaves the cache and the store as they were.
 use Prim.Native.Nat.{ℕ, _+_, _-_, _*_}
 use mathlib.Core.List.{List, [], _∷_, _++_}
-use mathlib.Core.Bool.{Bool, true, false, cond}
+use mathlib.Core.Bool.{true, cond}
 use lib.ListN.{length, drop, replicate}
 use lib.Seq.{sets}
 use lib.Dec.{ltb, eqb}

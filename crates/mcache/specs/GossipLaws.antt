@@ -268,7 +268,7 @@ pub record Tells (i topic : List ℕ) (windows : ℕ) (ms : List Cached) : Type 
   pub recent : entry .window < windows
   pub carries : List·Memᴰ topic (topics entry)
 
-among-order : (x : List ℕ) (is : List (List ℕ)) → among x (inOrder is) ≡ among x is
+pub among-order : (x : List ℕ) (is : List (List ℕ)) → among x (inOrder is) ≡ among x is
 unfolding inOrder among
 among-order x [] = refl
 among-order x (i ∷ is) = among-enter x i (inOrder is) ∙ ap (λ (b : Bool). sameBytes i x || b) (among-order x is)

@@ -1,6 +1,6 @@
 -- What a cache and its store hold. A store has max_messages places of 4,096 bytes. The message in place p is the first `len[p]` bytes of that
 -- place; its id is the first `id_len[p]` bytes of the p-th 128 bytes of `ids`.
-use Prim.Native.Nat.{ℕ, zero, suc, _+_, _-_, _*_, _%_, _^_, _≤_, _<_}
+use Prim.Native.Nat.{ℕ, suc, _+_, _-_, _*_, _%_, _^_, _≤_, _<_}
 use mathlib.Core.Path.{_≡_}
 use mathlib.Core.List.{List, [], _∷_, _++_, map}
 use mathlib.Core.Bool.{Bool, true, cond, _&&_}

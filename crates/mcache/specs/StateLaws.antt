@@ -2,7 +2,7 @@
 use Prim.Native.Nat.{ℕ, zero, suc, _-_, _*_, _≤_, _<_}
 use mathlib.Core.Path.{_≡_, refl, sym, _∙_}
 use mathlib.Core.List.{List, [], _∷_}
-use mathlib.Core.Bool.{Bool, true, false, _&&_}
+use mathlib.Core.Bool.{Bool, true}
 use native.Mathlib.Omega.{arith}
 use lib.ListN.{length, getD}
 use lib.Dec.{leb, eqb}
@@ -11,7 +11,7 @@ use Rattle.basis.specs.Cases.{either, clash, both}
 use Rattle.rows.specs.Rows.{tab, placeOf, ring}
 use Rattle.rows.specs.RowsLaws.{length-tab, getD-tab}
 use Rattle.rows.specs.Ids.{distinct}
-use Rattle.rows.specs.Store.{idAt, idsIn, lensIn, allUpTo}
+use Rattle.rows.specs.Store.{idAt, idsIn, lensIn, allUpTo, Sound}
 use Rattle.admission.specs.Admission.{givesId}
 use Rattle.mcache.specs.declared.MessageCache.{MessageCache}
 use Rattle.mcache.specs.declared.Lent.the-variants as lent
@@ -154,3 +154,13 @@ lent-kept c st h z =
 -- and a legal history
 pub lent-history : (c : MessageCache) (st : List ℕ) → lentOf c st ≡ lent.Fine → (1 ≤ c .«history_len») × (c .«history_len» ≤ 16)
 lent-history c st h = let t = fine-tests c st h in (t .history-some, t .history-few)
+
+-- ---- the ids of a tested state stand in sound rows
+pub kept-sound : (c : MessageCache) (st : List ℕ) → Kept c st → Sound 128 (c .«max_messages») (c .start) (c .count) (c .«id_len») (c .ids)
+kept-sound c st ok =
+    let r = ok .rows in
+    record {
+      rows = record { starts = r .starts; within = r .within; size = omega (arith, r .few, r .id-lengths) };
+      room = omega (arith, r .few, r .id-room);
+      short = r .id-short;
+    }

@@ -1,10 +1,8 @@
 -- A body is accepted exactly where the grammar has it: for each kind of message, both ways.
 use Prim.Native.Nat.{ℕ, _-_}
-use mathlib.Core.Path.{_≡_, refl, sym, ap, subst, _∙_}
-use mathlib.Core.Bool.{Bool, true, false, cond}
+use mathlib.Core.Path.{refl, sym, subst}
 use mathlib.Core.List.{List, [], _∷_}
-use mathlib.Core.Logic.{_↔_}
-use lib.ListN.{take, drop}
+use lib.ListN.{drop}
 use lib.Dec.{eqb}
 use borrow.Author.Tests.{eqb-true}
 use Rattle.basis.specs.Cases.{either}
@@ -13,12 +11,10 @@ use Rattle.basis.specs.Lists.{drop-bytes, take-bytes}
 use Rattle.utf8.specs.Grammar.{Utf8}
 use Rattle.protobuf.specs.declared.Field.{Field}
 use Rattle.protobuf.specs.Grammar.{Entry, Body}
-use Rattle.protobuf.specs.Walk.{fieldsOf, whole, entriesOf}
-use Rattle.protobuf.specs.Exactly.{Walks, exactly, body-walks}
+use Rattle.protobuf.specs.Walk.{entriesOf}
+use Rattle.protobuf.specs.Exactly.{exactly, body-walks}
 use Rattle.schema.specs.declared.Kind.{Kind}
 use Rattle.schema.specs.declared.Kind.the-variants as kind
-use Rattle.schema.specs.declared.Role.{Role}
-use Rattle.schema.specs.declared.Role.the-variants.{Skip, Number, Text, Bytes as BytesRole, Topic, MessageId, Sub}
 use Rattle.schema.specs.Schema.{roleOf}
 use Rattle.rpc.specs.Rpc.{SubOpts, RawMessage, ControlIHave, ControlIWant, ControlGraft, PeerInfo, ControlPrune, ControlMessage, Rpc}
 use Rattle.rpc.specs.Grammar.{bytesIn, Each, none-left, _and_, Pairs, no-pairs, _paired_, IsSubOpts, is-sub-opts, IsMessage, is-message, IsIHave, is-ihave, IsIWant, is-iwant, IsGraft, is-graft, IsPeerInfo, is-peer-info, IsPrune, is-prune, IsControl, is-control, IsRpc, is-rpc}

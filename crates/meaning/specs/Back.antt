@@ -1,24 +1,21 @@
 -- The records that were written, read back, are the RPC that the body means.
-use Prim.Native.Nat.{ℕ, _+_, _-_, _≤_}
+use Prim.Native.Nat.{ℕ, _+_, _-_}
 use mathlib.Core.Path.{_≡_, refl, sym, ap, ap₂, subst, _∙_}
 use mathlib.Core.Bool.{Bool, true, false, cond, _&&_, _||_}
-use mathlib.Core.List.{List, [], _∷_, _++_, append-assoc, append-nil}
+use mathlib.Core.List.{List, [], _∷_, _++_, append-nil}
 use mathlib.Core.Option.{Option, none, some}
 use native.Mathlib.Omega.{arith}
-use native.Mathlib.Nat.{zero-add}
-use lib.ListN.{length, take, drop}
+use lib.ListN.{length, take}
 use lib.Seq.{take-length}
 use lib.Dec.{eqb}
 use borrow.Author.Tests.{eqb-true}
-use Rattle.basis.specs.Cases.{either, clash}
-use Rattle.utf8.specs.Grammar.{Utf8}
+use Rattle.basis.specs.Cases.{either}
 use Rattle.protobuf.specs.declared.Field.{Field}
 use Rattle.protobuf.specs.Grammar.{Entry, Body}
-use Rattle.protobuf.specs.Walk.{Fields, end, refused, _then_, walkAt, fieldsOf, whole, between, entriesOf}
-use Rattle.protobuf.specs.Exactly.{Walks, body-walks}
+use Rattle.protobuf.specs.Walk.{Fields, end, fieldsOf, whole, between, entriesOf}
+use Rattle.protobuf.specs.Exactly.{body-walks}
 use Rattle.schema.specs.declared.Kind.{Kind}
 use Rattle.schema.specs.declared.Kind.the-variants as kind
-use Rattle.schema.specs.declared.Role.{Role}
 use Rattle.schema.specs.declared.Place.{Place}
 use Rattle.schema.specs.declared.Number.the-variants as number
 use Rattle.schema.specs.declared.Slots.{Slots}
@@ -31,7 +28,7 @@ use Rattle.message.specs.Decode.{isControl, controlAlong, hasControl}
 use Rattle.rpc.specs.Rpc.{SubOpts, RawMessage, ControlIHave, ControlIWant, ControlGraft, PeerInfo, ControlPrune, ControlMessage, Rpc}
 use Rattle.rpc.specs.Grammar.{numbersIn, bytesIn, last, nonzero, Each, none-left, _and_, Pairs, no-pairs, _paired_, IsSubOpts, is-sub-opts, IsMessage, is-message, IsIHave, is-ihave, IsIWant, is-iwant, IsGraft, is-graft, IsPeerInfo, is-peer-info, IsPrune, is-prune, IsControl, is-control, join, joinTo, joined, IsRpc, is-rpc}
 use Rattle.meaning.specs.ReadBack.{bytesAt, numberAt, rawOf, Gathered, emptyControl, nothing, addIHave, addIWant, addGraft, addPrune, gatherKind, gather, rpcFrom, readBack}
-use Rattle.protobuf.specs.Walk.{isBytes, isNumber, valueIn}
+use Rattle.protobuf.specs.Walk.{isBytes, valueIn}
 use Rattle.meaning.specs.Entries.{put-bytes}
 use Rattle.meaning.specs.Last.{Part, Inside, walk-inside, part-value, part-part, Feeds, slot-last, FeedsNumber, number-last, six, feeds-from}
 

@@ -1,9 +1,9 @@
 -- Reading a body, as theorems about what `decode` answers and leaves: accepted exactly where the body is well formed and within capacity; the
 -- table then says the RPC that the body means; and each refusal exactly where 01 gives it.
-use Prim.Native.Nat.{ℕ, zero, suc, _+_, _*_, _/_, _≤_, _<_}
-use mathlib.Core.Path.{_≡_, refl, sym, ap, ap₂, subst, _∙_}
-use mathlib.Core.Bool.{Bool, true, false, cond}
-use mathlib.Core.List.{List, [], _∷_}
+use Prim.Native.Nat.{ℕ, zero, suc, _*_, _/_, _≤_, _<_}
+use mathlib.Core.Path.{_≡_, refl, sym, ap, ap₂, _∙_}
+use mathlib.Core.Bool.{Bool}
+use mathlib.Core.List.{List}
 use mathlib.Core.Logic.{_↔_}
 use native.Mathlib.Omega.{arith}
 use lib.ListN.{length}
@@ -16,12 +16,9 @@ use Rattle.utf8.specs.Utf8.{isUtf8}
 use Rattle.protobuf.specs.declared.Field.{Field}
 use Rattle.protobuf.specs.declared.WireError.{WireError}
 use Rattle.protobuf.specs.declared.WireError.the-variants.{InvalidUtf8, TooLarge, TooManyRecords}
-use Rattle.protobuf.specs.declared.Step.{Step}
-use Rattle.protobuf.specs.declared.Step.the-variants as step
-use Rattle.protobuf.specs.Field.{readField}
 use Rattle.protobuf.specs.Refusal.{refusalNumber}
 use Rattle.protobuf.specs.RefusalLaws.{field-early}
-use Rattle.protobuf.specs.Walk.{Fields, end, refused, _then_, onStep, walkAt, fieldsOf, between}
+use Rattle.protobuf.specs.Walk.{Fields, end, refused, _then_, fieldsOf, between}
 use Rattle.protobuf.specs.WalkLaws.{along}
 use Rattle.schema.specs.declared.Kind.{Kind}
 use Rattle.schema.specs.declared.Kind.the-variants as kind
@@ -40,8 +37,7 @@ use Rattle.message.specs.Decode.{hasControl, onCount, decodeAnswer, leaves, dec
 use Rattle.rpc.specs.Rpc.{Rpc}
 use Rattle.rpc.specs.Grammar.{IsRpc}
 use Rattle.meaning.specs.ReadBack.{readBack}
-use Rattle.meaning.specs.Good.{Accepted}
-use Rattle.meaning.specs.Accepted.{Some, rpc-means, rpc-accepted}
+use Rattle.meaning.specs.Accepted.{rpc-means, rpc-accepted}
 use Rattle.meaning.specs.Back.{read-back}
 use Rattle.meaning.specs.Table.{rowsIn, table-back}
 use Rattle.meaning.specs.Size.{recordsIn, rpc-records}

@@ -1,14 +1,13 @@
 -- Of a walk that reaches the end: what each field gives to the values of a field number.
 use Prim.Native.Nat.{ℕ}
-use mathlib.Core.Path.{_≡_, refl, sym, ap, _∙_}
-use mathlib.Core.Bool.{Bool, true, false, cond, _&&_}
-use mathlib.Core.List.{List, [], _∷_}
+use mathlib.Core.Path.{_≡_}
+use mathlib.Core.Bool.{false, cond}
+use mathlib.Core.List.{List, _∷_}
 use lib.Dec.{eqb}
 use borrow.Author.Tests.{eqb-true}
 use Rattle.basis.specs.Cases.{either}
 use Rattle.protobuf.specs.declared.Field.{Field}
-use Rattle.protobuf.specs.Grammar.{Payload, number, eight, bytes, four}
-use Rattle.protobuf.specs.Walk.{between, payloadOf, entryOf, isBytes, isNumber, valueIn}
+use Rattle.protobuf.specs.Walk.{payloadOf, entryOf, isBytes, isNumber, valueIn}
 use Rattle.rpc.specs.Grammar.{putNumber, putBytes}
 
 payload-bytes : (s : List ℕ) (m : ℕ) (f : Field) (ds : List (List ℕ)) → putBytes (eqb (f .field) m) (payloadOf s f) ds ≡ cond (isBytes m f) (valueIn s f ∷ ds) ds

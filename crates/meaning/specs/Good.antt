@@ -2,28 +2,25 @@
 -- submessage is accepted.
 use Prim.Native.Nat.{ℕ, _+_}
 use mathlib.Core.Path.{_≡_, refl, sym, ap, ap₂, subst, _∙_}
-use mathlib.Core.Bool.{Bool, true, false, cond, _&&_}
+use mathlib.Core.Bool.{Bool, true, false, cond}
 use mathlib.Core.List.{List, [], _∷_}
 use lib.Dec.{eqb}
 use borrow.Author.Tests.{eqb-true, eq-eqb}
-use native.Mathlib.Omega.{arith}
 use Rattle.basis.specs.Cases.{either, clash, both}
 use Rattle.utf8.specs.Grammar.{Utf8}
 use Rattle.utf8.specs.Utf8.{isUtf8}
 use Rattle.utf8.specs.Laws.{exactly}
 use Rattle.protobuf.specs.declared.Field.{Field}
-use Rattle.protobuf.specs.declared.WireError.{WireError}
 use Rattle.protobuf.specs.Grammar.{Entry}
-use Rattle.protobuf.specs.Walk.{Fields, end, refused, _then_, walkAt, fieldsOf, whole, between, entriesOf}
+use Rattle.protobuf.specs.Walk.{Fields, end, refused, _then_, fieldsOf, whole, entriesOf}
 use Rattle.schema.specs.declared.Kind.{Kind}
 use Rattle.schema.specs.declared.Role.{Role}
 use Rattle.schema.specs.declared.Role.the-variants.{Skip, Number, Text, Bytes, Topic, MessageId, Sub}
-use Rattle.schema.specs.declared.Counted.{Counted}
-use Rattle.schema.specs.declared.Counted.the-variants.{Records, Refused}
-use Rattle.schema.specs.Schema.{lenRole, varintField, roleOf, ownOf}
+use Rattle.schema.specs.declared.Counted.the-variants.{Records}
+use Rattle.schema.specs.Schema.{varintField, roleOf, ownOf}
 use Rattle.schema.specs.Count.{plus, andThen, textCount, roleCount, countAlong, counted}
 use Rattle.schema.specs.CountLaws.{plus-fits, then-fits, count-along}
-use Rattle.rpc.specs.Grammar.{putBytes, bytesIn, Each, none-left, _and_}
+use Rattle.rpc.specs.Grammar.{bytesIn, Each, none-left, _and_}
 use Rattle.protobuf.specs.Walk.{isBytes, valueIn}
 use Rattle.meaning.specs.Entries.{put-bytes}
 

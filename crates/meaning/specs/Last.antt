@@ -1,7 +1,7 @@
 -- The slots of a message hold the last of each singular field.
-use Prim.Native.Nat.{ℕ, zero, suc, _+_, _-_, _≤_, _<_}
-use mathlib.Core.Path.{_≡_, refl, sym, ap, ap₂, subst, _∙_}
-use mathlib.Core.Bool.{Bool, true, false, cond, _&&_}
+use Prim.Native.Nat.{ℕ, _+_, _-_, _≤_}
+use mathlib.Core.Path.{_≡_, refl, sym, ap, subst, _∙_}
+use mathlib.Core.Bool.{Bool, false, cond}
 use mathlib.Core.List.{List, [], _∷_}
 use mathlib.Core.Option.{Option, none, some}
 use native.Mathlib.Omega.{arith}
@@ -15,18 +15,16 @@ use Rattle.protobuf.specs.declared.Field.{Field}
 use Rattle.protobuf.specs.declared.Step.{Step}
 use Rattle.protobuf.specs.declared.Step.the-variants as step
 use Rattle.protobuf.specs.Field.{readField}
-use Rattle.protobuf.specs.Laws.{Stands, field-stands}
-use Rattle.protobuf.specs.Walk.{Fields, end, refused, _then_, onStep, walkAt, whole, between, entryOf, entriesOf}
+use Rattle.protobuf.specs.Laws.{field-stands}
+use Rattle.protobuf.specs.Walk.{onStep, walkAt, whole, between, entriesOf}
 use Rattle.protobuf.specs.WalkLaws.{walk-step}
 use Rattle.schema.specs.declared.Kind.{Kind}
-use Rattle.schema.specs.declared.Kind.the-variants as kind
-use Rattle.schema.specs.declared.Role.{Role}
 use Rattle.schema.specs.declared.Place.{Place}
 use Rattle.schema.specs.declared.Number.{Number}
 use Rattle.schema.specs.declared.Number.the-variants as number
 use Rattle.schema.specs.declared.Slots.{Slots}
 use Rattle.schema.specs.Schema.{lenRole, varintField, roleOf}
-use Rattle.schema.specs.Slots.{setNumber, setPlace, placeOf, roleSlots, withField, slotsAlong}
+use Rattle.schema.specs.Slots.{setNumber, placeOf, roleSlots, withField, slotsAlong}
 use Rattle.rpc.specs.Grammar.{numbersIn, bytesIn, orElse, last, Each, none-left, _and_}
 use Rattle.meaning.specs.ReadBack.{bytesAt, numberAt}
 use Rattle.protobuf.specs.Walk.{isBytes, isNumber, valueIn}

@@ -1,8 +1,7 @@
 -- How many records an RPC has, by 01's list: each SubOpts, message, topic of a message, IHAVE, IWANT, message id, GRAFT, PRUNE and PeerInfo;
 -- and a body has as many as the RPC that it means.
-use Prim.Native.Nat.{ℕ, zero, suc, _+_, _≤_, _<_}
-use mathlib.Core.Path.{_≡_, refl, sym, ap, ap₂, _∙_}
-use mathlib.Core.Bool.{true, false}
+use Prim.Native.Nat.{ℕ, zero, suc, _+_, _<_}
+use mathlib.Core.Path.{_≡_, refl, sym, ap, _∙_}
 use mathlib.Core.List.{List, [], _∷_, _++_}
 use mathlib.Core.Option.{Option, none, some}
 use native.Mathlib.Omega.{arith}
@@ -24,7 +23,7 @@ use Rattle.message.specs.RowsLaws.{rows-along}
 use Rattle.rpc.specs.Rpc.{SubOpts, RawMessage, ControlIHave, ControlIWant, ControlGraft, PeerInfo, ControlPrune, ControlMessage, Rpc}
 use Rattle.rpc.specs.Grammar.{joined, IsRpc, is-rpc}
 use Rattle.meaning.specs.ReadBack.{Gathered, nothing, gatherKind, gather}
-use Rattle.meaning.specs.Back.{state, flat, joined-some, rpc-gathered}
+use Rattle.meaning.specs.Back.{flat, joined-some, rpc-gathered}
 
 -- ---- the records of an RPC
 abbrev pub sumOf : {X : Type 0} → (X → ℕ) → List X → ℕ

@@ -4,7 +4,7 @@ use mathlib.Core.Path.{_≡_, refl, sym, ap, ap₂, _∙_}
 use mathlib.Core.List.{List, [], _∷_, _++_, append-assoc}
 use native.Mathlib.Omega.{arith}
 use native.Mathlib.Nat.{add-zero}
-use lib.ListN.{length, take, drop, getD, length-append}
+use lib.ListN.{length, drop, getD}
 use lib.Seq.{sets, sets-eq, getD-drop, getD-append-add, drop-drop, drop-at}
 use borrow.Author.Tests.{lt-leb}
 use Rattle.schema.specs.declared.Kind.{Kind}
@@ -13,9 +13,7 @@ use Rattle.schema.specs.declared.Place.{Place}
 use Rattle.schema.specs.declared.Place.the-variants as place
 use Rattle.schema.specs.declared.Number.{Number}
 use Rattle.schema.specs.declared.Number.the-variants as number
-use Rattle.schema.specs.declared.Slots.{Slots}
 use Rattle.message.specs.declared.Record.{Record}
-use Rattle.message.specs.declared.RecordAt.{RecordAt}
 use Rattle.message.specs.declared.RecordAt.the-variants as found
 use Rattle.message.specs.Rows.{kindCode, numberWords, placeWords, placesWords, wordsOf, wordsOfAll, kindFrom, numberFrom, placeFrom, recordFrom, recordAt}
 use Rattle.message.specs.RowsLaws.{place-length, words-length, all-length}

@@ -3,17 +3,14 @@
 use Prim.Native.Nat.{ℕ, zero, suc, _+_, _-_, _*_, _≤_, _<_}
 use mathlib.Core.Path.{_≡_, refl, sym, ap, ap₂, _∙_}
 use mathlib.Core.List.{List, [], _∷_, _++_, append-assoc}
-use mathlib.Core.Bool.{Bool, true, false}
 use native.Mathlib.Omega.{arith}
 use lib.ListN.{length, length-append}
 use lib.Dec.{eqb}
 use borrow.Author.Tests.{eqb-true, eqb-false}
 use Rattle.basis.specs.Cases.{either, clash}
-use Rattle.utf8.specs.Utf8.{isUtf8}
 use Rattle.protobuf.specs.declared.Field.{Field}
-use Rattle.protobuf.specs.Walk.{Fields, end, refused, _then_, walkAt, fieldsOf, between}
+use Rattle.protobuf.specs.Walk.{Fields, end, refused, _then_, fieldsOf, between}
 use Rattle.schema.specs.declared.Kind.{Kind}
-use Rattle.schema.specs.declared.Kind.the-variants as kind
 use Rattle.schema.specs.declared.Role.{Role}
 use Rattle.schema.specs.declared.Role.the-variants.{Skip, Number, Text, Bytes, Topic, MessageId, Sub}
 use Rattle.schema.specs.declared.Place.{Place}
@@ -21,13 +18,12 @@ use Rattle.schema.specs.declared.Place.the-variants as place
 use Rattle.schema.specs.declared.Number.{Number as Num}
 use Rattle.schema.specs.declared.Number.the-variants as number
 use Rattle.schema.specs.declared.Slots.{Slots}
-use Rattle.schema.specs.declared.Counted.{Counted}
-use Rattle.schema.specs.declared.Counted.the-variants.{Records, Refused}
+use Rattle.schema.specs.declared.Counted.the-variants.{Records}
 use Rattle.schema.specs.Schema.{roleOf, rank, ownOf}
 use Rattle.schema.specs.Count.{roleCount, countAlong, counted}
 use Rattle.schema.specs.CountLaws.{sub-rank, count-along, own-one, text-fits, plus-fits, then-fits}
 use Rattle.message.specs.declared.Record.{Record}
-use Rattle.message.specs.Rows.{leafRow, roleRows, rowsAlong, ownRows, rowsTo, rowsOf, fieldRows, kindCode, numberWords, placeWords, placesWords, wordsOf, wordsOfAll}
+use Rattle.message.specs.Rows.{roleRows, rowsAlong, ownRows, rowsTo, rowsOf, numberWords, placeWords, placesWords, wordsOf, wordsOfAll}
 
 -- ---- the depth does not matter
 same-role : (f g : Kind → ℕ → List ℕ → List Record) (base : ℕ) (s : List ℕ) (x : Field) (r : Role) → ((j : Kind) (b : ℕ) (p : List ℕ) → r ≡ Sub j → f j b p ≡ g j b p) → roleRows f base s x r ≡ roleRows g base s x r

@@ -124,15 +124,6 @@ module _ (lens : List ℕ) (cap start count : ℕ) (ilens store s from : List �
       )
 
 -- ---- the cached messages that a body asks for
-pub kept-sound : (c : MessageCache) (cs : List ℕ) → Kept c cs → Sound 128 (c .«max_messages») (c .start) (c .count) (c .«id_len») (c .ids)
-kept-sound c cs k =
-    let r = k .rows in
-    record {
-      rows = record { starts = r .starts; within = r .within; size = omega arith };
-      room = omega arith;
-      short = r .id-short;
-    }
-
 pub kept-size : (c : MessageCache) (cs : List ℕ) → Kept c cs → length cs ≤ 262144
 kept-size c cs k = let r = k .rows in omega arith
 

@@ -3,10 +3,10 @@
 use Prim.Native.Nat.{ℕ}
 use mathlib.Core.Bool.{Bool, cond, not}
 use mathlib.Core.List.{List, [], _∷_}
-use mathlib.Core.Option.{Option, none, some}
+use mathlib.Core.Option.{some}
 use Rattle.seen.specs.Entries.{Entry, holds, inserted, live}
 use Rattle.mcache.specs.Messages.{Cached, held, put, shift, get, gossipIds}
-use Rattle.rpc.specs.Rpc.{Rpc, ControlIHave, ControlIWant, ControlMessage}
+use Rattle.rpc.specs.Rpc.{Rpc, ControlMessage}
 
 pub record Gateway : Type 0 where
   pub ttl : ℕ

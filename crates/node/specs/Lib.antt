@@ -8,3 +8,4 @@ pub mod AskLaws
 pub mod Laws
 pub mod WellFormedLaws
 pub mod Readers
+pub mod Unique

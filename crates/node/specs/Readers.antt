@@ -4,9 +4,9 @@ use mathlib.Core.Path.{_≡_, refl, sym, ap, _∙_}
 use mathlib.Core.List.{List, [], _∷_, _++_, map-append}
 use mathlib.Core.Bool.{Bool, true, false, not, _&&_, or-true, and-false, Bool·not-not}
 use native.Mathlib.Omega.{arith}
-use lib.ListN.{length, take, drop, drop-of-length-le}
+use lib.ListN.{length, drop, drop-of-length-le}
 use lib.Seq.{sets}
-use lib.Dec.{leb, eqb}
+use lib.Dec.{leb}
 use Rattle.basis.specs.Cases.{either, clash, both}
 use Rattle.rows.specs.Rows.{newest}
 use Rattle.rows.specs.Ids.{sameBytes, among}
@@ -21,14 +21,12 @@ use Rattle.mcache.specs.CachedLaws.{newest-more, new}
 use Rattle.protobuf.specs.declared.Checked.{Checked}
 use Rattle.protobuf.specs.declared.Checked.the-variants as checked
 use Rattle.protobuf.specs.Walk.{between}
-use Rattle.protobuf.specs.Encode.{bytesField}
 use Rattle.rpc.specs.Rpc.{Rpc}
-use Rattle.rpc.specs.Encode.{encodeRpc, repeated}
+use Rattle.rpc.specs.Encode.{encodeRpc}
 use Rattle.ids.specs.declared.MessageAt.the-variants as found
 use Rattle.ids.specs.Ids.{acceptOf, messageAt, idBytes}
 use Rattle.admission.specs.declared.Admission.the-variants as admission
 use Rattle.admission.specs.Admission.{admissionOf}
-use Rattle.parts.specs.Parts.{fitting}
 use Rattle.seen.specs.State.{entriesIn}
 use Rattle.seen.specs.EntriesLaws.{length-entries}
 use Rattle.seen.specs.Laws.{well-formed-exactly as seen-exactly}
@@ -38,7 +36,6 @@ use Rattle.node.specs.declared.Lent.{Lent}
 use Rattle.node.specs.declared.Lent.the-variants as lent
 use Rattle.node.specs.declared.Admit.the-variants as admit
 use Rattle.node.specs.declared.Beat.the-variants as beat
-use Rattle.node.specs.declared.Serve.the-variants as serve
 use Rattle.node.specs.declared.Advertised.{Advertised}
 use Rattle.node.specs.declared.Asked.{Asked}
 use Rattle.node.specs.declared.Served.{Served}
@@ -46,7 +43,7 @@ use Rattle.node.specs.State.{gatewayIn}
 use Rattle.node.specs.Calls.{lentOf, whenFine, taken, planned, admitAnswer, admitNode, admitSeen, admitCache, beatAnswer, beatNode, bytesFor, advertiseAnswer, offered, unseenOf, askBytes, askAnswer, whenTaken, wanted, cachedOf, roomOf, servedOf, replyBytes, replyTo, serveAnswer, serveLeft}
 use Rattle.node.specs.WellFormed.{Typed, Reached}
 use Rattle.node.specs.StateLaws.{fine-tests, room-cap}
-use Rattle.node.specs.Laws.{plan-takes, plan-taken, admit-says, admit-gateway, beat-says, beat-clock, unseen-gateway, cached-gateway, serve-says}
+use Rattle.node.specs.Laws.{plan-takes, plan-taken, admit-says, admit-gateway, beat-says, beat-clock, unseen-gateway, cached-gateway}
 use Rattle.node.specs.Gateway.{Gateway, started, marked, isNew, afterAdmit, afterBeat, lacking, having, request}
 use Rattle.node.specs.WellFormedLaws.{expiriesOf, reached-ordered, upto-more, beat-fine}
 
@@ -195,44 +192,6 @@ module _ (n : Node) (ss cs body : List ℕ) where
 pub serve-again : {n k : Node} {ss cs : List ℕ} → Quiet n ss cs k → (body out out2 : List ℕ) → length out2 ≡ length out
     → (serveAnswer k ss cs body out2 ≡ serveAnswer n ss cs body out) × (servedBytes k ss cs body out2 ≡ servedBytes n ss cs body out)
 serve-again {n} {k} {ss} {cs} q body out out2 e = rw (quiet-same q) (same-length n ss cs body out out2 e)
-
--- the counts: so many of the messages named and cached are written, the first ones, and the others are left
-fitting-le : (n room : ℕ) (ms : List (List ℕ)) → fitting n room ms ≤ length ms
-unfolding fitting
-fitting-le n room [] = omega arith
-fitting-le n room (m ∷ ms) =
-    let r = fitting-le n (room - length (bytesField n m)) ms in
-    either (leb (length (bytesField n m)) room) (λ t. rw t (omega arith)) (λ t. rw t (omega arith))
-
-pub record Counts (ms : List (List ℕ)) (bytes : List ℕ) (n messages left : ℕ) : Type 0 where
-  pub all : messages + left ≡ length ms
-  pub those : bytes ≡ repeated (bytesField 2) (take messages ms)
-  pub size : n ≡ length bytes
-
-reply-counts : (ms : List (List ℕ)) (out : List ℕ) (n k l : ℕ) → replyTo ms out ≡ serve.Reply n k l → Counts ms (replyBytes ms out) n k l
-unfolding replyBytes servedOf fitting
-reply-counts [] out n k l h =
-    let a : n ≡ 0 = cc in
-    let b : k ≡ 0 = cc in
-    let c : l ≡ 0 = cc in
-    record { all = omega arith; those = rw b; size = a }
-reply-counts (m ∷ ms) out n k l h =
-    either (eqb (servedOf (m ∷ ms) out) 0)
-    (λ t. clash (let z = rw t at h in cc))
-    (λ t.
-    let q = rw t at h in
-    let b : servedOf (m ∷ ms) out ≡ k = cc in
-    let a : length (replyBytes (m ∷ ms) out) ≡ n = cc in
-    let c : length (m ∷ ms) - servedOf (m ∷ ms) out ≡ l = cc in
-    let f : servedOf (m ∷ ms) out ≤ length (m ∷ ms) = fitting-le 2 (roomOf out) (m ∷ ms) in
-    record { all = omega arith; those = rw (← b); size = sym a })
-
-pub serve-counts : (n : Node) (ss cs body out : List ℕ) (b k l : ℕ) → lentOf n ss cs ≡ lent.Fine → acceptOf body ≡ checked.Fine → serveAnswer n ss cs body out ≡ serve.Reply b k l
-    → Counts (having (gatewayIn n ss cs) (wanted body)) (servedBytes n ss cs body out) b k l
-unfolding servedBytes
-serve-counts n ss cs body out b k l fine ok h =
-    rw (fine, ok, cached-gateway n ss cs (wanted body))
-    (reply-counts (having (gatewayIn n ss cs) (wanted body)) out b k l (sym (serve-says n ss cs out fine body ok .0) ∙ h))
 
 -- ---- line 8: an id whose entry has expired is new, whatever the cache holds
 live-none : (at : ℕ) (es : List Entry) → allUpTo at (expiriesOf es) ≡ true → live at es ≡ []

@@ -18,11 +18,13 @@ use Rattle.rows.specs.Ids.{sameBytes, among, distinct, indexOf}
 use Rattle.rows.specs.IdsLaws.{same-self, same-equal}
 use Rattle.rows.specs.Store.{idAt, idsIn}
 use Rattle.rows.specs.StoreLaws.{index-among}
+use Rattle.protobuf.specs.declared.Checked.the-variants as checked
 use Rattle.protobuf.specs.Encode.{bytesField}
 use Rattle.rpc.specs.Rpc.{RawMessage, Rpc}
 use Rattle.rpc.specs.Grammar.{Each, none-left, _and_}
 use Rattle.rpc.specs.Encode.{repeated, encodeRpc}
 use Rattle.meaning.specs.Size.{recordsIn}
+use Rattle.ids.specs.Ids.{acceptOf}
 use Rattle.encode.specs.Canon.{canonBody}
 use Rattle.canonical.specs.Written.{canon-written}
 use Rattle.canonical.specs.Canonical.{Within}
@@ -34,7 +36,10 @@ use Rattle.parts.specs.PartsLaws.{once-distinct, fitting-le, fitting-room, fitt
 use Rattle.node.specs.declared.Node.{Node}
 use Rattle.node.specs.declared.Lent.the-variants as lent
 use Rattle.node.specs.declared.Serve.the-variants as serve
-use Rattle.node.specs.Calls.{lentOf, wanted, rowsFor, cachedOf, roomOf, servedOf, replyBytes, replyTo}
+use Rattle.node.specs.Gateway.{having}
+use Rattle.node.specs.State.{gatewayIn}
+use Rattle.node.specs.Calls.{lentOf, wanted, rowsFor, cachedOf, roomOf, servedOf, replyBytes, replyTo, serveAnswer}
+use Rattle.node.specs.Laws.{serve-says}
 use Rattle.node.specs.StateLaws.{fine-tests as node-tests}
 use Rattle.outputs.specs.Bodies.{published, messages-mean}
 use Rattle.outputs.specs.Cached.{each-take, Message, row-message, all-messages}
@@ -238,3 +243,8 @@ serve-room (m ∷ ms) out k h =
     let f : length (repeated (bytesField 2) (take (s + 1) (m ∷ ms))) ≡ length (bytesField 2 m) = rw z (ap length (append-nil (bytesField 2 m))) in
     (omega arith, rw z))
     (λ t. clash (let q = simp t at h in cc))
+
+-- ---- of a call: it counts the messages that are cached and named, those written and those left
+pub serve-tells : (n : Node) (ss cs body out : List ℕ) (k w l : ℕ) → lentOf n ss cs ≡ lent.Fine → acceptOf body ≡ checked.Fine → serveAnswer n ss cs body out ≡ serve.Reply k w l
+    → Counts (having (gatewayIn n ss cs) (wanted body)) out k w l
+serve-tells n ss cs body out k w l fine ok h = serve-counts (having (gatewayIn n ss cs) (wanted body)) out k w l (sym (serve-says n ss cs out fine body ok .0) ∙ h)

@@ -1,22 +1,21 @@
 -- The walk is the grammar's: it reaches the end of a body exactly where the body is well formed, and then its fields are the grammar's.
-use Prim.Native.Nat.{ℕ, zero, suc, _+_, _-_, _*_, _/_, _%_, _^_, _≤_, _<_}
+use Prim.Native.Nat.{ℕ, _+_, _-_, _*_, _/_, _%_, _^_, _≤_, _<_}
 use mathlib.Core.Path.{_≡_, refl, sym, ap, ap₂, subst, _∙_}
 use mathlib.Core.List.{List, [], _∷_, _++_, append-assoc}
 use mathlib.Core.Logic.{_≢_, _↔_}
-use mathlib.Core.Bool.{Bool, true, false}
+use mathlib.Core.Bool.{false}
 use native.Mathlib.Omega.{arith}
-use native.Mathlib.Nat.{div-add-mod'}
 use lib.ListN.{length, take, drop, length-append, length-drop, take-append-drop, drop-of-length-le}
-use lib.Seq.{drop-drop, drop-at, take-at, take-all, length-take-le}
+use lib.Seq.{drop-drop, drop-at, take-at, length-take-le}
 use lib.Dec.{ltb, leb, eqb}
-use borrow.Author.Tests.{ltb-true, ltb-false, leb-true, leb-false, eqb-true, eqb-false, lt-ltb, le-ltb, le-leb, lt-leb, eq-eqb, ne-eqb}
+use borrow.Author.Tests.{ltb-false, leb-true, eqb-true, eqb-false, le-ltb, lt-leb, ne-eqb}
 use Rattle.basis.specs.Cases.{either, clash}
 use Rattle.basis.specs.Bytes.{Bytes}
 use Rattle.basis.specs.Lists.{drop-bytes}
 use Rattle.peer_id.specs.declared.Uvarint.{Uvarint}
 use Rattle.peer_id.specs.declared.Uvarint.the-variants.{Value as Read, Refused as Unread}
 use Rattle.peer_id.specs.Uvarint.{uvarint, readUvarint}
-use Rattle.peer_id.specs.Laws.{Begins, accepted, read-written, uvarint-some, used}
+use Rattle.peer_id.specs.Laws.{accepted, read-written, uvarint-some, used}
 use Rattle.protobuf.specs.declared.Tag.{Tag}
 use Rattle.protobuf.specs.declared.Tag.the-variants as tag
 use Rattle.protobuf.specs.declared.Part.{Part}
@@ -29,9 +28,8 @@ use Rattle.protobuf.specs.declared.Field.{Field}
 use Rattle.protobuf.specs.declared.Step.{Step}
 use Rattle.protobuf.specs.declared.Step.the-variants as step
 use Rattle.protobuf.specs.Field.{after, tagOf, readTag, partOf, readLen, readVarint, skipFixed, skipField, ofValue, ofPart, ofSkip, readValue, ofTag, readField}
-use Rattle.protobuf.specs.Laws.{Stands, field-stands}
 use Rattle.protobuf.specs.Grammar.{Payload, number, eight, bytes, four, Entry, Value, varint, i64, len-prefix, i32, Body, none, field}
-use Rattle.protobuf.specs.Walk.{Fields, end, refused, _then_, onStep, walkAt, fieldsOf, whole, between, payloadOf, entryOf, entriesOf}
+use Rattle.protobuf.specs.Walk.{Fields, refused, _then_, onStep, walkAt, whole, between, payloadOf, entryOf, entriesOf}
 use Rattle.protobuf.specs.WalkLaws.{walk-on, walk-end}
 
 -- ---- a varint at a place, both ways

@@ -1,8 +1,8 @@
 -- Laws of reading: what is read lies within the bytes, and a field moves on. Callers cite these and not the definitions' text.
-use Prim.Native.Nat.{ℕ, suc, _+_, _-_, _/_, _%_, _≤_, _<_}
-use mathlib.Core.Path.{_≡_, refl, sym, ap, _∙_}
+use Prim.Native.Nat.{ℕ, _+_, _-_, _/_, _≤_, _<_}
+use mathlib.Core.Path.{_≡_, refl}
 use mathlib.Core.List.{List}
-use mathlib.Core.Bool.{Bool, true, false}
+use mathlib.Core.Bool.{true}
 use native.Mathlib.Omega.{arith}
 use lib.ListN.{length, take, drop}
 use lib.Dec.{ltb, leb, eqb}
@@ -22,7 +22,6 @@ use Rattle.protobuf.specs.declared.VarintValue.the-variants as value
 use Rattle.protobuf.specs.declared.Skip.{Skip}
 use Rattle.protobuf.specs.declared.Skip.the-variants as skip
 use Rattle.protobuf.specs.declared.Field.{Field}
-use Rattle.protobuf.specs.declared.Step.{Step}
 use Rattle.protobuf.specs.declared.Step.the-variants as step
 use Rattle.protobuf.specs.Field.{after, tagOf, readTag, partOf, readLen, stringOf, readString, readVarint, skipFixed, pastValue, pastPart, skipField, ofValue, ofPart, ofSkip, readValue, ofTag, readField}
 

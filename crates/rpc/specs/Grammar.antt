@@ -2,8 +2,7 @@
 -- (protobuf's `Body`); a field is known by its number and its wire type, and all others are passed over; of a singular field the last wins;
 -- repeated ones append; a submessage is a body of its own; topics are UTF-8. Nothing here speaks of a reader.
 use Prim.Native.Nat.{ℕ}
-use mathlib.Core.Path.{_≡_}
-use mathlib.Core.Bool.{Bool, true, false, not, cond}
+use mathlib.Core.Bool.{Bool, not, cond}
 use mathlib.Core.List.{List, [], _∷_, _++_}
 use mathlib.Core.Option.{Option, none, some}
 use lib.Dec.{eqb}

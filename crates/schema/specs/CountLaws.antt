@@ -2,16 +2,12 @@
 use Prim.Native.Nat.{ℕ, zero, suc, _+_, _-_, _≤_, _<_}
 use mathlib.Core.Path.{_≡_, refl, sym, ap, ap₂, _∙_}
 use mathlib.Core.List.{List}
-use mathlib.Core.Bool.{Bool, true, false}
 use native.Mathlib.Omega.{arith}
-use lib.ListN.{length, take, drop, length-take, length-drop}
+use lib.ListN.{length, drop, length-take}
 use lib.Dec.{eqb}
 use Rattle.basis.specs.Cases.{either, clash}
 use Rattle.utf8.specs.Utf8.{isUtf8}
 use Rattle.protobuf.specs.declared.Field.{Field}
-use Rattle.protobuf.specs.declared.WireError.{WireError}
-use Rattle.protobuf.specs.declared.Step.the-variants as step
-use Rattle.protobuf.specs.Field.{readField}
 use Rattle.protobuf.specs.Laws.{Stands}
 use Rattle.protobuf.specs.Walk.{Fields, end, refused, _then_, walkAt, fieldsOf, between}
 use Rattle.protobuf.specs.WalkLaws.{along}

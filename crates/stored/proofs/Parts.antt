@@ -1,19 +1,19 @@
 -- The parts of a node read and written: what `seen_in`, `cache_in`, `load` and `store` hand back, over plain lists and numbers.
 use Prim.Native.Nat.{ℕ, _+_, _-_, _*_, _≤_}
-use mathlib.Core.Path.{_≡_, refl, sym, ap, _∙_}
-use mathlib.Core.List.{List, [], _∷_, _++_, append-nil}
+use mathlib.Core.Path.{_≡_, sym, ap, _∙_}
+use mathlib.Core.List.{List, [], _++_, append-nil}
 use native.Mathlib.Omega.{arith}
 use native.Mathlib.Nat.{zero-add}
-use lib.ListN.{length, take, drop, length-take, length-drop, drop-of-length-le}
+use lib.ListN.{length, drop, length-take, length-drop, drop-of-length-le}
 use lib.Seq.{sets, sets-eq, length-sets}
 use Rattle.basis.specs.Writing.{setIn}
 use Rattle.basis.specs.Lists.{set-fits}
-use Rattle.protobuf.specs.EncodeLaws.{Put, put-append}
+use Rattle.protobuf.specs.EncodeLaws.{put-append}
 use Rattle.protobuf.specs.Walk.{between}
 use Rattle.seen.specs.declared.SeenCache.{SeenCache}
 use Rattle.mcache.specs.declared.MessageCache.{MessageCache}
 use Rattle.node.specs.declared.Node.{Node}
-use Rattle.stored.specs.Layout.{bytesOf, numberOf, spread, gathered, wordAt, headOf, nodeBytes, nodeIn}
+use Rattle.stored.specs.Layout.{spread, gathered, wordAt, headOf, nodeBytes, nodeIn}
 use Rattle.stored.specs.LayoutLaws.{spread-length}
 
 -- a write of as many as there are leaves nothing of what was there

@@ -1,16 +1,16 @@
 -- The test is the grammar's: bytes pass exactly where the grammar has them.
-use Prim.Native.Nat.{ℕ, zero, suc, _-_, _≤_, _<_}
-use mathlib.Core.Path.{_≡_, refl, sym, ap, _∙_}
+use Prim.Native.Nat.{ℕ, zero, suc, _-_, _≤_}
+use mathlib.Core.Path.{_≡_, refl, sym, _∙_}
 use mathlib.Core.List.{List, [], _∷_}
-use mathlib.Core.Bool.{Bool, true, false, false≢true}
+use mathlib.Core.Bool.{true, false, false≢true}
 use mathlib.Core.Logic.{_≢_, _↔_}
 use native.Mathlib.Omega.{arith}
 use lib.Dec.{ltb, leb, eqb}
-use borrow.Author.Tests.{lt-ltb, le-ltb, le-leb, lt-leb, eq-eqb, ne-eqb, ltb-true, ltb-false, leb-true, leb-false, eqb-true, eqb-false}
+use borrow.Author.Tests.{le-ltb, le-leb, lt-leb, ne-eqb, ltb-true, ltb-false, leb-true, leb-false, eqb-true, eqb-false}
 use Rattle.basis.specs.Cases.{either}
 use Rattle.utf8.specs.declared.State.{State}
 use Rattle.utf8.specs.declared.State.the-variants.{Want, Bad}
-use Rattle.utf8.specs.Utf8.{leadOf, stepOf, whole, run, isUtf8}
+use Rattle.utf8.specs.Utf8.{leadOf, stepOf, run, isUtf8}
 use Rattle.utf8.specs.Grammar.{In, Utf8, none, utf8-1, utf8-2, utf8-3a, utf8-3b, utf8-3c, utf8-3d, utf8-4a, utf8-4b, utf8-4c}
 
 -- ---- the rows of the grammar, as the first byte picks them

@@ -1,15 +1,9 @@
 -- `stored::cache_in` meets its contract.
-use mathlib.Core.Path.{_≡_, refl}
+use mathlib.Core.Path.{refl}
 use Rattle.stored.proofs.Parts.{cache-read}
 use borrow.Author.Needs.{needs}
 use Rattle.stored.proofs.cache_in.Statement.{statement}
 use Rattle.stored.proofs.cache_in.Tie as tie
-use Rattle.stored.proofs.cache_in.Reads as reads
-use Rattle.stored.proofs.cache_in.Lts as lts
-use Rattle.protobuf.proofs.put_bytes.Reads as put-bytes-reads
-use Rattle.stored.proofs.read_halves.Reads as read-halves-reads
-use Rattle.stored.proofs.read_word.Reads as read-word-reads
-use Rattle.stored.proofs.read_words.Reads as read-words-reads
 
 slice-aggregate-read-words : tie.Need-slice-aggregate-read-words
 slice-aggregate-read-words c = search needs
@@ -84,7 +78,28 @@ read-word-requires-5 : tie.Need-read-word-requires-5
 read-word-requires-5 c κs = search needs
 
 returns : tie.Need-returns
-returns c = cache-read (c .before .before .before .before .before .before .before .before .before .before .before .before .before .before .before .before .before .before .before .before .before .before .before .before .args .s .now) _ _ _ _ _ _ _ _ _ _ _ _ _ (c .before .before .before .before .before .before .before .before .before .before .before .before .before .before .before .before .before .before .before .before .before .before .before .before .pre) (c .before .before .before .before .read-word .ensures) (c .before .before .before .read-word2 .ensures) (c .before .before .read-word3 .ensures) (c .before .read-word4 .ensures) (c .read-word5 .ensures) (c .before .before .before .before .before .before .before .before .before .before .before .before .before .before .before .before .before .before .before .before .before .read-words .ensures) (c .before .before .before .before .before .before .before .before .before .before .before .before .before .before .before .before .before .before .read-halves .ensures) refl (c .before .before .before .before .before .before .before .before .before .before .before .before .before .before .put-bytes .ensures .1) refl (c .before .before .before .before .before .before .before .before .before .before .put-bytes2 .ensures .1) refl (c .before .before .before .before .before .before .put-bytes3 .ensures .1)
+returns c =
+    let w = c .before .before .before .before in
+    let p₃ = w .before .before in
+    let p₂ = p₃ .before .before .before .before in
+    let p₁ = p₂ .before .before .before .before in
+    let h = p₁ .before .before .before .before in
+    let r = h .before .before .before in
+    let start = r .before .before .before in
+    cache-read (start .args .s .now) _ _ _ _ _ _ _ _ _ _ _ _ _ (start .pre)
+    (w .read-word .ensures)
+    (c .before .before .before .read-word2 .ensures)
+    (c .before .before .read-word3 .ensures)
+    (c .before .read-word4 .ensures)
+    (c .read-word5 .ensures)
+    (r .read-words .ensures)
+    (h .read-halves .ensures)
+    refl
+    (p₁ .put-bytes .ensures .1)
+    refl
+    (p₂ .put-bytes2 .ensures .1)
+    refl
+    (p₃ .put-bytes3 .ensures .1)
 
 pub cache-in-spec : {M : Type 1} → statement M
 cache-in-spec =

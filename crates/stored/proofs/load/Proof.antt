@@ -3,11 +3,6 @@ use Rattle.stored.proofs.Parts.{node-read}
 use borrow.Author.Needs.{needs}
 use Rattle.stored.proofs.load.Statement.{statement}
 use Rattle.stored.proofs.load.Tie as tie
-use Rattle.stored.proofs.load.Reads as reads
-use Rattle.stored.proofs.load.Lts as lts
-use Rattle.stored.proofs.cache_in.Reads as cache-in-reads
-use Rattle.stored.proofs.read_word.Reads as read-word-reads
-use Rattle.stored.proofs.seen_in.Reads as seen-in-reads
 
 read-word-requires : tie.Need-read-word-requires
 read-word-requires c κs = search needs
@@ -25,7 +20,11 @@ cache-in-requires : tie.Need-cache-in-requires
 cache-in-requires c κs = search needs
 
 returns : tie.Need-returns
-returns c = node-read (c .before .before .before .before .before .before .before .before .before .before .args .bytes .now) _ _ _ _ _ (c .before .before .before .before .before .before .before .before .read-word .ensures) (c .before .before .before .before .before .before .read-word2 .ensures) (c .before .before .before .before .read-word3 .ensures) (c .before .before .seen-in .ensures) (c .cache-in .ensures)
+returns c =
+    let w₃ = c .before .before .before .before in
+    let w₂ = w₃ .before .before in
+    let w₁ = w₂ .before .before in
+    node-read (w₁ .before .before .args .bytes .now) _ _ _ _ _ (w₁ .read-word .ensures) (w₂ .read-word2 .ensures) (w₃ .read-word3 .ensures) (c .before .before .seen-in .ensures) (c .cache-in .ensures)
 
 pub load-spec : {M : Type 1} → statement M
 load-spec =

@@ -1,15 +1,13 @@
 -- `stored::read_halves` meets its contract. The invariant: the first i numbers are there.
-use Prim.Native.Nat.{ℕ, _+_, _-_, _*_, _≤_}
-use mathlib.Core.Path.{_≡_, refl, _∙_}
+use Prim.Native.Nat.{_+_, _-_, _*_, _≤_}
+use mathlib.Core.Path.{_≡_, refl}
 use native.Mathlib.Omega.{arith}
-use lib.ListN.{length, take, drop, length-set}
+use lib.ListN.{length, take, drop}
 use borrow.Author.Needs.{needs}
 use Rattle.stored.specs.Layout.{gathered}
 use Rattle.stored.proofs.Steps.{gathered-turn, gathered-done, half-turn}
 use Rattle.stored.proofs.read_halves.Statement.{statement}
 use Rattle.stored.proofs.read_halves.Tie as tie
-use Rattle.stored.proofs.read_halves.Reads as reads
-use Rattle.stored.proofs.read_halves.Lts as lts
 
 abbrev Inv-loop : tie.InvT-loop
 Inv-loop s at out₀ i₀ out i = (i ≤ length out₀) × ((length out ≡ length out₀) × (take i out ≡ gathered 2 i (drop at s)))
@@ -40,13 +38,18 @@ shared-slice-read-out-2 : tie.Need-shared-slice-read-out-2 Inv-loop μ-loop
 shared-slice-read-out-2 c = search needs
 
 cast-out-2 : tie.Need-cast-out-2 Inv-loop μ-loop
-cast-out-2 c = omega (arith, (c .before .shared-slice-known .given) ((c .before .before .before .before .args .at) + (c .before .before .before .loop .i) * 2 + 1))
+cast-out-2 c =
+    omega (arith, c .before .shared-slice-known .given ((c .before .before .before .before .args .at) + (c .before .before .before .loop .i) * 2 + 1))
 
 mul-out : tie.Need-mul-out Inv-loop μ-loop
-mul-out c = omega (arith, (c .before .shared-slice-known .given) ((c .before .before .before .before .args .at) + (c .before .before .before .loop .i) * 2 + 1))
+mul-out c =
+    omega (arith, c .before .shared-slice-known .given ((c .before .before .before .before .args .at) + (c .before .before .before .loop .i) * 2 + 1))
 
 add-out-2 : tie.Need-add-out-2 Inv-loop μ-loop
-add-out-2 c = omega (arith, (c .before .shared-slice-known .given) ((c .before .before .before .before .args .at) + (c .before .before .before .loop .i) * 2), (c .before .shared-slice-known .given) ((c .before .before .before .before .args .at) + (c .before .before .before .loop .i) * 2 + 1))
+add-out-2 c =
+    let a = c .before .before .before .before .args in
+    let l = c .before .before .before .loop in
+    omega (arith, c .before .shared-slice-known .given (a .at + l .i * 2), c .before .shared-slice-known .given (a .at + l .i * 2 + 1))
 
 mul-out-2 : tie.Need-mul-out-2 Inv-loop μ-loop
 mul-out-2 c = search needs
@@ -61,13 +64,19 @@ loop-less : tie.Need-loop-less Inv-loop μ-loop
 loop-less c = search needs
 
 loop-again : tie.Need-loop-again Inv-loop μ-loop
-loop-again c = (search needs, (search needs, gathered-turn 2 (c .before .before .before .before .args .s .now) (c .before .before .before .loop .out) (c .before .before .before .before .args .at) (c .before .before .before .loop .i) _ (search needs) (c .before .before .before .loop .inv .1 .1) (half-turn (c .before .before .before .before .args .s .now) ((c .before .before .before .before .args .at) + (c .before .before .before .loop .i) * 2) (search needs))))
+loop-again c =
+    let a = c .before .before .before .before .args in
+    let l = c .before .before .before .loop in
+    (search needs, (search needs, gathered-turn 2 (a .s .now) (l .out) (a .at) (l .i) _ (search needs) (l .inv .1 .1) (half-turn (a .s .now) (a .at + l .i * 2) (search needs))))
 
 same-length : tie.Need-same-length Inv-loop μ-loop
 same-length c = search needs
 
 returns : tie.Need-returns Inv-loop μ-loop
-returns c = gathered-done 2 (c .before .before .args .s .now) (c .before .loop .out) (c .before .before .args .at) (c .before .loop .i) _ (search needs) (search needs) (search needs) (c .before .loop .inv .1 .1)
+returns c =
+    let a = c .before .before .args in
+    let l = c .before .loop in
+    gathered-done 2 (a .s .now) (l .out) (a .at) (l .i) _ (search needs) (search needs) (search needs) (l .inv .1 .1)
 
 pub read-halves-spec : {M : Type 1} → statement M
 read-halves-spec =

@@ -1,15 +1,13 @@
 -- `stored::read_word` meets its contract. The invariant: v is the number in the bytes from at + i up to at + 8.
-use Prim.Native.Nat.{ℕ, _+_, _-_, _≤_}
+use Prim.Native.Nat.{_+_, _-_, _≤_}
 use mathlib.Core.Path.{_≡_, refl}
 use native.Mathlib.Omega.{arith}
-use lib.ListN.{length, take, drop}
+use lib.ListN.{take, drop}
 use borrow.Author.Needs.{needs}
 use Rattle.stored.specs.Layout.{numberOf}
 use Rattle.stored.proofs.Steps.{word-turn, word-fits, read-whole}
 use Rattle.stored.proofs.read_word.Statement.{statement}
 use Rattle.stored.proofs.read_word.Tie as tie
-use Rattle.stored.proofs.read_word.Reads as reads
-use Rattle.stored.proofs.read_word.Lts as lts
 
 abbrev Inv-loop : tie.InvT-loop
 Inv-loop s at v₀ i₀ v i = (i ≤ 8) × (v ≡ numberOf (take (8 - i) (drop (at + i) s)))
@@ -34,19 +32,31 @@ cast-v : tie.Need-cast-v Inv-loop μ-loop
 cast-v c = omega (arith, (c .shared-slice-known .given) ((c .before .before .before .args .at) + ((c .before .before .loop .i) - 1)))
 
 mul-v : tie.Need-mul-v Inv-loop μ-loop
-mul-v c = omega (arith, word-fits (c .before .before .before .args .s .now) (c .before .before .before .args .at) (c .before .before .loop .i) (c .before .before .loop .v) (search needs) (search needs) (search needs) (c .before .before .loop .inv .1) (λ k. omega (arith, (c .shared-slice-known .given) k)))
+mul-v c =
+    let a = c .before .before .before .args in
+    let l = c .before .before .loop in
+    omega (arith, word-fits (a .s .now) (a .at) (l .i) (l .v) (search needs) (search needs) (search needs) (l .inv .1) (λ k. omega (arith, c .shared-slice-known .given k)))
 
 add-v-2 : tie.Need-add-v-2 Inv-loop μ-loop
-add-v-2 c = omega (arith, word-fits (c .before .before .before .args .s .now) (c .before .before .before .args .at) (c .before .before .loop .i) (c .before .before .loop .v) (search needs) (search needs) (search needs) (c .before .before .loop .inv .1) (λ k. omega (arith, (c .shared-slice-known .given) k)))
+add-v-2 c =
+    let a = c .before .before .before .args in
+    let l = c .before .before .loop in
+    omega (arith, word-fits (a .s .now) (a .at) (l .i) (l .v) (search needs) (search needs) (search needs) (l .inv .1) (λ k. omega (arith, c .shared-slice-known .given k)))
 
 loop-less : tie.Need-loop-less Inv-loop μ-loop
 loop-less c = search needs
 
 loop-again : tie.Need-loop-again Inv-loop μ-loop
-loop-again c = (omega arith, word-turn (c .before .before .before .args .s .now) (c .before .before .before .args .at) (c .before .before .loop .i) (c .before .before .loop .v) (search needs) (search needs) (search needs) (c .before .before .loop .inv .1))
+loop-again c =
+    let a = c .before .before .before .args in
+    let l = c .before .before .loop in
+    (omega arith, word-turn (a .s .now) (a .at) (l .i) (l .v) (search needs) (search needs) (search needs) (l .inv .1))
 
 returns : tie.Need-returns Inv-loop μ-loop
-returns c = read-whole (c .before .before .args .s .now) (c .before .before .args .at) (c .before .loop .i) (c .before .loop .v) (search needs) (c .before .loop .inv .1)
+returns c =
+    let a = c .before .before .args in
+    let l = c .before .loop in
+    read-whole (a .s .now) (a .at) (l .i) (l .v) (search needs) (l .inv .1)
 
 pub read-word-spec : {M : Type 1} → statement M
 read-word-spec =

@@ -1,16 +1,12 @@
 -- `stored::read_words` meets its contract. The invariant: the first i numbers are there.
-use Prim.Native.Nat.{ℕ, _+_, _-_, _*_, _≤_}
-use mathlib.Core.Path.{_≡_, refl, _∙_}
-use native.Mathlib.Omega.{arith}
-use lib.ListN.{length, take, drop, length-set}
+use Prim.Native.Nat.{_-_, _≤_}
+use mathlib.Core.Path.{_≡_, refl}
+use lib.ListN.{length, take, drop}
 use borrow.Author.Needs.{needs}
 use Rattle.stored.specs.Layout.{gathered}
 use Rattle.stored.proofs.Steps.{gathered-turn, gathered-done}
 use Rattle.stored.proofs.read_words.Statement.{statement}
 use Rattle.stored.proofs.read_words.Tie as tie
-use Rattle.stored.proofs.read_words.Reads as reads
-use Rattle.stored.proofs.read_words.Lts as lts
-use Rattle.stored.proofs.read_word.Reads as read-word-reads
 
 abbrev Inv-loop : tie.InvT-loop
 Inv-loop s at out₀ i₀ out i = (i ≤ length out₀) × ((length out ≡ length out₀) × (take i out ≡ gathered 8 i (drop at s)))
@@ -44,13 +40,19 @@ loop-less : tie.Need-loop-less Inv-loop μ-loop
 loop-less c = search needs
 
 loop-again : tie.Need-loop-again Inv-loop μ-loop
-loop-again c = (search needs, (search needs, gathered-turn 8 (c .before .before .before .before .before .args .s .now) (c .before .before .loop .out) (c .before .before .before .before .before .args .at) (c .before .before .loop .i) _ (search needs) (c .before .before .loop .inv .1 .1) (c .read-word .ensures)))
+loop-again c =
+    let a = c .before .before .before .before .before .args in
+    let l = c .before .before .loop in
+    (search needs, (search needs, gathered-turn 8 (a .s .now) (l .out) (a .at) (l .i) _ (search needs) (l .inv .1 .1) (c .read-word .ensures)))
 
 same-length : tie.Need-same-length Inv-loop μ-loop
 same-length c = search needs
 
 returns : tie.Need-returns Inv-loop μ-loop
-returns c = gathered-done 8 (c .before .before .before .before .args .s .now) (c .before .loop .out) (c .before .before .before .before .args .at) (c .before .loop .i) _ (search needs) (search needs) (search needs) (c .before .loop .inv .1 .1)
+returns c =
+    let a = c .before .before .before .before .args in
+    let l = c .before .loop in
+    gathered-done 8 (a .s .now) (l .out) (a .at) (l .i) _ (search needs) (search needs) (search needs) (l .inv .1 .1)
 
 pub read-words-spec : {M : Type 1} → statement M
 read-words-spec =

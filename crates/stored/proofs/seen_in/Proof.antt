@@ -1,14 +1,9 @@
 -- `stored::seen_in` meets its contract.
-use mathlib.Core.Path.{_≡_, refl}
+use mathlib.Core.Path.{refl}
 use Rattle.stored.proofs.Parts.{seen-read}
 use borrow.Author.Needs.{needs}
 use Rattle.stored.proofs.seen_in.Statement.{statement}
 use Rattle.stored.proofs.seen_in.Tie as tie
-use Rattle.stored.proofs.seen_in.Reads as reads
-use Rattle.stored.proofs.seen_in.Lts as lts
-use Rattle.protobuf.proofs.put_bytes.Reads as put-bytes-reads
-use Rattle.stored.proofs.read_word.Reads as read-word-reads
-use Rattle.stored.proofs.read_words.Reads as read-words-reads
 
 slice-aggregate-read-words : tie.Need-slice-aggregate-read-words
 slice-aggregate-read-words c = search needs
@@ -38,7 +33,11 @@ read-word-requires-2 : tie.Need-read-word-requires-2
 read-word-requires-2 c κs = search needs
 
 returns : tie.Need-returns
-returns c = seen-read (c .before .before .before .before .before .before .before .before .before .before .args .s .now) _ _ _ _ _ (c .before .before .before .before .before .before .before .before .before .before .pre) (c .before .read-word .ensures) (c .read-word2 .ensures) (c .before .before .before .before .before .before .before .read-words .ensures) refl (c .before .before .before .put-bytes .ensures .1)
+returns c =
+    let p = c .before .before .before in
+    let r = p .before .before .before .before in
+    let start = r .before .before .before in
+    seen-read (start .args .s .now) _ _ _ _ _ (start .pre) (c .before .read-word .ensures) (c .read-word2 .ensures) (r .read-words .ensures) refl (p .put-bytes .ensures .1)
 
 pub seen-in-spec : {M : Type 1} → statement M
 seen-in-spec =

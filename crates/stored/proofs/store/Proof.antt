@@ -6,11 +6,6 @@ use Rattle.stored.proofs.Parts.{node-written}
 use borrow.Author.Needs.{needs}
 use Rattle.stored.proofs.store.Statement.{statement}
 use Rattle.stored.proofs.store.Tie as tie
-use Rattle.stored.proofs.store.Reads as reads
-use Rattle.stored.proofs.store.Lts as lts
-use Rattle.protobuf.proofs.put_bytes.Reads as put-bytes-reads
-use Rattle.stored.proofs.write_halves.Reads as write-halves-reads
-use Rattle.stored.proofs.write_words.Reads as write-words-reads
 
 slice-aggregate-write-words : tie.Need-slice-aggregate-write-words
 slice-aggregate-write-words c = search needs
@@ -42,9 +37,17 @@ put-bytes-requires-4 c κs = search needs
 returns : tie.Need-returns
 unfolding headOf
 returns c =
-    let n = (c .before .before .before .before .before .before .before .before .before .before .before .before .before .before .before .before .before .before .before .before .before .before .before .before .before .before .before .before .before .before .before .before .before .before .before .before .before .before .args .t1) in
-    let g = (c .before .before .before .before .before .before .before .before .before .before .before .before .before .before .before .before .before .before .before .before .before .before .before .before .before .before .before .before .before .before .before .before .before .before .before .before .before .before .good .0) in
-    node-written n (c .before .before .before .before .before .before .before .before .before .before .before .before .before .before .before .before .before .before .before .before .before .before .before .before .before .before .before .before .before .before .before .before .before .before .before .before .before .before .args .out .now) _ _ _ _ _ _ _ _ (c .before .before .before .before .before .before .before .before .before .before .before .before .before .before .before .before .before .before .before .before .before .before .before .before .before .before .before .before .before .before .before .before .before .before .before .before .before .write-words-arg .given .0 .1)
+    let c₇ = c .before .before .before .before .before in
+    let c₆ = c₇ .before .before .before .before .before in
+    let c₅ = c₆ .before .before .before .before .before in
+    let c₄ = c₅ .before .before .before .before .before in
+    let c₃ = c₄ .before .before .before .before .before in
+    let c₂ = c₃ .before .before .before .before .before in
+    let c₁ = c₂ .before .before .before .before .before in
+    let start = c₁ .before .before .before in
+    let n = start .args .t1 in
+    let g = start .good .0 in
+    node-written n (start .args .out .now) _ _ _ _ _ _ _ _ (c₁ .before .before .write-words-arg .given .0 .1)
     (length-unmapped ℕ (n .seen .expiry) 256 (g .1 .1 .1 .1 .1 .0 .1 .1 .1 .1 .0 .1 .0 .1))
     (length-unmapped ℕ (n .cache .generation) 64 (g .1 .1 .1 .1 .1 .1 .0 .1 .1 .1 .1 .1 .1 .1 .0 .1 .0 .1))
     (length-unmapped ℕ (n .cache .len) 64 (g .1 .1 .1 .1 .1 .1 .0 .1 .1 .1 .1 .1 .1 .1 .1 .1 .0 .1 .0 .1))
@@ -52,7 +55,14 @@ returns c =
     (length-unmapped ℕ (n .cache .window) 64 (g .1 .1 .1 .1 .1 .1 .0 .1 .1 .1 .1 .1 .1 .1 .1 .0 .1 .0 .1))
     (length-unmapped ℕ (n .cache .«id_len») 64 (g .1 .1 .1 .1 .1 .1 .0 .1 .1 .1 .1 .1 .1 .1 .1 .1 .1 .0 .1 .0 .1))
     (length-unmapped ℕ (n .cache .ids) 8192 (g .1 .1 .1 .1 .1 .1 .0 .1 .1 .1 .1 .1 .1 .1 .1 .1 .1 .1 .0 .1 .0 .1))
-    (c .before .before .before .before .before .before .before .before .before .before .before .before .before .before .before .before .before .before .before .before .before .before .before .before .before .before .before .before .before .before .before .before .before .before .before .write-words .ensures) (c .before .before .before .before .before .before .before .before .before .before .before .before .before .before .before .before .before .before .before .before .before .before .before .before .before .before .before .before .before .before .write-words2 .ensures) (c .before .before .before .before .before .before .before .before .before .before .before .before .before .before .before .before .before .before .before .before .before .before .before .before .before .write-words3 .ensures) (c .before .before .before .before .before .before .before .before .before .before .before .before .before .before .before .before .before .before .before .before .write-halves .ensures) (c .before .before .before .before .before .before .before .before .before .before .before .before .before .before .before .put-bytes .ensures .1) (c .before .before .before .before .before .before .before .before .before .before .put-bytes2 .ensures .1) (c .before .before .before .before .before .put-bytes3 .ensures .1) (c .put-bytes4 .ensures .1)
+    (c₁ .write-words .ensures)
+    (c₂ .write-words2 .ensures)
+    (c₃ .write-words3 .ensures)
+    (c₄ .write-halves .ensures)
+    (c₅ .put-bytes .ensures .1)
+    (c₆ .put-bytes2 .ensures .1)
+    (c₇ .put-bytes3 .ensures .1)
+    (c .put-bytes4 .ensures .1)
 
 pub store-spec : {M : Type 1} → statement M
 store-spec =

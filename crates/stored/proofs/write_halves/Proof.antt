@@ -1,17 +1,15 @@
 -- `stored::write_halves` meets its contract. The invariant: to write the numbers that are left is to write them all.
-use Prim.Native.Nat.{ℕ, _+_, _-_, _*_, _≤_}
-use mathlib.Core.Path.{_≡_, refl, sym, ap, _∙_}
+use Prim.Native.Nat.{_+_, _-_, _*_, _≤_}
+use mathlib.Core.Path.{_≡_, refl, sym}
 use native.Mathlib.Omega.{arith}
 use native.Mathlib.Nat.{add-zero}
 use lib.ListN.{length, drop, length-set}
 use lib.Seq.{sets}
 use borrow.Author.Needs.{needs}
-use Rattle.stored.specs.Layout.{bytesOf, spread}
+use Rattle.stored.specs.Layout.{spread}
 use Rattle.stored.proofs.Steps.{spread-turn, spread-done, half-written}
 use Rattle.stored.proofs.write_halves.Statement.{statement}
 use Rattle.stored.proofs.write_halves.Tie as tie
-use Rattle.stored.proofs.write_halves.Reads as reads
-use Rattle.stored.proofs.write_halves.Lts as lts
 
 abbrev Inv-loop : tie.InvT-loop
 Inv-loop out₀ at values i₀ out i = (i ≤ length values) × ((length out ≡ length out₀) × (sets out (at + i * 2) (spread 2 (drop i values)) ≡ sets out₀ at (spread 2 values)))
@@ -62,13 +60,19 @@ loop-less : tie.Need-loop-less Inv-loop μ-loop
 loop-less c = search needs
 
 loop-again : tie.Need-loop-again Inv-loop μ-loop
-loop-again c = (search needs, (simp length-set (c .before .before .before .loop .inv .1 .0), spread-turn 2 _ (c .before .before .before .loop .out) _ (c .before .before .before .before .args .values .now) (c .before .before .before .before .args .at) (c .before .before .before .loop .i) (search needs) (c .before .before .before .loop .inv .1 .1) (sym (half-written (c .before .before .before .loop .out) ((c .before .before .before .before .args .at) + (c .before .before .before .loop .i) * 2) _ (omega (arith, (c .before .shared-slice-known .given) (c .before .before .before .loop .i)))))))
+loop-again c =
+    let a = c .before .before .before .before .args in
+    let l = c .before .before .before .loop in
+    (search needs, (simp length-set (l .inv .1 .0), spread-turn 2 _ (l .out) _ (a .values .now) (a .at) (l .i) (search needs) (l .inv .1 .1) (sym (half-written (l .out) (a .at + l .i * 2) _ (omega (arith, c .before .shared-slice-known .given (l .i)))))))
 
 same-length : tie.Need-same-length Inv-loop μ-loop
 same-length c = search needs
 
 returns : tie.Need-returns Inv-loop μ-loop
-returns c = spread-done 2 _ (c .before .loop .out) (c .before .before .args .values .now) ((c .before .before .args .at) + (c .before .loop .i) * 2) (c .before .loop .i) (search needs) (c .before .loop .inv .1 .1)
+returns c =
+    let a = c .before .before .args in
+    let l = c .before .loop in
+    spread-done 2 _ (l .out) (a .values .now) (a .at + l .i * 2) (l .i) (search needs) (l .inv .1 .1)
 
 pub write-halves-spec : {M : Type 1} → statement M
 write-halves-spec =

@@ -1,8 +1,7 @@
 -- `stored::write_word` meets its contract. The invariant: to write the bytes of v that are left is to write those of the value.
-use Prim.Native.Nat.{ℕ, _+_, _-_, _≤_}
+use Prim.Native.Nat.{_+_, _-_, _≤_}
 use mathlib.Core.Path.{_≡_, refl, sym, _∙_}
-use native.Mathlib.Omega.{arith}
-use lib.ListN.{length, length-set}
+use lib.ListN.{length}
 use lib.Seq.{sets}
 use borrow.Author.Needs.{needs}
 use Rattle.stored.specs.Layout.{bytesOf}
@@ -10,8 +9,6 @@ use Rattle.stored.proofs.Steps.{word-written, word-done}
 use native.Mathlib.Nat.{add-zero}
 use Rattle.stored.proofs.write_word.Statement.{statement}
 use Rattle.stored.proofs.write_word.Tie as tie
-use Rattle.stored.proofs.write_word.Reads as reads
-use Rattle.stored.proofs.write_word.Lts as lts
 
 abbrev Inv-loop : tie.InvT-loop
 Inv-loop out₀ at value v₀ i₀ out v i = (i ≤ 8) × ((length out ≡ length out₀) × (sets out (at + i) (bytesOf (8 - i) v) ≡ sets out₀ at (bytesOf 8 value)))
@@ -38,13 +35,17 @@ loop-less : tie.Need-loop-less Inv-loop μ-loop
 loop-less c = search needs
 
 loop-again : tie.Need-loop-again Inv-loop μ-loop
-loop-again c = (search needs, (search needs, sym (word-written (c .before .loop .out) (c .before .before .args .at) (c .before .loop .i) (c .before .loop .v) (search needs)) ∙ (c .before .loop .inv .1 .1)))
+loop-again c =
+    let l = c .before .loop in
+    (search needs, (search needs, sym (word-written (l .out) (c .before .before .args .at) (l .i) (l .v) (search needs)) ∙ (l .inv .1 .1)))
 
 same-length : tie.Need-same-length Inv-loop μ-loop
 same-length c = search needs
 
 returns : tie.Need-returns Inv-loop μ-loop
-returns c = sym (word-done (c .before .loop .out) ((c .before .before .args .at) + (c .before .loop .i)) (c .before .loop .i) (c .before .loop .v) (search needs)) ∙ (c .before .loop .inv .1 .1)
+returns c =
+    let l = c .before .loop in
+    sym (word-done (l .out) ((c .before .before .args .at) + (l .i)) (l .i) (l .v) (search needs)) ∙ (l .inv .1 .1)
 
 pub write-word-spec : {M : Type 1} → statement M
 write-word-spec =

@@ -1,18 +1,15 @@
 -- `stored::write_words` meets its contract. The invariant: to write the numbers that are left is to write them all.
-use Prim.Native.Nat.{ℕ, _+_, _-_, _*_, _≤_}
-use mathlib.Core.Path.{_≡_, refl, sym, ap, _∙_}
+use Prim.Native.Nat.{_+_, _-_, _*_, _≤_}
+use mathlib.Core.Path.{_≡_, refl, ap, _∙_}
 use native.Mathlib.Omega.{arith}
 use native.Mathlib.Nat.{add-zero}
 use lib.ListN.{length, drop}
 use lib.Seq.{sets, length-sets}
 use borrow.Author.Needs.{needs}
-use Rattle.stored.specs.Layout.{bytesOf, spread}
+use Rattle.stored.specs.Layout.{spread}
 use Rattle.stored.proofs.Steps.{spread-turn, spread-done}
 use Rattle.stored.proofs.write_words.Statement.{statement}
 use Rattle.stored.proofs.write_words.Tie as tie
-use Rattle.stored.proofs.write_words.Reads as reads
-use Rattle.stored.proofs.write_words.Lts as lts
-use Rattle.stored.proofs.write_word.Reads as write-word-reads
 
 abbrev Inv-loop : tie.InvT-loop
 Inv-loop out₀ at values i₀ out i = (i ≤ length values) × ((length out ≡ length out₀) × (sets out (at + i * 8) (spread 8 (drop i values)) ≡ sets out₀ at (spread 8 values)))
@@ -45,13 +42,20 @@ loop-less : tie.Need-loop-less Inv-loop μ-loop
 loop-less c = search needs
 
 loop-again : tie.Need-loop-again Inv-loop μ-loop
-loop-again c = (search needs, (ap length (c .before .before .write-word .ensures) ∙ simp length-sets (c .before .before .before .before .before .before .loop .inv .1 .0), spread-turn 8 _ (c .before .before .before .before .before .before .loop .out) (c .before .before .write-word .last .0) (c .before .before .before .before .before .before .before .before .before .args .values .now) (c .before .before .before .before .before .before .before .before .before .args .at) (c .before .before .before .before .before .before .loop .i) (search needs) (c .before .before .before .before .before .before .loop .inv .1 .1) (c .before .before .write-word .ensures)))
+loop-again c =
+    let a = c .before .before .before .before .before .before .before .before .before .args in
+    let l = c .before .before .before .before .before .before .loop in
+    let w = c .before .before .write-word in
+    (search needs, (ap length (w .ensures) ∙ simp length-sets (l .inv .1 .0), spread-turn 8 _ (l .out) (w .last .0) (a .values .now) (a .at) (l .i) (search needs) (l .inv .1 .1) (w .ensures)))
 
 same-length : tie.Need-same-length Inv-loop μ-loop
 same-length c = search needs
 
 returns : tie.Need-returns Inv-loop μ-loop
-returns c = spread-done 8 _ (c .before .loop .out) (c .before .before .before .before .args .values .now) ((c .before .before .before .before .args .at) + (c .before .loop .i) * 8) (c .before .loop .i) (search needs) (c .before .loop .inv .1 .1)
+returns c =
+    let a = c .before .before .before .before .args in
+    let l = c .before .loop in
+    spread-done 8 _ (l .out) (a .values .now) (a .at + l .i * 8) (l .i) (search needs) (l .inv .1 .1)
 
 pub write-words-spec : {M : Type 1} → statement M
 write-words-spec =

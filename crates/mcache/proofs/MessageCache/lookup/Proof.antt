@@ -1,6 +1,6 @@
 use denote.Ref.{now}
 use mathlib.Core.Path.{_≡_, sym, _∙_}
-use Rattle.mcache.proofs.Steps.{kept-sound}
+use Rattle.mcache.specs.StateLaws.{kept-sound}
 use Rattle.mcache.proofs.Answers.{tested, lookup-store, lookup-malformed, lookup-found, lookup-missing}
 use borrow.Author.Needs.{needs}
 use Rattle.mcache.proofs.MessageCache.lookup.Statement.{statement}

@@ -1,7 +1,7 @@
 use denote.Ref.{now}
 use mathlib.Core.Path.{_≡_, sym, _∙_}
 use native.Mathlib.Omega.{arith}
-use Rattle.mcache.proofs.Steps.{kept-sound}
+use Rattle.mcache.specs.StateLaws.{kept-sound}
 use Rattle.mcache.proofs.Answers.{found-none, found-at, found-lies}
 use borrow.Author.Needs.{needs}
 use Rattle.mcache.proofs.MessageCache.message_of.Statement.{statement}

@@ -4,7 +4,8 @@ use native.Mathlib.Omega.{arith}
 use Rattle.parts.specs.PartsLaws.{parts-none, parts-fewer, path-accepted}
 use Rattle.node.specs.AskLaws.{reply-fits}
 use Rattle.node.proofs.Asking.{named-room, first-is, first-few}
-use Rattle.node.proofs.Serving.{kept-sound, kept-size, messages-are, reply-none, reply-short, reply-put}
+use Rattle.mcache.specs.StateLaws.{kept-sound}
+use Rattle.node.proofs.Serving.{kept-size, messages-are, reply-none, reply-short, reply-put}
 use borrow.Author.Needs.{needs}
 use Rattle.node.proofs.Node.reply_to.Statement.{statement}
 use Rattle.node.proofs.Node.reply_to.Tie as tie

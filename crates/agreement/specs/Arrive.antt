@@ -1,0 +1,278 @@
+-- One round: every call in it is done, all that is served is got, and of what the asker lacks fifteen messages arrive, or all.
+use Prim.Native.Nat.{ℕ, zero, suc, _+_, _-_, _≤_, _<_}
+use mathlib.Core.Path.{_≡_, refl, sym, ap, subst, _∙_}
+use mathlib.Core.Bool.{true, false, _||_, or-true}
+use mathlib.Core.List.{List, [], _∷_, _++_}
+use native.Mathlib.Omega.{arith}
+use lib.ListN.{length, getD, take, length-append}
+use lib.Seq.{length-take-le}
+use lib.Dec.{eqb}
+use borrow.Author.Tests.{le-ltb, eqb-true, eqb-false}
+use Rattle.basis.specs.Cases.{either, clash}
+use Rattle.rows.specs.Ids.{sameBytes, among, distinct}
+use Rattle.rows.specs.IdsLaws.{same-self, same-equal, among-append, among-at}
+use Rattle.admission.specs.Admission.{admissionOf, givesId}
+use Rattle.admission.specs.AdmissionLaws.{gives-only}
+use Rattle.parts.specs.PartsLaws.{fitting-le}
+use Rattle.seen.specs.Entries.{holds}
+use Rattle.mcache.specs.Messages.{get}
+use Rattle.node.specs.declared.Node.{Node}
+use Rattle.node.specs.declared.Lent.the-variants as lent
+use Rattle.node.specs.Gateway.{marked, toldOf, lacking}
+use Rattle.node.specs.Calls.{Plan, taken, lentOf, planFit, heldAt, servedOf, roomOf}
+use Rattle.node.specs.WellFormedLaws.{reached-fine}
+use Rattle.outputs.specs.Replied.{all-few}
+use Rattle.agreement.specs.History.{State, Call, admit, planIn, after, afterAll, readings, refusalAt, NoneRefused, all-done, done}
+use Rattle.agreement.specs.Premises.{MessageSet, Settings, Member, Members, none-left, member}
+use Rattle.agreement.specs.Round.{gatewayOf, lacked, Play, Fair, replyOf, servedCount, admits, askerRound, tellerRound}
+use Rattle.agreement.specs.Rows.{rows-held}
+use Rattle.agreement.specs.Holding.{withGot, gotBy, gotAll, Holding, admit-forward, holding-admit}
+use Rattle.agreement.specs.Once.{with-again, with-this, with-other}
+use Rattle.agreement.specs.HandOver.{lacking-exactly}
+use Rattle.agreement.specs.Delivered.{plan-delivered}
+use Rattle.agreement.specs.Lacking.{Got, told-got, wants-once, wants-count}
+use Rattle.agreement.specs.Played.{advert-done, request-done, reply-done, replied, served-is, wants, replies, replies-count, reply-at, reply-got, enough, reply-delivers}
+
+-- ---- lists of ids
+take-out : (k : ℕ) (i : List ℕ) (l : List (List ℕ)) → among i l ≡ false → among i (take k l) ≡ false
+unfolding among
+take-out zero i l h = refl
+take-out (suc k) i [] h = refl
+take-out (suc k) i (j ∷ l) h = either (sameBytes j i) (λ t. clash (let z = simp t at h in cc)) (λ t. simp t (take-out k i l (simp t at h)))
+
+take-distinct : (k : ℕ) (l : List (List ℕ)) → distinct l ≡ true → distinct (take k l) ≡ true
+unfolding distinct
+take-distinct zero l d = refl
+take-distinct (suc k) [] d = refl
+take-distinct (suc k) (i ∷ l) d =
+    either (among i l) (λ t. clash (let z = simp t at d in cc)) (λ t. simp (take-out k i l t) (take-distinct k l (simp t at d)))
+
+append-distinct : (l r : List (List ℕ)) → distinct l ≡ true → distinct r ≡ true → ((i : List ℕ) → among i l ≡ true → among i r ≡ false) → distinct (l ++ r) ≡ true
+unfolding distinct among
+append-distinct [] r d e apart = e
+append-distinct (i ∷ l) r d e apart =
+    either (among i l) (λ t. clash (let z = simp t at d in cc))
+    (λ t.
+    let a = apart i (simp (same-self i)) in
+    let n : among i (l ++ r) ≡ false = among-append i l r ∙ simp (t, a) in
+    simp n (append-distinct l r (simp t at d) e (λ j u. apart j (rw u (or-true (sameBytes i j))))))
+
+-- one of the first k stands at an index below k
+record Stands (i : List ℕ) (k : ℕ) (l : List (List ℕ)) : Type 0 where
+  index : ℕ
+  early : index < k
+  within : index < length l
+  there : getD l index [] ≡ i
+
+stands : (k : ℕ) (i : List ℕ) (l : List (List ℕ)) → among i (take k l) ≡ true → Stands i k l
+unfolding among
+stands zero i l h = clash (cc)
+stands (suc k) i [] h = clash (cc)
+stands (suc k) i (j ∷ l) h =
+    either (sameBytes j i) (λ t. record { index = 0; early = omega arith; within = omega arith; there = same-equal j i t })
+    (λ t.
+    let r = stands k i l (simp t at h) in
+    let e = r .early in
+    let w = r .within in
+    record { index = suc (r .index); early = omega arith; within = omega arith; there = r .there })
+
+-- ---- an admit of a message that gives an id takes it, where the clock does not go back
+fit-plan : (n : Node) (at : ℕ) (m id : List ℕ) → givesId m id ≡ true → n .clock ≤ at → planFit n at m (admissionOf m true) ≡ taken m id
+fit-plan n at m id own h = let g = gives-only m id own in rw (g .taken, le-ltb at (n .clock) h) (ap (λ (i : List ℕ). taken m i) (sym (g .named)))
+
+-- ---- admits of messages of the set, one after the other
+pub record Admitted (set : List (List ℕ)) (x : Settings) (first past : ℕ) (rs : List ℕ) (left : ℕ) (got served : List (List ℕ)) (i k : ℕ) (calls : List Call) (s : State) : Type 0 where
+  pub members : Members set calls s
+  pub none-refused : NoneRefused calls s
+  pub holding : Holding set x first past rs left (gotAll got calls s) (afterAll calls s)
+  pub keeps : (m : List ℕ) → among m got ≡ true → among m (gotAll got calls s) ≡ true
+  pub has : (j : ℕ) → i ≤ j → j < i + k → among (getD served j []) (gotAll got calls s) ≡ true
+  pub only : (m : List ℕ) → among m (gotAll got calls s) ≡ true → among m got ≡ false → among m served ≡ true
+
+withThis : (m : List ℕ) (got : List (List ℕ)) → among m (withGot m got) ≡ true
+withThis m got = either (among m got) (λ t. with-again m m got t) (λ t. with-this m got t)
+
+taken-number : (s : State) (body : List ℕ) (i at : ℕ) (m id : List ℕ) → planIn s body i true at ≡ taken m id → refusalAt s (admit body i true at) ≡ 0
+taken-number s body i at m id e = rw e (either (heldAt (s .node) (s .ids) at id) (λ t. simp t) (λ t. simp t))
+
+module _ {set : List (List ℕ)} (ms : MessageSet set) {x : Settings} {first past : ℕ} (rs : List ℕ) {left : ℕ} (body : List ℕ) (at : ℕ → ℕ) (served ids : List (List ℕ)) (n : ℕ)
+    (plans : (s : State) (i : ℕ) → lentOf (s .node) (s .ids) (s .messages) ≡ lent.Fine → s .node .clock ≤ at i → i < n → planIn s body i true (at i) ≡ taken (getD served i []) (getD ids i []))
+    (inside : (i : ℕ) → i < n → among (getD served i []) set ≡ true) (few : n ≤ length served) where
+  pub all-admitted : (k i : ℕ) {got : List (List ℕ)} {s : State} → i + k ≤ n → Holding set x first past (readings (admits body at i k) ++ rs) left got s
+      → Admitted set x first past rs left got served i k (admits body at i k) s
+  unfolding admits readings gotAll afterAll
+  all-admitted zero i l h =
+      record { members = none-left; none-refused = all-done; holding = h; keeps = λ m g. g; has = λ j a b. absurd (omega arith); only = λ m t u. clash (cc) }
+  all-admitted (suc k) i {got} {s} l h =
+      let m = getD served i [] in
+      let c = admit body i true (at i) in
+      let e : planIn s body i true (at i) ≡ taken m (getD ids i []) = plans s i (reached-fine (h .reached)) (admit-forward body i true (at i) h) (omega arith) in
+      let ins : Member set (planIn s body i true (at i)) = subst (λ (q : Plan). Member set q) (sym e) (inside i (omega arith)) in
+      let next = holding-admit body i true (at i) h ms ins in
+      let r = all-admitted k (suc i) (omega arith) next in
+      let g : gotBy got (planIn s body i true (at i)) ≡ withGot m got = ap (gotBy got) e in
+      record {
+        members = member ins (r .members);
+        none-refused = done (taken-number s body i (at i) m (getD ids i []) e) (r .none-refused);
+        holding = r .holding;
+        keeps = λ o t. r .keeps o (ap (among o) g ∙ with-again o m got t);
+        has = λ j a b.
+            either (eqb j i)
+            (λ t. rw (eqb-true j i t) (r .keeps m (ap (among m) g ∙ withThis m got)))
+            (λ t. let z = eqb-false j i t in r .has j (omega arith) (omega arith));
+        only = λ o t u.
+            either (sameBytes m o)
+            (λ v. among-at o served i (omega arith) (sym (same-equal m o v)))
+            (λ v. r .only o t (ap (among o) g ∙ with-other o m got u v));
+      }
+
+-- ---- a round
+pub record RoundDone (set : List (List ℕ)) (x y : Settings) (firstA pastA leftA firstB pastB leftB : ℕ) (rsA rsB : List ℕ) (gotA gotB : List (List ℕ)) (p : Play) (at : ℕ → ℕ) (a b : State) : Type 0 where
+  pub asker-members : Members set (askerRound p at a b) a
+  pub asker-done : NoneRefused (askerRound p at a b) a
+  pub teller-members : Members set (tellerRound p a b) b
+  pub teller-done : NoneRefused (tellerRound p a b) b
+  pub asker-holds : Holding set x firstA pastA rsA leftA (gotAll gotA (askerRound p at a b) a) (afterAll (askerRound p at a b) a)
+  pub teller-holds : Holding set y firstB pastB rsB leftB gotB (afterAll (tellerRound p a b) b)
+  -- fifteen arrive, or all
+  pub fewer : length (lacked (p .topic) (afterAll (askerRound p at a b) a) (afterAll (tellerRound p a b) b)) ≤ length (lacked (p .topic) a b) - 15
+  -- and nothing that the teller did not get
+  pub only : (m : List ℕ) → among m (gotAll gotA (askerRound p at a b) a) ≡ true → among m gotA ≡ false → among m gotB ≡ true
+
+module _ {set : List (List ℕ)} (ms : MessageSet set) {x y : Settings} {firstA pastA leftA firstB pastB leftB : ℕ} {rsB : List ℕ} {gotA gotB : List (List ℕ)} {a b : State} (p : Play)
+    (fair : Fair p x y) (at : ℕ → ℕ) (rs : List ℕ) (ha : Holding set x firstA pastA (readings (askerRound p at a b) ++ rs) leftA gotA a)
+    (hb : Holding set y firstB pastB rsB leftB gotB b) where
+  abbrev named : List (List ℕ)
+  named = wants ha hb p fair
+
+  abbrev handed : List (List ℕ)
+  handed = replies ha hb p fair
+
+  served-few : servedCount p a b ≤ length named
+  unfolding servedOf
+  served-few =
+      let f = fitting-le 2 (roomOf (p .reply-out)) handed in
+      let n = replies-count ha hb p fair in
+      let e = served-is ha hb p fair in
+      omega arith
+
+  got-of : (i : ℕ) → i < servedCount p a b → Got (getD named i []) (getD handed i []) gotB
+  got-of i l = let f = served-few in reply-got ha hb p fair i (omega arith)
+
+  plans : (s : State) (i : ℕ) → lentOf (s .node) (s .ids) (s .messages) ≡ lent.Fine → s .node .clock ≤ at i → i < servedCount p a b
+      → planIn s (replyOf p a b) i true (at i) ≡ taken (getD handed i []) (getD named i [])
+  plans s i f h l =
+      let e = served-is ha hb p fair in
+      rw (replied ha hb p fair)
+      (plan-delivered handed (p .reply-out) (reply-delivers ha hb p fair) (s .node) (s .ids) (s .messages) i true (at i) f (omega arith)
+      ∙ fit-plan (s .node) (at i) (getD handed i []) (getD named i []) (got-of i l .own) h)
+
+  inside : (i : ℕ) → i < servedCount p a b → among (getD handed i []) set ≡ true
+  inside i l = hb .held .from-set (getD handed i []) (got-of i l .among-got)
+
+  arrived : Admitted set x firstA pastA rs leftA gotA handed 0 (servedCount p a b) (admits (replyOf p a b) at 0 (servedCount p a b)) a
+  unfolding askerRound readings
+  arrived =
+      let f = served-few in
+      let n = replies-count ha hb p fair in
+      all-admitted ms rs (replyOf p a b) at handed named (servedCount p a b) plans inside (omega arith) (servedCount p a b) 0 (omega arith) ha
+
+  -- ---- the asker afterwards
+  abbrev later : State
+  later = afterAll (admits (replyOf p a b) at 0 (servedCount p a b)) a
+
+  abbrev more : List (List ℕ)
+  more = gotAll gotA (admits (replyOf p a b) at 0 (servedCount p a b)) a
+
+  abbrev tells : List (List ℕ)
+  tells = toldOf (p .topic) (p .windows) (gatewayOf b)
+
+  -- an id that b tells of is seen by an asker exactly where its message was got
+  seen-got : {rs2 : List ℕ} {left2 : ℕ} {got : List (List ℕ)} {s : State} → Holding set x firstA pastA rs2 left2 got s → (i : List ℕ) → among i tells ≡ true
+      → holds (marked i) (gatewayOf s .seen) ≡ among (get i (gatewayOf b .cache)) got
+  seen-got h i t =
+      let g = told-got hb (p .topic) (p .windows) (fair .windows-y) i t in
+      rows-held ms (get i (gatewayOf b .cache)) i (hb .held .from-set (get i (gatewayOf b .cache)) (g .among-got)) (g .own) (h .held .from-set) (h .held .rows) .0
+
+  abbrev still : List (List ℕ)
+  still = lacking (gatewayOf later) tells
+
+  -- what is lacking then was lacking before
+  still-named : (i : List ℕ) → among i still ≡ true → among i named ≡ true
+  unfolding wants
+  still-named i t =
+      let l = lacking-exactly (gatewayOf later) i tells .0 t in
+      let g = seen-got (arrived .holding) i (l .0) in
+      let before = seen-got ha i (l .0) in
+      let n : among (get i (gatewayOf b .cache)) more ≡ false = sym g ∙ l .1 in
+      lacking-exactly (gatewayOf a) i tells .1
+      (l .0, before ∙ either (among (get i (gatewayOf b .cache)) gotA) (λ u. clash (let z = arrived .keeps (get i (gatewayOf b .cache)) u in cc)) (λ u. u))
+
+  -- and was not served
+  still-unserved : (i : List ℕ) → among i still ≡ true → among i (take (servedCount p a b) named) ≡ false
+  still-unserved i t =
+      either (among i (take (servedCount p a b) named))
+      (λ u.
+      let q = stands (servedCount p a b) i named u in
+      let l = lacking-exactly (gatewayOf later) i tells .0 t in
+      let g = seen-got (arrived .holding) i (l .0) in
+      let m : getD handed (q .index) [] ≡ get i (gatewayOf b .cache) = reply-at ha hb p fair (q .index) (q .within) ∙ ap (λ (j : List ℕ). get j (gatewayOf b .cache)) (q .there) in
+      let e = q .early in
+      let h : among (get i (gatewayOf b .cache)) more ≡ true = ap (λ (o : List ℕ). among o more) (sym m) ∙ arrived .has (q .index) (omega arith) (omega arith) in
+      let z = l .1 in
+      clash (cc))
+      (λ u. u)
+
+  named-once : distinct named ≡ true
+  unfolding wants
+  named-once = wants-once hb (p .topic) (p .windows) (fair .windows-y) a
+
+  named-count : length named ≡ length (lacked (p .topic) a b)
+  unfolding wants
+  named-count = wants-count hb (p .topic) (p .windows) (fair .windows-y) a
+
+  take-among : (k : ℕ) (i : List ℕ) (l : List (List ℕ)) → among i (take k l) ≡ true → among i l ≡ true
+  take-among k i l h = either (among i l) (λ t. t) (λ t. clash (let z = take-out k i l t in cc))
+
+  fifteen-fewer : length (lacked (p .topic) later b) ≤ length (lacked (p .topic) a b) - 15
+  fifteen-fewer =
+      let k = servedCount p a b in
+      let d = append-distinct still (take k named) (wants-once hb (p .topic) (p .windows) (fair .windows-y) later) (take-distinct k named named-once) still-unserved in
+      let f = all-few named (still ++ take k named) d
+      (λ i t.
+      either (among i still) (λ u. still-named i u)
+      (λ u. take-among k i named (let z : (among i still || among i (take k named)) ≡ true = sym (among-append i still (take k named)) ∙ t in simp u at z))) in
+      let s = served-few in
+      let l = length-append still (take k named) in
+      let m = length-take-le k named s in
+      let e = enough ha hb p fair in
+      let v = served-is ha hb p fair in
+      let n = named-count in
+      let w = wants-count hb (p .topic) (p .windows) (fair .windows-y) later in
+      omega arith
+
+  -- all that is handed over the teller got
+  take-all : (l : List (List ℕ)) → take (length l) l ≡ l
+  take-all [] = refl
+  take-all (m ∷ l) = ap (λ (k : List (List ℕ)). m ∷ k) (take-all l)
+
+  handed-got : (m : List ℕ) → among m handed ≡ true → among m gotB ≡ true
+  handed-got m t =
+      let q = stands (length handed) m handed (ap (among m) (take-all handed) ∙ t) in
+      let w = q .within in
+      let n = replies-count ha hb p fair in
+      ap (λ (o : List ℕ). among o gotB) (sym (q .there)) ∙ reply-got ha hb p fair (q .index) (omega arith) .among-got
+
+  pub round-done : RoundDone set x y firstA pastA leftA firstB pastB leftB rs rsB gotA gotB p at a b
+  unfolding askerRound tellerRound afterAll after gotAll
+  round-done =
+      record {
+        asker-members = member refl (arrived .members);
+        asker-done = done (request-done ha hb p fair) (arrived .none-refused);
+        teller-members = member refl (member refl none-left);
+        teller-done = done (advert-done ha hb p fair) (done (reply-done ha hb p fair) all-done);
+        asker-holds = arrived .holding;
+        teller-holds = hb;
+        fewer = fifteen-fewer;
+        only = λ m t u. handed-got m (arrived .only m t u);
+      }

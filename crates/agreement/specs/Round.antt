@@ -1,0 +1,134 @@
+-- Rounds for one topic, between a gateway that asks and one that tells: advertise, ask, serve, admit all served with the host's word. And what the one
+-- lacks of the other.
+use Prim.Native.Nat.{ℕ, zero, suc, _≤_}
+use mathlib.Core.Bool.{true, cond, not, _&&_}
+use mathlib.Core.List.{List, [], _∷_, _++_}
+use lib.ListN.{length, take}
+use Rattle.rows.specs.Ids.{among}
+use Rattle.seen.specs.Entries.{holds}
+use Rattle.mcache.specs.Messages.{Cached, topics}
+use Rattle.node.specs.declared.Advertise.{Advertise}
+use Rattle.node.specs.declared.Advertise.the-variants as told
+use Rattle.node.specs.declared.Ask.{Ask}
+use Rattle.node.specs.declared.Ask.the-variants as asked
+use Rattle.node.specs.declared.Serve.{Serve}
+use Rattle.node.specs.declared.Serve.the-variants as served
+use Rattle.node.specs.Gateway.{Gateway, marked}
+use Rattle.node.specs.State.{gatewayIn}
+use Rattle.node.specs.Calls.{advertiseAnswer, advertiseLeft, askAnswer, askLeft, serveAnswer, serveLeft}
+use Rattle.agreement.specs.History.{State, Call, admit, advertise, ask, serve, afterAll}
+use Rattle.agreement.specs.Premises.{Settings}
+
+-- ---- "lacks": the messages of a topic that are cached at one gateway and not seen by the asker
+unfoldable pub missing : List ℕ → Gateway → List Cached → List Cached
+missing topic asker [] = []
+missing topic asker (c ∷ cs) =
+    cond (among topic (topics c) && not (holds (marked (c .id)) (asker .seen))) (c ∷ missing topic asker cs) (missing topic asker cs)
+
+abbrev pub gatewayOf : State → Gateway
+gatewayOf s = gatewayIn (s .node) (s .ids) (s .messages)
+
+-- what a lacks of b
+abbrev pub lacked : List ℕ → State → State → List Cached
+lacked topic a b = missing topic (gatewayOf a) (gatewayOf b .cache)
+
+-- ---- what a call wrote: as many bytes as it answers, from the front of the buffer as it leaves it
+abbrev pub toldBytes : Advertise → List ℕ → List ℕ
+toldBytes (told.Bytes n) out = take n out
+toldBytes (told.Faulty why) out = []
+toldBytes (told.TopicTooLong n) out = []
+toldBytes (told.Room n) out = []
+
+abbrev pub askedBytes : Ask → List ℕ → List ℕ
+askedBytes (asked.Bytes n) out = take n out
+askedBytes (asked.Faulty why) out = []
+askedBytes (asked.Refused why) out = []
+askedBytes (asked.Room n) out = []
+
+abbrev pub servedBytes : Serve → List ℕ → List ℕ
+servedBytes (served.Reply n messages left) out = take n out
+servedBytes (served.Faulty why) out = []
+servedBytes (served.Refused why) out = []
+servedBytes (served.Room n) out = []
+
+abbrev pub servedMessages : Serve → ℕ
+servedMessages (served.Reply n messages left) = messages
+servedMessages (served.Faulty why) = 0
+servedMessages (served.Refused why) = 0
+servedMessages (served.Room n) = 0
+
+-- ---- what rounds are played with: the topic, the windows told of, and the buffers
+pub record Play : Type 0 where
+  pub topic : List ℕ
+  pub windows : ℕ
+  pub advert-out : List ℕ
+  pub request-out : List ℕ
+  pub reply-out : List ℕ
+
+-- 01's premises on these, for gateways with these settings
+pub record Fair (p : Play) (x y : Settings) : Type 0 where
+  pub topic-short : length (p .topic) ≤ 1024
+  -- windows at least both history_lens
+  pub windows-x : x .history-len ≤ p .windows
+  pub windows-y : y .history-len ≤ p .windows
+  -- output buffers hold 65,536 bytes
+  pub advert-room : 65536 ≤ length (p .advert-out)
+  pub request-room : 65536 ≤ length (p .request-out)
+  pub reply-room : 65536 ≤ length (p .reply-out)
+
+-- they are the same for the other way round
+pub turned : {p : Play} {x y : Settings} → Fair p x y → Fair p y x
+turned f =
+    record {
+      topic-short = f .topic-short;
+      windows-x = f .windows-y;
+      windows-y = f .windows-x;
+      advert-room = f .advert-room;
+      request-room = f .request-room;
+      reply-room = f .reply-room;
+    }
+
+module _ (p : Play) where
+  -- b's advertisement
+  unfoldable pub advertOf : State → List ℕ
+  advertOf b =
+      toldBytes (advertiseAnswer (b .node) (b .ids) (b .messages) (p .topic) (p .windows) (p .advert-out))
+      (advertiseLeft (b .node) (b .ids) (b .messages) (p .topic) (p .windows) (p .advert-out))
+
+  -- a's request, given b's advertisement
+  unfoldable pub requestOf : State → State → List ℕ
+  requestOf a b =
+      askedBytes (askAnswer (a .node) (a .ids) (a .messages) (advertOf b) (p .request-out))
+      (askLeft (a .node) (a .ids) (a .messages) (advertOf b) (p .request-out))
+
+  -- b's reply, given a's request
+  abbrev pub replyAnswer : State → State → Serve
+  replyAnswer a b = serveAnswer (b .node) (b .ids) (b .messages) (requestOf a b) (p .reply-out)
+
+  unfoldable pub replyOf : State → State → List ℕ
+  replyOf a b = servedBytes (replyAnswer a b) (serveLeft (b .node) (b .ids) (b .messages) (requestOf a b) (p .reply-out))
+
+  unfoldable pub servedCount : State → State → ℕ
+  servedCount a b = servedMessages (replyAnswer a b)
+
+-- ---- a round, as the calls of each gateway
+-- admits of k messages of a body, from an index on, each with the host's word and at its reading
+unfoldable pub admits : List ℕ → (ℕ → ℕ) → ℕ → ℕ → List Call
+admits body at i zero = []
+admits body at i (suc k) = admit body i true (at i) ∷ admits body at (suc i) k
+
+module _ (p : Play) where
+  unfoldable pub askerRound : (ℕ → ℕ) → State → State → List Call
+  askerRound at a b = ask (advertOf p b) (p .request-out) ∷ admits (replyOf p a b) at 0 (servedCount p a b)
+
+  unfoldable pub tellerRound : State → State → List Call
+  tellerRound a b = advertise (p .topic) (p .windows) (p .advert-out) ∷ serve (requestOf p a b) (p .reply-out) ∷ []
+
+  -- so many rounds, one after the other, and no other call of either; `at k i` is the reading at the i-th admit of the k-th round
+  unfoldable pub askerRounds : ℕ → (ℕ → ℕ → ℕ) → State → State → List Call
+  askerRounds zero at a b = []
+  askerRounds (suc r) at a b = askerRound (at 0) a b ++ askerRounds r (λ k. at (suc k)) (afterAll (askerRound (at 0) a b) a) (afterAll (tellerRound a b) b)
+
+  unfoldable pub tellerRounds : ℕ → (ℕ → ℕ → ℕ) → State → State → List Call
+  tellerRounds zero at a b = []
+  tellerRounds (suc r) at a b = tellerRound a b ++ tellerRounds r (λ k. at (suc k)) (afterAll (askerRound (at 0) a b) a) (afterAll (tellerRound a b) b)
