@@ -7,7 +7,8 @@
  * node, not the stores, not the buffer or the table. A call that succeeds writes only the bytes or records that it counts.
  *
  * The library keeps nothing itself and allocates nothing. A node lives in PRADULINS_NODE_SIZE bytes and two stores, all three the host's own; they may
- * be copied, saved and loaded as bytes. Every call tests them anew, so bytes that are no node are refused and harm nothing.
+ * be copied, saved and loaded as bytes. Every call tests them anew, so bytes that are no node are refused and harm nothing. What calls leave is always well
+ * formed, beginning with pradulins_start; a number that was changed from outside and still fits the others (a clock, a ttl) is not found out.
  *
  * What a caller owes, as in any C program: each pointer is to as many elements as are said beside it, and is not null, also where the number is 0;
  * what a call may write (the pointers that are not const) overlaps nothing else that is passed to it; numbers of 64 bits are aligned; `verified` is
@@ -79,7 +80,7 @@ extern "C" {
 #define PRADULINS_CLOCK_BACK 31         /* the reading is before the node's clock: the clock */
 #define PRADULINS_BAD_SETTING 40        /* a setting out of range, or a seen store shorter than max_seen rows */
 #define PRADULINS_BAD_STORE 41          /* a store whose length the settings do not say */
-#define PRADULINS_MALFORMED 42          /* node and stores are none that calls could have left */
+#define PRADULINS_MALFORMED 42          /* node and stores are not well formed */
 
 /* ---- records: what pradulins_decode writes for each, in 20 numbers */
 

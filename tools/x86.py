@@ -1,7 +1,7 @@
 """Builds and runs x86-64 programs of C, Rust and the archives of this repository, on x86-64 and on Arm. For tools/host and bench/bench.
 
 On x86-64 the machine's own cc and cargo are used. On Arm, Debian has a C compiler and a Rust for x86-64, and the kit an emulator with a loader and a C
-library. The main of a program is C: a Rust main does not start under that emulator.
+library. A Rust main does not start under the kit's; so a program's main is C, and cargo's tests run under Debian's emulator and C library.
 """
 
 import os
@@ -13,7 +13,7 @@ import sys
 ROOT = os.path.dirname(os.path.dirname(os.path.abspath(__file__)))
 TARGET = "x86_64-unknown-linux-gnu"
 NATIVE = platform.machine().lower() in ("x86_64", "amd64")
-PACKAGES = ["gcc-x86-64-linux-gnu", "libc6-dev-amd64-cross", "rustc-web", "libstd-rust-web-dev:amd64"]
+PACKAGES = ["gcc-x86-64-linux-gnu", "libc6-dev-amd64-cross", "rustc-web", "libstd-rust-web-dev:amd64", "libc6:amd64", "qemu-user"]
 
 
 class Failure(Exception):
@@ -49,31 +49,33 @@ def cargo():
     return shutil.which("cargo") or shutil.which(os.path.expanduser("~/.cargo/bin/cargo"))
 
 
+def emulator():
+    """Debian's emulator, which can load plugins, or None."""
+    return shutil.which("qemu-x86_64")
+
+
 def missing():
-    return [name for name, found in (("a C compiler for x86-64", compiler()), ("a rustc with the library for %s" % TARGET, rustc()), ("cargo", cargo()))
-            if not found]
+    wanted = [("a C compiler for x86-64", compiler()), ("a rustc with the library for %s" % TARGET, rustc()), ("cargo", cargo())]
+    if not NATIVE:
+        wanted += [("qemu-x86_64", emulator()), ("the C library for x86-64", os.path.exists("/lib64/ld-linux-x86-64.so.2"))]
+    return [name for name, found in wanted if not found]
 
 
-def install(more=()):
+def install():
     """Installs Debian's packages on Arm. On x86-64 the machine's own compilers are asked for."""
-    if not missing() and all(map(installed, more)):
+    if not missing():
         return
     if NATIVE:
         raise Failure("missing: %s" % ", ".join(missing()))
     if not shutil.which("apt-get") or os.geteuid() != 0:
         raise Failure("missing: %s. On Debian, as root: dpkg --add-architecture amd64; apt-get update; apt-get install %s"
-                      % (", ".join(missing()), " ".join(PACKAGES + list(more))))
+                      % (", ".join(missing()), " ".join(PACKAGES)))
     call(["dpkg", "--add-architecture", "amd64"])
     call(["apt-get", "update", "-q"])
-    wanted = PACKAGES + ([] if cargo() else ["cargo-web"]) + list(more)
+    wanted = PACKAGES + ([] if cargo() else ["cargo-web"])
     call(["apt-get", "install", "-y", "-q", "--no-install-recommends"] + wanted, env=dict(os.environ, DEBIAN_FRONTEND="noninteractive"))
     if missing():
         raise Failure("still missing: %s" % ", ".join(missing()))
-
-
-def installed(package):
-    """Whether a Debian package is there."""
-    return bool(shutil.which("dpkg")) and subprocess.run(["dpkg", "-s", package], capture_output=True).returncode == 0
 
 
 # ---- building
@@ -94,10 +96,23 @@ def archive(name, folder=None):
     return path
 
 
+def call_cargo(words, folder, out, env):
+    """Runs cargo on a crate, for x86-64."""
+    own = {"RUSTC": rustc(), "CARGO_NET_OFFLINE": "true", "CARGO_TARGET_DIR": out}
+    if not NATIVE:
+        name = "CARGO_TARGET_%s_" % TARGET.upper().replace("-", "_")
+        own.update({name + "LINKER": compiler(), name + "RUNNER": emulator(), "RUSTDOC": os.path.join(os.path.dirname(rustc()), "rustdoc")})
+    call([cargo(), *words, "--target", TARGET, "--manifest-path", os.path.join(folder, "Cargo.toml")], env=dict(os.environ, **own, **(env or {})))
+
+
+def test_rust(folder, out, env=None):
+    """Runs the tests of a crate, those in its documentation too."""
+    call_cargo(["test", "--quiet"], folder, out, env)
+
+
 def build_rust(folder, out, env=None):
     """Builds a crate of type staticlib for release and gives its archive."""
-    env = dict(os.environ, RUSTC=rustc(), CARGO_NET_OFFLINE="true", CARGO_TARGET_DIR=out, **(env or {}))
-    call([cargo(), "build", "--release", "--quiet", "--target", TARGET, "--manifest-path", os.path.join(folder, "Cargo.toml")], env=env)
+    call_cargo(["build", "--release", "--quiet"], folder, out, env)
     name = "lib%s.a" % os.path.basename(folder).replace("-", "_")
     return os.path.join(out, TARGET, "release", name)
 
@@ -122,12 +137,12 @@ def kit():
     return folder if folder and os.path.isdir(folder) else None
 
 
-def running(program, emulator=None, options=()):
-    """The words that run a program here."""
-    if NATIVE and not emulator:
+def running(program, options=None):
+    """The words that run a program here. With options it runs under Debian's emulator, which takes them."""
+    if NATIVE and options is None:
         return [program]
     folder = kit()
     if not folder:
         raise Failure("the program is for x86-64: on this machine the kit's emulator runs it, and there is no kit (rt) on the PATH")
-    emulator = emulator or os.path.join(folder, "bin", "qemu-x86_64")
-    return [emulator, *options, os.path.join(folder, "lib", "ld-linux-x86-64.so.2"), "--library-path", os.path.join(folder, "lib"), program]
+    words = [os.path.join(folder, "bin", "qemu-x86_64")] if options is None else [emulator(), *options]
+    return words + [os.path.join(folder, "lib", "ld-linux-x86-64.so.2"), "--library-path", os.path.join(folder, "lib"), program]

@@ -68,8 +68,8 @@ fn store_sizes(node: &[u8]) -> Option<(usize, usize)> {
     Some((rows.checked_mul(SEEN_ROW)?, places.checked_mul(CACHE_PLACE)?))
 }
 
-/// The three parts of saved bytes.
-fn parts(bytes: &[u8]) -> Result<(&[u8], &[u8], &[u8]), Refusal> {
+/// The three parts of saved bytes: the node and its two stores.
+fn parts(bytes: &[u8]) -> Result<[&[u8]; 3], Refusal> {
     if bytes.len() < NODE_SIZE {
         return Err(Refusal::Malformed);
     }
@@ -77,7 +77,7 @@ fn parts(bytes: &[u8]) -> Result<(&[u8], &[u8], &[u8]), Refusal> {
     match store_sizes(node) {
         Some((seen, cache)) if seen.checked_add(cache) == Some(stores.len()) => {
             let (seen, cache) = stores.split_at(seen);
-            Ok((node, seen, cache))
+            Ok([node, seen, cache])
         }
         _ => Err(Refusal::BadStore),
     }
@@ -198,10 +198,10 @@ impl Gateway {
 
     /// The gateway that was saved.
     ///
-    /// Bytes of any origin may be passed: the library tests whether they are a state that calls can reach. Refused: [`Refusal::BadStore`] for a wrong
-    /// length, [`Refusal::Malformed`] for bytes that are no gateway, [`Refusal::BadSetting`].
+    /// Bytes of any origin may be passed: the library tests whether they are well formed. A number that was changed and still fits the others, as the clock or the
+    /// ttl, is not found out. Refused: [`Refusal::BadStore`] for a wrong length, [`Refusal::Malformed`], [`Refusal::BadSetting`].
     pub fn load(bytes: &[u8]) -> Result<Gateway, Refusal> {
-        let (node, seen, cache) = parts(bytes)?;
+        let [node, seen, cache] = parts(bytes)?;
         let mut own = Box::new([0; NODE_SIZE]);
         own.copy_from_slice(node);
         let gateway = Gateway { node: own, seen: seen.to_vec(), cache: cache.to_vec() };
@@ -241,7 +241,7 @@ mod tests {
     #[test]
     fn saved_bytes_part_at_the_stores() {
         let bytes = saved(2, 1, 2 * 129 + 4096);
-        let (node, seen, cache) = parts(&bytes).unwrap();
+        let [node, seen, cache] = parts(&bytes).unwrap();
         assert_eq!((node.len(), seen.len(), cache.len()), (NODE_SIZE, 258, 4096));
     }
 

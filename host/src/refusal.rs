@@ -107,7 +107,7 @@ pub enum Refusal {
     BadSetting,
     /// 41: a store whose length the settings do not say.
     BadStore,
-    /// 42: bytes that are no gateway.
+    /// 42: node and stores are not well formed.
     Malformed,
 }
 
@@ -238,7 +238,7 @@ impl fmt::Display for Refusal {
             Refusal::ClockBack { clock } => write!(f, "the reading is before the clock, {clock}"),
             Refusal::BadSetting => write!(f, "a setting out of range"),
             Refusal::BadStore => write!(f, "a store whose length the settings do not say"),
-            Refusal::Malformed => write!(f, "bytes that are no gateway"),
+            Refusal::Malformed => write!(f, "node and stores are not well formed"),
         }
     }
 }
