@@ -1,5 +1,6 @@
 /*
- * Times calls of this library and of the Rust of docs/src on the same inputs, in one run, one after the other in turn. `bench` makes the inputs and reads what this prints.
+ * Times calls of this library and of the Rust of docs/src on the same inputs, in one run, one after the other in turn. `bench` makes the inputs and reads
+ * what this prints.
  *
  *     compare time|count REPETITIONS CLEAR FOLDER BODY...
  *
@@ -22,11 +23,14 @@
 /* ---- the loops of the crate `timed`, and those of the Rust */
 
 uint64_t timed_seen_insert(uint8_t *store, size_t store_len, const uint8_t *ids, size_t ids_len, size_t max, uint64_t times);
-uint64_t timed_seen_contains(uint8_t *store, size_t store_len, const uint8_t *ids, size_t ids_len, const uint8_t *asked, size_t asked_len, size_t max, uint64_t times);
+uint64_t timed_seen_contains(uint8_t *store, size_t store_len, const uint8_t *ids, size_t ids_len, const uint8_t *asked, size_t asked_len,
+                             size_t max, uint64_t times);
 uint64_t timed_seen_lent(uint8_t *store, size_t store_len, const uint8_t *ids, size_t ids_len, size_t max, uint64_t times);
 uint64_t timed_cache_put(uint8_t *store, size_t store_len, const uint8_t *bodies, size_t bodies_len, size_t size, size_t max, uint64_t times);
-uint64_t timed_cache_gossip(uint8_t *store, size_t store_len, const uint8_t *bodies, size_t bodies_len, size_t size, size_t max, const uint8_t *topic, size_t topic_len, uint64_t times);
-uint64_t timed_cache_get(uint8_t *store, size_t store_len, const uint8_t *bodies, size_t bodies_len, size_t size, size_t max, const uint8_t *ids, size_t ids_len, size_t id_size, uint64_t times);
+uint64_t timed_cache_gossip(uint8_t *store, size_t store_len, const uint8_t *bodies, size_t bodies_len, size_t size, size_t max,
+                            const uint8_t *topic, size_t topic_len, uint64_t times);
+uint64_t timed_cache_get(uint8_t *store, size_t store_len, const uint8_t *bodies, size_t bodies_len, size_t size, size_t max, const uint8_t *ids,
+                         size_t ids_len, size_t id_size, uint64_t times);
 uint64_t timed_cache_lent(uint8_t *store, size_t store_len, const uint8_t *bodies, size_t bodies_len, size_t size, size_t max, uint64_t times);
 
 uint64_t theirs_decode(const uint8_t *body, size_t len, uint64_t times);
@@ -37,7 +41,8 @@ uint64_t theirs_seen_insert(const uint8_t *ids, size_t len, size_t size, size_t 
 uint64_t theirs_seen_contains(const uint8_t *ids, size_t len, const uint8_t *asked, size_t asked_len, size_t size, size_t max, uint64_t times);
 uint64_t theirs_cache_put(const uint8_t *bodies, size_t len, size_t size, size_t max, uint64_t times);
 uint64_t theirs_cache_gossip(const uint8_t *bodies, size_t len, size_t size, size_t max, uint64_t times);
-uint64_t theirs_cache_get(const uint8_t *bodies, size_t len, size_t size, size_t max, const uint8_t *ids, size_t ids_len, size_t id_size, uint64_t times);
+uint64_t theirs_cache_get(const uint8_t *bodies, size_t len, size_t size, size_t max, const uint8_t *ids, size_t ids_len, size_t id_size,
+                          uint64_t times);
 
 /* ---- inputs */
 

@@ -88,8 +88,8 @@ extern "C" {
 #define PRADULINS_TABLE_WORDS (PRADULINS_MAX_RECORDS * PRADULINS_RECORD_WORDS)
 
 /*
- * The numbers of a record: its kind; where its bytes begin and end in the body; then its number, as 1 and the value, or 0 and 0; then its five fields, each as 1, start
- * and end, or as 0, 0 and 0 where it is absent. Starts and ends of fields are counted from the record's own start.
+ * The numbers of a record: its kind; where its bytes begin and end in the body; then its number, as 1 and the value, or 0 and 0; then its five fields,
+ * each as 1, start and end, or as 0, 0 and 0 where it is absent. Starts and ends of fields are counted from the record's own start.
  */
 #define PRADULINS_RECORD_KIND 0
 #define PRADULINS_RECORD_START 1
@@ -118,40 +118,48 @@ extern "C" {
 uint32_t pradulins_start(uint8_t node[PRADULINS_NODE_SIZE], uint64_t ttl, size_t max_seen, size_t history_len, size_t max_messages);
 
 /*
- * Admits the message at `index` of `body` (from 0), where `verified` is the host's word that its signature was verified, and `at` the reading of the host's clock. The node drops
- * the ids whose time is over, and then takes the message if its id is not seen.
+ * Admits the message at `index` of `body` (from 0), where `verified` is the host's word that its signature was verified, and `at` the reading of the
+ * host's clock. The node drops the ids whose time is over, and then takes the message if its id is not seen.
  * values[0]: 1 where the message is new, and was stored; 0 where it is a duplicate. Both set the clock.
  * Refused: 40, 41, 42, 10, 1 to 7, 11, 20 to 30, 31, in this order.
  */
-uint32_t pradulins_admit(uint8_t node[PRADULINS_NODE_SIZE], uint8_t *seen_store, size_t seen_store_len, uint8_t *cache_store, size_t cache_store_len, const uint8_t *body, size_t body_len, size_t index, bool verified, uint64_t at, uint64_t values[PRADULINS_VALUES]);
+uint32_t pradulins_admit(uint8_t node[PRADULINS_NODE_SIZE], uint8_t *seen_store, size_t seen_store_len, uint8_t *cache_store,
+                         size_t cache_store_len, const uint8_t *body, size_t body_len, size_t index, bool verified, uint64_t at,
+                         uint64_t values[PRADULINS_VALUES]);
 
 /*
  * Opens a window, at a reading of the host's clock: drops the ids whose time is over and the messages beyond history_len windows, and sets the clock.
  * values: nothing.
  * Refused: 40, 41, 42, 31.
  */
-uint32_t pradulins_heartbeat(uint8_t node[PRADULINS_NODE_SIZE], const uint8_t *seen_store, size_t seen_store_len, const uint8_t *cache_store, size_t cache_store_len, uint64_t at, uint64_t values[PRADULINS_VALUES]);
+uint32_t pradulins_heartbeat(uint8_t node[PRADULINS_NODE_SIZE], const uint8_t *seen_store, size_t seen_store_len, const uint8_t *cache_store,
+                             size_t cache_store_len, uint64_t at, uint64_t values[PRADULINS_VALUES]);
 
 /*
  * Writes to `out` a body that offers the messages of a topic in the newest `windows` windows: one IHAVE with their ids in byte order.
  * values[0]: how many bytes were written; 0 where there is nothing to offer.
  * Refused: 40, 41, 42, 29, 12.
  */
-uint32_t pradulins_advertise(const uint8_t node[PRADULINS_NODE_SIZE], const uint8_t *seen_store, size_t seen_store_len, const uint8_t *cache_store, size_t cache_store_len, const uint8_t *topic, size_t topic_len, size_t windows, uint8_t *out, size_t out_len, uint64_t values[PRADULINS_VALUES]);
+uint32_t pradulins_advertise(const uint8_t node[PRADULINS_NODE_SIZE], const uint8_t *seen_store, size_t seen_store_len, const uint8_t *cache_store,
+                             size_t cache_store_len, const uint8_t *topic, size_t topic_len, size_t windows, uint8_t *out, size_t out_len,
+                             uint64_t values[PRADULINS_VALUES]);
 
 /*
  * Writes to `out` a body that requests what `body` offers and the node has not seen: one IWANT, each id once.
  * values[0]: how many bytes were written; 0 where there is nothing to ask for.
  * Refused: 40, 41, 42, 10, 1 to 7, 11, 12.
  */
-uint32_t pradulins_ask(const uint8_t node[PRADULINS_NODE_SIZE], const uint8_t *seen_store, size_t seen_store_len, const uint8_t *cache_store, size_t cache_store_len, const uint8_t *body, size_t body_len, uint8_t *out, size_t out_len, uint64_t values[PRADULINS_VALUES]);
+uint32_t pradulins_ask(const uint8_t node[PRADULINS_NODE_SIZE], const uint8_t *seen_store, size_t seen_store_len, const uint8_t *cache_store,
+                       size_t cache_store_len, const uint8_t *body, size_t body_len, uint8_t *out, size_t out_len, uint64_t values[PRADULINS_VALUES]);
 
 /*
  * Writes to `out` a body with the cached messages that `body` requests, each once, as many as fit `out` and PRADULINS_MAX_BODY.
  * values[0]: how many bytes were written; values[1]: how many messages these are; values[2]: how many cached ones were left out, to be requested again.
  * Refused: 40, 41, 42, 10, 1 to 7, 11, 12 (where not even the first fits).
  */
-uint32_t pradulins_serve(const uint8_t node[PRADULINS_NODE_SIZE], const uint8_t *seen_store, size_t seen_store_len, const uint8_t *cache_store, size_t cache_store_len, const uint8_t *body, size_t body_len, uint8_t *out, size_t out_len, uint64_t values[PRADULINS_VALUES]);
+uint32_t pradulins_serve(const uint8_t node[PRADULINS_NODE_SIZE], const uint8_t *seen_store, size_t seen_store_len, const uint8_t *cache_store,
+                         size_t cache_store_len, const uint8_t *body, size_t body_len, uint8_t *out, size_t out_len,
+                         uint64_t values[PRADULINS_VALUES]);
 
 /* ---- bodies */
 

@@ -1,5 +1,5 @@
-//! The Rust of docs/src, behind C functions that each run a whole loop. `message.rs`, `seen.rs` and `gossipsub/mcache.rs` beside it are the docs/src files, put there by
-//! `bench`. What a loop answers depends on every call.
+//! The Rust of docs/src, behind C functions that each run a whole loop. `message.rs`, `seen.rs` and `gossipsub/mcache.rs` beside it are the docs/src files,
+//! put there by `bench`. What a loop answers depends on every call.
 #![allow(dead_code)]
 
 extern crate alloc;
