@@ -77,7 +77,7 @@ stands (suc k) i (j ∷ l) h =
     record { index = suc (r .index); early = omega arith; within = omega arith; there = r .there })
 
 -- ---- an admit of a message that gives an id takes it, where the clock does not go back
-fit-plan : (n : Node) (at : ℕ) (m id : List ℕ) → givesId m id ≡ true → n .clock ≤ at → planFit n at m (admissionOf m true) ≡ taken m id
+pub fit-plan : (n : Node) (at : ℕ) (m id : List ℕ) → givesId m id ≡ true → n .clock ≤ at → planFit n at m (admissionOf m true) ≡ taken m id
 fit-plan n at m id own h = let g = gives-only m id own in rw (g .taken, le-ltb at (n .clock) h) (ap (λ (i : List ℕ). taken m i) (sym (g .named)))
 
 -- ---- admits of messages of the set, one after the other

@@ -44,7 +44,7 @@ pub fifteen-fit : (ms : List (List ℕ)) → ((i : ℕ) → i < length ms → le
 fifteen-fit ms each = some-fit 15 65536 ms each (omega arith)
 
 -- ---- and no more where they are the longest
-longest-fit : (k room : ℕ) (ms : List (List ℕ)) → ((i : ℕ) → i < length ms → length (getD ms i []) ≡ 4096) → k < length ms → k * 4099 ≤ room → room < k * 4099 + 4099
+pub longest-fit : (k room : ℕ) (ms : List (List ℕ)) → ((i : ℕ) → i < length ms → length (getD ms i []) ≡ 4096) → k < length ms → k * 4099 ≤ room → room < k * 4099 + 4099
     → fitting 2 room ms ≡ k
 longest-fit k room [] each n h z = absurd (omega arith)
 longest-fit zero room (m ∷ ms) each n h z =

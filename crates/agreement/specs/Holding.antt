@@ -258,7 +258,7 @@ pub record Holding (set : List (List ℕ)) (x : Settings) (first past : ℕ) (rs
   pub bytes : Bytes (s .messages)
   pub ahead : Ahead x first past (gatewayOf s .clock) rs left
 
-node-clock : (s : State) → gatewayOf s .clock ≡ s .node .clock
+pub node-clock : (s : State) → gatewayOf s .clock ≡ s .node .clock
 unfolding gatewayIn
 node-clock s = refl
 
@@ -269,7 +269,7 @@ unfolding started distinct among
 started-holds first a b =
     record { ttl = refl; max-seen = refl; history-len = refl; max-messages = refl; set-seen = a; set-cached = b; each-once = refl; from-set = λ m h. clash (cc); rows = none }
 
-started-clock : (x : Settings) → started (x .ttl) (x .max-seen) (x .history-len) (x .max-messages) .clock ≡ 0
+pub started-clock : (x : Settings) → started (x .ttl) (x .max-seen) (x .history-len) (x .max-messages) .clock ≡ 0
 unfolding started
 started-clock x = refl
 

@@ -16,3 +16,7 @@ pub mod Identical
 pub mod Arrive
 pub mod CatchUp
 pub mod Agree
+pub mod Script
+pub mod Example
+pub mod ExampleRound
+pub mod Needed

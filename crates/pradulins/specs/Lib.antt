@@ -1,2 +1,3 @@
 pub mod Outs
 pub mod OutsLaws
+pub mod Refused

@@ -1,8 +1,8 @@
 // The fields of a Protocol Buffers body, from protobuf.rs: reading, passing over, writing, and the host's walk. A place past the end of the
 // input answers as the end does.
 ghost use mathlib.Core.Path.{_≡_};
-ghost use Prim.Native.Nat.{_+_, _≤_, _-_};
-ghost use lib.ListN.{length, drop};
+ghost use Prim.Native.Nat.{_+_, _≤_, _<_, _-_};
+ghost use lib.ListN.{length, drop, getD};
 ghost use lib.Seq.{sets};
 ghost use Rattle.basis.specs.Writing.{endIn, setIn};
 ghost use Rattle.peer_id.specs.Uvarint.{readUvarint};
@@ -304,8 +304,8 @@ fn read_value(input: &[u8], field: u64, wire_type: u8, tag_end: usize) -> Step
     }
 }
 
-// The field at idx, its tag and its value: the step that every decoder of a submessage takes.
-pub fn read_field(input: &[u8], idx: usize) -> Step
+// The field at idx, its tag and its value, however long its tag.
+fn read_any_field(input: &[u8], idx: usize) -> Step
     ensures { λ r. ⌜ r ≡ readField (now (input .entry)) idx ⌝ }
 {
     let t = read_tag(input, idx);
@@ -318,6 +318,54 @@ pub fn read_field(input: &[u8], idx: usize) -> Step
             next,
         } => read_value(input, field, wire_type, next),
     }
+}
+
+// The field at idx, whose tag is the byte t.
+fn read_short_field(input: &[u8], idx: usize, t: u8) -> Step
+    requires { ⌜ idx < length (now input) ⌝ }
+    requires { ⌜ getD (now input) idx 0 ≡ t ⌝ }
+    requires { ⌜ (8 ≤ t) × (t < 128) ⌝ }
+    ensures { λ r. ⌜ r ≡ readField (now (input .entry)) idx ⌝ }
+{
+    let field = (t / 8) as u64;
+    let wire_type = t % 8;
+    let tag_end = idx + 1;
+    if wire_type == WIRE_LEN {
+        if tag_end < input.len() {
+            let l = input[tag_end];
+            if l < 128 {
+                let start = tag_end + 1;
+                let len = l as usize;
+                if len <= input.len() - start {
+                    return Step::At(Field {
+                        field,
+                        wire_type,
+                        tag_end,
+                        value: l as u64,
+                        start,
+                        next: start + len,
+                    });
+                }
+            }
+        }
+    }
+    read_value(input, field, wire_type, tag_end)
+}
+
+// The field at idx, its tag and its value: the step that every decoder of a submessage takes. A tag of one byte, which every field of the gossipsub messages
+// has, is read without a call.
+pub fn read_field(input: &[u8], idx: usize) -> Step
+    ensures { λ r. ⌜ r ≡ readField (now (input .entry)) idx ⌝ }
+{
+    if idx < input.len() {
+        let t = input[idx];
+        if 8 <= t {
+            if t < 128 {
+                return read_short_field(input, idx, t);
+            }
+        }
+    }
+    read_any_field(input, idx)
 }
 
 // A place in a body, from which the host reads one top-level field after the other.

@@ -1,6 +1,9 @@
 // UTF-8, as RFC 3629 has it.
+ghost use Prim.Native.Nat.{_+_, _≤_};
 ghost use mathlib.Core.Path.{_≡_};
-ghost use Rattle.utf8.specs.Utf8.{leadOf, stepOf, isUtf8};
+ghost use mathlib.Core.Bool.{true};
+ghost use lib.ListN.{length, drop};
+ghost use Rattle.utf8.specs.Utf8.{leadOf, stepOf, run, isUtf8};
 
 // What may come next: `tails` more bytes of this character, the first of them from low to high; or nothing, since the bytes are no UTF-8.
 pub enum State {
@@ -98,6 +101,75 @@ fn step(st: State, b: u8) -> State
     }
 }
 
+// Whether the n bytes from a place on are ASCII, and so can be left out. Their bits are joined, so that n bytes cost one test.
+fn ascii(s: &[u8], at: usize, n: usize) -> bool
+    requires { ⌜ at + n ≤ length (now s) ⌝ }
+    ensures { λ r. ⌜ (r ≡ true → isUtf8 (drop at (now (s .entry))) ≡ isUtf8 (drop (at + n) (now (s .entry)))) ⌝ }
+{
+    let mut bits = 0;
+    let mut i = 0;
+    while i < n {
+        bits = bits | s[at + i];
+        i = i + 1;
+    }
+    bits < 0x80
+}
+
+// Past the blocks of n ASCII bytes from a place on.
+fn past(s: &[u8], at: usize, n: usize) -> usize
+    requires { ⌜ at ≤ length (now s) ⌝ }
+    requires { ⌜ 1 ≤ n ⌝ }
+    requires { ⌜ n ≤ 32 ⌝ }
+    ensures { λ r. ⌜ at ≤ r ⌝ }
+    ensures { λ r. ⌜ r ≤ length (now (s .entry)) ⌝ }
+    ensures { λ r. ⌜ isUtf8 (drop at (now (s .entry))) ≡ isUtf8 (drop r (now (s .entry))) ⌝ }
+{
+    let mut i = at;
+    while i + n <= s.len() {
+        if !ascii(s, i, n) {
+            return i;
+        }
+        i = i + n;
+    }
+    i
+}
+
+// Past the ASCII bytes from a place on, by blocks first.
+fn past_ascii(s: &[u8], at: usize) -> usize
+    requires { ⌜ at ≤ length (now s) ⌝ }
+    ensures { λ r. ⌜ at ≤ r ⌝ }
+    ensures { λ r. ⌜ r ≤ length (now (s .entry)) ⌝ }
+    ensures { λ r. ⌜ isUtf8 (drop at (now (s .entry))) ≡ isUtf8 (drop r (now (s .entry))) ⌝ }
+{
+    let i = past(s, at, 32);
+    let j = past(s, i, 8);
+    past(s, j, 1)
+}
+
+// Past ASCII bytes, where a character may begin and the byte before, b, is ASCII too: other bytes cost one test each.
+fn skip(s: &[u8], st: State, b: u8, at: usize) -> usize
+    requires { ⌜ at ≤ length (now s) ⌝ }
+    ensures { λ r. ⌜ at ≤ r ⌝ }
+    ensures { λ r. ⌜ run st (drop at (now (s .entry))) ≡ run st (drop r (now (s .entry))) ⌝ }
+{
+    if 0x80 <= b {
+        return at;
+    }
+    match st {
+        State::Bad => at,
+        State::Want {
+            tails,
+            low: _,
+            high: _,
+        } => {
+            if tails != 0 {
+                return at;
+            }
+            past_ascii(s, at)
+        }
+    }
+}
+
 pub fn is_utf8(s: &[u8]) -> bool
     ensures { λ r. ⌜ r ≡ isUtf8 (now (s .entry)) ⌝ }
 {
@@ -106,10 +178,11 @@ pub fn is_utf8(s: &[u8]) -> bool
         low: 0x80,
         high: 0xbf,
     };
-    let mut i = 0;
+    let mut i = past_ascii(s, 0);
     while i < s.len() {
-        st = step(st, s[i]);
-        i = i + 1;
+        let b = s[i];
+        st = step(st, b);
+        i = skip(s, st, b, i + 1);
     }
     match st {
         State::Bad => false,

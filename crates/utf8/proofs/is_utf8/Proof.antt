@@ -13,7 +13,9 @@ use Rattle.utf8.proofs.is_utf8.Statement.{statement}
 use Rattle.utf8.proofs.is_utf8.Tie as tie
 use Rattle.utf8.proofs.is_utf8.Reads as reads
 use Rattle.utf8.proofs.is_utf8.Lts as lts
+use Rattle.utf8.proofs.past_ascii.Reads as past-ascii-reads
 use Rattle.utf8.proofs.step.Reads as step-reads
+use Rattle.utf8.proofs.skip.Reads as skip-reads
 
 abbrev Inv-loop : tie.InvT-loop
 Inv-loop s st₀ i₀ st i = isUtf8 s ≡ run st (drop i s)
@@ -29,26 +31,32 @@ done : (s : List ℕ) (i : ℕ) (st r : State) → length s ≤ i → st ≡ r �
 unfolding run
 done s i st r h e = rw (drop-of-length-le s h, e)
 
+past-ascii-requires : tie.Need-past-ascii-requires Inv-loop μ-loop
+past-ascii-requires c κs = omega arith
+
 loop-holds : tie.Need-loop-holds Inv-loop μ-loop
 unfolding isUtf8
-loop-holds c = refl
+loop-holds c = c .past-ascii .ensures .1 .1
 
-shared-slice-read-step : tie.Need-shared-slice-read-step Inv-loop μ-loop
-shared-slice-read-step c = omega arith
+shared-slice-read-b : tie.Need-shared-slice-read-b Inv-loop μ-loop
+shared-slice-read-b c = omega arith
 
 step-requires : tie.Need-step-requires Inv-loop μ-loop
 step-requires c κs = search needs
 
-add-i : tie.Need-add-i Inv-loop μ-loop
-add-i c = omega arith
+add-skip : tie.Need-add-skip Inv-loop μ-loop
+add-skip c = omega (arith, c .before .before .loop-test .taken)
+
+skip-requires : tie.Need-skip-requires Inv-loop μ-loop
+skip-requires c κs = omega (arith, c .before .before .loop-test .taken)
 
 loop-less : tie.Need-loop-less Inv-loop μ-loop
-loop-less c = omega arith
+loop-less c = omega (arith, c .before .before .before .loop-test .taken, c .skip .ensures .0)
 
 loop-again : tie.Need-loop-again Inv-loop μ-loop
 loop-again c =
-    let l = c .before .before .before .loop in
-    l .inv ∙ turn (c .before .before .before .before .before .args .s .now) (l .i) (l .st) (c .step .result) (c .before .before .loop-test .taken) (c .step .ensures)
+    let l = c .before .before .before .before .loop in
+    l .inv ∙ turn (c .before .before .before .before .before .before .before .args .s .now) (l .i) (l .st) (c .before .step .result) (c .before .before .before .loop-test .taken) (c .before .step .ensures) ∙ c .skip .ensures .1
 
 enum-told : tie.Need-enum-told Inv-loop μ-loop
 enum-told c = search needs
@@ -59,12 +67,12 @@ enum-known-st c = search needs
 returns : tie.Need-returns Inv-loop μ-loop
 returns c =
     let l = c .before .before .before .loop in
-    sym (l .inv ∙ done (c .before .before .before .before .before .args .s .now) (l .i) (l .st) _ (c .before .before .loop-test .left) (c .enum-told .given .1))
+    sym (l .inv ∙ done (c .before .before .before .before .before .before .args .s .now) (l .i) (l .st) _ (c .before .before .loop-test .left) (c .enum-told .given .1))
 
 returns-2 : tie.Need-returns-2 Inv-loop μ-loop
 returns-2 c =
     let l = c .before .before .before .before .loop in
-    sym (l .inv ∙ done (c .before .before .before .before .before .before .args .s .now) (l .i) (l .st) _ (c .before .before .before .loop-test .left) (c .before .st .given .1))
+    sym (l .inv ∙ done (c .before .before .before .before .before .before .before .args .s .now) (l .i) (l .st) _ (c .before .before .before .loop-test .left) (c .before .st .given .1))
 
 pub is-utf8-spec : {M : Type 1} → statement M
 is-utf8-spec =
@@ -72,10 +80,12 @@ is-utf8-spec =
     (tie.spec
     Inv-loop
     μ-loop
+    past-ascii-requires
     loop-holds
-    shared-slice-read-step
+    shared-slice-read-b
     step-requires
-    add-i
+    add-skip
+    skip-requires
     loop-less
     loop-again
     enum-told

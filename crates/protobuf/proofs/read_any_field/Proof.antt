@@ -1,11 +1,11 @@
--- `protobuf::read_field` meets its contract: the tag's answer picks the case.
+-- `protobuf::read_any_field` meets its contract: the tag's answer picks the case.
 use mathlib.Core.Path.{_≡_, sym, _∙_}
 use Rattle.protobuf.specs.Field.{readField}
 use borrow.Author.Needs.{needs}
-use Rattle.protobuf.proofs.read_field.Statement.{statement}
-use Rattle.protobuf.proofs.read_field.Tie as tie
-use Rattle.protobuf.proofs.read_field.Reads as reads
-use Rattle.protobuf.proofs.read_field.Lts as lts
+use Rattle.protobuf.proofs.read_any_field.Statement.{statement}
+use Rattle.protobuf.proofs.read_any_field.Tie as tie
+use Rattle.protobuf.proofs.read_any_field.Reads as reads
+use Rattle.protobuf.proofs.read_any_field.Lts as lts
 use Rattle.protobuf.proofs.read_tag.Reads as read-tag-reads
 use Rattle.protobuf.proofs.read_value.Reads as read-value-reads
 
@@ -36,8 +36,8 @@ returns-3 : tie.Need-returns-3
 unfolding readField
 returns-3 c = simp (sym (c .before .before .before .before .read-tag .ensures) ∙ c .before .before .t2 .given .1) (c .read-value .ensures)
 
-pub read-field-spec : {M : Type 1} → statement M
-read-field-spec =
+pub read-any-field-spec : {M : Type 1} → statement M
+read-any-field-spec =
     tie.close
     (tie.spec
     read-tag-requires

@@ -1,0 +1,324 @@
+-- An example: two gateways, two messages, of which one is lost on its way to the first gateway, and histories that meet every premise. How often
+-- each message is got, new and a duplicate is computed for it; a round between the two follows in ExampleRound.
+use Prim.Native.Nat.{ℕ, zero, suc, _+_, _-_, _*_, _^_, _≤_, _<_}
+use mathlib.Core.Path.{_≡_, refl, sym, ap, subst, _∙_}
+use mathlib.Core.Bool.{true}
+use mathlib.Core.List.{List, [], _∷_}
+use native.Mathlib.Omega.{arith}
+use lib.ListN.{length, getD, replicate, length-replicate}
+use lib.Dec.{leb}
+use borrow.Author.Tests.{leb-true}
+use Rattle.basis.specs.Cases.{either, clash, both}
+use Rattle.basis.specs.Bytes.{Bytes}
+use Rattle.peer_id.specs.Uvarint.{readUvarint, readFrom, groupOf}
+use Rattle.utf8.specs.Utf8.{isUtf8, run}
+use Rattle.protobuf.specs.Field.{readTag, readLen, readVarint, skipFixed, skipField, readValue, readField}
+use Rattle.protobuf.specs.Walk.{walkFrom, walkAt}
+use Rattle.schema.specs.Schema.{roleOf, rank, ownOf}
+use Rattle.schema.specs.Count.{textCount, countTo, counted}
+use Rattle.schema.specs.Slots.{setPlace, withField, slotsOf}
+use Rattle.ids.specs.Ids.{acceptOf, messageAt, idParts}
+use Rattle.admission.specs.Admission.{topicsOf, firstLong, onLimits, admissionOf, givesId}
+use Rattle.rows.specs.Rows.{newest}
+use Rattle.rows.specs.Ids.{sameBytes, among, distinct}
+use Rattle.rows.specs.IdsLaws.{same-equal}
+use Rattle.rows.specs.Store.{allUpTo}
+use Rattle.seen.specs.Entries.{holds, until, inserted, live}
+use Rattle.mcache.specs.Messages.{held, put, shift}
+use Rattle.mcache.specs.State.{legal}
+use Rattle.node.specs.Gateway.{started, isNew, afterAdmit, afterBeat}
+use Rattle.node.specs.State.{legalSettings, freshNode, risesFrom}
+use Rattle.agreement.specs.History.{State, Call, admit, heartbeat, readings, timesGot, timesNew, timesDuplicate}
+use Rattle.agreement.specs.History.{beats as beatsIn}
+use Rattle.agreement.specs.Premises.{MessageSet, Settings, Fresh, Members, Clock, Premises}
+use Rattle.agreement.specs.Round.{Play, Fair}
+use Rattle.agreement.specs.Rows.{one-id}
+use Rattle.agreement.specs.Once.{new-or-duplicate}
+use Rattle.agreement.specs.Script.{Carries, Act, gets, beats, callsOf, gotIn, newIn, Written, nothing, got, beaten, fresh-acted, fresh-new}
+
+-- ---- the messages
+abbrev pub topic : List ℕ
+topic = 0x74 ∷ []
+
+-- 64 bytes; whether they sign is the host's word
+unfoldable pub signature : List ℕ
+signature =
+    0x01 ∷ 0x02 ∷ 0x03 ∷ 0x04 ∷ 0x05 ∷ 0x06 ∷ 0x07 ∷ 0x08 ∷ 0x09 ∷ 0x0a ∷ 0x0b ∷ 0x0c ∷ 0x0d ∷ 0x0e ∷ 0x0f ∷ 0x10 ∷
+    0x11 ∷ 0x12 ∷ 0x13 ∷ 0x14 ∷ 0x15 ∷ 0x16 ∷ 0x17 ∷ 0x18 ∷ 0x19 ∷ 0x1a ∷ 0x1b ∷ 0x1c ∷ 0x1d ∷ 0x1e ∷ 0x1f ∷ 0x20 ∷
+    0x21 ∷ 0x22 ∷ 0x23 ∷ 0x24 ∷ 0x25 ∷ 0x26 ∷ 0x27 ∷ 0x28 ∷ 0x29 ∷ 0x2a ∷ 0x2b ∷ 0x2c ∷ 0x2d ∷ 0x2e ∷ 0x2f ∷ 0x30 ∷
+    0x31 ∷ 0x32 ∷ 0x33 ∷ 0x34 ∷ 0x35 ∷ 0x36 ∷ 0x37 ∷ 0x38 ∷ 0x39 ∷ 0x3a ∷ 0x3b ∷ 0x3c ∷ 0x3d ∷ 0x3e ∷ 0x3f ∷ 0x40 ∷
+    []
+
+-- from `A`, data `hello`, seqno 1, topic `t`
+unfoldable pub first : List ℕ
+first =
+    0x0a ∷ 0x01 ∷ 0x41 ∷ 0x12 ∷ 0x05 ∷ 0x68 ∷ 0x65 ∷ 0x6c ∷ 0x6c ∷ 0x6f ∷ 0x1a ∷ 0x01 ∷ 0x01 ∷ 0x22 ∷ 0x01 ∷ 0x74 ∷ 0x2a ∷ 0x40 ∷ signature
+
+-- from `B`, data `bye`, seqno 2, topic `t`
+unfoldable pub second : List ℕ
+second =
+    0x0a ∷ 0x01 ∷ 0x42 ∷ 0x12 ∷ 0x03 ∷ 0x62 ∷ 0x79 ∷ 0x65 ∷ 0x1a ∷ 0x01 ∷ 0x02 ∷ 0x22 ∷ 0x01 ∷ 0x74 ∷ 0x2a ∷ 0x40 ∷ signature
+
+unfoldable pub messages : List (List ℕ)
+messages = first ∷ second ∷ []
+
+-- their ids, from and seqno
+abbrev pub first-id : List ℕ
+first-id = 0x41 ∷ 0x01 ∷ []
+
+abbrev pub second-id : List ℕ
+second-id = 0x42 ∷ 0x02 ∷ []
+
+-- the bodies in which they come: an RPC with one message
+unfoldable pub first-body : List ℕ
+first-body = 0x12 ∷ 0x52 ∷ first
+
+unfoldable pub second-body : List ℕ
+second-body = 0x12 ∷ 0x50 ∷ second
+
+pub first-carried : Carries first-body first first-id
+unfolding signature first first-body acceptOf counted countTo textCount roleOf rank ownOf isUtf8 run walkAt walkFrom readField readValue skipField skipFixed readVarint readLen readTag readUvarint readFrom groupOf messageAt givesId admissionOf onLimits topicsOf firstLong idParts slotsOf withField setPlace sameBytes
+first-carried = record { accepted = refl; placed = record { start = 2; next = 84; found = refl; bytes = refl }; own = refl }
+
+pub second-carried : Carries second-body second second-id
+unfolding signature second second-body acceptOf counted countTo textCount roleOf rank ownOf isUtf8 run walkAt walkFrom readField readValue skipField skipFixed readVarint readLen readTag readUvarint readFrom groupOf messageAt givesId admissionOf onLimits topicsOf firstLong idParts slotsOf withField setPlace sameBytes
+second-carried = record { accepted = refl; placed = record { start = 2; next = 82; found = refl; bytes = refl }; own = refl }
+
+-- ---- what a test of all numbers of a list says of each
+upto-each : (most : ℕ) (l : List ℕ) → allUpTo most l ≡ true → (i : ℕ) → getD l i 0 ≤ most
+unfolding allUpTo
+upto-each most [] h i = omega arith
+upto-each most (n ∷ l) h zero = leb-true n most (both (leb n most) (allUpTo most l) h .0)
+upto-each most (n ∷ l) h (suc i) = upto-each most l (both (leb n most) (allUpTo most l) h .1) i
+
+upto-bytes : (l : List ℕ) → allUpTo 255 l ≡ true → Bytes l
+upto-bytes l h i = let e = upto-each 255 l h i in omega arith
+
+-- ---- they are a set of messages as the premises have it
+of-two : (P : List ℕ → Type 0) → P first → P second → (m : List ℕ) → among m messages ≡ true → P m
+unfolding messages among
+of-two P p q m h =
+    either (sameBytes first m) (λ t. subst P (same-equal first m t) p)
+    (λ t. either (sameBytes second m) (λ u. subst P (same-equal second m u) q) (λ u. clash (let z = simp (t, u) at h in cc)))
+
+first-bytes : Bytes first
+unfolding signature first allUpTo
+first-bytes = upto-bytes first refl
+
+second-bytes : Bytes second
+unfolding signature second allUpTo
+second-bytes = upto-bytes second refl
+
+-- no id is that of both
+not-both : {A : Type 0} (id : List ℕ) → givesId first id ≡ true → givesId second id ≡ true → A
+not-both id g h =
+    let e : first-id ≡ second-id = sym (one-id first id first-id g (first-carried .own)) ∙ one-id second id second-id h (second-carried .own) in
+    let z : _≡_ {A = ℕ} 0x41 0x42 = ap (λ (l : List ℕ). getD l 0 0) e in
+    absurd (omega arith)
+
+pub first-in : among first messages ≡ true
+unfolding messages among signature first sameBytes
+first-in = refl
+
+pub second-in : among second messages ≡ true
+unfolding messages among signature first second sameBytes
+second-in = refl
+
+each-once : distinct messages ≡ true
+unfolding messages distinct among signature first second sameBytes
+each-once = refl
+
+pub message-set : MessageSet messages
+message-set =
+    record {
+      bytes = of-two Bytes first-bytes second-bytes;
+      each-once = each-once;
+      admissible = of-two (λ (m : List ℕ). (id : List ℕ) × (givesId m id ≡ true)) (first-id, first-carried .own) (second-id, second-carried .own);
+      ids-differ = λ m k id a b.
+          of-two (λ (m : List ℕ). givesId m id ≡ true → givesId k id ≡ true → m ≡ k)
+          (of-two (λ (k : List ℕ). givesId first id ≡ true → givesId k id ≡ true → first ≡ k) (λ g h. refl) (λ g h. not-both id g h) k b)
+          (of-two (λ (k : List ℕ). givesId second id ≡ true → givesId k id ≡ true → second ≡ k) (λ g h. not-both id h g) (λ g h. refl) k b)
+          m a;
+    }
+
+-- ---- the gateways
+abbrev pub settings-a : Settings
+settings-a = record { ttl = 100; max-seen = 2; history-len = 2; max-messages = 2 }
+
+abbrev pub settings-b : Settings
+settings-b = record { ttl = 50; max-seen = 3; history-len = 3; max-messages = 4 }
+
+-- a fresh node with stores of zeros
+unfoldable pub start : Settings → State
+start x =
+    record {
+      node = freshNode (x .ttl) (x .max-seen) (x .history-len) (x .max-messages);
+      ids = replicate (x .max-seen * 129) 0;
+      messages = replicate (x .max-messages * 4096) 0;
+    }
+
+zeros-bytes : (n : ℕ) → Bytes (replicate n 0)
+zeros-bytes zero i = omega arith
+zeros-bytes (suc n) zero = omega arith
+zeros-bytes (suc n) (suc i) = zeros-bytes n i
+
+start-fresh : (x : Settings) → x .ttl < 2 ^ 64 → legalSettings (x .max-seen) (x .history-len) (x .max-messages) ≡ true → Fresh x (start x)
+unfolding start
+start-fresh x small ok =
+    record {
+      small = small;
+      legal = ok;
+      node = refl;
+      ids = length-replicate (x .max-seen * 129) 0;
+      messages = length-replicate (x .max-messages * 4096) 0;
+      bytes = zeros-bytes (x .max-messages * 4096);
+    }
+
+pub fresh-a : Fresh settings-a (start settings-a)
+unfolding legalSettings legal
+fresh-a = start-fresh settings-a (omega arith) refl
+
+pub fresh-b : Fresh settings-b (start settings-b)
+unfolding legalSettings legal
+fresh-b = start-fresh settings-b (omega arith) refl
+
+-- ---- their calls: a gets the first message twice, and the second is lost on its way; b gets the second, the first, and the second again
+unfoldable pub calls-a : List Call
+calls-a = admit first-body 0 true 10 ∷ admit first-body 0 true 12 ∷ []
+
+unfoldable pub calls-b : List Call
+calls-b = admit second-body 0 true 7 ∷ admit first-body 0 true 8 ∷ heartbeat 9 ∷ admit second-body 0 true 11 ∷ []
+
+-- the same, written out
+abbrev pub script-a : List Act
+script-a = gets first-body first first-id 10 ∷ gets first-body first first-id 12 ∷ []
+
+abbrev pub script-b : List Act
+script-b = gets second-body second second-id 7 ∷ gets first-body first first-id 8 ∷ beats 9 ∷ gets second-body second second-id 11 ∷ []
+
+pub calls-a-written : callsOf script-a ≡ calls-a
+unfolding callsOf calls-a
+calls-a-written = refl
+
+pub calls-b-written : callsOf script-b ≡ calls-b
+unfolding callsOf calls-b
+calls-b-written = refl
+
+pub written-a : Written messages 0 script-a
+written-a = got 0 10 first-carried first-in (omega arith) (omega arith) (got 10 12 first-carried first-in (omega arith) (omega arith) nothing)
+
+pub written-b : Written messages 0 script-b
+written-b =
+    got 0 7 second-carried second-in (omega arith) (omega arith)
+    (got 7 8 first-carried first-in (omega arith) (omega arith)
+    (beaten 8 9 (omega arith) (omega arith) (got 9 11 second-carried second-in (omega arith) (omega arith) nothing)))
+
+-- ---- their histories meet the premises
+pub clock-by : (x : Settings) (rs : List ℕ) (most : ℕ) → risesFrom 0 rs ≡ true → allUpTo most rs ≡ true → most < getD rs 0 0 + x .ttl → most < 2 ^ 64 - 1 → Clock x rs
+clock-by x rs most up upto short small =
+    record {
+      rises = up;
+      within-ttl = λ i h. let e = upto-each most rs upto i in omega arith;
+      below-last = λ i h. let e = upto-each most rs upto i in omega arith;
+    }
+
+two-messages : length messages ≡ 2
+unfolding messages
+two-messages = refl
+
+clock-a : Clock settings-a (readings calls-a)
+unfolding calls-a readings risesFrom allUpTo
+clock-a = clock-by settings-a (readings calls-a) 12 refl refl (omega arith) (omega arith)
+
+clock-b : Clock settings-b (readings calls-b)
+unfolding calls-b readings risesFrom allUpTo
+clock-b = clock-by settings-b (readings calls-b) 11 refl refl (omega arith) (omega arith)
+
+few-a : beatsIn calls-a < 2
+unfolding calls-a beatsIn
+few-a = omega arith
+
+few-b : beatsIn calls-b < 3
+unfolding calls-b beatsIn
+few-b = omega arith
+
+pub premises-a : Premises messages settings-a calls-a (start settings-a)
+premises-a =
+    record {
+      fresh = fresh-a;
+      members = subst (λ (cs : List Call). Members messages cs (start settings-a)) calls-a-written (fresh-acted script-a fresh-a written-a .members);
+      set-seen = omega (arith, two-messages);
+      set-cached = omega (arith, two-messages);
+      clock = clock-a;
+      few-heartbeats = few-a;
+    }
+
+pub premises-b : Premises messages settings-b calls-b (start settings-b)
+premises-b =
+    record {
+      fresh = fresh-b;
+      members = subst (λ (cs : List Call). Members messages cs (start settings-b)) calls-b-written (fresh-acted script-b fresh-b written-b .members);
+      set-seen = omega (arith, two-messages);
+      set-cached = omega (arith, two-messages);
+      clock = clock-b;
+      few-heartbeats = few-b;
+    }
+
+-- ---- what rounds are played with: full buffers, of zeros
+unfoldable pub buffer : List ℕ
+buffer = replicate 65536 0
+
+zeros-long : (n : ℕ) → n ≤ length (replicate {A = ℕ} n 0)
+zeros-long n = omega (arith, length-replicate {A = ℕ} n 0)
+
+pub buffer-full : 65536 ≤ length buffer
+unfolding buffer
+buffer-full = zeros-long 65536
+
+abbrev pub play : Play
+play = record { topic = topic; windows = 3; advert-out = buffer; request-out = buffer; reply-out = buffer }
+
+pub fair : Fair play settings-a settings-b
+fair =
+    record {
+      topic-short = omega arith;
+      windows-x = omega arith;
+      windows-y = omega arith;
+      advert-room = buffer-full;
+      request-room = buffer-full;
+      reply-room = buffer-full;
+    }
+
+-- ---- a message got is new once
+pub record Counts (m : List ℕ) (calls : List Call) (s : State) (got new duplicate : ℕ) : Type 0 where
+  pub times-got : timesGot m calls s ≡ got
+  pub times-new : timesNew m calls s ≡ new
+  pub times-duplicate : timesDuplicate m calls s ≡ duplicate
+
+counts : {x : Settings} {s : State} (m : List ℕ) (xs : List Act) (calls : List Call) → Fresh x s → Written messages 0 xs → callsOf xs ≡ calls
+    → Counts m calls s (gotIn m xs) (newIn m xs (started (x .ttl) (x .max-seen) (x .history-len) (x .max-messages)))
+    (gotIn m xs - newIn m xs (started (x .ttl) (x .max-seen) (x .history-len) (x .max-messages)))
+counts {x} {s} m xs calls f w e =
+    let g : timesGot m calls s ≡ gotIn m xs = subst (λ (cs : List Call). timesGot m cs s ≡ gotIn m xs) e (fresh-acted xs f w .times-got m) in
+    let n : timesNew m calls s ≡ newIn m xs (started (x .ttl) (x .max-seen) (x .history-len) (x .max-messages)) =
+    subst (λ (cs : List Call). timesNew m cs s ≡ newIn m xs (started (x .ttl) (x .max-seen) (x .history-len) (x .max-messages))) e (fresh-new xs f w m) in
+    let d = new-or-duplicate m calls s in
+    record { times-got = g; times-new = n; times-duplicate = omega arith }
+
+-- the first message came to a twice
+pub first-at-a : Counts first calls-a (start settings-a) 2 1 1
+unfolding signature first gotIn newIn started isNew afterAdmit holds among sameBytes live inserted newest until held put
+first-at-a = counts first script-a calls-a fresh-a written-a calls-a-written
+
+-- the second never
+pub second-at-a : Counts second calls-a (start settings-a) 0 0 0
+unfolding signature first second gotIn newIn started isNew afterAdmit holds among sameBytes live inserted newest until held put
+second-at-a = counts second script-a calls-a fresh-a written-a calls-a-written
+
+pub first-at-b : Counts first calls-b (start settings-b) 1 1 0
+unfolding signature first second gotIn newIn started isNew afterAdmit afterBeat holds among sameBytes live inserted newest until held put shift
+first-at-b = counts first script-b calls-b fresh-b written-b calls-b-written
+
+pub second-at-b : Counts second calls-b (start settings-b) 2 1 1
+unfolding signature first second gotIn newIn started isNew afterAdmit afterBeat holds among sameBytes live inserted newest until held put shift
+second-at-b = counts second script-b calls-b fresh-b written-b calls-b-written

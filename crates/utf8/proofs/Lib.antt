@@ -1,0 +1,2 @@
+-- What several of the crate's proofs cite.
+pub mod Leave
