@@ -1,0 +1,126 @@
+"""The benchmark's inputs: bodies of several sizes and kinds, ids, and what fills a cache and a node. Nothing is random."""
+
+import os
+
+FULL = 65536
+MAX_RECORDS = 512
+
+
+def varint(n):
+    out = b""
+    while n >= 128:
+        out += bytes([n % 128 + 128])
+        n //= 128
+    return out + bytes([n])
+
+
+def field(number, content):
+    return varint(number * 8 + 2) + varint(len(content)) + content
+
+
+def some(n, seed):
+    """n bytes that look like nothing in particular."""
+    out, x = bytearray(), seed * 2654435761 % 2**32 + 1
+    for _ in range(n):
+        x = (x * 1103515245 + 12345) % 2**31
+        out.append(x >> 16 & 255)
+    return bytes(out)
+
+
+def message(i, data, topics=(b"t",), who=38, seqno=8, signature=True):
+    """A message as a gateway publishes it."""
+    parts = [field(1, some(who, i)), field(2, data), field(3, i.to_bytes(seqno, "big"))] + [field(4, topic) for topic in topics]
+    return field(2, b"".join(parts) + (field(5, some(64, i)) if signature else b""))
+
+
+def ihave(topic, ids):
+    return field(3, field(1, field(1, topic) + b"".join(field(2, one) for one in ids)))
+
+
+def iwant(ids):
+    return field(3, field(2, b"".join(field(1, one) for one in ids)))
+
+
+def unit(i, size):
+    """A mixed body of this size with 8 records: a subscription, a message with its topic, an offer with an id, a graft, a prune with a peer."""
+    rest = (field(1, b"\x08\x01" + field(2, b"ct/brain"))
+            + field(3, field(1, field(1, b"ct/brain") + field(2, some(46, i))) + field(3, field(1, b"mr/knee"))
+                    + field(4, field(1, b"mr/hip") + field(2, field(1, some(38, i)) + field(2, some(100, i))) + b"\x18\x3c")))
+    for data in range(size, 0, -1):
+        made = message(i, some(data, i), (b"ct/brain",)) + rest
+        if len(made) == size:
+            return made
+    raise ValueError(size)
+
+
+def mixed(size):
+    """A mixed body: a unit for each KB."""
+    return b"".join(unit(i, 1024) for i in range(size // 1024))
+
+
+def filled(parts, size=FULL):
+    """As many of the parts as fit, and then an unknown field, so that the size is just so."""
+    out = b""
+    for part in parts:
+        if len(out) + len(part) > size - 5:
+            break
+        out += part
+    rest = size - len(out)
+    for content in range(max(0, rest - 5), rest):
+        if len(field(15, bytes(content))) == rest:
+            return out + field(15, bytes(content))
+    return out
+
+
+def bodies():
+    """(name, body)."""
+    yield "small-77", bytes.fromhex("124b0a01411a01012201742a40") + bytes(64)
+    for size in (1024, 2048, 4096, 8192, 16384, 32768, 65536):
+        yield "mixed-%d" % size, mixed(size)
+    yield "messages", filled(message(i, some(3900, i)) for i in range(16))
+    yield "short-messages", b"".join(message(i, b"", (), 1, 2, False) for i in range(MAX_RECORDS))
+    yield "one-message", message(1, some(FULL - 132, 1))
+    yield "many-topics", field(2, field(1, b"A") + field(3, b"1") + b"".join(field(4, some_text(i)) for i in range(MAX_RECORDS - 1)))
+    yield "offered-ids", ihave(b"t", [some(125, i) for i in range(MAX_RECORDS - 1)])
+    yield "requested-ids", iwant([some(46, i) for i in range(MAX_RECORDS - 1)])
+    yield "subscriptions", b"".join(field(1, b"\x08\x01" + field(2, b"topic-%04d" % i)) for i in range(MAX_RECORDS))
+    yield "prunes", b"".join(field(3, field(4, field(1, b"t") + field(2, field(1, some(38, i)) + field(2, some(70, i))))) for i in range(MAX_RECORDS // 2))
+    yield "empty-records", b"\x0a\x00" * MAX_RECORDS
+    yield "unknown-fields", b"\x20\x00" * (FULL // 2)
+    yield "cut", mixed(FULL)[:-1]
+
+
+def some_text(i):
+    return ("topic-%04d-" % i * 12)[:118].encode()
+
+
+def write(folder):
+    """Writes the inputs, and gives the bodies' file names."""
+    os.makedirs(folder, exist_ok=True)
+
+    def put(name, data):
+        with open(os.path.join(folder, name), "wb") as out:
+            out.write(data)
+
+    names = []
+    for name, body in bodies():
+        assert len(body) <= FULL, name
+        put(name + ".bin", body)
+        names.append(name + ".bin")
+    # Ids of one publisher, as a seen cache has them: a mark, a name and a number.
+    ids = [b"\x01" + some(56, 0) + i.to_bytes(8, "big") for i in range(768)]
+    put("ids", b"".join(ids[:512]))
+    put("others", b"".join(ids[512:]))
+    for name, size, count in (("small", 100, 128), ("large", 3900, 512)):
+        made = [message(i, some(size, i)) for i in range(count)]
+        assert len({len(one) for one in made}) == 1
+        put(name + "-bodies", b"".join(made))
+        put(name + "-ids", b"".join(map(id_of, range(count))))
+    # The node sees 256 of the large ones and keeps the last 64 of them. It is offered 256, of which it saw the half, and asked for all that it keeps.
+    put("offer", ihave(b"t", [id_of(i) for i in range(128, 384)]))
+    put("request", iwant([id_of(i) for i in range(192, 256)]))
+    return names
+
+
+def id_of(i):
+    return some(38, i) + i.to_bytes(8, "big")

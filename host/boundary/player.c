@@ -1,0 +1,583 @@
+/*
+ * Plays the records of the programs `inspect`, `trace` and `states` through pradulins.h, and prints their lines: on the same input the same lines are
+ * expected. For what the interface does not have (kinds 6 and 7 of `inspect`, 9 and 10 of `states`) the line is the record's number and `-`. Beside that
+ * it watches the memory of each call: a refused one changes none but `values`, one that succeeds writes only what it counts, and `values` gets as many
+ * numbers as the header says. Each call on a body is made again with room that just suffices and with one byte or number less.
+ */
+#include "player.h"
+
+#include <stdio.h>
+#include <stdlib.h>
+#include <string.h>
+
+#include "pradulins.h"
+
+/* The lengths of the programs' own buffers. */
+enum { CONTENT = 65600, SEEN = 33282, CACHE = 266240, MADE = 65600 };
+
+#define UNTOUCHED 0x5e5e5e5e5e5e5e5eu
+
+static uint8_t content[CONTENT];
+static uint8_t node[PRADULINS_NODE_SIZE], node_before[PRADULINS_NODE_SIZE];
+static uint8_t seen[SEEN], seen_before[SEEN];
+static uint8_t cache[CACHE], cache_before[CACHE];
+static uint8_t made[MADE], made_before[MADE];
+static uint64_t table[PRADULINS_TABLE_WORDS], table_before[PRADULINS_TABLE_WORDS];
+static uint64_t values[PRADULINS_VALUES];
+static size_t seen_len, cache_len;
+static uint64_t n;
+static const char *fault;
+
+/* ---- watching a call */
+
+static void before(void)
+{
+    memcpy(node_before, node, sizeof node);
+    memcpy(seen_before, seen, sizeof seen);
+    memcpy(cache_before, cache, sizeof cache);
+    memcpy(made_before, made, sizeof made);
+    memcpy(table_before, table, sizeof table);
+    for (int i = 0; i < PRADULINS_VALUES; i++)
+        values[i] = UNTOUCHED;
+}
+
+/* How many values stand beside a refusal. */
+static int count_of(uint32_t number)
+{
+    switch (number) {
+    case PRADULINS_FIELD_OVERFLOW:
+        return 3;
+    case PRADULINS_WIRE_TYPE:
+    case PRADULINS_FIELD_NUMBER:
+        return 2;
+    case PRADULINS_VARINT_SHORT:
+    case PRADULINS_VARINT_OVERFLOW:
+    case PRADULINS_VARINT_NOT_MINIMAL:
+    case PRADULINS_MISSING_FROM:
+    case PRADULINS_INVALID_SEQNO:
+    case PRADULINS_KEY_WITHOUT_SIGNATURE:
+    case PRADULINS_MISSING_SIGNATURE:
+    case PRADULINS_NOT_VERIFIED:
+    case PRADULINS_BAD_SETTING:
+    case PRADULINS_BAD_STORE:
+    case PRADULINS_MALFORMED:
+        return 0;
+    default:
+        return 1;
+    }
+}
+
+static void expect(int ok, const char *what)
+{
+    if (!ok && !fault) {
+        fault = what;
+        fprintf(stderr, "record %llu: %s\n", (unsigned long long)n, what);
+    }
+}
+
+/*
+ * After a call. `count` is how many values a success hands out, `bytes` and `rows` how much it wrote; a call that `keeps` leaves node and stores.
+ */
+static void after(uint32_t number, int count, size_t bytes, size_t rows, int keeps)
+{
+    if (number != 0) {
+        count = count_of(number);
+        bytes = rows = 0;
+        keeps = 1;
+    }
+    for (int i = 0; i < PRADULINS_VALUES; i++)
+        expect((i < count) == (values[i] != UNTOUCHED), "another number of values");
+    if (keeps) {
+        expect(memcmp(node, node_before, sizeof node) == 0, "the node changed");
+        expect(memcmp(seen, seen_before, sizeof seen) == 0, "the seen store changed");
+        expect(memcmp(cache, cache_before, sizeof cache) == 0, "the cache store changed");
+    }
+    expect(memcmp(seen + seen_len, seen_before + seen_len, sizeof seen - seen_len) == 0, "bytes after the seen store changed");
+    expect(memcmp(cache + cache_len, cache_before + cache_len, sizeof cache - cache_len) == 0, "bytes after the cache store changed");
+    expect(bytes <= sizeof made && memcmp(made + bytes, made_before + bytes, sizeof made - bytes) == 0, "the buffer changed");
+    size_t words = rows * PRADULINS_RECORD_WORDS;
+    expect(words <= PRADULINS_TABLE_WORDS && memcmp(table + words, table_before + words, sizeof table - words * 8) == 0, "the table changed");
+}
+
+/* ---- lines */
+
+static void put_hex(const uint8_t *s, size_t len)
+{
+    for (size_t i = 0; i < len; i++)
+        printf("%02x", s[i]);
+}
+
+static void put_number(uint64_t v)
+{
+    printf(" %llu", (unsigned long long)v);
+}
+
+static void put_refused(uint32_t number, int full)
+{
+    printf(" refused %u", number);
+    for (int i = 0; full && i < count_of(number); i++)
+        put_number(values[i]);
+}
+
+/* The bytes that a writer made: their number and, above 0, their hex. */
+static void put_made(void)
+{
+    put_number(values[0]);
+    if (values[0] > 0) {
+        putchar(' ');
+        put_hex(made, values[0]);
+    }
+}
+
+static void start_line(const char *word)
+{
+    printf("%llu %s", (unsigned long long)n, word);
+}
+
+/* ---- records in */
+
+static uint64_t number_at(const uint8_t *s, size_t at, size_t len)
+{
+    uint64_t v = 0;
+    while (len-- > 0)
+        v = v << 8 | s[at + len];
+    return v;
+}
+
+enum next { END, BAD, LONG, RECORD };
+
+static enum next next_record(size_t most, uint64_t *kind, size_t *len)
+{
+    uint8_t header[6];
+    size_t got = fread(header, 1, sizeof header, stdin);
+    if (got == 0)
+        return END;
+    if (got >= 4 && number_at(header, 0, 4) > most)
+        return LONG;
+    if (got < sizeof header)
+        return BAD;
+    *len = number_at(header, 0, 4);
+    *kind = number_at(header, 4, 2);
+    return fread(content, 1, *len, stdin) == *len ? RECORD : BAD;
+}
+
+static int not_there(void)
+{
+    start_line("-\n");
+    return 1;
+}
+
+/* ---- inspect */
+
+static void put_place(const uint64_t *row, const uint8_t *body, int i)
+{
+    const uint64_t *place = row + PRADULINS_RECORD_FIELD(i);
+    if (!place[0]) {
+        printf(" -");
+        return;
+    }
+    printf(" =");
+    put_hex(body + row[PRADULINS_RECORD_START] + place[1], place[2] - place[1]);
+}
+
+static void put_whole(const uint64_t *row, const uint8_t *body)
+{
+    printf(" =");
+    put_hex(body + row[PRADULINS_RECORD_START], row[PRADULINS_RECORD_END] - row[PRADULINS_RECORD_START]);
+}
+
+static void put_record(const uint64_t *row, const uint8_t *body)
+{
+    int has = row[PRADULINS_RECORD_HAS_NUMBER] == 1;
+    uint64_t number = row[PRADULINS_RECORD_NUMBER];
+    switch (row[PRADULINS_RECORD_KIND]) {
+    case PRADULINS_KIND_SUB_OPTS:
+        printf("  sub %s", !has ? "-" : number ? "1" : "0");
+        put_place(row, body, 0);
+        break;
+    case PRADULINS_KIND_MESSAGE:
+        printf("  message");
+        put_whole(row, body);
+        for (int i = 0; i < 5; i++)
+            put_place(row, body, i);
+        break;
+    case PRADULINS_KIND_TOPIC:
+        printf("  topic");
+        put_whole(row, body);
+        break;
+    case PRADULINS_KIND_IHAVE:
+        printf("  ihave");
+        put_place(row, body, 0);
+        break;
+    case PRADULINS_KIND_IWANT:
+        printf("  iwant");
+        break;
+    case PRADULINS_KIND_MESSAGE_ID:
+        printf("  id");
+        put_whole(row, body);
+        break;
+    case PRADULINS_KIND_GRAFT:
+        printf("  graft");
+        put_place(row, body, 0);
+        break;
+    case PRADULINS_KIND_PRUNE:
+        printf("  prune");
+        put_place(row, body, 0);
+        if (has)
+            put_number(number);
+        else
+            printf(" -");
+        break;
+    case PRADULINS_KIND_PEER_INFO:
+        printf("  peer");
+        put_place(row, body, 0);
+        put_place(row, body, 1);
+        break;
+    default:
+        expect(0, "a record of no known kind");
+    }
+}
+
+/* A call on a body, by its kind, with so much room. */
+static uint32_t body_call(uint64_t kind, const uint8_t *body, size_t len, size_t index, size_t room)
+{
+    switch (kind) {
+    case 1:
+        return pradulins_decode(body, len, table, room, values);
+    case 2:
+        return pradulins_encode(body, len, made, room, values);
+    case 3:
+        return pradulins_sign_bytes(body, len, index, made, room, values);
+    default:
+        return pradulins_message_id(body, len, index, made, room, values);
+    }
+}
+
+/* The same call with other room: what it answered before, with the room that it needed and with none to spare; and 12 with less. */
+static void rooms(uint64_t kind, const uint8_t *body, size_t len, size_t index, uint32_t r)
+{
+    uint64_t first = values[0];
+    size_t unit = kind == 1 ? PRADULINS_RECORD_WORDS : 1, needed = r ? 0 : first * unit;
+    before();
+    uint32_t again = body_call(kind, body, len, index, needed);
+    after(again, kind == 1 ? 2 : 1, kind == 1 || again ? 0 : values[0], kind == 1 && !again ? values[0] : 0, 1);
+    expect(again == r && (count_of(r) == 0 || values[0] == first), "another answer with just enough room");
+    if (needed > 0) {
+        before();
+        again = body_call(kind, body, len, index, needed - 1);
+        after(again, 0, 0, 0, 1);
+        expect(again == PRADULINS_ROOM && values[0] == first, "no refusal 12 with too little room");
+    }
+}
+
+static void inspect_body(uint64_t kind, const char *word, const uint8_t *body, size_t len, size_t index, size_t room)
+{
+    uint32_t r = body_call(kind, body, len, index, room);
+    after(r, kind == 1 ? 2 : 1, kind == 1 || r ? 0 : values[0], kind == 1 && !r ? values[0] : 0, 1);
+    start_line(word);
+    if (r) {
+        put_refused(r, 1);
+    } else if (kind == 1) {
+        printf(" ok %llu %s", (unsigned long long)values[0], values[1] ? "control" : "plain");
+        for (uint64_t row = 0; row < values[0]; row++) {
+            putchar('\n');
+            put_record(table + row * PRADULINS_RECORD_WORDS, body);
+        }
+    } else {
+        put_made();
+    }
+    putchar('\n');
+    rooms(kind, body, len, index, r);
+}
+
+static void inspect_walk(const uint8_t *body, size_t len, size_t at)
+{
+    uint32_t r = pradulins_walk(body, len, at, values);
+    after(r, !r && values[0] == 0 ? 1 : 4, 0, 0, 1);
+    start_line("walk");
+    if (r)
+        put_refused(r, 1);
+    else if (values[0] == 0)
+        printf(" end");
+    else
+        for (int i = 0; i < 4; i++)
+            put_number(values[i]);
+    putchar('\n');
+}
+
+static int inspect(uint64_t kind, size_t len)
+{
+    before();
+    switch (kind) {
+    case 1:
+        inspect_body(kind, "decode", content, len, 0, PRADULINS_TABLE_WORDS);
+        return 1;
+    case 2:
+        inspect_body(kind, "encode", content, len, 0, 65536);
+        return 1;
+    case 3:
+    case 4:
+        if (len < 2)
+            return 0;
+        inspect_body(kind, kind == 3 ? "sign" : "id", content + 2, len - 2, number_at(content, 0, 2), kind == 3 ? 65600 : 65536);
+        return 1;
+    case 5:
+        if (len < 8)
+            return 0;
+        inspect_walk(content + 8, len - 8, number_at(content, 0, 8));
+        return 1;
+    case 6:
+    case 7:
+        return not_there();
+    default:
+        return 0;
+    }
+}
+
+/* ---- trace and states */
+
+/* The settings of a record, for a node that keeps at most `most` messages. */
+static int set(size_t len, size_t most, int *started)
+{
+    if (len != 14)
+        return 0;
+    uint64_t max_seen = number_at(content, 8, 2), history_len = number_at(content, 10, 2), max_messages = number_at(content, 12, 2);
+    uint32_t r = PRADULINS_BAD_SETTING;
+    before();
+    if (max_messages <= most)
+        r = pradulins_start(node, number_at(content, 0, 8), max_seen, history_len, max_messages);
+    after(r, 0, 0, 0, 0);
+    start_line("set");
+    if (r) {
+        put_refused(r, 1);
+    } else {
+        printf(" ok");
+        seen_len = PRADULINS_SEEN_STORE_SIZE(max_seen);
+        cache_len = PRADULINS_CACHE_STORE_SIZE(max_messages);
+        *started = 1;
+    }
+    putchar('\n');
+    return 1;
+}
+
+static int admit(size_t len, int full)
+{
+    if (len < 11 || (!full && content[10] > 1))
+        return 0;
+    before();
+    uint32_t r = pradulins_admit(node, seen, seen_len, cache, cache_len, content + 11, len - 11, number_at(content, 8, 2), content[10] == 1,
+                                 number_at(content, 0, 8), values);
+    after(r, 1, 0, 0, 0);
+    start_line("admit");
+    if (r)
+        put_refused(r, full);
+    else
+        printf(values[0] ? " new" : " dup");
+    putchar('\n');
+    return 1;
+}
+
+static int beat(size_t len, int full)
+{
+    if (len != 8)
+        return 0;
+    before();
+    uint32_t r = pradulins_heartbeat(node, seen, seen_len, cache, cache_len, number_at(content, 0, 8), values);
+    after(r, 0, 0, 0, 0);
+    start_line("beat");
+    if (r)
+        put_refused(r, full);
+    else
+        printf(" ok");
+    putchar('\n');
+    return 1;
+}
+
+/* advertise, ask and serve, with a buffer of this room; what they are given stands from `at` on. */
+static int write_call(uint64_t kind, size_t at, size_t len, size_t room, int full)
+{
+    uint32_t r;
+    before();
+    switch (kind) {
+    case 4:
+        if (len < at + 2)
+            return 0;
+        r = pradulins_advertise(node, seen, seen_len, cache, cache_len, content + at + 2, len - at - 2, number_at(content, at, 2), made, room, values);
+        start_line("advertise");
+        break;
+    case 5:
+        r = pradulins_ask(node, seen, seen_len, cache, cache_len, content + at, len - at, made, room, values);
+        start_line("ask");
+        break;
+    default:
+        r = pradulins_serve(node, seen, seen_len, cache, cache_len, content + at, len - at, made, room, values);
+        start_line("serve");
+    }
+    after(r, kind == 6 ? 3 : 1, r ? 0 : values[0], 0, 1);
+    if (r) {
+        put_refused(r, full);
+    } else {
+        put_made();
+        if (kind == 6) {
+            put_number(values[1]);
+            put_number(values[2]);
+        }
+    }
+    putchar('\n');
+    return 1;
+}
+
+static int trace(uint64_t kind, size_t len)
+{
+    static int started;
+    if (kind == 1)
+        return set(len, 8, &started);
+    if (!started)
+        return 0;
+    switch (kind) {
+    case 2:
+        return admit(len, 0);
+    case 3:
+        return beat(len, 0);
+    case 4:
+    case 5:
+    case 6:
+        return write_call(kind, 0, len, 65536, 0);
+    default:
+        return 0;
+    }
+}
+
+/* Sets a number of the node, of so many bytes. */
+static void set_number(size_t at, size_t len, uint64_t value)
+{
+    for (size_t i = 0; i < len; i++, value >>= 8)
+        node[at + i] = (uint8_t)value;
+}
+
+/* Kind 8 of states: what the numbers mean stands in crates/states/src/hurt.rt, where they lie in crates/stored/specs/Layout.antt. */
+static int hurt(size_t len)
+{
+    /* where ttl, max_seen, clock; start and count of the seen part; history_len, max_messages, next arrival number, start, count of the cache stand */
+    static const size_t head[] = {0, 8, 16, 24, 32, 0, 0, 40, 48, 56, 64, 72};
+    if (len != 13)
+        return 0;
+    uint64_t what = content[0], p = number_at(content, 1, 4), value = number_at(content, 5, 8);
+    if (what == 17) {
+        if (p < seen_len)
+            seen[p] = (uint8_t)value;
+    } else if (what == 18) {
+        if (p < cache_len)
+            cache[p] = (uint8_t)value;
+    } else if (what == 5 || what == 6) {
+        if (p < 256 && what == 5)
+            set_number(80 + p * 8, 8, value);
+        else if (p < 256)
+            set_number(2768 + p, 1, value);
+    } else if (what < 12) {
+        set_number(head[what], 8, value);
+    } else if (what == 12) {
+        set_number(2128 + p % 64 * 8, 8, value);
+    } else if (what == 13) {
+        set_number(3024 + p % 64, 1, value);
+    } else if (what == 14) {
+        set_number(2640 + p % 64 * 2, 2, value);
+    } else if (what == 15) {
+        set_number(3088 + p % 64, 1, value);
+    } else {
+        set_number(3152 + p % 8192, 1, value);
+    }
+    start_line("hurt ok\n");
+    return 1;
+}
+
+static int lend(size_t len)
+{
+    if (len != 8)
+        return 0;
+    uint64_t for_seen = number_at(content, 0, 4), for_cache = number_at(content, 4, 4);
+    if (for_seen > SEEN || for_cache > CACHE)
+        return 0;
+    seen_len = for_seen;
+    cache_len = for_cache;
+    start_line("lend ok\n");
+    return 1;
+}
+
+/* The sum of the sums of all fronts: it tells where a byte changed, too. */
+static uint64_t sum(const uint8_t *s, size_t len)
+{
+    uint64_t front = 0, total = 0;
+    for (size_t i = 0; i < len; i++) {
+        front += s[i];
+        total += front;
+    }
+    return total;
+}
+
+static int state(void)
+{
+    static const size_t numbers[] = {16, 24, 32, 64, 72, 56};
+    start_line("state");
+    for (size_t i = 0; i < 6; i++)
+        put_number(number_at(node, numbers[i], 8));
+    put_number(sum(seen, seen_len));
+    put_number(sum(cache, cache_len));
+    put_number(sum(made, MADE));
+    putchar('\n');
+    return 1;
+}
+
+static int states(uint64_t kind, size_t len)
+{
+    int started;
+    switch (kind) {
+    case 1:
+        return set(len, 65535, &started);
+    case 2:
+        return admit(len, 1);
+    case 3:
+        return beat(len, 1);
+    case 4:
+    case 5:
+    case 6:
+        if (len < 4 || number_at(content, 0, 4) > MADE)
+            return 0;
+        return write_call(kind, 4, len, number_at(content, 0, 4), 1);
+    case 7:
+        return lend(len);
+    case 8:
+        return hurt(len);
+    case 9:
+    case 10:
+        return not_there();
+    case 11:
+        return state();
+    default:
+        return 0;
+    }
+}
+
+int play(const char *program)
+{
+    int (*call)(uint64_t, size_t) = strcmp(program, "inspect") == 0 ? inspect : strcmp(program, "trace") == 0 ? trace : states;
+    size_t most = call == trace ? 32768 : 65600;
+    if (call == states)
+        pradulins_start(node, 0, 0, 1, 0);
+    for (n = 1;; n++) {
+        uint64_t kind = 0;
+        size_t len = 0;
+        enum next next = next_record(most, &kind, &len);
+        if (next == LONG) {
+            puts("long");
+            break;
+        }
+        if (next == END)
+            break;
+        if (next == BAD || !call(kind, len)) {
+            puts("bad");
+            break;
+        }
+    }
+    return fault ? 1 : 0;
+}

@@ -1,0 +1,160 @@
+"""The rows of the scope paper's tables, as records of the programs `inspect` and `states`, with the lines that the paper asks for.
+
+Each line is written from the paper, not from a program. `inspect()` and `states()` give (input, lines). Refusal 33 is not here: the seen part alone has
+it, which the C interface does not lend.
+"""
+
+import os
+import sys
+
+sys.path.insert(0, os.path.join(os.path.dirname(os.path.abspath(__file__)), "../../oracle"))
+
+import states as program  # noqa: E402
+import wire  # noqa: E402
+
+ROOM = 65536
+PREFIX = b"libp2p-pubsub:".hex()
+
+
+# ---- bodies and answers
+
+def rows():
+    """(call, body, place, lines without their numbers)."""
+    for body, lines, again in (("", ["ok 0 plain"], "0"), ("1a001a00", ["ok 0 control"], "2 1a00"), ("f8ffffff0f00", ["ok 0 plain"], "0"),
+                               ("12060a01410a0142", ["ok 1 plain", "  message =0a01410a0142 =42 - - - -"], "8 12060a01410a0142"),
+                               ("0a061204f48fbfbf", ["ok 1 plain", "  sub - =f48fbfbf"], "8 0a061204f48fbfbf")):
+        yield "decode", body, 0, lines
+        yield "encode", body, 0, [again]
+    yield "sign", "12060a01410a0142", 0, ["17 %s0a0142" % PREFIX]
+    yield "walk", "1a001a00", 0, ["3 2 1 2"]
+    yield "walk", "1a001a00", 2, ["3 2 3 4"]
+    yield "walk", "1a001a00", 4, ["end"]
+    yield "walk", "1a001a00", 2**64 - 1, ["end"]
+    yield "walk", "f8ffffff0f00", 0, ["536870911 0 5 6"]
+    x = X.hex()
+    yield "id", x, 0, ["2 4101"]
+    yield "sign", x, 0, ["23 %s0a01411a0101220174" % PREFIX]
+    for body, told in REFUSED:
+        for call in ("decode", "encode", "sign", "id", "walk"):
+            if call != "walk" or told[0] != "7":
+                yield call, body, 0, ["refused " + told]
+    for topic in ("eda080", "c080", "f4908080"):
+        body = "0a%02x12%02x%s" % (2 + len(topic) // 2, len(topic) // 2, topic)
+        for call in ("decode", "encode", "sign", "id"):
+            yield call, body, 0, ["refused 7 1"]
+    for call in ("sign", "id"):
+        yield call, "", 0, ["refused 20 0"]
+        yield call, x, 1, ["refused 20 1"]
+    for one, told in ((message(who=None), "21"), (message(who=b""), "22 0"), (message(who=bytes(65)), "22 65"), (message(seqno=None), "23"),
+                      (message(seqno=b""), "23"), (message(seqno=bytes(65)), "23")):
+        yield "id", one.hex(), 0, ["refused " + told]
+    long = bytes(65537).hex()
+    for call in ("decode", "encode", "sign", "id", "walk"):
+        yield call, long, 0, ["refused 10 65537"]
+    many = "0a00" * 513
+    for call in ("decode", "encode", "sign", "id"):
+        yield call, many, 0, ["refused 11 513"]
+
+
+# Bodies that are refused whatever is asked of them.
+REFUSED = (("80", "1"), ("80808080808080808002", "2"), ("8000", "3"), ("0a0508", "4 2 5 1"), ("0b", "5 3 1"), ("00", "6 0 0"),
+           ("8080808010", "6 536870912 0"), ("0a031201ff", "7 1"))
+
+
+def field(number, content):
+    return bytes([number * 8 + 2]) + wire.varint(len(content)) + content
+
+
+def message(who=b"A", seqno=b"\x01", topics=(b"t",), signature=bytes(64), key=None, data=None):
+    """A body with one message."""
+    parts = [(1, who), (2, data), (3, seqno)] + [(4, topic) for topic in topics] + [(5, signature), (6, key)]
+    return field(2, b"".join(field(number, content) for number, content in parts if content is not None))
+
+
+X = message()
+
+
+def inspect():
+    records, lines = b"", []
+    for n, (call, body, place, told) in enumerate(rows(), 1):
+        records += wire.record((call, bytes.fromhex(body), place))
+        lines += ["%d %s %s" % (n, call, told[0])] + told[1:]
+    return records, lines
+
+
+# ---- refusals, and the trace with the values beside them
+
+OFFER = bytes.fromhex("1a090a070a017412024101")
+REQUEST = bytes.fromhex("1a0612040a024101")
+SETTINGS = ("set", 1000, 4, 2, 4)
+
+
+def calls(told):
+    """Every call of a node that meets a refusal of its state."""
+    yield ("admit", 100, 0, 1, X), "admit refused " + told
+    yield ("beat", 100), "beat refused " + told
+    yield ("advertise", ROOM, 1, b"t"), "advertise refused " + told
+    yield ("ask", ROOM, OFFER), "ask refused " + told
+    yield ("serve", ROOM, REQUEST), "serve refused " + told
+
+
+def steps():
+    """(step, the line without its number)."""
+    for bad in ((257, 2, 4), (4, 0, 4), (4, 17, 4), (4, 2, 65)):
+        yield ("set", 1000, *bad), "set refused 40"
+    # The trace of the paper.
+    yield SETTINGS, "set ok"
+    yield ("admit", 100, 0, 1, X), "admit new"
+    yield ("advertise", ROOM, 1, b"t"), "advertise 11 " + OFFER.hex()
+    yield ("admit", 100, 0, 1, X), "admit dup"
+    yield ("serve", ROOM, REQUEST), "serve 77 %s 1 0" % X.hex()
+    yield ("ask", ROOM, OFFER), "ask 0"
+    yield ("beat", 1100), "beat ok"
+    yield ("advertise", ROOM, 1, b"t"), "advertise 0"
+    yield ("ask", ROOM, OFFER), "ask 8 " + REQUEST.hex()
+    yield ("admit", 1099, 0, 1, X), "admit refused 31 1100"
+    yield ("beat", 1099), "beat refused 31 1100"
+    yield ("admit", 1100, 0, 1, X), "admit new"
+    # Lent stores of other lengths, and a node that is not well formed.
+    yield SETTINGS, "set ok"
+    yield ("admit", 100, 0, 1, X), "admit new"
+    yield ("lend", 3 * 129, 4 * 4096), "lend ok"
+    yield from calls("40")
+    for lent in ((4 * 129 + 1, 4 * 4096), (5 * 129, 4 * 4096), (4 * 129, 3 * 4096), (4 * 129, 4 * 4096 + 1)):
+        yield ("lend", *lent), "lend ok"
+        yield from calls("41")
+    yield ("lend", 4 * 129, 4 * 4096), "lend ok"
+    for what, place, bad, right in ((program.SEEN_COUNT, 0, 5, 1), (program.COUNT, 0, 5, 1), (program.WINDOW, 0, 2, 0), (program.ARRIVAL, 0, 1, 0),
+                                    (program.LEN, 0, 74, 75), (program.ID_LEN, 0, 1, 2), (program.IDS, 0, 66, 65), (program.HISTORY_LEN, 0, 0, 2)):
+        yield ("hurt", what, place, bad), "hurt ok"
+        yield from calls("42")
+        yield ("hurt", what, place, right), "hurt ok"
+    # Bodies.
+    for body, told in REFUSED + ((bytes(65537).hex(), "10 65537"), ("0a00" * 513, "11 513")):
+        body = bytes.fromhex(body)
+        yield ("admit", 100, 0, 1, body), "admit refused " + told
+        yield ("ask", ROOM, body), "ask refused " + told
+        yield ("serve", ROOM, body), "serve refused " + told
+    # Messages.
+    yield ("admit", 100, 1, 1, X), "admit refused 20 1"
+    for body, told in ((message(who=None), "21"), (message(who=b""), "22 0"), (message(who=bytes(65)), "22 65"), (message(seqno=None), "23"),
+                       (message(seqno=b""), "23"), (message(seqno=bytes(65)), "23"), (message(signature=None, key=b"k"), "24"),
+                       (message(signature=None), "25"), (message(signature=bytes(63)), "26 63"), (message(topics=()), "28 0"),
+                       (message(topics=(b"t",) * 5), "28 5"), (message(topics=(b"t", bytes(1025))), "29 1025"),
+                       (message(data=bytes(4097 - 75 - 3)), "30 4097")):
+        yield ("admit", 100, 0, 1, body), "admit refused " + told
+    yield ("admit", 100, 0, 0, X), "admit refused 27"
+    yield ("advertise", ROOM, 1, bytes(1025)), "advertise refused 29 1025"
+    # Room.
+    yield ("advertise", 10, 1, b"t"), "advertise refused 12 11"
+    yield ("serve", 76, REQUEST), "serve refused 12 77"
+    yield ("serve", 77, REQUEST), "serve 77 %s 1 0" % X.hex()
+    yield ("ask", 6, OFFER.replace(b"A\x01", b"B\x01")), "ask refused 12 8"
+    yield ("ask", 8, OFFER.replace(b"A\x01", b"B\x01")), "ask 8 1a0612040a024201"
+    # Nothing was changed by all that.
+    yield ("admit", 100, 0, 1, X), "admit dup"
+
+
+def states():
+    played = list(steps())
+    return program.records([step for step, _ in played]), ["%d %s" % (n, line) for n, (_, line) in enumerate(played, 1)]

@@ -1,0 +1,322 @@
+//! Plays the records of the programs `inspect`, `trace` and `states` through the crate, and prints their lines; where the crate does not have the call, the
+//! record's number and `-`. The gateway is saved and loaded again before each call, so that damaged states are met by loading them.
+
+use pradulins::{decode, message_id, reencode, sign_bytes, walk_from, Admitted, Gateway, Record, Refusal, Settings};
+use std::fmt::Write as _;
+use std::io::{Result, Write};
+
+fn hex(bytes: &[u8]) -> String {
+    bytes.iter().fold(String::new(), |mut text, byte| {
+        let _ = write!(text, "{byte:02x}");
+        text
+    })
+}
+
+fn number(bytes: &[u8]) -> u64 {
+    bytes.iter().rev().fold(0, |v, byte| v << 8 | u64::from(*byte))
+}
+
+fn shown(bytes: Option<&[u8]>) -> String {
+    bytes.map_or("-".to_string(), |bytes| format!("={}", hex(bytes)))
+}
+
+fn refused(refusal: Refusal, full: bool) -> String {
+    let mut text = format!("refused {}", refusal.number());
+    for value in refusal.values().iter().filter(|_| full) {
+        let _ = write!(text, " {value}");
+    }
+    text
+}
+
+fn made(bytes: &[u8]) -> String {
+    if bytes.is_empty() {
+        return "0".to_string();
+    }
+    format!("{} {}", bytes.len(), hex(bytes))
+}
+
+/// What a call says: its answer, or the refusal.
+fn said(answer: std::result::Result<String, Refusal>, full: bool) -> String {
+    answer.unwrap_or_else(|refusal| refused(refusal, full))
+}
+
+fn record(record: &Record) -> String {
+    let text = |topic: &Option<&str>| shown(topic.map(str::as_bytes));
+    match record {
+        Record::SubOpts { subscribe, topic_id } => {
+            format!("sub {} {}", subscribe.map_or("-".to_string(), |s| u8::from(s).to_string()), text(topic_id))
+        }
+        Record::Message { raw, from, data, seqno, signature, key } => {
+            let fields: Vec<String> = [from, data, seqno, signature, key].iter().map(|field| shown(**field)).collect();
+            format!("message {} {}", shown(Some(raw)), fields.join(" "))
+        }
+        Record::Topic(topic) => format!("topic {}", shown(Some(topic.as_bytes()))),
+        Record::IHave { topic_id } => format!("ihave {}", text(topic_id)),
+        Record::IWant => "iwant".to_string(),
+        Record::MessageId(id) => format!("id {}", shown(Some(id))),
+        Record::Graft { topic_id } => format!("graft {}", text(topic_id)),
+        Record::Prune { topic_id, backoff } => format!("prune {} {}", text(topic_id), backoff.map_or("-".to_string(), |b| b.to_string())),
+        Record::PeerInfo { peer_id, signed_peer_record } => format!("peer {} {}", shown(*peer_id), shown(*signed_peer_record)),
+    }
+}
+
+/// The line of a call on a body; an error where the record ends the run.
+fn inspect(kind: u64, content: &[u8], n: u64) -> std::result::Result<String, ()> {
+    let indexed = |least| if content.len() < least { Err(()) } else { Ok(content.split_at(least)) };
+    let line = match kind {
+        1 => {
+            let mut lines = String::new();
+            let answer = decode(content).map(|decoded| {
+                for one in &decoded.records {
+                    let _ = write!(lines, "\n  {}", record(one));
+                }
+                format!("ok {} {}", decoded.records.len(), if decoded.control { "control" } else { "plain" })
+            });
+            format!("{n} decode {}{lines}", said(answer, true))
+        }
+        2 => format!("{n} encode {}", said(reencode(content).map(|bytes| made(&bytes)), true)),
+        3 => {
+            let (index, body) = indexed(2)?;
+            format!("{n} sign {}", said(sign_bytes(body, number(index) as usize).map(|bytes| made(&bytes)), true))
+        }
+        4 => {
+            let (index, body) = indexed(2)?;
+            format!("{n} id {}", said(message_id(body, number(index) as usize).map(|bytes| made(&bytes)), true))
+        }
+        5 => {
+            let (place, body) = indexed(8)?;
+            let field = walk_from(body, number(place) as usize).next();
+            let answer = field
+                .map_or(Ok("end".to_string()), |field| field.map(|f| format!("{} {} {} {}", f.number, f.wire_type, f.end - f.bytes.len(), f.end)));
+            format!("{n} walk {}", said(answer, true))
+        }
+        6 | 7 => format!("{n} -"),
+        _ => return Err(()),
+    };
+    Ok(line)
+}
+
+/// The settings of a record, for a program that keeps at most so many messages.
+fn start(content: &[u8], most: usize) -> std::result::Result<Gateway, Refusal> {
+    let settings = Settings {
+        ttl: number(&content[..8]),
+        max_seen: number(&content[8..10]) as usize,
+        history_len: number(&content[10..12]) as usize,
+        max_messages: number(&content[12..]) as usize,
+    };
+    if settings.max_messages > most {
+        return Err(Refusal::BadSetting);
+    }
+    Gateway::start(settings)
+}
+
+/// A call on a gateway.
+fn trace(kind: u64, content: &[u8], n: u64, gateway: &mut Option<Gateway>) -> std::result::Result<String, ()> {
+    if kind == 1 {
+        if content.len() != 14 {
+            return Err(());
+        }
+        let answer = start(content, 8).map(|fresh| {
+            *gateway = Some(fresh);
+            "ok".to_string()
+        });
+        return Ok(format!("{n} set {}", said(answer, false)));
+    }
+    let saved = gateway.as_ref().ok_or(())?.save();
+    let mut node = Gateway::load(&saved).map_err(|_| ())?;
+    let line = match kind {
+        2 if content.len() >= 11 && content[10] <= 1 => {
+            let admitted = node.admit(&content[11..], number(&content[8..10]) as usize, content[10] == 1, number(&content[..8]));
+            let word = |admitted| if admitted == Admitted::New { "new" } else { "dup" };
+            format!("{n} admit {}", said(admitted.map(|a| word(a).to_string()), false))
+        }
+        3 if content.len() == 8 => format!("{n} beat {}", said(node.heartbeat(number(content)).map(|()| "ok".to_string()), false)),
+        4 if content.len() >= 2 => {
+            format!("{n} advertise {}", said(node.advertise(&content[2..], number(&content[..2]) as usize).map(|b| made(&b)), false))
+        }
+        5 => format!("{n} ask {}", said(node.ask(content).map(|bytes| made(&bytes)), false)),
+        6 => {
+            let reply = node.serve(content).map(|reply| format!("{} {} {}", made(&reply.body), reply.messages, reply.left));
+            format!("{n} serve {}", said(reply, false))
+        }
+        _ => return Err(()),
+    };
+    *gateway = Some(node);
+    Ok(line)
+}
+
+/// The state of a run of `states`: the bytes of a saved gateway, how much of each store is lent, and the buffer.
+struct States {
+    node: Vec<u8>,
+    seen: Vec<u8>,
+    cache: Vec<u8>,
+    lent: [usize; 2],
+    made: Vec<u8>,
+}
+
+impl States {
+    fn new() -> States {
+        let node = Gateway::start(Settings { ttl: 0, max_seen: 0, history_len: 1, max_messages: 0 }).map_or(vec![], |g| g.save());
+        States { node, seen: vec![0; 33282], cache: vec![0; 266240], lent: [0, 0], made: vec![0; 65600] }
+    }
+
+    /// Whether the lent stores are as long as the node's settings say. Others cannot be loaded.
+    fn fits(&self) -> bool {
+        let max = |at| number(&self.node[at..at + 8]);
+        max(8).checked_mul(129) == Some(self.lent[0] as u64) && max(48).checked_mul(4096) == Some(self.lent[1] as u64)
+    }
+
+    fn load(&self) -> std::result::Result<Gateway, Refusal> {
+        Gateway::load(&[&self.node[..], &self.seen[..self.lent[0]], &self.cache[..self.lent[1]]].concat())
+    }
+
+    fn save(&mut self, gateway: &Gateway) {
+        let saved = gateway.save();
+        let (node, stores) = saved.split_at(pradulins::NODE_SIZE);
+        let (seen, cache) = stores.split_at(self.lent[0]);
+        self.node = node.to_vec();
+        self.seen[..seen.len()].copy_from_slice(seen);
+        self.cache[..cache.len()].copy_from_slice(cache);
+    }
+
+    fn set(&mut self, content: &[u8]) -> std::result::Result<String, Refusal> {
+        let fresh = start(content, 65535)?;
+        let settings = fresh.settings();
+        self.lent = [settings.max_seen * 129, settings.max_messages * 4096];
+        self.node = fresh.save()[..pradulins::NODE_SIZE].to_vec();
+        Ok("ok".to_string())
+    }
+
+    fn admit(&mut self, content: &[u8]) -> std::result::Result<String, Refusal> {
+        let mut gateway = self.load()?;
+        let admitted = gateway.admit(&content[11..], number(&content[8..10]) as usize, content[10] == 1, number(&content[..8]))?;
+        self.save(&gateway);
+        Ok(if admitted == Admitted::New { "new" } else { "dup" }.to_string())
+    }
+
+    fn beat(&mut self, content: &[u8]) -> std::result::Result<String, Refusal> {
+        let mut gateway = self.load()?;
+        gateway.heartbeat(number(content))?;
+        self.save(&gateway);
+        Ok("ok".to_string())
+    }
+
+    fn advertise(&mut self, content: &[u8], room: usize) -> std::result::Result<String, Refusal> {
+        let count = self.load()?.advertise_into(&content[2..], number(&content[..2]) as usize, &mut self.made[..room])?;
+        Ok(made(&self.made[..count]))
+    }
+
+    fn ask(&mut self, body: &[u8], room: usize) -> std::result::Result<String, Refusal> {
+        let count = self.load()?.ask_into(body, &mut self.made[..room])?;
+        Ok(made(&self.made[..count]))
+    }
+
+    fn serve(&mut self, body: &[u8], room: usize) -> std::result::Result<String, Refusal> {
+        let (count, messages, left) = self.load()?.serve_into(body, &mut self.made[..room])?;
+        Ok(format!("{} {messages} {left}", made(&self.made[..count])))
+    }
+
+    /// Sets a number of the node or a byte of a store, as the C player does.
+    fn hurt(&mut self, what: u8, p: usize, value: u64) {
+        const HEAD: [usize; 12] = [0, 8, 16, 24, 32, 0, 0, 40, 48, 56, 64, 72];
+        let (at, len) = match what {
+            17 | 18 => {
+                let i = usize::from(what - 17);
+                let store = if i == 0 { &mut self.seen } else { &mut self.cache };
+                if p < self.lent[i] {
+                    store[p] = value as u8;
+                }
+                return;
+            }
+            5 | 6 if p >= 256 => return,
+            5 => (80 + p * 8, 8),
+            6 => (2768 + p, 1),
+            0..=11 => (HEAD[usize::from(what)], 8),
+            12 => (2128 + p % 64 * 8, 8),
+            13 => (3024 + p % 64, 1),
+            14 => (2640 + p % 64 * 2, 2),
+            15 => (3088 + p % 64, 1),
+            _ => (3152 + p % 8192, 1),
+        };
+        self.node[at..at + len].copy_from_slice(&value.to_le_bytes()[..len]);
+    }
+
+    fn told(&self) -> String {
+        let sum = |bytes: &[u8]| {
+            let sums = bytes.iter().fold((0u64, 0u64), |(front, total), byte| {
+                let front = front.wrapping_add(u64::from(*byte));
+                (front, total.wrapping_add(front))
+            });
+            sums.1
+        };
+        let mut numbers: Vec<u64> = [16, 24, 32, 64, 72, 56].iter().map(|at| number(&self.node[*at..*at + 8])).collect();
+        numbers.extend([sum(&self.seen[..self.lent[0]]), sum(&self.cache[..self.lent[1]]), sum(&self.made)]);
+        numbers.iter().map(u64::to_string).collect::<Vec<_>>().join(" ")
+    }
+
+    /// The line of a record. Where a call is not to be had, `-`: what it would have changed is not known then, so such a call must be refused.
+    fn line(&mut self, kind: u64, content: &[u8], n: u64) -> std::result::Result<String, ()> {
+        let room = if content.len() < 4 { 0 } else { number(&content[..4]) as usize };
+        let line = match kind {
+            1 if content.len() == 14 => format!("{n} set {}", said(self.set(content), true)),
+            2..=6 if !self.fits() => format!("{n} -"),
+            2 if content.len() >= 11 => format!("{n} admit {}", said(self.admit(content), true)),
+            3 if content.len() == 8 => format!("{n} beat {}", said(self.beat(content), true)),
+            4 if content.len() >= 6 && room <= 65600 => format!("{n} advertise {}", said(self.advertise(&content[4..], room), true)),
+            5 if content.len() >= 4 && room <= 65600 => format!("{n} ask {}", said(self.ask(&content[4..], room), true)),
+            6 if content.len() >= 4 && room <= 65600 => format!("{n} serve {}", said(self.serve(&content[4..], room), true)),
+            7 if content.len() == 8 => {
+                self.lent = [room, number(&content[4..]) as usize];
+                format!("{n} lend ok")
+            }
+            8 if content.len() == 13 => {
+                self.hurt(content[0], number(&content[1..5]) as usize, number(&content[5..]));
+                format!("{n} hurt ok")
+            }
+            9 | 10 => format!("{n} -"),
+            11 => format!("{n} state {}", self.told()),
+            _ => return Err(()),
+        };
+        Ok(line)
+    }
+}
+
+/// The next record, or the word that ends the run.
+fn next<'a>(data: &mut &'a [u8], most: u64) -> std::result::Result<(u64, &'a [u8]), &'static str> {
+    if data.is_empty() {
+        return Err("");
+    }
+    if data.len() >= 4 && number(&data[..4]) > most {
+        return Err("long\n");
+    }
+    if data.len() < 6 || data.len() - 6 < number(&data[..4]) as usize {
+        return Err("bad\n");
+    }
+    let (header, rest) = data.split_at(6);
+    let (content, rest) = rest.split_at(number(&header[..4]) as usize);
+    *data = rest;
+    Ok((number(&header[4..]), content))
+}
+
+/// Plays a whole input.
+pub fn play(program: &[u8], mut data: &[u8], out: &mut dyn Write) -> Result<()> {
+    let most = if program == b"trace" { 32768 } else { 65600 };
+    let mut gateway = None;
+    let mut states = States::new();
+    for n in 1.. {
+        let (kind, content) = match next(&mut data, most) {
+            Ok(record) => record,
+            Err(word) => return write!(out, "{word}"),
+        };
+        let line = match program {
+            b"inspect" => inspect(kind, content, n),
+            b"trace" => trace(kind, content, n, &mut gateway),
+            _ => states.line(kind, content, n),
+        };
+        match line {
+            Ok(line) => writeln!(out, "{line}")?,
+            Err(()) => return writeln!(out, "bad"),
+        }
+    }
+    Ok(())
+}

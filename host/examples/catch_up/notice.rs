@@ -1,0 +1,57 @@
+//! Notices: bodies with one message each. The signature is a stand-in, to show where a host's own stands: anybody can make it.
+
+use pradulins::{decode, sign_bytes, Record, Refusal};
+
+/// Puts a length-delimited field at the end of `out`. Its number is below 16.
+fn put_field(out: &mut Vec<u8>, number: u8, bytes: &[u8]) {
+    out.push(number << 3 | 2);
+    super::frame::put_frame(out, bytes);
+}
+
+/// 64 bytes over what is to be signed. A host signs with its key instead.
+fn stand_in(signed: &[u8]) -> [u8; 64] {
+    let mut state: u64 = 0x9e37_79b9_7f4a_7c15;
+    let mut out = [0; 64];
+    for (i, byte) in signed.iter().chain(&[0; 64]).enumerate() {
+        state = (state ^ u64::from(*byte)).wrapping_mul(0x0100_0000_01b3).rotate_left(23);
+        out[i % 64] ^= (state >> 32) as u8;
+    }
+    out
+}
+
+/// A body with one message, signed.
+pub fn notice(from: &str, seqno: u64, topic: &str, data: &[u8]) -> Result<Vec<u8>, Refusal> {
+    let mut message = Vec::new();
+    put_field(&mut message, 1, from.as_bytes());
+    put_field(&mut message, 2, data);
+    put_field(&mut message, 3, &seqno.to_be_bytes());
+    put_field(&mut message, 4, topic.as_bytes());
+    let mut body = Vec::new();
+    put_field(&mut body, 2, &message);
+    let signature = stand_in(&sign_bytes(&body, 0)?);
+    put_field(&mut message, 5, &signature);
+    body.clear();
+    put_field(&mut body, 2, &message);
+    Ok(body)
+}
+
+/// The host's word on the message at an index: whether its signature is right.
+pub fn verified(body: &[u8], index: usize) -> Result<bool, Refusal> {
+    let signed = sign_bytes(body, index)?;
+    let records = decode(body)?.records;
+    let mut signatures = records.iter().filter_map(|record| match record {
+        Record::Message { signature, .. } => Some(*signature),
+        _ => None,
+    });
+    Ok(signatures.nth(index).flatten() == Some(&stand_in(&signed)[..]))
+}
+
+/// How many messages a body has.
+pub fn messages(body: &[u8]) -> Result<usize, Refusal> {
+    Ok(decode(body)?.records.iter().filter(|record| matches!(record, Record::Message { .. })).count())
+}
+
+/// How many ids it names.
+pub fn ids(body: &[u8]) -> Result<usize, Refusal> {
+    Ok(decode(body)?.records.iter().filter(|record| matches!(record, Record::MessageId(_))).count())
+}

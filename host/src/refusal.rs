@@ -1,0 +1,282 @@
+//! Why a call was refused: the scope paper's table, with the values beside each number.
+
+use std::error::Error;
+use std::fmt;
+
+/// Why a call was refused. A refused call has changed nothing.
+///
+/// Offsets are counted from the start of the submessage that is refused. [`Refusal::number`] and [`Refusal::values`] give the refusal as the library's
+/// other programs print it.
+#[derive(Clone, Copy, Debug, PartialEq, Eq, Hash)]
+pub enum Refusal {
+    /// 1: a varint is cut short.
+    VarintShort,
+    /// 2: a varint is above 64 bits.
+    VarintOverflow,
+    /// 3: a varint is longer than it needs to be.
+    VarintNotMinimal,
+    /// 4: a field passes the end of its message.
+    FieldOverflow {
+        /// Where the field's bytes were to begin.
+        offset: u64,
+        /// How many they were to be.
+        length: u64,
+        /// How many there are.
+        remaining: u64,
+    },
+    /// 5: a wire type other than 0, 1, 2 and 5.
+    WireType {
+        /// The wire type.
+        wire_type: u64,
+        /// The place after the tag.
+        offset: u64,
+    },
+    /// 6: a field number outside 1 to 536870911.
+    FieldNumber {
+        /// The field number.
+        number: u64,
+        /// The place of the tag.
+        offset: u64,
+    },
+    /// 7: a topic is not UTF-8.
+    Utf8 {
+        /// The place of the topic's length.
+        offset: u64,
+    },
+    /// 10: a body above 65,536 bytes.
+    BodyTooLarge {
+        /// Its length.
+        length: u64,
+    },
+    /// 11: a body above 512 records.
+    TooManyRecords {
+        /// How many it has.
+        records: u64,
+    },
+    /// 12: the lent buffer is too short.
+    Room {
+        /// How many bytes are needed.
+        needed: u64,
+    },
+    /// 20: the body has no message at that index.
+    NoMessage {
+        /// How many messages it has.
+        messages: u64,
+    },
+    /// 21: the message has no from.
+    MissingFrom,
+    /// 22: from has 0 or above 64 bytes.
+    InvalidFrom {
+        /// Its length.
+        length: u64,
+    },
+    /// 23: seqno is missing, or has 0 or above 64 bytes.
+    InvalidSeqno,
+    /// 24: a key without a signature.
+    KeyWithoutSignature,
+    /// 25: neither signature nor key.
+    MissingSignature,
+    /// 26: the signature does not have 64 bytes.
+    SignatureLength {
+        /// Its length.
+        length: u64,
+    },
+    /// 27: the host did not verify the signature.
+    NotVerified,
+    /// 28: the message has no topic, or above 4.
+    TopicCount {
+        /// How many it has.
+        topics: u64,
+    },
+    /// 29: a topic above 1,024 bytes.
+    TopicTooLong {
+        /// Its length.
+        length: u64,
+    },
+    /// 30: a message above 4,096 bytes.
+    MessageTooLong {
+        /// Its length.
+        length: u64,
+    },
+    /// 31: the reading is before the gateway's clock.
+    ClockBack {
+        /// The gateway's clock.
+        clock: u64,
+    },
+    /// 40: a setting out of range.
+    BadSetting,
+    /// 41: a store whose length the settings do not say.
+    BadStore,
+    /// 42: node and stores are not well formed.
+    Malformed,
+}
+
+impl Refusal {
+    /// The refusal that a call answered. A number that no contract allows is a fault of the archive.
+    pub(crate) fn from_call(number: u32, values: &[u64; 4]) -> Refusal {
+        let [a, b, c, _] = *values;
+        match number {
+            1 => Refusal::VarintShort,
+            2 => Refusal::VarintOverflow,
+            3 => Refusal::VarintNotMinimal,
+            4 => Refusal::FieldOverflow { offset: a, length: b, remaining: c },
+            5 => Refusal::WireType { wire_type: a, offset: b },
+            6 => Refusal::FieldNumber { number: a, offset: b },
+            7 => Refusal::Utf8 { offset: a },
+            10 => Refusal::BodyTooLarge { length: a },
+            11 => Refusal::TooManyRecords { records: a },
+            12 => Refusal::Room { needed: a },
+            20 => Refusal::NoMessage { messages: a },
+            21 => Refusal::MissingFrom,
+            22 => Refusal::InvalidFrom { length: a },
+            23 => Refusal::InvalidSeqno,
+            24 => Refusal::KeyWithoutSignature,
+            25 => Refusal::MissingSignature,
+            26 => Refusal::SignatureLength { length: a },
+            27 => Refusal::NotVerified,
+            28 => Refusal::TopicCount { topics: a },
+            29 => Refusal::TopicTooLong { length: a },
+            30 => Refusal::MessageTooLong { length: a },
+            31 => Refusal::ClockBack { clock: a },
+            40 => Refusal::BadSetting,
+            41 => Refusal::BadStore,
+            42 => Refusal::Malformed,
+            _ => panic!("libpradulins.a answered {number}, which is no refusal"),
+        }
+    }
+
+    /// The number in the table of refusals.
+    pub fn number(&self) -> u32 {
+        match self {
+            Refusal::VarintShort => 1,
+            Refusal::VarintOverflow => 2,
+            Refusal::VarintNotMinimal => 3,
+            Refusal::FieldOverflow { .. } => 4,
+            Refusal::WireType { .. } => 5,
+            Refusal::FieldNumber { .. } => 6,
+            Refusal::Utf8 { .. } => 7,
+            Refusal::BodyTooLarge { .. } => 10,
+            Refusal::TooManyRecords { .. } => 11,
+            Refusal::Room { .. } => 12,
+            Refusal::NoMessage { .. } => 20,
+            Refusal::MissingFrom => 21,
+            Refusal::InvalidFrom { .. } => 22,
+            Refusal::InvalidSeqno => 23,
+            Refusal::KeyWithoutSignature => 24,
+            Refusal::MissingSignature => 25,
+            Refusal::SignatureLength { .. } => 26,
+            Refusal::NotVerified => 27,
+            Refusal::TopicCount { .. } => 28,
+            Refusal::TopicTooLong { .. } => 29,
+            Refusal::MessageTooLong { .. } => 30,
+            Refusal::ClockBack { .. } => 31,
+            Refusal::BadSetting => 40,
+            Refusal::BadStore => 41,
+            Refusal::Malformed => 42,
+        }
+    }
+
+    /// The values beside the number, in the table's order.
+    pub fn values(&self) -> Vec<u64> {
+        match *self {
+            Refusal::FieldOverflow { offset, length, remaining } => vec![offset, length, remaining],
+            Refusal::WireType { wire_type, offset } => vec![wire_type, offset],
+            Refusal::FieldNumber { number, offset } => vec![number, offset],
+            Refusal::Utf8 { offset } => vec![offset],
+            Refusal::BodyTooLarge { length } => vec![length],
+            Refusal::TooManyRecords { records } => vec![records],
+            Refusal::Room { needed } => vec![needed],
+            Refusal::NoMessage { messages } => vec![messages],
+            Refusal::InvalidFrom { length } => vec![length],
+            Refusal::SignatureLength { length } => vec![length],
+            Refusal::TopicCount { topics } => vec![topics],
+            Refusal::TopicTooLong { length } => vec![length],
+            Refusal::MessageTooLong { length } => vec![length],
+            Refusal::ClockBack { clock } => vec![clock],
+            Refusal::VarintShort
+            | Refusal::VarintOverflow
+            | Refusal::VarintNotMinimal
+            | Refusal::MissingFrom
+            | Refusal::InvalidSeqno
+            | Refusal::KeyWithoutSignature
+            | Refusal::MissingSignature
+            | Refusal::NotVerified
+            | Refusal::BadSetting
+            | Refusal::BadStore
+            | Refusal::Malformed => vec![],
+        }
+    }
+}
+
+impl fmt::Display for Refusal {
+    fn fmt(&self, f: &mut fmt::Formatter<'_>) -> fmt::Result {
+        write!(f, "refused {}: ", self.number())?;
+        match *self {
+            Refusal::VarintShort => write!(f, "a varint is cut short"),
+            Refusal::VarintOverflow => write!(f, "a varint is above 64 bits"),
+            Refusal::VarintNotMinimal => write!(f, "a varint is longer than it needs to be"),
+            Refusal::FieldOverflow { offset, length, remaining } => {
+                write!(f, "a field of {length} bytes at {offset} passes the end: {remaining} remain")
+            }
+            Refusal::WireType { wire_type, offset } => write!(f, "wire type {wire_type} before {offset}"),
+            Refusal::FieldNumber { number, offset } => write!(f, "field number {number} at {offset}"),
+            Refusal::Utf8 { offset } => write!(f, "the topic at {offset} is not UTF-8"),
+            Refusal::BodyTooLarge { length } => write!(f, "a body of {length} bytes, above 65,536"),
+            Refusal::TooManyRecords { records } => write!(f, "a body of {records} records, above 512"),
+            Refusal::Room { needed } => write!(f, "the buffer is too short: {needed} are needed"),
+            Refusal::NoMessage { messages } => write!(f, "no message at that index: there are {messages}"),
+            Refusal::MissingFrom => write!(f, "the message has no from"),
+            Refusal::InvalidFrom { length } => write!(f, "from has {length} bytes, not 1 to 64"),
+            Refusal::InvalidSeqno => write!(f, "seqno is missing, or does not have 1 to 64 bytes"),
+            Refusal::KeyWithoutSignature => write!(f, "the message has a key and no signature"),
+            Refusal::MissingSignature => write!(f, "the message has no signature"),
+            Refusal::SignatureLength { length } => write!(f, "the signature has {length} bytes, not 64"),
+            Refusal::NotVerified => write!(f, "the host did not verify the signature"),
+            Refusal::TopicCount { topics } => write!(f, "the message has {topics} topics, not 1 to 4"),
+            Refusal::TopicTooLong { length } => write!(f, "a topic of {length} bytes, above 1,024"),
+            Refusal::MessageTooLong { length } => write!(f, "a message of {length} bytes, above 4,096"),
+            Refusal::ClockBack { clock } => write!(f, "the reading is before the clock, {clock}"),
+            Refusal::BadSetting => write!(f, "a setting out of range"),
+            Refusal::BadStore => write!(f, "a store whose length the settings do not say"),
+            Refusal::Malformed => write!(f, "node and stores are not well formed"),
+        }
+    }
+}
+
+impl Error for Refusal {}
+
+#[cfg(test)]
+mod tests {
+    use super::*;
+
+    const NUMBERS: [u32; 25] = [1, 2, 3, 4, 5, 6, 7, 10, 11, 12, 20, 21, 22, 23, 24, 25, 26, 27, 28, 29, 30, 31, 40, 41, 42];
+
+    #[test]
+    fn numbers_stay() {
+        for number in NUMBERS {
+            let refusal = Refusal::from_call(number, &[11, 12, 13, 14]);
+            assert_eq!(refusal.number(), number);
+            assert!(refusal.to_string().starts_with(&format!("refused {number}: ")));
+        }
+    }
+
+    #[test]
+    fn values_stand_in_order() {
+        for number in NUMBERS {
+            let values = Refusal::from_call(number, &[11, 12, 13, 14]).values();
+            let count = match number {
+                4 => 3,
+                5 | 6 => 2,
+                1 | 2 | 3 | 21 | 23 | 24 | 25 | 27 | 40 | 41 | 42 => 0,
+                _ => 1,
+            };
+            assert_eq!(values, [11, 12, 13][..count]);
+        }
+    }
+
+    #[test]
+    #[should_panic(expected = "which is no refusal")]
+    fn other_numbers_are_a_fault() {
+        Refusal::from_call(33, &[0; 4]);
+    }
+}

@@ -1,0 +1,211 @@
+//! The calls of include/pradulins.h, each behind a safe function over slices. This is the only file with `unsafe`: what a call asks of C's caller
+//! (valid pointers, room as said, no overlap) is what Rust's slices are.
+
+use crate::{NODE_SIZE, VALUES};
+
+pub(crate) type Values = [u64; VALUES];
+pub(crate) type Node = [u8; NODE_SIZE];
+
+#[cfg(not(all(test, no_archive)))]
+mod calls {
+    extern "C" {
+        pub fn pradulins_start(node: *mut u8, ttl: u64, max_seen: usize, history_len: usize, max_messages: usize) -> u32;
+        pub fn pradulins_admit(
+            node: *mut u8,
+            seen_store: *mut u8,
+            seen_store_len: usize,
+            cache_store: *mut u8,
+            cache_store_len: usize,
+            body: *const u8,
+            body_len: usize,
+            index: usize,
+            verified: bool,
+            at: u64,
+            values: *mut u64,
+        ) -> u32;
+        pub fn pradulins_heartbeat(
+            node: *mut u8,
+            seen_store: *const u8,
+            seen_store_len: usize,
+            cache_store: *const u8,
+            cache_store_len: usize,
+            at: u64,
+            values: *mut u64,
+        ) -> u32;
+        pub fn pradulins_advertise(
+            node: *const u8,
+            seen_store: *const u8,
+            seen_store_len: usize,
+            cache_store: *const u8,
+            cache_store_len: usize,
+            topic: *const u8,
+            topic_len: usize,
+            windows: usize,
+            out: *mut u8,
+            out_len: usize,
+            values: *mut u64,
+        ) -> u32;
+        pub fn pradulins_ask(
+            node: *const u8,
+            seen_store: *const u8,
+            seen_store_len: usize,
+            cache_store: *const u8,
+            cache_store_len: usize,
+            body: *const u8,
+            body_len: usize,
+            out: *mut u8,
+            out_len: usize,
+            values: *mut u64,
+        ) -> u32;
+        pub fn pradulins_serve(
+            node: *const u8,
+            seen_store: *const u8,
+            seen_store_len: usize,
+            cache_store: *const u8,
+            cache_store_len: usize,
+            body: *const u8,
+            body_len: usize,
+            out: *mut u8,
+            out_len: usize,
+            values: *mut u64,
+        ) -> u32;
+        pub fn pradulins_encode(body: *const u8, body_len: usize, out: *mut u8, out_len: usize, values: *mut u64) -> u32;
+        pub fn pradulins_sign_bytes(body: *const u8, body_len: usize, index: usize, out: *mut u8, out_len: usize, values: *mut u64) -> u32;
+        pub fn pradulins_message_id(body: *const u8, body_len: usize, index: usize, out: *mut u8, out_len: usize, values: *mut u64) -> u32;
+        pub fn pradulins_decode(body: *const u8, body_len: usize, table: *mut u64, table_len: usize, values: *mut u64) -> u32;
+        pub fn pradulins_walk(body: *const u8, body_len: usize, at: usize, values: *mut u64) -> u32;
+    }
+}
+
+// Unit tests are linked without the archive where there is none. Those that run call none of these.
+#[cfg(all(test, no_archive))]
+mod calls {
+    macro_rules! missing {
+        ($($name:ident($($kind:ty),*);)*) => {
+            $(pub unsafe fn $name($(_: $kind),*) -> u32 { panic!("no archive") })*
+        };
+    }
+    missing! {
+        pradulins_start(*mut u8, u64, usize, usize, usize);
+        pradulins_admit(*mut u8, *mut u8, usize, *mut u8, usize, *const u8, usize, usize, bool, u64, *mut u64);
+        pradulins_heartbeat(*mut u8, *const u8, usize, *const u8, usize, u64, *mut u64);
+        pradulins_advertise(*const u8, *const u8, usize, *const u8, usize, *const u8, usize, usize, *mut u8, usize, *mut u64);
+        pradulins_ask(*const u8, *const u8, usize, *const u8, usize, *const u8, usize, *mut u8, usize, *mut u64);
+        pradulins_serve(*const u8, *const u8, usize, *const u8, usize, *const u8, usize, *mut u8, usize, *mut u64);
+        pradulins_encode(*const u8, usize, *mut u8, usize, *mut u64);
+        pradulins_sign_bytes(*const u8, usize, usize, *mut u8, usize, *mut u64);
+        pradulins_message_id(*const u8, usize, usize, *mut u8, usize, *mut u64);
+        pradulins_decode(*const u8, usize, *mut u64, usize, *mut u64);
+        pradulins_walk(*const u8, usize, usize, *mut u64);
+    }
+}
+
+// SAFETY, of every call below: each pointer comes from a slice or an array and is passed with its length; `&mut` excludes overlap.
+
+pub(crate) fn start(node: &mut Node, ttl: u64, max_seen: usize, history_len: usize, max_messages: usize) -> u32 {
+    unsafe { calls::pradulins_start(node.as_mut_ptr(), ttl, max_seen, history_len, max_messages) }
+}
+
+#[allow(clippy::too_many_arguments)]
+pub(crate) fn admit(
+    node: &mut Node,
+    seen: &mut [u8],
+    cache: &mut [u8],
+    body: &[u8],
+    index: usize,
+    verified: bool,
+    at: u64,
+    values: &mut Values,
+) -> u32 {
+    unsafe {
+        calls::pradulins_admit(
+            node.as_mut_ptr(),
+            seen.as_mut_ptr(),
+            seen.len(),
+            cache.as_mut_ptr(),
+            cache.len(),
+            body.as_ptr(),
+            body.len(),
+            index,
+            verified,
+            at,
+            values.as_mut_ptr(),
+        )
+    }
+}
+
+pub(crate) fn heartbeat(node: &mut Node, seen: &[u8], cache: &[u8], at: u64, values: &mut Values) -> u32 {
+    unsafe { calls::pradulins_heartbeat(node.as_mut_ptr(), seen.as_ptr(), seen.len(), cache.as_ptr(), cache.len(), at, values.as_mut_ptr()) }
+}
+
+pub(crate) fn advertise(node: &Node, seen: &[u8], cache: &[u8], topic: &[u8], windows: usize, out: &mut [u8], values: &mut Values) -> u32 {
+    unsafe {
+        calls::pradulins_advertise(
+            node.as_ptr(),
+            seen.as_ptr(),
+            seen.len(),
+            cache.as_ptr(),
+            cache.len(),
+            topic.as_ptr(),
+            topic.len(),
+            windows,
+            out.as_mut_ptr(),
+            out.len(),
+            values.as_mut_ptr(),
+        )
+    }
+}
+
+pub(crate) fn ask(node: &Node, seen: &[u8], cache: &[u8], body: &[u8], out: &mut [u8], values: &mut Values) -> u32 {
+    unsafe {
+        calls::pradulins_ask(
+            node.as_ptr(),
+            seen.as_ptr(),
+            seen.len(),
+            cache.as_ptr(),
+            cache.len(),
+            body.as_ptr(),
+            body.len(),
+            out.as_mut_ptr(),
+            out.len(),
+            values.as_mut_ptr(),
+        )
+    }
+}
+
+pub(crate) fn serve(node: &Node, seen: &[u8], cache: &[u8], body: &[u8], out: &mut [u8], values: &mut Values) -> u32 {
+    unsafe {
+        calls::pradulins_serve(
+            node.as_ptr(),
+            seen.as_ptr(),
+            seen.len(),
+            cache.as_ptr(),
+            cache.len(),
+            body.as_ptr(),
+            body.len(),
+            out.as_mut_ptr(),
+            out.len(),
+            values.as_mut_ptr(),
+        )
+    }
+}
+
+pub(crate) fn encode(body: &[u8], out: &mut [u8], values: &mut Values) -> u32 {
+    unsafe { calls::pradulins_encode(body.as_ptr(), body.len(), out.as_mut_ptr(), out.len(), values.as_mut_ptr()) }
+}
+
+pub(crate) fn sign_bytes(body: &[u8], index: usize, out: &mut [u8], values: &mut Values) -> u32 {
+    unsafe { calls::pradulins_sign_bytes(body.as_ptr(), body.len(), index, out.as_mut_ptr(), out.len(), values.as_mut_ptr()) }
+}
+
+pub(crate) fn message_id(body: &[u8], index: usize, out: &mut [u8], values: &mut Values) -> u32 {
+    unsafe { calls::pradulins_message_id(body.as_ptr(), body.len(), index, out.as_mut_ptr(), out.len(), values.as_mut_ptr()) }
+}
+
+pub(crate) fn decode(body: &[u8], table: &mut [u64], values: &mut Values) -> u32 {
+    unsafe { calls::pradulins_decode(body.as_ptr(), body.len(), table.as_mut_ptr(), table.len(), values.as_mut_ptr()) }
+}
+
+pub(crate) fn walk(body: &[u8], at: usize, values: &mut Values) -> u32 {
+    unsafe { calls::pradulins_walk(body.as_ptr(), body.len(), at, values.as_mut_ptr()) }
+}

@@ -1,0 +1,138 @@
+//! The crate's calls with the archive: answers and refusals by their types, states saved, loaded and damaged.
+#![cfg(not(no_archive))]
+
+use pradulins::{decode, message_id, reencode, sign_bytes, walk, walk_from, Admitted, Gateway, Record, Refusal, Settings, NODE_SIZE};
+
+const SETTINGS: Settings = Settings { ttl: 1000, max_seen: 4, history_len: 2, max_messages: 4 };
+
+/// The body of the scope paper's trace, with another name.
+fn body(from: u8) -> Vec<u8> {
+    let mut body = vec![0x12, 0x4b, 0x0a, 1, from, 0x1a, 1, 1, 0x22, 1, b't', 0x2a, 0x40];
+    body.extend([0; 64]);
+    body
+}
+
+#[test]
+fn the_trace_of_the_paper() {
+    let x = body(b'A');
+    let mut gateway = Gateway::start(SETTINGS).unwrap();
+    assert_eq!(gateway.admit(&x, 0, true, 100), Ok(Admitted::New));
+    assert_eq!(gateway.advertise(b"t", 1).unwrap(), [0x1a, 9, 0x0a, 7, 0x0a, 1, b't', 0x12, 2, b'A', 1]);
+    assert_eq!(gateway.admit(&x, 0, true, 100), Ok(Admitted::Duplicate));
+    assert_eq!(gateway.heartbeat(1100), Ok(()));
+    assert_eq!(gateway.advertise(b"t", 1), Ok(vec![]));
+    assert_eq!(gateway.admit(&x, 0, true, 1099), Err(Refusal::ClockBack { clock: 1100 }));
+    assert_eq!(gateway.admit(&x, 0, true, 1100), Ok(Admitted::New));
+    assert_eq!((gateway.settings(), gateway.clock(), gateway.seen(), gateway.messages()), (SETTINGS, 1100, 1, 1));
+}
+
+#[test]
+fn settings_are_tested() {
+    for (max_seen, history_len, max_messages) in [(257, 2, 4), (4, 0, 4), (4, 17, 4), (4, 2, 65), (usize::MAX, 1, 0)] {
+        let settings = Settings { ttl: 0, max_seen, history_len, max_messages };
+        assert_eq!(Gateway::start(settings).err(), Some(Refusal::BadSetting));
+    }
+    assert!(Gateway::start(Settings { ttl: u64::MAX, max_seen: 0, history_len: 1, max_messages: 0 }).is_ok());
+}
+
+#[test]
+fn lent_buffers_may_be_too_short() {
+    let x = body(b'A');
+    let mut gateway = Gateway::start(SETTINGS).unwrap();
+    gateway.admit(&x, 0, true, 100).unwrap();
+    let mut out = [7; 80];
+    assert_eq!(gateway.advertise_into(b"t", 1, &mut out[..10]), Err(Refusal::Room { needed: 11 }));
+    let request = [0x1a, 6, 0x12, 4, 0x0a, 2, b'A', 1];
+    assert_eq!(gateway.serve_into(&request, &mut out[..76]), Err(Refusal::Room { needed: 77 }));
+    assert_eq!(out, [7; 80]);
+    assert_eq!(gateway.serve_into(&request, &mut out), Ok((77, 1, 0)));
+    assert_eq!((&out[..77], &out[77..]), (&x[..], &[7; 3][..]));
+    let fresh = Gateway::start(SETTINGS).unwrap();
+    assert_eq!(fresh.ask_into(&gateway.advertise(b"t", 1).unwrap(), &mut out), Ok(8));
+    assert_eq!(out[..8], request);
+}
+
+#[test]
+fn bodies() {
+    let x = body(b'A');
+    assert_eq!(reencode(&[0x1a, 0, 0x1a, 0]), Ok(vec![0x1a, 0]));
+    assert_eq!(reencode(&x).as_ref(), Ok(&x));
+    assert_eq!(message_id(&x, 0), Ok(vec![b'A', 1]));
+    assert_eq!(message_id(&x, 1), Err(Refusal::NoMessage { messages: 1 }));
+    assert_eq!(sign_bytes(&[0x12, 6, 0x0a, 1, 0x41, 0x0a, 1, 0x42], 0).unwrap(), b"libp2p-pubsub:\x0a\x01\x42");
+    assert_eq!(reencode(&vec![0; 65537]), Err(Refusal::BodyTooLarge { length: 65537 }));
+    assert_eq!(decode(&[0x0a, 0].repeat(513)), Err(Refusal::TooManyRecords { records: 513 }));
+    for (bytes, refusal) in [
+        (&[0x80][..], Refusal::VarintShort),
+        (&[0x80, 0], Refusal::VarintNotMinimal),
+        (&[0], Refusal::FieldNumber { number: 0, offset: 0 }),
+        (&[0x0b], Refusal::WireType { wire_type: 3, offset: 1 }),
+        (&[0x0a, 5, 8], Refusal::FieldOverflow { offset: 2, length: 5, remaining: 1 }),
+        (&[0x0a, 3, 0x12, 1, 0xff], Refusal::Utf8 { offset: 1 }),
+    ] {
+        assert_eq!(decode(bytes), Err(refusal));
+    }
+}
+
+#[test]
+fn records() {
+    let x = body(b'A');
+    let decoded = decode(&x).unwrap();
+    assert!(!decoded.control);
+    let message = Record::Message { raw: &x[2..], from: Some(b"A"), data: None, seqno: Some(&[1]), signature: Some(&[0; 64]), key: None };
+    assert_eq!(decoded.records, [message, Record::Topic("t")]);
+    let offer = [0x1a, 9, 0x0a, 7, 0x0a, 1, b't', 0x12, 2, b'A', 1];
+    let decoded = decode(&offer).unwrap();
+    assert!(decoded.control);
+    assert_eq!(decoded.records, [Record::IHave { topic_id: Some("t") }, Record::MessageId(b"A\x01")]);
+}
+
+#[test]
+fn a_walk_ends() {
+    let bytes = [0x1a, 0, 0x0a, 2, 8, 1, 0x80];
+    let fields: Vec<_> = walk(&bytes).map(|field| field.map(|f| (f.number, f.wire_type, f.bytes, f.end))).collect();
+    assert_eq!(fields, [Ok((3, 2, &[0][..], 2)), Ok((1, 2, &[2, 8, 1][..], 6)), Err(Refusal::VarintShort)]);
+    assert!(walk_from(&bytes, usize::MAX).next().is_none());
+}
+
+#[test]
+fn a_state_is_saved_and_loaded() {
+    let mut gateway = Gateway::start(SETTINGS).unwrap();
+    for (i, from) in (b'A'..b'H').enumerate() {
+        gateway.admit(&body(from), 0, true, i as u64).unwrap();
+    }
+    let loaded = Gateway::load(&gateway.save()).unwrap();
+    assert!(loaded == gateway);
+    assert_eq!(loaded.advertise(b"t", 2), gateway.advertise(b"t", 2));
+    assert_eq!(Gateway::load(&gateway.save()[1..]).err(), Some(Refusal::BadStore));
+    assert_eq!(Gateway::load(&[0; NODE_SIZE]).err(), Some(Refusal::Malformed));
+}
+
+/// Bytes of a saved state changed: it is refused, or it is well formed and its calls answer. A call may then leave a state that is refused: with another ttl the next
+/// expiry may fall below the last one.
+#[test]
+fn damage_is_refused_or_harmless() {
+    let mut gateway = Gateway::start(SETTINGS).unwrap();
+    for from in b'A'..b'D' {
+        gateway.admit(&body(from), 0, true, 5).unwrap();
+    }
+    let saved = gateway.save();
+    let mut refused = 0;
+    for at in (0..saved.len()).step_by(7).chain(0..160) {
+        let mut bytes = saved.clone();
+        bytes[at] ^= 0x81;
+        match Gateway::load(&bytes) {
+            Err(refusal) => {
+                assert!(matches!(refusal.number(), 40..=42));
+                refused += 1;
+            }
+            Ok(mut other) => {
+                let clock = other.clock();
+                assert!(other.admit(&body(b'Z'), 0, true, clock).is_ok());
+                assert!(matches!(other.heartbeat(clock), Ok(()) | Err(Refusal::Malformed)));
+                assert_eq!(other.save().len(), saved.len());
+            }
+        }
+    }
+    assert!(refused > 40, "{refused}");
+}

@@ -1,0 +1,206 @@
+/*
+ * Pradulins: a gossip node for gateways, and the reading and writing of gossipsub bodies, as C programs link them. The archive is made by
+ * `rt staticlib pradulins` (target/staticlib/libpradulins.a, x86-64 Linux).
+ *
+ * Every call returns 0 or the number of a refusal (PRADULINS_..., below), and hands numbers out in `values`, from the first on: what it did, or what
+ * stands beside the refusal. Entries of `values` that a call does not name are left as they were. A refused call changes no other memory: not the
+ * node, not the stores, not the buffer or the table. A call that succeeds writes only the bytes or records that it counts.
+ *
+ * The library keeps nothing itself and allocates nothing. A node lives in PRADULINS_NODE_SIZE bytes and two stores, all three the host's own; they may
+ * be copied, saved and loaded as bytes. Every call tests them anew, so bytes that are no node are refused and harm nothing. What calls leave is always well
+ * formed, beginning with pradulins_start; a number that was changed from outside and still fits the others (a clock, a ttl) is not found out.
+ *
+ * What a caller owes, as in any C program: each pointer is to as many elements as are said beside it, and is not null, also where the number is 0;
+ * what a call may write (the pointers that are not const) overlaps nothing else that is passed to it; numbers of 64 bits are aligned; `verified` is
+ * 0 or 1. Two calls on one node must not run at once; apart from that, threads need no lock. The calls take some stack; 1 MB is more than enough.
+ */
+#ifndef PRADULINS_H
+#define PRADULINS_H
+
+#include <stdbool.h>
+#include <stddef.h>
+#include <stdint.h>
+
+#ifdef __cplusplus
+extern "C" {
+#endif
+
+/* ---- sizes */
+
+/* A node, in bytes. It needs no alignment. */
+#define PRADULINS_NODE_SIZE 11344
+
+/* The seen store has max_seen rows, the cache store max_messages places: exactly so many bytes. */
+#define PRADULINS_SEEN_ROW 129
+#define PRADULINS_CACHE_PLACE 4096
+#define PRADULINS_SEEN_STORE_SIZE(max_seen) ((size_t)(max_seen) * PRADULINS_SEEN_ROW)
+#define PRADULINS_CACHE_STORE_SIZE(max_messages) ((size_t)(max_messages) * PRADULINS_CACHE_PLACE)
+
+/* The largest settings; history_len is at least 1. */
+#define PRADULINS_MAX_SEEN 256
+#define PRADULINS_MAX_HISTORY 16
+#define PRADULINS_MAX_MESSAGES 64
+
+/* The largest body, and the most records that a body may have. */
+#define PRADULINS_MAX_BODY 65536
+#define PRADULINS_MAX_RECORDS 512
+
+/* Room that is always enough: for advertise, ask, serve and encode; for sign_bytes; for message_id. */
+#define PRADULINS_OUT_SIZE 65536
+#define PRADULINS_SIGN_SIZE 65550
+#define PRADULINS_ID_SIZE 128
+
+/* How many numbers `values` has. */
+#define PRADULINS_VALUES 4
+
+/* ---- refusals, and what `values` gets beside each */
+
+#define PRADULINS_OK 0
+#define PRADULINS_VARINT_SHORT 1        /* a varint is cut short */
+#define PRADULINS_VARINT_OVERFLOW 2     /* a varint is above 64 bits */
+#define PRADULINS_VARINT_NOT_MINIMAL 3  /* a varint is longer than it needs to be */
+#define PRADULINS_FIELD_OVERFLOW 4      /* a field passes the end: offset, length, remaining */
+#define PRADULINS_WIRE_TYPE 5           /* a wire type other than 0, 1, 2, 5: type, offset */
+#define PRADULINS_FIELD_NUMBER 6        /* a field number outside 1 to 536870911: number, offset */
+#define PRADULINS_UTF8 7                /* a topic is not UTF-8: offset */
+#define PRADULINS_BODY_TOO_LARGE 10     /* a body above PRADULINS_MAX_BODY bytes: its length */
+#define PRADULINS_TOO_MANY_RECORDS 11   /* above PRADULINS_MAX_RECORDS records: their number */
+#define PRADULINS_ROOM 12               /* the table or the buffer is too short: the room needed, in records or bytes */
+#define PRADULINS_NO_MESSAGE 20         /* no message at that index: the number of messages */
+#define PRADULINS_MISSING_FROM 21       /* the message has no from */
+#define PRADULINS_INVALID_FROM 22       /* from has 0 or above 64 bytes: its length */
+#define PRADULINS_INVALID_SEQNO 23      /* seqno is missing, or has 0 or above 64 bytes */
+#define PRADULINS_KEY_WITHOUT_SIGNATURE 24
+#define PRADULINS_MISSING_SIGNATURE 25  /* no signature and no key */
+#define PRADULINS_SIGNATURE_LENGTH 26   /* the signature does not have 64 bytes: its length */
+#define PRADULINS_NOT_VERIFIED 27       /* the host did not verify the signature */
+#define PRADULINS_TOPIC_COUNT 28        /* a message of 0 or above 4 topics: their number */
+#define PRADULINS_TOPIC_TOO_LONG 29     /* a topic above 1,024 bytes: its length */
+#define PRADULINS_MESSAGE_TOO_LONG 30   /* a message above 4,096 bytes: its length */
+#define PRADULINS_CLOCK_BACK 31         /* the reading is before the node's clock: the clock */
+#define PRADULINS_BAD_SETTING 40        /* a setting out of range, or a seen store shorter than max_seen rows */
+#define PRADULINS_BAD_STORE 41          /* a store whose length the settings do not say */
+#define PRADULINS_MALFORMED 42          /* node and stores are not well formed */
+
+/* ---- records: what pradulins_decode writes for each, in 20 numbers */
+
+#define PRADULINS_RECORD_WORDS 20
+#define PRADULINS_TABLE_WORDS (PRADULINS_MAX_RECORDS * PRADULINS_RECORD_WORDS)
+
+/*
+ * The numbers of a record: its kind; where its bytes begin and end in the body; then its number, as 1 and the value, or 0 and 0; then its five fields,
+ * each as 1, start and end, or as 0, 0 and 0 where it is absent. Starts and ends of fields are counted from the record's own start.
+ */
+#define PRADULINS_RECORD_KIND 0
+#define PRADULINS_RECORD_START 1
+#define PRADULINS_RECORD_END 2
+#define PRADULINS_RECORD_HAS_NUMBER 3
+#define PRADULINS_RECORD_NUMBER 4
+#define PRADULINS_RECORD_FIELD(i) (5 + 3 * (i)) /* i is 0 to 4: the place of its three numbers */
+
+#define PRADULINS_KIND_SUB_OPTS 1    /* number: subscribe, true for all but 0. Field 0: topic_id */
+#define PRADULINS_KIND_MESSAGE 2     /* fields: from, data, seqno, signature, key */
+#define PRADULINS_KIND_TOPIC 3       /* a topic of the message before it: all its bytes */
+#define PRADULINS_KIND_IHAVE 5       /* field 0: topic_id */
+#define PRADULINS_KIND_IWANT 6
+#define PRADULINS_KIND_MESSAGE_ID 7  /* an id of the IHAVE or IWANT before it: all its bytes */
+#define PRADULINS_KIND_GRAFT 8       /* field 0: topic_id */
+#define PRADULINS_KIND_PRUNE 9       /* field 0: topic_id. Number: backoff */
+#define PRADULINS_KIND_PEER_INFO 10  /* of the PRUNE before it. Fields: peer_id, signed_peer_record */
+
+/* ---- the node */
+
+/*
+ * Makes a node that holds nothing, with its clock at 0. An id counts as seen for `ttl` units of the host's clock; at most `max_seen` ids (0 to 256) and
+ * `max_messages` messages (0 to 64) are kept, messages for `history_len` windows (1 to 16). The stores' content does not matter yet.
+ * Refused: 40.
+ */
+uint32_t pradulins_start(uint8_t node[PRADULINS_NODE_SIZE], uint64_t ttl, size_t max_seen, size_t history_len, size_t max_messages);
+
+/*
+ * Admits the message at `index` of `body` (from 0), where `verified` is the host's word that its signature was verified, and `at` the reading of the
+ * host's clock. The node drops the ids whose time is over, and then takes the message if its id is not seen.
+ * values[0]: 1 where the message is new, and was stored; 0 where it is a duplicate. Both set the clock.
+ * Refused: 40, 41, 42, 10, 1 to 7, 11, 20 to 30, 31, in this order.
+ */
+uint32_t pradulins_admit(uint8_t node[PRADULINS_NODE_SIZE], uint8_t *seen_store, size_t seen_store_len, uint8_t *cache_store,
+                         size_t cache_store_len, const uint8_t *body, size_t body_len, size_t index, bool verified, uint64_t at,
+                         uint64_t values[PRADULINS_VALUES]);
+
+/*
+ * Opens a window, at a reading of the host's clock: drops the ids whose time is over and the messages beyond history_len windows, and sets the clock.
+ * values: nothing.
+ * Refused: 40, 41, 42, 31.
+ */
+uint32_t pradulins_heartbeat(uint8_t node[PRADULINS_NODE_SIZE], const uint8_t *seen_store, size_t seen_store_len, const uint8_t *cache_store,
+                             size_t cache_store_len, uint64_t at, uint64_t values[PRADULINS_VALUES]);
+
+/*
+ * Writes to `out` a body that offers the messages of a topic in the newest `windows` windows: one IHAVE with their ids in byte order.
+ * values[0]: how many bytes were written; 0 where there is nothing to offer.
+ * Refused: 40, 41, 42, 29, 12.
+ */
+uint32_t pradulins_advertise(const uint8_t node[PRADULINS_NODE_SIZE], const uint8_t *seen_store, size_t seen_store_len, const uint8_t *cache_store,
+                             size_t cache_store_len, const uint8_t *topic, size_t topic_len, size_t windows, uint8_t *out, size_t out_len,
+                             uint64_t values[PRADULINS_VALUES]);
+
+/*
+ * Writes to `out` a body that requests what `body` offers and the node has not seen: one IWANT, each id once.
+ * values[0]: how many bytes were written; 0 where there is nothing to ask for.
+ * Refused: 40, 41, 42, 10, 1 to 7, 11, 12.
+ */
+uint32_t pradulins_ask(const uint8_t node[PRADULINS_NODE_SIZE], const uint8_t *seen_store, size_t seen_store_len, const uint8_t *cache_store,
+                       size_t cache_store_len, const uint8_t *body, size_t body_len, uint8_t *out, size_t out_len, uint64_t values[PRADULINS_VALUES]);
+
+/*
+ * Writes to `out` a body with the cached messages that `body` requests, each once, as many as fit `out` and PRADULINS_MAX_BODY.
+ * values[0]: how many bytes were written; values[1]: how many messages these are; values[2]: how many cached ones were left out, to be requested again.
+ * Refused: 40, 41, 42, 10, 1 to 7, 11, 12 (where not even the first fits).
+ */
+uint32_t pradulins_serve(const uint8_t node[PRADULINS_NODE_SIZE], const uint8_t *seen_store, size_t seen_store_len, const uint8_t *cache_store,
+                         size_t cache_store_len, const uint8_t *body, size_t body_len, uint8_t *out, size_t out_len,
+                         uint64_t values[PRADULINS_VALUES]);
+
+/* ---- bodies */
+
+/*
+ * Writes `body` anew to `out`, in canonical bytes: what means the same gives the same bytes. They are never longer than the body.
+ * values[0]: how many bytes were written.
+ * Refused: 10, 1 to 7, 11, 12.
+ */
+uint32_t pradulins_encode(const uint8_t *body, size_t body_len, uint8_t *out, size_t out_len, uint64_t values[PRADULINS_VALUES]);
+
+/*
+ * Writes to `out` the bytes that the signature of the message at `index` is made over. They are at most 14 bytes longer than the body.
+ * values[0]: how many bytes were written.
+ * Refused: 10, 1 to 7, 11, 20, 12.
+ */
+uint32_t pradulins_sign_bytes(const uint8_t *body, size_t body_len, size_t index, uint8_t *out, size_t out_len, uint64_t values[PRADULINS_VALUES]);
+
+/*
+ * Writes to `out` the id of the message at `index`: its from and its seqno.
+ * values[0]: how many bytes were written.
+ * Refused: 10, 1 to 7, 11, 20, 21, 22, 23, 12.
+ */
+uint32_t pradulins_message_id(const uint8_t *body, size_t body_len, size_t index, uint8_t *out, size_t out_len, uint64_t values[PRADULINS_VALUES]);
+
+/*
+ * Reads a body into a table of records, 20 numbers each (see above), in the order in which the body has them. `table_len` counts numbers.
+ * values[0]: how many records were written; values[1]: 1 where the body has a control, which is no record itself; else 0.
+ * Refused: 10, 1 to 7, 11, 12.
+ */
+uint32_t pradulins_decode(const uint8_t *body, size_t body_len, uint64_t *table, size_t table_len, uint64_t values[PRADULINS_VALUES]);
+
+/*
+ * The top-level field at a place of a body. Start at 0 and go on at values[3].
+ * values[0]: the field's number, 0 at the end (then nothing else is handed out); values[1]: its wire type; values[2]: the place after its tag;
+ * values[3]: the place of the next field. What the field holds is not read further than to skip it.
+ * Refused: 10, 1 to 6.
+ */
+uint32_t pradulins_walk(const uint8_t *body, size_t body_len, size_t at, uint64_t values[PRADULINS_VALUES]);
+
+#ifdef __cplusplus
+}
+#endif
+
+#endif

@@ -1,0 +1,148 @@
+"""Builds and runs x86-64 programs of C, Rust and the archives of this repository, on x86-64 and on Arm. For tools/host and bench/bench.
+
+On x86-64 the machine's own cc and cargo are used. On Arm, Debian has a C compiler and a Rust for x86-64, and the kit an emulator with a loader and a C
+library. A Rust main does not start under the kit's; so a program's main is C, and cargo's tests run under Debian's emulator and C library.
+"""
+
+import os
+import platform
+import shutil
+import subprocess
+import sys
+
+ROOT = os.path.dirname(os.path.dirname(os.path.abspath(__file__)))
+TARGET = "x86_64-unknown-linux-gnu"
+NATIVE = platform.machine().lower() in ("x86_64", "amd64")
+PACKAGES = ["gcc-x86-64-linux-gnu", "libc6-dev-amd64-cross", "rustc-web", "libstd-rust-web-dev:amd64", "libc6:amd64", "qemu-user"]
+
+
+class Failure(Exception):
+    pass
+
+
+def call(words, **more):
+    """Runs a command; what it prints goes to standard error."""
+    done = subprocess.run(words, stdout=sys.stderr, **more)
+    if done.returncode:
+        raise Failure("%s ended with %d" % (" ".join(words), done.returncode))
+
+
+# ---- what is installed
+
+def compiler():
+    """The C compiler for x86-64, or None."""
+    return shutil.which("cc" if NATIVE else "x86_64-linux-gnu-gcc")
+
+
+def rustc():
+    """A Rust compiler that has the library for x86-64 Linux, or None."""
+    for words in filter(None, (os.environ.get("RUSTC"), shutil.which("rustc"), "/usr/bin/rustc")):
+        if os.access(words, os.X_OK):
+            told = subprocess.run([words, "--print", "target-libdir", "--target", TARGET], capture_output=True, text=True)
+            folder = told.stdout.strip()
+            if told.returncode == 0 and os.path.isdir(folder) and any(name.startswith("libstd-") for name in os.listdir(folder)):
+                return words
+    return None
+
+
+def cargo():
+    return shutil.which("cargo") or shutil.which(os.path.expanduser("~/.cargo/bin/cargo"))
+
+
+def emulator():
+    """Debian's emulator, which can load plugins, or None."""
+    return shutil.which("qemu-x86_64")
+
+
+def missing():
+    wanted = [("a C compiler for x86-64", compiler()), ("a rustc with the library for %s" % TARGET, rustc()), ("cargo", cargo())]
+    if not NATIVE:
+        wanted += [("qemu-x86_64", emulator()), ("the C library for x86-64", os.path.exists("/lib64/ld-linux-x86-64.so.2"))]
+    return [name for name, found in wanted if not found]
+
+
+def install():
+    """Installs Debian's packages on Arm. On x86-64 the machine's own compilers are asked for."""
+    if not missing():
+        return
+    if NATIVE:
+        raise Failure("missing: %s" % ", ".join(missing()))
+    if not shutil.which("apt-get") or os.geteuid() != 0:
+        raise Failure("missing: %s. On Debian, as root: dpkg --add-architecture amd64; apt-get update; apt-get install %s"
+                      % (", ".join(missing()), " ".join(PACKAGES)))
+    call(["dpkg", "--add-architecture", "amd64"])
+    call(["apt-get", "update", "-q"])
+    wanted = PACKAGES + ([] if cargo() else ["cargo-web"])
+    call(["apt-get", "install", "-y", "-q", "--no-install-recommends"] + wanted, env=dict(os.environ, DEBIAN_FRONTEND="noninteractive"))
+    if missing():
+        raise Failure("still missing: %s" % ", ".join(missing()))
+
+
+# ---- building
+
+def archive(name, folder=None):
+    """lib<name>.a in a folder, or else as `rt staticlib` makes it."""
+    if folder:
+        path = os.path.join(os.path.abspath(folder), "lib%s.a" % name)
+    else:
+        path = os.path.join(ROOT, "target", "staticlib", "lib%s.a" % name)
+        if not shutil.which("rt"):
+            if not os.path.isfile(path):
+                raise Failure("no %s, and no rt to make it" % path)
+        else:
+            call(["rt", "staticlib", name], cwd=ROOT)
+    if not os.path.isfile(path):
+        raise Failure("no %s" % path)
+    return path
+
+
+def call_cargo(words, folder, out, env):
+    """Runs cargo on a crate, for x86-64."""
+    own = {"RUSTC": rustc(), "CARGO_NET_OFFLINE": "true", "CARGO_TARGET_DIR": out}
+    if not NATIVE:
+        name = "CARGO_TARGET_%s_" % TARGET.upper().replace("-", "_")
+        own.update({name + "LINKER": compiler(), name + "RUNNER": emulator(), "RUSTDOC": os.path.join(os.path.dirname(rustc()), "rustdoc")})
+    call([cargo(), *words, "--target", TARGET, "--manifest-path", os.path.join(folder, "Cargo.toml")], env=dict(os.environ, **own, **(env or {})))
+
+
+def test_rust(folder, out, env=None):
+    """Runs the tests of a crate, those in its documentation too."""
+    call_cargo(["test", "--quiet"], folder, out, env)
+
+
+def build_rust(folder, out, env=None):
+    """Builds a crate of type staticlib for release and gives its archive."""
+    call_cargo(["build", "--release", "--quiet"], folder, out, env)
+    name = "lib%s.a" % os.path.basename(folder).replace("-", "_")
+    return os.path.join(out, TARGET, "release", name)
+
+
+def build_c(sources, archives, program, flags=()):
+    """Compiles C and links it with archives."""
+    os.makedirs(os.path.dirname(program), exist_ok=True)
+    call([compiler(), "-std=c99", "-O2", "-Wall", "-Wextra", "-I", os.path.join(ROOT, "include"), *flags, *sources, *archives, "-o", program,
+          "-lpthread", "-ldl", "-lm"])
+    return program
+
+
+# ---- running
+
+def kit():
+    """The folder with the kit's tools for this machine, or None."""
+    home = os.environ.get("RATTLE_HOME")
+    if not home:
+        found = shutil.which("rt")
+        home = found and os.path.dirname(os.path.dirname(os.path.realpath(found)))
+    folder = home and os.path.join(home, "on", platform.machine(), "toolchain")
+    return folder if folder and os.path.isdir(folder) else None
+
+
+def running(program, options=None):
+    """The words that run a program here. With options it runs under Debian's emulator, which takes them."""
+    if NATIVE and options is None:
+        return [program]
+    folder = kit()
+    if not folder:
+        raise Failure("the program is for x86-64: on this machine the kit's emulator runs it, and there is no kit (rt) on the PATH")
+    words = [os.path.join(folder, "bin", "qemu-x86_64")] if options is None else [emulator(), *options]
+    return words + [os.path.join(folder, "lib", "ld-linux-x86-64.so.2"), "--library-path", os.path.join(folder, "lib"), program]
