@@ -1,9 +1,10 @@
 // The fields of a Protocol Buffers body, from protobuf.rs: reading, passing over, writing, and the host's walk. A place past the end of the
 // input answers as the end does.
 ghost use mathlib.Core.Path.{_≡_};
-ghost use Prim.Native.Nat.{_+_, _≤_, _<_, _-_};
+ghost use Prim.Native.Nat.{_+_, _≤_, _<_, _-_, _%_};
 ghost use lib.ListN.{length, drop, getD};
 ghost use lib.Seq.{sets};
+ghost use mathlib.Core.Bool.{true};
 ghost use Rattle.basis.specs.Writing.{endIn, setIn};
 ghost use Rattle.peer_id.specs.Uvarint.{readUvarint};
 ghost use Rattle.protobuf.specs.Refusal.{refusalOf};
@@ -320,49 +321,51 @@ fn read_any_field(input: &[u8], idx: usize) -> Step
     }
 }
 
-// The field at idx, whose tag is the byte t.
-fn read_short_field(input: &[u8], idx: usize, t: u8) -> Step
-    requires { ⌜ idx < length (now input) ⌝ }
-    requires { ⌜ getD (now input) idx 0 ≡ t ⌝ }
-    requires { ⌜ (8 ≤ t) × (t < 128) ⌝ }
-    ensures { λ r. ⌜ r ≡ readField (now (input .entry)) idx ⌝ }
+// Whether a tag and a length are a byte each, and the tag is that of a length-delimited field.
+fn is_short(t: u8, l: u8) -> bool
+    ensures { λ r. ⌜ (r ≡ true → (t % 8 ≡ 2) × (8 ≤ t) × (t < 128) × (l < 128)) ⌝ }
 {
-    let field = (t / 8) as u64;
-    let wire_type = t % 8;
-    let tag_end = idx + 1;
-    if wire_type == WIRE_LEN {
-        if tag_end < input.len() {
-            let l = input[tag_end];
-            if l < 128 {
-                let start = tag_end + 1;
-                let len = l as usize;
-                if len <= input.len() - start {
-                    return Step::At(Field {
-                        field,
-                        wire_type,
-                        tag_end,
-                        value: l as u64,
-                        start,
-                        next: start + len,
-                    });
-                }
-            }
-        }
+    if t % 8 != 2 {
+        return false;
     }
-    read_value(input, field, wire_type, tag_end)
+    if t < 8 {
+        return false;
+    }
+    if 128 <= t {
+        return false;
+    }
+    if 128 <= l {
+        return false;
+    }
+    true
 }
 
-// The field at idx, its tag and its value: the step that every decoder of a submessage takes. A tag of one byte, which every field of the gossipsub messages
-// has, is read without a call.
+// The field at idx, its tag and its value: the step that every decoder of a submessage takes. A length-delimited field whose tag and length are a byte each is
+// read without a call.
 pub fn read_field(input: &[u8], idx: usize) -> Step
     ensures { λ r. ⌜ r ≡ readField (now (input .entry)) idx ⌝ }
 {
-    if idx < input.len() {
-        let t = input[idx];
-        if 8 <= t {
-            if t < 128 {
-                return read_short_field(input, idx, t);
-            }
+    if input.len() <= idx {
+        return Step::End;
+    }
+    let tag_end = idx + 1;
+    if input.len() <= tag_end {
+        return read_any_field(input, idx);
+    }
+    let t = input[idx];
+    let l = input[tag_end];
+    let start = tag_end + 1;
+    let len = l as usize;
+    if is_short(t, l) {
+        if len <= input.len() - start {
+            return Step::At(Field {
+                field: (t / 8) as u64,
+                wire_type: WIRE_LEN,
+                tag_end,
+                value: l as u64,
+                start,
+                next: start + len,
+            });
         }
     }
     read_any_field(input, idx)
