@@ -317,10 +317,13 @@ fn emit_control(body: &[u8], out: &mut [u8], at: usize) -> usize
     ensures { λ r. ⌜ Puts (now (out .entry)) at (cond (hasControl (now (body .entry))) (bytesField 3 (mergedControl (now (body .entry)))) []) (now (out .exit)) r ⌝ }
 {
     let control = has_control(body);
-    let mut none = [0u8; 1];
-    let len = emit_merged(body, &mut none, 0);
     if control {
+        let mut none = [0u8; 1];
+        let len = emit_merged(body, &mut none, 0);
         let i = emit_head(3, len, out, at);
+        if out.len() < i + len {
+            return i + len;
+        }
         return emit_merged(body, out, i);
     }
     at
