@@ -152,41 +152,39 @@ fn emit_place(n: u64, input: &[u8], place: Place, out: &mut [u8], at: usize) -> 
     }
 }
 
-// The message's number, where it is its field n.
-fn emit_own(input: &[u8], kind: Kind, n: u64, out: &mut [u8], at: usize) -> usize
-    requires { ⌜ (n ≤ 6) × Fits at (cond (eqb n (varintField kind)) (numbered kind n (slotsOf kind (now input) .number)) []) ⌝ }
-    ensures { λ r. ⌜ Puts (now (out .entry)) at (cond (eqb n (varintField kind)) (numbered kind n (slotsOf kind (now (input .entry)) .number)) []) (now (out .exit)) r ⌝ }
+// A message's number, where it is its field n.
+fn emit_own(kind: Kind, n: u64, slots: Slots, out: &mut [u8], at: usize) -> usize
+    requires { ⌜ (n ≤ 6) × Fits at (cond (eqb n (varintField kind)) (numbered kind n (slots .number)) []) ⌝ }
+    ensures { λ r. ⌜ Puts (now (out .entry)) at (cond (eqb n (varintField kind)) (numbered kind n (slots .number)) []) (now (out .exit)) r ⌝ }
 {
     let own = varint_field(kind);
     if n == own {
-        let slots = slots_of(input, kind);
         let number = slots.number;
         return emit_number(kind, n, number, out, at);
     }
     at
 }
 
-// The bytes in a slot of the message, as its field n.
-fn emit_slot(input: &[u8], kind: Kind, n: u64, slot: u8, out: &mut [u8], at: usize) -> usize
-    requires { ⌜ (n ≤ 6) × Fits at (placed n (now input) (slotIn slot (slotsOf kind (now input)))) ⌝ }
-    ensures { λ r. ⌜ Puts (now (out .entry)) at (placed n (now (input .entry)) (slotIn slot (slotsOf kind (now (input .entry))))) (now (out .exit)) r ⌝ }
+// The bytes in a slot of a message, as its field n.
+fn emit_slot(input: &[u8], slots: Slots, n: u64, slot: u8, out: &mut [u8], at: usize) -> usize
+    requires { ⌜ (n ≤ 6) × Inside (now input) (slotIn slot slots) × Fits at (placed n (now input) (slotIn slot slots)) ⌝ }
+    ensures { λ r. ⌜ Puts (now (out .entry)) at (placed n (now (input .entry)) (slotIn slot slots)) (now (out .exit)) r ⌝ }
 {
-    let slots = slots_of(input, kind);
     let place = slot_in(slot, slots);
     emit_place(n, input, place, out, at)
 }
 
-// The part of a message's canonical bytes that stands for its field n.
-fn emit_part(input: &[u8], kind: Kind, n: u64, out: &mut [u8], at: usize) -> usize
-    requires { ⌜ (n ≤ 6) × Fits at (partOf kind n (now input)) ⌝ }
+// The part of a message's canonical bytes that stands for its field n, where its slots are at hand.
+fn emit_part(input: &[u8], kind: Kind, slots: Slots, n: u64, out: &mut [u8], at: usize) -> usize
+    requires { ⌜ (n ≤ 6) × (slots ≡ slotsOf kind (now input)) × Fits at (partOf kind n (now input)) ⌝ }
     ensures { λ r. ⌜ Puts (now (out .entry)) at (partOf kind n (now (input .entry))) (now (out .exit)) r ⌝ }
 {
     let role = role_of(kind, n, WIRE_LEN);
     match role {
-        Role::Skip => emit_own(input, kind, n, out, at),
+        Role::Skip => emit_own(kind, n, slots, out, at),
         Role::Number => at,
-        Role::Text(slot) => emit_slot(input, kind, n, slot, out, at),
-        Role::Bytes(slot) => emit_slot(input, kind, n, slot, out, at),
+        Role::Text(slot) => emit_slot(input, slots, n, slot, out, at),
+        Role::Bytes(slot) => emit_slot(input, slots, n, slot, out, at),
         Role::Topic => emit_each(input, n, role, out, at),
         Role::MessageId => emit_each(input, n, role, out, at),
         Role::Sub(_) => emit_each(input, n, role, out, at),
@@ -252,24 +250,26 @@ fn emit_value(part: &[u8], role: Role, out: &mut [u8], at: usize) -> usize
         Role::Topic => emit_bytes(part, out, at),
         Role::MessageId => emit_bytes(part, out, at),
         Role::Sub(kind) => {
-            let a = emit_part(part, kind, 1, out, at);
-            let b = emit_part(part, kind, 2, out, a);
-            let c = emit_part(part, kind, 3, out, b);
-            emit_part(part, kind, 4, out, c)
+            let slots = slots_of(part, kind);
+            let a = emit_part(part, kind, slots, 1, out, at);
+            let b = emit_part(part, kind, slots, 2, out, a);
+            let c = emit_part(part, kind, slots, 3, out, b);
+            emit_part(part, kind, slots, 4, out, c)
         }
     }
 }
 
-// The entries m of a field, where it is a control.
+// The entries m of a field, where it is a control: each is a submessage.
 fn emit_entry(body: &[u8], f: Field, m: u64, out: &mut [u8], at: usize) -> usize
-    requires { ⌜ (m ≤ 6) × Within (now body) f × Fits at (cond (isBytes 3 f) (partOf Kind.ControlMessage m (valueIn (now body) f)) []) ⌝ }
+    requires { ⌜ (1 ≤ m) × (m ≤ 4) × Within (now body) f × Fits at (cond (isBytes 3 f) (partOf Kind.ControlMessage m (valueIn (now body) f)) []) ⌝ }
     ensures { λ r. ⌜ Puts (now (out .entry)) at (cond (isBytes 3 f) (partOf Kind.ControlMessage m (valueIn (now (body .entry)) f)) []) (now (out .exit)) r ⌝ }
 {
     let start = f.start;
     let next = f.next;
     if f.wire_type == WIRE_LEN {
         if f.field == 3 {
-            return emit_part(&body[start..next], Kind::ControlMessage, m, out, at);
+            let role = role_of(Kind::ControlMessage, m, WIRE_LEN);
+            return emit_each(&body[start..next], m, role, out, at);
         }
     }
     at
@@ -277,7 +277,7 @@ fn emit_entry(body: &[u8], f: Field, m: u64, out: &mut [u8], at: usize) -> usize
 
 // The entries m of each control, one control after the other.
 fn emit_entries(body: &[u8], m: u64, out: &mut [u8], at: usize) -> usize
-    requires { ⌜ (m ≤ 6) × Fits at (entriesOf m (now body)) ⌝ }
+    requires { ⌜ (1 ≤ m) × (m ≤ 4) × Fits at (entriesOf m (now body)) ⌝ }
     ensures { λ r. ⌜ Puts (now (out .entry)) at (entriesOf m (now (body .entry))) (now (out .exit)) r ⌝ }
 {
     let mut i: usize = 0;

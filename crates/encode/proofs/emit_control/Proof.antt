@@ -11,11 +11,6 @@ use Rattle.encode.proofs.Parts.{head-fits, value-fits, sum-fits, field-
 use borrow.Author.Needs.{needs}
 use Rattle.encode.proofs.emit_control.Statement.{statement}
 use Rattle.encode.proofs.emit_control.Tie as tie
-use Rattle.encode.proofs.emit_control.Reads as reads
-use Rattle.encode.proofs.emit_control.Lts as lts
-use Rattle.encode.proofs.emit_head.Reads as emit-head-reads
-use Rattle.encode.proofs.emit_merged.Reads as emit-merged-reads
-use Rattle.message.proofs.has_control.Reads as has-control-reads
 
 -- src/lib.rt:319:9
 has-control-requires : tie.Need-has-control-requires
