@@ -3,3 +3,5 @@ pub mod CanonLaws
 pub mod Encode
 pub mod Puts
 pub mod Sign
+pub mod Tidy
+pub mod TidyLaws
