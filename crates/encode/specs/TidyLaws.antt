@@ -15,7 +15,7 @@ use Rattle.peer_id.specs.Uvarint.{uvarint}
 use Rattle.protobuf.specs.declared.Field.{Field}
 use Rattle.protobuf.specs.Grammar.{Payload, number, eight, bytes, four as word, Entry, Value, varint, i64, len-prefix, i32, Body, none as no-fields, field as a-field}
 use Rattle.protobuf.specs.Walk.{Fields, end, refused, _then_, whole, fieldsOf, payloadOf, entryOf, entriesOf as entryList, valueIn}
-use Rattle.protobuf.specs.Exactly.{Walks, exactly}
+use Rattle.protobuf.specs.Exactly.{exactly}
 use Rattle.protobuf.specs.Encode.{tag, varintField, bytesField}
 use Rattle.schema.specs.declared.Kind.{Kind}
 use Rattle.schema.specs.declared.Kind.the-variants as kind

@@ -14,6 +14,7 @@ ghost use Rattle.schema.specs.Count.{Within};
 ghost use Rattle.message.specs.Decode.{hasControl};
 ghost use Rattle.encode.specs.Canon.{eachAlong, placed, slotIn, valueOf, numbered, inner, partOf, canon, entriesOf, mergedControl, canonBody, signOf};
 ghost use Rattle.schema.specs.SlotsLaws.{Inside};
+ghost use Rattle.encode.specs.Tidy.{tidy, tidyAfter, bodyAfter, tidyBody};
 ghost use Rattle.encode.specs.Encode.{encodeAnswer, encodeLeft};
 ghost use Rattle.encode.specs.Sign.{signAnswer, signLeft};
 ghost use Rattle.basis.specs.Writing.{answer, written};
@@ -339,6 +340,129 @@ fn emit_body(body: &[u8], out: &mut [u8], at: usize) -> usize
     emit_control(body, out, b)
 }
 
+// The least number that may stand after a field of a message, where those from low on may stand there, or 0 where the field does not pass.
+fn tidy_after(input: &[u8], kind: Kind, low: u64, f: Field) -> u64
+    requires { ⌜ Within (now input) f ⌝ }
+    ensures { λ r. ⌜ r ≡ tidyAfter kind (now (input .entry)) low f ⌝ }
+{
+    if f.field < low {
+        return 0;
+    }
+    if 4 < f.field {
+        return 0;
+    }
+    let role = role_of(kind, f.field, f.wire_type);
+    match role {
+        Role::Skip => 0,
+        Role::Number => {
+            let value = value_of(kind, f.value);
+            if value == f.value {
+                return f.field + 1;
+            }
+            0
+        }
+        Role::Text(_) => f.field + 1,
+        Role::Bytes(_) => f.field + 1,
+        Role::Topic => f.field,
+        Role::MessageId => f.field,
+        Role::Sub(k) => {
+            let start = f.start;
+            let next = f.next;
+            if is_tidy(&input[start..next], k) {
+                return f.field;
+            }
+            0
+        }
+    }
+}
+
+// Whether a message is its own canonical bytes, as far as one walk tells: its fields are known ones in the order of their numbers.
+fn is_tidy(input: &[u8], kind: Kind) -> bool
+    ensures { λ r. ⌜ r ≡ tidy kind (now (input .entry)) ⌝ }
+{
+    let mut at: usize = 0;
+    let mut low: u64 = 1;
+    while at < input.len() {
+        let step = read_field(input, at);
+        match step {
+            Step::End => {
+                return true;
+            }
+            Step::Refused(_) => {
+                return false;
+            }
+            Step::At(f) => {
+                let after = tidy_after(input, kind, low, f);
+                if after == 0 {
+                    return false;
+                }
+                low = after;
+                at = f.next;
+            }
+        }
+    }
+    true
+}
+
+// The same of a field of a body: messages stand as they are, and there is at most one control.
+fn body_after(body: &[u8], low: u64, f: Field) -> u64
+    requires { ⌜ Within (now body) f ⌝ }
+    ensures { λ r. ⌜ r ≡ bodyAfter (now (body .entry)) low f ⌝ }
+{
+    let start = f.start;
+    let next = f.next;
+    if f.wire_type == WIRE_LEN {
+        if f.field < low {
+            return 0;
+        }
+        if f.field == 1 {
+            if is_tidy(&body[start..next], Kind::SubOpts) {
+                return 1;
+            }
+            return 0;
+        }
+        if f.field == 2 {
+            return 2;
+        }
+        if f.field == 3 {
+            if is_tidy(&body[start..next], Kind::ControlMessage) {
+                return 4;
+            }
+            return 0;
+        }
+        return 0;
+    }
+    0
+}
+
+// Whether a body is its own canonical bytes, as far as one walk tells.
+fn is_tidy_body(body: &[u8]) -> bool
+    ensures { λ r. ⌜ r ≡ tidyBody (now (body .entry)) ⌝ }
+{
+    let mut at: usize = 0;
+    let mut low: u64 = 1;
+    while at < body.len() {
+        let step = read_field(body, at);
+        match step {
+            Step::End => {
+                return true;
+            }
+            Step::Refused(_) => {
+                return false;
+            }
+            Step::At(f) => {
+                let after = body_after(body, low, f);
+                if after == 0 {
+                    return false;
+                }
+                low = after;
+                at = f.next;
+            }
+        }
+    }
+    true
+}
+
 // Writes a body anew at the front of the lent bytes: what it means, in its canonical bytes. A refusal, and a lack of room, leave them as they were.
 pub fn encode(body: &[u8], out: &mut [u8]) -> Encoded
     ensures { λ r. ⌜ r ≡ encodeAnswer (now (body .entry)) (now (out .entry)) ⌝ }
@@ -353,6 +477,14 @@ pub fn encode(body: &[u8], out: &mut [u8]) -> Encoded
         Counted::Records(n) => {
             if MAX_RECORDS < n {
                 return Encoded::Refused(WireError::TooManyRecords { records: n });
+            }
+            let tidy = is_tidy_body(body);
+            if tidy {
+                if out.len() < body.len() {
+                    return Encoded::Room(body.len());
+                }
+                emit_bytes(body, out, 0);
+                return Encoded::Bytes(body.len());
             }
             let mut none = [0u8; 1];
             let needed = emit_body(body, &mut none, 0);

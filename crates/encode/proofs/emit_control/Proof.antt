@@ -12,51 +12,39 @@ use borrow.Author.Needs.{needs}
 use Rattle.encode.proofs.emit_control.Statement.{statement}
 use Rattle.encode.proofs.emit_control.Tie as tie
 
--- src/lib.rt:319:9
 has-control-requires : tie.Need-has-control-requires
 has-control-requires c κs = search needs
 
--- src/lib.rt:322:37
 slice-aggregate-emit-merged : tie.Need-slice-aggregate-emit-merged
 slice-aggregate-emit-merged c = search needs
 
--- src/lib.rt:322:13
 emit-merged-requires : tie.Need-emit-merged-requires
 emit-merged-requires c κs = (c .before .before .before .before .before .pre .0)
 
--- src/lib.rt:323:13
 emit-head-requires : tie.Need-emit-head-requires
 emit-head-requires c κs = let a = (c .before .before .before .before .before .before .before .before .args) in let x = mergedControl (a .body .now) in (omega arith, head-fits 3 _ x (a .at) (ap (λ (t : Bool). cond t (bytesField 3 x) []) (sym (c .before .before .before .before .before .has-control .ensures) ∙ (c .before .before .before .before .if1 .taken))) (c .before .before .before .before .before .before .before .before .pre .1) _ _ _ (c .before .before .emit-merged .ensures))
 
--- src/lib.rt:324:24
 add-if2 : tie.Need-add-if2
 add-if2 c = let a = (c .before .before .before .before .before .before .before .before .before .before .before .args) in let x = mergedControl (a .body .now) in let z = sum-fits 3 _ x (a .at) (ap (λ (t : Bool). cond t (bytesField 3 x) []) (sym (c .before .before .before .before .before .before .before .before .has-control .ensures) ∙ (c .before .before .before .before .before .before .before .if1 .taken))) (c .before .before .before .before .before .before .before .before .before .before .before .pre .1) _ _ _ (c .before .before .before .before .before .emit-merged .ensures) _ _ _ (c .before .before .emit-head .ensures) in omega arith
 
--- src/lib.rt:325:20
 add-result : tie.Need-add-result
 add-result c = let a = (c .before .before .before .before .before .before .before .before .before .before .before .before .args) in let x = mergedControl (a .body .now) in let z = sum-fits 3 _ x (a .at) (ap (λ (t : Bool). cond t (bytesField 3 x) []) (sym (c .before .before .before .before .before .before .before .before .before .has-control .ensures) ∙ (c .before .before .before .before .before .before .before .before .if1 .taken))) (c .before .before .before .before .before .before .before .before .before .before .before .before .pre .1) _ _ _ (c .before .before .before .before .before .before .emit-merged .ensures) _ _ _ (c .before .before .before .emit-head .ensures) in omega arith
 
--- src/lib.rt:325:13
 same-length : tie.Need-same-length
 same-length c = search needs
 
--- src/lib.rt:325:13
 returns : tie.Need-returns
 returns c = let a = (c .before .before .before .before .before .before .before .before .before .before .before .before .args) in let x = mergedControl (a .body .now) in field-short 3 _ x (a .at) (ap (λ (t : Bool). cond t (bytesField 3 x) []) (sym (c .before .before .before .before .before .before .before .before .before .has-control .ensures) ∙ (c .before .before .before .before .before .before .before .before .if1 .taken))) (c .before .before .before .before .before .before .before .before .before .before .before .before .pre .1) _ _ _ (c .before .before .before .before .before .before .emit-merged .ensures) _ _ _ (c .before .before .before .emit-head .ensures) (search needs) (c .if2 .taken)
 
--- src/lib.rt:327:9
 emit-merged-requires-2 : tie.Need-emit-merged-requires-2
 emit-merged-requires-2 c κs = let a = (c .before .before .before .before .before .before .before .before .before .before .before .before .before .args) in let x = mergedControl (a .body .now) in value-fits 3 _ x (a .at) (ap (λ (t : Bool). cond t (bytesField 3 x) []) (sym (c .before .before .before .before .before .before .before .before .before .before .has-control .ensures) ∙ (c .before .before .before .before .before .before .before .before .before .if1 .taken))) (c .before .before .before .before .before .before .before .before .before .before .before .before .before .pre .1) _ _ _ (c .before .before .before .before .before .before .before .emit-merged .ensures) _ _ _ (c .before .before .before .before .emit-head .ensures)
 
--- src/lib.rt:327:9
 same-length-2 : tie.Need-same-length-2
 same-length-2 c = search needs
 
--- src/lib.rt:327:9
 returns-2 : tie.Need-returns-2
 returns-2 c = let a = (c .before .before .before .before .before .before .before .before .before .before .before .before .before .before .before .before .args) in let x = mergedControl (a .body .now) in field-puts 3 _ x (a .at) (ap (λ (t : Bool). cond t (bytesField 3 x) []) (sym (c .before .before .before .before .before .before .before .before .before .before .before .before .before .has-control .ensures) ∙ (c .before .before .before .before .before .before .before .before .before .before .before .before .if1 .taken))) (c .before .before .before .before .before .before .before .before .before .before .before .before .before .before .before .before .pre .1) _ _ _ (c .before .before .before .before .before .before .before .before .before .before .emit-merged .ensures) _ _ _ (c .before .before .before .before .before .before .before .emit-head .ensures) _ _ (c .before .before .emit-merged2 .ensures)
 
--- src/lib.rt:315:1
 returns-3 : tie.Need-returns-3
 returns-3 c = let a = (c .before .before .before .before .args) in let x = mergedControl (a .body .now) in puts-same (a .out .now) (a .at) [] _ _ _ (sym (ap (λ (t : Bool). cond t (bytesField 3 x) []) (sym (c .before .has-control .ensures) ∙ (c .if1 .left)))) (puts-none (a .out .now) (a .at))
 
