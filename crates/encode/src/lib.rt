@@ -497,21 +497,33 @@ pub fn encode(body: &[u8], out: &mut [u8]) -> Encoded
     }
 }
 
-// Writes the bytes of a message that are signed at the front of out.
+// The bytes of a message that are signed: the prefix, and the message's canonical bytes.
+fn emit_signed(part: &[u8], out: &mut [u8]) -> usize
+    requires { ⌜ length (now part) ≤ 65536 ⌝ }
+    ensures { λ r. ⌜ Puts (now (out .entry)) 0 (signOf (now (part .entry))) (now (out .exit)) r ⌝ }
+{
+    let i = emit_bytes(b"libp2p-pubsub:", out, 0);
+    emit_value(part, Role::Sub(Kind::RawMessage), out, i)
+}
+
+// Writes the bytes of a message that are signed at the front of out. They are at most 14 more than the message, and measured only where there
+// may be no room for them.
 fn sign_part(part: &[u8], out: &mut [u8]) -> MessageBytes
     requires { ⌜ length (now part) ≤ 65536 ⌝ }
     ensures { λ r. ⌜ r ≡ ofWritten (answer (signOf (now (part .entry))) (now (out .entry))) ⌝ }
     ensures { λ _. ⌜ now (out .exit) ≡ written (signOf (now (part .entry))) (now (out .entry)) ⌝ }
 {
-    let role = Role::Sub(Kind::RawMessage);
-    let mut none = [0u8; 1];
-    let needed = emit_value(part, role, &mut none, 14);
-    if out.len() < needed {
-        return MessageBytes::Room(needed);
+    if out.len() < part.len() + 14 {
+        let mut none = [0u8; 1];
+        let needed = emit_signed(part, &mut none);
+        if out.len() < needed {
+            return MessageBytes::Room(needed);
+        }
+        emit_signed(part, out);
+        return MessageBytes::Bytes(needed);
     }
-    let i = emit_bytes(b"libp2p-pubsub:", out, 0);
-    emit_value(part, role, out, i);
-    MessageBytes::Bytes(needed)
+    let end = emit_signed(part, out);
+    MessageBytes::Bytes(end)
 }
 
 // Writes the bytes that are signed of the message at an index: the prefix, then from, data, seqno and every topic.
