@@ -1,13 +1,14 @@
 -- The canonical bytes by cases, as the writers go: what a number, a place, a field, a role and a step of the walk stand for.
 use Prim.Native.Nat.{ℕ, suc, _+_, _-_, _*_, _≤_, _<_}
-use mathlib.Core.Path.{_≡_, sym, ap, _∙_}
+use mathlib.Core.Path.{_≡_, sym, ap, subst, _∙_}
 use mathlib.Core.List.{List, [], _++_, append-assoc}
 use mathlib.Core.Bool.{cond}
 use native.Mathlib.Omega.{arith}
 use native.Mathlib.Nat.{zero-add}
 use lib.ListN.{length, drop, length-append, length-take, length-drop}
 use lib.Dec.{eqb}
-use borrow.Author.Tests.{eq-eqb, ne-eqb}
+use borrow.Author.Tests.{eq-eqb, ne-eqb, eqb-true, eqb-false}
+use Rattle.basis.specs.Cases.{either}
 use Rattle.peer_id.specs.Uvarint.{uvarint}
 use Rattle.protobuf.specs.declared.Field.{Field}
 use Rattle.protobuf.specs.declared.Step.the-variants as step
@@ -25,10 +26,12 @@ use Rattle.schema.specs.declared.Place.the-variants as place
 use Rattle.schema.specs.declared.Number.{Number as Num}
 use Rattle.schema.specs.declared.Number.the-variants as number
 use Rattle.schema.specs.Schema.{varintField as numberField, roleOf, rank}
+use Rattle.schema.specs.declared.Slots.{Slots}
 use Rattle.schema.specs.Slots.{slotsOf}
+use Rattle.schema.specs.SlotsLaws.{Inside}
 use Rattle.schema.specs.CountLaws.{sub-rank}
 use Rattle.encode.specs.Canon.{eachAlong, placed, slotIn, valueOf, numbered, inner, rolePart, canon, partOf, entriesAlong}
-use Rattle.encode.specs.CanonLaws.{canon-four}
+use Rattle.encode.specs.CanonLaws.{canon-four, slots-inside}
 use Rattle.encode.specs.Puts.{Puts, Fits, puts-none, puts-short, puts-same, puts-append, fits-same, fits-first, fits-next}
 
 -- ---- one field
@@ -76,17 +79,19 @@ module _ (k : Kind) (n : ℕ) (s : List ℕ) (r : Role) (e : r ≡ roleOf k n 2)
   unfolding partOf
   part-is = ap (rolePart canon k n s) (sym e)
 
-  pub part-skip : r ≡ Skip → partOf k n s ≡ cond (eqb n (numberField k)) (numbered k n (slotsOf k s .number)) []
-  part-skip h = part-is ∙ ap (rolePart canon k n s) h
-
   pub part-number : r ≡ Number → partOf k n s ≡ []
   part-number h = part-is ∙ ap (rolePart canon k n s) h
 
-  pub part-text : (slot : ℕ) → r ≡ Text slot → partOf k n s ≡ placed n s (slotIn slot (slotsOf k s))
-  part-text slot h = part-is ∙ ap (rolePart canon k n s) h
+  -- with the slots at hand
+  module _ (t : Slots) (q : t ≡ slotsOf k s) where
+    pub part-skip : r ≡ Skip → partOf k n s ≡ cond (eqb n (numberField k)) (numbered k n (t .number)) []
+    part-skip h = part-is ∙ ap (rolePart canon k n s) h ∙ ap (λ (x : Slots). cond (eqb n (numberField k)) (numbered k n (x .number)) []) (sym q)
 
-  pub part-bytes : (slot : ℕ) → r ≡ Bytes slot → partOf k n s ≡ placed n s (slotIn slot (slotsOf k s))
-  part-bytes slot h = part-is ∙ ap (rolePart canon k n s) h
+    pub part-text : (slot : ℕ) → r ≡ Text slot → partOf k n s ≡ placed n s (slotIn slot t)
+    part-text slot h = part-is ∙ ap (rolePart canon k n s) h ∙ ap (λ (x : Slots). placed n s (slotIn slot x)) (sym q)
+
+    pub part-bytes : (slot : ℕ) → r ≡ Bytes slot → partOf k n s ≡ placed n s (slotIn slot t)
+    part-bytes slot h = part-is ∙ ap (rolePart canon k n s) h ∙ ap (λ (x : Slots). placed n s (slotIn slot x)) (sym q)
 
   abbrev each : Role → List ℕ
   each x = eachAlong (inner canon x) n s (fieldsOf s)
@@ -99,6 +104,18 @@ module _ (k : Kind) (n : ℕ) (s : List ℕ) (r : Role) (e : r ≡ roleOf k n 2)
 
   pub part-sub : (j : Kind) → r ≡ Sub j → partOf k n s ≡ each r
   part-sub j h = part-is ∙ ap (rolePart canon k n s) h ∙ ap each (sym h)
+
+pub slot-there : (k : Kind) (s : List ℕ) (t : Slots) (slot : ℕ) → t ≡ slotsOf k s → Inside s (slotIn slot t)
+slot-there k s t slot q = subst (λ (x : Slots). Inside s (slotIn slot x)) (sym q) (slots-inside k s slot)
+
+-- a control's fields 1 to 4 are submessages
+pub control-part : (m : ℕ) (s : List ℕ) (r : Role) → r ≡ roleOf kind.ControlMessage m 2 → 1 ≤ m → m ≤ 4 → partOf kind.ControlMessage m s ≡ eachAlong (inner canon r) m s (fieldsOf s)
+unfolding partOf roleOf
+control-part m s r q l h =
+    either (eqb m 1) (λ a. rw (q, eqb-true m 1 a))
+    (λ a. either (eqb m 2) (λ b. rw (q, eqb-true m 2 b))
+    (λ b. either (eqb m 3) (λ c. rw (q, eqb-true m 3 c))
+    (λ c. let x = eqb-false m 1 a in let y = eqb-false m 2 b in let z = eqb-false m 3 c in let d : m ≡ 4 = omega arith in rw (q, d))))
 
 -- ---- what a field holds, by its role
 pub value-is : (r x : Role) (p : List ℕ) → r ≡ x → inner canon r p ≡ inner canon x p

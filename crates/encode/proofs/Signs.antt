@@ -1,10 +1,11 @@
--- Sign bytes: measured, and then the prefix and the message's canonical bytes one after the other.
+-- Sign bytes: where they end, that they fit, and which case it is.
 use Prim.Native.Nat.{ℕ, _+_, _-_, _≤_, _<_}
-use mathlib.Core.Path.{_≡_, refl, sym, ap, _∙_}
-use mathlib.Core.List.{List, _++_}
+use mathlib.Core.Path.{_≡_, sym, ap, _∙_}
+use mathlib.Core.List.{List}
 use native.Mathlib.Omega.{arith}
 use native.Mathlib.Nat.{zero-add}
-use lib.ListN.{length, take, drop, length-append, length-take, length-drop}
+use lib.ListN.{length, drop, length-append, length-take, length-drop}
+use Rattle.basis.specs.Bytes.{Bytes as Octets}
 use Rattle.basis.specs.Writing.{answer, written}
 use Rattle.basis.specs.Lists.{answer-fits, answer-short, written-fits, written-short}
 use Rattle.protobuf.specs.declared.WireError.{WireError}
@@ -17,7 +18,8 @@ use Rattle.ids.specs.declared.MessageBytes.{MessageBytes}
 use Rattle.ids.specs.declared.MessageBytes.the-variants.{Bytes, Room, Refused, NoMessage}
 use Rattle.ids.specs.Ids.{acceptOf, messageAt, ofWritten}
 use Rattle.encode.specs.Canon.{canon, signOf}
-use Rattle.encode.specs.Puts.{Puts, puts-append}
+use Rattle.encode.specs.SignLaws.{message-shorter}
+use Rattle.encode.specs.Puts.{Puts}
 use Rattle.encode.specs.Sign.{signAt, signChecked, signAnswer, signedAt, signedChecked, signLeft}
 
 sign-length : (p : List ℕ) → length (signOf p) ≡ 14 + length (canon kind.RawMessage p)
@@ -25,21 +27,23 @@ unfolding signOf
 sign-length p = length-append signPrefix (canon kind.RawMessage p)
 
 -- the room is short, or the bytes are written
-pub sign-short : (p none after out : List ℕ) (needed : ℕ) → Puts none 14 (canon kind.RawMessage p) after needed → length out < needed → (Room needed ≡ ofWritten (answer (signOf p) out)) × (out ≡ written (signOf p) out)
-sign-short p none after out needed m h =
-    let n = sign-length p in
-    let e : needed ≡ length (signOf p) = m .ends ∙ sym n in
-    let k : length out < length (signOf p) = omega arith in
-    (ap Room e ∙ sym (ap ofWritten (answer-short (signOf p) out k)), sym (written-short (signOf p) out k))
+module _ (p out : List ℕ) (needed : ℕ) (e : needed ≡ length (signOf p)) where
+  pub sign-short : length out < needed → (Room needed ≡ ofWritten (answer (signOf p) out)) × (out ≡ written (signOf p) out)
+  sign-short h =
+      let k : length out < length (signOf p) = omega arith in
+      (ap Room e ∙ sym (ap ofWritten (answer-short (signOf p) out k)), sym (written-short (signOf p) out k))
 
-pub sign-put : (p none after out o₁ o₂ : List ℕ) (needed i end : ℕ) → Puts none 14 (canon kind.RawMessage p) after needed → needed ≤ length out → Puts out 0 signPrefix o₁ i → Puts o₁ i (canon kind.RawMessage p) o₂ end → (Bytes needed ≡ ofWritten (answer (signOf p) out)) × (o₂ ≡ written (signOf p) out)
-unfolding signOf
-sign-put p none after out o₁ o₂ needed i end m h a b =
-    let n = sign-length p in
-    let e : needed ≡ length (signOf p) = m .ends ∙ sym n in
-    let k : length (signOf p) ≤ length out = omega arith in
-    let r = puts-append out o₁ o₂ 0 i end signPrefix (canon kind.RawMessage p) a b in
-    (ap Bytes e ∙ sym (ap ofWritten (answer-fits (signOf p) out k)), r .holds (omega arith) ∙ sym (written-fits (signOf p) out k))
+  pub sign-put : needed ≤ length out → (after : List ℕ) (end : ℕ) → Puts out 0 (signOf p) after end → (Bytes needed ≡ ofWritten (answer (signOf p) out)) × (after ≡ written (signOf p) out)
+  sign-put h after end r =
+      let k : length (signOf p) ≤ length out = omega arith in
+      (ap Bytes e ∙ sym (ap ofWritten (answer-fits (signOf p) out k)), r .holds (omega arith) ∙ sym (written-fits (signOf p) out k))
+
+pub signed-end : (p out after : List ℕ) (end : ℕ) → Puts out 0 (signOf p) after end → end ≡ length (signOf p)
+signed-end p out after end r = r .ends ∙ zero-add (length (signOf p))
+
+-- 14 bytes more than the message are enough
+pub sign-fits : (p out after : List ℕ) (end : ℕ) → Octets p → length p + 14 ≤ length out → Puts out 0 (signOf p) after end → end ≤ length out
+sign-fits p out after end b h r = let m = message-shorter p b in omega (arith, sign-length p, signed-end p out after end r)
 
 -- a part is no longer than the whole
 pub part-small : (s : List ℕ) (a e : ℕ) → length s ≤ 65536 → length (between s a e) ≤ 65536

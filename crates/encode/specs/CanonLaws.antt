@@ -64,7 +64,7 @@ same-part f g k n s Topic h = same-each (inner f Topic) (inner g Topic) n s (fie
 same-part f g k n s MessageId h = same-each (inner f MessageId) (inner g MessageId) n s (fieldsOf s) (λ p. refl)
 same-part f g k n s (Sub j) h = same-each (inner f (Sub j)) (inner g (Sub j)) n s (fieldsOf s) (λ p. h j p refl)
 
-same-four : (f g : ℕ → List ℕ) → ((n : ℕ) → f n ≡ g n) → four f ≡ four g
+pub same-four : (f g : ℕ → List ℕ) → ((n : ℕ) → f n ≡ g n) → four f ≡ four g
 same-four f g h = ap₂ _++_ (h 1) (ap₂ _++_ (h 2) (ap₂ _++_ (h 3) (h 4)))
 
 deep : (d e : ℕ) (k : Kind) (s : List ℕ) → rank k ≤ d → rank k ≤ e → canonTo d k s ≡ canonTo e k s
@@ -187,7 +187,7 @@ cond-most false xs = omega arith
 value-length : (s : List ℕ) (f : Field) → length (valueIn s f) ≤ f .next - f .start
 value-length s f = rw (length-take (f .next - f .start) (drop (f .start) s)) (omega arith)
 
-value-bytes : (s : List ℕ) (f : Field) → Bytes s → Bytes (valueIn s f)
+pub value-bytes : (s : List ℕ) (f : Field) → Bytes s → Bytes (valueIn s f)
 value-bytes s f b = take-bytes (f .next - f .start) (drop (f .start) s) (drop-bytes (f .start) s b)
 
 -- a field's bytes and those of the fields after it, at most y for each byte of the message

@@ -14,6 +14,7 @@ ghost use Rattle.schema.specs.Count.{Within};
 ghost use Rattle.message.specs.Decode.{hasControl};
 ghost use Rattle.encode.specs.Canon.{eachAlong, placed, slotIn, valueOf, numbered, inner, partOf, canon, entriesOf, mergedControl, canonBody, signOf};
 ghost use Rattle.schema.specs.SlotsLaws.{Inside};
+ghost use Rattle.encode.specs.Tidy.{tidy, tidyAfter, bodyAfter, tidyBody};
 ghost use Rattle.encode.specs.Encode.{encodeAnswer, encodeLeft};
 ghost use Rattle.encode.specs.Sign.{signAnswer, signLeft};
 ghost use Rattle.basis.specs.Writing.{answer, written};
@@ -152,41 +153,39 @@ fn emit_place(n: u64, input: &[u8], place: Place, out: &mut [u8], at: usize) -> 
     }
 }
 
-// The message's number, where it is its field n.
-fn emit_own(input: &[u8], kind: Kind, n: u64, out: &mut [u8], at: usize) -> usize
-    requires { ⌜ (n ≤ 6) × Fits at (cond (eqb n (varintField kind)) (numbered kind n (slotsOf kind (now input) .number)) []) ⌝ }
-    ensures { λ r. ⌜ Puts (now (out .entry)) at (cond (eqb n (varintField kind)) (numbered kind n (slotsOf kind (now (input .entry)) .number)) []) (now (out .exit)) r ⌝ }
+// A message's number, where it is its field n.
+fn emit_own(kind: Kind, n: u64, slots: Slots, out: &mut [u8], at: usize) -> usize
+    requires { ⌜ (n ≤ 6) × Fits at (cond (eqb n (varintField kind)) (numbered kind n (slots .number)) []) ⌝ }
+    ensures { λ r. ⌜ Puts (now (out .entry)) at (cond (eqb n (varintField kind)) (numbered kind n (slots .number)) []) (now (out .exit)) r ⌝ }
 {
     let own = varint_field(kind);
     if n == own {
-        let slots = slots_of(input, kind);
         let number = slots.number;
         return emit_number(kind, n, number, out, at);
     }
     at
 }
 
-// The bytes in a slot of the message, as its field n.
-fn emit_slot(input: &[u8], kind: Kind, n: u64, slot: u8, out: &mut [u8], at: usize) -> usize
-    requires { ⌜ (n ≤ 6) × Fits at (placed n (now input) (slotIn slot (slotsOf kind (now input)))) ⌝ }
-    ensures { λ r. ⌜ Puts (now (out .entry)) at (placed n (now (input .entry)) (slotIn slot (slotsOf kind (now (input .entry))))) (now (out .exit)) r ⌝ }
+// The bytes in a slot of a message, as its field n.
+fn emit_slot(input: &[u8], slots: Slots, n: u64, slot: u8, out: &mut [u8], at: usize) -> usize
+    requires { ⌜ (n ≤ 6) × Inside (now input) (slotIn slot slots) × Fits at (placed n (now input) (slotIn slot slots)) ⌝ }
+    ensures { λ r. ⌜ Puts (now (out .entry)) at (placed n (now (input .entry)) (slotIn slot slots)) (now (out .exit)) r ⌝ }
 {
-    let slots = slots_of(input, kind);
     let place = slot_in(slot, slots);
     emit_place(n, input, place, out, at)
 }
 
-// The part of a message's canonical bytes that stands for its field n.
-fn emit_part(input: &[u8], kind: Kind, n: u64, out: &mut [u8], at: usize) -> usize
-    requires { ⌜ (n ≤ 6) × Fits at (partOf kind n (now input)) ⌝ }
+// The part of a message's canonical bytes that stands for its field n, where its slots are at hand.
+fn emit_part(input: &[u8], kind: Kind, slots: Slots, n: u64, out: &mut [u8], at: usize) -> usize
+    requires { ⌜ (n ≤ 6) × (slots ≡ slotsOf kind (now input)) × Fits at (partOf kind n (now input)) ⌝ }
     ensures { λ r. ⌜ Puts (now (out .entry)) at (partOf kind n (now (input .entry))) (now (out .exit)) r ⌝ }
 {
     let role = role_of(kind, n, WIRE_LEN);
     match role {
-        Role::Skip => emit_own(input, kind, n, out, at),
+        Role::Skip => emit_own(kind, n, slots, out, at),
         Role::Number => at,
-        Role::Text(slot) => emit_slot(input, kind, n, slot, out, at),
-        Role::Bytes(slot) => emit_slot(input, kind, n, slot, out, at),
+        Role::Text(slot) => emit_slot(input, slots, n, slot, out, at),
+        Role::Bytes(slot) => emit_slot(input, slots, n, slot, out, at),
         Role::Topic => emit_each(input, n, role, out, at),
         Role::MessageId => emit_each(input, n, role, out, at),
         Role::Sub(_) => emit_each(input, n, role, out, at),
@@ -252,24 +251,26 @@ fn emit_value(part: &[u8], role: Role, out: &mut [u8], at: usize) -> usize
         Role::Topic => emit_bytes(part, out, at),
         Role::MessageId => emit_bytes(part, out, at),
         Role::Sub(kind) => {
-            let a = emit_part(part, kind, 1, out, at);
-            let b = emit_part(part, kind, 2, out, a);
-            let c = emit_part(part, kind, 3, out, b);
-            emit_part(part, kind, 4, out, c)
+            let slots = slots_of(part, kind);
+            let a = emit_part(part, kind, slots, 1, out, at);
+            let b = emit_part(part, kind, slots, 2, out, a);
+            let c = emit_part(part, kind, slots, 3, out, b);
+            emit_part(part, kind, slots, 4, out, c)
         }
     }
 }
 
-// The entries m of a field, where it is a control.
+// The entries m of a field, where it is a control: each is a submessage.
 fn emit_entry(body: &[u8], f: Field, m: u64, out: &mut [u8], at: usize) -> usize
-    requires { ⌜ (m ≤ 6) × Within (now body) f × Fits at (cond (isBytes 3 f) (partOf Kind.ControlMessage m (valueIn (now body) f)) []) ⌝ }
+    requires { ⌜ (1 ≤ m) × (m ≤ 4) × Within (now body) f × Fits at (cond (isBytes 3 f) (partOf Kind.ControlMessage m (valueIn (now body) f)) []) ⌝ }
     ensures { λ r. ⌜ Puts (now (out .entry)) at (cond (isBytes 3 f) (partOf Kind.ControlMessage m (valueIn (now (body .entry)) f)) []) (now (out .exit)) r ⌝ }
 {
     let start = f.start;
     let next = f.next;
     if f.wire_type == WIRE_LEN {
         if f.field == 3 {
-            return emit_part(&body[start..next], Kind::ControlMessage, m, out, at);
+            let role = role_of(Kind::ControlMessage, m, WIRE_LEN);
+            return emit_each(&body[start..next], m, role, out, at);
         }
     }
     at
@@ -277,7 +278,7 @@ fn emit_entry(body: &[u8], f: Field, m: u64, out: &mut [u8], at: usize) -> usize
 
 // The entries m of each control, one control after the other.
 fn emit_entries(body: &[u8], m: u64, out: &mut [u8], at: usize) -> usize
-    requires { ⌜ (m ≤ 6) × Fits at (entriesOf m (now body)) ⌝ }
+    requires { ⌜ (1 ≤ m) × (m ≤ 4) × Fits at (entriesOf m (now body)) ⌝ }
     ensures { λ r. ⌜ Puts (now (out .entry)) at (entriesOf m (now (body .entry))) (now (out .exit)) r ⌝ }
 {
     let mut i: usize = 0;
@@ -317,10 +318,13 @@ fn emit_control(body: &[u8], out: &mut [u8], at: usize) -> usize
     ensures { λ r. ⌜ Puts (now (out .entry)) at (cond (hasControl (now (body .entry))) (bytesField 3 (mergedControl (now (body .entry)))) []) (now (out .exit)) r ⌝ }
 {
     let control = has_control(body);
-    let mut none = [0u8; 1];
-    let len = emit_merged(body, &mut none, 0);
     if control {
+        let mut none = [0u8; 1];
+        let len = emit_merged(body, &mut none, 0);
         let i = emit_head(3, len, out, at);
+        if out.len() < i + len {
+            return i + len;
+        }
         return emit_merged(body, out, i);
     }
     at
@@ -334,6 +338,129 @@ fn emit_body(body: &[u8], out: &mut [u8], at: usize) -> usize
     let a = emit_each(body, 1, Role::Sub(Kind::SubOpts), out, at);
     let b = emit_each(body, 2, Role::Topic, out, a);
     emit_control(body, out, b)
+}
+
+// The least number that may stand after a field of a message, where those from low on may stand there, or 0 where the field does not pass.
+fn tidy_after(input: &[u8], kind: Kind, low: u64, f: Field) -> u64
+    requires { ⌜ Within (now input) f ⌝ }
+    ensures { λ r. ⌜ r ≡ tidyAfter kind (now (input .entry)) low f ⌝ }
+{
+    if f.field < low {
+        return 0;
+    }
+    if 4 < f.field {
+        return 0;
+    }
+    let role = role_of(kind, f.field, f.wire_type);
+    match role {
+        Role::Skip => 0,
+        Role::Number => {
+            let value = value_of(kind, f.value);
+            if value == f.value {
+                return f.field + 1;
+            }
+            0
+        }
+        Role::Text(_) => f.field + 1,
+        Role::Bytes(_) => f.field + 1,
+        Role::Topic => f.field,
+        Role::MessageId => f.field,
+        Role::Sub(k) => {
+            let start = f.start;
+            let next = f.next;
+            if is_tidy(&input[start..next], k) {
+                return f.field;
+            }
+            0
+        }
+    }
+}
+
+// Whether a message is its own canonical bytes, as far as one walk tells: its fields are known ones in the order of their numbers.
+fn is_tidy(input: &[u8], kind: Kind) -> bool
+    ensures { λ r. ⌜ r ≡ tidy kind (now (input .entry)) ⌝ }
+{
+    let mut at: usize = 0;
+    let mut low: u64 = 1;
+    while at < input.len() {
+        let step = read_field(input, at);
+        match step {
+            Step::End => {
+                return true;
+            }
+            Step::Refused(_) => {
+                return false;
+            }
+            Step::At(f) => {
+                let after = tidy_after(input, kind, low, f);
+                if after == 0 {
+                    return false;
+                }
+                low = after;
+                at = f.next;
+            }
+        }
+    }
+    true
+}
+
+// The same of a field of a body: messages stand as they are, and there is at most one control.
+fn body_after(body: &[u8], low: u64, f: Field) -> u64
+    requires { ⌜ Within (now body) f ⌝ }
+    ensures { λ r. ⌜ r ≡ bodyAfter (now (body .entry)) low f ⌝ }
+{
+    let start = f.start;
+    let next = f.next;
+    if f.wire_type == WIRE_LEN {
+        if f.field < low {
+            return 0;
+        }
+        if f.field == 1 {
+            if is_tidy(&body[start..next], Kind::SubOpts) {
+                return 1;
+            }
+            return 0;
+        }
+        if f.field == 2 {
+            return 2;
+        }
+        if f.field == 3 {
+            if is_tidy(&body[start..next], Kind::ControlMessage) {
+                return 4;
+            }
+            return 0;
+        }
+        return 0;
+    }
+    0
+}
+
+// Whether a body is its own canonical bytes, as far as one walk tells.
+fn is_tidy_body(body: &[u8]) -> bool
+    ensures { λ r. ⌜ r ≡ tidyBody (now (body .entry)) ⌝ }
+{
+    let mut at: usize = 0;
+    let mut low: u64 = 1;
+    while at < body.len() {
+        let step = read_field(body, at);
+        match step {
+            Step::End => {
+                return true;
+            }
+            Step::Refused(_) => {
+                return false;
+            }
+            Step::At(f) => {
+                let after = body_after(body, low, f);
+                if after == 0 {
+                    return false;
+                }
+                low = after;
+                at = f.next;
+            }
+        }
+    }
+    true
 }
 
 // Writes a body anew at the front of the lent bytes: what it means, in its canonical bytes. A refusal, and a lack of room, leave them as they were.
@@ -351,6 +478,14 @@ pub fn encode(body: &[u8], out: &mut [u8]) -> Encoded
             if MAX_RECORDS < n {
                 return Encoded::Refused(WireError::TooManyRecords { records: n });
             }
+            let tidy = is_tidy_body(body);
+            if tidy {
+                if out.len() < body.len() {
+                    return Encoded::Room(body.len());
+                }
+                emit_bytes(body, out, 0);
+                return Encoded::Bytes(body.len());
+            }
             let mut none = [0u8; 1];
             let needed = emit_body(body, &mut none, 0);
             if out.len() < needed {
@@ -362,21 +497,33 @@ pub fn encode(body: &[u8], out: &mut [u8]) -> Encoded
     }
 }
 
-// Writes the bytes of a message that are signed at the front of out.
+// The bytes of a message that are signed: the prefix, and the message's canonical bytes.
+fn emit_signed(part: &[u8], out: &mut [u8]) -> usize
+    requires { ⌜ length (now part) ≤ 65536 ⌝ }
+    ensures { λ r. ⌜ Puts (now (out .entry)) 0 (signOf (now (part .entry))) (now (out .exit)) r ⌝ }
+{
+    let i = emit_bytes(b"libp2p-pubsub:", out, 0);
+    emit_value(part, Role::Sub(Kind::RawMessage), out, i)
+}
+
+// Writes the bytes of a message that are signed at the front of out. They are at most 14 more than the message, and measured only where there
+// may be no room for them.
 fn sign_part(part: &[u8], out: &mut [u8]) -> MessageBytes
     requires { ⌜ length (now part) ≤ 65536 ⌝ }
     ensures { λ r. ⌜ r ≡ ofWritten (answer (signOf (now (part .entry))) (now (out .entry))) ⌝ }
     ensures { λ _. ⌜ now (out .exit) ≡ written (signOf (now (part .entry))) (now (out .entry)) ⌝ }
 {
-    let role = Role::Sub(Kind::RawMessage);
-    let mut none = [0u8; 1];
-    let needed = emit_value(part, role, &mut none, 14);
-    if out.len() < needed {
-        return MessageBytes::Room(needed);
+    if out.len() < part.len() + 14 {
+        let mut none = [0u8; 1];
+        let needed = emit_signed(part, &mut none);
+        if out.len() < needed {
+            return MessageBytes::Room(needed);
+        }
+        emit_signed(part, out);
+        return MessageBytes::Bytes(needed);
     }
-    let i = emit_bytes(b"libp2p-pubsub:", out, 0);
-    emit_value(part, role, out, i);
-    MessageBytes::Bytes(needed)
+    let end = emit_signed(part, out);
+    MessageBytes::Bytes(end)
 }
 
 // Writes the bytes that are signed of the message at an index: the prefix, then from, data, seqno and every topic.

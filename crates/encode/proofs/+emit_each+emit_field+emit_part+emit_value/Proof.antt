@@ -16,7 +16,7 @@ use Rattle.protobuf.specs.Encode.{bytesField}
 use Rattle.schema.specs.Schema.{rank}
 use Rattle.encode.specs.Canon.{eachAlong, inner, canon, partOf}
 use Rattle.encode.specs.Puts.{puts-none, puts-same, fits-same, Going, going-all, going-none, going-fits, going-part, fits-one, fits-two, fits-three, fits-four, puts-four}
-use Rattle.encode.proofs.Parts.{field-yes, field-no, field-other, part-skip, part-number, part-text, part-bytes, part-topic, part-id, part-sub, value-is, value-sub, depth, depth-rank, each-field, measure-fits, head-fits, value-fits, sum-fits, field-puts, field-short, field-none}
+use Rattle.encode.proofs.Parts.{field-yes, field-no, field-other, part-skip, part-number, part-text, part-bytes, part-topic, part-id, part-sub, slot-there, value-is, value-sub, depth, depth-rank, each-field, measure-fits, head-fits, value-fits, sum-fits, field-puts, field-short, field-none}
 use borrow.Fn.Kinds.{In}
 use borrow.Fn.PlainCycle.{Measures, is, falls, and}
 use Rattle.encode.proofs.emit_each.Reads as emit-each
@@ -39,6 +39,8 @@ use Rattle.protobuf.proofs.read_field.Reads as read-field-reads
 use Rattle.schema.proofs.role_of.Reads as role-of-reads
 use Rattle.encode.proofs.+emit_each+emit_field+emit_part+emit_value.{statement}
 use Rattle.encode.proofs.+emit_each+emit_field+emit_part+emit_value.Tie.{close}
+use Prim.Native.Nat.{ℕ, _<_}
+use Rattle.schema.proofs.slots_of.Reads as slots-of-reads
 
 abbrev μ-emit-each : Measures 2 emit-each-kinds.ps ℕ
 μ-emit-each κs a = 4 * depth (a .1 .1 .0) + 2
@@ -438,8 +440,8 @@ emit-part-emit-own-requires : (t : ℕ) → emit-part-lts.Need-emit-own-requires
 ) (emit-part-at t) emit-part.Post
 emit-part-emit-own-requires t c κs =
     let a = c .before .before .before .before .before .before .args in
-    let e = part-skip (a .kind) (a .n) (a .input .now) _ (c .before .before .before .role-of .ensures) (c .before .enum-told .given .1) in
-    (c .before .before .before .before .before .before .pre .1 .0, fits-same (a .at) _ _ e (c .before .before .before .before .before .before .pre .1 .1))
+    let e = part-skip (a .kind) (a .n) (a .input .now) _ (c .before .before .before .role-of .ensures) (a .slots) (c .before .before .before .before .before .before .pre .1 .1) (c .before .enum-told .given .1) in
+    (c .before .before .before .before .before .before .pre .1 .0, fits-same (a .at) _ _ e (c .before .before .before .before .before .before .pre .1 .2))
 
 emit-part-enum-told-2 : (t : ℕ) → emit-part-lts.Need-enum-told-2 (
   role-of-reads.Asked,
@@ -477,8 +479,8 @@ emit-part-emit-slot-requires : (t : ℕ) → emit-part-lts.Need-emit-slot-requir
 ) (emit-part-at t) emit-part.Post
 emit-part-emit-slot-requires t c κs =
     let a = c .before .before .before .before .before .before .before .args in
-    let e = part-text (a .kind) (a .n) (a .input .now) _ (c .before .before .before .before .role-of .ensures) _ (c .before .before .role .given .1) in
-    (c .before .before .before .before .before .before .before .pre .1 .0, fits-same (a .at) _ _ e (c .before .before .before .before .before .before .before .pre .1 .1))
+    let e = part-text (a .kind) (a .n) (a .input .now) _ (c .before .before .before .before .role-of .ensures) (a .slots) (c .before .before .before .before .before .before .before .pre .1 .1) _ (c .before .before .role .given .1) in
+    (c .before .before .before .before .before .before .before .pre .1 .0, slot-there (a .kind) (a .input .now) (a .slots) (c .before .before .role .given .0 .0) (c .before .before .before .before .before .before .before .pre .1 .1), fits-same (a .at) _ _ e (c .before .before .before .before .before .before .before .pre .1 .2))
 
 emit-part-enum-known-role-2 : (t : ℕ) → emit-part-lts.Need-enum-known-role-2 (
   role-of-reads.Asked,
@@ -504,8 +506,8 @@ emit-part-emit-slot-requires-2 : (t : ℕ) → emit-part-lts.Need-emit-slot-requ
 ) (emit-part-at t) emit-part.Post
 emit-part-emit-slot-requires-2 t c κs =
     let a = c .before .before .before .before .before .before .before .args in
-    let e = part-bytes (a .kind) (a .n) (a .input .now) _ (c .before .before .before .before .role-of .ensures) _ (c .before .before .role2 .given .1) in
-    (c .before .before .before .before .before .before .before .pre .1 .0, fits-same (a .at) _ _ e (c .before .before .before .before .before .before .before .pre .1 .1))
+    let e = part-bytes (a .kind) (a .n) (a .input .now) _ (c .before .before .before .before .role-of .ensures) (a .slots) (c .before .before .before .before .before .before .before .pre .1 .1) _ (c .before .before .role2 .given .1) in
+    (c .before .before .before .before .before .before .before .pre .1 .0, slot-there (a .kind) (a .input .now) (a .slots) (c .before .before .role2 .given .0 .0) (c .before .before .before .before .before .before .before .pre .1 .1), fits-same (a .at) _ _ e (c .before .before .before .before .before .before .before .pre .1 .2))
 
 emit-part-enum-told-3 : (t : ℕ) → emit-part-lts.Need-enum-told-3 (
   role-of-reads.Asked,
@@ -533,7 +535,7 @@ emit-part-emit-each-requires t c κs =
     let a = c .before .before .before .before .before .before .args in
     let e = part-topic (a .kind) (a .n) (a .input .now) _ (c .before .before .before .role-of .ensures) (c .before .enum-told3 .given .1) in
     let r = depth-rank (a .kind) (a .n) _ (c .before .before .before .role-of .ensures) in
-    (omega (arith, c .before .before .before .before .before .before .pre .0), (c .before .before .before .before .before .before .pre .1 .0, fits-same (a .at) _ _ e (c .before .before .before .before .before .before .pre .1 .1)))
+    (omega (arith, c .before .before .before .before .before .before .pre .0), (c .before .before .before .before .before .before .pre .1 .0, fits-same (a .at) _ _ e (c .before .before .before .before .before .before .pre .1 .2)))
 
 emit-part-enum-told-4 : (t : ℕ) → emit-part-lts.Need-enum-told-4 (
   role-of-reads.Asked,
@@ -561,7 +563,7 @@ emit-part-emit-each-requires-2 t c κs =
     let a = c .before .before .before .before .before .before .args in
     let e = part-id (a .kind) (a .n) (a .input .now) _ (c .before .before .before .role-of .ensures) (c .before .enum-told4 .given .1) in
     let r = depth-rank (a .kind) (a .n) _ (c .before .before .before .role-of .ensures) in
-    (omega (arith, c .before .before .before .before .before .before .pre .0), (c .before .before .before .before .before .before .pre .1 .0, fits-same (a .at) _ _ e (c .before .before .before .before .before .before .pre .1 .1)))
+    (omega (arith, c .before .before .before .before .before .before .pre .0), (c .before .before .before .before .before .before .pre .1 .0, fits-same (a .at) _ _ e (c .before .before .before .before .before .before .pre .1 .2)))
 
 emit-part-enum-told-5 : (t : ℕ) → emit-part-lts.Need-enum-told-5 (
   role-of-reads.Asked,
@@ -589,7 +591,7 @@ emit-part-emit-each-requires-3 t c κs =
     let a = c .before .before .before .before .before .before .args in
     let e = part-sub (a .kind) (a .n) (a .input .now) _ (c .before .before .before .role-of .ensures) _ (c .before .enum-told5 .given .1) in
     let r = depth-rank (a .kind) (a .n) _ (c .before .before .before .role-of .ensures) in
-    (omega (arith, c .before .before .before .before .before .before .pre .0), (c .before .before .before .before .before .before .pre .1 .0, fits-same (a .at) _ _ e (c .before .before .before .before .before .before .pre .1 .1)))
+    (omega (arith, c .before .before .before .before .before .before .pre .0), (c .before .before .before .before .before .before .pre .1 .0, fits-same (a .at) _ _ e (c .before .before .before .before .before .before .pre .1 .2)))
 
 emit-part-same-length : (t : ℕ) → emit-part-lts.Need-same-length (
   role-of-reads.Asked,
@@ -615,7 +617,7 @@ emit-part-returns : (t : ℕ) → emit-part-lts.Need-returns (
 ) (emit-part-at t) emit-part.Post
 emit-part-returns t c =
     let a = c .before .before .before .before .before .before .before .before .before .args in
-    puts-same (a .out .now) (a .at) _ _ _ _ (sym (part-skip (a .kind) (a .n) (a .input .now) _ (c .before .before .before .before .before .before .role-of .ensures) (c .before .before .before .before .enum-told .given .1))) (c .before .before .emit-own .ensures)
+    puts-same (a .out .now) (a .at) _ _ _ _ (sym (part-skip (a .kind) (a .n) (a .input .now) _ (c .before .before .before .before .before .before .role-of .ensures) (a .slots) (c .before .before .before .before .before .before .before .before .before .pre .1 .1) (c .before .before .before .before .enum-told .given .1))) (c .before .before .emit-own .ensures)
 
 emit-part-returns-2 : (t : ℕ) → emit-part-lts.Need-returns-2 (
   role-of-reads.Asked,
@@ -655,7 +657,7 @@ emit-part-returns-3 : (t : ℕ) → emit-part-lts.Need-returns-3 (
 ) (emit-part-at t) emit-part.Post
 emit-part-returns-3 t c =
     let a = c .before .before .before .before .before .before .before .before .before .before .args in
-    puts-same (a .out .now) (a .at) _ _ _ _ (sym (part-text (a .kind) (a .n) (a .input .now) _ (c .before .before .before .before .before .before .before .role-of .ensures) _ (c .before .before .before .before .before .role .given .1))) (c .before .before .emit-slot .ensures)
+    puts-same (a .out .now) (a .at) _ _ _ _ (sym (part-text (a .kind) (a .n) (a .input .now) _ (c .before .before .before .before .before .before .before .role-of .ensures) (a .slots) (c .before .before .before .before .before .before .before .before .before .before .pre .1 .1) _ (c .before .before .before .before .before .role .given .1))) (c .before .before .emit-slot .ensures)
 
 emit-part-same-length-3 : (t : ℕ) → emit-part-lts.Need-same-length-3 (
   role-of-reads.Asked,
@@ -681,7 +683,7 @@ emit-part-returns-4 : (t : ℕ) → emit-part-lts.Need-returns-4 (
 ) (emit-part-at t) emit-part.Post
 emit-part-returns-4 t c =
     let a = c .before .before .before .before .before .before .before .before .before .before .args in
-    puts-same (a .out .now) (a .at) _ _ _ _ (sym (part-bytes (a .kind) (a .n) (a .input .now) _ (c .before .before .before .before .before .before .before .role-of .ensures) _ (c .before .before .before .before .before .role2 .given .1))) (c .before .before .emit-slot2 .ensures)
+    puts-same (a .out .now) (a .at) _ _ _ _ (sym (part-bytes (a .kind) (a .n) (a .input .now) _ (c .before .before .before .before .before .before .before .role-of .ensures) (a .slots) (c .before .before .before .before .before .before .before .before .before .before .pre .1 .1) _ (c .before .before .before .before .before .role2 .given .1))) (c .before .before .emit-slot2 .ensures)
 
 emit-part-same-length-4 : (t : ℕ) → emit-part-lts.Need-same-length-4 (
   role-of-reads.Asked,
@@ -764,6 +766,8 @@ emit-part-returns-7 t c =
 emit-value-enum-told : (t : ℕ) → emit-value-lts.Need-enum-told (
   emit-bytes-reads.Asked,
   emit-bytes-reads.Learnt,
+  slots-of-reads.Asked,
+  slots-of-reads.Learnt,
   emit-part-below t,
   emit-part.Post,
 ) (emit-value-at t) emit-value.Post
@@ -772,6 +776,8 @@ emit-value-enum-told t c = search needs
 emit-value-emit-bytes-requires : (t : ℕ) → emit-value-lts.Need-emit-bytes-requires (
   emit-bytes-reads.Asked,
   emit-bytes-reads.Learnt,
+  slots-of-reads.Asked,
+  slots-of-reads.Learnt,
   emit-part-below t,
   emit-part.Post,
 ) (emit-value-at t) emit-value.Post
@@ -780,6 +786,8 @@ emit-value-emit-bytes-requires t c κs = let a = c .before .before .before .befo
 emit-value-enum-told-2 : (t : ℕ) → emit-value-lts.Need-enum-told-2 (
   emit-bytes-reads.Asked,
   emit-bytes-reads.Learnt,
+  slots-of-reads.Asked,
+  slots-of-reads.Learnt,
   emit-part-below t,
   emit-part.Post,
 ) (emit-value-at t) emit-value.Post
@@ -788,6 +796,8 @@ emit-value-enum-told-2 t c = search needs
 emit-value-emit-bytes-requires-2 : (t : ℕ) → emit-value-lts.Need-emit-bytes-requires-2 (
   emit-bytes-reads.Asked,
   emit-bytes-reads.Learnt,
+  slots-of-reads.Asked,
+  slots-of-reads.Learnt,
   emit-part-below t,
   emit-part.Post,
 ) (emit-value-at t) emit-value.Post
@@ -796,6 +806,8 @@ emit-value-emit-bytes-requires-2 t c κs = let a = c .before .before .before .be
 emit-value-enum-told-3 : (t : ℕ) → emit-value-lts.Need-enum-told-3 (
   emit-bytes-reads.Asked,
   emit-bytes-reads.Learnt,
+  slots-of-reads.Asked,
+  slots-of-reads.Learnt,
   emit-part-below t,
   emit-part.Post,
 ) (emit-value-at t) emit-value.Post
@@ -804,6 +816,8 @@ emit-value-enum-told-3 t c = search needs
 emit-value-emit-bytes-requires-3 : (t : ℕ) → emit-value-lts.Need-emit-bytes-requires-3 (
   emit-bytes-reads.Asked,
   emit-bytes-reads.Learnt,
+  slots-of-reads.Asked,
+  slots-of-reads.Learnt,
   emit-part-below t,
   emit-part.Post,
 ) (emit-value-at t) emit-value.Post
@@ -812,6 +826,8 @@ emit-value-emit-bytes-requires-3 t c κs = let a = c .before .before .before .be
 emit-value-enum-told-4 : (t : ℕ) → emit-value-lts.Need-enum-told-4 (
   emit-bytes-reads.Asked,
   emit-bytes-reads.Learnt,
+  slots-of-reads.Asked,
+  slots-of-reads.Learnt,
   emit-part-below t,
   emit-part.Post,
 ) (emit-value-at t) emit-value.Post
@@ -820,6 +836,8 @@ emit-value-enum-told-4 t c = search needs
 emit-value-emit-bytes-requires-4 : (t : ℕ) → emit-value-lts.Need-emit-bytes-requires-4 (
   emit-bytes-reads.Asked,
   emit-bytes-reads.Learnt,
+  slots-of-reads.Asked,
+  slots-of-reads.Learnt,
   emit-part-below t,
   emit-part.Post,
 ) (emit-value-at t) emit-value.Post
@@ -828,6 +846,8 @@ emit-value-emit-bytes-requires-4 t c κs = let a = c .before .before .before .be
 emit-value-enum-told-5 : (t : ℕ) → emit-value-lts.Need-enum-told-5 (
   emit-bytes-reads.Asked,
   emit-bytes-reads.Learnt,
+  slots-of-reads.Asked,
+  slots-of-reads.Learnt,
   emit-part-below t,
   emit-part.Post,
 ) (emit-value-at t) emit-value.Post
@@ -836,6 +856,8 @@ emit-value-enum-told-5 t c = search needs
 emit-value-emit-bytes-requires-5 : (t : ℕ) → emit-value-lts.Need-emit-bytes-requires-5 (
   emit-bytes-reads.Asked,
   emit-bytes-reads.Learnt,
+  slots-of-reads.Asked,
+  slots-of-reads.Learnt,
   emit-part-below t,
   emit-part.Post,
 ) (emit-value-at t) emit-value.Post
@@ -844,6 +866,8 @@ emit-value-emit-bytes-requires-5 t c κs = let a = c .before .before .before .be
 emit-value-enum-told-6 : (t : ℕ) → emit-value-lts.Need-enum-told-6 (
   emit-bytes-reads.Asked,
   emit-bytes-reads.Learnt,
+  slots-of-reads.Asked,
+  slots-of-reads.Learnt,
   emit-part-below t,
   emit-part.Post,
 ) (emit-value-at t) emit-value.Post
@@ -852,6 +876,8 @@ emit-value-enum-told-6 t c = search needs
 emit-value-emit-bytes-requires-6 : (t : ℕ) → emit-value-lts.Need-emit-bytes-requires-6 (
   emit-bytes-reads.Asked,
   emit-bytes-reads.Learnt,
+  slots-of-reads.Asked,
+  slots-of-reads.Learnt,
   emit-part-below t,
   emit-part.Post,
 ) (emit-value-at t) emit-value.Post
@@ -860,70 +886,92 @@ emit-value-emit-bytes-requires-6 t c κs = let a = c .before .before .before .be
 emit-value-enum-known-role : (t : ℕ) → emit-value-lts.Need-enum-known-role (
   emit-bytes-reads.Asked,
   emit-bytes-reads.Learnt,
+  slots-of-reads.Asked,
+  slots-of-reads.Learnt,
   emit-part-below t,
   emit-part.Post,
 ) (emit-value-at t) emit-value.Post
 emit-value-enum-known-role t c = search needs
 
+emit-value-slots-of-requires : (t : ℕ) → emit-value-lts.Need-slots-of-requires (
+  emit-bytes-reads.Asked,
+  emit-bytes-reads.Learnt,
+  slots-of-reads.Asked,
+  slots-of-reads.Learnt,
+  emit-part-below t,
+  emit-part.Post,
+) (emit-value-at t) emit-value.Post
+emit-value-slots-of-requires t c κs = search needs
+
 emit-value-emit-part-requires : (t : ℕ) → emit-value-lts.Need-emit-part-requires (
   emit-bytes-reads.Asked,
   emit-bytes-reads.Learnt,
+  slots-of-reads.Asked,
+  slots-of-reads.Learnt,
   emit-part-below t,
   emit-part.Post,
 ) (emit-value-at t) emit-value.Post
 emit-value-emit-part-requires t c κs =
-    let a = c .before .before .before .before .before .before .args in
-    let j = c .before .before .role .given .0 .0 in
-    let e = value-sub (a .role) j (a .part .now) (c .before .before .role .given .1) in
-    let h = fits-same (a .at) _ _ e (c .before .before .before .before .before .before .pre .1) in
-    let d : depth (a .role) ≡ suc (rank j) = ap depth (c .before .before .role .given .1) in
-    (omega (arith, c .before .before .before .before .before .before .pre .0), (omega arith, fits-one (a .at) (partOf j 1 (a .part .now)) (partOf j 2 (a .part .now)) (partOf j 3 (a .part .now)) (partOf j 4 (a .part .now)) h))
+    let a = c .before .before .before .before .before .before .before .args in
+    let j = c .before .before .before .role .given .0 .0 in
+    let e = value-sub (a .role) j (a .part .now) (c .before .before .before .role .given .1) in
+    let h = fits-same (a .at) _ _ e (c .before .before .before .before .before .before .before .pre .1) in
+    let d : depth (a .role) ≡ suc (rank j) = ap depth (c .before .before .before .role .given .1) in
+    (omega (arith, c .before .before .before .before .before .before .before .pre .0), (omega arith, c .before .slots-of .ensures, fits-one (a .at) (partOf j 1 (a .part .now)) (partOf j 2 (a .part .now)) (partOf j 3 (a .part .now)) (partOf j 4 (a .part .now)) h))
 
 emit-value-emit-part-requires-2 : (t : ℕ) → emit-value-lts.Need-emit-part-requires-2 (
   emit-bytes-reads.Asked,
   emit-bytes-reads.Learnt,
+  slots-of-reads.Asked,
+  slots-of-reads.Learnt,
   emit-part-below t,
   emit-part.Post,
 ) (emit-value-at t) emit-value.Post
 emit-value-emit-part-requires-2 t c κs =
-    let a = c .before .before .before .before .before .before .before .before .before .before .args in
-    let j = c .before .before .before .before .before .before .role .given .0 .0 in
-    let e = value-sub (a .role) j (a .part .now) (c .before .before .before .before .before .before .role .given .1) in
-    let h = fits-same (a .at) _ _ e (c .before .before .before .before .before .before .before .before .before .before .pre .1) in
-    let d : depth (a .role) ≡ suc (rank j) = ap depth (c .before .before .before .before .before .before .role .given .1) in
-    (omega (arith, c .before .before .before .before .before .before .before .before .before .before .pre .0), (omega arith, fits-two (a .at) (partOf j 1 (a .part .now)) (partOf j 2 (a .part .now)) (partOf j 3 (a .part .now)) (partOf j 4 (a .part .now)) h (a .out .now) _ _ (c .before .before .before .emit-part .ensures)))
+    let a = c .before .before .before .before .before .before .before .before .before .before .before .args in
+    let j = c .before .before .before .before .before .before .before .role .given .0 .0 in
+    let e = value-sub (a .role) j (a .part .now) (c .before .before .before .before .before .before .before .role .given .1) in
+    let h = fits-same (a .at) _ _ e (c .before .before .before .before .before .before .before .before .before .before .before .pre .1) in
+    let d : depth (a .role) ≡ suc (rank j) = ap depth (c .before .before .before .before .before .before .before .role .given .1) in
+    (omega (arith, c .before .before .before .before .before .before .before .before .before .before .before .pre .0), (omega arith, c .before .before .before .before .before .slots-of .ensures, fits-two (a .at) (partOf j 1 (a .part .now)) (partOf j 2 (a .part .now)) (partOf j 3 (a .part .now)) (partOf j 4 (a .part .now)) h (a .out .now) _ _ (c .before .before .before .emit-part .ensures)))
 
 emit-value-emit-part-requires-3 : (t : ℕ) → emit-value-lts.Need-emit-part-requires-3 (
   emit-bytes-reads.Asked,
   emit-bytes-reads.Learnt,
+  slots-of-reads.Asked,
+  slots-of-reads.Learnt,
   emit-part-below t,
   emit-part.Post,
 ) (emit-value-at t) emit-value.Post
 emit-value-emit-part-requires-3 t c κs =
-    let a = c .before .before .before .before .before .before .before .before .before .before .before .before .before .before .args in
-    let j = c .before .before .before .before .before .before .before .before .before .before .role .given .0 .0 in
-    let e = value-sub (a .role) j (a .part .now) (c .before .before .before .before .before .before .before .before .before .before .role .given .1) in
-    let h = fits-same (a .at) _ _ e (c .before .before .before .before .before .before .before .before .before .before .before .before .before .before .pre .1) in
-    let d : depth (a .role) ≡ suc (rank j) = ap depth (c .before .before .before .before .before .before .before .before .before .before .role .given .1) in
-    (omega (arith, c .before .before .before .before .before .before .before .before .before .before .before .before .before .before .pre .0), (omega arith, fits-three (a .at) (partOf j 1 (a .part .now)) (partOf j 2 (a .part .now)) (partOf j 3 (a .part .now)) (partOf j 4 (a .part .now)) h (a .out .now) _ _ (c .before .before .before .before .before .before .before .emit-part .ensures) _ _ (c .before .before .before .emit-part2 .ensures)))
+    let a = c .before .before .before .before .before .before .before .before .before .before .before .before .before .before .before .args in
+    let j = c .before .before .before .before .before .before .before .before .before .before .before .role .given .0 .0 in
+    let e = value-sub (a .role) j (a .part .now) (c .before .before .before .before .before .before .before .before .before .before .before .role .given .1) in
+    let h = fits-same (a .at) _ _ e (c .before .before .before .before .before .before .before .before .before .before .before .before .before .before .before .pre .1) in
+    let d : depth (a .role) ≡ suc (rank j) = ap depth (c .before .before .before .before .before .before .before .before .before .before .before .role .given .1) in
+    (omega (arith, c .before .before .before .before .before .before .before .before .before .before .before .before .before .before .before .pre .0), (omega arith, c .before .before .before .before .before .before .before .before .before .slots-of .ensures, fits-three (a .at) (partOf j 1 (a .part .now)) (partOf j 2 (a .part .now)) (partOf j 3 (a .part .now)) (partOf j 4 (a .part .now)) h (a .out .now) _ _ (c .before .before .before .before .before .before .before .emit-part .ensures) _ _ (c .before .before .before .emit-part2 .ensures)))
 
 emit-value-emit-part-requires-4 : (t : ℕ) → emit-value-lts.Need-emit-part-requires-4 (
   emit-bytes-reads.Asked,
   emit-bytes-reads.Learnt,
+  slots-of-reads.Asked,
+  slots-of-reads.Learnt,
   emit-part-below t,
   emit-part.Post,
 ) (emit-value-at t) emit-value.Post
 emit-value-emit-part-requires-4 t c κs =
-    let a = c .before .before .before .before .before .before .before .before .before .before .before .before .before .before .before .before .before .before .args in
-    let j = c .before .before .before .before .before .before .before .before .before .before .before .before .before .before .role .given .0 .0 in
-    let e = value-sub (a .role) j (a .part .now) (c .before .before .before .before .before .before .before .before .before .before .before .before .before .before .role .given .1) in
-    let h = fits-same (a .at) _ _ e (c .before .before .before .before .before .before .before .before .before .before .before .before .before .before .before .before .before .before .pre .1) in
-    let d : depth (a .role) ≡ suc (rank j) = ap depth (c .before .before .before .before .before .before .before .before .before .before .before .before .before .before .role .given .1) in
-    (omega (arith, c .before .before .before .before .before .before .before .before .before .before .before .before .before .before .before .before .before .before .pre .0), (omega arith, fits-four (a .at) (partOf j 1 (a .part .now)) (partOf j 2 (a .part .now)) (partOf j 3 (a .part .now)) (partOf j 4 (a .part .now)) h (a .out .now) _ _ (c .before .before .before .before .before .before .before .before .before .before .before .emit-part .ensures) _ _ (c .before .before .before .before .before .before .before .emit-part2 .ensures) _ _ (c .before .before .before .emit-part3 .ensures)))
+    let a = c .before .before .before .before .before .before .before .before .before .before .before .before .before .before .before .before .before .before .before .args in
+    let j = c .before .before .before .before .before .before .before .before .before .before .before .before .before .before .before .role .given .0 .0 in
+    let e = value-sub (a .role) j (a .part .now) (c .before .before .before .before .before .before .before .before .before .before .before .before .before .before .before .role .given .1) in
+    let h = fits-same (a .at) _ _ e (c .before .before .before .before .before .before .before .before .before .before .before .before .before .before .before .before .before .before .before .pre .1) in
+    let d : depth (a .role) ≡ suc (rank j) = ap depth (c .before .before .before .before .before .before .before .before .before .before .before .before .before .before .before .role .given .1) in
+    (omega (arith, c .before .before .before .before .before .before .before .before .before .before .before .before .before .before .before .before .before .before .before .pre .0), (omega arith, c .before .before .before .before .before .before .before .before .before .before .before .before .before .slots-of .ensures, fits-four (a .at) (partOf j 1 (a .part .now)) (partOf j 2 (a .part .now)) (partOf j 3 (a .part .now)) (partOf j 4 (a .part .now)) h (a .out .now) _ _ (c .before .before .before .before .before .before .before .before .before .before .before .emit-part .ensures) _ _ (c .before .before .before .before .before .before .before .emit-part2 .ensures) _ _ (c .before .before .before .emit-part3 .ensures)))
 
 emit-value-same-length : (t : ℕ) → emit-value-lts.Need-same-length (
   emit-bytes-reads.Asked,
   emit-bytes-reads.Learnt,
+  slots-of-reads.Asked,
+  slots-of-reads.Learnt,
   emit-part-below t,
   emit-part.Post,
 ) (emit-value-at t) emit-value.Post
@@ -932,6 +980,8 @@ emit-value-same-length t c = search needs
 emit-value-returns : (t : ℕ) → emit-value-lts.Need-returns (
   emit-bytes-reads.Asked,
   emit-bytes-reads.Learnt,
+  slots-of-reads.Asked,
+  slots-of-reads.Learnt,
   emit-part-below t,
   emit-part.Post,
 ) (emit-value-at t) emit-value.Post
@@ -940,6 +990,8 @@ emit-value-returns t c = let a = c .before .before .before .before .before .befo
 emit-value-same-length-2 : (t : ℕ) → emit-value-lts.Need-same-length-2 (
   emit-bytes-reads.Asked,
   emit-bytes-reads.Learnt,
+  slots-of-reads.Asked,
+  slots-of-reads.Learnt,
   emit-part-below t,
   emit-part.Post,
 ) (emit-value-at t) emit-value.Post
@@ -948,6 +1000,8 @@ emit-value-same-length-2 t c = search needs
 emit-value-returns-2 : (t : ℕ) → emit-value-lts.Need-returns-2 (
   emit-bytes-reads.Asked,
   emit-bytes-reads.Learnt,
+  slots-of-reads.Asked,
+  slots-of-reads.Learnt,
   emit-part-below t,
   emit-part.Post,
 ) (emit-value-at t) emit-value.Post
@@ -956,6 +1010,8 @@ emit-value-returns-2 t c = let a = c .before .before .before .before .before .be
 emit-value-same-length-3 : (t : ℕ) → emit-value-lts.Need-same-length-3 (
   emit-bytes-reads.Asked,
   emit-bytes-reads.Learnt,
+  slots-of-reads.Asked,
+  slots-of-reads.Learnt,
   emit-part-below t,
   emit-part.Post,
 ) (emit-value-at t) emit-value.Post
@@ -964,6 +1020,8 @@ emit-value-same-length-3 t c = search needs
 emit-value-returns-3 : (t : ℕ) → emit-value-lts.Need-returns-3 (
   emit-bytes-reads.Asked,
   emit-bytes-reads.Learnt,
+  slots-of-reads.Asked,
+  slots-of-reads.Learnt,
   emit-part-below t,
   emit-part.Post,
 ) (emit-value-at t) emit-value.Post
@@ -972,6 +1030,8 @@ emit-value-returns-3 t c = let a = c .before .before .before .before .before .be
 emit-value-same-length-4 : (t : ℕ) → emit-value-lts.Need-same-length-4 (
   emit-bytes-reads.Asked,
   emit-bytes-reads.Learnt,
+  slots-of-reads.Asked,
+  slots-of-reads.Learnt,
   emit-part-below t,
   emit-part.Post,
 ) (emit-value-at t) emit-value.Post
@@ -980,6 +1040,8 @@ emit-value-same-length-4 t c = search needs
 emit-value-returns-4 : (t : ℕ) → emit-value-lts.Need-returns-4 (
   emit-bytes-reads.Asked,
   emit-bytes-reads.Learnt,
+  slots-of-reads.Asked,
+  slots-of-reads.Learnt,
   emit-part-below t,
   emit-part.Post,
 ) (emit-value-at t) emit-value.Post
@@ -988,6 +1050,8 @@ emit-value-returns-4 t c = let a = c .before .before .before .before .before .be
 emit-value-same-length-5 : (t : ℕ) → emit-value-lts.Need-same-length-5 (
   emit-bytes-reads.Asked,
   emit-bytes-reads.Learnt,
+  slots-of-reads.Asked,
+  slots-of-reads.Learnt,
   emit-part-below t,
   emit-part.Post,
 ) (emit-value-at t) emit-value.Post
@@ -996,6 +1060,8 @@ emit-value-same-length-5 t c = search needs
 emit-value-returns-5 : (t : ℕ) → emit-value-lts.Need-returns-5 (
   emit-bytes-reads.Asked,
   emit-bytes-reads.Learnt,
+  slots-of-reads.Asked,
+  slots-of-reads.Learnt,
   emit-part-below t,
   emit-part.Post,
 ) (emit-value-at t) emit-value.Post
@@ -1004,6 +1070,8 @@ emit-value-returns-5 t c = let a = c .before .before .before .before .before .be
 emit-value-same-length-6 : (t : ℕ) → emit-value-lts.Need-same-length-6 (
   emit-bytes-reads.Asked,
   emit-bytes-reads.Learnt,
+  slots-of-reads.Asked,
+  slots-of-reads.Learnt,
   emit-part-below t,
   emit-part.Post,
 ) (emit-value-at t) emit-value.Post
@@ -1012,6 +1080,8 @@ emit-value-same-length-6 t c = search needs
 emit-value-returns-6 : (t : ℕ) → emit-value-lts.Need-returns-6 (
   emit-bytes-reads.Asked,
   emit-bytes-reads.Learnt,
+  slots-of-reads.Asked,
+  slots-of-reads.Learnt,
   emit-part-below t,
   emit-part.Post,
 ) (emit-value-at t) emit-value.Post
@@ -1020,6 +1090,8 @@ emit-value-returns-6 t c = let a = c .before .before .before .before .before .be
 emit-value-same-length-7 : (t : ℕ) → emit-value-lts.Need-same-length-7 (
   emit-bytes-reads.Asked,
   emit-bytes-reads.Learnt,
+  slots-of-reads.Asked,
+  slots-of-reads.Learnt,
   emit-part-below t,
   emit-part.Post,
 ) (emit-value-at t) emit-value.Post
@@ -1028,14 +1100,16 @@ emit-value-same-length-7 t c = search needs
 emit-value-returns-7 : (t : ℕ) → emit-value-lts.Need-returns-7 (
   emit-bytes-reads.Asked,
   emit-bytes-reads.Learnt,
+  slots-of-reads.Asked,
+  slots-of-reads.Learnt,
   emit-part-below t,
   emit-part.Post,
 ) (emit-value-at t) emit-value.Post
 emit-value-returns-7 t c =
-    let a = c .before .before .before .before .before .before .before .before .before .before .before .before .before .before .before .before .before .before .before .before .before .args in
-    let j = c .before .before .before .before .before .before .before .before .before .before .before .before .before .before .before .before .before .role .given .0 .0 in
-    let e = value-sub (a .role) j (a .part .now) (c .before .before .before .before .before .before .before .before .before .before .before .before .before .before .before .before .before .role .given .1) in
-    let h = fits-same (a .at) _ _ e (c .before .before .before .before .before .before .before .before .before .before .before .before .before .before .before .before .before .before .before .before .before .pre .1) in
+    let a = c .before .before .before .before .before .before .before .before .before .before .before .before .before .before .before .before .before .before .before .before .before .before .args in
+    let j = c .before .before .before .before .before .before .before .before .before .before .before .before .before .before .before .before .before .before .role .given .0 .0 in
+    let e = value-sub (a .role) j (a .part .now) (c .before .before .before .before .before .before .before .before .before .before .before .before .before .before .before .before .before .before .role .given .1) in
+    let h = fits-same (a .at) _ _ e (c .before .before .before .before .before .before .before .before .before .before .before .before .before .before .before .before .before .before .before .before .before .before .pre .1) in
     puts-same (a .out .now) (a .at) _ _ _ _ (sym e) (puts-four (a .at) (partOf j 1 (a .part .now)) (partOf j 2 (a .part .now)) (partOf j 3 (a .part .now)) (partOf j 4 (a .part .now)) h (a .out .now) _ _ (c .before .before .before .before .before .before .before .before .before .before .before .before .before .before .emit-part .ensures) _ _ (c .before .before .before .before .before .before .before .before .before .before .emit-part2 .ensures) _ _ (c .before .before .before .before .before .before .emit-part3 .ensures) _ _ (c .before .before .emit-part4 .ensures))
 
 pub +emit-each+emit-field+emit-part+emit-value-spec : {M : Type 1} → statement M
@@ -1129,8 +1203,14 @@ pub +emit-each+emit-field+emit-part+emit-value-spec : {M : Type 1} → statement
     (emit-part-returns-6 t)
     (emit-part-same-length-6 t)
     (emit-part-returns-7 t))
-    λ t. emit-value-lts.spec
-    (emit-bytes-reads.Asked, emit-bytes-reads.Learnt, emit-part-below t, emit-part.Post)
+    λ t. emit-value-lts.spec (
+      emit-bytes-reads.Asked,
+      emit-bytes-reads.Learnt,
+      slots-of-reads.Asked,
+      slots-of-reads.Learnt,
+      emit-part-below t,
+      emit-part.Post,
+    )
     (emit-value-at t)
     emit-value.Post
     (emit-value-enum-told t)
@@ -1146,6 +1226,7 @@ pub +emit-each+emit-field+emit-part+emit-value-spec : {M : Type 1} → statement
     (emit-value-enum-told-6 t)
     (emit-value-emit-bytes-requires-6 t)
     (emit-value-enum-known-role t)
+    (emit-value-slots-of-requires t)
     (emit-value-emit-part-requires t)
     (emit-value-emit-part-requires-2 t)
     (emit-value-emit-part-requires-3 t)

@@ -26,7 +26,7 @@ abbrev μ-loop : tie.MeasureT-loop
 
 loop-holds : tie.Need-loop-holds Inv-loop μ-loop
 unfolding entriesOf
-loop-holds c = let a = c .before .before .args in (going-all (a .out .now) (a .at) (entriesAlong (a .m) (a .body .now) (fieldsOf (a .body .now))) (c .before .before .pre .1), refl)
+loop-holds c = let a = c .before .before .args in (going-all (a .out .now) (a .at) (entriesAlong (a .m) (a .body .now) (fieldsOf (a .body .now))) (c .before .before .pre .2), refl)
 
 read-field-requires : tie.Need-read-field-requires Inv-loop μ-loop
 read-field-requires c κs = search needs
@@ -67,7 +67,7 @@ emit-entry-requires c κs =
     let x = cond (isBytes 3 f) (partOf kind.ControlMessage (a .m) (valueIn (a .body .now) f)) [] in
     let o = entriesAlong (a .m) (a .body .now) (walkAt (a .body .now) (f .next)) in
     let m = field-stands (a .body .now) (l .i) f e in
-    (c .before .before .before .before .before .before .before .before .before .pre .0, record { order = m .ends; fits = m .within }, going-fits _ _ _ _ _ _ (l .inv .0) x o (entries-field (a .m) (a .body .now) (l .i) f e))
+    (c .before .before .before .before .before .before .before .before .before .pre .0, c .before .before .before .before .before .before .before .before .before .pre .1, record { order = m .ends; fits = m .within }, going-fits _ _ _ _ _ _ (l .inv .0) x o (entries-field (a .m) (a .body .now) (l .i) f e))
 
 loop-less : tie.Need-loop-less Inv-loop μ-loop
 loop-less c =

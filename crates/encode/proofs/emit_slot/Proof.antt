@@ -1,34 +1,23 @@
 -- `encode::emit_slot` meets its contract: the slot's place lies within the message.
-use mathlib.Core.Path.{sym, ap, subst, _∙_}
-use Rattle.encode.specs.Canon.{slotIn, placed}
+use mathlib.Core.Path.{sym, ap, subst}
+use Rattle.encode.specs.Canon.{placed}
 use Rattle.schema.specs.SlotsLaws.{Inside}
-use Rattle.encode.specs.CanonLaws.{slots-inside}
 use Rattle.encode.specs.Puts.{puts-same, fits-same}
 use borrow.Author.Needs.{needs}
 use Rattle.encode.proofs.emit_slot.Statement.{statement}
 use Rattle.encode.proofs.emit_slot.Tie as tie
 
-slots-of-requires : tie.Need-slots-of-requires
-slots-of-requires c κs = search needs
-
 slot-in-requires : tie.Need-slot-in-requires
 slot-in-requires c κs = search needs
 
 emit-place-requires : tie.Need-emit-place-requires
-emit-place-requires c κs =
-    let a = c .before .before .before .before .before .args in
-    let e = c .before .slot-in .ensures ∙ ap (slotIn (a .slot)) (c .before .before .slots-of .ensures) in
-    (c .before .before .before .before .before .pre .0, subst (Inside (a .input .now)) (sym e) (slots-inside (a .kind) (a .input .now) (a .slot)), fits-same (a .at) _ _ (ap (placed (a .n) (a .input .now)) (sym e)) (c .before .before .before .before .before .pre .1))
+emit-place-requires c κs = let a = c .before .before .before .before .args in let e = c .before .slot-in .ensures in (c .before .before .before .before .pre .0, subst (Inside (a .input .now)) (sym e) (c .before .before .before .before .pre .1), fits-same (a .at) _ _ (ap (placed (a .n) (a .input .now)) (sym e)) (c .before .before .before .before .pre .2))
 
 same-length : tie.Need-same-length
 same-length c = search needs
 
 returns : tie.Need-returns
-returns c =
-    let a = c .before .before .before .before .before .before .before .before .args in
-    let e = c .before .before .before .before .slot-in .ensures ∙ ap (slotIn (a .slot)) (c .before .before .before .before .before .slots-of .ensures) in
-    puts-same (a .out .now) (a .at) _ _ _ _ (ap (placed (a .n) (a .input .now)) e) (c .before .before .emit-place .ensures)
+returns c = let a = c .before .before .before .before .before .before .before .args in puts-same (a .out .now) (a .at) _ _ _ _ (ap (placed (a .n) (a .input .now)) (c .before .before .before .before .slot-in .ensures)) (c .before .before .emit-place .ensures)
 
 pub emit-slot-spec : {M : Type 1} → statement M
-emit-slot-spec =
-    tie.close (tie.spec slots-of-requires slot-in-requires emit-place-requires same-length returns)
+emit-slot-spec = tie.close (tie.spec slot-in-requires emit-place-requires same-length returns)
