@@ -1,4 +1,4 @@
--- A length-delimited field whose tag and length are a byte each.
+-- A length-delimited field, or a number, whose tag and length or value are a byte each.
 use Prim.Native.Nat.{ℕ, _+_, _-_, _/_, _%_, _≤_, _<_}
 use mathlib.Core.Path.{_≡_, refl}
 use mathlib.Core.List.{List}
@@ -13,7 +13,8 @@ use Rattle.peer_id.specs.Uvarint.{groupOf, readFrom, readUvarint}
 use Rattle.protobuf.specs.declared.Tag.the-variants as tag
 use Rattle.protobuf.specs.declared.Step.the-variants as step
 use Rattle.protobuf.specs.declared.Part.the-variants as part
-use Rattle.protobuf.specs.Field.{readTag, readLen, readValue, readField}
+use Rattle.protobuf.specs.declared.VarintValue.the-variants as value
+use Rattle.protobuf.specs.Field.{readTag, readLen, readVarint, readValue, readField}
 
 short-uvarint : (s : List ℕ) (at b : ℕ) → at < length s → getD s at 0 ≡ b → b < 128 → readUvarint (drop at s) ≡ Value b 1
 unfolding readUvarint readFrom groupOf
@@ -34,6 +35,15 @@ unfolding readField readValue
 short-field s at t b h e f two some few l m =
     let v : (at + 1 + 1 + b) - (at + 1 + 1) ≡ b = omega arith in
     rw (short-tag s at t (omega arith) e some few, two, short-len s (at + 1) b h f l m, v)
+
+short-value : (s : List ℕ) (at b : ℕ) → at < length s → getD s at 0 ≡ b → b < 128 → readVarint s at ≡ value.Value b (at + 1)
+unfolding readVarint
+short-value s at b h e l = rw (short-uvarint s at b h e l)
+
+pub short-number : (s : List ℕ) (at t b : ℕ) → at + 1 < length s → getD s at 0 ≡ t → getD s (at + 1) 0 ≡ b → t % 8 ≡ 0 → 8 ≤ t → t < 128 → b < 128
+    → step.At (record { field = t / 8; «wire_type» = 0; «tag_end» = at + 1; value = b; start = at + 1 + 1; next = at + 1 + 1 }) ≡ readField s at
+unfolding readField readValue
+short-number s at t b h e f none some few l = rw (short-tag s at t (omega arith) e some few, none, short-value s (at + 1) b h f l)
 
 pub no-field : (s : List ℕ) (at : ℕ) → length s ≤ at → step.End ≡ readField s at
 unfolding readField readTag

@@ -305,8 +305,8 @@ fn read_value(input: &[u8], field: u64, wire_type: u8, tag_end: usize) -> Step
     }
 }
 
-// The field at idx, its tag and its value, however long its tag.
-fn read_any_field(input: &[u8], idx: usize) -> Step
+// The field at idx, its tag and its value, however long they are.
+fn read_long_field(input: &[u8], idx: usize) -> Step
     ensures { λ r. ⌜ r ≡ readField (now (input .entry)) idx ⌝ }
 {
     let t = read_tag(input, idx);
@@ -321,11 +321,36 @@ fn read_any_field(input: &[u8], idx: usize) -> Step
     }
 }
 
-// Whether a tag and a length are a byte each, and the tag is that of a length-delimited field.
-fn is_short(t: u8, l: u8) -> bool
-    ensures { λ r. ⌜ (r ≡ true → (t % 8 ≡ 2) × (8 ≤ t) × (t < 128) × (l < 128)) ⌝ }
+// The same; a number whose tag and value are a byte each is read without a call.
+fn read_any_field(input: &[u8], idx: usize) -> Step
+    ensures { λ r. ⌜ r ≡ readField (now (input .entry)) idx ⌝ }
 {
-    if t % 8 != 2 {
+    if idx < input.len() {
+        let tag_end = idx + 1;
+        if tag_end < input.len() {
+            let t = input[idx];
+            let b = input[tag_end];
+            if is_short(WIRE_VARINT, t, b) {
+                let next = tag_end + 1;
+                return Step::At(Field {
+                    field: (t / 8) as u64,
+                    wire_type: WIRE_VARINT,
+                    tag_end,
+                    value: b as u64,
+                    start: next,
+                    next,
+                });
+            }
+        }
+    }
+    read_long_field(input, idx)
+}
+
+// Whether a tag and what follows it, a length or a value, are a byte each, and the tag is of this wire type.
+fn is_short(wire_type: u8, t: u8, b: u8) -> bool
+    ensures { λ r. ⌜ (r ≡ true → (t % 8 ≡ «wire_type») × (8 ≤ t) × (t < 128) × (b < 128)) ⌝ }
+{
+    if t % 8 != wire_type {
         return false;
     }
     if t < 8 {
@@ -334,7 +359,7 @@ fn is_short(t: u8, l: u8) -> bool
     if 128 <= t {
         return false;
     }
-    if 128 <= l {
+    if 128 <= b {
         return false;
     }
     true
@@ -356,7 +381,7 @@ pub fn read_field(input: &[u8], idx: usize) -> Step
     let l = input[tag_end];
     let start = tag_end + 1;
     let len = l as usize;
-    if is_short(t, l) {
+    if is_short(WIRE_LEN, t, l) {
         if len <= input.len() - start {
             return Step::At(Field {
                 field: (t / 8) as u64,
