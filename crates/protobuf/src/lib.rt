@@ -331,14 +331,14 @@ fn read_any_field(input: &[u8], idx: usize) -> Step
             let t = input[idx];
             let b = input[tag_end];
             if is_short(WIRE_VARINT, t, b) {
-                let next = tag_end + 1;
+                let end = tag_end + 1;
                 return Step::At(Field {
                     field: (t / 8) as u64,
                     wire_type: WIRE_VARINT,
                     tag_end,
                     value: b as u64,
-                    start: next,
-                    next,
+                    start: end,
+                    next: end,
                 });
             }
         }

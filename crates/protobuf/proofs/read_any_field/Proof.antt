@@ -24,8 +24,8 @@ is-short-requires : tie.Need-is-short-requires
 is-short-requires c κs = search needs
 
 -- src/lib.rt:334:28
-add-next : tie.Need-add-next
-add-next c = search needs
+add-end : tie.Need-add-end
+add-end c = search needs
 
 -- src/lib.rt:336:28
 cast-t16 : tie.Need-cast-t16
@@ -56,7 +56,7 @@ read-any-field-spec =
     shared-slice-read-t
     shared-slice-read-b
     is-short-requires
-    add-next
+    add-end
     cast-t16
     cast-t17
     returns
