@@ -1,10 +1,11 @@
 // Reading a body, from message.rs: its records go to a table that the host lends.
 ghost use mathlib.Core.Path.{_≡_};
-ghost use mathlib.Core.List.{[], _∷_};
+ghost use mathlib.Core.List.{[], _∷_, _++_};
 ghost use Prim.Native.Nat.{_+_, _*_, _≤_};
 ghost use lib.ListN.{length};
 ghost use lib.Seq.{sets};
 ghost use Rattle.schema.specs.Schema.{ownOf};
+ghost use Rattle.schema.specs.Slots.{noSlots};
 ghost use Rattle.schema.specs.Count.{Within};
 ghost use Rattle.message.specs.Rows.{bareRow, ownRows, rowsOf, fieldRows, kindCode, numberWords, placeWords, placesWords, wordsOf, wordsOfAll, kindFrom, placeFrom, numberFrom, recordAt};
 ghost use Rattle.message.specs.Decode.{hasControl, decodeAnswer, decodeTable};
@@ -179,23 +180,28 @@ fn write_field(
     }
 }
 
+// The words of no number and no places, at i.
+fn put_none(table: &mut [u64], i: usize)
+    requires { ⌜ i + 17 ≤ length (now table) ⌝ }
+    ensures { λ _. ⌜ now (table .exit) ≡ sets (now (table .entry)) i (numberWords (noSlots .number) ++ placesWords noSlots) ⌝ }
+{
+    let a = put_pair(table, i, 0, 0);
+    let b = put_triple(table, a, 0, 0, 0);
+    let c = put_triple(table, b, 0, 0, 0);
+    let d = put_triple(table, c, 0, 0, 0);
+    let e = put_triple(table, d, 0, 0, 0);
+    put_triple(table, e, 0, 0, 0);
+}
+
 // Writes the record of a topic or a message id.
 fn write_leaf(kind: Kind, start: usize, end: usize, table: &mut [u64], row: usize) -> usize
     requires { ⌜ (row + 1) * 20 ≤ length (now table) ⌝ }
     ensures { λ r. ⌜ r ≡ row + 1 ⌝ }
     ensures { λ _. ⌜ now (table .exit) ≡ sets (now (table .entry)) (row * 20) (wordsOf (bareRow kind start end)) ⌝ }
 {
-    let slots = Slots::none();
-    put_record(
-        table,
-        row,
-        Record {
-            kind,
-            start,
-            end,
-            slots,
-        },
-    );
+    let code = kind_code(kind);
+    let a = put_triple(table, row * RECORD_WORDS, code, start as u64, end as u64);
+    put_none(table, a);
     row + 1
 }
 
