@@ -321,7 +321,32 @@ fn read_long_field(input: &[u8], idx: usize) -> Step
     }
 }
 
-// The same; a number whose tag and value are a byte each is read without a call.
+// Whether a tag is a byte, of a length-delimited field, and its length two bytes.
+fn is_middle(t: u8, b: u8, h: u8) -> bool
+    ensures { λ r. ⌜ (r ≡ true → (t % 8 ≡ 2) × (8 ≤ t) × (t < 128) × (128 ≤ b) × (1 ≤ h) × (h < 128)) ⌝ }
+{
+    if t % 8 != WIRE_LEN {
+        return false;
+    }
+    if t < 8 {
+        return false;
+    }
+    if 128 <= t {
+        return false;
+    }
+    if b < 128 {
+        return false;
+    }
+    if h == 0 {
+        return false;
+    }
+    if 128 <= h {
+        return false;
+    }
+    true
+}
+
+// The same; a number whose tag and value are a byte each, and a length of two bytes, are read without a call.
 fn read_any_field(input: &[u8], idx: usize) -> Step
     ensures { λ r. ⌜ r ≡ readField (now (input .entry)) idx ⌝ }
 {
@@ -340,6 +365,24 @@ fn read_any_field(input: &[u8], idx: usize) -> Step
                     start: end,
                     next: end,
                 });
+            }
+            let second = tag_end + 1;
+            if second < input.len() {
+                let h = input[second];
+                if is_middle(t, b, h) {
+                    let start = second + 1;
+                    let len = (b % 128) as usize + 128 * h as usize;
+                    if len <= input.len() - start {
+                        return Step::At(Field {
+                            field: (t / 8) as u64,
+                            wire_type: WIRE_LEN,
+                            tag_end,
+                            value: len as u64,
+                            start,
+                            next: start + len,
+                        });
+                    }
+                }
             }
         }
     }
