@@ -1,4 +1,4 @@
--- A length-delimited field, or a number, whose tag and length or value are a byte each.
+-- A field whose tag is a byte: a number of a byte, and bytes whose length takes one byte or two.
 use Prim.Native.Nat.{ℕ, suc, _+_, _-_, _*_, _/_, _%_, _≤_, _<_}
 use mathlib.Core.Path.{_≡_, refl, ap, ap₂, _∙_}
 use mathlib.Core.List.{List, _∷_}
