@@ -1,5 +1,6 @@
 pub mod Schema
 pub mod Count
 pub mod Slots
+pub mod Made
 pub mod CountLaws
 pub mod SlotsLaws

@@ -1,9 +1,11 @@
 // The messages of the gossipsub protobuf, from message.rs: what each field is, how many records a message has or why it is refused, and
 // where its singular fields stand. One walk over the fields serves every message.
+ghost use Prim.Native.Nat.{_<_};
 ghost use mathlib.Core.Path.{_≡_};
 ghost use Rattle.schema.specs.Schema.{lenRole, varintField, roleOf, ownOf};
 ghost use Rattle.schema.specs.Count.{Within, counted, fieldCount, textCount};
-ghost use Rattle.schema.specs.Slots.{noSlots, setNumber, setPlace, withField, slotsOf};
+ghost use Rattle.schema.specs.Slots.{noSlots, setPlace, placeOf, withField, slotsOf};
+ghost use Rattle.schema.specs.Made.{placeFrom, numberFrom, madeFrom, indexOf, Sixes};
 use protobuf::Field;
 use protobuf::Step;
 use protobuf::WIRE_LEN;
@@ -309,111 +311,112 @@ impl Slots {
             fifth: Place::Absent,
         }
     }
+}
 
-    // With a place in a slot.
-    fn with_place(self, slot: u8, place: Place) -> Slots
-        ensures { λ r. ⌜ r ≡ setPlace self slot place ⌝ }
-    {
-        let number = self.number;
-        let first = self.first;
-        let second = self.second;
-        let third = self.third;
-        let fourth = self.fourth;
-        let fifth = self.fifth;
-        if slot == 1 {
-            return Slots {
-                number,
-                first: place,
-                second,
-                third,
-                fourth,
-                fifth,
-            };
-        }
-        if slot == 2 {
-            return Slots {
-                number,
-                first,
-                second: place,
-                third,
-                fourth,
-                fifth,
-            };
-        }
-        if slot == 3 {
-            return Slots {
-                number,
-                first,
-                second,
-                third: place,
-                fourth,
-                fifth,
-            };
-        }
-        if slot == 4 {
-            return Slots {
-                number,
-                first,
-                second,
-                third,
-                fourth: place,
-                fifth,
-            };
-        }
-        Slots {
-            number,
-            first,
-            second,
-            third,
-            fourth,
-            fifth: place,
-        }
+fn place_from(there: u8, start: u64, end: u64) -> Place
+    ensures { λ r. ⌜ r ≡ placeFrom there start end ⌝ }
+{
+    if there == 0 {
+        return Place::Absent;
     }
-
-    // With a number.
-    fn with_number(self, value: u64) -> Slots
-        ensures { λ r. ⌜ r ≡ setNumber self value ⌝ }
-    {
-        let first = self.first;
-        let second = self.second;
-        let third = self.third;
-        let fourth = self.fourth;
-        let fifth = self.fifth;
-        Slots {
-            number: Number::Present(value),
-            first,
-            second,
-            third,
-            fourth,
-            fifth,
-        }
+    Place::Present {
+        start: start as usize,
+        end: end as usize,
     }
+}
 
-    // With a field of a message: the last wins.
-    fn with_field(self, kind: Kind, f: Field) -> Slots
-        ensures { λ r. ⌜ r ≡ withField kind self f ⌝ }
-    {
-        let role = role_of(kind, f.field, f.wire_type);
-        match role {
-            Role::Skip => self,
-            Role::Number => self.with_number(f.value),
-            Role::Text(slot) => self.with_place(
-                slot,
-                Place::Present {
-                    start: f.start,
-                    end: f.next,
-                },
-            ),
-            Role::Bytes(slot) => self.with_place(
-                slot,
-                Place::Present {
-                    start: f.start,
-                    end: f.next,
-                },
-            ),
-            Role::Topic => self,
-            Role::MessageId => self,
-            Role::Sub(_) => self,
+fn number_from(there: u8, value: u64) -> Number
+    ensures { λ r. ⌜ r ≡ numberFrom there value ⌝ }
+{
+    if there == 0 {
+        return Number::Absent;
+    }
+    Number::Present(value)
+}
+
+// The singular fields from plain arrays: 1 to 5 are the places, 0 is the number, its value among the starts.
+fn made(starts: &[u64; 6], ends: &[u64; 6], there: &[u8; 6]) -> Slots
+    ensures { λ r. ⌜ r ≡ madeFrom (now (starts .entry)) (now (ends .entry)) (now (there .entry)) ⌝ }
+{
+    let number = number_from(there[0], starts[0]);
+    let first = place_from(there[1], starts[1], ends[1]);
+    let second = place_from(there[2], starts[2], ends[2]);
+    let third = place_from(there[3], starts[3], ends[3]);
+    let fourth = place_from(there[4], starts[4], ends[4]);
+    let fifth = place_from(there[5], starts[5], ends[5]);
+    Slots {
+        number,
+        first,
+        second,
+        third,
+        fourth,
+        fifth,
+    }
+}
+
+fn index_of(slot: u8) -> usize
+    ensures { λ r. ⌜ r ≡ indexOf slot ⌝ }
+    ensures { λ r. ⌜ r < 6 ⌝ }
+{
+    if slot == 1 {
+        return 1;
+    }
+    if slot == 2 {
+        return 2;
+    }
+    if slot == 3 {
+        return 3;
+    }
+    if slot == 4 {
+        return 4;
+    }
+    5
+}
+
+// A field's place, in a slot.
+fn take_place(slot: u8, f: Field, starts: &mut [u64; 6], ends: &mut [u64; 6], there: &mut [u8; 6])
+    requires { ⌜ Sixes (now starts) (now ends) (now there) ⌝ }
+    ensures { λ _. ⌜ madeFrom (now (starts .exit)) (now (ends .exit)) (now (there .exit)) ≡ setPlace (madeFrom (now (starts .entry)) (now (ends .entry)) (now (there .entry))) slot (placeOf f) ⌝ }
+    ensures { λ _. ⌜ Sixes (now (starts .exit)) (now (ends .exit)) (now (there .exit)) ⌝ }
+{
+    let i = index_of(slot);
+    starts[i] = f.start as u64;
+    ends[i] = f.next as u64;
+    there[i] = 1;
+}
+
+// A field of a message: the last wins.
+fn take_field(kind: Kind, f: Field, starts: &mut [u64; 6], ends: &mut [u64; 6], there: &mut [u8; 6])
+    requires { ⌜ Sixes (now starts) (now ends) (now there) ⌝ }
+    ensures { λ _. ⌜ madeFrom (now (starts .exit)) (now (ends .exit)) (now (there .exit)) ≡ withField kind (madeFrom (now (starts .entry)) (now (ends .entry)) (now (there .entry))) f ⌝ }
+    ensures { λ _. ⌜ Sixes (now (starts .exit)) (now (ends .exit)) (now (there .exit)) ⌝ }
+{
+    let role = role_of(kind, f.field, f.wire_type);
+    match role {
+        Role::Skip => {
+            return;
+        }
+        Role::Number => {
+            starts[0] = f.value;
+            there[0] = 1;
+            return;
+        }
+        Role::Text(slot) => {
+            take_place(slot, f, starts, ends, there);
+            return;
+        }
+        Role::Bytes(slot) => {
+            take_place(slot, f, starts, ends, there);
+            return;
+        }
+        Role::Topic => {
+            return;
+        }
+        Role::MessageId => {
+            return;
+        }
+        Role::Sub(_) => {
+            return;
         }
     }
 }
@@ -423,21 +426,23 @@ pub fn slots_of(input: &[u8], kind: Kind) -> Slots
     ensures { λ r. ⌜ r ≡ slotsOf kind (now (input .entry)) ⌝ }
 {
     let mut at: usize = 0;
-    let mut slots = Slots::none();
+    let mut starts = [0u64; 6];
+    let mut ends = [0u64; 6];
+    let mut there = [0u8; 6];
     while at < input.len() {
         let step = read_field(input, at);
         match step {
             Step::End => {
-                return slots;
+                return made(&starts, &ends, &there);
             }
             Step::Refused(_) => {
-                return slots;
+                return made(&starts, &ends, &there);
             }
             Step::At(f) => {
-                slots = slots.with_field(kind, f);
+                take_field(kind, f, &mut starts, &mut ends, &mut there);
                 at = f.next;
             }
         }
     }
-    slots
+    made(&starts, &ends, &there)
 }
