@@ -4,7 +4,7 @@ ghost use Prim.Native.Nat.{_<_};
 ghost use mathlib.Core.Path.{_≡_};
 ghost use Rattle.schema.specs.Schema.{lenRole, varintField, roleOf, ownOf};
 ghost use Rattle.schema.specs.Count.{Within, counted, fieldCount, textCount};
-ghost use Rattle.schema.specs.Slots.{noSlots, setPlace, placeOf, withField, slotsOf};
+ghost use Rattle.schema.specs.Slots.{setPlace, placeOf, withField, slotsOf};
 ghost use Rattle.schema.specs.Made.{placeFrom, numberFrom, madeFrom, indexOf, Sixes};
 use protobuf::Field;
 use protobuf::Step;
@@ -296,21 +296,6 @@ pub fn count(input: &[u8], kind: Kind) -> Counted
         }
     }
     Counted::Records(n)
-}
-
-impl Slots {
-    pub fn none() -> Slots
-        ensures { λ r. ⌜ r ≡ noSlots ⌝ }
-    {
-        Slots {
-            number: Number::Absent,
-            first: Place::Absent,
-            second: Place::Absent,
-            third: Place::Absent,
-            fourth: Place::Absent,
-            fifth: Place::Absent,
-        }
-    }
 }
 
 fn place_from(there: u8, start: u64, end: u64) -> Place
