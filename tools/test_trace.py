@@ -75,8 +75,9 @@ class Case(unittest.TestCase):
         words = list(words) + ([self.file("a.trace", text)] if text is not None else [])
         clean = {key: value for key, value in os.environ.items() if key not in ("RATTLE_EMULATOR", "RATTLE_HOME")}
         out, err = io.TextIOWrapper(io.BytesIO(), "utf-8"), io.StringIO()
-        with mock.patch.dict(os.environ, {**clean, **(env or {})}, clear=True), contextlib.redirect_stdout(out), contextlib.redirect_stderr(err), \
-                mock.patch.object(sys, "stdin", io.TextIOWrapper(io.BytesIO(given))):
+        # The programs here are scripts, which need no emulator on any machine.
+        with mock.patch.object(TRACE.platform, "machine", return_value="x86_64"), mock.patch.dict(os.environ, {**clean, **(env or {})}, clear=True), \
+                contextlib.redirect_stdout(out), contextlib.redirect_stderr(err), mock.patch.object(sys, "stdin", io.TextIOWrapper(io.BytesIO(given))):
             try:
                 status = TRACE.main(words)
             except SystemExit as done:
