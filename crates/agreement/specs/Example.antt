@@ -20,7 +20,7 @@ use Rattle.schema.specs.Slots.{setPlace, withField, slotsOf}
 use Rattle.ids.specs.Ids.{acceptOf, messageAt, idParts}
 use Rattle.admission.specs.Admission.{topicsOf, firstLong, onLimits, admissionOf, givesId}
 use Rattle.rows.specs.Rows.{newest}
-use Rattle.rows.specs.Ids.{sameBytes, among, distinct}
+use Rattle.rows.specs.Ids.{sameBytes, among}
 use Rattle.rows.specs.IdsLaws.{same-equal}
 use Rattle.rows.specs.Store.{allUpTo}
 use Rattle.seen.specs.Entries.{holds, until, inserted, live}
@@ -124,15 +124,10 @@ pub second-in : among second messages ≡ true
 unfolding messages among signature first second sameBytes
 second-in = refl
 
-each-once : distinct messages ≡ true
-unfolding messages distinct among signature first second sameBytes
-each-once = refl
-
 pub message-set : MessageSet messages
 message-set =
     record {
       bytes = of-two Bytes first-bytes second-bytes;
-      each-once = each-once;
       admissible = of-two (λ (m : List ℕ). (id : List ℕ) × (givesId m id ≡ true)) (first-id, first-carried .own) (second-id, second-carried .own);
       ids-differ = λ m k id a b.
           of-two (λ (m : List ℕ). givesId m id ≡ true → givesId k id ≡ true → m ≡ k)

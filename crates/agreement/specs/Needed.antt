@@ -1,8 +1,8 @@
 -- The premises of demand 3 are needed: for each, gateways for which that one does not hold, and what then goes wrong. The theorem is named after
 -- the premise. The messages pass admission; that the other premises hold is to be seen from the figures, and is not stated.
 --
--- Two clauses of MessageSet are not here, since no theorem cites them: `admissible` (a message that does not pass is never got) and `each-once`. And
--- 65,536 bytes are more than a reply needs: 61,485 are enough for fifteen messages.
+-- One clause of MessageSet is not here, since no theorem cites it: `admissible` (a message that does not pass is never got). And 65,536 bytes are more
+-- than a reply needs: 61,485 are enough for fifteen messages.
 use Prim.Native.Nat.{ℕ, _-_, _^_, _≤_, _<_, min}
 use mathlib.Core.Path.{_≡_, refl, ap, _∙_}
 use mathlib.Core.Bool.{true, false}

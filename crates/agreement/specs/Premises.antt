@@ -5,7 +5,7 @@ use mathlib.Core.Bool.{true}
 use mathlib.Core.List.{List, [], _∷_}
 use lib.ListN.{length, getD}
 use Rattle.basis.specs.Bytes.{Bytes}
-use Rattle.rows.specs.Ids.{among, distinct}
+use Rattle.rows.specs.Ids.{among}
 use Rattle.admission.specs.Admission.{givesId}
 use Rattle.node.specs.State.{legalSettings, freshNode, risesFrom}
 use Rattle.node.specs.Calls.{Plan, no, taken}
@@ -14,7 +14,6 @@ use Rattle.agreement.specs.History.{State, Call, admit, heartbeat, adver
 -- ---- the set of messages; a message is the bytes of the submessage
 pub record MessageSet (set : List (List ℕ)) : Type 0 where
   pub bytes : (m : List ℕ) → among m set ≡ true → Bytes m
-  pub each-once : distinct set ≡ true
   -- every one passes admission with the host's word
   pub admissible : (m : List ℕ) → among m set ≡ true → (id : List ℕ) × (givesId m id ≡ true)
   -- different messages of the set have different ids

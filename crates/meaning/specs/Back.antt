@@ -1,7 +1,7 @@
 -- The records that were written, read back, are the RPC that the body means.
 use Prim.Native.Nat.{ℕ, _+_, _-_}
 use mathlib.Core.Path.{_≡_, refl, sym, ap, ap₂, subst, _∙_}
-use mathlib.Core.Bool.{Bool, true, false, cond, _&&_, _||_}
+use mathlib.Core.Bool.{Bool, true, false, cond, _&&_, _||_, and-false}
 use mathlib.Core.List.{List, [], _∷_, _++_, append-nil}
 use mathlib.Core.Option.{Option, none, some}
 use native.Mathlib.Omega.{arith}
@@ -370,10 +370,6 @@ pairs-none : {X : Type 0} {R : List ℕ → X → Type 0} {xs : List X} → Pair
 pairs-none no-pairs = refl
 
 -- ---- which field numbers a field has
-and-false : (a : Bool) → a && false ≡ false
-and-false true = refl
-and-false false = refl
-
 bytes-is : (f : Field) (m : ℕ) → eqb (f .«wire_type») 2 ≡ true → eqb (f .field) m ≡ true → isBytes m f ≡ true
 bytes-is f m t e = ap₂ (λ (x y : Bool). x && y) t e
 
