@@ -24,22 +24,20 @@ import caches
 import wire
 from compare_decode import run
 from compare_wire import SHOWN, arguments
-from differences import first_difference, line_at, printed_by
+from differences import first_difference, line_at, printed_by, sort_of
 from oracle import Oracle
 
 CHUNK = 400
 COUNT = 12000
 
 
-def what(line):
-    """The call and the sort of answer, for the counts."""
-    words = line.split(" ")
-    if len(words) == 1:
-        return line
+def answered(words):
     none = {"clean": "0", "next": "none", "gossip": "0", "get": "-"}.get(words[1])
-    if words[2] == "refused":
-        return " ".join(words[1:4])
     return words[1] + " " + (words[2] if none in (None, words[2]) else "some")
+
+
+def what(line):
+    return sort_of(line, answered)
 
 
 def shown(step):

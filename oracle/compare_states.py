@@ -21,7 +21,7 @@ import sys
 import state_histories
 import states
 from compare_wire import arguments
-from differences import Model, first_difference, line_at, printed_by
+from differences import Model, first_difference, line_at, printed_by, sort_of
 from records import header
 from state_histories import STATE
 from states import MAX_CONTENT, record, records
@@ -33,18 +33,16 @@ SHOWN_BYTES = 200
 SHOWN_STEPS = 40
 
 
-def what(line):
-    """The call and the sort of answer, for the counts."""
-    words = line.split(" ")
-    if len(words) == 1:
-        return line
-    if words[2] == "refused":
-        return " ".join(words[1:4])
+def answered(words):
     if words[1] in ("advertise", "ask"):
         return words[1] + (" nothing" if words[2] == "0" else " bytes")
     if words[1] == "serve":
         return words[1] + (" nothing" if words[2] == "0" else " bytes" if words[-1] == "0" else " some left")
     return words[1] if words[1] == "state" else " ".join(words[1:3])
+
+
+def what(line):
+    return sort_of(line, answered)
 
 
 def shown(step):

@@ -26,7 +26,7 @@ import nodes
 import traces
 from compare_decode import run
 from compare_wire import arguments
-from differences import Model, first_difference, line_at, printed_by
+from differences import Model, first_difference, line_at, printed_by, sort_of
 
 CHUNK = 400
 COUNT = 6000
@@ -34,13 +34,7 @@ SHOWN_BYTES = 400
 
 
 def what(line):
-    """The call and the sort of answer, for the counts."""
-    words = line.split(" ")
-    if len(words) == 1:
-        return line
-    if words[2] == "refused":
-        return " ".join(words[1:4])
-    return words[1] + " " + (words[2] if words[1] in ("set", "admit", "beat") else "nothing" if words[2] == "0" else "bytes")
+    return sort_of(line, lambda words: words[1] + " " + (words[2] if words[1] in ("set", "admit", "beat") else "nothing" if words[2] == "0" else "bytes"))
 
 
 def shown(step):

@@ -20,6 +20,14 @@ def line_at(lines, n):
     return lines[n] if n < len(lines) else "nothing"
 
 
+def sort_of(line, answered):
+    """The call and the sort of answer, for the counts; `answered` says it of the words of a call that was not refused."""
+    words = line.split(" ")
+    if len(words) == 1:
+        return line
+    return " ".join(words[1:4]) if words[2] == "refused" else answered(words)
+
+
 class Model:
     """A program beside its model. `records` makes an input of steps, `expected` has its lines, `shown` tells a step, of which the last `most` are
     shown; `begins` says whether steps can be a run of their own."""
