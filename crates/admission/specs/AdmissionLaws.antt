@@ -28,7 +28,8 @@ use Rattle.schema.specs.Slots.{slotsOf}
 use Rattle.ids.specs.declared.MessageAt.the-variants.{At}
 use Rattle.ids.specs.declared.MessageId.{MessageId}
 use Rattle.ids.specs.declared.MessageId.the-variants as id
-use Rattle.ids.specs.Ids.{onCounted, acceptOf, messageAlong, messageAt, idParts, idBytes}
+use Rattle.schema.specs.Accept.{acceptOf}
+use Rattle.ids.specs.Ids.{messageAlong, messageAt, idParts, idBytes}
 use Rattle.ids.specs.IdLaws.{id-size}
 use Rattle.admission.specs.declared.Unfit.{Unfit}
 use Rattle.admission.specs.declared.Unfit.the-variants.{MissingFrom, InvalidFrom, InvalidSeqno, SignatureInvalid}

@@ -14,7 +14,8 @@ use Rattle.rpc.specs.Rpc.{RawMessage, Rpc}
 use Rattle.rpc.specs.Grammar.{IsMessage, is-message, IsRpc}
 use Rattle.ids.specs.declared.MessageAt.{MessageAt}
 use Rattle.ids.specs.declared.MessageAt.the-variants.{At, Count}
-use Rattle.ids.specs.Ids.{acceptOf, messageAt}
+use Rattle.schema.specs.Accept.{acceptOf}
+use Rattle.ids.specs.Ids.{messageAt}
 use Rattle.admission.specs.Admission.{admissionOf}
 use Rattle.canonical.specs.Calls.{taken}
 use Rattle.canonical.specs.Messages.{Nth, here, there, message-found, message-missing}

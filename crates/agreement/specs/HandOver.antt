@@ -17,7 +17,7 @@ use Rattle.protobuf.specs.EncodeLaws.{bytes-field-length}
 use Rattle.rpc.specs.Rpc.{Rpc}
 use Rattle.rpc.specs.Encode.{encodeRpc, repeated}
 use Rattle.meaning.specs.Size.{recordsIn}
-use Rattle.ids.specs.Ids.{acceptOf}
+use Rattle.schema.specs.Accept.{acceptOf}
 use Rattle.encode.specs.CanonLaws.{tag-one}
 use Rattle.canonical.specs.Lengths.{bytes-field-mono}
 use Rattle.canonical.specs.Canonical.{Within}

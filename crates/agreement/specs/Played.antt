@@ -14,7 +14,7 @@ use Rattle.rows.specs.Ids.{sameBytes, among}
 use Rattle.rows.specs.IdsLaws.{same-self, among-at}
 use Rattle.rows.specs.ListLaws.{put-sets}
 use Rattle.protobuf.specs.declared.Checked.the-variants as checked
-use Rattle.ids.specs.Ids.{acceptOf}
+use Rattle.schema.specs.Accept.{acceptOf}
 use Rattle.admission.specs.AdmissionLaws.{gives-only, fit-limits}
 use Rattle.parts.specs.Parts.{fitting}
 use Rattle.parts.specs.PartsLaws.{fitting-room}

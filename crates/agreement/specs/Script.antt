@@ -7,7 +7,7 @@ use mathlib.Core.List.{List, [], _∷_}
 use Rattle.basis.specs.Cases.{either}
 use Rattle.rows.specs.Ids.{sameBytes, among}
 use Rattle.protobuf.specs.declared.Checked.the-variants as checked
-use Rattle.ids.specs.Ids.{acceptOf}
+use Rattle.schema.specs.Accept.{acceptOf}
 use Rattle.admission.specs.Admission.{givesId}
 use Rattle.node.specs.declared.Node.{Node}
 use Rattle.node.specs.declared.Lent.the-variants as lent

@@ -41,7 +41,8 @@ use Rattle.ids.specs.declared.MessageId.{MessageId}
 use Rattle.ids.specs.declared.MessageId.the-variants as parts
 use Rattle.ids.specs.declared.MessageBytes.{MessageBytes}
 use Rattle.ids.specs.declared.MessageBytes.the-variants.{NoMessage, MissingFrom, InvalidFrom, InvalidSeqno}
-use Rattle.ids.specs.Ids.{onCounted, acceptOf, messageAt, onSeqno, onFrom, idParts, ofWritten as message, answerId, leftId, answerAt, leftAt, answerChecked, leftChecked, idAnswer, idLeft}
+use Rattle.schema.specs.Accept.{acceptOf}
+use Rattle.ids.specs.Ids.{messageAt, onSeqno, onFrom, idParts, ofWritten as message, answerId, leftId, answerAt, leftAt, answerChecked, leftChecked, idAnswer, idLeft}
 use Rattle.encode.specs.Encode.{encodeAnswer, encodeLeft}
 use Rattle.encode.specs.Sign.{signAt, signChecked, signAnswer, signedAt, signedChecked, signLeft}
 use Rattle.canonical.specs.Canonical.{Within}

@@ -1,47 +1,48 @@
--- The canonical bytes by cases, as the writers go: what a number, a place, a field, a role and a step of the walk stand for.
+-- The canonical bytes by cases, as the writers go: what a number, a place, a field, a row of the table and a step of the walk stand for.
 use Prim.Native.Nat.{ℕ, suc, _+_, _-_, _*_, _≤_, _<_}
-use mathlib.Core.Path.{_≡_, sym, ap, subst, _∙_}
+use mathlib.Core.Path.{_≡_, refl, sym, ap, _∙_}
 use mathlib.Core.List.{List, [], _++_, append-assoc}
 use mathlib.Core.Bool.{cond}
 use native.Mathlib.Omega.{arith}
 use native.Mathlib.Nat.{zero-add}
 use lib.ListN.{length, drop, length-append, length-take, length-drop}
-use lib.Dec.{eqb}
-use borrow.Author.Tests.{eq-eqb, ne-eqb, eqb-true, eqb-false}
-use Rattle.basis.specs.Cases.{either}
+use borrow.Author.Tests.{eq-eqb, ne-eqb}
+use Rattle.basis.specs.declared.Written.the-variants.{Bytes, Room}
+use Rattle.basis.specs.Writing.{answer, written}
+use Rattle.basis.specs.Lists.{answer-fits, answer-short, written-fits, written-short}
 use Rattle.peer_id.specs.Uvarint.{uvarint}
 use Rattle.protobuf.specs.declared.Field.{Field}
 use Rattle.protobuf.specs.declared.Step.the-variants as step
 use Rattle.protobuf.specs.Field.{readField}
-use Rattle.protobuf.specs.Walk.{walkAt, fieldsOf, between, isBytes, valueIn}
+use Rattle.protobuf.specs.Walk.{walkAt, between, isBytes, valueIn}
 use Rattle.protobuf.specs.WalkLaws.{walk-on}
 use Rattle.protobuf.specs.Encode.{tag, varintField, bytesField}
 use Rattle.protobuf.specs.EncodeLaws.{tag-varint}
 use Rattle.schema.specs.declared.Kind.{Kind}
 use Rattle.schema.specs.declared.Kind.the-variants as kind
-use Rattle.schema.specs.declared.Role.{Role}
-use Rattle.schema.specs.declared.Role.the-variants.{Skip, Number, Text, Bytes, Topic, MessageId, Sub}
+use Rattle.schema.specs.declared.Figure.{Figure}
+use Rattle.schema.specs.declared.Held.{Held}
+use Rattle.schema.specs.declared.Held.the-variants as held
 use Rattle.schema.specs.declared.Place.{Place}
 use Rattle.schema.specs.declared.Place.the-variants as place
 use Rattle.schema.specs.declared.Number.{Number as Num}
 use Rattle.schema.specs.declared.Number.the-variants as number
-use Rattle.schema.specs.Schema.{varintField as numberField, roleOf, rank}
+use Rattle.schema.specs.Schema.{table, rowOf, heldOf, rank}
+use Rattle.schema.specs.SchemaLaws.{held-rank}
+use Rattle.schema.specs.declared.Role.{Role}
 use Rattle.schema.specs.declared.Slots.{Slots}
 use Rattle.schema.specs.Slots.{slotsOf}
-use Rattle.schema.specs.SlotsLaws.{Inside}
-use Rattle.schema.specs.CountLaws.{sub-rank}
-use Rattle.encode.specs.Canon.{eachAlong, placed, slotIn, valueOf, numbered, inner, rolePart, canon, partOf, entriesAlong}
-use Rattle.encode.specs.CanonLaws.{canon-four, slots-inside}
+use Rattle.canon.specs.Canon.{inOrder, placed, figured, numbered, ownPart, eachAlong, heldPart, partWith, canon}
 use Rattle.encode.specs.Puts.{Puts, Fits, puts-none, puts-short, puts-same, puts-append, fits-same, fits-first, fits-next}
 
 -- ---- one field
-pub number-none : (k : Kind) (n : ℕ) (x : Num) → x ≡ number.Absent → numbered k n x ≡ []
+pub number-none : (figure : Figure) (n : ℕ) (x : Num) → x ≡ number.Absent → numbered figure n x ≡ []
 unfolding numbered
-number-none k n x e = rw e
+number-none figure n x e = rw e
 
-pub number-is : (k : Kind) (n v w : ℕ) (x : Num) → x ≡ number.Present v → w ≡ valueOf k v → numbered k n x ≡ uvarint (n * 8) ++ uvarint w
+pub number-is : (figure : Figure) (n v w : ℕ) (x : Num) → x ≡ number.Present v → w ≡ figured figure v → numbered figure n x ≡ uvarint (n * 8) ++ uvarint w
 unfolding numbered varintField
-number-is k n v w x e h = rw (e, h) (ap (λ (t : List ℕ). t ++ uvarint (valueOf k v)) (tag-varint n))
+number-is figure n v w x e h = rw (e, h) (ap (λ (t : List ℕ). t ++ uvarint (figured figure v)) (tag-varint n))
 
 pub field-is : (n len : ℕ) (d : List ℕ) → len ≡ length d → bytesField n d ≡ (tag n 2 ++ uvarint len) ++ d
 unfolding bytesField
@@ -51,11 +52,14 @@ pub place-none : (n : ℕ) (s : List ℕ) (p : Place) → p ≡ place.Absent →
 unfolding placed
 place-none n s p e = rw e
 
+pub part-is : (n a e : ℕ) (s : List ℕ) → a ≤ e → e ≤ length s → bytesField n (between s a e) ≡ (tag n 2 ++ uvarint (e - a)) ++ between s a e
+part-is n a e s h l =
+    let z : e - a ≡ length (between s a e) = rw (length-take (e - a) (drop a s), length-drop a s) (omega arith) in
+    field-is n (e - a) (between s a e) z
+
 pub place-is : (n a e : ℕ) (s : List ℕ) (p : Place) → p ≡ place.Present a e → a ≤ e → e ≤ length s → placed n s p ≡ (tag n 2 ++ uvarint (e - a)) ++ between s a e
 unfolding placed
-place-is n a e s p q h l =
-    let z : e - a ≡ length (between s a e) = rw (length-take (e - a) (drop a s), length-drop a s) (omega arith) in
-    rw q (field-is n (e - a) (between s a e) z)
+place-is n a e s p q h l = rw q (part-is n a e s h l)
 
 -- a field that is length-delimited and has the number n, and those that are not
 module _ (n : ℕ) (f : Field) (xs : List ℕ) where
@@ -73,85 +77,74 @@ pub holds-less : (n : ℕ) (d : List ℕ) → length d ≤ length (bytesField n 
 unfolding bytesField
 holds-less n d = omega (arith, length-append (tag n 2) (uvarint (length d) ++ d), length-append (uvarint (length d)) d)
 
--- ---- a message's part n, by the field's role
-module _ (k : Kind) (n : ℕ) (s : List ℕ) (r : Role) (e : r ≡ roleOf k n 2) where
-  part-is : partOf k n s ≡ rolePart canon k n s r
-  unfolding partOf
-  part-is = ap (rolePart canon k n s) (sym e)
+-- ---- the rows of the table
+-- a message has at most six
+pub few-rows : (k : Kind) → length (table k) ≤ 6
+few-rows kind.Rpc = omega arith
+few-rows kind.SubOpts = omega arith
+few-rows kind.RawMessage = omega arith
+few-rows kind.Topic = omega arith
+few-rows kind.ControlMessage = omega arith
+few-rows kind.ControlIHave = omega arith
+few-rows kind.ControlIWant = omega arith
+few-rows kind.MessageId = omega arith
+few-rows kind.ControlGraft = omega arith
+few-rows kind.ControlPrune = omega arith
+few-rows kind.PeerInfo = omega arith
 
-  pub part-number : r ≡ Number → partOf k n s ≡ []
-  part-number h = part-is ∙ ap (rolePart canon k n s) h
+-- of the parts up to `last`, the part n and those that follow it
+pub order-step : (part : ℕ → List ℕ) (n last : ℕ) → n ≤ last → inOrder part n (last + 1 - n) ≡ part n ++ inOrder part (n + 1) (last + 1 - (n + 1))
+order-step part n last h =
+    let e : last + 1 - n ≡ suc (last + 1 - (n + 1)) = omega arith in
+    ap (inOrder part n) e
 
-  -- with the slots at hand
-  module _ (t : Slots) (q : t ≡ slotsOf k s) where
-    pub part-skip : r ≡ Skip → partOf k n s ≡ cond (eqb n (numberField k)) (numbered k n (t .number)) []
-    part-skip h = part-is ∙ ap (rolePart canon k n s) h ∙ ap (λ (x : Slots). cond (eqb n (numberField k)) (numbered k n (x .number)) []) (sym q)
+pub order-end : (part : ℕ → List ℕ) (n last : ℕ) → last < n → inOrder part n (last + 1 - n) ≡ []
+order-end part n last h = let e : last + 1 - n ≡ 0 = omega arith in ap (inOrder part n) e
 
-    pub part-text : (slot : ℕ) → r ≡ Text slot → partOf k n s ≡ placed n s (slotIn slot t)
-    part-text slot h = part-is ∙ ap (rolePart canon k n s) h ∙ ap (λ (x : Slots). placed n s (slotIn slot x)) (sym q)
+pub order-all : (part : ℕ → List ℕ) (last c : ℕ) → last ≡ c → inOrder part 1 (last + 1 - 1) ≡ inOrder part 1 c
+order-all part last c h = let e : last + 1 - 1 ≡ c = omega arith in ap (inOrder part 1) e
 
-    pub part-bytes : (slot : ℕ) → r ≡ Bytes slot → partOf k n s ≡ placed n s (slotIn slot t)
-    part-bytes slot h = part-is ∙ ap (rolePart canon k n s) h ∙ ap (λ (x : Slots). placed n s (slotIn slot x)) (sym q)
+-- how deep entries are looked into: less deep than the message that they stand in
+abbrev pub depth : Held → ℕ
+depth held.Nothing = 0
+depth held.Whole = 0
+depth (held.Anew j) = 5 * rank j + 4
+depth (held.Merged j) = 0
 
-  abbrev each : Role → List ℕ
-  each x = eachAlong (inner canon x) n s (fieldsOf s)
+depth-of : (k : Kind) (n : ℕ) (h : Held) → heldOf (rowOf k n) ≡ h → depth h < 5 * rank k + 1
+depth-of k n held.Nothing e = omega arith
+depth-of k n held.Whole e = omega arith
+depth-of k n (held.Anew j) e = let l = held-rank k j n e in omega arith
+depth-of k n (held.Merged j) e = omega arith
 
-  pub part-topic : r ≡ Topic → partOf k n s ≡ each r
-  part-topic h = part-is ∙ ap (rolePart canon k n s) h ∙ ap each (sym h)
+pub depth-rank : (k : Kind) (n : ℕ) (h : Held) → h ≡ heldOf (rowOf k n) → depth h < 5 * rank k + 1
+depth-rank k n h e = depth-of k n h (sym e)
 
-  pub part-id : r ≡ MessageId → partOf k n s ≡ each r
-  part-id h = part-is ∙ ap (rolePart canon k n s) h ∙ ap each (sym h)
+-- what is written of entries, by how they are written
+pub held-is : (n : ℕ) (s : List ℕ) (h x : Held) → h ≡ x → heldPart canon n s h ≡ heldPart canon n s x
+held-is n s h x e = ap (heldPart canon n s) e
 
-  pub part-sub : (j : Kind) → r ≡ Sub j → partOf k n s ≡ each r
-  part-sub j h = part-is ∙ ap (rolePart canon k n s) h ∙ ap each (sym h)
+-- a row: its singular field, and where that ends its entries; t are the slots, r the role and h how entries are written
+module _ (t : Slots) (k : Kind) (s : List ℕ) (n : ℕ) (r : Role) (q : t ≡ slotsOf k s) (e : r ≡ rowOf k n) where
+  own-same : ownPart (slotsOf k s) n s (rowOf k n) ≡ ownPart t n s r
+  own-same = rw (q, e)
 
-pub slot-there : (k : Kind) (s : List ℕ) (t : Slots) (slot : ℕ) → t ≡ slotsOf k s → Inside s (slotIn slot t)
-slot-there k s t slot q = subst (λ (x : Slots). Inside s (slotIn slot x)) (sym q) (slots-inside k s slot)
+  pub own-fits : (at : ℕ) → Fits at (ownPart (slotsOf k s) n s (rowOf k n)) → Fits at (ownPart t n s r)
+  own-fits at f = fits-same at _ _ own-same f
 
--- a control's fields 1 to 4 are submessages
-pub control-part : (m : ℕ) (s : List ℕ) (r : Role) → r ≡ roleOf kind.ControlMessage m 2 → 1 ≤ m → m ≤ 4 → partOf kind.ControlMessage m s ≡ eachAlong (inner canon r) m s (fieldsOf s)
-unfolding partOf roleOf
-control-part m s r q l h =
-    either (eqb m 1) (λ a. rw (q, eqb-true m 1 a))
-    (λ a. either (eqb m 2) (λ b. rw (q, eqb-true m 2 b))
-    (λ b. either (eqb m 3) (λ c. rw (q, eqb-true m 3 c))
-    (λ c. let x = eqb-false m 1 a in let y = eqb-false m 2 b in let z = eqb-false m 3 c in let d : m ≡ 4 = omega arith in rw (q, d))))
+  module _ (h : Held) (x : h ≡ heldOf (rowOf k n)) {out mid : List ℕ} {at i : ℕ} (p : Puts out at (ownPart t n s r) mid i) where
+    own-puts : Puts out at (ownPart (slotsOf k s) n s (rowOf k n)) mid i
+    own-puts = puts-same out at _ _ mid i (sym own-same) p
 
--- ---- what a field holds, by its role
-pub value-is : (r x : Role) (p : List ℕ) → r ≡ x → inner canon r p ≡ inner canon x p
-value-is r x p e = ap (λ (y : Role). inner canon y p) e
+    pub held-fits : Fits at (partWith canon k s n) → Fits i (heldPart canon n s h)
+    held-fits f = fits-same i _ _ (ap (heldPart canon n s) (sym x)) (fits-next out mid at i _ _ own-puts f)
 
-pub value-sub : (r : Role) (j : Kind) (p : List ℕ) → r ≡ Sub j → inner canon r p ≡ partOf j 1 p ++ (partOf j 2 p ++ (partOf j 3 p ++ partOf j 4 p))
-value-sub r j p e = value-is r (Sub j) p e ∙ canon-four j p
-
--- how deep a role can look into a message: less deep than the message that the field stands in
-abbrev pub depth : Role → ℕ
-depth Skip = 0
-depth Number = 0
-depth (Text slot) = 0
-depth (Bytes slot) = 0
-depth Topic = 0
-depth MessageId = 0
-depth (Sub j) = suc (rank j)
-
-depth-of : (k : Kind) (n : ℕ) (r : Role) → roleOf k n 2 ≡ r → depth r ≤ rank k
-depth-of k n Skip e = omega arith
-depth-of k n Number e = omega arith
-depth-of k n (Text slot) e = omega arith
-depth-of k n (Bytes slot) e = omega arith
-depth-of k n Topic e = omega arith
-depth-of k n MessageId e = omega arith
-depth-of k n (Sub j) e = sub-rank k j n 2 e
-
-pub depth-rank : (k : Kind) (n : ℕ) (r : Role) → r ≡ roleOf k n 2 → depth r ≤ rank k
-depth-rank k n r e = depth-of k n r (sym e)
+    pub row-puts : {after : List ℕ} {end : ℕ} → Puts mid i (heldPart canon n s h) after end → Puts out at (partWith canon k s n) after end
+    row-puts {after} {end} z = puts-append out mid after at i end _ _ own-puts (puts-same mid i _ _ after end (ap (heldPart canon n s) x) z)
 
 -- ---- a step of the walk
-pub each-field : (g : List ℕ → List ℕ) (n : ℕ) (s : List ℕ) (i : ℕ) (f : Field) → step.At f ≡ readField s i → eachAlong g n s (walkAt s i) ≡ cond (isBytes n f) (bytesField n (g (valueIn s f))) [] ++ eachAlong g n s (walkAt s (f .next))
+pub each-field : (g : List ℕ → List ℕ) (n : ℕ) (s : List ℕ) (i : ℕ) (f : Field) → step.At f ≡ readField s i → eachAlong g n s (walkAt s i) ≡ cond (isBytes n f) (g (valueIn s f)) [] ++ eachAlong g n s (walkAt s (f .next))
 each-field g n s i f h = ap (eachAlong g n s) (walk-on s i (step.At f) h)
-
-pub entries-field : (m : ℕ) (s : List ℕ) (i : ℕ) (f : Field) → step.At f ≡ readField s i → entriesAlong m s (walkAt s i) ≡ cond (isBytes 3 f) (partOf kind.ControlMessage m (valueIn s f)) [] ++ entriesAlong m s (walkAt s (f .next))
-entries-field m s i f h = ap (entriesAlong m s) (walk-on s i (step.At f) h)
 
 -- ---- a field n that holds d, whose length was measured: a head, and d where it ends
 module _ (n : ℕ) (xs d : List ℕ) (at : ℕ) (y : xs ≡ bytesField n d) (h : Fits at xs) where
@@ -185,3 +178,18 @@ module _ (n : ℕ) (xs d : List ℕ) (at : ℕ) (y : xs ≡ bytesField n d) (h :
 
 pub field-none : (n : ℕ) (f : Field) (xs : List ℕ) (out : List ℕ) (at : ℕ) → cond (isBytes n f) xs [] ≡ [] → Puts out at (cond (isBytes n f) xs []) out at
 field-none n f xs out at e = puts-same out at [] _ out at (sym e) (puts-none out at)
+
+-- ---- bytes xs that were measured: there is no room for them, or they were put at the front
+module _ (xs out : List ℕ) (needed : ℕ) (e : needed ≡ length xs) where
+  pub too-short : length out < needed → (Room needed ≡ answer xs out) × (out ≡ written xs out)
+  too-short h =
+      let k : length out < length xs = omega arith in
+      (ap Room e ∙ sym (answer-short xs out k), sym (written-short xs out k))
+
+  pub all-put : needed ≤ length out → (after : List ℕ) (end : ℕ) → Puts out 0 xs after end → (Bytes needed ≡ answer xs out) × (after ≡ written xs out)
+  all-put h after end r =
+      let k : length xs ≤ length out = omega arith in
+      (ap Bytes e ∙ sym (answer-fits xs out k), r .holds (omega arith) ∙ sym (written-fits xs out k))
+
+pub measured : (xs out after : List ℕ) (end : ℕ) → Puts out 0 xs after end → end ≡ length xs
+measured xs out after end r = r .ends ∙ zero-add (length xs)

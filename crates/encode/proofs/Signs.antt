@@ -1,13 +1,10 @@
--- Sign bytes: where they end, that they fit, and which case it is.
-use Prim.Native.Nat.{ℕ, _+_, _-_, _≤_, _<_}
+-- Sign bytes: that they fit, and which case it is.
+use Prim.Native.Nat.{ℕ, _+_, _-_, _≤_}
 use mathlib.Core.Path.{_≡_, sym, ap, _∙_}
 use mathlib.Core.List.{List}
 use native.Mathlib.Omega.{arith}
-use native.Mathlib.Nat.{zero-add}
 use lib.ListN.{length, drop, length-append, length-take, length-drop}
-use Rattle.basis.specs.Bytes.{Bytes as Octets}
 use Rattle.basis.specs.Writing.{answer, written}
-use Rattle.basis.specs.Lists.{answer-fits, answer-short, written-fits, written-short}
 use Rattle.protobuf.specs.declared.WireError.{WireError}
 use Rattle.protobuf.specs.declared.Checked.the-variants.{Fine, Refused as Wrong}
 use Rattle.protobuf.specs.Walk.{between}
@@ -15,35 +12,19 @@ use Rattle.schema.specs.declared.Kind.the-variants as kind
 use Rattle.rpc.specs.Encode.{signPrefix}
 use Rattle.ids.specs.declared.MessageAt.the-variants.{At, Count}
 use Rattle.ids.specs.declared.MessageBytes.{MessageBytes}
-use Rattle.ids.specs.declared.MessageBytes.the-variants.{Bytes, Room, Refused, NoMessage}
-use Rattle.ids.specs.Ids.{acceptOf, messageAt, ofWritten}
-use Rattle.encode.specs.Canon.{canon, signOf}
-use Rattle.encode.specs.SignLaws.{message-shorter}
-use Rattle.encode.specs.Puts.{Puts}
+use Rattle.ids.specs.declared.MessageBytes.the-variants.{Refused, NoMessage}
+use Rattle.schema.specs.Accept.{acceptOf}
+use Rattle.ids.specs.Ids.{messageAt, ofWritten}
+use Rattle.canon.specs.Canon.{canon, signOf}
 use Rattle.encode.specs.Sign.{signAt, signChecked, signAnswer, signedAt, signedChecked, signLeft}
 
 sign-length : (p : List ℕ) → length (signOf p) ≡ 14 + length (canon kind.RawMessage p)
 unfolding signOf
 sign-length p = length-append signPrefix (canon kind.RawMessage p)
 
--- the room is short, or the bytes are written
-module _ (p out : List ℕ) (needed : ℕ) (e : needed ≡ length (signOf p)) where
-  pub sign-short : length out < needed → (Room needed ≡ ofWritten (answer (signOf p) out)) × (out ≡ written (signOf p) out)
-  sign-short h =
-      let k : length out < length (signOf p) = omega arith in
-      (ap Room e ∙ sym (ap ofWritten (answer-short (signOf p) out k)), sym (written-short (signOf p) out k))
-
-  pub sign-put : needed ≤ length out → (after : List ℕ) (end : ℕ) → Puts out 0 (signOf p) after end → (Bytes needed ≡ ofWritten (answer (signOf p) out)) × (after ≡ written (signOf p) out)
-  sign-put h after end r =
-      let k : length (signOf p) ≤ length out = omega arith in
-      (ap Bytes e ∙ sym (ap ofWritten (answer-fits (signOf p) out k)), r .holds (omega arith) ∙ sym (written-fits (signOf p) out k))
-
-pub signed-end : (p out after : List ℕ) (end : ℕ) → Puts out 0 (signOf p) after end → end ≡ length (signOf p)
-signed-end p out after end r = r .ends ∙ zero-add (length (signOf p))
-
 -- 14 bytes more than the message are enough
-pub sign-fits : (p out after : List ℕ) (end : ℕ) → Octets p → length p + 14 ≤ length out → Puts out 0 (signOf p) after end → end ≤ length out
-sign-fits p out after end b h r = let m = message-shorter p b in omega (arith, sign-length p, signed-end p out after end r)
+pub sign-fits : (p : List ℕ) (room : ℕ) → length (canon kind.RawMessage p) ≤ length p → length p + 14 ≤ room → length (signOf p) ≤ room
+sign-fits p room m h = omega (arith, sign-length p)
 
 -- a part is no longer than the whole
 pub part-small : (s : List ℕ) (a e : ℕ) → length s ≤ 65536 → length (between s a e) ≤ 65536

@@ -1,30 +1,25 @@
 -- Re-encoding a body: what `encode` answers and what it leaves. Refusals come in the order of 01's table: 10, 1 to 7, 11, 12.
 use Prim.Native.Nat.{ℕ}
 use mathlib.Core.List.{List}
-use mathlib.Core.Bool.{cond}
-use lib.ListN.{length}
-use lib.Dec.{ltb}
 use Rattle.basis.specs.Writing.{answer, written}
-use Rattle.protobuf.specs.declared.WireError.the-variants.{TooLarge, TooManyRecords}
+use Rattle.protobuf.specs.declared.Checked.{Checked}
+use Rattle.protobuf.specs.declared.Checked.the-variants.{Fine, Refused as Wrong}
 use Rattle.protobuf.specs.declared.Encoded.{Encoded}
 use Rattle.protobuf.specs.declared.Encoded.the-variants.{Refused}
 use Rattle.protobuf.specs.Encode.{ofWritten}
-use Rattle.schema.specs.declared.Kind.the-variants as kind
-use Rattle.schema.specs.declared.Counted.{Counted}
-use Rattle.schema.specs.declared.Counted.the-variants as count
-use Rattle.schema.specs.Count.{counted}
-use Rattle.encode.specs.Canon.{canonBody}
+use Rattle.schema.specs.Accept.{acceptOf}
+use Rattle.canon.specs.Canon.{canonBody}
 
-abbrev pub onCount : List ℕ → List ℕ → Counted → Encoded
-onCount s out (count.Refused why) = Refused why
-onCount s out (count.Records n) = cond (ltb 512 n) (Refused (TooManyRecords n)) (ofWritten (answer (canonBody s) out))
+abbrev pub encodeChecked : List ℕ → List ℕ → Checked → Encoded
+encodeChecked s out (Wrong why) = Refused why
+encodeChecked s out Fine = ofWritten (answer (canonBody s) out)
 
 unfoldable pub encodeAnswer : List ℕ → List ℕ → Encoded
-encodeAnswer s out = cond (ltb 65536 (length s)) (Refused (TooLarge (length s))) (onCount s out (counted kind.Rpc s))
+encodeAnswer s out = encodeChecked s out (acceptOf s)
 
-abbrev pub leavesOn : List ℕ → List ℕ → Counted → List ℕ
-leavesOn s out (count.Refused why) = out
-leavesOn s out (count.Records n) = cond (ltb 512 n) out (written (canonBody s) out)
+abbrev pub encodedChecked : List ℕ → List ℕ → Checked → List ℕ
+encodedChecked s out (Wrong why) = out
+encodedChecked s out Fine = written (canonBody s) out
 
 unfoldable pub encodeLeft : List ℕ → List ℕ → List ℕ
-encodeLeft s out = cond (ltb 65536 (length s)) out (leavesOn s out (counted kind.Rpc s))
+encodeLeft s out = encodedChecked s out (acceptOf s)

@@ -66,6 +66,9 @@ pub record Going (out₀ : List ℕ) (at : ℕ) (all out : List ℕ) (end : ℕ)
 pub going-all : (out : List ℕ) (at : ℕ) (all : List ℕ) → Fits at all → Going out at all out at all
 going-all out at all h = record { fits = h; goes = λ after e p. p }
 
+pub going-same : (out : List ℕ) (at : ℕ) (all rest : List ℕ) → all ≡ rest → Fits at all → Going out at all out at rest
+going-same out at all rest e h = record { fits = fits-same at all rest e h; goes = λ after z p. puts-same out at rest all after z (sym e) p }
+
 module _ (out₀ : List ℕ) (at : ℕ) (all out : List ℕ) (end : ℕ) (rest : List ℕ) (g : Going out₀ at all out end rest) where
   pub going-none : rest ≡ [] → Puts out₀ at all out end
   going-none e = g .goes out end (puts-same out end [] rest out end (sym e) (puts-none out end))
@@ -80,31 +83,3 @@ module _ (out₀ : List ℕ) (at : ℕ) (all out : List ℕ) (end : ℕ) (rest :
           fits = fits-next out mid end i xs ys p (fits-same end rest (xs ++ ys) e (g .fits));
           goes = λ after z q. g .goes after z (puts-same out end (xs ++ ys) rest after z (sym e) (puts-append out mid after end i z xs ys p q));
         }
-
--- ---- four parts
-module _ (at : ℕ) (a b c d : List ℕ) (h : Fits at (a ++ (b ++ (c ++ d)))) where
-  pub fits-one : Fits at a
-  fits-one = fits-first at a (b ++ (c ++ d)) h
-
-  module _ (out o₁ : List ℕ) (i : ℕ) (p₁ : Puts out at a o₁ i) where
-    from-two : Fits i (b ++ (c ++ d))
-    from-two = fits-next out o₁ at i a (b ++ (c ++ d)) p₁ h
-
-    pub fits-two : Fits i b
-    fits-two = fits-first i b (c ++ d) from-two
-
-    module _ (o₂ : List ℕ) (j : ℕ) (p₂ : Puts o₁ i b o₂ j) where
-      from-three : Fits j (c ++ d)
-      from-three = fits-next o₁ o₂ i j b (c ++ d) p₂ from-two
-
-      pub fits-three : Fits j c
-      fits-three = fits-first j c d from-three
-
-      module _ (o₃ : List ℕ) (k : ℕ) (p₃ : Puts o₂ j c o₃ k) where
-        pub fits-four : Fits k d
-        fits-four = fits-next o₂ o₃ j k c d p₃ from-three
-
-        pub puts-four : (after : List ℕ) (end : ℕ) → Puts o₃ k d after end → Puts out at (a ++ (b ++ (c ++ d))) after end
-        puts-four after end p₄ =
-            puts-append out o₁ after at i end a (b ++ (c ++ d)) p₁
-            (puts-append o₁ o₂ after i j end b (c ++ d) p₂ (puts-append o₂ o₃ after j k end c d p₃ p₄))

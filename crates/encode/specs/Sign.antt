@@ -10,8 +10,9 @@ use Rattle.ids.specs.declared.MessageAt.{MessageAt}
 use Rattle.ids.specs.declared.MessageAt.the-variants.{At, Count}
 use Rattle.ids.specs.declared.MessageBytes.{MessageBytes}
 use Rattle.ids.specs.declared.MessageBytes.the-variants.{Refused, NoMessage}
-use Rattle.ids.specs.Ids.{acceptOf, messageAt, ofWritten}
-use Rattle.encode.specs.Canon.{signOf}
+use Rattle.schema.specs.Accept.{acceptOf}
+use Rattle.ids.specs.Ids.{messageAt, ofWritten}
+use Rattle.canon.specs.Canon.{signOf}
 
 abbrev pub signAt : List ℕ → List ℕ → MessageAt → MessageBytes
 signAt s out (Count n) = NoMessage n

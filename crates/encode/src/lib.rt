@@ -1,53 +1,48 @@
-// Writing a body anew, from message.rs: its canonical bytes. Each writer says where its bytes end, and puts them there where there is room:
-// lent no bytes, it measures.
+// Writing a body anew, from message.rs: its canonical bytes, field by field as the table of messages has them. Each writer says where its
+// bytes end, and puts them there where there is room: lent no bytes, it measures.
 ghost use mathlib.Core.Path.{_≡_};
 ghost use mathlib.Core.List.{[], _++_};
 ghost use mathlib.Core.Bool.{cond};
-ghost use Prim.Native.Nat.{_≤_};
-ghost use lib.Dec.{eqb};
+ghost use Prim.Native.Nat.{_+_, _≤_};
+ghost use lib.ListN.{length};
+ghost use Rattle.basis.specs.Writing.{answer, written};
 ghost use Rattle.peer_id.specs.Uvarint.{uvarint};
 ghost use Rattle.protobuf.specs.Walk.{fieldsOf, isBytes, valueIn};
-ghost use Rattle.protobuf.specs.Encode.{tag, bytesField};
-ghost use Rattle.schema.specs.Schema.{varintField};
-ghost use Rattle.schema.specs.Slots.{slotsOf};
+ghost use Rattle.protobuf.specs.Encode.{tag, bytesField, ofWritten as encoded};
+ghost use Rattle.schema.specs.Schema.{rowOf, heldOf};
+ghost use Rattle.schema.specs.Slots.{slotsOf, hasField};
+ghost use Rattle.schema.specs.SlotsLaws.{Inside, Good};
 ghost use Rattle.schema.specs.Count.{Within};
-ghost use Rattle.message.specs.Decode.{hasControl};
-ghost use Rattle.encode.specs.Canon.{eachAlong, placed, slotIn, valueOf, numbered, inner, partOf, canon, entriesOf, mergedControl, canonBody, signOf};
-ghost use Rattle.schema.specs.SlotsLaws.{Inside};
-ghost use Rattle.encode.specs.Tidy.{tidy, tidyAfter, bodyAfter, tidyBody};
+ghost use Rattle.ids.specs.Ids.{ofWritten};
+ghost use Rattle.canon.specs.Canon.{placed, slotIn, figured, numbered, ownPart, eachOf, heldPart, canon, entriesOf, mergedOf, bodyPart, canonBody, signOf};
 ghost use Rattle.encode.specs.Encode.{encodeAnswer, encodeLeft};
 ghost use Rattle.encode.specs.Sign.{signAnswer, signLeft};
-ghost use Rattle.basis.specs.Writing.{answer, written};
-ghost use Rattle.ids.specs.Ids.{ofWritten};
-ghost use lib.ListN.{length};
 ghost use Rattle.encode.specs.Puts.{Puts, Fits};
 use ids::MessageAt;
 use ids::MessageBytes;
-use ids::accept;
 use ids::message_at;
-use message::MAX_RECORDS;
-use message::has_control;
 use peer_id::put_uvarint;
 use peer_id::uvarint_len;
 use protobuf::Checked;
 use protobuf::Encoded;
 use protobuf::Field;
-use protobuf::MAX_RPC_SIZE;
 use protobuf::Step;
 use protobuf::WIRE_LEN;
-use protobuf::WireError;
 use protobuf::put_bytes;
 use protobuf::read_field;
-use schema::Counted;
+use schema::Figure;
+use schema::Held;
 use schema::Kind;
 use schema::Number;
 use schema::Place;
 use schema::Role;
 use schema::Slots;
-use schema::count;
-use schema::role_of;
+use schema::accept;
+use schema::has_field;
+use schema::held_of;
+use schema::row_of;
+use schema::rows;
 use schema::slots_of;
-use schema::varint_field;
 
 // The place in a slot.
 fn slot_in(slot: u8, slots: Slots) -> Place
@@ -73,27 +68,18 @@ fn slot_in(slot: u8, slots: Slots) -> Place
     fifth
 }
 
-// The number that is written for a value: of `subscribe` only whether it is zero.
-fn value_of(kind: Kind, value: u64) -> u64
-    ensures { λ r. ⌜ r ≡ valueOf kind value ⌝ }
+// The number that is written for a value: of a flag only whether it is zero.
+fn figure(figure: Figure, value: u64) -> u64
+    ensures { λ r. ⌜ r ≡ figured figure value ⌝ }
 {
-    match kind {
-        Kind::Rpc => value,
-        Kind::SubOpts => {
+    match figure {
+        Figure::Exact => value,
+        Figure::Flag => {
             if value == 0 {
                 return 0;
             }
             1
         }
-        Kind::RawMessage => value,
-        Kind::Topic => value,
-        Kind::ControlMessage => value,
-        Kind::ControlIHave => value,
-        Kind::ControlIWant => value,
-        Kind::MessageId => value,
-        Kind::ControlGraft => value,
-        Kind::ControlPrune => value,
-        Kind::PeerInfo => value,
     }
 }
 
@@ -125,14 +111,14 @@ pub fn emit_head(n: u64, len: usize, out: &mut [u8], at: usize) -> usize
 }
 
 // A singular number.
-fn emit_number(kind: Kind, n: u64, number: Number, out: &mut [u8], at: usize) -> usize
-    requires { ⌜ (n ≤ 6) × Fits at (numbered kind n number) ⌝ }
-    ensures { λ r. ⌜ Puts (now (out .entry)) at (numbered kind n number) (now (out .exit)) r ⌝ }
+fn emit_number(how: Figure, n: u64, number: Number, out: &mut [u8], at: usize) -> usize
+    requires { ⌜ (n ≤ 6) × Fits at (numbered how n number) ⌝ }
+    ensures { λ r. ⌜ Puts (now (out .entry)) at (numbered how n number) (now (out .exit)) r ⌝ }
 {
     match number {
         Number::Absent => at,
         Number::Present(v) => {
-            let value = value_of(kind, v);
+            let value = figure(how, v);
             let i = emit_varint(n * 8, out, at);
             emit_varint(value, out, i)
         }
@@ -153,49 +139,55 @@ fn emit_place(n: u64, input: &[u8], place: Place, out: &mut [u8], at: usize) -> 
     }
 }
 
-// A message's number, where it is its field n.
-fn emit_own(kind: Kind, n: u64, slots: Slots, out: &mut [u8], at: usize) -> usize
-    requires { ⌜ (n ≤ 6) × Fits at (cond (eqb n (varintField kind)) (numbered kind n (slots .number)) []) ⌝ }
-    ensures { λ r. ⌜ Puts (now (out .entry)) at (cond (eqb n (varintField kind)) (numbered kind n (slots .number)) []) (now (out .exit)) r ⌝ }
-{
-    let own = varint_field(kind);
-    if n == own {
-        let number = slots.number;
-        return emit_number(kind, n, number, out, at);
-    }
-    at
-}
-
 // The bytes in a slot of a message, as its field n.
 fn emit_slot(input: &[u8], slots: Slots, n: u64, slot: u8, out: &mut [u8], at: usize) -> usize
-    requires { ⌜ (n ≤ 6) × Inside (now input) (slotIn slot slots) × Fits at (placed n (now input) (slotIn slot slots)) ⌝ }
+    requires { ⌜ (n ≤ 6) × Good (now input) slots × Fits at (placed n (now input) (slotIn slot slots)) ⌝ }
     ensures { λ r. ⌜ Puts (now (out .entry)) at (placed n (now (input .entry)) (slotIn slot slots)) (now (out .exit)) r ⌝ }
 {
     let place = slot_in(slot, slots);
     emit_place(n, input, place, out, at)
 }
 
-// The part of a message's canonical bytes that stands for its field n, where its slots are at hand.
-fn emit_part(input: &[u8], kind: Kind, slots: Slots, n: u64, out: &mut [u8], at: usize) -> usize
-    requires { ⌜ (n ≤ 6) × (slots ≡ slotsOf kind (now input)) × Fits at (partOf kind n (now input)) ⌝ }
-    ensures { λ r. ⌜ Puts (now (out .entry)) at (partOf kind n (now (input .entry))) (now (out .exit)) r ⌝ }
+// The singular field n, by its role.
+fn emit_own(input: &[u8], slots: Slots, n: u64, role: Role, out: &mut [u8], at: usize) -> usize
+    requires { ⌜ (n ≤ 6) × Good (now input) slots × Fits at (ownPart slots n (now input) role) ⌝ }
+    ensures { λ r. ⌜ Puts (now (out .entry)) at (ownPart slots n (now (input .entry)) role) (now (out .exit)) r ⌝ }
 {
-    let role = role_of(kind, n, WIRE_LEN);
     match role {
-        Role::Skip => emit_own(kind, n, slots, out, at),
-        Role::Number => at,
+        Role::Skip => at,
+        Role::Number(how) => {
+            let number = slots.number;
+            emit_number(how, n, number, out, at)
+        }
         Role::Text(slot) => emit_slot(input, slots, n, slot, out, at),
         Role::Bytes(slot) => emit_slot(input, slots, n, slot, out, at),
-        Role::Topic => emit_each(input, n, role, out, at),
-        Role::MessageId => emit_each(input, n, role, out, at),
-        Role::Sub(_) => emit_each(input, n, role, out, at),
+        Role::Unsigned(_) => at,
+        Role::Topic => at,
+        Role::MessageId => at,
+        Role::Sub(_, _) => at,
     }
 }
 
-// Each length-delimited field n.
-fn emit_each(input: &[u8], n: u64, role: Role, out: &mut [u8], at: usize) -> usize
-    requires { ⌜ (n ≤ 6) × Fits at (eachAlong (inner canon role) n (now input) (fieldsOf (now input))) ⌝ }
-    ensures { λ r. ⌜ Puts (now (out .entry)) at (eachAlong (inner canon role) n (now (input .entry)) (fieldsOf (now (input .entry)))) (now (out .exit)) r ⌝ }
+// A field as it stands, where it is length-delimited and has the number n.
+fn emit_there(input: &[u8], f: Field, n: u64, out: &mut [u8], at: usize) -> usize
+    requires { ⌜ (n ≤ 6) × Within (now input) f × Fits at (cond (isBytes n f) (bytesField n (valueIn (now input) f)) []) ⌝ }
+    ensures { λ r. ⌜ Puts (now (out .entry)) at (cond (isBytes n f) (bytesField n (valueIn (now (input .entry)) f)) []) (now (out .exit)) r ⌝ }
+{
+    let start = f.start;
+    let next = f.next;
+    if f.wire_type == WIRE_LEN {
+        if f.field == n {
+            let i = emit_head(n, next - start, out, at);
+            return emit_bytes(&input[start..next], out, i);
+        }
+    }
+    at
+}
+
+// Each length-delimited field n as it stands.
+fn emit_whole(input: &[u8], n: u64, out: &mut [u8], at: usize) -> usize
+    requires { ⌜ (n ≤ 6) × Fits at (eachOf (bytesField n) n (now input)) ⌝ }
+    ensures { λ r. ⌜ Puts (now (out .entry)) at (eachOf (bytesField n) n (now (input .entry))) (now (out .exit)) r ⌝ }
 {
     let mut i: usize = 0;
     let mut end = at;
@@ -209,7 +201,7 @@ fn emit_each(input: &[u8], n: u64, role: Role, out: &mut [u8], at: usize) -> usi
                 return end;
             }
             Step::At(f) => {
-                end = emit_field(input, f, n, role, out, end);
+                end = emit_there(input, f, n, out, end);
                 i = f.next;
             }
         }
@@ -217,69 +209,104 @@ fn emit_each(input: &[u8], n: u64, role: Role, out: &mut [u8], at: usize) -> usi
     end
 }
 
-// A field, where it is length-delimited and has the number n.
-fn emit_field(input: &[u8], f: Field, n: u64, role: Role, out: &mut [u8], at: usize) -> usize
-    requires { ⌜ (n ≤ 6) × Within (now input) f × Fits at (cond (isBytes n f) (bytesField n (inner canon role (valueIn (now input) f))) []) ⌝ }
-    ensures { λ r. ⌜ Puts (now (out .entry)) at (cond (isBytes n f) (bytesField n (inner canon role (valueIn (now (input .entry)) f))) []) (now (out .exit)) r ⌝ }
+// The entries of the field n, by how they are written.
+fn emit_held(input: &[u8], n: u64, held: Held, out: &mut [u8], at: usize) -> usize
+    requires { ⌜ (n ≤ 6) × Fits at (heldPart canon n (now input) held) ⌝ }
+    ensures { λ r. ⌜ Puts (now (out .entry)) at (heldPart canon n (now (input .entry)) held) (now (out .exit)) r ⌝ }
+{
+    match held {
+        Held::Nothing => at,
+        Held::Whole => emit_whole(input, n, out, at),
+        Held::Anew(kind) => emit_anew(input, n, kind, out, at),
+        Held::Merged(_) => at,
+    }
+}
+
+// Each length-delimited field n, a submessage, in its canonical bytes.
+fn emit_anew(input: &[u8], n: u64, kind: Kind, out: &mut [u8], at: usize) -> usize
+    requires { ⌜ (n ≤ 6) × Fits at (eachOf (λ p. bytesField n (canon kind p)) n (now input)) ⌝ }
+    ensures { λ r. ⌜ Puts (now (out .entry)) at (eachOf (λ p. bytesField n (canon kind p)) n (now (input .entry))) (now (out .exit)) r ⌝ }
+{
+    let mut i: usize = 0;
+    let mut end = at;
+    while i < input.len() {
+        let step = read_field(input, i);
+        match step {
+            Step::End => {
+                return end;
+            }
+            Step::Refused(_) => {
+                return end;
+            }
+            Step::At(f) => {
+                end = emit_sub(input, f, n, kind, out, end);
+                i = f.next;
+            }
+        }
+    }
+    end
+}
+
+// A field, where it is length-delimited and has the number n: the canonical bytes of the submessage in it, measured before they are written.
+fn emit_sub(input: &[u8], f: Field, n: u64, kind: Kind, out: &mut [u8], at: usize) -> usize
+    requires { ⌜ (n ≤ 6) × Within (now input) f × Fits at (cond (isBytes n f) (bytesField n (canon kind (valueIn (now input) f))) []) ⌝ }
+    ensures { λ r. ⌜ Puts (now (out .entry)) at (cond (isBytes n f) (bytesField n (canon kind (valueIn (now (input .entry)) f))) []) (now (out .exit)) r ⌝ }
 {
     let start = f.start;
     let next = f.next;
     if f.wire_type == WIRE_LEN {
         if f.field == n {
             let mut none = [0u8; 1];
-            let len = emit_value(&input[start..next], role, &mut none, 0);
+            let len = emit_message(&input[start..next], kind, &mut none, 0);
             let i = emit_head(n, len, out, at);
             if out.len() < i + len {
                 return i + len;
             }
-            return emit_value(&input[start..next], role, out, i);
+            return emit_message(&input[start..next], kind, out, i);
         }
     }
     at
 }
 
-// What a field holds: of a submessage its canonical bytes, which are its fields 1 to 4.
-fn emit_value(part: &[u8], role: Role, out: &mut [u8], at: usize) -> usize
-    requires { ⌜ Fits at (inner canon role (now part)) ⌝ }
-    ensures { λ r. ⌜ Puts (now (out .entry)) at (inner canon role (now (part .entry))) (now (out .exit)) r ⌝ }
+// A message: its fields in the order of their numbers.
+fn emit_message(part: &[u8], kind: Kind, out: &mut [u8], at: usize) -> usize
+    requires { ⌜ Fits at (canon kind (now part)) ⌝ }
+    ensures { λ r. ⌜ Puts (now (out .entry)) at (canon kind (now (part .entry))) (now (out .exit)) r ⌝ }
 {
-    match role {
-        Role::Skip => emit_bytes(part, out, at),
-        Role::Number => emit_bytes(part, out, at),
-        Role::Text(_) => emit_bytes(part, out, at),
-        Role::Bytes(_) => emit_bytes(part, out, at),
-        Role::Topic => emit_bytes(part, out, at),
-        Role::MessageId => emit_bytes(part, out, at),
-        Role::Sub(kind) => {
-            let slots = slots_of(part, kind);
-            let a = emit_part(part, kind, slots, 1, out, at);
-            let b = emit_part(part, kind, slots, 2, out, a);
-            let c = emit_part(part, kind, slots, 3, out, b);
-            emit_part(part, kind, slots, 4, out, c)
-        }
+    let slots = slots_of(part, kind);
+    let last = rows(kind);
+    let mut n: u64 = 1;
+    let mut end = at;
+    while n <= last {
+        let role = row_of(kind, n);
+        let i = emit_own(part, slots, n, role, out, end);
+        let held = held_of(role);
+        end = emit_held(part, n, held, out, i);
+        n += 1;
     }
+    end
 }
 
-// The entries m of a field, where it is a control: each is a submessage.
-fn emit_entry(body: &[u8], f: Field, m: u64, out: &mut [u8], at: usize) -> usize
-    requires { ⌜ (1 ≤ m) × (m ≤ 4) × Within (now body) f × Fits at (cond (isBytes 3 f) (partOf Kind.ControlMessage m (valueIn (now body) f)) []) ⌝ }
-    ensures { λ r. ⌜ Puts (now (out .entry)) at (cond (isBytes 3 f) (partOf Kind.ControlMessage m (valueIn (now (body .entry)) f)) []) (now (out .exit)) r ⌝ }
+// The entries m of a field, where it is the submessage n of that kind.
+fn emit_entry(body: &[u8], f: Field, kind: Kind, n: u64, m: u64, out: &mut [u8], at: usize) -> usize
+    requires { ⌜ (m ≤ 6) × Within (now body) f × Fits at (cond (isBytes n f) (heldPart canon m (valueIn (now body) f) (heldOf (rowOf kind m))) []) ⌝ }
+    ensures { λ r. ⌜ Puts (now (out .entry)) at (cond (isBytes n f) (heldPart canon m (valueIn (now (body .entry)) f) (heldOf (rowOf kind m))) []) (now (out .exit)) r ⌝ }
 {
     let start = f.start;
     let next = f.next;
     if f.wire_type == WIRE_LEN {
-        if f.field == 3 {
-            let role = role_of(Kind::ControlMessage, m, WIRE_LEN);
-            return emit_each(&body[start..next], m, role, out, at);
+        if f.field == n {
+            let held = held_of(row_of(kind, m));
+            return emit_held(&body[start..next], m, held, out, at);
         }
     }
     at
 }
 
-// The entries m of each control, one control after the other.
-fn emit_entries(body: &[u8], m: u64, out: &mut [u8], at: usize) -> usize
-    requires { ⌜ (1 ≤ m) × (m ≤ 4) × Fits at (entriesOf m (now body)) ⌝ }
-    ensures { λ r. ⌜ Puts (now (out .entry)) at (entriesOf m (now (body .entry))) (now (out .exit)) r ⌝ }
+// The entries m of each submessage n, one submessage after the other.
+fn emit_entries(body: &[u8], kind: Kind, n: u64, m: u64, out: &mut [u8], at: usize) -> usize
+    requires { ⌜ (m ≤ 6) × Fits at (entriesOf kind n (now body) m) ⌝ }
+    ensures { λ r. ⌜ Puts (now (out .entry)) at (entriesOf kind n (now (body .entry)) m) (now (out .exit)) r ⌝ }
 {
     let mut i: usize = 0;
     let mut end = at;
@@ -293,7 +320,7 @@ fn emit_entries(body: &[u8], m: u64, out: &mut [u8], at: usize) -> usize
                 return end;
             }
             Step::At(f) => {
-                end = emit_entry(body, f, m, out, end);
+                end = emit_entry(body, f, kind, n, m, out, end);
                 i = f.next;
             }
         }
@@ -301,166 +328,85 @@ fn emit_entries(body: &[u8], m: u64, out: &mut [u8], at: usize) -> usize
     end
 }
 
-// The controls as one.
-fn emit_merged(body: &[u8], out: &mut [u8], at: usize) -> usize
-    requires { ⌜ Fits at (mergedControl (now body)) ⌝ }
-    ensures { λ r. ⌜ Puts (now (out .entry)) at (mergedControl (now (body .entry))) (now (out .exit)) r ⌝ }
+// The submessages n as one.
+fn emit_merged(body: &[u8], kind: Kind, n: u64, out: &mut [u8], at: usize) -> usize
+    requires { ⌜ Fits at (mergedOf kind n (now body)) ⌝ }
+    ensures { λ r. ⌜ Puts (now (out .entry)) at (mergedOf kind n (now (body .entry))) (now (out .exit)) r ⌝ }
 {
-    let a = emit_entries(body, 1, out, at);
-    let b = emit_entries(body, 2, out, a);
-    let c = emit_entries(body, 3, out, b);
-    emit_entries(body, 4, out, c)
+    let last = rows(kind);
+    let mut m: u64 = 1;
+    let mut end = at;
+    while m <= last {
+        end = emit_entries(body, kind, n, m, out, end);
+        m += 1;
+    }
+    end
 }
 
-// The control field, where the body has a control, be it empty.
-fn emit_control(body: &[u8], out: &mut [u8], at: usize) -> usize
-    requires { ⌜ Fits 0 (mergedControl (now body)) × Fits at (cond (hasControl (now body)) (bytesField 3 (mergedControl (now body))) []) ⌝ }
-    ensures { λ r. ⌜ Puts (now (out .entry)) at (cond (hasControl (now (body .entry))) (bytesField 3 (mergedControl (now (body .entry)))) []) (now (out .exit)) r ⌝ }
+// The field n that holds the submessages n as one, where there is any, be it empty.
+fn emit_control(body: &[u8], kind: Kind, n: u64, out: &mut [u8], at: usize) -> usize
+    requires { ⌜ (n ≤ 6) × Fits at (cond (hasField n (now body)) (bytesField n (mergedOf kind n (now body))) []) ⌝ }
+    ensures { λ r. ⌜ Puts (now (out .entry)) at (cond (hasField n (now (body .entry))) (bytesField n (mergedOf kind n (now (body .entry)))) []) (now (out .exit)) r ⌝ }
 {
-    let control = has_control(body);
-    if control {
+    let there = has_field(body, n);
+    if there {
         let mut none = [0u8; 1];
-        let len = emit_merged(body, &mut none, 0);
-        let i = emit_head(3, len, out, at);
+        let len = emit_merged(body, kind, n, &mut none, 0);
+        let i = emit_head(n, len, out, at);
         if out.len() < i + len {
             return i + len;
         }
-        return emit_merged(body, out, i);
+        return emit_merged(body, kind, n, out, i);
     }
     at
 }
 
-// Subscriptions, then the published messages as they stand, then the controls as one.
-fn emit_body(body: &[u8], out: &mut [u8], at: usize) -> usize
-    requires { ⌜ Fits 0 (mergedControl (now body)) × Fits at (canonBody (now body)) ⌝ }
-    ensures { λ r. ⌜ Puts (now (out .entry)) at (canonBody (now (body .entry))) (now (out .exit)) r ⌝ }
+// The field n of a body, by how it is written.
+fn emit_top(body: &[u8], n: u64, held: Held, out: &mut [u8], at: usize) -> usize
+    requires { ⌜ (n ≤ 6) × Fits at (bodyPart (now body) n held) ⌝ }
+    ensures { λ r. ⌜ Puts (now (out .entry)) at (bodyPart (now (body .entry)) n held) (now (out .exit)) r ⌝ }
 {
-    let a = emit_each(body, 1, Role::Sub(Kind::SubOpts), out, at);
-    let b = emit_each(body, 2, Role::Topic, out, a);
-    emit_control(body, out, b)
-}
-
-// The least number that may stand after a field of a message, where those from low on may stand there, or 0 where the field does not pass.
-fn tidy_after(input: &[u8], kind: Kind, low: u64, f: Field) -> u64
-    requires { ⌜ Within (now input) f ⌝ }
-    ensures { λ r. ⌜ r ≡ tidyAfter kind (now (input .entry)) low f ⌝ }
-{
-    if f.field < low {
-        return 0;
-    }
-    if 4 < f.field {
-        return 0;
-    }
-    let role = role_of(kind, f.field, f.wire_type);
-    match role {
-        Role::Skip => 0,
-        Role::Number => {
-            let value = value_of(kind, f.value);
-            if value == f.value {
-                return f.field + 1;
-            }
-            0
-        }
-        Role::Text(_) => f.field + 1,
-        Role::Bytes(_) => f.field + 1,
-        Role::Topic => f.field,
-        Role::MessageId => f.field,
-        Role::Sub(k) => {
-            let start = f.start;
-            let next = f.next;
-            if is_tidy(&input[start..next], k) {
-                return f.field;
-            }
-            0
-        }
+    match held {
+        Held::Nothing => at,
+        Held::Whole => emit_held(body, n, held, out, at),
+        Held::Anew(_) => emit_held(body, n, held, out, at),
+        Held::Merged(kind) => emit_control(body, kind, n, out, at),
     }
 }
 
-// Whether a message is its own canonical bytes, as far as one walk tells: its fields are known ones in the order of their numbers.
-fn is_tidy(input: &[u8], kind: Kind) -> bool
-    ensures { λ r. ⌜ r ≡ tidy kind (now (input .entry)) ⌝ }
+// A body: subscriptions, then the published messages as they stand, then the controls as one.
+fn emit_body(body: &[u8], out: &mut [u8]) -> usize
+    requires { ⌜ Fits 0 (canonBody (now body)) ⌝ }
+    ensures { λ r. ⌜ Puts (now (out .entry)) 0 (canonBody (now (body .entry))) (now (out .exit)) r ⌝ }
 {
-    let mut at: usize = 0;
-    let mut low: u64 = 1;
-    while at < input.len() {
-        let step = read_field(input, at);
-        match step {
-            Step::End => {
-                return true;
-            }
-            Step::Refused(_) => {
-                return false;
-            }
-            Step::At(f) => {
-                let after = tidy_after(input, kind, low, f);
-                if after == 0 {
-                    return false;
-                }
-                low = after;
-                at = f.next;
-            }
-        }
+    let last = rows(Kind::Rpc);
+    let mut n: u64 = 1;
+    let mut end: usize = 0;
+    while n <= last {
+        let held = held_of(row_of(Kind::Rpc, n));
+        end = emit_top(body, n, held, out, end);
+        n += 1;
     }
-    true
+    end
 }
 
-// The same of a field of a body: messages stand as they are, and there is at most one control.
-fn body_after(body: &[u8], low: u64, f: Field) -> u64
-    requires { ⌜ Within (now body) f ⌝ }
-    ensures { λ r. ⌜ r ≡ bodyAfter (now (body .entry)) low f ⌝ }
+// Writes a body that is taken. Its canonical bytes are never longer than it, so they are measured only where there may be no room for them.
+fn encode_taken(body: &[u8], out: &mut [u8]) -> Encoded
+    requires { ⌜ (length (canonBody (now body)) ≤ length (now body)) × (length (now body) ≤ 65536) ⌝ }
+    ensures { λ r. ⌜ r ≡ encoded (answer (canonBody (now (body .entry))) (now (out .entry))) ⌝ }
+    ensures { λ _. ⌜ now (out .exit) ≡ written (canonBody (now (body .entry))) (now (out .entry)) ⌝ }
 {
-    let start = f.start;
-    let next = f.next;
-    if f.wire_type == WIRE_LEN {
-        if f.field < low {
-            return 0;
+    if out.len() < body.len() {
+        let mut none = [0u8; 1];
+        let needed = emit_body(body, &mut none);
+        if out.len() < needed {
+            return Encoded::Room(needed);
         }
-        if f.field == 1 {
-            if is_tidy(&body[start..next], Kind::SubOpts) {
-                return 1;
-            }
-            return 0;
-        }
-        if f.field == 2 {
-            return 2;
-        }
-        if f.field == 3 {
-            if is_tidy(&body[start..next], Kind::ControlMessage) {
-                return 4;
-            }
-            return 0;
-        }
-        return 0;
+        emit_body(body, out);
+        return Encoded::Bytes(needed);
     }
-    0
-}
-
-// Whether a body is its own canonical bytes, as far as one walk tells.
-fn is_tidy_body(body: &[u8]) -> bool
-    ensures { λ r. ⌜ r ≡ tidyBody (now (body .entry)) ⌝ }
-{
-    let mut at: usize = 0;
-    let mut low: u64 = 1;
-    while at < body.len() {
-        let step = read_field(body, at);
-        match step {
-            Step::End => {
-                return true;
-            }
-            Step::Refused(_) => {
-                return false;
-            }
-            Step::At(f) => {
-                let after = body_after(body, low, f);
-                if after == 0 {
-                    return false;
-                }
-                low = after;
-                at = f.next;
-            }
-        }
-    }
-    true
+    let end = emit_body(body, out);
+    Encoded::Bytes(end)
 }
 
 // Writes a body anew at the front of the lent bytes: what it means, in its canonical bytes. A refusal, and a lack of room, leave them as they were.
@@ -468,48 +414,26 @@ pub fn encode(body: &[u8], out: &mut [u8]) -> Encoded
     ensures { λ r. ⌜ r ≡ encodeAnswer (now (body .entry)) (now (out .entry)) ⌝ }
     ensures { λ _. ⌜ now (out .exit) ≡ encodeLeft (now (body .entry)) (now (out .entry)) ⌝ }
 {
-    if MAX_RPC_SIZE < body.len() {
-        return Encoded::Refused(WireError::TooLarge { len: body.len() });
-    }
-    let c = count(body, Kind::Rpc);
+    let c = accept(body);
     match c {
-        Counted::Refused(why) => Encoded::Refused(why),
-        Counted::Records(n) => {
-            if MAX_RECORDS < n {
-                return Encoded::Refused(WireError::TooManyRecords { records: n });
-            }
-            let tidy = is_tidy_body(body);
-            if tidy {
-                if out.len() < body.len() {
-                    return Encoded::Room(body.len());
-                }
-                emit_bytes(body, out, 0);
-                return Encoded::Bytes(body.len());
-            }
-            let mut none = [0u8; 1];
-            let needed = emit_body(body, &mut none, 0);
-            if out.len() < needed {
-                return Encoded::Room(needed);
-            }
-            emit_body(body, out, 0);
-            Encoded::Bytes(needed)
-        }
+        Checked::Refused(why) => Encoded::Refused(why),
+        Checked::Fine => encode_taken(body, out),
     }
 }
 
 // The bytes of a message that are signed: the prefix, and the message's canonical bytes.
 fn emit_signed(part: &[u8], out: &mut [u8]) -> usize
-    requires { ⌜ length (now part) ≤ 65536 ⌝ }
+    requires { ⌜ length (canon Kind.RawMessage (now part)) ≤ 65536 ⌝ }
     ensures { λ r. ⌜ Puts (now (out .entry)) 0 (signOf (now (part .entry))) (now (out .exit)) r ⌝ }
 {
     let i = emit_bytes(b"libp2p-pubsub:", out, 0);
-    emit_value(part, Role::Sub(Kind::RawMessage), out, i)
+    emit_message(part, Kind::RawMessage, out, i)
 }
 
 // Writes the bytes of a message that are signed at the front of out. They are at most 14 more than the message, and measured only where there
 // may be no room for them.
 fn sign_part(part: &[u8], out: &mut [u8]) -> MessageBytes
-    requires { ⌜ length (now part) ≤ 65536 ⌝ }
+    requires { ⌜ (length (canon Kind.RawMessage (now part)) ≤ length (now part)) × (length (now part) ≤ 65536) ⌝ }
     ensures { λ r. ⌜ r ≡ ofWritten (answer (signOf (now (part .entry))) (now (out .entry))) ⌝ }
     ensures { λ _. ⌜ now (out .exit) ≡ written (signOf (now (part .entry))) (now (out .entry)) ⌝ }
 {

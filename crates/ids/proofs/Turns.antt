@@ -23,7 +23,8 @@ use Rattle.ids.specs.declared.MessageAt.the-variants.{At, Count}
 use Rattle.protobuf.specs.declared.Checked.the-variants.{Fine, Refused as Wrong}
 use Rattle.ids.specs.declared.MessageBytes.{MessageBytes}
 use Rattle.ids.specs.declared.MessageBytes.the-variants.{Bytes, Room, Refused, NoMessage}
-use Rattle.ids.specs.Ids.{acceptOf, messageAlong, messageAt, idParts, ofWritten, idBytes, answerId, leftId, answerAt, leftAt, answerChecked, leftChecked, idAnswer, idLeft}
+use Rattle.ids.specs.Ids.{messageAlong, messageAt, idParts, ofWritten, idBytes, answerId, leftId, answerAt, leftAt, answerChecked, leftChecked, idAnswer, idLeft}
+use Rattle.schema.specs.Accept.{acceptOf}
 use Rattle.ids.specs.IdLaws.{Fits, part-length}
 
 hit : (f : Field) (i n : ℕ) (w : Fields) → isBytes 2 f && eqb n i ≡ true → messageAlong i n (f then w) ≡ At (f .start) (f .next)

@@ -17,8 +17,7 @@ use Rattle.schema.specs.Slots.{slotsOf}
 use Rattle.schema.specs.SlotsLaws.{Inside, slots-inside}
 use Rattle.ids.specs.declared.MessageAt.the-variants.{At}
 use Rattle.ids.specs.declared.MessageId.the-variants as id
-use Rattle.protobuf.specs.declared.Checked.the-variants.{Fine}
-use Rattle.ids.specs.Ids.{acceptOf, messageAlong, messageAt, onSeqno, onFrom, idParts, idBytes}
+use Rattle.ids.specs.Ids.{messageAlong, messageAt, onSeqno, onFrom, idParts, idBytes}
 
 -- a message that is found lies within the body
 along-inside : (s : List ℕ) (i a e : ℕ) (at n : ℕ) → messageAlong i n (walkAt s at) ≡ At a e → (a ≤ e) × (e ≤ length s)
@@ -71,11 +70,6 @@ unfolding idParts
 id-fits p a e b f h =
     let g = slots-inside kind.RawMessage p in
     of-from p a e b f (slotsOf kind.RawMessage p .first) (slotsOf kind.RawMessage p .third) (g .first) (g .third) h
-
--- a body that is taken has at most 65,536 bytes
-pub accept-small : (s : List ℕ) → acceptOf s ≡ Fine → length s ≤ 65536
-unfolding acceptOf
-accept-small s h = either (ltb 65536 (length s)) (λ t. clash (let k = simp t at h in cc)) (λ t. ltb-false 65536 (length s) t)
 
 -- the bytes from a up to e
 pub part-length : (p : List ℕ) (a e : ℕ) → a ≤ e → e ≤ length p → length (between p a e) ≡ e - a

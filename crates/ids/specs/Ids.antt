@@ -8,17 +8,14 @@ use lib.Dec.{ltb, eqb}
 use Rattle.basis.specs.declared.Written.{Written}
 use Rattle.basis.specs.declared.Written.the-variants as done
 use Rattle.basis.specs.Writing.{answer, written}
-use Rattle.protobuf.specs.declared.WireError.the-variants.{TooLarge, TooManyRecords}
 use Rattle.protobuf.specs.declared.Checked.{Checked}
 use Rattle.protobuf.specs.declared.Checked.the-variants.{Fine, Refused as Wrong}
 use Rattle.protobuf.specs.Refusal.{refusalNumber, refusalValues}
 use Rattle.protobuf.specs.Walk.{Fields, end, refused, _then_, fieldsOf, between, isBytes}
 use Rattle.schema.specs.declared.Kind.the-variants as kind
-use Rattle.schema.specs.declared.Counted.{Counted}
-use Rattle.schema.specs.declared.Counted.the-variants as count
 use Rattle.schema.specs.declared.Place.{Place}
 use Rattle.schema.specs.declared.Place.the-variants as place
-use Rattle.schema.specs.Count.{counted}
+use Rattle.schema.specs.Accept.{acceptOf}
 use Rattle.schema.specs.Slots.{slotsOf}
 use Rattle.ids.specs.declared.MessageAt.{MessageAt}
 use Rattle.ids.specs.declared.MessageAt.the-variants.{At, Count}
@@ -45,14 +42,6 @@ messageValues MissingFrom = []
 messageValues (InvalidFrom n) = n ∷ []
 messageValues InvalidSeqno = []
 messageValues (Room n) = n ∷ []
-
--- ---- whether the body is taken: 10, 1 to 7, 11
-abbrev pub onCounted : Counted → Checked
-onCounted (count.Refused why) = Wrong why
-onCounted (count.Records n) = cond (ltb 512 n) (Wrong (TooManyRecords n)) Fine
-
-unfoldable pub acceptOf : List ℕ → Checked
-acceptOf s = cond (ltb 65536 (length s)) (Wrong (TooLarge (length s))) (onCounted (counted kind.Rpc s))
 
 -- ---- the message at an index: length-delimited fields 2, counted from 0; or how many there are
 abbrev pub messageAlong : ℕ → ℕ → Fields → MessageAt

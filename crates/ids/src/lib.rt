@@ -6,20 +6,17 @@ ghost use Prim.Native.Nat.{_+_, _-_, _≤_, _<_};
 ghost use lib.Dec.{eqb, ltb};
 ghost use lib.ListN.{length};
 ghost use Rattle.protobuf.specs.Walk.{isBytes};
-ghost use Rattle.ids.specs.Ids.{acceptOf, messageAt, onFrom, idParts, answerId, leftId, idAnswer, idLeft, mark};
-use message::MAX_RECORDS;
+ghost use Rattle.ids.specs.Ids.{messageAt, onFrom, idParts, answerId, leftId, idAnswer, idLeft, mark};
 use protobuf::Checked;
 use protobuf::Field;
-use protobuf::MAX_RPC_SIZE;
 use protobuf::Step;
 use protobuf::WIRE_LEN;
 use protobuf::WireError;
 use protobuf::put_bytes;
 use protobuf::read_field;
-use schema::Counted;
 use schema::Kind;
 use schema::Place;
-use schema::count;
+use schema::accept;
 use schema::slots_of;
 
 // Where a message stands in a body, or how many messages there are.
@@ -50,25 +47,6 @@ pub enum MessageBytes {
     MissingFrom,
     InvalidFrom(usize),
     InvalidSeqno,
-}
-
-// Whether a body is well formed and within capacity.
-pub fn accept(body: &[u8]) -> Checked
-    ensures { λ r. ⌜ r ≡ acceptOf (now (body .entry)) ⌝ }
-{
-    if MAX_RPC_SIZE < body.len() {
-        return Checked::Refused(WireError::TooLarge { len: body.len() });
-    }
-    let c = count(body, Kind::Rpc);
-    match c {
-        Counted::Refused(why) => Checked::Refused(why),
-        Counted::Records(n) => {
-            if MAX_RECORDS < n {
-                return Checked::Refused(WireError::TooManyRecords { records: n });
-            }
-            Checked::Fine
-        }
-    }
 }
 
 // Whether a field is the message at an index, n messages before it.

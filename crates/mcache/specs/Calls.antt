@@ -15,7 +15,8 @@ use Rattle.protobuf.specs.Refusal.{refusalNumber, refusalValues}
 use Rattle.protobuf.specs.Walk.{between}
 use Rattle.ids.specs.declared.MessageAt.{MessageAt}
 use Rattle.ids.specs.declared.MessageAt.the-variants as at
-use Rattle.ids.specs.Ids.{acceptOf, messageAt, idBytes}
+use Rattle.schema.specs.Accept.{acceptOf}
+use Rattle.ids.specs.Ids.{messageAt, idBytes}
 use Rattle.admission.specs.declared.Admission.{Admission}
 use Rattle.admission.specs.declared.Admission.the-variants as admission
 use Rattle.admission.specs.Admission.{unfitNumber, unfitValues, admissionOf}

@@ -19,7 +19,6 @@ use admission::admit;
 use admission::carries;
 use admission::gives_id;
 use ids::MessageAt;
-use ids::accept;
 use ids::message_at;
 use protobuf::Checked;
 use protobuf::WireError;
@@ -30,6 +29,7 @@ use rows::ids_differ;
 use rows::minus;
 use rows::place;
 use rows::precedes;
+use schema::accept;
 
 pub const MESSAGE_SIZE: usize = 4096;
 

@@ -93,7 +93,7 @@ sub-opts-good : (es : List Entry) → Each Utf8 (bytesIn 2 es) → Good kind.Sub
 unfolding roleOf
 sub-opts-good es t2 m =
     either (eqb m 2) (λ e2. let z = eqb-true m 2 e2 in rw z (map-each (λ d u. u) t2))
-    (λ e2. all-each (bytesIn m es) (λ d. simp (e2) tt))
+    (λ e2. all-each (bytesIn m es) (λ d. either (eqb m 1) (λ e1. simp (e1) tt) (λ e1. simp (e1, e2) tt)))
 
 pub sub-opts-means : (s : List ℕ) → Bytes s → Accepted kind.SubOpts s → Some IsSubOpts s
 unfolding roleOf
@@ -217,7 +217,7 @@ prune-good es t1 p2 m =
     either (eqb m 1) (λ e1. let z = eqb-true m 1 e1 in rw z (map-each (λ d u. u) t1))
     (λ e1.
     either (eqb m 2) (λ e2. let z = eqb-true m 2 e2 in rw z (map-each (λ d u. u) p2))
-    (λ e2. all-each (bytesIn m es) (λ d. simp (e1, e2) tt)))
+    (λ e2. all-each (bytesIn m es) (λ d. either (eqb m 3) (λ e3. simp (e1, e2, e3) tt) (λ e3. simp (e1, e2, e3) tt))))
 
 pub prune-means : (s : List ℕ) → Bytes s → Accepted kind.ControlPrune s → Some IsPrune s
 unfolding roleOf

@@ -19,12 +19,14 @@ use Rattle.schema.specs.declared.Kind.the-variants as kind
 use Rattle.schema.specs.declared.Place.{Place}
 use Rattle.schema.specs.declared.Number.the-variants as number
 use Rattle.schema.specs.declared.Slots.{Slots}
-use Rattle.schema.specs.Schema.{lenRole, varintField, roleOf, ownOf}
-use Rattle.schema.specs.Slots.{noSlots, setPlace, placeOf, roleSlots, withField, slotsAlong, slotsOf}
+use Rattle.schema.specs.declared.Role.{Role}
+use Rattle.schema.specs.declared.Role.the-variants.{Skip, Number as NumberRole, Text, Bytes, Unsigned, Topic, MessageId, Sub}
+use Rattle.schema.specs.Schema.{isVarint, rowOf, lenRole, numberRole, roleOf, ownOf}
+use Rattle.schema.specs.Slots.{noSlots, setPlace, placeOf, roleSlots, withField, slotsAlong, slotsOf, hasAlong, hasField}
 use Rattle.message.specs.declared.Record.{Record}
 use Rattle.message.specs.Rows.{bareRow, leafRow, roleRows, rowsAlong, ownRows, rowsOf}
 use Rattle.message.specs.RowsLaws.{rows-along}
-use Rattle.message.specs.Decode.{isControl, controlAlong, hasControl}
+use Rattle.message.specs.Decode.{hasControl}
 use Rattle.rpc.specs.Rpc.{SubOpts, RawMessage, ControlIHave, ControlIWant, ControlGraft, PeerInfo, ControlPrune, ControlMessage, Rpc}
 use Rattle.rpc.specs.Grammar.{numbersIn, bytesIn, last, nonzero, Each, none-left, _and_, Pairs, no-pairs, _paired_, IsSubOpts, is-sub-opts, IsMessage, is-message, IsIHave, is-ihave, IsIWant, is-iwant, IsGraft, is-graft, IsPeerInfo, is-peer-info, IsPrune, is-prune, IsControl, is-control, join, joinTo, joined, IsRpc, is-rpc}
 use Rattle.meaning.specs.ReadBack.{bytesAt, numberAt, rawOf, Gathered, emptyControl, nothing, addIHave, addIWant, addGraft, addPrune, gatherKind, gather, rpcFrom, readBack}
@@ -37,7 +39,7 @@ pub sub-opts-topic : Feeds kind.SubOpts (λ t. t .first) 2
 unfolding setPlace
 sub-opts-topic =
     feeds-from kind.SubOpts (λ t. t .first) 2 (λ t v. refl)
-    (λ t f n. six (λ n. roleSlots t f (lenRole kind.SubOpts n) .first ≡ cond (eqb n 2) (placeOf f) (t .first)) refl refl refl refl refl refl (λ n e1 e2 e3 e4 e5 e6. simp (e2)) n)
+    (λ t f n. six (λ n. roleSlots t f (lenRole kind.SubOpts n) .first ≡ cond (eqb n 2) (placeOf f) (t .first)) refl refl refl refl refl refl (λ n e1 e2 e3 e4 e5 e6. simp (e1, e2)) n)
 
 pub message-from : Feeds kind.RawMessage (λ t. t .first) 1
 unfolding setPlace
@@ -85,7 +87,7 @@ pub prune-topic : Feeds kind.ControlPrune (λ t. t .first) 1
 unfolding setPlace
 prune-topic =
     feeds-from kind.ControlPrune (λ t. t .first) 1 (λ t v. refl)
-    (λ t f n. six (λ n. roleSlots t f (lenRole kind.ControlPrune n) .first ≡ cond (eqb n 1) (placeOf f) (t .first)) refl refl refl refl refl refl (λ n e1 e2 e3 e4 e5 e6. simp (e1, e2)) n)
+    (λ t f n. six (λ n. roleSlots t f (lenRole kind.ControlPrune n) .first ≡ cond (eqb n 1) (placeOf f) (t .first)) refl refl refl refl refl refl (λ n e1 e2 e3 e4 e5 e6. simp (e1, e2, e3)) n)
 
 pub peer-id : Feeds kind.PeerInfo (λ t. t .first) 1
 unfolding setPlace
@@ -99,22 +101,26 @@ peer-record =
     feeds-from kind.PeerInfo (λ t. t .second) 2 (λ t v. refl)
     (λ t f n. six (λ n. roleSlots t f (lenRole kind.PeerInfo n) .second ≡ cond (eqb n 2) (placeOf f) (t .second)) refl refl refl refl refl refl (λ n e1 e2 e3 e4 e5 e6. simp (e1, e2)) n)
 
-numbers-from : (k : Kind) → ((t : Slots) (f : Field) (n : ℕ) → roleSlots t f (lenRole k n) .number ≡ t .number) → FeedsNumber k (varintField k)
+numbers-from : (k : Kind) (m : ℕ) → ((t : Slots) (f : Field) (n : ℕ) → roleSlots t f (lenRole k n) .number ≡ t .number) → ((t : Slots) (f : Field) (n : ℕ) → roleSlots t f (numberRole k n) .number ≡ cond (eqb n m) (number.Present (f .value)) (t .number)) → FeedsNumber k m
 unfolding withField roleOf
-numbers-from k lens t f =
+numbers-from k m lens nums t f =
     either (eqb (f .«wire_type») 2)
     (λ t2. let z : eqb (f .«wire_type») 0 ≡ false = rw (eqb-true (f .«wire_type») 2 t2) in simp (t2, z) (lens t f (f .field)))
-    (λ t2. either (eqb (f .«wire_type») 0)
-    (λ t0. either (eqb (f .field) (varintField k)) (λ x. simp (t2, t0, x)) (λ x. simp (t2, t0, x)))
-    (λ t0. simp (t2, t0)))
+    (λ t2. either (eqb (f .«wire_type») 0) (λ t0. simp (t2, t0) (nums t f (f .field))) (λ t0. simp (t2, t0)))
 
 pub sub-opts-subscribe : FeedsNumber kind.SubOpts 1
 unfolding setPlace
-sub-opts-subscribe = numbers-from kind.SubOpts (λ t f n. six (λ n. roleSlots t f (lenRole kind.SubOpts n) .number ≡ t .number) refl refl refl refl refl refl (λ n e1 e2 e3 e4 e5 e6. simp (e2)) n)
+sub-opts-subscribe =
+    numbers-from kind.SubOpts 1
+    (λ t f n. six (λ n. roleSlots t f (lenRole kind.SubOpts n) .number ≡ t .number) refl refl refl refl refl refl (λ n e1 e2 e3 e4 e5 e6. simp (e1, e2)) n)
+    (λ t f n. six (λ n. roleSlots t f (numberRole kind.SubOpts n) .number ≡ cond (eqb n 1) (number.Present (f .value)) (t .number)) refl refl refl refl refl refl (λ n e1 e2 e3 e4 e5 e6. simp (e1, e2)) n)
 
 pub prune-backoff : FeedsNumber kind.ControlPrune 3
 unfolding setPlace
-prune-backoff = numbers-from kind.ControlPrune (λ t f n. six (λ n. roleSlots t f (lenRole kind.ControlPrune n) .number ≡ t .number) refl refl refl refl refl refl (λ n e1 e2 e3 e4 e5 e6. simp (e1, e2)) n)
+prune-backoff =
+    numbers-from kind.ControlPrune 3
+    (λ t f n. six (λ n. roleSlots t f (lenRole kind.ControlPrune n) .number ≡ t .number) refl refl refl refl refl refl (λ n e1 e2 e3 e4 e5 e6. simp (e1, e2, e3)) n)
+    (λ t f n. six (λ n. roleSlots t f (numberRole kind.ControlPrune n) .number ≡ cond (eqb n 3) (number.Present (f .value)) (t .number)) refl refl refl refl refl refl (λ n e1 e2 e3 e4 e5 e6. simp (e1, e2, e3)) n)
 
 -- ---- gathering
 gather-append : (b : List ℕ) (rs ts : List Record) (g : Gathered) → gather b (rs ++ ts) g ≡ gather b rs (gather b ts g)
@@ -125,13 +131,21 @@ abbrev pub state : List (List ℕ) → List (List ℕ) → List PeerInfo → Lis
 state ts is ps ss ms c = record { topics = ts; ids = is; peers = ps; subscriptions = ss; publish = ms; control = c }
 
 -- the rows of one field: only a length-delimited one has any
+number-rows : (base : ℕ) (p : List ℕ) (f : Field) (r : Role) → roleRows rowsOf base p f (cond (isVarint r) r Skip) ≡ []
+number-rows base p f Skip = refl
+number-rows base p f (NumberRole figure) = refl
+number-rows base p f (Text slot) = refl
+number-rows base p f (Bytes slot) = refl
+number-rows base p f (Unsigned slot) = refl
+number-rows base p f Topic = refl
+number-rows base p f MessageId = refl
+number-rows base p f (Sub k form) = refl
+
 rows-from : (k : Kind) (base : ℕ) (p : List ℕ) (f : Field) (rows : ℕ → List Record) → ((n : ℕ) → roleRows rowsOf base p f (lenRole k n) ≡ rows n) → roleRows rowsOf base p f (roleOf k (f .field) (f .«wire_type»)) ≡ cond (eqb (f .«wire_type») 2) (rows (f .field)) []
 unfolding roleOf
 rows-from k base p f rows lens =
     either (eqb (f .«wire_type») 2) (λ t2. simp t2 (lens (f .field)))
-    (λ t2. either (eqb (f .«wire_type») 0)
-    (λ t0. either (eqb (f .field) (varintField k)) (λ x. simp (t2, t0, x)) (λ x. simp (t2, t0, x)))
-    (λ t0. simp (t2, t0)))
+    (λ t2. either (eqb (f .«wire_type») 0) (λ t0. simp (t2, t0) (number-rows base p f (rowOf k (f .field)))) (λ t0. simp (t2, t0)))
 
 -- a field that gives rows where it is length-delimited and of number m
 cond-and : {A : Type 0} (a c : Bool) (x y : A) → cond a (cond c x y) y ≡ cond (a && c) x y
@@ -155,7 +169,7 @@ bare-along k bare base p (f ∷ fs) = ap₂ (λ (x y : List Record). x ++ y) (ba
 
 sub-opts-bare : Bare kind.SubOpts
 unfolding Bare
-sub-opts-bare base p f = none-from kind.SubOpts base p f (six (λ n. roleRows rowsOf base p f (lenRole kind.SubOpts n) ≡ []) refl refl refl refl refl refl (λ n e1 e2 e3 e4 e5 e6. simp (e2)))
+sub-opts-bare base p f = none-from kind.SubOpts base p f (six (λ n. roleRows rowsOf base p f (lenRole kind.SubOpts n) ≡ []) refl refl refl refl refl refl (λ n e1 e2 e3 e4 e5 e6. simp (e1, e2)))
 
 graft-bare : Bare kind.ControlGraft
 unfolding Bare
@@ -384,7 +398,7 @@ bytes-type f m t = ap (λ (x : Bool). x && eqb (f .field) m) t
 
 -- ---- ControlPrune
 prune-peers : (base : ℕ) (p : List ℕ) (f : Field) → roleRows rowsOf base p f (roleOf kind.ControlPrune (f .field) (f .«wire_type»)) ≡ cond (isBytes 2 f) (rowsOf kind.PeerInfo (base + f .start) (valueIn p f)) []
-prune-peers base p f = one-from kind.ControlPrune 2 base p f (rowsOf kind.PeerInfo (base + f .start) (valueIn p f)) (six (λ n. roleRows rowsOf base p f (lenRole kind.ControlPrune n) ≡ cond (eqb n 2) (rowsOf kind.PeerInfo (base + f .start) (valueIn p f)) []) refl refl refl refl refl refl (λ n e1 e2 e3 e4 e5 e6. simp (e1, e2)))
+prune-peers base p f = one-from kind.ControlPrune 2 base p f (rowsOf kind.PeerInfo (base + f .start) (valueIn p f)) (six (λ n. roleRows rowsOf base p f (lenRole kind.ControlPrune n) ≡ cond (eqb n 2) (rowsOf kind.PeerInfo (base + f .start) (valueIn p f)) []) refl refl refl refl refl refl (λ n e1 e2 e3 e4 e5 e6. simp (e1, e2, e3)))
 
 peer-info-of : {p : List ℕ} {x : PeerInfo} (b : List ℕ) (base : ℕ) → Part b base p → IsPeerInfo p x → (ts is : List (List ℕ)) (ps : List PeerInfo) (ss : List SubOpts) (ms : List RawMessage) (c : ControlMessage) → gather b (rowsOf kind.PeerInfo base p) (state ts is ps ss ms c) ≡ state ts is (x ∷ ps) ss ms c
 peer-info-of b base q (is-peer-info {s = s} {es = es} g) ts is ps ss ms c = peer-info-read b base s es q g ts is ps ss ms c
@@ -619,21 +633,14 @@ pub joined-flat : (cs : List ControlMessage) → cond (any cs) (some (flat cs)) 
 joined-flat [] = refl
 joined-flat (c ∷ cs) = sym (joined-some c cs)
 
-and-swap : (a c : Bool) → a && c ≡ c && a
-and-swap true true = refl
-and-swap true false = refl
-and-swap false true = refl
-and-swap false false = refl
-
-control-any : (p : List ℕ) (fs : List Field) → controlAlong (whole fs) ≡ any (bytesIn 3 (entriesOf p fs))
-control-any p [] = refl
-control-any p (f ∷ fs) =
-    let ds = bytesIn 3 (entriesOf p fs) in
-    let s : isControl f ≡ isBytes 3 f = and-swap (eqb (f .field) 3) (eqb (f .«wire_type») 2) in
-    let pb = ap any (put-bytes p 3 f ds) in
-    either (isBytes 3 f)
-    (λ e. ap (λ (x : Bool). x || controlAlong (whole fs)) (s ∙ e) ∙ sym (pb ∙ ap (λ (x : Bool). any (cond x (valueIn p f ∷ ds) ds)) e))
-    (λ e. ap (λ (x : Bool). x || controlAlong (whole fs)) (s ∙ e) ∙ control-any p fs ∙ sym (pb ∙ ap (λ (x : Bool). any (cond x (valueIn p f ∷ ds) ds)) e))
+control-any : (p : List ℕ) (n : ℕ) (fs : List Field) → hasAlong n (whole fs) ≡ any (bytesIn n (entriesOf p fs))
+control-any p n [] = refl
+control-any p n (f ∷ fs) =
+    let ds = bytesIn n (entriesOf p fs) in
+    let pb = ap any (put-bytes p n f ds) in
+    either (isBytes n f)
+    (λ e. ap (λ (x : Bool). x || hasAlong n (whole fs)) e ∙ sym (pb ∙ ap (λ (x : Bool). any (cond x (valueIn p f ∷ ds) ds)) e))
+    (λ e. ap (λ (x : Bool). x || hasAlong n (whole fs)) e ∙ control-any p n fs ∙ sym (pb ∙ ap (λ (x : Bool). any (cond x (valueIn p f ∷ ds) ds)) e))
 
 own-rpc : (base : ℕ) (p : List ℕ) → ownRows kind.Rpc base p ≡ []
 unfolding ownRows ownOf
@@ -648,14 +655,14 @@ rpc-gathered b es ss ms cs g h1 h2 h3 =
     ap (λ (l : List Record). gather b l nothing) rows
     ∙ rpc-along b 0 b (whole-part b) fs ss ms cs (subst (λ (l : List Entry). Pairs IsSubOpts (bytesIn 1 l) ss) e h1) (subst (λ (l : List Entry). Pairs IsMessage (bytesIn 2 l) ms) e h2) (subst (λ (l : List Entry). Pairs IsControl (bytesIn 3 l) cs) e h3) (walk-inside b fs (w .walked))
 
-pub rpc-control : (b : List ℕ) (es : List Entry) (cs : List ControlMessage) → Body b es → Pairs IsControl (bytesIn 3 es) cs → hasControl b ≡ any cs
-unfolding hasControl
+pub rpc-control : (b : List ℕ) (es : List Entry) (cs : List ControlMessage) → Body b es → Pairs IsControl (bytesIn 3 es) cs → hasField 3 b ≡ any cs
+unfolding hasField
 rpc-control b es cs g h3 =
     let w = body-walks b es g in
-    ap controlAlong (w .walked) ∙ control-any b (w .fields) ∙ ap (λ (l : List Entry). any (bytesIn 3 l)) (w .entries) ∙ any-pairs h3
+    ap (hasAlong 3) (w .walked) ∙ control-any b 3 (w .fields) ∙ ap (λ (l : List Entry). any (bytesIn 3 l)) (w .entries) ∙ any-pairs h3
 
 rpc-read : (b : List ℕ) (es : List Entry) (ss : List SubOpts) (ms : List RawMessage) (cs : List ControlMessage) → Body b es → Pairs IsSubOpts (bytesIn 1 es) ss → Pairs IsMessage (bytesIn 2 es) ms → Pairs IsControl (bytesIn 3 es) cs → readBack b (rowsOf kind.Rpc 0 b) (hasControl b) ≡ record { subscriptions = ss; publish = ms; control = joined cs }
-unfolding readBack
+unfolding readBack hasControl
 rpc-read b es ss ms cs g h1 h2 h3 =
     ap₂ rpcFrom (rpc-control b es cs g h3) (rpc-gathered b es ss ms cs g h1 h2 h3)
     ∙ ap (λ (x : Option ControlMessage). record { subscriptions = ss; publish = ms; control = x }) (joined-flat cs)

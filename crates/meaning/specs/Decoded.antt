@@ -1,6 +1,6 @@
 -- Reading a body, as theorems about what `decode` answers and leaves: accepted exactly where the body is well formed and within capacity; the
 -- table then says the RPC that the body means; and each refusal exactly where 01 gives it.
-use Prim.Native.Nat.{ℕ, zero, suc, _*_, _/_, _≤_, _<_}
+use Prim.Native.Nat.{ℕ, _*_, _/_, _≤_, _<_}
 use mathlib.Core.Path.{_≡_, refl, sym, ap, ap₂, _∙_}
 use mathlib.Core.Bool.{Bool}
 use mathlib.Core.List.{List}
@@ -22,13 +22,18 @@ use Rattle.protobuf.specs.Walk.{Fields, end, refused, _then_, fieldsOf, between
 use Rattle.protobuf.specs.WalkLaws.{along}
 use Rattle.schema.specs.declared.Kind.{Kind}
 use Rattle.schema.specs.declared.Kind.the-variants as kind
+use Rattle.schema.specs.declared.Form.{Form}
 use Rattle.schema.specs.declared.Role.{Role}
-use Rattle.schema.specs.declared.Role.the-variants.{Skip, Number, Text, Bytes as BytesRole, Topic, MessageId, Sub}
+use Rattle.schema.specs.declared.Role.the-variants.{Skip, Number, Text, Bytes as BytesRole, Unsigned, Topic, MessageId, Sub}
 use Rattle.schema.specs.declared.Counted.{Counted}
 use Rattle.schema.specs.declared.Counted.the-variants as count
 use Rattle.schema.specs.Schema.{roleOf, rank, ownOf}
 use Rattle.schema.specs.Count.{plus, andThen, textCount, roleCount, countAlong, counted}
-use Rattle.schema.specs.CountLaws.{sub-rank, count-along}
+use Rattle.schema.specs.SchemaLaws.{sub-rank}
+use Rattle.schema.specs.Kinds.{by-rank}
+use Rattle.schema.specs.CountLaws.{count-along}
+use Rattle.schema.specs.Accept.{bodyRecords}
+use Rattle.schema.specs.AcceptLaws.{Gate, large, bad, many, taken, gate, records-taken, records-many, records-large}
 use Rattle.message.specs.declared.Decoded.{Decoded}
 use Rattle.message.specs.declared.Decoded.the-variants.{Records, Refused, Room}
 use Rattle.message.specs.Rows.{rowsOf, wordsOfAll}
@@ -42,32 +47,27 @@ use Rattle.meaning.specs.Back.{read-back}
 use Rattle.meaning.specs.Table.{rowsIn, table-back}
 use Rattle.meaning.specs.Size.{recordsIn, rpc-records}
 
--- ---- what decode's answers come from
--- the body is small enough, and counting answered r
+-- ---- what decode's answers come from: the test of the body, and the room
 data Answers (s : List ℕ) (room : ℕ) : Decoded → Type 0 where
-  large : 65536 < length s → Answers s room (Refused (TooLarge (length s)))
-  bad : length s ≤ 65536 → (why : WireError) → counted kind.Rpc s ≡ count.Refused why → Answers s room (Refused why)
-  many : length s ≤ 65536 → (n : ℕ) → counted kind.Rpc s ≡ count.Records n → 512 < n → Answers s room (Refused (TooManyRecords n))
+  refuses : (why : WireError) → Gate s (count.Refused why) → Answers s room (Refused why)
   short : length s ≤ 65536 → (n : ℕ) → counted kind.Rpc s ≡ count.Records n → n ≤ 512 → room < n → Answers s room (Room n)
-  taken : length s ≤ 65536 → (n : ℕ) → counted kind.Rpc s ≡ count.Records n → n ≤ 512 → n ≤ room → Answers s room (Records n (hasControl s))
+  takes : length s ≤ 65536 → (n : ℕ) → counted kind.Rpc s ≡ count.Records n → n ≤ 512 → n ≤ room → Answers s room (Records n (hasControl s))
 
-on-count : (s : List ℕ) (room : ℕ) (r : Counted) → length s ≤ 65536 → counted kind.Rpc s ≡ r → Answers s room (onCount room (hasControl s) r)
-on-count s room (count.Refused why) h e = bad h why e
-on-count s room (count.Records n) h e =
-    either (ltb 512 n) (λ t. simp t (many h n e (ltb-true 512 n t)))
-    (λ t. either (ltb room n) (λ u. simp (t, u) (short h n e (ltb-false 512 n t) (ltb-true room n u)))
-    (λ u. simp (t, u) (taken h n e (ltb-false 512 n t) (ltb-false room n u))))
+of-gate : (s : List ℕ) (room : ℕ) (r : Counted) → Gate s r → Answers s room (onCount room (hasControl s) r)
+of-gate s room _ (large h) = refuses _ (large h)
+of-gate s room _ (bad h why e) = refuses why (bad h why e)
+of-gate s room _ (many h n e l) = refuses _ (many h n e l)
+of-gate s room _ (taken h n e l) =
+    either (ltb room n) (λ u. simp u (short h n e l (ltb-true room n u))) (λ u. simp u (takes h n e l (ltb-false room n u)))
 
 answers : (s : List ℕ) (words : ℕ) → Answers s (words / 20) (decodeAnswer s words)
 unfolding decodeAnswer
-answers s words =
-    either (ltb 65536 (length s)) (λ t. simp t (large (ltb-true 65536 (length s) t)))
-    (λ t. simp t (on-count s (words / 20) (counted kind.Rpc s) (ltb-false 65536 (length s) t) refl))
+answers s words = of-gate s (words / 20) (bodyRecords s) (gate s)
 
 -- and back: one answer for each
 answer-of : (s : List ℕ) (words n : ℕ) → length s ≤ 65536 → counted kind.Rpc s ≡ count.Records n → n ≤ 512 → n ≤ words / 20 → decodeAnswer s words ≡ Records n (hasControl s)
 unfolding decodeAnswer
-answer-of s words n h e l r = simp (le-ltb 65536 (length s) h, e, le-ltb 512 n l, le-ltb (words / 20) n r)
+answer-of s words n h e l r = simp (records-taken s n h e l, le-ltb (words / 20) n r)
 
 -- ---- accepted exactly where well formed and within capacity
 -- a body's records are those of the RPC that it means
@@ -91,11 +91,9 @@ pub record WellFormed (s : List ℕ) (words : ℕ) : Type 0 where
   pub room : recordsIn rpc ≤ words / 20
 
 taken-means : (s : List ℕ) (words : ℕ) (d : Decoded) → Bytes s → Answers s (words / 20) d → (n : ℕ) (c : Bool) → d ≡ Records n c → WellFormed s words
-taken-means s words _ b (large h) n c e = clash (cc)
-taken-means s words _ b (bad h why q) n c e = clash (cc)
-taken-means s words _ b (many h m q l) n c e = clash (cc)
+taken-means s words _ b (refuses why g) n c e = clash (cc)
 taken-means s words _ b (short h m q l r) n c e = clash (cc)
-taken-means s words _ b (taken h m q l r) n c e =
+taken-means s words _ b (takes h m q l r) n c e =
     let x = rpc-means s b (record { records = m; counts = q }) in
     let z = counted-records s m (x .value) q (x .means) in
     record { rpc = x .value; means = x .means; small = h; few = omega arith; room = omega arith }
@@ -110,11 +108,9 @@ accepted-exactly s words b = (
 
 -- ---- the table then says the RPC
 taken-table : (s t : List ℕ) (d : Decoded) → Answers s (length t / 20) d → (n : ℕ) (c : Bool) (x : Rpc) → d ≡ Records n c → IsRpc s x → readBack s (rowsIn (leaves s t d) 0 n) c ≡ x
-taken-table s t _ (large h) n c x e i = clash (cc)
-taken-table s t _ (bad h why q) n c x e i = clash (cc)
-taken-table s t _ (many h m q l) n c x e i = clash (cc)
+taken-table s t _ (refuses why g) n c x e i = clash (cc)
 taken-table s t _ (short h m q l r) n c x e i = clash (cc)
-taken-table s t _ (taken h m q l r) n c x e i =
+taken-table s t _ (takes h m q l r) n c x e i =
     let en : n ≡ m = cc in let ec : c ≡ hasControl s = cc in
     let k : length (rowsOf kind.Rpc 0 s) ≡ m = rows-length kind.Rpc 0 s m q ∙ omega (arith, own-rpc) in
     let room : length (rowsOf kind.Rpc 0 s) * 20 ≤ length t = omega arith in
@@ -148,14 +144,15 @@ plus-early : (n : ℕ) (r : Counted) (why : WireError) → plus n r ≡ count.Re
 plus-early n (count.Records m) why h = clash (cc)
 plus-early n (count.Refused w) why h = cc
 
-role-early : (s : List ℕ) (f : Field) (r : Role) (why : WireError) → roleCount counted s f r ≡ count.Refused why → ((j : Kind) (p : List ℕ) → r ≡ Sub j → counted j p ≡ count.Refused why → refusalNumber why ≤ 7) → refusalNumber why ≤ 7
+role-early : (s : List ℕ) (f : Field) (r : Role) (why : WireError) → roleCount counted s f r ≡ count.Refused why → ((j : Kind) (form : Form) (p : List ℕ) → r ≡ Sub j form → counted j p ≡ count.Refused why → refusalNumber why ≤ 7) → refusalNumber why ≤ 7
 role-early s f Skip why h ih = clash (cc)
-role-early s f Number why h ih = clash (cc)
+role-early s f (Number figure) why h ih = clash (cc)
 role-early s f (Text slot) why h ih = text-early s f 0 why h
 role-early s f (BytesRole slot) why h ih = clash (cc)
+role-early s f (Unsigned slot) why h ih = clash (cc)
 role-early s f Topic why h ih = text-early s f 1 why h
 role-early s f MessageId why h ih = clash (cc)
-role-early s f (Sub k) why h ih = ih k (between s (f .start) (f .next)) refl (plus-early (ownOf k) (counted k (between s (f .start) (f .next))) why h)
+role-early s f (Sub k form) why h ih = ih k form (between s (f .start) (f .next)) refl (plus-early (ownOf k) (counted k (between s (f .start) (f .next))) why h)
 
 -- the refusals that a walk ends in
 data Ending : Fields → Type 0 where
@@ -167,7 +164,7 @@ first-early : (s : List ℕ) (k : Kind) (f : Field) (w : Fields) (why : WireErro
 first-early s k f w why (count.Records n) q g rest ih = rest (plus-early n (countAlong counted k s w) why g)
 first-early s k f w why (count.Refused v) q g rest ih =
     let e : v ≡ why = cc in
-    role-early s f (roleOf k (f .field) (f .«wire_type»)) why (q ∙ ap count.Refused e) (λ j p u z. ih j p (sub-rank k j (f .field) (f .«wire_type») u) z)
+    role-early s f (roleOf k (f .field) (f .«wire_type»)) why (q ∙ ap count.Refused e) (λ j form p u z. ih j p (sub-rank k j form (f .field) (f .«wire_type») u) z)
 
 then-early : (s : List ℕ) (k : Kind) (w : Fields) (why : WireError) → Ending w → countAlong counted k s w ≡ count.Refused why → ((j : Kind) (p : List ℕ) → rank j < rank k → counted j p ≡ count.Refused why → refusalNumber why ≤ 7) → refusalNumber why ≤ 7
 then-early s k _ why at-end h ih = clash (cc)
@@ -178,24 +175,29 @@ then-early s k _ why (after {f = f} {w = w} x) h ih =
 ending : (s : List ℕ) → Ending (fieldsOf s)
 ending s = along s (λ (at : ℕ) (w : Fields). Ending w) (λ at. at-end) (λ at why e. early (field-early s at why e)) (λ at f st e r. after r) 0
 
-early-to : (d : ℕ) (k : Kind) (s : List ℕ) (why : WireError) → rank k < d → counted k s ≡ count.Refused why → refusalNumber why ≤ 7
-early-to zero k s why r h = absurd (omega arith)
-early-to (suc d) k s why r h = then-early s k (fieldsOf s) why (ending s) (sym (count-along k s) ∙ h) (λ j p q z. early-to d j p why (omega arith) z)
+early-all : (k : Kind) (s : List ℕ) (why : WireError) → counted k s ≡ count.Refused why → refusalNumber why ≤ 7
+early-all =
+    by-rank (λ k. (s : List ℕ) (why : WireError) → counted k s ≡ count.Refused why → refusalNumber why ≤ 7)
+    (λ k ih s why h. then-early s k (fieldsOf s) why (ending s) (sym (count-along k s) ∙ h) (λ j p q z. ih j q p why z))
 
 pub counted-early : (s : List ℕ) (why : WireError) → counted kind.Rpc s ≡ count.Refused why → refusalNumber why ≤ 7
-counted-early s why h = early-to (suc (rank kind.Rpc)) kind.Rpc s why (omega arith) h
+counted-early s why h = early-all kind.Rpc s why h
 
 -- 10 is given exactly to a body above 65,536 bytes, with its length
+large-gate : (s : List ℕ) (n : ℕ) (r : Counted) → Gate s r → r ≡ count.Refused (TooLarge n) → (n ≡ length s) × (65536 < length s)
+large-gate s n _ (large h) e = (cc, h)
+large-gate s n _ (bad h why q) e = let w : why ≡ TooLarge n = cc in let l = counted-early s (TooLarge n) (q ∙ ap count.Refused w) in absurd (omega arith)
+large-gate s n _ (many h m q l) e = clash (cc)
+large-gate s n _ (taken h m q l) e = clash (cc)
+
 of-large : (s : List ℕ) (room : ℕ) (d : Decoded) (n : ℕ) → Answers s room d → d ≡ Refused (TooLarge n) → (n ≡ length s) × (65536 < length s)
-of-large s room _ n (large h) e = (cc, h)
-of-large s room _ n (bad h why q) e = let w : why ≡ TooLarge n = cc in let l = counted-early s (TooLarge n) (q ∙ ap count.Refused w) in absurd (omega arith)
-of-large s room _ n (many h m q l) e = clash (cc)
+of-large s room _ n (refuses why g) e = large-gate s n (count.Refused why) g (cc)
 of-large s room _ n (short h m q l r) e = clash (cc)
-of-large s room _ n (taken h m q l r) e = clash (cc)
+of-large s room _ n (takes h m q l r) e = clash (cc)
 
 to-large : (s : List ℕ) (words n : ℕ) → (n ≡ length s) × (65536 < length s) → decodeAnswer s words ≡ Refused (TooLarge n)
 unfolding decodeAnswer
-to-large s words n (e, h) = rw e (simp (lt-ltb 65536 (length s) h))
+to-large s words n (e, h) = rw e (simp (records-large s h))
 
 pub too-large-exactly : (s : List ℕ) (words n : ℕ) → (decodeAnswer s words ≡ Refused (TooLarge n)) ↔ ((n ≡ length s) × (65536 < length s))
 too-large-exactly s words n = (of-large s (words / 20) (decodeAnswer s words) n (answers s words), to-large s words n)
@@ -208,20 +210,24 @@ pub record TooMany (s : List ℕ) (n : ℕ) : Type 0 where
   pub all : n ≡ recordsIn rpc
   pub many : 512 < n
 
-of-many : (s : List ℕ) (room : ℕ) (d : Decoded) (n : ℕ) → Bytes s → Answers s room d → d ≡ Refused (TooManyRecords n) → TooMany s n
-of-many s room _ n b (large h) e = clash (cc)
-of-many s room _ n b (bad h why q) e = let w : why ≡ TooManyRecords n = cc in let l = counted-early s (TooManyRecords n) (q ∙ ap count.Refused w) in absurd (omega arith)
-of-many s room _ n b (many h m q l) e =
+many-gate : (s : List ℕ) (n : ℕ) (r : Counted) → Bytes s → Gate s r → r ≡ count.Refused (TooManyRecords n) → TooMany s n
+many-gate s n _ b (large h) e = clash (cc)
+many-gate s n _ b (bad h why q) e = let w : why ≡ TooManyRecords n = cc in let l = counted-early s (TooManyRecords n) (q ∙ ap count.Refused w) in absurd (omega arith)
+many-gate s n _ b (many h m q l) e =
     let x = rpc-means s b (record { records = m; counts = q }) in
     let z = counted-records s m (x .value) q (x .means) in
     let y : m ≡ n = cc in
     record { rpc = x .value; means = x .means; small = h; all = sym y ∙ z; many = omega arith }
+many-gate s n _ b (taken h m q l) e = clash (cc)
+
+of-many : (s : List ℕ) (room : ℕ) (d : Decoded) (n : ℕ) → Bytes s → Answers s room d → d ≡ Refused (TooManyRecords n) → TooMany s n
+of-many s room _ n b (refuses why g) e = many-gate s n (count.Refused why) b g (cc)
 of-many s room _ n b (short h m q l r) e = clash (cc)
-of-many s room _ n b (taken h m q l r) e = clash (cc)
+of-many s room _ n b (takes h m q l r) e = clash (cc)
 
 many-of : (s : List ℕ) (words n : ℕ) → length s ≤ 65536 → counted kind.Rpc s ≡ count.Records n → 512 < n → decodeAnswer s words ≡ Refused (TooManyRecords n)
 unfolding decodeAnswer
-many-of s words n h e l = simp (le-ltb 65536 (length s) h, e, lt-ltb 512 n l)
+many-of s words n h e l = simp (records-many s n h e l)
 
 pub too-many-exactly : (s : List ℕ) (words n : ℕ) → Bytes s → (decodeAnswer s words ≡ Refused (TooManyRecords n)) ↔ TooMany s n
 too-many-exactly s words n b = (
@@ -242,19 +248,17 @@ pub record TooFewRows (s : List ℕ) (words n : ℕ) : Type 0 where
   pub short : words / 20 < n
 
 of-short : (s : List ℕ) (words : ℕ) (d : Decoded) (n : ℕ) → Bytes s → Answers s (words / 20) d → d ≡ Room n → TooFewRows s words n
-of-short s words _ n b (large h) e = clash (cc)
-of-short s words _ n b (bad h why q) e = clash (cc)
-of-short s words _ n b (many h m q l) e = clash (cc)
+of-short s words _ n b (refuses why g) e = clash (cc)
 of-short s words _ n b (short h m q l r) e =
     let x = rpc-means s b (record { records = m; counts = q }) in
     let z = counted-records s m (x .value) q (x .means) in
     let y : m ≡ n = cc in
     record { rpc = x .value; means = x .means; small = h; needed = sym y ∙ z; few = omega arith; short = omega arith }
-of-short s words _ n b (taken h m q l r) e = clash (cc)
+of-short s words _ n b (takes h m q l r) e = clash (cc)
 
 short-of : (s : List ℕ) (words n : ℕ) → length s ≤ 65536 → counted kind.Rpc s ≡ count.Records n → n ≤ 512 → words / 20 < n → decodeAnswer s words ≡ Room n
 unfolding decodeAnswer
-short-of s words n h e l r = simp (le-ltb 65536 (length s) h, e, le-ltb 512 n l, lt-ltb (words / 20) n r)
+short-of s words n h e l r = simp (records-taken s n h e l, lt-ltb (words / 20) n r)
 
 pub room-exactly : (s : List ℕ) (words n : ℕ) → Bytes s → (decodeAnswer s words ≡ Room n) ↔ TooFewRows s words n
 room-exactly s words n b = (

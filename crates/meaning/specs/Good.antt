@@ -15,9 +15,9 @@ use Rattle.protobuf.specs.Grammar.{Entry}
 use Rattle.protobuf.specs.Walk.{Fields, end, refused, _then_, fieldsOf, whole, entriesOf}
 use Rattle.schema.specs.declared.Kind.{Kind}
 use Rattle.schema.specs.declared.Role.{Role}
-use Rattle.schema.specs.declared.Role.the-variants.{Skip, Number, Text, Bytes, Topic, MessageId, Sub}
+use Rattle.schema.specs.declared.Role.the-variants.{Skip, Number, Text, Bytes, Unsigned, Topic, MessageId, Sub}
 use Rattle.schema.specs.declared.Counted.the-variants.{Records}
-use Rattle.schema.specs.Schema.{varintField, roleOf, ownOf}
+use Rattle.schema.specs.Schema.{isVarint, rowOf, roleOf, ownOf}
 use Rattle.schema.specs.Count.{plus, andThen, textCount, roleCount, countAlong, counted}
 use Rattle.schema.specs.CountLaws.{plus-fits, then-fits, count-along}
 use Rattle.rpc.specs.Grammar.{bytesIn, Each, none-left, _and_}
@@ -32,12 +32,13 @@ pub record Accepted (k : Kind) (p : List ℕ) : Type 0 where
 -- the bytes of a length-delimited field are good for its role
 abbrev pub GoodRole : Role → List ℕ → Type 0
 GoodRole Skip d = Unit {0}
-GoodRole Number d = Unit {0}
+GoodRole (Number figure) d = Unit {0}
 GoodRole (Text slot) d = Utf8 d
 GoodRole (Bytes slot) d = Unit {0}
+GoodRole (Unsigned slot) d = Unit {0}
 GoodRole Topic d = Utf8 d
 GoodRole MessageId d = Unit {0}
-GoodRole (Sub j) d = Accepted j d
+GoodRole (Sub j form) d = Accepted j d
 
 -- all bytes in the fields m are good
 abbrev pub Good : Kind → List Entry → Type 0
@@ -58,29 +59,39 @@ good-text s f n u = let t : isUtf8 (valueIn s f) ≡ true = exactly (valueIn s f
 
 counts-good : (s : List ℕ) (f : Field) (r : Role) (m : ℕ) → roleCount counted s f r ≡ Records m → GoodRole r (valueIn s f)
 counts-good s f Skip m h = tt
-counts-good s f Number m h = tt
+counts-good s f (Number figure) m h = tt
 counts-good s f (Text slot) m h = text-good s f 0 m h
 counts-good s f (Bytes slot) m h = tt
+counts-good s f (Unsigned slot) m h = tt
 counts-good s f Topic m h = text-good s f 1 m h
 counts-good s f MessageId m h = tt
-counts-good s f (Sub j) m h = let t = plus-fits (ownOf j) m (counted j (valueIn s f)) h in record { records = t .0; counts = t .1 }
+counts-good s f (Sub j form) m h = let t = plus-fits (ownOf j) m (counted j (valueIn s f)) h in record { records = t .0; counts = t .1 }
 
 good-counts : (s : List ℕ) (f : Field) (r : Role) → GoodRole r (valueIn s f) → (m : ℕ) × (roleCount counted s f r ≡ Records m)
 good-counts s f Skip g = (0, refl)
-good-counts s f Number g = (0, refl)
+good-counts s f (Number figure) g = (0, refl)
 good-counts s f (Text slot) g = (0, good-text s f 0 g)
 good-counts s f (Bytes slot) g = (0, refl)
+good-counts s f (Unsigned slot) g = (0, refl)
 good-counts s f Topic g = (1, good-text s f 1 g)
 good-counts s f MessageId g = (1, refl)
-good-counts s f (Sub j) g = (ownOf j + g .records, ap (plus (ownOf j)) (g .counts))
+good-counts s f (Sub j form) g = (ownOf j + g .records, ap (plus (ownOf j)) (g .counts))
 
 -- a field that is not length-delimited is passed over or a number
+number-counts : (s : List ℕ) (f : Field) (r : Role) → roleCount counted s f (cond (isVarint r) r Skip) ≡ Records 0
+number-counts s f Skip = refl
+number-counts s f (Number figure) = refl
+number-counts s f (Text slot) = refl
+number-counts s f (Bytes slot) = refl
+number-counts s f (Unsigned slot) = refl
+number-counts s f Topic = refl
+number-counts s f MessageId = refl
+number-counts s f (Sub k form) = refl
+
 other-counts : (k : Kind) (s : List ℕ) (f : Field) → eqb (f .«wire_type») 2 ≡ false → (m : ℕ) × (roleCount counted s f (RoleAt k f) ≡ Records m)
 unfolding roleOf
 other-counts k s f t2 =
-    either (eqb (f .«wire_type») 0)
-    (λ t0. either (eqb (f .field) (varintField k)) (λ t. (0, simp (t2, t0, t))) (λ t. (0, simp (t2, t0, t))))
-    (λ t0. (0, simp (t2, t0)))
+    either (eqb (f .«wire_type») 0) (λ t0. (0, simp (t2, t0) (number-counts s f (rowOf k (f .field))))) (λ t0. (0, simp (t2, t0)))
 
 -- ---- all fields of a walk that reaches the end
 pub each-put : (P : List ℕ → Type 0) (t : Bool) (d : List ℕ) (ds : List (List ℕ)) → (t ≡ true → P d) → Each P ds → Each P (cond t (d ∷ ds) ds)

@@ -23,7 +23,9 @@ use Rattle.schema.specs.declared.Place.{Place}
 use Rattle.schema.specs.declared.Number.{Number}
 use Rattle.schema.specs.declared.Number.the-variants as number
 use Rattle.schema.specs.declared.Slots.{Slots}
-use Rattle.schema.specs.Schema.{lenRole, varintField, roleOf}
+use Rattle.schema.specs.declared.Role.{Role}
+use Rattle.schema.specs.declared.Role.the-variants.{Skip, Number as NumberRole, Text, Bytes, Unsigned, Topic, MessageId, Sub}
+use Rattle.schema.specs.Schema.{isVarint, rowOf, lenRole, numberRole, roleOf}
 use Rattle.schema.specs.Slots.{setNumber, placeOf, roleSlots, withField, slotsAlong}
 use Rattle.rpc.specs.Grammar.{numbersIn, bytesIn, orElse, last, Each, none-left, _and_}
 use Rattle.meaning.specs.ReadBack.{bytesAt, numberAt}
@@ -147,11 +149,20 @@ six P p1 p2 p3 p4 p5 p6 q n =
     (λ e4. either (eqb n 5) (λ t. subst P (sym (eqb-true n 5 t)) p5)
     (λ e5. either (eqb n 6) (λ t. subst P (sym (eqb-true n 6 t)) p6) (λ e6. q n e1 e2 e3 e4 e5 e6))))))
 
--- from the length-delimited fields alone: a number changes no place
+-- a number changes no place
+number-slots : (g : Slots → Place) → ((t : Slots) (v : ℕ) → g (setNumber t v) ≡ g t) → (t : Slots) (f : Field) (r : Role) → g (roleSlots t f (cond (isVarint r) r Skip)) ≡ g t
+number-slots g keep t f Skip = refl
+number-slots g keep t f (NumberRole figure) = keep t (f .value)
+number-slots g keep t f (Text slot) = refl
+number-slots g keep t f (Bytes slot) = refl
+number-slots g keep t f (Unsigned slot) = refl
+number-slots g keep t f Topic = refl
+number-slots g keep t f MessageId = refl
+number-slots g keep t f (Sub k form) = refl
+
+-- so it is the length-delimited fields alone that feed a slot
 pub feeds-from : (k : Kind) (g : Slots → Place) (m : ℕ) → ((t : Slots) (v : ℕ) → g (setNumber t v) ≡ g t) → ((t : Slots) (f : Field) (n : ℕ) → g (roleSlots t f (lenRole k n)) ≡ cond (eqb n m) (placeOf f) (g t)) → Feeds k g m
 unfolding withField roleOf
 feeds-from k g m keep lens t f =
     either (eqb (f .«wire_type») 2) (λ t2. simp t2 (lens t f (f .field)))
-    (λ t2. either (eqb (f .«wire_type») 0)
-    (λ t0. either (eqb (f .field) (varintField k)) (λ x. simp (t2, t0, x) (keep t (f .value))) (λ x. simp (t2, t0, x)))
-    (λ t0. simp (t2, t0)))
+    (λ t2. either (eqb (f .«wire_type») 0) (λ t0. simp (t2, t0) (number-slots g keep t f (rowOf k (f .field)))) (λ t0. simp (t2, t0)))

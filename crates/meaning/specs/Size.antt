@@ -1,6 +1,6 @@
 -- How many records an RPC has, by 01's list: each SubOpts, message, topic of a message, IHAVE, IWANT, message id, GRAFT, PRUNE and PeerInfo;
 -- and a body has as many as the RPC that it means.
-use Prim.Native.Nat.{ℕ, zero, suc, _+_, _<_}
+use Prim.Native.Nat.{ℕ, _+_, _<_}
 use mathlib.Core.Path.{_≡_, refl, sym, ap, _∙_}
 use mathlib.Core.List.{List, [], _∷_, _++_}
 use mathlib.Core.Option.{Option, none, some}
@@ -13,10 +13,13 @@ use Rattle.protobuf.specs.declared.Field.{Field}
 use Rattle.protobuf.specs.Walk.{Fields, end, refused, _then_, fieldsOf, between}
 use Rattle.schema.specs.declared.Kind.{Kind}
 use Rattle.schema.specs.declared.Kind.the-variants as kind
+use Rattle.schema.specs.declared.Form.{Form}
 use Rattle.schema.specs.declared.Role.{Role}
-use Rattle.schema.specs.declared.Role.the-variants.{Skip, Number, Text, Bytes, Topic, MessageId, Sub}
+use Rattle.schema.specs.declared.Role.the-variants.{Skip, Number, Text, Bytes, Unsigned, Topic, MessageId, Sub}
 use Rattle.schema.specs.Schema.{roleOf, rank, ownOf}
-use Rattle.schema.specs.CountLaws.{sub-rank, own-one}
+use Rattle.schema.specs.SchemaLaws.{sub-rank}
+use Rattle.schema.specs.Kinds.{by-rank}
+use Rattle.schema.specs.CountLaws.{own-one}
 use Rattle.message.specs.declared.Record.{Record}
 use Rattle.message.specs.Rows.{roleRows, rowsAlong, ownRows, rowsOf}
 use Rattle.message.specs.RowsLaws.{rows-along}
@@ -83,33 +86,35 @@ weight-own k base s =
     either (eqb (ownOf k) 0) (λ t. simp t)
     (λ t. let o = own-one k in let z = eqb-false (ownOf k) 0 t in simp t (omega arith))
 
-weight-role : (base : ℕ) (s : List ℕ) (f : Field) (r : Role) → ((j : Kind) (b : ℕ) (p : List ℕ) → r ≡ Sub j → weight (rowsOf j b p) ≡ length (rowsOf j b p)) → weight (roleRows rowsOf base s f r) ≡ length (roleRows rowsOf base s f r)
+weight-role : (base : ℕ) (s : List ℕ) (f : Field) (r : Role) → ((j : Kind) (form : Form) (b : ℕ) (p : List ℕ) → r ≡ Sub j form → weight (rowsOf j b p) ≡ length (rowsOf j b p)) → weight (roleRows rowsOf base s f r) ≡ length (roleRows rowsOf base s f r)
 unfolding ownOf
 weight-role base s f Skip h = refl
-weight-role base s f Number h = refl
+weight-role base s f (Number figure) h = refl
 weight-role base s f (Text slot) h = refl
 weight-role base s f (Bytes slot) h = refl
+weight-role base s f (Unsigned slot) h = refl
 weight-role base s f Topic h = refl
 weight-role base s f MessageId h = refl
-weight-role base s f (Sub k) h = h k (base + f .start) (between s (f .start) (f .next)) refl
+weight-role base s f (Sub k form) h = h k form (base + f .start) (between s (f .start) (f .next)) refl
 
 weight-along : (k : Kind) (base : ℕ) (s : List ℕ) (w : Fields) → ((j : Kind) (b : ℕ) (p : List ℕ) → rank j < rank k → weight (rowsOf j b p) ≡ length (rowsOf j b p)) → weight (rowsAlong rowsOf k base s w) ≡ length (rowsAlong rowsOf k base s w)
 weight-along k base s end h = refl
 weight-along k base s (refused why) h = refl
 weight-along k base s (f then w) h =
     let rs = roleRows rowsOf base s f (roleOf k (f .field) (f .«wire_type»)) in
-    let a = weight-role base s f (roleOf k (f .field) (f .«wire_type»)) (λ j b p q. h j b p (sub-rank k j (f .field) (f .«wire_type») q)) in
+    let a = weight-role base s f (roleOf k (f .field) (f .«wire_type»)) (λ j form b p q. h j b p (sub-rank k j form (f .field) (f .«wire_type») q)) in
     let b = weight-along k base s w h in
     weight-append rs (rowsAlong rowsOf k base s w) ∙ omega (arith, a, b, length-append rs (rowsAlong rowsOf k base s w))
 
-weight-to : (d : ℕ) (k : Kind) (base : ℕ) (s : List ℕ) → rank k < d → weight (rowsOf k base s) ≡ length (rowsOf k base s)
-weight-to zero k base s h = absurd (omega arith)
-weight-to (suc d) k base s h =
+weight-all : (k : Kind) (base : ℕ) (s : List ℕ) → weight (rowsOf k base s) ≡ length (rowsOf k base s)
+weight-all =
+    by-rank (λ k. (base : ℕ) (s : List ℕ) → weight (rowsOf k base s) ≡ length (rowsOf k base s))
+    (λ k ih base s.
     let a = weight-own k base s in
-    let b = weight-along k base s (fieldsOf s) (λ j b p q. weight-to d j b p (omega arith)) in
+    let b = weight-along k base s (fieldsOf s) (λ j b p q. ih j q b p) in
     let own = ownRows k base s in
     let rest = rowsAlong rowsOf k base s (fieldsOf s) in
-    ap weight (rows-along k base s) ∙ weight-append own rest ∙ omega (arith, a, b, length-append own rest) ∙ sym (ap length (rows-along k base s))
+    ap weight (rows-along k base s) ∙ weight-append own rest ∙ omega (arith, a, b, length-append own rest) ∙ sym (ap length (rows-along k base s)))
 
 flat-records : (cs : List ControlMessage) → someRecords (joined cs) ≡ controlRecords (flat cs)
 flat-records [] = refl
@@ -120,6 +125,6 @@ pub rpc-records : {b : List ℕ} {x : Rpc} → IsRpc b x → length (rowsOf kind
 unfolding recordsIn
 rpc-records (is-rpc {s = s} {es = es} {ss = ss} {ms = ms} {cs = cs} g h1 h2 h3) =
     let e = ap size (rpc-gathered s es ss ms cs g h1 h2 h3) in
-    let w = weight-to (suc (rank kind.Rpc)) kind.Rpc 0 s (omega arith) in
+    let w = weight-all kind.Rpc 0 s in
     let z = size-gather s (rowsOf kind.Rpc 0 s) nothing in
     omega (arith, e, w, z, flat-records cs)

@@ -15,8 +15,9 @@ use Rattle.schema.specs.declared.Number.{Number}
 use Rattle.schema.specs.declared.Number.the-variants as number
 use Rattle.message.specs.declared.Record.{Record}
 use Rattle.message.specs.declared.RecordAt.the-variants as found
-use Rattle.message.specs.Rows.{kindCode, numberWords, placeWords, placesWords, wordsOf, wordsOfAll, kindFrom, numberFrom, placeFrom, recordFrom, recordAt}
-use Rattle.message.specs.RowsLaws.{place-length, words-length, all-length}
+use Rattle.message.specs.Rows.{kindCode, numberWords, placeWords, placesWords, wordsOf, wordsOfAll, kindFrom, recordFrom, recordAt}
+use Rattle.schema.specs.Made.{numberFrom, placeFrom}
+use Rattle.message.specs.RowsLaws.{number-length, place-length, words-length, all-length}
 
 -- ---- each part of a record
 kind-back : (k : Kind) → kindFrom (kindCode k) ≡ k
@@ -56,11 +57,6 @@ same-record e1 e2 e3 e4 e5 e6 e7 e8 e9 = cc
 
 same-place : {a a' b b' c c' : ℕ} → a ≡ a' → b ≡ b' → c ≡ c' → placeFrom a b c ≡ placeFrom a' b' c'
 same-place e1 e2 e3 = cc
-
-number-length : (x : Number) → length (numberWords x) ≡ 2
-unfolding numberWords
-number-length number.Absent = refl
-number-length (number.Present v) = refl
 
 -- the words of a record, in a list that goes on
 module _ (r : Record) (rest : List ℕ) where

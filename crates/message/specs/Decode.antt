@@ -1,40 +1,30 @@
 -- Reading a body: what decode answers and what it leaves in the lent table. Refusals come in the order of 01's table: 10, 1 to 7, 11, 12.
 use Prim.Native.Nat.{ℕ, _/_}
 use mathlib.Core.List.{List}
-use mathlib.Core.Bool.{Bool, false, cond, _&&_, _||_}
+use mathlib.Core.Bool.{Bool, cond}
 use lib.ListN.{length}
 use lib.Seq.{sets}
-use lib.Dec.{ltb, eqb}
-use Rattle.protobuf.specs.declared.Field.{Field}
-use Rattle.protobuf.specs.declared.WireError.the-variants.{TooLarge, TooManyRecords}
-use Rattle.protobuf.specs.Walk.{Fields, end, refused, _then_, fieldsOf}
+use lib.Dec.{ltb}
 use Rattle.schema.specs.declared.Kind.the-variants as kind
 use Rattle.schema.specs.declared.Counted.{Counted}
 use Rattle.schema.specs.declared.Counted.the-variants as counted
 use Rattle.message.specs.declared.Decoded.{Decoded}
 use Rattle.message.specs.declared.Decoded.the-variants.{Records, Refused, Room}
-use Rattle.schema.specs.Count.{counted as countedIn}
+use Rattle.schema.specs.Accept.{bodyRecords}
+use Rattle.schema.specs.Slots.{hasField}
 use Rattle.message.specs.Rows.{rowsOf, wordsOfAll}
 
 -- a length-delimited field 3 is there, so the body has a control
-abbrev pub isControl : Field → Bool
-isControl f = eqb (f .field) 3 && eqb (f .«wire_type») 2
-
-abbrev pub controlAlong : Fields → Bool
-controlAlong end = false
-controlAlong (refused why) = false
-controlAlong (f then w) = isControl f || controlAlong w
-
 unfoldable pub hasControl : List ℕ → Bool
-hasControl s = controlAlong (fieldsOf s)
+hasControl s = hasField 3 s
 
 -- with room for so many records
 abbrev pub onCount : ℕ → Bool → Counted → Decoded
 onCount room c (counted.Refused why) = Refused why
-onCount room c (counted.Records n) = cond (ltb 512 n) (Refused (TooManyRecords n)) (cond (ltb room n) (Room n) (Records n c))
+onCount room c (counted.Records n) = cond (ltb room n) (Room n) (Records n c)
 
 unfoldable pub decodeAnswer : List ℕ → ℕ → Decoded
-decodeAnswer s words = cond (ltb 65536 (length s)) (Refused (TooLarge (length s))) (onCount (words / 20) (hasControl s) (countedIn kind.Rpc s))
+decodeAnswer s words = onCount (words / 20) (hasControl s) (bodyRecords s)
 
 -- the records stand at the front of the table; a refusal changes nothing
 abbrev pub leaves : List ℕ → List ℕ → Decoded → List ℕ

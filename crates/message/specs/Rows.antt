@@ -1,6 +1,6 @@
 -- The records of a message, in the order in which its bytes have them, each before what stands inside it; and how a record stands in the
 -- lent table: twenty words. What is absent is zeros; a place that is present is 1, its start and its end, and a number 1 and its value.
-use Prim.Native.Nat.{ℕ, zero, suc, _+_, _*_, _/_}
+use Prim.Native.Nat.{ℕ, _+_, _*_, _/_}
 use mathlib.Core.List.{List, [], _∷_, _++_}
 use mathlib.Core.Bool.{cond}
 use lib.ListN.{length, getD}
@@ -10,7 +10,7 @@ use Rattle.protobuf.specs.Walk.{Fields, end, refused, _then_, fieldsOf, between
 use Rattle.schema.specs.declared.Kind.{Kind}
 use Rattle.schema.specs.declared.Kind.the-variants as kind
 use Rattle.schema.specs.declared.Role.{Role}
-use Rattle.schema.specs.declared.Role.the-variants.{Skip, Number, Text, Bytes, Topic, MessageId, Sub}
+use Rattle.schema.specs.declared.Role.the-variants.{Skip, Number, Text, Bytes, Unsigned, Topic, MessageId, Sub}
 use Rattle.schema.specs.declared.Place.{Place}
 use Rattle.schema.specs.declared.Place.the-variants as place
 use Rattle.schema.specs.declared.Number.{Number as Num}
@@ -19,8 +19,10 @@ use Rattle.schema.specs.declared.Slots.{Slots}
 use Rattle.message.specs.declared.Record.{Record}
 use Rattle.message.specs.declared.RecordAt.{RecordAt}
 use Rattle.message.specs.declared.RecordAt.the-variants as found
-use Rattle.schema.specs.Schema.{roleOf, rank, ownOf}
+use Rattle.schema.specs.Schema.{roleOf, ownOf}
+use Rattle.schema.specs.Kinds.{overKinds}
 use Rattle.schema.specs.Slots.{noSlots, slotsOf}
+use Rattle.schema.specs.Made.{numberFrom, placeFrom}
 
 -- ---- the records
 -- a topic or a message id: only its place
@@ -33,12 +35,13 @@ leafRow k base f = bareRow k (base + f .start) (base + f .next)
 -- one field of a message whose bytes begin at base; `sub` gives the records of a submessage
 abbrev pub roleRows : (Kind → ℕ → List ℕ → List Record) → ℕ → List ℕ → Field → Role → List Record
 roleRows sub base s f Skip = []
-roleRows sub base s f Number = []
+roleRows sub base s f (Number figure) = []
 roleRows sub base s f (Text slot) = []
 roleRows sub base s f (Bytes slot) = []
+roleRows sub base s f (Unsigned slot) = []
 roleRows sub base s f Topic = leafRow kind.Topic base f ∷ []
 roleRows sub base s f MessageId = leafRow kind.MessageId base f ∷ []
-roleRows sub base s f (Sub k) = sub k (base + f .start) (between s (f .start) (f .next))
+roleRows sub base s f (Sub k form) = sub k (base + f .start) (between s (f .start) (f .next))
 
 abbrev pub rowsAlong : (Kind → ℕ → List ℕ → List Record) → Kind → ℕ → List ℕ → Fields → List Record
 rowsAlong sub k base s end = []
@@ -49,13 +52,12 @@ rowsAlong sub k base s (f then w) = roleRows sub base s f (roleOf k (f .field) (
 unfoldable pub ownRows : Kind → ℕ → List ℕ → List Record
 ownRows k base s = cond (eqb (ownOf k) 0) [] (record { kind = k; start = base; end = base + length s; slots = slotsOf k s } ∷ [])
 
--- the first number is how deep submessages are looked into: the kind's rank is enough
-unfoldable pub rowsTo : ℕ → Kind → ℕ → List ℕ → List Record
-rowsTo zero k base s = ownRows k base s ++ rowsAlong (λ j b p. []) k base s (fieldsOf s)
-rowsTo (suc d) k base s = ownRows k base s ++ rowsAlong (rowsTo d) k base s (fieldsOf s)
+-- a message that stands at a base, with what stands inside it
+abbrev pub rowsStep : (Kind → ℕ × List ℕ → List Record) → Kind → ℕ × List ℕ → List Record
+rowsStep sub k x = ownRows k (x .0) (x .1) ++ rowsAlong (λ j b p. sub j (b, p)) k (x .0) (x .1) (fieldsOf (x .1))
 
 unfoldable pub rowsOf : Kind → ℕ → List ℕ → List Record
-rowsOf k base s = rowsTo (rank k) k base s
+rowsOf k base s = overKinds rowsStep [] k (base, s)
 
 -- one field of a message of kind k
 unfoldable pub fieldRows : Kind → ℕ → List ℕ → Field → List Record
@@ -106,12 +108,6 @@ kindFrom c =
     (cond (eqb c 8) kind.ControlGraft
     (cond (eqb c 9) kind.ControlPrune
     (cond (eqb c 10) kind.PeerInfo kind.Rpc)))))))))
-
-unfoldable pub numberFrom : ℕ → ℕ → Num
-numberFrom present v = cond (eqb present 0) number.Absent (number.Present v)
-
-unfoldable pub placeFrom : ℕ → ℕ → ℕ → Place
-placeFrom present a e = cond (eqb present 0) place.Absent (place.Present a e)
 
 -- the record that stands in a table from word i on
 unfoldable pub recordFrom : List ℕ → ℕ → Record

@@ -1,6 +1,6 @@
--- Laws of the records: the depth does not matter; a message that is accepted has as many records as were counted; and a record takes twenty
+-- Laws of the records: they stand along a message's fields; a message that is accepted has as many records as were counted; and a record takes twenty
 -- words.
-use Prim.Native.Nat.{ℕ, zero, suc, _+_, _-_, _*_, _≤_, _<_}
+use Prim.Native.Nat.{ℕ, _+_, _-_, _*_, _<_}
 use mathlib.Core.Path.{_≡_, refl, sym, ap, ap₂, _∙_}
 use mathlib.Core.List.{List, [], _∷_, _++_, append-assoc}
 use native.Mathlib.Omega.{arith}
@@ -11,8 +11,9 @@ use Rattle.basis.specs.Cases.{either, clash}
 use Rattle.protobuf.specs.declared.Field.{Field}
 use Rattle.protobuf.specs.Walk.{Fields, end, refused, _then_, fieldsOf, between}
 use Rattle.schema.specs.declared.Kind.{Kind}
+use Rattle.schema.specs.declared.Form.{Form}
 use Rattle.schema.specs.declared.Role.{Role}
-use Rattle.schema.specs.declared.Role.the-variants.{Skip, Number, Text, Bytes, Topic, MessageId, Sub}
+use Rattle.schema.specs.declared.Role.the-variants.{Skip, Number, Text, Bytes, Unsigned, Topic, MessageId, Sub}
 use Rattle.schema.specs.declared.Place.{Place}
 use Rattle.schema.specs.declared.Place.the-variants as place
 use Rattle.schema.specs.declared.Number.{Number as Num}
@@ -21,39 +22,38 @@ use Rattle.schema.specs.declared.Slots.{Slots}
 use Rattle.schema.specs.declared.Counted.the-variants.{Records}
 use Rattle.schema.specs.Schema.{roleOf, rank, ownOf}
 use Rattle.schema.specs.Count.{roleCount, countAlong, counted}
-use Rattle.schema.specs.CountLaws.{sub-rank, count-along, own-one, text-fits, plus-fits, then-fits}
+use Rattle.schema.specs.SchemaLaws.{sub-rank}
+use Rattle.schema.specs.Kinds.{unfolds, by-rank}
+use Rattle.schema.specs.CountLaws.{count-along, own-one, text-fits, plus-fits, then-fits}
 use Rattle.message.specs.declared.Record.{Record}
-use Rattle.message.specs.Rows.{roleRows, rowsAlong, ownRows, rowsTo, rowsOf, numberWords, placeWords, placesWords, wordsOf, wordsOfAll}
+use Rattle.message.specs.Rows.{roleRows, rowsAlong, ownRows, rowsStep, rowsOf, numberWords, placeWords, placesWords, wordsOf, wordsOfAll}
 
--- ---- the depth does not matter
-same-role : (f g : Kind → ℕ → List ℕ → List Record) (base : ℕ) (s : List ℕ) (x : Field) (r : Role) → ((j : Kind) (b : ℕ) (p : List ℕ) → r ≡ Sub j → f j b p ≡ g j b p) → roleRows f base s x r ≡ roleRows g base s x r
+-- ---- the records of a message: its own, and then those along its fields
+same-role : (f g : Kind → ℕ → List ℕ → List Record) (base : ℕ) (s : List ℕ) (x : Field) (r : Role) → ((j : Kind) (form : Form) (b : ℕ) (p : List ℕ) → r ≡ Sub j form → f j b p ≡ g j b p) → roleRows f base s x r ≡ roleRows g base s x r
 same-role f g base s x Skip h = refl
-same-role f g base s x Number h = refl
+same-role f g base s x (Number figure) h = refl
 same-role f g base s x (Text slot) h = refl
 same-role f g base s x (Bytes slot) h = refl
+same-role f g base s x (Unsigned slot) h = refl
 same-role f g base s x Topic h = refl
 same-role f g base s x MessageId h = refl
-same-role f g base s x (Sub k) h = h k (base + x .start) (between s (x .start) (x .next)) refl
+same-role f g base s x (Sub k form) h = h k form (base + x .start) (between s (x .start) (x .next)) refl
 
 same-along : (f g : Kind → ℕ → List ℕ → List Record) (k : Kind) (base : ℕ) (s : List ℕ) (w : Fields) → ((j : Kind) (b : ℕ) (p : List ℕ) → rank j < rank k → f j b p ≡ g j b p) → rowsAlong f k base s w ≡ rowsAlong g k base s w
 same-along f g k base s end h = refl
 same-along f g k base s (refused why) h = refl
 same-along f g k base s (x then w) h =
-    ap₂ (λ (a b : List Record). a ++ b) (same-role f g base s x (roleOf k (x .field) (x .«wire_type»)) (λ j b p e. h j b p (sub-rank k j (x .field) (x .«wire_type») e))) (same-along f g k base s w h)
+    ap₂ (λ (a b : List Record). a ++ b)
+    (same-role f g base s x (roleOf k (x .field) (x .«wire_type»)) (λ j form b p e. h j b p (sub-rank k j form (x .field) (x .«wire_type») e)))
+    (same-along f g k base s w h)
 
-deep : (d e : ℕ) (k : Kind) (base : ℕ) (s : List ℕ) → rank k ≤ d → rank k ≤ e → rowsTo d k base s ≡ rowsTo e k base s
-unfolding rowsTo
-deep zero zero k base s p q = refl
-deep zero (suc e) k base s p q = ap (λ (l : List Record). ownRows k base s ++ l) (same-along (λ j b p. []) (rowsTo e) k base s (fieldsOf s) (λ j b x h. absurd (omega arith)))
-deep (suc d) zero k base s p q = ap (λ (l : List Record). ownRows k base s ++ l) (same-along (rowsTo d) (λ j b p. []) k base s (fieldsOf s) (λ j b x h. absurd (omega arith)))
-deep (suc d) (suc e) k base s p q = ap (λ (l : List Record). ownRows k base s ++ l) (same-along (rowsTo d) (rowsTo e) k base s (fieldsOf s) (λ j b x h. deep d e j b x (omega arith) (omega arith)))
-
--- the records of a message: its own, and then those along its fields
 pub rows-along : (k : Kind) (base : ℕ) (s : List ℕ) → rowsOf k base s ≡ ownRows k base s ++ rowsAlong rowsOf k base s (fieldsOf s)
-unfolding rowsOf rowsTo
+unfolding rowsOf
 rows-along k base s =
-    deep (rank k) (suc (rank k)) k base s (omega arith) (omega arith)
-    ∙ ap (λ (l : List Record). ownRows k base s ++ l) (same-along (rowsTo (rank k)) rowsOf k base s (fieldsOf s) (λ j b x h. deep (rank k) (rank j) j b x (omega arith) (omega arith)))
+    unfolds rowsStep []
+    (λ f g j x h. ap (λ (l : List Record). ownRows j (x .0) (x .1) ++ l)
+    (same-along (λ i b p. f i (b, p)) (λ i b p. g i (b, p)) j (x .0) (x .1) (fieldsOf (x .1)) (λ i b p l. h i (b, p) l)))
+    k (base, s)
 
 -- ---- as many records as were counted
 pub own-length : (k : Kind) (base : ℕ) (s : List ℕ) → length (ownRows k base s) ≡ ownOf k
@@ -62,34 +62,35 @@ own-length k base s =
     either (eqb (ownOf k) 0) (λ t. simp t (sym (eqb-true (ownOf k) 0 t)))
     (λ t. let o = own-one k in let z = eqb-false (ownOf k) 0 t in let e : 1 ≡ ownOf k = omega arith in simp t e)
 
-role-length : (base : ℕ) (s : List ℕ) (f : Field) (r : Role) (m : ℕ) → roleCount counted s f r ≡ Records m → ((j : Kind) (b : ℕ) (p : List ℕ) (x : ℕ) → r ≡ Sub j → counted j p ≡ Records x → length (rowsOf j b p) ≡ ownOf j + x) → length (roleRows rowsOf base s f r) ≡ m
+role-length : (base : ℕ) (s : List ℕ) (f : Field) (r : Role) (m : ℕ) → roleCount counted s f r ≡ Records m → ((j : Kind) (form : Form) (b : ℕ) (p : List ℕ) (x : ℕ) → r ≡ Sub j form → counted j p ≡ Records x → length (rowsOf j b p) ≡ ownOf j + x) → length (roleRows rowsOf base s f r) ≡ m
 role-length base s f Skip m h ih = cc
-role-length base s f Number m h ih = cc
+role-length base s f (Number figure) m h ih = cc
 role-length base s f (Text slot) m h ih = sym (text-fits s f 0 m h)
 role-length base s f (Bytes slot) m h ih = cc
+role-length base s f (Unsigned slot) m h ih = cc
 role-length base s f Topic m h ih = sym (text-fits s f 1 m h)
 role-length base s f MessageId m h ih = cc
-role-length base s f (Sub k) m h ih =
+role-length base s f (Sub k form) m h ih =
     let t = plus-fits (ownOf k) m (counted k (between s (f .start) (f .next))) h in
-    ih k (base + f .start) (between s (f .start) (f .next)) (t .0) refl (t .1) ∙ sym (t .2)
+    ih k form (base + f .start) (between s (f .start) (f .next)) (t .0) refl (t .1) ∙ sym (t .2)
 
 along-length : (k : Kind) (base : ℕ) (s : List ℕ) (w : Fields) (n : ℕ) → countAlong counted k s w ≡ Records n → ((j : Kind) (b : ℕ) (p : List ℕ) (x : ℕ) → rank j < rank k → counted j p ≡ Records x → length (rowsOf j b p) ≡ ownOf j + x) → length (rowsAlong rowsOf k base s w) ≡ n
 along-length k base s end n h ih = cc
 along-length k base s (refused why) n h ih = clash (cc)
 along-length k base s (f then w) n h ih =
     let t = then-fits (roleCount counted s f (roleOf k (f .field) (f .«wire_type»))) (countAlong counted k s w) n h in
-    let a = role-length base s f (roleOf k (f .field) (f .«wire_type»)) (t .0) (t .2) (λ j b p x q. ih j b p x (sub-rank k j (f .field) (f .«wire_type») q)) in
+    let a = role-length base s f (roleOf k (f .field) (f .«wire_type»)) (t .0) (t .2) (λ j form b p x q. ih j b p x (sub-rank k j form (f .field) (f .«wire_type») q)) in
     let b = along-length k base s w (t .1) (t .3) ih in
     length-append (roleRows rowsOf base s f (roleOf k (f .field) (f .«wire_type»))) (rowsAlong rowsOf k base s w) ∙ omega (arith, a, b, t .4)
 
-length-to : (d : ℕ) (k : Kind) (base : ℕ) (s : List ℕ) (n : ℕ) → rank k < d → counted k s ≡ Records n → length (rowsOf k base s) ≡ ownOf k + n
-length-to zero k base s n r h = absurd (omega arith)
-length-to (suc d) k base s n r h =
-    let a = along-length k base s (fieldsOf s) n (sym (count-along k s) ∙ h) (λ j b p x q e. length-to d j b p x (omega arith) e) in
-    ap length (rows-along k base s) ∙ length-append (ownRows k base s) (rowsAlong rowsOf k base s (fieldsOf s)) ∙ omega (arith, own-length k base s, a)
-
 pub rows-length : (k : Kind) (base : ℕ) (s : List ℕ) (n : ℕ) → counted k s ≡ Records n → length (rowsOf k base s) ≡ ownOf k + n
-rows-length k base s n h = length-to (suc (rank k)) k base s n (omega arith) h
+rows-length =
+    by-rank (λ k. (base : ℕ) (s : List ℕ) (n : ℕ) → counted k s ≡ Records n → length (rowsOf k base s) ≡ ownOf k + n)
+    (λ k ih base s n h.
+    let a = along-length k base s (fieldsOf s) n (sym (count-along k s) ∙ h) (λ j b p x q e. ih j q b p x e) in
+    ap length (rows-along k base s)
+    ∙ length-append (ownRows k base s) (rowsAlong rowsOf k base s (fieldsOf s))
+    ∙ omega (arith, own-length k base s, a))
 
 -- ---- a record takes twenty words
 pub number-length : (x : Num) → length (numberWords x) ≡ 2

@@ -7,12 +7,10 @@ ghost use lib.Seq.{sets};
 ghost use Rattle.schema.specs.Schema.{ownOf};
 ghost use Rattle.schema.specs.Slots.{noSlots};
 ghost use Rattle.schema.specs.Count.{Within};
-ghost use Rattle.message.specs.Rows.{bareRow, ownRows, rowsOf, fieldRows, kindCode, numberWords, placeWords, placesWords, wordsOf, wordsOfAll, kindFrom, placeFrom, numberFrom, recordAt};
+ghost use Rattle.message.specs.Rows.{bareRow, ownRows, rowsOf, fieldRows, kindCode, numberWords, placeWords, placesWords, wordsOf, wordsOfAll, kindFrom, recordAt};
 ghost use Rattle.message.specs.Decode.{hasControl, decodeAnswer, decodeTable};
 use protobuf::Field;
-use protobuf::MAX_RPC_SIZE;
 use protobuf::Step;
-use protobuf::WIRE_LEN;
 use protobuf::WireError;
 use protobuf::read_field;
 use schema::Counted;
@@ -21,13 +19,13 @@ use schema::Number;
 use schema::Place;
 use schema::Role;
 use schema::Slots;
-use schema::count;
+use schema::body_records;
+use schema::has_field;
+use schema::number_from;
 use schema::own;
+use schema::place_from;
 use schema::role_of;
 use schema::slots_of;
-
-// The most records that a body may have.
-pub const MAX_RECORDS: usize = 512;
 
 // How many words a record takes in the lent table.
 pub const RECORD_WORDS: usize = 20;
@@ -171,12 +169,13 @@ fn write_field(
     let role = role_of(kind, f.field, f.wire_type);
     match role {
         Role::Skip => row,
-        Role::Number => row,
+        Role::Number(_) => row,
         Role::Text(_) => row,
         Role::Bytes(_) => row,
         Role::Topic => write_leaf(Kind::Topic, base + start, base + next, table, row),
         Role::MessageId => write_leaf(Kind::MessageId, base + start, base + next, table, row),
-        Role::Sub(k) => write_message(&input[start..next], k, base + start, table, row),
+        Role::Sub(k, _) => write_message(&input[start..next], k, base + start, table, row),
+        Role::Unsigned(_) => row,
     }
 }
 
@@ -259,27 +258,7 @@ fn write_message(input: &[u8], kind: Kind, base: usize, table: &mut [u64], row: 
 pub fn has_control(body: &[u8]) -> bool
     ensures { λ r. ⌜ r ≡ hasControl (now (body .entry)) ⌝ }
 {
-    let mut at: usize = 0;
-    while at < body.len() {
-        let step = read_field(body, at);
-        match step {
-            Step::End => {
-                return false;
-            }
-            Step::Refused(_) => {
-                return false;
-            }
-            Step::At(f) => {
-                if f.field == 3 {
-                    if f.wire_type == WIRE_LEN {
-                        return true;
-                    }
-                }
-                at = f.next;
-            }
-        }
-    }
-    false
+    has_field(body, 3)
 }
 
 // Reads a body: its records go to the lent table, from its first row on. A refusal leaves the table as it was.
@@ -287,16 +266,10 @@ pub fn decode(body: &[u8], table: &mut [u64]) -> Decoded
     ensures { λ r. ⌜ r ≡ decodeAnswer (now (body .entry)) (length (now (table .entry))) ⌝ }
     ensures { λ _. ⌜ now (table .exit) ≡ decodeTable (now (body .entry)) (now (table .entry)) ⌝ }
 {
-    if MAX_RPC_SIZE < body.len() {
-        return Decoded::Refused(WireError::TooLarge { len: body.len() });
-    }
-    let c = count(body, Kind::Rpc);
+    let c = body_records(body);
     match c {
         Counted::Refused(why) => Decoded::Refused(why),
         Counted::Records(n) => {
-            if MAX_RECORDS < n {
-                return Decoded::Refused(WireError::TooManyRecords { records: n });
-            }
             if table.len() / RECORD_WORDS < n {
                 return Decoded::Room(n);
             }
@@ -342,27 +315,6 @@ fn kind_from(code: u64) -> Kind
         return Kind::PeerInfo;
     }
     Kind::Rpc
-}
-
-fn place_from(present: u64, start: u64, end: u64) -> Place
-    ensures { λ r. ⌜ r ≡ placeFrom present start end ⌝ }
-{
-    if present == 0 {
-        return Place::Absent;
-    }
-    Place::Present {
-        start: start as usize,
-        end: end as usize,
-    }
-}
-
-fn number_from(present: u64, value: u64) -> Number
-    ensures { λ r. ⌜ r ≡ numberFrom present value ⌝ }
-{
-    if present == 0 {
-        return Number::Absent;
-    }
-    Number::Present(value)
 }
 
 // The record at a row of a table, for the host; nothing where the table has no such row.

@@ -22,7 +22,7 @@ use Rattle.protobuf.specs.Walk.{between}
 use Rattle.protobuf.specs.Encode.{bytesField}
 use Rattle.rpc.specs.Encode.{repeated}
 use Rattle.encode.specs.Puts.{Puts}
-use Rattle.ids.specs.Ids.{acceptOf}
+use Rattle.schema.specs.Accept.{acceptOf}
 use Rattle.parts.specs.Parts.{partAt, partsIn, Parts, atPath, once, fitting}
 use Rattle.parts.specs.PartsLaws.{length-parts, parts-from, parts-end, parts-take, no-parts, parts-none, fitting-room}
 use Rattle.mcache.specs.declared.MessageCache.{MessageCache}

@@ -24,7 +24,7 @@ use Rattle.rpc.specs.Rpc.{RawMessage, Rpc}
 use Rattle.rpc.specs.Grammar.{Each, none-left, _and_}
 use Rattle.rpc.specs.Encode.{repeated, encodeRpc}
 use Rattle.meaning.specs.Size.{recordsIn}
-use Rattle.ids.specs.Ids.{acceptOf}
+use Rattle.schema.specs.Accept.{acceptOf}
 use Rattle.encode.specs.Canon.{canonBody}
 use Rattle.canonical.specs.Written.{canon-written}
 use Rattle.canonical.specs.Canonical.{Within}

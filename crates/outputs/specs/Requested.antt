@@ -16,7 +16,7 @@ use Rattle.protobuf.specs.EncodeLaws.{bytes-field-length}
 use Rattle.rpc.specs.Rpc.{ControlIHave, ControlMessage, Rpc}
 use Rattle.rpc.specs.Encode.{optional, repeated, encodeIHave, encodeIWant, encodeSubOpts, encodeGraft, encodePrune, encodeControl, encodeRpc}
 use Rattle.meaning.specs.Size.{sumOf, recordsIn}
-use Rattle.ids.specs.Ids.{acceptOf}
+use Rattle.schema.specs.Accept.{acceptOf}
 use Rattle.encode.specs.Canon.{canonBody}
 use Rattle.canonical.specs.Lengths.{bytes-field-mono}
 use Rattle.canonical.specs.Shorter.{repeated-append, field-sum, never-longer}

@@ -33,7 +33,7 @@ use Rattle.schema.specs.declared.Counted.the-variants.{Records, Refused}
 use Rattle.schema.specs.Schema.{roleOf, ownOf}
 use Rattle.schema.specs.Count.{roleCount, countAlong, counted}
 use Rattle.schema.specs.CountLaws.{count-along, plus-fits, then-fits}
-use Rattle.ids.specs.Ids.{onCounted, acceptOf}
+use Rattle.schema.specs.Accept.{acceptOf}
 use Rattle.parts.specs.Parts.{partAt, partsIn, Parts, valuesAlong, inEach, atPath, onceAfter, once, fitting}
 
 -- ---- the parts one by one

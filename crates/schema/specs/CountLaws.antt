@@ -1,10 +1,9 @@
--- Laws of counting: a submessage's kind ranks lower, so the depth does not matter; and a message has no more records than bytes.
-use Prim.Native.Nat.{ℕ, zero, suc, _+_, _-_, _≤_, _<_}
+-- Laws of counting: along a message's fields, and in its submessages in the same way; and a message has no more records than bytes.
+use Prim.Native.Nat.{ℕ, _+_, _-_, _≤_, _<_}
 use mathlib.Core.Path.{_≡_, refl, sym, ap, ap₂, _∙_}
 use mathlib.Core.List.{List}
 use native.Mathlib.Omega.{arith}
 use lib.ListN.{length, drop, length-take}
-use lib.Dec.{eqb}
 use Rattle.basis.specs.Cases.{either, clash}
 use Rattle.utf8.specs.Utf8.{isUtf8}
 use Rattle.protobuf.specs.declared.Field.{Field}
@@ -13,86 +12,38 @@ use Rattle.protobuf.specs.Walk.{Fields, end, refused, _then_, walkAt, fieldsOf,
 use Rattle.protobuf.specs.WalkLaws.{along}
 use Rattle.schema.specs.declared.Kind.{Kind}
 use Rattle.schema.specs.declared.Kind.the-variants as kind
+use Rattle.schema.specs.declared.Form.{Form}
 use Rattle.schema.specs.declared.Role.{Role}
-use Rattle.schema.specs.declared.Role.the-variants.{Skip, Number, Text, Bytes, Topic, MessageId, Sub}
+use Rattle.schema.specs.declared.Role.the-variants.{Skip, Number, Text, Bytes, Unsigned, Topic, MessageId, Sub}
 use Rattle.schema.specs.declared.Counted.{Counted}
 use Rattle.schema.specs.declared.Counted.the-variants.{Records, Refused}
-use Rattle.schema.specs.Schema.{lenRole, varintField, roleOf, rank, ownOf}
-use Rattle.schema.specs.Count.{plus, andThen, textCount, roleCount, countAlong, countTo, counted, fieldCount}
+use Rattle.schema.specs.Schema.{roleOf, rank, ownOf}
+use Rattle.schema.specs.SchemaLaws.{sub-rank}
+use Rattle.schema.specs.Kinds.{unfolds, by-rank}
+use Rattle.schema.specs.Count.{plus, andThen, textCount, roleCount, countAlong, countStep, counted, fieldCount}
 
--- ---- a submessage's kind ranks lower
-len-rank : (k j : Kind) (n : ℕ) → lenRole k n ≡ Sub j → rank j < rank k
-unfolding rank
-len-rank kind.Rpc j n h =
-    either (eqb n 1) (λ a. let e = simp a at h in let p : j ≡ kind.SubOpts = cc in rw p (omega arith))
-    (λ a. either (eqb n 2) (λ b. let e = simp (a, b) at h in let p : j ≡ kind.RawMessage = cc in rw p (omega arith))
-    (λ b. either (eqb n 3) (λ c. let e = simp (a, b, c) at h in let p : j ≡ kind.ControlMessage = cc in rw p (omega arith))
-    (λ c. clash (let e = simp (a, b, c) at h in cc))))
-len-rank kind.SubOpts j n h = either (eqb n 2) (λ a. clash (let e = simp a at h in cc)) (λ a. clash (let e = simp a at h in cc))
-len-rank kind.RawMessage j n h =
-    either (eqb n 1) (λ a. clash (let e = simp a at h in cc))
-    (λ a. either (eqb n 2) (λ b. clash (let e = simp (a, b) at h in cc))
-    (λ b. either (eqb n 3) (λ c. clash (let e = simp (a, b, c) at h in cc))
-    (λ c. either (eqb n 4) (λ d. clash (let e = simp (a, b, c, d) at h in cc))
-    (λ d. either (eqb n 5) (λ x. clash (let e = simp (a, b, c, d, x) at h in cc))
-    (λ x. either (eqb n 6) (λ y. clash (let e = simp (a, b, c, d, x, y) at h in cc)) (λ y. clash (let e = simp (a, b, c, d, x, y) at h in cc)))))))
-len-rank kind.Topic j n h = clash (cc)
-len-rank kind.ControlMessage j n h =
-    either (eqb n 1) (λ a. let e = simp a at h in let p : j ≡ kind.ControlIHave = cc in rw p (omega arith))
-    (λ a. either (eqb n 2) (λ b. let e = simp (a, b) at h in let p : j ≡ kind.ControlIWant = cc in rw p (omega arith))
-    (λ b. either (eqb n 3) (λ c. let e = simp (a, b, c) at h in let p : j ≡ kind.ControlGraft = cc in rw p (omega arith))
-    (λ c. either (eqb n 4) (λ d. let e = simp (a, b, c, d) at h in let p : j ≡ kind.ControlPrune = cc in rw p (omega arith))
-    (λ d. clash (let e = simp (a, b, c, d) at h in cc)))))
-len-rank kind.ControlIHave j n h =
-    either (eqb n 1) (λ a. clash (let e = simp a at h in cc))
-    (λ a. either (eqb n 2) (λ b. clash (let e = simp (a, b) at h in cc)) (λ b. clash (let e = simp (a, b) at h in cc)))
-len-rank kind.ControlIWant j n h = either (eqb n 1) (λ a. clash (let e = simp a at h in cc)) (λ a. clash (let e = simp a at h in cc))
-len-rank kind.MessageId j n h = clash (cc)
-len-rank kind.ControlGraft j n h = either (eqb n 1) (λ a. clash (let e = simp a at h in cc)) (λ a. clash (let e = simp a at h in cc))
-len-rank kind.ControlPrune j n h =
-    either (eqb n 1) (λ a. clash (let e = simp a at h in cc))
-    (λ a. either (eqb n 2) (λ b. let e = simp (a, b) at h in let p : j ≡ kind.PeerInfo = cc in rw p (omega arith))
-    (λ b. clash (let e = simp (a, b) at h in cc)))
-len-rank kind.PeerInfo j n h =
-    either (eqb n 1) (λ a. clash (let e = simp a at h in cc))
-    (λ a. either (eqb n 2) (λ b. clash (let e = simp (a, b) at h in cc)) (λ b. clash (let e = simp (a, b) at h in cc)))
-
-pub sub-rank : (k j : Kind) (n type : ℕ) → roleOf k n type ≡ Sub j → rank j < rank k
-unfolding roleOf
-sub-rank k j n type h =
-    either (eqb type 2) (λ a. len-rank k j n (simp a at h))
-    (λ a. either (eqb type 0) (λ b. either (eqb n (varintField k)) (λ c. clash (let e = simp (a, b, c) at h in cc)) (λ c. clash (let e = simp (a, b, c) at h in cc)))
-    (λ b. clash (let e = simp (a, b) at h in cc)))
-
--- ---- the depth does not matter
-same-role : (f g : Kind → List ℕ → Counted) (s : List ℕ) (x : Field) (r : Role) → ((j : Kind) (p : List ℕ) → r ≡ Sub j → f j p ≡ g j p) → roleCount f s x r ≡ roleCount g s x r
+-- ---- counting in a message: along its fields, and in its submessages in the same way
+same-role : (f g : Kind → List ℕ → Counted) (s : List ℕ) (x : Field) (r : Role) → ((j : Kind) (form : Form) (p : List ℕ) → r ≡ Sub j form → f j p ≡ g j p) → roleCount f s x r ≡ roleCount g s x r
 same-role f g s x Skip h = refl
-same-role f g s x Number h = refl
+same-role f g s x (Number figure) h = refl
 same-role f g s x (Text slot) h = refl
 same-role f g s x (Bytes slot) h = refl
+same-role f g s x (Unsigned slot) h = refl
 same-role f g s x Topic h = refl
 same-role f g s x MessageId h = refl
-same-role f g s x (Sub k) h = ap (plus (ownOf k)) (h k (between s (x .start) (x .next)) refl)
+same-role f g s x (Sub k form) h = ap (plus (ownOf k)) (h k form (between s (x .start) (x .next)) refl)
 
 same-along : (f g : Kind → List ℕ → Counted) (k : Kind) (s : List ℕ) (w : Fields) → ((j : Kind) (p : List ℕ) → rank j < rank k → f j p ≡ g j p) → countAlong f k s w ≡ countAlong g k s w
 same-along f g k s end h = refl
 same-along f g k s (refused why) h = refl
 same-along f g k s (x then w) h =
-    ap₂ andThen (same-role f g s x (roleOf k (x .field) (x .«wire_type»)) (λ j p e. h j p (sub-rank k j (x .field) (x .«wire_type») e))) (same-along f g k s w h)
+    ap₂ andThen
+    (same-role f g s x (roleOf k (x .field) (x .«wire_type»)) (λ j form p e. h j p (sub-rank k j form (x .field) (x .«wire_type») e)))
+    (same-along f g k s w h)
 
-deep : (d e : ℕ) (k : Kind) (s : List ℕ) → rank k ≤ d → rank k ≤ e → countTo d k s ≡ countTo e k s
-unfolding countTo
-deep zero zero k s p q = refl
-deep zero (suc e) k s p q = same-along (λ j p. Records 0) (countTo e) k s (fieldsOf s) (λ j x h. absurd (omega arith))
-deep (suc d) zero k s p q = same-along (countTo d) (λ j p. Records 0) k s (fieldsOf s) (λ j x h. absurd (omega arith))
-deep (suc d) (suc e) k s p q = same-along (countTo d) (countTo e) k s (fieldsOf s) (λ j x h. deep d e j x (omega arith) (omega arith))
-
--- counting in a message: along its fields, and in its submessages in the same way
 pub count-along : (k : Kind) (s : List ℕ) → counted k s ≡ countAlong counted k s (fieldsOf s)
-unfolding counted countTo
-count-along k s =
-    deep (rank k) (suc (rank k)) k s (omega arith) (omega arith)
-    ∙ same-along (countTo (rank k)) counted k s (fieldsOf s) (λ j x h. deep (rank k) (rank j) j x (omega arith) (omega arith))
+unfolding counted
+count-along k s = unfolds countStep (Records 0) (λ f g j p h. same-along f g j p (fieldsOf p) h) k s
 
 -- ---- a message has no more records than bytes
 pub own-one : (k : Kind) → ownOf k ≤ 1
@@ -118,16 +69,17 @@ pub plus-fits : (n m : ℕ) (r : Counted) → plus n r ≡ Records m → (x : �
 plus-fits n m (Records x) h = (x, refl, cc)
 plus-fits n m (Refused why) h = clash (cc)
 
-role-fits : (s : List ℕ) (at : ℕ) (f : Field) (r : Role) (sub : Kind → List ℕ → Counted) (m : ℕ) → Stands s at f → roleCount sub s f r ≡ Records m → ((j : Kind) (p : List ℕ) (x : ℕ) → r ≡ Sub j → sub j p ≡ Records x → x ≤ length p) → m ≤ f .next - at
+role-fits : (s : List ℕ) (at : ℕ) (f : Field) (r : Role) (sub : Kind → List ℕ → Counted) (m : ℕ) → Stands s at f → roleCount sub s f r ≡ Records m → ((j : Kind) (form : Form) (p : List ℕ) (x : ℕ) → r ≡ Sub j form → sub j p ≡ Records x → x ≤ length p) → m ≤ f .next - at
 role-fits s at f Skip sub m st h ih = let e : m ≡ 0 = cc in omega arith
-role-fits s at f Number sub m st h ih = let e : m ≡ 0 = cc in omega arith
+role-fits s at f (Number figure) sub m st h ih = let e : m ≡ 0 = cc in omega arith
 role-fits s at f (Text slot) sub m st h ih = let e = text-fits s f 0 m h in omega arith
 role-fits s at f (Bytes slot) sub m st h ih = let e : m ≡ 0 = cc in omega arith
+role-fits s at f (Unsigned slot) sub m st h ih = let e : m ≡ 0 = cc in omega arith
 role-fits s at f Topic sub m st h ih = let e = text-fits s f 1 m h in omega arith
 role-fits s at f MessageId sub m st h ih = let e : m ≡ 1 = cc in omega arith
-role-fits s at f (Sub k) sub m st h ih =
+role-fits s at f (Sub k form) sub m st h ih =
     let t = plus-fits (ownOf k) m (sub k (between s (f .start) (f .next))) h in
-    let l = ih k (between s (f .start) (f .next)) (t .0) refl (t .1) in
+    let l = ih k form (between s (f .start) (f .next)) (t .0) refl (t .1) in
     let g : length (between s (f .start) (f .next)) ≤ f .next - f .start = rw (length-take (f .next - f .start) (drop (f .start) s)) (omega arith) in
     let o = own-one k in
     omega (arith, t .2)
@@ -145,18 +97,16 @@ walk-fits k s ih =
     (λ at why r n h. clash (cc))
     (λ at f st e rest n h.
     let t = then-fits (roleCount counted s f (roleOf k (f .field) (f .«wire_type»))) (countAlong counted k s (walkAt s (f .next))) n h in
-    let a = role-fits s at f (roleOf k (f .field) (f .«wire_type»)) counted (t .0) st (t .2) (λ j p x q. ih j p x (sub-rank k j (f .field) (f .«wire_type») q)) in
+    let a = role-fits s at f (roleOf k (f .field) (f .«wire_type»)) counted (t .0) st (t .2) (λ j form p x q. ih j p x (sub-rank k j form (f .field) (f .«wire_type») q)) in
     let b = rest (t .1) (t .3) in
     omega (arith, t .4))
 
-fits-to : (d : ℕ) (k : Kind) (s : List ℕ) (n : ℕ) → rank k < d → counted k s ≡ Records n → n ≤ length s
-fits-to zero k s n r h = absurd (omega arith)
-fits-to (suc d) k s n r h = let l = walk-fits k s (λ j p x q e. fits-to d j p x (omega arith) e) 0 n (sym (count-along k s) ∙ h) in omega arith
-
 pub count-fits : (k : Kind) (s : List ℕ) (n : ℕ) → counted k s ≡ Records n → n ≤ length s
-count-fits k s n h = fits-to (suc (rank k)) k s n (omega arith) h
+count-fits =
+    by-rank (λ k. (s : List ℕ) (n : ℕ) → counted k s ≡ Records n → n ≤ length s)
+    (λ k ih s n h. let l = walk-fits k s (λ j p x q e. ih j q p x e) 0 n (sym (count-along k s) ∙ h) in omega arith)
 
 -- a field has no more records than bytes, its tag counted
 pub field-fits : (k : Kind) (s : List ℕ) (at : ℕ) (f : Field) (m : ℕ) → Stands s at f → fieldCount k s f ≡ Records m → m ≤ f .next - at
 unfolding fieldCount
-field-fits k s at f m st h = role-fits s at f (roleOf k (f .field) (f .«wire_type»)) counted m st h (λ j p x q e. count-fits j p x e)
+field-fits k s at f m st h = role-fits s at f (roleOf k (f .field) (f .«wire_type»)) counted m st h (λ j form p x q e. count-fits j p x e)

@@ -1,6 +1,10 @@
 pub mod Schema
+pub mod Kinds
 pub mod Count
+pub mod Accept
 pub mod Slots
 pub mod Made
+pub mod SchemaLaws
 pub mod CountLaws
+pub mod AcceptLaws
 pub mod SlotsLaws

@@ -1,53 +1,81 @@
--- The gossipsub protobuf as a table: what a field is, by the message that it stands in, its number and its wire type. A known field with
--- another type, and an unknown field, are passed over.
-use Prim.Native.Nat.{ℕ}
-use mathlib.Core.Bool.{cond}
+-- The gossipsub protobuf as a table: for each message the roles of its fields 1, 2, 3 and so on. A field is known by its number and its wire
+-- type; a known field with another type, and an unknown field, are passed over.
+use Prim.Native.Nat.{ℕ, _+_}
+use mathlib.Core.Bool.{Bool, true, false, cond}
+use mathlib.Core.List.{List, [], _∷_}
 use lib.Dec.{eqb}
 use Rattle.schema.specs.declared.Kind.{Kind}
 use Rattle.schema.specs.declared.Kind.the-variants as kind
+use Rattle.schema.specs.declared.Figure.the-variants.{Exact, Flag}
+use Rattle.schema.specs.declared.Form.{Form}
+use Rattle.schema.specs.declared.Form.the-variants.{Anew, Whole, Merged}
+use Rattle.schema.specs.declared.Held.{Held}
+use Rattle.schema.specs.declared.Held.the-variants as held
 use Rattle.schema.specs.declared.Role.{Role}
-use Rattle.schema.specs.declared.Role.the-variants.{Skip, Number, Text, Bytes, Topic, MessageId, Sub}
+use Rattle.schema.specs.declared.Role.the-variants.{Skip, Number, Text, Bytes, Unsigned, Topic, MessageId, Sub}
 
--- the roles of length-delimited fields
+-- the fields of a message in rising order, from 1 on
+abbrev pub table : Kind → List Role
+table kind.Rpc = Sub kind.SubOpts Anew ∷ Sub kind.RawMessage Whole ∷ Sub kind.ControlMessage Merged ∷ []
+table kind.SubOpts = Number Flag ∷ Text 1 ∷ []
+table kind.RawMessage = Bytes 1 ∷ Bytes 2 ∷ Bytes 3 ∷ Topic ∷ Unsigned 4 ∷ Unsigned 5 ∷ []
+table kind.Topic = []
+table kind.ControlMessage =
+    Sub kind.ControlIHave Anew
+    ∷ Sub kind.ControlIWant Anew
+    ∷ Sub kind.ControlGraft Anew
+    ∷ Sub kind.ControlPrune Anew
+    ∷ []
+table kind.ControlIHave = Text 1 ∷ MessageId ∷ []
+table kind.ControlIWant = MessageId ∷ []
+table kind.MessageId = []
+table kind.ControlGraft = Text 1 ∷ []
+table kind.ControlPrune = Text 1 ∷ Sub kind.PeerInfo Anew ∷ Number Exact ∷ []
+table kind.PeerInfo = Bytes 1 ∷ Bytes 2 ∷ []
+
+-- the role of field n, where the first of the rows is field i
+abbrev pub rowFrom : ℕ → List Role → ℕ → Role
+rowFrom i [] n = Skip
+rowFrom i (r ∷ rs) n = cond (eqb n i) r (rowFrom (i + 1) rs n)
+
+abbrev pub rowOf : Kind → ℕ → Role
+rowOf k n = rowFrom 1 (table k) n
+
+-- whether a role is a varint's; all others are of length-delimited fields
+abbrev pub isVarint : Role → Bool
+isVarint Skip = false
+isVarint (Number figure) = true
+isVarint (Text slot) = false
+isVarint (Bytes slot) = false
+isVarint (Unsigned slot) = false
+isVarint Topic = false
+isVarint MessageId = false
+isVarint (Sub k form) = false
+
 abbrev pub lenRole : Kind → ℕ → Role
-lenRole kind.Rpc n = cond (eqb n 1) (Sub kind.SubOpts) (cond (eqb n 2) (Sub kind.RawMessage) (cond (eqb n 3) (Sub kind.ControlMessage) Skip))
-lenRole kind.SubOpts n = cond (eqb n 2) (Text 1) Skip
-lenRole kind.RawMessage n =
-    cond (eqb n 1) (Bytes 1)
-    (cond (eqb n 2) (Bytes 2)
-    (cond (eqb n 3) (Bytes 3)
-    (cond (eqb n 4) Topic
-    (cond (eqb n 5) (Bytes 4)
-    (cond (eqb n 6) (Bytes 5) Skip)))))
-lenRole kind.Topic n = Skip
-lenRole kind.ControlMessage n =
-    cond (eqb n 1) (Sub kind.ControlIHave)
-    (cond (eqb n 2) (Sub kind.ControlIWant)
-    (cond (eqb n 3) (Sub kind.ControlGraft)
-    (cond (eqb n 4) (Sub kind.ControlPrune) Skip)))
-lenRole kind.ControlIHave n = cond (eqb n 1) (Text 1) (cond (eqb n 2) MessageId Skip)
-lenRole kind.ControlIWant n = cond (eqb n 1) MessageId Skip
-lenRole kind.MessageId n = Skip
-lenRole kind.ControlGraft n = cond (eqb n 1) (Text 1) Skip
-lenRole kind.ControlPrune n = cond (eqb n 1) (Text 1) (cond (eqb n 2) (Sub kind.PeerInfo) Skip)
-lenRole kind.PeerInfo n = cond (eqb n 1) (Bytes 1) (cond (eqb n 2) (Bytes 2) Skip)
+lenRole k n = cond (isVarint (rowOf k n)) Skip (rowOf k n)
 
--- the number of the message's varint field, 0 where it has none
-abbrev pub varintField : Kind → ℕ
-varintField kind.Rpc = 0
-varintField kind.SubOpts = 1
-varintField kind.RawMessage = 0
-varintField kind.Topic = 0
-varintField kind.ControlMessage = 0
-varintField kind.ControlIHave = 0
-varintField kind.ControlIWant = 0
-varintField kind.MessageId = 0
-varintField kind.ControlGraft = 0
-varintField kind.ControlPrune = 3
-varintField kind.PeerInfo = 0
+abbrev pub numberRole : Kind → ℕ → Role
+numberRole k n = cond (isVarint (rowOf k n)) (rowOf k n) Skip
 
 unfoldable pub roleOf : Kind → ℕ → ℕ → Role
-roleOf k n type = cond (eqb type 2) (lenRole k n) (cond (eqb type 0) (cond (eqb n (varintField k)) Number Skip) Skip)
+roleOf k n type = cond (eqb type 2) (lenRole k n) (cond (eqb type 0) (numberRole k n) Skip)
+
+-- how the entries of a field are written
+abbrev pub formedAs : Kind → Form → Held
+formedAs k Anew = held.Anew k
+formedAs k Whole = held.Whole
+formedAs k Merged = held.Merged k
+
+abbrev pub heldOf : Role → Held
+heldOf Skip = held.Nothing
+heldOf (Number figure) = held.Nothing
+heldOf (Text slot) = held.Nothing
+heldOf (Bytes slot) = held.Nothing
+heldOf (Unsigned slot) = held.Nothing
+heldOf Topic = held.Whole
+heldOf MessageId = held.Whole
+heldOf (Sub k form) = formedAs k form
 
 -- how deep submessages can stand in a message
 unfoldable pub rank : Kind → ℕ

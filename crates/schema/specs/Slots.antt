@@ -1,13 +1,13 @@
--- The singular fields of a message: the last wins. Places are counted from the start of the message's own bytes.
+-- The singular fields of a message: the last wins. Places are counted from the start of the message's own bytes. And whether a field is there.
 use Prim.Native.Nat.{ℕ}
 use mathlib.Core.List.{List}
-use mathlib.Core.Bool.{cond}
+use mathlib.Core.Bool.{Bool, false, cond, _||_}
 use lib.Dec.{eqb}
 use Rattle.protobuf.specs.declared.Field.{Field}
-use Rattle.protobuf.specs.Walk.{Fields, end, refused, _then_, fieldsOf}
+use Rattle.protobuf.specs.Walk.{Fields, end, refused, _then_, fieldsOf, isBytes}
 use Rattle.schema.specs.declared.Kind.{Kind}
 use Rattle.schema.specs.declared.Role.{Role}
-use Rattle.schema.specs.declared.Role.the-variants.{Skip, Number, Text, Bytes, Topic, MessageId, Sub}
+use Rattle.schema.specs.declared.Role.the-variants.{Skip, Number, Text, Bytes, Unsigned, Topic, MessageId, Sub}
 use Rattle.schema.specs.declared.Place.{Place}
 use Rattle.schema.specs.declared.Place.the-variants as place
 use Rattle.schema.specs.declared.Number.the-variants as number
@@ -42,12 +42,13 @@ placeOf f = place.Present (f .start) (f .next)
 
 abbrev pub roleSlots : Slots → Field → Role → Slots
 roleSlots t f Skip = t
-roleSlots t f Number = setNumber t (f .value)
+roleSlots t f (Number figure) = setNumber t (f .value)
 roleSlots t f (Text slot) = setPlace t slot (placeOf f)
 roleSlots t f (Bytes slot) = setPlace t slot (placeOf f)
+roleSlots t f (Unsigned slot) = setPlace t slot (placeOf f)
 roleSlots t f Topic = t
 roleSlots t f MessageId = t
-roleSlots t f (Sub k) = t
+roleSlots t f (Sub k form) = t
 
 unfoldable pub withField : Kind → Slots → Field → Slots
 withField k t f = roleSlots t f (roleOf k (f .field) (f .«wire_type»))
@@ -59,3 +60,12 @@ slotsAlong k t (f then w) = slotsAlong k (withField k t f) w
 
 unfoldable pub slotsOf : Kind → List ℕ → Slots
 slotsOf k s = slotsAlong k noSlots (fieldsOf s)
+
+-- a length-delimited field n is there
+abbrev pub hasAlong : ℕ → Fields → Bool
+hasAlong n end = false
+hasAlong n (refused why) = false
+hasAlong n (f then w) = isBytes n f || hasAlong n w
+
+unfoldable pub hasField : ℕ → List ℕ → Bool
+hasField n s = hasAlong n (fieldsOf s)

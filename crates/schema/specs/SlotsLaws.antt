@@ -12,7 +12,7 @@ use Rattle.protobuf.specs.Walk.{Fields, walkAt}
 use Rattle.protobuf.specs.WalkLaws.{along}
 use Rattle.schema.specs.declared.Kind.{Kind}
 use Rattle.schema.specs.declared.Role.{Role}
-use Rattle.schema.specs.declared.Role.the-variants.{Skip, Number, Text, Bytes, Topic, MessageId, Sub}
+use Rattle.schema.specs.declared.Role.the-variants.{Skip, Number, Text, Bytes, Unsigned, Topic, MessageId, Sub}
 use Rattle.schema.specs.declared.Place.{Place}
 use Rattle.schema.specs.declared.Place.the-variants as place
 use Rattle.schema.specs.declared.Slots.{Slots}
@@ -56,12 +56,13 @@ field-inside s at f st a e h = let p : f .start ≡ a = cc in let q : f .next �
 
 role-good : (s : List ℕ) (at : ℕ) (f : Field) (t : Slots) (r : Role) → Stands s at f → Good s t → Good s (roleSlots t f r)
 role-good s at f t Skip st g = g
-role-good s at f t Number st g = record { first = g .first; second = g .second; third = g .third; fourth = g .fourth; fifth = g .fifth }
+role-good s at f t (Number figure) st g = record { first = g .first; second = g .second; third = g .third; fourth = g .fourth; fifth = g .fifth }
 role-good s at f t (Text slot) st g = set-good s t slot (placeOf f) g (field-inside s at f st)
 role-good s at f t (Bytes slot) st g = set-good s t slot (placeOf f) g (field-inside s at f st)
+role-good s at f t (Unsigned slot) st g = set-good s t slot (placeOf f) g (field-inside s at f st)
 role-good s at f t Topic st g = g
 role-good s at f t MessageId st g = g
-role-good s at f t (Sub k) st g = g
+role-good s at f t (Sub k form) st g = g
 
 good-along : (k : Kind) (s : List ℕ) (at : ℕ) (t : Slots) → Good s t → Good s (slotsAlong k t (walkAt s at))
 unfolding withField

@@ -2,16 +2,23 @@
 // where its singular fields stand. One walk over the fields serves every message.
 ghost use Prim.Native.Nat.{_<_};
 ghost use mathlib.Core.Path.{_≡_};
-ghost use Rattle.schema.specs.Schema.{lenRole, varintField, roleOf, ownOf};
+ghost use lib.ListN.{length};
+ghost use Rattle.schema.specs.Schema.{table, rowOf, isVarint, roleOf, formedAs, heldOf, ownOf};
+ghost use Rattle.schema.specs.Accept.{bodyRecords, acceptOf};
 ghost use Rattle.schema.specs.Count.{Within, counted, fieldCount, textCount};
-ghost use Rattle.schema.specs.Slots.{setPlace, placeOf, withField, slotsOf};
+ghost use Rattle.schema.specs.Slots.{setPlace, placeOf, withField, slotsOf, hasField};
 ghost use Rattle.schema.specs.Made.{placeFrom, numberFrom, madeFrom, indexOf, Sixes};
+use protobuf::Checked;
 use protobuf::Field;
+use protobuf::MAX_RPC_SIZE;
 use protobuf::Step;
 use protobuf::WIRE_LEN;
 use protobuf::WIRE_VARINT;
 use protobuf::WireError;
 use protobuf::read_field;
+
+// The most records that a body may have.
+pub const MAX_RECORDS: usize = 512;
 
 // The messages of the gossipsub protobuf, and the two other kinds of record: a topic of a message and a message id.
 pub enum Kind {
@@ -28,16 +35,38 @@ pub enum Kind {
     PeerInfo,
 }
 
-// What a field of a message is, by its number and wire type. A singular field of bytes or text has a slot of its message's record, 1 to 5;
-// the singular number, which a message has at most one of, has its own.
+// How a number is written: as it is, or as 1 wherever it is not 0.
+pub enum Figure {
+    Exact,
+    Flag,
+}
+
+// How a submessage is written: anew, in its canonical bytes; whole, as it stands; or merged, all of its kind as one.
+pub enum Form {
+    Anew,
+    Whole,
+    Merged,
+}
+
+// What a field of a message is. A singular field of bytes or text has a slot of its message's record, 1 to 5; the singular number, which a
+// message has at most one of, has its own. Unsigned bytes are read like others, and are no part of the bytes that are signed.
 pub enum Role {
     Skip,
-    Number,
+    Number(Figure),
     Text(u8),
     Bytes(u8),
+    Unsigned(u8),
     Topic,
     MessageId,
-    Sub(Kind),
+    Sub(Kind, Form),
+}
+
+// How the entries of a repeated field are written: not at all, each as it stands, each anew, or all as one.
+pub enum Held {
+    Nothing,
+    Whole,
+    Anew(Kind),
+    Merged(Kind),
 }
 
 // An optional field: where its bytes stand, or that it is absent.
@@ -68,24 +97,27 @@ pub enum Counted {
     Refused(WireError),
 }
 
-// The role of a length-delimited field.
-fn len_role(kind: Kind, field: u64) -> Role
-    ensures { λ r. ⌜ r ≡ lenRole kind field ⌝ }
+// The role of a message's field, by its number: the table of messages.
+pub fn row_of(kind: Kind, field: u64) -> Role
+    ensures { λ r. ⌜ r ≡ rowOf kind field ⌝ }
 {
     match kind {
         Kind::Rpc => {
             if field == 1 {
-                return Role::Sub(Kind::SubOpts);
+                return Role::Sub(Kind::SubOpts, Form::Anew);
             }
             if field == 2 {
-                return Role::Sub(Kind::RawMessage);
+                return Role::Sub(Kind::RawMessage, Form::Whole);
             }
             if field == 3 {
-                return Role::Sub(Kind::ControlMessage);
+                return Role::Sub(Kind::ControlMessage, Form::Merged);
             }
             Role::Skip
         }
         Kind::SubOpts => {
+            if field == 1 {
+                return Role::Number(Figure::Flag);
+            }
             if field == 2 {
                 return Role::Text(1);
             }
@@ -105,26 +137,26 @@ fn len_role(kind: Kind, field: u64) -> Role
                 return Role::Topic;
             }
             if field == 5 {
-                return Role::Bytes(4);
+                return Role::Unsigned(4);
             }
             if field == 6 {
-                return Role::Bytes(5);
+                return Role::Unsigned(5);
             }
             Role::Skip
         }
         Kind::Topic => Role::Skip,
         Kind::ControlMessage => {
             if field == 1 {
-                return Role::Sub(Kind::ControlIHave);
+                return Role::Sub(Kind::ControlIHave, Form::Anew);
             }
             if field == 2 {
-                return Role::Sub(Kind::ControlIWant);
+                return Role::Sub(Kind::ControlIWant, Form::Anew);
             }
             if field == 3 {
-                return Role::Sub(Kind::ControlGraft);
+                return Role::Sub(Kind::ControlGraft, Form::Anew);
             }
             if field == 4 {
-                return Role::Sub(Kind::ControlPrune);
+                return Role::Sub(Kind::ControlPrune, Form::Anew);
             }
             Role::Skip
         }
@@ -155,7 +187,10 @@ fn len_role(kind: Kind, field: u64) -> Role
                 return Role::Text(1);
             }
             if field == 2 {
-                return Role::Sub(Kind::PeerInfo);
+                return Role::Sub(Kind::PeerInfo, Form::Anew);
+            }
+            if field == 3 {
+                return Role::Number(Figure::Exact);
             }
             Role::Skip
         }
@@ -171,39 +206,86 @@ fn len_role(kind: Kind, field: u64) -> Role
     }
 }
 
-// The number of the message's varint field, 0 where it has none.
-pub fn varint_field(kind: Kind) -> u64
-    ensures { λ r. ⌜ r ≡ varintField kind ⌝ }
+// How many fields a message has in the table: 1 up to that number.
+pub fn rows(kind: Kind) -> u64
+    ensures { λ r. ⌜ r ≡ length (table kind) ⌝ }
 {
     match kind {
-        Kind::Rpc => 0,
-        Kind::SubOpts => 1,
-        Kind::RawMessage => 0,
+        Kind::Rpc => 3,
+        Kind::SubOpts => 2,
+        Kind::RawMessage => 6,
         Kind::Topic => 0,
-        Kind::ControlMessage => 0,
-        Kind::ControlIHave => 0,
-        Kind::ControlIWant => 0,
+        Kind::ControlMessage => 4,
+        Kind::ControlIHave => 2,
+        Kind::ControlIWant => 1,
         Kind::MessageId => 0,
-        Kind::ControlGraft => 0,
+        Kind::ControlGraft => 1,
         Kind::ControlPrune => 3,
-        Kind::PeerInfo => 0,
+        Kind::PeerInfo => 2,
     }
 }
 
-// What a field of a message is.
+// Whether a role is a varint's; all others are of length-delimited fields.
+fn is_varint(role: Role) -> bool
+    ensures { λ r. ⌜ r ≡ isVarint role ⌝ }
+{
+    match role {
+        Role::Skip => false,
+        Role::Number(_) => true,
+        Role::Text(_) => false,
+        Role::Bytes(_) => false,
+        Role::Unsigned(_) => false,
+        Role::Topic => false,
+        Role::MessageId => false,
+        Role::Sub(_, _) => false,
+    }
+}
+
+// What a field of a message is, by its number and wire type.
 pub fn role_of(kind: Kind, field: u64, wire_type: u8) -> Role
     ensures { λ r. ⌜ r ≡ roleOf kind field «wire_type» ⌝ }
 {
+    let role = row_of(kind, field);
+    let number = is_varint(role);
     if wire_type == WIRE_LEN {
-        return len_role(kind, field);
+        if number {
+            return Role::Skip;
+        }
+        return role;
     }
     if wire_type == WIRE_VARINT {
-        if field == varint_field(kind) {
-            return Role::Number;
+        if number {
+            return role;
         }
         return Role::Skip;
     }
     Role::Skip
+}
+
+// How the entries of a field are written, by its role.
+pub fn held_of(role: Role) -> Held
+    ensures { λ r. ⌜ r ≡ heldOf role ⌝ }
+{
+    match role {
+        Role::Skip => Held::Nothing,
+        Role::Number(_) => Held::Nothing,
+        Role::Text(_) => Held::Nothing,
+        Role::Bytes(_) => Held::Nothing,
+        Role::Unsigned(_) => Held::Nothing,
+        Role::Topic => Held::Whole,
+        Role::MessageId => Held::Whole,
+        Role::Sub(kind, form) => formed(kind, form),
+    }
+}
+
+fn formed(kind: Kind, form: Form) -> Held
+    ensures { λ r. ⌜ r ≡ formedAs kind form ⌝ }
+{
+    match form {
+        Form::Anew => Held::Anew(kind),
+        Form::Whole => Held::Whole,
+        Form::Merged => Held::Merged(kind),
+    }
 }
 
 // 1 where a submessage of that kind is a record of its own.
@@ -246,12 +328,12 @@ fn count_field(input: &[u8], kind: Kind, f: Field) -> Counted
     let role = role_of(kind, f.field, f.wire_type);
     match role {
         Role::Skip => Counted::Records(0),
-        Role::Number => Counted::Records(0),
+        Role::Number(_) => Counted::Records(0),
         Role::Text(_) => count_text(input, f, 0),
         Role::Bytes(_) => Counted::Records(0),
         Role::Topic => count_text(input, f, 1),
         Role::MessageId => Counted::Records(1),
-        Role::Sub(k) => {
+        Role::Sub(k, _) => {
             let start = f.start;
             let next = f.next;
             let c = count(&input[start..next], k);
@@ -263,6 +345,7 @@ fn count_field(input: &[u8], kind: Kind, f: Field) -> Counted
                 }
             }
         }
+        Role::Unsigned(_) => Counted::Records(0),
     }
 }
 
@@ -298,7 +381,65 @@ pub fn count(input: &[u8], kind: Kind) -> Counted
     Counted::Records(n)
 }
 
-fn place_from(there: u8, start: u64, end: u64) -> Place
+// How many records a body has, or why it is refused: 10, 1 to 7, 11. This is the one test of a body.
+pub fn body_records(body: &[u8]) -> Counted
+    ensures { λ r. ⌜ r ≡ bodyRecords (now (body .entry)) ⌝ }
+{
+    if MAX_RPC_SIZE < body.len() {
+        return Counted::Refused(WireError::TooLarge { len: body.len() });
+    }
+    let c = count(body, Kind::Rpc);
+    match c {
+        Counted::Refused(why) => Counted::Refused(why),
+        Counted::Records(n) => {
+            if MAX_RECORDS < n {
+                return Counted::Refused(WireError::TooManyRecords { records: n });
+            }
+            Counted::Records(n)
+        }
+    }
+}
+
+// Whether a body is well formed and within capacity.
+pub fn accept(body: &[u8]) -> Checked
+    ensures { λ r. ⌜ r ≡ acceptOf (now (body .entry)) ⌝ }
+{
+    let c = body_records(body);
+    match c {
+        Counted::Refused(why) => Checked::Refused(why),
+        Counted::Records(_) => Checked::Fine,
+    }
+}
+
+// Whether a message has a length-delimited field n.
+pub fn has_field(input: &[u8], n: u64) -> bool
+    ensures { λ r. ⌜ r ≡ hasField n (now (input .entry)) ⌝ }
+{
+    let mut at: usize = 0;
+    while at < input.len() {
+        let step = read_field(input, at);
+        match step {
+            Step::End => {
+                return false;
+            }
+            Step::Refused(_) => {
+                return false;
+            }
+            Step::At(f) => {
+                if f.wire_type == WIRE_LEN {
+                    if f.field == n {
+                        return true;
+                    }
+                }
+                at = f.next;
+            }
+        }
+    }
+    false
+}
+
+// A place from three words: whether it is there, its start and its end.
+pub fn place_from(there: u64, start: u64, end: u64) -> Place
     ensures { λ r. ⌜ r ≡ placeFrom there start end ⌝ }
 {
     if there == 0 {
@@ -310,7 +451,8 @@ fn place_from(there: u8, start: u64, end: u64) -> Place
     }
 }
 
-fn number_from(there: u8, value: u64) -> Number
+// A number from two words: whether it is there, and its value.
+pub fn number_from(there: u64, value: u64) -> Number
     ensures { λ r. ⌜ r ≡ numberFrom there value ⌝ }
 {
     if there == 0 {
@@ -320,7 +462,7 @@ fn number_from(there: u8, value: u64) -> Number
 }
 
 // The singular fields from plain arrays: 1 to 5 are the places, 0 is the number, its value among the starts.
-fn made(starts: &[u64; 6], ends: &[u64; 6], there: &[u8; 6]) -> Slots
+fn made(starts: &[u64; 6], ends: &[u64; 6], there: &[u64; 6]) -> Slots
     ensures { λ r. ⌜ r ≡ madeFrom (now (starts .entry)) (now (ends .entry)) (now (there .entry)) ⌝ }
 {
     let number = number_from(there[0], starts[0]);
@@ -359,7 +501,7 @@ fn index_of(slot: u8) -> usize
 }
 
 // A field's place, in a slot.
-fn take_place(slot: u8, f: Field, starts: &mut [u64; 6], ends: &mut [u64; 6], there: &mut [u8; 6])
+fn take_place(slot: u8, f: Field, starts: &mut [u64; 6], ends: &mut [u64; 6], there: &mut [u64; 6])
     requires { ⌜ Sixes (now starts) (now ends) (now there) ⌝ }
     ensures { λ _. ⌜ madeFrom (now (starts .exit)) (now (ends .exit)) (now (there .exit)) ≡ setPlace (madeFrom (now (starts .entry)) (now (ends .entry)) (now (there .entry))) slot (placeOf f) ⌝ }
     ensures { λ _. ⌜ Sixes (now (starts .exit)) (now (ends .exit)) (now (there .exit)) ⌝ }
@@ -371,7 +513,13 @@ fn take_place(slot: u8, f: Field, starts: &mut [u64; 6], ends: &mut [u64; 6], th
 }
 
 // A field of a message: the last wins.
-fn take_field(kind: Kind, f: Field, starts: &mut [u64; 6], ends: &mut [u64; 6], there: &mut [u8; 6])
+fn take_field(
+    kind: Kind,
+    f: Field,
+    starts: &mut [u64; 6],
+    ends: &mut [u64; 6],
+    there: &mut [u64; 6],
+)
     requires { ⌜ Sixes (now starts) (now ends) (now there) ⌝ }
     ensures { λ _. ⌜ madeFrom (now (starts .exit)) (now (ends .exit)) (now (there .exit)) ≡ withField kind (madeFrom (now (starts .entry)) (now (ends .entry)) (now (there .entry))) f ⌝ }
     ensures { λ _. ⌜ Sixes (now (starts .exit)) (now (ends .exit)) (now (there .exit)) ⌝ }
@@ -381,7 +529,7 @@ fn take_field(kind: Kind, f: Field, starts: &mut [u64; 6], ends: &mut [u64; 6], 
         Role::Skip => {
             return;
         }
-        Role::Number => {
+        Role::Number(_) => {
             starts[0] = f.value;
             there[0] = 1;
             return;
@@ -400,7 +548,11 @@ fn take_field(kind: Kind, f: Field, starts: &mut [u64; 6], ends: &mut [u64; 6], 
         Role::MessageId => {
             return;
         }
-        Role::Sub(_) => {
+        Role::Sub(_, _) => {
+            return;
+        }
+        Role::Unsigned(slot) => {
+            take_place(slot, f, starts, ends, there);
             return;
         }
     }
@@ -413,7 +565,7 @@ pub fn slots_of(input: &[u8], kind: Kind) -> Slots
     let mut at: usize = 0;
     let mut starts = [0u64; 6];
     let mut ends = [0u64; 6];
-    let mut there = [0u8; 6];
+    let mut there = [0u64; 6];
     while at < input.len() {
         let step = read_field(input, at);
         match step {

@@ -14,8 +14,8 @@ enum-told c = search needs
 enum-known-number : tie.Need-enum-known-number
 enum-known-number c = search needs
 
-value-of-requires : tie.Need-value-of-requires
-value-of-requires c κs = search needs
+figure-requires : tie.Need-figure-requires
+figure-requires c κs = search needs
 
 mul-emit-varint : tie.Need-mul-emit-varint
 mul-emit-varint c = search needs
@@ -23,19 +23,19 @@ mul-emit-varint c = search needs
 emit-varint-requires : tie.Need-emit-varint-requires
 emit-varint-requires c κs =
     let a = c .before .before .before .before .before .before .args in
-    let e = number-is (a .kind) (a .n) _ _ (a .number) (c .before .before .before .number .given .1) (c .before .value-of .ensures) in
+    let e = number-is (a .how) (a .n) _ _ (a .number) (c .before .before .before .number .given .1) (c .before .figure .ensures) in
     fits-first (a .at) (uvarint (a .n * 8)) _ (fits-same (a .at) _ _ e (c .before .before .before .before .before .before .pre .1))
 
 emit-varint-requires-2 : tie.Need-emit-varint-requires-2
 emit-varint-requires-2 c κs =
     let a = c .before .before .before .before .before .before .before .before .before .before .args in
-    let e = number-is (a .kind) (a .n) _ _ (a .number) (c .before .before .before .before .before .before .before .number .given .1) (c .before .before .before .before .before .value-of .ensures) in
+    let e = number-is (a .how) (a .n) _ _ (a .number) (c .before .before .before .before .before .before .before .number .given .1) (c .before .before .before .before .before .figure .ensures) in
     fits-next (a .out .now) _ (a .at) _ (uvarint (a .n * 8)) _ (c .before .before .before .emit-varint .ensures) (fits-same (a .at) _ _ e (c .before .before .before .before .before .before .before .before .before .before .pre .1))
 
 returns : tie.Need-returns
 returns c =
     let a = c .before .before .before .args in
-    puts-same (a .out .now) (a .at) _ _ _ _ (sym (number-none (a .kind) (a .n) (a .number) (c .enum-told .given .1))) (puts-none (a .out .now) (a .at))
+    puts-same (a .out .now) (a .at) _ _ _ _ (sym (number-none (a .how) (a .n) (a .number) (c .enum-told .given .1))) (puts-none (a .out .now) (a .at))
 
 same-length : tie.Need-same-length
 same-length c = search needs
@@ -43,7 +43,7 @@ same-length c = search needs
 returns-2 : tie.Need-returns-2
 returns-2 c =
     let a = c .before .before .before .before .before .before .before .before .before .before .before .before .before .args in
-    let e = number-is (a .kind) (a .n) _ _ (a .number) (c .before .before .before .before .before .before .before .before .before .before .number .given .1) (c .before .before .before .before .before .before .before .before .value-of .ensures) in
+    let e = number-is (a .how) (a .n) _ _ (a .number) (c .before .before .before .before .before .before .before .before .before .before .number .given .1) (c .before .before .before .before .before .before .before .before .figure .ensures) in
     puts-same (a .out .now) (a .at) _ _ _ _ (sym e) (puts-append (a .out .now) _ _ (a .at) _ _ _ _ (c .before .before .before .before .before .before .emit-varint .ensures) (c .before .before .emit-varint2 .ensures))
 
 pub emit-number-spec : {M : Type 1} → statement M
@@ -52,7 +52,7 @@ emit-number-spec =
     (tie.spec
     enum-told
     enum-known-number
-    value-of-requires
+    figure-requires
     mul-emit-varint
     emit-varint-requires
     emit-varint-requires-2

@@ -1,7 +1,9 @@
--- `encode::emit_slot` meets its contract: the slot's place lies within the message.
+-- `encode::emit_slot` meets its contract.
 use mathlib.Core.Path.{sym, ap, subst}
-use Rattle.encode.specs.Canon.{placed}
+use Rattle.schema.specs.declared.Place.{Place}
 use Rattle.schema.specs.SlotsLaws.{Inside}
+use Rattle.canon.specs.Canon.{placed}
+use Rattle.canon.specs.CanonLaws.{slot-inside}
 use Rattle.encode.specs.Puts.{puts-same, fits-same}
 use borrow.Author.Needs.{needs}
 use Rattle.encode.proofs.emit_slot.Statement.{statement}
@@ -11,7 +13,10 @@ slot-in-requires : tie.Need-slot-in-requires
 slot-in-requires c κs = search needs
 
 emit-place-requires : tie.Need-emit-place-requires
-emit-place-requires c κs = let a = c .before .before .before .before .args in let e = c .before .slot-in .ensures in (c .before .before .before .before .pre .0, subst (Inside (a .input .now)) (sym e) (c .before .before .before .before .pre .1), fits-same (a .at) _ _ (ap (placed (a .n) (a .input .now)) (sym e)) (c .before .before .before .before .pre .2))
+emit-place-requires c κs =
+    let a = c .before .before .before .before .args in
+    let e = sym (c .before .slot-in .ensures) in
+    (c .before .before .before .before .pre .0, subst (Inside (a .input .now)) e (slot-inside (a .input .now) (a .slots) (a .slot) (c .before .before .before .before .pre .1)), fits-same (a .at) _ _ (ap (placed (a .n) (a .input .now)) e) (c .before .before .before .before .pre .2))
 
 same-length : tie.Need-same-length
 same-length c = search needs

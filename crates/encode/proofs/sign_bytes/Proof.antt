@@ -1,15 +1,12 @@
 -- `encode::sign_bytes` meets its contract: the body's test and the message's place pick the case.
 use mathlib.Core.Path.{_≡_, sym, _∙_}
 use borrow.Author.Needs.{needs}
-use Rattle.ids.specs.IdLaws.{message-inside, accept-small}
+use Rattle.schema.specs.AcceptLaws.{accept-small}
+use Rattle.ids.specs.IdLaws.{message-inside}
+use Rattle.canon.specs.Taken.{signed-shorter}
 use Rattle.encode.proofs.Signs.{part-small, sign-refused, sign-missing, sign-found}
 use Rattle.encode.proofs.sign_bytes.Statement.{statement}
 use Rattle.encode.proofs.sign_bytes.Tie as tie
-use Rattle.encode.proofs.sign_bytes.Reads as reads
-use Rattle.encode.proofs.sign_bytes.Lts as lts
-use Rattle.encode.proofs.sign_part.Reads as sign-part-reads
-use Rattle.ids.proofs.accept.Reads as accept-reads
-use Rattle.ids.proofs.message_at.Reads as message-at-reads
 
 accept-requires : tie.Need-accept-requires
 accept-requires c κs = search needs
@@ -39,7 +36,11 @@ part-sign-part-end : tie.Need-part-sign-part-end
 part-sign-part-end c = message-inside (c .before .before .before .before .before .before .before .before .before .args .body .now) (c .before .before .before .before .before .before .before .before .before .args .index) _ _ (sym (c .before .before .before .message-at .ensures) ∙ c .before .m2 .given .1) .1
 
 sign-part-requires : tie.Need-sign-part-requires
-sign-part-requires c κs = part-small (c .before .before .before .before .before .before .before .before .before .before .before .args .body .now) (c .before .before .before .m2 .given .0 .0) (c .before .before .before .m2 .given .0 .1 .0) (accept-small (c .before .before .before .before .before .before .before .before .before .before .before .args .body .now) (sym (c .before .before .before .before .before .before .before .before .accept .ensures) ∙ c .before .before .before .before .before .before .enum-told .given .1))
+sign-part-requires c κs =
+    let a = c .before .before .before .before .before .before .before .before .before .before .before .args in
+    let t = sym (c .before .before .before .before .before .before .before .before .accept .ensures) ∙ c .before .before .before .before .before .before .enum-told .given .1 in
+    let f = sym (c .before .before .before .before .before .message-at .ensures) ∙ c .before .before .before .m2 .given .1 in
+    (signed-shorter (a .body .now) (a .index) (c .before .before .before .m2 .given .0 .0) (c .before .before .before .m2 .given .0 .1 .0) (λ i. c .before .before .before .before .before .before .before .before .before .before .shared-slice-known .given i .fits) t f, part-small (a .body .now) (c .before .before .before .m2 .given .0 .0) (c .before .before .before .m2 .given .0 .1 .0) (accept-small (a .body .now) t))
 
 returns : tie.Need-returns
 returns c = let a = c .before .before .before .before .before .before .args in sign-refused (a .body .now) (a .index) (a .out .now) _ (sym (c .before .before .before .accept .ensures) ∙ c .before .c .given .1)

@@ -1,6 +1,6 @@
 -- `encode::slot_in` meets its contract: the tests on the slot pick the place.
 use borrow.Author.Tests.{eq-eqb, ne-eqb}
-use Rattle.encode.specs.Canon.{slotIn}
+use Rattle.canon.specs.Canon.{slotIn}
 use Rattle.encode.proofs.slot_in.Statement.{statement}
 use Rattle.encode.proofs.slot_in.Tie as tie
 

@@ -2,14 +2,14 @@
 use mathlib.Core.Path.{_≡_, sym, ap, _∙_}
 use mathlib.Core.List.{List}
 use borrow.Author.Needs.{needs}
-use Rattle.ids.specs.Ids.{idAnswer, idLeft, answerAt, leftAt, answerChecked, leftChecked, messageAt, acceptOf}
+use Rattle.ids.specs.Ids.{idAnswer, idLeft, answerAt, leftAt, answerChecked, leftChecked, messageAt}
+use Rattle.schema.specs.Accept.{acceptOf}
 use Rattle.ids.specs.IdLaws.{message-inside}
 use Rattle.ids.proofs.Turns.{at-message, no-message, refused-body}
 use Rattle.ids.proofs.put_id_at.Statement.{statement}
 use Rattle.ids.proofs.put_id_at.Tie as tie
 use Rattle.ids.proofs.put_id_at.Reads as reads
 use Rattle.ids.proofs.put_id_at.Lts as lts
-use Rattle.ids.proofs.accept.Reads as accept-reads
 use Rattle.ids.proofs.message_at.Reads as message-at-reads
 use Rattle.ids.proofs.put_id.Reads as put-id-reads
 

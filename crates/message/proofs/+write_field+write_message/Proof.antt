@@ -7,7 +7,7 @@ use borrow.Author.Needs.{needs}
 use lib.ListN.{length, drop, length-take}
 use Rattle.protobuf.specs.Laws.{field-stands}
 use Rattle.schema.specs.Schema.{rank}
-use Rattle.schema.specs.CountLaws.{sub-rank}
+use Rattle.schema.specs.SchemaLaws.{sub-rank}
 use Rattle.message.specs.Rows.{fieldRows}
 use Rattle.message.specs.RowsLaws.{own-length}
 use Rattle.message.proofs.Turns.{puts-none, puts-one, Left, left-all, left-none, left-room, left-part, alongAt, rows-count, puts-rows, along-done, along-end, along-refused, along-field, field-count, puts-field}
@@ -248,7 +248,7 @@ write-field-write-message-requires : (t : ℕ) → write-field-lts.Need-write-me
 ) (write-field-at t) write-field.Post
 write-field-write-message-requires t c κs =
     let a = c .before .before .before .before .before .before .before .before .args in
-    let r = sub-rank (a .kind) _ _ _ (sym (c .before .before .before .before .before .role-of .ensures) ∙ c .before .before .before .role .given .1) in
+    let r = sub-rank (a .kind) _ _ _ _ (sym (c .before .before .before .before .before .role-of .ensures) ∙ c .before .before .before .role .given .1) in
     let l = length-take (a .f .next - a .f .start) (drop (a .f .start) (a .input .now)) in
     let e = field-count (a .kind) (a .base) (a .input .now) (a .f) _ (sym (c .before .before .before .before .before .role-of .ensures) ∙ c .before .before .before .role .given .1) in
     (omega (arith, c .before .before .before .before .before .before .before .before .pre .0), (omega arith, omega arith))
@@ -564,6 +564,29 @@ write-message-returns-3 t c =
     let z = along-done (a .kind) (a .base) (a .input .now) (l .at) h in
     puts-rows (a .kind) (a .base) (a .input .now) (a .table .now) _ _ (a .row) _ _ (c .before .before .before .before .write-own .ensures) (left-none _ _ _ _ _ _ (l .inv .1) z)
 
+write-field-enum-told-7 : (t : ℕ) → write-field-lts.Need-enum-told-7 (
+  role-of-reads.Asked,
+  role-of-reads.Learnt,
+  write-leaf-reads.Asked,
+  write-leaf-reads.Learnt,
+  write-message-below t,
+  write-message.Post,
+) (write-field-at t) write-field.Post
+write-field-enum-told-7 t c = search needs
+
+write-field-returns-8 : (t : ℕ) → write-field-lts.Need-returns-8 (
+  role-of-reads.Asked,
+  role-of-reads.Learnt,
+  write-leaf-reads.Asked,
+  write-leaf-reads.Learnt,
+  write-message-below t,
+  write-message.Post,
+) (write-field-at t) write-field.Post
+write-field-returns-8 t c =
+    let a = c .before .before .before .before .before .args in
+    let e = sym (c .before .before .role-of .ensures) ∙ c .enum-told7 .given .1 in
+    puts-field (a .kind) (a .base) (a .input .now) (a .f) _ e (a .table .now) _ (a .row) _ (puts-none (a .table .now) (a .row))
+
 pub +write-field+write-message-spec : {M : Type 1} → statement M
 +write-field+write-message-spec = close μ-write-field μ-write-message (λ t. write-field-lts.spec (
   role-of-reads.Asked,
@@ -594,6 +617,7 @@ pub +write-field+write-message-spec : {M : Type 1} → statement M
     (write-field-part-write-message-end t)
     (write-field-add-write-message t)
     (write-field-write-message-requires t)
+    (write-field-enum-told-7 t)
     (write-field-returns t)
     (write-field-returns-2 t)
     (write-field-returns-3 t)
@@ -603,7 +627,8 @@ pub +write-field+write-message-spec : {M : Type 1} → statement M
     (write-field-same-length-2 t)
     (write-field-returns-6 t)
     (write-field-same-length-3 t)
-    (write-field-returns-7 t))
+    (write-field-returns-7 t)
+    (write-field-returns-8 t))
     λ t. write-message-lts.spec (
       write-own-reads.Asked,
       write-own-reads.Learnt,

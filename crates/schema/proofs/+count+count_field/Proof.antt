@@ -9,7 +9,8 @@ use Rattle.protobuf.specs.Laws.{field-stands}
 use Rattle.protobuf.specs.Walk.{walkAt}
 use Rattle.schema.specs.Schema.{rank}
 use Rattle.schema.specs.Count.{plus, countAlong, counted, fieldCount}
-use Rattle.schema.specs.CountLaws.{sub-rank, count-along, count-fits, field-fits, own-one}
+use Rattle.schema.specs.SchemaLaws.{sub-rank}
+use Rattle.schema.specs.CountLaws.{count-along, count-fits, field-fits, own-one}
 use Rattle.schema.proofs.Turns.{plus-none, count-turn, count-end, count-refused, field-refused, count-done}
 use borrow.Fn.Kinds.{In}
 use borrow.Fn.PlainCycle.{Measures, is, falls, and}
@@ -372,7 +373,7 @@ count-field-count-requires : (t : ℕ) → count-field-lts.Need-count-requires (
 ) (count-field-at t) count-field.Post
 count-field-count-requires t c κs =
     let a = c .before .before .before .before .before .before .args in
-    let r = sub-rank (a .kind) _ _ _ (sym (c .before .before .before .before .role-of .ensures) ∙ c .before .before .role .given .1) in
+    let r = sub-rank (a .kind) _ _ _ _ (sym (c .before .before .before .before .role-of .ensures) ∙ c .before .before .role .given .1) in
     (omega (arith, c .before .before .before .before .before .before .pre .0), tt)
 
 count-field-enum-known-c : (t : ℕ) → count-field-lts.Need-enum-known-c (
@@ -531,6 +532,31 @@ count-field-returns-8 : (t : ℕ) → count-field-lts.Need-returns-8 (
 unfolding fieldCount
 count-field-returns-8 t c = simp (sym (c .before .before .before .before .before .before .before .before .before .role-of .ensures) ∙ c .before .before .before .before .before .before .before .role .given .1, sym (c .before .before .before .before .count .ensures) ∙ c .before .before .c2 .given .1, c .own .ensures)
 
+count-field-enum-told-7 : (t : ℕ) → count-field-lts.Need-enum-told-7 (
+  role-of-reads.Asked,
+  role-of-reads.Learnt,
+  count-text-reads.Asked,
+  count-text-reads.Learnt,
+  count-below t,
+  count.Post,
+  own-reads.Asked,
+  own-reads.Learnt,
+) (count-field-at t) count-field.Post
+count-field-enum-told-7 t c = search needs
+
+count-field-returns-9 : (t : ℕ) → count-field-lts.Need-returns-9 (
+  role-of-reads.Asked,
+  role-of-reads.Learnt,
+  count-text-reads.Asked,
+  count-text-reads.Learnt,
+  count-below t,
+  count.Post,
+  own-reads.Asked,
+  own-reads.Learnt,
+) (count-field-at t) count-field.Post
+unfolding fieldCount
+count-field-returns-9 t c = simp (sym (c .before .before .role-of .ensures) ∙ c .enum-told7 .given .1)
+
 pub +count+count-field-spec : {M : Type 1} → statement M
 +count+count-field-spec = close μ-count μ-count-field (λ t. count-lts.spec (
   read-field-reads.Asked,
@@ -587,6 +613,7 @@ pub +count+count-field-spec : {M : Type 1} → statement M
     (count-field-enum-known-c-2 t)
     (count-field-own-requires t)
     (count-field-add-t18 t)
+    (count-field-enum-told-7 t)
     (count-field-returns t)
     (count-field-returns-2 t)
     (count-field-returns-3 t)
@@ -595,3 +622,4 @@ pub +count+count-field-spec : {M : Type 1} → statement M
     (count-field-returns-6 t)
     (count-field-returns-7 t)
     (count-field-returns-8 t)
+    (count-field-returns-9 t)

@@ -73,6 +73,16 @@ returns-7 : tie.Need-returns-7
 unfolding withField
 returns-7 c = (simp (sym (c .before .before .role-of .ensures) ∙ c .enum-told5 .given .1), c .before .before .before .pre)
 
+enum-known-role-3 : tie.Need-enum-known-role-3
+enum-known-role-3 c = search needs
+
+take-place-requires-3 : tie.Need-take-place-requires-3
+take-place-requires-3 c κs = search needs
+
+returns-8 : tie.Need-returns-8
+unfolding withField
+returns-8 c = (simp (sym (c .before .before .before .before .before .before .before .role-of .ensures) ∙ c .before .before .before .before .before .role3 .given .1) (c .take-place3 .ensures .0), c .take-place3 .ensures .1)
+
 pub take-field-spec : {M : Type 1} → statement M
 take-field-spec =
     tie.close
@@ -95,4 +105,7 @@ take-field-spec =
     enum-told-4
     returns-6
     enum-told-5
-    returns-7)
+    returns-7
+    enum-known-role-3
+    take-place-requires-3
+    returns-8)

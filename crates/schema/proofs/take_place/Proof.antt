@@ -19,6 +19,9 @@ mul-ends c = search needs
 element-write-ends : tie.Need-element-write-ends
 element-write-ends c = search needs
 
+mul-there : tie.Need-mul-there
+mul-there c = search needs
+
 element-write-there : tie.Need-element-write-there
 element-write-there c = search needs
 
@@ -37,5 +40,6 @@ take-place-spec =
     element-write-starts
     mul-ends
     element-write-ends
+    mul-there
     element-write-there
     returns)

@@ -1,0 +1,1 @@
+// The canonical bytes of a body: definitions and laws only. `encode` writes them.

@@ -1,0 +1,71 @@
+-- Where a body's answer comes from: it is too large; or counting refuses it; or it has too many records; or it is taken.
+use Prim.Native.Nat.{ℕ, _≤_, _<_}
+use mathlib.Core.Path.{_≡_, refl, ap, _∙_}
+use mathlib.Core.List.{List}
+use lib.ListN.{length}
+use lib.Dec.{ltb}
+use borrow.Author.Tests.{ltb-true, ltb-false, le-ltb, lt-ltb}
+use Rattle.basis.specs.Cases.{either, clash}
+use Rattle.protobuf.specs.declared.WireError.{WireError}
+use Rattle.protobuf.specs.declared.WireError.the-variants.{TooLarge, TooManyRecords}
+use Rattle.protobuf.specs.declared.Checked.the-variants.{Fine}
+use Rattle.schema.specs.declared.Kind.the-variants as kind
+use Rattle.schema.specs.declared.Counted.{Counted}
+use Rattle.schema.specs.declared.Counted.the-variants.{Records, Refused}
+use Rattle.schema.specs.Count.{counted}
+use Rattle.schema.specs.Accept.{few, bodyRecords, checked, acceptOf}
+
+pub data Gate (s : List ℕ) : Counted → Type 0 where
+  large : 65536 < length s → Gate s (Refused (TooLarge (length s)))
+  bad : length s ≤ 65536 → (why : WireError) → counted kind.Rpc s ≡ Refused why → Gate s (Refused why)
+  many : length s ≤ 65536 → (n : ℕ) → counted kind.Rpc s ≡ Records n → 512 < n → Gate s (Refused (TooManyRecords n))
+  taken : length s ≤ 65536 → (n : ℕ) → counted kind.Rpc s ≡ Records n → n ≤ 512 → Gate s (Records n)
+
+of-counted : (s : List ℕ) (r : Counted) → length s ≤ 65536 → counted kind.Rpc s ≡ r → Gate s (few r)
+of-counted s (Refused why) h e = bad h why e
+of-counted s (Records n) h e =
+    either (ltb 512 n) (λ t. simp t (many h n e (ltb-true 512 n t))) (λ t. simp t (taken h n e (ltb-false 512 n t)))
+
+pub gate : (s : List ℕ) → Gate s (bodyRecords s)
+unfolding bodyRecords
+gate s =
+    either (ltb 65536 (length s)) (λ t. simp t (large (ltb-true 65536 (length s) t)))
+    (λ t. simp t (of-counted s (counted kind.Rpc s) (ltb-false 65536 (length s) t) refl))
+
+-- ---- and back
+pub records-taken : (s : List ℕ) (n : ℕ) → length s ≤ 65536 → counted kind.Rpc s ≡ Records n → n ≤ 512 → bodyRecords s ≡ Records n
+unfolding bodyRecords
+records-taken s n h e l = simp (le-ltb 65536 (length s) h, e, le-ltb 512 n l)
+
+pub records-many : (s : List ℕ) (n : ℕ) → length s ≤ 65536 → counted kind.Rpc s ≡ Records n → 512 < n → bodyRecords s ≡ Refused (TooManyRecords n)
+unfolding bodyRecords
+records-many s n h e l = simp (le-ltb 65536 (length s) h, e, lt-ltb 512 n l)
+
+pub records-large : (s : List ℕ) → 65536 < length s → bodyRecords s ≡ Refused (TooLarge (length s))
+unfolding bodyRecords
+records-large s h = simp (lt-ltb 65536 (length s) h)
+
+-- ---- a body that is taken
+pub record Taken (s : List ℕ) : Type 0 where
+  pub records : ℕ
+  pub counts : counted kind.Rpc s ≡ Records records
+  pub few : records ≤ 512
+  pub small : length s ≤ 65536
+
+of-gate : (s : List ℕ) (r : Counted) → Gate s r → checked r ≡ Fine → Taken s
+of-gate s _ (large h) e = clash (cc)
+of-gate s _ (bad h why q) e = clash (cc)
+of-gate s _ (many h n q l) e = clash (cc)
+of-gate s _ (taken h n q l) e = record { records = n; counts = q; few = l; small = h }
+
+pub is-taken : (s : List ℕ) → acceptOf s ≡ Fine → Taken s
+unfolding acceptOf
+is-taken s h = of-gate s (bodyRecords s) (gate s) h
+
+pub taken-fine : (s : List ℕ) → Taken s → acceptOf s ≡ Fine
+unfolding acceptOf
+taken-fine s t = ap checked (records-taken s (t .records) (t .small) (t .counts) (t .few))
+
+-- it has at most 65,536 bytes
+pub accept-small : (s : List ℕ) → acceptOf s ≡ Fine → length s ≤ 65536
+accept-small s h = is-taken s h .small
