@@ -7,24 +7,22 @@ use native.Mathlib.Omega.{arith}
 use lib.ListN.{length, getD, take, length-append}
 use lib.Seq.{length-take-le}
 use lib.Dec.{eqb}
-use borrow.Author.Tests.{le-ltb, eqb-true, eqb-false}
+use borrow.Author.Tests.{eqb-true, eqb-false}
 use Rattle.basis.specs.Cases.{either, clash}
 use Rattle.rows.specs.Ids.{sameBytes, among, distinct}
 use Rattle.rows.specs.IdsLaws.{same-self, same-equal, among-append, among-at}
-use Rattle.admission.specs.Admission.{admissionOf, givesId}
-use Rattle.admission.specs.AdmissionLaws.{gives-only}
 use Rattle.parts.specs.PartsLaws.{fitting-le}
 use Rattle.seen.specs.Entries.{holds}
 use Rattle.mcache.specs.Messages.{get}
-use Rattle.node.specs.declared.Node.{Node}
 use Rattle.node.specs.declared.Lent.the-variants as lent
 use Rattle.node.specs.Gateway.{marked, toldOf, lacking}
-use Rattle.node.specs.Calls.{Plan, taken, lentOf, planFit, heldAt, servedOf, roomOf}
-use Rattle.node.specs.WellFormedLaws.{reached-fine}
+use Rattle.node.specs.Calls.{Plan, taken, lentOf, servedOf, roomOf}
+use Rattle.node.specs.Laws.{fit-plan}
 use Rattle.outputs.specs.Replied.{all-few}
-use Rattle.agreement.specs.History.{State, Call, admit, planIn, after, afterAll, readings, refusalAt, NoneRefused, all-done, done}
-use Rattle.agreement.specs.Premises.{MessageSet, Settings, Member, Members, none-left, member}
-use Rattle.agreement.specs.Round.{gatewayOf, lacked, Play, Fair, replyOf, servedCount, admits, askerRound, tellerRound}
+use Rattle.history.specs.History.{State, gatewayOf, Settings, Call, admit, planIn, after, afterAll, readings, NoneRefused, all-done, done, admits}
+use Rattle.history.specs.Laws.{taken-number}
+use Rattle.agreement.specs.Premises.{MessageSet, Member, Members, none-left, member}
+use Rattle.agreement.specs.Round.{lacked, Play, Fair, replyOf, servedCount, askerRound, tellerRound}
 use Rattle.agreement.specs.Rows.{rows-held}
 use Rattle.agreement.specs.Holding.{withGot, gotBy, gotAll, Holding, admit-forward, holding-admit}
 use Rattle.agreement.specs.Once.{with-again, with-this, with-other}
@@ -76,10 +74,6 @@ stands (suc k) i (j ∷ l) h =
     let w = r .within in
     record { index = suc (r .index); early = omega arith; within = omega arith; there = r .there })
 
--- ---- an admit of a message that gives an id takes it, where the clock does not go back
-pub fit-plan : (n : Node) (at : ℕ) (m id : List ℕ) → givesId m id ≡ true → n .clock ≤ at → planFit n at m (admissionOf m true) ≡ taken m id
-fit-plan n at m id own h = let g = gives-only m id own in rw (g .taken, le-ltb at (n .clock) h) (ap (λ (i : List ℕ). taken m i) (sym (g .named)))
-
 -- ---- admits of messages of the set, one after the other
 pub record Admitted (set : List (List ℕ)) (x : Settings) (first past : ℕ) (rs : List ℕ) (left : ℕ) (got served : List (List ℕ)) (i k : ℕ) (calls : List Call) (s : State) : Type 0 where
   pub members : Members set calls s
@@ -92,9 +86,6 @@ pub record Admitted (set : List (List ℕ)) (x : Settings) (first past : ℕ) (r
 withThis : (m : List ℕ) (got : List (List ℕ)) → among m (withGot m got) ≡ true
 withThis m got = either (among m got) (λ t. with-again m m got t) (λ t. with-this m got t)
 
-taken-number : (s : State) (body : List ℕ) (i at : ℕ) (m id : List ℕ) → planIn s body i true at ≡ taken m id → refusalAt s (admit body i true at) ≡ 0
-taken-number s body i at m id e = rw e (either (heldAt (s .node) (s .ids) at id) (λ t. simp t) (λ t. simp t))
-
 module _ {set : List (List ℕ)} (ms : MessageSet set) {x : Settings} {first past : ℕ} (rs : List ℕ) {left : ℕ} (body : List ℕ) (at : ℕ → ℕ) (served ids : List (List ℕ)) (n : ℕ)
     (plans : (s : State) (i : ℕ) → lentOf (s .node) (s .ids) (s .messages) ≡ lent.Fine → s .node .clock ≤ at i → i < n → planIn s body i true (at i) ≡ taken (getD served i []) (getD ids i []))
     (inside : (i : ℕ) → i < n → among (getD served i []) set ≡ true) (few : n ≤ length served) where
@@ -106,14 +97,14 @@ module _ {set : List (List ℕ)} (ms : MessageSet set) {x : Settings} {first pas
   all-admitted (suc k) i {got} {s} l h =
       let m = getD served i [] in
       let c = admit body i true (at i) in
-      let e : planIn s body i true (at i) ≡ taken m (getD ids i []) = plans s i (reached-fine (h .reached)) (admit-forward body i true (at i) h) (omega arith) in
+      let e : planIn s body i true (at i) ≡ taken m (getD ids i []) = plans s i (h .kept .fine) (admit-forward body i true (at i) h) (omega arith) in
       let ins : Member set (planIn s body i true (at i)) = subst (λ (q : Plan). Member set q) (sym e) (inside i (omega arith)) in
       let next = holding-admit body i true (at i) h ms ins in
       let r = all-admitted k (suc i) (omega arith) next in
       let g : gotBy got (planIn s body i true (at i)) ≡ withGot m got = ap (gotBy got) e in
       record {
         members = member ins (r .members);
-        none-refused = done (taken-number s body i (at i) m (getD ids i []) e) (r .none-refused);
+        none-refused = done (taken-number s body i true (at i) m (getD ids i []) e) (r .none-refused);
         holding = r .holding;
         keeps = λ o t. r .keeps o (ap (among o) g ∙ with-again o m got t);
         has = λ j a b.

@@ -9,7 +9,6 @@ use lib.ListN.{length, getD}
 use lib.Seq.{getD-take}
 use Rattle.basis.specs.Bytes.{Bytes}
 use Rattle.protobuf.specs.declared.Checked.the-variants.{Fine}
-use Rattle.protobuf.specs.Walk.{between}
 use Rattle.rpc.specs.Rpc.{RawMessage, Rpc}
 use Rattle.rpc.specs.Grammar.{IsMessage, is-message, IsRpc}
 use Rattle.ids.specs.declared.MessageAt.{MessageAt}
@@ -24,6 +23,7 @@ use Rattle.node.specs.Gateway.{toldOf, lacking, having}
 use Rattle.node.specs.State.{gatewayIn}
 use Rattle.node.specs.Calls.{lentOf, planFit, planned, advertiseBytes, askBytes, servedOf, replyBytes}
 use Rattle.outputs.specs.Replied.{Replies, serve-means}
+use Rattle.history.specs.Script.{Placed}
 use Rattle.agreement.specs.HandOver.{reply-has}
 
 -- ---- an element of a list of messages, and its bytes
@@ -39,12 +39,6 @@ raw-is : {p : List ℕ} {m : RawMessage} → IsMessage p m → m .raw ≡ p
 raw-is (is-message g u) = refl
 
 -- ---- the message at an index of a body, byte for byte
-pub record Placed (s : List ℕ) (i : ℕ) (m : List ℕ) : Type 0 where
-  pub start : ℕ
-  pub next : ℕ
-  pub found : messageAt s i ≡ At start next
-  pub bytes : between s start next ≡ m
-
 placed-by : {s : List ℕ} {x : Rpc} (i : ℕ) (r : MessageAt) → IsRpc s x → i < length (x .publish) → messageAt s i ≡ r
     → Placed s i (getD (map (λ (m : RawMessage). m .raw) (x .publish)) i [])
 placed-by i (At a e) g h q =

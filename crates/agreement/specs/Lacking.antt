@@ -22,11 +22,9 @@ use Rattle.node.specs.State.{gatewayIn}
 use Rattle.node.specs.Calls.{lentOf}
 use Rattle.node.specs.StateLaws.{fine-tests as node-tests}
 use Rattle.node.specs.Readers.{asked-exactly}
-use Rattle.node.specs.WellFormedLaws.{reached-fine}
 use Rattle.outputs.specs.Replied.{all-few}
-use Rattle.agreement.specs.History.{State}
-use Rattle.agreement.specs.Premises.{Settings}
-use Rattle.agreement.specs.Round.{missing, gatewayOf, lacked}
+use Rattle.history.specs.History.{State, gatewayOf, Settings}
+use Rattle.agreement.specs.Round.{missing, lacked}
 use Rattle.agreement.specs.Rows.{Rows, none, row}
 use Rattle.agreement.specs.Holding.{Holding}
 use Rattle.agreement.specs.HandOver.{lacking-distinct, told-distinct, told-held}
@@ -103,7 +101,7 @@ missing-distinct topic g (c ∷ cs) d =
 module _ {set : List (List ℕ)} {y : Settings} {first past left : ℕ} {rs : List ℕ} {got : List (List ℕ)} {b : State} (h : Holding set y first past rs left got b)
     (topic : List ℕ) (windows : ℕ) (wide : y .history-len ≤ windows) where
   pub fine : lentOf (b .node) (b .ids) (b .messages) ≡ lent.Fine
-  fine = reached-fine (h .reached)
+  fine = h .kept .fine
 
   -- all windows are told of
   pub all-recent : (c : Cached) → List·Memᴰ c (gatewayOf b .cache) → c .window < windows
