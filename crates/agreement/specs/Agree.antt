@@ -8,6 +8,7 @@ use lib.ListN.{length}
 use Rattle.basis.specs.Cases.{either}
 use Rattle.rows.specs.Ids.{among}
 use Rattle.admission.specs.Admission.{topicsOf}
+use Rattle.admission.specs.AdmissionLaws.{one-id}
 use Rattle.seen.specs.Entries.{holds}
 use Rattle.mcache.specs.Messages.{Cached, topics}
 use Rattle.mcache.specs.GossipLaws.{among-in}
@@ -16,7 +17,7 @@ use Rattle.history.specs.History.{State, gatewayOf, Settings, Call, afterAll, r
 use Rattle.history.specs.Laws.{after-append}
 use Rattle.agreement.specs.Premises.{MessageSet, Clock, Premises}
 use Rattle.agreement.specs.Round.{missing, lacked, Play, Fair, turned, tellerRounds}
-use Rattle.agreement.specs.Rows.{one-id, rows-held}
+use Rattle.agreement.specs.Rows.{rows-held}
 use Rattle.agreement.specs.Holding.{Holding, holding-all}
 use Rattle.agreement.specs.Identical.{rows-kept, rows-entry, none-missing, Identical, identical-bytes}
 use Rattle.agreement.specs.CatchUp.{teller-stays, CaughtUp, allAsked, allTold, caught-up, all-arrived}

@@ -4,11 +4,10 @@ use Prim.Native.Nat.{ℕ, zero, suc, _+_, _-_, _*_, _/_, _≤_}
 use mathlib.Core.Path.{_≡_, refl, sym, ap, subst, _∙_}
 use mathlib.Core.List.{List, [], _∷_, _++_, append-nil, append-assoc}
 use native.Mathlib.Omega.{arith}
-use lib.ListN.{length, getD}
+use lib.ListN.{length, getD, drop-of-length-le}
 use mathlib.Core.Bool.{true, false}
 use Rattle.basis.specs.Cases.{either, clash}
 use Rattle.rows.specs.Ids.{among}
-use Rattle.mcache.specs.Messages.{Cached}
 use Rattle.history.specs.History.{State, Settings, Call, after, afterAll, readings, beats, NoneRefused, all-done}
 use Rattle.history.specs.Laws.{after-append, readings-append, beats-append, done-append, admits-beats}
 use Rattle.agreement.specs.Premises.{MessageSet, Members, none-left, member, Clock, Premises}
@@ -190,8 +189,6 @@ module _ {set : List (List ℕ)} {x y : Settings} {calls-a calls-b : List Call} 
   -- so nothing is missing after as many rounds as n/15, rounded up
   pub all-arrived : (n : ℕ) → length (lacked (p .topic) (afterAll calls-a a) (afterAll calls-b b)) ≤ n → (n + 14) / 15 ≤ r
       → lacked (p .topic) (afterAll (allAsked set x y calls-a calls-b a b p r at) a) (afterAll (allTold set x y calls-a calls-b a b p r at) b) ≡ []
-  all-arrived n few enough = let l = caught-up .missing-left in no-more (lacked (p .topic) (afterAll (calls-a ++ askers) a) (afterAll (calls-b ++ tellers) b)) (omega arith)
-    where
-      no-more : (l : List Cached) → length l ≤ 0 → l ≡ []
-      no-more [] h = refl
-      no-more (c ∷ l) h = absurd (omega arith)
+  all-arrived n few enough =
+      let l = caught-up .missing-left in
+      drop-of-length-le (lacked (p .topic) (afterAll (calls-a ++ askers) a) (afterAll (calls-b ++ tellers) b)) {i = 0} (omega arith)

@@ -10,6 +10,7 @@ use lib.Dec.{leb}
 use borrow.Author.Tests.{leb-true}
 use Rattle.basis.specs.Cases.{either, clash, both}
 use Rattle.basis.specs.Bytes.{Bytes}
+use Rattle.basis.specs.Lists.{zeros-bytes}
 use Rattle.peer_id.specs.Uvarint.{readUvarint, readFrom, groupOf}
 use Rattle.utf8.specs.Utf8.{isUtf8, run}
 use Rattle.protobuf.specs.Field.{readTag, readLen, readVarint, skipFixed, skipField, readValue, readField}
@@ -19,6 +20,7 @@ use Rattle.schema.specs.Count.{textCount, countTo, counted}
 use Rattle.schema.specs.Slots.{setPlace, withField, slotsOf}
 use Rattle.ids.specs.Ids.{acceptOf, messageAt, idParts}
 use Rattle.admission.specs.Admission.{topicsOf, firstLong, onLimits, admissionOf, givesId}
+use Rattle.admission.specs.AdmissionLaws.{one-id}
 use Rattle.rows.specs.Rows.{newest}
 use Rattle.rows.specs.Ids.{sameBytes, among}
 use Rattle.rows.specs.IdsLaws.{same-equal}
@@ -34,7 +36,6 @@ use Rattle.history.specs.Script.{Carries, Act, gets, beats, callsOf, gotIn, new
 use Rattle.history.specs.ScriptLaws.{fresh-acted, fresh-new}
 use Rattle.agreement.specs.Premises.{MessageSet, Members, Clock, Premises}
 use Rattle.agreement.specs.Round.{Play, Fair}
-use Rattle.agreement.specs.Rows.{one-id}
 use Rattle.agreement.specs.Script.{inSet, script-members}
 
 -- ---- the messages
@@ -152,11 +153,6 @@ start x =
       ids = replicate (x .max-seen * 129) 0;
       messages = replicate (x .max-messages * 4096) 0;
     }
-
-zeros-bytes : (n : ℕ) → Bytes (replicate n 0)
-zeros-bytes zero i = omega arith
-zeros-bytes (suc n) zero = omega arith
-zeros-bytes (suc n) (suc i) = zeros-bytes n i
 
 start-fresh : (x : Settings) → x .ttl < 2 ^ 64 → legalSettings (x .max-seen) (x .history-len) (x .max-messages) ≡ true → Fresh x (start x)
 unfolding start

@@ -1,27 +1,27 @@
 -- What a gateway holds in a history under the premises: the messages got, each once, the oldest first. Their marked ids are the ids seen, they are
 -- the messages cached, and nothing ever leaves.
-use Prim.Native.Nat.{ℕ, zero, suc, _+_, _-_, _*_, _^_, _≤_, _<_}
+use Prim.Native.Nat.{ℕ, suc, _+_, _-_, _*_, _≤_, _<_}
 use mathlib.Core.Path.{_≡_, refl, sym, ap, subst, _∙_}
 use mathlib.Core.Bool.{Bool, true, false, cond, not, _||_, Bool·not-not}
 use mathlib.Core.List.{List, [], _∷_, _++_, append-nil, append-assoc}
 use native.Mathlib.Omega.{arith}
 use native.Mathlib.Nat.{zero-lt-suc}
-use lib.ListN.{length, getD, drop, set, length-append}
-use lib.Seq.{sets}
+use lib.ListN.{length, getD, length-append}
 use lib.Dec.{leb, ltb, eqb}
-use borrow.Author.Tests.{leb-true, le-leb}
+use borrow.Author.Tests.{leb-true}
 use Rattle.basis.specs.Cases.{either, clash, both}
 use Rattle.basis.specs.Bytes.{Bytes}
+use Rattle.basis.specs.Lists.{sets-bytes}
 use Rattle.rows.specs.Rows.{placeOf}
 use Rattle.rows.specs.Ids.{sameBytes, among, distinct}
-use Rattle.rows.specs.IdsLaws.{same-equal, among-append, distinct-snoc}
+use Rattle.rows.specs.IdsLaws.{same-equal, among-append, distinct-snoc, all-few}
 use Rattle.admission.specs.Admission.{givesId}
-use Rattle.seen.specs.Entries.{Entry, holds, until, inserted}
+use Rattle.seen.specs.Entries.{until}
+use Rattle.seen.specs.EntriesLaws.{until-later, until-within, insert-room, insert-held}
 use Rattle.mcache.specs.declared.MessageCache.{MessageCache}
 use Rattle.mcache.specs.Messages.{held}
 use Rattle.mcache.specs.State.{dropped}
 use Rattle.mcache.specs.Calls.{indexIn, enteredStore, storedUnder}
-use Rattle.mcache.specs.CachedLaws.{newest-more}
 use Rattle.mcache.specs.Readers.{room-keeps-all}
 use Rattle.node.specs.declared.Node.{Node}
 use Rattle.node.specs.declared.Beat.the-variants as beat
@@ -29,7 +29,7 @@ use Rattle.node.specs.Gateway.{Gateway, started, marked, isNew, afterAdmit, aft
 use Rattle.node.specs.State.{risesFrom}
 use Rattle.node.specs.Calls.{Plan, no, taken, heldAt, admitCache, beatAnswer}
 use Rattle.node.specs.Laws.{plan-takes, is-new, beat-says}
-use Rattle.outputs.specs.Replied.{all-few}
+use Rattle.node.specs.WellFormedLaws.{rises-less, first-least}
 use Rattle.history.specs.History.{State, gatewayOf, Settings, Fresh, Call, admit, heartbeat, advertise, ask, serve, planIn, after, afterAll, reading}
 use Rattle.history.specs.History.{readings, firstOf, beat, beats}
 use Rattle.history.specs.Laws.{node-clock, Kept, after-keeps, fresh-keeps, fresh-starts, fresh-clock, admit-none, admit-leaves, admit-clock, beat-leaves, beat-clock}
@@ -70,27 +70,6 @@ pub record Holds (set : List (List ℕ)) (x : Settings) (first past : ℕ) (got 
   pub from-set : (m : List ℕ) → among m got ≡ true → among m set ≡ true
   -- the ids seen and the messages cached
   pub rows : Rows (until first (x .ttl)) past got (g .seen) (g .cache)
-
--- no more than the set
-pub holds-few : {set : List (List ℕ)} {x : Settings} {first past : ℕ} {got : List (List ℕ)} {g : Gateway} → Holds set x first past got g → length got ≤ length set
-holds-few {set} {x} {first} {past} {got} h = all-few set got (h .each-once) (h .from-set)
-
--- ---- with room, an id seen goes last and all stay
-seen-room : (max : ℕ) (id : List ℕ) (at ttl : ℕ) (es : List Entry) → holds id es ≡ false → length es < max
-    → inserted max id at ttl es ≡ es ++ (record { id = id; expiry = until at ttl } ∷ [])
-unfolding inserted
-seen-room max id at ttl es h r =
-    let x : Entry = record { id = id; expiry = until at ttl } in
-    let e : (length es + 1) - max ≡ 0 = omega arith in
-    rw h (newest-more max es x (λ z. omega arith) ∙ ap (λ (n : ℕ). drop n es ++ (x ∷ [])) e)
-
-seen-held : (max : ℕ) (id : List ℕ) (at ttl : ℕ) (es : List Entry) → holds id es ≡ true → inserted max id at ttl es ≡ es
-unfolding inserted
-seen-held max id at ttl es h = rw h
-
-until-later : (at later ttl : ℕ) → at ≤ later → until at ttl ≤ until later ttl
-unfolding until
-until-later at later ttl h = omega arith
 
 -- ---- one more message got
 among-one : (m k : List ℕ) → among k (m ∷ []) ≡ true → m ≡ k
@@ -137,7 +116,7 @@ module _ {set : List (List ℕ)} {x : Settings} {first past : ℕ} {got : List (
           set-cached = h .set-cached;
           each-once = h .each-once;
           from-set = h .from-set;
-          rows = rw (n, v, seen-held (g .max-seen) (marked id) at (g .ttl) (g .seen) k) (h .rows);
+          rows = rw (n, v, insert-held (g .max-seen) (marked id) at (g .ttl) (g .seen) k) (h .rows);
         }
 
     holds-more : among m got ≡ false → Holds set x first past (got ++ (m ∷ [])) (afterAdmit at m id g)
@@ -162,7 +141,7 @@ module _ {set : List (List ℕ)} {x : Settings} {first past : ℕ} {got : List (
               rw (
                 n,
                 v,
-                seen-room (g .max-seen) (marked id) at (g .ttl) (g .seen) (a .0 ∙ t) (omega (arith, h .max-seen, h .set-seen, l .0)),
+                insert-room (g .max-seen) (marked id) at (g .ttl) (g .seen) (a .0 ∙ t) (omega (arith, h .max-seen, h .set-seen, l .0)),
                 room-keeps-all (g .max-messages) id m (g .cache) (a .1 ∙ t) (omega (arith, h .max-messages, h .set-cached, l .1)),
                 h .ttl,
               )
@@ -196,30 +175,6 @@ pub record Ahead (x : Settings) (first past clock : ℕ) (rs : List ℕ) (left :
   -- every reading is below every expiry
   pub lasting : (i : ℕ) → i < length rs → getD rs i 0 < until first (x .ttl)
   pub few : past + left < x .history-len
-
-rises-less : (less least : ℕ) (l : List ℕ) → less ≤ least → risesFrom least l ≡ true → risesFrom less l ≡ true
-unfolding risesFrom
-rises-less less least [] h f = refl
-rises-less less least (e ∷ l) h f =
-    let b = both (leb least e) (risesFrom e l) f in
-    let k = leb-true least e (b .0) in
-    rw (le-leb less e (omega arith)) (b .1)
-
-rises-least : (least : ℕ) (l : List ℕ) → risesFrom least l ≡ true → (i : ℕ) → i < length l → least ≤ getD l i 0
-unfolding risesFrom
-rises-least least [] f i h = absurd (omega arith)
-rises-least least (e ∷ l) f zero h = leb-true least e (both (leb least e) (risesFrom e l) f .0)
-rises-least least (e ∷ l) f (suc i) h =
-    let b = both (leb least e) (risesFrom e l) f in
-    let k = leb-true least e (b .0) in
-    let r = rises-least e l (b .1) i (omega arith) in
-    omega arith
-
-first-least : (l : List ℕ) → risesFrom 0 l ≡ true → (i : ℕ) → i < length l → getD l 0 0 ≤ getD l i 0
-unfolding risesFrom
-first-least [] f i h = absurd (omega arith)
-first-least (e ∷ l) f zero h = omega arith
-first-least (e ∷ l) f (suc i) h = rises-least e l (both (leb 0 e) (risesFrom e l) f .1) i (omega arith)
 
 -- the next reading
 pub record Reads (x : Settings) (first past clock at : ℕ) (rs : List ℕ) (left : ℕ) : Type 0 where
@@ -259,10 +214,6 @@ unfolding started distinct among
 started-holds first a b =
     record { ttl = refl; max-seen = refl; history-len = refl; max-messages = refl; set-seen = a; set-cached = b; each-once = refl; from-set = λ m h. clash (cc); rows = none }
 
-until-within : (r first ttl : ℕ) → r < first + ttl → r < 2 ^ 64 - 1 → r < until first ttl
-unfolding until
-until-within r first ttl h k = omega arith
-
 pub holding-fresh : {set : List (List ℕ)} {x : Settings} {s : State} (rs : List ℕ) (left : ℕ) → Fresh x s → length set ≤ x .max-seen → length set ≤ x .max-messages → Clock x rs
     → left < x .history-len → Holding set x (getD rs 0 0) 0 rs left [] s
 holding-fresh {set} {x} {s} rs left f room-seen room-cached k few =
@@ -287,17 +238,6 @@ holding-start {set} {x} {calls} {s} p = holding-fresh (readings calls) (beats ca
 
 -- ---- an admit: a refused one changes nothing; one that takes a message of the set
 -- its message is bytes, and so is the store then
-set-bytes : (st : List ℕ) (k b : ℕ) → Bytes st → b < 256 → Bytes (set st k b)
-set-bytes [] k b h l i = h i
-set-bytes (x ∷ st) zero b h l zero = l
-set-bytes (x ∷ st) zero b h l (suc i) = h (suc i)
-set-bytes (x ∷ st) (suc k) b h l zero = h 0
-set-bytes (x ∷ st) (suc k) b h l (suc i) = set-bytes st k b (λ j. h (suc j)) l i
-
-sets-bytes : (st : List ℕ) (k : ℕ) (m : List ℕ) → Bytes st → Bytes m → Bytes (sets st k m)
-sets-bytes st k [] h g = h
-sets-bytes st k (b ∷ m) h g = sets-bytes (set st k b) (suc k) m (set-bytes st k b h (g 0)) (λ i. g (suc i))
-
 entered-bytes : (c : MessageCache) (st m : List ℕ) → Bytes st → Bytes m → Bytes (enteredStore c st m)
 unfolding enteredStore
 entered-bytes c st m h g =

@@ -1,7 +1,7 @@
 -- What the calls that write do with a body within capacity, said of the RPC that it means and of nothing else: `encode` writes the RPC,
 -- `sign_bytes` what is signed of its message i, `message_id` that message's id; and where there is no such message, 20 carries the number of
 -- messages. Bodies that are refused before that are those that mean no RPC within capacity.
-use Prim.Native.Nat.{ℕ, _+_, _-_, _≤_, _<_}
+use Prim.Native.Nat.{ℕ, _+_, _-_, _≤_}
 use mathlib.Core.Path.{_≡_, refl, sym, ap, ap₂, subst, _∙_}
 use mathlib.Core.Bool.{_||_}
 use mathlib.Core.List.{List, _++_}
@@ -9,7 +9,7 @@ use mathlib.Core.Option.{Option, some}
 use mathlib.Core.Logic.{_↔_}
 use native.Mathlib.Omega.{arith}
 use native.Mathlib.Nat.{zero-add}
-use lib.ListN.{length, drop, length-take, length-drop}
+use lib.ListN.{length}
 use lib.Dec.{ltb, eqb}
 use borrow.Author.Tests.{le-ltb, ltb-false}
 use Rattle.basis.specs.Cases.{either, clash}
@@ -18,6 +18,7 @@ use Rattle.basis.specs.Writing.{answer, written}
 use Rattle.protobuf.specs.declared.Checked.the-variants.{Fine}
 use Rattle.protobuf.specs.Encode.{ofWritten}
 use Rattle.protobuf.specs.Walk.{between}
+use Rattle.protobuf.specs.WalkLaws.{between-length}
 use Rattle.protobuf.specs.Exactly.{body-walks}
 use Rattle.schema.specs.declared.Kind.the-variants as kind
 use Rattle.schema.specs.declared.Counted.{Counted}
@@ -46,7 +47,7 @@ use Rattle.encode.specs.Encode.{encodeAnswer, encodeLeft}
 use Rattle.encode.specs.Sign.{signAt, signChecked, signAnswer, signedAt, signedChecked, signLeft}
 use Rattle.canonical.specs.Canonical.{Within}
 use Rattle.canonical.specs.Written.{canon-written, sign-written}
-use Rattle.canonical.specs.Messages.{Nth, here, there, message-found, message-missing}
+use Rattle.canonical.specs.Messages.{Nth, here, there, nth-bound, message-found, message-missing}
 
 -- ---- which bodies are taken
 counts : {s : List ℕ} {x : Rpc} → Within s x → (n : ℕ) × (counted kind.Rpc s ≡ count.Records n) × (n ≤ 512)
@@ -89,10 +90,6 @@ encode-writes {s} {x} w out =
     )
 
 -- ---- the message at an index
-nth-bound : {A : Type 0} {i : ℕ} {xs : List A} {x : A} → Nth i xs x → i < length xs
-nth-bound here = omega arith
-nth-bound (there n) = let l = nth-bound n in omega arith
-
 nth-same : {A : Type 0} {i : ℕ} {xs : List A} {x y : A} → Nth i xs x → Nth i xs y → x ≡ y
 nth-same here here = refl
 nth-same (there n) (there m) = nth-same n m
@@ -104,7 +101,7 @@ found-in {s} i (At a e) g n q =
     (a, e, q, subst (λ (y : RawMessage). IsMessage (between s a e) y) (nth-same (f .1) n) (f .2))
 found-in i (Count k) g n q = let l = message-missing i k g q in let b = nth-bound n in absurd (omega arith)
 
-none-in : {s : List ℕ} {x : Rpc} (i : ℕ) (r : MessageAt) → IsRpc s x → length (x .publish) ≤ i → messageAt s i ≡ r → messageAt s i ≡ Count (length (x .publish))
+pub none-in : {s : List ℕ} {x : Rpc} (i : ℕ) (r : MessageAt) → IsRpc s x → length (x .publish) ≤ i → messageAt s i ≡ r → messageAt s i ≡ Count (length (x .publish))
 none-in i (At a e) g l q = let f = message-found i a e g q in let b = nth-bound (f .1) in absurd (omega arith)
 none-in i (Count k) g l q = let m = message-missing i k g q in q ∙ ap Count (m .0)
 
@@ -159,20 +156,17 @@ stays pre p out (parts.Parts a e b f) = refl
 bytes-there : (p : List ℕ) (a e : ℕ) → bytesAt p 0 (place.Present a e) ≡ some (between p a e)
 bytes-there p a e = ap₂ (λ (x y : ℕ). some (between p x y)) (zero-add a) (zero-add e)
 
-there-length : (p : List ℕ) (a e : ℕ) → e ≤ length p → length (between p a e) ≡ e - a
-there-length p a e h = rw (length-take (e - a) (drop a p), length-drop a p) (omega arith)
-
 seqno-same : (p : List ℕ) (a e : ℕ) (q : Place) → Inside p q → toId p (onSeqno a e q) ≡ withSeqno (between p a e) (bytesAt p 0 q)
 seqno-same p a e place.Absent h = refl
 seqno-same p a e (place.Present b f) h =
-    let l = there-length p b f (h b f refl .1) in
+    let l = between-length p b f (h b f refl .1) in
     (either (eqb (f - b) 0 || ltb 64 (f - b)) (λ t. rw l (simp t)) (λ t. rw l (simp t)))
     ∙ ap (withSeqno (between p a e)) (sym (bytes-there p b f))
 
 from-same : (p : List ℕ) (f q : Place) → Inside p f → Inside p q → toId p (onFrom f q) ≡ withFrom (bytesAt p 0 f) (bytesAt p 0 q)
 from-same p place.Absent q h k = refl
 from-same p (place.Present a e) q h k =
-    let l = there-length p a e (h a e refl .1) in
+    let l = between-length p a e (h a e refl .1) in
     (either (eqb (e - a) 0 || ltb 64 (e - a)) (λ t. rw l (simp t)) (λ t. rw l (simp t (seqno-same p a e q k))))
     ∙ ap (λ (o : Option (List ℕ)). withFrom o (bytesAt p 0 q)) (sym (bytes-there p a e))
 

@@ -134,7 +134,7 @@ joined-field (c ∷ cs) =
     omega arith
 
 -- ---- the RPC
-raw-same : (d : List ℕ) (m : RawMessage) → IsMessage d m → length (m .raw) ≤ length d
+pub raw-same : (d : List ℕ) (m : RawMessage) → IsMessage d m → length (m .raw) ≤ length d
 raw-same _ _ (is-message g u) = omega arith
 
 pub never-longer : {s : List ℕ} {x : Rpc} → IsRpc s x → length (encodeRpc x) ≤ length s

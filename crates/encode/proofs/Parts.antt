@@ -16,7 +16,7 @@ use Rattle.protobuf.specs.Field.{readField}
 use Rattle.protobuf.specs.Walk.{walkAt, fieldsOf, between, isBytes, valueIn}
 use Rattle.protobuf.specs.WalkLaws.{walk-on}
 use Rattle.protobuf.specs.Encode.{tag, varintField, bytesField}
-use Rattle.protobuf.specs.EncodeLaws.{tag-varint}
+use Rattle.protobuf.specs.EncodeLaws.{tag-varint, field-holds}
 use Rattle.schema.specs.declared.Kind.{Kind}
 use Rattle.schema.specs.declared.Kind.the-variants as kind
 use Rattle.schema.specs.declared.Role.{Role}
@@ -67,11 +67,6 @@ module _ (n : ℕ) (f : Field) (xs : List ℕ) where
 
   pub field-other : f .«wire_type» ≡ 2 → (f .field ≡ n → ⊥) → cond (isBytes n f) xs [] ≡ []
   field-other p q = simp (eq-eqb _ _ p, ne-eqb _ _ q)
-
--- a field is longer than what it holds
-pub holds-less : (n : ℕ) (d : List ℕ) → length d ≤ length (bytesField n d)
-unfolding bytesField
-holds-less n d = omega (arith, length-append (tag n 2) (uvarint (length d) ++ d), length-append (uvarint (length d)) d)
 
 -- ---- a message's part n, by the field's role
 module _ (k : Kind) (n : ℕ) (s : List ℕ) (r : Role) (e : r ≡ roleOf k n 2) where
@@ -156,7 +151,7 @@ entries-field m s i f h = ap (entriesAlong m s) (walk-on s i (step.At f) h)
 -- ---- a field n that holds d, whose length was measured: a head, and d where it ends
 module _ (n : ℕ) (xs d : List ℕ) (at : ℕ) (y : xs ≡ bytesField n d) (h : Fits at xs) where
   pub measure-fits : Fits 0 d
-  measure-fits = let w = fits-same at _ _ y h in let l = holds-less n d in omega arith
+  measure-fits = let w = fits-same at _ _ y h in let l = field-holds n d in omega arith
 
   module _ (none after : List ℕ) (len : ℕ) (m : Puts none 0 d after len) where
     whole-is : xs ≡ (tag n 2 ++ uvarint len) ++ d

@@ -32,7 +32,7 @@ use Rattle.protobuf.specs.Laws.{Stands, part-fits}
 use Rattle.protobuf.specs.WalkLaws.{along}
 use Rattle.protobuf.specs.Walk.{Fields, end, refused, _then_, walkAt, fieldsOf, between, isBytes, valueIn}
 use Rattle.protobuf.specs.Encode.{tag, bytesField}
-use Rattle.protobuf.specs.EncodeLaws.{varint-field-length, bytes-field-length}
+use Rattle.protobuf.specs.EncodeLaws.{tag-one, varint-field-length, bytes-field-length}
 use Rattle.schema.specs.declared.Kind.{Kind}
 use Rattle.schema.specs.declared.Kind.the-variants as kind
 use Rattle.schema.specs.declared.Role.{Role}
@@ -173,12 +173,8 @@ short-from (suc f) n h =
     either (ltb n 128) (λ e. rw (uvarint-small n (ltb-true n 128 e)) (omega arith))
     (λ e. let g : 128 ≤ n = ltb-false n 128 e in let l = short-from f (n / 128) (omega arith) in rw (uvarint-big n g) (omega arith))
 
-pub tag-one : (n type : ℕ) → n ≤ 6 → type ≤ 2 → length (tag n type) ≡ 1
-unfolding tag
-tag-one n type h t = rw (uvarint-small (n * 8 + type) (omega arith))
-
 field-most : (n : ℕ) (d : List ℕ) → n ≤ 6 → length (bytesField n d) ≤ 2 * length d + 2
-field-most n d h = let t = tag-one n 2 h (omega arith) in let l = short-from (length d) (length d) (omega arith) in omega (arith, bytes-field-length n d)
+field-most n d h = let t = tag-one n 2 (omega arith) (omega arith) in let l = short-from (length d) (length d) (omega arith) in omega (arith, bytes-field-length n d)
 
 cond-most : (t : Bool) (xs : List ℕ) → length (cond t xs []) ≤ length xs
 cond-most true xs = omega arith
@@ -227,7 +223,7 @@ number-most : (k : Kind) (n : ℕ) (x : Num) → n ≤ 6 → Small x → length 
 unfolding numbered
 number-most k n number.Absent h g = omega arith
 number-most k n (number.Present v) h g =
-    let t = tag-one n 0 h (omega arith) in
+    let t = tag-one n 0 (omega arith) (omega arith) in
     let w = at-most-ten (valueOf k v) (value-of-small k v (g v refl)) in
     omega (arith, varint-field-length n (valueOf k v))
 

@@ -30,14 +30,14 @@ use Rattle.protobuf.specs.Laws.{Stands}
 use Rattle.protobuf.specs.Walk.{Fields, walkAt, isBytes, valueIn}
 use Rattle.protobuf.specs.WalkLaws.{along}
 use Rattle.protobuf.specs.Encode.{bytesField}
-use Rattle.protobuf.specs.EncodeLaws.{bytes-field-length}
+use Rattle.protobuf.specs.EncodeLaws.{tag-one, bytes-field-length}
 use Rattle.schema.specs.declared.Kind.the-variants as kind
 use Rattle.schema.specs.declared.Role.the-variants.{Topic}
 use Rattle.schema.specs.declared.Slots.{Slots}
 use Rattle.schema.specs.Schema.{roleOf}
 use Rattle.schema.specs.Slots.{noSlots, setPlace, withField, slotsAlong, slotsOf}
 use Rattle.encode.specs.Canon.{eachAlong, placed, slotIn, inner, canon, partOf}
-use Rattle.encode.specs.CanonLaws.{canon-four, tag-one}
+use Rattle.encode.specs.CanonLaws.{canon-four}
 
 -- ---- a length-delimited field is as long as it is written
 -- the length stands between the tag and the bytes
@@ -89,7 +89,7 @@ module _ (s : List ℕ) (b : Bytes s) (f : Field) (w : f .«wire_type» ≡ 2) w
   field-long at n l st h =
       let m = field-room at h in
       let v : length (valueIn s f) ≡ f .next - f .start = length-take-le (f .next - f .start) (drop (f .start) s) (rw (length-drop (f .start) s) (omega (arith, st .within))) in
-      let t = tag-one n 2 l (omega arith) in
+      let t = tag-one n 2 (omega arith) (omega arith) in
       let u : length (uvarint (length (valueIn s f))) ≡ length (uvarint (f .next - f .start)) = ap (λ (x : ℕ). length (uvarint x)) v in
       omega (arith, bytes-field-length n (valueIn s f), st .tagged, st .begins, st .ends)
 

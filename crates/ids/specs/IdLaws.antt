@@ -3,22 +3,24 @@ use Prim.Native.Nat.{ℕ, _+_, _-_, _≤_}
 use mathlib.Core.Path.{_≡_, refl}
 use mathlib.Core.List.{List}
 use native.Mathlib.Omega.{arith}
-use lib.ListN.{length, drop, length-append, length-drop}
-use lib.Seq.{length-take-le}
+use lib.ListN.{length, length-append}
 use lib.Dec.{ltb, eqb}
 use borrow.Author.Tests.{ltb-false, eqb-false}
 use Rattle.basis.specs.Cases.{either, clash}
 use Rattle.protobuf.specs.Walk.{Fields, walkAt, isBytes, between}
-use Rattle.protobuf.specs.WalkLaws.{along}
+use Rattle.protobuf.specs.WalkLaws.{between-length, along}
 use Rattle.schema.specs.declared.Kind.the-variants as kind
 use Rattle.schema.specs.declared.Place.{Place}
 use Rattle.schema.specs.declared.Place.the-variants as place
+use Rattle.schema.specs.declared.Counted.{Counted}
+use Rattle.schema.specs.declared.Counted.the-variants as count
+use Rattle.schema.specs.Count.{counted}
 use Rattle.schema.specs.Slots.{slotsOf}
 use Rattle.schema.specs.SlotsLaws.{Inside, slots-inside}
 use Rattle.ids.specs.declared.MessageAt.the-variants.{At}
 use Rattle.ids.specs.declared.MessageId.the-variants as id
 use Rattle.protobuf.specs.declared.Checked.the-variants.{Fine}
-use Rattle.ids.specs.Ids.{acceptOf, messageAlong, messageAt, onSeqno, onFrom, idParts, idBytes}
+use Rattle.ids.specs.Ids.{onCounted, acceptOf, messageAlong, messageAt, onSeqno, onFrom, idParts, idBytes}
 
 -- a message that is found lies within the body
 along-inside : (s : List ℕ) (i a e : ℕ) (at n : ℕ) → messageAlong i n (walkAt s at) ≡ At a e → (a ≤ e) × (e ≤ length s)
@@ -77,9 +79,14 @@ pub accept-small : (s : List ℕ) → acceptOf s ≡ Fine → length s ≤ 65536
 unfolding acceptOf
 accept-small s h = either (ltb 65536 (length s)) (λ t. clash (let k = simp t at h in cc)) (λ t. ltb-false 65536 (length s) t)
 
--- the bytes from a up to e
-pub part-length : (p : List ℕ) (a e : ℕ) → a ≤ e → e ≤ length p → length (between p a e) ≡ e - a
-part-length p a e h k = length-take-le (e - a) (drop a p) (rw (length-drop a p) (omega arith))
+accept-counts : (c : Counted) → onCounted c ≡ Fine → (r : ℕ) × (c ≡ count.Records r) × (r ≤ 512)
+accept-counts (count.Refused why) h = clash (cc)
+accept-counts (count.Records r) h = either (ltb 512 r) (λ t. clash (let k = simp t at h in cc)) (λ t. (r, refl, ltb-false 512 r t))
+
+-- a body that is taken has at most 512 records
+pub accept-records : (s : List ℕ) → acceptOf s ≡ Fine → (r : ℕ) × (counted kind.Rpc s ≡ count.Records r) × (r ≤ 512)
+unfolding acceptOf
+accept-records s h = either (ltb 65536 (length s)) (λ t. clash (let k = simp t at h in cc)) (λ t. accept-counts (counted kind.Rpc s) (simp t at h))
 
 -- from and seqno are not empty
 some-seqno : (x y a e b f : ℕ) (q : Place) → onSeqno x y q ≡ id.Parts a e b f → (x ≡ a) × (y ≡ e) × (1 ≤ f - b)
@@ -111,6 +118,6 @@ id-size p a e b f h =
     let g = id-fits p a e b f h in
     let m = id-some p a e b f h in
     let n = length-append (between p a e) (between p b f) in
-    let x = part-length p a e (g .from .0) (g .from .1) in
-    let y = part-length p b f (g .seqno .0) (g .seqno .1) in
+    let x = between-length p a e (g .from .1) in
+    let y = between-length p b f (g .seqno .1) in
     (omega (arith, m .0, m .1), omega (arith, g .from-short, g .seqno-short))
