@@ -18,7 +18,8 @@ use Rattle.node.specs.declared.Lent.the-variants as lent
 use Rattle.node.specs.Gateway.{marked, toldOf, lacking}
 use Rattle.node.specs.Calls.{Plan, taken, lentOf, servedOf, roomOf}
 use Rattle.node.specs.Laws.{fit-plan}
-use Rattle.history.specs.History.{State, gatewayOf, Settings, Call, admit, planIn, after, afterAll, readings, NoneRefused, all-done, done, admits}
+use Rattle.history.specs.History.{State, gatewayOf, Settings, Call, admit, planIn, after, afterAll, readings, NoneRefused}
+use Rattle.history.specs.History.{all-done, done, admits}
 use Rattle.history.specs.Laws.{taken-number}
 use Rattle.agreement.specs.Premises.{MessageSet, Member, Members, none-left, member}
 use Rattle.agreement.specs.Round.{lacked, Play, Fair, replyOf, servedCount, askerRound, tellerRound}

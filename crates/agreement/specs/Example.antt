@@ -30,7 +30,8 @@ use Rattle.mcache.specs.Messages.{held, put, shift}
 use Rattle.mcache.specs.State.{legal}
 use Rattle.node.specs.Gateway.{started, isNew, afterAdmit, afterBeat}
 use Rattle.node.specs.State.{legalSettings, freshNode, risesFrom}
-use Rattle.history.specs.History.{State, Settings, Fresh, Call, admit, heartbeat, readings, beats as beatsIn, timesGot, timesNew, timesDuplicate}
+use Rattle.history.specs.History.{State, Settings, Fresh, Call, admit, heartbeat, readings, beats as beatsIn, timesGot}
+use Rattle.history.specs.History.{timesNew, timesDuplicate}
 use Rattle.history.specs.Laws.{new-or-duplicate}
 use Rattle.history.specs.Script.{Carries, Act, gets, beats, callsOf, gotIn, newIn, Written, nothing, got, beaten}
 use Rattle.history.specs.ScriptLaws.{fresh-acted, fresh-new}

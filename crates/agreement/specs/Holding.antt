@@ -30,9 +30,10 @@ use Rattle.node.specs.State.{risesFrom}
 use Rattle.node.specs.Calls.{Plan, no, taken, heldAt, admitCache, beatAnswer}
 use Rattle.node.specs.Laws.{plan-takes, is-new, beat-says}
 use Rattle.node.specs.WellFormedLaws.{rises-less, first-least}
-use Rattle.history.specs.History.{State, gatewayOf, Settings, Fresh, Call, admit, heartbeat, advertise, ask, serve, planIn, after, afterAll, reading}
-use Rattle.history.specs.History.{readings, firstOf, beat, beats}
-use Rattle.history.specs.Laws.{node-clock, Kept, after-keeps, fresh-keeps, fresh-starts, fresh-clock, admit-none, admit-leaves, admit-clock, beat-leaves, beat-clock}
+use Rattle.history.specs.History.{State, gatewayOf, Settings, Fresh, Call, admit, heartbeat, advertise, ask, serve}
+use Rattle.history.specs.History.{planIn, after, afterAll, reading, readings, firstOf, beat, beats}
+use Rattle.history.specs.Laws.{node-clock, Kept, after-keeps, fresh-keeps, fresh-starts, fresh-clock, admit-none}
+use Rattle.history.specs.Laws.{admit-leaves, admit-clock, beat-leaves, beat-clock}
 use Rattle.agreement.specs.Premises.{MessageSet, Member, MemberAt, Members, member, Clock, Premises}
 use Rattle.agreement.specs.Rows.{Rows, none, rows-snoc, rows-lengths, rows-live, rows-shift, rows-held}
 

@@ -10,8 +10,9 @@ use Rattle.basis.specs.Cases.{either}
 use Rattle.rows.specs.Ids.{sameBytes, among}
 use Rattle.rows.specs.IdsLaws.{same-self, same-equal, among-append}
 use Rattle.node.specs.Calls.{Plan, no, taken, heldAt}
-use Rattle.history.specs.History.{State, Settings, Call, admit, heartbeat, advertise, ask, serve, planIn, reading, readings, beat, beats}
-use Rattle.history.specs.History.{isNew, countPlan, countAt, times, timesGot, timesNew, timesDuplicate}
+use Rattle.history.specs.History.{State, Settings, Call, admit, heartbeat, advertise, ask, serve, planIn, reading}
+use Rattle.history.specs.History.{readings, beat, beats, isNew, countPlan, countAt, times, timesGot, timesNew}
+use Rattle.history.specs.History.{timesDuplicate}
 use Rattle.history.specs.Laws.{new-or-duplicate}
 use Rattle.agreement.specs.Premises.{MessageSet, Member, MemberAt, Members, Premises}
 use Rattle.agreement.specs.Holding.{withGot, gotBy, gotNext, gotAll, Holding, admit-held, holding-start, holding-next, members-here, members-rest}

@@ -26,7 +26,8 @@ use Rattle.node.specs.declared.Ask.the-variants as asked
 use Rattle.node.specs.declared.Serve.{Serve}
 use Rattle.node.specs.Gateway.{Gateway, toldOf, lacking, having}
 use Rattle.node.specs.Calls.{lentOf, advertiseAnswer, advertiseLeft, advertiseBytes, askAnswer, askLeft, askBytes, serveAnswer, serveLeft, cachedOf, wanted, roomOf, servedOf, replyBytes, replyTo, serveNumber}
-use Rattle.history.specs.History.{State, gatewayOf, Settings, advertise, ask, serve, refusalAt, servedBytes, servedMessages}
+use Rattle.history.specs.History.{State, gatewayOf, Settings, advertise, ask, serve, refusalAt, servedBytes}
+use Rattle.history.specs.History.{servedMessages}
 use Rattle.agreement.specs.Round.{Play, Fair, advertOf, requestOf, replyAnswer, replyOf, servedCount}
 use Rattle.agreement.specs.Holding.{Holding}
 use Rattle.agreement.specs.HandOver.{advert-rpc, advert-taken, request-rpc, request-taken, reply-has, reply-all, lacks-exactly}

@@ -9,7 +9,8 @@ use Rattle.rows.specs.Ids.{among}
 use Rattle.admission.specs.Admission.{givesId}
 use Rattle.node.specs.State.{risesFrom}
 use Rattle.node.specs.Calls.{Plan, no, taken}
-use Rattle.history.specs.History.{State, Settings, Fresh, Call, admit, heartbeat, advertise, ask, serve, planIn, after, readings, beats}
+use Rattle.history.specs.History.{State, Settings, Fresh, Call, admit, heartbeat, advertise, ask, serve, planIn, after}
+use Rattle.history.specs.History.{readings, beats}
 
 -- ---- the set of messages; a message is the bytes of the submessage
 pub record MessageSet (set : List (List ℕ)) : Type 0 where

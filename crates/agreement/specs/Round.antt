@@ -10,7 +10,8 @@ use Rattle.mcache.specs.Messages.{Cached, topics}
 use Rattle.node.specs.declared.Serve.{Serve}
 use Rattle.node.specs.Gateway.{Gateway, marked}
 use Rattle.node.specs.Calls.{advertiseAnswer, advertiseLeft, askAnswer, askLeft, serveAnswer, serveLeft}
-use Rattle.history.specs.History.{State, gatewayOf, Settings, Call, advertise, ask, serve, afterAll, toldBytes, askedBytes, servedBytes, servedMessages, admits}
+use Rattle.history.specs.History.{State, gatewayOf, Settings, Call, advertise, ask, serve, afterAll, toldBytes}
+use Rattle.history.specs.History.{askedBytes, servedBytes, servedMessages, admits}
 
 -- ---- "lacks": the messages of a topic that are cached at one gateway and not seen by the asker
 unfoldable pub missing : List ℕ → Gateway → List Cached → List Cached

@@ -18,9 +18,10 @@ use Rattle.node.specs.Calls.{beatNumber, beatAnswer, beatNode}
 use Rattle.node.specs.WellFormed.{Typed}
 use Rattle.node.specs.Laws.{fresh-gateway, admit-gateway, beat-says, beat-gateway}
 use Rattle.node.specs.WellFormedLaws.{Keeps, begun-keeps, admitted-keeps, beaten-keeps}
-use Rattle.history.specs.History.{State, gatewayOf, Settings, Fresh, Call, admit, heartbeat, advertise, ask, serve, planIn, after, afterAll}
-use Rattle.history.specs.History.{reading, readings, beats, refusalAt, NoneRefused, all-done, done, admits}
-use Rattle.history.specs.History.{isNew, isDuplicate, countPlan, countAt, times, timesGot, timesNew, timesDuplicate, newAt, newIds}
+use Rattle.history.specs.History.{State, gatewayOf, Settings, Fresh, Call, admit, heartbeat, advertise, ask, serve}
+use Rattle.history.specs.History.{planIn, after, afterAll, reading, readings, beats, refusalAt, NoneRefused}
+use Rattle.history.specs.History.{all-done, done, admits, isNew, isDuplicate, countPlan, countAt, times, timesGot}
+use Rattle.history.specs.History.{timesNew, timesDuplicate, newAt, newIds}
 
 -- ---- calls, and then more calls
 pub after-append : (cs ds : List Call) (s : State) → afterAll (cs ++ ds) s ≡ afterAll ds (afterAll cs s)

@@ -9,10 +9,12 @@ use Rattle.node.specs.declared.Lent.the-variants as lent
 use Rattle.node.specs.Gateway.{started}
 use Rattle.node.specs.Calls.{taken, lentOf, planned, heldAt}
 use Rattle.node.specs.Laws.{fit-plan, is-new}
-use Rattle.history.specs.History.{State, gatewayOf, Settings, Fresh, admit, heartbeat, planIn, after, afterAll, countAt, times, timesGot, timesNew}
-use Rattle.history.specs.History.{isNew as newAnswer}
-use Rattle.history.specs.Laws.{node-clock, Kept, after-keeps, fresh-keeps, fresh-starts, fresh-clock, admit-leaves, admit-clock, beat-leaves, beat-clock}
-use Rattle.history.specs.Script.{Carries, Act, gets, beats, asks, callsOf, gatewayAfter, gotBy, gotIn, newBy, newIn, Written, nothing, got, beaten, asked}
+use Rattle.history.specs.History.{State, gatewayOf, Settings, Fresh, admit, heartbeat, planIn, after, afterAll}
+use Rattle.history.specs.History.{countAt, times, timesGot, timesNew, isNew as newAnswer}
+use Rattle.history.specs.Laws.{node-clock, Kept, after-keeps, fresh-keeps, fresh-starts, fresh-clock, admit-leaves}
+use Rattle.history.specs.Laws.{admit-clock, beat-leaves, beat-clock}
+use Rattle.history.specs.Script.{Carries, Act, gets, beats, asks, callsOf, gatewayAfter, gotBy, gotIn, newBy, newIn}
+use Rattle.history.specs.Script.{Written, nothing, got, beaten, asked}
 
 -- ---- each admit takes the message that it is written with
 pub data Takes : List Act → State → Type 0 where
