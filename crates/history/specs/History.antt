@@ -91,6 +91,7 @@ unfoldable pub readings : List Call → List ℕ
 readings [] = []
 readings (c ∷ cs) = reading c ++ readings cs
 
+-- the first
 abbrev pub firstOf : List Call → ℕ
 firstOf calls = getD (readings calls) 0 0
 
@@ -187,6 +188,7 @@ abbrev pub timesDuplicate : List ℕ → List Call → State → ℕ
 timesDuplicate m calls s = times isDuplicate m calls s
 
 -- ---- the ids that are called new, in the form in which they are seen, in their order
+-- of one admit: its id once, or none
 abbrev pub newPlan : State → ℕ → Plan → List (List ℕ)
 newPlan s at (no r) = []
 newPlan s at (taken p id) = replicate (isNew (admitAnswer (s .node) (s .ids) at (taken p id))) (marked id)
