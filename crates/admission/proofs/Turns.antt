@@ -23,7 +23,7 @@ use Rattle.schema.specs.declared.Slots.{Slots}
 use Rattle.schema.specs.Slots.{slotsOf}
 use Rattle.ids.specs.declared.MessageId.{MessageId}
 use Rattle.ids.specs.Ids.{onFrom, idParts, idBytes}
-use Rattle.ids.specs.IdLaws.{part-length}
+use Rattle.protobuf.specs.WalkLaws.{between-length}
 use Rattle.admission.specs.declared.Unfit.the-variants.{TopicCount, TopicTooLong, MessageTooLong}
 use Rattle.admission.specs.declared.Admission.{Admission}
 use Rattle.admission.specs.declared.Admission.the-variants as admission
@@ -51,10 +51,6 @@ pub count-more : (p : List ℕ) (at n m : ℕ) (f : Field) → step.At f ≡ rea
 count-more p at n m f e h = ap (λ (l : List (List ℕ)). n + length l) (topics-on p at f e) ∙ count-step (isBytes 4 f) (valueIn p f) (topicsAlong p (walkAt p (f .next))) n m h
 
 -- one more, or none
-pub at-most : (t : Bool) (n m : ℕ) → m ≡ cond t (n + 1) n → m ≤ n + 1
-at-most true n m e = omega arith
-at-most false n m e = omega arith
-
 -- the first long topic, where `long` is that of the topics passed
 abbrev pub longFrom : ℕ → List (List ℕ) → ℕ
 longFrom long l = cond (eqb long 0) (firstLong l) long
@@ -73,7 +69,7 @@ pub long-more : (p : List ℕ) (at long next : ℕ) (f : Field) → step.At f �
     → longFrom long (topicsAlong p (walkAt p at)) ≡ longFrom next (topicsAlong p (walkAt p (f .next)))
 unfolding longAfter
 long-more p at long next f e st h =
-    let n = part-length p (f .start) (f .next) (st .ends) (st .within) in
+    let n = between-length p (f .start) (f .next) (st .within) in
     ap (longFrom long) (topics-on p at f e)
     ∙ long-step (isBytes 4 f) (valueIn p f) (topicsAlong p (walkAt p (f .next))) long next (h ∙ ap (λ (k : ℕ). longAfter f k long) (sym n))
 
@@ -138,14 +134,14 @@ admit-on p word t i j h k e = ap (onId p word) (sym e ∙ k ∙ ap (λ (x : Slot
 module _ (p i : List ℕ) (a e b f : ℕ) (o : a ≤ e) (l : e ≤ length p) where
   pub parts-short : length i < e - a → false ≡ sameBytes (idBytes p a e b f) i
   parts-short h =
-      let n = part-length p a e o l in
+      let n = between-length p a e l in
       let m = length-append (between p a e) (between p b f) in
       sym (same-length (idBytes p a e b f) i (λ q. absurd (omega arith)))
 
   split : sameBytes (idBytes p a e b f) i ≡ (sameBytes (between p a e) (take (e - a) i) && sameBytes (between p b f) (drop (e - a) i))
   split =
       same-append (between p a e) (between p b f) i
-      ∙ ap (λ (n : ℕ). sameBytes (between p a e) (take n i) && sameBytes (between p b f) (drop n i)) (part-length p a e o l)
+      ∙ ap (λ (n : ℕ). sameBytes (between p a e) (take n i) && sameBytes (between p b f) (drop n i)) (between-length p a e l)
 
   pub parts-first : (r : Bool) → sameBytes (between p a e) (take (e - a) i) ≡ true → r ≡ sameBytes (between p b f) (take (length i - (e - a)) (drop (e - a) i)) → r ≡ sameBytes (idBytes p a e b f) i
   parts-first r h k =

@@ -16,6 +16,7 @@ use Rattle.protobuf.specs.WalkLaws.{along}
 use Rattle.rows.specs.Ids.{sameBytes, among}
 use Rattle.rows.specs.IdsLaws.{same-self, same-equal}
 use Rattle.schema.specs.declared.Kind.the-variants as kind
+use Rattle.schema.specs.declared.Form.the-variants.{Whole}
 use Rattle.schema.specs.declared.Role.the-variants.{Sub}
 use Rattle.schema.specs.declared.Counted.{Counted}
 use Rattle.schema.specs.declared.Counted.the-variants as count
@@ -30,6 +31,7 @@ use Rattle.ids.specs.declared.MessageId.{MessageId}
 use Rattle.ids.specs.declared.MessageId.the-variants as id
 use Rattle.schema.specs.Accept.{acceptOf}
 use Rattle.ids.specs.Ids.{messageAlong, messageAt, idParts, idBytes}
+use Rattle.schema.specs.AcceptLaws.{accept-records}
 use Rattle.ids.specs.IdLaws.{id-size}
 use Rattle.admission.specs.declared.Unfit.{Unfit}
 use Rattle.admission.specs.declared.Unfit.the-variants.{MissingFrom, InvalidFrom, InvalidSeqno, SignatureInvalid}
@@ -177,16 +179,20 @@ pub gives-only : (p i : List ℕ) → givesId p i ≡ true → Gives p i
 unfolding givesId
 gives-only p i g = of-read p i (counted kind.RawMessage p) refl g
 
+-- a message gives one id
+pub one-id : (m i j : List ℕ) → givesId m i ≡ true → givesId m j ≡ true → i ≡ j
+one-id m i j g h =
+    let a = gives-only m i g in
+    let b = gives-only m j h in
+    let e : admission.Fit (a .from-start) (a .from-end) (a .seqno-start) (a .seqno-end) ≡ admission.Fit (b .from-start) (b .from-end) (b .seqno-start) (b .seqno-end) = sym (a .taken) ∙ b .taken in
+    let p : a .from-start ≡ b .from-start = cc in
+    let q : a .from-end ≡ b .from-end = cc in
+    let r : a .seqno-start ≡ b .seqno-start = cc in
+    let s : a .seqno-end ≡ b .seqno-end = cc in
+    a .named ∙ rw (p, q, r, s) (sym (b .named))
+
 -- ---- a message of an accepted body is well formed
-accept-counts : (c : Counted) → onCounted c ≡ Fine → (n : ℕ) × (c ≡ count.Records n)
-accept-counts (count.Refused why) h = clash (cc)
-accept-counts (count.Records n) h = (n, refl)
-
-accept-records : (s : List ℕ) → acceptOf s ≡ Fine → (n : ℕ) × (counted kind.Rpc s ≡ count.Records n)
-unfolding acceptOf
-accept-records s h = either (ltb 65536 (length s)) (λ t. clash (let k = simp t at h in cc)) (λ t. accept-counts (counted kind.Rpc s) (simp t at h))
-
-message-role : (f : Field) → isBytes 2 f ≡ true → roleOf kind.Rpc (f .field) (f .«wire_type») ≡ Sub kind.RawMessage
+message-role : (f : Field) → isBytes 2 f ≡ true → roleOf kind.Rpc (f .field) (f .«wire_type») ≡ Sub kind.RawMessage Whole
 unfolding roleOf
 message-role f h =
     either (eqb (f .«wire_type») 2)

@@ -8,17 +8,19 @@ use lib.ListN.{length}
 use Rattle.basis.specs.Cases.{either}
 use Rattle.rows.specs.Ids.{among}
 use Rattle.admission.specs.Admission.{topicsOf}
+use Rattle.admission.specs.AdmissionLaws.{one-id}
 use Rattle.seen.specs.Entries.{holds}
 use Rattle.mcache.specs.Messages.{Cached, topics}
 use Rattle.mcache.specs.GossipLaws.{among-in}
 use Rattle.node.specs.Gateway.{Gateway, marked}
-use Rattle.agreement.specs.History.{State, Call, afterAll, readings}
-use Rattle.agreement.specs.Premises.{MessageSet, Settings, Clock, Premises}
-use Rattle.agreement.specs.Round.{missing, gatewayOf, lacked, Play, Fair, turned, tellerRounds}
-use Rattle.agreement.specs.Rows.{one-id, rows-held}
+use Rattle.history.specs.History.{State, gatewayOf, Settings, Call, afterAll, readings}
+use Rattle.history.specs.Laws.{after-append}
+use Rattle.agreement.specs.Premises.{MessageSet, Clock, Premises}
+use Rattle.agreement.specs.Round.{missing, lacked, Play, Fair, turned, tellerRounds}
+use Rattle.agreement.specs.Rows.{rows-held}
 use Rattle.agreement.specs.Holding.{Holding, holding-all}
 use Rattle.agreement.specs.Identical.{rows-kept, rows-entry, none-missing, Identical, identical-bytes}
-use Rattle.agreement.specs.CatchUp.{after-append, teller-stays, CaughtUp, allAsked, allTold, caught-up, all-arrived}
+use Rattle.agreement.specs.CatchUp.{teller-stays, CaughtUp, allAsked, allTold, caught-up, all-arrived}
 
 -- ---- what a gateway does not lack it does not lack after the other got more, where it had that itself
 all-seen : (topic : List ℕ) (g : Gateway) (cs : List Cached) → ((c : Cached) → List·Memᴰ c cs → among topic (topics c) ≡ true → holds (marked (c .id)) (g .seen) ≡ true) → missing topic g cs ≡ []

@@ -1,30 +1,28 @@
 -- One round: every call in it is done, all that is served is got, and of what the asker lacks fifteen messages arrive, or all.
 use Prim.Native.Nat.{ℕ, zero, suc, _+_, _-_, _≤_, _<_}
 use mathlib.Core.Path.{_≡_, refl, sym, ap, subst, _∙_}
-use mathlib.Core.Bool.{true, false, _||_, or-true}
+use mathlib.Core.Bool.{true, false, _||_}
 use mathlib.Core.List.{List, [], _∷_, _++_}
 use native.Mathlib.Omega.{arith}
 use lib.ListN.{length, getD, take, length-append}
-use lib.Seq.{length-take-le}
+use lib.Seq.{length-take-le, take-length}
 use lib.Dec.{eqb}
-use borrow.Author.Tests.{le-ltb, eqb-true, eqb-false}
+use borrow.Author.Tests.{eqb-true, eqb-false}
 use Rattle.basis.specs.Cases.{either, clash}
 use Rattle.rows.specs.Ids.{sameBytes, among, distinct}
-use Rattle.rows.specs.IdsLaws.{same-self, same-equal, among-append, among-at}
-use Rattle.admission.specs.Admission.{admissionOf, givesId}
-use Rattle.admission.specs.AdmissionLaws.{gives-only}
+use Rattle.rows.specs.IdsLaws.{same-equal, among-append, among-at, among-take, distinct-take, distinct-append, all-few}
 use Rattle.parts.specs.PartsLaws.{fitting-le}
 use Rattle.seen.specs.Entries.{holds}
 use Rattle.mcache.specs.Messages.{get}
-use Rattle.node.specs.declared.Node.{Node}
 use Rattle.node.specs.declared.Lent.the-variants as lent
 use Rattle.node.specs.Gateway.{marked, toldOf, lacking}
-use Rattle.node.specs.Calls.{Plan, taken, lentOf, planFit, heldAt, servedOf, roomOf}
-use Rattle.node.specs.WellFormedLaws.{reached-fine}
-use Rattle.outputs.specs.Replied.{all-few}
-use Rattle.agreement.specs.History.{State, Call, admit, planIn, after, afterAll, readings, refusalAt, NoneRefused, all-done, done}
-use Rattle.agreement.specs.Premises.{MessageSet, Settings, Member, Members, none-left, member}
-use Rattle.agreement.specs.Round.{gatewayOf, lacked, Play, Fair, replyOf, servedCount, admits, askerRound, tellerRound}
+use Rattle.node.specs.Calls.{Plan, taken, lentOf, servedOf, roomOf}
+use Rattle.node.specs.Laws.{fit-plan}
+use Rattle.history.specs.History.{State, gatewayOf, Settings, Call, admit, planIn, after, afterAll, readings, NoneRefused}
+use Rattle.history.specs.History.{all-done, done, admits}
+use Rattle.history.specs.Laws.{taken-number}
+use Rattle.agreement.specs.Premises.{MessageSet, Member, Members, none-left, member}
+use Rattle.agreement.specs.Round.{lacked, Play, Fair, replyOf, servedCount, askerRound, tellerRound}
 use Rattle.agreement.specs.Rows.{rows-held}
 use Rattle.agreement.specs.Holding.{withGot, gotBy, gotAll, Holding, admit-forward, holding-admit}
 use Rattle.agreement.specs.Once.{with-again, with-this, with-other}
@@ -34,29 +32,6 @@ use Rattle.agreement.specs.Lacking.{Got, told-got, wants-once, wants-cou
 use Rattle.agreement.specs.Played.{advert-done, request-done, reply-done, replied, served-is, wants, replies, replies-count, reply-at, reply-got, enough, reply-delivers}
 
 -- ---- lists of ids
-take-out : (k : ℕ) (i : List ℕ) (l : List (List ℕ)) → among i l ≡ false → among i (take k l) ≡ false
-unfolding among
-take-out zero i l h = refl
-take-out (suc k) i [] h = refl
-take-out (suc k) i (j ∷ l) h = either (sameBytes j i) (λ t. clash (let z = simp t at h in cc)) (λ t. simp t (take-out k i l (simp t at h)))
-
-take-distinct : (k : ℕ) (l : List (List ℕ)) → distinct l ≡ true → distinct (take k l) ≡ true
-unfolding distinct
-take-distinct zero l d = refl
-take-distinct (suc k) [] d = refl
-take-distinct (suc k) (i ∷ l) d =
-    either (among i l) (λ t. clash (let z = simp t at d in cc)) (λ t. simp (take-out k i l t) (take-distinct k l (simp t at d)))
-
-append-distinct : (l r : List (List ℕ)) → distinct l ≡ true → distinct r ≡ true → ((i : List ℕ) → among i l ≡ true → among i r ≡ false) → distinct (l ++ r) ≡ true
-unfolding distinct among
-append-distinct [] r d e apart = e
-append-distinct (i ∷ l) r d e apart =
-    either (among i l) (λ t. clash (let z = simp t at d in cc))
-    (λ t.
-    let a = apart i (simp (same-self i)) in
-    let n : among i (l ++ r) ≡ false = among-append i l r ∙ simp (t, a) in
-    simp n (append-distinct l r (simp t at d) e (λ j u. apart j (rw u (or-true (sameBytes i j))))))
-
 -- one of the first k stands at an index below k
 record Stands (i : List ℕ) (k : ℕ) (l : List (List ℕ)) : Type 0 where
   index : ℕ
@@ -76,10 +51,6 @@ stands (suc k) i (j ∷ l) h =
     let w = r .within in
     record { index = suc (r .index); early = omega arith; within = omega arith; there = r .there })
 
--- ---- an admit of a message that gives an id takes it, where the clock does not go back
-pub fit-plan : (n : Node) (at : ℕ) (m id : List ℕ) → givesId m id ≡ true → n .clock ≤ at → planFit n at m (admissionOf m true) ≡ taken m id
-fit-plan n at m id own h = let g = gives-only m id own in rw (g .taken, le-ltb at (n .clock) h) (ap (λ (i : List ℕ). taken m i) (sym (g .named)))
-
 -- ---- admits of messages of the set, one after the other
 pub record Admitted (set : List (List ℕ)) (x : Settings) (first past : ℕ) (rs : List ℕ) (left : ℕ) (got served : List (List ℕ)) (i k : ℕ) (calls : List Call) (s : State) : Type 0 where
   pub members : Members set calls s
@@ -92,9 +63,6 @@ pub record Admitted (set : List (List ℕ)) (x : Settings) (first past : ℕ) (r
 withThis : (m : List ℕ) (got : List (List ℕ)) → among m (withGot m got) ≡ true
 withThis m got = either (among m got) (λ t. with-again m m got t) (λ t. with-this m got t)
 
-taken-number : (s : State) (body : List ℕ) (i at : ℕ) (m id : List ℕ) → planIn s body i true at ≡ taken m id → refusalAt s (admit body i true at) ≡ 0
-taken-number s body i at m id e = rw e (either (heldAt (s .node) (s .ids) at id) (λ t. simp t) (λ t. simp t))
-
 module _ {set : List (List ℕ)} (ms : MessageSet set) {x : Settings} {first past : ℕ} (rs : List ℕ) {left : ℕ} (body : List ℕ) (at : ℕ → ℕ) (served ids : List (List ℕ)) (n : ℕ)
     (plans : (s : State) (i : ℕ) → lentOf (s .node) (s .ids) (s .messages) ≡ lent.Fine → s .node .clock ≤ at i → i < n → planIn s body i true (at i) ≡ taken (getD served i []) (getD ids i []))
     (inside : (i : ℕ) → i < n → among (getD served i []) set ≡ true) (few : n ≤ length served) where
@@ -106,14 +74,14 @@ module _ {set : List (List ℕ)} (ms : MessageSet set) {x : Settings} {first pas
   all-admitted (suc k) i {got} {s} l h =
       let m = getD served i [] in
       let c = admit body i true (at i) in
-      let e : planIn s body i true (at i) ≡ taken m (getD ids i []) = plans s i (reached-fine (h .reached)) (admit-forward body i true (at i) h) (omega arith) in
+      let e : planIn s body i true (at i) ≡ taken m (getD ids i []) = plans s i (h .kept .fine) (admit-forward body i true (at i) h) (omega arith) in
       let ins : Member set (planIn s body i true (at i)) = subst (λ (q : Plan). Member set q) (sym e) (inside i (omega arith)) in
       let next = holding-admit body i true (at i) h ms ins in
       let r = all-admitted k (suc i) (omega arith) next in
       let g : gotBy got (planIn s body i true (at i)) ≡ withGot m got = ap (gotBy got) e in
       record {
         members = member ins (r .members);
-        none-refused = done (taken-number s body i (at i) m (getD ids i []) e) (r .none-refused);
+        none-refused = done (taken-number s body i true (at i) m (getD ids i []) e) (r .none-refused);
         holding = r .holding;
         keeps = λ o t. r .keeps o (ap (among o) g ∙ with-again o m got t);
         has = λ j a b.
@@ -232,12 +200,12 @@ module _ {set : List (List ℕ)} (ms : MessageSet set) {x y : Settings} {firstA 
   named-count = wants-count hb (p .topic) (p .windows) (fair .windows-y) a
 
   take-among : (k : ℕ) (i : List ℕ) (l : List (List ℕ)) → among i (take k l) ≡ true → among i l ≡ true
-  take-among k i l h = either (among i l) (λ t. t) (λ t. clash (let z = take-out k i l t in cc))
+  take-among k i l h = either (among i l) (λ t. t) (λ t. clash (let z = among-take k i l t in cc))
 
   fifteen-fewer : length (lacked (p .topic) later b) ≤ length (lacked (p .topic) a b) - 15
   fifteen-fewer =
       let k = servedCount p a b in
-      let d = append-distinct still (take k named) (wants-once hb (p .topic) (p .windows) (fair .windows-y) later) (take-distinct k named named-once) still-unserved in
+      let d = distinct-append still (take k named) (wants-once hb (p .topic) (p .windows) (fair .windows-y) later) (distinct-take k named named-once) still-unserved in
       let f = all-few named (still ++ take k named) d
       (λ i t.
       either (among i still) (λ u. still-named i u)
@@ -252,13 +220,9 @@ module _ {set : List (List ℕ)} (ms : MessageSet set) {x y : Settings} {firstA 
       omega arith
 
   -- all that is handed over the teller got
-  take-all : (l : List (List ℕ)) → take (length l) l ≡ l
-  take-all [] = refl
-  take-all (m ∷ l) = ap (λ (k : List (List ℕ)). m ∷ k) (take-all l)
-
   handed-got : (m : List ℕ) → among m handed ≡ true → among m gotB ≡ true
   handed-got m t =
-      let q = stands (length handed) m handed (ap (among m) (take-all handed) ∙ t) in
+      let q = stands (length handed) m handed (ap (among m) (take-length handed) ∙ t) in
       let w = q .within in
       let n = replies-count ha hb p fair in
       ap (λ (o : List ℕ). among o gotB) (sym (q .there)) ∙ reply-got ha hb p fair (q .index) (omega arith) .among-got

@@ -4,33 +4,18 @@ use Prim.Native.Nat.{ℕ, zero, suc, _+_, _-_, _*_, _/_, _≤_}
 use mathlib.Core.Path.{_≡_, refl, sym, ap, subst, _∙_}
 use mathlib.Core.List.{List, [], _∷_, _++_, append-nil, append-assoc}
 use native.Mathlib.Omega.{arith}
-use lib.ListN.{length, getD}
+use lib.ListN.{length, getD, drop-of-length-le}
 use mathlib.Core.Bool.{true, false}
 use Rattle.basis.specs.Cases.{either, clash}
 use Rattle.rows.specs.Ids.{among}
-use Rattle.mcache.specs.Messages.{Cached}
-use Rattle.agreement.specs.History.{State, Call, after, afterAll, reading, readings, beats, NoneRefused, all-done, done}
-use Rattle.agreement.specs.Premises.{MessageSet, Settings, Members, none-left, member, Clock, Premises}
-use Rattle.agreement.specs.Round.{lacked, Play, Fair, replyOf, servedCount, admits, askerRound, tellerRound, askerRounds, tellerRounds}
+use Rattle.history.specs.History.{State, Settings, Call, after, afterAll, readings, beats, NoneRefused, all-done}
+use Rattle.history.specs.Laws.{after-append, readings-append, beats-append, done-append, admits-beats}
+use Rattle.agreement.specs.Premises.{MessageSet, Members, none-left, member, Clock, Premises}
+use Rattle.agreement.specs.Round.{lacked, Play, Fair, replyOf, servedCount, askerRound, tellerRound, askerRounds, tellerRounds}
 use Rattle.agreement.specs.Holding.{gotNext, gotAll, pastAll, Holding, holding-fresh, holding-on, holding-all}
 use Rattle.agreement.specs.Arrive.{round-done}
 
 -- ---- calls, and then more calls
-pub after-append : (cs ds : List Call) (s : State) → afterAll (cs ++ ds) s ≡ afterAll ds (afterAll cs s)
-unfolding afterAll
-after-append [] ds s = refl
-after-append (c ∷ cs) ds s = after-append cs ds (after c s)
-
-readings-append : (cs ds : List Call) → readings (cs ++ ds) ≡ readings cs ++ readings ds
-unfolding readings
-readings-append [] ds = refl
-readings-append (c ∷ cs) ds = ap (λ (l : List ℕ). reading c ++ l) (readings-append cs ds) ∙ sym (append-assoc (reading c) (readings cs) (readings ds))
-
-beats-append : (cs ds : List Call) → beats (cs ++ ds) ≡ beats cs + beats ds
-unfolding beats
-beats-append [] ds = omega arith
-beats-append (c ∷ cs) ds = let r = beats-append cs ds in omega arith
-
 pub got-append : (got : List (List ℕ)) (cs ds : List Call) (s : State) → gotAll got (cs ++ ds) s ≡ gotAll (gotAll got cs s) ds (afterAll cs s)
 unfolding afterAll gotAll
 got-append got [] ds s = refl
@@ -41,17 +26,7 @@ unfolding afterAll
 members-append none-left n = n
 members-append (member a m) n = member a (members-append m n)
 
-done-append : {cs ds : List Call} {s : State} → NoneRefused cs s → NoneRefused ds (afterAll cs s) → NoneRefused (cs ++ ds) s
-unfolding afterAll
-done-append all-done n = n
-done-append (done a m) n = done a (done-append m n)
-
 -- ---- rounds have no heartbeats, and the teller reads no clock
-admits-beats : (body : List ℕ) (at : ℕ → ℕ) (i k : ℕ) → beats (admits body at i k) ≡ 0
-unfolding admits beats
-admits-beats body at i zero = refl
-admits-beats body at i (suc k) = let r = admits-beats body at (suc i) k in omega arith
-
 asker-beats : (p : Play) (r : ℕ) (at : ℕ → ℕ → ℕ) (a b : State) → beats (askerRounds p r at a b) ≡ 0
 unfolding askerRounds askerRound beats
 asker-beats p zero at a b = refl
@@ -214,8 +189,6 @@ module _ {set : List (List ℕ)} {x y : Settings} {calls-a calls-b : List Call} 
   -- so nothing is missing after as many rounds as n/15, rounded up
   pub all-arrived : (n : ℕ) → length (lacked (p .topic) (afterAll calls-a a) (afterAll calls-b b)) ≤ n → (n + 14) / 15 ≤ r
       → lacked (p .topic) (afterAll (allAsked set x y calls-a calls-b a b p r at) a) (afterAll (allTold set x y calls-a calls-b a b p r at) b) ≡ []
-  all-arrived n few enough = let l = caught-up .missing-left in no-more (lacked (p .topic) (afterAll (calls-a ++ askers) a) (afterAll (calls-b ++ tellers) b)) (omega arith)
-    where
-      no-more : (l : List Cached) → length l ≤ 0 → l ≡ []
-      no-more [] h = refl
-      no-more (c ∷ l) h = absurd (omega arith)
+  all-arrived n few enough =
+      let l = caught-up .missing-left in
+      drop-of-length-le (lacked (p .topic) (afterAll (calls-a ++ askers) a) (afterAll (calls-b ++ tellers) b)) {i = 0} (omega arith)

@@ -9,53 +9,37 @@ use lib.ListN.{length, getD}
 use lib.Seq.{getD-take}
 use Rattle.basis.specs.Bytes.{Bytes}
 use Rattle.protobuf.specs.declared.Checked.the-variants.{Fine}
-use Rattle.protobuf.specs.Walk.{between}
 use Rattle.rpc.specs.Rpc.{RawMessage, Rpc}
-use Rattle.rpc.specs.Grammar.{IsMessage, is-message, IsRpc}
+use Rattle.rpc.specs.Grammar.{IsRpc}
 use Rattle.ids.specs.declared.MessageAt.{MessageAt}
 use Rattle.ids.specs.declared.MessageAt.the-variants.{At, Count}
 use Rattle.schema.specs.Accept.{acceptOf}
 use Rattle.ids.specs.Ids.{messageAt}
 use Rattle.admission.specs.Admission.{admissionOf}
-use Rattle.canonical.specs.Calls.{taken}
-use Rattle.canonical.specs.Messages.{Nth, here, there, message-found, message-missing}
+use Rattle.canon.specs.Taken.{taken}
+use Rattle.canonical.specs.Calls.{none-in}
+use Rattle.canon.specs.Messages.{Nth, here, there, raw-is, message-found, message-missing}
 use Rattle.node.specs.declared.Node.{Node}
 use Rattle.node.specs.declared.Lent.the-variants as lent
 use Rattle.node.specs.Gateway.{toldOf, lacking, having}
 use Rattle.node.specs.State.{gatewayIn}
 use Rattle.node.specs.Calls.{lentOf, planFit, planned, advertiseBytes, askBytes, servedOf, replyBytes}
 use Rattle.outputs.specs.Replied.{Replies, serve-means}
+use Rattle.history.specs.Script.{Placed}
 use Rattle.agreement.specs.HandOver.{reply-has}
 
 -- ---- an element of a list of messages, and its bytes
-nth-bound : {i : ℕ} {xs : List RawMessage} {x : RawMessage} → Nth i xs x → i < length xs
-nth-bound here = omega arith
-nth-bound (there n) = let l = nth-bound n in omega arith
-
 nth-raw : {i : ℕ} {xs : List RawMessage} {x : RawMessage} → Nth i xs x → getD (map (λ (m : RawMessage). m .raw) xs) i [] ≡ x .raw
 nth-raw here = refl
 nth-raw (there n) = nth-raw n
 
-raw-is : {p : List ℕ} {m : RawMessage} → IsMessage p m → m .raw ≡ p
-raw-is (is-message g u) = refl
-
 -- ---- the message at an index of a body, byte for byte
-pub record Placed (s : List ℕ) (i : ℕ) (m : List ℕ) : Type 0 where
-  pub start : ℕ
-  pub next : ℕ
-  pub found : messageAt s i ≡ At start next
-  pub bytes : between s start next ≡ m
-
 placed-by : {s : List ℕ} {x : Rpc} (i : ℕ) (r : MessageAt) → IsRpc s x → i < length (x .publish) → messageAt s i ≡ r
     → Placed s i (getD (map (λ (m : RawMessage). m .raw) (x .publish)) i [])
 placed-by i (At a e) g h q =
     let f = message-found i a e g q in
     record { start = a; next = e; found = q; bytes = sym (raw-is (f .2)) ∙ sym (nth-raw (f .1)) }
 placed-by i (Count k) g h q = let l = message-missing i k g q in absurd (omega (arith, l .1))
-
-none-by : {s : List ℕ} {x : Rpc} (i : ℕ) (r : MessageAt) → IsRpc s x → length (x .publish) ≤ i → messageAt s i ≡ r → messageAt s i ≡ Count (length (x .publish))
-none-by i (At a e) g l q = let f = message-found i a e g q in let b = nth-bound (f .1) in absurd (omega arith)
-none-by i (Count k) g l q = let m = message-missing i k g q in q ∙ ap Count (m .0)
 
 -- ---- a reply as it is read
 pub record Delivers (ms : List (List ℕ)) (out : List ℕ) : Type 0 where
@@ -74,7 +58,7 @@ delivers ms out r =
           subst (λ (m : List ℕ). Placed s i m)
           (ap (λ (l : List (List ℕ)). getD l i []) (r .messages) ∙ getD-take (servedOf ms out) ms i [] h)
           (placed-by i (messageAt s i) (r .within .means) (omega arith) refl);
-      no-more = λ i h. none-by i (messageAt s i) (r .within .means) (omega arith) refl ∙ ap Count n;
+      no-more = λ i h. none-in i (messageAt s i) (r .within .means) (omega arith) refl ∙ ap Count n;
     }
 
 -- what an admit of such a message does is what it does with that message's bytes

@@ -10,6 +10,7 @@ use lib.Dec.{leb}
 use borrow.Author.Tests.{leb-true}
 use Rattle.basis.specs.Cases.{either, clash, both}
 use Rattle.basis.specs.Bytes.{Bytes}
+use Rattle.basis.specs.Lists.{zeros-bytes}
 use Rattle.peer_id.specs.Uvarint.{readUvarint, readFrom, groupOf}
 use Rattle.utf8.specs.Utf8.{isUtf8, run}
 use Rattle.protobuf.specs.Field.{readTag, readLen, readVarint, skipFixed, skipField, readValue, readField}
@@ -20,6 +21,7 @@ use Rattle.schema.specs.Slots.{setPlace, withField, slotsOf}
 use Rattle.schema.specs.Accept.{acceptOf}
 use Rattle.ids.specs.Ids.{messageAt, idParts}
 use Rattle.admission.specs.Admission.{topicsOf, firstLong, onLimits, admissionOf, givesId}
+use Rattle.admission.specs.AdmissionLaws.{one-id}
 use Rattle.rows.specs.Rows.{newest}
 use Rattle.rows.specs.Ids.{sameBytes, among}
 use Rattle.rows.specs.IdsLaws.{same-equal}
@@ -29,13 +31,14 @@ use Rattle.mcache.specs.Messages.{held, put, shift}
 use Rattle.mcache.specs.State.{legal}
 use Rattle.node.specs.Gateway.{started, isNew, afterAdmit, afterBeat}
 use Rattle.node.specs.State.{legalSettings, freshNode, risesFrom}
-use Rattle.agreement.specs.History.{State, Call, admit, heartbeat, readings, timesGot, timesNew, timesDuplicate}
-use Rattle.agreement.specs.History.{beats as beatsIn}
-use Rattle.agreement.specs.Premises.{MessageSet, Settings, Fresh, Members, Clock, Premises}
+use Rattle.history.specs.History.{State, Settings, Fresh, Call, admit, heartbeat, readings, beats as beatsIn, timesGot}
+use Rattle.history.specs.History.{timesNew, timesDuplicate}
+use Rattle.history.specs.Laws.{new-or-duplicate}
+use Rattle.history.specs.Script.{Carries, Act, gets, beats, callsOf, gotIn, newIn, Written, nothing, got, beaten}
+use Rattle.history.specs.ScriptLaws.{fresh-acted, fresh-new}
+use Rattle.agreement.specs.Premises.{MessageSet, Members, Clock, Premises}
 use Rattle.agreement.specs.Round.{Play, Fair}
-use Rattle.agreement.specs.Rows.{one-id}
-use Rattle.agreement.specs.Once.{new-or-duplicate}
-use Rattle.agreement.specs.Script.{Carries, Act, gets, beats, callsOf, gotIn, newIn, Written, nothing, got, beaten, fresh-acted, fresh-new}
+use Rattle.agreement.specs.Script.{inSet, script-members}
 
 -- ---- the messages
 abbrev pub topic : List ℕ
@@ -153,11 +156,6 @@ start x =
       messages = replicate (x .max-messages * 4096) 0;
     }
 
-zeros-bytes : (n : ℕ) → Bytes (replicate n 0)
-zeros-bytes zero i = omega arith
-zeros-bytes (suc n) zero = omega arith
-zeros-bytes (suc n) (suc i) = zeros-bytes n i
-
 start-fresh : (x : Settings) → x .ttl < 2 ^ 64 → legalSettings (x .max-seen) (x .history-len) (x .max-messages) ≡ true → Fresh x (start x)
 unfolding start
 start-fresh x small ok =
@@ -200,14 +198,21 @@ pub calls-b-written : callsOf script-b ≡ calls-b
 unfolding callsOf calls-b
 calls-b-written = refl
 
-pub written-a : Written messages 0 script-a
-written-a = got 0 10 first-carried first-in (omega arith) (omega arith) (got 10 12 first-carried first-in (omega arith) (omega arith) nothing)
+pub written-a : Written 0 script-a
+written-a = got 0 10 first-carried (omega arith) (got 10 12 first-carried (omega arith) nothing)
 
-pub written-b : Written messages 0 script-b
+pub written-b : Written 0 script-b
 written-b =
-    got 0 7 second-carried second-in (omega arith) (omega arith)
-    (got 7 8 first-carried first-in (omega arith) (omega arith)
-    (beaten 8 9 (omega arith) (omega arith) (got 9 11 second-carried second-in (omega arith) (omega arith) nothing)))
+    got 0 7 second-carried (omega arith)
+    (got 7 8 first-carried (omega arith) (beaten 8 9 (omega arith) (got 9 11 second-carried (omega arith) nothing)))
+
+inside-a : inSet messages script-a ≡ true
+unfolding inSet
+inside-a = simp first-in
+
+inside-b : inSet messages script-b ≡ true
+unfolding inSet
+inside-b = simp (first-in, second-in)
 
 -- ---- their histories meet the premises
 pub clock-by : (x : Settings) (rs : List ℕ) (most : ℕ) → risesFrom 0 rs ≡ true → allUpTo most rs ≡ true → most < getD rs 0 0 + x .ttl → most < 2 ^ 64 - 1 → Clock x rs
@@ -242,7 +247,8 @@ pub premises-a : Premises messages settings-a calls-a (start settings-a)
 premises-a =
     record {
       fresh = fresh-a;
-      members = subst (λ (cs : List Call). Members messages cs (start settings-a)) calls-a-written (fresh-acted script-a fresh-a written-a .members);
+      members = subst (λ (cs : List Call). Members messages cs (start settings-a)) calls-a-written
+          (script-members messages (fresh-acted script-a fresh-a written-a .takes) inside-a);
       set-seen = omega (arith, two-messages);
       set-cached = omega (arith, two-messages);
       clock = clock-a;
@@ -253,7 +259,8 @@ pub premises-b : Premises messages settings-b calls-b (start settings-b)
 premises-b =
     record {
       fresh = fresh-b;
-      members = subst (λ (cs : List Call). Members messages cs (start settings-b)) calls-b-written (fresh-acted script-b fresh-b written-b .members);
+      members = subst (λ (cs : List Call). Members messages cs (start settings-b)) calls-b-written
+          (script-members messages (fresh-acted script-b fresh-b written-b .takes) inside-b);
       set-seen = omega (arith, two-messages);
       set-cached = omega (arith, two-messages);
       clock = clock-b;
@@ -291,7 +298,7 @@ pub record Counts (m : List ℕ) (calls : List Call) (s : State) (got new duplic
   pub times-new : timesNew m calls s ≡ new
   pub times-duplicate : timesDuplicate m calls s ≡ duplicate
 
-counts : {x : Settings} {s : State} (m : List ℕ) (xs : List Act) (calls : List Call) → Fresh x s → Written messages 0 xs → callsOf xs ≡ calls
+counts : {x : Settings} {s : State} (m : List ℕ) (xs : List Act) (calls : List Call) → Fresh x s → Written 0 xs → callsOf xs ≡ calls
     → Counts m calls s (gotIn m xs) (newIn m xs (started (x .ttl) (x .max-seen) (x .history-len) (x .max-messages)))
     (gotIn m xs - newIn m xs (started (x .ttl) (x .max-seen) (x .history-len) (x .max-messages)))
 counts {x} {s} m xs calls f w e =

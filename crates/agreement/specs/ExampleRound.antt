@@ -23,18 +23,19 @@ use Rattle.node.specs.Gateway.{Gateway, started, marked, isNew, afterAdmit, aft
 use Rattle.node.specs.State.{risesFrom}
 use Rattle.node.specs.Calls.{toldIn, bytesFor, advertiseBytes, roomOf, servedOf, replyBytes}
 use Rattle.node.specs.Laws.{told-gateway}
-use Rattle.agreement.specs.History.{State, Call, admit, ask, after, afterAll, readings}
+use Rattle.history.specs.History.{State, gatewayOf, Call, admit, ask, after, afterAll, readings, firstOf, admits}
+use Rattle.history.specs.Script.{Act, gets, asks, callsOf, gatewayAfter, Written, nothing, got, asked}
+use Rattle.history.specs.ScriptLaws.{fresh-leaves}
 use Rattle.agreement.specs.Premises.{Clock}
-use Rattle.agreement.specs.Round.{missing, gatewayOf, lacked, Play, turned, advertOf, requestOf, replyOf, servedCount, admits, askerRound, tellerRound, askerRounds, tellerRounds}
-use Rattle.agreement.specs.Holding.{Holding, holding-all, gotAll, pastAll, firstOf}
+use Rattle.agreement.specs.Round.{missing, lacked, Play, turned, advertOf, requestOf, replyOf, servedCount, askerRound, tellerRound, askerRounds, tellerRounds}
+use Rattle.agreement.specs.Holding.{Holding, holding-all, gotAll, pastAll}
 use Rattle.agreement.specs.HandOver.{request-is}
 use Rattle.agreement.specs.Lacking.{fine}
 use Rattle.agreement.specs.Played.{advert-is, requested, wants, replies, replied, served-is}
 use Rattle.agreement.specs.Request.{request-is-exact}
 use Rattle.agreement.specs.CatchUp.{allAsked, allTold, CaughtUp, caught-up, all-arrived}
 use Rattle.agreement.specs.Identical.{Identical, identical-bytes}
-use Rattle.agreement.specs.Script.{Act, gets, asks, callsOf, gatewayAfter, Written, nothing, got, asked, fresh-leaves}
-use Rattle.agreement.specs.Example.{topic, signature, first, second, messages, first-id, second-id, first-body, second-body, first-carried, second-carried, first-in, second-in, message-set, settings-a, settings-b, start, fresh-a, fresh-b, calls-a, calls-b, script-a, script-b, calls-a-written, calls-b-written, written-a, written-b, clock-by, premises-a, premises-b, buffer, buffer-full, play, fair}
+use Rattle.agreement.specs.Example.{topic, signature, first, second, messages, first-id, second-id, first-body, second-body, first-carried, second-carried, message-set, settings-a, settings-b, start, fresh-a, fresh-b, calls-a, calls-b, script-a, script-b, calls-a-written, calls-b-written, written-a, written-b, clock-by, premises-a, premises-b, buffer, buffer-full, play, fair}
 
 -- ---- the gateways after these calls
 abbrev pub at-a : State
@@ -215,10 +216,8 @@ all-a-written : callsOf script-all ≡ all-a
 unfolding callsOf calls-a
 all-a-written = ap (λ (cs : List Call). admit first-body 0 true 10 ∷ admit first-body 0 true 12 ∷ cs) (sym one-round)
 
-written-all : Written messages 0 script-all
-written-all =
-    got 0 10 first-carried first-in (omega arith) (omega arith)
-    (got 10 12 first-carried first-in (omega arith) (omega arith) (asked (got 12 20 second-carried second-in (omega arith) (omega arith) nothing)))
+written-all : Written 0 script-all
+written-all = got 0 10 first-carried (omega arith) (got 10 12 first-carried (omega arith) (asked (got 12 20 second-carried (omega arith) nothing)))
 
 clock-script : Clock settings-a (readings (callsOf script-all))
 unfolding callsOf readings risesFrom allUpTo

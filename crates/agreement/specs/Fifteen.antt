@@ -11,8 +11,7 @@ use Rattle.basis.specs.Cases.{either}
 use Rattle.peer_id.specs.Uvarint.{uvarint}
 use Rattle.peer_id.specs.Laws.{uvarint-small, uvarint-big}
 use Rattle.protobuf.specs.Encode.{bytesField}
-use Rattle.protobuf.specs.EncodeLaws.{bytes-field-length}
-use Rattle.encode.specs.CanonLaws.{tag-one}
+use Rattle.protobuf.specs.EncodeLaws.{bytes-field-length, tag-one}
 use Rattle.parts.specs.Parts.{fitting}
 use Rattle.parts.specs.PartsLaws.{fitting-more, fitting-stop}
 

@@ -21,8 +21,7 @@ use Rattle.node.specs.declared.Lent.the-variants as lent
 use Rattle.node.specs.declared.Admit.the-variants as answer
 use Rattle.node.specs.declared.Fault.{Fault}
 use Rattle.node.specs.Calls.{no, onLent, lentOf, planFit, planAt, planBody, planned}
-use Rattle.agreement.specs.History.{State, planIn}
-use Rattle.agreement.specs.Premises.{Settings}
+use Rattle.history.specs.History.{State, Settings, planIn}
 use Rattle.agreement.specs.Holding.{Holding, admit-forward}
 
 module _ (n : Node) (at : ℕ) (h : n .clock ≤ at) (k : ℕ) where

@@ -2,31 +2,28 @@
 -- request is taken and names exactly those of them that a has not seen, each once; and b has every message that is asked for.
 use Prim.Native.Nat.{ℕ, suc, _+_, _≤_}
 use mathlib.Core.Path.{_≡_, refl, sym, ap, subst, _∙_}
-use mathlib.Core.Bool.{true, false, not, _||_}
-use mathlib.Core.List.{List, [], _∷_, _++_, append-nil, append-assoc, List·Memᴰ, List·Memᴰ·not-nil, List·Memᴰ·cases-cons}
-use mathlib.Core.Logic.{_↔_, ⊎-elim}
+use mathlib.Core.Bool.{true, false, not}
+use mathlib.Core.List.{List, [], _∷_, _++_, append-nil}
+use mathlib.Core.Logic.{_↔_}
 use native.Mathlib.Omega.{arith}
-use lib.ListN.{length, getD, length-append}
+use lib.ListN.{length, length-append}
 use Rattle.basis.specs.Cases.{either, clash, both}
 use Rattle.basis.specs.Bytes.{Bytes}
-use Rattle.rows.specs.Ids.{sameBytes, precedesBytes, among, distinct}
-use Rattle.rows.specs.IdsLaws.{same-self, same-equal, order-irreflexive, among-append, each-distinct}
+use Rattle.rows.specs.Ids.{sameBytes, among, distinct}
+use Rattle.rows.specs.IdsLaws.{same-self}
 use Rattle.protobuf.specs.declared.Checked.the-variants.{Fine}
 use Rattle.protobuf.specs.Encode.{bytesField}
-use Rattle.protobuf.specs.EncodeLaws.{bytes-field-length}
+use Rattle.protobuf.specs.EncodeLaws.{tag-one, bytes-field-length, heads-same}
 use Rattle.rpc.specs.Rpc.{Rpc}
 use Rattle.rpc.specs.Encode.{encodeRpc, repeated}
-use Rattle.meaning.specs.Size.{recordsIn}
 use Rattle.schema.specs.Accept.{acceptOf}
-use Rattle.encode.specs.CanonLaws.{tag-one}
-use Rattle.canonical.specs.Lengths.{bytes-field-mono}
-use Rattle.canonical.specs.Canonical.{Within}
-use Rattle.canonical.specs.Calls.{taken}
+use Rattle.canon.specs.Lengths.{bytes-field-mono}
+use Rattle.canon.specs.Taken.{Within, taken}
 use Rattle.seen.specs.Entries.{holds}
-use Rattle.mcache.specs.Messages.{Cached, held, gossipIds}
-use Rattle.mcache.specs.GossipLaws.{gossip-sorted, gossip-exactly}
-use Rattle.parts.specs.Parts.{onceAfter, once}
-use Rattle.parts.specs.PartsLaws.{once-new}
+use Rattle.mcache.specs.Messages.{held}
+use Rattle.mcache.specs.GossipLaws.{told-distinct, told-held}
+use Rattle.parts.specs.Parts.{once}
+use Rattle.parts.specs.PartsLaws.{once-same}
 use Rattle.node.specs.declared.Node.{Node}
 use Rattle.node.specs.declared.Lent.the-variants as lent
 use Rattle.node.specs.Gateway.{Gateway, marked, toldOf, lacking, having, advertisement, request}
@@ -37,45 +34,8 @@ use Rattle.node.specs.Readers.{asked-exactly}
 use Rattle.node.specs.WireLaws.{advertisement-bytes, request-bytes}
 use Rattle.outputs.specs.Named.{offersOf, wantsOf}
 use Rattle.outputs.specs.Offered.{offered-once, wanted-once}
-use Rattle.outputs.specs.Bodies.{nothing, nothing-means, no-bytes, some-bytes, request-means}
+use Rattle.outputs.specs.Bodies.{nothing, nothing-means, no-bytes, some-bytes, request-means, records-told, records-asked}
 use Rattle.outputs.specs.Advertised.{advertise-means, advertise-none}
-
--- ---- ids that are each there once stay as they are
-middle-new : (l r : List (List ℕ)) (i : List ℕ) → distinct (l ++ (i ∷ r)) ≡ true → among i l ≡ false
-unfolding distinct among
-middle-new [] r i d = refl
-middle-new (j ∷ l) r i d =
-    either (among j (l ++ (i ∷ r))) (λ t. clash (let k = simp t at d in cc))
-    (λ t.
-    let e : distinct (l ++ (i ∷ r)) ≡ true = simp t at d in
-    let m = middle-new l r i e in
-    let a : (among j l || (sameBytes i j || among j r)) ≡ false = sym (among-append j l (i ∷ r)) ∙ t in
-    either (sameBytes j i)
-    (λ u. clash
-    (let z : (among i l || (sameBytes i i || among i r)) ≡ false = subst (λ (x : List ℕ). (among x l || (sameBytes i x || among x r)) ≡ false) (same-equal j i u) a in
-    let y = simp (m, same-self i) at z in cc))
-    (λ u. simp (u, m)))
-
-once-from : (earlier is : List (List ℕ)) → distinct (earlier ++ is) ≡ true → onceAfter earlier is ≡ is
-unfolding onceAfter
-once-from earlier [] d = refl
-once-from earlier (i ∷ is) d =
-    let e : distinct ((earlier ++ (i ∷ [])) ++ is) ≡ true = ap distinct (append-assoc earlier (i ∷ []) is) ∙ d in
-    once-new earlier is i (middle-new earlier is i d) ∙ ap (λ (l : List (List ℕ)). i ∷ l) (once-from (earlier ++ (i ∷ [])) is e)
-
-pub once-same : (is : List (List ℕ)) → distinct is ≡ true → once is ≡ is
-once-same is d = once-from [] is d
-
--- what is told of is sorted, and so no id is there twice
-pub told-distinct : (topic : List ℕ) (windows : ℕ) (ms : List Cached) → distinct (gossipIds topic windows ms) ≡ true
-told-distinct topic windows ms =
-    let l = gossipIds topic windows ms in
-    each-distinct l
-    (λ i j h k e.
-    let p = gossip-sorted topic windows ms i j h k in
-    let z : precedesBytes (getD l j []) (getD l j []) ≡ true = subst (λ (x : List ℕ). precedesBytes x (getD l j []) ≡ true) e p in
-    let y = order-irreflexive (getD l j []) in
-    clash (cc))
 
 -- ---- a list is empty, or not
 by-cases : {A : Type 0} (l : List (List ℕ)) → (l ≡ [] → A) → ((l ≡ [] → ⊥) → A) → A
@@ -90,16 +50,12 @@ lacking-few g (i ∷ is) =
     let r = lacking-few g is in
     either (holds (marked i) (g .seen)) (λ t. simp t (omega arith)) (λ t. simp t (omega arith))
 
--- the fields 1 and 2 of the same bytes are as long
-field-same : (d : List ℕ) → length (bytesField 1 d) ≡ length (bytesField 2 d)
-field-same d = omega (arith, bytes-field-length 1 d, bytes-field-length 2 d, tag-one 1 2 (omega arith) (omega arith), tag-one 2 2 (omega arith) (omega arith))
-
 lacking-fields : (g : Gateway) (is : List (List ℕ)) → length (repeated (bytesField 1) (lacking g is)) ≤ length (repeated (bytesField 2) is)
 unfolding lacking
 lacking-fields g [] = omega arith
 lacking-fields g (i ∷ is) =
     let r = lacking-fields g is in
-    let f = field-same i in
+    let f = heads-same i in
     let l = length-append (bytesField 2 i) (repeated (bytesField 2) is) in
     let m = length-append (bytesField 1 i) (repeated (bytesField 1) (lacking g is)) in
     either (holds (marked i) (g .seen)) (λ t. simp t (omega arith)) (λ t. simp t (omega arith))
@@ -133,17 +89,9 @@ request-shorter g topic is =
     let l = length-append t y in
     let f = lacking-fields g is in
     let m = bytes-field-mono 1 x (t ++ y) (omega arith) in
-    let s = field-same x in
+    let s = heads-same x in
     let w = bytes-field-mono 3 (bytesField 2 x) (bytesField 1 (t ++ y)) (omega arith) in
     omega (arith, ap length (request-bytes (lacking g is)), ap length (advertisement-bytes topic is))
-
-records-asked : (ids : List (List ℕ)) → recordsIn (request ids) ≡ 1 + length ids
-unfolding recordsIn request
-records-asked ids = omega arith
-
-records-told : (topic : List ℕ) (ids : List (List ℕ)) → recordsIn (advertisement topic ids) ≡ 1 + length ids
-unfolding recordsIn advertisement
-records-told topic ids = omega arith
 
 -- so it is within capacity where the advertisement is
 request-within : (g : Gateway) (topic : List ℕ) (is : List (List ℕ)) → Within (encodeRpc (advertisement topic is)) (advertisement topic is)
@@ -163,21 +111,6 @@ request-some ids e =
     let d = bytesField 2 (repeated (bytesField 1) ids) in
     let l : length (encodeRpc (request ids)) ≡ 0 = ap length e in
     absurd (omega (arith, ap length (request-bytes ids), bytes-field-length 3 d, tag-one 3 2 (omega arith) (omega arith)))
-
--- ---- what is told of is cached
-mem-held : (m : Cached) (ms : List Cached) → List·Memᴰ m ms → held (m .id) ms ≡ true
-unfolding held among
-mem-held m [] d = absurd (List·Memᴰ·not-nil d)
-mem-held m (k ∷ ms) d =
-    ⊎-elim
-    (λ (e : m ≡ k). rw (e, same-self (k .id)))
-    (λ (r : List·Memᴰ m ms). either (sameBytes (k .id) (m .id)) (λ t. simp t) (λ t. simp t (mem-held m ms r)))
-    (List·Memᴰ·cases-cons d)
-
-pub told-held : (topic : List ℕ) (windows : ℕ) (ms : List Cached) (i : List ℕ) → among i (gossipIds topic windows ms) ≡ true → held i ms ≡ true
-told-held topic windows ms i h =
-    let t = gossip-exactly i topic windows ms .0 h in
-    subst (λ (x : List ℕ). held x ms ≡ true) (t .named) (mem-held (t .entry) ms (t .cached))
 
 having-all : (g : Gateway) (is : List (List ℕ)) → ((i : List ℕ) → among i is ≡ true → held i (g .cache) ≡ true) → length (having g is) ≡ length is
 unfolding having among

@@ -1,41 +1,40 @@
 -- What a gateway holds in a history under the premises: the messages got, each once, the oldest first. Their marked ids are the ids seen, they are
 -- the messages cached, and nothing ever leaves.
-use Prim.Native.Nat.{ℕ, zero, suc, _+_, _-_, _*_, _^_, _≤_, _<_}
+use Prim.Native.Nat.{ℕ, suc, _+_, _-_, _*_, _≤_, _<_}
 use mathlib.Core.Path.{_≡_, refl, sym, ap, subst, _∙_}
 use mathlib.Core.Bool.{Bool, true, false, cond, not, _||_, Bool·not-not}
 use mathlib.Core.List.{List, [], _∷_, _++_, append-nil, append-assoc}
 use native.Mathlib.Omega.{arith}
 use native.Mathlib.Nat.{zero-lt-suc}
-use lib.ListN.{length, getD, drop, set, length-append}
-use lib.Seq.{sets}
+use lib.ListN.{length, getD, length-append}
 use lib.Dec.{leb, ltb, eqb}
-use borrow.Author.Tests.{leb-true, le-leb}
+use borrow.Author.Tests.{leb-true}
 use Rattle.basis.specs.Cases.{either, clash, both}
 use Rattle.basis.specs.Bytes.{Bytes}
+use Rattle.basis.specs.Lists.{sets-bytes}
 use Rattle.rows.specs.Rows.{placeOf}
 use Rattle.rows.specs.Ids.{sameBytes, among, distinct}
-use Rattle.rows.specs.IdsLaws.{same-equal, among-append, distinct-snoc}
+use Rattle.rows.specs.IdsLaws.{same-equal, among-append, distinct-snoc, all-few}
 use Rattle.admission.specs.Admission.{givesId}
-use Rattle.seen.specs.Entries.{Entry, holds, until, inserted}
+use Rattle.seen.specs.Entries.{until}
+use Rattle.seen.specs.EntriesLaws.{until-later, until-within, insert-room, insert-held}
 use Rattle.mcache.specs.declared.MessageCache.{MessageCache}
 use Rattle.mcache.specs.Messages.{held}
 use Rattle.mcache.specs.State.{dropped}
 use Rattle.mcache.specs.Calls.{indexIn, enteredStore, storedUnder}
-use Rattle.mcache.specs.CachedLaws.{newest-more}
 use Rattle.mcache.specs.Readers.{room-keeps-all}
 use Rattle.node.specs.declared.Node.{Node}
-use Rattle.node.specs.declared.Admit.{Admit}
 use Rattle.node.specs.declared.Beat.the-variants as beat
 use Rattle.node.specs.Gateway.{Gateway, started, marked, isNew, afterAdmit, afterBeat}
-use Rattle.node.specs.State.{gatewayIn, freshNode, risesFrom}
+use Rattle.node.specs.State.{risesFrom}
 use Rattle.node.specs.Calls.{Plan, no, taken, heldAt, admitCache, beatAnswer}
-use Rattle.node.specs.WellFormed.{Reached, begun, admitted, beaten}
-use Rattle.node.specs.Laws.{plan-takes, fresh-gateway, is-new, admit-gateway, beat-says, beat-gateway}
-use Rattle.node.specs.WellFormedLaws.{reached-fine, reached-typed}
-use Rattle.outputs.specs.Replied.{all-few}
-use Rattle.agreement.specs.History.{State, Call, admit, heartbeat, advertise, ask, serve, planIn, after, afterAll, reading, readings, beat, beats}
-use Rattle.agreement.specs.Premises.{MessageSet, Settings, Fresh, Member, MemberAt, Members, member, Clock, Premises}
-use Rattle.agreement.specs.Round.{gatewayOf}
+use Rattle.node.specs.Laws.{plan-takes, is-new, beat-says}
+use Rattle.node.specs.WellFormedLaws.{rises-less, first-least}
+use Rattle.history.specs.History.{State, gatewayOf, Settings, Fresh, Call, admit, heartbeat, advertise, ask, serve}
+use Rattle.history.specs.History.{planIn, after, afterAll, reading, readings, firstOf, beat, beats}
+use Rattle.history.specs.Laws.{node-clock, Kept, after-keeps, fresh-keeps, fresh-starts, fresh-clock, admit-none}
+use Rattle.history.specs.Laws.{admit-leaves, admit-clock, beat-leaves, beat-clock}
+use Rattle.agreement.specs.Premises.{MessageSet, Member, MemberAt, Members, member, Clock, Premises}
 use Rattle.agreement.specs.Rows.{Rows, none, rows-snoc, rows-lengths, rows-live, rows-shift, rows-held}
 
 -- ---- the messages got, each once, the oldest first
@@ -72,27 +71,6 @@ pub record Holds (set : List (List ℕ)) (x : Settings) (first past : ℕ) (got 
   pub from-set : (m : List ℕ) → among m got ≡ true → among m set ≡ true
   -- the ids seen and the messages cached
   pub rows : Rows (until first (x .ttl)) past got (g .seen) (g .cache)
-
--- no more than the set
-pub holds-few : {set : List (List ℕ)} {x : Settings} {first past : ℕ} {got : List (List ℕ)} {g : Gateway} → Holds set x first past got g → length got ≤ length set
-holds-few {set} {x} {first} {past} {got} h = all-few set got (h .each-once) (h .from-set)
-
--- ---- with room, an id seen goes last and all stay
-seen-room : (max : ℕ) (id : List ℕ) (at ttl : ℕ) (es : List Entry) → holds id es ≡ false → length es < max
-    → inserted max id at ttl es ≡ es ++ (record { id = id; expiry = until at ttl } ∷ [])
-unfolding inserted
-seen-room max id at ttl es h r =
-    let x : Entry = record { id = id; expiry = until at ttl } in
-    let e : (length es + 1) - max ≡ 0 = omega arith in
-    rw h (newest-more max es x (λ z. omega arith) ∙ ap (λ (n : ℕ). drop n es ++ (x ∷ [])) e)
-
-seen-held : (max : ℕ) (id : List ℕ) (at ttl : ℕ) (es : List Entry) → holds id es ≡ true → inserted max id at ttl es ≡ es
-unfolding inserted
-seen-held max id at ttl es h = rw h
-
-until-later : (at later ttl : ℕ) → at ≤ later → until at ttl ≤ until later ttl
-unfolding until
-until-later at later ttl h = omega arith
 
 -- ---- one more message got
 among-one : (m k : List ℕ) → among k (m ∷ []) ≡ true → m ≡ k
@@ -139,7 +117,7 @@ module _ {set : List (List ℕ)} {x : Settings} {first past : ℕ} {got : List (
           set-cached = h .set-cached;
           each-once = h .each-once;
           from-set = h .from-set;
-          rows = rw (n, v, seen-held (g .max-seen) (marked id) at (g .ttl) (g .seen) k) (h .rows);
+          rows = rw (n, v, insert-held (g .max-seen) (marked id) at (g .ttl) (g .seen) k) (h .rows);
         }
 
     holds-more : among m got ≡ false → Holds set x first past (got ++ (m ∷ [])) (afterAdmit at m id g)
@@ -164,7 +142,7 @@ module _ {set : List (List ℕ)} {x : Settings} {first past : ℕ} {got : List (
               rw (
                 n,
                 v,
-                seen-room (g .max-seen) (marked id) at (g .ttl) (g .seen) (a .0 ∙ t) (omega (arith, h .max-seen, h .set-seen, l .0)),
+                insert-room (g .max-seen) (marked id) at (g .ttl) (g .seen) (a .0 ∙ t) (omega (arith, h .max-seen, h .set-seen, l .0)),
                 room-keeps-all (g .max-messages) id m (g .cache) (a .1 ∙ t) (omega (arith, h .max-messages, h .set-cached, l .1)),
                 h .ttl,
               )
@@ -199,30 +177,6 @@ pub record Ahead (x : Settings) (first past clock : ℕ) (rs : List ℕ) (left :
   pub lasting : (i : ℕ) → i < length rs → getD rs i 0 < until first (x .ttl)
   pub few : past + left < x .history-len
 
-rises-less : (less least : ℕ) (l : List ℕ) → less ≤ least → risesFrom least l ≡ true → risesFrom less l ≡ true
-unfolding risesFrom
-rises-less less least [] h f = refl
-rises-less less least (e ∷ l) h f =
-    let b = both (leb least e) (risesFrom e l) f in
-    let k = leb-true least e (b .0) in
-    rw (le-leb less e (omega arith)) (b .1)
-
-rises-least : (least : ℕ) (l : List ℕ) → risesFrom least l ≡ true → (i : ℕ) → i < length l → least ≤ getD l i 0
-unfolding risesFrom
-rises-least least [] f i h = absurd (omega arith)
-rises-least least (e ∷ l) f zero h = leb-true least e (both (leb least e) (risesFrom e l) f .0)
-rises-least least (e ∷ l) f (suc i) h =
-    let b = both (leb least e) (risesFrom e l) f in
-    let k = leb-true least e (b .0) in
-    let r = rises-least e l (b .1) i (omega arith) in
-    omega arith
-
-first-least : (l : List ℕ) → risesFrom 0 l ≡ true → (i : ℕ) → i < length l → getD l 0 0 ≤ getD l i 0
-unfolding risesFrom
-first-least [] f i h = absurd (omega arith)
-first-least (e ∷ l) f zero h = omega arith
-first-least (e ∷ l) f (suc i) h = rises-least e l (both (leb 0 e) (risesFrom e l) f .1) i (omega arith)
-
 -- the next reading
 pub record Reads (x : Settings) (first past clock at : ℕ) (rs : List ℕ) (left : ℕ) : Type 0 where
   pub forward : clock ≤ at
@@ -246,21 +200,13 @@ pub reads-kept : {x : Settings} {first past clock at : ℕ} {rs : List ℕ} {lef
 reads-kept {x} {first} {past} {clock} {at} {rs} r =
     record { rises = rises-less clock at rs (r .forward) (r .rest .rises); from-first = r .rest .from-first; lasting = r .rest .lasting; few = r .rest .few }
 
-until-small : (at first ttl : ℕ) → at < until first ttl → at < 2 ^ 64
-unfolding until
-until-small at first ttl h = omega arith
-
 -- ---- a state of a history, with the readings and heartbeats still to come
 -- `first` is the first reading of the history, `past` are the heartbeats so far
 pub record Holding (set : List (List ℕ)) (x : Settings) (first past : ℕ) (rs : List ℕ) (left : ℕ) (got : List (List ℕ)) (s : State) : Type 0 where
-  pub reached : Reached (s .node) (s .ids) (s .messages)
+  pub kept : Kept s
   pub held : Holds set x first past got (gatewayOf s)
   pub bytes : Bytes (s .messages)
   pub ahead : Ahead x first past (gatewayOf s .clock) rs left
-
-pub node-clock : (s : State) → gatewayOf s .clock ≡ s .node .clock
-unfolding gatewayIn
-node-clock s = refl
 
 -- ---- the start
 started-holds : {set : List (List ℕ)} {x : Settings} (first : ℕ) → length set ≤ x .max-seen → length set ≤ x .max-messages
@@ -269,29 +215,16 @@ unfolding started distinct among
 started-holds first a b =
     record { ttl = refl; max-seen = refl; history-len = refl; max-messages = refl; set-seen = a; set-cached = b; each-once = refl; from-set = λ m h. clash (cc); rows = none }
 
-pub started-clock : (x : Settings) → started (x .ttl) (x .max-seen) (x .history-len) (x .max-messages) .clock ≡ 0
-unfolding started
-started-clock x = refl
-
-until-within : (r first ttl : ℕ) → r < first + ttl → r < 2 ^ 64 - 1 → r < until first ttl
-unfolding until
-until-within r first ttl h k = omega arith
-
 pub holding-fresh : {set : List (List ℕ)} {x : Settings} {s : State} (rs : List ℕ) (left : ℕ) → Fresh x s → length set ≤ x .max-seen → length set ≤ x .max-messages → Clock x rs
     → left < x .history-len → Holding set x (getD rs 0 0) 0 rs left [] s
 holding-fresh {set} {x} {s} rs left f room-seen room-cached k few =
     let first = getD rs 0 0 in
-    let n = freshNode (x .ttl) (x .max-seen) (x .history-len) (x .max-messages) in
-    let g : gatewayOf s ≡ started (x .ttl) (x .max-seen) (x .history-len) (x .max-messages) =
-    ap (λ (m : Node). gatewayIn m (s .ids) (s .messages)) (f .node) ∙ fresh-gateway (x .ttl) (x .max-seen) (x .history-len) (x .max-messages) (s .ids) (s .messages) in
     record {
-      reached =
-          subst (λ (m : Node). Reached m (s .ids) (s .messages)) (sym (f .node))
-          (begun (x .ttl) (x .max-seen) (x .history-len) (x .max-messages) (s .ids) (s .messages) (f .small) (f .legal) (f .ids) (f .messages));
-      held = subst (λ (h : Gateway). Holds set x first 0 [] h) (sym g) (started-holds first room-seen room-cached);
+      kept = fresh-keeps f;
+      held = subst (λ (h : Gateway). Holds set x first 0 [] h) (sym (fresh-starts f)) (started-holds first room-seen room-cached);
       bytes = f .bytes;
       ahead =
-          subst (λ (c : ℕ). Ahead x first 0 c rs left) (sym (ap (λ (h : Gateway). h .clock) g ∙ started-clock x))
+          subst (λ (c : ℕ). Ahead x first 0 c rs left) (sym (fresh-clock f))
           (record {
             rises = k .rises;
             from-first = first-least rs (k .rises);
@@ -300,34 +233,12 @@ holding-fresh {set} {x} {s} rs left f room-seen room-cached k few =
           });
     }
 
-abbrev pub firstOf : List Call → ℕ
-firstOf calls = getD (readings calls) 0 0
-
 pub holding-start : {set : List (List ℕ)} {x : Settings} {calls : List Call} {s : State} → Premises set x calls s
     → Holding set x (firstOf calls) 0 (readings calls) (beats calls) [] s
 holding-start {set} {x} {calls} {s} p = holding-fresh (readings calls) (beats calls) (p .fresh) (p .set-seen) (p .set-cached) (p .clock) (p .few-heartbeats)
 
 -- ---- an admit: a refused one changes nothing; one that takes a message of the set
-after-admit-clock : (at : ℕ) (m id : List ℕ) (g : Gateway) → afterAdmit at m id g .clock ≡ at
-unfolding afterAdmit
-after-admit-clock at m id g = refl
-
-after-beat-clock : (at : ℕ) (g : Gateway) → afterBeat at g .clock ≡ at
-unfolding afterBeat
-after-beat-clock at g = refl
-
 -- its message is bytes, and so is the store then
-set-bytes : (st : List ℕ) (k b : ℕ) → Bytes st → b < 256 → Bytes (set st k b)
-set-bytes [] k b h l i = h i
-set-bytes (x ∷ st) zero b h l zero = l
-set-bytes (x ∷ st) zero b h l (suc i) = h (suc i)
-set-bytes (x ∷ st) (suc k) b h l zero = h 0
-set-bytes (x ∷ st) (suc k) b h l (suc i) = set-bytes st k b (λ j. h (suc j)) l i
-
-sets-bytes : (st : List ℕ) (k : ℕ) (m : List ℕ) → Bytes st → Bytes m → Bytes (sets st k m)
-sets-bytes st k [] h g = h
-sets-bytes st k (b ∷ m) h g = sets-bytes (set st k b) (suc k) m (set-bytes st k b h (g 0)) (λ i. g (suc i))
-
 entered-bytes : (c : MessageCache) (st m : List ℕ) → Bytes st → Bytes m → Bytes (enteredStore c st m)
 unfolding enteredStore
 entered-bytes c st m h g =
@@ -351,22 +262,6 @@ module _ {set : List (List ℕ)} {x : Settings} {first past : ℕ} {got : List (
   pub admit-forward : s .node .clock ≤ at
   admit-forward = rw (← node-clock s) (admit-reads .forward)
 
-  admit-reached : Reached (after (admit body i word at) s .node) (after (admit body i word at) s .ids) (after (admit body i word at) s .messages)
-  unfolding after
-  admit-reached = admitted (h .reached) body i word at (until-small at first (x .ttl) (admit-reads .lasting))
-
-  admit-none : (r : Admit) → planIn s body i word at ≡ no r → gatewayOf (after (admit body i word at) s) ≡ gatewayOf s
-  unfolding after
-  admit-none r e = rw e
-
-  none-stored : (r : Admit) → planIn s body i word at ≡ no r → after (admit body i word at) s .messages ≡ s .messages
-  unfolding after
-  none-stored r e = rw e
-
-  admit-some : (m id : List ℕ) → planIn s body i word at ≡ taken m id → gatewayOf (after (admit body i word at) s) ≡ afterAdmit at m id (gatewayOf s)
-  unfolding after
-  admit-some m id e = admit-gateway (s .node) (s .ids) (s .messages) body i word at m id (reached-typed (h .reached)) e
-
   some-stored : (m id : List ℕ) → planIn s body i word at ≡ taken m id → Bytes m → Bytes (after (admit body i word at) s .messages)
   unfolding after
   some-stored m id e b = rw e (admit-bytes (s .node) (s .ids) (s .messages) at m id (h .bytes) b)
@@ -382,19 +277,14 @@ module _ {set : List (List ℕ)} {x : Settings} {first past : ℕ} {got : List (
 
     by-plan : (p : Plan) → planIn s body i word at ≡ p → Member set p → Holding set x first past rs left (gotBy got p) (after (admit body i word at) s)
     by-plan (no r) e inside =
-        let g = sym (admit-none r e) in
-        record {
-          reached = admit-reached;
-          held = subst (λ (k : Gateway). Holds set x first past got k) g (h .held);
-          bytes = subst Bytes (sym (none-stored r e)) (h .bytes);
-          ahead = subst (λ (k : Gateway). Ahead x first past (k .clock) rs left) g (reads-kept admit-reads);
-        }
+        subst (λ (t : State). Holding set x first past rs left got t) (sym (admit-none s body i word at r e))
+        (record { kept = h .kept; held = h .held; bytes = h .bytes; ahead = reads-kept admit-reads })
     by-plan (taken m id) e inside =
-        let g = sym (admit-some m id e) in
+        let g = sym (admit-leaves s body i word at m id e (h .kept .typed)) in
         let t = plan-takes (s .node) (s .ids) (s .messages) body i word at m id e in
-        let c = ap (λ (k : Gateway). k .clock) (admit-some m id e) ∙ after-admit-clock at m id (gatewayOf s) in
+        let c = admit-clock s body i word at m id e (h .kept .typed) in
         record {
-          reached = admit-reached;
+          kept = after-keeps (admit body i word at) s (h .kept);
           held =
               subst (λ (k : Gateway). Holds set x first past (withGot m got) k) g
               (holds-admit (h .held) at (admit-reads .lasting) ms (admit-reads .later) m id inside (t .own));
@@ -425,15 +315,7 @@ module _ {set : List (List ℕ)} {x : Settings} {first past : ℕ} {got : List (
 
   -- it is done
   pub beat-answers : beatAnswer (s .node) (s .ids) (s .messages) at ≡ beat.Done
-  beat-answers = beat-says (s .node) (s .ids) (s .messages) at (reached-fine (h .reached)) beat-forward
-
-  beat-some : gatewayOf (after (heartbeat at) s) ≡ afterBeat at (gatewayOf s)
-  unfolding after
-  beat-some = beat-gateway (s .node) (s .ids) (s .messages) at (reached-typed (h .reached)) beat-answers
-
-  beat-reached : Reached (after (heartbeat at) s .node) (after (heartbeat at) s .ids) (after (heartbeat at) s .messages)
-  unfolding after
-  beat-reached = beaten (h .reached) at (until-small at first (x .ttl) (beat-reads .lasting))
+  beat-answers = beat-says (s .node) (s .ids) (s .messages) at (h .kept .fine) beat-forward
 
   beat-bytes : Bytes (after (heartbeat at) s .messages)
   unfolding after
@@ -441,10 +323,11 @@ module _ {set : List (List ℕ)} {x : Settings} {first past : ℕ} {got : List (
 
   pub holding-beat : Holding set x first (suc past) rs left got (after (heartbeat at) s)
   holding-beat =
-      let c = ap (λ (k : Gateway). k .clock) beat-some ∙ after-beat-clock at (gatewayOf s) in
+      let g = beat-leaves s (h .kept) at beat-forward in
+      let c = beat-clock s (h .kept) at beat-forward in
       record {
-        reached = beat-reached;
-        held = subst (λ (k : Gateway). Holds set x first (suc past) got k) (sym beat-some) (holds-beat (h .held) at (beat-reads .lasting) beat-few);
+        kept = after-keeps (heartbeat at) s (h .kept);
+        held = subst (λ (k : Gateway). Holds set x first (suc past) got k) (sym g) (holds-beat (h .held) at (beat-reads .lasting) beat-few);
         bytes = beat-bytes;
         ahead = subst (λ (k : ℕ). Ahead x first (suc past) k rs left) (sym c) (beat-reads .rest);
       }

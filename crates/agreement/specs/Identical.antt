@@ -8,16 +8,17 @@ use Rattle.basis.specs.Cases.{either, clash}
 use Rattle.rows.specs.Ids.{sameBytes, among}
 use Rattle.rows.specs.IdsLaws.{same-self, same-equal}
 use Rattle.admission.specs.Admission.{givesId, topicsOf}
+use Rattle.admission.specs.AdmissionLaws.{one-id}
 use Rattle.seen.specs.Entries.{Entry, holds}
 use Rattle.mcache.specs.Messages.{Cached, topics, held}
 use Rattle.mcache.specs.GossipLaws.{in-among}
 use Rattle.node.specs.Gateway.{Gateway, marked, advertisement}
 use Rattle.node.specs.Calls.{toldIn, bytesFor, advertiseBytes}
 use Rattle.node.specs.Laws.{told-gateway}
-use Rattle.agreement.specs.History.{State, Call, advertise, afterAll, refusalAt}
-use Rattle.agreement.specs.Premises.{MessageSet, Settings, Premises}
-use Rattle.agreement.specs.Round.{missing, gatewayOf, lacked, Play, Fair, turned, advertOf}
-use Rattle.agreement.specs.Rows.{Rows, none, row, one-id, rows-held}
+use Rattle.history.specs.History.{State, gatewayOf, Settings, Call, advertise, afterAll, refusalAt}
+use Rattle.agreement.specs.Premises.{MessageSet, Premises}
+use Rattle.agreement.specs.Round.{missing, lacked, Play, Fair, turned, advertOf}
+use Rattle.agreement.specs.Rows.{Rows, none, row, rows-held}
 use Rattle.agreement.specs.Holding.{Holding, holding-all}
 use Rattle.agreement.specs.Sorted.{Carried, told-carried}
 use Rattle.agreement.specs.Lacking.{fine, all-recent}

@@ -9,27 +9,24 @@ use lib.ListN.{length, length-map}
 use borrow.Author.Tests.{lt-ltb}
 use Rattle.basis.specs.Cases.{either, clash}
 use Rattle.rows.specs.Ids.{sameBytes, among, distinct}
-use Rattle.rows.specs.IdsLaws.{same-self, same-equal}
+use Rattle.rows.specs.IdsLaws.{same-self, same-equal, all-few}
 use Rattle.admission.specs.Admission.{givesId}
 use Rattle.seen.specs.Entries.{Entry, holds}
 use Rattle.mcache.specs.Messages.{Cached, topics, idsOf, held, get, carrying, gossipIds}
 use Rattle.mcache.specs.StateLaws.{fine-tests}
 use Rattle.mcache.specs.CachedLaws.{ids-cached}
-use Rattle.mcache.specs.GossipLaws.{among-order}
+use Rattle.mcache.specs.GossipLaws.{among-order, told-distinct, told-held}
 use Rattle.node.specs.declared.Lent.the-variants as lent
 use Rattle.node.specs.Gateway.{Gateway, marked, toldOf, lacking}
 use Rattle.node.specs.State.{gatewayIn}
 use Rattle.node.specs.Calls.{lentOf}
 use Rattle.node.specs.StateLaws.{fine-tests as node-tests}
 use Rattle.node.specs.Readers.{asked-exactly}
-use Rattle.node.specs.WellFormedLaws.{reached-fine}
-use Rattle.outputs.specs.Replied.{all-few}
-use Rattle.agreement.specs.History.{State}
-use Rattle.agreement.specs.Premises.{Settings}
-use Rattle.agreement.specs.Round.{missing, gatewayOf, lacked}
+use Rattle.history.specs.History.{State, gatewayOf, Settings}
+use Rattle.agreement.specs.Round.{missing, lacked}
 use Rattle.agreement.specs.Rows.{Rows, none, row}
 use Rattle.agreement.specs.Holding.{Holding}
-use Rattle.agreement.specs.HandOver.{lacking-distinct, told-distinct, told-held}
+use Rattle.agreement.specs.HandOver.{lacking-distinct}
 
 -- ---- what the rows say of a cached message
 pub rows-young : {least most : ℕ} {ms : List (List ℕ)} {es : List Entry} {cs : List Cached} (c : Cached) → Rows least most ms es cs → List·Memᴰ c cs → c .window ≤ most
@@ -103,7 +100,7 @@ missing-distinct topic g (c ∷ cs) d =
 module _ {set : List (List ℕ)} {y : Settings} {first past left : ℕ} {rs : List ℕ} {got : List (List ℕ)} {b : State} (h : Holding set y first past rs left got b)
     (topic : List ℕ) (windows : ℕ) (wide : y .history-len ≤ windows) where
   pub fine : lentOf (b .node) (b .ids) (b .messages) ≡ lent.Fine
-  fine = reached-fine (h .reached)
+  fine = h .kept .fine
 
   -- all windows are told of
   pub all-recent : (c : Cached) → List·Memᴰ c (gatewayOf b .cache) → c .window < windows

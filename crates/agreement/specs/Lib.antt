@@ -1,4 +1,3 @@
-pub mod History
 pub mod Premises
 pub mod Rows
 pub mod Round

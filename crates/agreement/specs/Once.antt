@@ -10,8 +10,11 @@ use Rattle.basis.specs.Cases.{either}
 use Rattle.rows.specs.Ids.{sameBytes, among}
 use Rattle.rows.specs.IdsLaws.{same-self, same-equal, among-append}
 use Rattle.node.specs.Calls.{Plan, no, taken, heldAt}
-use Rattle.agreement.specs.History.{State, Call, admit, heartbeat, advertise, ask, serve, planIn, after, reading, readings, beat, beats, isNew, isDuplicate, countPlan, countAt, times, timesGot, timesNew, timesDuplicate}
-use Rattle.agreement.specs.Premises.{MessageSet, Settings, Member, MemberAt, Members, Premises}
+use Rattle.history.specs.History.{State, Settings, Call, admit, heartbeat, advertise, ask, serve, planIn, reading}
+use Rattle.history.specs.History.{readings, beat, beats, isNew, countPlan, countAt, times, timesGot, timesNew}
+use Rattle.history.specs.History.{timesDuplicate}
+use Rattle.history.specs.Laws.{new-or-duplicate}
+use Rattle.agreement.specs.Premises.{MessageSet, Member, MemberAt, Members, Premises}
 use Rattle.agreement.specs.Holding.{withGot, gotBy, gotNext, gotAll, Holding, admit-held, holding-start, holding-next, members-here, members-rest}
 
 -- ---- a message among those got, and one more got
@@ -121,23 +124,6 @@ module _ {set : List (List ℕ)} (ms : MessageSet set) (m : List ℕ) {x : Setti
   times-first (c ∷ cs) h ins g =
       let n = holding-next ms (readings cs) (beats cs) c h (members-here ins) in
       later-call (call-first (readings cs) (beats cs) c h (members-here ins) g) (λ t. times-first cs n (members-rest ins) t) (λ t. times-again cs n (members-rest ins) t)
-
--- ---- a message that is got is answered new or duplicate, each time
-answered-plan : (m : List ℕ) (s : State) (at : ℕ) (p : Plan) → countPlan (λ r. 1) m s at p ≡ countPlan isNew m s at p + countPlan isDuplicate m s at p
-answered-plan m s at (no r) = refl
-answered-plan m s at (taken k id) = either (sameBytes k m) (λ t. either (heldAt (s .node) (s .ids) at id) (λ u. rw (t, u)) (λ u. rw (t, u))) (λ t. rw t)
-
-answered-at : (m : List ℕ) (s : State) (c : Call) → countAt (λ r. 1) m s c ≡ countAt isNew m s c + countAt isDuplicate m s c
-answered-at m s (admit body i word at) = answered-plan m s at (planIn s body i word at)
-answered-at m s (heartbeat at) = refl
-answered-at m s (advertise topic windows out) = refl
-answered-at m s (ask body out) = refl
-answered-at m s (serve body out) = refl
-
-pub new-or-duplicate : (m : List ℕ) (calls : List Call) (s : State) → timesGot m calls s ≡ timesNew m calls s + timesDuplicate m calls s
-unfolding times
-new-or-duplicate m [] s = refl
-new-or-duplicate m (c ∷ cs) s = let a = answered-at m s c in let r = new-or-duplicate m cs (after c s) in omega arith
 
 -- ---- a message of the set that is got at least once is answered new exactly once, and duplicate the other times
 pub new-exactly-once : {set : List (List ℕ)} {x : Settings} {calls : List Call} {s : State} → MessageSet set → Premises set x calls s

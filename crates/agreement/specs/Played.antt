@@ -19,17 +19,18 @@ use Rattle.admission.specs.AdmissionLaws.{gives-only, fit-limits}
 use Rattle.parts.specs.Parts.{fitting}
 use Rattle.parts.specs.PartsLaws.{fitting-room}
 use Rattle.mcache.specs.Messages.{held, get}
+use Rattle.mcache.specs.GossipLaws.{told-held}
 use Rattle.node.specs.declared.Lent.the-variants as lent
 use Rattle.node.specs.declared.Advertise.the-variants as told
 use Rattle.node.specs.declared.Ask.the-variants as asked
 use Rattle.node.specs.declared.Serve.{Serve}
 use Rattle.node.specs.Gateway.{Gateway, toldOf, lacking, having}
 use Rattle.node.specs.Calls.{lentOf, advertiseAnswer, advertiseLeft, advertiseBytes, askAnswer, askLeft, askBytes, serveAnswer, serveLeft, cachedOf, wanted, roomOf, servedOf, replyBytes, replyTo, serveNumber}
-use Rattle.agreement.specs.History.{State, advertise, ask, serve, refusalAt}
-use Rattle.agreement.specs.Premises.{Settings}
-use Rattle.agreement.specs.Round.{gatewayOf, servedBytes, servedMessages, Play, Fair, advertOf, requestOf, replyAnswer, replyOf, servedCount}
+use Rattle.history.specs.History.{State, gatewayOf, Settings, advertise, ask, serve, refusalAt, servedBytes}
+use Rattle.history.specs.History.{servedMessages}
+use Rattle.agreement.specs.Round.{Play, Fair, advertOf, requestOf, replyAnswer, replyOf, servedCount}
 use Rattle.agreement.specs.Holding.{Holding}
-use Rattle.agreement.specs.HandOver.{advert-rpc, advert-taken, request-rpc, request-taken, reply-has, reply-all, lacks-exactly, told-held}
+use Rattle.agreement.specs.HandOver.{advert-rpc, advert-taken, request-rpc, request-taken, reply-has, reply-all, lacks-exactly}
 use Rattle.agreement.specs.Fifteen.{fifteen-fit}
 use Rattle.agreement.specs.Delivered.{Delivers, reply-taken}
 use Rattle.agreement.specs.Lacking.{Got, fine, told-got}

@@ -1,5 +1,5 @@
 -- 01's "Premises of demand 3", each named after its phrase.
-use Prim.Native.Nat.{ℕ, _+_, _-_, _*_, _^_, _≤_, _<_}
+use Prim.Native.Nat.{ℕ, _+_, _-_, _^_, _≤_, _<_}
 use mathlib.Core.Path.{_≡_}
 use mathlib.Core.Bool.{true}
 use mathlib.Core.List.{List, [], _∷_}
@@ -7,9 +7,10 @@ use lib.ListN.{length, getD}
 use Rattle.basis.specs.Bytes.{Bytes}
 use Rattle.rows.specs.Ids.{among}
 use Rattle.admission.specs.Admission.{givesId}
-use Rattle.node.specs.State.{legalSettings, freshNode, risesFrom}
+use Rattle.node.specs.State.{risesFrom}
 use Rattle.node.specs.Calls.{Plan, no, taken}
-use Rattle.agreement.specs.History.{State, Call, admit, heartbeat, advertise, ask, serve, planIn, after, readings, beats}
+use Rattle.history.specs.History.{State, Settings, Fresh, Call, admit, heartbeat, advertise, ask, serve, planIn, after}
+use Rattle.history.specs.History.{readings, beats}
 
 -- ---- the set of messages; a message is the bytes of the submessage
 pub record MessageSet (set : List (List ℕ)) : Type 0 where
@@ -18,21 +19,6 @@ pub record MessageSet (set : List (List ℕ)) : Type 0 where
   pub admissible : (m : List ℕ) → among m set ≡ true → (id : List ℕ) × (givesId m id ≡ true)
   -- different messages of the set have different ids
   pub ids-differ : (m k id : List ℕ) → among m set ≡ true → among k set ≡ true → givesId m id ≡ true → givesId k id ≡ true → m ≡ k
-
--- ---- settings, and a fresh node with stores of their lengths
-pub record Settings : Type 0 where
-  pub ttl : ℕ
-  pub max-seen : ℕ
-  pub history-len : ℕ
-  pub max-messages : ℕ
-
-pub record Fresh (x : Settings) (s : State) : Type 0 where
-  pub small : x .ttl < 2 ^ 64
-  pub legal : legalSettings (x .max-seen) (x .history-len) (x .max-messages) ≡ true
-  pub node : s .node ≡ freshNode (x .ttl) (x .max-seen) (x .history-len) (x .max-messages)
-  pub ids : length (s .ids) ≡ x .max-seen * 129
-  pub messages : length (s .messages) ≡ x .max-messages * 4096
-  pub bytes : Bytes (s .messages)
 
 -- ---- admitting set members only; where the body is refused or the host's word withheld, the node gets nothing
 abbrev pub Member : List (List ℕ) → Plan → Type 0

@@ -8,12 +8,12 @@ use mathlib.Core.Logic.{_↔_}
 use native.Mathlib.Omega.{arith}
 use lib.ListN.{length}
 use Rattle.rows.specs.Ids.{among, distinct}
-use Rattle.canonical.specs.Canonical.{Within}
+use Rattle.canon.specs.Taken.{Within}
 use Rattle.mcache.specs.Messages.{idsOf}
 use Rattle.node.specs.Gateway.{toldOf, lacking, request}
-use Rattle.agreement.specs.History.{State, Call, advertise, ask, afterAll, refusalAt}
-use Rattle.agreement.specs.Premises.{MessageSet, Settings, Premises}
-use Rattle.agreement.specs.Round.{gatewayOf, lacked, Play, Fair, advertOf, requestOf}
+use Rattle.history.specs.History.{State, gatewayOf, Settings, Call, advertise, ask, afterAll, refusalAt}
+use Rattle.agreement.specs.Premises.{MessageSet, Premises}
+use Rattle.agreement.specs.Round.{lacked, Play, Fair, advertOf, requestOf}
 use Rattle.agreement.specs.Holding.{Holding, holding-all}
 use Rattle.agreement.specs.HandOver.{asked-something, request-meant}
 use Rattle.agreement.specs.Lacking.{fine, wants-exactly, wants-once, wants-count}

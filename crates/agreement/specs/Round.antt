@@ -1,23 +1,17 @@
 -- Rounds for one topic, between a gateway that asks and one that tells: advertise, ask, serve, admit all served with the host's word. And what the one
 -- lacks of the other.
 use Prim.Native.Nat.{ℕ, zero, suc, _≤_}
-use mathlib.Core.Bool.{true, cond, not, _&&_}
+use mathlib.Core.Bool.{cond, not, _&&_}
 use mathlib.Core.List.{List, [], _∷_, _++_}
-use lib.ListN.{length, take}
+use lib.ListN.{length}
 use Rattle.rows.specs.Ids.{among}
 use Rattle.seen.specs.Entries.{holds}
 use Rattle.mcache.specs.Messages.{Cached, topics}
-use Rattle.node.specs.declared.Advertise.{Advertise}
-use Rattle.node.specs.declared.Advertise.the-variants as told
-use Rattle.node.specs.declared.Ask.{Ask}
-use Rattle.node.specs.declared.Ask.the-variants as asked
 use Rattle.node.specs.declared.Serve.{Serve}
-use Rattle.node.specs.declared.Serve.the-variants as served
 use Rattle.node.specs.Gateway.{Gateway, marked}
-use Rattle.node.specs.State.{gatewayIn}
 use Rattle.node.specs.Calls.{advertiseAnswer, advertiseLeft, askAnswer, askLeft, serveAnswer, serveLeft}
-use Rattle.agreement.specs.History.{State, Call, admit, advertise, ask, serve, afterAll}
-use Rattle.agreement.specs.Premises.{Settings}
+use Rattle.history.specs.History.{State, gatewayOf, Settings, Call, advertise, ask, serve, afterAll, toldBytes}
+use Rattle.history.specs.History.{askedBytes, servedBytes, servedMessages, admits}
 
 -- ---- "lacks": the messages of a topic that are cached at one gateway and not seen by the asker
 unfoldable pub missing : List ℕ → Gateway → List Cached → List Cached
@@ -25,37 +19,9 @@ missing topic asker [] = []
 missing topic asker (c ∷ cs) =
     cond (among topic (topics c) && not (holds (marked (c .id)) (asker .seen))) (c ∷ missing topic asker cs) (missing topic asker cs)
 
-abbrev pub gatewayOf : State → Gateway
-gatewayOf s = gatewayIn (s .node) (s .ids) (s .messages)
-
 -- what a lacks of b
 abbrev pub lacked : List ℕ → State → State → List Cached
 lacked topic a b = missing topic (gatewayOf a) (gatewayOf b .cache)
-
--- ---- what a call wrote: as many bytes as it answers, from the front of the buffer as it leaves it
-abbrev pub toldBytes : Advertise → List ℕ → List ℕ
-toldBytes (told.Bytes n) out = take n out
-toldBytes (told.Faulty why) out = []
-toldBytes (told.TopicTooLong n) out = []
-toldBytes (told.Room n) out = []
-
-abbrev pub askedBytes : Ask → List ℕ → List ℕ
-askedBytes (asked.Bytes n) out = take n out
-askedBytes (asked.Faulty why) out = []
-askedBytes (asked.Refused why) out = []
-askedBytes (asked.Room n) out = []
-
-abbrev pub servedBytes : Serve → List ℕ → List ℕ
-servedBytes (served.Reply n messages left) out = take n out
-servedBytes (served.Faulty why) out = []
-servedBytes (served.Refused why) out = []
-servedBytes (served.Room n) out = []
-
-abbrev pub servedMessages : Serve → ℕ
-servedMessages (served.Reply n messages left) = messages
-servedMessages (served.Faulty why) = 0
-servedMessages (served.Refused why) = 0
-servedMessages (served.Room n) = 0
 
 -- ---- what rounds are played with: the topic, the windows told of, and the buffers
 pub record Play : Type 0 where
@@ -112,11 +78,6 @@ module _ (p : Play) where
   servedCount a b = servedMessages (replyAnswer a b)
 
 -- ---- a round, as the calls of each gateway
--- admits of k messages of a body, from an index on, each with the host's word and at its reading
-unfoldable pub admits : List ℕ → (ℕ → ℕ) → ℕ → ℕ → List Call
-admits body at i zero = []
-admits body at i (suc k) = admit body i true (at i) ∷ admits body at (suc i) k
-
 module _ (p : Play) where
   unfoldable pub askerRound : (ℕ → ℕ) → State → State → List Call
   askerRound at a b = ask (advertOf p b) (p .request-out) ∷ admits (replyOf p a b) at 0 (servedCount p a b)

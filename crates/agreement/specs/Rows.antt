@@ -11,7 +11,7 @@ use Rattle.rows.specs.Ids.{sameBytes, among}
 use Rattle.rows.specs.IdsLaws.{same-self, same-equal}
 use Rattle.admission.specs.declared.Admission.the-variants as admission
 use Rattle.admission.specs.Admission.{givesId}
-use Rattle.admission.specs.AdmissionLaws.{gives-only}
+use Rattle.admission.specs.AdmissionLaws.{one-id}
 use Rattle.seen.specs.Entries.{Entry, holds, live}
 use Rattle.mcache.specs.Messages.{Cached, held, shift}
 use Rattle.node.specs.Gateway.{marked}
@@ -54,18 +54,6 @@ rows-shift {least} {most} history h (row {m} {e} {c} {ms} {es} {cs} x rs) =
     let y = x .young in
     rw (lt-ltb (suc (c .window)) history (omega arith))
     (row {c = record { id = c .id; message = c .message; window = suc (c .window) }} (record { own = x .own; seen = x .seen; message = x .message; lasts = x .lasts; young = omega arith }) (rows-shift history h rs))
-
--- ---- a message gives one id
-pub one-id : (m i j : List ℕ) → givesId m i ≡ true → givesId m j ≡ true → i ≡ j
-one-id m i j g h =
-    let a = gives-only m i g in
-    let b = gives-only m j h in
-    let e : admission.Fit (a .from-start) (a .from-end) (a .seqno-start) (a .seqno-end) ≡ admission.Fit (b .from-start) (b .from-end) (b .seqno-start) (b .seqno-end) = sym (a .taken) ∙ b .taken in
-    let p : a .from-start ≡ b .from-start = cc in
-    let q : a .from-end ≡ b .from-end = cc in
-    let r : a .seqno-start ≡ b .seqno-start = cc in
-    let s : a .seqno-end ≡ b .seqno-end = cc in
-    a .named ∙ rw (p, q, r, s) (sym (b .named))
 
 -- ---- the ids of a set's messages are the same exactly where the messages are
 module _ {set : List (List ℕ)} (ms : MessageSet set) (m id : List ℕ) (inside : among m set ≡ true) (own : givesId m id ≡ true) where

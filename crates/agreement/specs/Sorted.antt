@@ -8,7 +8,7 @@ use Rattle.basis.specs.Cases.{either, clash}
 use Rattle.rows.specs.Ids.{sameBytes, precedesBytes, among}
 use Rattle.rows.specs.IdsLaws.{same-self, same-equal}
 use Rattle.mcache.specs.Messages.{Cached, topics, idsOf, carrying, enterId, inOrder, gossipIds}
-use Rattle.mcache.specs.GossipLaws.{order-cases, enter-same, enter-past, enter-front, enter-swap, among-enter, among-order, gossip-exactly}
+use Rattle.mcache.specs.GossipLaws.{order-cases, enter-same, enter-past, enter-front, enter-swap, among-enter, gossip-exactly}
 
 -- ---- an id entered twice is entered once
 enter-twice : (i : List ℕ) (l : List (List ℕ)) → enterId i (enterId i l) ≡ enterId i l
@@ -53,9 +53,6 @@ order-swap (i ∷ is) js = ap (enterId i) (order-swap is js) ∙ sym (order-midd
 pub ordered-same : (is js : List (List ℕ)) → ((i : List ℕ) → among i (inOrder is) ≡ among i (inOrder js)) → inOrder is ≡ inOrder js
 ordered-same is js h =
     sym (absorbed js is (λ i m. h i ∙ m)) ∙ order-swap js is ∙ absorbed is js (λ i m. sym (h i) ∙ m)
-
-pub in-order-same : (is js : List (List ℕ)) → ((i : List ℕ) → among i is ≡ among i js) → inOrder is ≡ inOrder js
-in-order-same is js h = ordered-same is js (λ i. among-order i is ∙ h i ∙ sym (among-order i js))
 
 -- ---- what two caches tell is the same where the same ids are told
 pub told-same : (topic : List ℕ) (windows windows2 : ℕ) (ms ks : List Cached)

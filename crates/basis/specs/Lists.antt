@@ -4,7 +4,7 @@ use mathlib.Core.Path.{_≡_, refl, sym, ap, _∙_}
 use mathlib.Core.List.{List, [], _∷_, _++_}
 use native.Mathlib.Omega.{arith}
 use native.Mathlib.Nat.{add-zero, zero-add, sub-zero, zero-sub, suc-sub-suc}
-use lib.ListN.{length, set, take, drop, length-take, List·getD-eq-default}
+use lib.ListN.{length, set, take, drop, replicate, length-take, List·getD-eq-default}
 use lib.Seq.{sets, sets-eq, getD-drop, getD-take, take-nil}
 use mathlib.Core.Bool.{false}
 use lib.Dec.{ltb, leb}
@@ -64,6 +64,23 @@ take-bytes n s b i =
     (λ t. let h : n ≤ i = ltb-false i n t in
     let l : length (take n s) ≤ i = rw (length-take n s) (omega arith) in
     rw (List·getD-eq-default (take n s) 0 l) (omega arith))
+
+-- and so are bytes with bytes stored in them, and zeros
+set-bytes : (st : List ℕ) (k b : ℕ) → Bytes st → b < 256 → Bytes (set st k b)
+set-bytes [] k b h l i = h i
+set-bytes (x ∷ st) zero b h l zero = l
+set-bytes (x ∷ st) zero b h l (suc i) = h (suc i)
+set-bytes (x ∷ st) (suc k) b h l zero = h 0
+set-bytes (x ∷ st) (suc k) b h l (suc i) = set-bytes st k b (λ j. h (suc j)) l i
+
+pub sets-bytes : (st : List ℕ) (k : ℕ) (m : List ℕ) → Bytes st → Bytes m → Bytes (sets st k m)
+sets-bytes st k [] h g = h
+sets-bytes st k (b ∷ m) h g = sets-bytes (set st k b) (suc k) m (set-bytes st k b h (g 0)) (λ i. g (suc i))
+
+pub zeros-bytes : (n : ℕ) → Bytes (replicate n 0)
+zeros-bytes zero i = omega arith
+zeros-bytes (suc n) zero = omega arith
+zeros-bytes (suc n) (suc i) = zeros-bytes n i
 
 -- what is left of a front
 pub drop-take : {A : Type 0} (n m : ℕ) (l : List A) → drop m (take n l) ≡ take (n - m) (drop m l)

@@ -1,5 +1,5 @@
 -- The message at an index of a body is that message of the RPC that the body means; and where there is none, the number of messages is told.
-use Prim.Native.Nat.{ℕ, zero, suc, _+_, _≤_}
+use Prim.Native.Nat.{ℕ, zero, suc, _+_, _≤_, _<_}
 use mathlib.Core.Path.{_≡_, refl, sym, ap, ap₂, subst, _∙_}
 use mathlib.Core.Bool.{Bool, cond}
 use mathlib.Core.List.{List, [], _∷_}
@@ -13,7 +13,7 @@ use Rattle.protobuf.specs.Grammar.{Entry}
 use Rattle.protobuf.specs.Walk.{whole, between, entriesOf, isBytes, valueIn}
 use Rattle.protobuf.specs.Exactly.{body-walks}
 use Rattle.rpc.specs.Rpc.{RawMessage, Rpc}
-use Rattle.rpc.specs.Grammar.{bytesIn, Pairs, no-pairs, _paired_, IsMessage, IsRpc, is-rpc}
+use Rattle.rpc.specs.Grammar.{bytesIn, Pairs, no-pairs, _paired_, IsMessage, is-message, IsRpc, is-rpc}
 use Rattle.meaning.specs.Entries.{put-bytes}
 use Rattle.ids.specs.declared.MessageAt.the-variants.{At, Count}
 use Rattle.ids.specs.Ids.{messageAlong, messageAt}
@@ -22,6 +22,14 @@ use Rattle.ids.specs.Ids.{messageAlong, messageAt}
 pub data Nth {A : Type 0} : ℕ → List A → A → Type 0 where
   here : {x : A} {xs : List A} → Nth 0 (x ∷ xs) x
   there : {i : ℕ} {x y : A} {xs : List A} → Nth i xs y → Nth (suc i) (x ∷ xs) y
+
+pub nth-bound : {A : Type 0} {i : ℕ} {xs : List A} {x : A} → Nth i xs x → i < length xs
+nth-bound here = omega arith
+nth-bound (there n) = let l = nth-bound n in omega arith
+
+-- a message's bytes are those that mean it
+pub raw-is : {p : List ℕ} {m : RawMessage} → IsMessage p m → m .raw ≡ p
+raw-is (is-message g u) = refl
 
 -- with n messages passed, the message k further on is the element k of those that are left
 list-at : (s : List ℕ) (fs : List Field) (i n k a e : ℕ) → i ≡ n + k → messageAlong i n (whole fs) ≡ At a e → Nth k (bytesIn 2 (entriesOf s fs)) (between s a e)

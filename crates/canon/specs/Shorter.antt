@@ -155,7 +155,7 @@ signed-shorter {s} {es} g =
     omega (arith, length-append x1 (x2 ++ (x3 ++ x4)), length-append x2 (x3 ++ x4), length-append x3 x4)
 
 -- ---- the RPC
-raw-same : (d : List ℕ) (m : RawMessage) → IsMessage d m → length (m .raw) ≤ length d
+pub raw-same : (d : List ℕ) (m : RawMessage) → IsMessage d m → length (m .raw) ≤ length d
 raw-same _ _ (is-message g u) = omega arith
 
 pub never-longer : {s : List ℕ} {x : Rpc} → IsRpc s x → length (encodeRpc x) ≤ length s

@@ -1,7 +1,7 @@
 -- What the calls that write do with a body within capacity, said of the RPC that it means and of nothing else: `encode` writes the RPC,
 -- `sign_bytes` what is signed of its message i, `message_id` that message's id; and where there is no such message, 20 carries the number of
 -- messages. Bodies that are refused before that are those that mean no RPC within capacity.
-use Prim.Native.Nat.{ℕ, _+_, _-_, _≤_, _<_}
+use Prim.Native.Nat.{ℕ, _+_, _-_, _≤_}
 use mathlib.Core.Path.{_≡_, refl, sym, ap, ap₂, subst, _∙_}
 use mathlib.Core.Bool.{_||_}
 use mathlib.Core.List.{List, _++_}
@@ -9,15 +9,21 @@ use mathlib.Core.Option.{Option, some}
 use mathlib.Core.Logic.{_↔_}
 use native.Mathlib.Omega.{arith}
 use native.Mathlib.Nat.{zero-add}
-use lib.ListN.{length, drop, length-take, length-drop}
+use lib.ListN.{length}
 use lib.Dec.{ltb, eqb}
 use borrow.Author.Tests.{le-ltb, ltb-false}
 use Rattle.basis.specs.Cases.{either, clash}
 use Rattle.basis.specs.Bytes.{Bytes}
 use Rattle.basis.specs.Writing.{answer, written}
-use Rattle.protobuf.specs.declared.Checked.the-variants.{Fine}
+use Rattle.basis.specs.declared.Written.{Written}
+use Rattle.basis.specs.declared.Written.the-variants as done
+use Rattle.protobuf.specs.declared.WireError.{WireError}
+use Rattle.protobuf.specs.declared.Encoded.the-variants.{Refused}
+use Rattle.protobuf.specs.declared.Checked.{Checked}
+use Rattle.protobuf.specs.declared.Checked.the-variants.{Fine, Refused as Wrong}
 use Rattle.protobuf.specs.Encode.{ofWritten}
 use Rattle.protobuf.specs.Walk.{between}
+use Rattle.protobuf.specs.WalkLaws.{between-length}
 use Rattle.protobuf.specs.Exactly.{body-walks}
 use Rattle.schema.specs.declared.Kind.the-variants as kind
 use Rattle.schema.specs.declared.Counted.{Counted}
@@ -43,57 +49,39 @@ use Rattle.ids.specs.declared.MessageBytes.{MessageBytes}
 use Rattle.ids.specs.declared.MessageBytes.the-variants.{NoMessage, MissingFrom, InvalidFrom, InvalidSeqno}
 use Rattle.schema.specs.Accept.{acceptOf}
 use Rattle.ids.specs.Ids.{messageAt, onSeqno, onFrom, idParts, ofWritten as message, answerId, leftId, answerAt, leftAt, answerChecked, leftChecked, idAnswer, idLeft}
-use Rattle.encode.specs.Encode.{encodeAnswer, encodeLeft}
+use Rattle.encode.specs.Encode.{encodeChecked, encodeAnswer, encodedChecked, encodeLeft}
 use Rattle.encode.specs.Sign.{signAt, signChecked, signAnswer, signedAt, signedChecked, signLeft}
-use Rattle.canonical.specs.Canonical.{Within}
-use Rattle.canonical.specs.Written.{canon-written, sign-written}
-use Rattle.canonical.specs.Messages.{Nth, here, there, message-found, message-missing}
-
--- ---- which bodies are taken
-counts : {s : List ℕ} {x : Rpc} → Within s x → (n : ℕ) × (counted kind.Rpc s ≡ count.Records n) × (n ≤ 512)
-counts {s} {x} w =
-    let a = rpc-accepted s (record { value = x; means = w .means }) in
-    let n = counted-records s (a .records) x (a .counts) (w .means) in
-    (a .records, a .counts, omega (arith, w .few))
-
-pub taken : {s : List ℕ} {x : Rpc} → Within s x → acceptOf s ≡ Fine
-unfolding acceptOf
-taken {s} w = let c = counts w in simp (le-ltb 65536 (length s) (w .small), c .1, le-ltb 512 (c .0) (c .2))
-
-of-counted : (s : List ℕ) (r : Counted) → Bytes s → length s ≤ 65536 → counted kind.Rpc s ≡ r → onCounted r ≡ Fine → (x : Rpc) × Within s x
-of-counted s (count.Refused why) b h e q = clash (cc)
-of-counted s (count.Records n) b h e q =
-    either (ltb 512 n) (λ t. clash (let k = simp t at q in cc))
-    (λ t. let x = rpc-means s b (record { records = n; counts = e }) in
-    let z = counted-records s n (x .value) e (x .means) in
-    let l = ltb-false 512 n t in
-    (x .value, record { means = x .means; small = h; few = omega arith }))
-
-only-taken : (s : List ℕ) → Bytes s → acceptOf s ≡ Fine → (x : Rpc) × Within s x
-unfolding acceptOf
-only-taken s b q =
-    either (ltb 65536 (length s)) (λ t. clash (let k = simp t at q in cc))
-    (λ t. of-counted s (counted kind.Rpc s) b (ltb-false 65536 (length s) t) refl (simp t at q))
-
--- the calls take a body exactly when it means an RPC within capacity
-pub taken-exactly : (s : List ℕ) → Bytes s → (acceptOf s ≡ Fine) ↔ ((x : Rpc) × Within s x)
-taken-exactly s b = (only-taken s b, λ p. taken (p .1))
+use Rattle.canon.specs.Canon.{canonBody}
+use Rattle.canon.specs.Taken.{Within, taken, taken-exactly}
+use Rattle.canon.specs.Written.{canon-written, sign-written}
+use Rattle.canon.specs.Messages.{Nth, here, there, nth-bound, message-found, message-missing}
 
 -- ---- encode
+-- it takes a body exactly when the body means an RPC within capacity
+encode-refuses : (s out : List ℕ) (c : Checked) → acceptOf s ≡ c → ((why : WireError) → encodeChecked s out c ≡ Refused why → ⊥) → acceptOf s ≡ Fine
+encode-refuses s out Fine e h = e
+encode-refuses s out (Wrong why) e h = absurd (h why refl)
+
+fine-kept : (w : Written) (why : WireError) → ofWritten w ≡ Refused why → ⊥
+fine-kept (done.Bytes n) why h = clash (cc)
+fine-kept (done.Room n) why h = clash (cc)
+
+pub encode-takes : (s out : List ℕ) → Bytes s → ((why : WireError) → encodeAnswer s out ≡ Refused why → ⊥) ↔ ((x : Rpc) × Within s x)
+unfolding encodeAnswer
+encode-takes s out b = (
+  λ h. taken-exactly s b .0 (encode-refuses s out (acceptOf s) refl h),
+  λ w why h. fine-kept (answer (canonBody s) out) why (ap (encodeChecked s out) (sym (taken (w .1))) ∙ h),
+)
+
 pub encode-writes : {s : List ℕ} {x : Rpc} → Within s x → (out : List ℕ) → (encodeAnswer s out ≡ ofWritten (answer (encodeRpc x) out)) × (encodeLeft s out ≡ written (encodeRpc x) out)
 unfolding encodeAnswer encodeLeft
 encode-writes {s} {x} w out =
-    let c = counts w in
     let e = canon-written (w .means) in (
-      simp (le-ltb 65536 (length s) (w .small), c .1, le-ltb 512 (c .0) (c .2)) (ap (λ (b : List ℕ). ofWritten (answer b out)) e),
-      simp (le-ltb 65536 (length s) (w .small), c .1, le-ltb 512 (c .0) (c .2)) (ap (λ (b : List ℕ). written b out) e),
+      ap (encodeChecked s out) (taken w) ∙ ap (λ (b : List ℕ). ofWritten (answer b out)) e,
+      ap (encodedChecked s out) (taken w) ∙ ap (λ (b : List ℕ). written b out) e,
     )
 
 -- ---- the message at an index
-nth-bound : {A : Type 0} {i : ℕ} {xs : List A} {x : A} → Nth i xs x → i < length xs
-nth-bound here = omega arith
-nth-bound (there n) = let l = nth-bound n in omega arith
-
 nth-same : {A : Type 0} {i : ℕ} {xs : List A} {x y : A} → Nth i xs x → Nth i xs y → x ≡ y
 nth-same here here = refl
 nth-same (there n) (there m) = nth-same n m
@@ -105,7 +93,7 @@ found-in {s} i (At a e) g n q =
     (a, e, q, subst (λ (y : RawMessage). IsMessage (between s a e) y) (nth-same (f .1) n) (f .2))
 found-in i (Count k) g n q = let l = message-missing i k g q in let b = nth-bound n in absurd (omega arith)
 
-none-in : {s : List ℕ} {x : Rpc} (i : ℕ) (r : MessageAt) → IsRpc s x → length (x .publish) ≤ i → messageAt s i ≡ r → messageAt s i ≡ Count (length (x .publish))
+pub none-in : {s : List ℕ} {x : Rpc} (i : ℕ) (r : MessageAt) → IsRpc s x → length (x .publish) ≤ i → messageAt s i ≡ r → messageAt s i ≡ Count (length (x .publish))
 none-in i (At a e) g l q = let f = message-found i a e g q in let b = nth-bound (f .1) in absurd (omega arith)
 none-in i (Count k) g l q = let m = message-missing i k g q in q ∙ ap Count (m .0)
 
@@ -160,20 +148,17 @@ stays pre p out (parts.Parts a e b f) = refl
 bytes-there : (p : List ℕ) (a e : ℕ) → bytesAt p 0 (place.Present a e) ≡ some (between p a e)
 bytes-there p a e = ap₂ (λ (x y : ℕ). some (between p x y)) (zero-add a) (zero-add e)
 
-there-length : (p : List ℕ) (a e : ℕ) → e ≤ length p → length (between p a e) ≡ e - a
-there-length p a e h = rw (length-take (e - a) (drop a p), length-drop a p) (omega arith)
-
 seqno-same : (p : List ℕ) (a e : ℕ) (q : Place) → Inside p q → toId p (onSeqno a e q) ≡ withSeqno (between p a e) (bytesAt p 0 q)
 seqno-same p a e place.Absent h = refl
 seqno-same p a e (place.Present b f) h =
-    let l = there-length p b f (h b f refl .1) in
+    let l = between-length p b f (h b f refl .1) in
     (either (eqb (f - b) 0 || ltb 64 (f - b)) (λ t. rw l (simp t)) (λ t. rw l (simp t)))
     ∙ ap (withSeqno (between p a e)) (sym (bytes-there p b f))
 
 from-same : (p : List ℕ) (f q : Place) → Inside p f → Inside p q → toId p (onFrom f q) ≡ withFrom (bytesAt p 0 f) (bytesAt p 0 q)
 from-same p place.Absent q h k = refl
 from-same p (place.Present a e) q h k =
-    let l = there-length p a e (h a e refl .1) in
+    let l = between-length p a e (h a e refl .1) in
     (either (eqb (e - a) 0 || ltb 64 (e - a)) (λ t. rw l (simp t)) (λ t. rw l (simp t (seqno-same p a e q k))))
     ∙ ap (λ (o : Option (List ℕ)). withFrom o (bytesAt p 0 q)) (sym (bytes-there p a e))
 

@@ -14,27 +14,17 @@ use Rattle.rpc.specs.Grammar.{IsRpc}
 use Rattle.meaning.specs.Accepted.{rpc-accepted}
 use Rattle.meaning.specs.Size.{recordsIn}
 use Rattle.meaning.specs.Decoded.{counted-records}
-use Rattle.encode.specs.Canon.{canonBody}
-use Rattle.encode.specs.Encode.{encodeAnswer}
-use Rattle.canonical.specs.Shorter.{never-longer}
+use Rattle.canon.specs.Canon.{canonBody}
+use Rattle.encode.specs.Encode.{encodeChecked, encodeAnswer}
 use Rattle.canonical.specs.Means.{canonical-means}
-use Rattle.canonical.specs.Written.{canon-written}
-
--- a body within capacity that means an RPC
-pub record Within (s : List ℕ) (x : Rpc) : Type 0 where
-  pub means : IsRpc s x
-  pub small : length s ≤ 65536
-  pub few : recordsIn x ≤ 512
+use Rattle.canon.specs.Written.{canon-written}
+use Rattle.canon.specs.Taken.{Within, taken, output-shorter}
 
 module _ {s : List ℕ} {x : Rpc} (w : Within s x) where
-  -- the output is never longer
-  pub output-shorter : length (canonBody s) ≤ length s
-  output-shorter = subst (λ (b : List ℕ). length b ≤ length s) (sym (canon-written (w .means))) (never-longer (w .means))
-
   -- the output means the same RPC, so every published message stands in it byte for byte, and it is within capacity
   pub output-means : Within (canonBody s) x
   output-means =
-      let l = output-shorter in
+      let l = output-shorter w in
       record {
         means = subst (λ (b : List ℕ). IsRpc b x) (sym (canon-written (w .means))) (canonical-means (omega (arith, w .small)) (w .means));
         small = omega (arith, w .small);
@@ -48,11 +38,7 @@ module _ {s : List ℕ} {x : Rpc} (w : Within s x) where
   -- given room, re-encoding succeeds: as much room as the body takes is always enough
   pub output-succeeds : (out : List ℕ) → length (canonBody s) ≤ length out → encodeAnswer s out ≡ Bytes (length (canonBody s))
   unfolding encodeAnswer
-  output-succeeds out r =
-      let a = rpc-accepted s (record { value = x; means = w .means }) in
-      let n = counted-records s (a .records) x (a .counts) (w .means) in
-      let f : a .records ≤ 512 = omega (arith, w .few) in
-      simp (le-ltb 65536 (length s) (w .small), a .counts, le-ltb 512 (a .records) f) (ap ofWritten (answer-fits (canonBody s) out r))
+  output-succeeds out r = ap (encodeChecked s out) (taken w) ∙ ap ofWritten (answer-fits (canonBody s) out r)
 
 -- two bodies that mean the same RPC re-encode to the same bytes
 pub output-same : {s t : List ℕ} {x : Rpc} → IsRpc s x → IsRpc t x → canonBody s ≡ canonBody t

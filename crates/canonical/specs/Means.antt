@@ -16,7 +16,7 @@ use Rattle.protobuf.specs.EncodeLaws.{bytes-field-length}
 use Rattle.rpc.specs.Rpc.{SubOpts, RawMessage, ControlIHave, ControlIWant, ControlGraft, PeerInfo, ControlPrune, ControlMessage, Rpc}
 use Rattle.rpc.specs.Grammar.{putNumber, numbersIn, putBytes, bytesIn, orElse, last, nonzero, Each, none-left, _and_, Pairs, no-pairs, _paired_, IsSubOpts, is-sub-opts, IsMessage, is-message, IsIHave, is-ihave, IsIWant, is-iwant, IsGraft, is-graft, IsPeerInfo, is-peer-info, IsPrune, is-prune, IsControl, is-control, join, joinTo, joined, IsRpc, is-rpc}
 use Rattle.rpc.specs.Encode.{optional, repeated, flag, encodeSubOpts, encodeIHave, encodeIWant, encodeGraft, encodePeerInfo, encodePrune, encodeControl, encodeRpc}
-use Rattle.canonical.specs.Shorter.{sub-opts-shorter, ihave-shorter, iwant-shorter, graft-shorter, peer-info-shorter, prune-shorter, never-longer}
+use Rattle.canon.specs.Shorter.{sub-opts-shorter, ihave-shorter, iwant-shorter, graft-shorter, peer-info-shorter, prune-shorter, never-longer, raw-same}
 
 -- ---- writing fields gives a body of them
 pub body-append : {a b : List ℕ} {es fs : List Entry} → Body a es → Body b fs → Body (a ++ b) (es ++ fs)
@@ -320,9 +320,6 @@ control-sound x o =
     means-as IsControl e refl
     (is-control w (subst (λ (l : List (List ℕ)). Pairs IsIHave l hs) (sym d1) (o .ihaves .mean)) (subst (λ (l : List (List ℕ)). Pairs IsIWant l ws) (sym d2) (o .iwants .mean)) (subst (λ (l : List (List ℕ)). Pairs IsGraft l gs) (sym d3) (o .grafts .mean)) (subst (λ (l : List (List ℕ)). Pairs IsPrune l ps) (sym d4) (o .prunes .mean)))
 
-pub control-canonical : (s : List ℕ) (x : ControlMessage) → IsControl s x → IsControl (encodeControl x) x
-control-canonical s x h = control-sound x (sound-of s x h)
-
 -- ---- several controls as one
 sound-join-to : (c : ControlMessage) (o : Option ControlMessage) → Sound c → Each Sound (opt o) → Each Sound (opt (joinTo c o))
 sound-join-to c none p none-left = p and none-left
@@ -344,9 +341,6 @@ joined-opt (some c) = refl
 message-canonical : (d : List ℕ) (m : RawMessage) → IsMessage d m → IsMessage (m .raw) m
 message-canonical _ _ (is-message g u) = is-message g u
 
-message-raw : (d : List ℕ) (m : RawMessage) → IsMessage d m → length (m .raw) ≤ length d
-message-raw _ _ (is-message g u) = omega arith
-
 control-sized : (o : Option ControlMessage) → length (optional (λ c. bytesField 3 (encodeControl c)) o) < 2 ^ 64 → Each Sized (encodings encodeControl (opt o))
 control-sized none h = none-left
 control-sized (some c) h = let k : Sized (encodeControl c) = omega (arith, bytes-field-length 3 (encodeControl c)) in k and none-left
@@ -363,7 +357,7 @@ rpc-canonical k short (is-rpc {s = s} {es = es} {ss = ss} {ms = ms} {cs = cs} g 
     let x1 = repeated (λ x. bytesField 1 (encodeSubOpts x)) ss in let x2 = repeated (λ m. bytesField 2 (m .raw)) ms in let x3 = optional (λ c. bytesField 3 (encodeControl c)) o in
     let z = last-part x1 x2 x3 in
     let s3 = control-sized o (omega arith) in
-    let w = body-append (bytes-body 1 (omega arith) (omega arith) e1 (subs-sized encodeSubOpts sub-opts-shorter h1 (bytes-sized 1 g))) (body-append (bytes-body 2 (omega arith) (omega arith) e2 (subs-sized (λ m. m .raw) message-raw h2 (bytes-sized 2 g))) (bytes-body 3 (omega arith) (omega arith) e3 s3)) in
+    let w = body-append (bytes-body 1 (omega arith) (omega arith) e1 (subs-sized encodeSubOpts sub-opts-shorter h1 (bytes-sized 1 g))) (body-append (bytes-body 2 (omega arith) (omega arith) e2 (subs-sized (λ m. m .raw) raw-same h2 (bytes-sized 2 g))) (bytes-body 3 (omega arith) (omega arith) e3 s3)) in
     let d1 : bytesIn 1 (a ++ (b ++ c)) ≡ e1 = found 1 a (b ++ c) e1 [] (bytes-here 1 e1) (found 1 b c [] [] (bytes-there 2 1 refl e2) (bytes-there 3 1 refl e3)) ∙ append-nil e1 in
     let d2 : bytesIn 2 (a ++ (b ++ c)) ≡ e2 = found 2 a (b ++ c) [] (e2 ++ []) (bytes-there 1 2 refl e1) (found 2 b c e2 [] (bytes-here 2 e2) (bytes-there 3 2 refl e3)) ∙ append-nil e2 in
     let d3 : bytesIn 3 (a ++ (b ++ c)) ≡ e3 = found 3 a (b ++ c) [] e3 (bytes-there 1 3 refl e1) (found 3 b c [] e3 (bytes-there 2 3 refl e2) (bytes-here 3 e3)) in

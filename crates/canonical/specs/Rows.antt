@@ -12,12 +12,14 @@ use Rattle.protobuf.specs.Encode.{tag, bytesField, varintField}
 use Rattle.schema.specs.declared.Kind.the-variants as kind
 use Rattle.schema.specs.declared.Place.the-variants as place
 use Rattle.schema.specs.Schema.{roleOf, rank, ownOf}
-use Rattle.schema.specs.Count.{textCount, countTo, counted}
-use Rattle.schema.specs.Slots.{setPlace, withField, slotsOf}
+use Rattle.schema.specs.Kinds.{toDepth, overKinds}
+use Rattle.schema.specs.Count.{textCount, counted}
+use Rattle.schema.specs.Accept.{bodyRecords}
+use Rattle.schema.specs.Slots.{setPlace, withField, slotsOf, hasField}
 use Rattle.message.specs.declared.Decoded.the-variants.{Records, Refused}
 use Rattle.message.specs.Decode.{hasControl, decodeAnswer}
 use Rattle.rpc.specs.Encode.{signPrefix}
-use Rattle.encode.specs.Canon.{placed, slotIn, numbered, valueOf, canonTo, canon, partOf, entriesOf, mergedControl, canonBody, signOf}
+use Rattle.canon.specs.Canon.{placed, slotIn, numbered, ownPart, heldPart, canon, entriesOf, mergedOf, bodyPart, canonBody, signOf}
 
 -- the table has 512 rows of 20 words; the message of the third row is its bytes from 2 on
 pub rows :
@@ -30,12 +32,12 @@ pub rows :
     × (decodeAnswer (0x0b ∷ []) 10240 ≡ Refused (UnsupportedWireType 3 1))
     × (decodeAnswer (0x0a ∷ 0x05 ∷ 0x08 ∷ []) 10240 ≡ Refused (FieldOverflow 2 5 1))
     × (decodeAnswer (0x0a ∷ 0x03 ∷ 0x12 ∷ 0x01 ∷ 0xff ∷ []) 10240 ≡ Refused (InvalidUtf8 1))
-unfolding uvarint bytesOf readUvarint readFrom groupOf isUtf8 run readTag readLen readVarint skipFixed skipField readValue readField walkFrom walkAt tag bytesField varintField roleOf rank ownOf textCount countTo counted setPlace withField slotsOf hasControl decodeAnswer placed slotIn numbered valueOf canonTo canon partOf entriesOf mergedControl canonBody signOf
+unfolding uvarint bytesOf readUvarint readFrom groupOf isUtf8 run readTag readLen readVarint skipFixed skipField readValue readField walkFrom walkAt tag bytesField varintField roleOf rank ownOf textCount toDepth overKinds counted bodyRecords setPlace withField slotsOf hasField hasControl decodeAnswer placed slotIn numbered ownPart heldPart canon entriesOf mergedOf bodyPart canonBody signOf
 rows = ((refl, refl), (refl, refl), (refl, refl, refl), refl, refl, refl, refl, refl, refl)
 
 -- an unknown field of a control is not kept, and the control is; every topic is signed, not only the last
 pub worked :
     (canonBody (0x1a ∷ 0x02 ∷ 0x28 ∷ 0x01 ∷ []) ≡ 0x1a ∷ 0x00 ∷ [])
     × (signOf (0x22 ∷ 0x01 ∷ 0x61 ∷ 0x22 ∷ 0x01 ∷ 0x62 ∷ []) ≡ signPrefix ++ (0x22 ∷ 0x01 ∷ 0x61 ∷ 0x22 ∷ 0x01 ∷ 0x62 ∷ []))
-unfolding uvarint bytesOf readUvarint readFrom groupOf isUtf8 run readTag readLen readVarint skipFixed skipField readValue readField walkFrom walkAt tag bytesField varintField roleOf rank ownOf textCount countTo counted setPlace withField slotsOf hasControl decodeAnswer placed slotIn numbered valueOf canonTo canon partOf entriesOf mergedControl canonBody signOf
+unfolding uvarint bytesOf readUvarint readFrom groupOf isUtf8 run readTag readLen readVarint skipFixed skipField readValue readField walkFrom walkAt tag bytesField varintField roleOf rank ownOf textCount toDepth overKinds counted bodyRecords setPlace withField slotsOf hasField hasControl decodeAnswer placed slotIn numbered ownPart heldPart canon entriesOf mergedOf bodyPart canonBody signOf
 worked = (refl, refl)

@@ -5,7 +5,7 @@ use mathlib.Core.List.{List, [], _++_, append-assoc}
 use mathlib.Core.Bool.{cond}
 use native.Mathlib.Omega.{arith}
 use native.Mathlib.Nat.{zero-add}
-use lib.ListN.{length, drop, length-append, length-take, length-drop}
+use lib.ListN.{length, length-append}
 use borrow.Author.Tests.{eq-eqb, ne-eqb}
 use Rattle.basis.specs.declared.Written.the-variants.{Bytes, Room}
 use Rattle.basis.specs.Writing.{answer, written}
@@ -15,9 +15,9 @@ use Rattle.protobuf.specs.declared.Field.{Field}
 use Rattle.protobuf.specs.declared.Step.the-variants as step
 use Rattle.protobuf.specs.Field.{readField}
 use Rattle.protobuf.specs.Walk.{walkAt, between, isBytes, valueIn}
-use Rattle.protobuf.specs.WalkLaws.{walk-on}
+use Rattle.protobuf.specs.WalkLaws.{between-length, walk-on}
 use Rattle.protobuf.specs.Encode.{tag, varintField, bytesField}
-use Rattle.protobuf.specs.EncodeLaws.{tag-varint}
+use Rattle.protobuf.specs.EncodeLaws.{tag-varint, field-holds}
 use Rattle.schema.specs.declared.Kind.{Kind}
 use Rattle.schema.specs.declared.Kind.the-variants as kind
 use Rattle.schema.specs.declared.Figure.{Figure}
@@ -54,8 +54,7 @@ place-none n s p e = rw e
 
 pub part-is : (n a e : ℕ) (s : List ℕ) → a ≤ e → e ≤ length s → bytesField n (between s a e) ≡ (tag n 2 ++ uvarint (e - a)) ++ between s a e
 part-is n a e s h l =
-    let z : e - a ≡ length (between s a e) = rw (length-take (e - a) (drop a s), length-drop a s) (omega arith) in
-    field-is n (e - a) (between s a e) z
+    field-is n (e - a) (between s a e) (sym (between-length s a e l))
 
 pub place-is : (n a e : ℕ) (s : List ℕ) (p : Place) → p ≡ place.Present a e → a ≤ e → e ≤ length s → placed n s p ≡ (tag n 2 ++ uvarint (e - a)) ++ between s a e
 unfolding placed
@@ -71,11 +70,6 @@ module _ (n : ℕ) (f : Field) (xs : List ℕ) where
 
   pub field-other : f .«wire_type» ≡ 2 → (f .field ≡ n → ⊥) → cond (isBytes n f) xs [] ≡ []
   field-other p q = simp (eq-eqb _ _ p, ne-eqb _ _ q)
-
--- a field is longer than what it holds
-pub holds-less : (n : ℕ) (d : List ℕ) → length d ≤ length (bytesField n d)
-unfolding bytesField
-holds-less n d = omega (arith, length-append (tag n 2) (uvarint (length d) ++ d), length-append (uvarint (length d)) d)
 
 -- ---- the rows of the table
 -- a message has at most six
@@ -149,7 +143,7 @@ each-field g n s i f h = ap (eachAlong g n s) (walk-on s i (step.At f) h)
 -- ---- a field n that holds d, whose length was measured: a head, and d where it ends
 module _ (n : ℕ) (xs d : List ℕ) (at : ℕ) (y : xs ≡ bytesField n d) (h : Fits at xs) where
   pub measure-fits : Fits 0 d
-  measure-fits = let w = fits-same at _ _ y h in let l = holds-less n d in omega arith
+  measure-fits = let w = fits-same at _ _ y h in let l = field-holds n d in omega arith
 
   module _ (none after : List ℕ) (len : ℕ) (m : Puts none 0 d after len) where
     whole-is : xs ≡ (tag n 2 ++ uvarint len) ++ d

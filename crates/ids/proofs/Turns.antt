@@ -1,6 +1,6 @@
 -- A turn of the search for a message, and the writing of an id.
 use Prim.Native.Nat.{ℕ, _+_, _-_, _≤_, _<_}
-use mathlib.Core.Path.{_≡_, refl, sym, ap, _∙_}
+use mathlib.Core.Path.{_≡_, sym, ap, _∙_}
 use mathlib.Core.Bool.{Bool, true, false, cond, _&&_}
 use mathlib.Core.List.{List, _++_}
 use native.Mathlib.Omega.{arith}
@@ -25,7 +25,8 @@ use Rattle.ids.specs.declared.MessageBytes.{MessageBytes}
 use Rattle.ids.specs.declared.MessageBytes.the-variants.{Bytes, Room, Refused, NoMessage}
 use Rattle.ids.specs.Ids.{messageAlong, messageAt, idParts, ofWritten, idBytes, answerId, leftId, answerAt, leftAt, answerChecked, leftChecked, idAnswer, idLeft}
 use Rattle.schema.specs.Accept.{acceptOf}
-use Rattle.ids.specs.IdLaws.{Fits, part-length}
+use Rattle.protobuf.specs.WalkLaws.{between-length}
+use Rattle.ids.specs.IdLaws.{Fits}
 
 hit : (f : Field) (i n : ℕ) (w : Fields) → isBytes 2 f && eqb n i ≡ true → messageAlong i n (f then w) ≡ At (f .start) (f .next)
 hit f i n w h =
@@ -54,16 +55,11 @@ found-refused s at i n why e = ap (messageAlong i n) (walk-on s at (step.Refused
 pub found-past : (s : List ℕ) (at i n : ℕ) → length s ≤ at → messageAlong i n (walkAt s at) ≡ Count n
 found-past s at i n h = ap (messageAlong i n) (walk-end s at h)
 
--- one more, or none
-pub at-most : (t : Bool) (n m : ℕ) → m ≡ cond t (n + 1) n → m ≤ n + 1
-at-most true n m e = omega arith
-at-most false n m e = omega arith
-
 -- ---- writing an id: its length, and its three parts
 pub id-length : (pre p : List ℕ) (a e b f : ℕ) → Fits p a e b f → length (pre ++ idBytes p a e b f) ≡ length pre + (e - a) + (f - b)
 id-length pre p a e b f h =
-    let x = part-length p a e (h .from .0) (h .from .1) in
-    let y = part-length p b f (h .seqno .0) (h .seqno .1) in
+    let x = between-length p a e (h .from .1) in
+    let y = between-length p b f (h .seqno .1) in
     omega (arith, length-append pre (idBytes p a e b f), length-append (between p a e) (between p b f), x, y)
 
 pub id-short : (pre p out : List ℕ) (a e b f : ℕ) → Fits p a e b f → length out < length pre + (e - a) + (f - b) → (Room (length pre + (e - a) + (f - b)) ≡ ofWritten (answer (pre ++ idBytes p a e b f) out)) × (out ≡ written (pre ++ idBytes p a e b f) out)
@@ -79,8 +75,8 @@ pub id-put : (pre p out : List ℕ) (a e b f : ℕ) (o₁ o₂ o₃ : List ℕ) 
     → (Bytes (length pre + (e - a) + (f - b)) ≡ ofWritten (answer (pre ++ idBytes p a e b f) out)) × (o₃ ≡ written (pre ++ idBytes p a e b f) out)
 id-put pre p out a e b f o₁ o₂ o₃ i j k h l p₁ p₂ p₃ =
     let n = id-length pre p a e b f h in
-    let x = part-length p a e (h .from .0) (h .from .1) in
-    let y = part-length p b f (h .seqno .0) (h .seqno .1) in
+    let x = between-length p a e (h .from .1) in
+    let y = between-length p b f (h .seqno .1) in
     let q₁ = put-fits out 0 pre o₁ i (omega arith) p₁ in
     let l₁ : length o₁ ≡ length out = ap length (q₁ .1) ∙ length-sets out 0 pre in
     let q₂ = put-fits o₁ i (between p a e) o₂ j (omega (arith, q₁ .0, l₁, x)) p₂ in

@@ -3,13 +3,12 @@ use Prim.Native.Nat.{ℕ, _+_, _-_, _≤_}
 use mathlib.Core.Path.{_≡_, refl}
 use mathlib.Core.List.{List}
 use native.Mathlib.Omega.{arith}
-use lib.ListN.{length, drop, length-append, length-drop}
-use lib.Seq.{length-take-le}
+use lib.ListN.{length, length-append}
 use lib.Dec.{ltb, eqb}
 use borrow.Author.Tests.{ltb-false, eqb-false}
 use Rattle.basis.specs.Cases.{either, clash}
 use Rattle.protobuf.specs.Walk.{Fields, walkAt, isBytes, between}
-use Rattle.protobuf.specs.WalkLaws.{along}
+use Rattle.protobuf.specs.WalkLaws.{between-length, along}
 use Rattle.schema.specs.declared.Kind.the-variants as kind
 use Rattle.schema.specs.declared.Place.{Place}
 use Rattle.schema.specs.declared.Place.the-variants as place
@@ -71,10 +70,6 @@ id-fits p a e b f h =
     let g = slots-inside kind.RawMessage p in
     of-from p a e b f (slotsOf kind.RawMessage p .first) (slotsOf kind.RawMessage p .third) (g .first) (g .third) h
 
--- the bytes from a up to e
-pub part-length : (p : List ℕ) (a e : ℕ) → a ≤ e → e ≤ length p → length (between p a e) ≡ e - a
-part-length p a e h k = length-take-le (e - a) (drop a p) (rw (length-drop a p) (omega arith))
-
 -- from and seqno are not empty
 some-seqno : (x y a e b f : ℕ) (q : Place) → onSeqno x y q ≡ id.Parts a e b f → (x ≡ a) × (y ≡ e) × (1 ≤ f - b)
 some-seqno x y a e b f place.Absent h = clash (cc)
@@ -105,6 +100,6 @@ id-size p a e b f h =
     let g = id-fits p a e b f h in
     let m = id-some p a e b f h in
     let n = length-append (between p a e) (between p b f) in
-    let x = part-length p a e (g .from .0) (g .from .1) in
-    let y = part-length p b f (g .seqno .0) (g .seqno .1) in
+    let x = between-length p a e (g .from .1) in
+    let y = between-length p b f (g .seqno .1) in
     (omega (arith, m .0, m .1), omega (arith, g .from-short, g .seqno-short))

@@ -1,6 +1,6 @@
 -- Rows put in the order of their ids.
 use Prim.Native.Nat.{ℕ, zero, suc, _+_, _-_, _*_, _≤_, _<_, zero-le}
-use mathlib.Core.Path.{_≡_, refl, sym, ap, ap₂, subst⁻¹, _∙_}
+use mathlib.Core.Path.{_≡_, refl, sym, ap, ap₂, _∙_}
 use mathlib.Core.List.{List, [], _∷_, _++_, append-assoc}
 use mathlib.Core.Bool.{Bool, true, false, cond}
 use native.Mathlib.Omega.{arith}
@@ -14,6 +14,7 @@ use Rattle.rows.specs.RowsLaws.{ring-from, ring-end}
 use Rattle.rows.specs.Ids.{precedesBytes}
 use Rattle.rows.specs.Store.{idAt}
 use Rattle.mcache.specs.State.{spotOf, putAt, insertRow, gatherInto, Listed}
+use Rattle.mcache.specs.GatherLaws.{each-insert, length-insert}
 use Rattle.mcache.proofs.Walks.{part-from}
 
 -- an insertion is a put at its spot
@@ -139,32 +140,11 @@ spot-room id p n at rows h e =
     omega arith
 
 -- ---- gathering
-insert-length : (id : ℕ → List ℕ) (p : ℕ) (l : List ℕ) → length (insertRow id p l) ≡ suc (length l)
-insert-length id p l = ap length (sym (insert-spot id p l)) ∙ put-length (spotOf id p l) p l
-
 -- what the rows hold after row p was looked at: n of them are listed, and behind them nothing was written
 pub record Gathering (t : ℕ → Bool) (id : ℕ → List ℕ) (all first : List ℕ) (rest : List ℕ) (n : ℕ) (rows : List ℕ) : Type 0 where
   pub size : length rows ≡ length first
   pub behind : drop n rows ≡ drop n first
   pub goes : gatherInto t id (take n rows) rest ≡ all
-
--- what holds of each
-abbrev Each : (ℕ → Type 0) → List ℕ → Type 0
-Each P l = (i : ℕ) → i < length l → P (getD l i 0)
-
-each-cons : (P : ℕ → Type 0) (x : ℕ) (l : List ℕ) → P x → Each P l → Each P (x ∷ l)
-each-cons P x l a f zero h = a
-each-cons P x l a f (suc i) h = f i (le-of-suc-le-suc h)
-
-insert-each : (P : ℕ → Type 0) (id : ℕ → List ℕ) (p : ℕ) (l : List ℕ) → P p → Each P l → Each P (insertRow id p l)
-unfolding insertRow
-insert-each P id p [] x f = each-cons P p [] x f
-insert-each P id p (q ∷ qs) x f =
-    let tail : Each P qs = λ j k. f (suc j) (omega arith) in
-    let rest = insert-each P id p qs x tail in
-    either (precedesBytes (id q) (id p))
-    (λ t. subst⁻¹ (Each P) {x = insertRow id p (q ∷ qs)} {y = q ∷ insertRow id p qs} (simp t) (each-cons P q (insertRow id p qs) (f 0 (omega arith)) rest))
-    (λ t. subst⁻¹ (Each P) {x = insertRow id p (q ∷ qs)} {y = p ∷ q ∷ qs} (simp t) (each-cons P p (q ∷ qs) x f))
 
 -- a test, and what is left by either way
 pub tell-yes : (t r : Bool) (m n : ℕ) (out x y : List ℕ) → r ≡ t → r ≡ true → out ≡ x → (m ≡ cond t m n) × (out ≡ cond t x y)
@@ -183,7 +163,7 @@ module _ (t : ℕ → Bool) (id : ℕ → List ℕ) (all first : List ℕ) (cap 
   ins = insertRow id p (take n rows)
 
   ins-length : length ins ≡ n + 1
-  ins-length = insert-length id p (take n rows) ∙ ap suc (length-take-le n rows (omega arith)) ∙ sym (add-one n)
+  ins-length = length-insert id p (take n rows) ∙ ap suc (length-take-le n rows (omega arith)) ∙ sym (add-one n)
 
   gather-yes : (m : ℕ) (out : List ℕ) → t p ≡ true → Gathering t id all first (drop i (rowsOf cap start count)) n rows → m ≡ n + 1 → out ≡ ins ++ drop (n + 1) rows
       → Gathering t id all first (drop (i + 1) (rowsOf cap start count)) m out
@@ -228,7 +208,7 @@ module _ (t : ℕ → Bool) (id : ℕ → List ℕ) (all first : List ℕ) (cap 
             let q : m ≡ n + 1 = simp y at (f .0) in
             let r : getD out j 0 ≡ getD ins j 0 = ap (λ (x : List ℕ). getD x j 0) z ∙ List·getD-append ins (drop (n + 1) rows) 0 j (omega (arith, ins-length)) in
             rw r
-            (insert-each (λ (v : ℕ). (v < 64) × (getD ilens v 0 ≤ 128)) id p (take n rows) (a, b)
+            (each-insert (λ (v : ℕ). (v < 64) × (getD ilens v 0 ≤ 128)) id p (take n rows) (a, b)
             (λ x w. let s : x < n = omega (arith, length-take-le n rows (omega arith)) in rw (getD-take n rows x 0 s) (ok .places x s)) j (omega (arith, ins-length)));
       })
       (λ y. record {

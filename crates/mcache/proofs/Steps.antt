@@ -1,25 +1,24 @@
 -- The steps on the rows, as the code makes them.
 use Prim.Native.Nat.{ℕ, _+_, _-_, _*_, _%_, _^_, _≤_, _<_}
 use mathlib.Core.Path.{_≡_, refl, sym, ap, _∙_}
-use mathlib.Core.List.{List, [], _∷_, _++_, map}
+use mathlib.Core.List.{List, _++_, map}
 use mathlib.Core.Bool.{true, false}
 use native.Mathlib.Omega.{arith}
 use native.Mathlib.Nat.{zero-add}
-use lib.ListN.{length, drop, getD, set, replicate}
+use lib.ListN.{length, drop, set, replicate}
 use lib.Seq.{sets}
-use lib.Dec.{ltb}
 use borrow.Author.Tests.{eq-eqb, ne-eqb, lt-ltb, le-ltb, le-leb, lt-leb}
-use Rattle.basis.specs.Cases.{either}
 use Rattle.basis.specs.Writing.{setIn}
 use Rattle.basis.specs.Lists.{set-fits}
 use Rattle.rows.specs.Rows.{placeOf}
 use Rattle.rows.specs.Ids.{indexOf}
-use Rattle.rows.specs.RowsLaws.{place-lt, place-le, place-place, length-ring}
+use Rattle.rows.specs.RowsLaws.{place-lt, place-le, place-place}
 use Rattle.rows.specs.Store.{idsIn, lensIn, Sound}
 use Rattle.mcache.specs.declared.MessageCache.{MessageCache}
 use Rattle.mcache.specs.declared.Start.the-variants as start
 use Rattle.mcache.specs.State.{Rows, Kept, legal, fresh, dropped, appended, passed, aged, older, stale, gathered}
 use Rattle.mcache.specs.Calls.{startAnswer, startCache, indexIn, entered, enteredStore, shifted, gossipList, gossipArray}
+use Rattle.mcache.specs.CachedLaws.{stale-in}
 
 -- ---- start
 module _ (history max : ℕ) where
@@ -132,17 +131,8 @@ unfolding indexIn
 index-is c id r e = e ∙ zero-add (indexOf id (idsIn 128 (c .«max_messages») (c .start) (c .count) (c .«id_len») (c .ids)))
 
 -- ---- a window later
-stale-in : (history : ℕ) (l : List ℕ) → stale history l ≤ length l
-unfolding stale
-stale-in history [] = omega arith
-stale-in history (w ∷ ws) = let r = stale-in history ws in either (ltb (w + 1) history) (λ t. simp t (omega arith)) (λ t. simp t (omega arith))
-
 pub stale-within : (history cap start count : ℕ) (l : List ℕ) (k : ℕ) → k ≡ stale history (lensIn cap start count l) → k ≤ count
-unfolding lensIn
-stale-within history cap start count l k e =
-    let h = stale-in history (lensIn cap start count l) in
-    let n : length (lensIn cap start count l) ≡ count = length-ring (λ (p : ℕ). getD l p 0) cap start count in
-    omega arith
+stale-within history cap start count l k e = let h = stale-in history cap start count l in omega arith
 
 pub shifted-is : (c : MessageCache) (k : ℕ) (w : List ℕ) (r : MessageCache) → k ≡ stale (c .«history_len») (lensIn (c .«max_messages») (c .start) (c .count) (c .window)) → w ≡ map older (c .window)
     → r ≡ dropped k (record { «history_len» = c .«history_len»; «max_messages» = c .«max_messages»; «next_generation» = c .«next_generation»; start = c .start; count = c .count; generation = c .generation; window = w; len = c .len; «id_len» = c .«id_len»; ids = c .ids })

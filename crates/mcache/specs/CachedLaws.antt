@@ -6,8 +6,8 @@ use mathlib.Core.List.{List, [], _∷_, _++_, map}
 use mathlib.Core.Bool.{true}
 use native.Mathlib.Omega.{arith}
 use native.Mathlib.Numerals.{add-one}
-use lib.ListN.{length, drop, getD, set, length-append, drop-of-length-le}
-use lib.Seq.{sets, drop-append-le, getD-set-same, getD-set-other}
+use lib.ListN.{length, drop, getD, set, drop-of-length-le}
+use lib.Seq.{sets, getD-set-same, getD-set-other}
 use lib.Dec.{leb, ltb, eqb}
 use borrow.Author.Tests.{leb-true, ltb-true, lt-ltb, eqb-true, eqb-false, eq-eqb, ne-eqb}
 use Rattle.basis.specs.Cases.{either, both}
@@ -19,7 +19,7 @@ use Rattle.mcache.specs.declared.MessageCache.{MessageCache}
 use Rattle.mcache.specs.Messages.{Cached, idsOf, shift}
 use Rattle.mcache.specs.State.{messageIn, cachedAt, cachedIn, fallsFrom, dropped, appended, passed, older, aged, stale}
 use Rattle.mcache.specs.Calls.{entered, enteredStore, shifted}
-use Rattle.rows.specs.RowsLaws.{ring-more}
+use Rattle.rows.specs.RowsLaws.{ring-more, newest-more}
 use Rattle.rows.specs.StoreLaws.{id-kept, id-put}
 use Rattle.mcache.specs.WellFormed.{Sized}
 use Rattle.mcache.specs.StateLaws.{Tests, row-short, row-id-short}
@@ -125,10 +125,6 @@ cached-shifted c st t z =
     ∙ shift-drop (c .«history_len») (c .«history_len» - 1) (cachedIn c st) (rw (windows-cached c st) (t .falls))
 
 -- ---- a message more: the oldest leave where there is no room
-pub newest-more : {A : Type 0} (max : ℕ) (l : List A) (x : A) → (max ≡ 0 → ⊥) → newest max (l ++ (x ∷ [])) ≡ drop ((length l + 1) - max) l ++ (x ∷ [])
-unfolding newest
-newest-more max l x some = rw (length-append l (x ∷ [])) (drop-append-le ((length l + 1) - max) l (x ∷ []) (omega (arith, some)))
-
 abbrev pub leaving : MessageCache → ℕ
 leaving c = (c .count + 1) - c .«max_messages»
 

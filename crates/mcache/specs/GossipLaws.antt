@@ -1,6 +1,6 @@
 -- What `gossip_ids` tells of: exactly the ids of the messages that carry the topic in the windows asked for, in byte order, each once.
 use Prim.Native.Nat.{ℕ, zero, suc, _≤_, _<_}
-use mathlib.Core.Path.{_≡_, refl, sym, ap, _∙_}
+use mathlib.Core.Path.{_≡_, refl, sym, ap, subst, _∙_}
 use mathlib.Core.List.{List, [], _∷_, map, List·Memᴰ, List·Memᴰ·head, List·Memᴰ·tail, List·Memᴰ·not-nil, List·Memᴰ·cases-cons}
 use mathlib.Core.Bool.{Bool, true, false, cond, _&&_, _||_, or-true, or-self-left}
 use mathlib.Core.Logic.{_↔_, ⊎-elim}
@@ -13,13 +13,13 @@ use Rattle.basis.specs.Cases.{either, clash, both}
 use Rattle.rows.specs.Rows.{ring}
 use Rattle.rows.specs.RowsLaws.{map-ring}
 use Rattle.rows.specs.Ids.{sameBytes, precedesBytes, among, distinct}
-use Rattle.rows.specs.IdsLaws.{same-self, same-equal, order-irreflexive, order-total, order-trans}
+use Rattle.rows.specs.IdsLaws.{same-self, same-equal, order-irreflexive, order-total, order-trans, each-distinct}
 use Rattle.rows.specs.Store.{idAt, idsIn}
 use Rattle.admission.specs.Admission.{topicsOf}
 use Rattle.mcache.specs.declared.MessageCache.{MessageCache}
 use Rattle.mcache.specs.declared.Lent.the-variants as lent
 use Rattle.mcache.specs.declared.Gossip.the-variants as gossip
-use Rattle.mcache.specs.Messages.{Cached, topics, idsOf, carrying, enterId, inOrder, gossipIds}
+use Rattle.mcache.specs.Messages.{Cached, topics, idsOf, held, carrying, enterId, inOrder, gossipIds}
 use Rattle.mcache.specs.State.{messageIn, cachedAt, cachedIn, told, insertRow, gatherInto, gathered}
 use Rattle.mcache.specs.Calls.{lentOf, gossipList, gossipArray, gossipAnswer, gossipCount, gossipRows}
 use Rattle.mcache.specs.StateLaws.{fine-tests}
@@ -311,3 +311,29 @@ module _ (i topic : List ℕ) (windows : ℕ) where
     λ t. among-order i (idsOf (carrying topic windows ms))
         ∙ tells-carrying ms (t .entry) (t .cached) (t .named) (rw (lt-ltb (t .entry .window) windows (t .recent)) (in-among topic (topics (t .entry)) (t .carries))),
   )
+
+-- ---- what is told of is sorted, and so no id is there twice
+pub told-distinct : (topic : List ℕ) (windows : ℕ) (ms : List Cached) → distinct (gossipIds topic windows ms) ≡ true
+told-distinct topic windows ms =
+    let l = gossipIds topic windows ms in
+    each-distinct l
+    (λ i j h k e.
+    let p = gossip-sorted topic windows ms i j h k in
+    let z : precedesBytes (getD l j []) (getD l j []) ≡ true = subst (λ (x : List ℕ). precedesBytes x (getD l j []) ≡ true) e p in
+    let y = order-irreflexive (getD l j []) in
+    clash (cc))
+
+-- and it is cached
+mem-held : (m : Cached) (ms : List Cached) → List·Memᴰ m ms → held (m .id) ms ≡ true
+unfolding held among
+mem-held m [] d = absurd (List·Memᴰ·not-nil d)
+mem-held m (k ∷ ms) d =
+    ⊎-elim
+    (λ (e : m ≡ k). rw (e, same-self (k .id)))
+    (λ (r : List·Memᴰ m ms). either (sameBytes (k .id) (m .id)) (λ t. simp t) (λ t. simp t (mem-held m ms r)))
+    (List·Memᴰ·cases-cons d)
+
+pub told-held : (topic : List ℕ) (windows : ℕ) (ms : List Cached) (i : List ℕ) → among i (gossipIds topic windows ms) ≡ true → held i ms ≡ true
+told-held topic windows ms i h =
+    let t = gossip-exactly i topic windows ms .0 h in
+    subst (λ (x : List ℕ). held x ms ≡ true) (t .named) (mem-held (t .entry) ms (t .cached))

@@ -6,6 +6,7 @@ pub mod StateLaws
 pub mod CachedLaws
 pub mod Laws
 pub mod GossipLaws
+pub mod GatherLaws
 pub mod FineLaws
 pub mod WellFormedLaws
 pub mod WrapLaws

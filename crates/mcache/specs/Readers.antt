@@ -8,7 +8,7 @@ use native.Mathlib.Omega.{arith}
 use lib.ListN.{length, drop}
 use lib.Seq.{sets}
 use Rattle.rows.specs.Rows.{placeOf}
-use Rattle.rows.specs.RowsLaws.{place-is, place-le}
+use Rattle.rows.specs.RowsLaws.{place-is, place-le, newest-more}
 use Rattle.protobuf.specs.declared.Checked.the-variants as checked
 use Rattle.protobuf.specs.Walk.{between}
 use Rattle.ids.specs.declared.MessageAt.the-variants as at
@@ -24,7 +24,7 @@ use Rattle.mcache.specs.State.{cachedIn}
 use Rattle.mcache.specs.Calls.{lentOf, no, keep, answered, keptIn, storedIn, planned}
 use Rattle.mcache.specs.WellFormed.{Sized, rowOf}
 use Rattle.mcache.specs.StateLaws.{fine-tests}
-use Rattle.mcache.specs.CachedLaws.{newest-more, new, leaving, spot, stays, spot-in, spot-free, grown, entered-some, stored-some}
+use Rattle.mcache.specs.CachedLaws.{new, leaving, spot, stays, spot-in, spot-free, grown, entered-some, stored-some}
 use Rattle.mcache.specs.Laws.{put-plan, put-cached}
 
 -- ---- the messages

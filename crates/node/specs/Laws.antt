@@ -26,7 +26,7 @@ use Rattle.ids.specs.Ids.{messageAt, idBytes}
 use Rattle.admission.specs.declared.Admission.{Admission}
 use Rattle.admission.specs.declared.Admission.the-variants as admission
 use Rattle.admission.specs.Admission.{admissionOf, givesId}
-use Rattle.admission.specs.AdmissionLaws.{fit-word, fit-limits, fit-id, gives-own, message-read}
+use Rattle.admission.specs.AdmissionLaws.{fit-word, fit-limits, fit-id, gives-own, gives-only, message-read}
 use Rattle.seen.specs.declared.Lent.the-variants as seenLent
 use Rattle.seen.specs.declared.Insert.the-variants as insert
 use Rattle.seen.specs.Entries.{idsOf, holds, until, inserted, live}
@@ -123,6 +123,10 @@ pub plan-taken : (n : Node) (ss cs body : List ℕ) (i at a e x y z w : ℕ) →
     → admissionOf (between body a e) true ≡ admission.Fit x y z w → n .clock ≤ at → planned n ss cs body i true at ≡ taken (between body a e) (idBytes (between body a e) x y z w)
 unfolding planned
 plan-taken n ss cs body i at a e x y z w fine ok there fit h = rw (fine, ok, there, fit, le-ltb at (n .clock) h)
+
+-- a message that gives an id is taken under it, where the clock does not go back
+pub fit-plan : (n : Node) (at : ℕ) (m id : List ℕ) → givesId m id ≡ true → n .clock ≤ at → planFit n at m (admissionOf m true) ≡ taken m id
+fit-plan n at m id own h = let g = gives-only m id own in rw (g .taken, le-ltb at (n .clock) h) (ap (λ (i : List ℕ). taken m i) (sym (g .named)))
 
 -- ---- the ids seen, after a clean-up and an insert: what the seen cache's own calls leave
 module _ (n : Node) (ss cs : List ℕ) (fine : lentOf n ss cs ≡ lent.Fine) (at : ℕ) where

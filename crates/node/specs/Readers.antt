@@ -1,5 +1,5 @@
 -- Short theorems on the node, for readers: what is ruled out, and what the easy errors would get wrong.
-use Prim.Native.Nat.{ℕ, _+_, _-_, _^_, _≤_, _<_}
+use Prim.Native.Nat.{ℕ, _+_, _-_, _^_, _<_}
 use mathlib.Core.Path.{_≡_, refl, sym, ap, _∙_}
 use mathlib.Core.List.{List, [], _∷_, _++_, map-append}
 use mathlib.Core.Bool.{Bool, true, false, not, _&&_, or-true, and-false, Bool·not-not}
@@ -17,7 +17,8 @@ use Rattle.seen.specs.Entries.{Entry, holds, until, inserted, live}
 use Rattle.seen.specs.Entries as entries
 use Rattle.mcache.specs.Messages.{Cached, held, put, shift, get}
 use Rattle.mcache.specs.Messages as messages
-use Rattle.mcache.specs.CachedLaws.{newest-more, new}
+use Rattle.rows.specs.RowsLaws.{newest-more}
+use Rattle.mcache.specs.CachedLaws.{new}
 use Rattle.protobuf.specs.declared.Checked.{Checked}
 use Rattle.protobuf.specs.declared.Checked.the-variants as checked
 use Rattle.protobuf.specs.Walk.{between}
@@ -42,11 +43,11 @@ use Rattle.node.specs.declared.Asked.{Asked}
 use Rattle.node.specs.declared.Served.{Served}
 use Rattle.node.specs.State.{gatewayIn}
 use Rattle.node.specs.Calls.{lentOf, whenFine, taken, planned, admitAnswer, admitNode, admitSeen, admitCache, beatAnswer, beatNode, bytesFor, advertiseAnswer, offered, unseenOf, askBytes, askAnswer, whenTaken, wanted, cachedOf, roomOf, servedOf, replyBytes, replyTo, serveAnswer, serveLeft}
-use Rattle.node.specs.WellFormed.{Typed, Reached}
+use Rattle.node.specs.WellFormed.{Typed}
 use Rattle.node.specs.StateLaws.{fine-tests, room-cap}
 use Rattle.node.specs.Laws.{plan-takes, plan-taken, admit-says, admit-gateway, beat-says, beat-clock, unseen-gateway, cached-gateway}
 use Rattle.node.specs.Gateway.{Gateway, started, marked, isNew, afterAdmit, afterBeat, lacking, having, request}
-use Rattle.node.specs.WellFormedLaws.{expiriesOf, reached-ordered, upto-more, beat-fine}
+use Rattle.node.specs.WellFormedLaws.{expiriesOf, beat-fine}
 
 -- ---- a node that stores nothing
 holds-last : (i : List ℕ) (es : List Entry) (e : ℕ) → holds i (es ++ (record { id = i; expiry = e } ∷ [])) ≡ true
@@ -217,17 +218,7 @@ unfolding sample afterBeat afterAdmit started isNew inserted live holds among ne
 line-8-new m id = refl
 
 -- ---- readings at the edge
--- a second clean-up at the same reading finds nothing
-live-twice : (at : ℕ) (es : List Entry) → live at (live at es) ≡ live at es
-unfolding live
-live-twice at [] = refl
-live-twice at (e ∷ es) = either (leb (e .expiry) at) (λ t. rw t (live-twice at es)) (λ t. rw (t, t))
-
--- a second heartbeat at the same reading leaves the ids seen as they are
-pub beat-twice : (at : ℕ) (g : Gateway) → afterBeat at (afterBeat at g) .seen ≡ afterBeat at g .seen
-unfolding afterBeat
-beat-twice at g = live-twice at (g .seen)
-
+-- a second heartbeat at the same reading is taken
 pub beat-twice-done : (n : Node) (ss cs : List ℕ) (at : ℕ) → Typed n → beatAnswer n ss cs at ≡ beat.Done → beatAnswer (beatNode n ss cs at) ss cs at ≡ beat.Done
 beat-twice-done n ss cs at typed h = beat-says (beatNode n ss cs at) ss cs at (beat-fine n ss cs at typed h) (omega (arith, beat-clock n ss cs at h))
 
@@ -238,16 +229,6 @@ last-beat n ss cs fine h = beat-says n ss cs (2 ^ 64 - 1) fine (omega arith)
 pub last-admit : (n : Node) (ss cs body : List ℕ) (i a e x y z w : ℕ) → lentOf n ss cs ≡ lent.Fine → acceptOf body ≡ checked.Fine → messageAt body i ≡ found.At a e
     → admissionOf (between body a e) true ≡ admission.Fit x y z w → n .clock < 2 ^ 64 → planned n ss cs body i true (2 ^ 64 - 1) ≡ taken (between body a e) (idBytes (between body a e) x y z w)
 last-admit n ss cs body i a e x y z w fine ok there fit h = plan-taken n ss cs body i (2 ^ 64 - 1) a e x y z w fine ok there fit (omega arith)
-
--- at it every id is new: no expiry is later
-until-last : (at ttl : ℕ) → until at ttl ≤ 2 ^ 64 - 1
-unfolding until
-until-last at ttl = omega arith
-
-pub last-new : {n : Node} {ss cs : List ℕ} → Reached n ss cs → (id : List ℕ) → isNew (2 ^ 64 - 1) id (gatewayIn n ss cs) ≡ true
-last-new {n} {ss} {cs} r id =
-    let g = gatewayIn n ss cs in
-    expired-new (2 ^ 64 - 1) id g (upto-more (until (g .clock) (g .ttl)) (2 ^ 64 - 1) (expiriesOf (g .seen)) (until-last (g .clock) (g .ttl)) (reached-ordered r .upto))
 
 -- with max_seen 0 every admit is new, and nothing is kept as seen
 pub none-seen : (at : ℕ) (m id : List ℕ) (g : Gateway) → g .max-seen ≡ 0 → g .seen ≡ [] → (isNew at id g ≡ true) × (afterAdmit at m id g .seen ≡ [])

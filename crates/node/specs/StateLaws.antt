@@ -69,9 +69,6 @@ module _ (n : Node) (ss cs : List ℕ) where
         messages = rw (r .1, w .0);
       }
 
-  pub fine-cap : lentOf n ss cs ≡ lent.Fine → capOf ss ≡ n .«max_seen»
-  fine-cap h = room-cap n ss (fine-tests h .room)
-
   -- a state that passes is ready for the steps
   pub lent-ready : lentOf n ss cs ≡ lent.Fine → seen.Sized (n .seen) → mcache.Sized (n .cache) → Ready n ss cs
   lent-ready h z y =

@@ -21,7 +21,7 @@ use Rattle.seen.specs.Entries.{Entry, holds, until, inserted, live}
 use Rattle.seen.specs.State.{entriesIn}
 use Rattle.seen.specs.Calls.{lentOf as seenLentOf, insertCache, insertStore}
 use Rattle.seen.specs.WellFormed.{Sized}
-use Rattle.seen.specs.EntriesLaws.{expiries-entries}
+use Rattle.seen.specs.EntriesLaws.{until-later, expiries-entries}
 use Rattle.seen.specs.Laws.{fresh-fine, fresh-sized, insert-fine, insert-sized, insert-length, well-formed-exactly as seen-exactly}
 use Rattle.mcache.specs.declared.MessageCache.{MessageCache}
 use Rattle.mcache.specs.declared.Lent.the-variants as cacheLent
@@ -106,13 +106,29 @@ pub record InOrder (most : ℕ) (es : List Entry) : Type 0 where
   pub rises : risesFrom 0 (expiriesOf es) ≡ true
   pub upto : allUpTo most (expiriesOf es) ≡ true
 
-rises-less : (less least : ℕ) (l : List ℕ) → less ≤ least → risesFrom least l ≡ true → risesFrom less l ≡ true
+pub rises-less : (less least : ℕ) (l : List ℕ) → less ≤ least → risesFrom least l ≡ true → risesFrom less l ≡ true
 unfolding risesFrom
 rises-less less least [] h f = refl
 rises-less less least (e ∷ l) h f =
     let b = both (leb least e) (risesFrom e l) f in
     let k = leb-true least e (b .0) in
     rw (le-leb less e (omega arith)) (b .1)
+
+rises-least : (least : ℕ) (l : List ℕ) → risesFrom least l ≡ true → (i : ℕ) → i < length l → least ≤ getD l i 0
+unfolding risesFrom
+rises-least least [] f i h = absurd (omega arith)
+rises-least least (e ∷ l) f zero h = leb-true least e (both (leb least e) (risesFrom e l) f .0)
+rises-least least (e ∷ l) f (suc i) h =
+    let b = both (leb least e) (risesFrom e l) f in
+    let k = leb-true least e (b .0) in
+    let r = rises-least e l (b .1) i (omega arith) in
+    omega arith
+
+pub first-least : (l : List ℕ) → risesFrom 0 l ≡ true → (i : ℕ) → i < length l → getD l 0 0 ≤ getD l i 0
+unfolding risesFrom
+first-least [] f i h = absurd (omega arith)
+first-least (e ∷ l) f zero h = omega arith
+first-least (e ∷ l) f (suc i) h = rises-least e l (both (leb 0 e) (risesFrom e l) f .1) i (omega arith)
 
 rises-drop : (least k : ℕ) (l : List ℕ) → risesFrom least l ≡ true → risesFrom least (drop k l) ≡ true
 unfolding risesFrom
@@ -130,7 +146,7 @@ rises-snoc least e (x ∷ l) f h u =
     let d = both (leb x e) (allUpTo e l) u in
     rw (b .0) (rises-snoc x e l (b .1) (leb-true x e (d .0)) (d .1))
 
-pub upto-more : (most more : ℕ) (l : List ℕ) → most ≤ more → allUpTo most l ≡ true → allUpTo more l ≡ true
+upto-more : (most more : ℕ) (l : List ℕ) → most ≤ more → allUpTo most l ≡ true → allUpTo more l ≡ true
 unfolding allUpTo
 upto-more most more [] h u = refl
 upto-more most more (x ∷ l) h u =
@@ -170,10 +186,6 @@ order-inserted most max at ttl id es h o =
     let p = order-more most es o (until at ttl) h in
     let l : List Entry = es ++ (record { id = id; expiry = until at ttl } ∷ []) in
     either (holds id es) (λ t. rw t p) (λ t. rw t (order-drop (until at ttl) l (order-snoc (until at ttl) es p id) (length l - max)))
-
-until-later : (at later ttl : ℕ) → at ≤ later → until at ttl ≤ until later ttl
-unfolding until
-until-later at later ttl h = omega arith
 
 -- of a gateway
 abbrev pub Ordered : Gateway → Type 0
@@ -335,10 +347,6 @@ reached-fine r = reached-keeps r .fine
 
 pub reached-typed : {n : Node} {ss cs : List ℕ} → Reached n ss cs → Typed n
 reached-typed r = reached-keeps r .typed
-
--- and its ids are in the order of their expiries
-pub reached-ordered : {n : Node} {ss cs : List ℕ} → Reached n ss cs → Ordered (gatewayIn n ss cs)
-reached-ordered r = reached-keeps r .ordered
 
 pub reached-well-formed : {n : Node} {ss cs : List ℕ} → Reached n ss cs → WellFormed n ss cs
 reached-well-formed {n} {ss} {cs} r = fine-well-formed-node n ss cs (reached-typed r) (reached-fine r)

@@ -7,9 +7,8 @@ use native.Mathlib.Nat.{zero-lt-suc, suc-mul}
 use lib.ListN.{length, getD, length-append}
 use Rattle.peer_id.specs.Laws.{at-most-ten}
 use Rattle.protobuf.specs.Encode.{bytesField}
-use Rattle.protobuf.specs.EncodeLaws.{bytes-field-length}
+use Rattle.protobuf.specs.EncodeLaws.{tag-one, bytes-field-length}
 use Rattle.rpc.specs.Encode.{encodeRpc, encodeControl, encodeIHave, encodeIWant, repeated}
-use Rattle.encode.specs.CanonLaws.{tag-one}
 use Rattle.node.specs.Gateway.{advertisement, request}
 
 pub advertisement-bytes : (topic : List ℕ) (ids : List (List ℕ)) → encodeRpc (advertisement topic ids) ≡ bytesField 3 (bytesField 1 (bytesField 1 topic ++ repeated (bytesField 2) ids))
@@ -23,7 +22,7 @@ request-bytes ids = ap (bytesField 3) (append-nil _ ∙ append-nil _)
 -- ---- how long
 -- a field has at most eleven bytes before what it holds
 pub field-most : (n : ℕ) (d : List ℕ) → n ≤ 6 → length d < 2 ^ 64 → length (bytesField n d) ≤ 11 + length d
-field-most n d k h = omega (arith, bytes-field-length n d, tag-one n 2 k (omega arith), at-most-ten (length d) h)
+field-most n d k h = omega (arith, bytes-field-length n d, tag-one n 2 (omega arith) (omega arith), at-most-ten (length d) h)
 
 -- some fields that each hold at most so many
 pub fields-most : (n most : ℕ) → n ≤ 6 → most < 2 ^ 63 → (l : List (List ℕ)) → ((i : ℕ) → i < length l → length (getD l i []) ≤ most) → length (repeated (bytesField n) l) ≤ length l * (11 + most)

@@ -17,10 +17,9 @@ use Rattle.protobuf.specs.Encode.{bytesField}
 use Rattle.protobuf.specs.EncodeLaws.{bytes-field-length, tag-at-most-ten}
 use Rattle.rpc.specs.Grammar.{Each, none-left, _and_}
 use Rattle.rpc.specs.Encode.{encodeRpc, repeated}
-use Rattle.meaning.specs.Size.{recordsIn}
-use Rattle.encode.specs.Canon.{canonBody}
-use Rattle.canonical.specs.Written.{canon-written}
-use Rattle.canonical.specs.Canonical.{Within}
+use Rattle.canon.specs.Canon.{canonBody}
+use Rattle.canon.specs.Written.{canon-written}
+use Rattle.canon.specs.Taken.{Within}
 use Rattle.mcache.specs.declared.MessageCache.{MessageCache}
 use Rattle.mcache.specs.declared.Lent.the-variants as cacheLent
 use Rattle.mcache.specs.Messages.{Cached, topics, idsOf, carrying, enterId, inOrder, gossipIds}
@@ -35,7 +34,7 @@ use Rattle.node.specs.Gateway.{advertisement}
 use Rattle.node.specs.Calls.{lentOf, bytesFor, toldIn, advertiseBytes}
 use Rattle.node.specs.StateLaws.{fine-tests as node-tests}
 use Rattle.node.specs.WireLaws.{advertisement-bytes}
-use Rattle.outputs.specs.Bodies.{no-bytes, some-bytes, advertisement-means}
+use Rattle.outputs.specs.Bodies.{no-bytes, some-bytes, advertisement-means, records-told}
 use Rattle.outputs.specs.Cached.{each-in, each-cached, CachedMessage}
 
 -- ---- the ids told of are some of those cached
@@ -95,10 +94,6 @@ advertisement-small topic ids h t =
     let d = field-small 3 (bytesField 1 x) 10536 (omega arith) (omega arith) c (omega arith) in
     omega (arith, ap length (advertisement-bytes topic ids))
 
-records : (topic : List ℕ) (ids : List (List ℕ)) → recordsIn (advertisement topic ids) ≡ 1 + length ids
-unfolding recordsIn advertisement
-records topic ids = omega arith
-
 -- ---- of a tested cache
 module _ (c : MessageCache) (st topic : List ℕ) (windows : ℕ) (fine : cacheLentOf c st ≡ cacheLent.Fine) (bytes : Bytes st) where
   abbrev told : List (List ℕ)
@@ -129,7 +124,7 @@ of-ids topic (i ∷ is) h t text there =
     record {
       means = advertisement-means topic (i ∷ is) (text i (first-among i is)) (omega arith);
       small = omega arith;
-      few = omega (arith, records topic (i ∷ is), t .few);
+      few = omega (arith, records-told topic (i ∷ is), t .few);
     }
 
 of-none : (topic : List ℕ) (ids : List (List ℕ)) → ((i : List ℕ) → among i ids ≡ true → Utf8 topic) → (Utf8 topic → ⊥) → ids ≡ []

@@ -1,6 +1,6 @@
 -- Bodies that are a field or several, each of bytes, and what they mean: messages that are published; a control, with one IHAVE or one IWANT; and
 -- nothing.
-use Prim.Native.Nat.{ℕ, _^_, _≤_, _<_}
+use Prim.Native.Nat.{ℕ, _^_, _≤_, _<_, _+_}
 use mathlib.Core.Path.{_≡_, refl, sym, ap, ap₂, subst}
 use mathlib.Core.Bool.{false}
 use mathlib.Core.List.{List, [], _∷_, _++_, append-nil}
@@ -11,15 +11,13 @@ use lib.Dec.{eqb}
 use Rattle.utf8.specs.Grammar.{Utf8}
 use Rattle.protobuf.specs.Grammar.{Body, none as no-fields}
 use Rattle.protobuf.specs.Encode.{bytesField}
-use Rattle.protobuf.specs.EncodeLaws.{bytes-field-length}
+use Rattle.protobuf.specs.EncodeLaws.{field-holds}
 use Rattle.rpc.specs.Rpc.{RawMessage, ControlIHave, ControlIWant, ControlMessage, Rpc}
 use Rattle.rpc.specs.Grammar.{bytesIn, last, Each, none-left, _and_, Pairs, no-pairs, _paired_, IsSubOpts, IsMessage, IsIHave, is-ihave, IsIWant, is-iwant, IsGraft, IsPrune, IsControl, is-control, IsRpc, is-rpc}
 use Rattle.rpc.specs.Encode.{encodeRpc, repeated}
 use Rattle.meaning.specs.Size.{recordsIn}
-use Rattle.encode.specs.Canon.{canonBody}
 use Rattle.canonical.specs.Means.{body-append, Sized, bytesEntries, bytes-body, bytes-here, bytes-there, found}
-use Rattle.canonical.specs.Written.{canon-written}
-use Rattle.canonical.specs.Canonical.{Within}
+use Rattle.canon.specs.Taken.{Within}
 use Rattle.node.specs.Gateway.{controlled, advertisement, request}
 use Rattle.node.specs.Calls.{bytesFor}
 use Rattle.node.specs.WireLaws.{advertisement-bytes, request-bytes}
@@ -43,10 +41,6 @@ nothing = record { subscriptions = []; publish = []; control = none }
 pub nothing-means : Within [] nothing
 unfolding recordsIn
 nothing-means = record { means = is-rpc no-fields no-pairs no-pairs no-pairs; small = omega arith; few = omega arith }
-
-pub nothing-stays : canonBody [] ≡ []
-unfolding encodeRpc
-nothing-stays = canon-written (nothing-means .means)
 
 -- ---- messages
 abbrev pub published : List RawMessage → Rpc
@@ -110,10 +104,6 @@ pub some-bytes : (ids : List (List ℕ)) (x : Rpc) → (ids ≡ [] → ⊥) → 
 some-bytes [] x there = absurd (there refl)
 some-bytes (i ∷ is) x there = refl
 
--- a field is longer than what it holds
-pub field-holds : (n : ℕ) (d : List ℕ) → length d ≤ length (bytesField n d)
-field-holds n d = omega (arith, bytes-field-length n d)
-
 fields-sized : (n : ℕ) (ds : List (List ℕ)) → length (repeated (bytesField n) ds) < 2 ^ 64 → Each Sized ds
 fields-sized n [] h = none-left
 fields-sized n (d ∷ ds) h =
@@ -144,3 +134,12 @@ request-means ids h =
     let a = field-holds 3 (bytesField 2 i) in
     let b = field-holds 2 i in
     rw e (control-means (omega arith) (iwant-means (omega arith) (ids-alone ids (fields-sized 1 ids (omega arith)))))
+
+-- ---- how many records they have
+pub records-told : (topic : List ℕ) (ids : List (List ℕ)) → recordsIn (advertisement topic ids) ≡ 1 + length ids
+unfolding recordsIn advertisement
+records-told topic ids = omega arith
+
+pub records-asked : (ids : List (List ℕ)) → recordsIn (request ids) ≡ 1 + length ids
+unfolding recordsIn request
+records-asked ids = omega arith

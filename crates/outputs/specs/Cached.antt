@@ -26,6 +26,7 @@ use Rattle.mcache.specs.State.{messageIn, cachedAt, cachedIn}
 use Rattle.mcache.specs.StateLaws.{Tests, row-gives, row-id-short}
 use Rattle.parts.specs.Parts.{valuesAlong}
 use Rattle.canonical.specs.Means.{Sized}
+use Rattle.canon.specs.Messages.{raw-is}
 use Rattle.outputs.specs.Offered.{values-body}
 
 -- ---- each of a list
@@ -54,9 +55,6 @@ unfolding topicsOf
 topics-mean (is-message {s = p} {es = es} g u) =
     let e = topics-values p (fieldsOf p) ∙ values-body 4 p es g in
     (sym e, subst (Each Utf8) (sym e) u)
-
-raw-own : {p : List ℕ} {m : RawMessage} → IsMessage p m → m .raw ≡ p
-raw-own (is-message g u) = refl
 
 -- ---- a message that may be taken
 pub record Message (p : List ℕ) : Type 0 where
@@ -122,7 +120,7 @@ all-messages (_and_ {x = p} {xs = ps} m ms) =
     record {
       values = m .value ∷ r .values;
       means = m .means paired r .means;
-      raws = ap₂ (λ (x : List ℕ) (l : List (List ℕ)). x ∷ l) (raw-own (m .means)) (r .raws);
+      raws = ap₂ (λ (x : List ℕ) (l : List (List ℕ)). x ∷ l) (raw-is (m .means)) (r .raws);
       few = omega (arith, m .few, r .few);
       sized = k and r .sized;
     }

@@ -52,9 +52,9 @@ module _ {X : Type 0} (all : List X → List (List ℕ)) (own : X → List (List
       ap (λ (l : List (List ℕ)). l ++ all ys) (sym (more x xs)) ∙ append-assoc (own x) (all xs) (all ys) ∙ ap (λ (l : List (List ℕ)). own x ++ l) (all-append xs ys) ∙ more x (xs ++ ys)
 
   -- each submessage is a record, and so is each id
-  all-few : (xs : List X) → sumOf (λ x. 1 + length (own x)) xs ≡ length xs + length (all xs)
-  all-few [] = omega (arith, ap length empty)
-  all-few (x ∷ xs) = omega (arith, length-append (own x) (all xs), ap length (more x xs), all-few xs)
+  ids-few : (xs : List X) → sumOf (λ x. 1 + length (own x)) xs ≡ length xs + length (all xs)
+  ids-few [] = omega (arith, ap length empty)
+  ids-few (x ∷ xs) = omega (arith, length-append (own x) (all xs), ap length (more x xs), ids-few xs)
 
 -- ---- one IHAVE, one IWANT, one control
 ihave-ids : (d : List ℕ) (h : ControlIHave) → IsIHave d h → atPath (2 ∷ []) d ≡ h .«message_ids»
@@ -100,28 +100,18 @@ pub wanted-once : {s : List ℕ} {x : Rpc} → IsRpc s x → wanted s ≡ once (
 unfolding wanted
 wanted-once h = ap once (wanted-means h)
 
--- ---- no more ids than records
--- ids that are offered stand in an IHAVE, which is one record more
-offers-in : (o : Option ControlMessage) → (length (offersIn o) ≤ someRecords o) × (1 ≤ length (offersIn o) → 1 + length (offersIn o) ≤ someRecords o)
-offers-in none = (omega arith, λ h. absurd (omega arith))
-offers-in (some c) = let l = all-few ihaveIds (λ h. h .«message_ids») refl (λ h hs. refl) (c .ihave) in (omega arith, λ h. let k = some-ihave (c .ihave) h in omega arith)
+-- ---- fewer ids than records: ids that are offered stand in an IHAVE, which is one record more
+offers-in : (o : Option ControlMessage) → 1 ≤ length (offersIn o) → 1 + length (offersIn o) ≤ someRecords o
+offers-in none h = absurd (omega arith)
+offers-in (some c) h =
+    let l = ids-few ihaveIds (λ h. h .«message_ids») refl (λ h hs. refl) (c .ihave) in
+    let k = some-ihave (c .ihave) h in
+    omega arith
   where
     some-ihave : (hs : List ControlIHave) → 1 ≤ length (ihaveIds hs) → 1 ≤ length hs
     some-ihave [] h = h
     some-ihave (h ∷ hs) k = omega arith
 
-wants-in : (o : Option ControlMessage) → length (wantsIn o) ≤ someRecords o
-wants-in none = omega arith
-wants-in (some c) = let l = all-few iwantIds (λ w. w .«message_ids») refl (λ w ws. refl) (c .iwant) in omega arith
-
-pub offers-few : (x : Rpc) → length (offersOf x) ≤ recordsIn x
-unfolding recordsIn
-offers-few x = omega (arith, offers-in (x .control) .0)
-
 pub offers-fewer : (x : Rpc) → 1 ≤ length (offersOf x) → 1 + length (offersOf x) ≤ recordsIn x
 unfolding recordsIn
-offers-fewer x h = omega (arith, offers-in (x .control) .1 h)
-
-pub wants-few : (x : Rpc) → length (wantsOf x) ≤ recordsIn x
-unfolding recordsIn
-wants-few x = omega (arith, wants-in (x .control))
+offers-fewer x h = omega (arith, offers-in (x .control) h)

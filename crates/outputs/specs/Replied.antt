@@ -2,7 +2,7 @@
 -- is answered counts them, and those that are left.
 use Prim.Native.Nat.{ℕ, suc, _+_, _-_, _≤_, _<_, min}
 use mathlib.Core.Path.{_≡_, refl, sym, ap, _∙_}
-use mathlib.Core.Bool.{Bool, true, false, cond, _||_, or-true}
+use mathlib.Core.Bool.{true}
 use mathlib.Core.List.{List, [], _∷_, _++_, map, append-nil}
 use mathlib.Core.Option.{none}
 use native.Mathlib.Omega.{arith}
@@ -14,8 +14,8 @@ use Rattle.basis.specs.Cases.{either, clash}
 use Rattle.basis.specs.Bytes.{Bytes}
 use Rattle.rows.specs.Rows.{placeOf}
 use Rattle.rows.specs.RowsLaws.{length-ring}
-use Rattle.rows.specs.Ids.{sameBytes, among, distinct, indexOf}
-use Rattle.rows.specs.IdsLaws.{same-self, same-equal}
+use Rattle.rows.specs.Ids.{among, distinct, indexOf}
+use Rattle.rows.specs.IdsLaws.{shared, shared-few}
 use Rattle.rows.specs.Store.{idAt, idsIn}
 use Rattle.rows.specs.StoreLaws.{index-among}
 use Rattle.protobuf.specs.declared.Checked.the-variants as checked
@@ -25,9 +25,9 @@ use Rattle.rpc.specs.Grammar.{Each, none-left, _and_}
 use Rattle.rpc.specs.Encode.{repeated, encodeRpc}
 use Rattle.meaning.specs.Size.{recordsIn}
 use Rattle.schema.specs.Accept.{acceptOf}
-use Rattle.encode.specs.Canon.{canonBody}
-use Rattle.canonical.specs.Written.{canon-written}
-use Rattle.canonical.specs.Canonical.{Within}
+use Rattle.canon.specs.Canon.{canonBody}
+use Rattle.canon.specs.Written.{canon-written}
+use Rattle.canon.specs.Taken.{Within}
 use Rattle.mcache.specs.declared.MessageCache.{MessageCache}
 use Rattle.mcache.specs.State.{messageIn}
 use Rattle.mcache.specs.StateLaws.{Tests, fine-tests}
@@ -43,64 +43,6 @@ use Rattle.node.specs.Laws.{serve-says}
 use Rattle.node.specs.StateLaws.{fine-tests as node-tests}
 use Rattle.outputs.specs.Bodies.{published, messages-mean}
 use Rattle.outputs.specs.Cached.{each-take, Message, row-message, all-messages}
-
--- ---- of ids that differ, at most as many are among others as there are others
--- without the first that is i
-without : List ℕ → List (List ℕ) → List (List ℕ)
-without i [] = []
-without i (j ∷ js) = cond (sameBytes j i) js (j ∷ without i js)
-
-without-shorter : (i : List ℕ) (l : List (List ℕ)) → among i l ≡ true → length l ≡ suc (length (without i l))
-unfolding among without
-without-shorter i [] h = clash (cc)
-without-shorter i (j ∷ l) h = either (sameBytes j i) (λ t. simp t) (λ t. simp t (ap suc (without-shorter i l (simp t at h))))
-
--- another stays
-without-other : (i x : List ℕ) (l : List (List ℕ)) → sameBytes i x ≡ false → among x (without i l) ≡ among x l
-unfolding among without
-without-other i x [] h = refl
-without-other i x (j ∷ l) h =
-    either (sameBytes j i)
-    (λ t. let e = same-equal j i t in simp (t, ap (λ (y : List ℕ). sameBytes y x) e ∙ h))
-    (λ t. simp t (ap (λ (b : Bool). sameBytes j x || b) (without-other i x l h)))
-
--- how many of is are among l
-shared : List (List ℕ) → List (List ℕ) → ℕ
-shared l [] = 0
-shared l (i ∷ is) = cond (among i l) (suc (shared l is)) (shared l is)
-
-shared-without : (i : List ℕ) (l is : List (List ℕ)) → among i is ≡ false → shared (without i l) is ≡ shared l is
-unfolding shared among
-shared-without i l [] h = refl
-shared-without i l (x ∷ is) h =
-    either (sameBytes x i) (λ t. clash (let k = simp t at h in cc))
-    (λ t. rw (without-other i x l (same-not i x t), shared-without i l is (simp t at h)))
-  where
-    same-not : (a b : List ℕ) → sameBytes b a ≡ false → sameBytes a b ≡ false
-    same-not a b h = either (sameBytes a b) (λ t. clash (let e = same-equal a b t in let k = same-self b in let g = rw e at h in cc)) (λ t. t)
-
-shared-few : (l is : List (List ℕ)) → distinct is ≡ true → shared l is ≤ length l
-unfolding shared distinct
-shared-few l [] d = omega arith
-shared-few l (i ∷ is) d =
-    either (among i is) (λ t. clash (let k = simp t at d in cc))
-    (λ t. let e : distinct is ≡ true = simp t at d in
-    either (among i l)
-    (λ u. let r = shared-few (without i l) is e in
-    let s = shared-without i l is t in
-    let n = without-shorter i l u in
-    simp u (omega arith))
-    (λ u. simp u (shared-few l is e)))
-
-shared-all : (l is : List (List ℕ)) → ((i : List ℕ) → among i is ≡ true → among i l ≡ true) → shared l is ≡ length is
-unfolding shared among
-shared-all l [] h = refl
-shared-all l (i ∷ is) h =
-    let a : among i l ≡ true = h i (simp (same-self i)) in
-    simp a (ap suc (shared-all l is (λ k t. h k (rw t (or-true (sameBytes i k))))))
-
-pub all-few : (l is : List (List ℕ)) → distinct is ≡ true → ((i : List ℕ) → among i is ≡ true → among i l ≡ true) → length is ≤ length l
-all-few l is d h = let e = shared-all l is h in let r = shared-few l is d in omega arith
 
 -- ---- the rows with the ids that are named: as many as there are such ids, and each in use
 rows-shared : (cap start : ℕ) (held is : List (List ℕ)) → length (rowsFor cap start held is) ≡ shared held is

@@ -1,5 +1,5 @@
 -- A request is a body with one IWANT that names the ids offered and not seen; it is canonical, and never longer than the body that offers them.
-use Prim.Native.Nat.{ℕ, _+_, _*_, _≤_, _<_}
+use Prim.Native.Nat.{ℕ, _+_, _≤_}
 use mathlib.Core.Path.{_≡_, refl, sym, ap, _∙_}
 use mathlib.Core.List.{List, [], _∷_, _++_, append-nil}
 use mathlib.Core.Option.{Option, none, some}
@@ -9,20 +9,18 @@ use Rattle.basis.specs.Cases.{either}
 use Rattle.basis.specs.Bytes.{Bytes}
 use Rattle.rows.specs.Ids.{among}
 use Rattle.rows.specs.Store.{idsIn}
-use Rattle.peer_id.specs.Laws.{uvarint-small}
 use Rattle.protobuf.specs.declared.Checked.the-variants.{Fine}
-use Rattle.protobuf.specs.Encode.{tag, bytesField}
-use Rattle.protobuf.specs.EncodeLaws.{bytes-field-length}
+use Rattle.protobuf.specs.Encode.{bytesField}
+use Rattle.protobuf.specs.EncodeLaws.{heads-same}
 use Rattle.rpc.specs.Rpc.{ControlIHave, ControlMessage, Rpc}
 use Rattle.rpc.specs.Encode.{optional, repeated, encodeIHave, encodeIWant, encodeSubOpts, encodeGraft, encodePrune, encodeControl, encodeRpc}
-use Rattle.meaning.specs.Size.{sumOf, recordsIn}
+use Rattle.meaning.specs.Size.{sumOf}
 use Rattle.schema.specs.Accept.{acceptOf}
-use Rattle.encode.specs.Canon.{canonBody}
-use Rattle.canonical.specs.Lengths.{bytes-field-mono}
-use Rattle.canonical.specs.Shorter.{repeated-append, field-sum, never-longer}
-use Rattle.canonical.specs.Written.{canon-written}
-use Rattle.canonical.specs.Canonical.{Within}
-use Rattle.canonical.specs.Calls.{taken-exactly}
+use Rattle.canon.specs.Canon.{canonBody}
+use Rattle.canon.specs.Lengths.{bytes-field-mono}
+use Rattle.canon.specs.Shorter.{repeated-append, field-sum, never-longer}
+use Rattle.canon.specs.Written.{canon-written}
+use Rattle.canon.specs.Taken.{Within, taken-exactly}
 use Rattle.parts.specs.Parts.{atPath, onceAfter, once}
 use Rattle.parts.specs.PartsLaws.{once-again, once-new}
 use Rattle.node.specs.declared.Node.{Node}
@@ -31,7 +29,7 @@ use Rattle.node.specs.Calls.{bytesFor, offered, unseenFrom, unseenOf, askBytes}
 use Rattle.node.specs.WireLaws.{request-bytes}
 use Rattle.outputs.specs.Named.{ihaveIds, offersIn, offersOf}
 use Rattle.outputs.specs.Offered.{offered-means, offers-fewer}
-use Rattle.outputs.specs.Bodies.{no-bytes, some-bytes, request-means}
+use Rattle.outputs.specs.Bodies.{no-bytes, some-bytes, request-means, records-asked}
 
 -- ---- what is asked for is some of what is offered: whatever each id adds, all of them add no more
 abbrev Less : List (List ℕ) → List (List ℕ) → Type 0
@@ -77,14 +75,6 @@ less-fields : (n : ℕ) (is js : List (List ℕ)) → Less is js → length (rep
 less-fields n is js h = omega (arith, h (λ i. length (bytesField n i)), fields-sum n is, fields-sum n js)
 
 -- ---- one IWANT with all ids that some IHAVEs name is no longer than they are
--- the tags 1 and 2 take a byte each
-tag-one : (n : ℕ) → n < 15 → length (tag n 2) ≡ 1
-unfolding tag
-tag-one n h = ap length (uvarint-small (n * 8 + 2) (omega arith))
-
-heads-same : (d : List ℕ) → length (bytesField 1 d) ≡ length (bytesField 2 d)
-heads-same d = omega (arith, bytes-field-length 1 d, bytes-field-length 2 d, tag-one 1 (omega arith), tag-one 2 (omega arith))
-
 fields-same : (ds : List (List ℕ)) → length (repeated (bytesField 1) ds) ≡ length (repeated (bytesField 2) ds)
 fields-same [] = refl
 fields-same (d ∷ ds) =
@@ -156,17 +146,13 @@ module _ (x : Rpc) (i : List ℕ) (is : List (List ℕ)) (less : Less (i ∷ is)
       let c = bytes-field-mono 3 (bytesField 2 (repeated (bytesField 1) ids)) (bytesField 2 (repeated (bytesField 1) (offersOf x))) b in
       omega (arith, rpc-in x some-offered)
 
-  records : recordsIn (request ids) ≡ 1 + length ids
-  unfolding recordsIn request
-  records = omega arith
-
   means : {body : List ℕ} → Within body x → Within (encodeRpc (request ids)) (request ids)
   means {body} w =
       let a = shorter in
       let b = never-longer (w .means) in
       let c = offers-fewer x some-offered in
       let d = less-count ids (offersOf x) less in
-      record { means = request-means ids (omega (arith, w .small)); small = omega (arith, w .small); few = omega (arith, w .few, records) }
+      record { means = request-means ids (omega (arith, w .small)); small = omega (arith, w .small); few = omega (arith, w .few, records-asked ids) }
 
 of-ids : {body : List ℕ} {x : Rpc} → Within body x → (ids : List (List ℕ)) → Less ids (offersOf x) → (ids ≡ [] → ⊥) → Within (bytesFor ids (request ids)) (request ids)
 of-ids w [] less there = absurd (there refl)

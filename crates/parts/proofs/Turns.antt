@@ -20,14 +20,14 @@ use Rattle.schema.specs.Count.{Within}
 use Rattle.protobuf.specs.Encode.{tag, bytesField}
 use Rattle.protobuf.specs.EncodeLaws.{bytes-field-length}
 use Rattle.rpc.specs.Encode.{repeated}
-use Rattle.ids.specs.IdLaws.{part-length}
+use Rattle.protobuf.specs.WalkLaws.{between-length}
 use Rattle.parts.specs.Parts.{partAt, partsIn, Parts, atPath, onceAfter, once, fitting}
 use Rattle.parts.specs.PartsLaws.{length-parts, between-between, restAt, fieldParts, path-none, path-all, path-field, parts-from, parts-end, parts-more, parts-within-more, no-parts, parts-none, once-again, once-new, fitting-more, fitting-stop}
 
 -- ---- a part written as a field: its head, its bytes, and then the other parts
 module _ (n : ℕ) (s t : List ℕ) (m i : ℕ) (p : Parts s t m) (h : i < m) where
   part-size : length (partAt s t i) ≡ getD t (i * 2 + 1) 0 - getD t (i * 2) 0
-  part-size = part-length s (getD t (i * 2) 0) (getD t (i * 2 + 1) 0) (p .within i h .0) (p .within i h .1)
+  part-size = between-length s (getD t (i * 2) 0) (getD t (i * 2 + 1) 0) (p .within i h .1)
 
   pub write-turn : repeated (bytesField n) (drop i (partsIn s t m)) ≡ (tag n 2 ++ uvarint (getD t (i * 2 + 1) 0 - getD t (i * 2) 0)) ++ (partAt s t i ++ repeated (bytesField n) (drop (i + 1) (partsIn s t m)))
   unfolding bytesField
@@ -156,7 +156,7 @@ tail-size path = ap length (tail-is path) ∙ length-drop 1 path
 
 module _ (s : List ℕ) (b z : ℕ) (path : List ℕ) (f : Field) (w : Within (between s b z) f) (c : (b ≤ z) × (z ≤ length s)) where
   inner-size : length (between s b z) ≡ z - b
-  inner-size = part-length s b z (c .0) (c .1)
+  inner-size = between-length s b z (c .1)
 
   -- what the field holds lies within the whole
   pub field-inside : (b + f .start ≤ b + f .next) × (b + f .next ≤ length s)

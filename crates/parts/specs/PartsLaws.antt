@@ -15,7 +15,7 @@ use Rattle.basis.specs.Lists.{drop-take}
 use Rattle.rows.specs.Rows.{tab}
 use Rattle.rows.specs.RowsLaws.{length-tab, getD-tab, tab-ext, tab-snoc}
 use Rattle.rows.specs.Ids.{sameBytes, among, distinct}
-use Rattle.rows.specs.IdsLaws.{same-equal, among-append, distinct-snoc}
+use Rattle.rows.specs.IdsLaws.{same-equal, among-append, distinct-snoc, distinct-middle}
 use Rattle.protobuf.specs.declared.Field.{Field}
 use Rattle.protobuf.specs.declared.WireError.{WireError}
 use Rattle.protobuf.specs.declared.Checked.the-variants.{Fine}
@@ -27,13 +27,15 @@ use Rattle.protobuf.specs.Encode.{bytesField}
 use Rattle.rpc.specs.Encode.{repeated}
 use Rattle.schema.specs.declared.Kind.{Kind}
 use Rattle.schema.specs.declared.Kind.the-variants as kind
+use Rattle.schema.specs.declared.Form.{Form}
+use Rattle.schema.specs.declared.Form.the-variants.{Anew, Merged}
 use Rattle.schema.specs.declared.Role.the-variants.{MessageId, Sub}
-use Rattle.schema.specs.declared.Counted.{Counted}
 use Rattle.schema.specs.declared.Counted.the-variants.{Records, Refused}
 use Rattle.schema.specs.Schema.{roleOf, ownOf}
 use Rattle.schema.specs.Count.{roleCount, countAlong, counted}
 use Rattle.schema.specs.CountLaws.{count-along, plus-fits, then-fits}
 use Rattle.schema.specs.Accept.{acceptOf}
+use Rattle.schema.specs.AcceptLaws.{accept-records}
 use Rattle.parts.specs.Parts.{partAt, partsIn, Parts, valuesAlong, inEach, atPath, onceAfter, once, fitting}
 
 -- ---- the parts one by one
@@ -212,6 +214,17 @@ pub once-among : (x : List ℕ) (is : List (List ℕ)) → among x (once is) ≡
 unfolding among
 once-among x is = after-among x [] is
 
+-- parts that are each there once stay as they are
+once-from : (earlier is : List (List ℕ)) → distinct (earlier ++ is) ≡ true → onceAfter earlier is ≡ is
+unfolding onceAfter
+once-from earlier [] d = refl
+once-from earlier (i ∷ is) d =
+    let e : distinct ((earlier ++ (i ∷ [])) ++ is) ≡ true = ap distinct (append-assoc earlier (i ∷ []) is) ∙ d in
+    once-new earlier is i (distinct-middle earlier is i d) ∙ ap (λ (l : List (List ℕ)). i ∷ l) (once-from (earlier ++ (i ∷ [])) is e)
+
+pub once-same : (is : List (List ℕ)) → distinct is ≡ true → once is ≡ is
+once-same is d = once-from [] is d
+
 -- ---- how many fit
 module _ (n room : ℕ) (m : List ℕ) (ms : List (List ℕ)) where
   pub fitting-more : length (bytesField n m) ≤ room → fitting n room (m ∷ ms) ≡ 1 + fitting n (room - length (bytesField n m)) ms
@@ -277,9 +290,9 @@ along-counted k m s g h (f then w) r e =
     (λ u. simp u (omega arith))
 
 -- the field m leads into submessages, or holds the parts themselves
-pub path-sub : (k j : Kind) (m : ℕ) (ns : List ℕ) → roleOf k m 2 ≡ Sub j → ((p : List ℕ) (x : ℕ) → counted j p ≡ Records x → length (atPath ns p) ≤ x) → (s : List ℕ) (r : ℕ) → counted k s ≡ Records r → length (atPath (m ∷ ns) s) ≤ r
+pub path-sub : (k j : Kind) (form : Form) (m : ℕ) (ns : List ℕ) → roleOf k m 2 ≡ Sub j form → ((p : List ℕ) (x : ℕ) → counted j p ≡ Records x → length (atPath ns p) ≤ x) → (s : List ℕ) (r : ℕ) → counted k s ≡ Records r → length (atPath (m ∷ ns) s) ≤ r
 unfolding atPath
-path-sub k j m ns q h s r e =
+path-sub k j form m ns q h s r e =
     along-counted k m s (atPath ns)
     (λ f x c. let t = plus-fits (ownOf j) x (counted j (valueIn s f)) (sym (ap (roleCount counted s f) q) ∙ c) in
     let y = h (valueIn s f) (t .0) (t .1) in let z = t .2 in omega arith)
@@ -296,23 +309,14 @@ path-id k m q s r e =
 pub ihave-counted : (s : List ℕ) (r : ℕ) → counted kind.Rpc s ≡ Records r → length (atPath (3 ∷ 1 ∷ 2 ∷ []) s) ≤ r
 unfolding roleOf
 ihave-counted =
-    path-sub kind.Rpc kind.ControlMessage 3 (1 ∷ 2 ∷ []) refl
-    (path-sub kind.ControlMessage kind.ControlIHave 1 (2 ∷ []) refl (path-id kind.ControlIHave 2 refl))
+    path-sub kind.Rpc kind.ControlMessage Merged 3 (1 ∷ 2 ∷ []) refl
+    (path-sub kind.ControlMessage kind.ControlIHave Anew 1 (2 ∷ []) refl (path-id kind.ControlIHave 2 refl))
 
 pub iwant-counted : (s : List ℕ) (r : ℕ) → counted kind.Rpc s ≡ Records r → length (atPath (3 ∷ 2 ∷ 1 ∷ []) s) ≤ r
 unfolding roleOf
 iwant-counted =
-    path-sub kind.Rpc kind.ControlMessage 3 (2 ∷ 1 ∷ []) refl
-    (path-sub kind.ControlMessage kind.ControlIWant 2 (1 ∷ []) refl (path-id kind.ControlIWant 1 refl))
-
-of-counted : (c : Counted) → onCounted c ≡ Fine → (r : ℕ) × (c ≡ Records r) × (r ≤ 512)
-of-counted (Refused why) h = clash (cc)
-of-counted (Records r) h = either (ltb 512 r) (λ t. clash (let k = simp t at h in cc)) (λ t. (r, refl, ltb-false 512 r t))
-
--- a body that is taken has at most 512 records
-pub accept-records : (s : List ℕ) → acceptOf s ≡ Fine → (r : ℕ) × (counted kind.Rpc s ≡ Records r) × (r ≤ 512)
-unfolding acceptOf
-accept-records s h = either (ltb 65536 (length s)) (λ t. clash (let k = simp t at h in cc)) (λ t. of-counted (counted kind.Rpc s) (simp t at h))
+    path-sub kind.Rpc kind.ControlMessage Merged 3 (2 ∷ 1 ∷ []) refl
+    (path-sub kind.ControlMessage kind.ControlIWant Anew 2 (1 ∷ []) refl (path-id kind.ControlIWant 1 refl))
 
 pub path-counted : (s : List ℕ) (r : ℕ) → counted kind.Rpc s ≡ Records r → (length (atPath (3 ∷ 1 ∷ 2 ∷ []) s) ≤ r) × (length (atPath (3 ∷ 2 ∷ 1 ∷ []) s) ≤ r)
 path-counted s r e = (ihave-counted s r e, iwant-counted s r e)

@@ -13,7 +13,7 @@ use Rattle.basis.specs.Cases.{either, clash}
 use Rattle.basis.specs.Writing.{endIn, setIn}
 use Rattle.basis.specs.Lists.{sets-append, end-fits, set-fits, answer-fits, answer-short, written-fits, written-short}
 use Rattle.peer_id.specs.Uvarint.{uvarint}
-use Rattle.peer_id.specs.Laws.{uvarint-some, at-most-ten}
+use Rattle.peer_id.specs.Laws.{uvarint-some, uvarint-small, at-most-ten}
 use Rattle.protobuf.specs.declared.WireError.{WireError}
 use Rattle.protobuf.specs.declared.Checked.the-variants.{Fine, Refused as Wrong}
 use Rattle.protobuf.specs.declared.Encoded.the-variants.{Bytes, Room, Refused}
@@ -42,6 +42,10 @@ pub tag-some : (n type : ℕ) → 1 ≤ length (tag n type)
 unfolding tag
 tag-some n type = uvarint-some (n * 8 + type)
 
+pub tag-one : (n type : ℕ) → n ≤ 15 → type ≤ 7 → length (tag n type) ≡ 1
+unfolding tag
+tag-one n type h t = rw (uvarint-small (n * 8 + type) (omega arith))
+
 pub tag-at-most-ten : (n type : ℕ) → CanTag n type → length (tag n type) ≤ 10
 unfolding tag
 tag-at-most-ten n type t = at-most-ten (n * 8 + type) (omega arith)
@@ -58,6 +62,17 @@ varint-field-length n v = simp length-append
 pub bytes-field-length : (n : ℕ) (d : List ℕ) → length (bytesField n d) ≡ length (tag n 2) + length (uvarint (length d)) + length d
 unfolding bytesField
 bytes-field-length n d = simp length-append (omega arith)
+
+-- a field is longer than what it holds
+pub field-holds : (n : ℕ) (d : List ℕ) → length d ≤ length (bytesField n d)
+field-holds n d = omega (arith, bytes-field-length n d)
+
+-- the fields 1 and 2 of the same bytes are as long
+pub heads-same : (d : List ℕ) → length (bytesField 1 d) ≡ length (bytesField 2 d)
+heads-same d =
+    let t = tag-one 1 2 (omega arith) (omega arith) in
+    let u = tag-one 2 2 (omega arith) (omega arith) in
+    omega (arith, bytes-field-length 1 d, bytes-field-length 2 d)
 
 -- ---- what a writer of xs answers and leaves: with room for them, without it, and where it has no tag
 module _ (n type : ℕ) (xs out : List ℕ) where

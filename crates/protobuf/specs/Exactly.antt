@@ -6,7 +6,7 @@ use mathlib.Core.Logic.{_≢_, _↔_}
 use mathlib.Core.Bool.{false}
 use native.Mathlib.Omega.{arith}
 use lib.ListN.{length, take, drop, length-append, length-drop, take-append-drop, drop-of-length-le}
-use lib.Seq.{drop-drop, drop-at, take-at, length-take-le}
+use lib.Seq.{drop-drop, drop-at, take-at}
 use lib.Dec.{ltb, leb, eqb}
 use borrow.Author.Tests.{ltb-false, leb-true, eqb-true, eqb-false, le-ltb, lt-leb, ne-eqb}
 use Rattle.basis.specs.Cases.{either, clash}
@@ -30,7 +30,7 @@ use Rattle.protobuf.specs.declared.Step.the-variants as step
 use Rattle.protobuf.specs.Field.{after, tagOf, readTag, partOf, readLen, readVarint, skipFixed, skipField, ofValue, ofPart, ofSkip, readValue, ofTag, readField}
 use Rattle.protobuf.specs.Grammar.{Payload, number, eight, bytes, four, Entry, Value, varint, i64, len-prefix, i32, Body, none, field}
 use Rattle.protobuf.specs.Walk.{Fields, refused, _then_, onStep, walkAt, whole, between, payloadOf, entryOf, entriesOf}
-use Rattle.protobuf.specs.WalkLaws.{walk-on, walk-end}
+use Rattle.protobuf.specs.WalkLaws.{between-length, walk-on, walk-end}
 
 -- ---- a varint at a place, both ways
 -- what is left of s from `at` is the encoding of x, and then what is left from e
@@ -57,9 +57,6 @@ split : (s : List ℕ) (a e : ℕ) → a ≤ e → drop a s ≡ between s a e ++
 split s a e h =
     let q : a + (e - a) ≡ e = omega arith in
     sym (take-append-drop (e - a) (drop a s)) ∙ ap (λ (l : List ℕ). take (e - a) (drop a s) ++ l) (drop-drop (e - a) a s ∙ ap (λ (k : ℕ). drop k s) q)
-
-between-length : (s : List ℕ) (a e : ℕ) → a ≤ e → e ≤ length s → length (between s a e) ≡ e - a
-between-length s a e h k = length-take-le (e - a) (drop a s) (rw (length-drop a s) (omega arith))
 
 -- ---- from the walk to the grammar: what each reader found is spelt out
 varint-at : (s : List ℕ) (at x e : ℕ) (r : Uvarint) → Bytes s → r ≡ readUvarint (drop at s) → value.Value x e ≡ after at value.Refused value.Value r → Spells s at x e
@@ -132,7 +129,7 @@ unfolding payloadOf
 part-valued s n type to f (part.Bytes a e) b z q h =
     let t = part-spelt s to a e b q in
     let d = between s a e in
-    let g : length d ≡ e - a = between-length s a e (t .order) (t .within) in
+    let g : length d ≡ e - a = between-length s a e (t .within) in
     let ef : f ≡ record { field = n; «wire_type» = 2; «tag_end» = to; value = e - a; start = a; next = e } = (cc) in
     subst (Valued s to) (sym ef)
     (record {
@@ -156,7 +153,7 @@ four-valued : (s : List ℕ) (n to : ℕ) (f : Field) (e : ℕ) → Fixed s to 4
 unfolding payloadOf
 four-valued s n to f e t h =
     let o : to ≤ e = omega (arith, t .ends) in
-    let g : length (between s to e) ≡ 4 = between-length s to e o (t .within) ∙ omega (arith, t .ends) in
+    let g : length (between s to e) ≡ 4 = between-length s to e (t .within) ∙ omega (arith, t .ends) in
     let ef : f ≡ record { field = n; «wire_type» = 5; «tag_end» = to; value = 0; start = to; next = e } = (cc) in
     subst (Valued s to) (sym ef) (record { bytes-of = between s to e; is = i32 g; here = split s to e o })
 
@@ -164,7 +161,7 @@ eight-valued : (s : List ℕ) (n to : ℕ) (f : Field) (e : ℕ) → Fixed s to 
 unfolding payloadOf
 eight-valued s n to f e t h =
     let o : to ≤ e = omega (arith, t .ends) in
-    let g : length (between s to e) ≡ 8 = between-length s to e o (t .within) ∙ omega (arith, t .ends) in
+    let g : length (between s to e) ≡ 8 = between-length s to e (t .within) ∙ omega (arith, t .ends) in
     let ef : f ≡ record { field = n; «wire_type» = 1; «tag_end» = to; value = 0; start = to; next = e } = (cc) in
     subst (Valued s to) (sym ef) (record { bytes-of = between s to e; is = i64 g; here = split s to e o })
 

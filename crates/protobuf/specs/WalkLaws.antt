@@ -3,7 +3,7 @@ use Prim.Native.Nat.{ℕ, zero, suc, _-_, _≤_, _<_}
 use mathlib.Core.Path.{_≡_, refl, sym, ap, subst, _∙_}
 use mathlib.Core.List.{List}
 use native.Mathlib.Omega.{arith}
-use lib.ListN.{length}
+use lib.ListN.{length, drop, length-take, length-drop}
 use lib.Dec.{eqb}
 use mathlib.Core.Bool.{true, false}
 use borrow.Author.Tests.{le-ltb}
@@ -24,7 +24,11 @@ use Rattle.protobuf.specs.declared.Step.{Step}
 use Rattle.protobuf.specs.declared.Step.the-variants as step
 use Rattle.protobuf.specs.Field.{readTag, readLen, readVarint, pastValue, pastPart, skipField, ofValue, ofPart, ofSkip, readValue, ofTag, readField, walkSkip, walkTag, walkStep}
 use Rattle.protobuf.specs.Laws.{Stands, field-stands, field-end}
-use Rattle.protobuf.specs.Walk.{Fields, end, refused, _then_, onStep, walkFrom, walkAt}
+use Rattle.protobuf.specs.Walk.{Fields, end, refused, _then_, onStep, walkFrom, walkAt, between}
+
+-- the bytes from a up to e
+pub between-length : (s : List ℕ) (a e : ℕ) → e ≤ length s → length (between s a e) ≡ e - a
+between-length s a e h = rw (length-take (e - a) (drop a s), length-drop a s) (omega arith)
 
 same-step : (f g : ℕ → Fields) (r : Step) → ((x : Field) → step.At x ≡ r → f (x .next) ≡ g (x .next)) → onStep f r ≡ onStep g r
 same-step f g step.End h = refl

@@ -2,8 +2,7 @@
 use Prim.Native.Nat.{ℕ, zero, suc, _+_, _-_, _≤_, _<_}
 use mathlib.Core.Path.{_≡_, refl, sym, ap, ap₂, subst, _∙_}
 use mathlib.Core.List.{List, [], _∷_, _++_}
-use mathlib.Core.Bool.{Bool, true, false, cond, not, _&&_, _||_, or-true}
-use mathlib.Core.Logic.{_↔_}
+use mathlib.Core.Bool.{Bool, true, false, cond, not, _&&_, _||_, or-true, or-assoc, and-false}
 use native.Mathlib.Omega.{arith}
 use native.Mathlib.Nat.{zero-lt-suc}
 use native.Mathlib.Numerals.{add-one}
@@ -28,14 +27,6 @@ same-equal (x ∷ xs) [] h = clash (cc)
 same-equal (x ∷ xs) (y ∷ ys) h =
     either (eqb x y) (λ t. let k = simp t at h in ap₂ (λ (u : ℕ) (v : List ℕ). u ∷ v) (eqb-true x y t) (same-equal xs ys k))
     (λ t. clash (let k = simp t at h in cc))
-
--- bytes are the same exactly where the lists are equal
-pub same-exactly : (a b : List ℕ) → (sameBytes a b ≡ true) ↔ (a ≡ b)
-same-exactly a b = (same-equal a b, λ e. subst (λ (c : List ℕ). sameBytes a c ≡ true) e (same-self a))
-
-and-false : (b : Bool) → (b && false) ≡ false
-and-false true = refl
-and-false false = refl
 
 pub same-length : (a b : List ℕ) → (length a ≡ length b → ⊥) → sameBytes a b ≡ false
 unfolding sameBytes
@@ -148,10 +139,6 @@ unfolding among
 among-none i l w e inv = rw e at inv
 
 -- ---- ids one after the other
-or-assoc : (a b c : Bool) → ((a || b) || c) ≡ (a || (b || c))
-or-assoc true b c = refl
-or-assoc false b c = refl
-
 pub among-append : (i : List ℕ) (l r : List (List ℕ)) → among i (l ++ r) ≡ (among i l || among i r)
 unfolding among
 among-append i [] r = refl
@@ -197,6 +184,46 @@ distinct-snoc (j ∷ l) i d n =
     (λ t. either (among j l) (λ u. clash (let z = simp u at d in cc))
     (λ u. simp (among-append j l (i ∷ []), u, same-sym i j, t) (distinct-snoc l i (simp u at d) (simp t at n))))
 
+-- the first k of ids that differ, and ids one after the other
+pub among-take : (k : ℕ) (i : List ℕ) (l : List (List ℕ)) → among i l ≡ false → among i (take k l) ≡ false
+unfolding among
+among-take zero i l h = refl
+among-take (suc k) i [] h = refl
+among-take (suc k) i (j ∷ l) h = either (sameBytes j i) (λ t. clash (let z = simp t at h in cc)) (λ t. simp t (among-take k i l (simp t at h)))
+
+pub distinct-take : (k : ℕ) (l : List (List ℕ)) → distinct l ≡ true → distinct (take k l) ≡ true
+unfolding distinct
+distinct-take zero l d = refl
+distinct-take (suc k) [] d = refl
+distinct-take (suc k) (i ∷ l) d =
+    either (among i l) (λ t. clash (let z = simp t at d in cc)) (λ t. simp (among-take k i l t) (distinct-take k l (simp t at d)))
+
+pub distinct-append : (l r : List (List ℕ)) → distinct l ≡ true → distinct r ≡ true → ((i : List ℕ) → among i l ≡ true → among i r ≡ false) → distinct (l ++ r) ≡ true
+unfolding distinct among
+distinct-append [] r d e apart = e
+distinct-append (i ∷ l) r d e apart =
+    either (among i l) (λ t. clash (let z = simp t at d in cc))
+    (λ t.
+    let a = apart i (simp (same-self i)) in
+    let n : among i (l ++ r) ≡ false = among-append i l r ∙ simp (t, a) in
+    simp n (distinct-append l r (simp t at d) e (λ j u. apart j (rw u (or-true (sameBytes i j))))))
+
+-- an id between others that all differ
+pub distinct-middle : (l r : List (List ℕ)) (i : List ℕ) → distinct (l ++ (i ∷ r)) ≡ true → among i l ≡ false
+unfolding distinct among
+distinct-middle [] r i d = refl
+distinct-middle (j ∷ l) r i d =
+    either (among j (l ++ (i ∷ r))) (λ t. clash (let k = simp t at d in cc))
+    (λ t.
+    let e : distinct (l ++ (i ∷ r)) ≡ true = simp t at d in
+    let m = distinct-middle l r i e in
+    let a : (among j l || (sameBytes i j || among j r)) ≡ false = sym (among-append j l (i ∷ r)) ∙ t in
+    either (sameBytes j i)
+    (λ u. clash
+    (let z : (among i l || (sameBytes i i || among i r)) ≡ false = subst (λ (x : List ℕ). (among x l || (sameBytes i x || among x r)) ≡ false) (same-equal j i u) a in
+    let y = simp (m, same-self i) at z in cc))
+    (λ u. simp (u, m)))
+
 -- ---- ids by their places
 pub among-at : (x : List ℕ) (l : List (List ℕ)) (j : ℕ) → j < length l → x ≡ getD l j [] → among x l ≡ true
 unfolding among
@@ -230,3 +257,58 @@ unfolding sameBytes
 same-append [] b c = refl
 same-append (x ∷ a) b [] = refl
 same-append (x ∷ a) b (y ∷ c) = either (eqb x y) (λ t. simp t (same-append a b c)) (λ t. simp t)
+
+-- ---- of ids that differ, at most as many are among others as there are others
+-- without the first that is i
+without : List ℕ → List (List ℕ) → List (List ℕ)
+without i [] = []
+without i (j ∷ js) = cond (sameBytes j i) js (j ∷ without i js)
+
+without-shorter : (i : List ℕ) (l : List (List ℕ)) → among i l ≡ true → length l ≡ suc (length (without i l))
+unfolding among without
+without-shorter i [] h = clash (cc)
+without-shorter i (j ∷ l) h = either (sameBytes j i) (λ t. simp t) (λ t. simp t (ap suc (without-shorter i l (simp t at h))))
+
+-- another stays
+without-other : (i x : List ℕ) (l : List (List ℕ)) → sameBytes i x ≡ false → among x (without i l) ≡ among x l
+unfolding among without
+without-other i x [] h = refl
+without-other i x (j ∷ l) h =
+    either (sameBytes j i)
+    (λ t. let e = same-equal j i t in simp (t, ap (λ (y : List ℕ). sameBytes y x) e ∙ h))
+    (λ t. simp t (ap (λ (b : Bool). sameBytes j x || b) (without-other i x l h)))
+
+-- how many of is are among l
+unfoldable pub shared : List (List ℕ) → List (List ℕ) → ℕ
+shared l [] = 0
+shared l (i ∷ is) = cond (among i l) (suc (shared l is)) (shared l is)
+
+shared-without : (i : List ℕ) (l is : List (List ℕ)) → among i is ≡ false → shared (without i l) is ≡ shared l is
+unfolding shared among
+shared-without i l [] h = refl
+shared-without i l (x ∷ is) h =
+    either (sameBytes x i) (λ t. clash (let k = simp t at h in cc))
+    (λ t. rw (without-other i x l (same-sym i x ∙ t), shared-without i l is (simp t at h)))
+
+pub shared-few : (l is : List (List ℕ)) → distinct is ≡ true → shared l is ≤ length l
+unfolding shared distinct
+shared-few l [] d = omega arith
+shared-few l (i ∷ is) d =
+    either (among i is) (λ t. clash (let k = simp t at d in cc))
+    (λ t. let e : distinct is ≡ true = simp t at d in
+    either (among i l)
+    (λ u. let r = shared-few (without i l) is e in
+    let s = shared-without i l is t in
+    let n = without-shorter i l u in
+    simp u (omega arith))
+    (λ u. simp u (shared-few l is e)))
+
+shared-all : (l is : List (List ℕ)) → ((i : List ℕ) → among i is ≡ true → among i l ≡ true) → shared l is ≡ length is
+unfolding shared among
+shared-all l [] h = refl
+shared-all l (i ∷ is) h =
+    let a : among i l ≡ true = h i (simp (same-self i)) in
+    simp a (ap suc (shared-all l is (λ k t. h k (rw t (or-true (sameBytes i k))))))
+
+pub all-few : (l is : List (List ℕ)) → distinct is ≡ true → ((i : List ℕ) → among i is ≡ true → among i l ≡ true) → length is ≤ length l
+all-few l is d h = let e = shared-all l is h in let r = shared-few l is d in omega arith

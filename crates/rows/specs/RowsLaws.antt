@@ -6,12 +6,12 @@ use mathlib.Core.Logic.{_⊎_, inl, inr, ⊎-elim}
 use native.Mathlib.Omega.{arith}
 use native.Mathlib.Nat.{le-of-suc-le-suc, not-suc-le-zero, zero-lt-suc, zero-add, suc-add, sub-zero}
 use native.Mathlib.Numerals.{add-one}
-use lib.ListN.{length, drop, getD, drop-of-length-le}
-use lib.Seq.{drop-cons}
+use lib.ListN.{length, drop, getD, length-append, drop-of-length-le}
+use lib.Seq.{drop-cons, drop-append-le}
 use lib.Dec.{ltb}
 use borrow.Author.Tests.{ltb-true, ltb-false, lt-ltb, le-ltb}
 use Rattle.basis.specs.Cases.{either}
-use Rattle.rows.specs.Rows.{tab, placeOf, ring}
+use Rattle.rows.specs.Rows.{tab, placeOf, ring, newest}
 
 -- ---- tables
 module _ {A : Type 0} where
@@ -125,3 +125,8 @@ place-near cap start i b e h = simp (lt-ltb i (cap - start) (omega arith))
 pub place-far : (cap start i b : ℕ) → b ≡ cap - start → b ≤ i → i - b ≡ placeOf cap start i
 unfolding placeOf
 place-far cap start i b e h = simp (le-ltb i (cap - start) (omega arith)) (ap (λ (n : ℕ). i - n) e)
+
+-- ---- one more: the oldest leave where there is no room
+pub newest-more : {A : Type 0} (max : ℕ) (l : List A) (x : A) → (max ≡ 0 → ⊥) → newest max (l ++ (x ∷ [])) ≡ drop ((length l + 1) - max) l ++ (x ∷ [])
+unfolding newest
+newest-more max l x some = rw (length-append l (x ∷ [])) (drop-append-le ((length l + 1) - max) l (x ∷ []) (omega (arith, some)))

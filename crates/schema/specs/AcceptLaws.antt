@@ -69,3 +69,7 @@ taken-fine s t = ap checked (records-taken s (t .records) (t .small) (t .counts)
 -- it has at most 65,536 bytes
 pub accept-small : (s : List ℕ) → acceptOf s ≡ Fine → length s ≤ 65536
 accept-small s h = is-taken s h .small
+
+-- and it has at most 512 records
+pub accept-records : (s : List ℕ) → acceptOf s ≡ Fine → (r : ℕ) × (counted kind.Rpc s ≡ Records r) × (r ≤ 512)
+accept-records s h = let t = is-taken s h in (t .records, t .counts, t .few)

@@ -1,7 +1,8 @@
 -- What the steps on the rows do to the entries: the oldest leave, and a row more is an entry more at the end. Both leave the rows sound.
-use Prim.Native.Nat.{ℕ, _+_, _-_, _*_, _≤_, _<_}
+use Prim.Native.Nat.{ℕ, _+_, _-_, _*_, _^_, _≤_, _<_}
 use mathlib.Core.Path.{_≡_, refl, sym, ap, _∙_}
 use mathlib.Core.List.{List, [], _∷_, _++_, map}
+use mathlib.Core.Bool.{true, false}
 use native.Mathlib.Omega.{arith}
 use lib.ListN.{length, drop, length-append, length-set, drop-of-length-le}
 use lib.Seq.{sets, drop-append-le, getD-set-same, getD-set-other}
@@ -10,11 +11,12 @@ use borrow.Author.Tests.{eqb-true, eqb-false}
 use Rattle.basis.specs.Cases.{either}
 use Rattle.rows.specs.Rows.{placeOf, newest}
 use Rattle.rows.specs.RowsLaws.{place-differs, length-ring, ring-drop, ring-more, map-ring}
+use Rattle.rows.specs.RowsLaws.{newest-more}
 use Rattle.rows.specs.Ids.{among}
 use Rattle.rows.specs.Store.{idsIn, lensIn, Sound}
 use Rattle.rows.specs.StoreLaws.{id-kept, id-put, free-within, sound-more}
 use Rattle.seen.specs.declared.SeenCache.{SeenCache}
-use Rattle.seen.specs.Entries.{Entry, idsOf, holds, live}
+use Rattle.seen.specs.Entries.{Entry, idsOf, holds, until, inserted, live}
 use Rattle.seen.specs.State.{rowAt, entriesIn, spent, dropped, appended}
 use Rattle.seen.specs.StateLaws.{spent-in, sound-dropped}
 use Rattle.seen.specs.Calls.{heldIn, cleaned, entered, enteredStore}
@@ -136,3 +138,25 @@ unfolding cleaned
 entries-cleaned cap at c st a b =
     entries-dropped cap (spent at (lensIn cap (c .start) (c .count) (c .expiry))) c st a b (spent-in at cap (c .start) (c .count) (c .expiry))
     ∙ sym (live-drop at (entriesIn cap c st) ∙ ap (λ (l : List ℕ). drop (spent at l) (entriesIn cap c st)) (expiries-entries cap c st))
+
+-- ---- a later reading expires later; and a reading within ttl, below the last, comes before
+pub until-later : (at later ttl : ℕ) → at ≤ later → until at ttl ≤ until later ttl
+unfolding until
+until-later at later ttl h = omega arith
+
+pub until-within : (r first ttl : ℕ) → r < first + ttl → r < 2 ^ 64 - 1 → r < until first ttl
+unfolding until
+until-within r first ttl h k = omega arith
+
+-- ---- with room, an id goes last and all stay; one that is held changes nothing
+pub insert-room : (max : ℕ) (id : List ℕ) (at ttl : ℕ) (es : List Entry) → holds id es ≡ false → length es < max
+    → inserted max id at ttl es ≡ es ++ (record { id = id; expiry = until at ttl } ∷ [])
+unfolding inserted
+insert-room max id at ttl es h r =
+    let x : Entry = record { id = id; expiry = until at ttl } in
+    let e : (length es + 1) - max ≡ 0 = omega arith in
+    rw h (newest-more max es x (λ z. omega arith) ∙ ap (λ (n : ℕ). drop n es ++ (x ∷ [])) e)
+
+pub insert-held : (max : ℕ) (id : List ℕ) (at ttl : ℕ) (es : List Entry) → holds id es ≡ true → inserted max id at ttl es ≡ es
+unfolding inserted
+insert-held max id at ttl es h = rw h

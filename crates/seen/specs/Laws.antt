@@ -300,9 +300,6 @@ reached-both (swept {c} {st} r at) = let b = reached-both r in (gc-fine c st (b 
 pub reached-fine : {c : SeenCache} {st : List ℕ} → Reached c st → lentOf c st ≡ lent.Fine
 reached-fine r = reached-both r .0
 
-pub reached-sized : {c : SeenCache} {st : List ℕ} → Reached c st → Sized c
-reached-sized r = reached-both r .1
-
 -- ---- for readers
 -- an entry whose expiry equals now is not kept
 pub equal-expires : (at : ℕ) (e : Entry) (es : List Entry) → e .expiry ≡ at → live at (e ∷ es) ≡ live at es

@@ -6,7 +6,8 @@ use lib.ListN.{length}
 use Rattle.protobuf.specs.Walk.{walkAt, isBytes}
 use Rattle.protobuf.specs.Laws.{field-stands}
 use Rattle.admission.specs.Admission.{topicsAlong, topicsOf, firstLong}
-use Rattle.admission.proofs.Turns.{topics-end, topics-refused, topics-past, count-more, at-most, longFrom, long-more, topics-done}
+use Rattle.basis.specs.Cases.{at-most}
+use Rattle.admission.proofs.Turns.{topics-end, topics-refused, topics-past, count-more, longFrom, long-more, topics-done}
 use borrow.Author.Needs.{needs}
 use Rattle.admission.proofs.topics_of.Statement.{statement}
 use Rattle.admission.proofs.topics_of.Tie as tie

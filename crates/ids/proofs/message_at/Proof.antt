@@ -7,7 +7,8 @@ use lib.ListN.{length}
 use Rattle.protobuf.specs.Walk.{walkAt, isBytes}
 use Rattle.protobuf.specs.Laws.{field-stands}
 use Rattle.ids.specs.Ids.{messageAlong, messageAt}
-use Rattle.ids.proofs.Turns.{found-here, found-later, found-end, found-refused, found-past, at-most}
+use Rattle.basis.specs.Cases.{at-most}
+use Rattle.ids.proofs.Turns.{found-here, found-later, found-end, found-refused, found-past}
 use Rattle.ids.proofs.message_at.Statement.{statement}
 use Rattle.ids.proofs.message_at.Tie as tie
 use Rattle.ids.proofs.message_at.Reads as reads

@@ -9,7 +9,7 @@ use denote.Ref.{now}
 use lib.ListN.{length}
 use Rattle.protobuf.specs.Laws.{field-stands}
 use Rattle.protobuf.specs.Walk.{between}
-use Rattle.ids.specs.IdLaws.{part-length}
+use Rattle.protobuf.specs.WalkLaws.{between-length}
 use Rattle.parts.specs.Parts.{partsIn}
 use Rattle.parts.specs.PartsLaws.{path-end, path-refused, path-done}
 use Rattle.parts.proofs.Turns.{field-no, field-other, tail-size, field-inside, field-there, none-more, one-room, one-more, Walked, walked-all, walked-done, walked-room, walked-turn}
@@ -334,7 +334,7 @@ parts-at-returns-4 : (t : ℕ) → parts-at-lts.Need-returns-4 (
   field-at.Post,
 ) (parts-at-at t) parts-at.Post parts-at-Inv-loop parts-at-μ-loop
 parts-at-returns-4 t c = let a = c .before .before .before .before .before .before .args in let l = c .before .loop in
-    let z = part-length (a .body .now) (a .start) (a .end) (c .before .before .before .before .before .before .pre .1 .0 .0) (c .before .before .before .before .before .before .pre .1 .0 .1) in
+    let z = between-length (a .body .now) (a .start) (a .end) (c .before .before .before .before .before .before .pre .1 .0 .1) in
     let h : length (between (a .body .now) (a .start) (a .end)) ≤ l .at = omega arith in
     walked-done _ _ _ _ _ _ _ _ _ (l .inv .0) (path-done (a .path .now) (between (a .body .now) (a .start) (a .end)) (l .at) h)
 

@@ -1,14 +1,26 @@
--- Histories of a gateway: a fresh node, and calls one after the other, each lent the node and stores as the last one left them, refused calls
--- included. A call is its input; what it answers and leaves are the definitions that its contract cites.
-use Prim.Native.Nat.{ℕ, _+_}
+-- Histories of a gateway: a fresh node, and calls one after the other, each lent the node and stores as the last one left
+-- them, refused calls included. A call is its input; what it answers and leaves are the definitions that its contract cites.
+use Prim.Native.Nat.{ℕ, zero, suc, _+_, _*_, _^_, _<_}
 use mathlib.Core.Path.{_≡_}
-use mathlib.Core.Bool.{Bool, cond}
+use mathlib.Core.Bool.{Bool, true, cond}
 use mathlib.Core.List.{List, [], _∷_, _++_}
+use lib.ListN.{length, getD, take, replicate}
+use Rattle.basis.specs.Bytes.{Bytes}
 use Rattle.rows.specs.Ids.{sameBytes}
 use Rattle.node.specs.declared.Node.{Node}
 use Rattle.node.specs.declared.Admit.{Admit}
 use Rattle.node.specs.declared.Admit.the-variants as answer
-use Rattle.node.specs.Calls.{Plan, no, taken, planned, admitNumber, admitAnswer, admitNode, admitSeen, admitCache, beatNumber, beatAnswer, beatNode, advertiseNumber, advertiseAnswer, askNumber, askAnswer, serveNumber, serveAnswer}
+use Rattle.node.specs.declared.Advertise.{Advertise}
+use Rattle.node.specs.declared.Advertise.the-variants as told
+use Rattle.node.specs.declared.Ask.{Ask}
+use Rattle.node.specs.declared.Ask.the-variants as asked
+use Rattle.node.specs.declared.Serve.{Serve}
+use Rattle.node.specs.declared.Serve.the-variants as served
+use Rattle.node.specs.Gateway.{Gateway, marked}
+use Rattle.node.specs.State.{gatewayIn, legalSettings, freshNode}
+use Rattle.node.specs.Calls.{Plan, no, taken, planned, admitNumber, admitAnswer, admitNode, admitSeen, admitCache}
+use Rattle.node.specs.Calls.{beatNumber, beatAnswer, beatNode, advertiseNumber, advertiseAnswer}
+use Rattle.node.specs.Calls.{askNumber, askAnswer, serveNumber, serveAnswer}
 
 -- a node with its two stores
 pub record State : Type 0 where
@@ -16,6 +28,26 @@ pub record State : Type 0 where
   pub ids : List ℕ
   pub messages : List ℕ
 
+-- the gateway that it is
+abbrev pub gatewayOf : State → Gateway
+gatewayOf s = gatewayIn (s .node) (s .ids) (s .messages)
+
+-- ---- settings, and a fresh node with stores of their lengths
+pub record Settings : Type 0 where
+  pub ttl : ℕ
+  pub max-seen : ℕ
+  pub history-len : ℕ
+  pub max-messages : ℕ
+
+pub record Fresh (x : Settings) (s : State) : Type 0 where
+  pub small : x .ttl < 2 ^ 64
+  pub legal : legalSettings (x .max-seen) (x .history-len) (x .max-messages) ≡ true
+  pub node : s .node ≡ freshNode (x .ttl) (x .max-seen) (x .history-len) (x .max-messages)
+  pub ids : length (s .ids) ≡ x .max-seen * 129
+  pub messages : length (s .messages) ≡ x .max-messages * 4096
+  pub bytes : Bytes (s .messages)
+
+-- ---- calls
 pub data Call : Type 0 where
   -- body, message index, the host's word, now
   admit : List ℕ → ℕ → Bool → ℕ → Call
@@ -59,6 +91,10 @@ unfoldable pub readings : List Call → List ℕ
 readings [] = []
 readings (c ∷ cs) = reading c ++ readings cs
 
+-- the first
+abbrev pub firstOf : List Call → ℕ
+firstOf calls = getD (readings calls) 0 0
+
 abbrev pub beat : Call → ℕ
 beat (admit body i word at) = 0
 beat (heartbeat at) = 1
@@ -81,6 +117,31 @@ refusalAt s (serve body out) = serveNumber (serveAnswer (s .node) (s .ids) (s .m
 pub data NoneRefused : List Call → State → Type 0 where
   all-done : {s : State} → NoneRefused [] s
   done : {c : Call} {cs : List Call} {s : State} → refusalAt s c ≡ 0 → NoneRefused cs (after c s) → NoneRefused (c ∷ cs) s
+
+-- ---- what a call wrote: as many bytes as it answers, from the front of the buffer as it leaves it
+abbrev pub toldBytes : Advertise → List ℕ → List ℕ
+toldBytes (told.Bytes n) out = take n out
+toldBytes (told.Faulty why) out = []
+toldBytes (told.TopicTooLong n) out = []
+toldBytes (told.Room n) out = []
+
+abbrev pub askedBytes : Ask → List ℕ → List ℕ
+askedBytes (asked.Bytes n) out = take n out
+askedBytes (asked.Faulty why) out = []
+askedBytes (asked.Refused why) out = []
+askedBytes (asked.Room n) out = []
+
+abbrev pub servedBytes : Serve → List ℕ → List ℕ
+servedBytes (served.Reply n messages left) out = take n out
+servedBytes (served.Faulty why) out = []
+servedBytes (served.Refused why) out = []
+servedBytes (served.Room n) out = []
+
+abbrev pub servedMessages : Serve → ℕ
+servedMessages (served.Reply n messages left) = messages
+servedMessages (served.Faulty why) = 0
+servedMessages (served.Refused why) = 0
+servedMessages (served.Room n) = 0
 
 -- ---- how often a message is got, and how often it is answered new, and duplicate
 abbrev pub isNew : Admit → ℕ
@@ -125,3 +186,25 @@ timesNew m calls s = times isNew m calls s
 
 abbrev pub timesDuplicate : List ℕ → List Call → State → ℕ
 timesDuplicate m calls s = times isDuplicate m calls s
+
+-- ---- the ids that are called new, in the form in which they are seen, in their order
+-- of one admit: its id once, or none
+abbrev pub newPlan : State → ℕ → Plan → List (List ℕ)
+newPlan s at (no r) = []
+newPlan s at (taken p id) = replicate (isNew (admitAnswer (s .node) (s .ids) at (taken p id))) (marked id)
+
+abbrev pub newAt : State → Call → List (List ℕ)
+newAt s (admit body i word at) = newPlan s at (planIn s body i word at)
+newAt s (heartbeat at) = []
+newAt s (advertise topic windows out) = []
+newAt s (ask body out) = []
+newAt s (serve body out) = []
+
+unfoldable pub newIds : List Call → State → List (List ℕ)
+newIds [] s = []
+newIds (c ∷ cs) s = newAt s c ++ newIds cs (after c s)
+
+-- ---- admits of k messages of a body, from an index on, each with the host's word and at its reading
+unfoldable pub admits : List ℕ → (ℕ → ℕ) → ℕ → ℕ → List Call
+admits body at i zero = []
+admits body at i (suc k) = admit body i true (at i) ∷ admits body at (suc i) k

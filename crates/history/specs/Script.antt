@@ -1,0 +1,81 @@
+-- A history written out: each admit beside the message that its body carries and that message's id. What such calls leave,
+-- and how often a message is got and new in them, is then computed over gateways, without their stores.
+use Prim.Native.Nat.{ℕ, _+_, _≤_}
+use mathlib.Core.Path.{_≡_}
+use mathlib.Core.Bool.{true, cond}
+use mathlib.Core.List.{List, [], _∷_}
+use Rattle.rows.specs.Ids.{sameBytes}
+use Rattle.protobuf.specs.declared.Checked.the-variants as checked
+use Rattle.protobuf.specs.Walk.{between}
+use Rattle.ids.specs.declared.MessageAt.the-variants.{At}
+use Rattle.schema.specs.Accept.{acceptOf}
+use Rattle.ids.specs.Ids.{messageAt}
+use Rattle.admission.specs.Admission.{givesId}
+use Rattle.node.specs.Gateway.{Gateway, isNew, afterAdmit, afterBeat}
+use Rattle.history.specs.History.{Call, admit, heartbeat, ask}
+
+-- the message at an index of a body, byte for byte
+pub record Placed (s : List ℕ) (i : ℕ) (m : List ℕ) : Type 0 where
+  pub start : ℕ
+  pub next : ℕ
+  pub found : messageAt s i ≡ At start next
+  pub bytes : between s start next ≡ m
+
+-- a body that is taken, and whose first message is m, which gives that id
+pub record Carries (body m id : List ℕ) : Type 0 where
+  pub accepted : acceptOf body ≡ checked.Fine
+  pub placed : Placed body 0 m
+  pub own : givesId m id ≡ true
+
+-- ---- calls
+pub data Act : Type 0 where
+  -- an admit of a body's first message, with the host's word: the body, the message, its id, now
+  gets : List ℕ → List ℕ → List ℕ → ℕ → Act
+  beats : ℕ → Act
+  asks : List ℕ → List ℕ → Act
+
+abbrev pub callOf : Act → Call
+callOf (gets body m id at) = admit body 0 true at
+callOf (beats at) = heartbeat at
+callOf (asks body out) = ask body out
+
+unfoldable pub callsOf : List Act → List Call
+callsOf [] = []
+callsOf (x ∷ xs) = callOf x ∷ callsOf xs
+
+-- the gateway after them
+abbrev pub gatewayBy : Act → Gateway → Gateway
+gatewayBy (gets body m id at) g = afterAdmit at m id g
+gatewayBy (beats at) g = afterBeat at g
+gatewayBy (asks body out) g = g
+
+unfoldable pub gatewayAfter : List Act → Gateway → Gateway
+gatewayAfter [] g = g
+gatewayAfter (x ∷ xs) g = gatewayAfter xs (gatewayBy x g)
+
+-- how often a message is got in them, and how often it is new
+abbrev pub gotBy : List ℕ → Act → ℕ
+gotBy m (gets body k id at) = cond (sameBytes k m) 1 0
+gotBy m (beats at) = 0
+gotBy m (asks body out) = 0
+
+unfoldable pub gotIn : List ℕ → List Act → ℕ
+gotIn m [] = 0
+gotIn m (x ∷ xs) = gotBy m x + gotIn m xs
+
+abbrev pub newBy : List ℕ → Act → Gateway → ℕ
+newBy m (gets body k id at) g = cond (sameBytes k m) (cond (isNew at id g) 1 0) 0
+newBy m (beats at) g = 0
+newBy m (asks body out) g = 0
+
+unfoldable pub newIn : List ℕ → List Act → Gateway → ℕ
+newIn m [] g = 0
+newIn m (x ∷ xs) g = newBy m x g + newIn m xs (gatewayBy x g)
+
+-- ---- they are what they say, and their clock, which is this before them, does not fall
+pub data Written : ℕ → List Act → Type 0 where
+  nothing : {clock : ℕ} → Written clock []
+  got : (clock at : ℕ) {body m id : List ℕ} {xs : List Act} → Carries body m id → clock ≤ at → Written at xs
+      → Written clock (gets body m id at ∷ xs)
+  beaten : (clock at : ℕ) {xs : List Act} → clock ≤ at → Written at xs → Written clock (beats at ∷ xs)
+  asked : {clock : ℕ} {body out : List ℕ} {xs : List Act} → Written clock xs → Written clock (asks body out ∷ xs)
