@@ -3,14 +3,14 @@ use Prim.Native.Nat.{_-_, _≤_, _<_}
 use mathlib.Core.Path.{_≡_}
 use lib.ListN.{length, drop}
 use native.Mathlib.Omega.{arith}
-use Rattle.rows.specs.Buckets.{bucketOf}
+use Rattle.rows.specs.Buckets.{buckets, bucketOf}
 use Rattle.rows.specs.BucketsLaws.{bucket-none, bucket-more, bucket-all}
 use borrow.Author.Needs.{needs}
 use Rattle.rows.proofs.bucket.Statement.{statement}
 use Rattle.rows.proofs.bucket.Tie as tie
 
 abbrev Inv-loop : tie.InvT-loop
-Inv-loop id x₀ i₀ x i = (i ≤ length id) × ((x < 4096) × (x ≡ bucketOf (drop i id)))
+Inv-loop id x₀ i₀ x i = (i ≤ length id) × ((x < buckets) × (x ≡ bucketOf (drop i id)))
 
 abbrev μ-loop : tie.MeasureT-loop
 μ-loop id x₀ i₀ x i = i
