@@ -45,7 +45,7 @@ loop-less c = omega (arith, (c .before .before .before .loop .inv .0))
 
 -- src/lib.rt:197:5
 loop-again : tie.Need-loop-again Inv-loop μ-loop
-loop-again c = (simp length-set ((c .before .before .before .loop .inv .0)), aging-more (now (c .before .before .before .before .before .args .window)) (c .before .before .before .loop .window) (c .before .before .before .loop .i) (c .older-than .result) (omega (arith, (c .before .before .before .loop .inv .0))) ((c .before .before .before .loop .inv .1)) (c .older-than .ensures))
+loop-again c = (simp length-set (c .before .before .before .loop .inv .0), aging-more (now (c .before .before .before .before .before .args .window)) (c .before .before .before .loop .window) (c .before .before .before .loop .i) (c .older-than .result) (omega (arith, (c .before .before .before .loop .inv .0))) (c .before .before .before .loop .inv .1) (c .older-than .ensures))
 
 -- src/lib.rt:193:1
 same-length : tie.Need-same-length Inv-loop μ-loop
@@ -53,7 +53,7 @@ same-length c = search needs
 
 -- src/lib.rt:193:1
 returns : tie.Need-returns Inv-loop μ-loop
-returns c = aging-done (now (c .before .before .before .args .window)) (c .before .loop .window) (c .before .loop .i) (omega (arith, (c .before .loop .inv .0))) ((c .before .loop .inv .1))
+returns c = aging-done (now (c .before .before .before .args .window)) (c .before .loop .window) (c .before .loop .i) (omega (arith, (c .before .loop .inv .0))) (c .before .loop .inv .1)
 
 pub age-windows-spec : {M : Type 1} → statement M
 age-windows-spec =

@@ -38,7 +38,7 @@ loop-less c = search needs
 
 -- src/lib.rt:295:5
 loop-again : tie.Need-loop-again Inv-loop μ-loop
-loop-again c = (omega arith, omega arith, simp length-set ((c .before .before .loop .inv .2)), half-more (c .before .before .before .args .at) (c .before .before .before .args .p) (now (c .before .before .before .args .rows)) (c .before .before .loop .rows) (c .before .before .loop .v) (c .before .before .loop .i) ((c .before .before .loop .inv .0)) (omega (arith, (c .before .before .before .pre))) ((c .before .before .loop .inv .3)))
+loop-again c = (omega arith, omega arith, simp length-set (c .before .before .loop .inv .2), half-more (c .before .before .before .args .at) (c .before .before .before .args .p) (now (c .before .before .before .args .rows)) (c .before .before .loop .rows) (c .before .before .loop .v) (c .before .before .loop .i) (c .before .before .loop .inv .0) (omega (arith, (c .before .before .before .pre))) (c .before .before .loop .inv .3))
 
 -- src/lib.rt:289:1
 same-length : tie.Need-same-length Inv-loop μ-loop
@@ -46,7 +46,7 @@ same-length c = search needs
 
 -- src/lib.rt:289:1
 returns : tie.Need-returns Inv-loop μ-loop
-returns c = let e : (c .before .loop .i) ≡ (c .before .before .args .n) + 1 = omega arith in half-done (c .before .before .args .at) (c .before .before .args .p) (now (c .before .before .args .rows)) (c .before .loop .rows) (c .before .loop .v) (c .before .before .args .n) ((c .before .before .pre .0)) ((c .before .before .pre .1)) (rw e at ((c .before .loop .inv .3)))
+returns c = let e : (c .before .loop .i) ≡ (c .before .before .args .n) + 1 = omega arith in half-done (c .before .before .args .at) (c .before .before .args .p) (now (c .before .before .args .rows)) (c .before .loop .rows) (c .before .loop .v) (c .before .before .args .n) (c .before .before .pre .0) (c .before .before .pre .1) (rw e at (c .before .loop .inv .3))
 
 pub put-row-spec : {M : Type 1} → statement M
 put-row-spec =

@@ -5,7 +5,7 @@ use mathlib.Core.Bool.{true, false}
 use lib.ListN.{length, take, drop, getD}
 use native.Mathlib.Omega.{arith}
 use Rattle.rows.specs.Store.{idAt}
-use Rattle.mcache.specs.State.{spotOf}
+use Rattle.mcache.specs.State.{spotOf, messageIdSize}
 use Rattle.mcache.proofs.Listing.{listed-at, spot-next, spot-now, spot-last, taken-length}
 use borrow.Author.Needs.{needs}
 use Rattle.mcache.proofs.spot.Statement.{statement}
@@ -15,7 +15,7 @@ use Rattle.mcache.proofs.spot.Lts as lts
 use Rattle.rows.proofs.precedes.Reads as precedes-reads
 
 abbrev Inv-loop : tie.InvT-loop
-Inv-loop rows n id-lens ids p base end i₀ i = (i ≤ n) × (i + spotOf (idAt 128 id-lens ids) p (drop i (take n rows)) ≡ spotOf (idAt 128 id-lens ids) p (take n rows))
+Inv-loop rows n id-lens ids p base end i₀ i = (i ≤ n) × (i + spotOf (idAt messageIdSize id-lens ids) p (drop i (take n rows)) ≡ spotOf (idAt messageIdSize id-lens ids) p (take n rows))
 
 abbrev μ-loop : tie.MeasureT-loop
 μ-loop rows n id-lens ids p base end i₀ i = n - i
@@ -50,19 +50,19 @@ cast-q c = omega (arith, (c .shared-slice-known5 .given) (c .before .before .loo
 
 -- src/lib.rt:270:22
 mul-q-base : tie.Need-mul-q-base Inv-loop μ-loop
-mul-q-base c = let w = listed-at (c .before .before .before .before .before .before .before .args .n) (now (c .before .before .before .before .before .before .before .args .rows)) (now (c .before .before .before .before .before .before .before .args .id-lens)) (now (c .before .before .before .before .before .before .before .args .ids)) (c .before .before .loop .i) ((c .before .before .before .before .before .before .before .pre .1 .0)) (c .before .loop-test .taken) in omega arith
+mul-q-base c = let w = listed-at (c .before .before .before .before .before .before .before .args .n) (now (c .before .before .before .before .before .before .before .args .rows)) (now (c .before .before .before .before .before .before .before .args .id-lens)) (now (c .before .before .before .before .before .before .before .args .ids)) (c .before .before .loop .i) (c .before .before .before .before .before .before .before .pre .1 .0) (c .before .loop-test .taken) in omega arith
 
 -- src/lib.rt:271:30
 shared-slice-read-q-end : tie.Need-shared-slice-read-q-end Inv-loop μ-loop
-shared-slice-read-q-end c = let w = listed-at (c .before .before .before .before .before .before .before .before .args .n) (now (c .before .before .before .before .before .before .before .before .args .rows)) (now (c .before .before .before .before .before .before .before .before .args .id-lens)) (now (c .before .before .before .before .before .before .before .before .args .ids)) (c .before .before .before .loop .i) ((c .before .before .before .before .before .before .before .before .pre .1 .0)) (c .before .before .loop-test .taken) in omega arith
+shared-slice-read-q-end c = let w = listed-at (c .before .before .before .before .before .before .before .before .args .n) (now (c .before .before .before .before .before .before .before .before .args .rows)) (now (c .before .before .before .before .before .before .before .before .args .id-lens)) (now (c .before .before .before .before .before .before .before .before .args .ids)) (c .before .before .before .loop .i) (c .before .before .before .before .before .before .before .before .pre .1 .0) (c .before .before .loop-test .taken) in omega arith
 
 -- src/lib.rt:271:30
 cast-q-end : tie.Need-cast-q-end Inv-loop μ-loop
-cast-q-end c = let w = listed-at (c .before .before .before .before .before .before .before .before .args .n) (now (c .before .before .before .before .before .before .before .before .args .rows)) (now (c .before .before .before .before .before .before .before .before .args .id-lens)) (now (c .before .before .before .before .before .before .before .before .args .ids)) (c .before .before .before .loop .i) ((c .before .before .before .before .before .before .before .before .pre .1 .0)) (c .before .before .loop-test .taken) in omega arith
+cast-q-end c = let w = listed-at (c .before .before .before .before .before .before .before .before .args .n) (now (c .before .before .before .before .before .before .before .before .args .rows)) (now (c .before .before .before .before .before .before .before .before .args .id-lens)) (now (c .before .before .before .before .before .before .before .before .args .ids)) (c .before .before .before .loop .i) (c .before .before .before .before .before .before .before .before .pre .1 .0) (c .before .before .loop-test .taken) in omega arith
 
 -- src/lib.rt:271:21
 add-q-end : tie.Need-add-q-end Inv-loop μ-loop
-add-q-end c = let w = listed-at (c .before .before .before .before .before .before .before .before .args .n) (now (c .before .before .before .before .before .before .before .before .args .rows)) (now (c .before .before .before .before .before .before .before .before .args .id-lens)) (now (c .before .before .before .before .before .before .before .before .args .ids)) (c .before .before .before .loop .i) ((c .before .before .before .before .before .before .before .before .pre .1 .0)) (c .before .before .loop-test .taken) in omega arith
+add-q-end c = let w = listed-at (c .before .before .before .before .before .before .before .before .args .n) (now (c .before .before .before .before .before .before .before .before .args .rows)) (now (c .before .before .before .before .before .before .before .before .args .id-lens)) (now (c .before .before .before .before .before .before .before .before .args .ids)) (c .before .before .before .loop .i) (c .before .before .before .before .before .before .before .before .pre .1 .0) (c .before .before .loop-test .taken) in omega arith
 
 -- src/lib.rt:272:21
 sub-precedes : tie.Need-sub-precedes Inv-loop μ-loop
@@ -74,7 +74,7 @@ part-precedes-start c = search needs
 
 -- src/lib.rt:272:21
 part-precedes-end : tie.Need-part-precedes-end Inv-loop μ-loop
-part-precedes-end c = let w = listed-at (c .before .before .before .before .before .before .before .before .args .n) (now (c .before .before .before .before .before .before .before .before .args .rows)) (now (c .before .before .before .before .before .before .before .before .args .id-lens)) (now (c .before .before .before .before .before .before .before .before .args .ids)) (c .before .before .before .loop .i) ((c .before .before .before .before .before .before .before .before .pre .1 .0)) (c .before .before .loop-test .taken) in omega arith
+part-precedes-end c = let w = listed-at (c .before .before .before .before .before .before .before .before .args .n) (now (c .before .before .before .before .before .before .before .before .args .rows)) (now (c .before .before .before .before .before .before .before .before .args .id-lens)) (now (c .before .before .before .before .before .before .before .before .args .ids)) (c .before .before .before .loop .i) (c .before .before .before .before .before .before .before .before .pre .1 .0) (c .before .before .loop-test .taken) in omega arith
 
 -- src/lib.rt:272:42
 sub-precedes-2 : tie.Need-sub-precedes-2 Inv-loop μ-loop
@@ -102,15 +102,15 @@ loop-less c = search needs
 
 -- src/lib.rt:268:5
 loop-again : tie.Need-loop-again Inv-loop μ-loop
-loop-again c = (omega arith, spot-next (c .before .before .before .before .before .before .before .before .before .before .before .before .args .p) (c .before .before .before .before .before .before .before .before .before .before .before .before .args .n) (now (c .before .before .before .before .before .before .before .before .before .before .before .before .args .rows)) (now (c .before .before .before .before .before .before .before .before .before .before .before .before .args .id-lens)) (now (c .before .before .before .before .before .before .before .before .before .before .before .before .args .ids)) (c .before .before .before .before .before .before .before .loop .i) (c .before .precedes .result) ((c .before .before .before .before .before .before .before .before .before .before .before .before .pre .0)) (c .before .before .before .before .before .before .loop-test .taken) ((c .before .before .before .before .before .before .before .loop .inv .1)) (c .before .precedes .ensures) (c .if1 .taken))
+loop-again c = (omega arith, spot-next (c .before .before .before .before .before .before .before .before .before .before .before .before .args .p) (c .before .before .before .before .before .before .before .before .before .before .before .before .args .n) (now (c .before .before .before .before .before .before .before .before .before .before .before .before .args .rows)) (now (c .before .before .before .before .before .before .before .before .before .before .before .before .args .id-lens)) (now (c .before .before .before .before .before .before .before .before .before .before .before .before .args .ids)) (c .before .before .before .before .before .before .before .loop .i) (c .before .precedes .result) (c .before .before .before .before .before .before .before .before .before .before .before .before .pre .0) (c .before .before .before .before .before .before .loop-test .taken) (c .before .before .before .before .before .before .before .loop .inv .1) (c .before .precedes .ensures) (c .if1 .taken))
 
 -- src/lib.rt:275:13
 returns : tie.Need-returns Inv-loop μ-loop
-returns c = spot-now (c .before .before .before .before .before .before .before .before .before .before .before .before .args .p) (c .before .before .before .before .before .before .before .before .before .before .before .before .args .n) (now (c .before .before .before .before .before .before .before .before .before .before .before .before .args .rows)) (now (c .before .before .before .before .before .before .before .before .before .before .before .before .args .id-lens)) (now (c .before .before .before .before .before .before .before .before .before .before .before .before .args .ids)) (c .before .before .before .before .before .before .before .loop .i) (c .before .precedes .result) ((c .before .before .before .before .before .before .before .before .before .before .before .before .pre .0)) (c .before .before .before .before .before .before .loop-test .taken) ((c .before .before .before .before .before .before .before .loop .inv .1)) (c .before .precedes .ensures) (c .if1 .left)
+returns c = spot-now (c .before .before .before .before .before .before .before .before .before .before .before .before .args .p) (c .before .before .before .before .before .before .before .before .before .before .before .before .args .n) (now (c .before .before .before .before .before .before .before .before .before .before .before .before .args .rows)) (now (c .before .before .before .before .before .before .before .before .before .before .before .before .args .id-lens)) (now (c .before .before .before .before .before .before .before .before .before .before .before .before .args .ids)) (c .before .before .before .before .before .before .before .loop .i) (c .before .precedes .result) (c .before .before .before .before .before .before .before .before .before .before .before .before .pre .0) (c .before .before .before .before .before .before .loop-test .taken) (c .before .before .before .before .before .before .before .loop .inv .1) (c .before .precedes .ensures) (c .if1 .left)
 
 -- src/lib.rt:259:1
 returns-2 : tie.Need-returns-2 Inv-loop μ-loop
-returns-2 c = spot-last (idAt 128 (now (c .before .before .before .before .before .before .args .id-lens)) (now (c .before .before .before .before .before .before .args .ids))) (c .before .before .before .before .before .before .args .p) (take (c .before .before .before .before .before .before .args .n) (now (c .before .before .before .before .before .before .args .rows))) (c .before .loop .i) ((c .before .loop .inv .1)) (taken-length (c .before .before .before .before .before .before .args .n) (now (c .before .before .before .before .before .before .args .rows)) (c .before .loop .i) ((c .before .before .before .before .before .before .pre .0)) (c .loop-test .left))
+returns-2 c = spot-last (idAt messageIdSize (now (c .before .before .before .before .before .before .args .id-lens)) (now (c .before .before .before .before .before .before .args .ids))) (c .before .before .before .before .before .before .args .p) (take (c .before .before .before .before .before .before .args .n) (now (c .before .before .before .before .before .before .args .rows))) (c .before .loop .i) (c .before .loop .inv .1) (taken-length (c .before .before .before .before .before .before .args .n) (now (c .before .before .before .before .before .before .args .rows)) (c .before .loop .i) (c .before .before .before .before .before .before .pre .0) (c .loop-test .left))
 
 pub spot-spec : {M : Type 1} → statement M
 spot-spec =

@@ -34,7 +34,7 @@ without-requires c κs = search needs
 
 -- src/lib.rt:520:9
 append-requires : tie.Need-append-requires
-append-requires c κs = let r = enter-room (c .before .before .before .before .before .before .before .before .args .self) (now (c .before .before .before .before .before .before .before .before .args .store)) (now (c .before .before .before .before .before .before .before .before .args .part)) (now (c .before .before .before .before .before .before .before .before .args .id)) (c .before .before .minus .result) (c .before .without .result) (c .before .before .before .before .if1 .left) (c .before .before .minus .ensures) (c .before .without .ensures) ((c .before .before .before .before .before .before .before .before .pre .0)) in (r .0, (r .1, (c .before .before .before .before .before .before .before .before .pre .1)))
+append-requires c κs = let r = enter-room (c .before .before .before .before .before .before .before .before .args .self) (now (c .before .before .before .before .before .before .before .before .args .store)) (now (c .before .before .before .before .before .before .before .before .args .part)) (now (c .before .before .before .before .before .before .before .before .args .id)) (c .before .before .minus .result) (c .before .without .result) (c .before .before .before .before .if1 .left) (c .before .before .minus .ensures) (c .before .without .ensures) (c .before .before .before .before .before .before .before .before .pre .0) in (r .0, (r .1, (c .before .before .before .before .before .before .before .before .pre .1)))
 
 -- src/lib.rt:507:5
 same-length : tie.Need-same-length
@@ -42,7 +42,7 @@ same-length c = search needs
 
 -- src/lib.rt:507:5
 returns-2 : tie.Need-returns-2
-returns-2 c = entered-some (c .before .before .before .before .before .before .before .before .before .before .before .args .self) (now (c .before .before .before .before .before .before .before .before .before .before .before .args .store)) (now (c .before .before .before .before .before .before .before .before .before .before .before .args .part)) (now (c .before .before .before .before .before .before .before .before .before .before .before .args .id)) (c .before .before .before .before .before .minus .result) (c .before .before .before .before .without .result) (c .before .before .before .before .before .before .before .if1 .left) (c .before .before .before .before .before .minus .ensures) (c .before .before .before .before .without .ensures) (length (now (c .before .before .before .before .before .before .before .before .before .before .before .args .part))) _ _ ((c .before .before .append .ensures .0)) ((c .before .before .append .ensures .1))
+returns-2 c = entered-some (c .before .before .before .before .before .before .before .before .before .before .before .args .self) (now (c .before .before .before .before .before .before .before .before .before .before .before .args .store)) (now (c .before .before .before .before .before .before .before .before .before .before .before .args .part)) (now (c .before .before .before .before .before .before .before .before .before .before .before .args .id)) (c .before .before .before .before .before .minus .result) (c .before .before .before .before .without .result) (c .before .before .before .before .before .before .before .if1 .left) (c .before .before .before .before .before .minus .ensures) (c .before .before .before .before .without .ensures) (length (now (c .before .before .before .before .before .before .before .before .before .before .before .args .part))) _ _ (c .before .before .append .ensures .0) (c .before .before .append .ensures .1)
 
 pub enter-spec : {M : Type 1} → statement M
 enter-spec =

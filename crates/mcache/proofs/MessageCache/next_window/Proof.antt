@@ -1,20 +1,24 @@
 use Rattle.mcache.proofs.Steps.{stale-within, shifted-is}
 use borrow.Author.Needs.{needs}
-use Rattle.mcache.proofs.MessageCache.later.Statement.{statement}
-use Rattle.mcache.proofs.MessageCache.later.Tie as tie
-use Rattle.mcache.proofs.MessageCache.later.Reads as reads
-use Rattle.mcache.proofs.MessageCache.later.Lts as lts
+use Rattle.mcache.proofs.MessageCache.next_window.Statement.{statement}
+use Rattle.mcache.proofs.MessageCache.next_window.Tie as tie
+use Rattle.mcache.proofs.MessageCache.next_window.Reads as reads
+use Rattle.mcache.proofs.MessageCache.next_window.Lts as lts
 use Rattle.mcache.proofs.MessageCache.without.Reads as without-reads
 use Rattle.mcache.proofs.age_windows.Reads as age-windows-reads
 use Rattle.mcache.proofs.stale_rows.Reads as stale-rows-reads
+use Rattle.mcache.specs.State.{ringOf}
 
 -- src/lib.rt:623:13
+ring-requires : tie.Need-ring-requires
+ring-requires c κs = search needs
+
 slice-aggregate-stale-rows : tie.Need-slice-aggregate-stale-rows
 slice-aggregate-stale-rows c = search needs
 
 -- src/lib.rt:622:13
 stale-rows-requires : tie.Need-stale-rows-requires
-stale-rows-requires c κs = search needs
+stale-rows-requires c κs = rw (c .before .before .ring .ensures) (c .before .before .before .pre)
 
 -- src/lib.rt:629:21
 slice-aggregate-age-windows : tie.Need-slice-aggregate-age-windows
@@ -26,16 +30,17 @@ age-windows-requires c κs = search needs
 
 -- src/lib.rt:631:9
 without-requires : tie.Need-without-requires
-without-requires c κs = stale-within ((c .before .before .before .before .before .before .args .self .«history_len»)) ((c .before .before .before .before .before .before .args .self .«max_messages»)) (c .before .before .before .before .before .before .args .self .start) (c .before .before .before .before .before .before .args .self .count) (c .before .before .before .before .before .before .args .self .window) (c .before .before .before .stale-rows .result) (c .before .before .before .stale-rows .ensures)
+without-requires c κs = stale-within (c .before .before .before .before .before .before .before .args .self .«history_len») (ringOf (c .before .before .before .before .before .before .before .args .self)) (c .before .before .before .before .before .before .before .args .self .window) (c .before .before .before .stale-rows .result) (rw (c .before .before .before .before .before .before .ring .ensures) at (c .before .before .before .stale-rows .ensures))
 
 -- src/lib.rt:617:5
 returns : tie.Need-returns
-returns c = shifted-is (c .before .before .before .before .before .before .before .args .self) (c .before .before .before .before .stale-rows .result) _ _ (c .before .before .before .before .stale-rows .ensures) (c .before .before .age-windows .ensures) (c .without .ensures)
+returns c = shifted-is (c .before .before .before .before .before .before .before .before .args .self) (c .before .before .before .before .stale-rows .result) _ _ (rw (c .before .before .before .before .before .before .before .ring .ensures) at (c .before .before .before .before .stale-rows .ensures)) (c .before .before .age-windows .ensures) (c .without .ensures)
 
-pub later-spec : {M : Type 1} → statement M
-later-spec =
+pub next-window-spec : {M : Type 1} → statement M
+next-window-spec =
     tie.close
     (tie.spec
+    ring-requires
     slice-aggregate-stale-rows
     stale-rows-requires
     slice-aggregate-age-windows
