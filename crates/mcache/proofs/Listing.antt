@@ -167,15 +167,6 @@ insert-each P id p (q ∷ qs) x f =
     (λ t. subst⁻¹ (Each P) {x = insertRow id p (q ∷ qs)} {y = q ∷ insertRow id p qs} (simp t) (each-cons P q (insertRow id p qs) (f 0 (omega arith)) rest))
     (λ t. subst⁻¹ (Each P) {x = insertRow id p (q ∷ qs)} {y = p ∷ q ∷ qs} (simp t) (each-cons P p (q ∷ qs) x f))
 
--- a test, and what is left by either way
-pub tell-yes : (t r : Bool) (m n : ℕ) (out x y : List ℕ) → r ≡ t → r ≡ true → out ≡ x → (m ≡ cond t m n) × (out ≡ cond t x y)
-tell-yes true r m n out x y e f g = (refl, g)
-tell-yes false r m n out x y e f g = clash (cc)
-
-pub tell-no : (t r : Bool) (m n : ℕ) (x y : List ℕ) → r ≡ t → r ≡ false → (n ≡ cond t m n) × (y ≡ cond t x y)
-tell-no true r m n x y e f = clash (cc)
-tell-no false r m n x y e f = (refl, refl)
-
 abbrev rowsOf : Ring → List ℕ
 rowsOf ring = rowsIn (λ (p : ℕ). p) ring
 
@@ -211,12 +202,12 @@ module _ (t : ℕ → Bool) (id : ℕ → List ℕ) (all first : List ℕ) (ring
       let w : gatherInto t id (take n rows) (drop (i + 1) (rowsOf ring)) ≡ all = simp y at v in
       record { size = rw k (g .size); behind = rw (f, k) (g .behind); goes = rw (f, k) w }
 
-  pub gather-step : (m : ℕ) (out : List ℕ) → Gathering t id all first (drop i (rowsOf ring)) n rows
+  gather-step : (m : ℕ) (out : List ℕ) → Gathering t id all first (drop i (rowsOf ring)) n rows
       → (m ≡ cond (t p) (n + 1) n) × (out ≡ cond (t p) (insertRow id p (take n rows) ++ drop (n + 1) rows) rows)
       → Gathering t id all first (drop (i + 1) (rowsOf ring)) m out
   gather-step m out g f = either (t p) (λ y. gather-yes m out y g (simp y at (f .0)) (simp y at (f .1))) (λ y. gather-no m out y g (simp y at (f .0)) (simp y at (f .1)))
 
-  pub listed-step : (m : ℕ) (out ilens ids : List ℕ) → Listed n rows ilens ids → p < maxMessages → getD ilens p 0 ≤ messageIdSize
+  listed-step : (m : ℕ) (out ilens ids : List ℕ) → Listed n rows ilens ids → p < maxMessages → getD ilens p 0 ≤ messageIdSize
       → (m ≡ cond (t p) (n + 1) n) × (out ≡ cond (t p) (insertRow id p (take n rows) ++ drop (n + 1) rows) rows)
       → Listed m out ilens ids
   listed-step m out ilens ids ok a b f =
@@ -241,8 +232,17 @@ module _ (t : ℕ → Bool) (id : ℕ → List ℕ) (all first : List ℕ) (ring
             rw z (ok .places j (omega arith));
       })
 
-  pub count-step : (m : ℕ) → n ≤ i → m ≡ cond (t p) (n + 1) n → m ≤ i + 1
+  count-step : (m : ℕ) → n ≤ i → m ≡ cond (t p) (n + 1) n → m ≤ i + 1
   count-step m k f = either (t p) (λ y. let q : m ≡ n + 1 = simp y at f in omega arith) (λ y. let q : m ≡ n = simp y at f in omega arith)
+
+  -- a turn of the loop
+  pub gather-turn : (m : ℕ) (out ilens ids : List ℕ) → n ≤ i → Listed n rows ilens ids → p < maxMessages → getD ilens p 0 ≤ messageIdSize
+      → Gathering t id all first (drop i (rowsOf ring)) n rows
+      → (m ≡ cond (t p) (n + 1) n) × (out ≡ cond (t p) (insertRow id p (take n rows) ++ drop (n + 1) rows) rows)
+      → (m ≤ i + 1) × (length out ≡ length first) × Listed m out ilens ids × Gathering t id all first (drop (i + 1) (rowsOf ring)) m out
+  gather-turn m out ilens ids k ok a b g f =
+      let r = gather-step m out g f in
+      (count-step m k (f .0), r .size, listed-step m out ilens ids ok a b f, r)
 
 pub gather-done : (t : ℕ → Bool) (id : ℕ → List ℕ) (all first : List ℕ) (ring : Ring) (i n : ℕ) (rows : List ℕ) → ring .count ≤ i → n ≤ length rows
     → Gathering t id all first (drop i (rowsOf ring)) n rows → (n ≡ length all) × (rows ≡ all ++ drop n first)

@@ -19,7 +19,7 @@ use Rattle.rows.specs.RowsLaws.{place-lt, place-le, place-place, length-ring}
 use Rattle.rows.specs.Store.{idsIn, inUse, Sound}
 use Rattle.mcache.specs.declared.MessageCache.{MessageCache}
 use Rattle.mcache.specs.declared.Start.the-variants as start
-use Rattle.mcache.specs.State.{Laid, Usable, legal, fresh, dropped, appended, passed, aged, older, stale, gathered, messageSize, messageIdSize, maxMessages, maxHistory, ringOf}
+use Rattle.mcache.specs.State.{Laid, Usable, legal, fresh, dropped, appended, passed, aged, older, stale, messageSize, messageIdSize, maxMessages, maxHistory, ringOf}
 use Rattle.mcache.specs.Calls.{startAnswer, startCache, indexIn, entered, enteredStore, shifted, gossipList, gossipArray}
 
 -- ---- start

@@ -6,9 +6,9 @@ use mathlib.Core.Bool.{true, cond}
 use lib.ListN.{length, drop, replicate}
 use lib.Seq.{sets}
 use lib.Dec.{ltb, eqb}
-use Rattle.rows.specs.Rows.{placeOf}
+use Rattle.rows.specs.Rows.{placeOf, rowsIn}
 use Rattle.rows.specs.Ids.{indexOf}
-use Rattle.rows.specs.Store.{idsIn, inUse}
+use Rattle.rows.specs.Store.{idAt, idsIn, inUse}
 use Rattle.protobuf.specs.declared.Checked.{Checked}
 use Rattle.protobuf.specs.declared.Checked.the-variants as checked
 use Rattle.protobuf.specs.Refusal.{refusalNumber, refusalValues}
@@ -30,7 +30,7 @@ use Rattle.mcache.specs.declared.Lookup.{Lookup}
 use Rattle.mcache.specs.declared.Lookup.the-variants as lookup
 use Rattle.mcache.specs.declared.Gossip.{Gossip}
 use Rattle.mcache.specs.declared.Gossip.the-variants as gossip
-use Rattle.mcache.specs.State.{messageIn, legal, wellFormed, fresh, dropped, appended, passed, aged, stale, gathered, messageSize, messageIdSize, maxMessages, ringOf}
+use Rattle.mcache.specs.State.{messageIn, legal, wellFormed, fresh, dropped, appended, passed, aged, stale, told, gatherInto, messageSize, messageIdSize, maxMessages, ringOf}
 
 -- ---- 01's numbers and values
 abbrev pub lentNumber : Lent → ℕ
@@ -119,7 +119,7 @@ found c st id = cond (ltb (indexIn c id) (c .count)) (messageIn (c .len) st (pla
 -- the places of the messages that are told of, in the order of their ids
 unfoldable pub gossipList : MessageCache → List ℕ → List ℕ → ℕ → List ℕ
 gossipList c st topic windows =
-    gathered (ringOf c) (c .window) (c .len) (c .«id_len») (c .ids) st windows topic
+    gatherInto (told (c .window) (c .len) st windows topic) (idAt messageIdSize (c .«id_len») (c .ids)) [] (rowsIn (λ (p : ℕ). p) (ringOf c))
 
 -- and zeros after them
 unfoldable pub gossipArray : MessageCache → List ℕ → List ℕ → ℕ → List ℕ

@@ -20,7 +20,7 @@ use Rattle.mcache.specs.declared.MessageCache.{MessageCache}
 use Rattle.mcache.specs.declared.Lent.the-variants as lent
 use Rattle.mcache.specs.declared.Gossip.the-variants as gossip
 use Rattle.mcache.specs.Messages.{Cached, topics, idsOf, carrying, enterId, inOrder, gossipIds}
-use Rattle.mcache.specs.State.{messageIn, cachedAt, cachedIn, told, insertRow, gatherInto, gathered, messageIdSize, maxMessages, ringOf}
+use Rattle.mcache.specs.State.{messageIn, cachedAt, cachedIn, told, insertRow, gatherInto, messageIdSize, maxMessages, ringOf}
 use Rattle.mcache.specs.Calls.{lentOf, gossipList, gossipArray, gossipAnswer, gossipCount, gossipRows}
 use Rattle.mcache.specs.StateLaws.{fine-tests}
 
@@ -174,7 +174,7 @@ carrying-rows c st topic windows (p ∷ ps) =
 
 pub gossip-ids : (c : MessageCache) (st topic : List ℕ) (windows : ℕ) → lentOf c st ≡ lent.Fine
     → map (idAt messageIdSize (c .«id_len») (c .ids)) (gossipList c st topic windows) ≡ gossipIds topic windows (cachedIn c st)
-unfolding gossipList gathered gossipIds cachedIn Apart among idsIn
+unfolding gossipList gossipIds cachedIn Apart among idsIn
 gossip-ids c st topic windows f =
     let ps = rowsIn (λ (p : ℕ). p) (ringOf c) in
     let id = idAt messageIdSize (c .«id_len») (c .ids) in

@@ -216,10 +216,6 @@ unfoldable pub gatherInto : (ℕ → Bool) → (ℕ → List ℕ) → List ℕ �
 gatherInto t id qs [] = qs
 gatherInto t id qs (p ∷ ps) = gatherInto t id (cond (t p) (insertRow id p qs) qs) ps
 
-unfoldable pub gathered : Ring → List ℕ → List ℕ → List ℕ → List ℕ → List ℕ → ℕ → List ℕ → List ℕ
-gathered ring window lens ilens ids st windows topic =
-    gatherInto (told window lens st windows topic) (idAt messageIdSize ilens ids) [] (rowsIn (λ (p : ℕ). p) ring)
-
 -- the first n of some rows have ids
 pub record Listed (n : ℕ) (rows ilens ids : List ℕ) : Type 0 where
   pub lengths : length ilens ≡ maxMessages

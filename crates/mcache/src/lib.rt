@@ -10,7 +10,7 @@ ghost use Rattle.rows.specs.Rows.{placeOf};
 ghost use Rattle.rows.specs.Store.{InStore, Sound, inUse, idAt};
 ghost use Rattle.ids.specs.Ids.{idBytes};
 ghost use Rattle.admission.specs.Admission.{admissionOf};
-ghost use Rattle.mcache.specs.State.{messageSize, messageIdSize, maxMessages, ringOf, messageIn, fallsFrom, runsTo, givesIn, idsFit, rowsFit, stale, older, Laid, Usable, fresh, dropped, appended, Listed, told, spotOf, putAt, insertRow, gathered};
+ghost use Rattle.mcache.specs.State.{messageSize, messageIdSize, maxMessages, ringOf, messageIn, fallsFrom, runsTo, givesIn, idsFit, rowsFit, stale, older, Laid, Usable, fresh, dropped, appended, Listed, told, spotOf, putAt, insertRow};
 ghost use Rattle.mcache.specs.Calls.{startAnswer, startCache, lentOf, indexIn, entered, enteredStore, planUnder, keptUnder, storedUnder, shifted, found, gossipList, gossipArray, planFit, planned, answered, keptIn, storedIn, shiftCache, getPart, lookupAnswer, gossipAnswer, gossipCount, gossipRows};
 use admission::Admission;
 use admission::MAX_TOPIC_SIZE;
@@ -288,68 +288,18 @@ fn put_row(rows: &mut [u8], n: usize, at: usize, p: u8)
     }
 }
 
-// Puts the row p into its spot among the first n of `rows`, where its message is told of; and how many there are then.
-fn tell_row(
-    window: &[u8],
-    lens: &[u16],
-    id_lens: &[u8],
-    ids: &[u8],
-    store: &[u8],
-    p: usize,
-    windows: usize,
-    topic: &[u8],
-    rows: &mut [u8],
-    n: usize,
-) -> usize
-    requires { ⌜ (p < maxMessages) × (length (now window) ≡ maxMessages) × (length (now lens) ≡ maxMessages) × (p * messageSize + getD (now lens) p 0 ≤ length (now store)) ⌝ }
+// Puts the row p into its spot among the first n of `rows`, where it is to be there; and how many there are then.
+fn tell_row(there: bool, rows: &mut [u8], n: usize, id_lens: &[u8], ids: &[u8], p: usize) -> usize
     requires { ⌜ n < length (now rows) ⌝ }
     requires { ⌜ Listed n (now rows) (now «id_lens») (now ids) ⌝ }
-    requires { ⌜ getD (now «id_lens») p 0 ≤ messageIdSize ⌝ }
-    ensures { λ r. ⌜ r ≡ cond (told (now (window .entry)) (now (lens .entry)) (now (store .entry)) windows (now (topic .entry)) p) (n + 1) n ⌝ }
-    ensures { λ _. ⌜ now (rows .exit) ≡ cond (told (now (window .entry)) (now (lens .entry)) (now (store .entry)) windows (now (topic .entry)) p) (insertRow (idAt messageIdSize (now («id_lens» .entry)) (now (ids .entry))) p (take n (now (rows .entry))) ++ drop (n + 1) (now (rows .entry))) (now (rows .entry)) ⌝ }
+    requires { ⌜ (p < maxMessages) × (getD (now «id_lens») p 0 ≤ messageIdSize) ⌝ }
+    ensures { λ r. ⌜ r ≡ cond there (n + 1) n ⌝ }
+    ensures { λ _. ⌜ now (rows .exit) ≡ cond there (insertRow (idAt messageIdSize (now («id_lens» .entry)) (now (ids .entry))) p (take n (now (rows .entry))) ++ drop (n + 1) (now (rows .entry))) (now (rows .entry)) ⌝ }
 {
-    if is_told(window, lens, store, p, windows, topic) {
+    if there {
         let at = spot(rows, n, id_lens, ids, p);
         put_row(rows, n, at, p as u8);
         return n + 1;
-    }
-    n
-}
-
-// The places of the messages that are told of, in the order of their ids, at the front of `rows`; and how many there are.
-fn gather(
-    window: &[u8],
-    lens: &[u16],
-    id_lens: &[u8],
-    ids: &[u8],
-    store: &[u8],
-    ring: Ring,
-    windows: usize,
-    topic: &[u8],
-    rows: &mut [u8],
-) -> usize
-    requires { ⌜ Laid ring (now lens) (now «id_lens») (now ids) (now store) ⌝ }
-    requires { ⌜ (length (now window) ≡ maxMessages) × (length (now rows) ≡ maxMessages) × ((i : ℕ) → i < ring .count → getD (now lens) (placeOf ring i) 0 ≤ messageSize) ⌝ }
-    ensures { λ r. ⌜ r ≡ length (gathered ring (now (window .entry)) (now (lens .entry)) (now («id_lens» .entry)) (now (ids .entry)) (now (store .entry)) windows (now (topic .entry))) ⌝ }
-    ensures { λ r. ⌜ now (rows .exit) ≡ gathered ring (now (window .entry)) (now (lens .entry)) (now («id_lens» .entry)) (now (ids .entry)) (now (store .entry)) windows (now (topic .entry)) ++ drop r (now (rows .entry)) ⌝ }
-{
-    let mut n = 0;
-    let mut i = 0;
-    while i < ring.count {
-        let p = place(ring, i);
-        n = tell_row(
-            window,
-            lens,
-            id_lens,
-            ids,
-            store,
-            p,
-            windows,
-            topic,
-            rows,
-            n,
-        );
-        i += 1;
     }
     n
 }
@@ -724,17 +674,14 @@ impl MessageCache {
         let id_lens = self.id_len;
         let ids = self.ids;
         let mut rows = [0u8; MAX_MESSAGES];
-        let count = gather(
-            &window,
-            &lens,
-            &id_lens,
-            &ids,
-            store,
-            ring,
-            windows,
-            topic,
-            &mut rows,
-        );
+        let mut count = 0;
+        let mut i = 0;
+        while i < ring.count {
+            let p = place(ring, i);
+            let there = is_told(&window, &lens, store, p, windows, topic);
+            count = tell_row(there, &mut rows, count, &id_lens, &ids, p);
+            i += 1;
+        }
         GossipIds {
             answer: Gossip::Ids,
             count,
