@@ -154,9 +154,9 @@ shifted-windows c st t z =
     (shift-falls (c .«history_len») (c .«history_len» - 1) (c .«history_len» - 1) (cachedIn c st) (rw (windows-cached c st) (t .falls)) (λ w i j. omega arith))
 
 -- the numbers of the rows that stay
-lens-less : (k : ℕ) (ring : Ring) (l : List ℕ) → ring .start ≤ ring .cap → ring .count ≤ ring .cap → k ≤ ring .count → inUse (without k ring) l ≡ drop k (inUse ring l)
+numbers-less : (k : ℕ) (ring : Ring) (l : List ℕ) → ring .start ≤ ring .cap → ring .count ≤ ring .cap → k ≤ ring .count → inUse (without k ring) l ≡ drop k (inUse ring l)
 unfolding inUse
-lens-less k ring l a b h = ring-drop (λ (p : ℕ). getD l p 0) ring k a b h
+numbers-less k ring l a b h = ring-drop (λ (p : ℕ). getD l p 0) ring k a b h
 
 ids-less : (k : ℕ) (ring : Ring) (lens ids : List ℕ) → ring .start ≤ ring .cap → ring .count ≤ ring .cap → k ≤ ring .count → idsIn messageIdSize (without k ring) lens ids ≡ drop k (idsIn messageIdSize ring lens ids)
 unfolding idsIn
@@ -181,8 +181,8 @@ shifted-tests c st t z =
       starts = place-le (ringOf c) k (t .starts) (omega (arith, t .within));
       within = omega (arith, t .within);
       falls = shifted-windows c st t z;
-      runs = rw (lens-less k (ringOf c) (c .generation) (t .starts) (t .within) h) (runs-drop (c .«next_generation») k (inUse (ringOf c) (c .generation)) (t .runs));
-      id-short = rw (lens-less k (ringOf c) (c .«id_len») (t .starts) (t .within) h) (upto-drop messageIdSize k (inUse (ringOf c) (c .«id_len»)) (t .id-short));
+      runs = rw (numbers-less k (ringOf c) (c .generation) (t .starts) (t .within) h) (runs-drop (c .«next_generation») k (inUse (ringOf c) (c .generation)) (t .runs));
+      id-short = rw (numbers-less k (ringOf c) (c .«id_len») (t .starts) (t .within) h) (upto-drop messageIdSize k (inUse (ringOf c) (c .«id_len»)) (t .id-short));
       gives = gives-less k (ringOf c) (c .len) (c .«id_len») (c .ids) st (t .starts) (t .within) h (t .gives);
       once = rw (ids-less k (ringOf c) (c .«id_len») (c .ids) (t .starts) (t .within) h) (distinct-drop k (idsIn messageIdSize (ringOf c) (c .«id_len») (c .ids)) (t .once));
     }
@@ -236,10 +236,10 @@ not-held : (c : MessageCache) (m id : List ℕ) → Keeps c m id → among id (i
 not-held c m id k = held-rows c id ∙ k .fresh
 
 module _ (c : MessageCache) (st m id : List ℕ) (t : Tests c st) (z : Sized c) (k : Keeps c m id) (some : c .«max_messages» ≡ 0 → ⊥) where
-  lens-more : (l : List ℕ) (x : ℕ) → length l ≡ maxMessages
+  numbers-more : (l : List ℕ) (x : ℕ) → length l ≡ maxMessages
       → inUse (oneMore (rest c)) (set l (spot c) x) ≡ newest (c .«max_messages») (inUse (ringOf c) l ++ (x ∷ []))
   unfolding inUse
-  lens-more l x e =
+  numbers-more l x e =
       ring-entered c (t .starts) (t .within) some (λ (p : ℕ). getD l p 0) (λ (p : ℕ). getD (set l (spot c) x) p 0) x
       (kept-number c st m id t z (k .id-small) (k .small) some l x) (new-number c st m id t z (k .id-small) (k .small) some l x e)
 
@@ -283,11 +283,11 @@ module _ (c : MessageCache) (st m id : List ℕ) (t : Tests c st) (z : Sized c) 
         few = t .few;
         starts = rest-starts c (t .starts) (t .within) some;
         within = omega (arith, left-few c (t .starts) (t .within) some);
-        falls = rw (lens-more (c .window) 0 (z .windows)) (falls-drop (c .«history_len» - 1) (length (windows ++ (0 ∷ [])) - c .«max_messages») (windows ++ (0 ∷ [])) (falls-snoc (c .«history_len» - 1) windows (t .falls)));
+        falls = rw (numbers-more (c .window) 0 (z .windows)) (falls-drop (c .«history_len» - 1) (length (windows ++ (0 ∷ [])) - c .«max_messages») (windows ++ (0 ∷ [])) (falls-snoc (c .«history_len» - 1) windows (t .falls)));
         runs =
-            rw (lens-more (c .generation) (c .«next_generation») (z .generations))
+            rw (numbers-more (c .generation) (c .«next_generation») (z .generations))
             (runs-drop ((c .«next_generation» + 1) % 2 ^ 64) (length (numbers ++ (c .«next_generation» ∷ [])) - c .«max_messages») (numbers ++ (c .«next_generation» ∷ [])) (runs-snoc (c .«next_generation») numbers (t .runs)));
-        id-short = rw (lens-more (c .«id_len») (length id) (z .id-lengths)) (upto-drop messageIdSize (length (lens ++ (length id ∷ [])) - c .«max_messages») (lens ++ (length id ∷ [])) (upto-snoc messageIdSize (length id) lens (k .id-small) (t .id-short)));
+        id-short = rw (numbers-more (c .«id_len») (length id) (z .id-lengths)) (upto-drop messageIdSize (length (lens ++ (length id ∷ [])) - c .«max_messages») (lens ++ (length id ∷ [])) (upto-snoc messageIdSize (length id) lens (k .id-small) (t .id-short)));
         gives = gives-more;
         once = rw ids-more (distinct-drop (length (ids ++ (id ∷ [])) - c .«max_messages») (ids ++ (id ∷ [])) (distinct-snoc ids id (t .once) (not-held c m id k)));
       }

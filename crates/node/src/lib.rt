@@ -36,6 +36,7 @@ use mcache::MESSAGE_ID_SIZE;
 use mcache::MESSAGE_SIZE;
 use mcache::MessageCache;
 use mcache::form_id;
+use message::MAX_RECORDS;
 use parts::add_part;
 use parts::emit_parts;
 use parts::first_mentions;
@@ -679,8 +680,8 @@ impl Node {
         ensures { λ r. ⌜ r ≡ asked (answer (askBytes self (now («seen_store» .entry)) (now (body .entry))) (now (out .entry))) ⌝ }
         ensures { λ _. ⌜ now (out .exit) ≡ written (askBytes self (now («seen_store» .entry)) (now (body .entry))) (now (out .entry)) ⌝ }
     {
-        let mut named = [0usize; 1024];
-        let mut first = [0usize; 1024];
+        let mut named = [0usize; 2 * MAX_RECORDS];
+        let mut first = [0usize; 2 * MAX_RECORDS];
         let path = [3u64, 1, 2];
         let n = parts_at(body, 0, body.len(), &path, &mut named, 0);
         let k = first_mentions(body, &named, n, &mut first);
@@ -735,8 +736,8 @@ impl Node {
         ensures { λ r. ⌜ r ≡ replyTo (cachedOf (self .cache) (now («cache_store» .entry)) (wanted (now (body .entry)))) (now (out .entry)) ⌝ }
         ensures { λ _. ⌜ now (out .exit) ≡ sets (now (out .entry)) 0 (replyBytes (cachedOf (self .cache) (now («cache_store» .entry)) (wanted (now (body .entry)))) (now (out .entry))) ⌝ }
     {
-        let mut named = [0usize; 1024];
-        let mut first = [0usize; 1024];
+        let mut named = [0usize; 2 * MAX_RECORDS];
+        let mut first = [0usize; 2 * MAX_RECORDS];
         let path = [3u64, 2, 1];
         let n = parts_at(body, 0, body.len(), &path, &mut named, 0);
         let k = first_mentions(body, &named, n, &mut first);

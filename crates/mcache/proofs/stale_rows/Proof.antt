@@ -10,9 +10,6 @@ use Rattle.mcache.proofs.Walks.{stale-more, stale-stays, stale-all}
 use borrow.Author.Needs.{needs}
 use Rattle.mcache.proofs.stale_rows.Statement.{statement}
 use Rattle.mcache.proofs.stale_rows.Tie as tie
-use Rattle.mcache.proofs.stale_rows.Reads as reads
-use Rattle.mcache.proofs.stale_rows.Lts as lts
-use Rattle.rows.proofs.place.Reads as place-reads
 
 abbrev Inv-loop : tie.InvT-loop
 Inv-loop window ring history-len i₀ i = (i ≤ ring .count) × (i + stale history-len (drop i (inUse ring window)) ≡ stale history-len (inUse ring window))
@@ -20,43 +17,33 @@ Inv-loop window ring history-len i₀ i = (i ≤ ring .count) × (i + stale hist
 abbrev μ-loop : tie.MeasureT-loop
 μ-loop window ring history-len i₀ i = ring .count - i
 
--- src/lib.rt:210:5
 loop-holds : tie.Need-loop-holds Inv-loop μ-loop
 loop-holds c = (omega arith, omega arith)
 
--- src/lib.rt:211:13
 place-requires : tie.Need-place-requires Inv-loop μ-loop
 place-requires c κs = search needs
 
--- src/lib.rt:212:17
 shared-slice-read-w : tie.Need-shared-slice-read-w Inv-loop μ-loop
 shared-slice-read-w c = let l = place-lt (c .before .before .before .before .before .before .args .ring) (c .before .before .before .before .loop .i) (c .before .before .before .before .before .before .pre .starts) (omega (arith, (c .before .before .before .before .before .before .pre .within))) in let e = (c .before .place .ensures) in omega (arith, (c .before .before .before .before .before .before .pre .size))
 
--- src/lib.rt:212:17
 cast-w : tie.Need-cast-w Inv-loop μ-loop
 cast-w c = omega (arith, (c .shared-slice-known2 .given) (c .before .place .result))
 
--- src/lib.rt:213:12
 add-if2 : tie.Need-add-if2 Inv-loop μ-loop
 add-if2 c = omega (arith, (c .shared-slice-known2 .given) (c .before .place .result))
 
--- src/lib.rt:214:13
 returns : tie.Need-returns Inv-loop μ-loop
 returns c = stale-stays (c .before .before .before .before .before .before .before .args .history-len) (c .before .before .before .before .before .before .before .args .ring) (now (c .before .before .before .before .before .before .before .args .window)) (c .before .before .before .before .before .loop .i) (c .before .before .before .before .before .loop .inv .1) _ (c .before .before .before .if1 .taken) (ap (λ (p : ℕ). getD (now (c .before .before .before .before .before .before .before .args .window)) p 0) (c .before .before .place .ensures)) (c .if2 .taken)
 
--- src/lib.rt:216:9
 add-i : tie.Need-add-i Inv-loop μ-loop
 add-i c = search needs
 
--- src/lib.rt:210:5
 loop-less : tie.Need-loop-less Inv-loop μ-loop
 loop-less c = search needs
 
--- src/lib.rt:210:5
 loop-again : tie.Need-loop-again Inv-loop μ-loop
 loop-again c = (omega arith, stale-more (c .before .before .before .before .before .before .before .args .history-len) (c .before .before .before .before .before .before .before .args .ring) (now (c .before .before .before .before .before .before .before .args .window)) (c .before .before .before .before .before .loop .i) (c .before .before .before .before .before .loop .inv .1) _ (c .before .before .before .if1 .taken) (ap (λ (p : ℕ). getD (now (c .before .before .before .before .before .before .before .args .window)) p 0) (c .before .before .place .ensures)) (c .if2 .left))
 
--- src/lib.rt:205:1
 returns-2 : tie.Need-returns-2 Inv-loop μ-loop
 returns-2 c = stale-all (c .before .before .before .before .args .history-len) (c .before .before .before .before .args .ring) (now (c .before .before .before .before .args .window)) (c .before .before .loop .i) (c .before .before .loop .inv .1) (c .if1 .left)
 

@@ -2,37 +2,26 @@ use Rattle.mcache.proofs.Steps.{stale-within, shifted-is}
 use borrow.Author.Needs.{needs}
 use Rattle.mcache.proofs.MessageCache.next_window.Statement.{statement}
 use Rattle.mcache.proofs.MessageCache.next_window.Tie as tie
-use Rattle.mcache.proofs.MessageCache.next_window.Reads as reads
-use Rattle.mcache.proofs.MessageCache.next_window.Lts as lts
-use Rattle.mcache.proofs.MessageCache.without.Reads as without-reads
-use Rattle.mcache.proofs.age_windows.Reads as age-windows-reads
-use Rattle.mcache.proofs.stale_rows.Reads as stale-rows-reads
 use Rattle.mcache.specs.State.{ringOf}
 
--- src/lib.rt:623:13
 ring-requires : tie.Need-ring-requires
 ring-requires c κs = search needs
 
 slice-aggregate-stale-rows : tie.Need-slice-aggregate-stale-rows
 slice-aggregate-stale-rows c = search needs
 
--- src/lib.rt:622:13
 stale-rows-requires : tie.Need-stale-rows-requires
 stale-rows-requires c κs = rw (c .before .before .ring .ensures) (c .before .before .before .pre)
 
--- src/lib.rt:629:21
 slice-aggregate-age-windows : tie.Need-slice-aggregate-age-windows
 slice-aggregate-age-windows c = search needs
 
--- src/lib.rt:629:9
 age-windows-requires : tie.Need-age-windows-requires
 age-windows-requires c κs = search needs
 
--- src/lib.rt:631:9
 without-requires : tie.Need-without-requires
 without-requires c κs = stale-within (c .before .before .before .before .before .before .before .args .self .«history_len») (ringOf (c .before .before .before .before .before .before .before .args .self)) (c .before .before .before .before .before .before .before .args .self .window) (c .before .before .before .stale-rows .result) (rw (c .before .before .before .before .before .before .ring .ensures) at (c .before .before .before .stale-rows .ensures))
 
--- src/lib.rt:617:5
 returns : tie.Need-returns
 returns c = shifted-is (c .before .before .before .before .before .before .before .before .args .self) (c .before .before .before .before .stale-rows .result) _ _ (rw (c .before .before .before .before .before .before .before .ring .ensures) at (c .before .before .before .before .stale-rows .ensures)) (c .before .before .age-windows .ensures) (c .without .ensures)
 

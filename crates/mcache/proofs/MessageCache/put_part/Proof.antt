@@ -5,31 +5,20 @@ use Rattle.mcache.proofs.Answers.{fit-room, id-fits-in, id-counts, id-s
 use borrow.Author.Needs.{needs}
 use Rattle.mcache.proofs.MessageCache.put_part.Statement.{statement}
 use Rattle.mcache.proofs.MessageCache.put_part.Tie as tie
-use Rattle.mcache.proofs.MessageCache.put_part.Reads as reads
-use Rattle.mcache.proofs.MessageCache.put_part.Lts as lts
-use Rattle.admission.proofs.admit.Reads as admit-reads
-use Rattle.mcache.proofs.MessageCache.enter.Reads as enter-reads
-use Rattle.mcache.proofs.MessageCache.find.Reads as find-reads
-use Rattle.mcache.proofs.form_id.Reads as form-id-reads
 use Rattle.mcache.specs.State.{messageIdSize}
 
--- src/lib.rt:549:13
 admit-requires : tie.Need-admit-requires
 admit-requires c κs = search needs
 
--- src/lib.rt:551:30
 enum-known-a : tie.Need-enum-known-a
 enum-known-a c = search needs
 
--- src/lib.rt:556:17
 enum-known-a-2 : tie.Need-enum-known-a-2
 enum-known-a-2 c = search needs
 
--- src/lib.rt:562:85
 slice-aggregate-form-id : tie.Need-slice-aggregate-form-id
 slice-aggregate-form-id c = search needs
 
--- src/lib.rt:562:21
 form-id-requires : tie.Need-form-id-requires
 form-id-requires c κs = fit-room (now (c .before .before .before .before .before .before .before .args .part)) _ _ _ _ (sym (c .before .before .before .before .admit .ensures) ∙ (c .before .before .a2 .given .1)) (replicate messageIdSize 0) refl
 
