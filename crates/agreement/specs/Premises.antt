@@ -10,6 +10,8 @@ use Rattle.admission.specs.Admission.{givesId}
 use Rattle.node.specs.State.{legalSettings, freshNode, risesFrom}
 use Rattle.node.specs.Calls.{Plan, no, taken}
 use Rattle.agreement.specs.History.{State, Call, admit, heartbeat, advertise, ask, serve, planIn, after, readings, beats}
+use Rattle.seen.specs.State.{idSize}
+use Rattle.mcache.specs.State.{messageSize}
 
 -- ---- the set of messages; a message is the bytes of the submessage
 pub record MessageSet (set : List (List ℕ)) : Type 0 where
@@ -30,8 +32,8 @@ pub record Fresh (x : Settings) (s : State) : Type 0 where
   pub small : x .ttl < 2 ^ 64
   pub legal : legalSettings (x .max-seen) (x .history-len) (x .max-messages) ≡ true
   pub node : s .node ≡ freshNode (x .ttl) (x .max-seen) (x .history-len) (x .max-messages)
-  pub ids : length (s .ids) ≡ x .max-seen * 129
-  pub messages : length (s .messages) ≡ x .max-messages * 4096
+  pub ids : length (s .ids) ≡ x .max-seen * idSize
+  pub messages : length (s .messages) ≡ x .max-messages * messageSize
   pub bytes : Bytes (s .messages)
 
 -- ---- admitting set members only; where the body is refused or the host's word withheld, the node gets nothing

@@ -15,7 +15,7 @@ use Rattle.node.specs.declared.Serve.{Serve}
 use Rattle.node.specs.declared.Serve.the-variants as served
 use Rattle.node.specs.Gateway.{Gateway, marked}
 use Rattle.node.specs.State.{gatewayIn}
-use Rattle.node.specs.Calls.{advertiseAnswer, advertiseLeft, askAnswer, askLeft, serveAnswer, serveLeft}
+use Rattle.node.specs.Calls.{advertiseAnswer, advertiseLeft, askAnswer, askLeft, serveAnswer, serveLeft, maxRpcSize}
 use Rattle.agreement.specs.History.{State, Call, admit, advertise, ask, serve, afterAll}
 use Rattle.agreement.specs.Premises.{Settings}
 
@@ -72,9 +72,9 @@ pub record Fair (p : Play) (x y : Settings) : Type 0 where
   pub windows-x : x .history-len ≤ p .windows
   pub windows-y : y .history-len ≤ p .windows
   -- output buffers hold 65,536 bytes
-  pub advert-room : 65536 ≤ length (p .advert-out)
-  pub request-room : 65536 ≤ length (p .request-out)
-  pub reply-room : 65536 ≤ length (p .reply-out)
+  pub advert-room : maxRpcSize ≤ length (p .advert-out)
+  pub request-room : maxRpcSize ≤ length (p .request-out)
+  pub reply-room : maxRpcSize ≤ length (p .reply-out)
 
 -- they are the same for the other way round
 pub turned : {p : Play} {x y : Settings} → Fair p x y → Fair p y x
