@@ -26,9 +26,11 @@ use Rattle.rows.specs.Rows.{newest}
 use Rattle.rows.specs.Ids.{sameBytes, among}
 use Rattle.rows.specs.IdsLaws.{same-equal}
 use Rattle.rows.specs.Store.{allUpTo}
+use Rattle.seen.specs.State.{idSize}
 use Rattle.seen.specs.Entries.{holds, until, inserted, live}
 use Rattle.mcache.specs.Messages.{held, put, shift}
-use Rattle.mcache.specs.State.{legal}
+use Rattle.mcache.specs.State.{legal, messageSize}
+use Rattle.node.specs.Calls.{maxRpcSize}
 use Rattle.node.specs.Gateway.{started, isNew, afterAdmit, afterBeat}
 use Rattle.node.specs.State.{legalSettings, freshNode, risesFrom}
 use Rattle.history.specs.History.{State, Settings, Fresh, Call, admit, heartbeat, readings, beats as beatsIn, timesGot}
@@ -152,8 +154,8 @@ unfoldable pub start : Settings → State
 start x =
     record {
       node = freshNode (x .ttl) (x .max-seen) (x .history-len) (x .max-messages);
-      ids = replicate (x .max-seen * 129) 0;
-      messages = replicate (x .max-messages * 4096) 0;
+      ids = replicate (x .max-seen * idSize) 0;
+      messages = replicate (x .max-messages * messageSize) 0;
     }
 
 start-fresh : (x : Settings) → x .ttl < 2 ^ 64 → legalSettings (x .max-seen) (x .history-len) (x .max-messages) ≡ true → Fresh x (start x)
@@ -163,9 +165,9 @@ start-fresh x small ok =
       small = small;
       legal = ok;
       node = refl;
-      ids = length-replicate (x .max-seen * 129) 0;
-      messages = length-replicate (x .max-messages * 4096) 0;
-      bytes = zeros-bytes (x .max-messages * 4096);
+      ids = length-replicate (x .max-seen * idSize) 0;
+      messages = length-replicate (x .max-messages * messageSize) 0;
+      bytes = zeros-bytes (x .max-messages * messageSize);
     }
 
 pub fresh-a : Fresh settings-a (start settings-a)
@@ -269,14 +271,14 @@ premises-b =
 
 -- ---- what rounds are played with: full buffers, of zeros
 unfoldable pub buffer : List ℕ
-buffer = replicate 65536 0
+buffer = replicate maxRpcSize 0
 
 zeros-long : (n : ℕ) → n ≤ length (replicate {A = ℕ} n 0)
 zeros-long n = omega (arith, length-replicate {A = ℕ} n 0)
 
-pub buffer-full : 65536 ≤ length buffer
+pub buffer-full : maxRpcSize ≤ length buffer
 unfolding buffer
-buffer-full = zeros-long 65536
+buffer-full = zeros-long maxRpcSize
 
 abbrev pub play : Play
 play = record { topic = topic; windows = 3; advert-out = buffer; request-out = buffer; reply-out = buffer }

@@ -20,7 +20,7 @@ use Rattle.seen.specs.Entries.{until}
 use Rattle.seen.specs.EntriesLaws.{until-later, until-within, insert-room, insert-held}
 use Rattle.mcache.specs.declared.MessageCache.{MessageCache}
 use Rattle.mcache.specs.Messages.{held}
-use Rattle.mcache.specs.State.{dropped}
+use Rattle.mcache.specs.State.{dropped, messageSize, ringOf}
 use Rattle.mcache.specs.Calls.{indexIn, enteredStore, storedUnder}
 use Rattle.mcache.specs.Readers.{room-keeps-all}
 use Rattle.node.specs.declared.Node.{Node}
@@ -243,7 +243,7 @@ entered-bytes : (c : MessageCache) (st m : List ℕ) → Bytes st → Bytes m �
 unfolding enteredStore
 entered-bytes c st m h g =
     let d = dropped ((c .count + 1) - c .«max_messages») c in
-    either (eqb (c .«max_messages») 0) (λ t. simp t h) (λ t. simp t (sets-bytes st (placeOf (c .«max_messages») (d .start) (d .count) * 4096) m h g))
+    either (eqb (c .«max_messages») 0) (λ t. simp t h) (λ t. simp t (sets-bytes st (placeOf (ringOf d) (d .count) * messageSize) m h g))
 
 stored-bytes : (c : MessageCache) (st m id : List ℕ) → Bytes st → Bytes m → Bytes (storedUnder c st m id)
 unfolding storedUnder

@@ -12,7 +12,7 @@ use Rattle.basis.specs.Cases.{either, clash}
 use Rattle.rows.specs.Rows.{placeOf}
 use Rattle.rows.specs.Ids.{distinct}
 use Rattle.rows.specs.RowsLaws.{place-lt}
-use Rattle.rows.specs.Store.{lensIn, idsIn, allUpTo, Ring, Sound}
+use Rattle.rows.specs.Store.{inUse, idsIn, allUpTo, InStore, Sound}
 use Rattle.rows.specs.StoreLaws.{short-in}
 use Rattle.protobuf.specs.declared.WireError.{WireError}
 use Rattle.protobuf.specs.declared.Checked.the-variants as checked
@@ -34,27 +34,27 @@ use Rattle.mcache.specs.declared.Put.the-variants as put
 use Rattle.mcache.specs.declared.Lookup.the-variants as lookup
 use Rattle.mcache.specs.declared.Gossip.{Gossip}
 use Rattle.mcache.specs.declared.Gossip.the-variants as gossip
-use Rattle.mcache.specs.State.{messageIn, fallsFrom, runsTo, givesIn, idsFit, rowsFit, legal, wellFormed, Rows, Kept}
-use Rattle.mcache.specs.Calls.{lentOf, indexIn, entered, enteredStore, keptUnder, storedUnder, shifted, found, gossipList, gossipArray, Plan, no, keep, answered, keptIn, storedIn, planFit, planned, shiftCache, getPart, lookupAnswer, gossipAnswer, gossipCount, gossipRows}
+use Rattle.mcache.specs.State.{messageIn, fallsFrom, runsTo, givesIn, idsFit, rowsFit, legal, wellFormed, Laid, Usable, messageSize, messageIdSize, maxMessages, maxHistory, idsSize, ringOf}
+use Rattle.mcache.specs.Calls.{lentOf, indexIn, entered, enteredStore, planUnder, keptUnder, storedUnder, shifted, found, gossipList, gossipArray, Plan, no, keep, answered, keptIn, storedIn, planFit, planned, shiftCache, getPart, lookupAnswer, gossipAnswer, gossipCount, gossipRows}
 use Rattle.mcache.specs.StateLaws.{lent-kept}
 use Rattle.mcache.proofs.Walks.{part-from}
 
 -- ---- the rows
 module _ (c : MessageCache) (st : List ℕ) where
   abbrev falls : Bool
-  falls = fallsFrom (c .«history_len» - 1) (lensIn (c .«max_messages») (c .start) (c .count) (c .window))
+  falls = fallsFrom (c .«history_len» - 1) (inUse (ringOf c) (c .window))
 
   abbrev runs : Bool
-  runs = runsTo (c .«next_generation») (lensIn (c .«max_messages») (c .start) (c .count) (c .generation))
+  runs = runsTo (c .«next_generation») (inUse (ringOf c) (c .generation))
 
   abbrev shorts : Bool
-  shorts = allUpTo 128 (lensIn (c .«max_messages») (c .start) (c .count) (c .«id_len»))
+  shorts = allUpTo messageIdSize (inUse (ringOf c) (c .«id_len»))
 
   abbrev gives : Bool
-  gives = givesIn (c .«max_messages») (c .start) (c .count) (c .len) (c .«id_len») (c .ids) st
+  gives = givesIn (ringOf c) (c .len) (c .«id_len») (c .ids) st
 
   abbrev differ : Bool
-  differ = distinct (idsIn 128 (c .«max_messages») (c .start) (c .count) (c .«id_len») (c .ids))
+  differ = distinct (idsIn messageIdSize (ringOf c) (c .«id_len») (c .ids))
 
   pub rows-falls : falls ≡ false → false ≡ rowsFit c st
   unfolding rowsFit
@@ -81,12 +81,12 @@ module _ (c : MessageCache) (st : List ℕ) where
   ids-differ d e r h = h ∙ sym (simp (d, e))
 
   -- what the walks need of the rows
-  module _ (few : c .«max_messages» ≤ 64) (starts : c .start ≤ c .«max_messages») (within : c .count ≤ c .«max_messages») where
-    pub ring-of : (l : List ℕ) → length l ≡ 64 → Ring (c .«max_messages») (c .start) (c .count) l
+  module _ (few : c .«max_messages» ≤ maxMessages) (starts : c .start ≤ c .«max_messages») (within : c .count ≤ c .«max_messages») where
+    pub ring-of : (l : List ℕ) → length l ≡ maxMessages → InStore (ringOf c) l
     ring-of l z = record { starts = starts; within = within; size = omega arith }
 
-    pub rows-of : length (c .len) ≡ 64 → length (c .«id_len») ≡ 64 → length (c .ids) ≡ 8192 → length st ≡ c .«max_messages» * 4096 → shorts ≡ true
-        → Rows (c .«max_messages») (c .start) (c .count) (c .len) (c .«id_len») (c .ids) st
+    pub rows-of : length (c .len) ≡ maxMessages → length (c .«id_len») ≡ maxMessages → length (c .ids) ≡ idsSize → length st ≡ c .«max_messages» * messageSize → shorts ≡ true
+        → Laid (ringOf c) (c .len) (c .«id_len») (c .ids) st
     rows-of x y z r s =
         record {
           few = few;
@@ -96,49 +96,49 @@ module _ (c : MessageCache) (st : List ℕ) where
           id-lengths = y;
           id-room = z;
           room = r;
-          id-short = short-in 128 (c .«id_len») (c .«max_messages») (c .start) (c .count) s;
+          id-short = short-in messageIdSize (c .«id_len») (ringOf c) s;
         }
 
-    pub sound-of : length (c .«id_len») ≡ 64 → length (c .ids) ≡ 8192 → shorts ≡ true → Sound 128 (c .«max_messages») (c .start) (c .count) (c .«id_len») (c .ids)
+    pub sound-of : length (c .«id_len») ≡ maxMessages → length (c .ids) ≡ idsSize → shorts ≡ true → Sound messageIdSize (ringOf c) (c .«id_len») (c .ids)
     sound-of y z s =
         record {
           rows = record { starts = starts; within = within; size = omega arith };
           room = omega arith;
-          short = short-in 128 (c .«id_len») (c .«max_messages») (c .start) (c .count) s;
+          short = short-in messageIdSize (c .«id_len») (ringOf c) s;
         }
 
 -- ---- the lent state
 module _ (c : MessageCache) (st : List ℕ) where
-  pub lent-other : (length st / 4096 ≡ c .«max_messages» → ⊥) → lent.BadStore ≡ lentOf c st
+  pub lent-other : (length st / messageSize ≡ c .«max_messages» → ⊥) → lent.BadStore ≡ lentOf c st
   unfolding lentOf
-  lent-other h = simp (ne-eqb (length st) (c .«max_messages» * 4096) (λ e. h (omega arith)))
+  lent-other h = simp (ne-eqb (length st) (c .«max_messages» * messageSize) (λ e. h (omega arith)))
 
-  pub lent-part : (length st % 4096 ≡ 0 → ⊥) → lent.BadStore ≡ lentOf c st
+  pub lent-part : (length st % messageSize ≡ 0 → ⊥) → lent.BadStore ≡ lentOf c st
   unfolding lentOf
-  lent-part h = simp (ne-eqb (length st) (c .«max_messages» * 4096) (λ e. h (omega arith)))
+  lent-part h = simp (ne-eqb (length st) (c .«max_messages» * messageSize) (λ e. h (omega arith)))
 
-  module _ (w : length st / 4096 ≡ c .«max_messages») (z : length st % 4096 ≡ 0) where
-    whole : eqb (length st) (c .«max_messages» * 4096) ≡ true
-    whole = eq-eqb (length st) (c .«max_messages» * 4096) (omega arith)
+  module _ (w : length st / messageSize ≡ c .«max_messages») (z : length st % messageSize ≡ 0) where
+    whole : eqb (length st) (c .«max_messages» * messageSize) ≡ true
+    whole = eq-eqb (length st) (c .«max_messages» * messageSize) (omega arith)
 
     pub lent-none : c .«history_len» ≡ 0 → lent.Malformed ≡ lentOf c st
     unfolding lentOf wellFormed legal
     lent-none h = simp (whole, lt-leb 1 (c .«history_len») (omega arith))
 
     module _ (n : c .«history_len» ≡ 0 → ⊥) where
-      pub lent-long : 16 < c .«history_len» → lent.Malformed ≡ lentOf c st
+      pub lent-long : maxHistory < c .«history_len» → lent.Malformed ≡ lentOf c st
       unfolding lentOf wellFormed legal
-      lent-long h = simp (whole, le-leb 1 (c .«history_len») (omega (arith, n)), lt-leb (c .«history_len») 16 h)
+      lent-long h = simp (whole, le-leb 1 (c .«history_len») (omega (arith, n)), lt-leb (c .«history_len») maxHistory h)
 
-      module _ (a : c .«history_len» ≤ 16) where
-        pub lent-many : 64 < c .«max_messages» → lent.Malformed ≡ lentOf c st
+      module _ (a : c .«history_len» ≤ maxHistory) where
+        pub lent-many : maxMessages < c .«max_messages» → lent.Malformed ≡ lentOf c st
         unfolding lentOf wellFormed legal
-        lent-many h = simp (whole, le-leb 1 (c .«history_len») (omega (arith, n)), le-leb (c .«history_len») 16 a, lt-leb (c .«max_messages») 64 h)
+        lent-many h = simp (whole, le-leb 1 (c .«history_len») (omega (arith, n)), le-leb (c .«history_len») maxHistory a, lt-leb (c .«max_messages») maxMessages h)
 
-        module _ (m : c .«max_messages» ≤ 64) where
+        module _ (m : c .«max_messages» ≤ maxMessages) where
           settings : legal (c .«history_len») (c .«max_messages») ≡ true
           unfolding legal
-          settings = simp (le-leb 1 (c .«history_len») (omega (arith, n)), le-leb (c .«history_len») 16 a, le-leb (c .«max_messages») 64 m)
+          settings = simp (le-leb 1 (c .«history_len») (omega (arith, n)), le-leb (c .«history_len») maxHistory a, le-leb (c .«max_messages») maxMessages m)
 
           pub lent-start : c .«max_messages» < c .start → lent.Malformed ≡ lentOf c st
           unfolding lentOf wellFormed
@@ -163,18 +163,18 @@ module _ (c : MessageCache) (st id : List ℕ) where
   unfolding found
   found-none h = sym (simp (le-ltb (indexIn c id) (c .count) h))
 
-  pub found-at : (i p : ℕ) → i ≡ indexIn c id → i < c .count → p ≡ placeOf (c .«max_messages») (c .start) i → take ((p * 4096 + getD (c .len) p 0) - p * 4096) (drop (p * 4096) st) ≡ found c st id
+  pub found-at : (i p : ℕ) → i ≡ indexIn c id → i < c .count → p ≡ placeOf (ringOf c) i → take ((p * messageSize + getD (c .len) p 0) - p * messageSize) (drop (p * messageSize) st) ≡ found c st id
   unfolding found messageIn
   found-at i p e h k =
-      part-from (p * 4096) (getD (c .len) p 0) (drop (p * 4096) st)
-      ∙ ap (λ (q : ℕ). messageIn (c .len) st q) (k ∙ ap (placeOf (c .«max_messages») (c .start)) e)
+      part-from (p * messageSize) (getD (c .len) p 0) (drop (p * messageSize) st)
+      ∙ ap (λ (q : ℕ). messageIn (c .len) st q) (k ∙ ap (placeOf (ringOf c)) e)
       ∙ sym (simp (lt-ltb (indexIn c id) (c .count) (omega arith)))
 
-  pub found-lies : (i p : ℕ) → Kept c st → i < c .count → p ≡ placeOf (c .«max_messages») (c .start) i → (p < 64) × (p < length (c .len)) × (p * 4096 + getD (c .len) p 0 ≤ length st)
+  pub found-lies : (i p : ℕ) → Usable c st → i < c .count → p ≡ placeOf (ringOf c) i → (p < maxMessages) × (p < length (c .len)) × (p * messageSize + getD (c .len) p 0 ≤ length st)
   found-lies i p ok h e =
       let r = ok .rows in
-      let l : p < c .«max_messages» = rw e (place-lt (c .«max_messages») (c .start) i (r .starts) (omega (arith, r .within))) in
-      let s : getD (c .len) p 0 ≤ 4096 = rw e (ok .short i h) in
+      let l : p < c .«max_messages» = rw e (place-lt (ringOf c) i (r .starts) (omega (arith, r .within))) in
+      let s : getD (c .len) p 0 ≤ messageSize = rw e (ok .short i h) in
       (omega (arith, r .few), omega (arith, r .few, r .lengths), omega (arith, r .room))
 
   pub get-store : lent.BadStore ≡ lentOf c st → [] ≡ getPart c st id
@@ -224,7 +224,7 @@ abbrev Tells : (c : MessageCache) (st topic : List ℕ) (windows : ℕ) → Goss
 Tells c st topic windows a n rows = (a ≡ gossipAnswer c st topic) × (n ≡ gossipCount c st topic windows) × (rows ≡ gossipRows c st topic windows)
 
 module _ (c : MessageCache) (st topic : List ℕ) (windows : ℕ) where
-  untold : (a : Gossip) → gossipAnswer c st topic ≡ a → (a ≡ gossip.Ids → ⊥) → Tells c st topic windows a 0 (replicate 64 0)
+  untold : (a : Gossip) → gossipAnswer c st topic ≡ a → (a ≡ gossip.Ids → ⊥) → Tells c st topic windows a 0 (replicate maxMessages 0)
   unfolding gossipCount gossipRows
   untold gossip.Ids e n = absurd (n refl)
   untold gossip.BadStore e n = (sym e, rw e, rw e)
@@ -247,13 +247,13 @@ module _ (c : MessageCache) (st topic : List ℕ) (windows : ℕ) where
   unfolding gossipAnswer
   says-ids e h = rw (← e, le-ltb 1024 (length topic) h)
 
-  pub gossip-store : lent.BadStore ≡ lentOf c st → Tells c st topic windows gossip.BadStore 0 (replicate 64 0)
+  pub gossip-store : lent.BadStore ≡ lentOf c st → Tells c st topic windows gossip.BadStore 0 (replicate maxMessages 0)
   gossip-store e = untold gossip.BadStore (says-store e) (λ k. clash (cc))
 
-  pub gossip-malformed : lent.Malformed ≡ lentOf c st → Tells c st topic windows gossip.Malformed 0 (replicate 64 0)
+  pub gossip-malformed : lent.Malformed ≡ lentOf c st → Tells c st topic windows gossip.Malformed 0 (replicate maxMessages 0)
   gossip-malformed e = untold gossip.Malformed (says-malformed e) (λ k. clash (cc))
 
-  pub gossip-long : lent.Fine ≡ lentOf c st → 1024 < length topic → Tells c st topic windows (gossip.TopicTooLong (length topic)) 0 (replicate 64 0)
+  pub gossip-long : lent.Fine ≡ lentOf c st → 1024 < length topic → Tells c st topic windows (gossip.TopicTooLong (length topic)) 0 (replicate maxMessages 0)
   gossip-long e h = untold (gossip.TopicTooLong (length topic)) (says-long e h) (λ k. clash (cc))
 
   pub gossip-told : lent.Fine ≡ lentOf c st → length topic ≤ 1024 → (n : ℕ) (rows : List ℕ) → n ≡ length (gossipList c st topic windows) → rows ≡ gossipArray c st topic windows
@@ -268,21 +268,12 @@ Puts c st plan a r s = (a ≡ answered plan) × (r ≡ keptIn c plan) × (s ≡ 
 pub puts-no : (c : MessageCache) (st : List ℕ) (plan : Plan) (a : Put) → plan ≡ no a → Puts c st plan a c st
 puts-no c st plan a e = (rw e, rw e, rw e)
 
-pub puts-keep : (c : MessageCache) (st m id : List ℕ) (plan : Plan) (r : MessageCache) (s : List ℕ) → plan ≡ keep m id → r ≡ entered (length m) id c → s ≡ enteredStore c st m → Puts c st plan put.Stored r s
-puts-keep c st m id plan r s e f g = (rw e, rw e f, rw e g)
-
 pub puts-as : (c : MessageCache) (st : List ℕ) (plan other : Plan) (a : Put) (r : MessageCache) (s : List ℕ) → plan ≡ other → Puts c st other a r s → Puts c st plan a r s
 puts-as c st plan other a r s e p = (rw e (p .0), rw e (p .1), rw e (p .2))
 
 module _ (c : MessageCache) (p : List ℕ) where
   pub plan-unfit : (why : Unfit) → admission.Unfit why ≡ admissionOf p true → planFit c p (admissionOf p true) ≡ no (put.Unfit why)
   plan-unfit why e = rw (← e)
-
-  pub plan-held : (a e b f i : ℕ) → admission.Fit a e b f ≡ admissionOf p true → i ≡ indexIn c (idBytes p a e b f) → i < c .count → planFit c p (admissionOf p true) ≡ no put.Held
-  plan-held a e b f i h k l = rw (← h, lt-ltb (indexIn c (idBytes p a e b f)) (c .count) (omega arith))
-
-  pub plan-keep : (a e b f i : ℕ) → admission.Fit a e b f ≡ admissionOf p true → i ≡ indexIn c (idBytes p a e b f) → c .count ≤ i → planFit c p (admissionOf p true) ≡ keep p (idBytes p a e b f)
-  plan-keep a e b f i h k l = rw (← h, le-ltb (indexIn c (idBytes p a e b f)) (c .count) (omega arith))
 
 module _ (c : MessageCache) (st body : List ℕ) (i : ℕ) where
   pub plan-store : lent.BadStore ≡ lentOf c st → planned c st body i ≡ no put.BadStore
@@ -306,25 +297,25 @@ module _ (c : MessageCache) (st body : List ℕ) (i : ℕ) where
   plan-at a b e f g = rw (← e, ← f, ← g)
 
 -- ---- a state that was tested
-module _ (c : MessageCache) (st : List ℕ) (h : lent.Fine ≡ lentOf c st) (g : length (c .generation) ≡ 64) (w : length (c .window) ≡ 64) (l : length (c .len) ≡ 64) (i : length (c .«id_len») ≡ 64) (r : length (c .ids) ≡ 8192) where
-  pub tested : Kept c st
+module _ (c : MessageCache) (st : List ℕ) (h : lent.Fine ≡ lentOf c st) (g : length (c .generation) ≡ maxMessages) (w : length (c .window) ≡ maxMessages) (l : length (c .len) ≡ maxMessages) (i : length (c .«id_len») ≡ maxMessages) (r : length (c .ids) ≡ idsSize) where
+  pub tested : Usable c st
   tested = lent-kept c st (sym h) (record { generations = g; windows = w; lengths = l; id-lengths = i; id-room = r })
 
-  pub kept-ring : Ring (c .«max_messages») (c .start) (c .count) (c .window)
+  pub kept-ring : InStore (ringOf c) (c .window)
   kept-ring = let k = tested .rows in record { starts = k .starts; within = k .within; size = omega (arith, k .few) }
 
-pub told-as : (c : MessageCache) (st topic : List ℕ) (windows : ℕ) {a b : Gossip} {n : ℕ} {rows : List ℕ} → (a ≡ b) × ((n ≡ 0) × (rows ≡ replicate 64 0)) → Tells c st topic windows b 0 (replicate 64 0)
+pub told-as : (c : MessageCache) (st topic : List ℕ) (windows : ℕ) {a b : Gossip} {n : ℕ} {rows : List ℕ} → (a ≡ b) × ((n ≡ 0) × (rows ≡ replicate maxMessages 0)) → Tells c st topic windows b 0 (replicate maxMessages 0)
     → (a ≡ gossipAnswer c st topic) × ((n ≡ gossipCount c st topic windows) × (rows ≡ gossipRows c st topic windows))
 told-as c st topic windows e t = (e .0 ∙ t .0, (e .1 .0 ∙ t .1, e .1 .1 ∙ t .2))
 
 -- ---- the id of a message that may be taken
 module _ (p : List ℕ) (a e b f : ℕ) (h : admissionOf p true ≡ admission.Fit a e b f) where
-  pub fit-room : (out : List ℕ) → length out ≡ 128 → ((a ≤ e) × (e ≤ length p) × (b ≤ f) × (f ≤ length p)) × (length (idBytes p a e b f) ≤ length out)
+  pub fit-room : (out : List ℕ) → length out ≡ messageIdSize → ((a ≤ e) × (e ≤ length p) × (b ≤ f) × (f ≤ length p)) × (length (idBytes p a e b f) ≤ length out)
   fit-room out z =
       let w = id-fits p a e b f (fit-parts p true a e b f h) in
       ((w .from .0, w .from .1, w .seqno .0, w .seqno .1), omega (arith, fit-id p true a e b f h))
 
-  module _ (n : ℕ) (first out : List ℕ) (z : length first ≡ 128) (k : (n ≡ length (idBytes p a e b f)) × (out ≡ sets first 0 (idBytes p a e b f))) where
+  module _ (n : ℕ) (first out : List ℕ) (z : length first ≡ messageIdSize) (k : (n ≡ length (idBytes p a e b f)) × (out ≡ sets first 0 (idBytes p a e b f))) where
     pub id-whole : take n out ≡ idBytes p a e b f
     id-whole =
         let l = fit-id p true a e b f h in
@@ -336,27 +327,26 @@ module _ (p : List ℕ) (a e b f : ℕ) (h : admissionOf p true ≡ admission.Fi
     pub id-counts : n ≡ length (take n out)
     id-counts = k .0 ∙ sym (ap length id-whole)
 
-    pub id-small : (length p ≤ 4096) × (length (take n out) ≤ 128)
+    pub id-small : (length p ≤ messageSize) × (length (take n out) ≤ messageIdSize)
     id-small = let l = fit-id p true a e b f h in (fit-limits p true a e b f h .small, omega (arith, id-counts, k .0))
 
-    -- an id that is held, and one that is not
-    pub put-held : (c : MessageCache) (st : List ℕ) (i : ℕ) → i ≡ indexIn c (take n out) → i < c .count → Puts c st (planFit c p (admissionOf p true)) put.Held c st
-    put-held c st i q l = puts-no c st (planFit c p (admissionOf p true)) put.Held (plan-held c p a e b f i (sym h) (q ∙ ap (indexIn c) id-whole) l)
-
-    pub put-keep : (c : MessageCache) (st : List ℕ) (i : ℕ) (r : MessageCache) (s : List ℕ) → i ≡ indexIn c (take n out) → c .count ≤ i → (r ≡ entered (length p) (take n out) c) × (s ≡ enteredStore c st p)
-        → Puts c st (planFit c p (admissionOf p true)) put.Stored r s
-    put-keep c st i r s q l g =
-        puts-keep c st p (idBytes p a e b f) (planFit c p (admissionOf p true)) r s (plan-keep c p a e b f i (sym h) (q ∙ ap (indexIn c) id-whole) l) (g .0 ∙ ap (λ (d : List ℕ). entered (length p) d c) id-whole) (g .1)
+    -- a put under that id is a put of the message
+    pub put-under : (c : MessageCache) (st : List ℕ) {x : Put} {r : MessageCache} {s : List ℕ}
+        → (x ≡ answered (planUnder c p (take n out))) × ((r ≡ keptUnder p (take n out) c) × (s ≡ storedUnder c st p (take n out)))
+        → (x ≡ answered (planFit c p (admissionOf p true))) × ((r ≡ keptIn c (planFit c p (admissionOf p true))) × (s ≡ storedIn c st (planFit c p (admissionOf p true))))
+    unfolding keptUnder storedUnder
+    put-under c st g = rw (h, ← id-whole) g
 
 pub nested : {A B C : Type 0} → A × B × C → A × (B × C)
 nested t = (t .0, (t .1, t .2))
 
 -- ---- a message under its id
 module _ (c : MessageCache) (st m id : List ℕ) (r : ℕ) (e : r ≡ indexIn c id) where
-  pub under-held : r < c .count → (c ≡ keptUnder m id c) × (st ≡ storedUnder c st m id)
+  pub under-held : r < c .count → (put.Held ≡ answered (planUnder c m id)) × ((c ≡ keptUnder m id c) × (st ≡ storedUnder c st m id))
   unfolding keptUnder storedUnder
-  under-held h = let t : ltb (indexIn c id) (c .count) ≡ true = lt-ltb (indexIn c id) (c .count) (omega (arith, e)) in (simp t, simp t)
+  under-held h = let t = lt-ltb (indexIn c id) (c .count) (omega (arith, e)) in (simp t, (simp t, simp t))
 
-  pub under-new : c .count ≤ r → (d : MessageCache) (st2 : List ℕ) → (d ≡ entered (length m) id c) × (st2 ≡ enteredStore c st m) → (d ≡ keptUnder m id c) × (st2 ≡ storedUnder c st m id)
+  pub under-new : c .count ≤ r → (d : MessageCache) (st2 : List ℕ) → (d ≡ entered (length m) id c) × (st2 ≡ enteredStore c st m)
+      → (put.Stored ≡ answered (planUnder c m id)) × ((d ≡ keptUnder m id c) × (st2 ≡ storedUnder c st m id))
   unfolding keptUnder storedUnder
-  under-new h d st2 w = let t : ltb (indexIn c id) (c .count) ≡ false = le-ltb (indexIn c id) (c .count) (omega (arith, e)) in (simp t (w .0), simp t (w .1))
+  under-new h d st2 w = let t = le-ltb (indexIn c id) (c .count) (omega (arith, e)) in (simp t, (simp t (w .0), simp t (w .1)))

@@ -9,11 +9,12 @@ use native.Mathlib.Numerals.{add-one}
 use lib.ListN.{length, take, drop, getD, set, length-append, length-drop, drop-of-length-le, take-append-drop, List·getD-append}
 use lib.Seq.{drop-cons, take-suc, set-at, getD-at, length-take-le, getD-take, take-at, drop-at, drop-drop}
 use Rattle.basis.specs.Cases.{either, clash}
-use Rattle.rows.specs.Rows.{placeOf, ring}
+use Rattle.rows.specs.declared.Ring.{Ring}
+use Rattle.rows.specs.Rows.{placeOf, rowsIn}
 use Rattle.rows.specs.RowsLaws.{ring-from, ring-end}
 use Rattle.rows.specs.Ids.{precedesBytes}
 use Rattle.rows.specs.Store.{idAt}
-use Rattle.mcache.specs.State.{spotOf, putAt, insertRow, gatherInto, Listed}
+use Rattle.mcache.specs.State.{spotOf, putAt, insertRow, gatherInto, Listed, messageIdSize, maxMessages}
 use Rattle.mcache.specs.GatherLaws.{each-insert, length-insert}
 use Rattle.mcache.proofs.Walks.{part-from}
 
@@ -102,7 +103,7 @@ half-done p x l out v k h g w =
 
 -- ---- rows that have ids
 pub listed-at : (n : ℕ) (rows ilens ids : List ℕ) (i : ℕ) → Listed n rows ilens ids → i < n
-    → (getD rows i 0 < 64) × (getD rows i 0 < length ilens) × (getD ilens (getD rows i 0) 0 ≤ 128) × (getD rows i 0 * 128 + getD ilens (getD rows i 0) 0 ≤ length ids)
+    → (getD rows i 0 < maxMessages) × (getD rows i 0 < length ilens) × (getD ilens (getD rows i 0) 0 ≤ messageIdSize) × (getD rows i 0 * messageIdSize + getD ilens (getD rows i 0) 0 ≤ length ids)
 listed-at n rows ilens ids i ok h =
     let w = ok .places i h in
     (w .0, omega (arith, ok .lengths), w .1, omega (arith, ok .room))
@@ -111,22 +112,22 @@ pub taken-length : (n : ℕ) (rows : List ℕ) (i : ℕ) → n ≤ length rows �
 taken-length n rows i h k = rw (length-take-le n rows h) k
 
 module _ (p n : ℕ) (rows ilens ids : List ℕ) (i : ℕ) (r : Bool) (h : n ≤ length rows) (k : i < n)
-    (inv : i + spotOf (idAt 128 ilens ids) p (drop i (take n rows)) ≡ spotOf (idAt 128 ilens ids) p (take n rows))
-    (e : r ≡ precedesBytes (take ((getD rows i 0 * 128 + getD ilens (getD rows i 0) 0) - getD rows i 0 * 128) (drop (getD rows i 0 * 128) ids)) (take ((p * 128 + getD ilens p 0) - p * 128) (drop (p * 128) ids))) where
+    (inv : i + spotOf (idAt messageIdSize ilens ids) p (drop i (take n rows)) ≡ spotOf (idAt messageIdSize ilens ids) p (take n rows))
+    (e : r ≡ precedesBytes (take ((getD rows i 0 * messageIdSize + getD ilens (getD rows i 0) 0) - getD rows i 0 * messageIdSize) (drop (getD rows i 0 * messageIdSize) ids)) (take ((p * messageIdSize + getD ilens p 0) - p * messageIdSize) (drop (p * messageIdSize) ids))) where
   below : i < length (take n rows)
   below = rw (length-take-le n rows h) k
 
-  says : precedesBytes (idAt 128 ilens ids (getD (take n rows) i 0)) (idAt 128 ilens ids p) ≡ r
+  says : precedesBytes (idAt messageIdSize ilens ids (getD (take n rows) i 0)) (idAt messageIdSize ilens ids p) ≡ r
   unfolding idAt
   says =
       rw (getD-take n rows i 0 k)
-      (sym (e ∙ ap₂ precedesBytes (part-from (getD rows i 0 * 128) (getD ilens (getD rows i 0) 0) (drop (getD rows i 0 * 128) ids)) (part-from (p * 128) (getD ilens p 0) (drop (p * 128) ids))))
+      (sym (e ∙ ap₂ precedesBytes (part-from (getD rows i 0 * messageIdSize) (getD ilens (getD rows i 0) 0) (drop (getD rows i 0 * messageIdSize) ids)) (part-from (p * messageIdSize) (getD ilens p 0) (drop (p * messageIdSize) ids))))
 
-  pub spot-next : r ≡ true → (i + 1) + spotOf (idAt 128 ilens ids) p (drop (i + 1) (take n rows)) ≡ spotOf (idAt 128 ilens ids) p (take n rows)
-  spot-next t = spot-more (idAt 128 ilens ids) p (take n rows) i inv below (says ∙ t)
+  pub spot-next : r ≡ true → (i + 1) + spotOf (idAt messageIdSize ilens ids) p (drop (i + 1) (take n rows)) ≡ spotOf (idAt messageIdSize ilens ids) p (take n rows)
+  spot-next t = spot-more (idAt messageIdSize ilens ids) p (take n rows) i inv below (says ∙ t)
 
-  pub spot-now : r ≡ false → i ≡ spotOf (idAt 128 ilens ids) p (take n rows)
-  spot-now t = spot-here (idAt 128 ilens ids) p (take n rows) i inv below (says ∙ t)
+  pub spot-now : r ≡ false → i ≡ spotOf (idAt messageIdSize ilens ids) p (take n rows)
+  spot-now t = spot-here (idAt messageIdSize ilens ids) p (take n rows) i inv below (says ∙ t)
 
 -- ---- a row told of
 pub told-put : (id : ℕ → List ℕ) (p n at : ℕ) (rows out : List ℕ) → n < length rows → at ≡ spotOf id p (take n rows) → out ≡ putAt at p (take n rows) ++ drop (n + 1) rows
@@ -146,56 +147,47 @@ pub record Gathering (t : ℕ → Bool) (id : ℕ → List ℕ) (all first : Lis
   pub behind : drop n rows ≡ drop n first
   pub goes : gatherInto t id (take n rows) rest ≡ all
 
--- a test, and what is left by either way
-pub tell-yes : (t r : Bool) (m n : ℕ) (out x y : List ℕ) → r ≡ t → r ≡ true → out ≡ x → (m ≡ cond t m n) × (out ≡ cond t x y)
-tell-yes true r m n out x y e f g = (refl, g)
-tell-yes false r m n out x y e f g = clash (cc)
+abbrev rowsOf : Ring → List ℕ
+rowsOf ring = rowsIn (λ (p : ℕ). p) ring
 
-pub tell-no : (t r : Bool) (m n : ℕ) (x y : List ℕ) → r ≡ t → r ≡ false → (n ≡ cond t m n) × (y ≡ cond t x y)
-tell-no true r m n x y e f = clash (cc)
-tell-no false r m n x y e f = (refl, refl)
-
-abbrev rowsOf : ℕ → ℕ → ℕ → List ℕ
-rowsOf cap start count = ring (λ (p : ℕ). p) cap start count
-
-module _ (t : ℕ → Bool) (id : ℕ → List ℕ) (all first : List ℕ) (cap start count i p n : ℕ) (rows : List ℕ) (h : i < count) (e : p ≡ placeOf cap start i) (l : n < length rows) where
+module _ (t : ℕ → Bool) (id : ℕ → List ℕ) (all first : List ℕ) (ring : Ring) (i p n : ℕ) (rows : List ℕ) (h : i < ring .count) (e : p ≡ placeOf ring i) (l : n < length rows) where
   abbrev ins : List ℕ
   ins = insertRow id p (take n rows)
 
   ins-length : length ins ≡ n + 1
   ins-length = length-insert id p (take n rows) ∙ ap suc (length-take-le n rows (omega arith)) ∙ sym (add-one n)
 
-  gather-yes : (m : ℕ) (out : List ℕ) → t p ≡ true → Gathering t id all first (drop i (rowsOf cap start count)) n rows → m ≡ n + 1 → out ≡ ins ++ drop (n + 1) rows
-      → Gathering t id all first (drop (i + 1) (rowsOf cap start count)) m out
+  gather-yes : (m : ℕ) (out : List ℕ) → t p ≡ true → Gathering t id all first (drop i (rowsOf ring)) n rows → m ≡ n + 1 → out ≡ ins ++ drop (n + 1) rows
+      → Gathering t id all first (drop (i + 1) (rowsOf ring)) m out
   unfolding gatherInto
   gather-yes m out y g f k =
       let a : length (drop (n + 1) rows) ≡ length rows - (n + 1) = length-drop (n + 1) rows in
       let b : length (ins ++ drop (n + 1) rows) ≡ length ins + length (drop (n + 1) rows) = length-append ins (drop (n + 1) rows) in
       let c : drop (n + 1) rows ≡ drop (n + 1) first = sym (drop-drop 1 n rows) ∙ ap (drop 1) (g .behind) ∙ drop-drop 1 n first in
-      let d = rw (ring-from (λ (q : ℕ). q) cap start count i h) at (g .goes) in
-      let v : gatherInto t id (cond (t p) ins (take n rows)) (drop (i + 1) (rowsOf cap start count)) ≡ all = rw (← e) at d in
-      let w : gatherInto t id ins (drop (i + 1) (rowsOf cap start count)) ≡ all = simp y at v in
+      let d = rw (ring-from (λ (q : ℕ). q) ring i h) at (g .goes) in
+      let v : gatherInto t id (cond (t p) ins (take n rows)) (drop (i + 1) (rowsOf ring)) ≡ all = rw (← e) at d in
+      let w : gatherInto t id ins (drop (i + 1) (rowsOf ring)) ≡ all = simp y at v in
       record {
         size = ap length k ∙ omega (arith, ins-length, g .size);
         behind = rw (f, k) (drop-at ins (drop (n + 1) rows) (n + 1) ins-length ∙ c);
         goes = rw (f, k, take-at ins (drop (n + 1) rows) (n + 1) ins-length) w;
       }
 
-  gather-no : (m : ℕ) (out : List ℕ) → t p ≡ false → Gathering t id all first (drop i (rowsOf cap start count)) n rows → m ≡ n → out ≡ rows
-      → Gathering t id all first (drop (i + 1) (rowsOf cap start count)) m out
+  gather-no : (m : ℕ) (out : List ℕ) → t p ≡ false → Gathering t id all first (drop i (rowsOf ring)) n rows → m ≡ n → out ≡ rows
+      → Gathering t id all first (drop (i + 1) (rowsOf ring)) m out
   unfolding gatherInto
   gather-no m out y g f k =
-      let d = rw (ring-from (λ (q : ℕ). q) cap start count i h) at (g .goes) in
-      let v : gatherInto t id (cond (t p) ins (take n rows)) (drop (i + 1) (rowsOf cap start count)) ≡ all = rw (← e) at d in
-      let w : gatherInto t id (take n rows) (drop (i + 1) (rowsOf cap start count)) ≡ all = simp y at v in
+      let d = rw (ring-from (λ (q : ℕ). q) ring i h) at (g .goes) in
+      let v : gatherInto t id (cond (t p) ins (take n rows)) (drop (i + 1) (rowsOf ring)) ≡ all = rw (← e) at d in
+      let w : gatherInto t id (take n rows) (drop (i + 1) (rowsOf ring)) ≡ all = simp y at v in
       record { size = rw k (g .size); behind = rw (f, k) (g .behind); goes = rw (f, k) w }
 
-  pub gather-step : (m : ℕ) (out : List ℕ) → Gathering t id all first (drop i (rowsOf cap start count)) n rows
+  gather-step : (m : ℕ) (out : List ℕ) → Gathering t id all first (drop i (rowsOf ring)) n rows
       → (m ≡ cond (t p) (n + 1) n) × (out ≡ cond (t p) (insertRow id p (take n rows) ++ drop (n + 1) rows) rows)
-      → Gathering t id all first (drop (i + 1) (rowsOf cap start count)) m out
+      → Gathering t id all first (drop (i + 1) (rowsOf ring)) m out
   gather-step m out g f = either (t p) (λ y. gather-yes m out y g (simp y at (f .0)) (simp y at (f .1))) (λ y. gather-no m out y g (simp y at (f .0)) (simp y at (f .1)))
 
-  pub listed-step : (m : ℕ) (out ilens ids : List ℕ) → Listed n rows ilens ids → p < 64 → getD ilens p 0 ≤ 128
+  listed-step : (m : ℕ) (out ilens ids : List ℕ) → Listed n rows ilens ids → p < maxMessages → getD ilens p 0 ≤ messageIdSize
       → (m ≡ cond (t p) (n + 1) n) × (out ≡ cond (t p) (insertRow id p (take n rows) ++ drop (n + 1) rows) rows)
       → Listed m out ilens ids
   listed-step m out ilens ids ok a b f =
@@ -208,7 +200,7 @@ module _ (t : ℕ → Bool) (id : ℕ → List ℕ) (all first : List ℕ) (cap 
             let q : m ≡ n + 1 = simp y at (f .0) in
             let r : getD out j 0 ≡ getD ins j 0 = ap (λ (x : List ℕ). getD x j 0) z ∙ List·getD-append ins (drop (n + 1) rows) 0 j (omega (arith, ins-length)) in
             rw r
-            (each-insert (λ (v : ℕ). (v < 64) × (getD ilens v 0 ≤ 128)) id p (take n rows) (a, b)
+            (each-insert (λ (v : ℕ). (v < maxMessages) × (getD ilens v 0 ≤ messageIdSize)) id p (take n rows) (a, b)
             (λ x w. let s : x < n = omega (arith, length-take-le n rows (omega arith)) in rw (getD-take n rows x 0 s) (ok .places x s)) j (omega (arith, ins-length)));
       })
       (λ y. record {
@@ -220,12 +212,21 @@ module _ (t : ℕ → Bool) (id : ℕ → List ℕ) (all first : List ℕ) (cap 
             rw z (ok .places j (omega arith));
       })
 
-  pub count-step : (m : ℕ) → n ≤ i → m ≡ cond (t p) (n + 1) n → m ≤ i + 1
+  count-step : (m : ℕ) → n ≤ i → m ≡ cond (t p) (n + 1) n → m ≤ i + 1
   count-step m k f = either (t p) (λ y. let q : m ≡ n + 1 = simp y at f in omega arith) (λ y. let q : m ≡ n = simp y at f in omega arith)
 
-pub gather-done : (t : ℕ → Bool) (id : ℕ → List ℕ) (all first : List ℕ) (cap start count i n : ℕ) (rows : List ℕ) → count ≤ i → n ≤ length rows
-    → Gathering t id all first (drop i (rowsOf cap start count)) n rows → (n ≡ length all) × (rows ≡ all ++ drop n first)
+  -- a turn of the loop
+  pub gather-turn : (m : ℕ) (out ilens ids : List ℕ) → n ≤ i → Listed n rows ilens ids → p < maxMessages → getD ilens p 0 ≤ messageIdSize
+      → Gathering t id all first (drop i (rowsOf ring)) n rows
+      → (m ≡ cond (t p) (n + 1) n) × (out ≡ cond (t p) (insertRow id p (take n rows) ++ drop (n + 1) rows) rows)
+      → (m ≤ i + 1) × (length out ≡ length first) × Listed m out ilens ids × Gathering t id all first (drop (i + 1) (rowsOf ring)) m out
+  gather-turn m out ilens ids k ok a b g f =
+      let r = gather-step m out g f in
+      (count-step m k (f .0), r .size, listed-step m out ilens ids ok a b f, r)
+
+pub gather-done : (t : ℕ → Bool) (id : ℕ → List ℕ) (all first : List ℕ) (ring : Ring) (i n : ℕ) (rows : List ℕ) → ring .count ≤ i → n ≤ length rows
+    → Gathering t id all first (drop i (rowsOf ring)) n rows → (n ≡ length all) × (rows ≡ all ++ drop n first)
 unfolding gatherInto
-gather-done t id all first cap start count i n rows h l g =
-    let w : take n rows ≡ all = rw (ring-end (λ (q : ℕ). q) cap start count i h) at (g .goes) in
+gather-done t id all first ring i n rows h l g =
+    let w : take n rows ≡ all = rw (ring-end (λ (q : ℕ). q) ring i h) at (g .goes) in
     (sym (length-take-le n rows l) ∙ ap length w, sym (take-append-drop n rows) ∙ ap₂ (λ (x y : List ℕ). x ++ y) w (g .behind))

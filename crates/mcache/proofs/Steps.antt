@@ -10,13 +10,14 @@ use lib.Seq.{sets}
 use borrow.Author.Tests.{eq-eqb, ne-eqb, lt-ltb, le-ltb, le-leb, lt-leb}
 use Rattle.basis.specs.Writing.{setIn}
 use Rattle.basis.specs.Lists.{set-fits}
+use Rattle.rows.specs.declared.Ring.{Ring}
 use Rattle.rows.specs.Rows.{placeOf}
 use Rattle.rows.specs.Ids.{indexOf}
 use Rattle.rows.specs.RowsLaws.{place-lt, place-le, place-place}
-use Rattle.rows.specs.Store.{idsIn, lensIn, Sound}
+use Rattle.rows.specs.Store.{idsIn, inUse, Sound}
 use Rattle.mcache.specs.declared.MessageCache.{MessageCache}
 use Rattle.mcache.specs.declared.Start.the-variants as start
-use Rattle.mcache.specs.State.{Rows, Kept, legal, fresh, dropped, appended, passed, aged, older, stale, gathered}
+use Rattle.mcache.specs.State.{Laid, Usable, legal, fresh, dropped, appended, passed, aged, older, stale, messageSize, messageIdSize, maxMessages, maxHistory, ringOf}
 use Rattle.mcache.specs.Calls.{startAnswer, startCache, indexIn, entered, enteredStore, shifted, gossipList, gossipArray}
 use Rattle.mcache.specs.CachedLaws.{stale-in}
 
@@ -26,42 +27,42 @@ module _ (history max : ℕ) where
   unfolding startAnswer startCache legal
   start-none h = let l = lt-leb 1 history (omega arith) in (simp l, simp l)
 
-  pub start-long : (history ≡ 0 → ⊥) → 16 < history → (start.BadSetting ≡ startAnswer history max) × (fresh 1 0 ≡ startCache history max)
+  pub start-long : (history ≡ 0 → ⊥) → maxHistory < history → (start.BadSetting ≡ startAnswer history max) × (fresh 1 0 ≡ startCache history max)
   unfolding startAnswer startCache legal
-  start-long n h = let k = le-leb 1 history (omega (arith, n)) in let l = lt-leb history 16 h in (simp (k, l), simp (k, l))
+  start-long n h = let k = le-leb 1 history (omega (arith, n)) in let l = lt-leb history maxHistory h in (simp (k, l), simp (k, l))
 
-  pub start-many : (history ≡ 0 → ⊥) → history ≤ 16 → 64 < max → (start.BadSetting ≡ startAnswer history max) × (fresh 1 0 ≡ startCache history max)
+  pub start-many : (history ≡ 0 → ⊥) → history ≤ maxHistory → maxMessages < max → (start.BadSetting ≡ startAnswer history max) × (fresh 1 0 ≡ startCache history max)
   unfolding startAnswer startCache legal
-  start-many n h m = let k = le-leb 1 history (omega (arith, n)) in let l = le-leb history 16 h in let j = lt-leb max 64 m in (simp (k, l, j), simp (k, l, j))
+  start-many n h m = let k = le-leb 1 history (omega (arith, n)) in let l = le-leb history maxHistory h in let j = lt-leb max maxMessages m in (simp (k, l, j), simp (k, l, j))
 
-  pub start-fits : (history ≡ 0 → ⊥) → history ≤ 16 → max ≤ 64 → (start.Started ≡ startAnswer history max) × (fresh history max ≡ startCache history max)
+  pub start-fits : (history ≡ 0 → ⊥) → history ≤ maxHistory → max ≤ maxMessages → (start.Started ≡ startAnswer history max) × (fresh history max ≡ startCache history max)
   unfolding startAnswer startCache legal
-  start-fits n h m = let k = le-leb 1 history (omega (arith, n)) in let l = le-leb history 16 h in let j = le-leb max 64 m in (simp (k, l, j), simp (k, l, j))
+  start-fits n h m = let k = le-leb 1 history (omega (arith, n)) in let l = le-leb history maxHistory h in let j = le-leb max maxMessages m in (simp (k, l, j), simp (k, l, j))
 
 -- ---- without the oldest
-pub dropped-is : (k p : ℕ) (c : MessageCache) → p ≡ placeOf (c .«max_messages») (c .start) k
+pub dropped-is : (k p : ℕ) (c : MessageCache) → p ≡ placeOf (ringOf c) k
     → _≡_ {A = MessageCache}
     (record { «history_len» = c .«history_len»; «max_messages» = c .«max_messages»; «next_generation» = c .«next_generation»; start = p; count = c .count - k; generation = c .generation; window = c .window; len = c .len; «id_len» = c .«id_len»; ids = c .ids })
     (dropped k c)
 unfolding dropped
 dropped-is k p c h = rw h
 
-pub kept-dropped : (k : ℕ) (c : MessageCache) (st : List ℕ) → Kept c st → k ≤ c .count → Kept (dropped k c) st
+pub kept-dropped : (k : ℕ) (c : MessageCache) (st : List ℕ) → Usable c st → k ≤ c .count → Usable (dropped k c) st
 unfolding dropped
 kept-dropped k c st ok h =
     let r = ok .rows in
     record {
       rows = record {
         few = r .few;
-        starts = place-le (c .«max_messages») (c .start) k (r .starts) (omega (arith, r .within));
+        starts = place-le (ringOf c) k (r .starts) (omega (arith, r .within));
         within = omega (arith, r .within);
         lengths = r .lengths;
         id-lengths = r .id-lengths;
         id-room = r .id-room;
         room = r .room;
-        id-short = λ i j. rw (place-place (c .«max_messages») (c .start) k i (r .starts) (omega (arith, r .within))) (r .id-short (k + i) (omega arith));
+        id-short = λ i j. rw (place-place (ringOf c) k i (r .starts) (omega (arith, r .within))) (r .id-short (k + i) (omega arith));
       };
-      short = λ i j. rw (place-place (c .«max_messages») (c .start) k i (r .starts) (omega (arith, r .within))) (ok .short (k + i) (omega arith));
+      short = λ i j. rw (place-place (ringOf c) k i (r .starts) (omega (arith, r .within))) (ok .short (k + i) (omega arith));
       windows = ok .windows;
       generations = ok .generations;
     }
@@ -71,14 +72,14 @@ pub bytes-put : (at : ℕ) (bs out out2 : List ℕ) → at + length bs ≤ lengt
 bytes-put at bs out out2 h e = e ∙ set-fits (length bs) at bs out h
 
 -- the next place
-pub next-lies : (c : MessageCache) (st : List ℕ) (p : ℕ) → Kept c st → c .count < c .«max_messages» → p ≡ placeOf (c .«max_messages») (c .start) (c .count)
-    → (p < 64) × (p * 4096 + 4096 ≤ length st) × (p * 128 + 128 ≤ length (c .ids)) × (p < length (c .len)) × (p < length (c .«id_len»)) × (p < length (c .window)) × (p < length (c .generation))
+pub next-lies : (c : MessageCache) (st : List ℕ) (p : ℕ) → Usable c st → c .count < c .«max_messages» → p ≡ placeOf (ringOf c) (c .count)
+    → (p < maxMessages) × (p * messageSize + messageSize ≤ length st) × (p * messageIdSize + messageIdSize ≤ length (c .ids)) × (p < length (c .len)) × (p < length (c .«id_len»)) × (p < length (c .window)) × (p < length (c .generation))
 next-lies c st p ok h e =
     let r = ok .rows in
-    let l : p < c .«max_messages» = rw e (place-lt (c .«max_messages») (c .start) (c .count) (r .starts) h) in
+    let l : p < c .«max_messages» = rw e (place-lt (ringOf c) (c .count) (r .starts) h) in
     (omega (arith, r .few), omega (arith, r .room), omega (arith, r .few, r .id-room), omega (arith, r .few, r .lengths), omega (arith, r .few, r .id-lengths), omega (arith, r .few, ok .windows), omega (arith, r .few, ok .generations))
 
-pub appended-is : (n : ℕ) (id : List ℕ) (c : MessageCache) (p g : ℕ) (ids : List ℕ) → p ≡ placeOf (c .«max_messages») (c .start) (c .count) → g ≡ (c .«next_generation» + 1) % 2 ^ 64 → ids ≡ sets (c .ids) (p * 128) id
+pub appended-is : (n : ℕ) (id : List ℕ) (c : MessageCache) (p g : ℕ) (ids : List ℕ) → p ≡ placeOf (ringOf c) (c .count) → g ≡ (c .«next_generation» + 1) % 2 ^ 64 → ids ≡ sets (c .ids) (p * messageIdSize) id
     → _≡_ {A = MessageCache}
     (record {
       «history_len» = c .«history_len»;
@@ -96,8 +97,8 @@ pub appended-is : (n : ℕ) (id : List ℕ) (c : MessageCache) (p g : ℕ) (ids 
 unfolding appended
 appended-is n id c p g ids h e f = rw (f, e, h)
 
-pub appended-store : (c : MessageCache) (p : ℕ) (st st2 m : List ℕ) → p ≡ placeOf (c .«max_messages») (c .start) (c .count) → st2 ≡ sets st (p * 4096) m → st2 ≡ sets st (placeOf (c .«max_messages») (c .start) (c .count) * 4096) m
-appended-store c p st st2 m h e = e ∙ ap (λ (i : ℕ). sets st (i * 4096) m) h
+pub appended-store : (c : MessageCache) (p : ℕ) (st st2 m : List ℕ) → p ≡ placeOf (ringOf c) (c .count) → st2 ≡ sets st (p * messageSize) m → st2 ≡ sets st (placeOf (ringOf c) (c .count) * messageSize) m
+appended-store c p st st2 m h e = e ∙ ap (λ (i : ℕ). sets st (i * messageSize) m) h
 
 module _ (c : MessageCache) (st m id : List ℕ) where
   -- with max_messages 0 nothing is kept
@@ -109,7 +110,7 @@ module _ (c : MessageCache) (st m id : List ℕ) where
   entered-none n g h e = let z = eq-eqb (c .«max_messages») 0 h in (rw (z, e), rw z)
 
   module _ (k : ℕ) (d : MessageCache) (some : c .«max_messages» ≡ 0 → ⊥) (ek : k ≡ (c .count + 1) - c .«max_messages») (ed : d ≡ dropped k c) where
-    pub enter-room : Kept c st → Kept d st × (d .count < d .«max_messages»)
+    pub enter-room : Usable c st → Usable d st × (d .count < d .«max_messages»)
     unfolding dropped
     enter-room ok =
         let w = ok .rows .within in
@@ -117,31 +118,31 @@ module _ (c : MessageCache) (st m id : List ℕ) where
         let x : d .«max_messages» ≡ c .«max_messages» = ap (λ (x : MessageCache). x .«max_messages») ed in
         (rw ed (kept-dropped k c st ok (omega (arith, some))), omega (arith, some))
 
-    pub entered-some : (n : ℕ) (r : MessageCache) (st2 : List ℕ) → r ≡ appended n id d → st2 ≡ sets st (placeOf (d .«max_messages») (d .start) (d .count) * 4096) m
+    pub entered-some : (n : ℕ) (r : MessageCache) (st2 : List ℕ) → r ≡ appended n id d → st2 ≡ sets st (placeOf (ringOf d) (d .count) * messageSize) m
         → (r ≡ entered n id c) × (st2 ≡ enteredStore c st m)
     unfolding entered enteredStore dropped
     entered-some n r st2 er es =
         let z = ne-eqb (c .«max_messages») 0 some in
         let w : d ≡ dropped ((c .count + 1) - c .«max_messages») c = ed ∙ ap (λ (i : ℕ). dropped i c) ek in
-        (rw z (er ∙ ap (appended n id) w), rw z (es ∙ ap (λ (x : MessageCache). sets st (placeOf (x .«max_messages») (x .start) (x .count) * 4096) m) w))
+        (rw z (er ∙ ap (appended n id) w), rw z (es ∙ ap (λ (x : MessageCache). sets st (placeOf (ringOf x) (x .count) * messageSize) m) w))
 
 -- ---- finding
-pub index-is : (c : MessageCache) (id : List ℕ) (r : ℕ) → r ≡ 0 + indexOf id (drop 0 (idsIn 128 (c .«max_messages») (c .start) (c .count) (c .«id_len») (c .ids))) → r ≡ indexIn c id
+pub index-is : (c : MessageCache) (id : List ℕ) (r : ℕ) → r ≡ 0 + indexOf id (drop 0 (idsIn messageIdSize (ringOf c) (c .«id_len») (c .ids))) → r ≡ indexIn c id
 unfolding indexIn
-index-is c id r e = e ∙ zero-add (indexOf id (idsIn 128 (c .«max_messages») (c .start) (c .count) (c .«id_len») (c .ids)))
+index-is c id r e = e ∙ zero-add (indexOf id (idsIn messageIdSize (ringOf c) (c .«id_len») (c .ids)))
 
 -- ---- a window later
-pub stale-within : (history cap start count : ℕ) (l : List ℕ) (k : ℕ) → k ≡ stale history (lensIn cap start count l) → k ≤ count
-stale-within history cap start count l k e = let h = stale-in history cap start count l in omega arith
+pub stale-within : (history : ℕ) (ring : Ring) (l : List ℕ) (k : ℕ) → k ≡ stale history (inUse ring l) → k ≤ ring .count
+stale-within history ring l k e = let h = stale-in history ring l in omega arith
 
-pub shifted-is : (c : MessageCache) (k : ℕ) (w : List ℕ) (r : MessageCache) → k ≡ stale (c .«history_len») (lensIn (c .«max_messages») (c .start) (c .count) (c .window)) → w ≡ map older (c .window)
+pub shifted-is : (c : MessageCache) (k : ℕ) (w : List ℕ) (r : MessageCache) → k ≡ stale (c .«history_len») (inUse (ringOf c) (c .window)) → w ≡ map older (c .window)
     → r ≡ dropped k (record { «history_len» = c .«history_len»; «max_messages» = c .«max_messages»; «next_generation» = c .«next_generation»; start = c .start; count = c .count; generation = c .generation; window = w; len = c .len; «id_len» = c .«id_len»; ids = c .ids })
     → r ≡ shifted c
 unfolding shifted aged
 shifted-is c k w r ek ew e = e ∙ rw (ew, ek)
 
 -- ---- telling
-pub told-rows : (c : MessageCache) (st topic : List ℕ) (windows n : ℕ) (rows : List ℕ) (l : List ℕ) → l ≡ gossipList c st topic windows → n ≡ length l → rows ≡ l ++ drop n (replicate 64 0)
+pub told-rows : (c : MessageCache) (st topic : List ℕ) (windows n : ℕ) (rows : List ℕ) (l : List ℕ) → l ≡ gossipList c st topic windows → n ≡ length l → rows ≡ l ++ drop n (replicate maxMessages 0)
     → (n ≡ length (gossipList c st topic windows)) × (rows ≡ gossipArray c st topic windows)
 unfolding gossipArray
-told-rows c st topic windows n rows l e f g = (rw (← e) f, rw (← e) (g ∙ ap (λ (k : ℕ). l ++ drop k (replicate 64 0)) f))
+told-rows c st topic windows n rows l e f g = (rw (← e) f, rw (← e) (g ∙ ap (λ (k : ℕ). l ++ drop k (replicate maxMessages 0)) f))

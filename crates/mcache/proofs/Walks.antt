@@ -9,32 +9,33 @@ use lib.ListN.{length, take, drop, getD, set, length-drop, drop-of-length-le, le
 use lib.Seq.{drop-cons, take-suc, set-at, getD-at, take-all, length-take-le, sets, length-sets}
 use lib.Dec.{leb, ltb, eqb}
 use borrow.Author.Tests.{le-leb, lt-leb, lt-ltb, le-ltb, eq-eqb, ne-eqb}
-use Rattle.rows.specs.Rows.{placeOf, ring}
+use Rattle.rows.specs.declared.Ring.{Ring}
+use Rattle.rows.specs.Rows.{placeOf, rowsIn}
 use Rattle.rows.specs.RowsLaws.{length-ring, ring-from, ring-end, place-lt}
 use Rattle.basis.specs.Writing.{endIn, setIn}
 use Rattle.basis.specs.Lists.{sets-append, end-fits, set-fits}
 use Rattle.protobuf.specs.Walk.{between}
 use Rattle.ids.specs.Ids.{idBytes}
 use Rattle.rows.specs.Ids.{among}
-use Rattle.rows.specs.Store.{lensIn, idAt}
+use Rattle.rows.specs.Store.{inUse, idAt}
 use Rattle.admission.specs.Admission.{topicsOf, givesId}
-use Rattle.mcache.specs.State.{messageIn, fallsFrom, runsTo, givesAt, allTrue, givesIn, stale, older, told, Rows}
+use Rattle.mcache.specs.State.{messageIn, fallsFrom, runsTo, givesAt, allTrue, givesIn, stale, older, told, Laid, messageSize, messageIdSize, maxMessages}
 
 -- ---- windows
-module _ (most cap start count : ℕ) (l : List ℕ) (last i : ℕ) (inv : fallsFrom last (drop i (lensIn cap start count l)) ≡ fallsFrom most (lensIn cap start count l)) where
-  pub falls-more : (w : ℕ) → i < count → w ≡ getD l (placeOf cap start i) 0 → w ≤ last → fallsFrom w (drop (i + 1) (lensIn cap start count l)) ≡ fallsFrom most (lensIn cap start count l)
-  unfolding fallsFrom lensIn
+module _ (most : ℕ) (ring : Ring) (l : List ℕ) (last i : ℕ) (inv : fallsFrom last (drop i (inUse ring l)) ≡ fallsFrom most (inUse ring l)) where
+  pub falls-more : (w : ℕ) → i < ring .count → w ≡ getD l (placeOf ring i) 0 → w ≤ last → fallsFrom w (drop (i + 1) (inUse ring l)) ≡ fallsFrom most (inUse ring l)
+  unfolding fallsFrom inUse
   falls-more w h e k =
-      rw e (simp (le-leb (getD l (placeOf cap start i) 0) last (rw (sym e) k)) at (rw (ring-from (λ (p : ℕ). getD l p 0) cap start count i h) at inv))
+      rw e (simp (le-leb (getD l (placeOf ring i) 0) last (rw (sym e) k)) at (rw (ring-from (λ (p : ℕ). getD l p 0) ring i h) at inv))
 
-  pub falls-not : (w : ℕ) → i < count → w ≡ getD l (placeOf cap start i) 0 → last < w → false ≡ fallsFrom most (lensIn cap start count l)
-  unfolding fallsFrom lensIn
+  pub falls-not : (w : ℕ) → i < ring .count → w ≡ getD l (placeOf ring i) 0 → last < w → false ≡ fallsFrom most (inUse ring l)
+  unfolding fallsFrom inUse
   falls-not w h e k =
-      simp (lt-leb (getD l (placeOf cap start i) 0) last (rw (sym e) k)) at (rw (ring-from (λ (p : ℕ). getD l p 0) cap start count i h) at inv)
+      simp (lt-leb (getD l (placeOf ring i) 0) last (rw (sym e) k)) at (rw (ring-from (λ (p : ℕ). getD l p 0) ring i h) at inv)
 
-  pub falls-all : count ≤ i → true ≡ fallsFrom most (lensIn cap start count l)
-  unfolding fallsFrom lensIn
-  falls-all h = rw (ring-end (λ (p : ℕ). getD l p 0) cap start count i h) at inv
+  pub falls-all : ring .count ≤ i → true ≡ fallsFrom most (inUse ring l)
+  unfolding fallsFrom inUse
+  falls-all h = rw (ring-end (λ (p : ℕ). getD l p 0) ring i h) at inv
 
 -- ---- arrival numbers
 same-age : (next g k age : ℕ) → (age + g) % 2 ^ 64 ≡ next → age ≡ k → eqb ((g + k) % 2 ^ 64) next ≡ true
@@ -43,60 +44,60 @@ same-age next g k age e f = eq-eqb ((g + k) % 2 ^ 64) next (omega arith)
 other-age : (next g k age : ℕ) → (age + g) % 2 ^ 64 ≡ next → age < 2 ^ 64 → k < 2 ^ 64 → (age ≡ k → ⊥) → eqb ((g + k) % 2 ^ 64) next ≡ false
 other-age next g k age e a b n = ne-eqb ((g + k) % 2 ^ 64) next (λ f. n (omega arith))
 
-module _ (next cap start count : ℕ) (l : List ℕ) (i : ℕ) (inv : runsTo next (drop i (lensIn cap start count l)) ≡ runsTo next (lensIn cap start count l)) where
-  after : length (drop (i + 1) (lensIn cap start count l)) ≡ count - (i + 1)
-  unfolding lensIn
-  after = length-drop (i + 1) (lensIn cap start count l) ∙ ap (λ (n : ℕ). n - (i + 1)) (length-ring (λ (p : ℕ). getD l p 0) cap start count)
+module _ (next : ℕ) (ring : Ring) (l : List ℕ) (i : ℕ) (inv : runsTo next (drop i (inUse ring l)) ≡ runsTo next (inUse ring l)) where
+  after : length (drop (i + 1) (inUse ring l)) ≡ ring .count - (i + 1)
+  unfolding inUse
+  after = length-drop (i + 1) (inUse ring l) ∙ ap (λ (n : ℕ). n - (i + 1)) (length-ring (λ (p : ℕ). getD l p 0) ring)
 
-  step : i < count → (eqb ((getD l (placeOf cap start i) 0 + (count - i)) % 2 ^ 64) next && runsTo next (drop (i + 1) (lensIn cap start count l))) ≡ runsTo next (lensIn cap start count l)
-  unfolding runsTo lensIn
+  step : i < ring .count → (eqb ((getD l (placeOf ring i) 0 + (ring .count - i)) % 2 ^ 64) next && runsTo next (drop (i + 1) (inUse ring l))) ≡ runsTo next (inUse ring l)
+  unfolding runsTo inUse
   step h =
-      let s = rw (ring-from (λ (p : ℕ). getD l p 0) cap start count i h) at inv in
-      let k : suc (length (drop (i + 1) (lensIn cap start count l))) ≡ count - i = omega (arith, after) in
+      let s = rw (ring-from (λ (p : ℕ). getD l p 0) ring i h) at inv in
+      let k : suc (length (drop (i + 1) (inUse ring l))) ≡ ring .count - i = omega (arith, after) in
       rw k at s
 
-  pub runs-more : (g age : ℕ) → i < count → g ≡ getD l (placeOf cap start i) 0 → (age + g) % 2 ^ 64 ≡ next → age ≡ count - i → runsTo next (drop (i + 1) (lensIn cap start count l)) ≡ runsTo next (lensIn cap start count l)
-  runs-more g age h e f k = simp (same-age next (getD l (placeOf cap start i) 0) (count - i) age (rw (sym e) f) k) at (step h)
+  pub runs-more : (g age : ℕ) → i < ring .count → g ≡ getD l (placeOf ring i) 0 → (age + g) % 2 ^ 64 ≡ next → age ≡ ring .count - i → runsTo next (drop (i + 1) (inUse ring l)) ≡ runsTo next (inUse ring l)
+  runs-more g age h e f k = simp (same-age next (getD l (placeOf ring i) 0) (ring .count - i) age (rw (sym e) f) k) at (step h)
 
-  pub runs-not : (g age : ℕ) → i < count → g ≡ getD l (placeOf cap start i) 0 → (age + g) % 2 ^ 64 ≡ next → age < 2 ^ 64 → count < 2 ^ 64 → (age ≡ count - i → ⊥) → false ≡ runsTo next (lensIn cap start count l)
-  runs-not g age h e f a b n = simp (other-age next (getD l (placeOf cap start i) 0) (count - i) age (rw (sym e) f) a (omega arith) n) at (step h)
+  pub runs-not : (g age : ℕ) → i < ring .count → g ≡ getD l (placeOf ring i) 0 → (age + g) % 2 ^ 64 ≡ next → age < 2 ^ 64 → ring .count < 2 ^ 64 → (age ≡ ring .count - i → ⊥) → false ≡ runsTo next (inUse ring l)
+  runs-not g age h e f a b n = simp (other-age next (getD l (placeOf ring i) 0) (ring .count - i) age (rw (sym e) f) a (omega arith) n) at (step h)
 
-  pub runs-all : count ≤ i → true ≡ runsTo next (lensIn cap start count l)
-  unfolding runsTo lensIn
-  runs-all h = rw (ring-end (λ (p : ℕ). getD l p 0) cap start count i h) at inv
+  pub runs-all : ring .count ≤ i → true ≡ runsTo next (inUse ring l)
+  unfolding runsTo inUse
+  runs-all h = rw (ring-end (λ (p : ℕ). getD l p 0) ring i h) at inv
 
 -- ---- messages
-module _ (cap start count : ℕ) (lens ilens ids st : List ℕ) (i : ℕ) (inv : allTrue (drop i (ring (givesAt lens ilens ids st) cap start count)) ≡ givesIn cap start count lens ilens ids st) where
-  pub gives-more : i < count → givesAt lens ilens ids st (placeOf cap start i) ≡ true → allTrue (drop (i + 1) (ring (givesAt lens ilens ids st) cap start count)) ≡ givesIn cap start count lens ilens ids st
+module _ (ring : Ring) (lens ilens ids st : List ℕ) (i : ℕ) (inv : allTrue (drop i (rowsIn (givesAt lens ilens ids st) ring)) ≡ givesIn ring lens ilens ids st) where
+  pub gives-more : i < ring .count → givesAt lens ilens ids st (placeOf ring i) ≡ true → allTrue (drop (i + 1) (rowsIn (givesAt lens ilens ids st) ring)) ≡ givesIn ring lens ilens ids st
   unfolding allTrue
-  gives-more h e = simp e at (rw (ring-from (givesAt lens ilens ids st) cap start count i h) at inv)
+  gives-more h e = simp e at (rw (ring-from (givesAt lens ilens ids st) ring i h) at inv)
 
-  pub gives-not : i < count → givesAt lens ilens ids st (placeOf cap start i) ≡ false → false ≡ givesIn cap start count lens ilens ids st
+  pub gives-not : i < ring .count → givesAt lens ilens ids st (placeOf ring i) ≡ false → false ≡ givesIn ring lens ilens ids st
   unfolding allTrue
-  gives-not h e = simp e at (rw (ring-from (givesAt lens ilens ids st) cap start count i h) at inv)
+  gives-not h e = simp e at (rw (ring-from (givesAt lens ilens ids st) ring i h) at inv)
 
-  pub gives-all : count ≤ i → true ≡ givesIn cap start count lens ilens ids st
+  pub gives-all : ring .count ≤ i → true ≡ givesIn ring lens ilens ids st
   unfolding allTrue
-  gives-all h = rw (ring-end (givesAt lens ilens ids st) cap start count i h) at inv
+  gives-all h = rw (ring-end (givesAt lens ilens ids st) ring i h) at inv
 
 -- ---- what leaves when a window is opened
-module _ (history cap start count : ℕ) (l : List ℕ) (i : ℕ) (inv : i + stale history (drop i (lensIn cap start count l)) ≡ stale history (lensIn cap start count l)) where
-  pub stale-more : (w : ℕ) → i < count → w ≡ getD l (placeOf cap start i) 0 → history ≤ w + 1 → (i + 1) + stale history (drop (i + 1) (lensIn cap start count l)) ≡ stale history (lensIn cap start count l)
-  unfolding stale lensIn
+module _ (history : ℕ) (ring : Ring) (l : List ℕ) (i : ℕ) (inv : i + stale history (drop i (inUse ring l)) ≡ stale history (inUse ring l)) where
+  pub stale-more : (w : ℕ) → i < ring .count → w ≡ getD l (placeOf ring i) 0 → history ≤ w + 1 → (i + 1) + stale history (drop (i + 1) (inUse ring l)) ≡ stale history (inUse ring l)
+  unfolding stale inUse
   stale-more w h e k =
-      let s = simp (le-ltb (getD l (placeOf cap start i) 0 + 1) history (rw (sym e) k)) at (rw (ring-from (λ (p : ℕ). getD l p 0) cap start count i h) at inv) in
+      let s = simp (le-ltb (getD l (placeOf ring i) 0 + 1) history (rw (sym e) k)) at (rw (ring-from (λ (p : ℕ). getD l p 0) ring i h) at inv) in
       omega arith
 
-  pub stale-stays : (w : ℕ) → i < count → w ≡ getD l (placeOf cap start i) 0 → w + 1 < history → i ≡ stale history (lensIn cap start count l)
-  unfolding stale lensIn
+  pub stale-stays : (w : ℕ) → i < ring .count → w ≡ getD l (placeOf ring i) 0 → w + 1 < history → i ≡ stale history (inUse ring l)
+  unfolding stale inUse
   stale-stays w h e k =
-      let s = simp (lt-ltb (getD l (placeOf cap start i) 0 + 1) history (rw (sym e) k)) at (rw (ring-from (λ (p : ℕ). getD l p 0) cap start count i h) at inv) in
+      let s = simp (lt-ltb (getD l (placeOf ring i) 0 + 1) history (rw (sym e) k)) at (rw (ring-from (λ (p : ℕ). getD l p 0) ring i h) at inv) in
       omega arith
 
-  pub stale-all : count ≤ i → i ≡ stale history (lensIn cap start count l)
-  unfolding stale lensIn
+  pub stale-all : ring .count ≤ i → i ≡ stale history (inUse ring l)
+  unfolding stale inUse
   stale-all h =
-      let s = rw (ring-end (λ (p : ℕ). getD l p 0) cap start count i h) at inv in
+      let s = rw (ring-end (λ (p : ℕ). getD l p 0) ring i h) at inv in
       omega arith
 
 -- ---- windows a window later
@@ -121,30 +122,30 @@ module _ (window lens st : List ℕ) (windows : ℕ) (topic : List ℕ) (p : ℕ
   unfolding told
   told-not h = sym (simp (le-ltb (getD window p 0) windows h))
 
-  pub told-is : (r : Bool) → getD window p 0 < windows → r ≡ among topic (topicsOf (take ((p * 4096 + getD lens p 0) - p * 4096) (drop (p * 4096) st))) → r ≡ told window lens st windows topic p
+  pub told-is : (r : Bool) → getD window p 0 < windows → r ≡ among topic (topicsOf (take ((p * messageSize + getD lens p 0) - p * messageSize) (drop (p * messageSize) st))) → r ≡ told window lens st windows topic p
   unfolding told messageIn
-  told-is r h e = e ∙ ap (λ (m : List ℕ). among topic (topicsOf m)) (part-from (p * 4096) (getD lens p 0) (drop (p * 4096) st)) ∙ sym (simp (lt-ltb (getD window p 0) windows h))
+  told-is r h e = e ∙ ap (λ (m : List ℕ). among topic (topicsOf m)) (part-from (p * messageSize) (getD lens p 0) (drop (p * messageSize) st)) ∙ sym (simp (lt-ltb (getD window p 0) windows h))
 
 -- ---- whether a row gives its id
 module _ (lens ilens ids st : List ℕ) (p : ℕ) where
-  pub gives-long : 4096 < getD lens p 0 → givesAt lens ilens ids st p ≡ false
+  pub gives-long : messageSize < getD lens p 0 → givesAt lens ilens ids st p ≡ false
   unfolding givesAt
-  gives-long h = simp (lt-leb (getD lens p 0) 4096 h)
+  gives-long h = simp (lt-leb (getD lens p 0) messageSize h)
 
-  pub gives-says : (r : Bool) → getD lens p 0 ≤ 4096
-      → r ≡ givesId (take ((p * 4096 + getD lens p 0) - p * 4096) (drop (p * 4096) st)) (take ((p * 128 + getD ilens p 0) - p * 128) (drop (p * 128) ids))
+  pub gives-says : (r : Bool) → getD lens p 0 ≤ messageSize
+      → r ≡ givesId (take ((p * messageSize + getD lens p 0) - p * messageSize) (drop (p * messageSize) st)) (take ((p * messageIdSize + getD ilens p 0) - p * messageIdSize) (drop (p * messageIdSize) ids))
       → givesAt lens ilens ids st p ≡ r
   unfolding givesAt messageIn idAt
   gives-says r h e =
-      simp (le-leb (getD lens p 0) 4096 h)
-      (sym (e ∙ ap₂ givesId (part-from (p * 4096) (getD lens p 0) (drop (p * 4096) st)) (part-from (p * 128) (getD ilens p 0) (drop (p * 128) ids))))
+      simp (le-leb (getD lens p 0) messageSize h)
+      (sym (e ∙ ap₂ givesId (part-from (p * messageSize) (getD lens p 0) (drop (p * messageSize) st)) (part-from (p * messageIdSize) (getD ilens p 0) (drop (p * messageIdSize) ids))))
 
 -- the i-th row: its place, its message's place and its id's place
-pub row-lies : (cap start count : ℕ) (lens ilens ids st : List ℕ) (i p : ℕ) → Rows cap start count lens ilens ids st → i < count → p ≡ placeOf cap start i
-    → (p < 64) × (p < length lens) × (p < length ilens) × (p * 4096 + 4096 ≤ length st) × (p * 128 + getD ilens p 0 ≤ length ids) × (getD ilens p 0 ≤ 128)
-row-lies cap start count lens ilens ids st i p ok h e =
-    let l : p < cap = rw e (place-lt cap start i (ok .starts) (omega (arith, ok .within))) in
-    let n : getD ilens p 0 ≤ 128 = rw e (ok .id-short i h) in
+pub row-lies : (ring : Ring) (lens ilens ids st : List ℕ) (i p : ℕ) → Laid ring lens ilens ids st → i < ring .count → p ≡ placeOf ring i
+    → (p < maxMessages) × (p < length lens) × (p < length ilens) × (p * messageSize + messageSize ≤ length st) × (p * messageIdSize + getD ilens p 0 ≤ length ids) × (getD ilens p 0 ≤ messageIdSize)
+row-lies ring lens ilens ids st i p ok h e =
+    let l : p < ring .cap = rw e (place-lt ring i (ok .starts) (omega (arith, ok .within))) in
+    let n : getD ilens p 0 ≤ messageIdSize = rw e (ok .id-short i h) in
     (omega (arith, ok .few), omega (arith, ok .few, ok .lengths), omega (arith, ok .few, ok .id-lengths), omega (arith, ok .room), omega (arith, ok .few, ok .id-room), n)
 
 -- ---- an id from its two parts

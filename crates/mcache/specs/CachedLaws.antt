@@ -11,13 +11,14 @@ use lib.Seq.{sets, getD-set-same, getD-set-other}
 use lib.Dec.{leb, ltb, eqb}
 use borrow.Author.Tests.{leb-true, ltb-true, lt-ltb, eqb-true, eqb-false, eq-eqb, ne-eqb}
 use Rattle.basis.specs.Cases.{either, both}
-use Rattle.rows.specs.Rows.{tab, placeOf, ring, newest}
+use Rattle.rows.specs.declared.Ring.{Ring}
+use Rattle.rows.specs.Rows.{tab, placeOf, rowsIn, newest, without, oneMore}
 use Rattle.rows.specs.RowsLaws.{length-tab, getD-tab, place-lt, place-le, place-place, place-differs, length-ring, ring-drop, ring-ext, map-ring}
-use Rattle.rows.specs.Store.{idAt, idsIn, lensIn}
+use Rattle.rows.specs.Store.{idAt, idsIn, inUse}
 use Rattle.rows.specs.StoreLaws.{row-fits}
 use Rattle.mcache.specs.declared.MessageCache.{MessageCache}
 use Rattle.mcache.specs.Messages.{Cached, idsOf, shift}
-use Rattle.mcache.specs.State.{messageIn, cachedAt, cachedIn, fallsFrom, dropped, appended, passed, older, aged, stale}
+use Rattle.mcache.specs.State.{messageIn, cachedAt, cachedIn, fallsFrom, dropped, appended, passed, older, aged, stale, messageSize, messageIdSize, maxMessages, ringOf}
 use Rattle.mcache.specs.Calls.{entered, enteredStore, shifted}
 use Rattle.rows.specs.RowsLaws.{ring-more, newest-more}
 use Rattle.rows.specs.StoreLaws.{id-kept, id-put}
@@ -31,20 +32,20 @@ windowsOf ms = map (λ (m : Cached). m .window) ms
 module _ (c : MessageCache) (st : List ℕ) where
   pub length-cached : length (cachedIn c st) ≡ c .count
   unfolding cachedIn
-  length-cached = length-ring (cachedAt c st) (c .«max_messages») (c .start) (c .count)
+  length-cached = length-ring (cachedAt c st) (ringOf c)
 
-  pub ids-cached : idsOf (cachedIn c st) ≡ idsIn 128 (c .«max_messages») (c .start) (c .count) (c .«id_len») (c .ids)
+  pub ids-cached : idsOf (cachedIn c st) ≡ idsIn messageIdSize (ringOf c) (c .«id_len») (c .ids)
   unfolding cachedIn idsIn cachedAt
-  ids-cached = map-ring (λ (m : Cached). m .id) (cachedAt c st) (c .«max_messages») (c .start) (c .count)
+  ids-cached = map-ring (λ (m : Cached). m .id) (cachedAt c st) (ringOf c)
 
-  pub windows-cached : windowsOf (cachedIn c st) ≡ lensIn (c .«max_messages») (c .start) (c .count) (c .window)
-  unfolding cachedIn lensIn cachedAt
-  windows-cached = map-ring (λ (m : Cached). m .window) (cachedAt c st) (c .«max_messages») (c .start) (c .count)
+  pub windows-cached : windowsOf (cachedIn c st) ≡ inUse (ringOf c) (c .window)
+  unfolding cachedIn inUse cachedAt
+  windows-cached = map-ring (λ (m : Cached). m .window) (cachedAt c st) (ringOf c)
 
 -- ---- without the k oldest
 pub cached-dropped : (k : ℕ) (c : MessageCache) (st : List ℕ) → c .start ≤ c .«max_messages» → c .count ≤ c .«max_messages» → k ≤ c .count → cachedIn (dropped k c) st ≡ drop k (cachedIn c st)
 unfolding cachedIn dropped cachedAt
-cached-dropped k c st a b h = ring-drop (cachedAt c st) (c .«max_messages») (c .start) (c .count) k a b h
+cached-dropped k c st a b h = ring-drop (cachedAt c st) (ringOf c) k a b h
 
 -- ---- a window is opened
 pub falls-each : (most : ℕ) (l : List ℕ) (i : ℕ) → fallsFrom most l ≡ true → i < length l → getD l i 0 ≤ most
@@ -57,13 +58,13 @@ falls-each most (w ∷ l) (suc i) h k =
     let s = leb-true w most (b .0) in
     omega arith
 
-pub falls-in : (most : ℕ) (window : List ℕ) (cap start count : ℕ) → fallsFrom most (lensIn cap start count window) ≡ true → (i : ℕ) → i < count → getD window (placeOf cap start i) 0 ≤ most
-unfolding lensIn ring
-falls-in most window cap start count h i k =
-    let f : ℕ → ℕ = λ (j : ℕ). getD window (placeOf cap start j) 0 in
-    let l : i < length (tab f count) = rw (length-tab f count) k in
-    let e : getD (tab f count) i 0 ≤ most = falls-each most (tab f count) i h l in
-    rw (getD-tab f count i 0 k) at e
+pub falls-in : (most : ℕ) (window : List ℕ) (ring : Ring) → fallsFrom most (inUse ring window) ≡ true → (i : ℕ) → i < ring .count → getD window (placeOf ring i) 0 ≤ most
+unfolding inUse rowsIn
+falls-in most window ring h i k =
+    let f : ℕ → ℕ = λ (j : ℕ). getD window (placeOf ring j) 0 in
+    let l : i < length (tab f (ring .count)) = rw (length-tab f (ring .count)) k in
+    let e : getD (tab f (ring .count)) i 0 ≤ most = falls-each most (tab f (ring .count)) i h l in
+    rw (getD-tab f (ring .count) i 0 k) at e
 
 getD-older : (l : List ℕ) (p : ℕ) → p < length l → getD l p 0 < 255 → getD (map older l) p 0 ≡ suc (getD l p 0)
 unfolding older
@@ -78,13 +79,13 @@ later m = record { id = m .id; message = m .message; window = suc (m .window) }
 pub cached-aged : (c : MessageCache) (st : List ℕ) → Tests c st → Sized c → cachedIn (aged c) st ≡ map later (cachedIn c st)
 unfolding cachedIn aged cachedAt
 cached-aged c st t z =
-    ring-ext (λ (p : ℕ). later (cachedAt c st p)) (c .«max_messages») (c .start) (c .count) (cachedAt (aged c) st)
+    ring-ext (λ (p : ℕ). later (cachedAt c st p)) (ringOf c) (cachedAt (aged c) st)
     (λ i h.
-    let p = placeOf (c .«max_messages») (c .start) i in
-    let l : p < c .«max_messages» = place-lt (c .«max_messages») (c .start) i (t .starts) (omega (arith, t .within)) in
-    let w : getD (c .window) p 0 ≤ c .«history_len» - 1 = falls-in (c .«history_len» - 1) (c .window) (c .«max_messages») (c .start) (c .count) (t .falls) i h in
+    let p = placeOf (ringOf c) i in
+    let l : p < c .«max_messages» = place-lt (ringOf c) i (t .starts) (omega (arith, t .within)) in
+    let w : getD (c .window) p 0 ≤ c .«history_len» - 1 = falls-in (c .«history_len» - 1) (c .window) (ringOf c) (t .falls) i h in
     rw (getD-older (c .window) p (omega (arith, z .windows, t .few)) (omega (arith, t .history-few))))
-    ∙ sym (map-ring later (cachedAt c st) (c .«max_messages») (c .start) (c .count))
+    ∙ sym (map-ring later (cachedAt c st) (ringOf c))
 
 pub stale-le : (history : ℕ) (l : List ℕ) → stale history l ≤ length l
 unfolding stale
@@ -109,17 +110,17 @@ shift-drop history most (m ∷ ms) f =
     (λ t. rw (add-one (m .window), t, shift-all history (m .window) ms (ltb-true (suc (m .window)) history t) (b .1)))
     (λ t. rw (add-one (m .window), t) (shift-drop history (m .window) ms (b .1)))
 
-pub stale-in : (history cap start count : ℕ) (window : List ℕ) → stale history (lensIn cap start count window) ≤ count
-unfolding lensIn
-stale-in history cap start count window =
-    let l = length-ring (λ (q : ℕ). getD window q 0) cap start count in
-    omega (arith, stale-le history (ring (λ (q : ℕ). getD window q 0) cap start count))
+pub stale-in : (history : ℕ) (ring : Ring) (window : List ℕ) → stale history (inUse ring window) ≤ ring .count
+unfolding inUse
+stale-in history ring window =
+    let l = length-ring (λ (q : ℕ). getD window q 0) ring in
+    omega (arith, stale-le history (rowsIn (λ (q : ℕ). getD window q 0) ring))
 
 pub cached-shifted : (c : MessageCache) (st : List ℕ) → Tests c st → Sized c → cachedIn (shifted c) st ≡ shift (c .«history_len») (cachedIn c st)
 unfolding shifted aged
 cached-shifted c st t z =
-    let k = stale (c .«history_len») (lensIn (c .«max_messages») (c .start) (c .count) (c .window)) in
-    cached-dropped k (aged c) st (t .starts) (t .within) (stale-in (c .«history_len») (c .«max_messages») (c .start) (c .count) (c .window))
+    let k = stale (c .«history_len») (inUse (ringOf c) (c .window)) in
+    cached-dropped k (aged c) st (t .starts) (t .within) (stale-in (c .«history_len») (ringOf c) (c .window))
     ∙ ap (drop k) (cached-aged c st t z)
     ∙ ap (λ (l : List ℕ). drop (stale (c .«history_len») l) (map later (cachedIn c st))) (sym (windows-cached c st))
     ∙ shift-drop (c .«history_len») (c .«history_len» - 1) (cachedIn c st) (rw (windows-cached c st) (t .falls))
@@ -128,13 +129,17 @@ cached-shifted c st t z =
 abbrev pub leaving : MessageCache → ℕ
 leaving c = (c .count + 1) - c .«max_messages»
 
+-- the rows that stay
+abbrev pub rest : MessageCache → Ring
+rest c = without (leaving c) (ringOf c)
+
 -- the place that is written: that after the last, when the oldest have left
 unfoldable pub spot : MessageCache → ℕ
-spot c = placeOf (c .«max_messages») (placeOf (c .«max_messages») (c .start) (leaving c)) (c .count - leaving c)
+spot c = placeOf (rest c) (c .count - leaving c)
 
 -- the place of the i-th row that stays
 unfoldable pub stays : MessageCache → ℕ → ℕ
-stays c i = placeOf (c .«max_messages») (placeOf (c .«max_messages») (c .start) (leaving c)) i
+stays c i = placeOf (rest c) i
 
 module _ (c : MessageCache) (a : c .start ≤ c .«max_messages») (b : c .count ≤ c .«max_messages») (some : c .«max_messages» ≡ 0 → ⊥) where
   pub leaving-in : leaving c ≤ c .count
@@ -143,67 +148,67 @@ module _ (c : MessageCache) (a : c .start ≤ c .«max_messages») (b : c .count
   pub left-few : c .count - leaving c < c .«max_messages»
   left-few = omega (arith, some)
 
-  pub rest-starts : placeOf (c .«max_messages») (c .start) (leaving c) ≤ c .«max_messages»
-  rest-starts = place-le (c .«max_messages») (c .start) (leaving c) a (omega (arith, leaving-in))
+  pub rest-starts : placeOf (ringOf c) (leaving c) ≤ c .«max_messages»
+  rest-starts = place-le (ringOf c) (leaving c) a (omega (arith, leaving-in))
 
   pub spot-in : spot c < c .«max_messages»
   unfolding spot
-  spot-in = place-lt (c .«max_messages») (placeOf (c .«max_messages») (c .start) (leaving c)) (c .count - leaving c) rest-starts left-few
+  spot-in = place-lt (rest c) (c .count - leaving c) rest-starts left-few
 
-  pub stays-is : (i : ℕ) → i < c .count - leaving c → stays c i ≡ placeOf (c .«max_messages») (c .start) (leaving c + i)
+  pub stays-is : (i : ℕ) → i < c .count - leaving c → stays c i ≡ placeOf (ringOf c) (leaving c + i)
   unfolding stays
-  stays-is i h = place-place (c .«max_messages») (c .start) (leaving c) i a (omega arith)
+  stays-is i h = place-place (ringOf c) (leaving c) i a (omega arith)
 
   -- it is not the place of a row that stays
   pub spot-free : (i : ℕ) → i < c .count - leaving c → stays c i ≡ spot c → ⊥
   unfolding spot stays
-  spot-free i h = place-differs (c .«max_messages») (placeOf (c .«max_messages») (c .start) (leaving c)) i (c .count - leaving c) rest-starts h left-few
+  spot-free i h = place-differs (rest c) i (c .count - leaving c) rest-starts h left-few
 
   -- what stands in the rows afterwards
   pub ring-entered : {A : Type 0} (f g : ℕ → A) (x : A) → ((i : ℕ) → i < c .count - leaving c → g (stays c i) ≡ f (stays c i)) → g (spot c) ≡ x
-      → ring g (c .«max_messages») (placeOf (c .«max_messages») (c .start) (leaving c)) ((c .count - leaving c) + 1) ≡ newest (c .«max_messages») (ring f (c .«max_messages») (c .start) (c .count) ++ (x ∷ []))
+      → rowsIn g (oneMore (rest c)) ≡ newest (c .«max_messages») (rowsIn f (ringOf c) ++ (x ∷ []))
   unfolding spot stays
   ring-entered {A} f g x same new =
-      ring-more f (c .«max_messages») (placeOf (c .«max_messages») (c .start) (leaving c)) (c .count - leaving c) g same
-      ∙ ap (λ (y : A). ring f (c .«max_messages») (placeOf (c .«max_messages») (c .start) (leaving c)) (c .count - leaving c) ++ (y ∷ [])) new
-      ∙ ap (λ (l : List A). l ++ (x ∷ [])) (ring-drop f (c .«max_messages») (c .start) (c .count) (leaving c) a b leaving-in)
-      ∙ ap (λ (n : ℕ). drop ((n + 1) - c .«max_messages») (ring f (c .«max_messages») (c .start) (c .count)) ++ (x ∷ [])) (sym (length-ring f (c .«max_messages») (c .start) (c .count)))
-      ∙ sym (newest-more (c .«max_messages») (ring f (c .«max_messages») (c .start) (c .count)) x some)
+      ring-more f (rest c) g same
+      ∙ ap (λ (y : A). rowsIn f (rest c) ++ (y ∷ [])) new
+      ∙ ap (λ (l : List A). l ++ (x ∷ [])) (ring-drop f (ringOf c) (leaving c) a b leaving-in)
+      ∙ ap (λ (n : ℕ). drop ((n + 1) - c .«max_messages») (rowsIn f (ringOf c)) ++ (x ∷ [])) (sym (length-ring f (ringOf c)))
+      ∙ sym (newest-more (c .«max_messages») (rowsIn f (ringOf c)) x some)
 
-module _ (c : MessageCache) (st m id : List ℕ) (t : Tests c st) (z : Sized c) (k : length id ≤ 128) (n : length m ≤ 4096) (some : c .«max_messages» ≡ 0 → ⊥) where
-  spot-small : spot c < 64
+module _ (c : MessageCache) (st m id : List ℕ) (t : Tests c st) (z : Sized c) (k : length id ≤ messageIdSize) (n : length m ≤ messageSize) (some : c .«max_messages» ≡ 0 → ⊥) where
+  spot-small : spot c < maxMessages
   spot-small = omega (arith, spot-in c (t .starts) (t .within) some, t .few)
 
   -- the rows that stay are as they were
   pub kept-id : (i : ℕ) → i < c .count - leaving c
-      → idAt 128 (set (c .«id_len») (spot c) (length id)) (sets (c .ids) (spot c * 128) id) (stays c i) ≡ idAt 128 (c .«id_len») (c .ids) (stays c i)
+      → idAt messageIdSize (set (c .«id_len») (spot c) (length id)) (sets (c .ids) (spot c * messageIdSize) id) (stays c i) ≡ idAt messageIdSize (c .«id_len») (c .ids) (stays c i)
   kept-id i h =
-      id-kept 128 (c .«id_len») (c .ids) id (spot c) k (stays c i) (spot-free c (t .starts) (t .within) some i h)
+      id-kept messageIdSize (c .«id_len») (c .ids) id (spot c) k (stays c i) (spot-free c (t .starts) (t .within) some i h)
       (rw (stays-is c (t .starts) (t .within) some i h) (row-id-short c st t (leaving c + i) (omega arith)))
 
   pub kept-message : (i : ℕ) → i < c .count - leaving c
-      → messageIn (set (c .len) (spot c) (length m)) (sets st (spot c * 4096) m) (stays c i) ≡ messageIn (c .len) st (stays c i)
+      → messageIn (set (c .len) (spot c) (length m)) (sets st (spot c * messageSize) m) (stays c i) ≡ messageIn (c .len) st (stays c i)
   unfolding messageIn idAt
   kept-message i h =
-      id-kept 4096 (c .len) st m (spot c) n (stays c i) (spot-free c (t .starts) (t .within) some i h)
+      id-kept messageSize (c .len) st m (spot c) n (stays c i) (spot-free c (t .starts) (t .within) some i h)
       (rw (stays-is c (t .starts) (t .within) some i h) (row-short c st t (leaving c + i) (omega arith)))
 
   pub kept-number : (l : List ℕ) (x i : ℕ) → i < c .count - leaving c → getD (set l (spot c) x) (stays c i) 0 ≡ getD l (stays c i) 0
   kept-number l x i h = getD-set-other l (spot c) (stays c i) x 0 (spot-free c (t .starts) (t .within) some i h)
 
   -- and the new one holds what was given
-  pub new-id : idAt 128 (set (c .«id_len») (spot c) (length id)) (sets (c .ids) (spot c * 128) id) (spot c) ≡ id
+  pub new-id : idAt messageIdSize (set (c .«id_len») (spot c) (length id)) (sets (c .ids) (spot c * messageIdSize) id) (spot c) ≡ id
   new-id =
-      id-put 128 (c .«id_len») (c .ids) id (spot c) (omega (arith, spot-small, z .id-lengths))
-      (row-fits 128 64 (spot c) (length id) (length (c .ids)) spot-small k (omega (arith, z .id-room)))
+      id-put messageIdSize (c .«id_len») (c .ids) id (spot c) (omega (arith, spot-small, z .id-lengths))
+      (row-fits messageIdSize maxMessages (spot c) (length id) (length (c .ids)) spot-small k (omega (arith, z .id-room)))
 
-  pub new-message : messageIn (set (c .len) (spot c) (length m)) (sets st (spot c * 4096) m) (spot c) ≡ m
+  pub new-message : messageIn (set (c .len) (spot c) (length m)) (sets st (spot c * messageSize) m) (spot c) ≡ m
   unfolding messageIn idAt
   new-message =
-      id-put 4096 (c .len) st m (spot c) (omega (arith, spot-small, z .lengths))
-      (row-fits 4096 (c .«max_messages») (spot c) (length m) (length st) (spot-in c (t .starts) (t .within) some) n (omega (arith, t .room)))
+      id-put messageSize (c .len) st m (spot c) (omega (arith, spot-small, z .lengths))
+      (row-fits messageSize (c .«max_messages») (spot c) (length m) (length st) (spot-in c (t .starts) (t .within) some) n (omega (arith, t .room)))
 
-  pub new-number : (l : List ℕ) (x : ℕ) → length l ≡ 64 → getD (set l (spot c) x) (spot c) 0 ≡ x
+  pub new-number : (l : List ℕ) (x : ℕ) → length l ≡ maxMessages → getD (set l (spot c) x) (spot c) 0 ≡ x
   new-number l x e = getD-set-same l (spot c) x 0 (omega (arith, spot-small))
 
 -- the cache with a message more, where some is kept
@@ -213,13 +218,13 @@ grown n id c =
       «history_len» = c .«history_len»;
       «max_messages» = c .«max_messages»;
       «next_generation» = (c .«next_generation» + 1) % 2 ^ 64;
-      start = placeOf (c .«max_messages») (c .start) (leaving c);
-      count = (c .count - leaving c) + 1;
+      start = rest c .start;
+      count = rest c .count + 1;
       generation = set (c .generation) (spot c) (c .«next_generation»);
       window = set (c .window) (spot c) 0;
       len = set (c .len) (spot c) n;
       «id_len» = set (c .«id_len») (spot c) (length id);
-      ids = sets (c .ids) (spot c * 128) id;
+      ids = sets (c .ids) (spot c * messageIdSize) id;
     }
 
 pub entered-some : (n : ℕ) (id : List ℕ) (c : MessageCache) → (c .«max_messages» ≡ 0 → ⊥) → entered n id c ≡ grown n id c
@@ -230,7 +235,7 @@ pub entered-none : (n : ℕ) (id : List ℕ) (c : MessageCache) → c .«max_mes
 unfolding entered
 entered-none n id c e = rw (eq-eqb (c .«max_messages») 0 e)
 
-pub stored-some : (c : MessageCache) (st m : List ℕ) → (c .«max_messages» ≡ 0 → ⊥) → enteredStore c st m ≡ sets st (spot c * 4096) m
+pub stored-some : (c : MessageCache) (st m : List ℕ) → (c .«max_messages» ≡ 0 → ⊥) → enteredStore c st m ≡ sets st (spot c * messageSize) m
 unfolding enteredStore dropped spot
 stored-some c st m some = rw (ne-eqb (c .«max_messages») 0 some)
 
@@ -254,11 +259,11 @@ cached-passed c st x b e =
 abbrev pub new : List ℕ → List ℕ → Cached
 new id m = record { id = id; message = m; window = 0 }
 
-module _ (c : MessageCache) (st m id : List ℕ) (t : Tests c st) (z : Sized c) (k : length id ≤ 128) (n : length m ≤ 4096) where
-  pub cached-grown : (c .«max_messages» ≡ 0 → ⊥) → cachedIn (grown (length m) id c) (sets st (spot c * 4096) m) ≡ newest (c .«max_messages») (cachedIn c st ++ (new id m ∷ []))
+module _ (c : MessageCache) (st m id : List ℕ) (t : Tests c st) (z : Sized c) (k : length id ≤ messageIdSize) (n : length m ≤ messageSize) where
+  pub cached-grown : (c .«max_messages» ≡ 0 → ⊥) → cachedIn (grown (length m) id c) (sets st (spot c * messageSize) m) ≡ newest (c .«max_messages») (cachedIn c st ++ (new id m ∷ []))
   unfolding cachedIn grown cachedAt
   cached-grown some =
-      ring-entered c (t .starts) (t .within) some (cachedAt c st) (cachedAt (grown (length m) id c) (sets st (spot c * 4096) m)) (new id m)
+      ring-entered c (t .starts) (t .within) some (cachedAt c st) (cachedAt (grown (length m) id c) (sets st (spot c * messageSize) m)) (new id m)
       (λ i h. rw (kept-id c st m id t z k n some i h, kept-message c st m id t z k n some i h, kept-number c st m id t z k n some (c .window) 0 i h))
       (rw (new-id c st m id t z k n some, new-message c st m id t z k n some, new-number c st m id t z k n some (c .window) 0 (z .windows)))
 

@@ -6,9 +6,9 @@ use mathlib.Core.Bool.{true, cond}
 use lib.ListN.{length, drop, replicate}
 use lib.Seq.{sets}
 use lib.Dec.{ltb, eqb}
-use Rattle.rows.specs.Rows.{placeOf}
+use Rattle.rows.specs.Rows.{placeOf, rowsIn}
 use Rattle.rows.specs.Ids.{indexOf}
-use Rattle.rows.specs.Store.{idsIn, lensIn}
+use Rattle.rows.specs.Store.{idAt, idsIn, inUse}
 use Rattle.protobuf.specs.declared.Checked.{Checked}
 use Rattle.protobuf.specs.declared.Checked.the-variants as checked
 use Rattle.protobuf.specs.Refusal.{refusalNumber, refusalValues}
@@ -31,7 +31,7 @@ use Rattle.mcache.specs.declared.Lookup.{Lookup}
 use Rattle.mcache.specs.declared.Lookup.the-variants as lookup
 use Rattle.mcache.specs.declared.Gossip.{Gossip}
 use Rattle.mcache.specs.declared.Gossip.the-variants as gossip
-use Rattle.mcache.specs.State.{messageIn, legal, wellFormed, fresh, dropped, appended, passed, aged, stale, gathered}
+use Rattle.mcache.specs.State.{messageIn, legal, wellFormed, fresh, dropped, appended, passed, aged, stale, told, gatherInto, messageSize, messageIdSize, maxMessages, ringOf}
 
 -- ---- 01's numbers and values
 abbrev pub lentNumber : Lent → ℕ
@@ -89,7 +89,7 @@ startCache history max = cond (legal history max) (fresh history max) (fresh 1 0
 
 -- ---- the lent state: 41, 42
 unfoldable pub lentOf : MessageCache → List ℕ → Lent
-lentOf c st = cond (eqb (length st) (c .«max_messages» * 4096)) (cond (wellFormed c st) lent.Fine lent.Malformed) lent.BadStore
+lentOf c st = cond (eqb (length st) (c .«max_messages» * messageSize)) (cond (wellFormed c st) lent.Fine lent.Malformed) lent.BadStore
 
 abbrev pub whenFine : {A : Type 0} → Lent → A → A → A
 whenFine lent.Fine new old = new
@@ -99,7 +99,7 @@ whenFine lent.Malformed new old = old
 -- ---- the calls on a state that was tested
 -- which row holds an id, counted from the oldest; the count of rows where none does
 unfoldable pub indexIn : MessageCache → List ℕ → ℕ
-indexIn c id = indexOf id (idsIn 128 (c .«max_messages») (c .start) (c .count) (c .«id_len») (c .ids))
+indexIn c id = indexOf id (idsIn messageIdSize (ringOf c) (c .«id_len») (c .ids))
 
 -- the oldest leaves where there is no room; then a message of n bytes more. With max_messages 0 none is kept.
 unfoldable pub entered : ℕ → List ℕ → MessageCache → MessageCache
@@ -109,29 +109,22 @@ entered n id c = cond (eqb (c .«max_messages») 0) (passed c) (appended n id (d
 unfoldable pub enteredStore : MessageCache → List ℕ → List ℕ → List ℕ
 enteredStore c st m =
     cond (eqb (c .«max_messages») 0) st
-    (let d = dropped ((c .count + 1) - c .«max_messages») c in sets st (placeOf (c .«max_messages») (d .start) (d .count) * 4096) m)
-
--- a message under its id; a held id changes nothing
-unfoldable pub keptUnder : List ℕ → List ℕ → MessageCache → MessageCache
-keptUnder m id c = cond (ltb (indexIn c id) (c .count)) c (entered (length m) id c)
-
-unfoldable pub storedUnder : MessageCache → List ℕ → List ℕ → List ℕ → List ℕ
-storedUnder c st m id = cond (ltb (indexIn c id) (c .count)) st (enteredStore c st m)
+    (let d = dropped ((c .count + 1) - c .«max_messages») c in sets st (placeOf (ringOf d) (d .count) * messageSize) m)
 
 unfoldable pub shifted : MessageCache → MessageCache
-shifted c = dropped (stale (c .«history_len») (lensIn (c .«max_messages») (c .start) (c .count) (c .window))) (aged c)
+shifted c = dropped (stale (c .«history_len») (inUse (ringOf c) (c .window))) (aged c)
 
 unfoldable pub found : MessageCache → List ℕ → List ℕ → List ℕ
-found c st id = cond (ltb (indexIn c id) (c .count)) (messageIn (c .len) st (placeOf (c .«max_messages») (c .start) (indexIn c id))) []
+found c st id = cond (ltb (indexIn c id) (c .count)) (messageIn (c .len) st (placeOf (ringOf c) (indexIn c id))) []
 
 -- the places of the messages that are told of, in the order of their ids
 unfoldable pub gossipList : MessageCache → List ℕ → List ℕ → ℕ → List ℕ
 gossipList c st topic windows =
-    gathered (c .«max_messages») (c .start) (c .count) (c .window) (c .len) (c .«id_len») (c .ids) st windows topic
+    gatherInto (told (c .window) (c .len) st windows topic) (idAt messageIdSize (c .«id_len») (c .ids)) [] (rowsIn (λ (p : ℕ). p) (ringOf c))
 
 -- and zeros after them
 unfoldable pub gossipArray : MessageCache → List ℕ → List ℕ → ℕ → List ℕ
-gossipArray c st topic windows = gossipList c st topic windows ++ drop (length (gossipList c st topic windows)) (replicate 64 0)
+gossipArray c st topic windows = gossipList c st topic windows ++ drop (length (gossipList c st topic windows)) (replicate maxMessages 0)
 
 -- ---- put
 -- what a put is to do: keep a message under an id; or nothing, and answer so
@@ -151,10 +144,20 @@ abbrev pub storedIn : MessageCache → List ℕ → Plan → List ℕ
 storedIn c st (no r) = st
 storedIn c st (keep m id) = enteredStore c st m
 
--- a message p: 21 to 30 without 27; a held id changes nothing
+-- a message under its id: a held id changes nothing
+abbrev pub planUnder : MessageCache → List ℕ → List ℕ → Plan
+planUnder c m id = cond (ltb (indexIn c id) (c .count)) (no put.Held) (keep m id)
+
+unfoldable pub keptUnder : List ℕ → List ℕ → MessageCache → MessageCache
+keptUnder m id c = keptIn c (planUnder c m id)
+
+unfoldable pub storedUnder : MessageCache → List ℕ → List ℕ → List ℕ → List ℕ
+storedUnder c st m id = storedIn c st (planUnder c m id)
+
+-- a message p: 21 to 30 without 27
 abbrev pub planFit : MessageCache → List ℕ → Admission → Plan
 planFit c p (admission.Unfit why) = no (put.Unfit why)
-planFit c p (admission.Fit a e b f) = cond (ltb (indexIn c (idBytes p a e b f)) (c .count)) (no put.Held) (keep p (idBytes p a e b f))
+planFit c p (admission.Fit a e b f) = planUnder c p (idBytes p a e b f)
 
 -- 20
 abbrev pub planAt : MessageCache → List ℕ → MessageAt → Plan
@@ -210,4 +213,4 @@ unfoldable pub gossipCount : MessageCache → List ℕ → List ℕ → ℕ → 
 gossipCount c st topic windows = whenTold (gossipAnswer c st topic) (length (gossipList c st topic windows)) 0
 
 unfoldable pub gossipRows : MessageCache → List ℕ → List ℕ → ℕ → List ℕ
-gossipRows c st topic windows = whenTold (gossipAnswer c st topic) (gossipArray c st topic windows) (replicate 64 0)
+gossipRows c st topic windows = whenTold (gossipAnswer c st topic) (gossipArray c st topic windows) (replicate maxMessages 0)

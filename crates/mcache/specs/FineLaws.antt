@@ -9,11 +9,12 @@ use lib.Seq.{sets, length-sets, getD-set-same, getD-set-other, set-out}
 use lib.Dec.{leb, ltb, eqb}
 use borrow.Author.Tests.{le-leb, leb-true, ltb-true, ltb-false, eqb-true, eqb-false, eq-eqb}
 use Rattle.basis.specs.Cases.{either, clash, both}
-use Rattle.rows.specs.Rows.{placeOf, ring, newest}
+use Rattle.rows.specs.declared.Ring.{Ring}
+use Rattle.rows.specs.Rows.{rowsIn, newest, without, oneMore}
 use Rattle.rows.specs.RowsLaws.{place-le, ring-drop}
 use Rattle.rows.specs.Ids.{among, distinct}
 use Rattle.rows.specs.IdsLaws.{distinct-drop, distinct-snoc}
-use Rattle.rows.specs.Store.{idAt, idsIn, lensIn, allUpTo}
+use Rattle.rows.specs.Store.{idAt, idsIn, inUse, allUpTo}
 use Rattle.protobuf.specs.declared.Checked.{Checked}
 use Rattle.protobuf.specs.declared.Checked.the-variants as checked
 use Rattle.protobuf.specs.Walk.{between}
@@ -32,11 +33,11 @@ use Rattle.mcache.specs.declared.MessageCache.{MessageCache}
 use Rattle.mcache.specs.declared.Lent.{Lent}
 use Rattle.mcache.specs.declared.Lent.the-variants as lent
 use Rattle.mcache.specs.Messages.{Cached, shift}
-use Rattle.mcache.specs.State.{cachedIn, fallsFrom, runsTo, givesAt, allTrue, givesIn, legal, fresh, dropped, passed, older, aged, stale}
-use Rattle.mcache.specs.Calls.{lentOf, whenFine, indexIn, entered, enteredStore, keptUnder, storedUnder, shifted, Plan, no, keep, keptIn, storedIn, planFit, planAt, planBody, planned, shiftCache}
+use Rattle.mcache.specs.State.{cachedIn, fallsFrom, runsTo, givesAt, allTrue, givesIn, legal, fresh, dropped, passed, older, aged, stale, messageSize, messageIdSize, maxMessages, maxHistory, idsSize, ringOf}
+use Rattle.mcache.specs.Calls.{lentOf, whenFine, indexIn, entered, enteredStore, planUnder, keptUnder, storedUnder, shifted, Plan, no, keep, keptIn, storedIn, planFit, planAt, planBody, planned, shiftCache}
 use Rattle.mcache.specs.WellFormed.{Sized, Typed, freshAt, Reached, begun, given, opened}
 use Rattle.mcache.specs.StateLaws.{Tests, fine-tests, tests-fine}
-use Rattle.mcache.specs.CachedLaws.{windowsOf, windows-cached, cached-shifted, stale-in, leaving, spot, left-few, rest-starts, ring-entered, kept-id, kept-message, kept-number, new-id, new-message, new-number, grown, entered-some, entered-none, stored-some, stored-none}
+use Rattle.mcache.specs.CachedLaws.{windowsOf, windows-cached, cached-shifted, stale-in, leaving, spot, left-few, rest-starts, ring-entered, kept-id, kept-message, kept-number, new-id, new-message, new-number, grown, entered-some, entered-none, stored-some, stored-none, rest}
 use Rattle.mcache.specs.Laws.{held-rows}
 
 -- ---- the oldest leave, and what was true of the rows still is
@@ -108,16 +109,16 @@ pub fresh-first : (history max : ℕ) → fresh history max ≡ freshAt 0 histor
 unfolding fresh freshAt
 fresh-first history max = refl
 
-fresh-tests : (next history max : ℕ) (st : List ℕ) → legal history max ≡ true → length st ≡ max * 4096 → Tests (freshAt next history max) st
-unfolding freshAt legal lensIn idsIn givesIn ring fallsFrom runsTo allUpTo allTrue distinct
+fresh-tests : (next history max : ℕ) (st : List ℕ) → legal history max ≡ true → length st ≡ max * messageSize → Tests (freshAt next history max) st
+unfolding freshAt legal inUse idsIn givesIn rowsIn fallsFrom runsTo allUpTo allTrue distinct
 fresh-tests next history max st l r =
-    let a = both (leb 1 history) (leb history 16 && leb max 64) l in
-    let b = both (leb history 16) (leb max 64) (a .1) in
+    let a = both (leb 1 history) (leb history maxHistory && leb max maxMessages) l in
+    let b = both (leb history maxHistory) (leb max maxMessages) (a .1) in
     record {
       room = r;
       history-some = leb-true 1 history (a .0);
-      history-few = leb-true history 16 (b .0);
-      few = leb-true max 64 (b .1);
+      history-few = leb-true history maxHistory (b .0);
+      few = leb-true max maxMessages (b .1);
       starts = omega arith;
       within = omega arith;
       falls = refl;
@@ -127,10 +128,10 @@ fresh-tests next history max st l r =
       once = refl;
     }
 
-pub start-at-fine : (next history max : ℕ) (st : List ℕ) → legal history max ≡ true → length st ≡ max * 4096 → lentOf (freshAt next history max) st ≡ lent.Fine
+pub start-at-fine : (next history max : ℕ) (st : List ℕ) → legal history max ≡ true → length st ≡ max * messageSize → lentOf (freshAt next history max) st ≡ lent.Fine
 start-at-fine next history max st l r = tests-fine (freshAt next history max) st (fresh-tests next history max st l r)
 
-pub start-fine : (history max : ℕ) (st : List ℕ) → legal history max ≡ true → length st ≡ max * 4096 → lentOf (fresh history max) st ≡ lent.Fine
+pub start-fine : (history max : ℕ) (st : List ℕ) → legal history max ≡ true → length st ≡ max * messageSize → lentOf (fresh history max) st ≡ lent.Fine
 start-fine history max st l r = rw (fresh-first history max) (start-at-fine 0 history max st l r)
 
 -- ---- shift
@@ -148,44 +149,43 @@ shift-falls history most more (m ∷ ms) f up =
     (λ t. rw t (shift-falls history (m .window) more ms (b .1) (λ w i j. up w (omega arith) j)))
 
 shifted-windows : (c : MessageCache) (st : List ℕ) → Tests c st → Sized c
-    → fallsFrom (c .«history_len» - 1) (lensIn (shifted c .«max_messages») (shifted c .start) (shifted c .count) (shifted c .window)) ≡ true
+    → fallsFrom (c .«history_len» - 1) (inUse (ringOf (shifted c)) (shifted c .window)) ≡ true
 shifted-windows c st t z =
     rw (← windows-cached (shifted c) st, cached-shifted c st t z)
     (shift-falls (c .«history_len») (c .«history_len» - 1) (c .«history_len» - 1) (cachedIn c st) (rw (windows-cached c st) (t .falls)) (λ w i j. omega arith))
 
 -- the numbers of the rows that stay
-lens-less : (k cap start count : ℕ) (l : List ℕ) → start ≤ cap → count ≤ cap → k ≤ count → lensIn cap (placeOf cap start k) (count - k) l ≡ drop k (lensIn cap start count l)
-unfolding lensIn
-lens-less k cap start count l a b h = ring-drop (λ (p : ℕ). getD l p 0) cap start count k a b h
+numbers-less : (k : ℕ) (ring : Ring) (l : List ℕ) → ring .start ≤ ring .cap → ring .count ≤ ring .cap → k ≤ ring .count → inUse (without k ring) l ≡ drop k (inUse ring l)
+unfolding inUse
+numbers-less k ring l a b h = ring-drop (λ (p : ℕ). getD l p 0) ring k a b h
 
-ids-less : (k cap start count : ℕ) (lens ids : List ℕ) → start ≤ cap → count ≤ cap → k ≤ count → idsIn 128 cap (placeOf cap start k) (count - k) lens ids ≡ drop k (idsIn 128 cap start count lens ids)
+ids-less : (k : ℕ) (ring : Ring) (lens ids : List ℕ) → ring .start ≤ ring .cap → ring .count ≤ ring .cap → k ≤ ring .count → idsIn messageIdSize (without k ring) lens ids ≡ drop k (idsIn messageIdSize ring lens ids)
 unfolding idsIn
-ids-less k cap start count lens ids a b h = ring-drop (idAt 128 lens ids) cap start count k a b h
+ids-less k ring lens ids a b h = ring-drop (idAt messageIdSize lens ids) ring k a b h
 
-gives-less : (k cap start count : ℕ) (lens ilens ids st : List ℕ) → start ≤ cap → count ≤ cap → k ≤ count → givesIn cap start count lens ilens ids st ≡ true
-    → givesIn cap (placeOf cap start k) (count - k) lens ilens ids st ≡ true
+gives-less : (k : ℕ) (ring : Ring) (lens ilens ids st : List ℕ) → ring .start ≤ ring .cap → ring .count ≤ ring .cap → k ≤ ring .count → givesIn ring lens ilens ids st ≡ true
+    → givesIn (without k ring) lens ilens ids st ≡ true
 unfolding givesIn
-gives-less k cap start count lens ilens ids st a b h g =
-    rw (ring-drop (givesAt lens ilens ids st) cap start count k a b h) (true-drop k (ring (givesAt lens ilens ids st) cap start count) g)
+gives-less k ring lens ilens ids st a b h g =
+    rw (ring-drop (givesAt lens ilens ids st) ring k a b h) (true-drop k (rowsIn (givesAt lens ilens ids st) ring) g)
 
 shifted-tests : (c : MessageCache) (st : List ℕ) → Tests c st → Sized c → Tests (shifted c) st
 unfolding shifted aged dropped
 shifted-tests c st t z =
-    let cap = c .«max_messages» in
-    let k = stale (c .«history_len») (lensIn cap (c .start) (c .count) (c .window)) in
-    let h : k ≤ c .count = stale-in (c .«history_len») cap (c .start) (c .count) (c .window) in
+    let k = stale (c .«history_len») (inUse (ringOf c) (c .window)) in
+    let h : k ≤ c .count = stale-in (c .«history_len») (ringOf c) (c .window) in
     record {
       room = t .room;
       history-some = t .history-some;
       history-few = t .history-few;
       few = t .few;
-      starts = place-le cap (c .start) k (t .starts) (omega (arith, t .within));
+      starts = place-le (ringOf c) k (t .starts) (omega (arith, t .within));
       within = omega (arith, t .within);
       falls = shifted-windows c st t z;
-      runs = rw (lens-less k cap (c .start) (c .count) (c .generation) (t .starts) (t .within) h) (runs-drop (c .«next_generation») k (lensIn cap (c .start) (c .count) (c .generation)) (t .runs));
-      id-short = rw (lens-less k cap (c .start) (c .count) (c .«id_len») (t .starts) (t .within) h) (upto-drop 128 k (lensIn cap (c .start) (c .count) (c .«id_len»)) (t .id-short));
-      gives = gives-less k cap (c .start) (c .count) (c .len) (c .«id_len») (c .ids) st (t .starts) (t .within) h (t .gives);
-      once = rw (ids-less k cap (c .start) (c .count) (c .«id_len») (c .ids) (t .starts) (t .within) h) (distinct-drop k (idsIn 128 cap (c .start) (c .count) (c .«id_len») (c .ids)) (t .once));
+      runs = rw (numbers-less k (ringOf c) (c .generation) (t .starts) (t .within) h) (runs-drop (c .«next_generation») k (inUse (ringOf c) (c .generation)) (t .runs));
+      id-short = rw (numbers-less k (ringOf c) (c .«id_len») (t .starts) (t .within) h) (upto-drop messageIdSize k (inUse (ringOf c) (c .«id_len»)) (t .id-short));
+      gives = gives-less k (ringOf c) (c .len) (c .«id_len») (c .ids) st (t .starts) (t .within) h (t .gives);
+      once = rw (ids-less k (ringOf c) (c .«id_len») (c .ids) (t .starts) (t .within) h) (distinct-drop k (idsIn messageIdSize (ringOf c) (c .«id_len») (c .ids)) (t .once));
     }
 
 pub shifted-fine : (c : MessageCache) (st : List ℕ) → lentOf c st ≡ lent.Fine → Sized c → lentOf (shifted c) st ≡ lent.Fine
@@ -198,8 +198,8 @@ shift-fine c st f z = rw f (tests-fine (shifted c) st (shifted-tests c st (fine-
 -- ---- put
 -- what a message that is kept, and its id, are
 pub record Keeps (c : MessageCache) (m id : List ℕ) : Type 0 where
-  pub small : length m ≤ 4096
-  pub id-small : length id ≤ 128
+  pub small : length m ≤ messageSize
+  pub id-small : length id ≤ messageIdSize
   pub own : givesId m id ≡ true
   pub fresh : ltb (indexIn c id) (c .count) ≡ false
 
@@ -233,68 +233,68 @@ pub planned-keeps : (c : MessageCache) (st body m id : List ℕ) (i : ℕ) → l
 unfolding planned
 planned-keeps c st body m id i f h = of-body c body m id i (acceptOf body) refl (rw f at h)
 
-not-held : (c : MessageCache) (m id : List ℕ) → Keeps c m id → among id (idsIn 128 (c .«max_messages») (c .start) (c .count) (c .«id_len») (c .ids)) ≡ false
+not-held : (c : MessageCache) (m id : List ℕ) → Keeps c m id → among id (idsIn messageIdSize (ringOf c) (c .«id_len») (c .ids)) ≡ false
 not-held c m id k = held-rows c id ∙ k .fresh
 
 module _ (c : MessageCache) (st m id : List ℕ) (t : Tests c st) (z : Sized c) (k : Keeps c m id) (some : c .«max_messages» ≡ 0 → ⊥) where
-  lens-more : (l : List ℕ) (x : ℕ) → length l ≡ 64
-      → lensIn (c .«max_messages») (placeOf (c .«max_messages») (c .start) (leaving c)) ((c .count - leaving c) + 1) (set l (spot c) x) ≡ newest (c .«max_messages») (lensIn (c .«max_messages») (c .start) (c .count) l ++ (x ∷ []))
-  unfolding lensIn
-  lens-more l x e =
+  numbers-more : (l : List ℕ) (x : ℕ) → length l ≡ maxMessages
+      → inUse (oneMore (rest c)) (set l (spot c) x) ≡ newest (c .«max_messages») (inUse (ringOf c) l ++ (x ∷ []))
+  unfolding inUse
+  numbers-more l x e =
       ring-entered c (t .starts) (t .within) some (λ (p : ℕ). getD l p 0) (λ (p : ℕ). getD (set l (spot c) x) p 0) x
       (kept-number c st m id t z (k .id-small) (k .small) some l x) (new-number c st m id t z (k .id-small) (k .small) some l x e)
 
-  ids-more : idsIn 128 (c .«max_messages») (placeOf (c .«max_messages») (c .start) (leaving c)) ((c .count - leaving c) + 1) (set (c .«id_len») (spot c) (length id)) (sets (c .ids) (spot c * 128) id)
-      ≡ newest (c .«max_messages») (idsIn 128 (c .«max_messages») (c .start) (c .count) (c .«id_len») (c .ids) ++ (id ∷ []))
+  ids-more : idsIn messageIdSize (oneMore (rest c)) (set (c .«id_len») (spot c) (length id)) (sets (c .ids) (spot c * messageIdSize) id)
+      ≡ newest (c .«max_messages») (idsIn messageIdSize (ringOf c) (c .«id_len») (c .ids) ++ (id ∷ []))
   unfolding idsIn
   ids-more =
-      ring-entered c (t .starts) (t .within) some (idAt 128 (c .«id_len») (c .ids)) (idAt 128 (set (c .«id_len») (spot c) (length id)) (sets (c .ids) (spot c * 128) id)) id
+      ring-entered c (t .starts) (t .within) some (idAt messageIdSize (c .«id_len») (c .ids)) (idAt messageIdSize (set (c .«id_len») (spot c) (length id)) (sets (c .ids) (spot c * messageIdSize) id)) id
       (kept-id c st m id t z (k .id-small) (k .small) some) (new-id c st m id t z (k .id-small) (k .small) some)
 
-  gives-more : givesIn (c .«max_messages») (placeOf (c .«max_messages») (c .start) (leaving c)) ((c .count - leaving c) + 1) (set (c .len) (spot c) (length m))
-      (set (c .«id_len») (spot c) (length id)) (sets (c .ids) (spot c * 128) id) (sets st (spot c * 4096) m) ≡ true
+  gives-more : givesIn (oneMore (rest c)) (set (c .len) (spot c) (length m))
+      (set (c .«id_len») (spot c) (length id)) (sets (c .ids) (spot c * messageIdSize) id) (sets st (spot c * messageSize) m) ≡ true
   unfolding givesIn givesAt newest
   gives-more =
       let old = givesAt (c .len) (c .«id_len») (c .ids) st in
-      let l = ring old (c .«max_messages») (c .start) (c .count) ++ (true ∷ []) in
+      let l = rowsIn old (ringOf c) ++ (true ∷ []) in
       rw
       (ring-entered c (t .starts) (t .within) some old
-      (givesAt (set (c .len) (spot c) (length m)) (set (c .«id_len») (spot c) (length id)) (sets (c .ids) (spot c * 128) id) (sets st (spot c * 4096) m)) true
+      (givesAt (set (c .len) (spot c) (length m)) (set (c .«id_len») (spot c) (length id)) (sets (c .ids) (spot c * messageIdSize) id) (sets st (spot c * messageSize) m)) true
       (λ i h.
       rw (kept-number c st m id t z (k .id-small) (k .small) some (c .len) (length m) i h, kept-message c st m id t z (k .id-small) (k .small) some i h, kept-id c st m id t z (k .id-small) (k .small) some i h))
       (rw (
         new-number c st m id t z (k .id-small) (k .small) some (c .len) (length m) (z .lengths),
         new-message c st m id t z (k .id-small) (k .small) some,
         new-id c st m id t z (k .id-small) (k .small) some,
-        le-leb (length m) 4096 (k .small),
+        le-leb (length m) messageSize (k .small),
       ) (k .own)))
-      (true-drop (length l - c .«max_messages») l (true-snoc (ring old (c .«max_messages») (c .start) (c .count)) (t .gives)))
+      (true-drop (length l - c .«max_messages») l (true-snoc (rowsIn old (ringOf c)) (t .gives)))
 
-  grown-tests : Tests (grown (length m) id c) (sets st (spot c * 4096) m)
+  grown-tests : Tests (grown (length m) id c) (sets st (spot c * messageSize) m)
   unfolding grown newest
   grown-tests =
-      let windows = lensIn (c .«max_messages») (c .start) (c .count) (c .window) in
-      let numbers = lensIn (c .«max_messages») (c .start) (c .count) (c .generation) in
-      let lens = lensIn (c .«max_messages») (c .start) (c .count) (c .«id_len») in
-      let ids = idsIn 128 (c .«max_messages») (c .start) (c .count) (c .«id_len») (c .ids) in
+      let windows = inUse (ringOf c) (c .window) in
+      let numbers = inUse (ringOf c) (c .generation) in
+      let lens = inUse (ringOf c) (c .«id_len») in
+      let ids = idsIn messageIdSize (ringOf c) (c .«id_len») (c .ids) in
       record {
-        room = length-sets st (spot c * 4096) m ∙ t .room;
+        room = length-sets st (spot c * messageSize) m ∙ t .room;
         history-some = t .history-some;
         history-few = t .history-few;
         few = t .few;
         starts = rest-starts c (t .starts) (t .within) some;
         within = omega (arith, left-few c (t .starts) (t .within) some);
-        falls = rw (lens-more (c .window) 0 (z .windows)) (falls-drop (c .«history_len» - 1) (length (windows ++ (0 ∷ [])) - c .«max_messages») (windows ++ (0 ∷ [])) (falls-snoc (c .«history_len» - 1) windows (t .falls)));
+        falls = rw (numbers-more (c .window) 0 (z .windows)) (falls-drop (c .«history_len» - 1) (length (windows ++ (0 ∷ [])) - c .«max_messages») (windows ++ (0 ∷ [])) (falls-snoc (c .«history_len» - 1) windows (t .falls)));
         runs =
-            rw (lens-more (c .generation) (c .«next_generation») (z .generations))
+            rw (numbers-more (c .generation) (c .«next_generation») (z .generations))
             (runs-drop ((c .«next_generation» + 1) % 2 ^ 64) (length (numbers ++ (c .«next_generation» ∷ [])) - c .«max_messages») (numbers ++ (c .«next_generation» ∷ [])) (runs-snoc (c .«next_generation») numbers (t .runs)));
-        id-short = rw (lens-more (c .«id_len») (length id) (z .id-lengths)) (upto-drop 128 (length (lens ++ (length id ∷ [])) - c .«max_messages») (lens ++ (length id ∷ [])) (upto-snoc 128 (length id) lens (k .id-small) (t .id-short)));
+        id-short = rw (numbers-more (c .«id_len») (length id) (z .id-lengths)) (upto-drop messageIdSize (length (lens ++ (length id ∷ [])) - c .«max_messages») (lens ++ (length id ∷ [])) (upto-snoc messageIdSize (length id) lens (k .id-small) (t .id-short)));
         gives = gives-more;
         once = rw ids-more (distinct-drop (length (ids ++ (id ∷ [])) - c .«max_messages») (ids ++ (id ∷ [])) (distinct-snoc ids id (t .once) (not-held c m id k)));
       }
 
 passed-tests : (c : MessageCache) (st : List ℕ) → Tests c st → c .«max_messages» ≡ 0 → Tests (passed c) st
-unfolding passed lensIn ring runsTo
+unfolding passed inUse rowsIn runsTo
 passed-tests c st t e =
     let n : c .count ≡ 0 = omega (arith, t .within) in
     record {
@@ -319,7 +319,7 @@ entered-fine c st m id t z k =
     rw (entered-none (length m) id c e, stored-none c st m e) (tests-fine (passed c) st (passed-tests c st t e)))
     (λ u.
     let some = eqb-false (c .«max_messages») 0 u in
-    rw (entered-some (length m) id c some, stored-some c st m some) (tests-fine (grown (length m) id c) (sets st (spot c * 4096) m) (grown-tests c st m id t z k some)))
+    rw (entered-some (length m) id c some, stored-some c st m some) (tests-fine (grown (length m) id c) (sets st (spot c * messageSize) m) (grown-tests c st m id t z k some)))
 
 put-by : (c : MessageCache) (st body : List ℕ) (i : ℕ) → lentOf c st ≡ lent.Fine → Sized c → (r : Plan) → planned c st body i ≡ r → lentOf (keptIn c r) (storedIn c st r) ≡ lent.Fine
 put-by c st body i f z (no r) e = f
@@ -330,7 +330,7 @@ pub put-fine : (c : MessageCache) (st body : List ℕ) (i : ℕ) → lentOf c st
 put-fine c st body i f z = put-by c st body i f z (planned c st body i) refl
 
 -- a message that may be taken, put under its id, whatever it came from
-pub under-fine : (c : MessageCache) (st m id : List ℕ) → lentOf c st ≡ lent.Fine → Sized c → length m ≤ 4096 → length id ≤ 128 → givesId m id ≡ true
+pub under-fine : (c : MessageCache) (st m id : List ℕ) → lentOf c st ≡ lent.Fine → Sized c → length m ≤ messageSize → length id ≤ messageIdSize → givesId m id ≡ true
     → lentOf (keptUnder m id c) (storedUnder c st m id) ≡ lent.Fine
 unfolding keptUnder storedUnder
 under-fine c st m id f z n k g =
@@ -347,7 +347,7 @@ grown-sized n id c z =
       windows = length-set (c .window) (spot c) 0 ∙ z .windows;
       lengths = length-set (c .len) (spot c) n ∙ z .lengths;
       id-lengths = length-set (c .«id_len») (spot c) (length id) ∙ z .id-lengths;
-      id-room = length-sets (c .ids) (spot c * 128) id ∙ z .id-room;
+      id-room = length-sets (c .ids) (spot c * messageIdSize) id ∙ z .id-room;
     }
 
 passed-sized : (c : MessageCache) → Sized c → Sized (passed c)
@@ -362,11 +362,11 @@ pub fresh-sized : (next history max : ℕ) → Sized (freshAt next history max)
 unfolding freshAt
 fresh-sized next history max =
     record {
-      generations = length-replicate {A = ℕ} 64 0;
-      windows = length-replicate {A = ℕ} 64 0;
-      lengths = length-replicate {A = ℕ} 64 0;
-      id-lengths = length-replicate {A = ℕ} 64 0;
-      id-room = length-replicate {A = ℕ} 8192 0;
+      generations = length-replicate {A = ℕ} maxMessages 0;
+      windows = length-replicate {A = ℕ} maxMessages 0;
+      lengths = length-replicate {A = ℕ} maxMessages 0;
+      id-lengths = length-replicate {A = ℕ} maxMessages 0;
+      id-room = length-replicate {A = ℕ} idsSize 0;
     }
 
 set-small : (l : List ℕ) (q x : ℕ) → ((p : ℕ) → getD l p 0 < 2 ^ 64) → x < 2 ^ 64 → (p : ℕ) → getD (set l q x) p 0 < 2 ^ 64
@@ -397,7 +397,7 @@ zeros-small (suc n) (suc p) = zeros-small n p
 
 pub fresh-typed : (next history max : ℕ) → next < 2 ^ 64 → Typed (freshAt next history max)
 unfolding freshAt
-fresh-typed next history max h = record { sized = fresh-sized next history max; next-small = h; small = zeros-small 64 }
+fresh-typed next history max h = record { sized = fresh-sized next history max; next-small = h; small = zeros-small maxMessages }
 
 entered-sized : (n : ℕ) (id : List ℕ) (c : MessageCache) → Sized c → Sized (entered n id c)
 entered-sized n id c z =
@@ -427,7 +427,7 @@ put-typed c st body i y = typed-by c y (planned c st body i)
 
 pub under-typed : (m id : List ℕ) (c : MessageCache) → Typed c → Typed (keptUnder m id c)
 unfolding keptUnder
-under-typed m id c y = either (ltb (indexIn c id) (c .count)) (λ t. rw t y) (λ t. rw t (entered-typed (length m) id c y))
+under-typed m id c y = typed-by c y (planUnder c m id)
 
 sized-shift : (c : MessageCache) → Sized c → (l : Lent) → Sized (whenFine l (shifted c) c)
 sized-shift c z lent.Fine = shifted-sized c z

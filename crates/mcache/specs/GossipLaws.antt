@@ -10,7 +10,7 @@ use lib.Seq.{take-append-seam}
 use lib.Dec.{ltb}
 use borrow.Author.Tests.{ltb-true, lt-ltb, le-ltb}
 use Rattle.basis.specs.Cases.{either, clash, both}
-use Rattle.rows.specs.Rows.{ring}
+use Rattle.rows.specs.Rows.{rowsIn}
 use Rattle.rows.specs.RowsLaws.{map-ring}
 use Rattle.rows.specs.Ids.{sameBytes, precedesBytes, among, distinct}
 use Rattle.rows.specs.IdsLaws.{same-self, same-equal, order-irreflexive, order-total, order-trans, each-distinct}
@@ -20,7 +20,7 @@ use Rattle.mcache.specs.declared.MessageCache.{MessageCache}
 use Rattle.mcache.specs.declared.Lent.the-variants as lent
 use Rattle.mcache.specs.declared.Gossip.the-variants as gossip
 use Rattle.mcache.specs.Messages.{Cached, topics, idsOf, held, carrying, enterId, inOrder, gossipIds}
-use Rattle.mcache.specs.State.{messageIn, cachedAt, cachedIn, told, insertRow, gatherInto, gathered}
+use Rattle.mcache.specs.State.{messageIn, cachedAt, cachedIn, told, insertRow, gatherInto, messageIdSize, maxMessages, ringOf}
 use Rattle.mcache.specs.Calls.{lentOf, gossipList, gossipArray, gossipAnswer, gossipCount, gossipRows}
 use Rattle.mcache.specs.StateLaws.{fine-tests}
 
@@ -163,28 +163,28 @@ gather-enter t id qs (p ∷ ps) d a =
 
 -- ---- the messages that carry a topic are those in the rows that are told of
 carrying-rows : (c : MessageCache) (st topic : List ℕ) (windows : ℕ) (ps : List ℕ)
-    → idsOf (carrying topic windows (map (cachedAt c st) ps)) ≡ map (idAt 128 (c .«id_len») (c .ids)) (chosen (told (c .window) (c .len) st windows topic) ps)
+    → idsOf (carrying topic windows (map (cachedAt c st) ps)) ≡ map (idAt messageIdSize (c .«id_len») (c .ids)) (chosen (told (c .window) (c .len) st windows topic) ps)
 unfolding carrying chosen cachedAt told
 carrying-rows c st topic windows [] = refl
 carrying-rows c st topic windows (p ∷ ps) =
     let r = carrying-rows c st topic windows ps in
     either (ltb (getD (c .window) p 0) windows && among topic (topicsOf (messageIn (c .len) st p)))
-    (λ t. rw t (ap (λ (l : List (List ℕ)). idAt 128 (c .«id_len») (c .ids) p ∷ l) r))
+    (λ t. rw t (ap (λ (l : List (List ℕ)). idAt messageIdSize (c .«id_len») (c .ids) p ∷ l) r))
     (λ t. rw t r)
 
 pub gossip-ids : (c : MessageCache) (st topic : List ℕ) (windows : ℕ) → lentOf c st ≡ lent.Fine
-    → map (idAt 128 (c .«id_len») (c .ids)) (gossipList c st topic windows) ≡ gossipIds topic windows (cachedIn c st)
-unfolding gossipList gathered gossipIds cachedIn Apart among idsIn
+    → map (idAt messageIdSize (c .«id_len») (c .ids)) (gossipList c st topic windows) ≡ gossipIds topic windows (cachedIn c st)
+unfolding gossipList gossipIds cachedIn Apart among idsIn
 gossip-ids c st topic windows f =
-    let ps = ring (λ (p : ℕ). p) (c .«max_messages») (c .start) (c .count) in
-    let id = idAt 128 (c .«id_len») (c .ids) in
+    let ps = rowsIn (λ (p : ℕ). p) (ringOf c) in
+    let id = idAt messageIdSize (c .«id_len») (c .ids) in
     let t = told (c .window) (c .len) st windows topic in
     gather-enter t id [] ps
-    (rw (map-ring id (λ (p : ℕ). p) (c .«max_messages») (c .start) (c .count)) (fine-tests c st f .once))
+    (rw (map-ring id (λ (p : ℕ). p) (ringOf c)) (fine-tests c st f .once))
     (λ x m. refl)
     ∙ enter-order (map id (chosen t ps))
     ∙ ap inOrder (sym (carrying-rows c st topic windows ps))
-    ∙ ap (λ (ms : List Cached). inOrder (idsOf (carrying topic windows ms))) (map-ring (cachedAt c st) (λ (p : ℕ). p) (c .«max_messages») (c .start) (c .count))
+    ∙ ap (λ (ms : List Cached). inOrder (idsOf (carrying topic windows ms))) (map-ring (cachedAt c st) (λ (p : ℕ). p) (ringOf c))
 
 -- ---- what the call answers: of the rows that it gives, the first `count` hold those ids
 module _ (c : MessageCache) (st topic : List ℕ) (fine : lentOf c st ≡ lent.Fine) where
@@ -193,11 +193,11 @@ module _ (c : MessageCache) (st topic : List ℕ) (fine : lentOf c st ≡ lent.F
   gossip-says = rw fine
 
   pub gossip-told : (windows : ℕ) → length topic ≤ 1024
-      → map (idAt 128 (c .«id_len») (c .ids)) (take (gossipCount c st topic windows) (gossipRows c st topic windows)) ≡ gossipIds topic windows (cachedIn c st)
+      → map (idAt messageIdSize (c .«id_len») (c .ids)) (take (gossipCount c st topic windows) (gossipRows c st topic windows)) ≡ gossipIds topic windows (cachedIn c st)
   unfolding gossipCount gossipRows gossipArray
   gossip-told windows h =
       let l = gossipList c st topic windows in
-      rw (gossip-says, le-ltb 1024 (length topic) h, take-append-seam l (drop (length l) (replicate 64 0))) (gossip-ids c st topic windows fine)
+      rw (gossip-says, le-ltb 1024 (length topic) h, take-append-seam l (drop (length l) (replicate maxMessages 0))) (gossip-ids c st topic windows fine)
 
 -- ---- in byte order, each once
 -- each comes before the next, the first after `i`

@@ -7,7 +7,8 @@ use mathlib.Core.Logic.{⊎-elim}
 use native.Mathlib.Omega.{arith}
 use lib.ListN.{length, drop}
 use lib.Seq.{sets}
-use Rattle.rows.specs.Rows.{placeOf}
+use Rattle.rows.specs.declared.Ring.{Ring}
+use Rattle.rows.specs.Rows.{placeOf, without, oneMore}
 use Rattle.rows.specs.RowsLaws.{place-is, place-le, newest-more}
 use Rattle.protobuf.specs.declared.Checked.the-variants as checked
 use Rattle.protobuf.specs.Walk.{between}
@@ -20,11 +21,11 @@ use Rattle.mcache.specs.declared.MessageCache.{MessageCache}
 use Rattle.mcache.specs.declared.Lent.the-variants as lent
 use Rattle.mcache.specs.declared.Put.the-variants as put
 use Rattle.mcache.specs.Messages.{Cached, held, put as putIn}
-use Rattle.mcache.specs.State.{cachedIn}
+use Rattle.mcache.specs.State.{cachedIn, messageSize, ringOf}
 use Rattle.mcache.specs.Calls.{lentOf, no, keep, answered, keptIn, storedIn, planned}
 use Rattle.mcache.specs.WellFormed.{Sized, rowOf}
 use Rattle.mcache.specs.StateLaws.{fine-tests}
-use Rattle.mcache.specs.CachedLaws.{new, leaving, spot, stays, spot-in, spot-free, grown, entered-some, stored-some}
+use Rattle.mcache.specs.CachedLaws.{new, leaving, spot, stays, spot-in, spot-free, grown, entered-some, stored-some, rest}
 use Rattle.mcache.specs.Laws.{put-plan, put-cached}
 
 -- ---- the messages
@@ -83,33 +84,33 @@ pub record Written (c d : MessageCache) (st st2 m : List ℕ) : Type 0 where
   -- of a full cache it is the place that the oldest left
   pub freed : c .count ≡ c .«max_messages» → place ≡ rowOf c 0
   -- and the message is all that is written
-  pub stored : st2 ≡ sets st (place * 4096) m
+  pub stored : st2 ≡ sets st (place * messageSize) m
 
-full-place : (cap start : ℕ) → start ≤ cap → 1 ≤ cap → placeOf cap (placeOf cap start 1) (cap - 1) ≡ placeOf cap start 0
-full-place cap start a b =
-    let l = place-le cap start 1 a b in
+full-place : (ring : Ring) → ring .start ≤ ring .cap → 1 ≤ ring .cap → placeOf (without 1 ring) (ring .cap - 1) ≡ placeOf ring 0
+full-place ring a b =
+    let l = place-le ring 1 a b in
     ⊎-elim
-    (λ u. ⊎-elim (λ v. ⊎-elim (λ r. omega arith) (λ r. omega arith) (place-is cap start 0 a)) (λ v. ⊎-elim (λ r. omega arith) (λ r. omega arith) (place-is cap start 0 a))
-    (place-is cap (placeOf cap start 1) (cap - 1) l))
-    (λ u. ⊎-elim (λ v. ⊎-elim (λ r. omega arith) (λ r. omega arith) (place-is cap start 0 a)) (λ v. ⊎-elim (λ r. omega arith) (λ r. omega arith) (place-is cap start 0 a))
-    (place-is cap (placeOf cap start 1) (cap - 1) l))
-    (place-is cap start 1 a)
+    (λ u. ⊎-elim (λ v. ⊎-elim (λ r. omega arith) (λ r. omega arith) (place-is ring 0 a)) (λ v. ⊎-elim (λ r. omega arith) (λ r. omega arith) (place-is ring 0 a))
+    (place-is (without 1 ring) (ring .cap - 1) l))
+    (λ u. ⊎-elim (λ v. ⊎-elim (λ r. omega arith) (λ r. omega arith) (place-is ring 0 a)) (λ v. ⊎-elim (λ r. omega arith) (λ r. omega arith) (place-is ring 0 a))
+    (place-is (without 1 ring) (ring .cap - 1) l))
+    (place-is ring 1 a)
 
 spot-freed : (c : MessageCache) → c .start ≤ c .«max_messages» → (c .«max_messages» ≡ 0 → ⊥) → c .count ≡ c .«max_messages» → spot c ≡ rowOf c 0
 unfolding spot
 spot-freed c a some full =
     let k : (c .count + 1) - c .«max_messages» ≡ 1 = omega arith in
-    rw (k, full) (full-place (c .«max_messages») (c .start) a (omega (arith, some)))
+    rw (k, full) (full-place (record { cap = c .«max_messages»; start = c .start; count = c .«max_messages» }) a (omega (arith, some)))
 
-spot-is : (c : MessageCache) → spot c ≡ placeOf (c .«max_messages») (placeOf (c .«max_messages») (c .start) (leaving c)) (c .count - leaving c)
-unfolding spot
+spot-is : (c : MessageCache) → spot c ≡ placeOf (oneMore (rest c)) (c .count - leaving c)
+unfolding spot placeOf
 spot-is c = refl
 
-stays-row : (c : MessageCache) (j : ℕ) → stays c j ≡ placeOf (c .«max_messages») (placeOf (c .«max_messages») (c .start) (leaving c)) j
-unfolding stays
+stays-row : (c : MessageCache) (j : ℕ) → stays c j ≡ placeOf (oneMore (rest c)) j
+unfolding stays placeOf
 stays-row c j = refl
 
-grown-written : (c : MessageCache) (st m id : List ℕ) → lentOf c st ≡ lent.Fine → (c .«max_messages» ≡ 0 → ⊥) → Written c (grown (length m) id c) st (sets st (spot c * 4096) m) m
+grown-written : (c : MessageCache) (st m id : List ℕ) → lentOf c st ≡ lent.Fine → (c .«max_messages» ≡ 0 → ⊥) → Written c (grown (length m) id c) st (sets st (spot c * messageSize) m) m
 unfolding grown
 grown-written c st m id fine some =
     let t = fine-tests c st fine in

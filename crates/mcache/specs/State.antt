@@ -7,23 +7,45 @@ use mathlib.Core.Bool.{Bool, true, cond, _&&_}
 use lib.ListN.{length, take, drop, getD, set, replicate}
 use lib.Seq.{sets}
 use lib.Dec.{leb, ltb, eqb}
-use Rattle.rows.specs.Rows.{placeOf, ring}
+use Rattle.rows.specs.declared.Ring.{Ring}
+use Rattle.rows.specs.Rows.{placeOf, rowsIn}
 use Rattle.rows.specs.Ids.{precedesBytes, among, distinct}
-use Rattle.rows.specs.Store.{idAt, idsIn, lensIn, allUpTo}
+use Rattle.rows.specs.Store.{idAt, idsIn, inUse, allUpTo}
 use Rattle.admission.specs.Admission.{topicsOf, givesId}
 use Rattle.mcache.specs.declared.MessageCache.{MessageCache}
 use Rattle.mcache.specs.Messages.{Cached}
 
+-- the bytes of a message's place, the most bytes of its id, and the most messages and windows
+abbrev pub messageSize : ℕ
+messageSize = 4096
+
+abbrev pub messageIdSize : ℕ
+messageIdSize = 128
+
+abbrev pub maxMessages : ℕ
+maxMessages = 64
+
+abbrev pub maxHistory : ℕ
+maxHistory = 16
+
+-- the bytes of all ids
+abbrev pub idsSize : ℕ
+idsSize = maxMessages * messageIdSize
+
+-- the rows
+abbrev pub ringOf : MessageCache → Ring
+ringOf c = record { cap = c .«max_messages»; start = c .start; count = c .count }
+
 -- the message in place p
 unfoldable pub messageIn : List ℕ → List ℕ → ℕ → List ℕ
-messageIn lens st p = take (getD lens p 0) (drop (p * 4096) st)
+messageIn lens st p = take (getD lens p 0) (drop (p * messageSize) st)
 
 unfoldable pub cachedAt : MessageCache → List ℕ → ℕ → Cached
-cachedAt c st p = record { id = idAt 128 (c .«id_len») (c .ids) p; message = messageIn (c .len) st p; window = getD (c .window) p 0 }
+cachedAt c st p = record { id = idAt messageIdSize (c .«id_len») (c .ids) p; message = messageIn (c .len) st p; window = getD (c .window) p 0 }
 
 -- the messages, the oldest first
 unfoldable pub cachedIn : MessageCache → List ℕ → List Cached
-cachedIn c st = ring (cachedAt c st) (c .«max_messages») (c .start) (c .count)
+cachedIn c st = rowsIn (cachedAt c st) (ringOf c)
 
 -- ---- well formed, as 01 has it
 -- window ages never rise from old to new, and the first is at most `most`
@@ -38,51 +60,51 @@ runsTo next (g ∷ gs) = eqb ((g + length (g ∷ gs)) % 2 ^ 64) next && runsTo n
 
 -- a message fits its place, may be taken, and gives its stored id
 unfoldable pub givesAt : List ℕ → List ℕ → List ℕ → List ℕ → ℕ → Bool
-givesAt lens ilens ids st p = leb (getD lens p 0) 4096 && givesId (messageIn lens st p) (idAt 128 ilens ids p)
+givesAt lens ilens ids st p = leb (getD lens p 0) messageSize && givesId (messageIn lens st p) (idAt messageIdSize ilens ids p)
 
 unfoldable pub allTrue : List Bool → Bool
 allTrue [] = true
 allTrue (b ∷ bs) = b && allTrue bs
 
-unfoldable pub givesIn : ℕ → ℕ → ℕ → List ℕ → List ℕ → List ℕ → List ℕ → Bool
-givesIn cap start count lens ilens ids st = allTrue (ring (givesAt lens ilens ids st) cap start count)
+unfoldable pub givesIn : Ring → List ℕ → List ℕ → List ℕ → List ℕ → Bool
+givesIn ring lens ilens ids st = allTrue (rowsIn (givesAt lens ilens ids st) ring)
 
 unfoldable pub idsFit : MessageCache → List ℕ → Bool
 idsFit c st =
-    allUpTo 128 (lensIn (c .«max_messages») (c .start) (c .count) (c .«id_len»))
-    && (givesIn (c .«max_messages») (c .start) (c .count) (c .len) (c .«id_len») (c .ids) st
-    && distinct (idsIn 128 (c .«max_messages») (c .start) (c .count) (c .«id_len») (c .ids)))
+    allUpTo messageIdSize (inUse (ringOf c) (c .«id_len»))
+    && (givesIn (ringOf c) (c .len) (c .«id_len») (c .ids) st
+    && distinct (idsIn messageIdSize (ringOf c) (c .«id_len») (c .ids)))
 
 unfoldable pub rowsFit : MessageCache → List ℕ → Bool
 rowsFit c st =
-    fallsFrom (c .«history_len» - 1) (lensIn (c .«max_messages») (c .start) (c .count) (c .window))
-    && (runsTo (c .«next_generation») (lensIn (c .«max_messages») (c .start) (c .count) (c .generation))
+    fallsFrom (c .«history_len» - 1) (inUse (ringOf c) (c .window))
+    && (runsTo (c .«next_generation») (inUse (ringOf c) (c .generation))
     && idsFit c st)
 
 -- settings: history_len 1 to 16, max_messages 0 to 64
 unfoldable pub legal : ℕ → ℕ → Bool
-legal history max = leb 1 history && (leb history 16 && leb max 64)
+legal history max = leb 1 history && (leb history maxHistory && leb max maxMessages)
 
 unfoldable pub wellFormed : MessageCache → List ℕ → Bool
 wellFormed c st =
     legal (c .«history_len») (c .«max_messages») && (leb (c .start) (c .«max_messages») && (leb (c .count) (c .«max_messages») && rowsFit c st))
 
 -- ---- what the rows need of the arrays and the store
-pub record Rows (cap start count : ℕ) (lens ilens ids st : List ℕ) : Type 0 where
-  pub few : cap ≤ 64
-  pub starts : start ≤ cap
-  pub within : count ≤ cap
-  pub lengths : length lens ≡ 64
-  pub id-lengths : length ilens ≡ 64
-  pub id-room : length ids ≡ 8192
-  pub room : length st ≡ cap * 4096
-  pub id-short : (i : ℕ) → i < count → getD ilens (placeOf cap start i) 0 ≤ 128
+pub record Laid (ring : Ring) (lens ilens ids st : List ℕ) : Type 0 where
+  pub few : ring .cap ≤ maxMessages
+  pub starts : ring .start ≤ ring .cap
+  pub within : ring .count ≤ ring .cap
+  pub lengths : length lens ≡ maxMessages
+  pub id-lengths : length ilens ≡ maxMessages
+  pub id-room : length ids ≡ idsSize
+  pub room : length st ≡ ring .cap * messageSize
+  pub id-short : (i : ℕ) → i < ring .count → getD ilens (placeOf ring i) 0 ≤ messageIdSize
 
-pub record Kept (c : MessageCache) (st : List ℕ) : Type 0 where
-  pub rows : Rows (c .«max_messages») (c .start) (c .count) (c .len) (c .«id_len») (c .ids) st
-  pub short : (i : ℕ) → i < c .count → getD (c .len) (placeOf (c .«max_messages») (c .start) i) 0 ≤ 4096
-  pub windows : length (c .window) ≡ 64
-  pub generations : length (c .generation) ≡ 64
+pub record Usable (c : MessageCache) (st : List ℕ) : Type 0 where
+  pub rows : Laid (ringOf c) (c .len) (c .«id_len») (c .ids) st
+  pub short : (i : ℕ) → i < c .count → getD (c .len) (placeOf (ringOf c) i) 0 ≤ messageSize
+  pub windows : length (c .window) ≡ maxMessages
+  pub generations : length (c .generation) ≡ maxMessages
 
 -- ---- the steps on the rows
 unfoldable pub fresh : ℕ → ℕ → MessageCache
@@ -93,11 +115,11 @@ fresh history max =
       «next_generation» = 0;
       start = 0;
       count = 0;
-      generation = replicate 64 0;
-      window = replicate 64 0;
-      len = replicate 64 0;
-      «id_len» = replicate 64 0;
-      ids = replicate 8192 0;
+      generation = replicate maxMessages 0;
+      window = replicate maxMessages 0;
+      len = replicate maxMessages 0;
+      «id_len» = replicate maxMessages 0;
+      ids = replicate idsSize 0;
     }
 
 unfoldable pub dropped : ℕ → MessageCache → MessageCache
@@ -106,7 +128,7 @@ dropped k c =
       «history_len» = c .«history_len»;
       «max_messages» = c .«max_messages»;
       «next_generation» = c .«next_generation»;
-      start = placeOf (c .«max_messages») (c .start) k;
+      start = placeOf (ringOf c) k;
       count = c .count - k;
       generation = c .generation;
       window = c .window;
@@ -118,7 +140,7 @@ dropped k c =
 -- a message of n bytes more, in the newest window, with the next arrival number
 unfoldable pub appended : ℕ → List ℕ → MessageCache → MessageCache
 appended n id c =
-    let p = placeOf (c .«max_messages») (c .start) (c .count) in
+    let p = placeOf (ringOf c) (c .count) in
     record {
       «history_len» = c .«history_len»;
       «max_messages» = c .«max_messages»;
@@ -129,7 +151,7 @@ appended n id c =
       window = set (c .window) p 0;
       len = set (c .len) p n;
       «id_len» = set (c .«id_len») p (length id);
-      ids = sets (c .ids) (p * 128) id;
+      ids = sets (c .ids) (p * messageIdSize) id;
     }
 
 -- the next arrival number is given, and nothing is kept
@@ -194,12 +216,8 @@ unfoldable pub gatherInto : (ℕ → Bool) → (ℕ → List ℕ) → List ℕ �
 gatherInto t id qs [] = qs
 gatherInto t id qs (p ∷ ps) = gatherInto t id (cond (t p) (insertRow id p qs) qs) ps
 
-unfoldable pub gathered : ℕ → ℕ → ℕ → List ℕ → List ℕ → List ℕ → List ℕ → List ℕ → ℕ → List ℕ → List ℕ
-gathered cap start count window lens ilens ids st windows topic =
-    gatherInto (told window lens st windows topic) (idAt 128 ilens ids) [] (ring (λ (p : ℕ). p) cap start count)
-
 -- the first n of some rows have ids
 pub record Listed (n : ℕ) (rows ilens ids : List ℕ) : Type 0 where
-  pub lengths : length ilens ≡ 64
-  pub room : length ids ≡ 8192
-  pub places : (i : ℕ) → i < n → (getD rows i 0 < 64) × (getD ilens (getD rows i 0) 0 ≤ 128)
+  pub lengths : length ilens ≡ maxMessages
+  pub room : length ids ≡ idsSize
+  pub places : (i : ℕ) → i < n → (getD rows i 0 < maxMessages) × (getD ilens (getD rows i 0) 0 ≤ messageIdSize)

@@ -8,37 +8,38 @@ use lib.ListN.{length, getD}
 use lib.Dec.{leb, eqb}
 use borrow.Author.Tests.{le-leb, leb-true, eqb-true, eq-eqb}
 use Rattle.basis.specs.Cases.{either, clash, both}
-use Rattle.rows.specs.Rows.{tab, placeOf, ring}
+use Rattle.rows.specs.declared.Ring.{Ring}
+use Rattle.rows.specs.Rows.{tab, placeOf, rowsIn}
 use Rattle.rows.specs.RowsLaws.{length-tab, getD-tab}
 use Rattle.rows.specs.Ids.{distinct}
-use Rattle.rows.specs.Store.{idAt, idsIn, lensIn, allUpTo, Sound}
+use Rattle.rows.specs.Store.{idAt, idsIn, inUse, allUpTo, Sound}
 use Rattle.admission.specs.Admission.{givesId}
 use Rattle.mcache.specs.declared.MessageCache.{MessageCache}
 use Rattle.mcache.specs.declared.Lent.the-variants as lent
-use Rattle.mcache.specs.State.{messageIn, fallsFrom, runsTo, givesAt, allTrue, givesIn, idsFit, rowsFit, legal, wellFormed, Kept}
+use Rattle.mcache.specs.State.{messageIn, fallsFrom, runsTo, givesAt, allTrue, givesIn, idsFit, rowsFit, legal, wellFormed, Usable, messageSize, messageIdSize, maxMessages, maxHistory, ringOf}
 use Rattle.mcache.specs.Calls.{lentOf}
 use Rattle.mcache.specs.WellFormed.{Sized}
 use Rattle.rows.specs.StoreLaws.{short-in}
 
 -- what is asked of a state
 pub record Tests (c : MessageCache) (st : List ℕ) : Type 0 where
-  pub room : length st ≡ c .«max_messages» * 4096
+  pub room : length st ≡ c .«max_messages» * messageSize
   pub history-some : 1 ≤ c .«history_len»
-  pub history-few : c .«history_len» ≤ 16
-  pub few : c .«max_messages» ≤ 64
+  pub history-few : c .«history_len» ≤ maxHistory
+  pub few : c .«max_messages» ≤ maxMessages
   pub starts : c .start ≤ c .«max_messages»
   pub within : c .count ≤ c .«max_messages»
-  pub falls : fallsFrom (c .«history_len» - 1) (lensIn (c .«max_messages») (c .start) (c .count) (c .window)) ≡ true
-  pub runs : runsTo (c .«next_generation») (lensIn (c .«max_messages») (c .start) (c .count) (c .generation)) ≡ true
-  pub id-short : allUpTo 128 (lensIn (c .«max_messages») (c .start) (c .count) (c .«id_len»)) ≡ true
-  pub gives : givesIn (c .«max_messages») (c .start) (c .count) (c .len) (c .«id_len») (c .ids) st ≡ true
-  pub once : distinct (idsIn 128 (c .«max_messages») (c .start) (c .count) (c .«id_len») (c .ids)) ≡ true
+  pub falls : fallsFrom (c .«history_len» - 1) (inUse (ringOf c) (c .window)) ≡ true
+  pub runs : runsTo (c .«next_generation») (inUse (ringOf c) (c .generation)) ≡ true
+  pub id-short : allUpTo messageIdSize (inUse (ringOf c) (c .«id_len»)) ≡ true
+  pub gives : givesIn (ringOf c) (c .len) (c .«id_len») (c .ids) st ≡ true
+  pub once : distinct (idsIn messageIdSize (ringOf c) (c .«id_len») (c .ids)) ≡ true
 
-fine-both : (c : MessageCache) (st : List ℕ) → lentOf c st ≡ lent.Fine → (length st ≡ c .«max_messages» * 4096) × (wellFormed c st ≡ true)
+fine-both : (c : MessageCache) (st : List ℕ) → lentOf c st ≡ lent.Fine → (length st ≡ c .«max_messages» * messageSize) × (wellFormed c st ≡ true)
 unfolding lentOf
 fine-both c st h =
-    either (eqb (length st) (c .«max_messages» * 4096))
-    (λ t. either (wellFormed c st) (λ u. (eqb-true (length st) (c .«max_messages» * 4096) t, u)) (λ u. clash (let z = simp (t, u) at h in cc)))
+    either (eqb (length st) (c .«max_messages» * messageSize))
+    (λ t. either (wellFormed c st) (λ u. (eqb-true (length st) (c .«max_messages» * messageSize) t, u)) (λ u. clash (let z = simp (t, u) at h in cc)))
     (λ t. clash (let z = simp t at h in cc))
 
 pub fine-tests : (c : MessageCache) (st : List ℕ) → lentOf c st ≡ lent.Fine → Tests c st
@@ -57,8 +58,8 @@ fine-tests c st h =
     record {
       room = f .0;
       history-some = leb-true 1 (c .«history_len») (l .0);
-      history-few = leb-true (c .«history_len») 16 (m .0);
-      few = leb-true (c .«max_messages») 64 (m .1);
+      history-few = leb-true (c .«history_len») maxHistory (m .0);
+      few = leb-true (c .«max_messages») maxMessages (m .1);
       starts = leb-true (c .start) (c .«max_messages») (b .0);
       within = leb-true (c .count) (c .«max_messages») (d .0);
       falls = w .0;
@@ -73,10 +74,10 @@ pub tests-fine : (c : MessageCache) (st : List ℕ) → Tests c st → lentOf c 
 unfolding lentOf wellFormed legal rowsFit idsFit
 tests-fine c st t =
     simp (
-      eq-eqb (length st) (c .«max_messages» * 4096) (t .room),
+      eq-eqb (length st) (c .«max_messages» * messageSize) (t .room),
       le-leb 1 (c .«history_len») (t .history-some),
-      le-leb (c .«history_len») 16 (t .history-few),
-      le-leb (c .«max_messages») 64 (t .few),
+      le-leb (c .«history_len») maxHistory (t .history-few),
+      le-leb (c .«max_messages») maxMessages (t .few),
       le-leb (c .start) (c .«max_messages») (t .starts),
       le-leb (c .count) (c .«max_messages») (t .within),
       t .falls,
@@ -98,40 +99,40 @@ unfolding allTrue
 each-all [] h = refl
 each-all (b ∷ l) h = simp (h 0 (omega arith)) (each-all l (λ i k. h (suc i) (omega arith)))
 
-module _ (f : ℕ → Bool) (cap start count : ℕ) where
-  pub true-in : allTrue (ring f cap start count) ≡ true → (i : ℕ) → i < count → f (placeOf cap start i) ≡ true
-  unfolding ring
+module _ (f : ℕ → Bool) (ring : Ring) where
+  pub true-in : allTrue (rowsIn f ring) ≡ true → (i : ℕ) → i < ring .count → f (placeOf ring i) ≡ true
+  unfolding rowsIn
   true-in h i k =
-      let g : ℕ → Bool = λ (j : ℕ). f (placeOf cap start j) in
-      let l : i < length (tab g count) = rw (length-tab g count) k in
-      sym (getD-tab g count i true k) ∙ all-each (tab g count) i h l
+      let g : ℕ → Bool = λ (j : ℕ). f (placeOf ring j) in
+      let l : i < length (tab g (ring .count)) = rw (length-tab g (ring .count)) k in
+      sym (getD-tab g (ring .count) i true k) ∙ all-each (tab g (ring .count)) i h l
 
-  pub in-true : ((i : ℕ) → i < count → f (placeOf cap start i) ≡ true) → allTrue (ring f cap start count) ≡ true
-  unfolding ring
+  pub in-true : ((i : ℕ) → i < ring .count → f (placeOf ring i) ≡ true) → allTrue (rowsIn f ring) ≡ true
+  unfolding rowsIn
   in-true h =
-      let g : ℕ → Bool = λ (j : ℕ). f (placeOf cap start j) in
-      each-all (tab g count) (λ i k. let l : i < count = rw (length-tab g count) at k in getD-tab g count i true l ∙ h i l)
+      let g : ℕ → Bool = λ (j : ℕ). f (placeOf ring j) in
+      each-all (tab g (ring .count)) (λ i k. let l : i < ring .count = rw (length-tab g (ring .count)) at k in getD-tab g (ring .count) i true l ∙ h i l)
 
 -- ---- each row's message fits its place and gives its id
 module _ (c : MessageCache) (st : List ℕ) (t : Tests c st) (i : ℕ) (h : i < c .count) where
   abbrev p : ℕ
-  p = placeOf (c .«max_messages») (c .start) i
+  p = placeOf (ringOf c) i
 
-  gives-row : (leb (getD (c .len) p 0) 4096 ≡ true) × (givesId (messageIn (c .len) st p) (idAt 128 (c .«id_len») (c .ids) p) ≡ true)
+  gives-row : (leb (getD (c .len) p 0) messageSize ≡ true) × (givesId (messageIn (c .len) st p) (idAt messageIdSize (c .«id_len») (c .ids) p) ≡ true)
   unfolding givesIn givesAt
-  gives-row = both _ _ (true-in (givesAt (c .len) (c .«id_len») (c .ids) st) (c .«max_messages») (c .start) (c .count) (t .gives) i h)
+  gives-row = both _ _ (true-in (givesAt (c .len) (c .«id_len») (c .ids) st) (ringOf c) (t .gives) i h)
 
-  pub row-short : getD (c .len) p 0 ≤ 4096
-  row-short = leb-true (getD (c .len) p 0) 4096 (gives-row .0)
+  pub row-short : getD (c .len) p 0 ≤ messageSize
+  row-short = leb-true (getD (c .len) p 0) messageSize (gives-row .0)
 
-  pub row-gives : givesId (messageIn (c .len) st p) (idAt 128 (c .«id_len») (c .ids) p) ≡ true
+  pub row-gives : givesId (messageIn (c .len) st p) (idAt messageIdSize (c .«id_len») (c .ids) p) ≡ true
   row-gives = gives-row .1
 
-  pub row-id-short : getD (c .«id_len») p 0 ≤ 128
-  row-id-short = short-in 128 (c .«id_len») (c .«max_messages») (c .start) (c .count) (t .id-short) i h
+  pub row-id-short : getD (c .«id_len») p 0 ≤ messageIdSize
+  row-id-short = short-in messageIdSize (c .«id_len») (ringOf c) (t .id-short) i h
 
 -- ---- a state that passes has its rows within the arrays and the store
-pub lent-kept : (c : MessageCache) (st : List ℕ) → lentOf c st ≡ lent.Fine → Sized c → Kept c st
+pub lent-kept : (c : MessageCache) (st : List ℕ) → lentOf c st ≡ lent.Fine → Sized c → Usable c st
 lent-kept c st h z =
     let t = fine-tests c st h in
     record {
@@ -152,11 +153,11 @@ lent-kept c st h z =
     }
 
 -- and a legal history
-pub lent-history : (c : MessageCache) (st : List ℕ) → lentOf c st ≡ lent.Fine → (1 ≤ c .«history_len») × (c .«history_len» ≤ 16)
+pub lent-history : (c : MessageCache) (st : List ℕ) → lentOf c st ≡ lent.Fine → (1 ≤ c .«history_len») × (c .«history_len» ≤ maxHistory)
 lent-history c st h = let t = fine-tests c st h in (t .history-some, t .history-few)
 
 -- ---- the ids of a tested state stand in sound rows
-pub kept-sound : (c : MessageCache) (st : List ℕ) → Kept c st → Sound 128 (c .«max_messages») (c .start) (c .count) (c .«id_len») (c .ids)
+pub kept-sound : (c : MessageCache) (st : List ℕ) → Usable c st → Sound messageIdSize (ringOf c) (c .«id_len») (c .ids)
 kept-sound c st ok =
     let r = ok .rows in
     record {

@@ -8,16 +8,16 @@ use Rattle.rows.specs.Rows.{placeOf}
 use Rattle.rows.specs.Store.{idAt}
 use Rattle.admission.specs.AdmissionLaws.{Gives}
 use Rattle.mcache.specs.declared.MessageCache.{MessageCache}
-use Rattle.mcache.specs.State.{messageIn, legal}
+use Rattle.mcache.specs.State.{messageIn, legal, messageSize, messageIdSize, maxMessages, maxHistory, idsSize, ringOf}
 use Rattle.mcache.specs.Calls.{planned, keptIn, storedIn, shiftCache}
 
 -- ---- true of every MessageCache, by its type: its arrays have their sizes
 pub record Sized (c : MessageCache) : Type 0 where
-  pub generations : length (c .generation) ≡ 64
-  pub windows : length (c .window) ≡ 64
-  pub lengths : length (c .len) ≡ 64
-  pub id-lengths : length (c .«id_len») ≡ 64
-  pub id-room : length (c .ids) ≡ 8192
+  pub generations : length (c .generation) ≡ maxMessages
+  pub windows : length (c .window) ≡ maxMessages
+  pub lengths : length (c .len) ≡ maxMessages
+  pub id-lengths : length (c .«id_len») ≡ maxMessages
+  pub id-room : length (c .ids) ≡ idsSize
 
 -- and arrival numbers are below 2 ^ 64
 pub record Typed (c : MessageCache) : Type 0 where
@@ -28,10 +28,10 @@ pub record Typed (c : MessageCache) : Type 0 where
 -- ---- well formed
 -- the i-th row from the oldest stands in this place
 abbrev pub rowOf : MessageCache → ℕ → ℕ
-rowOf c i = placeOf (c .«max_messages») (c .start) i
+rowOf c i = placeOf (ringOf c) i
 
 abbrev pub idOf : MessageCache → ℕ → List ℕ
-idOf c i = idAt 128 (c .«id_len») (c .ids) (rowOf c i)
+idOf c i = idAt messageIdSize (c .«id_len») (c .ids) (rowOf c i)
 
 abbrev pub windowOf : MessageCache → ℕ → ℕ
 windowOf c i = getD (c .window) (rowOf c i) 0
@@ -41,16 +41,16 @@ numberOf c i = getD (c .generation) (rowOf c i) 0
 
 pub record WellFormed (c : MessageCache) (st : List ℕ) : Type 0 where
   -- the store has max_messages places of 4,096 bytes
-  pub room : length st ≡ c .«max_messages» * 4096
+  pub room : length st ≡ c .«max_messages» * messageSize
   -- settings are legal
   pub history-some : 1 ≤ c .«history_len»
-  pub history-few : c .«history_len» ≤ 16
-  pub few : c .«max_messages» ≤ 64
+  pub history-few : c .«history_len» ≤ maxHistory
+  pub few : c .«max_messages» ≤ maxMessages
   -- counts and lengths are within limits
   pub starts : c .start ≤ c .«max_messages»
   pub within : c .count ≤ c .«max_messages»
-  pub short : (i : ℕ) → i < c .count → getD (c .len) (rowOf c i) 0 ≤ 4096
-  pub id-short : (i : ℕ) → i < c .count → getD (c .«id_len») (rowOf c i) 0 ≤ 128
+  pub short : (i : ℕ) → i < c .count → getD (c .len) (rowOf c i) 0 ≤ messageSize
+  pub id-short : (i : ℕ) → i < c .count → getD (c .«id_len») (rowOf c i) 0 ≤ messageIdSize
   -- no id twice
   pub once : (i j : ℕ) → i < j → j < c .count → idOf c i ≡ idOf c j → ⊥
   -- window ages are below history_len and never rise from old to new
@@ -72,15 +72,15 @@ freshAt next history max =
       «next_generation» = next;
       start = 0;
       count = 0;
-      generation = replicate 64 0;
-      window = replicate 64 0;
-      len = replicate 64 0;
-      «id_len» = replicate 64 0;
-      ids = replicate 8192 0;
+      generation = replicate maxMessages 0;
+      window = replicate maxMessages 0;
+      len = replicate maxMessages 0;
+      «id_len» = replicate maxMessages 0;
+      ids = replicate idsSize 0;
     }
 
 -- a new cache with legal settings and a store of their length; then puts of anything, the refused ones too, and windows opened
 pub data Reached : MessageCache → List ℕ → Type 0 where
-  begun : (next history max : ℕ) (st : List ℕ) → next < 2 ^ 64 → legal history max ≡ true → length st ≡ max * 4096 → Reached (freshAt next history max) st
+  begun : (next history max : ℕ) (st : List ℕ) → next < 2 ^ 64 → legal history max ≡ true → length st ≡ max * messageSize → Reached (freshAt next history max) st
   given : {c : MessageCache} {st : List ℕ} → Reached c st → (body : List ℕ) (i : ℕ) → Reached (keptIn c (planned c st body i)) (storedIn c st (planned c st body i))
   opened : {c : MessageCache} {st : List ℕ} → Reached c st → Reached (shiftCache c st) st

@@ -10,14 +10,15 @@ use lib.ListN.{length, getD}
 use lib.Dec.{leb, eqb}
 use borrow.Author.Tests.{le-leb, eqb-true, eq-eqb}
 use Rattle.basis.specs.Cases.{both}
-use Rattle.rows.specs.Rows.{tab, placeOf, ring}
+use Rattle.rows.specs.declared.Ring.{Ring}
+use Rattle.rows.specs.Rows.{tab, placeOf, rowsIn}
 use Rattle.rows.specs.RowsLaws.{length-tab, getD-tab}
-use Rattle.rows.specs.Store.{lensIn}
+use Rattle.rows.specs.Store.{inUse}
 use Rattle.admission.specs.Admission.{givesId}
 use Rattle.admission.specs.AdmissionLaws.{Gives, gives-own, gives-only}
 use Rattle.mcache.specs.declared.MessageCache.{MessageCache}
 use Rattle.mcache.specs.declared.Lent.the-variants as lent
-use Rattle.mcache.specs.State.{messageIn, fallsFrom, runsTo, givesAt, givesIn}
+use Rattle.mcache.specs.State.{messageIn, fallsFrom, runsTo, givesAt, givesIn, messageSize, messageIdSize, ringOf}
 use Rattle.mcache.specs.Calls.{lentOf}
 use Rattle.rows.specs.StoreLaws.{short-all, once-in, all-once}
 use Rattle.mcache.specs.WellFormed.{Typed, rowOf, idOf, WellFormed}
@@ -59,54 +60,53 @@ each-runs next (g ∷ h ∷ l) f a =
     rw (eq-eqb ((g + suc (suc (length l))) % 2 ^ 64) next (omega arith)) r
 
 -- ---- the same of the rows
-module _ (l : List ℕ) (cap start count : ℕ) where
+module _ (l : List ℕ) (ring : Ring) where
   abbrev at : ℕ → ℕ
-  at i = getD l (placeOf cap start i) 0
+  at i = getD l (placeOf ring i) 0
 
-  pub falls-rows : (most : ℕ) → fallsFrom most (lensIn cap start count l) ≡ true → (i : ℕ) → suc i < count → getD l (placeOf cap start (suc i)) 0 ≤ getD l (placeOf cap start i) 0
-  unfolding lensIn ring
+  pub falls-rows : (most : ℕ) → fallsFrom most (inUse ring l) ≡ true → (i : ℕ) → suc i < ring .count → getD l (placeOf ring (suc i)) 0 ≤ getD l (placeOf ring i) 0
+  unfolding inUse rowsIn
   falls-rows most f i h =
-      let k : suc i < length (tab at count) = rw (length-tab at count) h in
-      let r = falls-next most (tab at count) i f k in
-      rw (getD-tab at count (suc i) 0 h, getD-tab at count i 0 (omega arith)) at r
+      let k : suc i < length (tab at (ring .count)) = rw (length-tab at (ring .count)) h in
+      let r = falls-next most (tab at (ring .count)) i f k in
+      rw (getD-tab at (ring .count) (suc i) 0 h, getD-tab at (ring .count) i 0 (omega arith)) at r
 
-  pub rows-falls : (most : ℕ) → ((i : ℕ) → i < count → getD l (placeOf cap start i) 0 ≤ most)
-      → ((i : ℕ) → suc i < count → getD l (placeOf cap start (suc i)) 0 ≤ getD l (placeOf cap start i) 0) → fallsFrom most (lensIn cap start count l) ≡ true
-  unfolding lensIn ring
+  pub rows-falls : (most : ℕ) → ((i : ℕ) → i < ring .count → getD l (placeOf ring i) 0 ≤ most)
+      → ((i : ℕ) → suc i < ring .count → getD l (placeOf ring (suc i)) 0 ≤ getD l (placeOf ring i) 0) → fallsFrom most (inUse ring l) ≡ true
+  unfolding inUse rowsIn
   rows-falls most a f =
-      next-falls most (tab at count)
-      (λ h. let k : 0 < count = rw (length-tab at count) at h in rw (getD-tab at count 0 0 k) (a 0 k))
-      (λ i h. let k : suc i < count = rw (length-tab at count) at h in rw (getD-tab at count (suc i) 0 k, getD-tab at count i 0 (omega arith)) (f i k))
+      next-falls most (tab at (ring .count))
+      (λ h. let k : 0 < ring .count = rw (length-tab at (ring .count)) at h in rw (getD-tab at (ring .count) 0 0 k) (a 0 k))
+      (λ i h. let k : suc i < ring .count = rw (length-tab at (ring .count)) at h in rw (getD-tab at (ring .count) (suc i) 0 k, getD-tab at (ring .count) i 0 (omega arith)) (f i k))
 
-  pub runs-rows : (next : ℕ) → runsTo next (lensIn cap start count l) ≡ true → (i : ℕ) → i < count → (getD l (placeOf cap start i) 0 + (count - i)) % 2 ^ 64 ≡ next
-  unfolding lensIn ring
+  pub runs-rows : (next : ℕ) → runsTo next (inUse ring l) ≡ true → (i : ℕ) → i < ring .count → (getD l (placeOf ring i) 0 + (ring .count - i)) % 2 ^ 64 ≡ next
+  unfolding inUse rowsIn
   runs-rows next r i h =
-      let k : i < length (tab at count) = rw (length-tab at count) h in
-      let e = runs-each next (tab at count) i r k in
-      rw (getD-tab at count i 0 h, length-tab at count) at e
+      let k : i < length (tab at (ring .count)) = rw (length-tab at (ring .count)) h in
+      let e = runs-each next (tab at (ring .count)) i r k in
+      rw (getD-tab at (ring .count) i 0 h, length-tab at (ring .count)) at e
 
-  pub rows-run : (next : ℕ) → ((i : ℕ) → suc i < count → getD l (placeOf cap start (suc i)) 0 ≡ (getD l (placeOf cap start i) 0 + 1) % 2 ^ 64)
-      → ((i : ℕ) → suc i ≡ count → next ≡ (getD l (placeOf cap start i) 0 + 1) % 2 ^ 64) → runsTo next (lensIn cap start count l) ≡ true
-  unfolding lensIn ring
+  pub rows-run : (next : ℕ) → ((i : ℕ) → suc i < ring .count → getD l (placeOf ring (suc i)) 0 ≡ (getD l (placeOf ring i) 0 + 1) % 2 ^ 64)
+      → ((i : ℕ) → suc i ≡ ring .count → next ≡ (getD l (placeOf ring i) 0 + 1) % 2 ^ 64) → runsTo next (inUse ring l) ≡ true
+  unfolding inUse rowsIn
   rows-run next f a =
-      each-runs next (tab at count)
-      (λ i h. let k : suc i < count = rw (length-tab at count) at h in rw (getD-tab at count (suc i) 0 k, getD-tab at count i 0 (omega arith)) (f i k))
-      (λ i h. let k : suc i ≡ count = h ∙ length-tab at count in rw (getD-tab at count i 0 (omega arith)) (a i k))
+      each-runs next (tab at (ring .count))
+      (λ i h. let k : suc i < ring .count = rw (length-tab at (ring .count)) at h in rw (getD-tab at (ring .count) (suc i) 0 k, getD-tab at (ring .count) i 0 (omega arith)) (f i k))
+      (λ i h. let k : suc i ≡ ring .count = h ∙ length-tab at (ring .count) in rw (getD-tab at (ring .count) i 0 (omega arith)) (a i k))
 
 gives-back : (p i : List ℕ) → Gives p i → givesId p i ≡ true
 gives-back p i g = rw (g .named) (gives-own p (g .records) (g .from-start) (g .from-end) (g .seqno-start) (g .seqno-end) (g .read) (g .taken))
 
-rows-give : (c : MessageCache) (st : List ℕ) → WellFormed c st → givesIn (c .«max_messages») (c .start) (c .count) (c .len) (c .«id_len») (c .ids) st ≡ true
+rows-give : (c : MessageCache) (st : List ℕ) → WellFormed c st → givesIn (ringOf c) (c .len) (c .«id_len») (c .ids) st ≡ true
 unfolding givesIn givesAt
 rows-give c st w =
-    in-true (givesAt (c .len) (c .«id_len») (c .ids) st) (c .«max_messages») (c .start) (c .count)
-    (λ i h. rw (le-leb (getD (c .len) (rowOf c i) 0) 4096 (w .short i h)) (gives-back (messageIn (c .len) st (rowOf c i)) (idOf c i) (w .gives i h)))
+    in-true (givesAt (c .len) (c .«id_len») (c .ids) st) (ringOf c)
+    (λ i h. rw (le-leb (getD (c .len) (rowOf c i) 0) messageSize (w .short i h)) (gives-back (messageIn (c .len) st (rowOf c i)) (idOf c i) (w .gives i h)))
 
 -- ---- well formed, exactly
 pub fine-well-formed : (c : MessageCache) (st : List ℕ) → Typed c → lentOf c st ≡ lent.Fine → WellFormed c st
 fine-well-formed c st y f =
     let t = fine-tests c st f in
-    let cap = c .«max_messages» in
     record {
       room = t .room;
       history-some = t .history-some;
@@ -116,22 +116,21 @@ fine-well-formed c st y f =
       within = t .within;
       short = row-short c st t;
       id-short = row-id-short c st t;
-      once = once-in 128 (c .«id_len») (c .ids) cap (c .start) (c .count) (t .once);
-      recent = λ i h. omega (arith, falls-in (c .«history_len» - 1) (c .window) cap (c .start) (c .count) (t .falls) i h, t .history-some);
-      falls = falls-rows (c .window) cap (c .start) (c .count) (c .«history_len» - 1) (t .falls);
+      once = once-in messageIdSize (c .«id_len») (c .ids) (ringOf c) (t .once);
+      recent = λ i h. omega (arith, falls-in (c .«history_len» - 1) (c .window) (ringOf c) (t .falls) i h, t .history-some);
+      falls = falls-rows (c .window) (ringOf c) (c .«history_len» - 1) (t .falls);
       follows =
           λ i h.
-          let a = runs-rows (c .generation) cap (c .start) (c .count) (c .«next_generation») (t .runs) i (omega arith) in
-          let b = runs-rows (c .generation) cap (c .start) (c .count) (c .«next_generation») (t .runs) (suc i) h in
+          let a = runs-rows (c .generation) (ringOf c) (c .«next_generation») (t .runs) i (omega arith) in
+          let b = runs-rows (c .generation) (ringOf c) (c .«next_generation») (t .runs) (suc i) h in
           let s = y .small (rowOf c (suc i)) in
           omega arith;
-      last = λ i h. let a = runs-rows (c .generation) cap (c .start) (c .count) (c .«next_generation») (t .runs) i (omega arith) in omega arith;
+      last = λ i h. let a = runs-rows (c .generation) (ringOf c) (c .«next_generation») (t .runs) i (omega arith) in omega arith;
       gives = λ i h. gives-only (messageIn (c .len) st (rowOf c i)) (idOf c i) (row-gives c st t i h);
     }
 
 pub well-formed-fine : (c : MessageCache) (st : List ℕ) → WellFormed c st → lentOf c st ≡ lent.Fine
 well-formed-fine c st w =
-    let cap = c .«max_messages» in
     tests-fine c st
     record {
       room = w .room;
@@ -140,11 +139,11 @@ well-formed-fine c st w =
       few = w .few;
       starts = w .starts;
       within = w .within;
-      falls = rows-falls (c .window) cap (c .start) (c .count) (c .«history_len» - 1) (λ i h. omega (arith, w .recent i h)) (w .falls);
-      runs = rows-run (c .generation) cap (c .start) (c .count) (c .«next_generation») (w .follows) (w .last);
-      id-short = short-all 128 (c .«id_len») cap (c .start) (c .count) (w .id-short);
+      falls = rows-falls (c .window) (ringOf c) (c .«history_len» - 1) (λ i h. omega (arith, w .recent i h)) (w .falls);
+      runs = rows-run (c .generation) (ringOf c) (c .«next_generation») (w .follows) (w .last);
+      id-short = short-all messageIdSize (c .«id_len») (ringOf c) (w .id-short);
       gives = rows-give c st w;
-      once = all-once 128 (c .«id_len») (c .ids) cap (c .start) (c .count) (w .once);
+      once = all-once messageIdSize (c .«id_len») (c .ids) (ringOf c) (w .once);
     }
 
 pub well-formed-exactly : (c : MessageCache) (st : List ℕ) → Typed c → (lentOf c st ≡ lent.Fine) ↔ WellFormed c st

@@ -8,9 +8,10 @@ use lib.ListN.{length, getD, set, length-map}
 use lib.Dec.{leb, eqb}
 use borrow.Author.Tests.{leb-true, eqb-true, eqb-false, eq-eqb, ne-eqb}
 use Rattle.basis.specs.Cases.{either, both}
+use Rattle.rows.specs.declared.Ring.{Ring}
 use Rattle.rows.specs.Rows.{placeOf}
 use Rattle.rows.specs.RowsLaws.{place-lt, ring-ext, map-ring}
-use Rattle.rows.specs.Store.{lensIn}
+use Rattle.rows.specs.Store.{inUse}
 use Rattle.protobuf.specs.declared.Checked.{Checked}
 use Rattle.protobuf.specs.declared.Checked.the-variants as checked
 use Rattle.protobuf.specs.Walk.{between}
@@ -24,7 +25,7 @@ use Rattle.admission.specs.Admission.{admissionOf}
 use Rattle.mcache.specs.declared.MessageCache.{MessageCache}
 use Rattle.mcache.specs.declared.Lent.{Lent}
 use Rattle.mcache.specs.declared.Lent.the-variants as lent
-use Rattle.mcache.specs.State.{cachedAt, cachedIn, runsTo, rowsFit, idsFit, legal, wellFormed, dropped, passed, aged}
+use Rattle.mcache.specs.State.{cachedAt, cachedIn, runsTo, rowsFit, idsFit, legal, wellFormed, dropped, passed, aged, maxMessages, maxHistory, ringOf}
 use Rattle.mcache.specs.Calls.{lentOf, whenFine, indexIn, entered, enteredStore, shifted, found, gossipList, gossipArray, Plan, no, keep, answered, keptIn, storedIn, planFit, planAt, planBody, planned, shiftCache, getPart, lookupAnswer, gossipAnswer, gossipCount, gossipRows}
 use Rattle.mcache.specs.WellFormed.{Typed}
 use Rattle.mcache.specs.CachedLaws.{spot, grown, entered-some, entered-none}
@@ -68,23 +69,23 @@ getD-map f [] p h = absurd (omega arith)
 getD-map f (x ∷ l) zero h = refl
 getD-map f (x ∷ l) (suc p) h = getD-map f l p (omega arith)
 
-lens-moved : (f : ℕ → ℕ) (l : List ℕ) (cap start count : ℕ) → start ≤ cap → count ≤ cap → cap ≤ length l → lensIn cap start count (map f l) ≡ map f (lensIn cap start count l)
-unfolding lensIn
-lens-moved f l cap start count a b h =
-    ring-ext (λ (p : ℕ). f (getD l p 0)) cap start count (λ (p : ℕ). getD (map f l) p 0)
-    (λ i k. getD-map f l (placeOf cap start i) (omega (arith, place-lt cap start i a (omega arith))))
-    ∙ sym (map-ring f (λ (p : ℕ). getD l p 0) cap start count)
+lens-moved : (f : ℕ → ℕ) (l : List ℕ) (ring : Ring) → ring .start ≤ ring .cap → ring .count ≤ ring .cap → ring .cap ≤ length l → inUse ring (map f l) ≡ map f (inUse ring l)
+unfolding inUse
+lens-moved f l ring a b h =
+    ring-ext (λ (p : ℕ). f (getD l p 0)) ring (λ (p : ℕ). getD (map f l) p 0)
+    (λ i k. getD-map f l (placeOf ring i) (omega (arith, place-lt ring i a (omega arith))))
+    ∙ sym (map-ring f (λ (p : ℕ). getD l p 0) ring)
 
 and-same : (a b d : Bool) → (a ≡ true → b ≡ d) → (a && b) ≡ (a && d)
 and-same true b d h = h refl
 and-same false b d h = refl
 
-rows-moved : (k : ℕ) (c : MessageCache) (st : List ℕ) → Typed c → c .«max_messages» ≤ 64 → c .start ≤ c .«max_messages» → c .count ≤ c .«max_messages» → rowsFit (moved k c) st ≡ rowsFit c st
+rows-moved : (k : ℕ) (c : MessageCache) (st : List ℕ) → Typed c → c .«max_messages» ≤ maxMessages → c .start ≤ c .«max_messages» → c .count ≤ c .«max_messages» → rowsFit (moved k c) st ≡ rowsFit c st
 unfolding rowsFit idsFit moved
 rows-moved k c st y f a b =
     rw (
-      lens-moved (λ (g : ℕ). (g + k) % 2 ^ 64) (c .generation) (c .«max_messages») (c .start) (c .count) a b (omega (arith, y .sized .generations)),
-      runs-moved k (c .«next_generation») (lensIn (c .«max_messages») (c .start) (c .count) (c .generation)) (y .next-small),
+      lens-moved (λ (g : ℕ). (g + k) % 2 ^ 64) (c .generation) (ringOf c) a b (omega (arith, y .sized .generations)),
+      runs-moved k (c .«next_generation») (inUse (ringOf c) (c .generation)) (y .next-small),
     )
 
 -- ---- what a put is to do
@@ -155,9 +156,9 @@ module _ (k : ℕ) (c : MessageCache) (st : List ℕ) (y : Typed c) where
   well-formed-moved : wellFormed (moved k c) st ≡ wellFormed c st
   unfolding wellFormed legal moved
   well-formed-moved =
-      and-same (leb 1 (c .«history_len») && (leb (c .«history_len») 16 && leb (c .«max_messages») 64)) _ _
+      and-same (leb 1 (c .«history_len») && (leb (c .«history_len») maxHistory && leb (c .«max_messages») maxMessages)) _ _
       (λ l.
-      let few = leb-true (c .«max_messages») 64 (both (leb (c .«history_len») 16) (leb (c .«max_messages») 64) (both (leb 1 (c .«history_len»)) _ l .1) .1) in
+      let few = leb-true (c .«max_messages») maxMessages (both (leb (c .«history_len») maxHistory) (leb (c .«max_messages») maxMessages) (both (leb 1 (c .«history_len»)) _ l .1) .1) in
       and-same (leb (c .start) (c .«max_messages»)) _ _
       (λ a. and-same (leb (c .count) (c .«max_messages»)) _ _
       (λ b. rows-moved k c st y few (leb-true (c .start) (c .«max_messages») a) (leb-true (c .count) (c .«max_messages») b))))

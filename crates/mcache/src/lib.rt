@@ -7,11 +7,11 @@ ghost use Prim.Native.Nat.{ℕ, _+_, _-_, _*_, _≤_, _<_};
 ghost use lib.ListN.{length, drop, take, getD, replicate};
 ghost use lib.Seq.{sets};
 ghost use Rattle.rows.specs.Rows.{placeOf};
-ghost use Rattle.rows.specs.Store.{Ring, Sound, lensIn, idAt};
+ghost use Rattle.rows.specs.Store.{InStore, Sound, inUse, idAt};
 ghost use Rattle.ids.specs.Ids.{idBytes};
 ghost use Rattle.admission.specs.Admission.{admissionOf};
-ghost use Rattle.mcache.specs.State.{messageIn, fallsFrom, runsTo, givesIn, idsFit, rowsFit, stale, older, Rows, Kept, fresh, dropped, appended, Listed, told, spotOf, putAt, insertRow, gathered};
-ghost use Rattle.mcache.specs.Calls.{startAnswer, startCache, lentOf, indexIn, entered, enteredStore, keptUnder, storedUnder, shifted, found, gossipList, gossipArray, planFit, planned, answered, keptIn, storedIn, shiftCache, getPart, lookupAnswer, gossipAnswer, gossipCount, gossipRows};
+ghost use Rattle.mcache.specs.State.{messageSize, messageIdSize, maxMessages, ringOf, messageIn, fallsFrom, runsTo, givesIn, idsFit, rowsFit, stale, older, Laid, Usable, fresh, dropped, appended, Listed, told, spotOf, putAt, insertRow};
+ghost use Rattle.mcache.specs.Calls.{startAnswer, startCache, lentOf, indexIn, entered, enteredStore, planUnder, keptUnder, storedUnder, shifted, found, gossipList, gossipArray, planFit, planned, answered, keptIn, storedIn, shiftCache, getPart, lookupAnswer, gossipAnswer, gossipCount, gossipRows};
 use admission::Admission;
 use admission::MAX_TOPIC_SIZE;
 use admission::Unfit;
@@ -23,6 +23,7 @@ use ids::message_at;
 use protobuf::Checked;
 use protobuf::WireError;
 use protobuf::put_bytes;
+use rows::Ring;
 use rows::all_within;
 use rows::find_from;
 use rows::ids_differ;
@@ -32,6 +33,8 @@ use rows::precedes;
 use schema::accept;
 
 pub const MESSAGE_SIZE: usize = 4096;
+
+pub const MESSAGE_ID_SIZE: usize = 128;
 
 pub const MAX_HISTORY: usize = 16;
 
@@ -43,11 +46,11 @@ pub struct MessageCache {
     pub next_generation: u64,
     pub start: usize,
     pub count: usize,
-    pub generation: [u64; 64],
-    pub window: [u8; 64],
-    pub len: [u16; 64],
-    pub id_len: [u8; 64],
-    pub ids: [u8; 8192],
+    pub generation: [u64; MAX_MESSAGES],
+    pub window: [u8; MAX_MESSAGES],
+    pub len: [u16; MAX_MESSAGES],
+    pub id_len: [u8; MAX_MESSAGES],
+    pub ids: [u8; MAX_MESSAGES * MESSAGE_ID_SIZE],
 }
 
 // Whether the lent state is one: 41 for a store of the wrong length, 42 for a cache that is not well formed.
@@ -105,20 +108,20 @@ pub enum Gossip {
 pub struct GossipIds {
     pub answer: Gossip,
     pub count: usize,
-    pub rows: [u8; 64],
+    pub rows: [u8; MAX_MESSAGES],
 }
 
 // ---- the test of the lent state
 
 // Whether each window's age is at most the one before it, the first at most `most`.
-fn windows_fall(window: &[u8], cap: usize, start: usize, count: usize, most: usize) -> bool
-    requires { ⌜ Ring cap start count (now window) ⌝ }
-    ensures { λ r. ⌜ r ≡ fallsFrom most (lensIn cap start count (now (window .entry))) ⌝ }
+fn windows_fall(window: &[u8], ring: Ring, most: usize) -> bool
+    requires { ⌜ InStore ring (now window) ⌝ }
+    ensures { λ r. ⌜ r ≡ fallsFrom most (inUse ring (now (window .entry))) ⌝ }
 {
     let mut last = most;
     let mut i = 0;
-    while i < count {
-        let p = place(cap, start, i);
+    while i < ring.count {
+        let p = place(ring, i);
         let w = window[p] as usize;
         if last < w {
             return false;
@@ -130,15 +133,15 @@ fn windows_fall(window: &[u8], cap: usize, start: usize, count: usize, most: usi
 }
 
 // Whether the arrival numbers go up by one from old to new and on to the next: the age of a row among those that live is a wrapping difference.
-fn generations_run(generation: &[u64], cap: usize, start: usize, count: usize, next: u64) -> bool
-    requires { ⌜ Ring cap start count (now generation) ⌝ }
-    ensures { λ r. ⌜ r ≡ runsTo next (lensIn cap start count (now (generation .entry))) ⌝ }
+fn generations_run(generation: &[u64], ring: Ring, next: u64) -> bool
+    requires { ⌜ InStore ring (now generation) ⌝ }
+    ensures { λ r. ⌜ r ≡ runsTo next (inUse ring (now (generation .entry))) ⌝ }
 {
     let mut i = 0;
-    while i < count {
-        let p = place(cap, start, i);
+    while i < ring.count {
+        let p = place(ring, i);
         let age = std::num::wrapping_sub_u64(next, generation[p]);
-        if age != (count - i) as u64 {
+        if age != (ring.count - i) as u64 {
             return false;
         }
         i += 1;
@@ -147,28 +150,20 @@ fn generations_run(generation: &[u64], cap: usize, start: usize, count: usize, n
 }
 
 // Whether each message fits its place, may be taken, and gives its stored id.
-fn messages_fit(
-    lens: &[u16],
-    id_lens: &[u8],
-    ids: &[u8],
-    store: &[u8],
-    cap: usize,
-    start: usize,
-    count: usize,
-) -> bool
-    requires { ⌜ Rows cap start count (now lens) (now «id_lens») (now ids) (now store) ⌝ }
-    ensures { λ r. ⌜ r ≡ givesIn cap start count (now (lens .entry)) (now («id_lens» .entry)) (now (ids .entry)) (now (store .entry)) ⌝ }
+fn messages_fit(lens: &[u16], id_lens: &[u8], ids: &[u8], store: &[u8], ring: Ring) -> bool
+    requires { ⌜ Laid ring (now lens) (now «id_lens») (now ids) (now store) ⌝ }
+    ensures { λ r. ⌜ r ≡ givesIn ring (now (lens .entry)) (now («id_lens» .entry)) (now (ids .entry)) (now (store .entry)) ⌝ }
 {
     let mut i = 0;
-    while i < count {
-        let p = place(cap, start, i);
+    while i < ring.count {
+        let p = place(ring, i);
         let n = lens[p] as usize;
         if MESSAGE_SIZE < n {
             return false;
         }
-        let base = p * 4096;
+        let base = p * MESSAGE_SIZE;
         let end = base + n;
-        let id_base = p * 128;
+        let id_base = p * MESSAGE_ID_SIZE;
         let id_end = id_base + id_lens[p] as usize;
         if gives_id(&store[base..end], &ids[id_base..id_end]) {
             i += 1;
@@ -203,13 +198,13 @@ fn age_windows(window: &mut [u8])
 }
 
 // How many of the oldest leave when a window is opened: those in front of the first that stays.
-fn stale_rows(window: &[u8], cap: usize, start: usize, count: usize, history_len: usize) -> usize
-    requires { ⌜ Ring cap start count (now window) ⌝ }
-    ensures { λ r. ⌜ r ≡ stale «history_len» (lensIn cap start count (now (window .entry))) ⌝ }
+fn stale_rows(window: &[u8], ring: Ring, history_len: usize) -> usize
+    requires { ⌜ InStore ring (now window) ⌝ }
+    ensures { λ r. ⌜ r ≡ stale «history_len» (inUse ring (now (window .entry))) ⌝ }
 {
     let mut i = 0;
-    while i < count {
-        let p = place(cap, start, i);
+    while i < ring.count {
+        let p = place(ring, i);
         let w = window[p] as usize;
         if w + 1 < history_len {
             return i;
@@ -243,14 +238,14 @@ fn is_told(
     windows: usize,
     topic: &[u8],
 ) -> bool
-    requires { ⌜ (p < 64) × (length (now window) ≡ 64) × (length (now lens) ≡ 64) × (p * 4096 + getD (now lens) p 0 ≤ length (now store)) ⌝ }
+    requires { ⌜ (p < maxMessages) × (length (now window) ≡ maxMessages) × (length (now lens) ≡ maxMessages) × (p * messageSize + getD (now lens) p 0 ≤ length (now store)) ⌝ }
     ensures { λ r. ⌜ r ≡ told (now (window .entry)) (now (lens .entry)) (now (store .entry)) windows (now (topic .entry)) p ⌝ }
 {
     let w = window[p] as usize;
     if windows <= w {
         return false;
     }
-    let base = p * 4096;
+    let base = p * MESSAGE_SIZE;
     let end = base + lens[p] as usize;
     carries(&store[base..end], topic)
 }
@@ -259,15 +254,15 @@ fn is_told(
 fn spot(rows: &[u8], n: usize, id_lens: &[u8], ids: &[u8], p: usize) -> usize
     requires { ⌜ n ≤ length (now rows) ⌝ }
     requires { ⌜ Listed n (now rows) (now «id_lens») (now ids) ⌝ }
-    requires { ⌜ (p < 64) × (getD (now «id_lens») p 0 ≤ 128) ⌝ }
-    ensures { λ r. ⌜ r ≡ spotOf (idAt 128 (now («id_lens» .entry)) (now (ids .entry))) p (take n (now (rows .entry))) ⌝ }
+    requires { ⌜ (p < maxMessages) × (getD (now «id_lens») p 0 ≤ messageIdSize) ⌝ }
+    ensures { λ r. ⌜ r ≡ spotOf (idAt messageIdSize (now («id_lens» .entry)) (now (ids .entry))) p (take n (now (rows .entry))) ⌝ }
 {
-    let base = p * 128;
+    let base = p * MESSAGE_ID_SIZE;
     let end = base + id_lens[p] as usize;
     let mut i = 0;
     while i < n {
         let q = rows[i] as usize;
-        let q_base = q * 128;
+        let q_base = q * MESSAGE_ID_SIZE;
         let q_end = q_base + id_lens[q] as usize;
         if precedes(&ids[q_base..q_end], &ids[base..end]) {
             i += 1;
@@ -293,70 +288,18 @@ fn put_row(rows: &mut [u8], n: usize, at: usize, p: u8)
     }
 }
 
-// Puts the row p into its spot among the first n of `rows`, where its message is told of; and how many there are then.
-fn tell_row(
-    window: &[u8],
-    lens: &[u16],
-    id_lens: &[u8],
-    ids: &[u8],
-    store: &[u8],
-    p: usize,
-    windows: usize,
-    topic: &[u8],
-    rows: &mut [u8],
-    n: usize,
-) -> usize
-    requires { ⌜ (p < 64) × (length (now window) ≡ 64) × (length (now lens) ≡ 64) × (p * 4096 + getD (now lens) p 0 ≤ length (now store)) ⌝ }
+// Puts the row p into its spot among the first n of `rows`, where it is to be there; and how many there are then.
+fn tell_row(there: bool, rows: &mut [u8], n: usize, id_lens: &[u8], ids: &[u8], p: usize) -> usize
     requires { ⌜ n < length (now rows) ⌝ }
     requires { ⌜ Listed n (now rows) (now «id_lens») (now ids) ⌝ }
-    requires { ⌜ getD (now «id_lens») p 0 ≤ 128 ⌝ }
-    ensures { λ r. ⌜ r ≡ cond (told (now (window .entry)) (now (lens .entry)) (now (store .entry)) windows (now (topic .entry)) p) (n + 1) n ⌝ }
-    ensures { λ _. ⌜ now (rows .exit) ≡ cond (told (now (window .entry)) (now (lens .entry)) (now (store .entry)) windows (now (topic .entry)) p) (insertRow (idAt 128 (now («id_lens» .entry)) (now (ids .entry))) p (take n (now (rows .entry))) ++ drop (n + 1) (now (rows .entry))) (now (rows .entry)) ⌝ }
+    requires { ⌜ (p < maxMessages) × (getD (now «id_lens») p 0 ≤ messageIdSize) ⌝ }
+    ensures { λ r. ⌜ r ≡ cond there (n + 1) n ⌝ }
+    ensures { λ _. ⌜ now (rows .exit) ≡ cond there (insertRow (idAt messageIdSize (now («id_lens» .entry)) (now (ids .entry))) p (take n (now (rows .entry))) ++ drop (n + 1) (now (rows .entry))) (now (rows .entry)) ⌝ }
 {
-    if is_told(window, lens, store, p, windows, topic) {
+    if there {
         let at = spot(rows, n, id_lens, ids, p);
         put_row(rows, n, at, p as u8);
         return n + 1;
-    }
-    n
-}
-
-// The places of the messages that are told of, in the order of their ids, at the front of `rows`; and how many there are.
-fn gather(
-    window: &[u8],
-    lens: &[u16],
-    id_lens: &[u8],
-    ids: &[u8],
-    store: &[u8],
-    cap: usize,
-    start: usize,
-    count: usize,
-    windows: usize,
-    topic: &[u8],
-    rows: &mut [u8],
-) -> usize
-    requires { ⌜ Rows cap start count (now lens) (now «id_lens») (now ids) (now store) ⌝ }
-    requires { ⌜ (length (now window) ≡ 64) × (length (now rows) ≡ 64) × ((i : ℕ) → i < count → getD (now lens) (placeOf cap start i) 0 ≤ 4096) ⌝ }
-    ensures { λ r. ⌜ r ≡ length (gathered cap start count (now (window .entry)) (now (lens .entry)) (now («id_lens» .entry)) (now (ids .entry)) (now (store .entry)) windows (now (topic .entry))) ⌝ }
-    ensures { λ r. ⌜ now (rows .exit) ≡ gathered cap start count (now (window .entry)) (now (lens .entry)) (now («id_lens» .entry)) (now (ids .entry)) (now (store .entry)) windows (now (topic .entry)) ++ drop r (now (rows .entry)) ⌝ }
-{
-    let mut n = 0;
-    let mut i = 0;
-    while i < count {
-        let p = place(cap, start, i);
-        n = tell_row(
-            window,
-            lens,
-            id_lens,
-            ids,
-            store,
-            p,
-            windows,
-            topic,
-            rows,
-            n,
-        );
-        i += 1;
     }
     n
 }
@@ -391,11 +334,22 @@ impl MessageCache {
             next_generation: 0,
             start: 0,
             count: 0,
-            generation: [0; 64],
-            window: [0; 64],
-            len: [0; 64],
-            id_len: [0; 64],
-            ids: [0; 8192],
+            generation: [0; MAX_MESSAGES],
+            window: [0; MAX_MESSAGES],
+            len: [0; MAX_MESSAGES],
+            id_len: [0; MAX_MESSAGES],
+            ids: [0; MAX_MESSAGES * MESSAGE_ID_SIZE],
+        }
+    }
+
+    // Its rows.
+    pub fn ring(self) -> Ring
+        ensures { λ r. ⌜ r ≡ ringOf self ⌝ }
+    {
+        Ring {
+            cap: self.max_messages,
+            start: self.start,
+            count: self.count,
         }
     }
 
@@ -412,18 +366,16 @@ impl MessageCache {
 
     // Whether the messages are well formed, where the settings, the counts and the store's length were tested.
     fn ids_fit(self, store: &[u8]) -> bool
-        requires { ⌜ (self .«max_messages» ≤ 64) × (self .start ≤ self .«max_messages») × (self .count ≤ self .«max_messages») × (length (now store) ≡ self .«max_messages» * 4096) ⌝ }
+        requires { ⌜ (self .«max_messages» ≤ maxMessages) × (self .start ≤ self .«max_messages») × (self .count ≤ self .«max_messages») × (length (now store) ≡ self .«max_messages» * messageSize) ⌝ }
         ensures { λ r. ⌜ r ≡ idsFit self (now (store .entry)) ⌝ }
     {
-        let cap = self.max_messages;
-        let start = self.start;
-        let count = self.count;
+        let ring = self.ring();
         let id_lens = self.id_len;
         let lens = self.len;
         let ids = self.ids;
-        if all_within(&id_lens, cap, start, count, 128) {
-            if messages_fit(&lens, &id_lens, &ids, store, cap, start, count) {
-                return ids_differ(&id_lens, &ids, 128, cap, start, count);
+        if all_within(&id_lens, ring, MESSAGE_ID_SIZE as u8) {
+            if messages_fit(&lens, &id_lens, &ids, store, ring) {
+                return ids_differ(&id_lens, &ids, MESSAGE_ID_SIZE, ring);
             }
         }
         false
@@ -431,17 +383,15 @@ impl MessageCache {
 
     // Whether the rows are well formed, where the settings, the counts and the store's length were tested.
     fn rows_fit(self, store: &[u8]) -> bool
-        requires { ⌜ (self .«max_messages» ≤ 64) × (self .start ≤ self .«max_messages») × (self .count ≤ self .«max_messages») × (length (now store) ≡ self .«max_messages» * 4096) ⌝ }
+        requires { ⌜ (self .«max_messages» ≤ maxMessages) × (self .start ≤ self .«max_messages») × (self .count ≤ self .«max_messages») × (length (now store) ≡ self .«max_messages» * messageSize) ⌝ }
         requires { ⌜ 1 ≤ self .«history_len» ⌝ }
         ensures { λ r. ⌜ r ≡ rowsFit self (now (store .entry)) ⌝ }
     {
-        let cap = self.max_messages;
-        let start = self.start;
-        let count = self.count;
+        let ring = self.ring();
         let window = self.window;
         let generation = self.generation;
-        if windows_fall(&window, cap, start, count, self.history_len - 1) {
-            if generations_run(&generation, cap, start, count, self.next_generation) {
+        if windows_fall(&window, ring, self.history_len - 1) {
+            if generations_run(&generation, ring, self.next_generation) {
                 return self.ids_fit(store);
             }
         }
@@ -486,7 +436,7 @@ impl MessageCache {
         requires { ⌜ k ≤ self .count ⌝ }
         ensures { λ r. ⌜ r ≡ dropped k self ⌝ }
     {
-        let start = place(self.max_messages, self.start, k);
+        let start = place(self.ring(), k);
         self.start = start;
         self.count = self.count - k;
         self
@@ -494,17 +444,17 @@ impl MessageCache {
 
     // With a message more, the newest.
     fn append(mut self, store: &mut [u8], part: &[u8], id: &[u8]) -> Self
-        requires { ⌜ Kept self (now store) ⌝ }
+        requires { ⌜ Usable self (now store) ⌝ }
         requires { ⌜ self .count < self .«max_messages» ⌝ }
-        requires { ⌜ (length (now part) ≤ 4096) × (length (now id) ≤ 128) ⌝ }
+        requires { ⌜ (length (now part) ≤ messageSize) × (length (now id) ≤ messageIdSize) ⌝ }
         ensures { λ r. ⌜ r ≡ appended (length (now (part .entry))) (now (id .entry)) self ⌝ }
-        ensures { λ _. ⌜ now (store .exit) ≡ sets (now (store .entry)) (placeOf (self .«max_messages») (self .start) (self .count) * 4096) (now (part .entry)) ⌝ }
+        ensures { λ _. ⌜ now (store .exit) ≡ sets (now (store .entry)) (placeOf (ringOf self) (self .count) * messageSize) (now (part .entry)) ⌝ }
     {
         let count = self.count;
-        let p = place(self.max_messages, self.start, count);
-        put_bytes(store, p * 4096, part);
+        let p = place(self.ring(), count);
+        put_bytes(store, p * MESSAGE_SIZE, part);
         let mut ids = self.ids;
-        put_bytes(&mut ids, p * 128, id);
+        put_bytes(&mut ids, p * MESSAGE_ID_SIZE, id);
         self.ids = ids;
         self.id_len[p] = id.len() as u8;
         self.len[p] = part.len() as u16;
@@ -517,8 +467,8 @@ impl MessageCache {
 
     // With a message whose id is not held, where the state was tested: past max_messages the oldest goes.
     fn enter(mut self, store: &mut [u8], part: &[u8], id: &[u8]) -> Self
-        requires { ⌜ Kept self (now store) ⌝ }
-        requires { ⌜ (length (now part) ≤ 4096) × (length (now id) ≤ 128) ⌝ }
+        requires { ⌜ Usable self (now store) ⌝ }
+        requires { ⌜ (length (now part) ≤ messageSize) × (length (now id) ≤ messageIdSize) ⌝ }
         ensures { λ r. ⌜ r ≡ entered (length (now (part .entry))) (now (id .entry)) self ⌝ }
         ensures { λ _. ⌜ now (store .exit) ≡ enteredStore self (now (store .entry)) (now (part .entry)) ⌝ }
     {
@@ -534,39 +484,40 @@ impl MessageCache {
 
     // Which row holds an id, counted from the oldest, where the state was tested; the count of rows where none does.
     fn find(self, id: &[u8]) -> usize
-        requires { ⌜ Sound 128 (self .«max_messages») (self .start) (self .count) (self .«id_len») (self .ids) ⌝ }
+        requires { ⌜ Sound messageIdSize (ringOf self) (self .«id_len») (self .ids) ⌝ }
         ensures { λ r. ⌜ r ≡ indexIn self (now (id .entry)) ⌝ }
     {
+        let ring = self.ring();
         let id_lens = self.id_len;
         let ids = self.ids;
-        find_from(
-            &id_lens,
-            &ids,
-            128,
-            self.max_messages,
-            self.start,
-            self.count,
-            0,
-            id,
-        )
+        find_from(&id_lens, &ids, MESSAGE_ID_SIZE, ring, 0, id)
     }
 
-    // With a message under its id, where the state was tested. A held id changes nothing.
-    pub fn keep(self, store: &mut [u8], part: &[u8], id: &[u8]) -> Self
-        requires { ⌜ Kept self (now store) ⌝ }
-        requires { ⌜ (length (now part) ≤ 4096) × (length (now id) ≤ 128) ⌝ }
-        ensures { λ r. ⌜ r ≡ keptUnder (now (part .entry)) (now (id .entry)) self ⌝ }
+    // Puts a message under its id, where the state was tested. A held id changes nothing.
+    pub fn keep(self, store: &mut [u8], part: &[u8], id: &[u8]) -> PutDone
+        requires { ⌜ Usable self (now store) ⌝ }
+        requires { ⌜ (length (now part) ≤ messageSize) × (length (now id) ≤ messageIdSize) ⌝ }
+        ensures { λ r. ⌜ r .answer ≡ answered (planUnder self (now (part .entry)) (now (id .entry))) ⌝ }
+        ensures { λ r. ⌜ r .cache ≡ keptUnder (now (part .entry)) (now (id .entry)) self ⌝ }
         ensures { λ _. ⌜ now (store .exit) ≡ storedUnder self (now (store .entry)) (now (part .entry)) (now (id .entry)) ⌝ }
     {
-        if self.find(id) < self.count {
-            return self;
+        let row = self.find(id);
+        if row < self.count {
+            return PutDone {
+                answer: Put::Held,
+                cache: self,
+            };
         }
-        self.enter(store, part, id)
+        let cache = self.enter(store, part, id);
+        PutDone {
+            answer: Put::Stored,
+            cache,
+        }
     }
 
     // Puts the message in a part, where the state was tested.
     fn put_part(self, store: &mut [u8], part: &[u8]) -> PutDone
-        requires { ⌜ Kept self (now store) ⌝ }
+        requires { ⌜ Usable self (now store) ⌝ }
         ensures { λ r. ⌜ r .answer ≡ answered (planFit self (now (part .entry)) (admissionOf (now (part .entry)) true)) ⌝ }
         ensures { λ r. ⌜ r .cache ≡ keptIn self (planFit self (now (part .entry)) (admissionOf (now (part .entry)) true)) ⌝ }
         ensures { λ _. ⌜ now (store .exit) ≡ storedIn self (now (store .entry)) (planFit self (now (part .entry)) (admissionOf (now (part .entry)) true)) ⌝ }
@@ -583,19 +534,9 @@ impl MessageCache {
                 seqno_start,
                 seqno_end,
             } => {
-                let mut id = [0u8; 128];
+                let mut id = [0u8; MESSAGE_ID_SIZE];
                 let n = form_id(part, from_start, from_end, seqno_start, seqno_end, &mut id);
-                if self.find(&id[..n]) < self.count {
-                    return PutDone {
-                        answer: Put::Held,
-                        cache: self,
-                    };
-                }
-                let cache = self.enter(store, part, &id[..n]);
-                PutDone {
-                    answer: Put::Stored,
-                    cache,
-                }
+                self.keep(store, part, &id[..n])
             }
         }
     }
@@ -639,18 +580,13 @@ impl MessageCache {
     }
 
     // A window later, where the state was tested.
-    pub fn later(mut self) -> Self
-        requires { ⌜ Ring (self .«max_messages») (self .start) (self .count) (self .window) ⌝ }
+    pub fn next_window(mut self) -> Self
+        requires { ⌜ InStore (ringOf self) (self .window) ⌝ }
         ensures { λ r. ⌜ r ≡ shifted self ⌝ }
     {
+        let ring = self.ring();
         let mut window = self.window;
-        let k = stale_rows(
-            &window,
-            self.max_messages,
-            self.start,
-            self.count,
-            self.history_len,
-        );
+        let k = stale_rows(&window, ring, self.history_len);
         age_windows(&mut window);
         self.window = window;
         self.without(k)
@@ -672,7 +608,7 @@ impl MessageCache {
                 cache: self,
             },
             Lent::Fine => {
-                let cache = self.later();
+                let cache = self.next_window();
                 Shifted {
                     answer: Lent::Fine,
                     cache,
@@ -683,13 +619,13 @@ impl MessageCache {
 
     // The part of the store that holds the message with an id, where the state was tested; empty for none.
     fn message_of<'s, 'i>(self, store: &'s [u8], id: &'i [u8]) -> &'s [u8]
-        requires { ⌜ Kept self (now store) ⌝ }
+        requires { ⌜ Usable self (now store) ⌝ }
         ensures { λ r. ⌜ now r ≡ found self (now (store .entry)) (now (id .entry)) ⌝ }
     {
         let i = self.find(id);
         if i < self.count {
-            let p = place(self.max_messages, self.start, i);
-            let base = p * 4096;
+            let p = place(self.ring(), i);
+            let base = p * MESSAGE_SIZE;
             let end = base + self.len[p] as usize;
             return &store[base..end];
         }
@@ -727,29 +663,25 @@ impl MessageCache {
 
     // The messages of the newest windows asked for that carry the topic, where the state was tested.
     pub fn tell(self, store: &[u8], topic: &[u8], windows: usize) -> GossipIds
-        requires { ⌜ Kept self (now store) ⌝ }
+        requires { ⌜ Usable self (now store) ⌝ }
         ensures { λ r. ⌜ r .answer ≡ Gossip.Ids ⌝ }
         ensures { λ r. ⌜ r .count ≡ length (gossipList self (now (store .entry)) (now (topic .entry)) windows) ⌝ }
         ensures { λ r. ⌜ r .rows ≡ gossipArray self (now (store .entry)) (now (topic .entry)) windows ⌝ }
     {
+        let ring = self.ring();
         let window = self.window;
         let lens = self.len;
         let id_lens = self.id_len;
         let ids = self.ids;
-        let mut rows = [0u8; 64];
-        let count = gather(
-            &window,
-            &lens,
-            &id_lens,
-            &ids,
-            store,
-            self.max_messages,
-            self.start,
-            self.count,
-            windows,
-            topic,
-            &mut rows,
-        );
+        let mut rows = [0u8; MAX_MESSAGES];
+        let mut count = 0;
+        let mut i = 0;
+        while i < ring.count {
+            let p = place(ring, i);
+            let there = is_told(&window, &lens, store, p, windows, topic);
+            count = tell_row(there, &mut rows, count, &id_lens, &ids, p);
+            i += 1;
+        }
         GossipIds {
             answer: Gossip::Ids,
             count,
@@ -761,12 +693,12 @@ impl MessageCache {
     fn untold(answer: Gossip) -> GossipIds
         ensures { λ r. ⌜ r .answer ≡ answer ⌝ }
         ensures { λ r. ⌜ r .count ≡ 0 ⌝ }
-        ensures { λ r. ⌜ r .rows ≡ replicate 64 0 ⌝ }
+        ensures { λ r. ⌜ r .rows ≡ replicate maxMessages 0 ⌝ }
     {
         GossipIds {
             answer,
             count: 0,
-            rows: [0; 64],
+            rows: [0; MAX_MESSAGES],
         }
     }
 

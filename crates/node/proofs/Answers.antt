@@ -11,18 +11,18 @@ use lib.Dec.{leb, eqb}
 use borrow.Author.Tests.{eq-eqb, ne-eqb, le-leb, lt-leb, leb-true, leb-false, lt-ltb, le-ltb}
 use Rattle.basis.specs.Cases.{either, clash}
 use Rattle.basis.specs.Writing.{answer, written}
-use Rattle.rows.specs.Store.{Ring, Sound, lensIn}
+use Rattle.rows.specs.Store.{InStore, Sound, inUse}
 use Rattle.seen.specs.declared.SeenCache.{SeenCache}
 use Rattle.seen.specs.declared.Lent.the-variants as seenLent
 use Rattle.seen.specs.Entries.{until}
-use Rattle.seen.specs.State.{wellFormed as seenWellFormed, fresh as noIds, spent}
+use Rattle.seen.specs.State.{wellFormed as seenWellFormed, fresh as noIds, spent, ringOf as seenRingOf}
 use Rattle.seen.specs.StateLaws.{spent-in, sound-dropped}
 use Rattle.seen.specs.Calls.{capOf, wholeRows, lentOf as seenLentOf, heldIn, cleaned, entered, enteredStore}
 use Rattle.seen.specs.Laws.{lent-sound}
 use Rattle.mcache.specs.declared.MessageCache.{MessageCache}
 use Rattle.mcache.specs.declared.Lent.the-variants as cacheLent
 use Rattle.mcache.specs.declared.Start.the-variants as cacheStart
-use Rattle.mcache.specs.State.{legal, wellFormed as cacheWellFormed, fresh as noMessages}
+use Rattle.mcache.specs.State.{legal, wellFormed as cacheWellFormed, fresh as noMessages, ringOf}
 use Rattle.mcache.specs.StateLaws.{fine-tests as cache-tests}
 use Rattle.mcache.specs.Calls.{startAnswer as cacheStartAnswer, startCache, lentOf as cacheLentOf, keptUnder, storedUnder, shifted}
 use Rattle.protobuf.specs.declared.WireError.{WireError}
@@ -42,7 +42,7 @@ use Rattle.node.specs.declared.Start.the-variants as start
 use Rattle.node.specs.declared.Lent.the-variants as lent
 use Rattle.node.specs.declared.Fault.{Fault}
 use Rattle.node.specs.declared.Fault.the-variants as fault
-use Rattle.node.specs.State.{legalSettings, freshNode, risesFrom, seenFits, wellFormed, Ready}
+use Rattle.node.specs.State.{legalSettings, freshNode, risesFrom, seenFits, wellFormed, Ready, seenRing}
 use Rattle.node.specs.declared.Admit.{Admit}
 use Rattle.node.specs.declared.Admit.the-variants as admit
 use Rattle.node.specs.declared.Beat.the-variants as beat
@@ -98,7 +98,7 @@ module _ (n : Node) (ss : List ℕ) (room : length ss ≡ n .«max_seen» * 129)
   ids = seenWellFormed (n .«max_seen») (n .seen) ss
 
   abbrev rises : Bool
-  rises = risesFrom 0 (lensIn (n .«max_seen») (n .seen .start) (n .seen .count) (n .seen .expiry))
+  rises = risesFrom 0 (inUse (seenRing n) (n .seen .expiry))
 
   -- the seen cache's own test
   own : n .«max_seen» ≤ 256 → seenLentOf (n .seen) ss ≡ cond ids seenLent.Fine seenLent.Malformed
@@ -133,10 +133,10 @@ module _ (n : Node) (ss : List ℕ) (room : length ss ≡ n .«max_seen» * 129)
       let o = own f in
       either ids (λ u. h ∙ sym (simp (le-leb (n .«max_seen») 256 f, u))) (λ u. clash (let z = simp u at o in cc))
 
-  pub fits-ring : seenLent.Fine ≡ seenLentOf (n .seen) ss → length (n .seen .expiry) ≡ 256 → length (n .seen .len) ≡ 256 → Ring (n .«max_seen») (n .seen .start) (n .seen .count) (n .seen .expiry)
+  pub fits-ring : seenLent.Fine ≡ seenLentOf (n .seen) ss → length (n .seen .expiry) ≡ 256 → length (n .seen .len) ≡ 256 → InStore (seenRing n) (n .seen .expiry)
   fits-ring e y z =
       let f = fine-few e in
-      let s : Sound 129 (n .«max_seen») (n .seen .start) (n .seen .count) (n .seen .len) ss = rw (← room-cap n ss room) (lent-sound (n .seen) ss (sym e) (y, z)) in
+      let s : Sound 129 (seenRing n) (n .seen .len) ss = rw (← room-cap n ss room) (lent-sound (n .seen) ss (sym e) (y, z)) in
       record { starts = s .rows .starts; within = s .rows .within; size = omega arith }
 
 -- ---- the lent node and its stores
@@ -203,10 +203,10 @@ module _ (n : Node) (ss cs : List ℕ) where
 
 -- ---- a node that was tested: its expiries and its windows can be walked over
 module _ (n : Node) (ss cs : List ℕ) (h : lent.Fine ≡ lentOf n ss cs) where
-  pub fine-expiries : length (n .seen .expiry) ≡ 256 → length (n .seen .len) ≡ 256 → Ring (n .«max_seen») (n .seen .start) (n .seen .count) (n .seen .expiry)
+  pub fine-expiries : length (n .seen .expiry) ≡ 256 → length (n .seen .len) ≡ 256 → InStore (seenRing n) (n .seen .expiry)
   fine-expiries y z = let t = fine-tests n ss cs (sym h) in fits-ring n ss (t .room) (sym (t .ids)) y z
 
-  pub fine-windows : length (n .cache .window) ≡ 64 → Ring (n .cache .«max_messages») (n .cache .start) (n .cache .count) (n .cache .window)
+  pub fine-windows : length (n .cache .window) ≡ 64 → InStore (ringOf (n .cache)) (n .cache .window)
   fine-windows w = let t = cache-tests (n .cache) cs (fine-tests n ss cs (sym h) .messages) in record { starts = t .starts; within = t .within; size = omega (arith, t .few) }
 
 -- and it is ready for every step
@@ -229,12 +229,12 @@ module _ (n : Node) (ss cs : List ℕ) (at : ℕ) where
 
   -- the ids that are seen after the clean-up, and a key in its marked form
   module _ (d : SeenCache) (ed : d ≡ cleaned (n .«max_seen») at (n .seen)) where
-    pub swept-sound : Sound 129 (n .«max_seen») (n .seen .start) (n .seen .count) (n .seen .len) ss → Sound 129 (n .«max_seen») (d .start) (d .count) (d .len) ss
+    pub swept-sound : Sound 129 (seenRing n) (n .seen .len) ss → Sound 129 (seenRingOf (n .«max_seen») d) (d .len) ss
     unfolding cleaned
     swept-sound s =
         rw ed
-        (sound-dropped (n .«max_seen») (spent at (lensIn (n .«max_seen») (n .seen .start) (n .seen .count) (n .seen .expiry))) (n .seen) ss s
-        (spent-in at (n .«max_seen») (n .seen .start) (n .seen .count) (n .seen .expiry)))
+        (sound-dropped (n .«max_seen») (spent at (inUse (seenRing n) (n .seen .expiry))) (n .seen) ss s
+        (spent-in at (seenRing n) (n .seen .expiry)))
 
     module _ (key : List ℕ) (ek : key ≡ marked (drop 1 key)) where
       held-is : heldIn (n .«max_seen») d ss key ≡ heldAt n ss at (drop 1 key)

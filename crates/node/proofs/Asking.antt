@@ -25,6 +25,7 @@ use Rattle.encode.specs.Puts.{Puts, Fits, puts-same, puts-append, fits-same, fi
 use Rattle.schema.specs.Accept.{acceptOf}
 use Rattle.parts.specs.Parts.{partAt, partsIn, Parts, atPath, once}
 use Rattle.parts.specs.PartsLaws.{length-parts, parts-from, parts-end, parts-more, parts-within-more, no-parts, parts-none}
+use Rattle.node.specs.State.{seenRing}
 use Rattle.node.specs.declared.Node.{Node}
 use Rattle.node.specs.declared.Lent.{Lent}
 use Rattle.node.specs.declared.Lent.the-variants as lent
@@ -209,13 +210,13 @@ module _ (node : Node) (ss body out : List ℕ) where
   abbrev Answers : Ask → List ℕ → Type 0
   Answers r after = (r ≡ asked (answer (askBytes node ss body) out)) × (after ≡ written (askBytes node ss body) out)
 
-  module _ (first named : List ℕ) (k m : ℕ) (f : partsIn body first k ≡ once (atPath (3 ∷ 1 ∷ 2 ∷ []) body)) (u : partsIn body named m ≡ unseenFrom (idsIn 129 (node .«max_seen») (node .seen .start) (node .seen .count) (node .seen .len) ss) (partsIn body first k)) where
+  module _ (first named : List ℕ) (k m : ℕ) (f : partsIn body first k ≡ once (atPath (3 ∷ 1 ∷ 2 ∷ []) body)) (u : partsIn body named m ≡ unseenFrom (idsIn 129 (seenRing node) (node .seen .len) ss) (partsIn body first k)) where
     abbrev ids : List (List ℕ)
     ids = partsIn body named m
 
     lacking-is : unseenOf node ss (offered body) ≡ ids
     unfolding unseenOf offered
-    lacking-is = sym (u ∙ ap (unseenFrom (idsIn 129 (node .«max_seen») (node .seen .start) (node .seen .count) (node .seen .len) ss)) f)
+    lacking-is = sym (u ∙ ap (unseenFrom (idsIn 129 (seenRing node) (node .seen .len) ss)) f)
 
     bytes-are : askBytes node ss body ≡ bytesFor ids (request ids)
     unfolding askBytes

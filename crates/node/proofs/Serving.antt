@@ -10,6 +10,7 @@ use lib.Seq.{sets}
 use lib.Dec.{ltb}
 use borrow.Author.Tests.{lt-ltb, le-ltb, ltb-true, eq-eqb, ne-eqb}
 use Rattle.basis.specs.Cases.{either}
+use Rattle.rows.specs.declared.Ring.{Ring}
 use Rattle.rows.specs.Rows.{placeOf}
 use Rattle.rows.specs.RowsLaws.{length-ring, place-lt}
 use Rattle.rows.specs.Ids.{indexOf}
@@ -26,7 +27,7 @@ use Rattle.schema.specs.Accept.{acceptOf}
 use Rattle.parts.specs.Parts.{partAt, partsIn, Parts, atPath, once, fitting}
 use Rattle.parts.specs.PartsLaws.{length-parts, parts-from, parts-end, parts-take, no-parts, parts-none, fitting-room}
 use Rattle.mcache.specs.declared.MessageCache.{MessageCache}
-use Rattle.mcache.specs.State.{messageIn, Kept}
+use Rattle.mcache.specs.State.{messageIn, Usable, ringOf}
 use Rattle.node.specs.declared.Node.{Node}
 use Rattle.node.specs.declared.Lent.{Lent}
 use Rattle.node.specs.declared.Lent.the-variants as lent
@@ -37,35 +38,35 @@ use Rattle.node.specs.Calls.{lentOf, wanted, rowsFor, cachedOf, roomOf, 
 use Rattle.node.proofs.Asking.{put-fewer, put-within, put-goes}
 
 -- ---- the place of a message
-pub row-place : (cap start count row p : ℕ) → (start ≤ cap) × (count ≤ cap) × (cap ≤ 64) → row < count → p ≡ placeOf cap start row → p < 64
-row-place cap start count row p (a, b, d) h e = let l = place-lt cap start row a (omega arith) in omega arith
+pub row-place : (ring : Ring) (row p : ℕ) → (ring .start ≤ ring .cap) × (ring .count ≤ ring .cap) × (ring .cap ≤ 64) → row < ring .count → p ≡ placeOf ring row → p < 64
+row-place ring row p (a, b, d) h e = let l = place-lt ring row a (omega arith) in omega arith
 
-module _ (lens : List ℕ) (cap start count row : ℕ) (t : List ℕ) (n : ℕ) where
+module _ (lens : List ℕ) (ring : Ring) (row : ℕ) (t : List ℕ) (n : ℕ) where
   abbrev Added : ℕ → List ℕ → Type 0
   Added r after =
-      (r ≡ cond (ltb row count) (n + 1) n)
-      × (after ≡ cond (ltb row count) (sets t (n * 2) ((placeOf cap start row * 4096) ∷ (placeOf cap start row * 4096 + getD lens (placeOf cap start row) 0) ∷ [])) t)
+      (r ≡ cond (ltb row (ring .count)) (n + 1) n)
+      × (after ≡ cond (ltb row (ring .count)) (sets t (n * 2) ((placeOf ring row * 4096) ∷ (placeOf ring row * 4096 + getD lens (placeOf ring row) 0) ∷ [])) t)
 
-  pub message-there : row < count → (p r : ℕ) (after : List ℕ) → p ≡ placeOf cap start row → r ≡ n + 1 → after ≡ sets t (n * 2) ((p * 4096) ∷ (p * 4096 + getD lens p 0) ∷ []) → Added r after
-  message-there h p r after e er ea = simp (lt-ltb row count h) (er, ea ∙ rw e)
+  pub message-there : row < ring .count → (p r : ℕ) (after : List ℕ) → p ≡ placeOf ring row → r ≡ n + 1 → after ≡ sets t (n * 2) ((p * 4096) ∷ (p * 4096 + getD lens p 0) ∷ []) → Added r after
+  message-there h p r after e er ea = simp (lt-ltb row (ring .count) h) (er, ea ∙ rw e)
 
-  pub message-not : count ≤ row → Added n t
-  message-not h = simp (le-ltb row count h) (refl, refl)
+  pub message-not : ring .count ≤ row → Added n t
+  message-not h = simp (le-ltb row (ring .count) h) (refl, refl)
 
 -- ---- the messages in `to`, and then those that are cached of the ids in `from` from i on, are all of them
-pub record Found (lens : List ℕ) (cap start : ℕ) (held : List (List ℕ)) (s from : List ℕ) (n : ℕ) (to : List ℕ) (k i : ℕ) : Type 0 where
+pub record Found (lens : List ℕ) (ring : Ring) (held : List (List ℕ)) (s from : List ℕ) (n : ℕ) (to : List ℕ) (k i : ℕ) : Type 0 where
   pub most : i ≤ n
   pub fewer : k ≤ i
-  pub parts : (cs : List ℕ) → length cs ≡ cap * 4096 → Parts cs to k
-  pub goes : (cs : List ℕ) → partsIn cs to k ++ map (messageIn lens cs) (rowsFor cap start held (drop i (partsIn s from n))) ≡ map (messageIn lens cs) (rowsFor cap start held (partsIn s from n))
+  pub parts : (cs : List ℕ) → length cs ≡ ring .cap * 4096 → Parts cs to k
+  pub goes : (cs : List ℕ) → partsIn cs to k ++ map (messageIn lens cs) (rowsFor ring held (drop i (partsIn s from n))) ≡ map (messageIn lens cs) (rowsFor ring held (partsIn s from n))
 
-pub found-all : (lens : List ℕ) (cap start : ℕ) (held : List (List ℕ)) (s from : List ℕ) (n : ℕ) (to : List ℕ) → Found lens cap start held s from n to 0 0
-found-all lens cap start held s from n to =
+pub found-all : (lens : List ℕ) (ring : Ring) (held : List (List ℕ)) (s from : List ℕ) (n : ℕ) (to : List ℕ) → Found lens ring held s from n to 0 0
+found-all lens ring held s from n to =
     record {
       most = omega arith;
       fewer = omega arith;
       parts = λ cs h. parts-none cs to;
-      goes = λ cs. ap (λ (l : List (List ℕ)). l ++ map (messageIn lens cs) (rowsFor cap start held (partsIn s from n))) (no-parts cs to);
+      goes = λ cs. ap (λ (l : List (List ℕ)). l ++ map (messageIn lens cs) (rowsFor ring held (partsIn s from n))) (no-parts cs to);
     }
 
 -- a message's place, as the code has it
@@ -73,66 +74,67 @@ message-between : (lens cs : List ℕ) (p : ℕ) → messageIn lens cs p ≡ bet
 unfolding messageIn
 message-between lens cs p = let e : (p * 4096 + getD lens p 0) - p * 4096 ≡ getD lens p 0 = omega arith in rw e
 
-held-turn : (lens cs : List ℕ) (cap start count row : ℕ) (held : List (List ℕ)) (id : List ℕ) (ids : List (List ℕ)) → length held ≡ count → row ≡ indexOf id held
-    → map (messageIn lens cs) (rowsFor cap start held (id ∷ ids)) ≡ cond (ltb row count) (between cs (placeOf cap start row * 4096) (placeOf cap start row * 4096 + getD lens (placeOf cap start row) 0) ∷ map (messageIn lens cs) (rowsFor cap start held ids)) (map (messageIn lens cs) (rowsFor cap start held ids))
+held-turn : (lens cs : List ℕ) (ring : Ring) (row : ℕ) (held : List (List ℕ)) (id : List ℕ) (ids : List (List ℕ)) → length held ≡ ring .count → row ≡ indexOf id held
+    → map (messageIn lens cs) (rowsFor ring held (id ∷ ids)) ≡ cond (ltb row (ring .count)) (between cs (placeOf ring row * 4096) (placeOf ring row * 4096 + getD lens (placeOf ring row) 0) ∷ map (messageIn lens cs) (rowsFor ring held ids)) (map (messageIn lens cs) (rowsFor ring held ids))
 unfolding rowsFor
-held-turn lens cs cap start count row held id ids l e =
-    rw (e, ← l)
+held-turn lens cs ring row held id ids l e =
+    let q : ltb (indexOf id held) (ring .count) ≡ ltb (indexOf id held) (length held) = ap (ltb (indexOf id held)) (sym l) in
+    rw (e, q)
     (either (ltb (indexOf id held) (length held))
-    (λ y. simp y (ap (λ (x : List ℕ). x ∷ map (messageIn lens cs) (rowsFor cap start held ids)) (message-between lens cs (placeOf cap start (indexOf id held)))))
+    (λ y. simp y (ap (λ (x : List ℕ). x ∷ map (messageIn lens cs) (rowsFor ring held ids)) (message-between lens cs (placeOf ring (indexOf id held)))))
     (λ n. simp n))
 
-module _ (lens : List ℕ) (cap start count : ℕ) (ilens store s from : List ℕ) (n : ℕ) (to : List ℕ) (k i : ℕ) (g : Found lens cap start (idsIn 128 cap start count ilens store) s from n to k i) where
+module _ (lens : List ℕ) (ring : Ring) (ilens store s from : List ℕ) (n : ℕ) (to : List ℕ) (k i : ℕ) (g : Found lens ring (idsIn 128 ring ilens store) s from n to k i) where
   abbrev held : List (List ℕ)
-  held = idsIn 128 cap start count ilens store
+  held = idsIn 128 ring ilens store
 
-  held-count : length held ≡ count
+  held-count : length held ≡ ring .count
   unfolding idsIn
-  held-count = length-ring (idAt 128 ilens store) cap start count
+  held-count = length-ring (idAt 128 ilens store) ring
 
   pub found-room : (m : ℕ) → i < n → n * 2 ≤ m → length to ≡ m → (k + 1) * 2 ≤ length to
   found-room m h l e = let f = g .fewer in omega arith
 
-  pub found-turn : i < n → Sound 128 cap start count ilens store → ((j : ℕ) → j < count → getD lens (placeOf cap start j) 0 ≤ 4096) → (k + 1) * 2 ≤ length to → (row : ℕ) → row ≡ 0 + indexOf (partAt s from i) (drop 0 held) → (r : ℕ) (after : List ℕ) → Added lens cap start count row to k r after → Found lens cap start held s from n after r (i + 1)
+  pub found-turn : i < n → Sound 128 ring ilens store → ((j : ℕ) → j < ring .count → getD lens (placeOf ring j) 0 ≤ 4096) → (k + 1) * 2 ≤ length to → (row : ℕ) → row ≡ 0 + indexOf (partAt s from i) (drop 0 held) → (r : ℕ) (after : List ℕ) → Added lens ring row to k r after → Found lens ring held s from n after r (i + 1)
   found-turn h ok short room row e r after (er, ea) =
       let f = g .fewer in
-      let p = placeOf cap start row in
+      let p = placeOf ring row in
       let a = p * 4096 in
       let z = p * 4096 + getD lens p 0 in
-      let m = put-fewer to k a z room (ltb row count) r after er ea in
+      let m = put-fewer to k a z room (ltb row (ring .count)) r after er ea in
       record {
         most = omega arith;
         fewer = omega arith;
-        parts = λ cs l. put-within to k a z room (ltb row count) r after er ea cs (g .parts cs l)
-            (λ y. let q = ltb-true row count y in
+        parts = λ cs l. put-within to k a z room (ltb row (ring .count)) r after er ea cs (g .parts cs l)
+            (λ y. let q = ltb-true row (ring .count) y in
             let w = ok .rows in
-            let b = place-lt cap start row (w .starts) (omega arith) in
-            (omega arith, row-fits 4096 cap p (getD lens p 0) (length cs) b (short row q) (omega arith)));
-        goes = λ cs. put-goes to k a z room (ltb row count) r after er ea cs _ _ _
-            (ap (λ (l : List (List ℕ)). map (messageIn lens cs) (rowsFor cap start held l)) (parts-from s from n i h)
-            ∙ held-turn lens cs cap start count row held (partAt s from i) (drop (i + 1) (partsIn s from n)) held-count (e ∙ zero-add (indexOf (partAt s from i) held)))
+            let b = place-lt ring row (w .starts) (omega arith) in
+            (omega arith, row-fits 4096 (ring .cap) p (getD lens p 0) (length cs) b (short row q) (omega arith)));
+        goes = λ cs. put-goes to k a z room (ltb row (ring .count)) r after er ea cs _ _ _
+            (ap (λ (l : List (List ℕ)). map (messageIn lens cs) (rowsFor ring held l)) (parts-from s from n i h)
+            ∙ held-turn lens cs ring row held (partAt s from i) (drop (i + 1) (partsIn s from n)) held-count (e ∙ zero-add (indexOf (partAt s from i) held)))
             (g .goes cs);
       }
 
-  pub found-done : n ≤ i → ((cs : List ℕ) → partsIn cs to k ≡ map (messageIn lens cs) (rowsFor cap start held (partsIn s from n))) × (((cs : List ℕ) → length cs ≡ cap * 4096 → Parts cs to k) × (k ≤ n))
+  pub found-done : n ≤ i → ((cs : List ℕ) → partsIn cs to k ≡ map (messageIn lens cs) (rowsFor ring held (partsIn s from n))) × (((cs : List ℕ) → length cs ≡ ring .cap * 4096 → Parts cs to k) × (k ≤ n))
   unfolding rowsFor
   found-done h =
       let f = g .fewer in
       let m = g .most in (
-        (λ cs. sym (ap (λ (l : List (List ℕ)). partsIn cs to k ++ map (messageIn lens cs) (rowsFor cap start held l)) (parts-end s from n i h) ∙ append-nil (partsIn cs to k)) ∙ g .goes cs),
+        (λ cs. sym (ap (λ (l : List (List ℕ)). partsIn cs to k ++ map (messageIn lens cs) (rowsFor ring held l)) (parts-end s from n i h) ∙ append-nil (partsIn cs to k)) ∙ g .goes cs),
         (g .parts, omega arith),
       )
 
 -- ---- the cached messages that a body asks for
-pub kept-size : (c : MessageCache) (cs : List ℕ) → Kept c cs → length cs ≤ 262144
+pub kept-size : (c : MessageCache) (cs : List ℕ) → Usable c cs → length cs ≤ 262144
 kept-size c cs k = let r = k .rows in omega arith
 
 pub messages-are : (c : MessageCache) (cs body first named : List ℕ) (k m : ℕ) → partsIn body first k ≡ once (atPath (3 ∷ 2 ∷ 1 ∷ []) body)
-    → ((st : List ℕ) → partsIn st named m ≡ map (messageIn (c .len) st) (rowsFor (c .«max_messages») (c .start) (idsIn 128 (c .«max_messages») (c .start) (c .count) (c .«id_len») (c .ids)) (partsIn body first k)))
+    → ((st : List ℕ) → partsIn st named m ≡ map (messageIn (c .len) st) (rowsFor (ringOf c) (idsIn 128 (ringOf c) (c .«id_len») (c .ids)) (partsIn body first k)))
     → cachedOf c cs (wanted body) ≡ partsIn cs named m
 unfolding cachedOf wanted
 messages-are c cs body first named k m f u =
-    sym (u cs ∙ ap (λ (l : List (List ℕ)). map (messageIn (c .len) cs) (rowsFor (c .«max_messages») (c .start) (idsIn 128 (c .«max_messages») (c .start) (c .count) (c .«id_len») (c .ids)) l)) f)
+    sym (u cs ∙ ap (λ (l : List (List ℕ)). map (messageIn (c .len) cs) (rowsFor (ringOf c) (idsIn 128 (ringOf c) (c .«id_len») (c .ids)) l)) f)
 
 -- ---- the reply to them, where they are the m parts of a store that a table has
 module _ (ms : List (List ℕ)) (out : List ℕ) where

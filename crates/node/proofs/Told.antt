@@ -7,14 +7,14 @@ use lib.ListN.{length, take, drop, getD, replicate, length-take, length-map, len
 use lib.Seq.{take-at, getD-take}
 use Rattle.basis.specs.Writing.{answer, written}
 use Rattle.basis.specs.Lists.{answer-fits, answer-short, written-fits, written-short}
-use Rattle.rows.specs.Rows.{placeOf, ring}
+use Rattle.rows.specs.Rows.{placeOf, rowsIn}
 use Rattle.rows.specs.RowsLaws.{place-lt, length-ring, length-tab, getD-tab}
 use Rattle.rows.specs.Store.{idAt}
 use Rattle.rpc.specs.Rpc.{Rpc}
 use Rattle.rpc.specs.Encode.{encodeRpc}
 use Rattle.encode.specs.Puts.{Puts, Fits}
 use Rattle.mcache.specs.declared.MessageCache.{MessageCache}
-use Rattle.mcache.specs.State.{Kept, Listed, told, gathered}
+use Rattle.mcache.specs.State.{Usable, Listed, told, ringOf}
 use Rattle.mcache.specs.Calls.{gossipList, gossipArray}
 use Rattle.mcache.specs.GatherLaws.{Each, each-rest, each-gather, length-gather}
 use Rattle.node.specs.declared.Node.{Node}
@@ -24,32 +24,32 @@ use Rattle.node.specs.Calls.{toldIn, bytesFor, advertiseBytes, advertise
 use Rattle.node.specs.WireLaws.{advertisement-most}
 
 -- ---- the rows that are told of
-module _ (c : MessageCache) (cs topic : List ℕ) (windows : ℕ) (ok : Kept c cs) where
+module _ (c : MessageCache) (cs topic : List ℕ) (windows : ℕ) (ok : Usable c cs) where
   abbrev listed : List ℕ
   listed = gossipList c cs topic windows
 
   abbrev HasId : ℕ → Type 0
   HasId p = (p < 64) × (getD (c .«id_len») p 0 ≤ 128)
 
-  in-use : Each HasId (ring (λ (p : ℕ). p) (c .«max_messages») (c .start) (c .count))
-  unfolding ring
+  in-use : Each HasId (rowsIn (λ (p : ℕ). p) (ringOf c))
+  unfolding rowsIn
   in-use i h =
       let r = ok .rows in
-      let f : ℕ → ℕ = λ (j : ℕ). placeOf (c .«max_messages») (c .start) j in
+      let f : ℕ → ℕ = λ (j : ℕ). placeOf (ringOf c) j in
       let l : i < c .count = rw (length-tab f (c .count)) at h in
-      let p = place-lt (c .«max_messages») (c .start) i (r .starts) (omega (arith, r .within)) in
+      let p = place-lt (ringOf c) i (r .starts) (omega (arith, r .within)) in
       rw (getD-tab f (c .count) i 0 l) (omega (arith, r .few), r .id-short i l)
 
   listed-each : Each HasId listed
-  unfolding gossipList gathered
+  unfolding gossipList
   listed-each = each-gather HasId _ _ [] _ (λ i h. absurd (omega arith)) in-use
 
   pub listed-few : length listed ≤ 64
-  unfolding gossipList gathered
+  unfolding gossipList
   listed-few =
       let r = ok .rows in
-      let l = length-ring (λ (p : ℕ). p) (c .«max_messages») (c .start) (c .count) in
-      let g = length-gather (told (c .window) (c .len) cs windows topic) (idAt 128 (c .«id_len») (c .ids)) [] (ring (λ (p : ℕ). p) (c .«max_messages») (c .start) (c .count)) in
+      let l = length-ring (λ (p : ℕ). p) (ringOf c) in
+      let g = length-gather (told (c .window) (c .len) cs windows topic) (idAt 128 (c .«id_len») (c .ids)) [] (rowsIn (λ (p : ℕ). p) (ringOf c)) in
       omega (arith, r .within, r .few)
 
   -- as they are given: a count, and an array with those rows at its front
@@ -101,7 +101,7 @@ pub bytes-some : (ids : List (List ℕ)) (x : Rpc) → (length ids ≡ 0 → ⊥
 bytes-some [] x h = absurd (h refl)
 bytes-some (i ∷ ids) x h = refl
 
-module _ (g : Node) (cs topic : List ℕ) (windows : ℕ) (ok : Kept (g .cache) cs) (n : ℕ) (rows : List ℕ)
+module _ (g : Node) (cs topic : List ℕ) (windows : ℕ) (ok : Usable (g .cache) cs) (n : ℕ) (rows : List ℕ)
     (en : n ≡ length (gossipList (g .cache) cs topic windows)) (er : rows ≡ gossipArray (g .cache) cs topic windows) (out : List ℕ) where
   abbrev bytes : List ℕ
   bytes = advertiseBytes g cs topic windows

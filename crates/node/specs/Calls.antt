@@ -9,6 +9,7 @@ use lib.Dec.{ltb, eqb}
 use Rattle.basis.specs.declared.Written.{Written}
 use Rattle.basis.specs.declared.Written.the-variants as done
 use Rattle.basis.specs.Writing.{answer, written}
+use Rattle.rows.specs.declared.Ring.{Ring}
 use Rattle.rows.specs.Rows.{placeOf}
 use Rattle.rows.specs.Ids.{among, indexOf}
 use Rattle.rows.specs.Store.{idAt, idsIn}
@@ -27,11 +28,12 @@ use Rattle.admission.specs.declared.Admission.{Admission}
 use Rattle.admission.specs.declared.Admission.the-variants as admission
 use Rattle.admission.specs.Admission.{unfitNumber, unfitValues, admissionOf}
 use Rattle.parts.specs.Parts.{atPath, once, fitting}
+use Rattle.seen.specs.State.{idSize}
 use Rattle.seen.specs.declared.SeenCache.{SeenCache}
 use Rattle.seen.specs.Entries.{until}
 use Rattle.seen.specs.Calls.{capOf, heldIn, cleaned, entered, enteredStore}
 use Rattle.mcache.specs.declared.MessageCache.{MessageCache}
-use Rattle.mcache.specs.State.{messageIn}
+use Rattle.mcache.specs.State.{messageIn, messageSize, messageIdSize, ringOf}
 use Rattle.mcache.specs.Calls.{keptUnder, storedUnder, shifted, gossipList}
 use Rattle.node.specs.declared.Node.{Node}
 use Rattle.node.specs.declared.Lent.{Lent}
@@ -51,7 +53,7 @@ use Rattle.node.specs.declared.Ask.the-variants as ask
 use Rattle.node.specs.declared.Serve.{Serve}
 use Rattle.node.specs.declared.Serve.the-variants as serve
 use Rattle.node.specs.Gateway.{marked, advertisement, request}
-use Rattle.node.specs.State.{legalSettings, freshNode, wellFormed}
+use Rattle.node.specs.State.{legalSettings, freshNode, wellFormed, seenRing}
 
 -- ---- 01's numbers and values
 abbrev pub faultNumber : Fault → ℕ
@@ -141,7 +143,7 @@ startNode ttl max-seen history max = cond (legalSettings max-seen history max) (
 
 -- ---- the lent node and its stores: 40, 41, 42
 unfoldable pub rightSizes : Node → List ℕ → List ℕ → Bool
-rightSizes n ss cs = eqb (length ss) (n .«max_seen» * 129) && eqb (length cs) (n .cache .«max_messages» * 4096)
+rightSizes n ss cs = eqb (length ss) (n .«max_seen» * idSize) && eqb (length cs) (n .cache .«max_messages» * messageSize)
 
 unfoldable pub lentOf : Node → List ℕ → List ℕ → Lent
 lentOf n ss cs =
@@ -231,7 +233,7 @@ bytesFor (i ∷ is) x = encodeRpc x
 -- ---- advertise: 40, 41, 42, 29, 12
 -- the ids that are told of, sorted
 unfoldable pub toldIn : Node → List ℕ → List ℕ → ℕ → List (List ℕ)
-toldIn n cs topic windows = map (idAt 128 (n .cache .«id_len») (n .cache .ids)) (gossipList (n .cache) cs topic windows)
+toldIn n cs topic windows = map (idAt messageIdSize (n .cache .«id_len») (n .cache .ids)) (gossipList (n .cache) cs topic windows)
 
 unfoldable pub advertiseBytes : Node → List ℕ → List ℕ → ℕ → List ℕ
 advertiseBytes n cs topic windows = bytesFor (toldIn n cs topic windows) (advertisement topic (toldIn n cs topic windows))
@@ -260,7 +262,7 @@ unseenFrom seen [] = []
 unseenFrom seen (i ∷ is) = cond (among (marked i) seen) (unseenFrom seen is) (i ∷ unseenFrom seen is)
 
 unfoldable pub unseenOf : Node → List ℕ → List (List ℕ) → List (List ℕ)
-unseenOf n ss is = unseenFrom (idsIn 129 (n .«max_seen») (n .seen .start) (n .seen .count) (n .seen .len) ss) is
+unseenOf n ss is = unseenFrom (idsIn idSize (seenRing n) (n .seen .len) ss) is
 
 unfoldable pub askBytes : Node → List ℕ → List ℕ → List ℕ
 askBytes n ss body = bytesFor (unseenOf n ss (offered body)) (request (unseenOf n ss (offered body)))
@@ -289,19 +291,23 @@ unfoldable pub wanted : List ℕ → List (List ℕ)
 wanted body = once (atPath (3 ∷ 2 ∷ 1 ∷ []) body)
 
 -- the places of the messages with these ids; `held` are the ids in use, the oldest first
-unfoldable pub rowsFor : ℕ → ℕ → List (List ℕ) → List (List ℕ) → List ℕ
-rowsFor cap start held [] = []
-rowsFor cap start held (i ∷ is) =
-    cond (ltb (indexOf i held) (length held)) (placeOf cap start (indexOf i held) ∷ rowsFor cap start held is) (rowsFor cap start held is)
+unfoldable pub rowsFor : Ring → List (List ℕ) → List (List ℕ) → List ℕ
+rowsFor ring held [] = []
+rowsFor ring held (i ∷ is) =
+    cond (ltb (indexOf i held) (length held)) (placeOf ring (indexOf i held) ∷ rowsFor ring held is) (rowsFor ring held is)
 
 -- the cached messages among those named
 unfoldable pub cachedOf : MessageCache → List ℕ → List (List ℕ) → List (List ℕ)
 cachedOf c cs is =
-    map (messageIn (c .len) cs) (rowsFor (c .«max_messages») (c .start) (idsIn 128 (c .«max_messages») (c .start) (c .count) (c .«id_len») (c .ids)) is)
+    map (messageIn (c .len) cs) (rowsFor (ringOf c) (idsIn messageIdSize (ringOf c) (c .«id_len») (c .ids)) is)
 
--- the reply room is the buffer or 65,536, the smaller
+-- the most bytes of a body
+abbrev pub maxRpcSize : ℕ
+maxRpcSize = 65536
+
+-- the reply room is the buffer or those, the smaller
 unfoldable pub roomOf : List ℕ → ℕ
-roomOf out = min (length out) 65536
+roomOf out = min (length out) maxRpcSize
 
 -- how many messages are written
 unfoldable pub servedOf : List (List ℕ) → List ℕ → ℕ

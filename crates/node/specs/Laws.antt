@@ -10,7 +10,7 @@ use lib.Dec.{leb, ltb, eqb}
 use borrow.Author.Tests.{ltb-false, le-ltb, eqb-true}
 use Rattle.basis.specs.Cases.{either, clash}
 use Rattle.basis.specs.Writing.{answer, written}
-use Rattle.rows.specs.Rows.{placeOf, ring}
+use Rattle.rows.specs.Rows.{placeOf, rowsIn}
 use Rattle.rows.specs.RowsLaws.{length-ring}
 use Rattle.rows.specs.Store.{idAt, idsIn}
 use Rattle.protobuf.specs.declared.Checked.{Checked}
@@ -37,7 +37,7 @@ use Rattle.seen.specs.EntriesLaws.{ids-entries, holds-entries}
 use Rattle.seen.specs.Laws.{gc-entries, gc-fine, gc-sized, insert-says, insert-entries}
 use Rattle.mcache.specs.declared.MessageCache.{MessageCache}
 use Rattle.mcache.specs.Messages.{Cached, held, get}
-use Rattle.mcache.specs.State.{messageIn, cachedIn, fresh as noMessages}
+use Rattle.mcache.specs.State.{messageIn, cachedIn, fresh as noMessages, messageSize, messageIdSize, ringOf}
 use Rattle.mcache.specs.Calls.{indexIn, found as foundIn, shifted}
 use Rattle.mcache.specs.StateLaws.{fine-tests as cacheTests}
 use Rattle.mcache.specs.CachedLaws.{cached-shifted}
@@ -58,7 +58,7 @@ use Rattle.node.specs.StateLaws.{fine-tests, room-cap}
 
 -- ---- start
 pub fresh-gateway : (ttl max-seen history max : ℕ) (ss cs : List ℕ) → gatewayIn (freshNode ttl max-seen history max) ss cs ≡ started ttl max-seen history max
-unfolding gatewayIn freshNode started noIds noMessages entriesIn cachedIn ring
+unfolding gatewayIn freshNode started noIds noMessages entriesIn cachedIn rowsIn
 fresh-gateway ttl max-seen history max ss cs = refl
 
 pub start-gateway : (ttl max-seen history max : ℕ) (ss cs : List ℕ) → legalSettings max-seen history max ≡ true
@@ -76,8 +76,8 @@ pub record Takes (n : Node) (ss cs : List ℕ) (word : Bool) (at : ℕ) (m id : 
   pub fine : lentOf n ss cs ≡ lent.Fine
   pub word-given : word ≡ true
   pub forward : n .clock ≤ at
-  pub small : length m ≤ 4096
-  pub id-small : length id ≤ 128
+  pub small : length m ≤ messageSize
+  pub id-small : length id ≤ messageIdSize
   pub own : givesId m id ≡ true
 
 module _ (n : Node) (ss cs : List ℕ) (word : Bool) (at : ℕ) (m id : List ℕ) (fine : lentOf n ss cs ≡ lent.Fine) where
@@ -152,7 +152,7 @@ module _ (n : Node) (ss cs : List ℕ) (fine : lentOf n ss cs ≡ lent.Fine) (at
     pub swept-sized : Sized (swept n at)
     swept-sized = rw swept-gc (gc-sized (n .seen) ss (fine-tests n ss cs fine .ids) z at)
 
-    module _ (id : List ℕ) (k : length id ≤ 128) where
+    module _ (id : List ℕ) (k : length id ≤ messageIdSize) where
       insert-answer : insertAnswer (n .«max_seen») (swept n at) ss (marked id) ≡ cond (heldAt n ss at id) insert.Held insert.Fresh
       unfolding heldAt
       insert-answer =
@@ -253,14 +253,14 @@ unfolding unseenOf gatewayIn
 unseen-gateway n ss cs is = unseen-lacking (gatewayIn n ss cs) _ is (ids-entries (n .«max_seen») (n .seen) ss)
 
 -- the messages that are served
-found-here : (c : MessageCache) (cs i : List ℕ) → ltb (indexIn c i) (c .count) ≡ true → messageIn (c .len) cs (placeOf (c .«max_messages») (c .start) (indexIn c i)) ≡ get i (cachedIn c cs)
+found-here : (c : MessageCache) (cs i : List ℕ) → ltb (indexIn c i) (c .count) ≡ true → messageIn (c .len) cs (placeOf (ringOf c) (indexIn c i)) ≡ get i (cachedIn c cs)
 unfolding foundIn
 found-here c cs i t = rw t at (found-cached c cs i)
 
 cached-more : (c : MessageCache) (cs i : List ℕ) (is l : List (List ℕ)) → cachedOf c cs is ≡ l → cachedOf c cs (i ∷ is) ≡ cond (ltb (indexIn c i) (c .count)) (get i (cachedIn c cs) ∷ l) l
 unfolding cachedOf rowsFor indexIn idsIn
 cached-more c cs i is l e =
-    let n = length-ring (idAt 128 (c .«id_len») (c .ids)) (c .«max_messages») (c .start) (c .count) in
+    let n = length-ring (idAt messageIdSize (c .«id_len») (c .ids)) (ringOf c) in
     rw n
     (either (ltb (indexIn c i) (c .count))
     (λ t. rw (t, e, found-here c cs i t))

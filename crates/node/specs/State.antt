@@ -5,11 +5,16 @@ use mathlib.Core.List.{List, [], _∷_}
 use mathlib.Core.Bool.{Bool, true, _&&_}
 use lib.ListN.{length}
 use lib.Dec.{leb}
-use Rattle.rows.specs.Store.{Ring, Sound, lensIn}
-use Rattle.seen.specs.State.{entriesIn, wellFormed as seenWellFormed, fresh as noIds}
-use Rattle.mcache.specs.State.{Kept, cachedIn, legal, wellFormed as cacheWellFormed, fresh as noMessages}
+use Rattle.rows.specs.declared.Ring.{Ring}
+use Rattle.rows.specs.Store.{InStore, Sound, inUse}
+use Rattle.seen.specs.State.{entriesIn, wellFormed as seenWellFormed, fresh as noIds, idSize, maxIds, ringOf as seenRingOf}
+use Rattle.mcache.specs.State.{Usable, cachedIn, legal, wellFormed as cacheWellFormed, fresh as noMessages}
 use Rattle.node.specs.declared.Node.{Node}
 use Rattle.node.specs.Gateway.{Gateway}
+
+-- the rows of the ids seen
+abbrev pub seenRing : Node → Ring
+seenRing n = seenRingOf (n .«max_seen») (n .seen)
 
 -- the gateway that a node with its stores is
 unfoldable pub gatewayIn : Node → List ℕ → List ℕ → Gateway
@@ -26,7 +31,7 @@ gatewayIn n ss cs =
 
 -- ---- settings: max_seen 0 to 256, history_len 1 to 16, max_messages 0 to 64, any ttl
 unfoldable pub legalSettings : ℕ → ℕ → ℕ → Bool
-legalSettings max-seen history max = leb max-seen 256 && legal history max
+legalSettings max-seen history max = leb max-seen maxIds && legal history max
 
 unfoldable pub freshNode : ℕ → ℕ → ℕ → ℕ → Node
 freshNode ttl max-seen history max = record { ttl = ttl; «max_seen» = max-seen; clock = 0; seen = noIds; cache = noMessages history max }
@@ -39,15 +44,15 @@ risesFrom least (e ∷ es) = leb least e && risesFrom e es
 
 unfoldable pub seenFits : Node → List ℕ → Bool
 seenFits n ss =
-    leb (n .«max_seen») 256
-    && (seenWellFormed (n .«max_seen») (n .seen) ss && risesFrom 0 (lensIn (n .«max_seen») (n .seen .start) (n .seen .count) (n .seen .expiry)))
+    leb (n .«max_seen») maxIds
+    && (seenWellFormed (n .«max_seen») (n .seen) ss && risesFrom 0 (inUse (seenRing n) (n .seen .expiry)))
 
 unfoldable pub wellFormed : Node → List ℕ → List ℕ → Bool
 wellFormed n ss cs = cacheWellFormed (n .cache) cs && seenFits n ss
 
 -- ---- what the steps need of a node that was tested
 pub record Ready (n : Node) (ss cs : List ℕ) : Type 0 where
-  pub seen-room : length ss ≡ n .«max_seen» * 129
-  pub rows : Sound 129 (n .«max_seen») (n .seen .start) (n .seen .count) (n .seen .len) ss
-  pub expiries : Ring (n .«max_seen») (n .seen .start) (n .seen .count) (n .seen .expiry)
-  pub kept : Kept (n .cache) cs
+  pub seen-room : length ss ≡ n .«max_seen» * idSize
+  pub rows : Sound idSize (seenRing n) (n .seen .len) ss
+  pub expiries : InStore (seenRing n) (n .seen .expiry)
+  pub kept : Usable (n .cache) cs

@@ -10,22 +10,23 @@ use lib.ListN.{length, drop, getD}
 use lib.Dec.{leb}
 use borrow.Author.Tests.{le-leb, leb-true}
 use Rattle.basis.specs.Cases.{either, both}
-use Rattle.rows.specs.Rows.{tab, placeOf, ring, newest}
+use Rattle.rows.specs.declared.Ring.{Ring}
+use Rattle.rows.specs.Rows.{tab, placeOf, rowsIn, newest}
 use Rattle.rows.specs.RowsLaws.{length-tab, getD-tab}
 use Rattle.rows.specs.ListLaws.{map-drop}
-use Rattle.rows.specs.Store.{lensIn, allUpTo}
+use Rattle.rows.specs.Store.{inUse, allUpTo}
 use Rattle.admission.specs.Admission.{givesId}
 use Rattle.seen.specs.declared.SeenCache.{SeenCache}
 use Rattle.seen.specs.declared.Lent.the-variants as seenLent
 use Rattle.seen.specs.Entries.{Entry, holds, until, inserted, live}
-use Rattle.seen.specs.State.{entriesIn}
+use Rattle.seen.specs.State.{entriesIn, idSize, maxIds}
 use Rattle.seen.specs.Calls.{lentOf as seenLentOf, insertCache, insertStore}
 use Rattle.seen.specs.WellFormed.{Sized}
 use Rattle.seen.specs.EntriesLaws.{until-later, expiries-entries}
 use Rattle.seen.specs.Laws.{fresh-fine, fresh-sized, insert-fine, insert-sized, insert-length, well-formed-exactly as seen-exactly}
 use Rattle.mcache.specs.declared.MessageCache.{MessageCache}
 use Rattle.mcache.specs.declared.Lent.the-variants as cacheLent
-use Rattle.mcache.specs.State.{legal}
+use Rattle.mcache.specs.State.{legal, messageSize, messageIdSize}
 use Rattle.mcache.specs.WellFormed.{Typed as cacheTyped}
 use Rattle.mcache.specs.Calls.{lentOf as cacheLentOf, keptUnder, shifted}
 use Rattle.mcache.specs.FineLaws.{upto-drop, upto-snoc, fresh-first, fresh-typed, start-fine, shifted-fine, shifted-typed, under-fine, under-typed}
@@ -35,7 +36,7 @@ use Rattle.node.specs.declared.Lent.the-variants as lent
 use Rattle.node.specs.declared.Beat.{Beat}
 use Rattle.node.specs.declared.Beat.the-variants as beat
 use Rattle.node.specs.Gateway.{Gateway, marked, started, afterAdmit, afterBeat}
-use Rattle.node.specs.State.{gatewayIn, legalSettings, freshNode, risesFrom}
+use Rattle.node.specs.State.{gatewayIn, legalSettings, freshNode, risesFrom, seenRing}
 use Rattle.node.specs.Calls.{lentOf, laterNode, Plan, no, taken, planned, swept, heldAt, admitNode, admitSeen, admitCache, beatAnswer, beatNode}
 use Rattle.node.specs.WellFormed.{Typed, WellFormed, Reached, begun, admitted, beaten}
 use Rattle.node.specs.StateLaws.{Tests, fine-tests, tests-fine, room-whole}
@@ -54,22 +55,22 @@ unfolding risesFrom
 next-rises least [] a f = refl
 next-rises least (e ∷ l) a f = rw (le-leb least e (a (zero-lt-suc (length l)))) (next-rises e l (λ h. f 0 (omega arith)) (λ i h. f (suc i) (omega arith)))
 
-module _ (l : List ℕ) (cap start count : ℕ) where
+module _ (l : List ℕ) (ring : Ring) where
   abbrev row : ℕ → ℕ
-  row i = getD l (placeOf cap start i) 0
+  row i = getD l (placeOf ring i) 0
 
-  rises-rows : risesFrom 0 (lensIn cap start count l) ≡ true → (i : ℕ) → suc i < count → getD l (placeOf cap start i) 0 ≤ getD l (placeOf cap start (suc i)) 0
-  unfolding lensIn ring
+  rises-rows : risesFrom 0 (inUse ring l) ≡ true → (i : ℕ) → suc i < ring .count → getD l (placeOf ring i) 0 ≤ getD l (placeOf ring (suc i)) 0
+  unfolding inUse rowsIn
   rises-rows f i h =
-      let k : suc i < length (tab row count) = rw (length-tab row count) h in
-      let r = rises-next 0 (tab row count) i f k in
-      rw (getD-tab row count (suc i) 0 h, getD-tab row count i 0 (omega arith)) at r
+      let k : suc i < length (tab row (ring .count)) = rw (length-tab row (ring .count)) h in
+      let r = rises-next 0 (tab row (ring .count)) i f k in
+      rw (getD-tab row (ring .count) (suc i) 0 h, getD-tab row (ring .count) i 0 (omega arith)) at r
 
-  rows-rise : ((i : ℕ) → suc i < count → getD l (placeOf cap start i) 0 ≤ getD l (placeOf cap start (suc i)) 0) → risesFrom 0 (lensIn cap start count l) ≡ true
-  unfolding lensIn ring
+  rows-rise : ((i : ℕ) → suc i < ring .count → getD l (placeOf ring i) 0 ≤ getD l (placeOf ring (suc i)) 0) → risesFrom 0 (inUse ring l) ≡ true
+  unfolding inUse rowsIn
   rows-rise f =
-      next-rises 0 (tab row count) (λ h. omega arith)
-      (λ i h. let k : suc i < count = rw (length-tab row count) at h in rw (getD-tab row count (suc i) 0 k, getD-tab row count i 0 (omega arith)) (f i k))
+      next-rises 0 (tab row (ring .count)) (λ h. omega arith)
+      (λ i h. let k : suc i < ring .count = rw (length-tab row (ring .count)) at h in rw (getD-tab row (ring .count) (suc i) 0 k, getD-tab row (ring .count) i 0 (omega arith)) (f i k))
 
 -- ---- well formed, exactly
 module _ (n : Node) (ss cs : List ℕ) where
@@ -80,7 +81,7 @@ module _ (n : Node) (ss cs : List ℕ) where
         room = t .room;
         few = t .few;
         ids = seen-exactly (n .seen) ss .0 (t .ids);
-        rises = rises-rows (n .seen .expiry) (n .«max_seen») (n .seen .start) (n .seen .count) (t .rises);
+        rises = rises-rows (n .seen .expiry) (seenRing n) (t .rises);
         messages = fine-well-formed (n .cache) cs (y .messages) (t .messages);
       }
 
@@ -91,7 +92,7 @@ module _ (n : Node) (ss cs : List ℕ) where
         room = w .room;
         few = w .few;
         ids = seen-exactly (n .seen) ss .1 (w .ids);
-        rises = rows-rise (n .seen .expiry) (n .«max_seen») (n .seen .start) (n .seen .count) (w .rises);
+        rises = rows-rise (n .seen .expiry) (seenRing n) (w .rises);
         messages = well-formed-fine (n .cache) cs (w .messages);
       }
 
@@ -208,7 +209,7 @@ unfolding started risesFrom allUpTo
 started-ordered ttl max-seen history max = record { rises = refl; upto = refl }
 
 -- ---- every state that the calls reach
-entries-rise : (n : Node) (ss cs : List ℕ) → Ordered (gatewayIn n ss cs) → risesFrom 0 (lensIn (n .«max_seen») (n .seen .start) (n .seen .count) (n .seen .expiry)) ≡ true
+entries-rise : (n : Node) (ss cs : List ℕ) → Ordered (gatewayIn n ss cs) → risesFrom 0 (inUse (seenRing n) (n .seen .expiry)) ≡ true
 unfolding gatewayIn
 entries-rise n ss cs o = rw (← expiries-entries (n .«max_seen») (n .seen) ss) (o .rises)
 
@@ -233,12 +234,12 @@ later-rises : (n : Node) (ss cs : List ℕ) (at : ℕ) (c : SeenCache) (d : Mess
 unfolding gatewayIn laterNode
 later-rises n ss cs at c d o = o .rises
 
-pub begun-keeps : (ttl max-seen history max : ℕ) (ss cs : List ℕ) → legalSettings max-seen history max ≡ true → length ss ≡ max-seen * 129 → length cs ≡ max * 4096
+pub begun-keeps : (ttl max-seen history max : ℕ) (ss cs : List ℕ) → legalSettings max-seen history max ≡ true → length ss ≡ max-seen * idSize → length cs ≡ max * messageSize
     → Keeps (freshNode ttl max-seen history max) ss cs
 unfolding freshNode legalSettings
 begun-keeps ttl max-seen history max ss cs l r s =
-    let b = both (leb max-seen 256) (legal history max) l in
-    let few = leb-true max-seen 256 (b .0) in
+    let b = both (leb max-seen maxIds) (legal history max) l in
+    let few = leb-true max-seen maxIds (b .0) in
     let n = freshNode ttl max-seen history max in
     let o : Ordered (gatewayIn n ss cs) = rw (fresh-gateway ttl max-seen history max ss cs) (started-ordered ttl max-seen history max) in
     record {
@@ -248,7 +249,7 @@ begun-keeps ttl max-seen history max ss cs l r s =
     }
 
 -- what an admit leaves, as the seen cache's insert and the message cache's put leave it
-module _ (n : Node) (ss cs : List ℕ) (at : ℕ) (m id : List ℕ) (typed : Typed n) (fine : lentOf n ss cs ≡ lent.Fine) (k : length id ≤ 128) where
+module _ (n : Node) (ss cs : List ℕ) (at : ℕ) (m id : List ℕ) (typed : Typed n) (fine : lentOf n ss cs ≡ lent.Fine) (k : length id ≤ messageIdSize) where
   abbrev seenAfter : SeenCache
   seenAfter = insertCache (n .«max_seen») at (n .ttl) (swept n at) ss (marked id)
 
@@ -266,7 +267,7 @@ module _ (n : Node) (ss cs : List ℕ) (at : ℕ) (m id : List ℕ) (typed : Typ
   store-after : admitSeen n ss at (taken m id) ≡ storeAfter
   store-after = store-inserted n ss cs fine at (typed .ids) id k
 
-  taken-keeps : length m ≤ 4096 → givesId m id ≡ true → Ordered (gatewayIn (admitNode n ss at (taken m id)) (admitSeen n ss at (taken m id)) (admitCache n ss cs at (taken m id)))
+  taken-keeps : length m ≤ messageSize → givesId m id ≡ true → Ordered (gatewayIn (admitNode n ss at (taken m id)) (admitSeen n ss at (taken m id)) (admitCache n ss cs at (taken m id)))
       → Keeps (admitNode n ss at (taken m id)) (admitSeen n ss at (taken m id)) (admitCache n ss cs at (taken m id))
   taken-keeps small own o =
       let t = fine-tests n ss cs fine in

@@ -10,6 +10,7 @@ use Rattle.protobuf.specs.Encode.{bytesField}
 use Rattle.protobuf.specs.EncodeLaws.{tag-one, bytes-field-length}
 use Rattle.rpc.specs.Encode.{encodeRpc, encodeControl, encodeIHave, encodeIWant, repeated}
 use Rattle.node.specs.Gateway.{advertisement, request}
+use Rattle.mcache.specs.State.{messageIdSize, maxMessages}
 
 pub advertisement-bytes : (topic : List ℕ) (ids : List (List ℕ)) → encodeRpc (advertisement topic ids) ≡ bytesField 3 (bytesField 1 (bytesField 1 topic ++ repeated (bytesField 2) ids))
 unfolding encodeRpc encodeControl encodeIHave advertisement
@@ -35,10 +36,10 @@ fields-most n most h k (d ∷ l) each =
     omega (arith, length-append (bytesField n d) (repeated (bytesField n) l))
 
 -- with a topic and ids as a node has them
-pub advertisement-most : (topic : List ℕ) (ids : List (List ℕ)) → length topic ≤ 1024 → length ids ≤ 64 → ((i : ℕ) → i < length ids → length (getD ids i []) ≤ 128)
+pub advertisement-most : (topic : List ℕ) (ids : List (List ℕ)) → length topic ≤ 1024 → length ids ≤ maxMessages → ((i : ℕ) → i < length ids → length (getD ids i []) ≤ messageIdSize)
     → length (encodeRpc (advertisement topic ids)) ≤ 16384
 advertisement-most topic ids t k h =
-    let i = fields-most 2 128 (omega arith) (omega arith) ids h in
+    let i = fields-most 2 messageIdSize (omega arith) (omega arith) ids h in
     let a = field-most 1 topic (omega arith) (omega arith) in
     let b = length-append (bytesField 1 topic) (repeated (bytesField 2) ids) in
     let c = field-most 1 (bytesField 1 topic ++ repeated (bytesField 2) ids) (omega arith) (omega arith) in

@@ -10,7 +10,7 @@ ghost use lib.Seq.{sets};
 ghost use Rattle.basis.specs.Writing.{answer, written};
 ghost use Rattle.rows.specs.Rows.{placeOf};
 ghost use Rattle.rows.specs.Ids.{among};
-ghost use Rattle.rows.specs.Store.{Ring, Sound, lensIn, idsIn, idAt};
+ghost use Rattle.rows.specs.Store.{InStore, Sound, inUse, idsIn, idAt};
 ghost use Rattle.protobuf.specs.Walk.{between};
 ghost use Rattle.protobuf.specs.Encode.{bytesField};
 ghost use Rattle.rpc.specs.Encode.{encodeRpc, repeated};
@@ -19,10 +19,11 @@ ghost use Rattle.schema.specs.Accept.{acceptOf};
 ghost use Rattle.ids.specs.Ids.{messageAt, idBytes};
 ghost use Rattle.admission.specs.Admission.{admissionOf};
 ghost use Rattle.parts.specs.Parts.{partsIn, Parts};
-ghost use Rattle.mcache.specs.State.{messageIn, Listed, Kept};
+ghost use Rattle.seen.specs.State.{idSize};
+ghost use Rattle.mcache.specs.State.{messageSize, messageIdSize, maxMessages, messageIn, Listed, Usable};
 ghost use Rattle.node.specs.Gateway.{marked, advertisement, request};
-ghost use Rattle.node.specs.State.{Ready, risesFrom, seenFits, freshNode};
-ghost use Rattle.node.specs.Calls.{startAnswer, startNode, lentOf, laterNode, taken, planFit, planned, swept, heldAt, admitAnswer, admitNode, admitSeen, admitCache, beatAnswer, beatNode, toldIn, advertiseBytes, advertised, advertiseAnswer, advertiseLeft, unseenFrom, unseenOf, offered, askBytes, asked, askAnswer, askLeft, rowsFor, cachedOf, wanted, replyTo, replyBytes, serveAnswer, serveLeft};
+ghost use Rattle.node.specs.State.{seenRing, Ready, risesFrom, seenFits, freshNode};
+ghost use Rattle.node.specs.Calls.{startAnswer, startNode, lentOf, laterNode, taken, planFit, planned, swept, heldAt, admitAnswer, admitNode, admitSeen, admitCache, beatAnswer, beatNode, toldIn, advertiseBytes, advertised, advertiseAnswer, advertiseLeft, unseenFrom, unseenOf, offered, askBytes, asked, askAnswer, askLeft, rowsFor, cachedOf, maxRpcSize, wanted, replyTo, replyBytes, serveAnswer, serveLeft};
 use admission::Admission;
 use admission::MAX_TOPIC_SIZE;
 use admission::Unfit;
@@ -31,8 +32,11 @@ use encode::emit_bytes;
 use encode::emit_head;
 use ids::MessageAt;
 use ids::message_at;
+use mcache::MESSAGE_ID_SIZE;
+use mcache::MESSAGE_SIZE;
 use mcache::MessageCache;
 use mcache::form_id;
+use message::MAX_RECORDS;
 use parts::add_part;
 use parts::emit_parts;
 use parts::first_mentions;
@@ -42,6 +46,7 @@ use protobuf::Checked;
 use protobuf::MAX_RPC_SIZE;
 use protobuf::WireError;
 use protobuf::put_bytes;
+use rows::Ring;
 use rows::find_from;
 use rows::place;
 use schema::accept;
@@ -150,14 +155,14 @@ pub struct Served {
 // ---- the test of the lent state
 
 // Whether the expiries never fall from old to new.
-fn expiries_rise(expiry: &[u64], cap: usize, start: usize, count: usize) -> bool
-    requires { ⌜ Ring cap start count (now expiry) ⌝ }
-    ensures { λ r. ⌜ r ≡ risesFrom 0 (lensIn cap start count (now (expiry .entry))) ⌝ }
+fn expiries_rise(expiry: &[u64], ring: Ring) -> bool
+    requires { ⌜ InStore ring (now expiry) ⌝ }
+    ensures { λ r. ⌜ r ≡ risesFrom 0 (inUse ring (now (expiry .entry))) ⌝ }
 {
     let mut last: u64 = 0;
     let mut i: usize = 0;
-    while i < count {
-        let p = place(cap, start, i);
+    while i < ring.count {
+        let p = place(ring, i);
         let e = expiry[p];
         if e < last {
             return false;
@@ -183,36 +188,34 @@ fn add_where(there: bool, table: &mut [usize], n: usize, start: usize, end: usiz
 }
 
 // Whether an id is not seen: its marked form is in no row. One above 128 bytes never is.
-fn is_unseen(lens: &[u8], store: &[u8], cap: usize, start: usize, count: usize, id: &[u8]) -> bool
-    requires { ⌜ Sound 129 cap start count (now lens) (now store) ⌝ }
-    ensures { λ r. ⌜ r ≡ cond (among (marked (now (id .entry))) (idsIn 129 cap start count (now (lens .entry)) (now (store .entry)))) false true ⌝ }
+fn is_unseen(lens: &[u8], store: &[u8], ring: Ring, id: &[u8]) -> bool
+    requires { ⌜ Sound idSize ring (now lens) (now store) ⌝ }
+    ensures { λ r. ⌜ r ≡ cond (among (marked (now (id .entry))) (idsIn idSize ring (now (lens .entry)) (now (store .entry)))) false true ⌝ }
 {
     let n = id.len();
-    if 128 < n {
+    if MESSAGE_ID_SIZE < n {
         return true;
     }
-    let mut key = [0u8; 129];
+    let mut key = [0u8; ID_SIZE];
     key[0] = 1;
     put_bytes(&mut key, 1, id);
-    count <= find_from(lens, store, 129, cap, start, count, 0, &key[..n + 1])
+    ring.count <= find_from(lens, store, ID_SIZE, ring, 0, &key[..n + 1])
 }
 
 // Puts the parts that are ids not seen into another table; how many those are.
 fn unseen(
     lens: &[u8],
     store: &[u8],
-    cap: usize,
-    start: usize,
-    count: usize,
+    ring: Ring,
     body: &[u8],
     from: &[usize],
     n: usize,
     to: &mut [usize],
 ) -> usize
-    requires { ⌜ Sound 129 cap start count (now lens) (now store) ⌝ }
+    requires { ⌜ Sound idSize ring (now lens) (now store) ⌝ }
     requires { ⌜ Parts (now body) (now from) n ⌝ }
     requires { ⌜ n * 2 ≤ length (now to) ⌝ }
-    ensures { λ r. ⌜ partsIn (now (body .entry)) (now (to .exit)) r ≡ unseenFrom (idsIn 129 cap start count (now (lens .entry)) (now (store .entry))) (partsIn (now (body .entry)) (now (from .entry)) n) ⌝ }
+    ensures { λ r. ⌜ partsIn (now (body .entry)) (now (to .exit)) r ≡ unseenFrom (idsIn idSize ring (now (lens .entry)) (now (store .entry))) (partsIn (now (body .entry)) (now (from .entry)) n) ⌝ }
     ensures { λ r. ⌜ Parts (now (body .entry)) (now (to .exit)) r ⌝ }
     ensures { λ r. ⌜ r ≤ n ⌝ }
 {
@@ -221,7 +224,7 @@ fn unseen(
     while i < n {
         let a = from[i * 2];
         let e = from[i * 2 + 1];
-        let there = is_unseen(lens, store, cap, start, count, &body[a..e]);
+        let there = is_unseen(lens, store, ring, &body[a..e]);
         k = add_where(there, to, k, a, e);
         i += 1;
     }
@@ -233,20 +236,18 @@ fn cached(
     lens: &[u16],
     id_lens: &[u8],
     ids: &[u8],
-    cap: usize,
-    start: usize,
-    count: usize,
+    ring: Ring,
     body: &[u8],
     from: &[usize],
     n: usize,
     to: &mut [usize],
 ) -> usize
-    requires { ⌜ Sound 128 cap start count (now «id_lens») (now ids) ⌝ }
-    requires { ⌜ (cap ≤ 64) × (length (now lens) ≡ 64) × ((i : ℕ) → i < count → getD (now lens) (placeOf cap start i) 0 ≤ 4096) ⌝ }
+    requires { ⌜ Sound messageIdSize ring (now «id_lens») (now ids) ⌝ }
+    requires { ⌜ (ring .cap ≤ maxMessages) × (length (now lens) ≡ maxMessages) × ((i : ℕ) → i < ring .count → getD (now lens) (placeOf ring i) 0 ≤ messageSize) ⌝ }
     requires { ⌜ Parts (now body) (now from) n ⌝ }
     requires { ⌜ n * 2 ≤ length (now to) ⌝ }
-    ensures { λ r. ⌜ ((cs : List ℕ) → partsIn cs (now (to .exit)) r ≡ map (messageIn (now (lens .entry)) cs) (rowsFor cap start (idsIn 128 cap start count (now («id_lens» .entry)) (now (ids .entry))) (partsIn (now (body .entry)) (now (from .entry)) n))) ⌝ }
-    ensures { λ r. ⌜ ((cs : List ℕ) → length cs ≡ cap * 4096 → Parts cs (now (to .exit)) r) ⌝ }
+    ensures { λ r. ⌜ ((cs : List ℕ) → partsIn cs (now (to .exit)) r ≡ map (messageIn (now (lens .entry)) cs) (rowsFor ring (idsIn messageIdSize ring (now («id_lens» .entry)) (now (ids .entry))) (partsIn (now (body .entry)) (now (from .entry)) n))) ⌝ }
+    ensures { λ r. ⌜ ((cs : List ℕ) → length cs ≡ ring .cap * messageSize → Parts cs (now (to .exit)) r) ⌝ }
     ensures { λ r. ⌜ r ≤ n ⌝ }
 {
     let mut k: usize = 0;
@@ -254,31 +255,23 @@ fn cached(
     while i < n {
         let a = from[i * 2];
         let e = from[i * 2 + 1];
-        let row = find_from(id_lens, ids, 128, cap, start, count, 0, &body[a..e]);
-        k = add_message(lens, cap, start, count, row, to, k);
+        let row = find_from(id_lens, ids, MESSAGE_ID_SIZE, ring, 0, &body[a..e]);
+        k = add_message(lens, ring, row, to, k);
         i += 1;
     }
     k
 }
 
 // Puts the place of the message in a row into a table, where there is such a row; how many places there are then.
-fn add_message(
-    lens: &[u16],
-    cap: usize,
-    start: usize,
-    count: usize,
-    row: usize,
-    to: &mut [usize],
-    n: usize,
-) -> usize
-    requires { ⌜ (start ≤ cap) × (count ≤ cap) × (cap ≤ 64) × (length (now lens) ≡ 64) ⌝ }
+fn add_message(lens: &[u16], ring: Ring, row: usize, to: &mut [usize], n: usize) -> usize
+    requires { ⌜ (ring .start ≤ ring .cap) × (ring .count ≤ ring .cap) × (ring .cap ≤ maxMessages) × (length (now lens) ≡ maxMessages) ⌝ }
     requires { ⌜ (n + 1) * 2 ≤ length (now to) ⌝ }
-    ensures { λ r. ⌜ r ≡ cond (ltb row count) (n + 1) n ⌝ }
-    ensures { λ _. ⌜ now (to .exit) ≡ cond (ltb row count) (sets (now (to .entry)) (n * 2) ((placeOf cap start row * 4096) ∷ (placeOf cap start row * 4096 + getD (now (lens .entry)) (placeOf cap start row) 0) ∷ [])) (now (to .entry)) ⌝ }
+    ensures { λ r. ⌜ r ≡ cond (ltb row (ring .count)) (n + 1) n ⌝ }
+    ensures { λ _. ⌜ now (to .exit) ≡ cond (ltb row (ring .count)) (sets (now (to .entry)) (n * 2) ((placeOf ring row * messageSize) ∷ (placeOf ring row * messageSize + getD (now (lens .entry)) (placeOf ring row) 0) ∷ [])) (now (to .entry)) ⌝ }
 {
-    if row < count {
-        let p = place(cap, start, row);
-        let base = p * 4096;
+    if row < ring.count {
+        let p = place(ring, row);
+        let base = p * MESSAGE_SIZE;
         return add_part(to, n, base, base + lens[p] as usize);
     }
     n
@@ -286,7 +279,7 @@ fn add_message(
 
 // The room for a reply: the buffer or 65,536, the smaller.
 fn reply_room(len: usize) -> usize
-    ensures { λ r. ⌜ r ≡ min len 65536 ⌝ }
+    ensures { λ r. ⌜ r ≡ min len maxRpcSize ⌝ }
 {
     if len < MAX_RPC_SIZE {
         return len;
@@ -314,15 +307,15 @@ fn emit_request(body: &[u8], table: &[usize], n: usize, out: &mut [u8], at: usiz
 fn emit_ids(rows: &[u8], n: usize, id_lens: &[u8], ids: &[u8], out: &mut [u8], at: usize) -> usize
     requires { ⌜ n ≤ length (now rows) ⌝ }
     requires { ⌜ Listed n (now rows) (now «id_lens») (now ids) ⌝ }
-    requires { ⌜ Fits at (repeated (bytesField 2) (map (idAt 128 (now «id_lens») (now ids)) (take n (now rows)))) ⌝ }
-    ensures { λ r. ⌜ Puts (now (out .entry)) at (repeated (bytesField 2) (map (idAt 128 (now («id_lens» .entry)) (now (ids .entry))) (take n (now (rows .entry))))) (now (out .exit)) r ⌝ }
+    requires { ⌜ Fits at (repeated (bytesField 2) (map (idAt messageIdSize (now «id_lens») (now ids)) (take n (now rows)))) ⌝ }
+    ensures { λ r. ⌜ Puts (now (out .entry)) at (repeated (bytesField 2) (map (idAt messageIdSize (now («id_lens» .entry)) (now (ids .entry))) (take n (now (rows .entry))))) (now (out .exit)) r ⌝ }
 {
     let mut end = at;
     let mut i: usize = 0;
     while i < n {
         let p = rows[i] as usize;
         let len = id_lens[p] as usize;
-        let base = p * 128;
+        let base = p * MESSAGE_ID_SIZE;
         end = emit_head(2, len, out, end);
         end = emit_bytes(&ids[base..base + len], out, end);
         i += 1;
@@ -342,8 +335,8 @@ fn emit_advertisement(
 ) -> usize
     requires { ⌜ n ≤ length (now rows) ⌝ }
     requires { ⌜ Listed n (now rows) (now «id_lens») (now ids) ⌝ }
-    requires { ⌜ Fits at (encodeRpc (advertisement (now topic) (map (idAt 128 (now «id_lens») (now ids)) (take n (now rows))))) ⌝ }
-    ensures { λ r. ⌜ Puts (now (out .entry)) at (encodeRpc (advertisement (now (topic .entry)) (map (idAt 128 (now («id_lens» .entry)) (now (ids .entry))) (take n (now (rows .entry)))))) (now (out .exit)) r ⌝ }
+    requires { ⌜ Fits at (encodeRpc (advertisement (now topic) (map (idAt messageIdSize (now «id_lens») (now ids)) (take n (now rows))))) ⌝ }
+    ensures { λ r. ⌜ Puts (now (out .entry)) at (encodeRpc (advertisement (now (topic .entry)) (map (idAt messageIdSize (now («id_lens» .entry)) (now (ids .entry))) (take n (now (rows .entry)))))) (now (out .exit)) r ⌝ }
 {
     let mut none = [0u8; 1];
     let named = emit_ids(rows, n, id_lens, ids, &mut none, 0);
@@ -407,7 +400,7 @@ impl Node {
 
     // Whether the ids seen are well formed, where the store's length was tested.
     fn seen_fits(self, seen_store: &[u8]) -> bool
-        requires { ⌜ length (now «seen_store») ≡ self .«max_seen» * 129 ⌝ }
+        requires { ⌜ length (now «seen_store») ≡ self .«max_seen» * idSize ⌝ }
         ensures { λ r. ⌜ r ≡ seenFits self (now («seen_store» .entry)) ⌝ }
     {
         let seen = self.seen;
@@ -416,8 +409,9 @@ impl Node {
             seen::Lent::BadStore => false,
             seen::Lent::Malformed => false,
             seen::Lent::Fine => {
+                let ring = seen.ring(self.max_seen);
                 let expiry = seen.expiry;
-                expiries_rise(&expiry, self.max_seen, seen.start, seen.count)
+                expiries_rise(&expiry, ring)
             }
         }
     }
@@ -471,7 +465,7 @@ impl Node {
         at: u64,
     ) -> Admitted
         requires { ⌜ Ready self (now «seen_store») (now «cache_store») ⌝ }
-        requires { ⌜ (length (now part) ≤ 4096) × (length (now key) ≤ 129) × (now key ≡ marked (drop 1 (now key))) ⌝ }
+        requires { ⌜ (length (now part) ≤ messageSize) × (length (now key) ≤ idSize) × (now key ≡ marked (drop 1 (now key))) ⌝ }
         ensures { λ r. ⌜ r .answer ≡ admitAnswer self (now («seen_store» .entry)) at (taken (now (part .entry)) (drop 1 (now (key .entry)))) ⌝ }
         ensures { λ r. ⌜ r .node ≡ admitNode self (now («seen_store» .entry)) at (taken (now (part .entry)) (drop 1 (now (key .entry)))) ⌝ }
         ensures { λ _. ⌜ now («seen_store» .exit) ≡ admitSeen self (now («seen_store» .entry)) at (taken (now (part .entry)) (drop 1 (now (key .entry)))) ⌝ }
@@ -489,7 +483,8 @@ impl Node {
         }
         let expires = expiry_of(at, self.ttl);
         let seen = seen.enter(seen_store, cap, key, expires, cap);
-        let cache = cache.keep(cache_store, part, &key[1..]);
+        let kept = cache.keep(cache_store, part, &key[1..]);
+        let cache = kept.cache;
         Admitted {
             answer: Admit::New,
             node: self.later(at, seen, cache),
@@ -529,7 +524,7 @@ impl Node {
                         node: self,
                     };
                 }
-                let mut key = [0u8; 129];
+                let mut key = [0u8; ID_SIZE];
                 key[0] = 1;
                 let n = form_id(
                     part,
@@ -614,7 +609,7 @@ impl Node {
                 let before = self.seen;
                 let seen = before.clean(self.max_seen, at);
                 let held = self.cache;
-                let cache = held.later();
+                let cache = held.next_window();
                 Beaten {
                     answer: Beat::Done,
                     node: self.later(at, seen, cache),
@@ -624,8 +619,8 @@ impl Node {
     }
 
     // Writes an advertisement of a topic, where the state and the topic were tested.
-    fn tell(self, cache_store: &[u8], topic: &[u8], windows: usize, out: &mut [u8]) -> Advertise
-        requires { ⌜ (Kept (self .cache) (now «cache_store»)) × (length (now topic) ≤ 1024) ⌝ }
+    fn announce(self, cache_store: &[u8], topic: &[u8], windows: usize, out: &mut [u8]) -> Advertise
+        requires { ⌜ (Usable (self .cache) (now «cache_store»)) × (length (now topic) ≤ 1024) ⌝ }
         ensures { λ r. ⌜ r ≡ advertised (answer (advertiseBytes self (now («cache_store» .entry)) (now (topic .entry)) windows) (now (out .entry))) ⌝ }
         ensures { λ _. ⌜ now (out .exit) ≡ written (advertiseBytes self (now («cache_store» .entry)) (now (topic .entry)) windows) (now (out .entry)) ⌝ }
     {
@@ -673,7 +668,7 @@ impl Node {
                         node: self,
                     };
                 }
-                let answer = self.tell(cache_store, topic, windows, out);
+                let answer = self.announce(cache_store, topic, windows, out);
                 Advertised { answer, node: self }
             }
         }
@@ -681,29 +676,20 @@ impl Node {
 
     // Writes a request for what a body offers and is not seen, where the state and the body were tested.
     fn request_for(self, seen_store: &[u8], body: &[u8], out: &mut [u8]) -> Ask
-        requires { ⌜ Sound 129 (self .«max_seen») (self .seen .start) (self .seen .count) (self .seen .len) (now «seen_store») ⌝ }
+        requires { ⌜ Sound idSize (seenRing self) (self .seen .len) (now «seen_store») ⌝ }
         requires { ⌜ acceptOf (now body) ≡ Checked.Fine ⌝ }
         ensures { λ r. ⌜ r ≡ asked (answer (askBytes self (now («seen_store» .entry)) (now (body .entry))) (now (out .entry))) ⌝ }
         ensures { λ _. ⌜ now (out .exit) ≡ written (askBytes self (now («seen_store» .entry)) (now (body .entry))) (now (out .entry)) ⌝ }
     {
-        let mut named = [0usize; 1024];
-        let mut first = [0usize; 1024];
+        let mut named = [0usize; 2 * MAX_RECORDS];
+        let mut first = [0usize; 2 * MAX_RECORDS];
         let path = [3u64, 1, 2];
         let n = parts_at(body, 0, body.len(), &path, &mut named, 0);
         let k = first_mentions(body, &named, n, &mut first);
         let seen = self.seen;
+        let ring = seen.ring(self.max_seen);
         let lens = seen.len;
-        let m = unseen(
-            &lens,
-            seen_store,
-            self.max_seen,
-            seen.start,
-            seen.count,
-            body,
-            &first,
-            k,
-            &mut named,
-        );
+        let m = unseen(&lens, seen_store, ring, body, &first, k, &mut named);
         if m == 0 {
             return Ask::Bytes(0);
         }
@@ -746,32 +732,22 @@ impl Node {
 
     // Writes the cached messages that a body asks for, as many as the reply room takes, where the state and the body were tested.
     fn reply_to(self, cache_store: &[u8], body: &[u8], out: &mut [u8]) -> Serve
-        requires { ⌜ Kept (self .cache) (now «cache_store») ⌝ }
+        requires { ⌜ Usable (self .cache) (now «cache_store») ⌝ }
         requires { ⌜ acceptOf (now body) ≡ Checked.Fine ⌝ }
         ensures { λ r. ⌜ r ≡ replyTo (cachedOf (self .cache) (now («cache_store» .entry)) (wanted (now (body .entry)))) (now (out .entry)) ⌝ }
         ensures { λ _. ⌜ now (out .exit) ≡ sets (now (out .entry)) 0 (replyBytes (cachedOf (self .cache) (now («cache_store» .entry)) (wanted (now (body .entry)))) (now (out .entry))) ⌝ }
     {
-        let mut named = [0usize; 1024];
-        let mut first = [0usize; 1024];
+        let mut named = [0usize; 2 * MAX_RECORDS];
+        let mut first = [0usize; 2 * MAX_RECORDS];
         let path = [3u64, 2, 1];
         let n = parts_at(body, 0, body.len(), &path, &mut named, 0);
         let k = first_mentions(body, &named, n, &mut first);
         let cache = self.cache;
+        let ring = cache.ring();
         let lens = cache.len;
         let id_lens = cache.id_len;
         let ids = cache.ids;
-        let m = cached(
-            &lens,
-            &id_lens,
-            &ids,
-            cache.max_messages,
-            cache.start,
-            cache.count,
-            body,
-            &first,
-            k,
-            &mut named,
-        );
+        let m = cached(&lens, &id_lens, &ids, ring, body, &first, k, &mut named);
         if m == 0 {
             return Serve::Reply {
                 bytes: 0,

@@ -23,7 +23,7 @@ use Rattle.canon.specs.Taken.{Within}
 use Rattle.mcache.specs.declared.MessageCache.{MessageCache}
 use Rattle.mcache.specs.declared.Lent.the-variants as cacheLent
 use Rattle.mcache.specs.Messages.{Cached, topics, idsOf, carrying, enterId, inOrder, gossipIds}
-use Rattle.mcache.specs.State.{cachedIn}
+use Rattle.mcache.specs.State.{cachedIn, messageIdSize}
 use Rattle.mcache.specs.Calls.{lentOf as cacheLentOf}
 use Rattle.mcache.specs.StateLaws.{fine-tests}
 use Rattle.mcache.specs.CachedLaws.{length-cached}
@@ -39,7 +39,7 @@ use Rattle.outputs.specs.Cached.{each-in, each-cached, CachedMessage}
 
 -- ---- the ids told of are some of those cached
 Short : List ℕ → Type 0
-Short i = length i ≤ 128
+Short i = length i ≤ messageIdSize
 
 record Told (ids : List (List ℕ)) (n : ℕ) : Type 0 where
   few : length ids ≤ n

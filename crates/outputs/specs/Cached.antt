@@ -11,7 +11,7 @@ use lib.ListN.{length, take, drop, getD, length-take}
 use Rattle.basis.specs.Bytes.{Bytes}
 use Rattle.basis.specs.Lists.{drop-bytes, take-bytes}
 use Rattle.utf8.specs.Grammar.{Utf8}
-use Rattle.rows.specs.Rows.{tab, placeOf, ring}
+use Rattle.rows.specs.Rows.{tab, placeOf, rowsIn}
 use Rattle.rows.specs.Store.{idAt}
 use Rattle.protobuf.specs.Walk.{Fields, end, refused, _then_, fieldsOf}
 use Rattle.rpc.specs.Rpc.{RawMessage}
@@ -22,7 +22,7 @@ use Rattle.admission.specs.Admission.{topicsAlong, topicsOf}
 use Rattle.admission.specs.AdmissionLaws.{Gives, gives-only, fit-limits}
 use Rattle.mcache.specs.declared.MessageCache.{MessageCache}
 use Rattle.mcache.specs.Messages.{Cached}
-use Rattle.mcache.specs.State.{messageIn, cachedAt, cachedIn}
+use Rattle.mcache.specs.State.{messageIn, cachedAt, cachedIn, ringOf, messageSize, messageIdSize}
 use Rattle.mcache.specs.StateLaws.{Tests, row-gives, row-id-short}
 use Rattle.parts.specs.Parts.{valuesAlong}
 use Rattle.canonical.specs.Means.{Sized}
@@ -62,7 +62,7 @@ pub record Message (p : List ℕ) : Type 0 where
   pub means : IsMessage p value
   pub few : length (value .«topic_ids») ≤ 4
   pub texts : Each Utf8 (topicsOf p)
-  pub small : length p ≤ 4096
+  pub small : length p ≤ messageSize
 
 pub message-given : (p i : List ℕ) → Bytes p → Gives p i → Message p
 message-given p i b g =
@@ -74,35 +74,35 @@ message-given p i b g =
 -- ---- those of a tested cache
 bytes-in : (lens st : List ℕ) (p : ℕ) → Bytes st → Bytes (messageIn lens st p)
 unfolding messageIn
-bytes-in lens st p b = take-bytes (getD lens p 0) (drop (p * 4096) st) (drop-bytes (p * 4096) st b)
+bytes-in lens st p b = take-bytes (getD lens p 0) (drop (p * messageSize) st) (drop-bytes (p * messageSize) st b)
 
 module _ (c : MessageCache) (st : List ℕ) (t : Tests c st) (b : Bytes st) where
-  pub row-message : (i : ℕ) → i < c .count → Message (messageIn (c .len) st (placeOf (c .«max_messages») (c .start) i))
+  pub row-message : (i : ℕ) → i < c .count → Message (messageIn (c .len) st (placeOf (ringOf c) i))
   row-message i h =
-      let p = placeOf (c .«max_messages») (c .start) i in
-      message-given (messageIn (c .len) st p) (idAt 128 (c .«id_len») (c .ids) p) (bytes-in (c .len) st p b) (gives-only (messageIn (c .len) st p) (idAt 128 (c .«id_len») (c .ids) p) (row-gives c st t i h))
+      let p = placeOf (ringOf c) i in
+      message-given (messageIn (c .len) st p) (idAt messageIdSize (c .«id_len») (c .ids) p) (bytes-in (c .len) st p b) (gives-only (messageIn (c .len) st p) (idAt messageIdSize (c .«id_len») (c .ids) p) (row-gives c st t i h))
 
 -- a cached message with its id
 pub record CachedMessage (m : Cached) : Type 0 where
   pub message : Message (m .message)
-  pub id-short : length (m .id) ≤ 128
+  pub id-short : length (m .id) ≤ messageIdSize
 
-id-length : (lens ids : List ℕ) (p : ℕ) → getD lens p 0 ≤ 128 → length (idAt 128 lens ids p) ≤ 128
+id-length : (lens ids : List ℕ) (p : ℕ) → getD lens p 0 ≤ messageIdSize → length (idAt messageIdSize lens ids p) ≤ messageIdSize
 unfolding idAt
-id-length lens ids p h = omega (arith, length-take (getD lens p 0) (drop (p * 128) ids))
+id-length lens ids p h = omega (arith, length-take (getD lens p 0) (drop (p * messageIdSize) ids))
 
 module _ (c : MessageCache) (st : List ℕ) (t : Tests c st) (b : Bytes st) where
-  row-cached : (i : ℕ) → i < c .count → CachedMessage (cachedAt c st (placeOf (c .«max_messages») (c .start) i))
+  row-cached : (i : ℕ) → i < c .count → CachedMessage (cachedAt c st (placeOf (ringOf c) i))
   unfolding cachedAt
   row-cached i h =
       record {
         message = row-message c st t b i h;
-        id-short = id-length (c .«id_len») (c .ids) (placeOf (c .«max_messages») (c .start) i) (row-id-short c st t i h);
+        id-short = id-length (c .«id_len») (c .ids) (placeOf (ringOf c) i) (row-id-short c st t i h);
       }
 
   pub each-cached : Each CachedMessage (cachedIn c st)
-  unfolding cachedIn ring
-  each-cached = each-tab (λ (i : ℕ). cachedAt c st (placeOf (c .«max_messages») (c .start) i)) (c .count) row-cached
+  unfolding cachedIn rowsIn
+  each-cached = each-tab (λ (i : ℕ). cachedAt c st (placeOf (ringOf c) i)) (c .count) row-cached
 
 -- ---- messages, one by one
 pub record Messages (ps : List (List ℕ)) : Type 0 where

@@ -12,6 +12,7 @@ use lib.Dec.{ltb, eqb}
 use borrow.Author.Tests.{ltb-true, eqb-true}
 use Rattle.basis.specs.Cases.{either, clash}
 use Rattle.basis.specs.Bytes.{Bytes}
+use Rattle.rows.specs.declared.Ring.{Ring}
 use Rattle.rows.specs.Rows.{placeOf}
 use Rattle.rows.specs.RowsLaws.{length-ring}
 use Rattle.rows.specs.Ids.{among, distinct, indexOf}
@@ -29,7 +30,7 @@ use Rattle.canon.specs.Canon.{canonBody}
 use Rattle.canon.specs.Written.{canon-written}
 use Rattle.canon.specs.Taken.{Within}
 use Rattle.mcache.specs.declared.MessageCache.{MessageCache}
-use Rattle.mcache.specs.State.{messageIn}
+use Rattle.mcache.specs.State.{messageIn, ringOf, messageIdSize}
 use Rattle.mcache.specs.StateLaws.{Tests, fine-tests}
 use Rattle.parts.specs.Parts.{atPath, fitting}
 use Rattle.parts.specs.PartsLaws.{once-distinct, fitting-le, fitting-room, fitting-next}
@@ -38,39 +39,39 @@ use Rattle.node.specs.declared.Lent.the-variants as lent
 use Rattle.node.specs.declared.Serve.the-variants as serve
 use Rattle.node.specs.Gateway.{having}
 use Rattle.node.specs.State.{gatewayIn}
-use Rattle.node.specs.Calls.{lentOf, wanted, rowsFor, cachedOf, roomOf, servedOf, replyBytes, replyTo, serveAnswer}
+use Rattle.node.specs.Calls.{lentOf, wanted, rowsFor, cachedOf, roomOf, servedOf, replyBytes, replyTo, serveAnswer, maxRpcSize}
 use Rattle.node.specs.Laws.{serve-says}
 use Rattle.node.specs.StateLaws.{fine-tests as node-tests}
 use Rattle.outputs.specs.Bodies.{published, messages-mean}
 use Rattle.outputs.specs.Cached.{each-take, Message, row-message, all-messages}
 
 -- ---- the rows with the ids that are named: as many as there are such ids, and each in use
-rows-shared : (cap start : ℕ) (held is : List (List ℕ)) → length (rowsFor cap start held is) ≡ shared held is
+rows-shared : (ring : Ring) (held is : List (List ℕ)) → length (rowsFor ring held is) ≡ shared held is
 unfolding rowsFor shared
-rows-shared cap start held [] = refl
-rows-shared cap start held (i ∷ is) =
-    let r = rows-shared cap start held is in
+rows-shared ring held [] = refl
+rows-shared ring held (i ∷ is) =
+    let r = rows-shared ring held is in
     let e = index-among i held in
     either (among i held) (λ t. simp (t, sym e ∙ t) (ap suc r)) (λ t. simp (t, sym e ∙ t) r)
 
-rows-each : {P : List ℕ → Type 0} (f : ℕ → List ℕ) (cap start : ℕ) (held is : List (List ℕ)) → ((j : ℕ) → j < length held → P (f (placeOf cap start j))) → Each P (map f (rowsFor cap start held is))
+rows-each : {P : List ℕ → Type 0} (f : ℕ → List ℕ) (ring : Ring) (held is : List (List ℕ)) → ((j : ℕ) → j < length held → P (f (placeOf ring j))) → Each P (map f (rowsFor ring held is))
 unfolding rowsFor
-rows-each f cap start held [] h = none-left
-rows-each f cap start held (i ∷ is) h =
-    let r = rows-each f cap start held is h in
+rows-each f ring held [] h = none-left
+rows-each f ring held (i ∷ is) h =
+    let r = rows-each f ring held is h in
     either (ltb (indexOf i held) (length held)) (λ t. simp t (h (indexOf i held) (ltb-true _ _ t) and r)) (λ t. simp t r)
 
 module _ (c : MessageCache) (st : List ℕ) (t : Tests c st) (is : List (List ℕ)) where
-  held-count : length (idsIn 128 (c .«max_messages») (c .start) (c .count) (c .«id_len») (c .ids)) ≡ c .count
+  held-count : length (idsIn messageIdSize (ringOf c) (c .«id_len») (c .ids)) ≡ c .count
   unfolding idsIn
-  held-count = length-ring (idAt 128 (c .«id_len») (c .ids)) (c .«max_messages») (c .start) (c .count)
+  held-count = length-ring (idAt messageIdSize (c .«id_len») (c .ids)) (ringOf c)
 
   pub cached-few : distinct is ≡ true → length (cachedOf c st is) ≤ 64
   unfolding cachedOf
   cached-few d =
-      let held = idsIn 128 (c .«max_messages») (c .start) (c .count) (c .«id_len») (c .ids) in
-      let m = length-map (rowsFor (c .«max_messages») (c .start) held is) (messageIn (c .len) st) in
-      let r = rows-shared (c .«max_messages») (c .start) held is in
+      let held = idsIn messageIdSize (ringOf c) (c .«id_len») (c .ids) in
+      let m = length-map (rowsFor (ringOf c) held is) (messageIn (c .len) st) in
+      let r = rows-shared (ringOf c) held is in
       let s = shared-few held is d in
       let n = held-count in
       omega (arith, t .within, t .few)
@@ -78,8 +79,8 @@ module _ (c : MessageCache) (st : List ℕ) (t : Tests c st) (is : List (List �
   pub cached-messages : Bytes st → Each Message (cachedOf c st is)
   unfolding cachedOf
   cached-messages b =
-      let held = idsIn 128 (c .«max_messages») (c .start) (c .count) (c .«id_len») (c .ids) in
-      rows-each (messageIn (c .len) st) (c .«max_messages») (c .start) held is (λ j h. row-message c st t b j (rw held-count at h))
+      let held = idsIn messageIdSize (ringOf c) (c .«id_len») (c .ids) in
+      rows-each (messageIn (c .len) st) (ringOf c) held is (λ j h. row-message c st t b j (rw held-count at h))
 
 -- ---- the reply
 pub record Replies (ms : List (List ℕ)) (out : List ℕ) : Type 0 where
@@ -96,9 +97,9 @@ served-le : (ms : List (List ℕ)) (out : List ℕ) → servedOf ms out ≤ leng
 unfolding servedOf
 served-le ms out = fitting-le 2 (roomOf out) ms
 
-reply-small : (ms : List (List ℕ)) (out : List ℕ) → length (replyBytes ms out) ≤ 65536
+reply-small : (ms : List (List ℕ)) (out : List ℕ) → length (replyBytes ms out) ≤ maxRpcSize
 unfolding replyBytes servedOf roomOf
-reply-small ms out = omega (arith, fitting-room 2 (min (length out) 65536) ms)
+reply-small ms out = omega (arith, fitting-room 2 (min (length out) maxRpcSize) ms)
 
 raw-fields : (vs : List RawMessage) → repeated (λ m. bytesField 2 (m .raw)) vs ≡ repeated (bytesField 2) (map (λ (m : RawMessage). m .raw) vs)
 raw-fields [] = refl

@@ -23,6 +23,7 @@ use Rattle.canon.specs.Written.{canon-written}
 use Rattle.canon.specs.Taken.{Within, taken-exactly}
 use Rattle.parts.specs.Parts.{atPath, onceAfter, once}
 use Rattle.parts.specs.PartsLaws.{once-again, once-new}
+use Rattle.node.specs.State.{seenRing}
 use Rattle.node.specs.declared.Node.{Node}
 use Rattle.node.specs.Gateway.{marked, request}
 use Rattle.node.specs.Calls.{bytesFor, offered, unseenFrom, unseenOf, askBytes}
@@ -30,6 +31,7 @@ use Rattle.node.specs.WireLaws.{request-bytes}
 use Rattle.outputs.specs.Named.{ihaveIds, offersIn, offersOf}
 use Rattle.outputs.specs.Offered.{offered-means, offers-fewer}
 use Rattle.outputs.specs.Bodies.{no-bytes, some-bytes, request-means, records-asked}
+use Rattle.seen.specs.State.{idSize}
 
 -- ---- what is asked for is some of what is offered: whatever each id adds, all of them add no more
 abbrev Less : List (List ℕ) → List (List ℕ) → Type 0
@@ -54,7 +56,7 @@ asked-less : (n : Node) (ss body : List ℕ) → Less (unseenOf n ss (offered bo
 unfolding unseenOf offered
 asked-less n ss body f =
     let ids = atPath (3 ∷ 1 ∷ 2 ∷ []) body in
-    let seen = idsIn 129 (n .«max_seen») (n .seen .start) (n .seen .count) (n .seen .len) ss in
+    let seen = idsIn idSize (seenRing n) (n .seen .len) ss in
     let a = unseen-less seen (once ids) f in
     let b = once-less [] ids f in
     omega arith

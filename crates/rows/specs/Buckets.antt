@@ -2,6 +2,9 @@
 use Prim.Native.Nat.{ℕ, _+_, _*_, _%_}
 use mathlib.Core.List.{List, [], _∷_}
 
+abbrev pub buckets : ℕ
+buckets = 4096
+
 unfoldable pub bucketOf : List ℕ → ℕ
 bucketOf [] = 0
-bucketOf (x ∷ xs) = (bucketOf xs * 33 + x) % 4096
+bucketOf (x ∷ xs) = (bucketOf xs * 33 + x) % buckets

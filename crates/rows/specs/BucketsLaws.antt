@@ -11,15 +11,15 @@ use borrow.Author.Tests.{eqb-true, eqb-false}
 use Rattle.basis.specs.Cases.{either, clash}
 use Rattle.rows.specs.Ids.{sameBytes, among}
 use Rattle.rows.specs.IdsLaws.{same-equal}
-use Rattle.rows.specs.Buckets.{bucketOf}
+use Rattle.rows.specs.Buckets.{buckets, bucketOf}
 
 -- ---- the bucket of an id
-bucket-lt : (id : List ℕ) → bucketOf id < 4096
+bucket-lt : (id : List ℕ) → bucketOf id < buckets
 unfolding bucketOf
 bucket-lt [] = omega arith
 bucket-lt (x ∷ xs) = omega arith
 
-pub bucket-in : (id : List ℕ) (b : ℕ) → b ≡ bucketOf id → b < 4096
+pub bucket-in : (id : List ℕ) (b : ℕ) → b ≡ bucketOf id → b < buckets
 bucket-in id b e = rw e (bucket-lt id)
 
 pub bucket-none : (id : List ℕ) (i : ℕ) → length id ≤ i → 0 ≡ bucketOf (drop i id)
@@ -28,12 +28,12 @@ bucket-none id i h = rw (drop-of-length-le id h)
 
 -- with the byte before
 pub bucket-more : (id : List ℕ) (i x : ℕ) → 0 < i → i ≤ length id → x ≡ bucketOf (drop i id)
-    → (x * 33 + getD id (i - 1) 0) % 4096 ≡ bucketOf (drop (i - 1) id)
+    → (x * 33 + getD id (i - 1) 0) % buckets ≡ bucketOf (drop (i - 1) id)
 unfolding bucketOf
 bucket-more id i x h k e =
     let n : suc (i - 1) ≡ i = omega arith in
     let l : i - 1 < length id = omega arith in
-    ap (λ (y : ℕ). (y * 33 + getD id (i - 1) 0) % 4096) (e ∙ ap (λ (k : ℕ). bucketOf (drop k id)) (sym n)) ∙ ap bucketOf (sym (drop-cons id (i - 1) 0 l))
+    ap (λ (y : ℕ). (y * 33 + getD id (i - 1) 0) % buckets) (e ∙ ap (λ (k : ℕ). bucketOf (drop k id)) (sym n)) ∙ ap bucketOf (sym (drop-cons id (i - 1) 0 l))
 
 pub bucket-all : (id : List ℕ) (i x : ℕ) → i ≤ 0 → x ≡ bucketOf (drop i id) → x ≡ bucketOf id
 bucket-all id i x h e = let z : i ≡ 0 = omega arith in rw z at e
@@ -56,7 +56,7 @@ met-cons flags j l b m id h =
     let f : getD flags (bucketOf id) 0 ≡ 0 = sym (getD-set-other flags (bucketOf j) (bucketOf id) 1 0 d) ∙ h in
     either (sameBytes j id) (λ u. absurd (d (ap bucketOf (sym (same-equal j id u))))) (λ u. simp u (m id f)))
 
-pub met-more : (flags : List ℕ) (b : ℕ) (id : List ℕ) (l m : List (List ℕ)) → m ≡ id ∷ l → b ≡ bucketOf id → length flags ≡ 4096 → Met flags l → Met (set flags b 1) m
+pub met-more : (flags : List ℕ) (b : ℕ) (id : List ℕ) (l m : List (List ℕ)) → m ≡ id ∷ l → b ≡ bucketOf id → length flags ≡ buckets → Met flags l → Met (set flags b 1) m
 met-more flags b id l m row e n met =
     let k : bucketOf id < length flags = rw n (bucket-lt id) in
     rw (row, e) (met-cons flags id l k met)

@@ -11,7 +11,8 @@ use lib.Seq.{drop-cons, drop-append-le}
 use lib.Dec.{ltb}
 use borrow.Author.Tests.{ltb-true, ltb-false, lt-ltb, le-ltb}
 use Rattle.basis.specs.Cases.{either}
-use Rattle.rows.specs.Rows.{tab, placeOf, ring, newest}
+use Rattle.rows.specs.declared.Ring.{Ring}
+use Rattle.rows.specs.Rows.{tab, placeOf, rowsIn, without, oneMore, newest}
 
 -- ---- tables
 module _ {A : Type 0} where
@@ -47,84 +48,84 @@ map-tab g f zero = refl
 map-tab g f (suc n) = ap (λ l. g (f 0) ∷ l) (map-tab g (λ (i : ℕ). f (suc i)) n)
 
 -- ---- places
-pub place-is : (cap start i : ℕ) → start ≤ cap → ((start + i < cap) × (placeOf cap start i ≡ start + i)) ⊎ ((cap ≤ start + i) × (placeOf cap start i + cap ≡ start + i))
+pub place-is : (ring : Ring) (i : ℕ) → ring .start ≤ ring .cap → ((ring .start + i < ring .cap) × (placeOf ring i ≡ ring .start + i)) ⊎ ((ring .cap ≤ ring .start + i) × (placeOf ring i + ring .cap ≡ ring .start + i))
 unfolding placeOf
-place-is cap start i a =
-    either (ltb i (cap - start)) (λ t. let h = ltb-true i (cap - start) t in inl (omega arith, simp t))
-    (λ t. let h = ltb-false i (cap - start) t in
-    let e : placeOf cap start i ≡ i - (cap - start) = simp t in
+place-is ring i a =
+    either (ltb i (ring .cap - ring .start)) (λ t. let h = ltb-true i (ring .cap - ring .start) t in inl (omega arith, simp t))
+    (λ t. let h = ltb-false i (ring .cap - ring .start) t in
+    let e : placeOf ring i ≡ i - (ring .cap - ring .start) = simp t in
     inr (omega arith, omega (arith, e)))
 
-pub place-lt : (cap start i : ℕ) → start ≤ cap → i < cap → placeOf cap start i < cap
-place-lt cap start i a b = ⊎-elim (λ w. omega arith) (λ w. omega arith) (place-is cap start i a)
+pub place-lt : (ring : Ring) (i : ℕ) → ring .start ≤ ring .cap → i < ring .cap → placeOf ring i < ring .cap
+place-lt ring i a b = ⊎-elim (λ w. omega arith) (λ w. omega arith) (place-is ring i a)
 
-pub place-le : (cap start i : ℕ) → start ≤ cap → i ≤ cap → placeOf cap start i ≤ cap
-place-le cap start i a b = ⊎-elim (λ w. omega arith) (λ w. omega arith) (place-is cap start i a)
+pub place-le : (ring : Ring) (i : ℕ) → ring .start ≤ ring .cap → i ≤ ring .cap → placeOf ring i ≤ ring .cap
+place-le ring i a b = ⊎-elim (λ w. omega arith) (λ w. omega arith) (place-is ring i a)
 
 -- from the k-th on
-pub place-place : (cap start k i : ℕ) → start ≤ cap → k + i < cap → placeOf cap (placeOf cap start k) i ≡ placeOf cap start (k + i)
-place-place cap start k i a b =
-    let c = place-le cap start k a (omega arith) in
-    ⊎-elim (λ u. ⊎-elim (λ v. ⊎-elim (λ w. omega arith) (λ w. omega arith) (place-is cap start (k + i) a)) (λ v. ⊎-elim (λ w. omega arith) (λ w. omega arith) (place-is cap start (k + i) a))
-    (place-is cap (placeOf cap start k) i c))
-    (λ u. ⊎-elim (λ v. ⊎-elim (λ w. omega arith) (λ w. omega arith) (place-is cap start (k + i) a)) (λ v. ⊎-elim (λ w. omega arith) (λ w. omega arith) (place-is cap start (k + i) a))
-    (place-is cap (placeOf cap start k) i c)) (place-is cap start k a)
+pub place-place : (ring : Ring) (k i : ℕ) → ring .start ≤ ring .cap → k + i < ring .cap → placeOf (without k ring) i ≡ placeOf ring (k + i)
+place-place ring k i a b =
+    let c = place-le ring k a (omega arith) in
+    ⊎-elim (λ u. ⊎-elim (λ v. ⊎-elim (λ w. omega arith) (λ w. omega arith) (place-is ring (k + i) a)) (λ v. ⊎-elim (λ w. omega arith) (λ w. omega arith) (place-is ring (k + i) a))
+    (place-is (without k ring) i c))
+    (λ u. ⊎-elim (λ v. ⊎-elim (λ w. omega arith) (λ w. omega arith) (place-is ring (k + i) a)) (λ v. ⊎-elim (λ w. omega arith) (λ w. omega arith) (place-is ring (k + i) a))
+    (place-is (without k ring) i c)) (place-is ring k a)
 
-pub place-differs : (cap start i j : ℕ) → start ≤ cap → i < j → j < cap → placeOf cap start i ≡ placeOf cap start j → ⊥
-place-differs cap start i j a b c e =
-    ⊎-elim (λ u. ⊎-elim (λ v. omega arith) (λ v. omega arith) (place-is cap start j a)) (λ u. ⊎-elim (λ v. omega arith) (λ v. omega arith) (place-is cap start j a)) (place-is cap start i a)
+pub place-differs : (ring : Ring) (i j : ℕ) → ring .start ≤ ring .cap → i < j → j < ring .cap → placeOf ring i ≡ placeOf ring j → ⊥
+place-differs ring i j a b c e =
+    ⊎-elim (λ u. ⊎-elim (λ v. omega arith) (λ v. omega arith) (place-is ring j a)) (λ u. ⊎-elim (λ v. omega arith) (λ v. omega arith) (place-is ring j a)) (place-is ring i a)
 
 -- ---- rings
-module _ {A : Type 0} (f : ℕ → A) (cap start count : ℕ) where
-  pub length-ring : length (ring f cap start count) ≡ count
-  unfolding ring
-  length-ring = length-tab (λ (i : ℕ). f (placeOf cap start i)) count
+module _ {A : Type 0} (f : ℕ → A) (ring : Ring) where
+  pub length-ring : length (rowsIn f ring) ≡ ring .count
+  unfolding rowsIn
+  length-ring = length-tab (λ (i : ℕ). f (placeOf ring i)) (ring .count)
 
   -- the i-th, and those after it
-  pub ring-from : (i : ℕ) → i < count → drop i (ring f cap start count) ≡ f (placeOf cap start i) ∷ drop (i + 1) (ring f cap start count)
-  unfolding ring
+  pub ring-from : (i : ℕ) → i < ring .count → drop i (rowsIn f ring) ≡ f (placeOf ring i) ∷ drop (i + 1) (rowsIn f ring)
+  unfolding rowsIn
   ring-from i h =
-      let g : ℕ → A = λ (j : ℕ). f (placeOf cap start j) in
-      let l : i < length (tab g count) = rw (length-tab g count) h in
-      rw (add-one i, drop-cons (tab g count) i (g i) l, getD-tab g count i (g i) h)
+      let g : ℕ → A = λ (j : ℕ). f (placeOf ring j) in
+      let l : i < length (tab g (ring .count)) = rw (length-tab g (ring .count)) h in
+      rw (add-one i, drop-cons (tab g (ring .count)) i (g i) l, getD-tab g (ring .count) i (g i) h)
 
-  pub ring-end : (i : ℕ) → count ≤ i → drop i (ring f cap start count) ≡ []
-  ring-end i h = drop-of-length-le (ring f cap start count) {i = i} (rw length-ring h)
+  pub ring-end : (i : ℕ) → ring .count ≤ i → drop i (rowsIn f ring) ≡ []
+  ring-end i h = drop-of-length-le (rowsIn f ring) {i = i} (rw length-ring h)
 
   -- without the k oldest
-  pub ring-drop : (k : ℕ) → start ≤ cap → count ≤ cap → k ≤ count → ring f cap (placeOf cap start k) (count - k) ≡ drop k (ring f cap start count)
-  unfolding ring
+  pub ring-drop : (k : ℕ) → ring .start ≤ ring .cap → ring .count ≤ ring .cap → k ≤ ring .count → rowsIn f (without k ring) ≡ drop k (rowsIn f ring)
+  unfolding rowsIn
   ring-drop k a b h =
-      tab-ext (λ (i : ℕ). f (placeOf cap (placeOf cap start k) i)) (λ (i : ℕ). f (placeOf cap start (k + i))) (count - k)
-      (λ i j. ap f (place-place cap start k i a (omega arith)))
-      ∙ sym (drop-tab (λ (i : ℕ). f (placeOf cap start i)) k count)
+      tab-ext (λ (i : ℕ). f (placeOf (without k ring) i)) (λ (i : ℕ). f (placeOf ring (k + i))) (ring .count - k)
+      (λ i j. ap f (place-place ring k i a (omega arith)))
+      ∙ sym (drop-tab (λ (i : ℕ). f (placeOf ring i)) k (ring .count))
 
   -- the same where f and g agree on the places in use
-  pub ring-ext : (g : ℕ → A) → ((i : ℕ) → i < count → g (placeOf cap start i) ≡ f (placeOf cap start i)) → ring g cap start count ≡ ring f cap start count
-  unfolding ring
-  ring-ext g same = tab-ext (λ (i : ℕ). g (placeOf cap start i)) (λ (i : ℕ). f (placeOf cap start i)) count same
+  pub ring-ext : (g : ℕ → A) → ((i : ℕ) → i < ring .count → g (placeOf ring i) ≡ f (placeOf ring i)) → rowsIn g ring ≡ rowsIn f ring
+  unfolding rowsIn
+  ring-ext g same = tab-ext (λ (i : ℕ). g (placeOf ring i)) (λ (i : ℕ). f (placeOf ring i)) (ring .count) same
 
   -- with a row more: g is what stands in the places afterwards, and the rows in use are as they were
-  pub ring-more : (g : ℕ → A) → ((i : ℕ) → i < count → g (placeOf cap start i) ≡ f (placeOf cap start i))
-      → ring g cap start (count + 1) ≡ ring f cap start count ++ (g (placeOf cap start count) ∷ [])
-  unfolding ring
+  pub ring-more : (g : ℕ → A) → ((i : ℕ) → i < ring .count → g (placeOf ring i) ≡ f (placeOf ring i))
+      → rowsIn g (oneMore ring) ≡ rowsIn f ring ++ (g (placeOf ring (ring .count)) ∷ [])
+  unfolding rowsIn placeOf
   ring-more g same =
-      rw (add-one count)
-      (tab-snoc (λ (i : ℕ). g (placeOf cap start i)) count
-      ∙ ap (λ l. l ++ (g (placeOf cap start count) ∷ [])) (tab-ext (λ (i : ℕ). g (placeOf cap start i)) (λ (i : ℕ). f (placeOf cap start i)) count same))
+      rw (add-one (ring .count))
+      (tab-snoc (λ (i : ℕ). g (placeOf ring i)) (ring .count)
+      ∙ ap (λ l. l ++ (g (placeOf ring (ring .count)) ∷ [])) (tab-ext (λ (i : ℕ). g (placeOf ring i)) (λ (i : ℕ). f (placeOf ring i)) (ring .count) same))
 
-pub map-ring : {A B : Type 0} (g : A → B) (f : ℕ → A) (cap start count : ℕ) → map g (ring f cap start count) ≡ ring (λ (p : ℕ). g (f p)) cap start count
-unfolding ring
-map-ring g f cap start count = map-tab g (λ (i : ℕ). f (placeOf cap start i)) count
+pub map-ring : {A B : Type 0} (g : A → B) (f : ℕ → A) (ring : Ring) → map g (rowsIn f ring) ≡ rowsIn (λ (p : ℕ). g (f p)) ring
+unfolding rowsIn
+map-ring g f ring = map-tab g (λ (i : ℕ). f (placeOf ring i)) (ring .count)
 
 -- ---- a place, as the code finds it: b places from `start` on
-pub place-near : (cap start i b : ℕ) → b ≡ cap - start → i < b → start + i ≡ placeOf cap start i
+pub place-near : (ring : Ring) (i b : ℕ) → b ≡ ring .cap - ring .start → i < b → ring .start + i ≡ placeOf ring i
 unfolding placeOf
-place-near cap start i b e h = simp (lt-ltb i (cap - start) (omega arith))
+place-near ring i b e h = simp (lt-ltb i (ring .cap - ring .start) (omega arith))
 
-pub place-far : (cap start i b : ℕ) → b ≡ cap - start → b ≤ i → i - b ≡ placeOf cap start i
+pub place-far : (ring : Ring) (i b : ℕ) → b ≡ ring .cap - ring .start → b ≤ i → i - b ≡ placeOf ring i
 unfolding placeOf
-place-far cap start i b e h = simp (le-ltb i (cap - start) (omega arith)) (ap (λ (n : ℕ). i - n) e)
+place-far ring i b e h = simp (le-ltb i (ring .cap - ring .start) (omega arith)) (ap (λ (n : ℕ). i - n) e)
 
 -- ---- one more: the oldest leave where there is no room
 pub newest-more : {A : Type 0} (max : ℕ) (l : List A) (x : A) → (max ≡ 0 → ⊥) → newest max (l ++ (x ∷ [])) ≡ drop ((length l + 1) - max) l ++ (x ∷ [])

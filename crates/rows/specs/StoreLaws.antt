@@ -12,17 +12,18 @@ use lib.Dec.{leb, ltb}
 use borrow.Author.Count.{below-more}
 use borrow.Author.Tests.{le-leb, lt-leb, leb-true, ltb-true, ltb-false, lt-ltb, le-ltb}
 use Rattle.basis.specs.Cases.{either, clash}
-use Rattle.rows.specs.Rows.{tab, placeOf, ring}
+use Rattle.rows.specs.declared.Ring.{Ring}
+use Rattle.rows.specs.Rows.{tab, placeOf, rowsIn, without, oneMore}
 use Rattle.rows.specs.Ids.{sameBytes, among, distinct, indexOf}
 use Rattle.rows.specs.IdsLaws.{distinct-more, distinct-twice, distinct-each, each-distinct}
 use Rattle.rows.specs.ListLaws.{drop-sets, part-sets, put-sets}
 use Rattle.rows.specs.RowsLaws.{length-tab, getD-tab, length-ring, ring-from, ring-end, place-lt, place-le, place-place, place-differs}
-use Rattle.rows.specs.Store.{idAt, idsIn, lensIn, allUpTo, Ring, Sound}
+use Rattle.rows.specs.Store.{idAt, idsIn, inUse, allUpTo, InStore, Sound}
 
 -- ---- places
-pub place-in : {cap start count : ℕ} {l : List ℕ} → Ring cap start count l → (i p : ℕ) → i < cap → p ≡ placeOf cap start i → (p < cap) × (p < length l)
-place-in {cap} {start} r i p h at =
-    let b : p < cap = rw at (place-lt cap start i (r .starts) h) in
+pub place-in : {ring : Ring} {l : List ℕ} → InStore ring l → (i p : ℕ) → i < ring .cap → p ≡ placeOf ring i → (p < ring .cap) × (p < length l)
+place-in {ring} r i p h at =
+    let b : p < ring .cap = rw at (place-lt ring i (r .starts) h) in
     (b, omega (arith, r .size))
 
 -- a row lies within the store
@@ -33,39 +34,39 @@ row-fits size cap p n m h k r =
     omega arith
 
 -- ---- numbers in use
-module _ (most cap start count : ℕ) (l : List ℕ) (i : ℕ) (inv : allUpTo most (drop i (lensIn cap start count l)) ≡ allUpTo most (lensIn cap start count l)) where
-  pub within-more : i < count → getD l (placeOf cap start i) 0 ≤ most → allUpTo most (drop (i + 1) (lensIn cap start count l)) ≡ allUpTo most (lensIn cap start count l)
-  unfolding allUpTo lensIn
+module _ (most : ℕ) (ring : Ring) (l : List ℕ) (i : ℕ) (inv : allUpTo most (drop i (inUse ring l)) ≡ allUpTo most (inUse ring l)) where
+  pub within-more : i < ring .count → getD l (placeOf ring i) 0 ≤ most → allUpTo most (drop (i + 1) (inUse ring l)) ≡ allUpTo most (inUse ring l)
+  unfolding allUpTo inUse
   within-more h e =
-      simp (le-leb (getD l (placeOf cap start i) 0) most e) at (rw (ring-from (λ (p : ℕ). getD l p 0) cap start count i h) at inv)
+      simp (le-leb (getD l (placeOf ring i) 0) most e) at (rw (ring-from (λ (p : ℕ). getD l p 0) ring i h) at inv)
 
-  pub within-not : i < count → most < getD l (placeOf cap start i) 0 → false ≡ allUpTo most (lensIn cap start count l)
-  unfolding allUpTo lensIn
+  pub within-not : i < ring .count → most < getD l (placeOf ring i) 0 → false ≡ allUpTo most (inUse ring l)
+  unfolding allUpTo inUse
   within-not h e =
-      simp (lt-leb (getD l (placeOf cap start i) 0) most e) at (rw (ring-from (λ (p : ℕ). getD l p 0) cap start count i h) at inv)
+      simp (lt-leb (getD l (placeOf ring i) 0) most e) at (rw (ring-from (λ (p : ℕ). getD l p 0) ring i h) at inv)
 
-  pub within-all : count ≤ i → true ≡ allUpTo most (lensIn cap start count l)
-  unfolding allUpTo lensIn
-  within-all h = rw (ring-end (λ (p : ℕ). getD l p 0) cap start count i h) at inv
+  pub within-all : ring .count ≤ i → true ≡ allUpTo most (inUse ring l)
+  unfolding allUpTo inUse
+  within-all h = rw (ring-end (λ (p : ℕ). getD l p 0) ring i h) at inv
 
 -- ---- finding an id
-module _ (size cap start count : ℕ) (lens st id : List ℕ) (i r : ℕ) (inv : i + indexOf id (drop i (idsIn size cap start count lens st)) ≡ r) where
-  pub find-more : i < count → sameBytes (idAt size lens st (placeOf cap start i)) id ≡ false → (i + 1) + indexOf id (drop (i + 1) (idsIn size cap start count lens st)) ≡ r
+module _ (size : ℕ) (ring : Ring) (lens st id : List ℕ) (i r : ℕ) (inv : i + indexOf id (drop i (idsIn size ring lens st)) ≡ r) where
+  pub find-more : i < ring .count → sameBytes (idAt size lens st (placeOf ring i)) id ≡ false → (i + 1) + indexOf id (drop (i + 1) (idsIn size ring lens st)) ≡ r
   unfolding indexOf idsIn
   find-more h e =
-      let k = simp e at (rw (ring-from (idAt size lens st) cap start count i h) at inv) in
+      let k = simp e at (rw (ring-from (idAt size lens st) ring i h) at inv) in
       omega arith
 
-  pub find-here : i < count → sameBytes (idAt size lens st (placeOf cap start i)) id ≡ true → i ≡ r
+  pub find-here : i < ring .count → sameBytes (idAt size lens st (placeOf ring i)) id ≡ true → i ≡ r
   unfolding indexOf idsIn
   find-here h e =
-      let k = simp e at (rw (ring-from (idAt size lens st) cap start count i h) at inv) in
+      let k = simp e at (rw (ring-from (idAt size lens st) ring i h) at inv) in
       omega arith
 
-  pub find-none : count ≤ i → i ≡ r
+  pub find-none : ring .count ≤ i → i ≡ r
   unfolding indexOf idsIn
   find-none h =
-      let k = rw (ring-end (idAt size lens st) cap start count i h) at inv in
+      let k = rw (ring-end (idAt size lens st) ring i h) at inv in
       omega arith
 
 -- an id is among others exactly where it has a place before their end
@@ -80,16 +81,16 @@ index-among i (j ∷ js) =
     below m n = either (ltb m n) (λ t. t ∙ sym (lt-ltb (suc m) (suc n) (let h = ltb-true m n t in omega arith))) (λ t. t ∙ sym (le-ltb (suc m) (suc n) (let h = ltb-false m n t in omega arith)))
 
 -- the i-th row: its place has a length, and lies within the store
-pub row-within : (size cap start count : ℕ) (lens st : List ℕ) (i p : ℕ) → Sound size cap start count lens st → i < count → p ≡ placeOf cap start i → (p < length lens) × (p * size + getD lens p 0 ≤ length st)
-row-within size cap start count lens st i p ok h e =
+pub row-within : (size : ℕ) (ring : Ring) (lens st : List ℕ) (i p : ℕ) → Sound size ring lens st → i < ring .count → p ≡ placeOf ring i → (p < length lens) × (p * size + getD lens p 0 ≤ length st)
+row-within size ring lens st i p ok h e =
     let b = place-in (ok .rows) i p (omega (arith, ok .rows .within)) e in
     let n : getD lens p 0 ≤ size = rw e (ok .short i h) in
-    (b .1, row-fits size cap p (getD lens p 0) (length st) (b .0) n (ok .room))
+    (b .1, row-fits size (ring .cap) p (getD lens p 0) (length st) (b .0) n (ok .room))
 
 -- the bytes of the i-th row
-pub row-id : (size cap start : ℕ) (lens st : List ℕ) (i p : ℕ) → p ≡ placeOf cap start i → take ((p * size + getD lens p 0) - p * size) (drop (p * size) st) ≡ idAt size lens st (placeOf cap start i)
+pub row-id : (size : ℕ) (ring : Ring) (lens st : List ℕ) (i p : ℕ) → p ≡ placeOf ring i → take ((p * size + getD lens p 0) - p * size) (drop (p * size) st) ≡ idAt size lens st (placeOf ring i)
 unfolding idAt
-row-id size cap start lens st i p e =
+row-id size ring lens st i p e =
     let k : (p * size + getD lens p 0) - p * size ≡ getD lens p 0 = omega arith in
     rw (k, e)
 
@@ -98,18 +99,18 @@ shifted : (a b r count k : ℕ) → r ≡ k + a → b ≡ count - k → k ≤ co
 shifted a b r count k e f h =
     either (ltb a b) (λ t. let l = ltb-true a b t in t ∙ sym (lt-ltb r count (omega arith))) (λ t. let l = ltb-false a b t in t ∙ sym (le-ltb r count (omega arith)))
 
-pub find-among : (size cap start count : ℕ) (lens st id : List ℕ) (k r : ℕ) → k ≤ count → r ≡ k + indexOf id (drop k (idsIn size cap start count lens st))
-    → among id (drop k (idsIn size cap start count lens st)) ≡ ltb r count
+pub find-among : (size : ℕ) (ring : Ring) (lens st id : List ℕ) (k r : ℕ) → k ≤ ring .count → r ≡ k + indexOf id (drop k (idsIn size ring lens st))
+    → among id (drop k (idsIn size ring lens st)) ≡ ltb r (ring .count)
 unfolding idsIn
-find-among size cap start count lens st id k r h e =
-    let ids : List (List ℕ) = ring (idAt size lens st) cap start count in
-    let l : length (drop k ids) ≡ count - k = length-drop k ids ∙ ap (λ (n : ℕ). n - k) (length-ring (idAt size lens st) cap start count) in
-    index-among id (drop k ids) ∙ shifted (indexOf id (drop k ids)) (length (drop k ids)) r count k e l h
+find-among size ring lens st id k r h e =
+    let ids : List (List ℕ) = rowsIn (idAt size lens st) ring in
+    let l : length (drop k ids) ≡ ring .count - k = length-drop k ids ∙ ap (λ (n : ℕ). n - k) (length-ring (idAt size lens st) ring) in
+    index-among id (drop k ids) ∙ shifted (indexOf id (drop k ids)) (length (drop k ids)) r (ring .count) k e l h
 
 -- ---- ids that differ, from the newest to the oldest: the row before the i-th
-module _ (size cap start count : ℕ) (lens st : List ℕ) (i p : ℕ) (h : 0 < i) (k : i ≤ count) (e : p ≡ placeOf cap start (i - 1)) where
+module _ (size : ℕ) (ring : Ring) (lens st : List ℕ) (i p : ℕ) (h : 0 < i) (k : i ≤ ring .count) (e : p ≡ placeOf ring (i - 1)) where
   abbrev ids : List (List ℕ)
-  ids = idsIn size cap start count lens st
+  ids = idsIn size ring lens st
 
   abbrev id : List ℕ
   id = take ((p * size + getD lens p 0) - p * size) (drop (p * size) st)
@@ -118,8 +119,8 @@ module _ (size cap start count : ℕ) (lens st : List ℕ) (i p : ℕ) (h : 0 < 
   unfolding idsIn
   row-before =
       let n : (i - 1) + 1 ≡ i = omega arith in
-      ring-from (idAt size lens st) cap start count (i - 1) (omega arith)
-      ∙ ap (λ (x : List ℕ). x ∷ drop ((i - 1) + 1) ids) (sym (row-id size cap start lens st (i - 1) p e))
+      ring-from (idAt size lens st) ring (i - 1) (omega arith)
+      ∙ ap (λ (x : List ℕ). x ∷ drop ((i - 1) + 1) ids) (sym (row-id size ring lens st (i - 1) p e))
       ∙ ap (λ (m : ℕ). id ∷ drop m ids) n
 
   pub differ-more : among id (drop i ids) ≡ false → distinct (drop i ids) ≡ true → distinct (drop (i - 1) ids) ≡ true
@@ -129,9 +130,9 @@ module _ (size cap start count : ℕ) (lens st : List ℕ) (i p : ℕ) (h : 0 < 
   differ-not t = distinct-twice (i - 1) ids row-before t
 
 -- after the newest, and at the oldest
-pub ids-end : (size cap start count : ℕ) (lens st : List ℕ) → drop count (idsIn size cap start count lens st) ≡ []
+pub ids-end : (size : ℕ) (ring : Ring) (lens st : List ℕ) → drop (ring .count) (idsIn size ring lens st) ≡ []
 unfolding idsIn
-ids-end size cap start count lens st = ring-end (idAt size lens st) cap start count count (omega arith)
+ids-end size ring lens st = ring-end (idAt size lens st) ring (ring .count) (omega arith)
 
 pub differ-none : (l : List (List ℕ)) → l ≡ [] → distinct l ≡ true
 unfolding distinct
@@ -147,50 +148,50 @@ number-within most [] i h k = absurd (omega arith)
 number-within most (n ∷ l) zero h k = either (leb n most) (λ t. leb-true n most t) (λ t. clash (let z = simp t at h in cc))
 number-within most (n ∷ l) (suc i) h k = either (leb n most) (λ t. number-within most l i (simp t at h) (omega arith)) (λ t. clash (let z = simp t at h in cc))
 
-pub short-in : (most : ℕ) (lens : List ℕ) (cap start count : ℕ) → allUpTo most (lensIn cap start count lens) ≡ true → (i : ℕ) → i < count → getD lens (placeOf cap start i) 0 ≤ most
-unfolding lensIn ring
-short-in most lens cap start count h i k =
-    let f : ℕ → ℕ = λ (j : ℕ). getD lens (placeOf cap start j) 0 in
-    let l : i < length (tab f count) = rw (length-tab f count) k in
-    let e : getD (tab f count) i 0 ≤ most = number-within most (tab f count) i h l in
-    rw (getD-tab f count i 0 k) at e
+pub short-in : (most : ℕ) (lens : List ℕ) (ring : Ring) → allUpTo most (inUse ring lens) ≡ true → (i : ℕ) → i < ring .count → getD lens (placeOf ring i) 0 ≤ most
+unfolding inUse rowsIn
+short-in most lens ring h i k =
+    let f : ℕ → ℕ = λ (j : ℕ). getD lens (placeOf ring j) 0 in
+    let l : i < length (tab f (ring .count)) = rw (length-tab f (ring .count)) k in
+    let e : getD (tab f (ring .count)) i 0 ≤ most = number-within most (tab f (ring .count)) i h l in
+    rw (getD-tab f (ring .count) i 0 k) at e
 
 numbers-within : (most : ℕ) (l : List ℕ) → ((i : ℕ) → i < length l → getD l i 0 ≤ most) → allUpTo most l ≡ true
 unfolding allUpTo
 numbers-within most [] h = refl
 numbers-within most (n ∷ l) h = simp (le-leb n most (h 0 (zero-lt-suc (length l)))) (numbers-within most l (λ i k. h (suc i) (omega arith)))
 
-pub short-all : (most : ℕ) (lens : List ℕ) (cap start count : ℕ) → ((i : ℕ) → i < count → getD lens (placeOf cap start i) 0 ≤ most) → allUpTo most (lensIn cap start count lens) ≡ true
-unfolding lensIn ring
-short-all most lens cap start count h =
-    let f : ℕ → ℕ = λ (j : ℕ). getD lens (placeOf cap start j) 0 in
-    numbers-within most (tab f count) (λ i k. let l : i < count = rw (length-tab f count) at k in rw (getD-tab f count i 0 l) (h i l))
+pub short-all : (most : ℕ) (lens : List ℕ) (ring : Ring) → ((i : ℕ) → i < ring .count → getD lens (placeOf ring i) 0 ≤ most) → allUpTo most (inUse ring lens) ≡ true
+unfolding inUse rowsIn
+short-all most lens ring h =
+    let f : ℕ → ℕ = λ (j : ℕ). getD lens (placeOf ring j) 0 in
+    numbers-within most (tab f (ring .count)) (λ i k. let l : i < ring .count = rw (length-tab f (ring .count)) at k in rw (getD-tab f (ring .count) i 0 l) (h i l))
 
 -- no id stands in two rows
-pub once-in : (size : ℕ) (lens st : List ℕ) (cap start count : ℕ) → distinct (idsIn size cap start count lens st) ≡ true → (i j : ℕ) → i < j → j < count
-    → idAt size lens st (placeOf cap start i) ≡ idAt size lens st (placeOf cap start j) → ⊥
-unfolding idsIn ring
-once-in size lens st cap start count d i j a b e =
-    let f : ℕ → List ℕ = λ (k : ℕ). idAt size lens st (placeOf cap start k) in
-    let l : j < length (tab f count) = rw (length-tab f count) b in
-    distinct-each (tab f count) i j d a l (getD-tab f count i [] (omega arith) ∙ e ∙ sym (getD-tab f count j [] b))
+pub once-in : (size : ℕ) (lens st : List ℕ) (ring : Ring) → distinct (idsIn size ring lens st) ≡ true → (i j : ℕ) → i < j → j < ring .count
+    → idAt size lens st (placeOf ring i) ≡ idAt size lens st (placeOf ring j) → ⊥
+unfolding idsIn rowsIn
+once-in size lens st ring d i j a b e =
+    let f : ℕ → List ℕ = λ (k : ℕ). idAt size lens st (placeOf ring k) in
+    let l : j < length (tab f (ring .count)) = rw (length-tab f (ring .count)) b in
+    distinct-each (tab f (ring .count)) i j d a l (getD-tab f (ring .count) i [] (omega arith) ∙ e ∙ sym (getD-tab f (ring .count) j [] b))
 
-pub all-once : (size : ℕ) (lens st : List ℕ) (cap start count : ℕ) → ((i j : ℕ) → i < j → j < count → idAt size lens st (placeOf cap start i) ≡ idAt size lens st (placeOf cap start j) → ⊥)
-    → distinct (idsIn size cap start count lens st) ≡ true
-unfolding idsIn ring
-all-once size lens st cap start count h =
-    let f : ℕ → List ℕ = λ (k : ℕ). idAt size lens st (placeOf cap start k) in
-    each-distinct (tab f count)
-    (λ i j a b e. let l : j < count = rw (length-tab f count) at b in h i j a l (sym (getD-tab f count i [] (omega arith)) ∙ e ∙ getD-tab f count j [] l))
+pub all-once : (size : ℕ) (lens st : List ℕ) (ring : Ring) → ((i j : ℕ) → i < j → j < ring .count → idAt size lens st (placeOf ring i) ≡ idAt size lens st (placeOf ring j) → ⊥)
+    → distinct (idsIn size ring lens st) ≡ true
+unfolding idsIn rowsIn
+all-once size lens st ring h =
+    let f : ℕ → List ℕ = λ (k : ℕ). idAt size lens st (placeOf ring k) in
+    each-distinct (tab f (ring .count))
+    (λ i j a b e. let l : j < ring .count = rw (length-tab f (ring .count)) at b in h i j a l (sym (getD-tab f (ring .count) i [] (omega arith)) ∙ e ∙ getD-tab f (ring .count) j [] l))
 
 -- ---- without the k oldest
-pub sound-less : (size cap start count k : ℕ) (lens st : List ℕ) → Sound size cap start count lens st → k ≤ count → Sound size cap (placeOf cap start k) (count - k) lens st
-sound-less size cap start count k lens st s h =
+pub sound-less : (size : ℕ) (ring : Ring) (k : ℕ) (lens st : List ℕ) → Sound size ring lens st → k ≤ ring .count → Sound size (without k ring) lens st
+sound-less size ring k lens st s h =
     let r = s .rows in
     record {
-      rows = record { starts = place-le cap start k (r .starts) (omega arith); within = omega arith; size = r .size };
+      rows = record { starts = place-le ring k (r .starts) (omega arith); within = omega arith; size = r .size };
       room = s .room;
-      short = λ i j. rw (place-place cap start k i (r .starts) (omega arith)) (s .short (k + i) (omega arith));
+      short = λ i j. rw (place-place ring k i (r .starts) (omega arith)) (s .short (k + i) (omega arith));
     }
 
 -- ---- an id put into place q
@@ -210,23 +211,24 @@ module _ (size : ℕ) (lens st id : List ℕ) (q : ℕ) where
   id-put h r = rw (getD-set-same lens q (length id) 0 h) (put-sets st (q * size) id r)
 
 -- ---- with a row more
-module _ (size cap start count : ℕ) (lens st : List ℕ) (s : Sound size cap start count lens st) (h : count < cap) where
+module _ (size : ℕ) (ring : Ring) (lens st : List ℕ) (s : Sound size ring lens st) (h : ring .count < ring .cap) where
   -- its place has a length, and lies within the store
-  pub free-within : (n p : ℕ) → n ≤ size → p ≡ placeOf cap start count → (p < length lens) × (p * size + n ≤ length st)
+  pub free-within : (n p : ℕ) → n ≤ size → p ≡ placeOf ring (ring .count) → (p < length lens) × (p * size + n ≤ length st)
   free-within n p k e =
-      let b = place-in (s .rows) count p h e in
-      (b .1, row-fits size cap p n (length st) (b .0) k (s .room))
+      let b = place-in (s .rows) (ring .count) p h e in
+      (b .1, row-fits size (ring .cap) p n (length st) (b .0) k (s .room))
 
   pub sound-more : (id : List ℕ) → length id ≤ size
-      → Sound size cap start (count + 1) (set lens (placeOf cap start count) (length id)) (sets st (placeOf cap start count * size) id)
+      → Sound size (oneMore ring) (set lens (placeOf ring (ring .count)) (length id)) (sets st (placeOf ring (ring .count) * size) id)
+  unfolding placeOf
   sound-more id k =
       let r = s .rows in
-      let q = placeOf cap start count in
+      let q = placeOf ring (ring .count) in
       record {
         rows = record { starts = r .starts; within = omega arith; size = rw (length-set lens q (length id)) (r .size) };
         room = rw (length-sets st (q * size) id) (s .room);
         short =
-            below-more _ count
-            (λ i j. rw (getD-set-other lens q (placeOf cap start i) (length id) 0 (place-differs cap start i count (r .starts) j h)) (s .short i j))
-            (rw (getD-set-same lens q (length id) 0 (place-in r count q h refl .1)) k);
+            below-more _ (ring .count)
+            (λ i j. rw (getD-set-other lens q (placeOf ring i) (length id) 0 (place-differs ring i (ring .count) (r .starts) j h)) (s .short i j))
+            (rw (getD-set-same lens q (length id) 0 (place-in r (ring .count) q h refl .1)) k);
       }

@@ -1,5 +1,4 @@
-// Fixed rows in age order, for the caches: where a row stands in a ring of places, and comparing ids by their bytes. A lent store has `cap`
-// places of one size; `count` of them are in use, from `start` on and from the last place to the first, the oldest first.
+// Fixed rows in age order, for the caches: where a row stands in a ring of places, and comparing ids by their bytes.
 ghost use mathlib.Core.Path.{_≡_};
 ghost use mathlib.Core.Bool.{false};
 ghost use Prim.Native.Nat.{_+_, _-_, _≤_};
@@ -7,7 +6,17 @@ ghost use lib.ListN.{drop};
 ghost use Rattle.rows.specs.Rows.{placeOf};
 ghost use Rattle.rows.specs.Ids.{sameBytes, precedesBytes, indexOf, among, distinct};
 ghost use Rattle.rows.specs.Buckets.{bucketOf};
-ghost use Rattle.rows.specs.Store.{Ring, Sound, lensIn, idsIn, allUpTo};
+ghost use Rattle.rows.specs.Store.{InStore, Sound, inUse, idsIn, allUpTo};
+
+// A lent store has `cap` places of one size; `count` of them are in use, from `start` on and from the last place to the first, the oldest first.
+pub struct Ring {
+    pub cap: usize,
+    pub start: usize,
+    pub count: usize,
+}
+
+// How many buckets of ids there are.
+const BUCKETS: usize = 4096;
 
 // a less b, and 0 where b is more.
 pub fn minus(a: usize, b: usize) -> usize
@@ -20,12 +29,12 @@ pub fn minus(a: usize, b: usize) -> usize
 }
 
 // The place of the i-th row from the oldest.
-pub fn place(cap: usize, start: usize, i: usize) -> usize
-    ensures { λ r. ⌜ r ≡ placeOf cap start i ⌝ }
+pub fn place(ring: Ring, i: usize) -> usize
+    ensures { λ r. ⌜ r ≡ placeOf ring i ⌝ }
 {
-    let behind = minus(cap, start);
+    let behind = minus(ring.cap, ring.start);
     if i < behind {
-        return start + i;
+        return ring.start + i;
     }
     i - behind
 }
@@ -65,13 +74,13 @@ pub fn precedes(a: &[u8], b: &[u8]) -> bool
 }
 
 // Whether the lengths in use are at most `most`.
-pub fn all_within(lens: &[u8], cap: usize, start: usize, count: usize, most: u8) -> bool
-    requires { ⌜ Ring cap start count (now lens) ⌝ }
-    ensures { λ r. ⌜ r ≡ allUpTo most (lensIn cap start count (now (lens .entry))) ⌝ }
+pub fn all_within(lens: &[u8], ring: Ring, most: u8) -> bool
+    requires { ⌜ InStore ring (now lens) ⌝ }
+    ensures { λ r. ⌜ r ≡ allUpTo most (inUse ring (now (lens .entry))) ⌝ }
 {
     let mut i = 0;
-    while i < count {
-        let p = place(cap, start, i);
+    while i < ring.count {
+        let p = place(ring, i);
         if most < lens[p] {
             return false;
         }
@@ -81,23 +90,14 @@ pub fn all_within(lens: &[u8], cap: usize, start: usize, count: usize, most: u8)
 }
 
 // Which row from the `from`-th on holds an id first, counted from the oldest; `count` where none does.
-pub fn find_from(
-    lens: &[u8],
-    ids: &[u8],
-    size: usize,
-    cap: usize,
-    start: usize,
-    count: usize,
-    from: usize,
-    id: &[u8],
-) -> usize
-    requires { ⌜ Sound size cap start count (now lens) (now ids) ⌝ }
-    requires { ⌜ from ≤ count ⌝ }
-    ensures { λ r. ⌜ r ≡ from + indexOf (now (id .entry)) (drop from (idsIn size cap start count (now (lens .entry)) (now (ids .entry)))) ⌝ }
+pub fn find_from(lens: &[u8], ids: &[u8], size: usize, ring: Ring, from: usize, id: &[u8]) -> usize
+    requires { ⌜ Sound size ring (now lens) (now ids) ⌝ }
+    requires { ⌜ from ≤ ring .count ⌝ }
+    ensures { λ r. ⌜ r ≡ from + indexOf (now (id .entry)) (drop from (idsIn size ring (now (lens .entry)) (now (ids .entry)))) ⌝ }
 {
     let mut i = from;
-    while i < count {
-        let p = place(cap, start, i);
+    while i < ring.count {
+        let p = place(ring, i);
         let base = p * size;
         let end = base + lens[p] as usize;
         if same(&ids[base..end], id) {
@@ -116,59 +116,42 @@ fn bucket(id: &[u8]) -> usize
     let mut i = id.len();
     while 0 < i {
         i = i - 1;
-        x = (x * 33 + id[i] as usize) % 4096;
+        x = (x * 33 + id[i] as usize) % BUCKETS;
     }
     x
 }
 
 // Whether an id stands in a row from the `from`-th on, where its bucket's flag is 0 only if it does not.
-fn again(
-    lens: &[u8],
-    ids: &[u8],
-    size: usize,
-    cap: usize,
-    start: usize,
-    count: usize,
-    from: usize,
-    id: &[u8],
-    flag: u8,
-) -> bool
-    requires { ⌜ Sound size cap start count (now lens) (now ids) ⌝ }
-    requires { ⌜ from ≤ count ⌝ }
-    requires { ⌜ (flag ≡ 0 → among (now id) (drop from (idsIn size cap start count (now lens) (now ids))) ≡ false) ⌝ }
-    ensures { λ r. ⌜ r ≡ among (now (id .entry)) (drop from (idsIn size cap start count (now (lens .entry)) (now (ids .entry)))) ⌝ }
+fn again(lens: &[u8], ids: &[u8], size: usize, ring: Ring, from: usize, id: &[u8], flag: u8) -> bool
+    requires { ⌜ Sound size ring (now lens) (now ids) ⌝ }
+    requires { ⌜ from ≤ ring .count ⌝ }
+    requires { ⌜ (flag ≡ 0 → among (now id) (drop from (idsIn size ring (now lens) (now ids))) ≡ false) ⌝ }
+    ensures { λ r. ⌜ r ≡ among (now (id .entry)) (drop from (idsIn size ring (now (lens .entry)) (now (ids .entry)))) ⌝ }
 {
     if flag == 0 {
         return false;
     }
-    let row = find_from(lens, ids, size, cap, start, count, from, id);
-    row < count
+    let row = find_from(lens, ids, size, ring, from, id);
+    row < ring.count
 }
 
 // Whether no id stands in two rows. From the newest to the oldest: equal ids have one bucket, so an id is looked for in the later rows only where
 // its bucket has been met.
-pub fn ids_differ(
-    lens: &[u8],
-    ids: &[u8],
-    size: usize,
-    cap: usize,
-    start: usize,
-    count: usize,
-) -> bool
-    requires { ⌜ Sound size cap start count (now lens) (now ids) ⌝ }
-    ensures { λ r. ⌜ r ≡ distinct (idsIn size cap start count (now (lens .entry)) (now (ids .entry))) ⌝ }
+pub fn ids_differ(lens: &[u8], ids: &[u8], size: usize, ring: Ring) -> bool
+    requires { ⌜ Sound size ring (now lens) (now ids) ⌝ }
+    ensures { λ r. ⌜ r ≡ distinct (idsIn size ring (now (lens .entry)) (now (ids .entry))) ⌝ }
 {
-    let mut met = [0u8; 4096];
-    let mut i = count;
+    let mut met = [0u8; BUCKETS];
+    let mut i = ring.count;
     while 0 < i {
         let next = i;
         i = i - 1;
-        let p = place(cap, start, i);
+        let p = place(ring, i);
         let base = p * size;
         let end = base + lens[p] as usize;
         let id = &ids[base..end];
         let b = bucket(id);
-        if again(lens, ids, size, cap, start, count, next, id, met[b]) {
+        if again(lens, ids, size, ring, next, id, met[b]) {
             return false;
         }
         met[b] = 1;

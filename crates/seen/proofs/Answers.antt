@@ -9,7 +9,7 @@ use borrow.Author.Tests.{eq-eqb, ne-eqb, le-leb, lt-leb, lt-ltb, le-ltb}
 use Rattle.basis.specs.Cases.{clash}
 use Rattle.rows.specs.Rows.{placeOf}
 use Rattle.rows.specs.Ids.{distinct}
-use Rattle.rows.specs.Store.{Ring, Sound, idsIn, lensIn, allUpTo}
+use Rattle.rows.specs.Store.{InStore, Sound, idsIn, inUse, allUpTo}
 use Rattle.rows.specs.StoreLaws.{short-in}
 use Rattle.seen.specs.declared.SeenCache.{SeenCache}
 use Rattle.seen.specs.declared.Lent.the-variants as lent
@@ -19,65 +19,65 @@ use Rattle.seen.specs.declared.Contains.the-variants as contains
 use Rattle.seen.specs.declared.Gc.the-variants as gc
 use Rattle.seen.specs.declared.NextExpiry.the-variants as next
 use Rattle.seen.specs.Entries.{until}
-use Rattle.seen.specs.State.{wellFormed}
+use Rattle.seen.specs.State.{wellFormed, idSize, maxIds, ringOf}
 use Rattle.seen.specs.Calls.{capOf, wholeRows, lentOf, heldIn, cleaned, entered, enteredStore, insertAnswer, insertCache, insertStore, containsAnswer, gcAnswer, gcCache, nextAnswer}
 use Rattle.seen.specs.Laws.{lent-sound, not-fresh-stays}
 
 -- ---- the lent state
 module _ (c : SeenCache) (st : List ℕ) where
-  pub lent-part : (length st % 129 ≡ 0 → ⊥) → lent.BadStore ≡ lentOf c st
+  pub lent-part : (length st % idSize ≡ 0 → ⊥) → lent.BadStore ≡ lentOf c st
   unfolding lentOf wholeRows
-  lent-part h = simp (ne-eqb (length st % 129) 0 h)
+  lent-part h = simp (ne-eqb (length st % idSize) 0 h)
 
-  pub lent-many : length st % 129 ≡ 0 → 256 < length st / 129 → lent.BadStore ≡ lentOf c st
+  pub lent-many : length st % idSize ≡ 0 → maxIds < length st / idSize → lent.BadStore ≡ lentOf c st
   unfolding lentOf wholeRows capOf
-  lent-many h k = simp (eq-eqb (length st % 129) 0 h, lt-leb (length st / 129) 256 k)
+  lent-many h k = simp (eq-eqb (length st % idSize) 0 h, lt-leb (length st / idSize) maxIds k)
 
-  module _ (w : length st % 129 ≡ 0) (f : length st / 129 ≤ 256) where
+  module _ (w : length st % idSize ≡ 0) (f : length st / idSize ≤ maxIds) where
     whole : wholeRows st ≡ true
     unfolding wholeRows capOf
-    whole = simp (eq-eqb (length st % 129) 0 w, le-leb (length st / 129) 256 f)
+    whole = simp (eq-eqb (length st % idSize) 0 w, le-leb (length st / idSize) maxIds f)
 
-    pub lent-start : length st / 129 < c .start → lent.Malformed ≡ lentOf c st
+    pub lent-start : length st / idSize < c .start → lent.Malformed ≡ lentOf c st
     unfolding lentOf wellFormed capOf
-    lent-start h = simp (whole, lt-leb (c .start) (length st / 129) h)
+    lent-start h = simp (whole, lt-leb (c .start) (length st / idSize) h)
 
-    module _ (a : c .start ≤ length st / 129) where
-      pub lent-count : length st / 129 < c .count → lent.Malformed ≡ lentOf c st
+    module _ (a : c .start ≤ length st / idSize) where
+      pub lent-count : length st / idSize < c .count → lent.Malformed ≡ lentOf c st
       unfolding lentOf wellFormed capOf
-      lent-count h = simp (whole, le-leb (c .start) (length st / 129) a, lt-leb (c .count) (length st / 129) h)
+      lent-count h = simp (whole, le-leb (c .start) (length st / idSize) a, lt-leb (c .count) (length st / idSize) h)
 
-      module _ (b : c .count ≤ length st / 129) where
-        pub lent-ring : length (c .len) ≡ 256 → Ring (length st / 129) (c .start) (c .count) (c .len)
+      module _ (b : c .count ≤ length st / idSize) where
+        pub lent-ring : length (c .len) ≡ maxIds → InStore (ringOf (length st / idSize) c) (c .len)
         lent-ring z = record { starts = a; within = b; size = omega arith }
 
-        pub lent-long : allUpTo 129 (lensIn (length st / 129) (c .start) (c .count) (c .len)) ≡ false → lent.Malformed ≡ lentOf c st
+        pub lent-long : allUpTo idSize (inUse (ringOf (length st / idSize) c) (c .len)) ≡ false → lent.Malformed ≡ lentOf c st
         unfolding lentOf wellFormed capOf
-        lent-long h = simp (whole, le-leb (c .start) (length st / 129) a, le-leb (c .count) (length st / 129) b, h)
+        lent-long h = simp (whole, le-leb (c .start) (length st / idSize) a, le-leb (c .count) (length st / idSize) b, h)
 
-        module _ (s : allUpTo 129 (lensIn (length st / 129) (c .start) (c .count) (c .len)) ≡ true) where
-          pub lent-rows : length (c .len) ≡ 256 → Sound 129 (length st / 129) (c .start) (c .count) (c .len) st
+        module _ (s : allUpTo idSize (inUse (ringOf (length st / idSize) c) (c .len)) ≡ true) where
+          pub lent-rows : length (c .len) ≡ maxIds → Sound idSize (ringOf (length st / idSize) c) (c .len) st
           lent-rows z =
               record {
                 rows = lent-ring z;
                 room = omega arith;
-                short = short-in 129 (c .len) (length st / 129) (c .start) (c .count) s;
+                short = short-in idSize (c .len) (ringOf (length st / idSize) c) s;
               }
 
-          pub lent-twice : distinct (idsIn 129 (length st / 129) (c .start) (c .count) (c .len) st) ≡ false → lent.Malformed ≡ lentOf c st
+          pub lent-twice : distinct (idsIn idSize (ringOf (length st / idSize) c) (c .len) st) ≡ false → lent.Malformed ≡ lentOf c st
           unfolding lentOf wellFormed capOf
-          lent-twice h = simp (whole, le-leb (c .start) (length st / 129) a, le-leb (c .count) (length st / 129) b, s, h)
+          lent-twice h = simp (whole, le-leb (c .start) (length st / idSize) a, le-leb (c .count) (length st / idSize) b, s, h)
 
-          pub lent-fine : distinct (idsIn 129 (length st / 129) (c .start) (c .count) (c .len) st) ≡ true → lent.Fine ≡ lentOf c st
+          pub lent-fine : distinct (idsIn idSize (ringOf (length st / idSize) c) (c .len) st) ≡ true → lent.Fine ≡ lentOf c st
           unfolding lentOf wellFormed capOf
-          lent-fine h = simp (whole, le-leb (c .start) (length st / 129) a, le-leb (c .count) (length st / 129) b, s, h)
+          lent-fine h = simp (whole, le-leb (c .start) (length st / idSize) a, le-leb (c .count) (length st / idSize) b, s, h)
 
   -- a state that was tested
-  pub tested : lent.Fine ≡ lentOf c st → length (c .expiry) ≡ 256 → length (c .len) ≡ 256 → Sound 129 (length st / 129) (c .start) (c .count) (c .len) st
+  pub tested : lent.Fine ≡ lentOf c st → length (c .expiry) ≡ maxIds → length (c .len) ≡ maxIds → Sound idSize (ringOf (length st / idSize) c) (c .len) st
   unfolding capOf
   tested h y z = lent-sound c st (sym h) (y, z)
 
-  pub tested-ring : lent.Fine ≡ lentOf c st → length (c .expiry) ≡ 256 → length (c .len) ≡ 256 → Ring (length st / 129) (c .start) (c .count) (c .expiry)
+  pub tested-ring : lent.Fine ≡ lentOf c st → length (c .expiry) ≡ maxIds → length (c .len) ≡ maxIds → InStore (ringOf (length st / idSize) c) (c .expiry)
   tested-ring h y z =
       let r = tested h y z .rows in
       record { starts = r .starts; within = r .within; size = omega (arith, r .size) }
@@ -93,17 +93,17 @@ module _ (c : SeenCache) (st id : List ℕ) where
   contains-malformed e = rw (← e)
 
   module _ (e : lent.Fine ≡ lentOf c st) where
-    pub contains-long : 129 < length id → contains.TooLong (length id) ≡ containsAnswer c st id
+    pub contains-long : idSize < length id → contains.TooLong (length id) ≡ containsAnswer c st id
     unfolding containsAnswer
-    contains-long h = rw (← e, lt-ltb 129 (length id) h)
+    contains-long h = rw (← e, lt-ltb idSize (length id) h)
 
-    pub contains-yes : length id ≤ 129 → heldIn (length st / 129) c st id ≡ true → contains.Yes ≡ containsAnswer c st id
+    pub contains-yes : length id ≤ idSize → heldIn (length st / idSize) c st id ≡ true → contains.Yes ≡ containsAnswer c st id
     unfolding containsAnswer capOf
-    contains-yes h k = rw (← e, le-ltb 129 (length id) h, k)
+    contains-yes h k = rw (← e, le-ltb idSize (length id) h, k)
 
-    pub contains-no : length id ≤ 129 → heldIn (length st / 129) c st id ≡ false → contains.No ≡ containsAnswer c st id
+    pub contains-no : length id ≤ idSize → heldIn (length st / idSize) c st id ≡ false → contains.No ≡ containsAnswer c st id
     unfolding containsAnswer capOf
-    contains-no h k = rw (← e, le-ltb 129 (length id) h, k)
+    contains-no h k = rw (← e, le-ltb idSize (length id) h, k)
 
 -- ---- clean-up
 module _ (at : ℕ) (c : SeenCache) (st : List ℕ) where
@@ -115,7 +115,7 @@ module _ (at : ℕ) (c : SeenCache) (st : List ℕ) where
   unfolding gcAnswer gcCache
   gc-malformed e = (rw (← e), rw (← e))
 
-  pub gc-left : lent.Fine ≡ lentOf c st → (r : SeenCache) → r ≡ cleaned (length st / 129) at c → (gc.Left (r .count) ≡ gcAnswer at c st) × (r ≡ gcCache at c st)
+  pub gc-left : lent.Fine ≡ lentOf c st → (r : SeenCache) → r ≡ cleaned (length st / idSize) at c → (gc.Left (r .count) ≡ gcAnswer at c st) × (r ≡ gcCache at c st)
   unfolding gcAnswer gcCache capOf
   gc-left e r h = (rw (← e) (ap (λ (x : SeenCache). gc.Left (x .count)) h), rw (← e) h)
 
@@ -133,37 +133,37 @@ module _ (c : SeenCache) (st : List ℕ) where
   unfolding nextAnswer
   next-none e h = rw (← e, eq-eqb (c .count) 0 h)
 
-  pub next-at : lent.Fine ≡ lentOf c st → (c .count ≡ 0 → ⊥) → (p : ℕ) → p ≡ placeOf (length st / 129) (c .start) 0 → next.At (getD (c .expiry) p 0) ≡ nextAnswer c st
+  pub next-at : lent.Fine ≡ lentOf c st → (c .count ≡ 0 → ⊥) → (p : ℕ) → p ≡ placeOf (ringOf (length st / idSize) c) 0 → next.At (getD (c .expiry) p 0) ≡ nextAnswer c st
   unfolding nextAnswer capOf
   next-at e h p k = rw (← e, ne-eqb (c .count) 0 h, k)
 
 -- ---- insert
 module _ (max : ℕ) (c : SeenCache) (st id : List ℕ) where
-  says-setting : length st / 129 < max → insertAnswer max c st id ≡ insert.BadSetting
+  says-setting : length st / idSize < max → insertAnswer max c st id ≡ insert.BadSetting
   unfolding insertAnswer capOf
-  says-setting h = simp (lt-ltb (length st / 129) max h)
+  says-setting h = simp (lt-ltb (length st / idSize) max h)
 
-  module _ (m : max ≤ length st / 129) where
+  module _ (m : max ≤ length st / idSize) where
     says-store : lent.BadStore ≡ lentOf c st → insertAnswer max c st id ≡ insert.BadStore
     unfolding insertAnswer capOf
-    says-store e = rw (le-ltb (length st / 129) max m, ← e)
+    says-store e = rw (le-ltb (length st / idSize) max m, ← e)
 
     says-malformed : lent.Malformed ≡ lentOf c st → insertAnswer max c st id ≡ insert.Malformed
     unfolding insertAnswer capOf
-    says-malformed e = rw (le-ltb (length st / 129) max m, ← e)
+    says-malformed e = rw (le-ltb (length st / idSize) max m, ← e)
 
     module _ (e : lent.Fine ≡ lentOf c st) where
-      says-long : 129 < length id → insertAnswer max c st id ≡ insert.TooLong (length id)
+      says-long : idSize < length id → insertAnswer max c st id ≡ insert.TooLong (length id)
       unfolding insertAnswer capOf
-      says-long h = rw (le-ltb (length st / 129) max m, ← e, lt-ltb 129 (length id) h)
+      says-long h = rw (le-ltb (length st / idSize) max m, ← e, lt-ltb idSize (length id) h)
 
-      says-held : length id ≤ 129 → heldIn (length st / 129) c st id ≡ true → insertAnswer max c st id ≡ insert.Held
+      says-held : length id ≤ idSize → heldIn (length st / idSize) c st id ≡ true → insertAnswer max c st id ≡ insert.Held
       unfolding insertAnswer capOf
-      says-held h k = rw (le-ltb (length st / 129) max m, ← e, le-ltb 129 (length id) h, k)
+      says-held h k = rw (le-ltb (length st / idSize) max m, ← e, le-ltb idSize (length id) h, k)
 
-      says-fresh : length id ≤ 129 → heldIn (length st / 129) c st id ≡ false → insertAnswer max c st id ≡ insert.Fresh
+      says-fresh : length id ≤ idSize → heldIn (length st / idSize) c st id ≡ false → insertAnswer max c st id ≡ insert.Fresh
       unfolding insertAnswer capOf
-      says-fresh h k = rw (le-ltb (length st / 129) max m, ← e, le-ltb 129 (length id) h, k)
+      says-fresh h k = rw (le-ltb (length st / idSize) max m, ← e, le-ltb idSize (length id) h, k)
 
 -- the answer, the cache and the store that an insert leaves
 abbrev Leaves : (max at ttl : ℕ) (c : SeenCache) (st id : List ℕ) → Insert → SeenCache → List ℕ → Type 0
@@ -173,10 +173,10 @@ module _ (max at ttl : ℕ) (c : SeenCache) (st id : List ℕ) where
   leaves : (a : Insert) → insertAnswer max c st id ≡ a → (a ≡ insert.Fresh → ⊥) → Leaves max at ttl c st id a c st
   leaves a e n = let k = not-fresh-stays max at ttl c st id a e n in (sym e, sym (k .0), sym (k .1))
 
-  pub insert-setting : length st / 129 < max → Leaves max at ttl c st id insert.BadSetting c st
+  pub insert-setting : length st / idSize < max → Leaves max at ttl c st id insert.BadSetting c st
   insert-setting h = leaves insert.BadSetting (says-setting max c st id h) (λ e. clash (cc))
 
-  module _ (m : max ≤ length st / 129) where
+  module _ (m : max ≤ length st / idSize) where
     pub insert-store : lent.BadStore ≡ lentOf c st → Leaves max at ttl c st id insert.BadStore c st
     insert-store h = leaves insert.BadStore (says-store max c st id m h) (λ e. clash (cc))
 
@@ -184,15 +184,15 @@ module _ (max at ttl : ℕ) (c : SeenCache) (st id : List ℕ) where
     insert-malformed h = leaves insert.Malformed (says-malformed max c st id m h) (λ e. clash (cc))
 
     module _ (f : lent.Fine ≡ lentOf c st) where
-      pub insert-long : 129 < length id → Leaves max at ttl c st id (insert.TooLong (length id)) c st
+      pub insert-long : idSize < length id → Leaves max at ttl c st id (insert.TooLong (length id)) c st
       insert-long h = leaves (insert.TooLong (length id)) (says-long max c st id m f h) (λ e. clash (cc))
 
-      pub insert-held : length id ≤ 129 → heldIn (length st / 129) c st id ≡ true → Leaves max at ttl c st id insert.Held c st
+      pub insert-held : length id ≤ idSize → heldIn (length st / idSize) c st id ≡ true → Leaves max at ttl c st id insert.Held c st
       insert-held h k = leaves insert.Held (says-held max c st id m f h k) (λ e. clash (cc))
 
-      pub insert-fresh : length id ≤ 129 → heldIn (length st / 129) c st id ≡ false → (u : ℕ) → u ≡ until at ttl → (r : SeenCache) (st2 : List ℕ)
-          → r ≡ entered (length st / 129) max (length id) u c → st2 ≡ enteredStore (length st / 129) max c st id → Leaves max at ttl c st id insert.Fresh r st2
+      pub insert-fresh : length id ≤ idSize → heldIn (length st / idSize) c st id ≡ false → (u : ℕ) → u ≡ until at ttl → (r : SeenCache) (st2 : List ℕ)
+          → r ≡ entered (length st / idSize) max (length id) u c → st2 ≡ enteredStore (length st / idSize) max c st id → Leaves max at ttl c st id insert.Fresh r st2
       unfolding insertCache insertStore capOf
       insert-fresh h k u eu r st2 er es =
           let e = says-fresh max c st id m f h k in
-          (sym e, rw e (er ∙ ap (λ (x : ℕ). entered (length st / 129) max (length id) x c) eu), rw e es)
+          (sym e, rw e (er ∙ ap (λ (x : ℕ). entered (length st / idSize) max (length id) x c) eu), rw e es)

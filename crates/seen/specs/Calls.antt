@@ -8,7 +8,7 @@ use lib.Seq.{sets}
 use lib.Dec.{leb, ltb, eqb}
 use Rattle.rows.specs.Rows.{placeOf}
 use Rattle.rows.specs.Ids.{among}
-use Rattle.rows.specs.Store.{idsIn, lensIn}
+use Rattle.rows.specs.Store.{idsIn, inUse}
 use Rattle.seen.specs.declared.SeenCache.{SeenCache}
 use Rattle.seen.specs.declared.Lent.{Lent}
 use Rattle.seen.specs.declared.Lent.the-variants as lent
@@ -21,7 +21,7 @@ use Rattle.seen.specs.declared.Gc.the-variants as gc
 use Rattle.seen.specs.declared.NextExpiry.{NextExpiry}
 use Rattle.seen.specs.declared.NextExpiry.the-variants as next
 use Rattle.seen.specs.Entries.{until}
-use Rattle.seen.specs.State.{wellFormed, spent, dropped, appended}
+use Rattle.seen.specs.State.{wellFormed, spent, dropped, appended, idSize, maxIds, ringOf}
 
 -- ---- 01's numbers and values
 abbrev pub lentNumber : Lent → ℕ
@@ -73,21 +73,21 @@ nextNumber next.Malformed = 42
 -- ---- the lent state: 41, 42
 -- how many places a store has
 unfoldable pub capOf : List ℕ → ℕ
-capOf st = length st / 129
+capOf st = length st / idSize
 
 -- whole rows, and at most 256
 unfoldable pub wholeRows : List ℕ → Bool
-wholeRows st = eqb (length st % 129) 0 && leb (capOf st) 256
+wholeRows st = eqb (length st % idSize) 0 && leb (capOf st) maxIds
 
 unfoldable pub lentOf : SeenCache → List ℕ → Lent
 lentOf c st = cond (wholeRows st) (cond (wellFormed (capOf st) c st) lent.Fine lent.Malformed) lent.BadStore
 
 -- ---- the calls on a state that was tested
 unfoldable pub heldIn : ℕ → SeenCache → List ℕ → List ℕ → Bool
-heldIn cap c st id = among id (idsIn 129 cap (c .start) (c .count) (c .len) st)
+heldIn cap c st id = among id (idsIn idSize (ringOf cap c) (c .len) st)
 
 unfoldable pub cleaned : ℕ → ℕ → SeenCache → SeenCache
-cleaned cap at c = dropped cap (spent at (lensIn cap (c .start) (c .count) (c .expiry))) c
+cleaned cap at c = dropped cap (spent at (inUse (ringOf cap c) (c .expiry))) c
 
 -- the oldest leave, so that with one more at most `max` remain; then a row for an id of n bytes. With max 0 all leave, and none comes.
 unfoldable pub entered : ℕ → ℕ → ℕ → ℕ → SeenCache → SeenCache
@@ -97,7 +97,7 @@ entered cap max n e c = cond (eqb max 0) (dropped cap (c .count) c) (appended ca
 unfoldable pub enteredStore : ℕ → ℕ → SeenCache → List ℕ → List ℕ → List ℕ
 enteredStore cap max c st id =
     cond (eqb max 0) st
-    (let d = dropped cap ((c .count + 1) - max) c in sets st (placeOf cap (d .start) (d .count) * 129) id)
+    (let d = dropped cap ((c .count + 1) - max) c in sets st (placeOf (ringOf cap d) (d .count) * idSize) id)
 
 -- ---- insert: 40, 41, 42, 33
 abbrev pub insertOn : Lent → Insert → Insert
@@ -108,7 +108,7 @@ insertOn lent.Malformed r = insert.Malformed
 unfoldable pub insertAnswer : ℕ → SeenCache → List ℕ → List ℕ → Insert
 insertAnswer max c st id =
     cond (ltb (capOf st) max) insert.BadSetting
-    (insertOn (lentOf c st) (cond (ltb 129 (length id)) (insert.TooLong (length id)) (cond (heldIn (capOf st) c st id) insert.Held insert.Fresh)))
+    (insertOn (lentOf c st) (cond (ltb idSize (length id)) (insert.TooLong (length id)) (cond (heldIn (capOf st) c st id) insert.Held insert.Fresh)))
 
 -- only a fresh id changes anything
 abbrev pub whenFresh : {A : Type 0} → Insert → A → A → A
@@ -133,7 +133,7 @@ containsOn lent.Malformed r = contains.Malformed
 
 unfoldable pub containsAnswer : SeenCache → List ℕ → List ℕ → Contains
 containsAnswer c st id =
-    containsOn (lentOf c st) (cond (ltb 129 (length id)) (contains.TooLong (length id)) (cond (heldIn (capOf st) c st id) contains.Yes contains.No))
+    containsOn (lentOf c st) (cond (ltb idSize (length id)) (contains.TooLong (length id)) (cond (heldIn (capOf st) c st id) contains.Yes contains.No))
 
 -- ---- clean-up: 41, 42
 abbrev pub whenFine : {A : Type 0} → Lent → A → A → A
@@ -159,4 +159,4 @@ nextOn lent.BadStore r = next.BadStore
 nextOn lent.Malformed r = next.Malformed
 
 unfoldable pub nextAnswer : SeenCache → List ℕ → NextExpiry
-nextAnswer c st = nextOn (lentOf c st) (cond (eqb (c .count) 0) next.None (next.At (getD (c .expiry) (placeOf (capOf st) (c .start) 0) 0)))
+nextAnswer c st = nextOn (lentOf c st) (cond (eqb (c .count) 0) next.None (next.At (getD (c .expiry) (placeOf (ringOf (capOf st) c) 0) 0)))

@@ -13,11 +13,11 @@ use Rattle.rows.specs.Rows.{placeOf, newest}
 use Rattle.rows.specs.RowsLaws.{place-differs, length-ring, ring-drop, ring-more, map-ring}
 use Rattle.rows.specs.RowsLaws.{newest-more}
 use Rattle.rows.specs.Ids.{among}
-use Rattle.rows.specs.Store.{idsIn, lensIn, Sound}
+use Rattle.rows.specs.Store.{idsIn, inUse, Sound}
 use Rattle.rows.specs.StoreLaws.{id-kept, id-put, free-within, sound-more}
 use Rattle.seen.specs.declared.SeenCache.{SeenCache}
 use Rattle.seen.specs.Entries.{Entry, idsOf, holds, until, inserted, live}
-use Rattle.seen.specs.State.{rowAt, entriesIn, spent, dropped, appended}
+use Rattle.seen.specs.State.{rowAt, entriesIn, spent, dropped, appended, idSize, ringOf}
 use Rattle.seen.specs.StateLaws.{spent-in, sound-dropped}
 use Rattle.seen.specs.Calls.{heldIn, cleaned, entered, enteredStore}
 use Rattle.seen.specs.WellFormed.{Sized}
@@ -26,15 +26,15 @@ use Rattle.seen.specs.WellFormed.{Sized}
 module _ (cap : ℕ) (c : SeenCache) (st : List ℕ) where
   pub length-entries : length (entriesIn cap c st) ≡ c .count
   unfolding entriesIn
-  length-entries = length-ring (rowAt c st) cap (c .start) (c .count)
+  length-entries = length-ring (rowAt c st) (ringOf cap c)
 
-  pub ids-entries : idsOf (entriesIn cap c st) ≡ idsIn 129 cap (c .start) (c .count) (c .len) st
+  pub ids-entries : idsOf (entriesIn cap c st) ≡ idsIn idSize (ringOf cap c) (c .len) st
   unfolding entriesIn idsIn rowAt
-  ids-entries = map-ring (λ (e : Entry). e .id) (rowAt c st) cap (c .start) (c .count)
+  ids-entries = map-ring (λ (e : Entry). e .id) (rowAt c st) (ringOf cap c)
 
-  pub expiries-entries : map (λ (e : Entry). e .expiry) (entriesIn cap c st) ≡ lensIn cap (c .start) (c .count) (c .expiry)
-  unfolding entriesIn lensIn rowAt
-  expiries-entries = map-ring (λ (e : Entry). e .expiry) (rowAt c st) cap (c .start) (c .count)
+  pub expiries-entries : map (λ (e : Entry). e .expiry) (entriesIn cap c st) ≡ inUse (ringOf cap c) (c .expiry)
+  unfolding entriesIn inUse rowAt
+  expiries-entries = map-ring (λ (e : Entry). e .expiry) (rowAt c st) (ringOf cap c)
 
   pub holds-entries : (id : List ℕ) → holds id (entriesIn cap c st) ≡ heldIn cap c st id
   unfolding holds heldIn
@@ -43,37 +43,37 @@ module _ (cap : ℕ) (c : SeenCache) (st : List ℕ) where
 -- ---- without the k oldest
 pub entries-dropped : (cap k : ℕ) (c : SeenCache) (st : List ℕ) → c .start ≤ cap → c .count ≤ cap → k ≤ c .count → entriesIn cap (dropped cap k c) st ≡ drop k (entriesIn cap c st)
 unfolding entriesIn dropped rowAt
-entries-dropped cap k c st a b h = ring-drop (rowAt c st) cap (c .start) (c .count) k a b h
+entries-dropped cap k c st a b h = ring-drop (rowAt c st) (ringOf cap c) k a b h
 
 -- ---- with a row more
-module _ (cap : ℕ) (c : SeenCache) (st id : List ℕ) (e : ℕ) (s : Sound 129 cap (c .start) (c .count) (c .len) st) (z : Sized c) (h : c .count < cap) (k : length id ≤ 129) where
+module _ (cap : ℕ) (c : SeenCache) (st id : List ℕ) (e : ℕ) (s : Sound idSize (ringOf cap c) (c .len) st) (z : Sized c) (h : c .count < cap) (k : length id ≤ idSize) where
   abbrev q : ℕ
-  q = placeOf cap (c .start) (c .count)
+  q = placeOf (ringOf cap c) (c .count)
 
-  kept-row : (i : ℕ) → i < c .count → rowAt (appended cap (length id) e c) (sets st (q * 129) id) (placeOf cap (c .start) i) ≡ rowAt c st (placeOf cap (c .start) i)
+  kept-row : (i : ℕ) → i < c .count → rowAt (appended cap (length id) e c) (sets st (q * idSize) id) (placeOf (ringOf cap c) i) ≡ rowAt c st (placeOf (ringOf cap c) i)
   unfolding rowAt appended
   kept-row i j =
-      let other = place-differs cap (c .start) i (c .count) (s .rows .starts) j h in
-      rw (id-kept 129 (c .len) st id q k (placeOf cap (c .start) i) other (s .short i j), getD-set-other (c .expiry) q (placeOf cap (c .start) i) e 0 other)
+      let other = place-differs (ringOf cap c) i (c .count) (s .rows .starts) j h in
+      rw (id-kept idSize (c .len) st id q k (placeOf (ringOf cap c) i) other (s .short i j), getD-set-other (c .expiry) q (placeOf (ringOf cap c) i) e 0 other)
 
-  new-row : rowAt (appended cap (length id) e c) (sets st (q * 129) id) q ≡ record { id = id; expiry = e }
+  new-row : rowAt (appended cap (length id) e c) (sets st (q * idSize) id) q ≡ record { id = id; expiry = e }
   unfolding rowAt appended
   new-row =
-      let b = free-within 129 cap (c .start) (c .count) (c .len) st s h (length id) q k refl in
-      rw (id-put 129 (c .len) st id q (b .0) (b .1), getD-set-same (c .expiry) q e 0 (omega arith))
+      let b = free-within idSize (ringOf cap c) (c .len) st s h (length id) q k refl in
+      rw (id-put idSize (c .len) st id q (b .0) (b .1), getD-set-same (c .expiry) q e 0 (omega arith))
 
-  pub entries-appended : entriesIn cap (appended cap (length id) e c) (sets st (q * 129) id) ≡ entriesIn cap c st ++ (record { id = id; expiry = e } ∷ [])
+  pub entries-appended : entriesIn cap (appended cap (length id) e c) (sets st (q * idSize) id) ≡ entriesIn cap c st ++ (record { id = id; expiry = e } ∷ [])
   unfolding entriesIn appended
   entries-appended =
-      ring-more (rowAt c st) cap (c .start) (c .count) (rowAt (appended cap (length id) e c) (sets st (q * 129) id)) kept-row
+      ring-more (rowAt c st) (ringOf cap c) (rowAt (appended cap (length id) e c) (sets st (q * idSize) id)) kept-row
       ∙ ap (λ (x : Entry). entriesIn cap c st ++ (x ∷ [])) new-row
 
-  pub sound-appended : Sound 129 cap (appended cap (length id) e c .start) (appended cap (length id) e c .count) (appended cap (length id) e c .len) (sets st (q * 129) id)
+  pub sound-appended : Sound idSize (ringOf cap (appended cap (length id) e c)) (appended cap (length id) e c .len) (sets st (q * idSize) id)
   unfolding appended
-  sound-appended = sound-more 129 cap (c .start) (c .count) (c .len) st s h id k
+  sound-appended = sound-more idSize (ringOf cap c) (c .len) st s h id k
 
 -- ---- an id that is not held
-module _ (cap max : ℕ) (c : SeenCache) (st id : List ℕ) (e : ℕ) (s : Sound 129 cap (c .start) (c .count) (c .len) st) (z : Sized c) (m : max ≤ cap) (k : length id ≤ 129) where
+module _ (cap max : ℕ) (c : SeenCache) (st id : List ℕ) (e : ℕ) (s : Sound idSize (ringOf cap c) (c .len) st) (z : Sized c) (m : max ≤ cap) (k : length id ≤ idSize) where
   abbrev left : ℕ
   left = (c .count + 1) - max
 
@@ -84,7 +84,7 @@ module _ (cap max : ℕ) (c : SeenCache) (st id : List ℕ) (e : ℕ) (s : Sound
     left-in : left ≤ c .count
     left-in = omega (arith, some)
 
-    rest-sound : Sound 129 cap (rest .start) (rest .count) (rest .len) st
+    rest-sound : Sound idSize (ringOf cap rest) (rest .len) st
     rest-sound = sound-dropped cap left c st s left-in
 
     rest-room : rest .count < cap
@@ -95,7 +95,7 @@ module _ (cap max : ℕ) (c : SeenCache) (st id : List ℕ) (e : ℕ) (s : Sound
     unfolding dropped
     rest-sized = z
 
-  pub sound-entered : Sound 129 cap (entered cap max (length id) e c .start) (entered cap max (length id) e c .count) (entered cap max (length id) e c .len) (enteredStore cap max c st id)
+  pub sound-entered : Sound idSize (ringOf cap (entered cap max (length id) e c)) (entered cap max (length id) e c .len) (enteredStore cap max c st id)
   unfolding entered enteredStore
   sound-entered =
       either (eqb max 0)
@@ -136,7 +136,7 @@ live-drop at (e ∷ es) = either (leb (e .expiry) at) (λ t. simp t (live-drop a
 pub entries-cleaned : (cap at : ℕ) (c : SeenCache) (st : List ℕ) → c .start ≤ cap → c .count ≤ cap → entriesIn cap (cleaned cap at c) st ≡ live at (entriesIn cap c st)
 unfolding cleaned
 entries-cleaned cap at c st a b =
-    entries-dropped cap (spent at (lensIn cap (c .start) (c .count) (c .expiry))) c st a b (spent-in at cap (c .start) (c .count) (c .expiry))
+    entries-dropped cap (spent at (inUse (ringOf cap c) (c .expiry))) c st a b (spent-in at (ringOf cap c) (c .expiry))
     ∙ sym (live-drop at (entriesIn cap c st) ∙ ap (λ (l : List ℕ). drop (spent at l) (entriesIn cap c st)) (expiries-entries cap c st))
 
 -- ---- a later reading expires later; and a reading within ttl, below the last, comes before

@@ -12,11 +12,11 @@ use lib.Seq.{length-sets}
 use lib.Dec.{leb, ltb, eqb}
 use borrow.Author.Tests.{leb-true, eqb-true, le-leb, eq-eqb, ne-eqb, le-ltb, ltb-false}
 use Rattle.basis.specs.Cases.{either, clash, both}
-use Rattle.rows.specs.Rows.{placeOf, ring, newest}
+use Rattle.rows.specs.Rows.{placeOf, rowsIn, newest, tab}
 use Rattle.rows.specs.ListLaws.{map-drop}
 use Rattle.rows.specs.Ids.{among, distinct}
 use Rattle.rows.specs.IdsLaws.{distinct-drop, distinct-snoc}
-use Rattle.rows.specs.Store.{idsIn, lensIn, allUpTo, Sound}
+use Rattle.rows.specs.Store.{idsIn, inUse, allUpTo, Sound}
 use Rattle.rows.specs.StoreLaws.{short-in, short-all, once-in, all-once}
 use Rattle.seen.specs.declared.SeenCache.{SeenCache}
 use Rattle.seen.specs.declared.Lent.{Lent}
@@ -28,7 +28,7 @@ use Rattle.seen.specs.declared.Gc.the-variants as gc
 use Rattle.seen.specs.declared.NextExpiry.{NextExpiry}
 use Rattle.seen.specs.declared.NextExpiry.the-variants as next
 use Rattle.seen.specs.Entries.{Entry, idsOf, holds, until, inserted, live, frontExpiry}
-use Rattle.seen.specs.State.{entriesIn, rowAt, wellFormed, spent, fresh, dropped}
+use Rattle.seen.specs.State.{entriesIn, rowAt, wellFormed, spent, fresh, dropped, idSize, maxIds, ringOf}
 use Rattle.seen.specs.StateLaws.{spent-in, sound-dropped}
 use Rattle.seen.specs.EntriesLaws.{length-entries, ids-entries, holds-entries, entries-dropped, entries-entered, sound-entered, sized-entered, entries-cleaned}
 use Rattle.seen.specs.Calls.{capOf, wholeRows, lentOf, heldIn, cleaned, entered, enteredStore, insertNumber, insertAnswer, insertCache, insertStore, containsAnswer, gcNumber, gcAnswer, gcCache, nextAnswer}
@@ -42,33 +42,33 @@ fine-tests c st h =
     (λ t. either (wellFormed (capOf st) c st) (λ u. (t, u)) (λ u. clash (let z = simp (t, u) at h in cc)))
     (λ t. clash (let z = simp t at h in cc))
 
-whole-room : (st : List ℕ) → wholeRows st ≡ true → (length st ≡ capOf st * 129) × (capOf st ≤ 256)
+whole-room : (st : List ℕ) → wholeRows st ≡ true → (length st ≡ capOf st * idSize) × (capOf st ≤ maxIds)
 unfolding wholeRows capOf
 whole-room st h =
-    let b = both (eqb (length st % 129) 0) (leb (length st / 129) 256) h in
-    let m = eqb-true (length st % 129) 0 (b .0) in
-    (omega arith, leb-true (length st / 129) 256 (b .1))
+    let b = both (eqb (length st % idSize) 0) (leb (length st / idSize) maxIds) h in
+    let m = eqb-true (length st % idSize) 0 (b .0) in
+    (omega arith, leb-true (length st / idSize) maxIds (b .1))
 
-rows-whole : (st : List ℕ) → length st ≡ capOf st * 129 → capOf st ≤ 256 → wholeRows st ≡ true
+rows-whole : (st : List ℕ) → length st ≡ capOf st * idSize → capOf st ≤ maxIds → wholeRows st ≡ true
 unfolding wholeRows capOf
-rows-whole st w f = simp (eq-eqb (length st % 129) 0 (omega arith), le-leb (length st / 129) 256 f)
+rows-whole st w f = simp (eq-eqb (length st % idSize) 0 (omega arith), le-leb (length st / idSize) maxIds f)
 
 record Tests (cap : ℕ) (c : SeenCache) (st : List ℕ) : Type 0 where
   starts : c .start ≤ cap
   within : c .count ≤ cap
-  short : allUpTo 129 (lensIn cap (c .start) (c .count) (c .len)) ≡ true
-  once : distinct (idsIn 129 cap (c .start) (c .count) (c .len) st) ≡ true
+  short : allUpTo idSize (inUse (ringOf cap c) (c .len)) ≡ true
+  once : distinct (idsIn idSize (ringOf cap c) (c .len) st) ≡ true
 
 tests : (cap : ℕ) (c : SeenCache) (st : List ℕ) → wellFormed cap c st ≡ true → Tests cap c st
 unfolding wellFormed
 tests cap c st h =
     let a = both (leb (c .start) cap) _ h in
     let b = both (leb (c .count) cap) _ (a .1) in
-    let d = both (allUpTo 129 (lensIn cap (c .start) (c .count) (c .len))) _ (b .1) in
+    let d = both (allUpTo idSize (inUse (ringOf cap c) (c .len))) _ (b .1) in
     record { starts = leb-true (c .start) cap (a .0); within = leb-true (c .count) cap (b .0); short = d .0; once = d .1 }
 
 -- a state that passes is sound
-pub lent-sound : (c : SeenCache) (st : List ℕ) → lentOf c st ≡ lent.Fine → Sized c → Sound 129 (capOf st) (c .start) (c .count) (c .len) st
+pub lent-sound : (c : SeenCache) (st : List ℕ) → lentOf c st ≡ lent.Fine → Sized c → Sound idSize (ringOf (capOf st) c) (c .len) st
 lent-sound c st h z =
     let f = fine-tests c st h in
     let w = whole-room st (f .0) in
@@ -76,12 +76,12 @@ lent-sound c st h z =
     record {
       rows = record { starts = t .starts; within = t .within; size = omega arith };
       room = omega arith;
-      short = short-in 129 (c .len) (capOf st) (c .start) (c .count) (t .short);
+      short = short-in idSize (c .len) (ringOf (capOf st) c) (t .short);
     }
 
 -- and what they ask is enough
 fine-of : (c : SeenCache) (st : List ℕ) → wholeRows st ≡ true → c .start ≤ capOf st → c .count ≤ capOf st
-    → allUpTo 129 (lensIn (capOf st) (c .start) (c .count) (c .len)) ≡ true → distinct (idsIn 129 (capOf st) (c .start) (c .count) (c .len) st) ≡ true → lentOf c st ≡ lent.Fine
+    → allUpTo idSize (inUse (ringOf (capOf st) c) (c .len)) ≡ true → distinct (idsIn idSize (ringOf (capOf st) c) (c .len) st) ≡ true → lentOf c st ≡ lent.Fine
 unfolding lentOf wellFormed
 fine-of c st w a b s d = simp (w, le-leb (c .start) (capOf st) a, le-leb (c .count) (capOf st) b, s, d)
 
@@ -102,18 +102,18 @@ abbrev pub nextOf : Option ℕ → NextExpiry
 nextOf none = next.None
 nextOf (some e) = next.At e
 
-front-of : (f : ℕ → Entry) (cap start count : ℕ) → cond (eqb count 0) next.None (next.At (f (placeOf cap start 0) .expiry)) ≡ nextOf (frontExpiry (ring f cap start count))
-unfolding ring frontExpiry
-front-of f cap start zero = refl
-front-of f cap start (suc n) = rw (ne-eqb (suc n) 0 (λ e. omega arith))
+front-of : (f : ℕ → Entry) (n : ℕ) → cond (eqb n 0) next.None (next.At (f 0 .expiry)) ≡ nextOf (frontExpiry (tab f n))
+unfolding frontExpiry
+front-of f zero = refl
+front-of f (suc n) = rw (ne-eqb (suc n) 0 (λ e. omega arith))
 
 module _ (c : SeenCache) (st : List ℕ) (fine : lentOf c st ≡ lent.Fine) where
   -- an id is held or fresh
-  pub insert-says : (max : ℕ) (id : List ℕ) → max ≤ capOf st → length id ≤ 129 → insertAnswer max c st id ≡ cond (holds id (entriesIn (capOf st) c st)) insert.Held insert.Fresh
+  pub insert-says : (max : ℕ) (id : List ℕ) → max ≤ capOf st → length id ≤ idSize → insertAnswer max c st id ≡ cond (holds id (entriesIn (capOf st) c st)) insert.Held insert.Fresh
   unfolding insertAnswer
-  insert-says max id m k = rw (le-ltb (capOf st) max m, fine, le-ltb 129 (length id) k, holds-entries (capOf st) c st id)
+  insert-says max id m k = rw (le-ltb (capOf st) max m, fine, le-ltb idSize (length id) k, holds-entries (capOf st) c st id)
 
-  pub insert-entries : Sized c → (max at ttl : ℕ) (id : List ℕ) → max ≤ capOf st → length id ≤ 129
+  pub insert-entries : Sized c → (max at ttl : ℕ) (id : List ℕ) → max ≤ capOf st → length id ≤ idSize
       → entriesIn (capOf st) (insertCache max at ttl c st id) (insertStore max c st id) ≡ inserted max id at ttl (entriesIn (capOf st) c st)
   unfolding insertCache insertStore inserted
   insert-entries z max at ttl id m k =
@@ -122,9 +122,9 @@ module _ (c : SeenCache) (st : List ℕ) (fine : lentOf c st ≡ lent.Fine) wher
       (λ t. rw (says, t))
       (λ t. rw (says, t) (entries-entered (capOf st) max c st id (until at ttl) (lent-sound c st fine z) z m k))
 
-  pub contains-says : (id : List ℕ) → length id ≤ 129 → containsAnswer c st id ≡ cond (holds id (entriesIn (capOf st) c st)) contains.Yes contains.No
+  pub contains-says : (id : List ℕ) → length id ≤ idSize → containsAnswer c st id ≡ cond (holds id (entriesIn (capOf st) c st)) contains.Yes contains.No
   unfolding containsAnswer
-  contains-says id k = rw (fine, le-ltb 129 (length id) k, holds-entries (capOf st) c st id)
+  contains-says id k = rw (fine, le-ltb idSize (length id) k, holds-entries (capOf st) c st id)
 
   pub gc-entries : (at : ℕ) → entriesIn (capOf st) (gcCache at c st) st ≡ live at (entriesIn (capOf st) c st)
   unfolding gcCache
@@ -140,8 +140,8 @@ module _ (c : SeenCache) (st : List ℕ) (fine : lentOf c st ≡ lent.Fine) wher
       rw fine (ap gc.Left (sym (length-entries (capOf st) (cleaned (capOf st) at c) st) ∙ ap length (entries-cleaned (capOf st) at c st (t .starts) (t .within))))
 
   pub next-says : nextAnswer c st ≡ nextOf (frontExpiry (entriesIn (capOf st) c st))
-  unfolding nextAnswer entriesIn rowAt
-  next-says = rw fine (front-of (rowAt c st) (capOf st) (c .start) (c .count))
+  unfolding nextAnswer entriesIn rowsIn rowAt
+  next-says = rw fine (front-of (λ (i : ℕ). rowAt c st (placeOf (ringOf (capOf st) c) i)) (c .count))
 
 -- ---- a refused call changes nothing
 pub refused-unchanged : (max at ttl : ℕ) (c : SeenCache) (st id : List ℕ) → (insertNumber (insertAnswer max c st id) ≡ 0 → ⊥)
@@ -172,46 +172,46 @@ well-formed-exactly c st = (forth, back)
           few = w .1;
           starts = t .starts;
           within = t .within;
-          short = short-in 129 (c .len) (capOf st) (c .start) (c .count) (t .short);
-          once = once-in 129 (c .len) st (capOf st) (c .start) (c .count) (t .once);
+          short = short-in idSize (c .len) (ringOf (capOf st) c) (t .short);
+          once = once-in idSize (c .len) st (ringOf (capOf st) c) (t .once);
         }
 
     back : WellFormed c st → lentOf c st ≡ lent.Fine
     back w =
-        fine-of c st (rows-whole st (w .whole) (w .few)) (w .starts) (w .within) (short-all 129 (c .len) (capOf st) (c .start) (c .count) (w .short))
-        (all-once 129 (c .len) st (capOf st) (c .start) (c .count) (w .once))
+        fine-of c st (rows-whole st (w .whole) (w .few)) (w .starts) (w .within) (short-all idSize (c .len) (ringOf (capOf st) c) (w .short))
+        (all-once idSize (c .len) st (ringOf (capOf st) c) (w .once))
 
 -- ---- every state that the calls reach is well formed
-sound-fine : (c : SeenCache) (st : List ℕ) → wholeRows st ≡ true → Sound 129 (capOf st) (c .start) (c .count) (c .len) st → distinct (idsIn 129 (capOf st) (c .start) (c .count) (c .len) st) ≡ true → lentOf c st ≡ lent.Fine
+sound-fine : (c : SeenCache) (st : List ℕ) → wholeRows st ≡ true → Sound idSize (ringOf (capOf st) c) (c .len) st → distinct (idsIn idSize (ringOf (capOf st) c) (c .len) st) ≡ true → lentOf c st ≡ lent.Fine
 sound-fine c st w s d =
     let r = s .rows in
-    fine-of c st w (r .starts) (r .within) (short-all 129 (c .len) (capOf st) (c .start) (c .count) (s .short)) d
+    fine-of c st w (r .starts) (r .within) (short-all idSize (c .len) (ringOf (capOf st) c) (s .short)) d
 
 pub fresh-fine : (st : List ℕ) → wholeRows st ≡ true → lentOf fresh st ≡ lent.Fine
-unfolding fresh idsIn lensIn ring allUpTo distinct
+unfolding fresh idsIn inUse rowsIn allUpTo distinct
 fresh-fine st h = fine-of fresh st h (omega arith) (omega arith) refl refl
 
 pub fresh-sized : Sized fresh
 unfolding fresh
-fresh-sized = (length-replicate {A = ℕ} 256 0, length-replicate {A = ℕ} 256 0)
+fresh-sized = (length-replicate {A = ℕ} maxIds 0, length-replicate {A = ℕ} maxIds 0)
 
 -- what a fresh answer tells
-fresh-tests : (max : ℕ) (c : SeenCache) (st id : List ℕ) → lentOf c st ≡ lent.Fine → insertAnswer max c st id ≡ insert.Fresh → (max ≤ capOf st) × (length id ≤ 129) × (heldIn (capOf st) c st id ≡ false)
+fresh-tests : (max : ℕ) (c : SeenCache) (st id : List ℕ) → lentOf c st ≡ lent.Fine → insertAnswer max c st id ≡ insert.Fresh → (max ≤ capOf st) × (length id ≤ idSize) × (heldIn (capOf st) c st id ≡ false)
 unfolding insertAnswer
 fresh-tests max c st id f h =
     either (ltb (capOf st) max) (λ t. clash (let z = simp t at h in cc))
-    (λ t. either (ltb 129 (length id)) (λ u. clash (let z = simp (t, f, u) at h in cc))
+    (λ t. either (ltb idSize (length id)) (λ u. clash (let z = simp (t, f, u) at h in cc))
     (λ u. either (heldIn (capOf st) c st id) (λ v. clash (let z = simp (t, f, u, v) at h in cc))
-    (λ v. (ltb-false (capOf st) max t, ltb-false 129 (length id) u, v))))
+    (λ v. (ltb-false (capOf st) max t, ltb-false idSize (length id) u, v))))
 
 -- ---- an insert keeps the store's length
 same-cap : (st st2 : List ℕ) → length st2 ≡ length st → capOf st2 ≡ capOf st
 unfolding capOf
-same-cap st st2 e = ap (λ (n : ℕ). n / 129) e
+same-cap st st2 e = ap (λ (n : ℕ). n / idSize) e
 
 same-whole : (st st2 : List ℕ) → length st2 ≡ length st → wholeRows st2 ≡ wholeRows st
 unfolding wholeRows capOf
-same-whole st st2 e = ap (λ (n : ℕ). eqb (n % 129) 0 && leb (n / 129) 256) e
+same-whole st st2 e = ap (λ (n : ℕ). eqb (n % idSize) 0 && leb (n / idSize) maxIds) e
 
 length-entered : (cap max : ℕ) (c : SeenCache) (st id : List ℕ) → length (enteredStore cap max c st id) ≡ length st
 unfolding enteredStore
@@ -238,7 +238,7 @@ distinct-newest max es x d n =
     rw (map-drop (λ (e : Entry). e .id) (length (es ++ (x ∷ [])) - max) (es ++ (x ∷ [])), map-append (λ (e : Entry). e .id) es (x ∷ []))
     (distinct-drop (length (es ++ (x ∷ [])) - max) (idsOf es ++ (x .id ∷ [])) (distinct-snoc (idsOf es) (x .id) d n))
 
-entered-fine : (max e : ℕ) (c : SeenCache) (st id : List ℕ) → lentOf c st ≡ lent.Fine → Sized c → max ≤ capOf st → length id ≤ 129 → heldIn (capOf st) c st id ≡ false
+entered-fine : (max e : ℕ) (c : SeenCache) (st id : List ℕ) → lentOf c st ≡ lent.Fine → Sized c → max ≤ capOf st → length id ≤ idSize → heldIn (capOf st) c st id ≡ false
     → lentOf (entered (capOf st) max (length id) e c) (enteredStore (capOf st) max c st id) ≡ lent.Fine
 unfolding heldIn
 entered-fine max e c st id f z m k n =
@@ -251,7 +251,7 @@ entered-fine max e c st id f z m k n =
     let same : capOf st2 ≡ cap = same-cap st st2 l in
     let d : distinct (idsOf (entriesIn cap c st)) ≡ true = rw (ids-entries cap c st) (t .once) in
     let a : among id (idsOf (entriesIn cap c st)) ≡ false = rw (ids-entries cap c st) n in
-    let o : distinct (idsIn 129 cap (c2 .start) (c2 .count) (c2 .len) st2) ≡ true =
+    let o : distinct (idsIn idSize (ringOf cap c2) (c2 .len) st2) ≡ true =
     rw (← ids-entries cap c2 st2, entries-entered cap max c st id e s z m k) (distinct-newest max (entriesIn cap c st) (record { id = id; expiry = e }) d a) in
     sound-fine c2 st2 (same-whole st st2 l ∙ fine-tests c st f .0) (rw same (sound-entered cap max c st id e s z m k)) (rw same o)
 
@@ -281,12 +281,12 @@ module _ (c : SeenCache) (st : List ℕ) (f : lentOf c st ≡ lent.Fine) (z : Si
       let cap = capOf st in
       let s = lent-sound c st f z in
       let t = tests cap c st (fine-tests c st f .1) in
-      let k = spent at (lensIn cap (c .start) (c .count) (c .expiry)) in
-      let h : k ≤ c .count = spent-in at cap (c .start) (c .count) (c .expiry) in
+      let k = spent at (inUse (ringOf cap c) (c .expiry)) in
+      let h : k ≤ c .count = spent-in at (ringOf cap c) (c .expiry) in
       let d = dropped cap k c in
-      let i : idsIn 129 cap (d .start) (d .count) (d .len) st ≡ drop k (idsIn 129 cap (c .start) (c .count) (c .len) st) =
+      let i : idsIn idSize (ringOf cap d) (d .len) st ≡ drop k (idsIn idSize (ringOf cap c) (c .len) st) =
       sym (ids-entries cap d st) ∙ ap idsOf (entries-dropped cap k c st (t .starts) (t .within) h) ∙ map-drop (λ (e : Entry). e .id) k (entriesIn cap c st) ∙ ap (drop k) (ids-entries cap c st) in
-      rw f (sound-fine d st (fine-tests c st f .0) (sound-dropped cap k c st s h) (rw i (distinct-drop k (idsIn 129 cap (c .start) (c .count) (c .len) st) (t .once))))
+      rw f (sound-fine d st (fine-tests c st f .0) (sound-dropped cap k c st s h) (rw i (distinct-drop k (idsIn idSize (ringOf cap c) (c .len) st) (t .once))))
 
   pub gc-sized : (at : ℕ) → Sized (gcCache at c st)
   unfolding gcCache cleaned dropped

@@ -5,10 +5,11 @@ ghost use Prim.Native.Nat.{_+_, _*_, _≤_, _<_};
 ghost use lib.ListN.{length};
 ghost use lib.Seq.{sets};
 ghost use Rattle.rows.specs.Rows.{placeOf};
-ghost use Rattle.rows.specs.Store.{Ring, Sound, lensIn};
+ghost use Rattle.rows.specs.Store.{InStore, Sound, inUse};
 ghost use Rattle.seen.specs.Entries.{until};
-ghost use Rattle.seen.specs.State.{spent, fresh, dropped, appended};
+ghost use Rattle.seen.specs.State.{idSize, ringOf, spent, fresh, dropped, appended};
 ghost use Rattle.seen.specs.Calls.{lentOf, heldIn, cleaned, entered, enteredStore, insertAnswer, insertCache, insertStore, containsAnswer, gcAnswer, gcCache, nextAnswer};
+use rows::Ring;
 use rows::all_within;
 use rows::find_from;
 use rows::ids_differ;
@@ -22,8 +23,8 @@ pub const MAX_IDS: usize = 256;
 pub struct SeenCache {
     pub start: usize,
     pub count: usize,
-    pub expiry: [u64; 256],
-    pub len: [u8; 256],
+    pub expiry: [u64; MAX_IDS],
+    pub len: [u8; MAX_IDS],
 }
 
 // Whether the lent state is one: 41 for a store that is no whole rows or has more than 256, 42 for a cache that is not well formed.
@@ -85,13 +86,13 @@ pub fn expiry_of(at: u64, ttl: u64) -> u64
 }
 
 // How many of the oldest have expired: those in front of the first that has not.
-fn expired(expiry: &[u64], cap: usize, start: usize, count: usize, at: u64) -> usize
-    requires { ⌜ Ring cap start count (now expiry) ⌝ }
-    ensures { λ r. ⌜ r ≡ spent at (lensIn cap start count (now (expiry .entry))) ⌝ }
+fn expired(expiry: &[u64], ring: Ring, at: u64) -> usize
+    requires { ⌜ InStore ring (now expiry) ⌝ }
+    ensures { λ r. ⌜ r ≡ spent at (inUse ring (now (expiry .entry))) ⌝ }
 {
     let mut i = 0;
-    while i < count {
-        let p = place(cap, start, i);
+    while i < ring.count {
+        let p = place(ring, i);
         if at < expiry[p] {
             return i;
         }
@@ -116,8 +117,19 @@ impl SeenCache {
         SeenCache {
             start: 0,
             count: 0,
-            expiry: [0; 256],
-            len: [0; 256],
+            expiry: [0; MAX_IDS],
+            len: [0; MAX_IDS],
+        }
+    }
+
+    // Its rows, in a store of `cap` places.
+    pub fn ring(self, cap: usize) -> Ring
+        ensures { λ r. ⌜ r ≡ ringOf cap self ⌝ }
+    {
+        Ring {
+            cap,
+            start: self.start,
+            count: self.count,
         }
     }
 
@@ -132,17 +144,16 @@ impl SeenCache {
         if MAX_IDS < cap {
             return Lent::BadStore;
         }
-        let start = self.start;
-        let count = self.count;
-        if cap < start {
+        if cap < self.start {
             return Lent::Malformed;
         }
-        if cap < count {
+        if cap < self.count {
             return Lent::Malformed;
         }
+        let ring = self.ring(cap);
         let lens = self.len;
-        if all_within(&lens, cap, start, count, 129) {
-            if ids_differ(&lens, store, 129, cap, start, count) {
+        if all_within(&lens, ring, ID_SIZE as u8) {
+            if ids_differ(&lens, store, ID_SIZE, ring) {
                 return Lent::Fine;
             }
         }
@@ -154,7 +165,7 @@ impl SeenCache {
         requires { ⌜ k ≤ self .count ⌝ }
         ensures { λ r. ⌜ r ≡ dropped cap k self ⌝ }
     {
-        let start = place(cap, self.start, k);
+        let start = place(self.ring(cap), k);
         self.start = start;
         self.count = self.count - k;
         self
@@ -162,15 +173,15 @@ impl SeenCache {
 
     // With a row more, the newest.
     fn append(mut self, store: &mut [u8], cap: usize, id: &[u8], expires: u64) -> Self
-        requires { ⌜ Sound 129 cap (self .start) (self .count) (self .len) (now store) ⌝ }
+        requires { ⌜ Sound idSize (ringOf cap self) (self .len) (now store) ⌝ }
         requires { ⌜ self .count < cap ⌝ }
-        requires { ⌜ length (now id) ≤ 129 ⌝ }
+        requires { ⌜ length (now id) ≤ idSize ⌝ }
         ensures { λ r. ⌜ r ≡ appended cap (length (now (id .entry))) expires self ⌝ }
-        ensures { λ _. ⌜ now (store .exit) ≡ sets (now (store .entry)) (placeOf cap (self .start) (self .count) * 129) (now (id .entry)) ⌝ }
+        ensures { λ _. ⌜ now (store .exit) ≡ sets (now (store .entry)) (placeOf (ringOf cap self) (self .count) * idSize) (now (id .entry)) ⌝ }
     {
         let count = self.count;
-        let p = place(cap, self.start, count);
-        write_id(store, p * 129, id);
+        let p = place(self.ring(cap), count);
+        write_id(store, p * ID_SIZE, id);
         self.expiry[p] = expires;
         self.len[p] = id.len() as u8;
         self.count = count + 1;
@@ -179,29 +190,30 @@ impl SeenCache {
 
     // Whether an id is held, where the state was tested.
     pub fn holds(self, store: &[u8], cap: usize, id: &[u8]) -> bool
-        requires { ⌜ Sound 129 cap (self .start) (self .count) (self .len) (now store) ⌝ }
+        requires { ⌜ Sound idSize (ringOf cap self) (self .len) (now store) ⌝ }
         ensures { λ r. ⌜ r ≡ heldIn cap self (now (store .entry)) (now (id .entry)) ⌝ }
     {
+        let ring = self.ring(cap);
         let lens = self.len;
-        let count = self.count;
-        find_from(&lens, store, 129, cap, self.start, count, 0, id) < count
+        find_from(&lens, store, ID_SIZE, ring, 0, id) < ring.count
     }
 
     // Without what has expired, where the state was tested.
     pub fn clean(self, cap: usize, at: u64) -> Self
-        requires { ⌜ Ring cap (self .start) (self .count) (self .expiry) ⌝ }
+        requires { ⌜ InStore (ringOf cap self) (self .expiry) ⌝ }
         ensures { λ r. ⌜ r ≡ cleaned cap at self ⌝ }
     {
+        let ring = self.ring(cap);
         let expiry = self.expiry;
-        let k = expired(&expiry, cap, self.start, self.count, at);
+        let k = expired(&expiry, ring, at);
         self.without(cap, k)
     }
 
     // With an id that is not held, where the state was tested: the oldest leave until at most `max` remain.
     pub fn enter(self, store: &mut [u8], cap: usize, id: &[u8], expires: u64, max: usize) -> Self
-        requires { ⌜ Sound 129 cap (self .start) (self .count) (self .len) (now store) ⌝ }
+        requires { ⌜ Sound idSize (ringOf cap self) (self .len) (now store) ⌝ }
         requires { ⌜ max ≤ cap ⌝ }
-        requires { ⌜ length (now id) ≤ 129 ⌝ }
+        requires { ⌜ length (now id) ≤ idSize ⌝ }
         ensures { λ r. ⌜ r ≡ entered cap max (length (now (id .entry))) expires self ⌝ }
         ensures { λ _. ⌜ now (store .exit) ≡ enteredStore cap max self (now (store .entry)) (now (id .entry)) ⌝ }
     {
@@ -324,7 +336,7 @@ impl SeenCache {
                 if self.count == 0 {
                     return NextExpiry::None;
                 }
-                let p = place(store.len() / ID_SIZE, self.start, 0);
+                let p = place(self.ring(store.len() / ID_SIZE), 0);
                 NextExpiry::At(self.expiry[p])
             }
         }

@@ -9,9 +9,6 @@ use Rattle.mcache.proofs.Walks.{aging-more, aging-done}
 use borrow.Author.Needs.{needs}
 use Rattle.mcache.proofs.age_windows.Statement.{statement}
 use Rattle.mcache.proofs.age_windows.Tie as tie
-use Rattle.mcache.proofs.age_windows.Reads as reads
-use Rattle.mcache.proofs.age_windows.Lts as lts
-use Rattle.mcache.proofs.older_than.Reads as older-than-reads
 
 abbrev Inv-loop : tie.InvT-loop
 Inv-loop window₀ i₀ window i = (length window ≡ length window₀) × (window ≡ map older (take i window₀) ++ drop i window₀)
@@ -19,41 +16,32 @@ Inv-loop window₀ i₀ window i = (length window ≡ length window₀) × (wind
 abbrev μ-loop : tie.MeasureT-loop
 μ-loop window₀ i₀ window i = length window₀ - i
 
--- src/lib.rt:197:5
 loop-holds : tie.Need-loop-holds Inv-loop μ-loop
 loop-holds c = (refl, refl)
 
--- src/lib.rt:198:17
 slice-read-w : tie.Need-slice-read-w Inv-loop μ-loop
 slice-read-w c = search needs
 
--- src/lib.rt:199:21
 older-than-requires : tie.Need-older-than-requires Inv-loop μ-loop
 older-than-requires c κs = search needs
 
--- src/lib.rt:199:9
 slice-write-window : tie.Need-slice-write-window Inv-loop μ-loop
 slice-write-window c = search needs
 
--- src/lib.rt:200:9
 add-i : tie.Need-add-i Inv-loop μ-loop
 add-i c = search needs
 
--- src/lib.rt:197:5
 loop-less : tie.Need-loop-less Inv-loop μ-loop
 loop-less c = omega (arith, (c .before .before .before .loop .inv .0))
 
--- src/lib.rt:197:5
 loop-again : tie.Need-loop-again Inv-loop μ-loop
-loop-again c = (simp length-set ((c .before .before .before .loop .inv .0)), aging-more (now (c .before .before .before .before .before .args .window)) (c .before .before .before .loop .window) (c .before .before .before .loop .i) (c .older-than .result) (omega (arith, (c .before .before .before .loop .inv .0))) ((c .before .before .before .loop .inv .1)) (c .older-than .ensures))
+loop-again c = (simp length-set (c .before .before .before .loop .inv .0), aging-more (now (c .before .before .before .before .before .args .window)) (c .before .before .before .loop .window) (c .before .before .before .loop .i) (c .older-than .result) (omega (arith, (c .before .before .before .loop .inv .0))) (c .before .before .before .loop .inv .1) (c .older-than .ensures))
 
--- src/lib.rt:193:1
 same-length : tie.Need-same-length Inv-loop μ-loop
 same-length c = search needs
 
--- src/lib.rt:193:1
 returns : tie.Need-returns Inv-loop μ-loop
-returns c = aging-done (now (c .before .before .before .args .window)) (c .before .loop .window) (c .before .loop .i) (omega (arith, (c .before .loop .inv .0))) ((c .before .loop .inv .1))
+returns c = aging-done (now (c .before .before .before .args .window)) (c .before .loop .window) (c .before .loop .i) (omega (arith, (c .before .loop .inv .0))) (c .before .loop .inv .1)
 
 pub age-windows-spec : {M : Type 1} → statement M
 age-windows-spec =

@@ -5,59 +5,43 @@ use Rattle.mcache.proofs.Walks.{told-not, told-is}
 use borrow.Author.Needs.{needs}
 use Rattle.mcache.proofs.is_told.Statement.{statement}
 use Rattle.mcache.proofs.is_told.Tie as tie
-use Rattle.mcache.proofs.is_told.Reads as reads
-use Rattle.mcache.proofs.is_told.Lts as lts
-use Rattle.admission.proofs.carries.Reads as carries-reads
 
--- src/lib.rt:256:13
 shared-slice-read-w : tie.Need-shared-slice-read-w
 shared-slice-read-w c = search needs
 
--- src/lib.rt:256:13
 cast-w : tie.Need-cast-w
 cast-w c = omega (arith, (c .before .before .before .before .shared-slice-known .given) (c .before .before .before .before .before .args .p))
 
--- src/lib.rt:258:9
 returns : tie.Need-returns
 returns c = told-not (now (c .before .before .before .before .before .before .args .window)) (now (c .before .before .before .before .before .before .args .lens)) (now (c .before .before .before .before .before .before .args .store)) (c .before .before .before .before .before .before .args .windows) (now (c .before .before .before .before .before .before .args .topic)) (c .before .before .before .before .before .before .args .p) (c .if1 .taken)
 
--- src/lib.rt:260:16
 mul-base : tie.Need-mul-base
 mul-base c = search needs
 
--- src/lib.rt:261:22
 mul-end : tie.Need-mul-end
 mul-end c = search needs
 
--- src/lib.rt:261:22
 shared-slice-read-end : tie.Need-shared-slice-read-end
 shared-slice-read-end c = search needs
 
--- src/lib.rt:261:22
 cast-end : tie.Need-cast-end
 cast-end c = search needs
 
--- src/lib.rt:261:15
 add-end : tie.Need-add-end
 add-end c = search needs
 
--- src/lib.rt:262:13
 sub-carries : tie.Need-sub-carries
 sub-carries c = search needs
 
--- src/lib.rt:262:13
 part-carries-start : tie.Need-part-carries-start
 part-carries-start c = search needs
 
--- src/lib.rt:262:13
 part-carries-end : tie.Need-part-carries-end
 part-carries-end c = search needs
 
--- src/lib.rt:262:5
 carries-requires : tie.Need-carries-requires
 carries-requires c κs = search needs
 
--- src/lib.rt:245:1
 returns-2 : tie.Need-returns-2
 returns-2 c = told-is (now (c .before .before .before .before .before .before .before .before .before .args .window)) (now (c .before .before .before .before .before .before .before .before .before .args .lens)) (now (c .before .before .before .before .before .before .before .before .before .args .store)) (c .before .before .before .before .before .before .before .before .before .args .windows) (now (c .before .before .before .before .before .before .before .before .before .args .topic)) (c .before .before .before .before .before .before .before .before .before .args .p) (c .carries .result) (c .before .before .before .if1 .left) (c .carries .ensures)
 

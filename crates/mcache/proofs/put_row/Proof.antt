@@ -7,8 +7,6 @@ use Rattle.mcache.proofs.Listing.{Half, half-start, half-more, half-don
 use borrow.Author.Needs.{needs}
 use Rattle.mcache.proofs.put_row.Statement.{statement}
 use Rattle.mcache.proofs.put_row.Tie as tie
-use Rattle.mcache.proofs.put_row.Reads as reads
-use Rattle.mcache.proofs.put_row.Lts as lts
 
 abbrev Inv-loop : tie.InvT-loop
 Inv-loop rows₀ n at p v₀ i₀ rows v i = (at ≤ i) × (i ≤ n + 1) × (length rows ≡ length rows₀) × Half at p rows₀ rows v i
@@ -16,37 +14,29 @@ Inv-loop rows₀ n at p v₀ i₀ rows v i = (at ≤ i) × (i ≤ n + 1) × (len
 abbrev μ-loop : tie.MeasureT-loop
 μ-loop rows₀ n at p v₀ i₀ rows v i = (n + 1) - i
 
--- src/lib.rt:295:5
 loop-holds : tie.Need-loop-holds Inv-loop μ-loop
 loop-holds c = (omega arith, omega arith, refl, half-start (c .args .at) (c .args .p) (now (c .args .rows)) (omega (arith, (c .pre))))
 
--- src/lib.rt:296:19
 slice-read-old : tie.Need-slice-read-old Inv-loop μ-loop
 slice-read-old c = search needs
 
--- src/lib.rt:297:9
 slice-write-rows : tie.Need-slice-write-rows Inv-loop μ-loop
 slice-write-rows c = search needs
 
--- src/lib.rt:299:9
 add-i : tie.Need-add-i Inv-loop μ-loop
 add-i c = search needs
 
--- src/lib.rt:295:5
 loop-less : tie.Need-loop-less Inv-loop μ-loop
 loop-less c = search needs
 
--- src/lib.rt:295:5
 loop-again : tie.Need-loop-again Inv-loop μ-loop
-loop-again c = (omega arith, omega arith, simp length-set ((c .before .before .loop .inv .2)), half-more (c .before .before .before .args .at) (c .before .before .before .args .p) (now (c .before .before .before .args .rows)) (c .before .before .loop .rows) (c .before .before .loop .v) (c .before .before .loop .i) ((c .before .before .loop .inv .0)) (omega (arith, (c .before .before .before .pre))) ((c .before .before .loop .inv .3)))
+loop-again c = (omega arith, omega arith, simp length-set (c .before .before .loop .inv .2), half-more (c .before .before .before .args .at) (c .before .before .before .args .p) (now (c .before .before .before .args .rows)) (c .before .before .loop .rows) (c .before .before .loop .v) (c .before .before .loop .i) (c .before .before .loop .inv .0) (omega (arith, (c .before .before .before .pre))) (c .before .before .loop .inv .3))
 
--- src/lib.rt:289:1
 same-length : tie.Need-same-length Inv-loop μ-loop
 same-length c = search needs
 
--- src/lib.rt:289:1
 returns : tie.Need-returns Inv-loop μ-loop
-returns c = let e : (c .before .loop .i) ≡ (c .before .before .args .n) + 1 = omega arith in half-done (c .before .before .args .at) (c .before .before .args .p) (now (c .before .before .args .rows)) (c .before .loop .rows) (c .before .loop .v) (c .before .before .args .n) ((c .before .before .pre .0)) ((c .before .before .pre .1)) (rw e at ((c .before .loop .inv .3)))
+returns c = let e : (c .before .loop .i) ≡ (c .before .before .args .n) + 1 = omega arith in half-done (c .before .before .args .at) (c .before .before .args .p) (now (c .before .before .args .rows)) (c .before .loop .rows) (c .before .loop .v) (c .before .before .args .n) (c .before .before .pre .0) (c .before .before .pre .1) (rw e at (c .before .loop .inv .3))
 
 pub put-row-spec : {M : Type 1} → statement M
 put-row-spec =

@@ -5,112 +5,86 @@ use mathlib.Core.Bool.{true, false}
 use lib.ListN.{length, take, drop, getD}
 use native.Mathlib.Omega.{arith}
 use Rattle.rows.specs.Store.{idAt}
-use Rattle.mcache.specs.State.{spotOf}
+use Rattle.mcache.specs.State.{spotOf, messageIdSize}
 use Rattle.mcache.proofs.Listing.{listed-at, spot-next, spot-now, spot-last, taken-length}
 use borrow.Author.Needs.{needs}
 use Rattle.mcache.proofs.spot.Statement.{statement}
 use Rattle.mcache.proofs.spot.Tie as tie
-use Rattle.mcache.proofs.spot.Reads as reads
-use Rattle.mcache.proofs.spot.Lts as lts
-use Rattle.rows.proofs.precedes.Reads as precedes-reads
 
 abbrev Inv-loop : tie.InvT-loop
-Inv-loop rows n id-lens ids p base end i₀ i = (i ≤ n) × (i + spotOf (idAt 128 id-lens ids) p (drop i (take n rows)) ≡ spotOf (idAt 128 id-lens ids) p (take n rows))
+Inv-loop rows n id-lens ids p base end i₀ i = (i ≤ n) × (i + spotOf (idAt messageIdSize id-lens ids) p (drop i (take n rows)) ≡ spotOf (idAt messageIdSize id-lens ids) p (take n rows))
 
 abbrev μ-loop : tie.MeasureT-loop
 μ-loop rows n id-lens ids p base end i₀ i = n - i
 
--- src/lib.rt:265:16
 mul-base : tie.Need-mul-base Inv-loop μ-loop
 mul-base c = search needs
 
--- src/lib.rt:266:22
 shared-slice-read-end : tie.Need-shared-slice-read-end Inv-loop μ-loop
 shared-slice-read-end c = omega (arith, (c .before .before .before .before .pre .1 .0 .lengths), (c .before .before .before .before .pre .1 .1))
 
--- src/lib.rt:266:22
 cast-end : tie.Need-cast-end Inv-loop μ-loop
 cast-end c = omega (arith, (c .before .before .before .before .pre .1 .1))
 
--- src/lib.rt:266:15
 add-end : tie.Need-add-end Inv-loop μ-loop
 add-end c = omega (arith, (c .before .before .before .before .pre .1 .1))
 
--- src/lib.rt:268:5
 loop-holds : tie.Need-loop-holds Inv-loop μ-loop
 loop-holds c = (omega arith, omega arith)
 
--- src/lib.rt:269:17
 shared-slice-read-q : tie.Need-shared-slice-read-q Inv-loop μ-loop
 shared-slice-read-q c = omega (arith, (c .before .before .before .before .before .before .before .pre .0))
 
--- src/lib.rt:269:17
 cast-q : tie.Need-cast-q Inv-loop μ-loop
 cast-q c = omega (arith, (c .shared-slice-known5 .given) (c .before .before .loop .i))
 
--- src/lib.rt:270:22
 mul-q-base : tie.Need-mul-q-base Inv-loop μ-loop
-mul-q-base c = let w = listed-at (c .before .before .before .before .before .before .before .args .n) (now (c .before .before .before .before .before .before .before .args .rows)) (now (c .before .before .before .before .before .before .before .args .id-lens)) (now (c .before .before .before .before .before .before .before .args .ids)) (c .before .before .loop .i) ((c .before .before .before .before .before .before .before .pre .1 .0)) (c .before .loop-test .taken) in omega arith
+mul-q-base c = let w = listed-at (c .before .before .before .before .before .before .before .args .n) (now (c .before .before .before .before .before .before .before .args .rows)) (now (c .before .before .before .before .before .before .before .args .id-lens)) (now (c .before .before .before .before .before .before .before .args .ids)) (c .before .before .loop .i) (c .before .before .before .before .before .before .before .pre .1 .0) (c .before .loop-test .taken) in omega arith
 
--- src/lib.rt:271:30
 shared-slice-read-q-end : tie.Need-shared-slice-read-q-end Inv-loop μ-loop
-shared-slice-read-q-end c = let w = listed-at (c .before .before .before .before .before .before .before .before .args .n) (now (c .before .before .before .before .before .before .before .before .args .rows)) (now (c .before .before .before .before .before .before .before .before .args .id-lens)) (now (c .before .before .before .before .before .before .before .before .args .ids)) (c .before .before .before .loop .i) ((c .before .before .before .before .before .before .before .before .pre .1 .0)) (c .before .before .loop-test .taken) in omega arith
+shared-slice-read-q-end c = let w = listed-at (c .before .before .before .before .before .before .before .before .args .n) (now (c .before .before .before .before .before .before .before .before .args .rows)) (now (c .before .before .before .before .before .before .before .before .args .id-lens)) (now (c .before .before .before .before .before .before .before .before .args .ids)) (c .before .before .before .loop .i) (c .before .before .before .before .before .before .before .before .pre .1 .0) (c .before .before .loop-test .taken) in omega arith
 
--- src/lib.rt:271:30
 cast-q-end : tie.Need-cast-q-end Inv-loop μ-loop
-cast-q-end c = let w = listed-at (c .before .before .before .before .before .before .before .before .args .n) (now (c .before .before .before .before .before .before .before .before .args .rows)) (now (c .before .before .before .before .before .before .before .before .args .id-lens)) (now (c .before .before .before .before .before .before .before .before .args .ids)) (c .before .before .before .loop .i) ((c .before .before .before .before .before .before .before .before .pre .1 .0)) (c .before .before .loop-test .taken) in omega arith
+cast-q-end c = let w = listed-at (c .before .before .before .before .before .before .before .before .args .n) (now (c .before .before .before .before .before .before .before .before .args .rows)) (now (c .before .before .before .before .before .before .before .before .args .id-lens)) (now (c .before .before .before .before .before .before .before .before .args .ids)) (c .before .before .before .loop .i) (c .before .before .before .before .before .before .before .before .pre .1 .0) (c .before .before .loop-test .taken) in omega arith
 
--- src/lib.rt:271:21
 add-q-end : tie.Need-add-q-end Inv-loop μ-loop
-add-q-end c = let w = listed-at (c .before .before .before .before .before .before .before .before .args .n) (now (c .before .before .before .before .before .before .before .before .args .rows)) (now (c .before .before .before .before .before .before .before .before .args .id-lens)) (now (c .before .before .before .before .before .before .before .before .args .ids)) (c .before .before .before .loop .i) ((c .before .before .before .before .before .before .before .before .pre .1 .0)) (c .before .before .loop-test .taken) in omega arith
+add-q-end c = let w = listed-at (c .before .before .before .before .before .before .before .before .args .n) (now (c .before .before .before .before .before .before .before .before .args .rows)) (now (c .before .before .before .before .before .before .before .before .args .id-lens)) (now (c .before .before .before .before .before .before .before .before .args .ids)) (c .before .before .before .loop .i) (c .before .before .before .before .before .before .before .before .pre .1 .0) (c .before .before .loop-test .taken) in omega arith
 
--- src/lib.rt:272:21
 sub-precedes : tie.Need-sub-precedes Inv-loop μ-loop
 sub-precedes c = search needs
 
--- src/lib.rt:272:21
 part-precedes-start : tie.Need-part-precedes-start Inv-loop μ-loop
 part-precedes-start c = search needs
 
--- src/lib.rt:272:21
 part-precedes-end : tie.Need-part-precedes-end Inv-loop μ-loop
-part-precedes-end c = let w = listed-at (c .before .before .before .before .before .before .before .before .args .n) (now (c .before .before .before .before .before .before .before .before .args .rows)) (now (c .before .before .before .before .before .before .before .before .args .id-lens)) (now (c .before .before .before .before .before .before .before .before .args .ids)) (c .before .before .before .loop .i) ((c .before .before .before .before .before .before .before .before .pre .1 .0)) (c .before .before .loop-test .taken) in omega arith
+part-precedes-end c = let w = listed-at (c .before .before .before .before .before .before .before .before .args .n) (now (c .before .before .before .before .before .before .before .before .args .rows)) (now (c .before .before .before .before .before .before .before .before .args .id-lens)) (now (c .before .before .before .before .before .before .before .before .args .ids)) (c .before .before .before .loop .i) (c .before .before .before .before .before .before .before .before .pre .1 .0) (c .before .before .loop-test .taken) in omega arith
 
--- src/lib.rt:272:42
 sub-precedes-2 : tie.Need-sub-precedes-2 Inv-loop μ-loop
 sub-precedes-2 c = search needs
 
--- src/lib.rt:272:42
 part-precedes-start-2 : tie.Need-part-precedes-start-2 Inv-loop μ-loop
 part-precedes-start-2 c = search needs
 
--- src/lib.rt:272:42
 part-precedes-end-2 : tie.Need-part-precedes-end-2 Inv-loop μ-loop
 part-precedes-end-2 c = omega (arith, (c .before .before .before .before .before .before .before .before .before .pre .1 .0 .room), (c .before .before .before .before .before .before .before .before .before .pre .1 .1))
 
--- src/lib.rt:272:12
 precedes-requires : tie.Need-precedes-requires Inv-loop μ-loop
 precedes-requires c κs = search needs
 
--- src/lib.rt:273:13
 add-i : tie.Need-add-i Inv-loop μ-loop
 add-i c = search needs
 
--- src/lib.rt:268:5
 loop-less : tie.Need-loop-less Inv-loop μ-loop
 loop-less c = search needs
 
--- src/lib.rt:268:5
 loop-again : tie.Need-loop-again Inv-loop μ-loop
-loop-again c = (omega arith, spot-next (c .before .before .before .before .before .before .before .before .before .before .before .before .args .p) (c .before .before .before .before .before .before .before .before .before .before .before .before .args .n) (now (c .before .before .before .before .before .before .before .before .before .before .before .before .args .rows)) (now (c .before .before .before .before .before .before .before .before .before .before .before .before .args .id-lens)) (now (c .before .before .before .before .before .before .before .before .before .before .before .before .args .ids)) (c .before .before .before .before .before .before .before .loop .i) (c .before .precedes .result) ((c .before .before .before .before .before .before .before .before .before .before .before .before .pre .0)) (c .before .before .before .before .before .before .loop-test .taken) ((c .before .before .before .before .before .before .before .loop .inv .1)) (c .before .precedes .ensures) (c .if1 .taken))
+loop-again c = (omega arith, spot-next (c .before .before .before .before .before .before .before .before .before .before .before .before .args .p) (c .before .before .before .before .before .before .before .before .before .before .before .before .args .n) (now (c .before .before .before .before .before .before .before .before .before .before .before .before .args .rows)) (now (c .before .before .before .before .before .before .before .before .before .before .before .before .args .id-lens)) (now (c .before .before .before .before .before .before .before .before .before .before .before .before .args .ids)) (c .before .before .before .before .before .before .before .loop .i) (c .before .precedes .result) (c .before .before .before .before .before .before .before .before .before .before .before .before .pre .0) (c .before .before .before .before .before .before .loop-test .taken) (c .before .before .before .before .before .before .before .loop .inv .1) (c .before .precedes .ensures) (c .if1 .taken))
 
--- src/lib.rt:275:13
 returns : tie.Need-returns Inv-loop μ-loop
-returns c = spot-now (c .before .before .before .before .before .before .before .before .before .before .before .before .args .p) (c .before .before .before .before .before .before .before .before .before .before .before .before .args .n) (now (c .before .before .before .before .before .before .before .before .before .before .before .before .args .rows)) (now (c .before .before .before .before .before .before .before .before .before .before .before .before .args .id-lens)) (now (c .before .before .before .before .before .before .before .before .before .before .before .before .args .ids)) (c .before .before .before .before .before .before .before .loop .i) (c .before .precedes .result) ((c .before .before .before .before .before .before .before .before .before .before .before .before .pre .0)) (c .before .before .before .before .before .before .loop-test .taken) ((c .before .before .before .before .before .before .before .loop .inv .1)) (c .before .precedes .ensures) (c .if1 .left)
+returns c = spot-now (c .before .before .before .before .before .before .before .before .before .before .before .before .args .p) (c .before .before .before .before .before .before .before .before .before .before .before .before .args .n) (now (c .before .before .before .before .before .before .before .before .before .before .before .before .args .rows)) (now (c .before .before .before .before .before .before .before .before .before .before .before .before .args .id-lens)) (now (c .before .before .before .before .before .before .before .before .before .before .before .before .args .ids)) (c .before .before .before .before .before .before .before .loop .i) (c .before .precedes .result) (c .before .before .before .before .before .before .before .before .before .before .before .before .pre .0) (c .before .before .before .before .before .before .loop-test .taken) (c .before .before .before .before .before .before .before .loop .inv .1) (c .before .precedes .ensures) (c .if1 .left)
 
--- src/lib.rt:259:1
 returns-2 : tie.Need-returns-2 Inv-loop μ-loop
-returns-2 c = spot-last (idAt 128 (now (c .before .before .before .before .before .before .args .id-lens)) (now (c .before .before .before .before .before .before .args .ids))) (c .before .before .before .before .before .before .args .p) (take (c .before .before .before .before .before .before .args .n) (now (c .before .before .before .before .before .before .args .rows))) (c .before .loop .i) ((c .before .loop .inv .1)) (taken-length (c .before .before .before .before .before .before .args .n) (now (c .before .before .before .before .before .before .args .rows)) (c .before .loop .i) ((c .before .before .before .before .before .before .pre .0)) (c .loop-test .left))
+returns-2 c = spot-last (idAt messageIdSize (now (c .before .before .before .before .before .before .args .id-lens)) (now (c .before .before .before .before .before .before .args .ids))) (c .before .before .before .before .before .before .args .p) (take (c .before .before .before .before .before .before .args .n) (now (c .before .before .before .before .before .before .args .rows))) (c .before .loop .i) (c .before .loop .inv .1) (taken-length (c .before .before .before .before .before .before .args .n) (now (c .before .before .before .before .before .before .args .rows)) (c .before .loop .i) (c .before .before .before .before .before .before .pre .0) (c .loop-test .left))
 
 pub spot-spec : {M : Type 1} → statement M
 spot-spec =

@@ -3,62 +3,49 @@ use Prim.Native.Nat.{ℕ, _+_, _-_, _≤_, _<_}
 use mathlib.Core.Path.{_≡_, refl, sym, ap, _∙_}
 use lib.ListN.{length, drop, getD}
 use native.Mathlib.Omega.{arith}
-use Rattle.rows.specs.Store.{lensIn}
+use Rattle.rows.specs.Store.{inUse}
 use Rattle.rows.specs.RowsLaws.{place-lt}
 use Rattle.mcache.specs.State.{stale}
 use Rattle.mcache.proofs.Walks.{stale-more, stale-stays, stale-all}
 use borrow.Author.Needs.{needs}
 use Rattle.mcache.proofs.stale_rows.Statement.{statement}
 use Rattle.mcache.proofs.stale_rows.Tie as tie
-use Rattle.mcache.proofs.stale_rows.Reads as reads
-use Rattle.mcache.proofs.stale_rows.Lts as lts
-use Rattle.rows.proofs.place.Reads as place-reads
 
 abbrev Inv-loop : tie.InvT-loop
-Inv-loop window cap start count history-len i₀ i = (i ≤ count) × (i + stale history-len (drop i (lensIn cap start count window)) ≡ stale history-len (lensIn cap start count window))
+Inv-loop window ring history-len i₀ i = (i ≤ ring .count) × (i + stale history-len (drop i (inUse ring window)) ≡ stale history-len (inUse ring window))
 
 abbrev μ-loop : tie.MeasureT-loop
-μ-loop window cap start count history-len i₀ i = count - i
+μ-loop window ring history-len i₀ i = ring .count - i
 
--- src/lib.rt:210:5
 loop-holds : tie.Need-loop-holds Inv-loop μ-loop
 loop-holds c = (omega arith, omega arith)
 
--- src/lib.rt:211:13
 place-requires : tie.Need-place-requires Inv-loop μ-loop
 place-requires c κs = search needs
 
--- src/lib.rt:212:17
 shared-slice-read-w : tie.Need-shared-slice-read-w Inv-loop μ-loop
-shared-slice-read-w c = let l = place-lt (c .before .before .before .before .before .args .cap) (c .before .before .before .before .before .args .start) (c .before .before .before .loop .i) ((c .before .before .before .before .before .pre .starts)) (omega (arith, (c .before .before .before .before .before .pre .within))) in let e = (c .before .place .ensures) in omega (arith, (c .before .before .before .before .before .pre .size))
+shared-slice-read-w c = let l = place-lt (c .before .before .before .before .before .before .args .ring) (c .before .before .before .before .loop .i) (c .before .before .before .before .before .before .pre .starts) (omega (arith, (c .before .before .before .before .before .before .pre .within))) in let e = (c .before .place .ensures) in omega (arith, (c .before .before .before .before .before .before .pre .size))
 
--- src/lib.rt:212:17
 cast-w : tie.Need-cast-w Inv-loop μ-loop
 cast-w c = omega (arith, (c .shared-slice-known2 .given) (c .before .place .result))
 
--- src/lib.rt:213:12
-add-if1 : tie.Need-add-if1 Inv-loop μ-loop
-add-if1 c = omega (arith, (c .shared-slice-known2 .given) (c .before .place .result))
+add-if2 : tie.Need-add-if2 Inv-loop μ-loop
+add-if2 c = omega (arith, (c .shared-slice-known2 .given) (c .before .place .result))
 
--- src/lib.rt:214:13
 returns : tie.Need-returns Inv-loop μ-loop
-returns c = stale-stays (c .before .before .before .before .before .before .args .history-len) (c .before .before .before .before .before .before .args .cap) (c .before .before .before .before .before .before .args .start) (c .before .before .before .before .before .before .args .count) (now (c .before .before .before .before .before .before .args .window)) (c .before .before .before .before .loop .i) ((c .before .before .before .before .loop .inv .1)) _ (c .before .before .before .loop-test .taken) (ap (λ (p : ℕ). getD (now (c .before .before .before .before .before .before .args .window)) p 0) (c .before .before .place .ensures)) (c .if1 .taken)
+returns c = stale-stays (c .before .before .before .before .before .before .before .args .history-len) (c .before .before .before .before .before .before .before .args .ring) (now (c .before .before .before .before .before .before .before .args .window)) (c .before .before .before .before .before .loop .i) (c .before .before .before .before .before .loop .inv .1) _ (c .before .before .before .if1 .taken) (ap (λ (p : ℕ). getD (now (c .before .before .before .before .before .before .before .args .window)) p 0) (c .before .before .place .ensures)) (c .if2 .taken)
 
--- src/lib.rt:216:9
 add-i : tie.Need-add-i Inv-loop μ-loop
 add-i c = search needs
 
--- src/lib.rt:210:5
 loop-less : tie.Need-loop-less Inv-loop μ-loop
 loop-less c = search needs
 
--- src/lib.rt:210:5
 loop-again : tie.Need-loop-again Inv-loop μ-loop
-loop-again c = (omega arith, stale-more (c .before .before .before .before .before .before .args .history-len) (c .before .before .before .before .before .before .args .cap) (c .before .before .before .before .before .before .args .start) (c .before .before .before .before .before .before .args .count) (now (c .before .before .before .before .before .before .args .window)) (c .before .before .before .before .loop .i) ((c .before .before .before .before .loop .inv .1)) _ (c .before .before .before .loop-test .taken) (ap (λ (p : ℕ). getD (now (c .before .before .before .before .before .before .args .window)) p 0) (c .before .before .place .ensures)) (c .if1 .left))
+loop-again c = (omega arith, stale-more (c .before .before .before .before .before .before .before .args .history-len) (c .before .before .before .before .before .before .before .args .ring) (now (c .before .before .before .before .before .before .before .args .window)) (c .before .before .before .before .before .loop .i) (c .before .before .before .before .before .loop .inv .1) _ (c .before .before .before .if1 .taken) (ap (λ (p : ℕ). getD (now (c .before .before .before .before .before .before .before .args .window)) p 0) (c .before .before .place .ensures)) (c .if2 .left))
 
--- src/lib.rt:205:1
 returns-2 : tie.Need-returns-2 Inv-loop μ-loop
-returns-2 c = stale-all (c .before .before .before .args .history-len) (c .before .before .before .args .cap) (c .before .before .before .args .start) (c .before .before .before .args .count) (now (c .before .before .before .args .window)) (c .before .loop .i) ((c .before .loop .inv .1)) (c .loop-test .left)
+returns-2 c = stale-all (c .before .before .before .before .args .history-len) (c .before .before .before .before .args .ring) (now (c .before .before .before .before .args .window)) (c .before .before .loop .i) (c .before .before .loop .inv .1) (c .if1 .left)
 
 pub stale-rows-spec : {M : Type 1} → statement M
 stale-rows-spec =
@@ -70,7 +57,7 @@ stale-rows-spec =
     place-requires
     shared-slice-read-w
     cast-w
-    add-if1
+    add-if2
     returns
     add-i
     loop-less

@@ -10,13 +10,13 @@ use Rattle.node.proofs.cached.Statement.{statement}
 use Rattle.node.proofs.cached.Tie as tie
 
 abbrev Inv-loop : tie.InvT-loop
-Inv-loop lens id-lens ids cap start count body from n to₀ k₀ i₀ to k i = Found lens cap start (idsIn 128 cap start count id-lens ids) body from n to k i × (length to ≡ length to₀)
+Inv-loop lens id-lens ids ring body from n to₀ k₀ i₀ to k i = Found lens ring (idsIn 128 ring id-lens ids) body from n to k i × (length to ≡ length to₀)
 
 abbrev μ-loop : tie.MeasureT-loop
-μ-loop lens id-lens ids cap start count body from n to₀ k₀ i₀ to k i = n - i
+μ-loop lens id-lens ids ring body from n to₀ k₀ i₀ to k i = n - i
 
 loop-holds : tie.Need-loop-holds Inv-loop μ-loop
-loop-holds c = (found-all _ _ _ _ _ _ _ _, refl)
+loop-holds c = (found-all _ _ _ _ _ _ _, refl)
 
 mul-a : tie.Need-mul-a Inv-loop μ-loop
 mul-a c = let p = (c .before .before .before .before .before .before .before .before .pre .1 .1 .0 .room) in omega arith
@@ -52,7 +52,7 @@ find-from-requires : tie.Need-find-from-requires Inv-loop μ-loop
 find-from-requires c κs = ((c .before .before .before .before .before .before .before .before .before .before .before .pre .0), omega arith)
 
 add-message-requires : tie.Need-add-message-requires Inv-loop μ-loop
-add-message-requires c κs = let m = (c .before .before .before .before .before .before .loop) in let s = (c .before .before .before .before .before .before .before .before .before .before .before .before .before .pre .0 .rows) in ((s .starts, s .within, (c .before .before .before .before .before .before .before .before .before .before .before .before .before .pre .1 .0 .0), (c .before .before .before .before .before .before .before .before .before .before .before .before .before .pre .1 .0 .1)), found-room _ _ _ _ _ _ _ _ _ _ _ _ (m .inv .0) _ (c .before .before .before .before .before .loop-test .taken) (c .before .before .before .before .before .before .before .before .before .before .before .before .before .pre .1 .1 .1) (m .inv .1))
+add-message-requires c κs = let m = (c .before .before .before .before .before .before .loop) in let s = (c .before .before .before .before .before .before .before .before .before .before .before .before .before .pre .0 .rows) in ((s .starts, s .within, (c .before .before .before .before .before .before .before .before .before .before .before .before .before .pre .1 .0 .0), (c .before .before .before .before .before .before .before .before .before .before .before .before .before .pre .1 .0 .1)), found-room _ _ _ _ _ _ _ _ _ _ (m .inv .0) _ (c .before .before .before .before .before .loop-test .taken) (c .before .before .before .before .before .before .before .before .before .before .before .before .before .pre .1 .1 .1) (m .inv .1))
 
 add-i : tie.Need-add-i Inv-loop μ-loop
 add-i c = search needs
@@ -62,15 +62,15 @@ loop-less c = search needs
 
 loop-again : tie.Need-loop-again Inv-loop μ-loop
 loop-again c = let m = (c .before .before .before .before .before .before .before .before .before .loop) in
-    let room = found-room _ _ _ _ _ _ _ _ _ _ _ _ (m .inv .0) _ (c .before .before .before .before .before .before .before .before .loop-test .taken) (c .before .before .before .before .before .before .before .before .before .before .before .before .before .before .before .before .pre .1 .1 .1) (m .inv .1) in
+    let room = found-room _ _ _ _ _ _ _ _ _ _ (m .inv .0) _ (c .before .before .before .before .before .before .before .before .loop-test .taken) (c .before .before .before .before .before .before .before .before .before .before .before .before .before .before .before .before .pre .1 .1 .1) (m .inv .1) in
     let q = m .inv .1 in
-    (found-turn _ _ _ _ _ _ _ _ _ _ _ _ (m .inv .0) (c .before .before .before .before .before .before .before .before .loop-test .taken) (c .before .before .before .before .before .before .before .before .before .before .before .before .before .before .before .before .pre .0) (c .before .before .before .before .before .before .before .before .before .before .before .before .before .before .before .before .pre .1 .0 .2) room _ (c .before .before .before .before .find-from .ensures) _ _ (c .before .before .add-message .ensures), omega arith)
+    (found-turn _ _ _ _ _ _ _ _ _ _ (m .inv .0) (c .before .before .before .before .before .before .before .before .loop-test .taken) (c .before .before .before .before .before .before .before .before .before .before .before .before .before .before .before .before .pre .0) (c .before .before .before .before .before .before .before .before .before .before .before .before .before .before .before .before .pre .1 .0 .2) room _ (c .before .before .before .before .find-from .ensures) _ _ (c .before .before .add-message .ensures), omega arith)
 
 same-length : tie.Need-same-length Inv-loop μ-loop
 same-length c = (c .before .loop .inv .1)
 
 returns : tie.Need-returns Inv-loop μ-loop
-returns c = found-done _ _ _ _ _ _ _ _ _ _ _ _ (c .before .loop .inv .0) (c .loop-test .left)
+returns c = found-done _ _ _ _ _ _ _ _ _ _ (c .before .loop .inv .0) (c .loop-test .left)
 
 pub cached-spec : {M : Type 1} → statement M
 cached-spec =

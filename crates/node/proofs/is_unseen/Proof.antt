@@ -10,7 +10,7 @@ use Rattle.node.proofs.is_unseen.Statement.{statement}
 use Rattle.node.proofs.is_unseen.Tie as tie
 
 returns : tie.Need-returns
-returns c = let b = c .before .before .before .before in let a = b .args in long-unseen (a .cap) (a .start) (a .count) (now (a .lens)) (now (a .store)) (now (a .id)) (b .pre) (c .if1 .taken)
+returns c = let a = c .before .before .before .before .args in long-unseen (a .ring) (now (a .lens)) (now (a .store)) (now (a .id)) (c .before .before .before .before .pre) (c .if1 .taken)
 
 array-write-key : tie.Need-array-write-key
 array-write-key c = search needs
@@ -34,7 +34,7 @@ find-from-requires : tie.Need-find-from-requires
 find-from-requires c κs = search needs
 
 returns-2 : tie.Need-returns-2
-returns-2 c = let a = c .before .before .before .before .before .before .before .before .before .args in seen-or-not (a .cap) (a .start) (a .count) (now (a .lens)) (now (a .store)) (now (a .id)) _ (c .find-from .result) (key-holds (replicate 129 0) (now (a .id)) _ (length (now (a .id))) refl refl (c .before .before .before .before .before .if1 .left) ((c .before .before .before .put-bytes .ensures .1) ∙ set-fits _ _ _ _ (omega (arith, (c .before .before .before .before .before .if1 .left))))) (c .find-from .ensures)
+returns-2 c = let a = c .before .before .before .before .before .before .before .before .before .before .args in seen-or-not (a .ring) (now (a .lens)) (now (a .store)) (now (a .id)) _ (c .before .find-from .result) (key-holds (replicate 129 0) (now (a .id)) _ (length (now (a .id))) refl refl (c .before .before .before .before .before .before .if1 .left) ((c .before .before .before .before .put-bytes .ensures .1) ∙ set-fits _ _ _ _ (omega (arith, (c .before .before .before .before .before .before .if1 .left))))) (c .before .find-from .ensures)
 
 pub is-unseen-spec : {M : Type 1} → statement M
 is-unseen-spec =

@@ -10,10 +10,10 @@ use Rattle.node.proofs.unseen.Statement.{statement}
 use Rattle.node.proofs.unseen.Tie as tie
 
 abbrev Inv-loop : tie.InvT-loop
-Inv-loop lens store cap start count body from n to₀ k₀ i₀ to k i = Lacked (idsIn 129 cap start count lens store) body from n to k i × (length to ≡ length to₀)
+Inv-loop lens store ring body from n to₀ k₀ i₀ to k i = Lacked (idsIn 129 ring lens store) body from n to k i × (length to ≡ length to₀)
 
 abbrev μ-loop : tie.MeasureT-loop
-μ-loop lens store cap start count body from n to₀ k₀ i₀ to k i = n - i
+μ-loop lens store ring body from n to₀ k₀ i₀ to k i = n - i
 
 loop-holds : tie.Need-loop-holds Inv-loop μ-loop
 loop-holds c = (lacked-all _ _ _ _ _, refl)

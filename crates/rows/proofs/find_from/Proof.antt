@@ -11,70 +11,55 @@ use Rattle.rows.proofs.find_from.Statement.{statement}
 use Rattle.rows.proofs.find_from.Tie as tie
 
 abbrev Inv-loop : tie.InvT-loop
-Inv-loop lens ids size cap start count from id i₀ i = (from ≤ i) × (i ≤ count) × (i + indexOf id (drop i (idsIn size cap start count lens ids)) ≡ from + indexOf id (drop from (idsIn size cap start count lens ids)))
+Inv-loop lens ids size ring from id i₀ i = (from ≤ i) × (i ≤ ring .count) × (i + indexOf id (drop i (idsIn size ring lens ids)) ≡ from + indexOf id (drop from (idsIn size ring lens ids)))
 
 abbrev μ-loop : tie.MeasureT-loop
-μ-loop lens ids size cap start count from id i₀ i = count - i
+μ-loop lens ids size ring from id i₀ i = ring .count - i
 
--- src/lib.rt:97:5
 loop-holds : tie.Need-loop-holds Inv-loop μ-loop
 loop-holds c = (omega arith, omega (arith, (c .before .before .before .pre .1)), refl)
 
--- src/lib.rt:98:13
 place-requires : tie.Need-place-requires Inv-loop μ-loop
 place-requires c κs = search needs
 
--- src/lib.rt:99:20
 mul-base : tie.Need-mul-base Inv-loop μ-loop
-mul-base c = let w = row-within (c .before .before .before .before .before .before .args .size) (c .before .before .before .before .before .before .args .cap) (c .before .before .before .before .before .before .args .start) (c .before .before .before .before .before .before .args .count) (now (c .before .before .before .before .before .before .args .lens)) (now (c .before .before .before .before .before .before .args .ids)) (c .before .before .loop .i) (c .place .result) ((c .before .before .before .before .before .before .pre .0)) (c .before .loop-test .taken) (c .place .ensures) in search needs
+mul-base c = let w = row-within (c .before .before .before .before .before .before .before .args .size) (c .before .before .before .before .before .before .before .args .ring) (now (c .before .before .before .before .before .before .before .args .lens)) (now (c .before .before .before .before .before .before .before .args .ids)) (c .before .before .before .loop .i) (c .place .result) ((c .before .before .before .before .before .before .before .pre .0)) (c .before .if1 .taken) (c .place .ensures) in search needs
 
--- src/lib.rt:100:26
 shared-slice-read-end : tie.Need-shared-slice-read-end Inv-loop μ-loop
-shared-slice-read-end c = let w = row-within (c .before .before .before .before .before .before .before .args .size) (c .before .before .before .before .before .before .before .args .cap) (c .before .before .before .before .before .before .before .args .start) (c .before .before .before .before .before .before .before .args .count) (now (c .before .before .before .before .before .before .before .args .lens)) (now (c .before .before .before .before .before .before .before .args .ids)) (c .before .before .before .loop .i) (c .before .place .result) ((c .before .before .before .before .before .before .before .pre .0)) (c .before .before .loop-test .taken) (c .before .place .ensures) in omega arith
+shared-slice-read-end c = let w = row-within (c .before .before .before .before .before .before .before .before .args .size) (c .before .before .before .before .before .before .before .before .args .ring) (now (c .before .before .before .before .before .before .before .before .args .lens)) (now (c .before .before .before .before .before .before .before .before .args .ids)) (c .before .before .before .before .loop .i) (c .before .place .result) ((c .before .before .before .before .before .before .before .before .pre .0)) (c .before .before .if1 .taken) (c .before .place .ensures) in omega arith
 
--- src/lib.rt:100:26
 cast-end : tie.Need-cast-end Inv-loop μ-loop
 cast-end c = omega (arith, (c .shared-slice-known4 .given) (c .before .place .result))
 
--- src/lib.rt:100:19
 add-end : tie.Need-add-end Inv-loop μ-loop
-add-end c = let w = row-within (c .before .before .before .before .before .before .before .args .size) (c .before .before .before .before .before .before .before .args .cap) (c .before .before .before .before .before .before .before .args .start) (c .before .before .before .before .before .before .before .args .count) (now (c .before .before .before .before .before .before .before .args .lens)) (now (c .before .before .before .before .before .before .before .args .ids)) (c .before .before .before .loop .i) (c .before .place .result) ((c .before .before .before .before .before .before .before .pre .0)) (c .before .before .loop-test .taken) (c .before .place .ensures) in search needs
+add-end c = let w = row-within (c .before .before .before .before .before .before .before .before .args .size) (c .before .before .before .before .before .before .before .before .args .ring) (now (c .before .before .before .before .before .before .before .before .args .lens)) (now (c .before .before .before .before .before .before .before .before .args .ids)) (c .before .before .before .before .loop .i) (c .before .place .result) ((c .before .before .before .before .before .before .before .before .pre .0)) (c .before .before .if1 .taken) (c .before .place .ensures) in search needs
 
--- src/lib.rt:101:17
 sub-same : tie.Need-sub-same Inv-loop μ-loop
 sub-same c = search needs
 
--- src/lib.rt:101:17
 part-same-start : tie.Need-part-same-start Inv-loop μ-loop
 part-same-start c = search needs
 
--- src/lib.rt:101:17
 part-same-end : tie.Need-part-same-end Inv-loop μ-loop
-part-same-end c = let w = row-within (c .before .before .before .before .before .before .before .args .size) (c .before .before .before .before .before .before .before .args .cap) (c .before .before .before .before .before .before .before .args .start) (c .before .before .before .before .before .before .before .args .count) (now (c .before .before .before .before .before .before .before .args .lens)) (now (c .before .before .before .before .before .before .before .args .ids)) (c .before .before .before .loop .i) (c .before .place .result) ((c .before .before .before .before .before .before .before .pre .0)) (c .before .before .loop-test .taken) (c .before .place .ensures) in omega arith
+part-same-end c = let w = row-within (c .before .before .before .before .before .before .before .before .args .size) (c .before .before .before .before .before .before .before .before .args .ring) (now (c .before .before .before .before .before .before .before .before .args .lens)) (now (c .before .before .before .before .before .before .before .before .args .ids)) (c .before .before .before .before .loop .i) (c .before .place .result) ((c .before .before .before .before .before .before .before .before .pre .0)) (c .before .before .if1 .taken) (c .before .place .ensures) in omega arith
 
--- src/lib.rt:101:12
 same-requires : tie.Need-same-requires Inv-loop μ-loop
 same-requires c κs = search needs
 
--- src/lib.rt:102:13
 returns : tie.Need-returns Inv-loop μ-loop
-returns c = find-here (c .before .before .before .before .before .before .before .before .before .before .args .size) (c .before .before .before .before .before .before .before .before .before .before .args .cap) (c .before .before .before .before .before .before .before .before .before .before .args .start) (c .before .before .before .before .before .before .before .before .before .before .args .count) (now (c .before .before .before .before .before .before .before .before .before .before .args .lens)) (now (c .before .before .before .before .before .before .before .before .before .before .args .ids)) (now (c .before .before .before .before .before .before .before .before .before .before .args .id)) (c .before .before .before .before .before .before .loop .i) _ ((c .before .before .before .before .before .before .loop .inv .2)) (c .before .before .before .before .before .loop-test .taken) (ap (λ x. sameBytes x (now (c .before .before .before .before .before .before .before .before .before .before .args .id))) (sym (row-id (c .before .before .before .before .before .before .before .before .before .before .args .size) (c .before .before .before .before .before .before .before .before .before .before .args .cap) (c .before .before .before .before .before .before .before .before .before .before .args .start) (now (c .before .before .before .before .before .before .before .before .before .before .args .lens)) (now (c .before .before .before .before .before .before .before .before .before .before .args .ids)) (c .before .before .before .before .before .before .loop .i) (c .before .before .before .before .place .result) (c .before .before .before .before .place .ensures))) ∙ sym (c .before .same .ensures) ∙ (c .if1 .taken))
+returns c = find-here (c .before .before .before .before .before .before .before .before .before .before .before .args .size) (c .before .before .before .before .before .before .before .before .before .before .before .args .ring) (now (c .before .before .before .before .before .before .before .before .before .before .before .args .lens)) (now (c .before .before .before .before .before .before .before .before .before .before .before .args .ids)) (now (c .before .before .before .before .before .before .before .before .before .before .before .args .id)) (c .before .before .before .before .before .before .before .loop .i) _ ((c .before .before .before .before .before .before .before .loop .inv .2)) (c .before .before .before .before .before .if1 .taken) (ap (λ x. sameBytes x (now (c .before .before .before .before .before .before .before .before .before .before .before .args .id))) (sym (row-id (c .before .before .before .before .before .before .before .before .before .before .before .args .size) (c .before .before .before .before .before .before .before .before .before .before .before .args .ring) (now (c .before .before .before .before .before .before .before .before .before .before .before .args .lens)) (now (c .before .before .before .before .before .before .before .before .before .before .before .args .ids)) (c .before .before .before .before .before .before .before .loop .i) (c .before .before .before .before .place .result) (c .before .before .before .before .place .ensures))) ∙ sym (c .before .same .ensures) ∙ (c .if2 .taken))
 
--- src/lib.rt:104:9
 add-i : tie.Need-add-i Inv-loop μ-loop
 add-i c = search needs
 
--- src/lib.rt:97:5
 loop-less : tie.Need-loop-less Inv-loop μ-loop
 loop-less c = search needs
 
--- src/lib.rt:97:5
 loop-again : tie.Need-loop-again Inv-loop μ-loop
-loop-again c = (omega arith, omega arith, find-more (c .before .before .before .before .before .before .before .before .before .before .args .size) (c .before .before .before .before .before .before .before .before .before .before .args .cap) (c .before .before .before .before .before .before .before .before .before .before .args .start) (c .before .before .before .before .before .before .before .before .before .before .args .count) (now (c .before .before .before .before .before .before .before .before .before .before .args .lens)) (now (c .before .before .before .before .before .before .before .before .before .before .args .ids)) (now (c .before .before .before .before .before .before .before .before .before .before .args .id)) (c .before .before .before .before .before .before .loop .i) _ ((c .before .before .before .before .before .before .loop .inv .2)) (c .before .before .before .before .before .loop-test .taken) (ap (λ x. sameBytes x (now (c .before .before .before .before .before .before .before .before .before .before .args .id))) (sym (row-id (c .before .before .before .before .before .before .before .before .before .before .args .size) (c .before .before .before .before .before .before .before .before .before .before .args .cap) (c .before .before .before .before .before .before .before .before .before .before .args .start) (now (c .before .before .before .before .before .before .before .before .before .before .args .lens)) (now (c .before .before .before .before .before .before .before .before .before .before .args .ids)) (c .before .before .before .before .before .before .loop .i) (c .before .before .before .before .place .result) (c .before .before .before .before .place .ensures))) ∙ sym (c .before .same .ensures) ∙ (c .if1 .left)))
+loop-again c = (omega arith, omega arith, find-more (c .before .before .before .before .before .before .before .before .before .before .before .args .size) (c .before .before .before .before .before .before .before .before .before .before .before .args .ring) (now (c .before .before .before .before .before .before .before .before .before .before .before .args .lens)) (now (c .before .before .before .before .before .before .before .before .before .before .before .args .ids)) (now (c .before .before .before .before .before .before .before .before .before .before .before .args .id)) (c .before .before .before .before .before .before .before .loop .i) _ ((c .before .before .before .before .before .before .before .loop .inv .2)) (c .before .before .before .before .before .if1 .taken) (ap (λ x. sameBytes x (now (c .before .before .before .before .before .before .before .before .before .before .before .args .id))) (sym (row-id (c .before .before .before .before .before .before .before .before .before .before .before .args .size) (c .before .before .before .before .before .before .before .before .before .before .before .args .ring) (now (c .before .before .before .before .before .before .before .before .before .before .before .args .lens)) (now (c .before .before .before .before .before .before .before .before .before .before .before .args .ids)) (c .before .before .before .before .before .before .before .loop .i) (c .before .before .before .before .place .result) (c .before .before .before .before .place .ensures))) ∙ sym (c .before .same .ensures) ∙ (c .if2 .left)))
 
--- src/lib.rt:82:1
 returns-2 : tie.Need-returns-2 Inv-loop μ-loop
-returns-2 c = find-none (c .before .before .before .before .before .args .size) (c .before .before .before .before .before .args .cap) (c .before .before .before .before .before .args .start) (c .before .before .before .before .before .args .count) (now (c .before .before .before .before .before .args .lens)) (now (c .before .before .before .before .before .args .ids)) (now (c .before .before .before .before .before .args .id)) (c .before .loop .i) _ ((c .before .loop .inv .2)) (c .loop-test .left)
+returns-2 c = find-none (c .before .before .before .before .before .before .args .size) (c .before .before .before .before .before .before .args .ring) (now (c .before .before .before .before .before .before .args .lens)) (now (c .before .before .before .before .before .before .args .ids)) (now (c .before .before .before .before .before .before .args .id)) (c .before .before .loop .i) _ ((c .before .before .loop .inv .2)) (c .if1 .left)
 
 pub find-from-spec : {M : Type 1} → statement M
 find-from-spec =

@@ -8,88 +8,71 @@ use Rattle.rows.specs.Ids.{distinct}
 use Rattle.rows.specs.IdsLaws.{among-none}
 use Rattle.rows.specs.Store.{idsIn}
 use Rattle.rows.specs.StoreLaws.{row-within, row-before, differ-more, differ-not, ids-end, differ-none, differ-all}
+use Rattle.rows.specs.Buckets.{buckets}
 use Rattle.rows.specs.BucketsLaws.{Met, bucket-in, met-flag, met-more}
 use borrow.Author.Needs.{needs}
 use Rattle.rows.proofs.ids_differ.Statement.{statement}
 use Rattle.rows.proofs.ids_differ.Tie as tie
 
 abbrev Inv-loop : tie.InvT-loop
-Inv-loop lens ids size cap start count met₀ i₀ met i = (i ≤ count) × ((length met ≡ 4096) × ((distinct (drop i (idsIn size cap start count lens ids)) ≡ true) × Met met (drop i (idsIn size cap start count lens ids))))
+Inv-loop lens ids size ring met₀ i₀ met i = (i ≤ ring .count) × ((length met ≡ buckets) × ((distinct (drop i (idsIn size ring lens ids)) ≡ true) × Met met (drop i (idsIn size ring lens ids))))
 
 abbrev μ-loop : tie.MeasureT-loop
-μ-loop lens ids size cap start count met₀ i₀ met i = i
+μ-loop lens ids size ring met₀ i₀ met i = i
 
--- src/lib.rt:163:5
 loop-holds : tie.Need-loop-holds Inv-loop μ-loop
-loop-holds c = let e = ids-end (c .before .before .args .size) (c .before .before .args .cap) (c .before .before .args .start) (c .before .before .args .count) (now (c .before .before .args .lens)) (now (c .before .before .args .ids)) in (omega arith, (refl, (differ-none _ e, λ id z. sym (among-none id _ _ e refl))))
+loop-holds c = let e = ids-end (c .before .before .args .size) (c .before .before .args .ring) (now (c .before .before .args .lens)) (now (c .before .before .args .ids)) in (omega arith, (refl, (differ-none _ e, λ id z. sym (among-none id _ _ e refl))))
 
--- src/lib.rt:165:13
 sub-i : tie.Need-sub-i Inv-loop μ-loop
 sub-i c = search needs
 
--- src/lib.rt:166:13
 place-requires : tie.Need-place-requires Inv-loop μ-loop
 place-requires c κs = search needs
 
--- src/lib.rt:167:20
 mul-base : tie.Need-mul-base Inv-loop μ-loop
-mul-base c = let w = row-within (c .before .before .before .before .before .args .size) (c .before .before .before .before .before .args .cap) (c .before .before .before .before .before .args .start) (c .before .before .before .before .before .args .count) (now (c .before .before .before .before .before .args .lens)) (now (c .before .before .before .before .before .args .ids)) ((c .before .before .loop .i) - 1) (c .place .result) (c .before .before .before .before .before .pre) (omega arith) (c .place .ensures) in search needs
+mul-base c = let w = row-within (c .before .before .before .before .before .args .size) (c .before .before .before .before .before .args .ring) (now (c .before .before .before .before .before .args .lens)) (now (c .before .before .before .before .before .args .ids)) ((c .before .before .loop .i) - 1) (c .place .result) (c .before .before .before .before .before .pre) (omega arith) (c .place .ensures) in search needs
 
--- src/lib.rt:168:26
 shared-slice-read-end : tie.Need-shared-slice-read-end Inv-loop μ-loop
-shared-slice-read-end c = let w = row-within (c .before .before .before .before .before .before .args .size) (c .before .before .before .before .before .before .args .cap) (c .before .before .before .before .before .before .args .start) (c .before .before .before .before .before .before .args .count) (now (c .before .before .before .before .before .before .args .lens)) (now (c .before .before .before .before .before .before .args .ids)) ((c .before .before .before .loop .i) - 1) (c .before .place .result) (c .before .before .before .before .before .before .pre) (omega arith) (c .before .place .ensures) in omega arith
+shared-slice-read-end c = let w = row-within (c .before .before .before .before .before .before .args .size) (c .before .before .before .before .before .before .args .ring) (now (c .before .before .before .before .before .before .args .lens)) (now (c .before .before .before .before .before .before .args .ids)) ((c .before .before .before .loop .i) - 1) (c .before .place .result) (c .before .before .before .before .before .before .pre) (omega arith) (c .before .place .ensures) in omega arith
 
--- src/lib.rt:168:26
 cast-end : tie.Need-cast-end Inv-loop μ-loop
 cast-end c = omega (arith, (c .shared-slice-known3 .given) (c .before .place .result))
 
--- src/lib.rt:168:19
 add-end : tie.Need-add-end Inv-loop μ-loop
-add-end c = let w = row-within (c .before .before .before .before .before .before .args .size) (c .before .before .before .before .before .before .args .cap) (c .before .before .before .before .before .before .args .start) (c .before .before .before .before .before .before .args .count) (now (c .before .before .before .before .before .before .args .lens)) (now (c .before .before .before .before .before .before .args .ids)) ((c .before .before .before .loop .i) - 1) (c .before .place .result) (c .before .before .before .before .before .before .pre) (omega arith) (c .before .place .ensures) in search needs
+add-end c = let w = row-within (c .before .before .before .before .before .before .args .size) (c .before .before .before .before .before .before .args .ring) (now (c .before .before .before .before .before .before .args .lens)) (now (c .before .before .before .before .before .before .args .ids)) ((c .before .before .before .loop .i) - 1) (c .before .place .result) (c .before .before .before .before .before .before .pre) (omega arith) (c .before .place .ensures) in search needs
 
--- src/lib.rt:169:18
 sub-id : tie.Need-sub-id Inv-loop μ-loop
 sub-id c = search needs
 
--- src/lib.rt:169:18
 part-id-start : tie.Need-part-id-start Inv-loop μ-loop
 part-id-start c = search needs
 
--- src/lib.rt:169:18
 part-id-end : tie.Need-part-id-end Inv-loop μ-loop
-part-id-end c = let w = row-within (c .before .before .before .before .before .before .args .size) (c .before .before .before .before .before .before .args .cap) (c .before .before .before .before .before .before .args .start) (c .before .before .before .before .before .before .args .count) (now (c .before .before .before .before .before .before .args .lens)) (now (c .before .before .before .before .before .before .args .ids)) ((c .before .before .before .loop .i) - 1) (c .before .place .result) (c .before .before .before .before .before .before .pre) (omega arith) (c .before .place .ensures) in omega arith
+part-id-end c = let w = row-within (c .before .before .before .before .before .before .args .size) (c .before .before .before .before .before .before .args .ring) (now (c .before .before .before .before .before .before .args .lens)) (now (c .before .before .before .before .before .before .args .ids)) ((c .before .before .before .loop .i) - 1) (c .before .place .result) (c .before .before .before .before .before .before .pre) (omega arith) (c .before .place .ensures) in omega arith
 
--- src/lib.rt:170:13
 bucket-requires : tie.Need-bucket-requires Inv-loop μ-loop
 bucket-requires c κs = search needs
 
--- src/lib.rt:171:64
 array-read-again : tie.Need-array-read-again Inv-loop μ-loop
 array-read-again c = bucket-in _ (c .bucket .result) (c .bucket .ensures)
 
--- src/lib.rt:171:12
 again-requires : tie.Need-again-requires Inv-loop μ-loop
 again-requires c κs = ((c .before .before .before .before .before .before .before .before .pre), ((c .before .before .before .before .before .loop .inv .0), met-flag (c .before .before .before .before .before .loop .met) _ _ (c .bucket .result) (c .before .before .before .before .before .loop .inv .1 .1 .1) (c .bucket .ensures)))
 
--- src/lib.rt:172:13
 returns : tie.Need-returns Inv-loop μ-loop
-returns c = differ-not (c .before .before .before .before .before .before .before .before .before .before .args .size) (c .before .before .before .before .before .before .before .before .before .before .args .cap) (c .before .before .before .before .before .before .before .before .before .before .args .start) (c .before .before .before .before .before .before .before .before .before .before .args .count) (now (c .before .before .before .before .before .before .before .before .before .before .args .lens)) (now (c .before .before .before .before .before .before .before .before .before .before .args .ids)) (c .before .before .before .before .before .before .before .loop .i) (c .before .before .before .before .before .place .result) (c .before .before .before .before .before .before .loop-test .taken) (c .before .before .before .before .before .before .before .loop .inv .0) (c .before .before .before .before .before .place .ensures) (sym (c .before .again .ensures) ∙ (c .if1 .taken))
+returns c = differ-not (c .before .before .before .before .before .before .before .before .before .before .args .size) (c .before .before .before .before .before .before .before .before .before .before .args .ring) (now (c .before .before .before .before .before .before .before .before .before .before .args .lens)) (now (c .before .before .before .before .before .before .before .before .before .before .args .ids)) (c .before .before .before .before .before .before .before .loop .i) (c .before .before .before .before .before .place .result) (c .before .before .before .before .before .before .loop-test .taken) (c .before .before .before .before .before .before .before .loop .inv .0) (c .before .before .before .before .before .place .ensures) (sym (c .before .again .ensures) ∙ (c .if1 .taken))
 
--- src/lib.rt:174:9
 array-write-met : tie.Need-array-write-met Inv-loop μ-loop
 array-write-met c = bucket-in _ (c .before .before .bucket .result) (c .before .before .bucket .ensures)
 
--- src/lib.rt:163:5
 loop-less : tie.Need-loop-less Inv-loop μ-loop
 loop-less c = search needs
 
--- src/lib.rt:163:5
 loop-again : tie.Need-loop-again Inv-loop μ-loop
-loop-again c = (omega arith, (length-set (c .before .before .before .before .before .before .before .loop .met) (c .before .before .bucket .result) 1 ∙ (c .before .before .before .before .before .before .before .loop .inv .1 .0), (differ-more (c .before .before .before .before .before .before .before .before .before .before .args .size) (c .before .before .before .before .before .before .before .before .before .before .args .cap) (c .before .before .before .before .before .before .before .before .before .before .args .start) (c .before .before .before .before .before .before .before .before .before .before .args .count) (now (c .before .before .before .before .before .before .before .before .before .before .args .lens)) (now (c .before .before .before .before .before .before .before .before .before .before .args .ids)) (c .before .before .before .before .before .before .before .loop .i) (c .before .before .before .before .before .place .result) (c .before .before .before .before .before .before .loop-test .taken) (c .before .before .before .before .before .before .before .loop .inv .0) (c .before .before .before .before .before .place .ensures) (sym (c .before .again .ensures) ∙ (c .if1 .left)) (c .before .before .before .before .before .before .before .loop .inv .1 .1 .0), met-more (c .before .before .before .before .before .before .before .loop .met) (c .before .before .bucket .result) _ _ _ (row-before (c .before .before .before .before .before .before .before .before .before .before .args .size) (c .before .before .before .before .before .before .before .before .before .before .args .cap) (c .before .before .before .before .before .before .before .before .before .before .args .start) (c .before .before .before .before .before .before .before .before .before .before .args .count) (now (c .before .before .before .before .before .before .before .before .before .before .args .lens)) (now (c .before .before .before .before .before .before .before .before .before .before .args .ids)) (c .before .before .before .before .before .before .before .loop .i) (c .before .before .before .before .before .place .result) (c .before .before .before .before .before .before .loop-test .taken) (c .before .before .before .before .before .before .before .loop .inv .0) (c .before .before .before .before .before .place .ensures)) (c .before .before .bucket .ensures) (c .before .before .before .before .before .before .before .loop .inv .1 .0) (c .before .before .before .before .before .before .before .loop .inv .1 .1 .1))))
+loop-again c = (omega arith, (length-set (c .before .before .before .before .before .before .before .loop .met) (c .before .before .bucket .result) 1 ∙ (c .before .before .before .before .before .before .before .loop .inv .1 .0), (differ-more (c .before .before .before .before .before .before .before .before .before .before .args .size) (c .before .before .before .before .before .before .before .before .before .before .args .ring) (now (c .before .before .before .before .before .before .before .before .before .before .args .lens)) (now (c .before .before .before .before .before .before .before .before .before .before .args .ids)) (c .before .before .before .before .before .before .before .loop .i) (c .before .before .before .before .before .place .result) (c .before .before .before .before .before .before .loop-test .taken) (c .before .before .before .before .before .before .before .loop .inv .0) (c .before .before .before .before .before .place .ensures) (sym (c .before .again .ensures) ∙ (c .if1 .left)) (c .before .before .before .before .before .before .before .loop .inv .1 .1 .0), met-more (c .before .before .before .before .before .before .before .loop .met) (c .before .before .bucket .result) _ _ _ (row-before (c .before .before .before .before .before .before .before .before .before .before .args .size) (c .before .before .before .before .before .before .before .before .before .before .args .ring) (now (c .before .before .before .before .before .before .before .before .before .before .args .lens)) (now (c .before .before .before .before .before .before .before .before .before .before .args .ids)) (c .before .before .before .before .before .before .before .loop .i) (c .before .before .before .before .before .place .result) (c .before .before .before .before .before .before .loop-test .taken) (c .before .before .before .before .before .before .before .loop .inv .0) (c .before .before .before .before .before .place .ensures)) (c .before .before .bucket .ensures) (c .before .before .before .before .before .before .before .loop .inv .1 .0) (c .before .before .before .before .before .before .before .loop .inv .1 .1 .1))))
 
--- src/lib.rt:150:1
 returns-2 : tie.Need-returns-2 Inv-loop μ-loop
-returns-2 c = differ-all (c .before .loop .i) (idsIn (c .before .before .before .before .args .size) (c .before .before .before .before .args .cap) (c .before .before .before .before .args .start) (c .before .before .before .before .args .count) (now (c .before .before .before .before .args .lens)) (now (c .before .before .before .before .args .ids))) (c .loop-test .left) (c .before .loop .inv .1 .1 .0)
+returns-2 c = differ-all (c .before .loop .i) (idsIn (c .before .before .before .before .args .size) (c .before .before .before .before .args .ring) (now (c .before .before .before .before .args .lens)) (now (c .before .before .before .before .args .ids))) (c .loop-test .left) (c .before .loop .inv .1 .1 .0)
 
 pub ids-differ-spec : {M : Type 1} → statement M
 ids-differ-spec =

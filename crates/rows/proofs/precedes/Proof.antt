@@ -15,47 +15,36 @@ Inv-loop a b i₀ i = (i ≤ length a) × (precedesBytes (drop i a) (drop i b) �
 abbrev μ-loop : tie.MeasureT-loop
 μ-loop a b i₀ i = length a - i
 
--- src/lib.rt:51:5
 loop-holds : tie.Need-loop-holds Inv-loop μ-loop
 loop-holds c = search needs
 
--- src/lib.rt:53:13
 returns : tie.Need-returns Inv-loop μ-loop
 returns c = order-short (now (c .before .before .before .args .a)) (now (c .before .before .before .args .b)) (c .before .before .loop .i) ((c .before .before .loop .inv .1)) (omega arith)
 
--- src/lib.rt:55:12
 shared-slice-read-if2 : tie.Need-shared-slice-read-if2 Inv-loop μ-loop
 shared-slice-read-if2 c = search needs
 
--- src/lib.rt:55:20
 shared-slice-read-if2-2 : tie.Need-shared-slice-read-if2-2 Inv-loop μ-loop
 shared-slice-read-if2-2 c = search needs
 
--- src/lib.rt:56:20
 shared-slice-read-result : tie.Need-shared-slice-read-result Inv-loop μ-loop
 shared-slice-read-result c = search needs
 
--- src/lib.rt:56:27
 shared-slice-read-result-2 : tie.Need-shared-slice-read-result-2 Inv-loop μ-loop
 shared-slice-read-result-2 c = search needs
 
--- src/lib.rt:56:13
 returns-2 : tie.Need-returns-2 Inv-loop μ-loop
 returns-2 c = order-here (now (c .before .before .before .before .before .before .before .before .args .a)) (now (c .before .before .before .before .before .before .before .before .args .b)) (c .before .before .before .before .before .before .before .loop .i) ((c .before .before .before .before .before .before .before .loop .inv .1)) (omega arith) (omega arith) (c .before .before .if2 .taken)
 
--- src/lib.rt:58:9
 add-i : tie.Need-add-i Inv-loop μ-loop
 add-i c = search needs
 
--- src/lib.rt:51:5
 loop-less : tie.Need-loop-less Inv-loop μ-loop
 loop-less c = search needs
 
--- src/lib.rt:51:5
 loop-again : tie.Need-loop-again Inv-loop μ-loop
 loop-again c = (omega arith, order-more (now (c .before .before .before .before .before .before .args .a)) (now (c .before .before .before .before .before .before .args .b)) (c .before .before .before .before .before .loop .i) ((c .before .before .before .before .before .loop .inv .1)) (omega arith) (omega arith) (c .if2 .left))
 
--- src/lib.rt:47:1
 returns-3 : tie.Need-returns-3 Inv-loop μ-loop
 returns-3 c = order-prefix (now (c .before .before .args .a)) (now (c .before .before .args .b)) (c .before .loop .i) ((c .before .loop .inv .1)) (omega arith)
 

@@ -9,8 +9,6 @@ use Rattle.rows.specs.IdsLaws.{same-length, same-from, same-more, same-a
 use borrow.Author.Needs.{needs}
 use Rattle.rows.proofs.same.Statement.{statement}
 use Rattle.rows.proofs.same.Tie as tie
-use Rattle.rows.proofs.same.Reads as reads
-use Rattle.rows.proofs.same.Lts as lts
 
 abbrev Inv-loop : tie.InvT-loop
 Inv-loop a b i₀ i = (i ≤ length a) × (sameBytes (drop i a) (drop i b) ≡ true)
@@ -18,39 +16,30 @@ Inv-loop a b i₀ i = (i ≤ length a) × (sameBytes (drop i a) (drop i b) ≡ t
 abbrev μ-loop : tie.MeasureT-loop
 μ-loop a b i₀ i = i
 
--- src/lib.rt:36:9
 returns : tie.Need-returns Inv-loop μ-loop
 returns c = sym (same-length (now (c .before .args .a)) (now (c .before .args .b)) (c .if1 .taken))
 
--- src/lib.rt:39:5
 loop-holds : tie.Need-loop-holds Inv-loop μ-loop
 loop-holds c = (omega arith, same-from (now (c .before .args .a)) (now (c .before .args .b)) (length (now (c .before .args .a))) (omega arith) (omega arith))
 
--- src/lib.rt:40:13
 sub-i : tie.Need-sub-i Inv-loop μ-loop
 sub-i c = search needs
 
--- src/lib.rt:41:12
 shared-slice-read-if2 : tie.Need-shared-slice-read-if2 Inv-loop μ-loop
 shared-slice-read-if2 c = search needs
 
--- src/lib.rt:41:20
 shared-slice-read-if2-2 : tie.Need-shared-slice-read-if2-2 Inv-loop μ-loop
 shared-slice-read-if2-2 c = search needs
 
--- src/lib.rt:42:13
 returns-2 : tie.Need-returns-2 Inv-loop μ-loop
 returns-2 c = same-not (now (c .before .before .before .before .before .before .args .a)) (now (c .before .before .before .before .before .before .args .b)) ((c .before .before .before .before .loop .i) - 1) (c .if2 .taken)
 
--- src/lib.rt:39:5
 loop-less : tie.Need-loop-less Inv-loop μ-loop
 loop-less c = search needs
 
--- src/lib.rt:39:5
 loop-again : tie.Need-loop-again Inv-loop μ-loop
 loop-again c = (omega arith, same-more (now (c .before .before .before .before .before .before .args .a)) (now (c .before .before .before .before .before .before .args .b)) (c .before .before .before .before .loop .i) (c .before .before .before .loop-test .taken) ((c .before .before .before .before .loop .inv .0)) (c .before .before .before .before .before .if1 .left) ((c .before .before .before .before .loop .inv .1)) (c .if2 .left))
 
--- src/lib.rt:32:1
 returns-3 : tie.Need-returns-3 Inv-loop μ-loop
 returns-3 c = same-all (now (c .before .before .before .args .a)) (now (c .before .before .before .args .b)) (c .before .loop .i) (c .loop-test .left) ((c .before .loop .inv .1))
 

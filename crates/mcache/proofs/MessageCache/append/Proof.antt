@@ -5,88 +5,69 @@ use Rattle.mcache.proofs.Steps.{bytes-put, next-lies, appended-is, appe
 use borrow.Author.Needs.{needs}
 use Rattle.mcache.proofs.MessageCache.append.Statement.{statement}
 use Rattle.mcache.proofs.MessageCache.append.Tie as tie
-use Rattle.mcache.proofs.MessageCache.append.Reads as reads
-use Rattle.mcache.proofs.MessageCache.append.Lts as lts
-use Rattle.protobuf.proofs.put_bytes.Reads as put-bytes-reads
-use Rattle.rows.proofs.place.Reads as place-reads
-use Rattle.std.proofs.num.wrapping_add_u64.Reads as wrapping-add-u64-reads
 
--- src/lib.rt:492:13
+ring-requires : tie.Need-ring-requires
+ring-requires c κs = search needs
+
 place-requires : tie.Need-place-requires
 place-requires c κs = search needs
 
--- src/lib.rt:493:26
 mul-put-bytes : tie.Need-mul-put-bytes
-mul-put-bytes c = let w = next-lies (c .before .before .before .before .before .args .t1) (now (c .before .before .before .before .before .args .store)) (c .before .place .result) ((c .before .before .before .before .before .pre .0)) ((c .before .before .before .before .before .pre .1 .0)) (c .before .place .ensures) in omega arith
+mul-put-bytes c = let w = next-lies (c .before .before .before .before .before .before .args .t1) (now (c .before .before .before .before .before .before .args .store)) (c .before .place .result) (c .before .before .before .before .before .before .pre .0) (c .before .before .before .before .before .before .pre .1 .0) (rw (c .before .before .ring .ensures) at (c .before .place .ensures)) in omega arith
 
--- src/lib.rt:493:9
 put-bytes-requires : tie.Need-put-bytes-requires
 put-bytes-requires c κs = search needs
 
--- src/lib.rt:495:19
 slice-aggregate-put-bytes : tie.Need-slice-aggregate-put-bytes
 slice-aggregate-put-bytes c = search needs
 
--- src/lib.rt:495:29
 mul-put-bytes-2 : tie.Need-mul-put-bytes-2
-mul-put-bytes-2 c = let w = next-lies (c .before .before .before .before .before .before .before .before .before .before .args .t1) (now (c .before .before .before .before .before .before .before .before .before .before .args .store)) (c .before .before .before .before .before .before .place .result) ((c .before .before .before .before .before .before .before .before .before .before .pre .0)) ((c .before .before .before .before .before .before .before .before .before .before .pre .1 .0)) (c .before .before .before .before .before .before .place .ensures) in omega arith
+mul-put-bytes-2 c = let w = next-lies (c .before .before .before .before .before .before .before .before .before .before .before .args .t1) (now (c .before .before .before .before .before .before .before .before .before .before .before .args .store)) (c .before .before .before .before .before .before .place .result) (c .before .before .before .before .before .before .before .before .before .before .before .pre .0) (c .before .before .before .before .before .before .before .before .before .before .before .pre .1 .0) (rw (c .before .before .before .before .before .before .before .ring .ensures) at (c .before .before .before .before .before .before .place .ensures)) in omega arith
 
--- src/lib.rt:495:9
 put-bytes-requires-2 : tie.Need-put-bytes-requires-2
 put-bytes-requires-2 c κs = search needs
 
--- src/lib.rt:497:26
 cast-self : tie.Need-cast-self
 cast-self c = search needs
 
--- src/lib.rt:497:9
 element-write-self : tie.Need-element-write-self
-element-write-self c = let w = next-lies (c .before .before .before .before .before .before .before .before .before .before .before .before .args .t1) (now (c .before .before .before .before .before .before .before .before .before .before .before .before .args .store)) (c .before .before .before .before .before .before .before .before .place .result) ((c .before .before .before .before .before .before .before .before .before .before .before .before .pre .0)) ((c .before .before .before .before .before .before .before .before .before .before .before .before .pre .1 .0)) (c .before .before .before .before .before .before .before .before .place .ensures) in omega arith
+element-write-self c = let w = next-lies (c .before .before .before .before .before .before .before .before .before .before .before .before .before .args .t1) (now (c .before .before .before .before .before .before .before .before .before .before .before .before .before .args .store)) (c .before .before .before .before .before .before .before .before .place .result) (c .before .before .before .before .before .before .before .before .before .before .before .before .before .pre .0) (c .before .before .before .before .before .before .before .before .before .before .before .before .before .pre .1 .0) (rw (c .before .before .before .before .before .before .before .before .before .ring .ensures) at (c .before .before .before .before .before .before .before .before .place .ensures)) in omega arith
 
--- src/lib.rt:498:23
 cast-self-2 : tie.Need-cast-self-2
 cast-self-2 c = search needs
 
--- src/lib.rt:498:9
 mul-self : tie.Need-mul-self
-mul-self c = let w = next-lies (c .before .before .before .before .before .before .before .before .before .before .before .before .args .t1) (now (c .before .before .before .before .before .before .before .before .before .before .before .before .args .store)) (c .before .before .before .before .before .before .before .before .place .result) ((c .before .before .before .before .before .before .before .before .before .before .before .before .pre .0)) ((c .before .before .before .before .before .before .before .before .before .before .before .before .pre .1 .0)) (c .before .before .before .before .before .before .before .before .place .ensures) in omega arith
+mul-self c = let w = next-lies (c .before .before .before .before .before .before .before .before .before .before .before .before .before .args .t1) (now (c .before .before .before .before .before .before .before .before .before .before .before .before .before .args .store)) (c .before .before .before .before .before .before .before .before .place .result) (c .before .before .before .before .before .before .before .before .before .before .before .before .before .pre .0) (c .before .before .before .before .before .before .before .before .before .before .before .before .before .pre .1 .0) (rw (c .before .before .before .before .before .before .before .before .before .ring .ensures) at (c .before .before .before .before .before .before .before .before .place .ensures)) in omega arith
 
--- src/lib.rt:498:9
 element-write-self-2 : tie.Need-element-write-self-2
-element-write-self-2 c = let w = next-lies (c .before .before .before .before .before .before .before .before .before .before .before .before .args .t1) (now (c .before .before .before .before .before .before .before .before .before .before .before .before .args .store)) (c .before .before .before .before .before .before .before .before .place .result) ((c .before .before .before .before .before .before .before .before .before .before .before .before .pre .0)) ((c .before .before .before .before .before .before .before .before .before .before .before .before .pre .1 .0)) (c .before .before .before .before .before .before .before .before .place .ensures) in omega arith
+element-write-self-2 c = let w = next-lies (c .before .before .before .before .before .before .before .before .before .before .before .before .before .args .t1) (now (c .before .before .before .before .before .before .before .before .before .before .before .before .before .args .store)) (c .before .before .before .before .before .before .before .before .place .result) (c .before .before .before .before .before .before .before .before .before .before .before .before .before .pre .0) (c .before .before .before .before .before .before .before .before .before .before .before .before .before .pre .1 .0) (rw (c .before .before .before .before .before .before .before .before .before .ring .ensures) at (c .before .before .before .before .before .before .before .before .place .ensures)) in omega arith
 
--- src/lib.rt:499:9
 element-write-self-3 : tie.Need-element-write-self-3
-element-write-self-3 c = let w = next-lies (c .before .before .before .before .before .before .before .before .before .before .before .before .args .t1) (now (c .before .before .before .before .before .before .before .before .before .before .before .before .args .store)) (c .before .before .before .before .before .before .before .before .place .result) ((c .before .before .before .before .before .before .before .before .before .before .before .before .pre .0)) ((c .before .before .before .before .before .before .before .before .before .before .before .before .pre .1 .0)) (c .before .before .before .before .before .before .before .before .place .ensures) in omega arith
+element-write-self-3 c = let w = next-lies (c .before .before .before .before .before .before .before .before .before .before .before .before .before .args .t1) (now (c .before .before .before .before .before .before .before .before .before .before .before .before .before .args .store)) (c .before .before .before .before .before .before .before .before .place .result) (c .before .before .before .before .before .before .before .before .before .before .before .before .before .pre .0) (c .before .before .before .before .before .before .before .before .before .before .before .before .before .pre .1 .0) (rw (c .before .before .before .before .before .before .before .before .before .ring .ensures) at (c .before .before .before .before .before .before .before .before .place .ensures)) in omega arith
 
--- src/lib.rt:500:9
 mul-self-2 : tie.Need-mul-self-2
-mul-self-2 c = let w = next-lies (c .before .before .before .before .before .before .before .before .before .before .before .before .args .t1) (now (c .before .before .before .before .before .before .before .before .before .before .before .before .args .store)) (c .before .before .before .before .before .before .before .before .place .result) ((c .before .before .before .before .before .before .before .before .before .before .before .before .pre .0)) ((c .before .before .before .before .before .before .before .before .before .before .before .before .pre .1 .0)) (c .before .before .before .before .before .before .before .before .place .ensures) in omega arith
+mul-self-2 c = let w = next-lies (c .before .before .before .before .before .before .before .before .before .before .before .before .before .args .t1) (now (c .before .before .before .before .before .before .before .before .before .before .before .before .before .args .store)) (c .before .before .before .before .before .before .before .before .place .result) (c .before .before .before .before .before .before .before .before .before .before .before .before .before .pre .0) (c .before .before .before .before .before .before .before .before .before .before .before .before .before .pre .1 .0) (rw (c .before .before .before .before .before .before .before .before .before .ring .ensures) at (c .before .before .before .before .before .before .before .before .place .ensures)) in omega arith
 
--- src/lib.rt:500:9
 element-write-self-4 : tie.Need-element-write-self-4
-element-write-self-4 c = let w = next-lies (c .before .before .before .before .before .before .before .before .before .before .before .before .args .t1) (now (c .before .before .before .before .before .before .before .before .before .before .before .before .args .store)) (c .before .before .before .before .before .before .before .before .place .result) ((c .before .before .before .before .before .before .before .before .before .before .before .before .pre .0)) ((c .before .before .before .before .before .before .before .before .before .before .before .before .pre .1 .0)) (c .before .before .before .before .before .before .before .before .place .ensures) in omega arith
+element-write-self-4 c = let w = next-lies (c .before .before .before .before .before .before .before .before .before .before .before .before .before .args .t1) (now (c .before .before .before .before .before .before .before .before .before .before .before .before .before .args .store)) (c .before .before .before .before .before .before .before .before .place .result) (c .before .before .before .before .before .before .before .before .before .before .before .before .before .pre .0) (c .before .before .before .before .before .before .before .before .before .before .before .before .before .pre .1 .0) (rw (c .before .before .before .before .before .before .before .before .before .ring .ensures) at (c .before .before .before .before .before .before .before .before .place .ensures)) in omega arith
 
--- src/lib.rt:501:32
 wrapping-add-u64-requires : tie.Need-wrapping-add-u64-requires
 wrapping-add-u64-requires c κs = search needs
 
--- src/lib.rt:502:22
 add-self : tie.Need-add-self
 add-self c = search needs
 
--- src/lib.rt:484:5
 same-length : tie.Need-same-length
 same-length c = search needs
 
--- src/lib.rt:484:5
 returns : tie.Need-returns
-returns c = let w = next-lies (c .before .before .before .before .before .before .before .before .before .before .before .before .before .args .t1) (now (c .before .before .before .before .before .before .before .before .before .before .before .before .before .args .store)) (c .before .before .before .before .before .before .before .before .before .place .result) ((c .before .before .before .before .before .before .before .before .before .before .before .before .before .pre .0)) ((c .before .before .before .before .before .before .before .before .before .before .before .before .before .pre .1 .0)) (c .before .before .before .before .before .before .before .before .before .place .ensures) in (appended-is (length (now (c .before .before .before .before .before .before .before .before .before .before .before .before .before .args .part))) (now (c .before .before .before .before .before .before .before .before .before .before .before .before .before .args .id)) (c .before .before .before .before .before .before .before .before .before .before .before .before .before .args .t1) (c .before .before .before .before .before .before .before .before .before .place .result) (c .wrapping-add-u64 .result) _ (c .before .before .before .before .before .before .before .before .before .place .ensures) (c .wrapping-add-u64 .ensures) (bytes-put _ (now (c .before .before .before .before .before .before .before .before .before .before .before .before .before .args .id)) ((c .before .before .before .before .before .before .before .before .before .before .before .before .before .args .t1 .ids)) _ (omega (arith, (c .before .before .before .before .before .before .before .before .before .before .before .before .before .pre .1 .1))) ((c .before .before .put-bytes2 .ensures .1))), appended-store (c .before .before .before .before .before .before .before .before .before .before .before .before .before .args .t1) (c .before .before .before .before .before .before .before .before .before .place .result) (now (c .before .before .before .before .before .before .before .before .before .before .before .before .before .args .store)) _ (now (c .before .before .before .before .before .before .before .before .before .before .before .before .before .args .part)) (c .before .before .before .before .before .before .before .before .before .place .ensures) (bytes-put _ (now (c .before .before .before .before .before .before .before .before .before .before .before .before .before .args .part)) (now (c .before .before .before .before .before .before .before .before .before .before .before .before .before .args .store)) _ (omega (arith, (c .before .before .before .before .before .before .before .before .before .before .before .before .before .pre .1 .1))) ((c .before .before .before .before .before .before .before .put-bytes .ensures .1))))
+returns c = let w = next-lies (c .before .before .before .before .before .before .before .before .before .before .before .before .before .before .args .t1) (now (c .before .before .before .before .before .before .before .before .before .before .before .before .before .before .args .store)) (c .before .before .before .before .before .before .before .before .before .place .result) (c .before .before .before .before .before .before .before .before .before .before .before .before .before .before .pre .0) (c .before .before .before .before .before .before .before .before .before .before .before .before .before .before .pre .1 .0) (rw (c .before .before .before .before .before .before .before .before .before .before .ring .ensures) at (c .before .before .before .before .before .before .before .before .before .place .ensures)) in (appended-is (length (now (c .before .before .before .before .before .before .before .before .before .before .before .before .before .before .args .part))) (now (c .before .before .before .before .before .before .before .before .before .before .before .before .before .before .args .id)) (c .before .before .before .before .before .before .before .before .before .before .before .before .before .before .args .t1) (c .before .before .before .before .before .before .before .before .before .place .result) (c .wrapping-add-u64 .result) _ (rw (c .before .before .before .before .before .before .before .before .before .before .ring .ensures) at (c .before .before .before .before .before .before .before .before .before .place .ensures)) (c .wrapping-add-u64 .ensures) (bytes-put _ (now (c .before .before .before .before .before .before .before .before .before .before .before .before .before .before .args .id)) (c .before .before .before .before .before .before .before .before .before .before .before .before .before .before .args .t1 .ids) _ (omega (arith, (c .before .before .before .before .before .before .before .before .before .before .before .before .before .before .pre .1 .1))) (c .before .before .put-bytes2 .ensures .1)), appended-store (c .before .before .before .before .before .before .before .before .before .before .before .before .before .before .args .t1) (c .before .before .before .before .before .before .before .before .before .place .result) (now (c .before .before .before .before .before .before .before .before .before .before .before .before .before .before .args .store)) _ (now (c .before .before .before .before .before .before .before .before .before .before .before .before .before .before .args .part)) (rw (c .before .before .before .before .before .before .before .before .before .before .ring .ensures) at (c .before .before .before .before .before .before .before .before .before .place .ensures)) (bytes-put _ (now (c .before .before .before .before .before .before .before .before .before .before .before .before .before .before .args .part)) (now (c .before .before .before .before .before .before .before .before .before .before .before .before .before .before .args .store)) _ (omega (arith, (c .before .before .before .before .before .before .before .before .before .before .before .before .before .before .pre .1 .1))) (c .before .before .before .before .before .before .before .put-bytes .ensures .1)))
 
 pub append-spec : {M : Type 1} → statement M
 append-spec =
     tie.close
     (tie.spec
+    ring-requires
     place-requires
     mul-put-bytes
     put-bytes-requires

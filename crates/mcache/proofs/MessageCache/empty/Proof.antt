@@ -3,10 +3,7 @@ use Rattle.mcache.specs.State.{fresh}
 use borrow.Author.Needs.{needs}
 use Rattle.mcache.proofs.MessageCache.empty.Statement.{statement}
 use Rattle.mcache.proofs.MessageCache.empty.Tie as tie
-use Rattle.mcache.proofs.MessageCache.empty.Reads as reads
-use Rattle.mcache.proofs.MessageCache.empty.Lts as lts
 
--- src/lib.rt:385:5
 returns : tie.Need-returns
 unfolding fresh
 returns c = refl

@@ -4,50 +4,36 @@ use Rattle.mcache.proofs.Answers.{tested, get-store, get-malformed, get
 use borrow.Author.Needs.{needs}
 use Rattle.mcache.proofs.MessageCache.get.Statement.{statement}
 use Rattle.mcache.proofs.MessageCache.get.Tie as tie
-use Rattle.mcache.proofs.MessageCache.get.Reads as reads
-use Rattle.mcache.proofs.MessageCache.get.Lts as lts
-use Rattle.mcache.proofs.MessageCache.lent.Reads as lent-reads
-use Rattle.mcache.proofs.MessageCache.message_of.Reads as message-of-reads
 
--- src/lib.rt:678:13
 lent-requires : tie.Need-lent-requires
 lent-requires c κs = search needs
 
--- src/lib.rt:680:31
 enum-told : tie.Need-enum-told
 enum-told c = search needs
 
--- src/lib.rt:680:31
 slice-aggregate-result : tie.Need-slice-aggregate-result
 slice-aggregate-result c = search needs
 
--- src/lib.rt:681:32
 enum-told-2 : tie.Need-enum-told-2
 enum-told-2 c = search needs
 
--- src/lib.rt:681:32
 slice-aggregate-result-2 : tie.Need-slice-aggregate-result-2
 slice-aggregate-result-2 c = search needs
 
--- src/lib.rt:682:27
 enum-told-3 : tie.Need-enum-told-3
 enum-told-3 c = search needs
 
--- src/lib.rt:682:27
 message-of-requires : tie.Need-message-of-requires
-message-of-requires c κs = tested (c .before .before .before .before .before .args .self) (now (c .before .before .before .before .before .args .store)) (sym ((c .enum-told3 .given .1)) ∙ (c .before .before .lent .ensures)) (search needs) (search needs) (search needs) (search needs) (search needs)
+message-of-requires c κs = tested (c .before .before .before .before .before .args .self) (now (c .before .before .before .before .before .args .store)) (sym (c .enum-told3 .given .1) ∙ (c .before .before .lent .ensures)) (search needs) (search needs) (search needs) (search needs) (search needs)
 
--- src/lib.rt:675:5
 returns : tie.Need-returns
-returns c = get-store (c .before .before .before .before .before .before .args .self) (now (c .before .before .before .before .before .before .args .store)) (now (c .before .before .before .before .before .before .args .id)) (sym ((c .before .enum-told .given .1)) ∙ (c .before .before .before .lent .ensures))
+returns c = get-store (c .before .before .before .before .before .before .args .self) (now (c .before .before .before .before .before .before .args .store)) (now (c .before .before .before .before .before .before .args .id)) (sym (c .before .enum-told .given .1) ∙ (c .before .before .before .lent .ensures))
 
--- src/lib.rt:675:5
 returns-2 : tie.Need-returns-2
-returns-2 c = get-malformed (c .before .before .before .before .before .before .args .self) (now (c .before .before .before .before .before .before .args .store)) (now (c .before .before .before .before .before .before .args .id)) (sym ((c .before .enum-told2 .given .1)) ∙ (c .before .before .before .lent .ensures))
+returns-2 c = get-malformed (c .before .before .before .before .before .before .args .self) (now (c .before .before .before .before .before .before .args .store)) (now (c .before .before .before .before .before .before .args .id)) (sym (c .before .enum-told2 .given .1) ∙ (c .before .before .before .lent .ensures))
 
--- src/lib.rt:675:5
 returns-3 : tie.Need-returns-3
-returns-3 c = get-found (c .before .before .before .before .before .before .args .self) (now (c .before .before .before .before .before .before .args .store)) (now (c .before .before .before .before .before .before .args .id)) (sym ((c .before .enum-told3 .given .1)) ∙ (c .before .before .before .lent .ensures)) _ (c .message-of .ensures)
+returns-3 c = get-found (c .before .before .before .before .before .before .args .self) (now (c .before .before .before .before .before .before .args .store)) (now (c .before .before .before .before .before .before .args .id)) (sym (c .before .enum-told3 .given .1) ∙ (c .before .before .before .lent .ensures)) _ (c .message-of .ensures)
 
 pub get-spec : {M : Type 1} → statement M
 get-spec =

@@ -6,65 +6,56 @@ use Rattle.mcache.proofs.Answers.{ids-short, ids-gives, ids-differ, rin
 use borrow.Author.Needs.{needs}
 use Rattle.mcache.proofs.MessageCache.ids_fit.Statement.{statement}
 use Rattle.mcache.proofs.MessageCache.ids_fit.Tie as tie
-use Rattle.mcache.proofs.MessageCache.ids_fit.Reads as reads
-use Rattle.mcache.proofs.MessageCache.ids_fit.Lts as lts
-use Rattle.mcache.proofs.messages_fit.Reads as messages-fit-reads
-use Rattle.rows.proofs.all_within.Reads as all-within-reads
-use Rattle.rows.proofs.ids_differ.Reads as ids-differ-reads
 
--- src/lib.rt:424:23
+ring-requires : tie.Need-ring-requires
+ring-requires c κs = search needs
+
 slice-aggregate-all-within : tie.Need-slice-aggregate-all-within
 slice-aggregate-all-within c = search needs
 
--- src/lib.rt:424:12
-all-within-requires : tie.Need-all-within-requires
-all-within-requires c κs = ring-of (c .before .before .before .before .before .args .self) (now (c .before .before .before .before .before .args .store)) ((c .before .before .before .before .before .pre .0)) ((c .before .before .before .before .before .pre .1)) ((c .before .before .before .before .before .pre .2)) _ (search needs)
+cast-all-within : tie.Need-cast-all-within
+cast-all-within c = search needs
 
--- src/lib.rt:425:29
+all-within-requires : tie.Need-all-within-requires
+all-within-requires c κs = rw (c .before .before .before .before .ring .ensures) (ring-of (c .before .before .before .before .before .before .args .self) (now (c .before .before .before .before .before .before .args .store)) (c .before .before .before .before .before .before .pre .0) (c .before .before .before .before .before .before .pre .1) (c .before .before .before .before .before .before .pre .2) _ (search needs))
+
 slice-aggregate-messages-fit : tie.Need-slice-aggregate-messages-fit
 slice-aggregate-messages-fit c = search needs
 
--- src/lib.rt:425:36
 slice-aggregate-messages-fit-2 : tie.Need-slice-aggregate-messages-fit-2
 slice-aggregate-messages-fit-2 c = search needs
 
--- src/lib.rt:425:46
 slice-aggregate-messages-fit-3 : tie.Need-slice-aggregate-messages-fit-3
 slice-aggregate-messages-fit-3 c = search needs
 
--- src/lib.rt:425:16
 messages-fit-requires : tie.Need-messages-fit-requires
-messages-fit-requires c κs = rows-of (c .before .before .before .before .before .before .before .before .before .before .args .self) (now (c .before .before .before .before .before .before .before .before .before .before .args .store)) ((c .before .before .before .before .before .before .before .before .before .before .pre .0)) ((c .before .before .before .before .before .before .before .before .before .before .pre .1)) ((c .before .before .before .before .before .before .before .before .before .before .pre .2)) (search needs) (search needs) (search needs) ((c .before .before .before .before .before .before .before .before .before .before .pre .3)) (sym (c .before .before .before .before .all-within .ensures) ∙ (c .before .before .before .if1 .taken))
+messages-fit-requires c κs = rw (c .before .before .before .before .before .before .before .before .before .ring .ensures) (rows-of (c .before .before .before .before .before .before .before .before .before .before .before .args .self) (now (c .before .before .before .before .before .before .before .before .before .before .before .args .store)) (c .before .before .before .before .before .before .before .before .before .before .before .pre .0) (c .before .before .before .before .before .before .before .before .before .before .before .pre .1) (c .before .before .before .before .before .before .before .before .before .before .before .pre .2) (search needs) (search needs) (search needs) (c .before .before .before .before .before .before .before .before .before .before .before .pre .3) (sym (rw (c .before .before .before .before .before .before .before .before .before .ring .ensures) at (c .before .before .before .before .all-within .ensures)) ∙ (c .before .before .before .if1 .taken)))
 
--- src/lib.rt:426:35
 slice-aggregate-ids-differ : tie.Need-slice-aggregate-ids-differ
 slice-aggregate-ids-differ c = search needs
 
--- src/lib.rt:426:45
 slice-aggregate-ids-differ-2 : tie.Need-slice-aggregate-ids-differ-2
 slice-aggregate-ids-differ-2 c = search needs
 
--- src/lib.rt:426:17
 ids-differ-requires : tie.Need-ids-differ-requires
-ids-differ-requires c κs = sound-of (c .before .before .before .before .before .before .before .before .before .before .before .before .before .before .args .self) (now (c .before .before .before .before .before .before .before .before .before .before .before .before .before .before .args .store)) ((c .before .before .before .before .before .before .before .before .before .before .before .before .before .before .pre .0)) ((c .before .before .before .before .before .before .before .before .before .before .before .before .before .before .pre .1)) ((c .before .before .before .before .before .before .before .before .before .before .before .before .before .before .pre .2)) (search needs) (search needs) (sym (c .before .before .before .before .before .before .before .before .all-within .ensures) ∙ (c .before .before .before .before .before .before .before .if1 .taken))
+ids-differ-requires c κs = rw (c .before .before .before .before .before .before .before .before .before .before .before .before .before .ring .ensures) (sound-of (c .before .before .before .before .before .before .before .before .before .before .before .before .before .before .before .args .self) (now (c .before .before .before .before .before .before .before .before .before .before .before .before .before .before .before .args .store)) (c .before .before .before .before .before .before .before .before .before .before .before .before .before .before .before .pre .0) (c .before .before .before .before .before .before .before .before .before .before .before .before .before .before .before .pre .1) (c .before .before .before .before .before .before .before .before .before .before .before .before .before .before .before .pre .2) (search needs) (search needs) (sym (rw (c .before .before .before .before .before .before .before .before .before .before .before .before .before .ring .ensures) at (c .before .before .before .before .before .before .before .before .all-within .ensures)) ∙ (c .before .before .before .before .before .before .before .if1 .taken)))
 
--- src/lib.rt:426:17
 returns : tie.Need-returns
-returns c = ids-differ (c .before .before .before .before .before .before .before .before .before .before .before .before .before .before .before .args .self) (now (c .before .before .before .before .before .before .before .before .before .before .before .before .before .before .before .args .store)) (sym (c .before .before .before .before .before .before .before .before .before .all-within .ensures) ∙ (c .before .before .before .before .before .before .before .before .if1 .taken)) (sym (c .before .before .before .before .messages-fit .ensures) ∙ (c .before .before .before .if2 .taken)) (c .ids-differ .result) (c .ids-differ .ensures)
+returns c = ids-differ (c .before .before .before .before .before .before .before .before .before .before .before .before .before .before .before .before .args .self) (now (c .before .before .before .before .before .before .before .before .before .before .before .before .before .before .before .before .args .store)) (sym (rw (c .before .before .before .before .before .before .before .before .before .before .before .before .before .before .ring .ensures) at (c .before .before .before .before .before .before .before .before .before .all-within .ensures)) ∙ (c .before .before .before .before .before .before .before .before .if1 .taken)) (sym (rw (c .before .before .before .before .before .before .before .before .before .before .before .before .before .before .ring .ensures) at (c .before .before .before .before .messages-fit .ensures)) ∙ (c .before .before .before .if2 .taken)) (c .ids-differ .result) (rw (c .before .before .before .before .before .before .before .before .before .before .before .before .before .before .ring .ensures) at (c .ids-differ .ensures))
 
--- src/lib.rt:414:5
 returns-2 : tie.Need-returns-2
-returns-2 c = ids-gives (c .before .before .before .before .before .before .before .before .before .before .before .before .args .self) (now (c .before .before .before .before .before .before .before .before .before .before .before .before .args .store)) (sym (c .before .before .before .before .before .before .all-within .ensures) ∙ (c .before .before .before .before .before .if1 .taken)) (sym (c .before .messages-fit .ensures) ∙ (c .if2 .left))
+returns-2 c = ids-gives (c .before .before .before .before .before .before .before .before .before .before .before .before .before .args .self) (now (c .before .before .before .before .before .before .before .before .before .before .before .before .before .args .store)) (sym (rw (c .before .before .before .before .before .before .before .before .before .before .before .ring .ensures) at (c .before .before .before .before .before .before .all-within .ensures)) ∙ (c .before .before .before .before .before .if1 .taken)) (sym (rw (c .before .before .before .before .before .before .before .before .before .before .before .ring .ensures) at (c .before .messages-fit .ensures)) ∙ (c .if2 .left))
 
--- src/lib.rt:414:5
 returns-3 : tie.Need-returns-3
-returns-3 c = ids-short (c .before .before .before .before .before .before .before .args .self) (now (c .before .before .before .before .before .before .before .args .store)) (sym (c .before .all-within .ensures) ∙ (c .if1 .left))
+returns-3 c = ids-short (c .before .before .before .before .before .before .before .before .args .self) (now (c .before .before .before .before .before .before .before .before .args .store)) (sym (rw (c .before .before .before .before .before .before .ring .ensures) at (c .before .all-within .ensures)) ∙ (c .if1 .left))
 
 pub ids-fit-spec : {M : Type 1} → statement M
 ids-fit-spec =
     tie.close
     (tie.spec
+    ring-requires
     slice-aggregate-all-within
+    cast-all-within
     all-within-requires
     slice-aggregate-messages-fit
     slice-aggregate-messages-fit-2

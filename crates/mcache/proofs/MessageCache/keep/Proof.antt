@@ -4,28 +4,19 @@ use Rattle.mcache.proofs.Answers.{under-held, under-new}
 use borrow.Author.Needs.{needs}
 use Rattle.mcache.proofs.MessageCache.keep.Statement.{statement}
 use Rattle.mcache.proofs.MessageCache.keep.Tie as tie
-use Rattle.mcache.proofs.MessageCache.keep.Reads as reads
-use Rattle.mcache.proofs.MessageCache.keep.Lts as lts
-use Rattle.mcache.proofs.MessageCache.enter.Reads as enter-reads
-use Rattle.mcache.proofs.MessageCache.find.Reads as find-reads
 
--- src/lib.rt:561:12
 find-requires : tie.Need-find-requires
 find-requires c κs = search needs
 
--- src/lib.rt:562:13
 returns : tie.Need-returns
 returns c = under-held (c .before .before .before .before .before .before .args .self) (now (c .before .before .before .before .before .before .args .store)) (now (c .before .before .before .before .before .before .args .part)) (now (c .before .before .before .before .before .before .args .id)) (c .before .before .find .result) (c .before .before .find .ensures) (c .if1 .taken)
 
--- src/lib.rt:564:9
 enter-requires : tie.Need-enter-requires
 enter-requires c κs = search needs
 
--- src/lib.rt:555:5
 same-length : tie.Need-same-length
 same-length c = search needs
 
--- src/lib.rt:555:5
 returns-2 : tie.Need-returns-2
 returns-2 c = under-new (c .before .before .before .before .before .before .before .before .before .before .args .self) (now (c .before .before .before .before .before .before .before .before .before .before .args .store)) (now (c .before .before .before .before .before .before .before .before .before .before .args .part)) (now (c .before .before .before .before .before .before .before .before .before .before .args .id)) (c .before .before .before .before .before .before .find .result) (c .before .before .before .before .before .before .find .ensures) (c .before .before .before .before .if1 .left) _ _ (c .before .before .enter .ensures)
 

@@ -5,46 +5,33 @@ use Rattle.mcache.proofs.Answers.{tested, lookup-store, lookup-malforme
 use borrow.Author.Needs.{needs}
 use Rattle.mcache.proofs.MessageCache.lookup.Statement.{statement}
 use Rattle.mcache.proofs.MessageCache.lookup.Tie as tie
-use Rattle.mcache.proofs.MessageCache.lookup.Reads as reads
-use Rattle.mcache.proofs.MessageCache.lookup.Lts as lts
-use Rattle.mcache.proofs.MessageCache.find.Reads as find-reads
-use Rattle.mcache.proofs.MessageCache.lent.Reads as lent-reads
 
--- src/lib.rt:690:13
 lent-requires : tie.Need-lent-requires
 lent-requires c κs = search needs
 
--- src/lib.rt:692:31
 enum-told : tie.Need-enum-told
 enum-told c = search needs
 
--- src/lib.rt:693:32
 enum-told-2 : tie.Need-enum-told-2
 enum-told-2 c = search needs
 
--- src/lib.rt:695:20
 enum-told-3 : tie.Need-enum-told-3
 enum-told-3 c = search needs
 
--- src/lib.rt:695:20
 find-requires : tie.Need-find-requires
-find-requires c κs = kept-sound (c .before .before .before .before .before .args .self) (now (c .before .before .before .before .before .args .store)) (tested (c .before .before .before .before .before .args .self) (now (c .before .before .before .before .before .args .store)) (sym ((c .enum-told3 .given .1)) ∙ (c .before .before .lent .ensures)) (search needs) (search needs) (search needs) (search needs) (search needs))
+find-requires c κs = kept-sound (c .before .before .before .before .before .args .self) (now (c .before .before .before .before .before .args .store)) (tested (c .before .before .before .before .before .args .self) (now (c .before .before .before .before .before .args .store)) (sym (c .enum-told3 .given .1) ∙ (c .before .before .lent .ensures)) (search needs) (search needs) (search needs) (search needs) (search needs))
 
--- src/lib.rt:696:21
 returns : tie.Need-returns
-returns c = lookup-found (c .before .before .before .before .before .before .before .before .args .self) (now (c .before .before .before .before .before .before .before .before .args .store)) (now (c .before .before .before .before .before .before .before .before .args .id)) (sym ((c .before .before .before .enum-told3 .given .1)) ∙ (c .before .before .before .before .before .lent .ensures)) (c .before .before .find .result) (c .before .before .find .ensures) (c .if1 .taken)
+returns c = lookup-found (c .before .before .before .before .before .before .before .before .args .self) (now (c .before .before .before .before .before .before .before .before .args .store)) (now (c .before .before .before .before .before .before .before .before .args .id)) (sym (c .before .before .before .enum-told3 .given .1) ∙ (c .before .before .before .before .before .lent .ensures)) (c .before .before .find .result) (c .before .before .find .ensures) (c .if1 .taken)
 
--- src/lib.rt:687:5
 returns-2 : tie.Need-returns-2
-returns-2 c = lookup-store (c .before .before .before .before .before .args .self) (now (c .before .before .before .before .before .args .store)) (now (c .before .before .before .before .before .args .id)) (sym ((c .enum-told .given .1)) ∙ (c .before .before .lent .ensures))
+returns-2 c = lookup-store (c .before .before .before .before .before .args .self) (now (c .before .before .before .before .before .args .store)) (now (c .before .before .before .before .before .args .id)) (sym (c .enum-told .given .1) ∙ (c .before .before .lent .ensures))
 
--- src/lib.rt:687:5
 returns-3 : tie.Need-returns-3
-returns-3 c = lookup-malformed (c .before .before .before .before .before .args .self) (now (c .before .before .before .before .before .args .store)) (now (c .before .before .before .before .before .args .id)) (sym ((c .enum-told2 .given .1)) ∙ (c .before .before .lent .ensures))
+returns-3 c = lookup-malformed (c .before .before .before .before .before .args .self) (now (c .before .before .before .before .before .args .store)) (now (c .before .before .before .before .before .args .id)) (sym (c .enum-told2 .given .1) ∙ (c .before .before .lent .ensures))
 
--- src/lib.rt:687:5
 returns-4 : tie.Need-returns-4
-returns-4 c = lookup-missing (c .before .before .before .before .before .before .before .before .args .self) (now (c .before .before .before .before .before .before .before .before .args .store)) (now (c .before .before .before .before .before .before .before .before .args .id)) (sym ((c .before .before .before .enum-told3 .given .1)) ∙ (c .before .before .before .before .before .lent .ensures)) (c .before .before .find .result) (c .before .before .find .ensures) (c .if1 .left)
+returns-4 c = lookup-missing (c .before .before .before .before .before .before .before .before .args .self) (now (c .before .before .before .before .before .before .before .before .args .store)) (now (c .before .before .before .before .before .before .before .before .args .id)) (sym (c .before .before .before .enum-told3 .given .1) ∙ (c .before .before .before .before .before .lent .ensures)) (c .before .before .find .result) (c .before .before .find .ensures) (c .if1 .left)
 
 pub lookup-spec : {M : Type 1} → statement M
 lookup-spec =

@@ -6,60 +6,46 @@ use Rattle.mcache.proofs.Answers.{found-none, found-at, found-lies}
 use borrow.Author.Needs.{needs}
 use Rattle.mcache.proofs.MessageCache.message_of.Statement.{statement}
 use Rattle.mcache.proofs.MessageCache.message_of.Tie as tie
-use Rattle.mcache.proofs.MessageCache.message_of.Reads as reads
-use Rattle.mcache.proofs.MessageCache.message_of.Lts as lts
-use Rattle.mcache.proofs.MessageCache.find.Reads as find-reads
-use Rattle.rows.proofs.place.Reads as place-reads
 
--- src/lib.rt:664:13
 find-requires : tie.Need-find-requires
 find-requires c κs = kept-sound (c .before .before .args .t1) (now (c .before .before .args .store)) (c .before .before .pre)
 
--- src/lib.rt:666:17
+ring-requires : tie.Need-ring-requires
+ring-requires c κs = search needs
+
 place-requires : tie.Need-place-requires
 place-requires c κs = search needs
 
--- src/lib.rt:667:24
 mul-base : tie.Need-mul-base
-mul-base c = let w = found-lies (c .before .before .before .before .before .args .t1) (now (c .before .before .before .before .before .args .store)) (now (c .before .before .before .before .before .args .id)) (c .before .before .find .result) (c .place .result) (c .before .before .before .before .before .pre) (c .before .if1 .taken) (c .place .ensures) in omega arith
+mul-base c = let w = found-lies (c .before .before .before .before .before .before .args .t1) (now (c .before .before .before .before .before .before .args .store)) (now (c .before .before .before .before .before .before .args .id)) (c .before .before .before .find .result) (c .place .result) (c .before .before .before .before .before .before .pre) (c .before .before .if1 .taken) (rw (c .before .ring .ensures) at (c .place .ensures)) in omega arith
 
--- src/lib.rt:668:30
 mul-end : tie.Need-mul-end
-mul-end c = let w = found-lies (c .before .before .before .before .before .args .t1) (now (c .before .before .before .before .before .args .store)) (now (c .before .before .before .before .before .args .id)) (c .before .before .find .result) (c .place .result) (c .before .before .before .before .before .pre) (c .before .if1 .taken) (c .place .ensures) in omega arith
+mul-end c = let w = found-lies (c .before .before .before .before .before .before .args .t1) (now (c .before .before .before .before .before .before .args .store)) (now (c .before .before .before .before .before .before .args .id)) (c .before .before .before .find .result) (c .place .result) (c .before .before .before .before .before .before .pre) (c .before .before .if1 .taken) (rw (c .before .ring .ensures) at (c .place .ensures)) in omega arith
 
--- src/lib.rt:668:30
 element-copy-out-end : tie.Need-element-copy-out-end
-element-copy-out-end c = let w = found-lies (c .before .before .before .before .before .args .t1) (now (c .before .before .before .before .before .args .store)) (now (c .before .before .before .before .before .args .id)) (c .before .before .find .result) (c .place .result) (c .before .before .before .before .before .pre) (c .before .if1 .taken) (c .place .ensures) in omega arith
+element-copy-out-end c = let w = found-lies (c .before .before .before .before .before .before .args .t1) (now (c .before .before .before .before .before .before .args .store)) (now (c .before .before .before .before .before .before .args .id)) (c .before .before .before .find .result) (c .place .result) (c .before .before .before .before .before .before .pre) (c .before .before .if1 .taken) (rw (c .before .ring .ensures) at (c .place .ensures)) in omega arith
 
--- src/lib.rt:668:30
 cast-end : tie.Need-cast-end
 cast-end c = search needs
 
--- src/lib.rt:668:23
 add-end : tie.Need-add-end
-add-end c = let w = found-lies (c .before .before .before .before .before .before .args .t1) (now (c .before .before .before .before .before .before .args .store)) (now (c .before .before .before .before .before .before .args .id)) (c .before .before .before .find .result) (c .before .place .result) (c .before .before .before .before .before .before .pre) (c .before .before .if1 .taken) (c .before .place .ensures) in omega arith
+add-end c = let w = found-lies (c .before .before .before .before .before .before .before .args .t1) (now (c .before .before .before .before .before .before .before .args .store)) (now (c .before .before .before .before .before .before .before .args .id)) (c .before .before .before .before .find .result) (c .before .place .result) (c .before .before .before .before .before .before .before .pre) (c .before .before .before .if1 .taken) (rw (c .before .before .ring .ensures) at (c .before .place .ensures)) in omega arith
 
--- src/lib.rt:669:20
 sub-result : tie.Need-sub-result
 sub-result c = search needs
 
--- src/lib.rt:669:20
 part-result-start : tie.Need-part-result-start
 part-result-start c = search needs
 
--- src/lib.rt:669:20
 part-result-end : tie.Need-part-result-end
-part-result-end c = let w = found-lies (c .before .before .before .before .before .before .args .t1) (now (c .before .before .before .before .before .before .args .store)) (now (c .before .before .before .before .before .before .args .id)) (c .before .before .before .find .result) (c .before .place .result) (c .before .before .before .before .before .before .pre) (c .before .before .if1 .taken) (c .before .place .ensures) in omega arith
+part-result-end c = let w = found-lies (c .before .before .before .before .before .before .before .args .t1) (now (c .before .before .before .before .before .before .before .args .store)) (now (c .before .before .before .before .before .before .before .args .id)) (c .before .before .before .before .find .result) (c .before .place .result) (c .before .before .before .before .before .before .before .pre) (c .before .before .before .if1 .taken) (rw (c .before .before .ring .ensures) at (c .before .place .ensures)) in omega arith
 
--- src/lib.rt:669:13
 returns : tie.Need-returns
-returns c = found-at (c .before .before .before .before .before .before .before .args .t1) (now (c .before .before .before .before .before .before .before .args .store)) (now (c .before .before .before .before .before .before .before .args .id)) (c .before .before .before .before .find .result) (c .before .before .place .result) (c .before .before .before .before .find .ensures) (c .before .before .before .if1 .taken) (c .before .before .place .ensures)
+returns c = found-at (c .before .before .before .before .before .before .before .before .args .t1) (now (c .before .before .before .before .before .before .before .before .args .store)) (now (c .before .before .before .before .before .before .before .before .args .id)) (c .before .before .before .before .before .find .result) (c .before .before .place .result) (c .before .before .before .before .before .find .ensures) (c .before .before .before .before .if1 .taken) (rw (c .before .before .before .ring .ensures) at (c .before .before .place .ensures))
 
--- src/lib.rt:671:9
 slice-aggregate-result : tie.Need-slice-aggregate-result
 slice-aggregate-result c = search needs
 
--- src/lib.rt:660:5
 returns-2 : tie.Need-returns-2
 returns-2 c = found-none (c .before .before .before .before .before .args .t1) (now (c .before .before .before .before .before .args .store)) (now (c .before .before .before .before .before .args .id)) (omega (arith, (c .before .before .find .ensures)))
 
@@ -68,6 +54,7 @@ message-of-spec =
     tie.close
     (tie.spec
     find-requires
+    ring-requires
     place-requires
     mul-base
     mul-end

@@ -5,108 +5,78 @@ use Rattle.mcache.proofs.Answers.{tested, puts-no, puts-as, plan-store,
 use borrow.Author.Needs.{needs}
 use Rattle.mcache.proofs.MessageCache.put.Statement.{statement}
 use Rattle.mcache.proofs.MessageCache.put.Tie as tie
-use Rattle.mcache.proofs.MessageCache.put.Reads as reads
-use Rattle.mcache.proofs.MessageCache.put.Lts as lts
-use Rattle.ids.proofs.accept.Reads as accept-reads
-use Rattle.ids.proofs.message_at.Reads as message-at-reads
-use Rattle.mcache.proofs.MessageCache.lent.Reads as lent-reads
-use Rattle.mcache.proofs.MessageCache.put_part.Reads as put-part-reads
 
--- src/lib.rt:584:13
 lent-requires : tie.Need-lent-requires
 lent-requires c κs = search needs
 
--- src/lib.rt:587:25
 enum-told : tie.Need-enum-told
 enum-told c = search needs
 
--- src/lib.rt:591:25
 enum-told-2 : tie.Need-enum-told-2
 enum-told-2 c = search needs
 
--- src/lib.rt:595:21
 enum-told-3 : tie.Need-enum-told-3
 enum-told-3 c = search needs
 
--- src/lib.rt:595:21
 accept-requires : tie.Need-accept-requires
 accept-requires c κs = search needs
 
--- src/lib.rt:597:38
 enum-known-c : tie.Need-enum-known-c
 enum-known-c c = search needs
 
--- src/lib.rt:602:29
 enum-told-4 : tie.Need-enum-told-4
 enum-told-4 c = search needs
 
--- src/lib.rt:602:29
 message-at-requires : tie.Need-message-at-requires
 message-at-requires c κs = search needs
 
--- src/lib.rt:604:46
 enum-known-m : tie.Need-enum-known-m
 enum-known-m c = search needs
 
--- src/lib.rt:608:45
 enum-known-m-2 : tie.Need-enum-known-m-2
 enum-known-m-2 c = search needs
 
--- src/lib.rt:608:82
 sub-put-part : tie.Need-sub-put-part
 sub-put-part c = message-inside (now (c .before .before .before .before .before .before .before .before .before .before .before .before .before .before .args .body)) (c .before .before .before .before .before .before .before .before .before .before .before .before .before .before .args .index) _ _ (sym (c .before .before .before .before .message-at .ensures) ∙ (c .before .before .m2 .given .1)) .0
 
--- src/lib.rt:608:82
 part-put-part-start : tie.Need-part-put-part-start
 part-put-part-start c = message-inside (now (c .before .before .before .before .before .before .before .before .before .before .before .before .before .before .args .body)) (c .before .before .before .before .before .before .before .before .before .before .before .before .before .before .args .index) _ _ (sym (c .before .before .before .before .message-at .ensures) ∙ (c .before .before .m2 .given .1)) .0
 
--- src/lib.rt:608:82
 part-put-part-end : tie.Need-part-put-part-end
 part-put-part-end c = message-inside (now (c .before .before .before .before .before .before .before .before .before .before .before .before .before .before .args .body)) (c .before .before .before .before .before .before .before .before .before .before .before .before .before .before .args .index) _ _ (sym (c .before .before .before .before .message-at .ensures) ∙ (c .before .before .m2 .given .1)) .1
 
--- src/lib.rt:608:61
 put-part-requires : tie.Need-put-part-requires
-put-part-requires c κs = tested (c .before .before .before .before .before .before .before .before .before .before .before .before .before .before .before .args .self) (now (c .before .before .before .before .before .before .before .before .before .before .before .before .before .before .before .args .store)) (sym ((c .before .before .before .before .before .before .before .before .before .enum-told3 .given .1)) ∙ (c .before .before .before .before .before .before .before .before .before .before .before .lent .ensures)) (search needs) (search needs) (search needs) (search needs) (search needs)
+put-part-requires c κs = tested (c .before .before .before .before .before .before .before .before .before .before .before .before .before .before .before .args .self) (now (c .before .before .before .before .before .before .before .before .before .before .before .before .before .before .before .args .store)) (sym (c .before .before .before .before .before .before .before .before .before .enum-told3 .given .1) ∙ (c .before .before .before .before .before .before .before .before .before .before .before .lent .ensures)) (search needs) (search needs) (search needs) (search needs) (search needs)
 
--- src/lib.rt:579:5
 same-length : tie.Need-same-length
 same-length c = search needs
 
--- src/lib.rt:579:5
 returns : tie.Need-returns
-returns c = nested (puts-no (c .before .before .before .before .before .before .args .self) (now (c .before .before .before .before .before .before .args .store)) _ _ (plan-store (c .before .before .before .before .before .before .args .self) (now (c .before .before .before .before .before .before .args .store)) (now (c .before .before .before .before .before .before .args .body)) (c .before .before .before .before .before .before .args .index) (sym ((c .enum-told .given .1)) ∙ (c .before .before .lent .ensures))))
+returns c = nested (puts-no (c .before .before .before .before .before .before .args .self) (now (c .before .before .before .before .before .before .args .store)) _ _ (plan-store (c .before .before .before .before .before .before .args .self) (now (c .before .before .before .before .before .before .args .store)) (now (c .before .before .before .before .before .before .args .body)) (c .before .before .before .before .before .before .args .index) (sym (c .enum-told .given .1) ∙ (c .before .before .lent .ensures))))
 
--- src/lib.rt:579:5
 same-length-2 : tie.Need-same-length-2
 same-length-2 c = search needs
 
--- src/lib.rt:579:5
 returns-2 : tie.Need-returns-2
-returns-2 c = nested (puts-no (c .before .before .before .before .before .before .args .self) (now (c .before .before .before .before .before .before .args .store)) _ _ (plan-malformed (c .before .before .before .before .before .before .args .self) (now (c .before .before .before .before .before .before .args .store)) (now (c .before .before .before .before .before .before .args .body)) (c .before .before .before .before .before .before .args .index) (sym ((c .enum-told2 .given .1)) ∙ (c .before .before .lent .ensures))))
+returns-2 c = nested (puts-no (c .before .before .before .before .before .before .args .self) (now (c .before .before .before .before .before .before .args .store)) _ _ (plan-malformed (c .before .before .before .before .before .before .args .self) (now (c .before .before .before .before .before .before .args .store)) (now (c .before .before .before .before .before .before .args .body)) (c .before .before .before .before .before .before .args .index) (sym (c .enum-told2 .given .1) ∙ (c .before .before .lent .ensures))))
 
--- src/lib.rt:579:5
 same-length-3 : tie.Need-same-length-3
 same-length-3 c = search needs
 
--- src/lib.rt:579:5
 returns-3 : tie.Need-returns-3
-returns-3 c = nested (puts-no (c .before .before .before .before .before .before .before .before .before .before .args .self) (now (c .before .before .before .before .before .before .before .before .before .before .args .store)) _ _ (plan-refused (c .before .before .before .before .before .before .before .before .before .before .args .self) (now (c .before .before .before .before .before .before .before .before .before .before .args .store)) (now (c .before .before .before .before .before .before .before .before .before .before .args .body)) (c .before .before .before .before .before .before .before .before .before .before .args .index) _ (sym ((c .before .before .before .before .enum-told3 .given .1)) ∙ (c .before .before .before .before .before .before .lent .ensures)) (sym ((c .before .c .given .1)) ∙ (c .before .before .before .accept .ensures))))
+returns-3 c = nested (puts-no (c .before .before .before .before .before .before .before .before .before .before .args .self) (now (c .before .before .before .before .before .before .before .before .before .before .args .store)) _ _ (plan-refused (c .before .before .before .before .before .before .before .before .before .before .args .self) (now (c .before .before .before .before .before .before .before .before .before .before .args .store)) (now (c .before .before .before .before .before .before .before .before .before .before .args .body)) (c .before .before .before .before .before .before .before .before .before .before .args .index) _ (sym (c .before .before .before .before .enum-told3 .given .1) ∙ (c .before .before .before .before .before .before .lent .ensures)) (sym (c .before .c .given .1) ∙ (c .before .before .before .accept .ensures))))
 
--- src/lib.rt:579:5
 same-length-4 : tie.Need-same-length-4
 same-length-4 c = search needs
 
--- src/lib.rt:579:5
 returns-4 : tie.Need-returns-4
-returns-4 c = nested (puts-no (c .before .before .before .before .before .before .before .before .before .before .before .before .before .args .self) (now (c .before .before .before .before .before .before .before .before .before .before .before .before .before .args .store)) _ _ (plan-missing (c .before .before .before .before .before .before .before .before .before .before .before .before .before .args .self) (now (c .before .before .before .before .before .before .before .before .before .before .before .before .before .args .store)) (now (c .before .before .before .before .before .before .before .before .before .before .before .before .before .args .body)) (c .before .before .before .before .before .before .before .before .before .before .before .before .before .args .index) _ (sym ((c .before .before .before .before .before .before .before .enum-told3 .given .1)) ∙ (c .before .before .before .before .before .before .before .before .before .lent .ensures)) (sym ((c .before .before .before .before .enum-told4 .given .1)) ∙ (c .before .before .before .before .before .before .accept .ensures)) (sym ((c .before .m .given .1)) ∙ (c .before .before .before .message-at .ensures))))
+returns-4 c = nested (puts-no (c .before .before .before .before .before .before .before .before .before .before .before .before .before .args .self) (now (c .before .before .before .before .before .before .before .before .before .before .before .before .before .args .store)) _ _ (plan-missing (c .before .before .before .before .before .before .before .before .before .before .before .before .before .args .self) (now (c .before .before .before .before .before .before .before .before .before .before .before .before .before .args .store)) (now (c .before .before .before .before .before .before .before .before .before .before .before .before .before .args .body)) (c .before .before .before .before .before .before .before .before .before .before .before .before .before .args .index) _ (sym (c .before .before .before .before .before .before .before .enum-told3 .given .1) ∙ (c .before .before .before .before .before .before .before .before .before .lent .ensures)) (sym (c .before .before .before .before .enum-told4 .given .1) ∙ (c .before .before .before .before .before .before .accept .ensures)) (sym (c .before .m .given .1) ∙ (c .before .before .before .message-at .ensures))))
 
--- src/lib.rt:579:5
 same-length-5 : tie.Need-same-length-5
 same-length-5 c = search needs
 
--- src/lib.rt:579:5
 returns-5 : tie.Need-returns-5
-returns-5 c = nested (puts-as (c .before .before .before .before .before .before .before .before .before .before .before .before .before .before .before .before .before .before .args .self) (now (c .before .before .before .before .before .before .before .before .before .before .before .before .before .before .before .before .before .before .args .store)) _ _ _ _ _ (plan-at (c .before .before .before .before .before .before .before .before .before .before .before .before .before .before .before .before .before .before .args .self) (now (c .before .before .before .before .before .before .before .before .before .before .before .before .before .before .before .before .before .before .args .store)) (now (c .before .before .before .before .before .before .before .before .before .before .before .before .before .before .before .before .before .before .args .body)) (c .before .before .before .before .before .before .before .before .before .before .before .before .before .before .before .before .before .before .args .index) _ _ (sym ((c .before .before .before .before .before .before .before .before .before .before .before .before .enum-told3 .given .1)) ∙ (c .before .before .before .before .before .before .before .before .before .before .before .before .before .before .lent .ensures)) (sym ((c .before .before .before .before .before .before .before .before .before .enum-told4 .given .1)) ∙ (c .before .before .before .before .before .before .before .before .before .before .before .accept .ensures)) (sym ((c .before .before .before .before .before .before .m2 .given .1)) ∙ (c .before .before .before .before .before .before .before .before .message-at .ensures))) ((c .before .before .put-part .ensures .0), (c .before .before .put-part .ensures .1 .0), (c .before .before .put-part .ensures .1 .1)))
+returns-5 c = nested (puts-as (c .before .before .before .before .before .before .before .before .before .before .before .before .before .before .before .before .before .before .args .self) (now (c .before .before .before .before .before .before .before .before .before .before .before .before .before .before .before .before .before .before .args .store)) _ _ _ _ _ (plan-at (c .before .before .before .before .before .before .before .before .before .before .before .before .before .before .before .before .before .before .args .self) (now (c .before .before .before .before .before .before .before .before .before .before .before .before .before .before .before .before .before .before .args .store)) (now (c .before .before .before .before .before .before .before .before .before .before .before .before .before .before .before .before .before .before .args .body)) (c .before .before .before .before .before .before .before .before .before .before .before .before .before .before .before .before .before .before .args .index) _ _ (sym (c .before .before .before .before .before .before .before .before .before .before .before .before .enum-told3 .given .1) ∙ (c .before .before .before .before .before .before .before .before .before .before .before .before .before .before .lent .ensures)) (sym (c .before .before .before .before .before .before .before .before .before .enum-told4 .given .1) ∙ (c .before .before .before .before .before .before .before .before .before .before .before .accept .ensures)) (sym (c .before .before .before .before .before .before .m2 .given .1) ∙ (c .before .before .before .before .before .before .before .before .message-at .ensures))) ((c .before .before .put-part .ensures .0), (c .before .before .put-part .ensures .1 .0), (c .before .before .put-part .ensures .1 .1)))
 
 pub put-spec : {M : Type 1} → statement M
 put-spec =

@@ -1,76 +1,44 @@
 use denote.Ref.{now}
 use mathlib.Core.Path.{_≡_, refl, sym, _∙_}
 use lib.ListN.{replicate}
-use Rattle.mcache.proofs.Answers.{fit-room, id-fits-in, id-counts, id-small, put-held, put-keep, puts-no, plan-unfit, nested}
+use Rattle.mcache.proofs.Answers.{fit-room, id-fits-in, id-counts, id-small, put-under, puts-no, plan-unfit, nested}
 use borrow.Author.Needs.{needs}
 use Rattle.mcache.proofs.MessageCache.put_part.Statement.{statement}
 use Rattle.mcache.proofs.MessageCache.put_part.Tie as tie
-use Rattle.mcache.proofs.MessageCache.put_part.Reads as reads
-use Rattle.mcache.proofs.MessageCache.put_part.Lts as lts
-use Rattle.admission.proofs.admit.Reads as admit-reads
-use Rattle.mcache.proofs.MessageCache.enter.Reads as enter-reads
-use Rattle.mcache.proofs.MessageCache.find.Reads as find-reads
-use Rattle.mcache.proofs.form_id.Reads as form-id-reads
+use Rattle.mcache.specs.State.{messageIdSize}
 
--- src/lib.rt:549:13
 admit-requires : tie.Need-admit-requires
 admit-requires c κs = search needs
 
--- src/lib.rt:551:30
 enum-known-a : tie.Need-enum-known-a
 enum-known-a c = search needs
 
--- src/lib.rt:556:17
 enum-known-a-2 : tie.Need-enum-known-a-2
 enum-known-a-2 c = search needs
 
--- src/lib.rt:562:85
 slice-aggregate-form-id : tie.Need-slice-aggregate-form-id
 slice-aggregate-form-id c = search needs
 
--- src/lib.rt:562:21
 form-id-requires : tie.Need-form-id-requires
-form-id-requires c κs = fit-room (now (c .before .before .before .before .before .before .before .args .part)) _ _ _ _ (sym (c .before .before .before .before .admit .ensures) ∙ (c .before .before .a2 .given .1)) (replicate 128 0) refl
+form-id-requires c κs = fit-room (now (c .before .before .before .before .before .before .before .args .part)) _ _ _ _ (sym (c .before .before .before .before .admit .ensures) ∙ (c .before .before .a2 .given .1)) (replicate messageIdSize 0) refl
 
--- src/lib.rt:563:30
 array-share-prefix-id : tie.Need-array-share-prefix-id
-array-share-prefix-id c = id-fits-in (now (c .before .before .before .before .before .before .before .before .before .args .part)) _ _ _ _ (sym (c .before .before .before .before .before .before .admit .ensures) ∙ (c .before .before .before .before .a2 .given .1)) (c .before .form-id .result) _ _ refl (c .before .form-id .ensures)
+array-share-prefix-id c = id-fits-in (now (c .before .before .before .before .before .before .before .before .before .before .args .part)) _ _ _ _ (sym (c .before .before .before .before .before .before .before .admit .ensures) ∙ (c .before .before .before .before .before .a2 .given .1)) (c .before .before .form-id .result) _ _ refl (c .before .before .form-id .ensures)
 
--- src/lib.rt:563:30
-slice-aggregate-find : tie.Need-slice-aggregate-find
-slice-aggregate-find c = id-counts (now (c .before .before .before .before .before .before .before .before .before .before .args .part)) _ _ _ _ (sym (c .before .before .before .before .before .before .before .admit .ensures) ∙ (c .before .before .before .before .before .a2 .given .1)) (c .before .before .form-id .result) _ _ refl (c .before .before .form-id .ensures)
+slice-aggregate-keep : tie.Need-slice-aggregate-keep
+slice-aggregate-keep c = id-counts (now (c .before .before .before .before .before .before .before .before .before .before .before .args .part)) _ _ _ _ (sym (c .before .before .before .before .before .before .before .before .admit .ensures) ∙ (c .before .before .before .before .before .before .a2 .given .1)) (c .before .before .before .form-id .result) _ _ refl (c .before .before .before .form-id .ensures)
 
--- src/lib.rt:563:20
-find-requires : tie.Need-find-requires
-find-requires c κs = search needs
+keep-requires : tie.Need-keep-requires
+keep-requires c κs = (c .before .before .before .before .before .before .before .before .before .before .before .pre, id-small (now (c .before .before .before .before .before .before .before .before .before .before .before .args .part)) _ _ _ _ (sym (c .before .before .before .before .before .before .before .before .admit .ensures) ∙ (c .before .before .before .before .before .before .a2 .given .1)) (c .before .before .before .form-id .result) _ _ refl (c .before .before .before .form-id .ensures))
 
--- src/lib.rt:564:21
 returns : tie.Need-returns
-returns c = nested (put-held (now (c .before .before .before .before .before .before .before .before .before .before .before .before .before .args .part)) _ _ _ _ (sym (c .before .before .before .before .before .before .before .before .before .before .admit .ensures) ∙ (c .before .before .before .before .before .before .before .before .a2 .given .1)) (c .before .before .before .before .before .form-id .result) _ _ refl (c .before .before .before .before .before .form-id .ensures) (c .before .before .before .before .before .before .before .before .before .before .before .before .before .args .self) (now (c .before .before .before .before .before .before .before .before .before .before .before .before .before .args .store)) (c .before .before .find .result) (c .before .before .find .ensures) (c .if1 .taken))
+returns c = nested (puts-no (c .before .before .before .before .before .before .args .self) (now (c .before .before .before .before .before .before .args .store)) _ _ (plan-unfit (c .before .before .before .before .before .before .args .self) (now (c .before .before .before .before .before .before .args .part)) _ (sym (c .before .a .given .1) ∙ (c .before .before .before .admit .ensures))))
 
--- src/lib.rt:569:53
-array-share-prefix-id-2 : tie.Need-array-share-prefix-id-2
-array-share-prefix-id-2 c = id-fits-in (now (c .before .before .before .before .before .before .before .before .before .before .before .before .before .before .args .part)) _ _ _ _ (sym (c .before .before .before .before .before .before .before .before .before .before .before .admit .ensures) ∙ (c .before .before .before .before .before .before .before .before .before .a2 .given .1)) (c .before .before .before .before .before .before .form-id .result) _ _ refl (c .before .before .before .before .before .before .form-id .ensures)
-
--- src/lib.rt:569:53
-slice-aggregate-enter : tie.Need-slice-aggregate-enter
-slice-aggregate-enter c = id-counts (now (c .before .before .before .before .before .before .before .before .before .before .before .before .before .before .before .args .part)) _ _ _ _ (sym (c .before .before .before .before .before .before .before .before .before .before .before .before .admit .ensures) ∙ (c .before .before .before .before .before .before .before .before .before .before .a2 .given .1)) (c .before .before .before .before .before .before .before .form-id .result) _ _ refl (c .before .before .before .before .before .before .before .form-id .ensures)
-
--- src/lib.rt:569:21
-enter-requires : tie.Need-enter-requires
-enter-requires c κs = ((c .before .before .before .before .before .before .before .before .before .before .before .before .before .before .before .pre), id-small (now (c .before .before .before .before .before .before .before .before .before .before .before .before .before .before .before .args .part)) _ _ _ _ (sym (c .before .before .before .before .before .before .before .before .before .before .before .before .admit .ensures) ∙ (c .before .before .before .before .before .before .before .before .before .before .a2 .given .1)) (c .before .before .before .before .before .before .before .form-id .result) _ _ refl (c .before .before .before .before .before .before .before .form-id .ensures))
-
--- src/lib.rt:543:5
-returns-2 : tie.Need-returns-2
-returns-2 c = nested (puts-no (c .before .before .before .before .before .before .args .self) (now (c .before .before .before .before .before .before .args .store)) _ _ (plan-unfit (c .before .before .before .before .before .before .args .self) (now (c .before .before .before .before .before .before .args .part)) _ (sym ((c .before .a .given .1)) ∙ (c .before .before .before .admit .ensures))))
-
--- src/lib.rt:543:5
 same-length : tie.Need-same-length
 same-length c = search needs
 
--- src/lib.rt:543:5
-returns-3 : tie.Need-returns-3
-returns-3 c = nested (put-keep (now (c .before .before .before .before .before .before .before .before .before .before .before .before .before .before .before .before .before .before .args .part)) _ _ _ _ (sym (c .before .before .before .before .before .before .before .before .before .before .before .before .before .before .before .admit .ensures) ∙ (c .before .before .before .before .before .before .before .before .before .before .before .before .before .a2 .given .1)) (c .before .before .before .before .before .before .before .before .before .before .form-id .result) _ _ refl (c .before .before .before .before .before .before .before .before .before .before .form-id .ensures) (c .before .before .before .before .before .before .before .before .before .before .before .before .before .before .before .before .before .before .args .self) (now (c .before .before .before .before .before .before .before .before .before .before .before .before .before .before .before .before .before .before .args .store)) (c .before .before .before .before .before .before .before .find .result) _ _ (c .before .before .before .before .before .before .before .find .ensures) (c .before .before .before .before .before .if1 .left) (c .before .before .enter .ensures))
+returns-2 : tie.Need-returns-2
+returns-2 c = put-under (now (c .before .before .before .before .before .before .before .before .before .before .before .before .before .before .args .part)) _ _ _ _ (sym (c .before .before .before .before .before .before .before .before .before .before .before .admit .ensures) ∙ (c .before .before .before .before .before .before .before .before .before .a2 .given .1)) (c .before .before .before .before .before .before .form-id .result) _ _ refl (c .before .before .before .before .before .before .form-id .ensures) (c .before .before .before .before .before .before .before .before .before .before .before .before .before .before .args .self) (now (c .before .before .before .before .before .before .before .before .before .before .before .before .before .before .args .store)) (c .before .before .keep .ensures)
 
 pub put-part-spec : {M : Type 1} → statement M
 put-part-spec =
@@ -82,12 +50,8 @@ put-part-spec =
     slice-aggregate-form-id
     form-id-requires
     array-share-prefix-id
-    slice-aggregate-find
-    find-requires
+    slice-aggregate-keep
+    keep-requires
     returns
-    array-share-prefix-id-2
-    slice-aggregate-enter
-    enter-requires
-    returns-2
     same-length
-    returns-3)
+    returns-2)

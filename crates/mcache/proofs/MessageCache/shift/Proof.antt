@@ -5,42 +5,30 @@ use Rattle.mcache.proofs.Answers.{kept-ring, shift-store, shift-malform
 use borrow.Author.Needs.{needs}
 use Rattle.mcache.proofs.MessageCache.shift.Statement.{statement}
 use Rattle.mcache.proofs.MessageCache.shift.Tie as tie
-use Rattle.mcache.proofs.MessageCache.shift.Reads as reads
-use Rattle.mcache.proofs.MessageCache.shift.Lts as lts
-use Rattle.mcache.proofs.MessageCache.later.Reads as later-reads
-use Rattle.mcache.proofs.MessageCache.lent.Reads as lent-reads
 
--- src/lib.rt:639:13
 lent-requires : tie.Need-lent-requires
 lent-requires c κs = search needs
 
--- src/lib.rt:642:25
 enum-told : tie.Need-enum-told
 enum-told c = search needs
 
--- src/lib.rt:646:25
 enum-told-2 : tie.Need-enum-told-2
 enum-told-2 c = search needs
 
--- src/lib.rt:650:21
 enum-told-3 : tie.Need-enum-told-3
 enum-told-3 c = search needs
 
--- src/lib.rt:650:21
-later-requires : tie.Need-later-requires
-later-requires c κs = kept-ring (c .before .before .before .before .args .self) (now (c .before .before .before .before .args .store)) (sym ((c .enum-told3 .given .1)) ∙ (c .before .before .lent .ensures)) (search needs) (search needs) (search needs) (search needs) (search needs)
+next-window-requires : tie.Need-next-window-requires
+next-window-requires c κs = kept-ring (c .before .before .before .before .args .self) (now (c .before .before .before .before .args .store)) (sym (c .enum-told3 .given .1) ∙ (c .before .before .lent .ensures)) (search needs) (search needs) (search needs) (search needs) (search needs)
 
--- src/lib.rt:635:5
 returns : tie.Need-returns
-returns c = shift-store (c .before .before .before .before .args .self) (now (c .before .before .before .before .args .store)) (sym ((c .enum-told .given .1)) ∙ (c .before .before .lent .ensures))
+returns c = shift-store (c .before .before .before .before .args .self) (now (c .before .before .before .before .args .store)) (sym (c .enum-told .given .1) ∙ (c .before .before .lent .ensures))
 
--- src/lib.rt:635:5
 returns-2 : tie.Need-returns-2
-returns-2 c = shift-malformed (c .before .before .before .before .args .self) (now (c .before .before .before .before .args .store)) (sym ((c .enum-told2 .given .1)) ∙ (c .before .before .lent .ensures))
+returns-2 c = shift-malformed (c .before .before .before .before .args .self) (now (c .before .before .before .before .args .store)) (sym (c .enum-told2 .given .1) ∙ (c .before .before .lent .ensures))
 
--- src/lib.rt:635:5
 returns-3 : tie.Need-returns-3
-returns-3 c = shift-fine (c .before .before .before .before .before .args .self) (now (c .before .before .before .before .before .args .store)) (sym ((c .before .enum-told3 .given .1)) ∙ (c .before .before .before .lent .ensures)) _ (c .later .ensures)
+returns-3 c = shift-fine (c .before .before .before .before .before .args .self) (now (c .before .before .before .before .before .args .store)) (sym (c .before .enum-told3 .given .1) ∙ (c .before .before .before .lent .ensures)) _ (c .next-window .ensures)
 
 pub shift-spec : {M : Type 1} → statement M
 shift-spec =
@@ -50,7 +38,7 @@ shift-spec =
     enum-told
     enum-told-2
     enum-told-3
-    later-requires
+    next-window-requires
     returns
     returns-2
     returns-3)

@@ -2,21 +2,18 @@ use Rattle.mcache.proofs.Steps.{dropped-is}
 use borrow.Author.Needs.{needs}
 use Rattle.mcache.proofs.MessageCache.without.Statement.{statement}
 use Rattle.mcache.proofs.MessageCache.without.Tie as tie
-use Rattle.mcache.proofs.MessageCache.without.Reads as reads
-use Rattle.mcache.proofs.MessageCache.without.Lts as lts
-use Rattle.rows.proofs.place.Reads as place-reads
 
--- src/lib.rt:477:13
+ring-requires : tie.Need-ring-requires
+ring-requires c κs = search needs
+
 place-requires : tie.Need-place-requires
 place-requires c κs = search needs
 
--- src/lib.rt:479:22
 sub-self : tie.Need-sub-self
 sub-self c = search needs
 
--- src/lib.rt:473:5
 returns : tie.Need-returns
-returns c = dropped-is (c .before .before .args .k) (c .before .place .result) (c .before .before .args .self) (c .before .place .ensures)
+returns c = dropped-is (c .before .before .before .args .k) (c .before .place .result) (c .before .before .before .args .self) (rw (c .before .before .ring .ensures) at (c .before .place .ensures))
 
 pub without-spec : {M : Type 1} → statement M
-without-spec = tie.close (tie.spec place-requires sub-self returns)
+without-spec = tie.close (tie.spec ring-requires place-requires sub-self returns)

@@ -8,16 +8,19 @@ use borrow.Author.Needs.{needs}
 use Rattle.seen.proofs.SeenCache.holds.Statement.{statement}
 use Rattle.seen.proofs.SeenCache.holds.Tie as tie
 
+ring-requires : tie.Need-ring-requires
+ring-requires c κs = search needs
+
 slice-aggregate-find-from : tie.Need-slice-aggregate-find-from
 slice-aggregate-find-from c = search needs
 
 find-from-requires : tie.Need-find-from-requires
-find-from-requires c κs = (c .before .before .before .before .pre, omega arith)
+find-from-requires c κs = (rw (c .before .before .ring .ensures) (c .before .before .before .before .before .pre), omega arith)
 
 returns : tie.Need-returns
 returns c =
-    let a = c .before .before .before .before .before .args in
-    held-is (a .cap) (c .find-from .result) (a .self) (now (a .store)) (now (a .id)) (c .find-from .ensures ∙ zero-add _)
+    let a = c .before .before .before .before .before .before .before .args in
+    rw (c .before .before .before .before .ring .ensures) (held-is (a .cap) (c .before .find-from .result) (a .self) (now (a .store)) (now (a .id)) (rw (c .before .before .before .before .ring .ensures) at (c .before .find-from .ensures) ∙ zero-add _))
 
 pub holds-spec : {M : Type 1} → statement M
-holds-spec = tie.close (tie.spec slice-aggregate-find-from find-from-requires returns)
+holds-spec = tie.close (tie.spec ring-requires slice-aggregate-find-from find-from-requires returns)

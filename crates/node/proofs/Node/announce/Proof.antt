@@ -2,8 +2,8 @@
 use denote.Ref.{now}
 use Rattle.node.proofs.Told.{told-room, told-listed, told-fits, tell-none, tell-short, tell-put}
 use borrow.Author.Needs.{needs}
-use Rattle.node.proofs.Node.tell.Statement.{statement}
-use Rattle.node.proofs.Node.tell.Tie as tie
+use Rattle.node.proofs.Node.announce.Statement.{statement}
+use Rattle.node.proofs.Node.announce.Tie as tie
 
 tell-requires : tie.Need-tell-requires
 tell-requires c κs = (c .before .before .before .before .pre .0)
@@ -47,8 +47,8 @@ same-length c = search needs
 returns-3 : tie.Need-returns-3
 returns-3 c = let b = c .before .before .before .before .before .before .before .before .before .before .before .before .before .before .before .before .before .before .before .before .before .before .before in let a = b .args in tell-put (a .self) (now (a .cache-store)) (now (a .topic)) (a .windows) (b .pre .0) (c .before .before .before .before .before .before .before .before .before .before .before .before .before .before .before .before .before .before .tell .result .count) (c .before .before .before .before .before .before .before .before .before .before .before .before .before .before .before .before .before .before .tell .result .rows) (c .before .before .before .before .before .before .before .before .before .before .before .before .before .before .before .before .before .before .tell .ensures .1 .0) (c .before .before .before .before .before .before .before .before .before .before .before .before .before .before .before .before .before .before .tell .ensures .1 .1) (now (a .out)) (c .before .before .before .before .before .before .before .before .before .before .before .before .before .before .before .before .before .if1 .left) _ _ (c .before .before .before .before .before .before .before .before .before .emit-advertisement .result) (c .before .before .before .before .before .before .before .before .before .emit-advertisement .ensures) (c .before .before .before .before .before .before .before .if2 .left) _ _ (c .before .before .emit-advertisement2 .ensures)
 
-pub tell-spec : {M : Type 1} → statement M
-tell-spec =
+pub announce-spec : {M : Type 1} → statement M
+announce-spec =
     tie.close
     (tie.spec
     tell-requires
