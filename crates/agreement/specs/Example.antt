@@ -16,9 +16,10 @@ use Rattle.utf8.specs.Utf8.{isUtf8, run}
 use Rattle.protobuf.specs.Field.{readTag, readLen, readVarint, skipFixed, skipField, readValue, readField}
 use Rattle.protobuf.specs.Walk.{walkFrom, walkAt}
 use Rattle.schema.specs.Schema.{roleOf, rank, ownOf}
-use Rattle.schema.specs.Count.{textCount, countTo, counted}
+use Rattle.schema.specs.Kinds.{toDepth, overKinds}
+use Rattle.schema.specs.Count.{textCount, counted}
 use Rattle.schema.specs.Slots.{setPlace, withField, slotsOf}
-use Rattle.schema.specs.Accept.{acceptOf}
+use Rattle.schema.specs.Accept.{bodyRecords, acceptOf}
 use Rattle.ids.specs.Ids.{messageAt, idParts}
 use Rattle.admission.specs.Admission.{topicsOf, firstLong, onLimits, admissionOf, givesId}
 use Rattle.admission.specs.AdmissionLaws.{one-id}
@@ -83,11 +84,11 @@ unfoldable pub second-body : List ℕ
 second-body = 0x12 ∷ 0x50 ∷ second
 
 pub first-carried : Carries first-body first first-id
-unfolding signature first first-body acceptOf counted countTo textCount roleOf rank ownOf isUtf8 run walkAt walkFrom readField readValue skipField skipFixed readVarint readLen readTag readUvarint readFrom groupOf messageAt givesId admissionOf onLimits topicsOf firstLong idParts slotsOf withField setPlace sameBytes
+unfolding signature first first-body acceptOf bodyRecords counted overKinds toDepth textCount roleOf rank ownOf isUtf8 run walkAt walkFrom readField readValue skipField skipFixed readVarint readLen readTag readUvarint readFrom groupOf messageAt givesId admissionOf onLimits topicsOf firstLong idParts slotsOf withField setPlace sameBytes
 first-carried = record { accepted = refl; placed = record { start = 2; next = 84; found = refl; bytes = refl }; own = refl }
 
 pub second-carried : Carries second-body second second-id
-unfolding signature second second-body acceptOf counted countTo textCount roleOf rank ownOf isUtf8 run walkAt walkFrom readField readValue skipField skipFixed readVarint readLen readTag readUvarint readFrom groupOf messageAt givesId admissionOf onLimits topicsOf firstLong idParts slotsOf withField setPlace sameBytes
+unfolding signature second second-body acceptOf bodyRecords counted overKinds toDepth textCount roleOf rank ownOf isUtf8 run walkAt walkFrom readField readValue skipField skipFixed readVarint readLen readTag readUvarint readFrom groupOf messageAt givesId admissionOf onLimits topicsOf firstLong idParts slotsOf withField setPlace sameBytes
 second-carried = record { accepted = refl; placed = record { start = 2; next = 82; found = refl; bytes = refl }; own = refl }
 
 -- ---- what a test of all numbers of a list says of each

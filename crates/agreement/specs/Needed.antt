@@ -17,7 +17,8 @@ use Rattle.protobuf.specs.Walk.{walkFrom, walkAt, between}
 use Rattle.protobuf.specs.declared.Checked.the-variants as checked
 use Rattle.utf8.specs.Utf8.{isUtf8, run}
 use Rattle.schema.specs.Schema.{roleOf, rank, ownOf}
-use Rattle.schema.specs.Count.{textCount, countTo, counted}
+use Rattle.schema.specs.Kinds.{toDepth, overKinds}
+use Rattle.schema.specs.Count.{textCount, counted}
 use Rattle.schema.specs.Slots.{setPlace, withField, slotsOf}
 use Rattle.ids.specs.declared.MessageAt.the-variants as found
 use Rattle.schema.specs.Accept.{acceptOf}
@@ -55,7 +56,7 @@ idOf n = 65 ∷ n ∷ []
 
 -- they pass admission, under these ids
 pub admissible : (givesId (message 1) (idOf 1) ≡ true) × (givesId (message 2) (idOf 2) ≡ true)
-unfolding signature counted countTo textCount roleOf rank ownOf isUtf8 run walkAt walkFrom readField readValue skipField skipFixed readVarint readLen readTag readUvarint readFrom groupOf givesId admissionOf onLimits topicsOf firstLong idParts slotsOf withField setPlace sameBytes
+unfolding signature counted overKinds toDepth textCount roleOf rank ownOf isUtf8 run walkAt walkFrom readField readValue skipField skipFixed readVarint readLen readTag readUvarint readFrom groupOf givesId admissionOf onLimits topicsOf firstLong idParts slotsOf withField setPlace sameBytes
 admissible = (refl, refl)
 
 -- a gateway, and one of these messages admitted at a reading
@@ -114,7 +115,7 @@ pub record NeverNew (m k id : List ℕ) (g : Gateway) : Type 0 where
   pub not-kept : having (afterAdmit 2 k id (afterAdmit 1 m id g)) (id ∷ []) ≡ m ∷ []
 
 pub needs-ids-differ : NeverNew (message 1) otherMessage (idOf 1) (started 100 4 2 4)
-unfolding signature started isNew afterAdmit holds among live inserted newest until held put having get counted countTo textCount roleOf rank ownOf isUtf8 run walkAt walkFrom readField readValue skipField skipFixed readVarint readLen readTag readUvarint readFrom groupOf givesId admissionOf onLimits topicsOf firstLong idParts slotsOf withField setPlace sameBytes
+unfolding signature started isNew afterAdmit holds among live inserted newest until held put having get counted overKinds toDepth textCount roleOf rank ownOf isUtf8 run walkAt walkFrom readField readValue skipField skipFixed readVarint readLen readTag readUvarint readFrom groupOf givesId admissionOf onLimits topicsOf firstLong idParts slotsOf withField setPlace sameBytes
 needs-ids-differ = record { differ = refl; one-id = refl; same-id = refl; not-new = refl; not-kept = refl }
 
 -- ---- two gateways that lack nothing of each other, and tell of different ids
