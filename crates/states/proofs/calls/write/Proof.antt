@@ -12,7 +12,7 @@ use Rattle.states.proofs.calls.advertise.Reads as advertise-reads
 use Rattle.states.proofs.calls.ask.Reads as ask-reads
 use Rattle.states.proofs.calls.serve.Reads as serve-reads
 use Rattle.states.proofs.calls.stop.Reads as stop-reads
-use Rattle.text.proofs.number_at.Reads as number-at-reads
+use Rattle.basis.proofs.little_at.Reads as little-at-reads
 
 -- src/calls.rt:255:26
 slice-aggregate-stop : tie.Need-slice-aggregate-stop
@@ -27,8 +27,8 @@ returns : tie.Need-returns
 returns c = search needs
 
 -- src/calls.rt:257:16
-number-at-requires : tie.Need-number-at-requires
-number-at-requires c κs = search needs
+little-at-requires : tie.Need-little-at-requires
+little-at-requires c κs = search needs
 
 -- src/calls.rt:259:26
 slice-aggregate-stop-2 : tie.Need-slice-aggregate-stop-2
@@ -64,7 +64,7 @@ slice-aggregate-advertise c = prefix _ _ (search needs)
 
 -- src/calls.rt:262:9
 advertise-requires : tie.Need-advertise-requires
-advertise-requires c κs = let l = length-take-le (c .before .before .before .before .before .number-at .result) (now (c .before .before .before .before .before .before .before .before .before .before .before .before .args .made)) (c .before .before .before .before .if2 .left) in (omega (arith, (c .before .before .before .before .before .before .before .before .before .before .before .before .pre .0)), (c .before .before .before .before .before .before .before .before .before .before .before .before .pre .1))
+advertise-requires c κs = let l = length-take-le (c .before .before .before .before .before .little-at .result) (now (c .before .before .before .before .before .before .before .before .before .before .before .before .args .made)) (c .before .before .before .before .if2 .left) in (omega (arith, (c .before .before .before .before .before .before .before .before .before .before .before .before .pre .0)), (c .before .before .before .before .before .before .before .before .before .before .before .before .pre .1))
 
 -- src/calls.rt:262:9
 same-length : tie.Need-same-length
@@ -100,7 +100,7 @@ slice-aggregate-ask c = prefix _ _ (search needs)
 
 -- src/calls.rt:273:9
 ask-requires : tie.Need-ask-requires
-ask-requires c κs = let l = length-take-le (c .before .before .before .before .before .before .number-at .result) (now (c .before .before .before .before .before .before .before .before .before .before .before .before .before .args .made)) (c .before .before .before .before .before .if2 .left) in (omega (arith, (c .before .before .before .before .before .before .before .before .before .before .before .before .before .pre .0)), (c .before .before .before .before .before .before .before .before .before .before .before .before .before .pre .1))
+ask-requires c κs = let l = length-take-le (c .before .before .before .before .before .before .little-at .result) (now (c .before .before .before .before .before .before .before .before .before .before .before .before .before .args .made)) (c .before .before .before .before .before .if2 .left) in (omega (arith, (c .before .before .before .before .before .before .before .before .before .before .before .before .before .pre .0)), (c .before .before .before .before .before .before .before .before .before .before .before .before .before .pre .1))
 
 -- src/calls.rt:273:9
 same-length-3 : tie.Need-same-length-3
@@ -136,7 +136,7 @@ slice-aggregate-serve c = prefix _ _ (search needs)
 
 -- src/calls.rt:283:5
 serve-requires : tie.Need-serve-requires
-serve-requires c κs = let l = length-take-le (c .before .before .before .before .before .before .number-at .result) (now (c .before .before .before .before .before .before .before .before .before .before .before .before .before .args .made)) (c .before .before .before .before .before .if2 .left) in (omega (arith, (c .before .before .before .before .before .before .before .before .before .before .before .before .before .pre .0)), (c .before .before .before .before .before .before .before .before .before .before .before .before .before .pre .1))
+serve-requires c κs = let l = length-take-le (c .before .before .before .before .before .before .little-at .result) (now (c .before .before .before .before .before .before .before .before .before .before .before .before .before .args .made)) (c .before .before .before .before .before .if2 .left) in (omega (arith, (c .before .before .before .before .before .before .before .before .before .before .before .before .before .pre .0)), (c .before .before .before .before .before .before .before .before .before .before .before .before .before .pre .1))
 
 -- src/calls.rt:241:1
 same-length-5 : tie.Need-same-length-5
@@ -157,7 +157,7 @@ write-spec =
     slice-aggregate-stop
     stop-requires
     returns
-    number-at-requires
+    little-at-requires
     slice-aggregate-stop-2
     stop-requires-2
     returns-2
