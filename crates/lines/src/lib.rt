@@ -130,7 +130,7 @@ pub fn number_line(n: u64, words: &[u8], value: u64, out: &mut [u8]) -> usize
 }
 
 // How many of a refusal's values are printed.
-fn shown(full: bool, count: u8) -> u64
+fn printed(full: bool, count: u8) -> u64
     ensures { λ r. ⌜ r ≡ cond full count 0 ⌝ }
 {
     if full { count as u64 } else { 0 }
@@ -142,7 +142,7 @@ pub fn refusal_line(n: u64, words: &[u8], full: bool, t: Told, out: &mut [u8]) -
     requires { ⌜ 192 ≤ length (now out) ⌝ }
     ensures { λ r. ⌜ Holds (refusalLine n (now (words .entry)) full t) (now (out .exit)) r ⌝ }
 {
-    let count = shown(full, t.count);
+    let count = printed(full, t.count);
     let i = start_line(out, n);
     let j = put_word(out, i, words);
     let k = put_refused(out, j, t.number as u64, count, t.first, t.second, t.third);

@@ -6,7 +6,7 @@ use native.Mathlib.Omega.{arith}
 use native.Mathlib.Numerals.{add-one}
 use native.Mathlib.Nat.{pow-le-pow-right, add-comm, suc-mul}
 use lib.ListN.{length, getD, set, take, drop, length-take, drop-of-length-le}
-use lib.Seq.{sets, drop-cons, drop-drop, take-suc-set, take-all}
+use lib.Seq.{sets, length-sets, drop-cons, drop-drop, take-suc-set, take-all}
 use Rattle.basis.specs.Bytes.{Bytes}
 use Rattle.basis.specs.Lists.{sets-append, drop-bytes, take-bytes, set-fits}
 use Rattle.basis.specs.Little.{little, bytesOf, bytes-length, little-below}
@@ -40,6 +40,9 @@ gathered-done w s out at i n h k l e =
     sym (take-all i out (omega arith)) ∙ e ∙ ap (λ (j : ℕ). gathered w j (drop at s)) q
 
 -- ---- writing
+pub put-length : (w k : ℕ) (xs l after : List ℕ) → k + w ≤ length l → after ≡ setIn w k xs l → length after ≡ length l
+put-length w k xs l after h e = ap length (e ∙ set-fits w k xs l h) ∙ length-sets l k xs
+
 -- one number of several, each of w bytes
 pub spread-turn : (w : ℕ) (whole l after vs : List ℕ) (at i : ℕ) → i < length vs → sets l (at + i * w) (spread w (drop i vs)) ≡ whole → at + i * w + w ≤ length l → after ≡ setIn w (at + i * w) (bytesOf w (getD vs i 0)) l → sets after (at + (i + 1) * w) (spread w (drop (i + 1) vs)) ≡ whole
 unfolding spread

@@ -3,3 +3,14 @@ use Rattle.pradulins.proofs.Told.{start-refused, start-made}
 use borrow.Author.Needs.{needs}
 use Rattle.pradulins.proofs.pradulins_start.Statement.{statement}
 use Rattle.pradulins.proofs.pradulins_start.Tie as tie
+
+pub pradulins-start-spec : {M : Type 1} → statement M
+pradulins-start-spec =
+    tie.close
+    (tie.spec
+    (λ c κs. search needs)
+    (λ c κs. search needs)
+    (λ c κs. search needs)
+    (λ c. start-made _ _ _ _ _ _ _ (c .before .before .before .before .before .before .start .ensures .0) (c .before .before .before .before .before .told-start .ensures) _ _ (c .before .before .before .before .before .before .start .ensures .1) (c .before .before .before .if1 .taken) (c .store .ensures))
+    (λ c. search needs)
+    (λ c. start-refused _ _ _ _ _ _ _ (c .before .before .before .start .ensures .0) (c .before .before .told-start .ensures) (c .if1 .left)))
