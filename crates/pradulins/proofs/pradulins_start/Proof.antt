@@ -13,4 +13,4 @@ pradulins-start-spec =
     (λ c κs. search needs)
     (λ c. start-made _ _ _ _ _ _ _ (c .before .before .before .before .before .before .start .ensures .0) (c .before .before .before .before .before .told-start .ensures) _ _ (c .before .before .before .before .before .before .start .ensures .1) (c .before .before .before .if1 .taken) (c .store .ensures))
     (λ c. search needs)
-    (λ c. start-refused _ _ _ _ _ _ _ (c .before .before .before .start .ensures .0) (c .before .before .told-start .ensures) (c .if1 .left)))
+    (λ c. start-refused _ _ _ _ _ _ _ (c .before .before .before .before .start .ensures .0) (c .before .before .before .told-start .ensures) (c .before .if1 .left)))
