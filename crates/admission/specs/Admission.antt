@@ -22,31 +22,6 @@ use Rattle.admission.specs.declared.Unfit.the-variants.{MissingFrom, Inv
 use Rattle.admission.specs.declared.Admission.{Admission}
 use Rattle.admission.specs.declared.Admission.the-variants as admission
 
--- ---- 01's numbers and values
-abbrev pub unfitNumber : Unfit → ℕ
-unfitNumber MissingFrom = 21
-unfitNumber (InvalidFrom n) = 22
-unfitNumber InvalidSeqno = 23
-unfitNumber KeyWithoutSignature = 24
-unfitNumber MissingSignature = 25
-unfitNumber (InvalidSignatureLength n) = 26
-unfitNumber SignatureInvalid = 27
-unfitNumber (TopicCount n) = 28
-unfitNumber (TopicTooLong n) = 29
-unfitNumber (MessageTooLong n) = 30
-
-abbrev pub unfitValues : Unfit → List ℕ
-unfitValues MissingFrom = []
-unfitValues (InvalidFrom n) = n ∷ []
-unfitValues InvalidSeqno = []
-unfitValues KeyWithoutSignature = []
-unfitValues MissingSignature = []
-unfitValues (InvalidSignatureLength n) = n ∷ []
-unfitValues SignatureInvalid = []
-unfitValues (TopicCount n) = n ∷ []
-unfitValues (TopicTooLong n) = n ∷ []
-unfitValues (MessageTooLong n) = n ∷ []
-
 -- ---- the topics of a message, in the order of its bytes: its length-delimited fields 4
 abbrev pub topicsAlong : List ℕ → Fields → List (List ℕ)
 topicsAlong p end = []

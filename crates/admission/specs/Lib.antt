@@ -1,3 +1,4 @@
+pub mod Told
 pub mod Admission
 pub mod AdmissionLaws
 pub mod Rows

@@ -1,5 +1,7 @@
 // Whether a message may be taken: `verify`'s order of checks without its cryptography, for which the host gives its word, and 01's limits on
 // topics and size. The caches and the node use these rules.
+pub mod told;
+
 ghost use mathlib.Core.Path.{_≡_};
 ghost use mathlib.Core.Bool.{cond};
 ghost use Prim.Native.Nat.{_+_, _≤_, _<_};

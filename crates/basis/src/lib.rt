@@ -1,8 +1,93 @@
-// What several crates share: the answer of a writer, and the test for room. The specs hold the case and list laws that more than one crate
-// cites.
+// What several crates share: what a call tells, the answer of a writer, the test for room, and little-endian numbers. The specs hold the case and
+// list laws that more than one crate cites.
+pub mod refusals;
+
 ghost use mathlib.Core.Path.{_≡_};
-ghost use Prim.Native.Nat.{_+_};
+ghost use mathlib.Core.List.{[], _∷_};
+ghost use Prim.Native.Nat.{_+_, _≤_, min};
+ghost use lib.ListN.{length, take, drop};
+ghost use lib.Seq.{sets};
 ghost use lib.Dec.{leb};
+ghost use Rattle.basis.specs.Writing.{endIn, setIn};
+ghost use Rattle.basis.specs.Little.{little, bytesOf};
+ghost use Rattle.basis.specs.Told.{told};
+
+// What a call tells: 01's number, 0 where it is done, and how many values stand beside it; the others are 0.
+pub struct Told {
+    pub number: u8,
+    pub count: u8,
+    pub first: u64,
+    pub second: u64,
+    pub third: u64,
+    pub fourth: u64,
+}
+
+impl Told {
+    pub fn none(number: u8) -> Told
+        ensures { λ r. ⌜ r ≡ told number [] ⌝ }
+    {
+        Told {
+            number,
+            count: 0,
+            first: 0,
+            second: 0,
+            third: 0,
+            fourth: 0,
+        }
+    }
+
+    pub fn one(number: u8, first: u64) -> Told
+        ensures { λ r. ⌜ r ≡ told number (first ∷ []) ⌝ }
+    {
+        Told {
+            number,
+            count: 1,
+            first,
+            second: 0,
+            third: 0,
+            fourth: 0,
+        }
+    }
+
+    pub fn two(number: u8, first: u64, second: u64) -> Told
+        ensures { λ r. ⌜ r ≡ told number (first ∷ second ∷ []) ⌝ }
+    {
+        Told {
+            number,
+            count: 2,
+            first,
+            second,
+            third: 0,
+            fourth: 0,
+        }
+    }
+
+    pub fn three(number: u8, first: u64, second: u64, third: u64) -> Told
+        ensures { λ r. ⌜ r ≡ told number (first ∷ second ∷ third ∷ []) ⌝ }
+    {
+        Told {
+            number,
+            count: 3,
+            first,
+            second,
+            third,
+            fourth: 0,
+        }
+    }
+
+    pub fn four(number: u8, first: u64, second: u64, third: u64, fourth: u64) -> Told
+        ensures { λ r. ⌜ r ≡ told number (first ∷ second ∷ third ∷ fourth ∷ []) ⌝ }
+    {
+        Told {
+            number,
+            count: 4,
+            first,
+            second,
+            third,
+            fourth,
+        }
+    }
+}
 
 // What a writer did: it wrote so many bytes at the front of the lent slice; or that many do not fit, and it wrote none (refusal 12).
 pub enum Written {
@@ -18,4 +103,64 @@ pub fn has_room(len: usize, at: usize, room: usize) -> bool
         return false;
     }
     room <= len - at
+}
+
+// The number in n bytes at `at`, the low byte first, where they are there.
+fn read_little(s: &[u8], at: usize, n: usize) -> u64
+    requires { ⌜ n ≤ 8 ⌝ }
+    requires { ⌜ at + n ≤ length (now s) ⌝ }
+    ensures { λ r. ⌜ r ≡ little (take n (drop at (now (s .entry)))) ⌝ }
+{
+    let mut i = at + n;
+    let mut value: u64 = 0;
+    while at < i {
+        i = i - 1;
+        value = value * 256 + s[i] as u64;
+    }
+    value
+}
+
+fn least(a: usize, b: usize) -> usize
+    ensures { λ r. ⌜ r ≡ min a b ⌝ }
+{
+    if a < b { a } else { b }
+}
+
+// The number in n bytes at `at`, the low byte first: in the first eight of them, and in those that are there.
+pub fn little_at(s: &[u8], at: usize, n: usize) -> u64
+    ensures { λ r. ⌜ r ≡ little (take (min n 8) (drop at (now (s .entry)))) ⌝ }
+{
+    if s.len() < at {
+        return 0;
+    }
+    let most = least(n, 8);
+    let m = least(most, s.len() - at);
+    read_little(s, at, m)
+}
+
+// The low n bytes of a number at `at`, the low byte first, where they fit.
+fn spell_little(out: &mut [u8], at: usize, n: usize, value: u64)
+    requires { ⌜ at + n ≤ length (now out) ⌝ }
+    ensures { λ _. ⌜ now (out .exit) ≡ sets (now (out .entry)) at (bytesOf n value) ⌝ }
+{
+    let mut v = value;
+    let mut i: usize = 0;
+    while i < n {
+        out[at + i] = (v % 256) as u8;
+        v = v / 256;
+        i += 1;
+    }
+}
+
+// The low n bytes of a number at `at`, the low byte first, and the place after them; nothing, and the place as it was, where they do not fit.
+pub fn put_little(out: &mut [u8], at: usize, n: usize, value: u64) -> usize
+    ensures { λ r. ⌜ r ≡ endIn n at (bytesOf n value) (now (out .entry)) ⌝ }
+    ensures { λ _. ⌜ now (out .exit) ≡ setIn n at (bytesOf n value) (now (out .entry)) ⌝ }
+{
+    if has_room(out.len(), at, n) {
+        let end = at + n;
+        spell_little(out, at, n, value);
+        return end;
+    }
+    at
 }

@@ -1,25 +1,10 @@
 -- The lines of answers, in ASCII: the record's number, the call, the answer. A refusal has 01's number and values.
 use Prim.Native.Nat.{ℕ}
-use mathlib.Core.List.{List, [], _∷_, _++_}
-use Rattle.text.specs.Line.{decimal}
-use Rattle.lines.specs.Lines.{refusal, wordsLine, numberLine, refusedLine}
-use Rattle.protobuf.specs.declared.WireError.{WireError}
-use Rattle.admission.specs.declared.Unfit.{Unfit}
-use Rattle.admission.specs.Admission.{unfitNumber, unfitValues}
-use Rattle.seen.specs.declared.Insert.{Insert}
-use Rattle.seen.specs.declared.Insert.the-variants as insert
-use Rattle.seen.specs.declared.Contains.{Contains}
-use Rattle.seen.specs.declared.Contains.the-variants as contains
-use Rattle.seen.specs.declared.Gc.{Gc}
-use Rattle.seen.specs.declared.Gc.the-variants as gc
-use Rattle.seen.specs.declared.NextExpiry.{NextExpiry}
-use Rattle.seen.specs.declared.NextExpiry.the-variants as next
-use Rattle.seen.specs.Calls.{insertNumber, insertValues, containsNumber, containsValues, gcNumber, nextNumber}
-use Rattle.mcache.specs.declared.Put.{Put}
-use Rattle.mcache.specs.declared.Put.the-variants as put
-use Rattle.mcache.specs.declared.Lent.{Lent}
-use Rattle.mcache.specs.declared.Lent.the-variants as lent
-use Rattle.mcache.specs.Calls.{putNumber, putValues, lentNumber}
+use mathlib.Core.Bool.{true, cond}
+use mathlib.Core.List.{List, [], _∷_}
+use lib.Dec.{eqb}
+use Rattle.basis.specs.declared.Told.{Told}
+use Rattle.lines.specs.Lines.{numberLine, refusalLine, toldLine, eitherLine}
 
 -- ` insert`
 abbrev pub insertWord : List ℕ
@@ -78,55 +63,23 @@ abbrev pub shiftOk : List ℕ
 shiftOk = 32 ∷ 115 ∷ 104 ∷ 105 ∷ 102 ∷ 116 ∷ 32 ∷ 111 ∷ 107 ∷ []
 
 -- ---- the seen part
-abbrev noInsert : ℕ → Insert → List ℕ
-noInsert n a = refusedLine n insertWord (insertNumber a) (insertValues a)
+abbrev pub insertLine : ℕ → Told → List ℕ
+insertLine n t = eitherLine n insertFresh insertHeld insertWord true t
 
-unfoldable pub insertLine : ℕ → Insert → List ℕ
-insertLine n insert.Fresh = wordsLine n insertFresh
-insertLine n insert.Held = wordsLine n insertHeld
-insertLine n insert.BadSetting = noInsert n insert.BadSetting
-insertLine n insert.BadStore = noInsert n insert.BadStore
-insertLine n insert.Malformed = noInsert n insert.Malformed
-insertLine n (insert.TooLong m) = noInsert n (insert.TooLong m)
+abbrev pub containsLine : ℕ → Told → List ℕ
+containsLine n t = eitherLine n containsYes containsNo containsWord true t
 
-abbrev noContains : ℕ → Contains → List ℕ
-noContains n a = refusedLine n containsWord (containsNumber a) (containsValues a)
+-- how many are left
+unfoldable pub cleanLine : ℕ → Told → List ℕ
+cleanLine n t = cond (eqb (t .number) 0) (numberLine n cleanWord (t .first)) (refusalLine n cleanWord true t)
 
-unfoldable pub containsLine : ℕ → Contains → List ℕ
-containsLine n contains.Yes = wordsLine n containsYes
-containsLine n contains.No = wordsLine n containsNo
-containsLine n contains.BadStore = noContains n contains.BadStore
-containsLine n contains.Malformed = noContains n contains.Malformed
-containsLine n (contains.TooLong m) = noContains n (contains.TooLong m)
-
-unfoldable pub cleanLine : ℕ → Gc → List ℕ
-cleanLine n (gc.Left m) = numberLine n cleanWord m
-cleanLine n gc.BadStore = refusedLine n cleanWord (gcNumber gc.BadStore) []
-cleanLine n gc.Malformed = refusedLine n cleanWord (gcNumber gc.Malformed) []
-
-unfoldable pub nextLine : ℕ → NextExpiry → List ℕ
-nextLine n next.None = wordsLine n nextNone
-nextLine n (next.At e) = numberLine n nextWord e
-nextLine n next.BadStore = refusedLine n nextWord (nextNumber next.BadStore) []
-nextLine n next.Malformed = refusedLine n nextWord (nextNumber next.Malformed) []
+-- a refusal here has no value, so the one value is an expiry
+unfoldable pub nextLine : ℕ → Told → List ℕ
+nextLine n t = cond (eqb (t .count) 1) (numberLine n nextWord (t .first)) (toldLine n nextNone nextWord true t)
 
 -- ---- the cache part
-unfoldable pub wireLine : ℕ → List ℕ → WireError → List ℕ
-wireLine n words why = decimal n ++ ((words ++ refusal why) ++ (10 ∷ []))
+abbrev pub putLine : ℕ → Told → List ℕ
+putLine n t = eitherLine n putStored putHeld putWord true t
 
-unfoldable pub unfitLine : ℕ → List ℕ → Unfit → List ℕ
-unfitLine n words why = refusedLine n words (unfitNumber why) (unfitValues why)
-
-unfoldable pub putLine : ℕ → Put → List ℕ
-putLine n put.Stored = wordsLine n putStored
-putLine n put.Held = wordsLine n putHeld
-putLine n put.BadStore = refusedLine n putWord (putNumber put.BadStore) []
-putLine n put.Malformed = refusedLine n putWord (putNumber put.Malformed) []
-putLine n (put.Refused why) = wireLine n putWord why
-putLine n (put.NoMessage m) = refusedLine n putWord (putNumber (put.NoMessage m)) (putValues (put.NoMessage m))
-putLine n (put.Unfit why) = unfitLine n putWord why
-
-unfoldable pub shiftLine : ℕ → Lent → List ℕ
-shiftLine n lent.Fine = wordsLine n shiftOk
-shiftLine n lent.BadStore = refusedLine n shiftWord (lentNumber lent.BadStore) []
-shiftLine n lent.Malformed = refusedLine n shiftWord (lentNumber lent.Malformed) []
+abbrev pub shiftLine : ℕ → Told → List ℕ
+shiftLine n t = toldLine n shiftOk shiftWord true t

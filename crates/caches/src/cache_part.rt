@@ -5,15 +5,18 @@ use super::answers::put_line;
 use super::answers::shift_line;
 use super::say::last;
 use super::say::print;
-use super::say::say;
-use super::say::say_alone;
-use super::say::say_with;
 use super::say::start;
-use mcache::Gossip;
+use lines::refusal_line;
+use lines::told_line;
 use mcache::GossipIds;
 use mcache::Lookup;
 use mcache::MessageCache;
 use mcache::Start;
+use mcache::told::told_gossip;
+use mcache::told::told_lent;
+use mcache::told::told_lookup;
+use mcache::told::told_put;
+use mcache::told::told_start;
 
 pub(crate) struct CachePart {
     pub go: bool,
@@ -48,19 +51,23 @@ fn arriving(mut cache: MessageCache, next: u64) -> MessageCache {
 }
 
 // Kind 6.
-fn begin(n: u64, content: &[u8], part: CachePart, out: &mut [u8]) -> CachePart {
+fn begin(n: u64, content: &[u8], part: CachePart, out: &mut [u8]) -> CachePart
+    requires { ⌜ 192 ≤ length (now out) ⌝ }
+{
     if content.len() != 12 {
         return bad(part);
     }
-    let history_len = text::number_at(content, 0, 2) as usize;
-    let max_messages = text::number_at(content, 2, 2) as usize;
-    let next = text::number_at(content, 4, 8);
+    let history_len = basis::little_at(content, 0, 2) as usize;
+    let max_messages = basis::little_at(content, 2, 2) as usize;
+    let next = basis::little_at(content, 4, 8);
     let s = MessageCache::new(history_len, max_messages);
     let answer = s.answer;
+    let k = told_line(n, b" cache ok", b" cache", true, told_start(answer), out);
+    let go = io::write_all(1, &out[..k]);
     match answer {
-        Start::BadSetting => with_go(part, say_alone(n, b" cache", 40, out)),
+        Start::BadSetting => with_go(part, go),
         Start::Started => CachePart {
-            go: say(n, b" cache ok", out),
+            go,
             started: true,
             cache: arriving(s.cache, next),
         },
@@ -74,12 +81,12 @@ fn put(n: u64, content: &[u8], part: CachePart, store: &mut [u8], out: &mut [u8]
     if content.len() < 2 {
         return bad(part);
     }
-    let index = text::number_at(content, 0, 2) as usize;
+    let index = basis::little_at(content, 0, 2) as usize;
     let cache = part.cache;
     let r = cache.put(store, &content[2..], index);
     let answer = r.answer;
     let left = r.cache;
-    let k = put_line(n, answer, out);
+    let k = put_line(n, told_put(answer), out);
     let go = io::write_all(1, &out[..k]);
     CachePart {
         go,
@@ -99,7 +106,7 @@ fn shift(n: u64, content: &[u8], part: CachePart, store: &[u8], out: &mut [u8]) 
     let r = cache.shift(store);
     let answer = r.answer;
     let left = r.cache;
-    let k = shift_line(n, answer, out);
+    let k = shift_line(n, told_lent(answer), out);
     let go = io::write_all(1, &out[..k]);
     CachePart {
         go,
@@ -137,27 +144,29 @@ fn say_ids(n: u64, id_lens: &[u8], ids: &[u8], rows: &[u8], count: usize, out: &
     print(out, k)
 }
 
-fn say_gossip(n: u64, cache: MessageCache, g: GossipIds, out: &mut [u8]) -> bool {
+fn say_gossip(n: u64, cache: MessageCache, g: GossipIds, out: &mut [u8]) -> bool
+    requires { ⌜ 192 ≤ length (now out) ⌝ }
+{
     let answer = g.answer;
-    match answer {
-        Gossip::BadStore => say_alone(n, b" gossip", 41, out),
-        Gossip::Malformed => say_alone(n, b" gossip", 42, out),
-        Gossip::TopicTooLong(len) => say_with(n, b" gossip", 29, len as u64, out),
-        Gossip::Ids => {
-            let id_lens = cache.id_len;
-            let ids = cache.ids;
-            let rows = g.rows;
-            say_ids(n, &id_lens, &ids, &rows, g.count, out)
-        }
+    let t = told_gossip(answer);
+    if t.number == 0 {
+        let id_lens = cache.id_len;
+        let ids = cache.ids;
+        let rows = g.rows;
+        return say_ids(n, &id_lens, &ids, &rows, g.count, out);
     }
+    let k = refusal_line(n, b" gossip", true, t, out);
+    io::write_all(1, &out[..k])
 }
 
 // Kind 9.
-fn gossip(n: u64, content: &[u8], part: CachePart, store: &[u8], out: &mut [u8]) -> CachePart {
+fn gossip(n: u64, content: &[u8], part: CachePart, store: &[u8], out: &mut [u8]) -> CachePart
+    requires { ⌜ 192 ≤ length (now out) ⌝ }
+{
     if content.len() < 2 {
         return bad(part);
     }
-    let windows = text::number_at(content, 0, 2) as usize;
+    let windows = basis::little_at(content, 0, 2) as usize;
     let cache = part.cache;
     let g = cache.gossip_ids(store, &content[2..], windows);
     let go = say_gossip(n, cache, g, out);
@@ -172,19 +181,19 @@ fn say_message(n: u64, message: &[u8], out: &mut [u8]) -> bool {
 }
 
 // Kind 10.
-fn get(n: u64, content: &[u8], part: CachePart, store: &[u8], out: &mut [u8]) -> CachePart {
+fn get(n: u64, content: &[u8], part: CachePart, store: &[u8], out: &mut [u8]) -> CachePart
+    requires { ⌜ 192 ≤ length (now out) ⌝ }
+{
     let cache = part.cache;
     let answer = cache.lookup(store, content);
-    match answer {
-        Lookup::BadStore => with_go(part, say_alone(n, b" get", 41, out)),
-        Lookup::Malformed => with_go(part, say_alone(n, b" get", 42, out)),
-        Lookup::Missing => with_go(part, say(n, b" get -", out)),
-        Lookup::Found => {
-            let message = cache.get(store, content);
-            let go = say_message(n, message, out);
-            with_go(part, go)
-        }
+    if let Lookup::Found = answer {
+        let message = cache.get(store, content);
+        let found = say_message(n, message, out);
+        return with_go(part, found);
     }
+    let k = told_line(n, b" get -", b" get", true, told_lookup(answer), out);
+    let go = io::write_all(1, &out[..k]);
+    with_go(part, go)
 }
 
 // A call on a part that was started, with its places of the store.

@@ -17,8 +17,7 @@ use seen_part::SeenPart;
 use seen_part::no_seen;
 use seen_part::seen_turn;
 use text::Header;
-use text::next_header;
-use text::read_content;
+use text::next_record;
 
 // The two parts of a run, and whether to go on.
 struct Run {
@@ -80,16 +79,13 @@ fn turn(
     requires { ⌜ 192 ≤ length (now out) ⌝ }
     requires { ⌜ 65600 ≤ length (now content) ⌝ }
 {
-    let h = next_header(65600);
+    let h = next_record(content, 65600);
     match h {
         Header::End => stop(run, b""),
         Header::Bad => stop(run, b"bad\n"),
         Header::Long => stop(run, b"long\n"),
         Header::Record { kind, len } => {
-            if read_content(content, len) {
-                return play(n, kind, &content[..len], run, seen_store, cache_store, out);
-            }
-            stop(run, b"bad\n")
+            play(n, kind, &content[..len], run, seen_store, cache_store, out)
         }
     }
 }

@@ -26,17 +26,3 @@ pub(crate) fn say(n: u64, words: &[u8], out: &mut [u8]) -> bool {
     let k = start(n, words, out);
     print(out, k)
 }
-
-// A refusal with no value.
-pub(crate) fn say_alone(n: u64, words: &[u8], number: u64, out: &mut [u8]) -> bool {
-    let i = start(n, words, out);
-    let k = text::put_refused(out, i, number, 0, 0, 0, 0);
-    print(out, k)
-}
-
-// A refusal with one value.
-pub(crate) fn say_with(n: u64, words: &[u8], number: u64, value: u64, out: &mut [u8]) -> bool {
-    let i = start(n, words, out);
-    let k = text::put_refused(out, i, number, 1, value, 0, 0);
-    print(out, k)
-}

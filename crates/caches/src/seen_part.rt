@@ -8,6 +8,10 @@ use super::answers::next_line;
 use super::say::last;
 use super::say::say;
 use seen::SeenCache;
+use seen::told::told_contains;
+use seen::told::told_gc;
+use seen::told::told_insert;
+use seen::told::told_next;
 
 pub(crate) struct SeenPart {
     pub go: bool,
@@ -58,7 +62,7 @@ fn begin(n: u64, content: &[u8], part: SeenPart, out: &mut [u8]) -> SeenPart {
     if content.len() != 2 {
         return bad(part);
     }
-    let rows = text::number_at(content, 0, 2) as usize;
+    let rows = basis::little_at(content, 0, 2) as usize;
     if 256 < rows {
         return bad(part);
     }
@@ -77,13 +81,13 @@ fn insert(n: u64, content: &[u8], part: SeenPart, store: &mut [u8], out: &mut [u
     if content.len() < 18 {
         return bad(part);
     }
-    let now = text::number_at(content, 0, 8);
-    let ttl = text::number_at(content, 8, 8);
-    let max = text::number_at(content, 16, 2) as usize;
+    let now = basis::little_at(content, 0, 8);
+    let ttl = basis::little_at(content, 8, 8);
+    let max = basis::little_at(content, 16, 2) as usize;
     let cache = part.cache;
     let r = cache.insert(store, &content[18..], now, ttl, max);
     let answer = r.answer;
-    let k = insert_line(n, answer, out);
+    let k = insert_line(n, told_insert(answer), out);
     let go = io::write_all(1, &out[..k]);
     with_cache(part, r.cache, go)
 }
@@ -95,11 +99,11 @@ fn clean(n: u64, content: &[u8], part: SeenPart, store: &[u8], out: &mut [u8]) -
     if content.len() != 8 {
         return bad(part);
     }
-    let now = text::number_at(content, 0, 8);
+    let now = basis::little_at(content, 0, 8);
     let cache = part.cache;
     let r = cache.gc(store, now);
     let answer = r.answer;
-    let k = clean_line(n, answer, out);
+    let k = clean_line(n, told_gc(answer), out);
     let go = io::write_all(1, &out[..k]);
     with_cache(part, r.cache, go)
 }
@@ -113,7 +117,7 @@ fn next(n: u64, content: &[u8], part: SeenPart, store: &[u8], out: &mut [u8]) ->
     }
     let cache = part.cache;
     let answer = cache.next_expiry(store);
-    let k = next_line(n, answer, out);
+    let k = next_line(n, told_next(answer), out);
     let go = io::write_all(1, &out[..k]);
     with_go(part, go)
 }
@@ -124,7 +128,7 @@ fn contains(n: u64, content: &[u8], part: SeenPart, store: &[u8], out: &mut [u8]
 {
     let cache = part.cache;
     let answer = cache.contains(store, content);
-    let k = contains_line(n, answer, out);
+    let k = contains_line(n, told_contains(answer), out);
     let go = io::write_all(1, &out[..k]);
     with_go(part, go)
 }

@@ -10,7 +10,6 @@ use Rattle.basis.specs.declared.Written.the-variants as done
 use Rattle.basis.specs.Writing.{answer, written}
 use Rattle.protobuf.specs.declared.Checked.{Checked}
 use Rattle.protobuf.specs.declared.Checked.the-variants.{Fine, Refused as Wrong}
-use Rattle.protobuf.specs.Refusal.{refusalNumber, refusalValues}
 use Rattle.protobuf.specs.Walk.{Fields, end, refused, _then_, fieldsOf, between, isBytes}
 use Rattle.schema.specs.declared.Kind.the-variants as kind
 use Rattle.schema.specs.declared.Place.{Place}
@@ -23,25 +22,6 @@ use Rattle.ids.specs.declared.MessageId.{MessageId}
 use Rattle.ids.specs.declared.MessageId.the-variants as id
 use Rattle.ids.specs.declared.MessageBytes.{MessageBytes}
 use Rattle.ids.specs.declared.MessageBytes.the-variants.{Bytes, Room, Refused, NoMessage, MissingFrom, InvalidFrom, InvalidSeqno}
-
--- ---- 01's numbers and values
-abbrev pub messageNumber : MessageBytes → ℕ
-messageNumber (Bytes n) = 0
-messageNumber (Refused why) = refusalNumber why
-messageNumber (NoMessage n) = 20
-messageNumber MissingFrom = 21
-messageNumber (InvalidFrom n) = 22
-messageNumber InvalidSeqno = 23
-messageNumber (Room n) = 12
-
-abbrev pub messageValues : MessageBytes → List ℕ
-messageValues (Bytes n) = []
-messageValues (Refused why) = refusalValues why
-messageValues (NoMessage n) = n ∷ []
-messageValues MissingFrom = []
-messageValues (InvalidFrom n) = n ∷ []
-messageValues InvalidSeqno = []
-messageValues (Room n) = n ∷ []
 
 -- ---- the message at an index: length-delimited fields 2, counted from 0; or how many there are
 abbrev pub messageAlong : ℕ → ℕ → Fields → MessageAt

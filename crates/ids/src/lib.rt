@@ -1,4 +1,6 @@
 // One message of a body, and its id, from seen.rs: from and seqno. The host lends the body and an output buffer.
+pub mod told;
+
 ghost use mathlib.Core.Path.{_≡_};
 ghost use mathlib.Core.Bool.{cond, _&&_, _||_};
 ghost use mathlib.Core.List.{[], _∷_};

@@ -8,7 +8,7 @@ use native.Mathlib.Omega.{arith}
 use lib.ListN.{length, take, drop, length-drop, length-take}
 use lib.Seq.{take-all}
 use borrow.Author.Tests.{lt-ltb, le-ltb, ne-eqb}
-use Rattle.text.specs.Record.{little}
+use Rattle.basis.specs.Little.{little}
 use Rattle.text.specs.Line.{Puts, decimal}
 use Rattle.text.specs.Laws.{puts-then}
 use Rattle.peer_id.specs.declared.Uvarint.{Uvarint}

@@ -3,18 +3,17 @@ use Prim.Native.Nat.{ℕ, _≤_, _<_}
 use mathlib.Core.Path.{_≡_}
 use mathlib.Core.List.{List, [], _∷_, _++_}
 use mathlib.Core.Logic.{_≢_}
-use mathlib.Core.Bool.{Bool}
 use lib.ListN.{length}
 use borrow.Author.Tests.{lt-ltb, le-ltb, eq-eqb, ne-eqb}
+use Rattle.basis.specs.declared.Told.{Told}
+use Rattle.text.specs.Line.{number}
 use Rattle.protobuf.specs.Walk.{between}
 use Rattle.schema.specs.declared.Place.{Place}
 use Rattle.schema.specs.declared.Place.the-variants as place
 use Rattle.schema.specs.declared.Number.{Number}
 use Rattle.schema.specs.declared.Number.the-variants as num
 use Rattle.message.specs.declared.Record.{Record}
-use Rattle.message.specs.declared.Decoded.{Decoded}
-use Rattle.message.specs.declared.Decoded.the-variants.{Records}
-use Rattle.inspect.specs.Records.{bytesText, placeText, flagText, recordText, recordLine}
+use Rattle.inspect.specs.Records.{bytesText, placeText, flagText, recordText, recordLine, decodedText}
 
 -- ---- a field
 pub place-turned : (s : List ℕ) (p : Place) (a e : ℕ) → p ≡ place.Present a e → e < a → 32 ∷ 45 ∷ [] ≡ placeText s p
@@ -50,6 +49,13 @@ pub record-there : (b : List ℕ) (r : Record) → r .start ≤ r .end → r .en
 unfolding recordLine
 record-there b r h l = simp (le-ltb _ _ h, le-ltb _ _ l)
 
--- ---- what decode said
-pub records-are : (d : Decoded) (n : ℕ) (c t : Bool) → d ≡ Records n c → c ≡ t → Records n t ≡ d
-records-are d n c t p q = cc
+-- ---- what decode told
+pub with-control : (t : Told) → t .second ≡ 1
+    → (32 ∷ 100 ∷ 101 ∷ 99 ∷ 111 ∷ 100 ∷ 101 ∷ 32 ∷ 111 ∷ 107 ∷ []) ++ (number (t .first) ++ (32 ∷ 99 ∷ 111 ∷ 110 ∷ 116 ∷ 114 ∷ 111 ∷ 108 ∷ [])) ≡ decodedText t
+unfolding decodedText
+with-control t e = simp (eq-eqb _ _ e)
+
+pub without-control : (t : Told) → t .second ≢ 1
+    → (32 ∷ 100 ∷ 101 ∷ 99 ∷ 111 ∷ 100 ∷ 101 ∷ 32 ∷ 111 ∷ 107 ∷ []) ++ (number (t .first) ++ (32 ∷ 112 ∷ 108 ∷ 97 ∷ 105 ∷ 110 ∷ [])) ≡ decodedText t
+unfolding decodedText
+without-control t e = simp (ne-eqb _ _ e)

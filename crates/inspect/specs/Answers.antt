@@ -4,27 +4,28 @@ use mathlib.Core.List.{List, [], _∷_, _++_}
 use mathlib.Core.Bool.{cond}
 use lib.ListN.{length, take, drop}
 use lib.Dec.{ltb, eqb}
-use Rattle.text.specs.Record.{little}
+use Rattle.basis.specs.Little.{little}
 use Rattle.text.specs.Line.{decimal, number}
 use Rattle.lines.specs.Lines.{refusal}
 use Rattle.peer_id.specs.declared.Uvarint.{Uvarint}
 use Rattle.peer_id.specs.declared.Uvarint.the-variants.{Value, Refused as Unread}
 use Rattle.peer_id.specs.Uvarint.{readUvarint}
+use Rattle.peer_id.specs.Told.{varintTold}
 use Rattle.utf8.specs.Utf8.{isUtf8}
-use Rattle.protobuf.specs.declared.WireError.the-variants.{Varint}
 use Rattle.protobuf.specs.declared.Walk.{Walk}
 use Rattle.protobuf.specs.declared.Walk.the-variants.{End, Field, Refused}
+use Rattle.protobuf.specs.Told.{wireTold}
 use Rattle.protobuf.specs.Field.{walkStep}
 
 -- ` end`; or the field, its wire type, the place after its tag and the next place
 unfoldable pub walk : Walk → List ℕ
 walk End = 32 ∷ 101 ∷ 110 ∷ 100 ∷ []
-walk (Refused why) = refusal why
+walk (Refused why) = refusal (wireTold why)
 walk (Field f type at next) = number f ++ (number type ++ (number at ++ number (next .at)))
 
 -- the value and how many bytes it took
 unfoldable pub varint : Uvarint → List ℕ
-varint (Unread why) = refusal (Varint why)
+varint (Unread why) = refusal (varintTold why)
 varint (Value x n) = number x ++ number n
 
 -- ---- the call and the answer to a content, for each kind

@@ -1,4 +1,3 @@
 pub mod Answers
-pub mod Made
 pub mod Records
 pub mod Rows

@@ -1,10 +1,11 @@
 -- The lines that answer a body, in ASCII: one for the call, and one for each record. Absent is ` -`; bytes are ` =` and their hex.
 use Prim.Native.Nat.{ℕ}
 use mathlib.Core.List.{List, [], _∷_, _++_, map}
-use mathlib.Core.Bool.{cond}
+use mathlib.Core.Bool.{true, cond}
 use lib.ListN.{length}
 use lib.Dec.{ltb, eqb}
-use Rattle.text.specs.Line.{decimal, number, refused, hex}
+use Rattle.basis.specs.declared.Told.{Told}
+use Rattle.text.specs.Line.{decimal, number, hex}
 use Rattle.protobuf.specs.Walk.{between}
 use Rattle.schema.specs.declared.Kind.{Kind}
 use Rattle.schema.specs.declared.Kind.the-variants as kind
@@ -16,10 +17,8 @@ use Rattle.schema.specs.declared.Slots.{Slots}
 use Rattle.message.specs.declared.Record.{Record}
 use Rattle.message.specs.declared.RecordAt.{RecordAt}
 use Rattle.message.specs.declared.RecordAt.the-variants as found
-use Rattle.message.specs.declared.Decoded.{Decoded}
-use Rattle.message.specs.declared.Decoded.the-variants.{Records, Refused, Room}
 use Rattle.message.specs.Rows.{rowsOf}
-use Rattle.lines.specs.Lines.{refusal}
+use Rattle.lines.specs.Lines.{refusalLine}
 
 -- ---- the fields of a record whose bytes are s
 unfoldable pub bytesText : List ℕ → List ℕ
@@ -88,20 +87,19 @@ rowLine b (found.Record r) = recordLine b r
 unfoldable pub linesOf : List ℕ → List (List ℕ)
 linesOf b = map (recordLine b) (rowsOf kind.Rpc 0 b)
 
--- ` decode`, and ` ok`, the number of records and ` control` or ` plain`, or a refusal; where the table is short, refusal 12
-unfoldable pub decodedText : Decoded → List ℕ
-decodedText (Refused why) = (32 ∷ 100 ∷ 101 ∷ 99 ∷ 111 ∷ 100 ∷ 101 ∷ []) ++ refusal why
-decodedText (Room n) = (32 ∷ 100 ∷ 101 ∷ 99 ∷ 111 ∷ 100 ∷ 101 ∷ []) ++ refused 12 (n ∷ [])
-decodedText (Records n c) =
-    (32 ∷ 100 ∷ 101 ∷ 99 ∷ 111 ∷ 100 ∷ 101 ∷ [])
-    ++ ((32 ∷ 111 ∷ 107 ∷ []) ++ (number n ++ cond c (32 ∷ 99 ∷ 111 ∷ 110 ∷ 116 ∷ 114 ∷ 111 ∷ 108 ∷ []) (32 ∷ 112 ∷ 108 ∷ 97 ∷ 105 ∷ 110 ∷ [])))
+-- ` decode ok`, the number of records and ` control` or ` plain`
+unfoldable pub decodedText : Told → List ℕ
+decodedText t =
+    (32 ∷ 100 ∷ 101 ∷ 99 ∷ 111 ∷ 100 ∷ 101 ∷ 32 ∷ 111 ∷ 107 ∷ [])
+    ++ (number (t .first)
+    ++ cond (eqb (t .second) 1) (32 ∷ 99 ∷ 111 ∷ 110 ∷ 116 ∷ 114 ∷ 111 ∷ 108 ∷ []) (32 ∷ 112 ∷ 108 ∷ 97 ∷ 105 ∷ 110 ∷ []))
 
--- the line of the input's record n
-unfoldable pub decodeLine : ℕ → Decoded → List ℕ
-decodeLine n d = decimal n ++ (decodedText d ++ (10 ∷ []))
+-- the line of the input's record n; or ` decode` and a refusal; where the table is short, refusal 12
+unfoldable pub decodeLine : ℕ → Told → List ℕ
+decodeLine n t =
+    cond (eqb (t .number) 0) (decimal n ++ (decodedText t ++ (10 ∷ [])))
+    (refusalLine n (32 ∷ 100 ∷ 101 ∷ 99 ∷ 111 ∷ 100 ∷ 101 ∷ []) true t)
 
 -- how many lines of records follow it
-unfoldable pub recordsIn : Decoded → ℕ
-recordsIn (Records n c) = n
-recordsIn (Refused why) = 0
-recordsIn (Room n) = 0
+unfoldable pub recordsIn : Told → ℕ
+recordsIn t = cond (eqb (t .number) 0) (t .first) 0

@@ -2,7 +2,7 @@
 use mathlib.Core.Path.{_≡_, refl}
 use mathlib.Core.List.{[], _∷_, _++_}
 use lib.ListN.{replicate}
-use Rattle.text.specs.Record.{little}
+use Rattle.basis.specs.Little.{little}
 use Rattle.text.specs.Line.{width, decimal, number, numbers, refused, hex}
 use Rattle.peer_id.specs.Uvarint.{readUvarint, readFrom, groupOf}
 use Rattle.utf8.specs.Utf8.{isUtf8, run}
@@ -12,8 +12,9 @@ use Rattle.schema.specs.Schema.{roleOf, rank, ownOf}
 use Rattle.schema.specs.Count.{textCount, countTo, counted}
 use Rattle.schema.specs.Slots.{setPlace, withField, slotsOf}
 use Rattle.message.specs.Rows.{ownRows, rowsTo, rowsOf}
+use Rattle.message.specs.Told.{decodedTold}
 use Rattle.message.specs.Decode.{hasControl, decodeAnswer}
-use Rattle.lines.specs.Lines.{refusal}
+use Rattle.lines.specs.Lines.{refusalLine}
 use Rattle.inspect.specs.Records.{bytesText, placeText, countText, flagText, subText, messageText, pruneText, recordText, recordLine, linesOf, decodedText, decodeLine}
 use Rattle.inspect.specs.Answers.{walk, varint, walkAnswer, varintAnswer, utf8Answer, answerTo, closed, lineOf}
 
@@ -22,15 +23,15 @@ pub rows :
     × (lineOf 12 6 (0xac ∷ 0x02 ∷ []) ≡ 49 ∷ 50 ∷ 32 ∷ 118 ∷ 97 ∷ 114 ∷ 105 ∷ 110 ∷ 116 ∷ 32 ∷ 51 ∷ 48 ∷ 48 ∷ 32 ∷ 50 ∷ 10 ∷ [])
     × (lineOf 3 7 (0xc0 ∷ 0x80 ∷ []) ≡ 51 ∷ 32 ∷ 117 ∷ 116 ∷ 102 ∷ 56 ∷ 32 ∷ 110 ∷ 111 ∷ 10 ∷ [])
     × (lineOf 4 9 [] ≡ [])
-unfolding lineOf closed answerTo walkAnswer varintAnswer utf8Answer walk varint refusal little width decimal number numbers refused readUvarint readFrom groupOf isUtf8 run readTag readLen skipField walkStep
+unfolding lineOf closed answerTo walkAnswer varintAnswer utf8Answer walk varint little width decimal number numbers refused readUvarint readFrom groupOf isUtf8 run readTag readLen skipField walkStep
 rows = (refl, refl, refl, refl)
 
 -- `1 decode refused 7 1` for 01's body `0a 03 12 01 ff`, `2 decode ok 0 control` for `1a 00 1a 00`; and the records' lines: `  message
 -- =0a01410a0142 =42 - - - -` for `12 06 0a 01 41 0a 01 42`, `  sub 1 -` and `  prune = 0`, where empty is not absent
 pub bodies :
-    (decodeLine 1 (decodeAnswer (0x0a ∷ 0x03 ∷ 0x12 ∷ 0x01 ∷ 0xff ∷ []) 10240) ≡ 49 ∷ 32 ∷ 100 ∷ 101 ∷ 99 ∷ 111 ∷ 100 ∷ 101 ∷ 32 ∷ 114 ∷ 101 ∷ 102 ∷ 117 ∷ 115 ∷ 101 ∷ 100 ∷ 32 ∷ 55 ∷ 32 ∷ 49 ∷ 10 ∷ [])
-    × (decodeLine 2 (decodeAnswer (0x1a ∷ 0x00 ∷ 0x1a ∷ 0x00 ∷ []) 10240) ≡ 50 ∷ 32 ∷ 100 ∷ 101 ∷ 99 ∷ 111 ∷ 100 ∷ 101 ∷ 32 ∷ 111 ∷ 107 ∷ 32 ∷ 48 ∷ 32 ∷ 99 ∷ 111 ∷ 110 ∷ 116 ∷ 114 ∷ 111 ∷ 108 ∷ 10 ∷ [])
+    (decodeLine 1 (decodedTold (decodeAnswer (0x0a ∷ 0x03 ∷ 0x12 ∷ 0x01 ∷ 0xff ∷ []) 10240)) ≡ 49 ∷ 32 ∷ 100 ∷ 101 ∷ 99 ∷ 111 ∷ 100 ∷ 101 ∷ 32 ∷ 114 ∷ 101 ∷ 102 ∷ 117 ∷ 115 ∷ 101 ∷ 100 ∷ 32 ∷ 55 ∷ 32 ∷ 49 ∷ 10 ∷ [])
+    × (decodeLine 2 (decodedTold (decodeAnswer (0x1a ∷ 0x00 ∷ 0x1a ∷ 0x00 ∷ []) 10240)) ≡ 50 ∷ 32 ∷ 100 ∷ 101 ∷ 99 ∷ 111 ∷ 100 ∷ 101 ∷ 32 ∷ 111 ∷ 107 ∷ 32 ∷ 48 ∷ 32 ∷ 99 ∷ 111 ∷ 110 ∷ 116 ∷ 114 ∷ 111 ∷ 108 ∷ 10 ∷ [])
     × (linesOf (0x12 ∷ 0x06 ∷ 0x0a ∷ 0x01 ∷ 0x41 ∷ 0x0a ∷ 0x01 ∷ 0x42 ∷ []) ≡ (32 ∷ 32 ∷ 109 ∷ 101 ∷ 115 ∷ 115 ∷ 97 ∷ 103 ∷ 101 ∷ 32 ∷ 61 ∷ 48 ∷ 97 ∷ 48 ∷ 49 ∷ 52 ∷ 49 ∷ 48 ∷ 97 ∷ 48 ∷ 49 ∷ 52 ∷ 50 ∷ 32 ∷ 61 ∷ 52 ∷ 50 ∷ 32 ∷ 45 ∷ 32 ∷ 45 ∷ 32 ∷ 45 ∷ 32 ∷ 45 ∷ 10 ∷ []) ∷ [])
     × (linesOf (0x0a ∷ 0x02 ∷ 0x08 ∷ 0x07 ∷ 0x1a ∷ 0x06 ∷ 0x22 ∷ 0x04 ∷ 0x0a ∷ 0x00 ∷ 0x18 ∷ 0x00 ∷ []) ≡ (32 ∷ 32 ∷ 115 ∷ 117 ∷ 98 ∷ 32 ∷ 49 ∷ 32 ∷ 45 ∷ 10 ∷ []) ∷ (32 ∷ 32 ∷ 112 ∷ 114 ∷ 117 ∷ 110 ∷ 101 ∷ 32 ∷ 61 ∷ 32 ∷ 48 ∷ 10 ∷ []) ∷ [])
-unfolding decodeLine decodedText linesOf recordLine recordText subText messageText pruneText placeText bytesText flagText countText hex refusal width decimal number numbers refused readUvarint readFrom groupOf isUtf8 run readTag readLen readVarint skipFixed skipField readValue readField walkFrom walkAt roleOf rank ownOf textCount countTo counted setPlace withField slotsOf ownRows rowsTo rowsOf hasControl decodeAnswer
+unfolding decodeLine decodedText linesOf recordLine recordText subText messageText pruneText placeText bytesText flagText countText hex refusalLine width decimal number numbers refused readUvarint readFrom groupOf isUtf8 run readTag readLen readVarint skipFixed skipField readValue readField walkFrom walkAt roleOf rank ownOf textCount countTo counted setPlace withField slotsOf ownRows rowsTo rowsOf hasControl decodeAnswer
 bodies = (refl, refl, refl, refl)

@@ -1,7 +1,6 @@
 // Answers records from standard input, a line for each: the record's number from 1, the call, the answer. A record is its content's length
 // (u32), its kind (u16) and its content, little-endian. Kinds: 1 decode (body), 2 encode (body), 3 sign (index u16, body),
 // 4 id (index u16, body), 5 walk (place u64, body), 6 varint (bytes), 7 utf8 (bytes). After the line of kind 1 come those of the body's records.
-mod made;
 mod records;
 
 ghost use Prim.Native.Nat.{_+_, _≤_};
@@ -9,17 +8,20 @@ ghost use lib.ListN.{length};
 ghost use Rattle.text.specs.Line.{Puts};
 ghost use Rattle.lines.specs.Lines.{Holds};
 ghost use Rattle.inspect.specs.Answers.{walk, varint, walkAnswer, varintAnswer, utf8Answer, answerTo, lineOf};
+use ids::told::told_message;
 use lines::end_line;
+use lines::made_line;
 use lines::put_refusal;
 use lines::put_value;
 use lines::put_word;
 use lines::start_line;
-use made::bytes_of;
-use made::made_line;
+use message::told::told_decoded;
 use peer_id::Uvarint;
+use peer_id::told::told_varint;
 use protobuf::Cursor;
 use protobuf::Walk;
-use protobuf::WireError;
+use protobuf::told::told_encoded;
+use protobuf::told::told_wire;
 use records::decode_line;
 use records::records_in;
 use records::row_line;
@@ -33,7 +35,7 @@ fn put_walk(out: &mut [u8], at: usize, w: Walk) -> usize
 {
     match w {
         Walk::End => put_word(out, at, b" end"),
-        Walk::Refused(why) => put_refusal(out, at, why),
+        Walk::Refused(why) => put_refusal(out, at, told_wire(why)),
         Walk::Field {
             field,
             wire_type,
@@ -54,7 +56,7 @@ fn put_varint(out: &mut [u8], at: usize, v: Uvarint) -> usize
     ensures { λ r. ⌜ Puts 92 (varint v) (now (out .entry)) at (now (out .exit)) r ⌝ }
 {
     match v {
-        Uvarint::Refused(why) => put_refusal(out, at, WireError::Varint(why)),
+        Uvarint::Refused(why) => put_refusal(out, at, told_varint(why)),
         Uvarint::Value { value, used } => {
             let i = put_value(out, at, value);
             put_value(out, i, used as u64)
@@ -70,7 +72,7 @@ fn answer_walk(content: &[u8], out: &mut [u8], at: usize) -> usize
     if content.len() < 8 {
         return at;
     }
-    let place = text::number_at(content, 0, 8);
+    let place = basis::little_at(content, 0, 8);
     let cursor = Cursor { at: place as usize };
     let w = cursor.step(&content[8..]);
     let i = put_word(out, at, b" walk");
@@ -152,11 +154,12 @@ fn reply_decode(n: u64, body: &[u8], table: &mut [u64], out: &mut [u8]) -> bool
     requires { ⌜ 787456 ≤ length (now out) ⌝ }
 {
     let d = message::decode(body, table);
-    let k = decode_line(n, d, out);
+    let t = told_decoded(d);
+    let k = decode_line(n, t, out);
     if !io::write_all(1, &out[..k]) {
         return false;
     }
-    let count = records_in(d);
+    let count = records_in(t);
     print_rows(body, table, count, out)
 }
 
@@ -166,8 +169,7 @@ fn reply_encode(n: u64, body: &[u8], made: &mut [u8], out: &mut [u8]) -> bool
     requires { ⌜ 787456 ≤ length (now out) ⌝ }
 {
     let e = encode::encode(body, made);
-    let r = bytes_of(e);
-    let k = made_line(n, b" encode", made, r, out);
+    let k = made_line(n, b" encode", true, made, told_encoded(e), out);
     io::write_all(1, &out[..k])
 }
 
@@ -179,9 +181,9 @@ fn reply_sign(n: u64, content: &[u8], made: &mut [u8], out: &mut [u8]) -> bool
     if content.len() < 2 {
         return last(b"bad\n");
     }
-    let index = text::number_at(content, 0, 2);
+    let index = basis::little_at(content, 0, 2);
     let r = encode::sign_bytes(&content[2..], index as usize, made);
-    let k = made_line(n, b" sign", made, r, out);
+    let k = made_line(n, b" sign", true, made, told_message(r), out);
     io::write_all(1, &out[..k])
 }
 
@@ -193,9 +195,9 @@ fn reply_id(n: u64, content: &[u8], made: &mut [u8], out: &mut [u8]) -> bool
     if content.len() < 2 {
         return last(b"bad\n");
     }
-    let index = text::number_at(content, 0, 2);
+    let index = basis::little_at(content, 0, 2);
     let r = ids::message_id(&content[2..], index as usize, made);
-    let k = made_line(n, b" id", made, r, out);
+    let k = made_line(n, b" id", true, made, told_message(r), out);
     io::write_all(1, &out[..k])
 }
 

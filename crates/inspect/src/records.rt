@@ -8,13 +8,12 @@ ghost use Rattle.text.specs.Line.{Puts};
 ghost use Rattle.message.specs.Rows.{recordAt};
 ghost use Rattle.lines.specs.Lines.{Holds};
 ghost use Rattle.inspect.specs.Records.{bytesText, placeText, countText, flagText, subText, messageText, pruneText, peerText, recordText, recordLine, rowLine, decodedText, decodeLine, recordsIn};
+use basis::Told;
 use lines::end_line;
-use lines::put_refusal;
 use lines::put_value;
-use lines::put_with;
 use lines::put_word;
+use lines::refusal_line;
 use lines::start_line;
-use message::Decoded;
 use message::Record;
 use message::RecordAt;
 use schema::Kind;
@@ -202,42 +201,35 @@ pub(crate) fn row_line(body: &[u8], table: &[u64], row: usize, out: &mut [u8]) -
     }
 }
 
-fn put_decoded(out: &mut [u8], at: usize, d: Decoded) -> usize
-    requires { ⌜ at + 99 ≤ length (now out) ⌝ }
-    ensures { λ r. ⌜ Puts 99 (decodedText d) (now (out .entry)) at (now (out .exit)) r ⌝ }
+// How many records there are, and whether a control is there.
+fn put_decoded(out: &mut [u8], at: usize, t: Told) -> usize
+    requires { ⌜ at + 39 ≤ length (now out) ⌝ }
+    ensures { λ r. ⌜ Puts 39 (decodedText t) (now (out .entry)) at (now (out .exit)) r ⌝ }
 {
-    let i = put_word(out, at, b" decode");
-    match d {
-        Decoded::Refused(why) => put_refusal(out, i, why),
-        Decoded::Room(needed) => put_with(out, i, 12, needed as u64),
-        Decoded::Records { count, control } => {
-            let j = put_word(out, i, b" ok");
-            let k = put_value(out, j, count as u64);
-            if control {
-                return put_word(out, k, b" control");
-            }
-            put_word(out, k, b" plain")
-        }
+    let i = put_word(out, at, b" decode ok");
+    let j = put_value(out, i, t.first);
+    if t.second == 1 {
+        return put_word(out, j, b" control");
     }
+    put_word(out, j, b" plain")
 }
 
 // Puts the line of record n at the front of out and says how long it is.
-pub(crate) fn decode_line(n: u64, d: Decoded, out: &mut [u8]) -> usize
-    requires { ⌜ 120 ≤ length (now out) ⌝ }
-    ensures { λ r. ⌜ Holds (decodeLine n d) (now (out .exit)) r ⌝ }
+pub(crate) fn decode_line(n: u64, t: Told, out: &mut [u8]) -> usize
+    requires { ⌜ 192 ≤ length (now out) ⌝ }
+    ensures { λ r. ⌜ Holds (decodeLine n t) (now (out .exit)) r ⌝ }
 {
-    let i = start_line(out, n);
-    let j = put_decoded(out, i, d);
-    end_line(out, j)
+    if t.number == 0 {
+        let i = start_line(out, n);
+        let j = put_decoded(out, i, t);
+        return end_line(out, j);
+    }
+    refusal_line(n, b" decode", true, t, out)
 }
 
 // How many records were written to the table.
-pub(crate) fn records_in(d: Decoded) -> usize
-    ensures { λ r. ⌜ r ≡ recordsIn d ⌝ }
+pub(crate) fn records_in(t: Told) -> usize
+    ensures { λ r. ⌜ r ≡ recordsIn t ⌝ }
 {
-    match d {
-        Decoded::Records { count, control: _ } => count,
-        Decoded::Refused(_) => 0,
-        Decoded::Room(_) => 0,
-    }
+    if t.number == 0 { t.first as usize } else { 0 }
 }

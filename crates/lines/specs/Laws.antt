@@ -2,6 +2,7 @@
 use Prim.Native.Nat.{ℕ, _≤_}
 use mathlib.Core.Path.{_≡_, refl, sym, ap, _∙_}
 use mathlib.Core.List.{List, []}
+use mathlib.Core.Bool.{Bool, true, false, cond}
 use native.Mathlib.Omega.{arith}
 use lib.ListN.{length, take, replicate, length-replicate}
 use lib.Seq.{length-take-le}
@@ -17,6 +18,13 @@ holds-none out e = record { size = ap length e; counts = (omega arith, refl); te
 
 pub holds-as : {xs ys out : List ℕ} {r : ℕ} → xs ≡ ys → Holds xs out r → Holds ys out r
 holds-as e h = record { size = h .size ∙ ap length e; counts = h .counts; text = h .text ∙ e }
+
+-- either way of a test
+pub holds-yes : {xs out : List ℕ} {r : ℕ} (t : Bool) (ys : List ℕ) → t ≡ true → Holds xs out r → Holds (cond t xs ys) out r
+holds-yes t ys e h = rw e h
+
+pub holds-no : {ys out : List ℕ} {r : ℕ} (t : Bool) (xs : List ℕ) → t ≡ false → Holds ys out r → Holds (cond t xs ys) out r
+holds-no t xs e h = rw e h
 
 -- what was put at the front is a line
 pub puts-holds : {p r : ℕ} {xs b a : List ℕ} → Puts p xs b 0 a r → r ≤ length b → Holds xs a r

@@ -1,10 +1,12 @@
 // Lines and their pieces, for the programs that answer records: callers see to the room.
-ghost use Prim.Native.Nat.{_+_, _≤_, _<_};
+ghost use mathlib.Core.Path.{_≡_};
+ghost use Prim.Native.Nat.{_+_, _-_, _≤_, _<_};
+ghost use mathlib.Core.Bool.{cond};
 ghost use mathlib.Core.List.{[], _∷_, _++_};
 ghost use lib.ListN.{length, take};
-ghost use Rattle.text.specs.Line.{Puts, decimal, number, refused};
-ghost use Rattle.lines.specs.Lines.{Holds, refusal as refusalText, wordsLine, numberLine, refusedLine, shownText};
-use protobuf::WireError;
+ghost use Rattle.text.specs.Line.{Puts, decimal, number, numbers, refused};
+ghost use Rattle.lines.specs.Lines.{Holds, refusal, shownText, wordsLine, numberLine, refusalLine, toldLine, eitherLine, bytesLine, madeLine};
+use basis::Told;
 
 pub fn put_word(out: &mut [u8], at: usize, word: &[u8]) -> usize
     requires { ⌜ at + length (now word) ≤ length (now out) ⌝ }
@@ -29,6 +31,14 @@ pub fn put_value(out: &mut [u8], at: usize, n: u64) -> usize
     text::put_number(out, at, n)
 }
 
+// The first `count` of three numbers.
+fn put_values(out: &mut [u8], at: usize, count: u64, first: u64, second: u64, third: u64) -> usize
+    requires { ⌜ at + 63 ≤ length (now out) ⌝ }
+    ensures { λ r. ⌜ Puts 63 (numbers (take count (first ∷ second ∷ third ∷ []))) (now (out .entry)) at (now (out .exit)) r ⌝ }
+{
+    text::put_numbers(out, at, count, first, second, third)
+}
+
 // A refusal with the first `count` of three values.
 fn put_refused(
     out: &mut [u8],
@@ -46,36 +56,19 @@ fn put_refused(
 }
 
 // A refusal of 01's table, with its values.
-pub fn put_refusal(out: &mut [u8], at: usize, why: WireError) -> usize
+pub fn put_refusal(out: &mut [u8], at: usize, t: Told) -> usize
     requires { ⌜ at + 92 ≤ length (now out) ⌝ }
-    ensures { λ r. ⌜ Puts 92 (refusalText why) (now (out .entry)) at (now (out .exit)) r ⌝ }
+    ensures { λ r. ⌜ Puts 92 (refusal t) (now (out .entry)) at (now (out .exit)) r ⌝ }
 {
-    let r = protobuf::refusal_of(why);
     put_refused(
         out,
         at,
-        r.number as u64,
-        r.count as u64,
-        r.first,
-        r.second,
-        r.third,
+        t.number as u64,
+        t.count as u64,
+        t.first,
+        t.second,
+        t.third,
     )
-}
-
-// A refusal with no value.
-pub fn put_alone(out: &mut [u8], at: usize, number: u64) -> usize
-    requires { ⌜ at + 92 ≤ length (now out) ⌝ }
-    ensures { λ r. ⌜ Puts 92 (refused number []) (now (out .entry)) at (now (out .exit)) r ⌝ }
-{
-    put_refused(out, at, number, 0, 0, 0, 0)
-}
-
-// A refusal with one value.
-pub fn put_with(out: &mut [u8], at: usize, number: u64, value: u64) -> usize
-    requires { ⌜ at + 92 ≤ length (now out) ⌝ }
-    ensures { λ r. ⌜ Puts 92 (refused number (value ∷ [])) (now (out .entry)) at (now (out .exit)) r ⌝ }
-{
-    put_refused(out, at, number, 1, value, 0, 0)
 }
 
 // The hex of the first bytes. A writer never counts more than it was lent.
@@ -136,23 +129,93 @@ pub fn number_line(n: u64, words: &[u8], value: u64, out: &mut [u8]) -> usize
     end_line(out, k)
 }
 
-// The words and a refusal with the first `count` of three values.
-pub fn refused_line(
-    n: u64,
-    words: &[u8],
-    refusal: u64,
-    count: u64,
-    first: u64,
-    second: u64,
-    third: u64,
-    out: &mut [u8],
-) -> usize
+// How many of a refusal's values are printed.
+fn printed(full: bool, count: u8) -> u64
+    ensures { λ r. ⌜ r ≡ cond full count 0 ⌝ }
+{
+    if full { count as u64 } else { 0 }
+}
+
+// The words and a refusal, with its values where `full`.
+pub fn refusal_line(n: u64, words: &[u8], full: bool, t: Told, out: &mut [u8]) -> usize
     requires { ⌜ length (now words) ≤ 32 ⌝ }
     requires { ⌜ 192 ≤ length (now out) ⌝ }
-    ensures { λ r. ⌜ Holds (refusedLine n (now (words .entry)) refusal (take count (first ∷ second ∷ third ∷ []))) (now (out .exit)) r ⌝ }
+    ensures { λ r. ⌜ Holds (refusalLine n (now (words .entry)) full t) (now (out .exit)) r ⌝ }
 {
+    let count = printed(full, t.count);
     let i = start_line(out, n);
     let j = put_word(out, i, words);
-    let k = put_refused(out, j, refusal, count, first, second, third);
+    let k = put_refused(out, j, t.number as u64, count, t.first, t.second, t.third);
     end_line(out, k)
+}
+
+// The words for what was done; or those of the call, and its refusal.
+pub fn told_line(n: u64, done: &[u8], words: &[u8], full: bool, t: Told, out: &mut [u8]) -> usize
+    requires { ⌜ length (now done) ≤ 32 ⌝ }
+    requires { ⌜ length (now words) ≤ 32 ⌝ }
+    requires { ⌜ 192 ≤ length (now out) ⌝ }
+    ensures { λ r. ⌜ Holds (toldLine n (now (done .entry)) (now (words .entry)) full t) (now (out .exit)) r ⌝ }
+{
+    if t.number == 0 {
+        return words_line(n, done, out);
+    }
+    refusal_line(n, words, full, t, out)
+}
+
+// The same with two ways to be done: the first value is 1, or it is not.
+pub fn either_line(
+    n: u64,
+    one: &[u8],
+    other: &[u8],
+    words: &[u8],
+    full: bool,
+    t: Told,
+    out: &mut [u8],
+) -> usize
+    requires { ⌜ length (now one) ≤ 32 ⌝ }
+    requires { ⌜ length (now other) ≤ 32 ⌝ }
+    requires { ⌜ length (now words) ≤ 32 ⌝ }
+    requires { ⌜ 192 ≤ length (now out) ⌝ }
+    ensures { λ r. ⌜ Holds (eitherLine n (now (one .entry)) (now (other .entry)) (now (words .entry)) full t) (now (out .exit)) r ⌝ }
+{
+    if t.first == 1 {
+        return told_line(n, one, words, full, t, out);
+    }
+    told_line(n, other, words, full, t, out)
+}
+
+// One less, at least 0.
+fn further(count: u8) -> u64
+    ensures { λ r. ⌜ r ≡ count - 1 ⌝ }
+{
+    if count == 0 { 0 } else { count as u64 - 1 }
+}
+
+// The call, the bytes that it made, and what it tells further.
+fn bytes_line(n: u64, words: &[u8], made: &[u8], t: Told, out: &mut [u8]) -> usize
+    requires { ⌜ length (now words) ≤ 32 ⌝ }
+    requires { ⌜ length (now made) ≤ 65600 ⌝ }
+    requires { ⌜ 131350 ≤ length (now out) ⌝ }
+    ensures { λ r. ⌜ Holds (bytesLine n (now (words .entry)) (now (made .entry)) t) (now (out .exit)) r ⌝ }
+{
+    let count = further(t.count);
+    let i = start_line(out, n);
+    let j = put_word(out, i, words);
+    let k = put_shown(out, j, made, t.first as usize);
+    let l = put_values(out, k, count, t.second, t.third, t.fourth);
+    end_line(out, l)
+}
+
+// The line of a call that writes bytes: how many and, above 0, their hex, and what it tells further; or its refusal. 131,350 bytes hold each, the
+// hex of 65,600 bytes and some numbers and words.
+pub fn made_line(n: u64, words: &[u8], full: bool, made: &[u8], t: Told, out: &mut [u8]) -> usize
+    requires { ⌜ length (now words) ≤ 32 ⌝ }
+    requires { ⌜ length (now made) ≤ 65600 ⌝ }
+    requires { ⌜ 131350 ≤ length (now out) ⌝ }
+    ensures { λ r. ⌜ Holds (madeLine n (now (words .entry)) full (now (made .entry)) t) (now (out .exit)) r ⌝ }
+{
+    if t.number == 0 {
+        return bytes_line(n, words, made, t, out);
+    }
+    refusal_line(n, words, full, t, out)
 }

@@ -11,7 +11,6 @@ use Rattle.rows.specs.Ids.{indexOf}
 use Rattle.rows.specs.Store.{idAt, idsIn, inUse}
 use Rattle.protobuf.specs.declared.Checked.{Checked}
 use Rattle.protobuf.specs.declared.Checked.the-variants as checked
-use Rattle.protobuf.specs.Refusal.{refusalNumber, refusalValues}
 use Rattle.protobuf.specs.Walk.{between}
 use Rattle.ids.specs.declared.MessageAt.{MessageAt}
 use Rattle.ids.specs.declared.MessageAt.the-variants as at
@@ -19,7 +18,7 @@ use Rattle.schema.specs.Accept.{acceptOf}
 use Rattle.ids.specs.Ids.{messageAt, idBytes}
 use Rattle.admission.specs.declared.Admission.{Admission}
 use Rattle.admission.specs.declared.Admission.the-variants as admission
-use Rattle.admission.specs.Admission.{unfitNumber, unfitValues, admissionOf}
+use Rattle.admission.specs.Admission.{admissionOf}
 use Rattle.mcache.specs.declared.MessageCache.{MessageCache}
 use Rattle.mcache.specs.declared.Lent.{Lent}
 use Rattle.mcache.specs.declared.Lent.the-variants as lent
@@ -31,53 +30,15 @@ use Rattle.mcache.specs.declared.Lookup.{Lookup}
 use Rattle.mcache.specs.declared.Lookup.the-variants as lookup
 use Rattle.mcache.specs.declared.Gossip.{Gossip}
 use Rattle.mcache.specs.declared.Gossip.the-variants as gossip
+use Rattle.mcache.specs.Told.{lentTold, putTold}
 use Rattle.mcache.specs.State.{messageIn, legal, wellFormed, fresh, dropped, appended, passed, aged, stale, told, gatherInto, messageSize, messageIdSize, maxMessages, ringOf}
 
--- ---- 01's numbers and values
+-- ---- 01's numbers
 abbrev pub lentNumber : Lent → ℕ
-lentNumber lent.Fine = 0
-lentNumber lent.BadStore = 41
-lentNumber lent.Malformed = 42
-
-abbrev pub startNumber : Start → ℕ
-startNumber start.Started = 0
-startNumber start.BadSetting = 40
+lentNumber r = lentTold r .number
 
 abbrev pub putNumber : Put → ℕ
-putNumber put.Stored = 0
-putNumber put.Held = 0
-putNumber put.BadStore = 41
-putNumber put.Malformed = 42
-putNumber (put.Refused why) = refusalNumber why
-putNumber (put.NoMessage n) = 20
-putNumber (put.Unfit why) = unfitNumber why
-
-abbrev pub putValues : Put → List ℕ
-putValues put.Stored = []
-putValues put.Held = []
-putValues put.BadStore = []
-putValues put.Malformed = []
-putValues (put.Refused why) = refusalValues why
-putValues (put.NoMessage n) = n ∷ []
-putValues (put.Unfit why) = unfitValues why
-
-abbrev pub lookupNumber : Lookup → ℕ
-lookupNumber lookup.Found = 0
-lookupNumber lookup.Missing = 0
-lookupNumber lookup.BadStore = 41
-lookupNumber lookup.Malformed = 42
-
-abbrev pub gossipNumber : Gossip → ℕ
-gossipNumber gossip.Ids = 0
-gossipNumber gossip.BadStore = 41
-gossipNumber gossip.Malformed = 42
-gossipNumber (gossip.TopicTooLong n) = 29
-
-abbrev pub gossipValues : Gossip → List ℕ
-gossipValues gossip.Ids = []
-gossipValues gossip.BadStore = []
-gossipValues gossip.Malformed = []
-gossipValues (gossip.TopicTooLong n) = n ∷ []
+putNumber r = putTold r .number
 
 -- ---- start: 40
 unfoldable pub startAnswer : ℕ → ℕ → Start

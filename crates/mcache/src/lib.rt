@@ -1,5 +1,7 @@
 // The heartbeat-windowed message cache, from mcache.rs: messages in a lent store, a place of 4,096 bytes each; their ids, lengths, windows and
 // arrival numbers by value. The places are a ring, so that a message that leaves moves no other, and a freed place is used again.
+pub mod told;
+
 ghost use mathlib.Core.Path.{_≡_};
 ghost use mathlib.Core.Bool.{true, cond};
 ghost use mathlib.Core.List.{map, _++_};

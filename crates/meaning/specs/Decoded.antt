@@ -16,7 +16,7 @@ use Rattle.utf8.specs.Utf8.{isUtf8}
 use Rattle.protobuf.specs.declared.Field.{Field}
 use Rattle.protobuf.specs.declared.WireError.{WireError}
 use Rattle.protobuf.specs.declared.WireError.the-variants.{InvalidUtf8, TooLarge, TooManyRecords}
-use Rattle.protobuf.specs.Refusal.{refusalNumber}
+use Rattle.protobuf.specs.Told.{refusalNumber}
 use Rattle.protobuf.specs.RefusalLaws.{field-early}
 use Rattle.protobuf.specs.Walk.{Fields, end, refused, _then_, fieldsOf, between}
 use Rattle.protobuf.specs.WalkLaws.{along}

@@ -1,3 +1,4 @@
+pub mod Told
 pub mod Rows
 pub mod Decode
 pub mod RowsLaws

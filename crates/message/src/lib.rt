@@ -1,4 +1,6 @@
 // Reading a body, from message.rs: its records go to a table that the host lends.
+pub mod told;
+
 ghost use mathlib.Core.Path.{_≡_};
 ghost use mathlib.Core.List.{[], _∷_, _++_};
 ghost use Prim.Native.Nat.{_+_, _*_, _≤_};

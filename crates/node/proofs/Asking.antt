@@ -35,7 +35,7 @@ use Rattle.node.specs.declared.Ask.the-variants as ask
 use Rattle.node.specs.Gateway.{marked, request}
 use Rattle.node.specs.Calls.{lentOf, bytesFor, offered, unseenFrom, unseenOf, askBytes, asked, askAnswer, askLeft}
 use Rattle.node.proofs.Writes.{field-is}
-use Rattle.node.proofs.Told.{bytes-some}
+use Rattle.node.proofs.Telling.{bytes-some}
 
 -- ---- a part goes into a table, or it does not
 pub add-there : (there : Bool) (n r : ℕ) (t after x : List ℕ) → there ≡ true → r ≡ n + 1 → after ≡ x → (r ≡ cond there (n + 1) n) × (after ≡ cond there x t)

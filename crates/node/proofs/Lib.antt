@@ -1,6 +1,6 @@
 pub mod Steps
 pub mod Writes
-pub mod Told
+pub mod Telling
 pub mod Answers
 pub mod Asking
 pub mod Serving

@@ -15,7 +15,6 @@ use Rattle.rows.specs.Ids.{among, indexOf}
 use Rattle.rows.specs.Store.{idAt, idsIn}
 use Rattle.protobuf.specs.declared.Checked.{Checked}
 use Rattle.protobuf.specs.declared.Checked.the-variants as checked
-use Rattle.protobuf.specs.Refusal.{refusalNumber, refusalValues}
 use Rattle.protobuf.specs.Walk.{between}
 use Rattle.protobuf.specs.Encode.{bytesField}
 use Rattle.rpc.specs.Rpc.{Rpc}
@@ -26,7 +25,7 @@ use Rattle.schema.specs.Accept.{acceptOf}
 use Rattle.ids.specs.Ids.{messageAt, idBytes}
 use Rattle.admission.specs.declared.Admission.{Admission}
 use Rattle.admission.specs.declared.Admission.the-variants as admission
-use Rattle.admission.specs.Admission.{unfitNumber, unfitValues, admissionOf}
+use Rattle.admission.specs.Admission.{admissionOf}
 use Rattle.parts.specs.Parts.{atPath, once, fitting}
 use Rattle.seen.specs.State.{idSize}
 use Rattle.seen.specs.declared.SeenCache.{SeenCache}
@@ -52,86 +51,25 @@ use Rattle.node.specs.declared.Ask.{Ask}
 use Rattle.node.specs.declared.Ask.the-variants as ask
 use Rattle.node.specs.declared.Serve.{Serve}
 use Rattle.node.specs.declared.Serve.the-variants as serve
+use Rattle.node.specs.Told.{admitTold, beatTold, advertiseTold, askTold, serveTold}
 use Rattle.node.specs.Gateway.{marked, advertisement, request}
 use Rattle.node.specs.State.{legalSettings, freshNode, wellFormed, seenRing}
 
--- ---- 01's numbers and values
-abbrev pub faultNumber : Fault → ℕ
-faultNumber fault.BadSetting = 40
-faultNumber fault.BadStore = 41
-faultNumber fault.Malformed = 42
-
-abbrev pub lentNumber : Lent → ℕ
-lentNumber lent.Fine = 0
-lentNumber (lent.Faulty why) = faultNumber why
-
-abbrev pub startNumber : Start → ℕ
-startNumber start.Started = 0
-startNumber start.BadSetting = 40
-
+-- ---- 01's numbers
 abbrev pub admitNumber : Admit → ℕ
-admitNumber admit.New = 0
-admitNumber admit.Duplicate = 0
-admitNumber (admit.Faulty why) = faultNumber why
-admitNumber (admit.Refused why) = refusalNumber why
-admitNumber (admit.NoMessage n) = 20
-admitNumber (admit.Unfit why) = unfitNumber why
-admitNumber (admit.ClockBack clock) = 31
-
-abbrev pub admitValues : Admit → List ℕ
-admitValues admit.New = []
-admitValues admit.Duplicate = []
-admitValues (admit.Faulty why) = []
-admitValues (admit.Refused why) = refusalValues why
-admitValues (admit.NoMessage n) = n ∷ []
-admitValues (admit.Unfit why) = unfitValues why
-admitValues (admit.ClockBack clock) = clock ∷ []
+admitNumber r = admitTold r .number
 
 abbrev pub beatNumber : Beat → ℕ
-beatNumber beat.Done = 0
-beatNumber (beat.Faulty why) = faultNumber why
-beatNumber (beat.ClockBack clock) = 31
-
-abbrev pub beatValues : Beat → List ℕ
-beatValues beat.Done = []
-beatValues (beat.Faulty why) = []
-beatValues (beat.ClockBack clock) = clock ∷ []
+beatNumber r = beatTold r .number
 
 abbrev pub advertiseNumber : Advertise → ℕ
-advertiseNumber (advertise.Bytes n) = 0
-advertiseNumber (advertise.Faulty why) = faultNumber why
-advertiseNumber (advertise.TopicTooLong n) = 29
-advertiseNumber (advertise.Room n) = 12
-
-abbrev pub advertiseValues : Advertise → List ℕ
-advertiseValues (advertise.Bytes n) = []
-advertiseValues (advertise.Faulty why) = []
-advertiseValues (advertise.TopicTooLong n) = n ∷ []
-advertiseValues (advertise.Room n) = n ∷ []
+advertiseNumber r = advertiseTold r .number
 
 abbrev pub askNumber : Ask → ℕ
-askNumber (ask.Bytes n) = 0
-askNumber (ask.Faulty why) = faultNumber why
-askNumber (ask.Refused why) = refusalNumber why
-askNumber (ask.Room n) = 12
-
-abbrev pub askValues : Ask → List ℕ
-askValues (ask.Bytes n) = []
-askValues (ask.Faulty why) = []
-askValues (ask.Refused why) = refusalValues why
-askValues (ask.Room n) = n ∷ []
+askNumber r = askTold r .number
 
 abbrev pub serveNumber : Serve → ℕ
-serveNumber (serve.Reply n messages left) = 0
-serveNumber (serve.Faulty why) = faultNumber why
-serveNumber (serve.Refused why) = refusalNumber why
-serveNumber (serve.Room n) = 12
-
-abbrev pub serveValues : Serve → List ℕ
-serveValues (serve.Reply n messages left) = []
-serveValues (serve.Faulty why) = []
-serveValues (serve.Refused why) = refusalValues why
-serveValues (serve.Room n) = n ∷ []
+serveNumber r = serveTold r .number
 
 -- ---- start: 40
 unfoldable pub startAnswer : ℕ → ℕ → ℕ → Start

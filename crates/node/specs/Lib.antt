@@ -1,3 +1,4 @@
+pub mod Told
 pub mod Gateway
 pub mod State
 pub mod Calls

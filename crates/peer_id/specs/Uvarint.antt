@@ -20,12 +20,6 @@ bytesOf (suc f) n = let r = bytesOf f (n / 128) in cond (ltb n 128) (n ∷ []) (
 unfoldable pub uvarint : ℕ → List ℕ
 uvarint n = bytesOf n n
 
--- 01's number of each refusal
-abbrev pub varintNumber : VarintError → ℕ
-varintNumber BufferTooShort = 1
-varintNumber Overflow = 2
-varintNumber NonCanonical = 3
-
 -- what the byte b says, with k bytes before it: a tenth byte above 1 is an overflow, and a last byte 0 after others is not minimal
 unfoldable pub groupOf : ℕ → ℕ → Group
 groupOf k b =

@@ -1,4 +1,6 @@
 // Unsigned varints, from peer_id.rs: groups of seven bits, the low group first.
+pub mod told;
+
 ghost use mathlib.Core.Path.{_≡_};
 ghost use Prim.Native.Nat.{_+_, _≤_};
 ghost use lib.ListN.{length};

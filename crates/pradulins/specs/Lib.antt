@@ -1,3 +1,1 @@
-pub mod Outs
-pub mod OutsLaws
 pub mod Refused

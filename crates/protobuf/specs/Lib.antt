@@ -1,4 +1,4 @@
-pub mod Refusal
+pub mod Told
 pub mod Field
 pub mod Laws
 pub mod Grammar

@@ -10,7 +10,8 @@ use Rattle.peer_id.specs.declared.VarintError.{VarintError}
 use Rattle.peer_id.specs.declared.VarintError.the-variants.{BufferTooShort, Overflow, NonCanonical}
 use Rattle.peer_id.specs.declared.Uvarint.{Uvarint}
 use Rattle.peer_id.specs.declared.Uvarint.the-variants.{Value as Read, Refused as Unread}
-use Rattle.peer_id.specs.Uvarint.{varintNumber, readUvarint}
+use Rattle.peer_id.specs.Uvarint.{readUvarint}
+use Rattle.peer_id.specs.Told.{varintTold}
 use Rattle.protobuf.specs.declared.WireError.{WireError}
 use Rattle.protobuf.specs.declared.WireError.the-variants.{Varint, FieldOverflow, UnsupportedWireType, InvalidFieldNumber}
 use Rattle.protobuf.specs.declared.Tag.{Tag}
@@ -22,10 +23,10 @@ use Rattle.protobuf.specs.declared.VarintValue.the-variants as value
 use Rattle.protobuf.specs.declared.Skip.{Skip}
 use Rattle.protobuf.specs.declared.Skip.the-variants as skip
 use Rattle.protobuf.specs.declared.Step.the-variants as step
-use Rattle.protobuf.specs.Refusal.{refusalNumber}
+use Rattle.protobuf.specs.Told.{refusalNumber}
 use Rattle.protobuf.specs.Field.{after, tagOf, readTag, partOf, readLen, readVarint, skipFixed, pastValue, pastPart, skipField, ofValue, ofPart, ofSkip, readValue, ofTag, readField}
 
-varint-small : (v : VarintError) → varintNumber v ≤ 6
+varint-small : (v : VarintError) → varintTold v .number ≤ 6
 varint-small BufferTooShort = omega arith
 varint-small Overflow = omega arith
 varint-small NonCanonical = omega arith

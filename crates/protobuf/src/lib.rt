@@ -1,5 +1,7 @@
 // The fields of a Protocol Buffers body, from protobuf.rs: reading, passing over, writing, and the host's walk. A place past the end of the
 // input answers as the end does.
+pub mod told;
+
 ghost use mathlib.Core.Path.{_≡_};
 ghost use Prim.Native.Nat.{_+_, _≤_, _<_, _-_, _%_};
 ghost use lib.ListN.{length, drop, getD};
@@ -7,7 +9,6 @@ ghost use lib.Seq.{sets};
 ghost use mathlib.Core.Bool.{true};
 ghost use Rattle.basis.specs.Writing.{endIn, setIn};
 ghost use Rattle.peer_id.specs.Uvarint.{readUvarint};
-ghost use Rattle.protobuf.specs.Refusal.{refusalOf};
 ghost use Rattle.protobuf.specs.Field.{readTag, readLen, readString, readVarint, skipFixed, skipField, readValue, readField, walkStep};
 ghost use Rattle.protobuf.specs.Encode.{tag, varintField, bytesField, tagRefused, encoded, left};
 use basis::has_room;
@@ -57,15 +58,6 @@ pub enum WireError {
     TooManyRecords {
         records: usize,
     },
-}
-
-// The number of a refusal in 01's table, and how many values are returned beside it; the others are 0.
-pub struct Refusal {
-    pub number: u8,
-    pub count: u8,
-    pub first: u64,
-    pub second: u64,
-    pub third: u64,
 }
 
 pub enum Tag {
@@ -603,82 +595,5 @@ pub fn encode_bytes_field(out: &mut [u8], field: u64, data: &[u8]) -> Encoded
             let end = put_bytes(out, j, data);
             Encoded::Bytes(end)
         }
-    }
-}
-
-// A refusal's number and values, as 01's table has them.
-pub fn refusal_of(why: WireError) -> Refusal
-    ensures { λ r. ⌜ r ≡ refusalOf why ⌝ }
-{
-    match why {
-        WireError::Varint(v) => match v {
-            VarintError::BufferTooShort => Refusal {
-                number: 1,
-                count: 0,
-                first: 0,
-                second: 0,
-                third: 0,
-            },
-            VarintError::Overflow => Refusal {
-                number: 2,
-                count: 0,
-                first: 0,
-                second: 0,
-                third: 0,
-            },
-            VarintError::NonCanonical => Refusal {
-                number: 3,
-                count: 0,
-                first: 0,
-                second: 0,
-                third: 0,
-            },
-        },
-        WireError::FieldOverflow {
-            offset,
-            length,
-            remaining,
-        } => Refusal {
-            number: 4,
-            count: 3,
-            first: offset as u64,
-            second: length,
-            third: remaining as u64,
-        },
-        WireError::UnsupportedWireType { wire_type, offset } => Refusal {
-            number: 5,
-            count: 2,
-            first: wire_type as u64,
-            second: offset as u64,
-            third: 0,
-        },
-        WireError::InvalidFieldNumber { field, offset } => Refusal {
-            number: 6,
-            count: 2,
-            first: field,
-            second: offset as u64,
-            third: 0,
-        },
-        WireError::InvalidUtf8 { offset } => Refusal {
-            number: 7,
-            count: 1,
-            first: offset as u64,
-            second: 0,
-            third: 0,
-        },
-        WireError::TooLarge { len } => Refusal {
-            number: 10,
-            count: 1,
-            first: len as u64,
-            second: 0,
-            third: 0,
-        },
-        WireError::TooManyRecords { records } => Refusal {
-            number: 11,
-            count: 1,
-            first: records as u64,
-            second: 0,
-            third: 0,
-        },
     }
 }

@@ -20,55 +20,16 @@ use Rattle.seen.specs.declared.Gc.{Gc}
 use Rattle.seen.specs.declared.Gc.the-variants as gc
 use Rattle.seen.specs.declared.NextExpiry.{NextExpiry}
 use Rattle.seen.specs.declared.NextExpiry.the-variants as next
+use Rattle.seen.specs.Told.{insertTold, gcTold}
 use Rattle.seen.specs.Entries.{until}
 use Rattle.seen.specs.State.{wellFormed, spent, dropped, appended, idSize, maxIds, ringOf}
 
--- ---- 01's numbers and values
-abbrev pub lentNumber : Lent → ℕ
-lentNumber lent.Fine = 0
-lentNumber lent.BadStore = 41
-lentNumber lent.Malformed = 42
-
+-- ---- 01's numbers
 abbrev pub insertNumber : Insert → ℕ
-insertNumber insert.Fresh = 0
-insertNumber insert.Held = 0
-insertNumber insert.BadSetting = 40
-insertNumber insert.BadStore = 41
-insertNumber insert.Malformed = 42
-insertNumber (insert.TooLong n) = 33
-
-abbrev pub insertValues : Insert → List ℕ
-insertValues insert.Fresh = []
-insertValues insert.Held = []
-insertValues insert.BadSetting = []
-insertValues insert.BadStore = []
-insertValues insert.Malformed = []
-insertValues (insert.TooLong n) = n ∷ []
-
-abbrev pub containsNumber : Contains → ℕ
-containsNumber contains.Yes = 0
-containsNumber contains.No = 0
-containsNumber contains.BadStore = 41
-containsNumber contains.Malformed = 42
-containsNumber (contains.TooLong n) = 33
-
-abbrev pub containsValues : Contains → List ℕ
-containsValues contains.Yes = []
-containsValues contains.No = []
-containsValues contains.BadStore = []
-containsValues contains.Malformed = []
-containsValues (contains.TooLong n) = n ∷ []
+insertNumber r = insertTold r .number
 
 abbrev pub gcNumber : Gc → ℕ
-gcNumber (gc.Left n) = 0
-gcNumber gc.BadStore = 41
-gcNumber gc.Malformed = 42
-
-abbrev pub nextNumber : NextExpiry → ℕ
-nextNumber next.None = 0
-nextNumber (next.At e) = 0
-nextNumber next.BadStore = 41
-nextNumber next.Malformed = 42
+gcNumber r = gcTold r .number
 
 -- ---- the lent state: 41, 42
 -- how many places a store has

@@ -1,5 +1,7 @@
 // Recently seen message ids, from seen.rs: ids in a lent store, a row of 129 bytes each; their lengths and expiries by value. The rows are a ring,
 // so that an id that leaves moves no other, and a freed row is used again.
+pub mod told;
+
 ghost use mathlib.Core.Path.{_≡_};
 ghost use Prim.Native.Nat.{_+_, _*_, _≤_, _<_};
 ghost use lib.ListN.{length};

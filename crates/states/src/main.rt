@@ -10,13 +10,12 @@ mod state;
 
 ghost use Prim.Native.Nat.{_≤_};
 ghost use lib.ListN.{length};
-use calls::Run;
 use calls::call;
-use calls::nothing;
-use calls::stop;
+use play::calls::Run;
+use play::calls::nothing;
+use play::calls::stop;
 use text::Header;
-use text::next_header;
-use text::read_content;
+use text::next_record;
 
 // Reads a record and answers it.
 fn turn(
@@ -32,26 +31,21 @@ fn turn(
     requires { ⌜ length (now made) ≤ 65600 ⌝ }
     requires { ⌜ 131350 ≤ length (now out) ⌝ }
 {
-    let h = next_header(65600);
+    let h = next_record(content, 65600);
     match h {
         Header::End => stop(run, b""),
         Header::Bad => stop(run, b"bad\n"),
         Header::Long => stop(run, b"long\n"),
-        Header::Record { kind, len } => {
-            if read_content(content, len) {
-                return call(
-                    n,
-                    kind,
-                    &content[..len],
-                    run,
-                    seen_store,
-                    cache_store,
-                    made,
-                    out,
-                );
-            }
-            stop(run, b"bad\n")
-        }
+        Header::Record { kind, len } => call(
+            n,
+            kind,
+            &content[..len],
+            run,
+            seen_store,
+            cache_store,
+            made,
+            out,
+        ),
     }
 }
 

@@ -1,24 +1,15 @@
 -- A node as bytes that a host keeps between two calls: its fields one after the other, each number with its lowest byte first.
-use Prim.Native.Nat.{ℕ, zero, suc, _+_, _*_, _/_, _%_, _^_, _<_}
+use Prim.Native.Nat.{ℕ, zero, suc, _^_, _<_}
 use mathlib.Core.Path.{_≡_}
 use mathlib.Core.List.{List, [], _∷_, _++_}
 use lib.ListN.{length, getD, take, drop}
+use Rattle.basis.specs.Little.{little, bytesOf}
 use Rattle.protobuf.specs.Walk.{between}
 use Rattle.seen.specs.declared.SeenCache.{SeenCache}
 use Rattle.mcache.specs.declared.MessageCache.{MessageCache}
 use Rattle.node.specs.declared.Node.{Node}
 
 -- ---- numbers as bytes
--- the bytes of a number, so many of them
-unfoldable pub bytesOf : ℕ → ℕ → List ℕ
-bytesOf zero v = []
-bytesOf (suc w) v = v % 256 ∷ bytesOf w (v / 256)
-
--- the number that bytes are
-unfoldable pub numberOf : List ℕ → ℕ
-numberOf [] = 0
-numberOf (b ∷ bs) = b + 256 * numberOf bs
-
 -- several numbers, each of w bytes
 unfoldable pub spread : ℕ → List ℕ → List ℕ
 spread w [] = []
@@ -27,7 +18,7 @@ spread w (v ∷ vs) = bytesOf w v ++ spread w vs
 -- the first n numbers, each of w bytes
 unfoldable pub gathered : ℕ → ℕ → List ℕ → List ℕ
 gathered w zero s = []
-gathered w (suc n) s = numberOf (take w s) ∷ gathered w n (drop w s)
+gathered w (suc n) s = little (take w s) ∷ gathered w n (drop w s)
 
 -- ---- the layout: ten numbers of 8 bytes; the expiries and the arrival numbers, of 8 bytes each; the lengths of the messages, of 2 bytes each; then
 -- bytes: the lengths of the ids seen, the windows, the lengths of the ids cached, and these ids
@@ -49,7 +40,7 @@ nodeBytes n =
 
 -- ---- the node that bytes are
 abbrev pub wordAt : List ℕ → ℕ → ℕ
-wordAt s at = numberOf (take 8 (drop at s))
+wordAt s at = little (take 8 (drop at s))
 
 unfoldable pub nodeIn : List ℕ → Node
 nodeIn s =

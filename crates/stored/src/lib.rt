@@ -4,7 +4,10 @@ ghost use mathlib.Core.Path.{_≡_};
 ghost use Prim.Native.Nat.{_+_, _*_, _≤_};
 ghost use lib.ListN.{length, take, drop};
 ghost use lib.Seq.{sets};
-ghost use Rattle.stored.specs.Layout.{bytesOf, numberOf, spread, gathered, nodeBytes, nodeIn};
+ghost use Rattle.basis.specs.Little.{little};
+ghost use Rattle.stored.specs.Layout.{spread, gathered, nodeBytes, nodeIn};
+use basis::little_at;
+use basis::put_little;
 use mcache::MessageCache;
 use node::Node;
 use protobuf::put_bytes;
@@ -17,15 +20,9 @@ pub const NODE_SIZE: usize = 11344;
 // The number in the 8 bytes at a place.
 fn read_word(s: &[u8], at: usize) -> u64
     requires { ⌜ at + 8 ≤ length (now s) ⌝ }
-    ensures { λ r. ⌜ r ≡ numberOf (take 8 (drop at (now (s .entry)))) ⌝ }
+    ensures { λ r. ⌜ r ≡ little (take 8 (drop at (now (s .entry)))) ⌝ }
 {
-    let mut v: u64 = 0;
-    let mut i: usize = 8;
-    while 0 < i {
-        i -= 1;
-        v = s[at + i] as u64 + v * 256;
-    }
-    v
+    little_at(s, at, 8)
 }
 
 // The numbers in the bytes from a place on, 8 bytes each, as many as out holds.
@@ -47,8 +44,7 @@ fn read_halves(s: &[u8], at: usize, out: &mut [u16])
 {
     let mut i: usize = 0;
     while i < out.len() {
-        let p = at + i * 2;
-        out[i] = s[p] as u16 + s[p + 1] as u16 * 256;
+        out[i] = little_at(s, at + i * 2, 2) as u16;
         i += 1;
     }
 }
@@ -114,20 +110,6 @@ pub fn load(bytes: &[u8; 11344]) -> Node
 
 // ---- writing
 
-// The 8 bytes of a number, at a place.
-fn write_word(out: &mut [u8], at: usize, value: u64)
-    requires { ⌜ at + 8 ≤ length (now out) ⌝ }
-    ensures { λ _. ⌜ now (out .exit) ≡ sets (now (out .entry)) at (bytesOf 8 value) ⌝ }
-{
-    let mut v = value;
-    let mut i: usize = 0;
-    while i < 8 {
-        out[at + i] = (v % 256) as u8;
-        v = v / 256;
-        i += 1;
-    }
-}
-
 // The bytes of numbers, 8 each, from a place on.
 fn write_words(out: &mut [u8], at: usize, values: &[u64])
     requires { ⌜ at + 8 * length (now values) ≤ length (now out) ⌝ }
@@ -135,7 +117,7 @@ fn write_words(out: &mut [u8], at: usize, values: &[u64])
 {
     let mut i: usize = 0;
     while i < values.len() {
-        write_word(out, at + i * 8, values[i]);
+        put_little(out, at + i * 8, 8, values[i]);
         i += 1;
     }
 }
@@ -147,9 +129,7 @@ fn write_halves(out: &mut [u8], at: usize, values: &[u16])
 {
     let mut i: usize = 0;
     while i < values.len() {
-        let p = at + i * 2;
-        out[p] = (values[i] % 256) as u8;
-        out[p + 1] = (values[i] / 256) as u8;
+        put_little(out, at + i * 2, 2, values[i] as u64);
         i += 1;
     }
 }

@@ -1,4 +1,3 @@
-pub mod Little
 pub mod Copy
 pub mod Digits
 pub mod Numbers

@@ -1,17 +1,14 @@
--- The public writers: where there is room, what was spelt there; else nothing. And number_at: bytes past the end are not there.
-use Prim.Native.Nat.{ℕ, _+_, _*_, _-_, _≤_, _<_, min}
+-- The public writers: where there is room, what was spelt there; else nothing.
+use Prim.Native.Nat.{ℕ, _+_, _*_}
 use mathlib.Core.Path.{_≡_, sym, _∙_}
 use mathlib.Core.List.{List}
 use mathlib.Core.Bool.{true, false}
 use native.Mathlib.Omega.{arith}
-use lib.ListN.{length, take, drop, length-drop, drop-of-length-le}
-use lib.Seq.{take-all, take-nil}
+use lib.ListN.{length}
 use lib.Dec.{leb}
 use borrow.Author.Tests.{leb-true, leb-false, le-leb, lt-leb}
-use Rattle.basis.specs.Cases.{either}
 use Rattle.basis.specs.Writing.{endIn, setIn}
 use Rattle.basis.specs.Lists.{end-fits, set-fits, end-short, set-short}
-use Rattle.text.specs.Record.{little}
 use Rattle.text.specs.Line.{Puts}
 
 pub fits : {room at end : ℕ} {xs b a : List ℕ} → leb (at + room) (length b) ≡ true → Puts room xs b at a end → (end ≡ endIn room at xs b) × (a ≡ setIn room at xs b)
@@ -29,16 +26,3 @@ not-once at n l t = lt-leb (at + 2 * n) l (omega (arith, leb-false (at + n) l t)
 
 pub not-twice : (at n l : ℕ) → leb (at + n + n) l ≡ false → leb (at + 2 * n) l ≡ false
 not-twice at n l t = lt-leb (at + 2 * n) l (omega (arith, leb-false (at + n + n) l t))
-
-pub past : (s : List ℕ) (at n : ℕ) → length s < at → 0 ≡ little (take n (drop at s))
-unfolding little
-past s at n h = let l : length s ≤ at = omega arith in rw (drop-of-length-le s l, take-nil n)
-
-pub there : (s : List ℕ) (at n m : ℕ) → at ≤ length s → m ≡ min n (length s - at) → little (take m (drop at s)) ≡ little (take n (drop at s))
-there s at n m h e =
-    either (leb n (length s - at)) (λ t. let q = leb-true n (length s - at) t in let k : m ≡ n = omega arith in rw k)
-    (λ t.
-    let q = leb-false n (length s - at) t in
-    let a : length (drop at s) ≤ n = rw (length-drop at s) (omega arith) in
-    let b : length (drop at s) ≤ m = rw (length-drop at s) (omega arith) in
-    rw (take-all n (drop at s) a, take-all m (drop at s) b))

@@ -12,10 +12,11 @@ use lib.Dec.{ltb, eqb}
 use borrow.Author.Tests.{ltb-true, ltb-false, lt-ltb}
 use Rattle.basis.specs.Cases.{either}
 use Rattle.basis.specs.Writing.{endIn, setIn}
+use Rattle.basis.specs.Little.{little}
 use Rattle.basis.specs.Lists.{sets-append, end-fits, set-fits}
 use Rattle.io.specs.Digits.{glyph, digits, Fewest}
 use Rattle.text.specs.declared.Header.the-variants.{End, Bad, Long, Record}
-use Rattle.text.specs.Record.{little, headerOf, contentLength}
+use Rattle.text.specs.Record.{headerOf, contentLength}
 use Rattle.text.specs.Line.{Puts, width, decimal, number, numbers, refused, hex}
 
 -- ---- putting
@@ -128,6 +129,11 @@ decimal-puts {n = n} l h e = puts-in h (decimal-twenty n l) e
 
 pub number-puts : {at end n : ℕ} {b a : List ℕ} → n < 2 ^ 64 → at + 21 ≤ length b → (end ≡ endIn 21 at (number n) b) × (a ≡ setIn 21 at (number n) b) → Puts 21 (number n) b at a end
 number-puts {n = n} l h e = puts-in h (length-number n l) e
+
+pub numbers-puts : (n p q r : ℕ) {at end : ℕ} {b a : List ℕ} → p < 2 ^ 64 → q < 2 ^ 64 → r < 2 ^ 64 → at + 63 ≤ length b
+    → (end ≡ endIn 63 at (numbers (take n (p ∷ q ∷ r ∷ []))) b) × (a ≡ setIn 63 at (numbers (take n (p ∷ q ∷ r ∷ []))) b)
+    → Puts 63 (numbers (take n (p ∷ q ∷ r ∷ []))) b at a end
+numbers-puts n p q r j k l h e = puts-in h (length-numbers n p q r j k l) e
 
 pub refused-puts : (n p q r : ℕ) {at end m : ℕ} {b a : List ℕ} → m < 2 ^ 64 → p < 2 ^ 64 → q < 2 ^ 64 → r < 2 ^ 64 → at + 92 ≤ length b → (end ≡ endIn 92 at (refused m (take n (p ∷ q ∷ r ∷ []))) b) × (a ≡ setIn 92 at (refused m (take n (p ∷ q ∷ r ∷ []))) b) → Puts 92 (refused m (take n (p ∷ q ∷ r ∷ []))) b at a end
 refused-puts n p q r {m = m} i j k l h e = puts-in h (length-refused m n p q r i j k l) e

@@ -1,16 +1,12 @@
 -- Records: the content's length (4 bytes), its kind (2 bytes), the content. Numbers are little-endian.
-use Prim.Native.Nat.{ℕ, _+_, _*_}
-use mathlib.Core.List.{List, [], _∷_}
+use Prim.Native.Nat.{ℕ}
+use mathlib.Core.List.{List}
 use mathlib.Core.Bool.{cond}
 use lib.ListN.{length, take, drop}
 use lib.Dec.{ltb, eqb}
+use Rattle.basis.specs.Little.{little}
 use Rattle.text.specs.declared.Header.{Header}
 use Rattle.text.specs.declared.Header.the-variants.{End, Bad, Long, Record}
-
--- the number in bytes, the low byte first
-unfoldable pub little : List ℕ → ℕ
-little [] = 0
-little (b ∷ s) = b + 256 * little s
 
 -- the header that s begins, where s was cut only if it has less than 6 bytes: a length above `most` is tested first, also where the kind is cut
 unfoldable pub headerOf : ℕ → List ℕ → Header

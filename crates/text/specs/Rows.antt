@@ -2,7 +2,8 @@
 use mathlib.Core.Path.{_≡_, refl}
 use mathlib.Core.List.{[], _∷_}
 use Rattle.text.specs.declared.Header.the-variants.{End, Bad, Long, Record}
-use Rattle.text.specs.Record.{little, headerOf}
+use Rattle.basis.specs.Little.{little}
+use Rattle.text.specs.Record.{headerOf}
 use Rattle.text.specs.Line.{width, decimal, hex}
 
 pub rows :

@@ -1,15 +1,16 @@
-// Records in and lines out, for the programs that run the libraries on bytes: the header of a record, little-endian numbers, and words, decimal
+// Records in and lines out, for the programs that run the libraries on bytes: the header of a record, and words, decimal
 // numbers and hex put into a line. A writer takes the line, a place in it and what to put there, and hands back the place after that. Where the
 // line has not the room, a public writer writes nothing and hands back the place as it was.
 ghost use mathlib.Core.Path.{_≡_};
-ghost use Prim.Native.Nat.{_+_, _*_, _≤_, min};
+ghost use Prim.Native.Nat.{_+_, _*_, _≤_};
 ghost use mathlib.Core.List.{_∷_, []};
-ghost use lib.ListN.{length, take, drop};
+ghost use lib.ListN.{length, take};
 ghost use Rattle.io.specs.Digits.{glyph as glyphOf};
 ghost use Rattle.basis.specs.Writing.{endIn, setIn};
-ghost use Rattle.text.specs.Record.{little, headerOf, contentLength};
+ghost use Rattle.text.specs.Record.{headerOf, contentLength};
 ghost use Rattle.text.specs.Line.{Puts, decimal, number, numbers, refused, hex};
 use basis::has_room;
+use basis::little_at;
 
 // What the start of a record says.
 pub enum Header {
@@ -17,39 +18,6 @@ pub enum Header {
     Bad,
     Long,
     Record { kind: u64, len: usize },
-}
-
-// The number in n bytes at `at`, the low byte first, where they are there.
-fn read_number(s: &[u8], at: usize, n: usize) -> u64
-    requires { ⌜ n ≤ 8 ⌝ }
-    requires { ⌜ at + n ≤ length (now s) ⌝ }
-    ensures { λ r. ⌜ r ≡ little (take n (drop at (now (s .entry)))) ⌝ }
-{
-    let mut i = at + n;
-    let mut value: u64 = 0;
-    while at < i {
-        i = i - 1;
-        value = value * 256 + s[i] as u64;
-    }
-    value
-}
-
-fn least(a: usize, b: usize) -> usize
-    ensures { λ r. ⌜ r ≡ min a b ⌝ }
-{
-    if a < b { a } else { b }
-}
-
-// The number in n bytes at `at`, the low byte first: in the first eight of them, and in those that are there.
-pub fn number_at(s: &[u8], at: usize, n: usize) -> u64
-    ensures { λ r. ⌜ r ≡ little (take (min n 8) (drop at (now (s .entry)))) ⌝ }
-{
-    if s.len() < at {
-        return 0;
-    }
-    let most = least(n, 8);
-    let m = least(most, s.len() - at);
-    read_number(s, at, m)
 }
 
 // The header of a record, of which s was read: at the end of the input nothing, of a cut one less than six bytes. The length is tested as
@@ -63,14 +31,14 @@ pub fn read_header(s: &[u8], most: u64) -> Header
     if s.len() < 4 {
         return Header::Bad;
     }
-    let len = read_number(s, 0, 4);
+    let len = little_at(s, 0, 4);
     if most < len {
         return Header::Long;
     }
     if s.len() < 6 {
         return Header::Bad;
     }
-    let kind = read_number(s, 4, 2);
+    let kind = little_at(s, 4, 2);
     Header::Record {
         kind,
         len: len as usize,
@@ -93,6 +61,20 @@ pub fn read_content(content: &mut [u8], len: usize) -> bool {
     }
     let got = io::read_full(0, &mut content[..len]);
     got == len
+}
+
+// Reads the next record from standard input: bad where its content is cut or has no room.
+pub fn next_record(content: &mut [u8], most: u64) -> Header
+    ensures { λ r. ⌜ contentLength r ≤ most ⌝ }
+{
+    let h = next_header(most);
+    let Header::Record { kind: _, len } = h else {
+        return h;
+    };
+    if read_content(content, len) {
+        return h;
+    }
+    Header::Bad
 }
 
 // Puts a text at `at`, where it fits, and says where it ends.
@@ -181,6 +163,24 @@ fn spell_numbers(
         return j;
     }
     spell_number(out, j, third)
+}
+
+// The first `count` of three numbers.
+pub fn put_numbers(
+    out: &mut [u8],
+    at: usize,
+    count: u64,
+    first: u64,
+    second: u64,
+    third: u64,
+) -> usize
+    ensures { λ r. ⌜ r ≡ endIn 63 at (numbers (take count (first ∷ second ∷ third ∷ []))) (now (out .entry)) ⌝ }
+    ensures { λ _. ⌜ now (out .exit) ≡ setIn 63 at (numbers (take count (first ∷ second ∷ third ∷ []))) (now (out .entry)) ⌝ }
+{
+    if has_room(out.len(), at, 63) {
+        return spell_numbers(out, at, count, first, second, third);
+    }
+    at
 }
 
 // A refusal: its number and the first `count` of three values.

@@ -9,8 +9,8 @@ use Rattle.inspect.proofs.answer_walk.Tie as tie
 returns : tie.Need-returns
 returns c = puts-as (walk-short _ (c .if1 .taken)) (omega arith) (puts-none _ _)
 
-number-at-requires : tie.Need-number-at-requires
-number-at-requires c κs = search needs
+little-at-requires : tie.Need-little-at-requires
+little-at-requires c κs = search needs
 
 sub-step : tie.Need-sub-step
 sub-step c = search needs
@@ -37,14 +37,14 @@ same-length : tie.Need-same-length
 same-length c = search needs
 
 returns-2 : tie.Need-returns-2
-returns-2 c = puts-as (walk-answer _ _ _ (c .before .before .before .before .before .before .before .before .before .before .before .before .if1 .left) (c .before .before .before .before .before .before .before .before .before .before .before .number-at .ensures) (c .before .before .before .before .before .before .before .before .before .step .ensures)) (omega arith) (puts-then (c .before .before .before .before .before .before .put-word .ensures) (c .before .before .put-walk .ensures))
+returns-2 c = puts-as (walk-answer _ _ _ (c .before .before .before .before .before .before .before .before .before .before .before .before .if1 .left) (c .before .before .before .before .before .before .before .before .before .before .before .little-at .ensures) (c .before .before .before .before .before .before .before .before .before .step .ensures)) (omega arith) (puts-then (c .before .before .before .before .before .before .put-word .ensures) (c .before .before .put-walk .ensures))
 
 pub answer-walk-spec : {M : Type 1} → statement M
 answer-walk-spec =
     tie.close
     (tie.spec
     returns
-    number-at-requires
+    little-at-requires
     sub-step
     part-step-start
     part-step-end

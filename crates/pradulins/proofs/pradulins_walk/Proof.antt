@@ -1,20 +1,16 @@
 -- `pradulins::pradulins_walk` meets its contract: the answer is told.
 use denote.Ref.{now}
-use mathlib.Core.Path.{sym}
-use Rattle.pradulins.specs.Outs.{walkNumber, walkOut}
+use Rattle.protobuf.specs.Told.{walkTold}
 use Rattle.pradulins.proofs.Told.{told-as}
 use borrow.Author.Needs.{needs}
 use Rattle.pradulins.proofs.pradulins_walk.Statement.{statement}
 use Rattle.pradulins.proofs.pradulins_walk.Tie as tie
 
-step-requires : tie.Need-step-requires
-step-requires c κs = search needs
-
-tell-walk-requires : tie.Need-tell-walk-requires
-tell-walk-requires c κs = search needs
-
-returns : tie.Need-returns
-returns c = told-as walkNumber walkOut (now (c .before .before .before .before .args .values)) (sym (c .before .before .step .ensures)) (c .tell-walk .ensures)
-
 pub pradulins-walk-spec : {M : Type 1} → statement M
-pradulins-walk-spec = tie.close (tie.spec step-requires tell-walk-requires returns)
+pradulins-walk-spec =
+    tie.close
+    (tie.spec
+    (λ c κs. search needs)
+    (λ c κs. search needs)
+    (λ c κs. search needs)
+    (λ c. told-as walkTold (now (c .before .before .before .before .before .args .values)) (c .before .before .before .step .ensures) (c .before .before .told-walk .ensures) (c .tell .ensures)))

@@ -14,23 +14,23 @@ returns-2 : tie.Need-returns-2
 unfolding headerOf
 returns-2 c = simp (ne-eqb _ _ (c .before .if1 .left), lt-ltb _ _ (c .if2 .taken))
 
-read-number-requires : tie.Need-read-number-requires
-read-number-requires c κs = search needs
+little-at-requires : tie.Need-little-at-requires
+little-at-requires c κs = search needs
 
 returns-3 : tie.Need-returns-3
 unfolding headerOf
-returns-3 c = simp (ne-eqb _ _ (c .before .before .before .if1 .left), le-ltb _ _ (c .before .before .if2 .left), sym (c .before .read-number .ensures), lt-ltb _ _ (c .if3 .taken))
+returns-3 c = simp (ne-eqb _ _ (c .before .before .before .if1 .left), le-ltb _ _ (c .before .before .if2 .left), sym (c .before .little-at .ensures), lt-ltb _ _ (c .if3 .taken))
 
 returns-4 : tie.Need-returns-4
 unfolding headerOf
-returns-4 c = simp (ne-eqb _ _ (c .before .before .before .before .if1 .left), le-ltb _ _ (c .before .before .before .if2 .left), sym (c .before .before .read-number .ensures), le-ltb _ _ (c .before .if3 .left), lt-ltb _ _ (c .if4 .taken))
+returns-4 c = simp (ne-eqb _ _ (c .before .before .before .before .if1 .left), le-ltb _ _ (c .before .before .before .if2 .left), sym (c .before .before .little-at .ensures), le-ltb _ _ (c .before .if3 .left), lt-ltb _ _ (c .if4 .taken))
 
-read-number-requires-2 : tie.Need-read-number-requires-2
-read-number-requires-2 c κs = search needs
+little-at-requires-2 : tie.Need-little-at-requires-2
+little-at-requires-2 c κs = search needs
 
 returns-5 : tie.Need-returns-5
 unfolding headerOf
-returns-5 c = simp (ne-eqb _ _ (c .before .before .before .before .before .if1 .left), le-ltb _ _ (c .before .before .before .before .if2 .left), sym (c .before .before .before .read-number .ensures), le-ltb _ _ (c .before .before .if3 .left), le-ltb _ _ (c .before .if4 .left), sym (c .read-number2 .ensures))
+returns-5 c = simp (ne-eqb _ _ (c .before .before .before .before .before .if1 .left), le-ltb _ _ (c .before .before .before .before .if2 .left), sym (c .before .before .before .little-at .ensures), le-ltb _ _ (c .before .before .if3 .left), le-ltb _ _ (c .before .if4 .left), sym (c .little-at2 .ensures))
 
 pub read-header-spec : {M : Type 1} → statement M
 read-header-spec =
@@ -38,8 +38,8 @@ read-header-spec =
     (tie.spec
     returns
     returns-2
-    read-number-requires
+    little-at-requires
     returns-3
     returns-4
-    read-number-requires-2
+    little-at-requires-2
     returns-5)

@@ -1,34 +1,24 @@
--- `inspect::records::decode_line` meets its contract: the number, the answer and a newline, at the front.
+-- `inspect::records::decode_line` meets its contract: the test says which line it is.
 use native.Mathlib.Omega.{arith}
+use borrow.Author.Tests.{eq-eqb, ne-eqb}
 use Rattle.text.specs.Laws.{puts-then}
-use Rattle.lines.specs.Laws.{puts-holds}
+use Rattle.lines.specs.Laws.{puts-holds, holds-yes, holds-no}
 use Rattle.inspect.specs.Records.{decodeLine}
 use borrow.Author.Needs.{needs}
 use Rattle.inspect.proofs.records.decode_line.Statement.{statement}
 use Rattle.inspect.proofs.records.decode_line.Tie as tie
-use Rattle.inspect.proofs.records.decode_line.Reads as reads
-use Rattle.inspect.proofs.records.decode_line.Lts as lts
-use Rattle.inspect.proofs.records.put_decoded.Reads as put-decoded-reads
-use Rattle.lines.proofs.end_line.Reads as end-line-reads
-use Rattle.lines.proofs.start_line.Reads as start-line-reads
-
-start-line-requires : tie.Need-start-line-requires
-start-line-requires c κs = search needs
-
-put-decoded-requires : tie.Need-put-decoded-requires
-put-decoded-requires c κs = search needs
-
-end-line-requires : tie.Need-end-line-requires
-end-line-requires c κs = search needs
-
-same-length : tie.Need-same-length
-same-length c = search needs
-
-returns : tie.Need-returns
-unfolding decodeLine
-returns c = puts-holds (puts-then (c .before .before .before .before .before .before .before .before .before .before .start-line .ensures) (puts-then (c .before .before .before .before .before .before .put-decoded .ensures) (c .before .before .end-line .ensures))) (omega arith)
 
 pub decode-line-spec : {M : Type 1} → statement M
+unfolding decodeLine
 decode-line-spec =
     tie.close
-    (tie.spec start-line-requires put-decoded-requires end-line-requires same-length returns)
+    (tie.spec
+    (λ c κs. search needs)
+    (λ c κs. search needs)
+    (λ c κs. search needs)
+    (λ c. search needs)
+    (λ c. holds-yes _ _ (eq-eqb _ _ (c .before .before .before .before .before .before .before .before .before .before .before .before .if1 .taken)) (puts-holds (puts-then (c .before .before .before .before .before .before .before .before .before .before .start-line .ensures) (puts-then (c .before .before .before .before .before .before .put-decoded .ensures) (c .before .before .end-line .ensures))) (omega arith)))
+    (λ c. search needs)
+    (λ c κs. search needs)
+    (λ c. search needs)
+    (λ c. holds-no _ _ (ne-eqb _ _ (c .before .before .before .before .before .if1 .left)) (c .before .before .refusal-line .ensures)))

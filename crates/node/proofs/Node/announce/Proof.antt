@@ -1,6 +1,6 @@
 -- `node::Node::tell` meets its contract: the rows are gathered, measured, and then written where there is room.
 use denote.Ref.{now}
-use Rattle.node.proofs.Told.{told-room, told-listed, told-fits, tell-none, tell-short, tell-put}
+use Rattle.node.proofs.Telling.{told-room, told-listed, told-fits, tell-none, tell-short, tell-put}
 use borrow.Author.Needs.{needs}
 use Rattle.node.proofs.Node.announce.Statement.{statement}
 use Rattle.node.proofs.Node.announce.Tie as tie

@@ -1,0 +1,19 @@
+-- What a message that is not taken tells: 01's number and the values beside it.
+use mathlib.Core.List.{[], _∷_}
+use Rattle.basis.specs.declared.Told.{Told}
+use Rattle.basis.specs.Refusals.{missing-from, invalid-from, invalid-seqno, key-without-signature, missing-signature, invalid-signature-length, signature-invalid, topic-count, topic-too-long, message-too-long}
+use Rattle.basis.specs.Told.{told}
+use Rattle.admission.specs.declared.Unfit.{Unfit}
+use Rattle.admission.specs.declared.Unfit.the-variants as unfit
+
+abbrev pub unfitTold : Unfit → Told
+unfitTold unfit.MissingFrom = told missing-from []
+unfitTold (unfit.InvalidFrom len) = told invalid-from (len ∷ [])
+unfitTold unfit.InvalidSeqno = told invalid-seqno []
+unfitTold unfit.KeyWithoutSignature = told key-without-signature []
+unfitTold unfit.MissingSignature = told missing-signature []
+unfitTold (unfit.InvalidSignatureLength len) = told invalid-signature-length (len ∷ [])
+unfitTold unfit.SignatureInvalid = told signature-invalid []
+unfitTold (unfit.TopicCount count) = told topic-count (count ∷ [])
+unfitTold (unfit.TopicTooLong len) = told topic-too-long (len ∷ [])
+unfitTold (unfit.MessageTooLong len) = told message-too-long (len ∷ [])

@@ -1,0 +1,22 @@
+-- What a call tells: 01's number, 0 where it is done, and the values beside it, at most four: what was done, or what 01's table returns.
+use Prim.Native.Nat.{ℕ}
+use mathlib.Core.List.{List, [], _∷_}
+use lib.ListN.{length, getD, take}
+use Rattle.basis.specs.declared.Told.{Told}
+
+abbrev pub told : ℕ → List ℕ → Told
+told number values =
+    record {
+      number = number;
+      count = length values;
+      first = getD values 0 0;
+      second = getD values 1 0;
+      third = getD values 2 0;
+      fourth = getD values 3 0;
+    }
+
+abbrev pub done : List ℕ → Told
+done values = told 0 values
+
+abbrev pub valuesOf : Told → List ℕ
+valuesOf t = take (t .count) (t .first ∷ t .second ∷ t .third ∷ t .fourth ∷ [])
