@@ -1,3 +1,7 @@
+-- To be believed: History, Premises, Round.
+-- Theorems: Once, Request, CatchUp, Identical, Agree; that the premises can be met, Example and ExampleRound; that they
+-- are needed, Needed.
+-- On the way to them: Rows, Holding, Forward, Sorted, Fifteen, HandOver, Delivered, Lacking, Played, Arrive, Script.
 pub mod History
 pub mod Premises
 pub mod Rows

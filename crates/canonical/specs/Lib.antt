@@ -1,3 +1,6 @@
+-- To be believed: Canonical (`Within`), Messages (`Nth`), Calls (`idSaid`, `idStays`).
+-- Theorems: Written, Means, Shorter, Canonical, Rows, Messages, Calls.
+-- On the way to them: Lengths.
 pub mod Lengths
 pub mod Shorter
 pub mod Means

@@ -1,2 +1,4 @@
+-- To be believed: Ids.
+-- On the way to them: IdLaws.
 pub mod Ids
 pub mod IdLaws

@@ -1,3 +1,6 @@
+-- To be believed: Refusal, Field, Grammar, Walk, Encode.
+-- Theorems: Laws, RefusalLaws, WalkLaws, Exactly, Rows.
+-- On the way to them: EncodeLaws.
 pub mod Refusal
 pub mod Field
 pub mod Laws

@@ -1,1 +1,2 @@
+-- To be believed: Refusals.
 pub mod Refusals
