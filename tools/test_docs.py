@@ -46,7 +46,8 @@ fn inner(s: &[u8]) -> u64
 }
 """,
     "crates/varint/src/told.rt": "pub fn told_read(why: u8) -> u8\n{\n    why\n}\n",
-    "crates/varint/specs/Lib.antt": "pub mod Laws\n",
+    "crates/varint/specs/Lib.antt": "-- Theorems: Laws (`read-back`).\n-- Cited by contracts, and joined: Sums, by Others of ring.\npub mod Laws\npub mod Sums\n",
+    "crates/varint/specs/Sums.antt": "",
     "crates/varint/specs/Laws.antt": """\
 unfoldable pub readIn : List ℕ → ℕ
 readIn s = 0
@@ -114,7 +115,7 @@ class Case(unittest.TestCase):
         files = dict(TREE)
         for name, (old, new) in changes.items():
             path = {"crates": "crates.txt", "readme": "README.md", "contributing": "CONTRIBUTING.md"}.get(name, "docs/%s.md" % name.upper())
-            path = path if path in files else {"varint": "crates/varint/src/lib.rt", "laws": "crates/varint/specs/Laws.antt"}[name]
+            path = path if path in files else {"varint": "crates/varint/src/lib.rt", "lib": "crates/varint/specs/Lib.antt"}[name]
             self.assertIn(old, files[path])
             files[path] = files[path].replace(old, new)
         with tempfile.TemporaryDirectory() as top:
@@ -179,6 +180,11 @@ class Case(unittest.TestCase):
         self.tells("in the group wire here and in state", contributing=("| state |", "| wire |"))
         self.tells("the folder crates/ring is not listed", crates=("ring: varint\n", ""))
         self.tells("there is no folder crates/rings", crates=("ring: varint", "ring: varint\nrings: varint"))
+
+    def test_the_comment_of_specs(self):
+        self.tells("crates/varint/specs/Lib.antt:1: the comment does not say what More is", lib=("pub mod Laws", "pub mod Laws\npub mod More"))
+        self.tells("the comment names Laws, and there is no such `pub mod`", lib=("pub mod Laws\n", ""))
+        self.tells("no comment says which files", lib=("-- ", ""))
 
     def test_cells(self):
         self.assertEqual(DOCS.cells_of("| `a|b` | c \\| d | |"), ["`a|b`", "c \\| d", ""])
