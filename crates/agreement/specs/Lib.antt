@@ -1,3 +1,7 @@
+-- To be believed: Premises, Round; and history's definitions.
+-- Theorems: Once, Request, CatchUp, Identical, Agree; that the premises can be met, Example and ExampleRound; that they
+-- are needed, Needed.
+-- On the way to them: Rows, Holding, Forward, Sorted, Fifteen, HandOver, Delivered, Lacking, Played, Arrive, Script.
 pub mod Premises
 pub mod Rows
 pub mod Round

@@ -1,1 +1,2 @@
+-- To be believed: Answers.
 pub mod Answers

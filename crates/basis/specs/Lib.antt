@@ -1,3 +1,5 @@
+-- To be believed: Bytes, Writing, Refusals (01's table), Told, Little.
+-- On the way to them: Cases, Lists.
 pub mod Cases
 pub mod Bytes
 pub mod Writing

@@ -1,1 +1,2 @@
+-- To be believed: Lines.
 pub mod Lines

@@ -1,3 +1,7 @@
+-- To be believed: Taken (`Within`), Messages (`Nth`).
+-- Cited by contracts, and joined to these by theorems: Canon (by Written).
+-- Theorems: Written, Shorter, Messages, Taken.
+-- On the way to them: CanonLaws, Lengths.
 pub mod Canon
 pub mod CanonLaws
 pub mod Lengths

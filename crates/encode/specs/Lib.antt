@@ -1,3 +1,5 @@
+-- To be believed: Encode, Sign.
+-- Cited by contracts of writers inside the crate: Puts.
 pub mod Encode
 pub mod Puts
 pub mod Sign

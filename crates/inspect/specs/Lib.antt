@@ -1,3 +1,5 @@
+-- To be believed: Answers, Made, Records.
+-- Theorems: Rows.
 pub mod Answers
 pub mod Records
 pub mod Rows

@@ -1,3 +1,7 @@
+-- To be believed: Messages, WellFormed, Calls (the order of refusals), State (`cachedIn`, `legal`), Told.
+-- Cited by contracts, and joined to these by theorems: the other definitions of State and Calls, by Laws.
+-- Theorems: Laws, GossipLaws, FineLaws, WellFormedLaws, WrapLaws, Readers.
+-- On the way to them: StateLaws, CachedLaws, GatherLaws.
 pub mod Told
 pub mod Messages
 pub mod State

@@ -1,3 +1,6 @@
+-- To be believed: ReadBack, Size (`recordsIn`), Table (`rowsIn`), Decoded (the records in which its theorems are said).
+-- Theorems: Decoded, Back, Size.
+-- On the way to them: Entries, Good, Accepted, Last, Table.
 pub mod ReadBack
 pub mod Entries
 pub mod Good

@@ -1,3 +1,7 @@
+-- To be believed: Gateway, State, WellFormed, Calls (the order of refusals), Told.
+-- Cited by contracts, and joined to these by theorems: what the calls leave, in Calls, by Laws.
+-- Theorems: Laws, WellFormedLaws, Readers, Unique.
+-- On the way to them: StateLaws, WireLaws, AskLaws.
 pub mod Told
 pub mod Gateway
 pub mod State

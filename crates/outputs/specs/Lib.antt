@@ -1,3 +1,6 @@
+-- To be believed: Named, Replied (`Replies`, `Counts`).
+-- Theorems: Offered, Replied, Requested, Advertised.
+-- On the way to them: Bodies, Cached.
 pub mod Named
 pub mod Offered
 pub mod Bodies

@@ -1,1 +1,2 @@
+-- Theorems: Refused. The contracts cite the definitions of the crates below.
 pub mod Refused

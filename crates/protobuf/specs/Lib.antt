@@ -1,3 +1,6 @@
+-- To be believed: Told, Field, Grammar, Walk, Encode.
+-- Theorems: Laws, RefusalLaws, WalkLaws, Exactly, Rows.
+-- On the way to them: EncodeLaws.
 pub mod Told
 pub mod Field
 pub mod Laws

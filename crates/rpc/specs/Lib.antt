@@ -1,3 +1,4 @@
+-- To be believed: Rpc, Grammar, Encode, Id.
 pub mod Rpc
 pub mod Grammar
 pub mod Encode

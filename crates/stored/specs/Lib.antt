@@ -1,2 +1,4 @@
+-- To be believed: Layout.
+-- Theorems: LayoutLaws.
 pub mod Layout
 pub mod LayoutLaws

@@ -1,0 +1,208 @@
+#!/usr/bin/env python3
+"""Tests of tools/docs, on a small tree and on this one.
+
+    python3 tools/test_docs.py
+"""
+
+import contextlib
+import importlib.machinery
+import importlib.util
+import io
+import os
+import sys
+import tempfile
+import unittest
+from unittest import mock
+
+HERE = os.path.dirname(os.path.abspath(__file__))
+SCRIPT = os.path.join(HERE, "docs")
+
+
+def loaded():
+    loader = importlib.machinery.SourceFileLoader("docs_script", SCRIPT)
+    module = importlib.util.module_from_spec(importlib.util.spec_from_loader("docs_script", loader))
+    sys.dont_write_bytecode = True
+    loader.exec_module(module)
+    return module
+
+
+DOCS = loaded()
+
+TREE = {
+    "crates.txt": "# NAME: what it depends on\n\n# wire\nvarint:\n\n# state\nring: varint\n",
+    "crates/varint/src/lib.rt": """\
+pub mod told;
+
+pub fn read(s: &[u8]) -> u64
+    ensures { λ r. ⌜ r ≡ readIn (now (s .entry)) ⌝ }
+{
+    inner(s)
+}
+
+fn inner(s: &[u8]) -> u64
+    requires { ⌜ 1 ≤ length (now s) ⌝ }
+{
+    0
+}
+""",
+    "crates/varint/src/told.rt": "pub fn told_read(why: u8) -> u8\n{\n    why\n}\n",
+    "crates/varint/specs/Lib.antt": "-- Theorems: Laws (`read-back`).\n-- Cited by contracts, and joined: Sums, by Others of ring.\npub mod Laws\npub mod Sums\n",
+    "crates/varint/specs/Sums.antt": "",
+    "crates/varint/specs/Laws.antt": """\
+unfoldable pub readIn : List ℕ → ℕ
+readIn s = 0
+
+pub record Begins (s : List ℕ) : Type 0 where
+  pub front : s ≡ []
+
+module _ (s : List ℕ) where
+  pub read-back : readIn s ≡ 0
+  read-back = refl
+""",
+    "crates/varint/must-fail/one_read.edit": "",
+    "crates/ring/src/lib.rt": """\
+pub struct Ring {
+    pub at: usize,
+}
+
+impl Ring {
+    pub fn step(self) -> Self
+        requires { ⌜ self .at < 9 ⌝ }
+    {
+        self
+    }
+}
+
+pub extern "C" fn ring_start() -> u32 {
+    0
+}
+""",
+    "crates/ring/src/away.rt": "pub fn hidden() {\n}\n",
+    "extra-edits/ring/two_steps.edit": "",
+    "README.md": "Look at `docs/PROMISES.md`, crates/NAME/src and crates/*/specs.\n",
+    "CONTRIBUTING.md": "| Group | Crate | What |\n|---|---|---|\n| wire | varint | numbers |\n| state | `ring` | places |\n",
+    "docs/PROMISES.md": "| Definition | File |\n|:--|--:|\n| `readIn`, `Begins` | crates/varint/specs/Laws.antt |\n",
+    "docs/THEOREMS.md": "| Theorem | File | What |\n|---|---|---|\n| `read-back` | crates/varint/specs/Laws.antt | `a|b` |\n",
+    "docs/FUNCTIONS.md": """\
+## Every public function
+
+### Wire
+
+| Function | Ruled out | Edits |
+|---|---|---|
+| `varint::read` | one; two | varint/one_read |
+| `varint::told::told_read` | one; two | |
+
+### State
+
+| Function | Ruled out | Edits |
+|---|---|---|
+| `ring::Ring::step` | one; two | ring/two_steps + |
+| `ring::ring_start` | one; two |
+
+## Functions that ask something
+
+| Function | Asks |
+|---|---|
+| `ring::Ring::step` | that the place is below 9 |
+""",
+}
+
+
+class Case(unittest.TestCase):
+    def wrong(self, **changes):
+        """What is wrong with the tree where in the file NAME one text is another: NAME=(old, new)."""
+        files = dict(TREE)
+        for name, (old, new) in changes.items():
+            path = {"crates": "crates.txt", "readme": "README.md", "contributing": "CONTRIBUTING.md"}.get(name, "docs/%s.md" % name.upper())
+            path = path if path in files else {"varint": "crates/varint/src/lib.rt", "lib": "crates/varint/specs/Lib.antt"}[name]
+            self.assertIn(old, files[path])
+            files[path] = files[path].replace(old, new)
+        with tempfile.TemporaryDirectory() as top:
+            for path, text in files.items():
+                os.makedirs(os.path.join(top, os.path.dirname(path)), exist_ok=True)
+                with open(os.path.join(top, path), "w", encoding="utf-8") as file:
+                    file.write(text)
+            return DOCS.check(top)
+
+    def tells(self, words, **changes):
+        wrong = self.wrong(**changes)
+        self.assertTrue(any(words in line for line in wrong), (words, wrong))
+
+    def test_a_tree_without_faults(self):
+        self.assertEqual(self.wrong(), [])
+
+    def test_a_theorem_that_is_not_there(self):
+        self.tells("docs/THEOREMS.md:3: `read-on` does not stand in crates/varint/specs/Laws.antt, nor in any other specs", theorems=("read-back", "read-on"))
+
+    def test_a_field_of_a_record_is_no_definition(self):
+        self.tells("`front` does not stand in", promises=("`Begins`", "`front`"))
+
+    def test_where_a_name_stands_is_told(self):
+        self.tells("it stands in crates/varint/specs/Laws.antt", theorems=("Laws.antt", "Lib.antt"))
+
+    def test_two_theorems_in_a_row(self):
+        self.tells("one theorem a row", theorems=("`read-back`", "`read-back`, `readIn`"))
+
+    def test_a_row_without_a_file(self):
+        self.tells("the row names no file", theorems=("crates/varint/specs/Laws.antt", "the same"))
+
+    def test_a_path_that_does_not_exist(self):
+        self.tells("README.md:1: docs/PROMISE.md does not exist", readme=("PROMISES", "PROMISE"))
+
+    def test_a_function_without_a_row(self):
+        self.tells("`varint::read` (crates/varint/src/lib.rt:3) has no row", functions=("| `varint::read` | one; two | varint/one_read |\n", ""))
+
+    def test_a_row_without_a_function(self):
+        self.tells("`ring::step` is no public function of crates/*/src; there is `ring::Ring::step`", functions=("| `ring::Ring::step` | one", "| `ring::step` | one"))
+
+    def test_a_row_twice(self):
+        self.tells("has a row in line 7 already", functions=("`varint::told::told_read`", "`varint::read`"))
+
+    def test_a_requires_that_is_not_listed(self):
+        self.tells("`ring::Ring::step` (crates/ring/src/lib.rt:6) has a `requires`", functions=("| `ring::Ring::step` | that", "| `varint::read` | that"))
+
+    def test_a_function_that_asks_nothing_is_listed(self):
+        self.tells("`varint::read` (crates/varint/src/lib.rt:3) has no `requires`", functions=("| `ring::Ring::step` | that", "| `varint::read` | that"))
+
+    def test_a_requires_of_the_function_itself(self):
+        self.tells("`varint::read` (crates/varint/src/lib.rt:3) has a `requires`", varint=("    ensures {", "    requires { ⌜ 1 ≤ 2 ⌝ }\n    ensures {"))
+
+    def test_edits(self):
+        self.tells("there is no edit varint/no_read", functions=("varint/one_read", "varint/no_read"))
+        self.tells("no row names the edit varint/one_read", functions=("varint/one_read", ""))
+        self.tells("it has a + behind it", functions=("ring/two_steps +", "ring/two_steps"))
+        self.tells("it has no + behind it", functions=("varint/one_read", "varint/one_read +"))
+
+    def test_crates(self):
+        self.tells("crates.txt:7: the crate ring is not in the table", contributing=("| state | `ring` | places |\n", ""))
+        self.tells("CONTRIBUTING.md:3: the crate varints is not in crates.txt", contributing=("| varint |", "| varints |"))
+        self.tells("in the group wire here and in state", contributing=("| state |", "| wire |"))
+        self.tells("the folder crates/ring is not listed", crates=("ring: varint\n", ""))
+        self.tells("there is no folder crates/rings", crates=("ring: varint", "ring: varint\nrings: varint"))
+
+    def test_the_comment_of_specs(self):
+        self.tells("crates/varint/specs/Lib.antt:1: the comment does not say what More is", lib=("pub mod Laws", "pub mod Laws\npub mod More"))
+        self.tells("the comment names Laws, and there is no such `pub mod`", lib=("pub mod Laws\n", ""))
+        self.tells("no comment says which files", lib=("-- ", ""))
+
+    def test_cells(self):
+        self.assertEqual(DOCS.cells_of("| `a|b` | c \\| d | |"), ["`a|b`", "c \\| d", ""])
+        self.assertEqual(DOCS.cells_of("| a | b"), ["a", "b"])
+
+    def test_no_table_in_a_code_block(self):
+        self.assertEqual(DOCS.tables("```\n| Crate |\n|---|\n| x |\n```\n"), [])
+
+    def test_the_status(self):
+        with tempfile.TemporaryDirectory() as top, mock.patch.object(sys, "argv", ["docs", "--top", top]):
+            out = io.StringIO()
+            with contextlib.redirect_stdout(out):
+                self.assertEqual(DOCS.main(), 1)
+            self.assertIn("docs/THEOREMS.md: there is no such file", out.getvalue())
+
+    def test_this_tree(self):
+        self.assertEqual(DOCS.check(os.path.dirname(HERE)), [])
+
+
+if __name__ == "__main__":
+    unittest.main()
