@@ -18,7 +18,10 @@ use Rattle.ids.specs.declared.MessageId.{MessageId}
 use Rattle.ids.specs.declared.MessageId.the-variants as id
 use Rattle.ids.specs.Ids.{idParts, idBytes}
 use Rattle.admission.specs.declared.Unfit.{Unfit}
-use Rattle.admission.specs.declared.Unfit.the-variants.{MissingFrom, InvalidFrom, InvalidSeqno, KeyWithoutSignature, MissingSignature, InvalidSignatureLength, SignatureInvalid, TopicCount, TopicTooLong, MessageTooLong}
+use Rattle.admission.specs.declared.Unfit.the-variants.{MissingFrom, InvalidFrom, InvalidSeqno}
+use Rattle.admission.specs.declared.Unfit.the-variants.{KeyWithoutSignature, MissingSignature}
+use Rattle.admission.specs.declared.Unfit.the-variants.{InvalidSignatureLength, SignatureInvalid, TopicCount}
+use Rattle.admission.specs.declared.Unfit.the-variants.{TopicTooLong, MessageTooLong}
 use Rattle.admission.specs.declared.Admission.{Admission}
 use Rattle.admission.specs.declared.Admission.the-variants as admission
 
@@ -43,7 +46,8 @@ longAfter f n long = cond (isBytes 4 f && (eqb long 0 && ltb 1024 n)) n long
 -- ---- 28, 29, 30
 unfoldable pub onLimits : List ℕ → Admission → Admission
 onLimits p r =
-    cond (eqb (length (topicsOf p)) 0 || ltb 4 (length (topicsOf p))) (admission.Unfit (TopicCount (length (topicsOf p))))
+    cond (eqb (length (topicsOf p)) 0 || ltb 4 (length (topicsOf p)))
+    (admission.Unfit (TopicCount (length (topicsOf p))))
     (cond (eqb (firstLong (topicsOf p)) 0)
     (cond (ltb 4096 (length p)) (admission.Unfit (MessageTooLong (length p))) r)
     (admission.Unfit (TopicTooLong (firstLong (topicsOf p)))))
@@ -65,12 +69,14 @@ onId p word id.MissingFrom = admission.Unfit MissingFrom
 onId p word (id.InvalidFrom n) = admission.Unfit (InvalidFrom n)
 onId p word id.InvalidSeqno = admission.Unfit InvalidSeqno
 onId p word (id.Parts a e b f) =
-    onSignature (slotsOf kind.RawMessage p .fourth) (slotsOf kind.RawMessage p .fifth) (onWord word (onLimits p (admission.Fit a e b f)))
+    onSignature (slotsOf kind.RawMessage p .fourth) (slotsOf kind.RawMessage p .fifth)
+    (onWord word (onLimits p (admission.Fit a e b f)))
 
 unfoldable pub admissionOf : List ℕ → Bool → Admission
 admissionOf p word = onId p word (idParts p)
 
--- ---- a message that may be taken, with its id: what 01 asks of each cached message. The host's word was given when it came.
+-- ---- a message that may be taken, with its id: what 01 asks of each cached message. The host's word was given when it
+-- came.
 abbrev pub idGiven : List ℕ → List ℕ → Admission → Bool
 idGiven p i (admission.Unfit why) = false
 idGiven p i (admission.Fit a e b f) = sameBytes (idBytes p a e b f) i

@@ -1,4 +1,5 @@
--- Laws of admission: a message that is taken has an id and keeps the limits; 27 comes from the host's word alone; and which id a message gives.
+-- Laws of admission: a message that is taken has an id and keeps the limits; 27 comes from the host's word alone; and
+-- which id a message gives.
 use Prim.Native.Nat.{ℕ, _+_, _-_, _≤_}
 use mathlib.Core.Path.{_≡_, refl, sym, ap, ap₂, _∙_}
 use mathlib.Core.Bool.{Bool, true, false}
@@ -37,7 +38,8 @@ use Rattle.admission.specs.declared.Unfit.{Unfit}
 use Rattle.admission.specs.declared.Unfit.the-variants.{MissingFrom, InvalidFrom, InvalidSeqno, SignatureInvalid}
 use Rattle.admission.specs.declared.Admission.{Admission}
 use Rattle.admission.specs.declared.Admission.the-variants as admission
-use Rattle.admission.specs.Admission.{topicsOf, firstLong, onLimits, onWord, onSignature, onId, admissionOf, idGiven, whereRead, givesId}
+use Rattle.admission.specs.Admission.{topicsOf, firstLong, onLimits, onWord, onSignature, onId, admissionOf}
+use Rattle.admission.specs.Admission.{idGiven, whereRead, givesId}
 
 -- ---- a message that is taken
 -- 28, 29, 30 are none of its
@@ -48,39 +50,52 @@ pub record Limits (p : List ℕ) : Type 0 where
   pub small : length p ≤ 4096
 
 module _ (a e b f : ℕ) where
-  of-limits : (p : List ℕ) (r : Admission) → onLimits p r ≡ admission.Fit a e b f → (r ≡ admission.Fit a e b f) × Limits p
+  of-limits : (p : List ℕ) (r : Admission) → onLimits p r ≡ admission.Fit a e b f → (r ≡ admission.Fit a e b f)
+      × Limits p
   unfolding onLimits
   of-limits p r h =
       either (eqb (length (topicsOf p)) 0) (λ t. clash (let k = simp t at h in cc))
       (λ t. either (ltb 4 (length (topicsOf p))) (λ u. clash (let k = simp (t, u) at h in cc))
       (λ u. either (eqb (firstLong (topicsOf p)) 0)
       (λ v. either (ltb 4096 (length p)) (λ w. clash (let k = simp (t, u, v, w) at h in cc))
-      (λ w. let m = eqb-false (length (topicsOf p)) 0 t in
-      (simp (t, u, v, w) at h, record { some = omega arith; few = ltb-false 4 (length (topicsOf p)) u; short = eqb-true (firstLong (topicsOf p)) 0 v; small = ltb-false 4096 (length p) w })))
+      (λ w. let m = eqb-false (length (topicsOf p)) 0 t in (
+        simp (t, u, v, w) at h,
+        record {
+          some = omega arith;
+          few = ltb-false 4 (length (topicsOf p)) u;
+          short = eqb-true (firstLong (topicsOf p)) 0 v;
+          small = ltb-false 4096 (length p) w;
+        },
+      )))
       (λ v. clash (let k = simp (t, u, v) at h in cc))))
 
-  of-word : (word : Bool) (r : Admission) → onWord word r ≡ admission.Fit a e b f → (word ≡ true) × (r ≡ admission.Fit a e b f)
+  of-word : (word : Bool) (r : Admission) → onWord word r ≡ admission.Fit a e b f → (word ≡ true)
+      × (r ≡ admission.Fit a e b f)
   of-word true r h = (refl, h)
   of-word false r h = clash (cc)
 
   of-signature : (s k : Place) (r : Admission) → onSignature s k r ≡ admission.Fit a e b f → r ≡ admission.Fit a e b f
   of-signature place.Absent place.Absent r h = clash (cc)
   of-signature place.Absent (place.Present x y) r h = clash (cc)
-  of-signature (place.Present x y) k r h = either (eqb (y - x) 64) (λ t. simp t at h) (λ t. clash (let z = simp t at h in cc))
+  of-signature (place.Present x y) k r h =
+      either (eqb (y - x) 64) (λ t. simp t at h) (λ t. clash (let z = simp t at h in cc))
 
-  of-id : (p : List ℕ) (word : Bool) (i : MessageId) → onId p word i ≡ admission.Fit a e b f → (i ≡ id.Parts a e b f) × (word ≡ true) × Limits p
+  of-id : (p : List ℕ) (word : Bool) (i : MessageId) → onId p word i ≡ admission.Fit a e b f → (i ≡ id.Parts a e b f)
+      × (word ≡ true) × Limits p
   of-id p word id.MissingFrom h = clash (cc)
   of-id p word (id.InvalidFrom n) h = clash (cc)
   of-id p word id.InvalidSeqno h = clash (cc)
   of-id p word (id.Parts x y z w) h =
       let r = of-word word (onLimits p (admission.Fit x y z w))
-      (of-signature (slotsOf kind.RawMessage p .fourth) (slotsOf kind.RawMessage p .fifth) (onWord word (onLimits p (admission.Fit x y z w))) h) in
+      (of-signature (slotsOf kind.RawMessage p .fourth) (slotsOf kind.RawMessage p .fifth)
+      (onWord word (onLimits p (admission.Fit x y z w))) h) in
       let l = of-limits p (admission.Fit x y z w) (r .1) in
       let q = l .0 in
       (cc, r .0, l .1)
 
 -- its id is that of idParts
-pub fit-parts : (p : List ℕ) (word : Bool) (a e b f : ℕ) → admissionOf p word ≡ admission.Fit a e b f → idParts p ≡ id.Parts a e b f
+pub fit-parts : (p : List ℕ) (word : Bool) (a e b f : ℕ) → admissionOf p word ≡ admission.Fit a e b f
+    → idParts p ≡ id.Parts a e b f
 unfolding admissionOf
 fit-parts p word a e b f h = of-id a e b f p word (idParts p) h .0
 
@@ -99,12 +114,15 @@ pub topic-short : (t : List ℕ) (l : List (List ℕ)) → firstLong l ≡ 0 →
 unfolding firstLong among
 topic-short t [] h k = clash (cc)
 topic-short t (j ∷ l) h k =
-    either (ltb 1024 (length j)) (λ u. let z : length j ≡ 0 = simp u at h in let w = ltb-true 1024 (length j) u in absurd (omega arith))
-    (λ u. either (sameBytes j t) (λ v. let w = ltb-false 1024 (length j) u in let z = ap length (same-equal j t v) in omega arith)
+    either (ltb 1024 (length j)) (λ u. let z : length j ≡ 0 = simp u at h in let w = ltb-true 1024 (length j) u in
+    absurd (omega arith))
+    (λ u. either (sameBytes j t) (λ v. let w = ltb-false 1024 (length j) u in let z = ap length (same-equal j t v) in
+    omega arith)
     (λ v. topic-short t l (simp u at h) (simp v at k)))
 
 -- its id has 2 to 128 bytes
-pub fit-id : (p : List ℕ) (word : Bool) (a e b f : ℕ) → admissionOf p word ≡ admission.Fit a e b f → (2 ≤ length (idBytes p a e b f)) × (length (idBytes p a e b f) ≤ 128)
+pub fit-id : (p : List ℕ) (word : Bool) (a e b f : ℕ) → admissionOf p word ≡ admission.Fit a e b f
+    → (2 ≤ length (idBytes p a e b f)) × (length (idBytes p a e b f) ≤ 128)
 fit-id p word a e b f h = id-size p a e b f (fit-parts p word a e b f h)
 
 -- ---- 27 comes from the host's word alone
@@ -118,20 +136,24 @@ limits-never p a e b f h =
     either (eqb (length (topicsOf p)) 0) (λ t. clash (let k = simp t at h in cc))
     (λ t. either (ltb 4 (length (topicsOf p))) (λ u. clash (let k = simp (t, u) at h in cc))
     (λ u. either (eqb (firstLong (topicsOf p)) 0)
-    (λ v. either (ltb 4096 (length p)) (λ w. clash (let k = simp (t, u, v, w) at h in cc)) (λ w. clash (let k = simp (t, u, v, w) at h in cc)))
+    (λ v. either (ltb 4096 (length p)) (λ w. clash (let k = simp (t, u, v, w) at h in cc))
+    (λ w. clash (let k = simp (t, u, v, w) at h in cc)))
     (λ v. clash (let k = simp (t, u, v) at h in cc))))
 
-signature-never : (s k : Place) (r : Admission) → (r ≡ admission.Unfit SignatureInvalid → ⊥) → onSignature s k r ≡ admission.Unfit SignatureInvalid → ⊥
+signature-never : (s k : Place) (r : Admission) → (r ≡ admission.Unfit SignatureInvalid → ⊥)
+    → onSignature s k r ≡ admission.Unfit SignatureInvalid → ⊥
 signature-never place.Absent place.Absent r n h = clash (cc)
 signature-never place.Absent (place.Present x y) r n h = clash (cc)
-signature-never (place.Present x y) k r n h = either (eqb (y - x) 64) (λ t. n (simp t at h)) (λ t. clash (let z = simp t at h in cc))
+signature-never (place.Present x y) k r n h =
+    either (eqb (y - x) 64) (λ t. n (simp t at h)) (λ t. clash (let z = simp t at h in cc))
 
 id-never : (p : List ℕ) (i : MessageId) → onId p true i ≡ admission.Unfit SignatureInvalid → ⊥
 id-never p id.MissingFrom h = clash (cc)
 id-never p (id.InvalidFrom n) h = clash (cc)
 id-never p id.InvalidSeqno h = clash (cc)
 id-never p (id.Parts a e b f) h =
-    signature-never (slotsOf kind.RawMessage p .fourth) (slotsOf kind.RawMessage p .fifth) (onLimits p (admission.Fit a e b f)) (limits-never p a e b f) h
+    signature-never (slotsOf kind.RawMessage p .fourth) (slotsOf kind.RawMessage p .fifth)
+    (onLimits p (admission.Fit a e b f)) (limits-never p a e b f) h
 
 -- and with it 27 is never the answer
 pub word-only : (p : List ℕ) (why : Unfit) → admissionOf p true ≡ admission.Unfit why → why ≡ SignatureInvalid → ⊥
@@ -139,21 +161,27 @@ unfolding admissionOf
 word-only p why h e = id-never p (idParts p) (h ∙ ap admission.Unfit e)
 
 -- ---- which id a message gives
-pub gives-refused : (p i : List ℕ) (why : WireError) → counted kind.RawMessage p ≡ count.Refused why → false ≡ givesId p i
+pub gives-refused : (p i : List ℕ) (why : WireError) → counted kind.RawMessage p ≡ count.Refused why
+    → false ≡ givesId p i
 unfolding givesId
 gives-refused p i why h = ap (λ c. whereRead c (idGiven p i (admissionOf p true))) (sym h)
 
-pub gives-unfit : (p i : List ℕ) (n : ℕ) (why : Unfit) → counted kind.RawMessage p ≡ count.Records n → admissionOf p true ≡ admission.Unfit why → false ≡ givesId p i
+pub gives-unfit : (p i : List ℕ) (n : ℕ) (why : Unfit) → counted kind.RawMessage p ≡ count.Records n
+    → admissionOf p true ≡ admission.Unfit why → false ≡ givesId p i
 unfolding givesId
 gives-unfit p i n why h k = ap (idGiven p i) (sym k) ∙ ap (λ c. whereRead c (idGiven p i (admissionOf p true))) (sym h)
 
-pub gives-fit : (p i : List ℕ) (n a e b f : ℕ) (r : Bool) → counted kind.RawMessage p ≡ count.Records n → admissionOf p true ≡ admission.Fit a e b f → r ≡ sameBytes (idBytes p a e b f) i → r ≡ givesId p i
+pub gives-fit : (p i : List ℕ) (n a e b f : ℕ) (r : Bool) → counted kind.RawMessage p ≡ count.Records n
+    → admissionOf p true ≡ admission.Fit a e b f → r ≡ sameBytes (idBytes p a e b f) i → r ≡ givesId p i
 unfolding givesId
-gives-fit p i n a e b f r h k g = g ∙ ap (idGiven p i) (sym k) ∙ ap (λ c. whereRead c (idGiven p i (admissionOf p true))) (sym h)
+gives-fit p i n a e b f r h k g = g ∙ ap (idGiven p i) (sym k)
+    ∙ ap (λ c. whereRead c (idGiven p i (admissionOf p true))) (sym h)
 
 -- its own
-pub gives-own : (p : List ℕ) (n a e b f : ℕ) → counted kind.RawMessage p ≡ count.Records n → admissionOf p true ≡ admission.Fit a e b f → givesId p (idBytes p a e b f) ≡ true
-gives-own p n a e b f h k = sym (gives-fit p (idBytes p a e b f) n a e b f true h k (sym (same-self (idBytes p a e b f))))
+pub gives-own : (p : List ℕ) (n a e b f : ℕ) → counted kind.RawMessage p ≡ count.Records n
+    → admissionOf p true ≡ admission.Fit a e b f → givesId p (idBytes p a e b f) ≡ true
+gives-own p n a e b f h k =
+    sym (gives-fit p (idBytes p a e b f) n a e b f true h k (sym (same-self (idBytes p a e b f))))
 
 -- and no other
 pub record Gives (p i : List ℕ) : Type 0 where
@@ -166,12 +194,23 @@ pub record Gives (p i : List ℕ) : Type 0 where
   pub taken : admissionOf p true ≡ admission.Fit from-start from-end seqno-start seqno-end
   pub named : i ≡ idBytes p from-start from-end seqno-start seqno-end
 
-of-fit : (p i : List ℕ) (n : ℕ) (r : Admission) → counted kind.RawMessage p ≡ count.Records n → admissionOf p true ≡ r → idGiven p i r ≡ true → Gives p i
+of-fit : (p i : List ℕ) (n : ℕ) (r : Admission) → counted kind.RawMessage p ≡ count.Records n → admissionOf p true ≡ r
+    → idGiven p i r ≡ true → Gives p i
 of-fit p i n (admission.Unfit why) h k g = clash (cc)
 of-fit p i n (admission.Fit a e b f) h k g =
-    record { records = n; from-start = a; from-end = e; seqno-start = b; seqno-end = f; read = h; taken = k; named = sym (same-equal (idBytes p a e b f) i g) }
+    record {
+      records = n;
+      from-start = a;
+      from-end = e;
+      seqno-start = b;
+      seqno-end = f;
+      read = h;
+      taken = k;
+      named = sym (same-equal (idBytes p a e b f) i g);
+    }
 
-of-read : (p i : List ℕ) (c : Counted) → counted kind.RawMessage p ≡ c → whereRead c (idGiven p i (admissionOf p true)) ≡ true → Gives p i
+of-read : (p i : List ℕ) (c : Counted) → counted kind.RawMessage p ≡ c → whereRead c (idGiven p i (admissionOf p true))
+    ≡ true → Gives p i
 of-read p i (count.Refused why) h g = clash (cc)
 of-read p i (count.Records n) h g = of-fit p i n (admissionOf p true) h refl g
 
@@ -184,7 +223,8 @@ pub one-id : (m i j : List ℕ) → givesId m i ≡ true → givesId m j ≡ tru
 one-id m i j g h =
     let a = gives-only m i g in
     let b = gives-only m j h in
-    let e : admission.Fit (a .from-start) (a .from-end) (a .seqno-start) (a .seqno-end) ≡ admission.Fit (b .from-start) (b .from-end) (b .seqno-start) (b .seqno-end) = sym (a .taken) ∙ b .taken in
+    let e : admission.Fit (a .from-start) (a .from-end) (a .seqno-start) (a .seqno-end) ≡ admission.Fit (b .from-start)
+    (b .from-end) (b .seqno-start) (b .seqno-end) = sym (a .taken) ∙ b .taken in
     let p : a .from-start ≡ b .from-start = cc in
     let q : a .from-end ≡ b .from-end = cc in
     let r : a .seqno-start ≡ b .seqno-start = cc in
@@ -192,29 +232,37 @@ one-id m i j g h =
     a .named ∙ rw (p, q, r, s) (sym (b .named))
 
 -- ---- a message of an accepted body is well formed
-message-role : (f : Field) → isBytes 2 f ≡ true → roleOf kind.Rpc (f .field) (f .«wire_type») ≡ Sub kind.RawMessage Whole
+message-role : (f : Field) → isBytes 2 f ≡ true → roleOf kind.Rpc (f .field) (f .«wire_type»)
+    ≡ Sub kind.RawMessage Whole
 unfolding roleOf
 message-role f h =
     either (eqb (f .«wire_type») 2)
-    (λ t. either (eqb (f .field) 2) (λ u. simp t (ap (lenRole kind.Rpc) (eqb-true (f .field) 2 u))) (λ u. clash (let k = simp (t, u) at h in cc)))
+    (λ t. either (eqb (f .field) 2) (λ u. simp t (ap (lenRole kind.Rpc) (eqb-true (f .field) 2 u)))
+    (λ u. clash (let k = simp (t, u) at h in cc)))
     (λ t. clash (let k = simp t at h in cc))
 
-read-along : (s : List ℕ) (i a e at n m : ℕ) → countAlong counted kind.Rpc s (walkAt s at) ≡ count.Records m → messageAlong i n (walkAt s at) ≡ At a e → (x : ℕ) × (counted kind.RawMessage (between s a e) ≡ count.Records x)
+read-along : (s : List ℕ) (i a e at n m : ℕ) → countAlong counted kind.Rpc s (walkAt s at) ≡ count.Records m
+    → messageAlong i n (walkAt s at) ≡ At a e → (x : ℕ) × (counted kind.RawMessage (between s a e) ≡ count.Records x)
 read-along s i a e =
-    along s (λ (at : ℕ) (w : Fields). (n m : ℕ) → countAlong counted kind.Rpc s w ≡ count.Records m → messageAlong i n w ≡ At a e → (x : ℕ) × (counted kind.RawMessage (between s a e) ≡ count.Records x))
+    along s (λ (at : ℕ) (w : Fields). (n m : ℕ) → countAlong counted kind.Rpc s w ≡ count.Records m
+    → messageAlong i n w ≡ At a e → (x : ℕ) × (counted kind.RawMessage (between s a e) ≡ count.Records x))
     (λ at n m g h. clash (cc))
     (λ at why r n m g h. clash (cc))
     (λ at f st r rest n m g h.
-    let t = then-fits (roleCount counted s f (roleOf kind.Rpc (f .field) (f .«wire_type»))) (countAlong counted kind.Rpc s (walkAt s (f .next))) m g in
+    let t = then-fits (roleCount counted s f (roleOf kind.Rpc (f .field) (f .«wire_type»)))
+    (countAlong counted kind.Rpc s (walkAt s (f .next))) m g in
     either (isBytes 2 f)
     (λ u. either (eqb n i)
     (λ v. let k = simp (u, v) at h in
     let pa : f .start ≡ a = cc in let pe : f .next ≡ e = cc in
-    let y = plus-fits (ownOf kind.RawMessage) (t .0) (counted kind.RawMessage (between s (f .start) (f .next))) (sym (ap (roleCount counted s f) (message-role f u)) ∙ t .2) in
+    let y = plus-fits (ownOf kind.RawMessage) (t .0) (counted kind.RawMessage (between s (f .start) (f .next)))
+    (sym (ap (roleCount counted s f) (message-role f u)) ∙ t .2) in
     (y .0, ap (counted kind.RawMessage) (ap₂ (between s) (sym pa) (sym pe)) ∙ y .1))
     (λ v. rest (n + 1) (t .1) (t .3) (simp (u, v) at h)))
     (λ u. rest n (t .1) (t .3) (simp u at h)))
 
-pub message-read : (s : List ℕ) (i a e : ℕ) → acceptOf s ≡ Fine → messageAt s i ≡ At a e → (n : ℕ) × (counted kind.RawMessage (between s a e) ≡ count.Records n)
+pub message-read : (s : List ℕ) (i a e : ℕ) → acceptOf s ≡ Fine → messageAt s i ≡ At a e → (n : ℕ)
+    × (counted kind.RawMessage (between s a e) ≡ count.Records n)
 unfolding messageAt
-message-read s i a e h k = let c = accept-records s h in read-along s i a e 0 0 (c .0) (sym (count-along kind.Rpc s) ∙ c .1) k
+message-read s i a e h k = let c = accept-records s h in
+    read-along s i a e 0 0 (c .0) (sym (count-along kind.Rpc s) ∙ c .1) k

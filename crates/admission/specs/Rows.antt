@@ -9,7 +9,9 @@ use Rattle.protobuf.specs.Walk.{walkFrom, walkAt}
 use Rattle.schema.specs.Schema.{roleOf}
 use Rattle.schema.specs.Slots.{setPlace, withField, slotsOf}
 use Rattle.ids.specs.Ids.{idParts}
-use Rattle.admission.specs.declared.Unfit.the-variants.{MissingFrom, InvalidFrom, InvalidSeqno, KeyWithoutSignature, MissingSignature, InvalidSignatureLength, SignatureInvalid, TopicCount}
+use Rattle.admission.specs.declared.Unfit.the-variants.{MissingFrom, InvalidFrom, InvalidSeqno}
+use Rattle.admission.specs.declared.Unfit.the-variants.{KeyWithoutSignature, MissingSignature}
+use Rattle.admission.specs.declared.Unfit.the-variants.{InvalidSignatureLength, SignatureInvalid, TopicCount}
 use Rattle.admission.specs.declared.Admission.the-variants.{Unfit, Fit}
 use Rattle.admission.specs.Admission.{topicsOf, firstLong, onLimits, admissionOf}
 
@@ -34,8 +36,10 @@ abbrev pub key : List ℕ
 key = 0x32 ∷ 0x01 ∷ 0x6b ∷ []
 
 -- it is taken where the host says that the signature verified; else 27
-pub taken : (admissionOf (head ++ signature) true ≡ Fit 2 3 5 6) × (admissionOf (head ++ signature) false ≡ Unfit SignatureInvalid)
-unfolding readUvarint readFrom groupOf readTag readLen readVarint skipFixed skipField readValue readField walkFrom walkAt roleOf setPlace withField slotsOf idParts topicsOf firstLong onLimits admissionOf
+pub taken : (admissionOf (head ++ signature) true ≡ Fit 2 3 5 6)
+    × (admissionOf (head ++ signature) false ≡ Unfit SignatureInvalid)
+unfolding readUvarint readFrom groupOf readTag readLen readVarint skipFixed skipField readValue readField walkFrom
+    walkAt roleOf setPlace withField slotsOf idParts topicsOf firstLong onLimits admissionOf
 taken = (refl, refl)
 
 -- 21, 22, 23: no sender, an empty one, and no sequence number
@@ -43,7 +47,8 @@ pub no-id :
     (admissionOf [] true ≡ Unfit MissingFrom)
     × (admissionOf (0x0a ∷ 0x00 ∷ []) true ≡ Unfit (InvalidFrom 0))
     × (admissionOf (0x0a ∷ 0x01 ∷ 0x41 ∷ []) true ≡ Unfit InvalidSeqno)
-unfolding readUvarint readFrom groupOf readTag readLen readVarint skipFixed skipField readValue readField walkFrom walkAt roleOf setPlace withField slotsOf idParts topicsOf firstLong onLimits admissionOf
+unfolding readUvarint readFrom groupOf readTag readLen readVarint skipFixed skipField readValue readField walkFrom
+    walkAt roleOf setPlace withField slotsOf idParts topicsOf firstLong onLimits admissionOf
 no-id = (refl, refl, refl)
 
 -- 24, 25, 26: no signature, with a key and without, and one of 63 bytes; 26 comes before 27
@@ -51,12 +56,14 @@ pub not-signed :
     (admissionOf (head ++ key) true ≡ Unfit KeyWithoutSignature)
     × (admissionOf head true ≡ Unfit MissingSignature)
     × (admissionOf (head ++ short) false ≡ Unfit (InvalidSignatureLength 63))
-unfolding readUvarint readFrom groupOf readTag readLen readVarint skipFixed skipField readValue readField walkFrom walkAt roleOf setPlace withField slotsOf idParts topicsOf firstLong onLimits admissionOf
+unfolding readUvarint readFrom groupOf readTag readLen readVarint skipFixed skipField readValue readField walkFrom
+    walkAt roleOf setPlace withField slotsOf idParts topicsOf firstLong onLimits admissionOf
 not-signed = (refl, refl, refl)
 
 -- 28: four topics are taken, five are not
 pub five-topics :
     (admissionOf (head ++ topic ++ topic ++ topic ++ signature) true ≡ Fit 2 3 5 6)
     × (admissionOf (head ++ topic ++ topic ++ topic ++ topic ++ signature) true ≡ Unfit (TopicCount 5))
-unfolding readUvarint readFrom groupOf readTag readLen readVarint skipFixed skipField readValue readField walkFrom walkAt roleOf setPlace withField slotsOf idParts topicsOf firstLong onLimits admissionOf
+unfolding readUvarint readFrom groupOf readTag readLen readVarint skipFixed skipField readValue readField walkFrom
+    walkAt roleOf setPlace withField slotsOf idParts topicsOf firstLong onLimits admissionOf
 five-topics = (refl, refl)

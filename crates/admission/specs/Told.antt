@@ -1,7 +1,9 @@
 -- What a message that is not taken tells: 01's number and the values beside it.
 use mathlib.Core.List.{[], _∷_}
 use Rattle.basis.specs.declared.Told.{Told}
-use Rattle.basis.specs.Refusals.{missing-from, invalid-from, invalid-seqno, key-without-signature, missing-signature, invalid-signature-length, signature-invalid, topic-count, topic-too-long, message-too-long}
+use Rattle.basis.specs.Refusals.{missing-from, invalid-from, invalid-seqno, key-without-signature, missing-signature}
+use Rattle.basis.specs.Refusals.{invalid-signature-length, signature-invalid, topic-count, topic-too-long}
+use Rattle.basis.specs.Refusals.{message-too-long}
 use Rattle.basis.specs.Told.{told}
 use Rattle.admission.specs.declared.Unfit.{Unfit}
 use Rattle.admission.specs.declared.Unfit.the-variants as unfit

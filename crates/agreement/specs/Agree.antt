@@ -1,5 +1,5 @@
--- Two gateways agree: rounds one way and then the other, as many as what is missing asks for, and neither lacks anything of the topic any more; both then
--- advertise it in identical bytes.
+-- Two gateways agree: rounds one way and then the other, as many as what is missing asks for, and neither lacks
+-- anything of the topic any more; both then advertise it in identical bytes.
 use Prim.Native.Nat.{ℕ, _+_, _/_, _≤_}
 use mathlib.Core.Path.{_≡_, refl, sym, ap, subst, _∙_}
 use mathlib.Core.Bool.{true, false}
@@ -23,16 +23,22 @@ use Rattle.agreement.specs.Identical.{rows-kept, rows-entry, none-missin
 use Rattle.agreement.specs.CatchUp.{teller-stays, CaughtUp, allAsked, allTold, caught-up, all-arrived}
 
 -- ---- what a gateway does not lack it does not lack after the other got more, where it had that itself
-all-seen : (topic : List ℕ) (g : Gateway) (cs : List Cached) → ((c : Cached) → List·Memᴰ c cs → among topic (topics c) ≡ true → holds (marked (c .id)) (g .seen) ≡ true) → missing topic g cs ≡ []
+all-seen : (topic : List ℕ) (g : Gateway) (cs : List Cached)
+    → ((c : Cached) → List·Memᴰ c cs → among topic (topics c) ≡ true → holds (marked (c .id)) (g .seen) ≡ true)
+    → missing topic g cs ≡ []
 unfolding missing
 all-seen topic g [] h = refl
 all-seen topic g (c ∷ cs) h =
     let r = all-seen topic g cs (λ k d t. h k (List·Memᴰ·tail d) t) in
     either (among topic (topics c)) (λ t. simp (t, h c (List·Memᴰ·head refl) t) r) (λ t. simp t r)
 
-module _ {set : List (List ℕ)} (ms : MessageSet set) {x y : Settings} {firstA pastA leftA firstB pastB leftB firstC pastC leftC : ℕ} {rsA rsB rsC : List ℕ} {gotA gotB gotC : List (List ℕ)} {a b c : State}
-    (ha : Holding set x firstA pastA rsA leftA gotA a) (hb : Holding set y firstB pastB rsB leftB gotB b) (hc : Holding set y firstC pastC rsC leftC gotC c)
-    (only : (m : List ℕ) → among m gotC ≡ true → among m gotB ≡ false → among m gotA ≡ true) (topic : List ℕ) (none : lacked topic a b ≡ []) where
+module _ {set : List (List ℕ)} (ms : MessageSet set) {x y : Settings}
+    {firstA pastA leftA firstB pastB leftB firstC pastC leftC : ℕ} {rsA rsB rsC : List ℕ}
+    {gotA gotB gotC : List (List ℕ)} {a b c : State}
+    (ha : Holding set x firstA pastA rsA leftA gotA a) (hb : Holding set y firstB pastB rsB leftB gotB b)
+    (hc : Holding set y firstC pastC rsC leftC gotC c)
+    (only : (m : List ℕ) → among m gotC ≡ true → among m gotB ≡ false → among m gotA ≡ true) (topic : List ℕ)
+    (none : lacked topic a b ≡ []) where
   module _ (e : Cached) (there : List·Memᴰ e (gatewayOf c .cache)) (carries : among topic (topics e) ≡ true) where
     -- a message that b had, a has seen
     had : among (e .message) gotB ≡ true → among (e .message) gotA ≡ true
@@ -40,10 +46,12 @@ module _ {set : List (List ℕ)} (ms : MessageSet set) {x y : Settings} {firstA 
         let k = rows-kept e (hc .held .rows) there in
         let r = rows-entry (e .message) (hb .held .rows) t in
         let inside = hc .held .from-set (e .message) (k .was-got) in
-        let carried = subst (λ (m : List ℕ). List·Memᴰ topic (topicsOf m)) (sym (r .message)) (among-in topic (topics e) carries) in
+        let carried = subst (λ (m : List ℕ). List·Memᴰ topic (topicsOf m)) (sym (r .message))
+        (among-in topic (topics e) carries) in
         let s = none-missing topic (gatewayOf a) (gatewayOf b .cache) (r .entry) none (r .there) carried in
         let q : r .entry .id ≡ e .id = one-id (e .message) (r .entry .id) (e .id) (r .own) (k .own) in
-        sym (rows-held ms (e .message) (e .id) inside (k .own) (ha .held .from-set) (ha .held .rows) .0) ∙ ap (λ (i : List ℕ). holds (marked i) (gatewayOf a .seen)) (sym q) ∙ s
+        sym (rows-held ms (e .message) (e .id) inside (k .own) (ha .held .from-set) (ha .held .rows) .0)
+        ∙ ap (λ (i : List ℕ). holds (marked i) (gatewayOf a .seen)) (sym q) ∙ s
 
     now-seen : holds (marked (e .id)) (gatewayOf a .seen) ≡ true
     now-seen =
@@ -56,8 +64,10 @@ module _ {set : List (List ℕ)} (ms : MessageSet set) {x y : Settings} {firstA 
   still-none = all-seen topic (gatewayOf a) (gatewayOf c .cache) now-seen
 
 -- ---- both ways
--- gateway a asks for r rounds, then b asks for s rounds; the premises on the two clocks reach over the rounds in which each asks
-module _ {set : List (List ℕ)} {x y : Settings} {calls-a calls-b : List Call} {a b : State} (ms : MessageSet set) (pa : Premises set x calls-a a) (pb : Premises set y calls-b b)
+-- gateway a asks for r rounds, then b asks for s rounds; the premises on the two clocks reach over the rounds in which
+-- each asks
+module _ {set : List (List ℕ)} {x y : Settings} {calls-a calls-b : List Call} {a b : State} (ms : MessageSet set)
+    (pa : Premises set x calls-a a) (pb : Premises set y calls-b b)
     (p q : Play) (fp : Fair p x y) (fq : Fair q x y) (same : p .topic ≡ q .topic)
     (r : ℕ) (at : ℕ → ℕ → ℕ) (clock-a : Clock x (readings (allAsked set x y calls-a calls-b a b p r at)))
     (s : ℕ) (at2 : ℕ → ℕ → ℕ) where
@@ -85,8 +95,10 @@ module _ {set : List (List ℕ)} {x y : Settings} {calls-a calls-b : List Call} 
     -- both advertise in identical bytes
     pub identical : Identical p q (afterAll calls-a2 a) (afterAll calls-b2 b)
 
-  module _ (clock-b : Clock y (readings calls-b2)) (n : ℕ) (few : length (lacked (p .topic) (afterAll calls-a a) (afterAll calls-b b)) ≤ n) (enough : (n + 14) / 15 ≤ r)
-      (m : ℕ) (few2 : length (lacked (p .topic) (afterAll calls-b1 b) (afterAll calls-a1 a)) ≤ m) (enough2 : (m + 14) / 15 ≤ s) where
+  module _ (clock-b : Clock y (readings calls-b2)) (n : ℕ)
+      (few : length (lacked (p .topic) (afterAll calls-a a) (afterAll calls-b b)) ≤ n) (enough : (n + 14) / 15 ≤ r)
+      (m : ℕ) (few2 : length (lacked (p .topic) (afterAll calls-b1 b) (afterAll calls-a1 a)) ≤ m)
+      (enough2 : (m + 14) / 15 ≤ s) where
     first : CaughtUp set x y calls-a calls-b a b p r at
     first = caught-up ms pa pb p fp r at clock-a
 
@@ -101,7 +113,8 @@ module _ {set : List (List ℕ)} {x y : Settings} {calls-a calls-b : List Call} 
     a-done : lacked (p .topic) (afterAll calls-a2 a) (afterAll calls-b2 b) ≡ []
     a-done =
         ap (λ (z : State). lacked (p .topic) z (afterAll calls-b2 b)) a-stays
-        ∙ still-none ms (holding-all ms (first .asker-history)) (holding-all ms (first .teller-history)) (holding-all ms (second .asker-history)) (second .only) (p .topic)
+        ∙ still-none ms (holding-all ms (first .asker-history)) (holding-all ms (first .teller-history))
+        (holding-all ms (second .asker-history)) (second .only) (p .topic)
         (all-arrived ms pa pb p fp r at clock-a n few enough)
 
     b-done : lacked (p .topic) (afterAll calls-b2 b) (afterAll calls-a2 a) ≡ []

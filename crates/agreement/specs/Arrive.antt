@@ -1,4 +1,5 @@
--- One round: every call in it is done, all that is served is got, and of what the asker lacks fifteen messages arrive, or all.
+-- One round: every call in it is done, all that is served is got, and of what the asker lacks fifteen messages arrive,
+-- or all.
 use Prim.Native.Nat.{ℕ, zero, suc, _+_, _-_, _≤_, _<_}
 use mathlib.Core.Path.{_≡_, refl, sym, ap, subst, _∙_}
 use mathlib.Core.Bool.{true, false, _||_}
@@ -18,7 +19,8 @@ use Rattle.node.specs.declared.Lent.the-variants as lent
 use Rattle.node.specs.Gateway.{marked, toldOf, lacking}
 use Rattle.node.specs.Calls.{Plan, taken, lentOf, servedOf, roomOf}
 use Rattle.node.specs.Laws.{fit-plan}
-use Rattle.history.specs.History.{State, gatewayOf, Settings, Call, admit, planIn, after, afterAll, readings, NoneRefused}
+use Rattle.history.specs.History.{State, gatewayOf, Settings, Call, admit, planIn, after, afterAll, readings}
+use Rattle.history.specs.History.{NoneRefused}
 use Rattle.history.specs.History.{all-done, done, admits}
 use Rattle.history.specs.Laws.{taken-number}
 use Rattle.agreement.specs.Premises.{MessageSet, Member, Members, none-left, member}
@@ -29,7 +31,8 @@ use Rattle.agreement.specs.Once.{with-again, with-this, with-other}
 use Rattle.agreement.specs.HandOver.{lacking-exactly}
 use Rattle.agreement.specs.Delivered.{plan-delivered}
 use Rattle.agreement.specs.Lacking.{Got, told-got, wants-once, wants-count}
-use Rattle.agreement.specs.Played.{advert-done, request-done, reply-done, replied, served-is, wants, replies, replies-count, reply-at, reply-got, enough, reply-delivers}
+use Rattle.agreement.specs.Played.{advert-done, request-done, reply-done, replied, served-is, wants, replies}
+use Rattle.agreement.specs.Played.{replies-count, reply-at, reply-got, enough, reply-delivers}
 
 -- ---- lists of ids
 -- one of the first k stands at an index below k
@@ -44,7 +47,8 @@ unfolding among
 stands zero i l h = clash (cc)
 stands (suc k) i [] h = clash (cc)
 stands (suc k) i (j ∷ l) h =
-    either (sameBytes j i) (λ t. record { index = 0; early = omega arith; within = omega arith; there = same-equal j i t })
+    either (sameBytes j i)
+    (λ t. record { index = 0; early = omega arith; within = omega arith; there = same-equal j i t })
     (λ t.
     let r = stands k i l (simp t at h) in
     let e = r .early in
@@ -52,7 +56,8 @@ stands (suc k) i (j ∷ l) h =
     record { index = suc (r .index); early = omega arith; within = omega arith; there = r .there })
 
 -- ---- admits of messages of the set, one after the other
-pub record Admitted (set : List (List ℕ)) (x : Settings) (first past : ℕ) (rs : List ℕ) (left : ℕ) (got served : List (List ℕ)) (i k : ℕ) (calls : List Call) (s : State) : Type 0 where
+pub record Admitted (set : List (List ℕ)) (x : Settings) (first past : ℕ) (rs : List ℕ) (left : ℕ)
+    (got served : List (List ℕ)) (i k : ℕ) (calls : List Call) (s : State) : Type 0 where
   pub members : Members set calls s
   pub none-refused : NoneRefused calls s
   pub holding : Holding set x first past rs left (gotAll got calls s) (afterAll calls s)
@@ -63,19 +68,31 @@ pub record Admitted (set : List (List ℕ)) (x : Settings) (first past : ℕ) (r
 withThis : (m : List ℕ) (got : List (List ℕ)) → among m (withGot m got) ≡ true
 withThis m got = either (among m got) (λ t. with-again m m got t) (λ t. with-this m got t)
 
-module _ {set : List (List ℕ)} (ms : MessageSet set) {x : Settings} {first past : ℕ} (rs : List ℕ) {left : ℕ} (body : List ℕ) (at : ℕ → ℕ) (served ids : List (List ℕ)) (n : ℕ)
-    (plans : (s : State) (i : ℕ) → lentOf (s .node) (s .ids) (s .messages) ≡ lent.Fine → s .node .clock ≤ at i → i < n → planIn s body i true (at i) ≡ taken (getD served i []) (getD ids i []))
+module _ {set : List (List ℕ)} (ms : MessageSet set) {x : Settings} {first past : ℕ} (rs : List ℕ) {left : ℕ}
+    (body : List ℕ) (at : ℕ → ℕ) (served ids : List (List ℕ)) (n : ℕ)
+    (plans : (s : State) (i : ℕ) → lentOf (s .node) (s .ids) (s .messages) ≡ lent.Fine → s .node .clock ≤ at i → i < n
+    → planIn s body i true (at i) ≡ taken (getD served i []) (getD ids i []))
     (inside : (i : ℕ) → i < n → among (getD served i []) set ≡ true) (few : n ≤ length served) where
-  pub all-admitted : (k i : ℕ) {got : List (List ℕ)} {s : State} → i + k ≤ n → Holding set x first past (readings (admits body at i k) ++ rs) left got s
+  pub all-admitted : (k i : ℕ) {got : List (List ℕ)} {s : State} → i + k ≤ n
+      → Holding set x first past (readings (admits body at i k) ++ rs) left got s
       → Admitted set x first past rs left got served i k (admits body at i k) s
   unfolding admits readings gotAll afterAll
   all-admitted zero i l h =
-      record { members = none-left; none-refused = all-done; holding = h; keeps = λ m g. g; has = λ j a b. absurd (omega arith); only = λ m t u. clash (cc) }
+      record {
+        members = none-left;
+        none-refused = all-done;
+        holding = h;
+        keeps = λ m g. g;
+        has = λ j a b. absurd (omega arith);
+        only = λ m t u. clash (cc);
+      }
   all-admitted (suc k) i {got} {s} l h =
       let m = getD served i [] in
       let c = admit body i true (at i) in
-      let e : planIn s body i true (at i) ≡ taken m (getD ids i []) = plans s i (h .kept .fine) (admit-forward body i true (at i) h) (omega arith) in
-      let ins : Member set (planIn s body i true (at i)) = subst (λ (q : Plan). Member set q) (sym e) (inside i (omega arith)) in
+      let e : planIn s body i true (at i) ≡ taken m (getD ids i []) =
+      plans s i (h .kept .fine) (admit-forward body i true (at i) h) (omega arith) in
+      let ins : Member set (planIn s body i true (at i)) =
+      subst (λ (q : Plan). Member set q) (sym e) (inside i (omega arith)) in
       let next = holding-admit body i true (at i) h ms ins in
       let r = all-admitted k (suc i) (omega arith) next in
       let g : gotBy got (planIn s body i true (at i)) ≡ withGot m got = ap (gotBy got) e in
@@ -95,20 +112,25 @@ module _ {set : List (List ℕ)} (ms : MessageSet set) {x : Settings} {first pas
       }
 
 -- ---- a round
-pub record RoundDone (set : List (List ℕ)) (x y : Settings) (firstA pastA leftA firstB pastB leftB : ℕ) (rsA rsB : List ℕ) (gotA gotB : List (List ℕ)) (p : Play) (at : ℕ → ℕ) (a b : State) : Type 0 where
+pub record RoundDone (set : List (List ℕ)) (x y : Settings) (firstA pastA leftA firstB pastB leftB : ℕ)
+    (rsA rsB : List ℕ) (gotA gotB : List (List ℕ)) (p : Play) (at : ℕ → ℕ) (a b : State) : Type 0 where
   pub asker-members : Members set (askerRound p at a b) a
   pub asker-done : NoneRefused (askerRound p at a b) a
   pub teller-members : Members set (tellerRound p a b) b
   pub teller-done : NoneRefused (tellerRound p a b) b
-  pub asker-holds : Holding set x firstA pastA rsA leftA (gotAll gotA (askerRound p at a b) a) (afterAll (askerRound p at a b) a)
+  pub asker-holds : Holding set x firstA pastA rsA leftA (gotAll gotA (askerRound p at a b) a)
+      (afterAll (askerRound p at a b) a)
   pub teller-holds : Holding set y firstB pastB rsB leftB gotB (afterAll (tellerRound p a b) b)
   -- fifteen arrive, or all
   pub fewer : length (lacked (p .topic) (afterAll (askerRound p at a b) a) (afterAll (tellerRound p a b) b)) ≤ length (lacked (p .topic) a b) - 15
   -- and nothing that the teller did not get
-  pub only : (m : List ℕ) → among m (gotAll gotA (askerRound p at a b) a) ≡ true → among m gotA ≡ false → among m gotB ≡ true
+  pub only : (m : List ℕ) → among m (gotAll gotA (askerRound p at a b) a) ≡ true → among m gotA ≡ false
+      → among m gotB ≡ true
 
-module _ {set : List (List ℕ)} (ms : MessageSet set) {x y : Settings} {firstA pastA leftA firstB pastB leftB : ℕ} {rsB : List ℕ} {gotA gotB : List (List ℕ)} {a b : State} (p : Play)
-    (fair : Fair p x y) (at : ℕ → ℕ) (rs : List ℕ) (ha : Holding set x firstA pastA (readings (askerRound p at a b) ++ rs) leftA gotA a)
+module _ {set : List (List ℕ)} (ms : MessageSet set) {x y : Settings} {firstA pastA leftA firstB pastB leftB : ℕ}
+    {rsB : List ℕ} {gotA gotB : List (List ℕ)} {a b : State} (p : Play)
+    (fair : Fair p x y) (at : ℕ → ℕ) (rs : List ℕ)
+    (ha : Holding set x firstA pastA (readings (askerRound p at a b) ++ rs) leftA gotA a)
     (hb : Holding set y firstB pastB rsB leftB gotB b) where
   abbrev named : List (List ℕ)
   named = wants ha hb p fair
@@ -127,23 +149,27 @@ module _ {set : List (List ℕ)} (ms : MessageSet set) {x y : Settings} {firstA 
   got-of : (i : ℕ) → i < servedCount p a b → Got (getD named i []) (getD handed i []) gotB
   got-of i l = let f = served-few in reply-got ha hb p fair i (omega arith)
 
-  plans : (s : State) (i : ℕ) → lentOf (s .node) (s .ids) (s .messages) ≡ lent.Fine → s .node .clock ≤ at i → i < servedCount p a b
+  plans : (s : State) (i : ℕ) → lentOf (s .node) (s .ids) (s .messages) ≡ lent.Fine → s .node .clock ≤ at i
+      → i < servedCount p a b
       → planIn s (replyOf p a b) i true (at i) ≡ taken (getD handed i []) (getD named i [])
   plans s i f h l =
       let e = served-is ha hb p fair in
       rw (replied ha hb p fair)
-      (plan-delivered handed (p .reply-out) (reply-delivers ha hb p fair) (s .node) (s .ids) (s .messages) i true (at i) f (omega arith)
+      (plan-delivered handed (p .reply-out) (reply-delivers ha hb p fair) (s .node) (s .ids) (s .messages) i true
+      (at i) f (omega arith)
       ∙ fit-plan (s .node) (at i) (getD handed i []) (getD named i []) (got-of i l .own) h)
 
   inside : (i : ℕ) → i < servedCount p a b → among (getD handed i []) set ≡ true
   inside i l = hb .held .from-set (getD handed i []) (got-of i l .among-got)
 
-  arrived : Admitted set x firstA pastA rs leftA gotA handed 0 (servedCount p a b) (admits (replyOf p a b) at 0 (servedCount p a b)) a
+  arrived : Admitted set x firstA pastA rs leftA gotA handed 0 (servedCount p a b)
+      (admits (replyOf p a b) at 0 (servedCount p a b)) a
   unfolding askerRound readings
   arrived =
       let f = served-few in
       let n = replies-count ha hb p fair in
-      all-admitted ms rs (replyOf p a b) at handed named (servedCount p a b) plans inside (omega arith) (servedCount p a b) 0 (omega arith) ha
+      all-admitted ms rs (replyOf p a b) at handed named (servedCount p a b) plans inside (omega arith)
+      (servedCount p a b) 0 (omega arith) ha
 
   -- ---- the asker afterwards
   abbrev later : State
@@ -156,11 +182,13 @@ module _ {set : List (List ℕ)} (ms : MessageSet set) {x y : Settings} {firstA 
   tells = toldOf (p .topic) (p .windows) (gatewayOf b)
 
   -- an id that b tells of is seen by an asker exactly where its message was got
-  seen-got : {rs2 : List ℕ} {left2 : ℕ} {got : List (List ℕ)} {s : State} → Holding set x firstA pastA rs2 left2 got s → (i : List ℕ) → among i tells ≡ true
+  seen-got : {rs2 : List ℕ} {left2 : ℕ} {got : List (List ℕ)} {s : State} → Holding set x firstA pastA rs2 left2 got s
+      → (i : List ℕ) → among i tells ≡ true
       → holds (marked i) (gatewayOf s .seen) ≡ among (get i (gatewayOf b .cache)) got
   seen-got h i t =
       let g = told-got hb (p .topic) (p .windows) (fair .windows-y) i t in
-      rows-held ms (get i (gatewayOf b .cache)) i (hb .held .from-set (get i (gatewayOf b .cache)) (g .among-got)) (g .own) (h .held .from-set) (h .held .rows) .0
+      rows-held ms (get i (gatewayOf b .cache)) i (hb .held .from-set (get i (gatewayOf b .cache)) (g .among-got))
+      (g .own) (h .held .from-set) (h .held .rows) .0
 
   abbrev still : List (List ℕ)
   still = lacking (gatewayOf later) tells
@@ -173,8 +201,11 @@ module _ {set : List (List ℕ)} (ms : MessageSet set) {x y : Settings} {firstA 
       let g = seen-got (arrived .holding) i (l .0) in
       let before = seen-got ha i (l .0) in
       let n : among (get i (gatewayOf b .cache)) more ≡ false = sym g ∙ l .1 in
-      lacking-exactly (gatewayOf a) i tells .1
-      (l .0, before ∙ either (among (get i (gatewayOf b .cache)) gotA) (λ u. clash (let z = arrived .keeps (get i (gatewayOf b .cache)) u in cc)) (λ u. u))
+      lacking-exactly (gatewayOf a) i tells .1 (
+        l .0,
+        before ∙ either (among (get i (gatewayOf b .cache)) gotA)
+            (λ u. clash (let z = arrived .keeps (get i (gatewayOf b .cache)) u in cc)) (λ u. u),
+      )
 
   -- and was not served
   still-unserved : (i : List ℕ) → among i still ≡ true → among i (take (servedCount p a b) named) ≡ false
@@ -184,9 +215,11 @@ module _ {set : List (List ℕ)} (ms : MessageSet set) {x y : Settings} {firstA 
       let q = stands (servedCount p a b) i named u in
       let l = lacking-exactly (gatewayOf later) i tells .0 t in
       let g = seen-got (arrived .holding) i (l .0) in
-      let m : getD handed (q .index) [] ≡ get i (gatewayOf b .cache) = reply-at ha hb p fair (q .index) (q .within) ∙ ap (λ (j : List ℕ). get j (gatewayOf b .cache)) (q .there) in
+      let m : getD handed (q .index) [] ≡ get i (gatewayOf b .cache) = reply-at ha hb p fair (q .index) (q .within)
+      ∙ ap (λ (j : List ℕ). get j (gatewayOf b .cache)) (q .there) in
       let e = q .early in
-      let h : among (get i (gatewayOf b .cache)) more ≡ true = ap (λ (o : List ℕ). among o more) (sym m) ∙ arrived .has (q .index) (omega arith) (omega arith) in
+      let h : among (get i (gatewayOf b .cache)) more ≡ true = ap (λ (o : List ℕ). among o more) (sym m)
+      ∙ arrived .has (q .index) (omega arith) (omega arith) in
       let z = l .1 in
       clash (cc))
       (λ u. u)
@@ -205,11 +238,13 @@ module _ {set : List (List ℕ)} (ms : MessageSet set) {x y : Settings} {firstA 
   fifteen-fewer : length (lacked (p .topic) later b) ≤ length (lacked (p .topic) a b) - 15
   fifteen-fewer =
       let k = servedCount p a b in
-      let d = distinct-append still (take k named) (wants-once hb (p .topic) (p .windows) (fair .windows-y) later) (distinct-take k named named-once) still-unserved in
+      let d = distinct-append still (take k named) (wants-once hb (p .topic) (p .windows) (fair .windows-y) later)
+      (distinct-take k named named-once) still-unserved in
       let f = all-few named (still ++ take k named) d
       (λ i t.
       either (among i still) (λ u. still-named i u)
-      (λ u. take-among k i named (let z : (among i still || among i (take k named)) ≡ true = sym (among-append i still (take k named)) ∙ t in simp u at z))) in
+      (λ u. take-among k i named (let z : (among i still || among i (take k named)) ≡ true = sym
+      (among-append i still (take k named)) ∙ t in simp u at z))) in
       let s = served-few in
       let l = length-append still (take k named) in
       let m = length-take-le k named s in

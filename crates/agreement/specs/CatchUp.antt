@@ -1,5 +1,6 @@
--- n missing messages arrive within n/15 rounds, rounded up: after so many undisturbed rounds at most n less fifteen for each are missing, and no call in
--- them is refused. The calls of the rounds belong to the gateways' histories, which stay under the premises.
+-- n missing messages arrive within n/15 rounds, rounded up: after so many undisturbed rounds at most n less fifteen for
+-- each are missing, and no call in them is refused. The calls of the rounds belong to the gateways' histories, which
+-- stay under the premises.
 use Prim.Native.Nat.{ℕ, zero, suc, _+_, _-_, _*_, _/_, _≤_}
 use mathlib.Core.Path.{_≡_, refl, sym, ap, subst, _∙_}
 use mathlib.Core.List.{List, [], _∷_, _++_, append-nil, append-assoc}
@@ -11,17 +12,20 @@ use Rattle.rows.specs.Ids.{among}
 use Rattle.history.specs.History.{State, Settings, Call, after, afterAll, readings, beats, NoneRefused, all-done}
 use Rattle.history.specs.Laws.{after-append, readings-append, beats-append, done-append, admits-beats}
 use Rattle.agreement.specs.Premises.{MessageSet, Members, none-left, member, Clock, Premises}
-use Rattle.agreement.specs.Round.{lacked, Play, Fair, replyOf, servedCount, askerRound, tellerRound, askerRounds, tellerRounds}
+use Rattle.agreement.specs.Round.{lacked, Play, Fair, replyOf, servedCount, askerRound, tellerRound, askerRounds}
+use Rattle.agreement.specs.Round.{tellerRounds}
 use Rattle.agreement.specs.Holding.{gotNext, gotAll, pastAll, Holding, holding-fresh, holding-on, holding-all}
 use Rattle.agreement.specs.Arrive.{round-done}
 
 -- ---- calls, and then more calls
-pub got-append : (got : List (List ℕ)) (cs ds : List Call) (s : State) → gotAll got (cs ++ ds) s ≡ gotAll (gotAll got cs s) ds (afterAll cs s)
+pub got-append : (got : List (List ℕ)) (cs ds : List Call) (s : State)
+    → gotAll got (cs ++ ds) s ≡ gotAll (gotAll got cs s) ds (afterAll cs s)
 unfolding afterAll gotAll
 got-append got [] ds s = refl
 got-append got (c ∷ cs) ds s = got-append (gotNext got s c) cs ds (after c s)
 
-members-append : {set : List (List ℕ)} {cs ds : List Call} {s : State} → Members set cs s → Members set ds (afterAll cs s) → Members set (cs ++ ds) s
+members-append : {set : List (List ℕ)} {cs ds : List Call} {s : State} → Members set cs s
+    → Members set ds (afterAll cs s) → Members set (cs ++ ds) s
 unfolding afterAll
 members-append none-left n = n
 members-append (member a m) n = member a (members-append m n)
@@ -51,7 +55,8 @@ teller-beats p (suc r) at a b =
 teller-readings : (p : Play) (r : ℕ) (at : ℕ → ℕ → ℕ) (a b : State) → readings (tellerRounds p r at a b) ≡ []
 unfolding tellerRounds tellerRound readings
 teller-readings p zero at a b = refl
-teller-readings p (suc r) at a b = teller-readings p r (λ k. at (suc k)) (afterAll (askerRound p (at 0) a b) a) (afterAll (tellerRound p a b) b)
+teller-readings p (suc r) at a b = teller-readings p r (λ k. at (suc k)) (afterAll (askerRound p (at 0) a b) a)
+    (afterAll (tellerRound p a b) b)
 
 -- and rounds leave the teller as it was
 pub teller-stays : (p : Play) (r : ℕ) (at : ℕ → ℕ → ℕ) (a b : State) → afterAll (tellerRounds p r at a b) b ≡ b
@@ -65,26 +70,41 @@ pub record RoundsDone (set gotA gotB : List (List ℕ)) (p : Play) (r : ℕ) (at
   pub asker-done : NoneRefused (askerRounds p r at a b) a
   pub teller-members : Members set (tellerRounds p r at a b) b
   pub teller-done : NoneRefused (tellerRounds p r at a b) b
-  pub missing-left : length (lacked (p .topic) (afterAll (askerRounds p r at a b) a) (afterAll (tellerRounds p r at a b) b)) ≤ length (lacked (p .topic) a b) - 15 * r
-  pub only : (m : List ℕ) → among m (gotAll gotA (askerRounds p r at a b) a) ≡ true → among m gotA ≡ false → among m gotB ≡ true
+  pub missing-left : length
+      (lacked (p .topic) (afterAll (askerRounds p r at a b) a) (afterAll (tellerRounds p r at a b) b)) ≤ length
+      (lacked (p .topic) a b) - 15 * r
+  pub only : (m : List ℕ) → among m (gotAll gotA (askerRounds p r at a b) a) ≡ true → among m gotA ≡ false
+      → among m gotB ≡ true
 
-nil-left : (p : Play) (a b : State) → length (lacked (p .topic) (afterAll [] a) (afterAll [] b)) ≤ length (lacked (p .topic) a b) - 15 * 0
+nil-left : (p : Play) (a b : State) → length (lacked (p .topic) (afterAll [] a) (afterAll [] b)) ≤ length
+    (lacked (p .topic) a b) - 15 * 0
 unfolding afterAll
 nil-left p a b = omega arith
 
-rounds-done : {set : List (List ℕ)} (ms : MessageSet set) {x y : Settings} {firstA pastA leftA firstB pastB leftB : ℕ} {rsB : List ℕ} {gotA gotB : List (List ℕ)} (p : Play) → Fair p x y
-    → (r : ℕ) (at : ℕ → ℕ → ℕ) (rs : List ℕ) {a b : State} → Holding set x firstA pastA (readings (askerRounds p r at a b) ++ rs) leftA gotA a
+rounds-done : {set : List (List ℕ)} (ms : MessageSet set) {x y : Settings} {firstA pastA leftA firstB pastB leftB : ℕ}
+    {rsB : List ℕ} {gotA gotB : List (List ℕ)} (p : Play) → Fair p x y
+    → (r : ℕ) (at : ℕ → ℕ → ℕ) (rs : List ℕ) {a b : State}
+    → Holding set x firstA pastA (readings (askerRounds p r at a b) ++ rs) leftA gotA a
     → Holding set y firstB pastB rsB leftB gotB b → RoundsDone set gotA gotB p r at a b
 unfolding askerRounds tellerRounds gotAll
 rounds-done ms p fair zero at rs {a} {b} ha hb =
-    record { asker-members = none-left; asker-done = all-done; teller-members = none-left; teller-done = all-done; missing-left = nil-left p a b; only = λ m t u. clash (cc) }
+    record {
+      asker-members = none-left;
+      asker-done = all-done;
+      teller-members = none-left;
+      teller-done = all-done;
+      missing-left = nil-left p a b;
+      only = λ m t u. clash (cc);
+    }
 rounds-done {set} ms {x} {y} {firstA} {pastA} {leftA} {gotA} {gotB} p fair (suc r) at rs {a} {b} ha hb =
     let c = askerRound p (at 0) a b in
     let t = tellerRound p a b in
     let d = askerRounds p r (λ k. at (suc k)) (afterAll c a) (afterAll t b) in
     let u = tellerRounds p r (λ k. at (suc k)) (afterAll c a) (afterAll t b) in
-    let e : readings (c ++ d) ++ rs ≡ readings c ++ (readings d ++ rs) = ap (λ (l : List ℕ). l ++ rs) (readings-append c d) ∙ append-assoc (readings c) (readings d) rs in
-    let one = round-done ms p fair (at 0) (readings d ++ rs) (subst (λ (l : List ℕ). Holding set x firstA pastA l leftA gotA a) e ha) hb in
+    let e : readings (c ++ d) ++ rs ≡ readings c ++ (readings d ++ rs) =
+    ap (λ (l : List ℕ). l ++ rs) (readings-append c d) ∙ append-assoc (readings c) (readings d) rs in
+    let one = round-done ms p fair (at 0) (readings d ++ rs)
+    (subst (λ (l : List ℕ). Holding set x firstA pastA l leftA gotA a) e ha) hb in
     let rest = rounds-done ms p fair r (λ k. at (suc k)) rs (one .asker-holds) (one .teller-holds) in
     let f = one .fewer in
     let g = rest .missing-left in
@@ -100,7 +120,8 @@ rounds-done {set} ms {x} {y} {firstA} {pastA} {leftA} {gotA} {gotB} p fair (suc 
     }
 
 -- ---- for two histories under the premises
-module _ (set : List (List ℕ)) (x y : Settings) (calls-a calls-b : List Call) (a b : State) (p : Play) (r : ℕ) (at : ℕ → ℕ → ℕ) where
+module _ (set : List (List ℕ)) (x y : Settings) (calls-a calls-b : List Call) (a b : State) (p : Play) (r : ℕ) (at : ℕ
+    → ℕ → ℕ) where
   -- the gateways before the rounds
   abbrev asker : State
   asker = afterAll calls-a a
@@ -117,7 +138,8 @@ module _ (set : List (List ℕ)) (x y : Settings) (calls-a calls-b : List Call) 
 
   pub record CaughtUp : Type 0 where
     -- at most n less fifteen for each round are missing
-    pub missing-left : length (lacked (p .topic) (afterAll allAsked a) (afterAll allTold b)) ≤ length (lacked (p .topic) asker teller) - 15 * r
+    pub missing-left : length (lacked (p .topic) (afterAll allAsked a) (afterAll allTold b)) ≤ length
+        (lacked (p .topic) asker teller) - 15 * r
     -- no call in the rounds is refused
     pub asker-done : NoneRefused (askerRounds p r at asker teller) asker
     pub teller-done : NoneRefused (tellerRounds p r at asker teller) teller
@@ -125,11 +147,14 @@ module _ (set : List (List ℕ)) (x y : Settings) (calls-a calls-b : List Call) 
     pub asker-history : Premises set x allAsked a
     pub teller-history : Premises set y allTold b
     -- the asker got what it had before, and of the teller's
-    pub only : (m : List ℕ) → among m (gotAll [] allAsked a) ≡ true → among m (gotAll [] calls-a a) ≡ false → among m (gotAll [] calls-b b) ≡ true
+    pub only : (m : List ℕ) → among m (gotAll [] allAsked a) ≡ true → among m (gotAll [] calls-a a) ≡ false
+        → among m (gotAll [] calls-b b) ≡ true
 
 -- the premise on the asker's clock reaches over the rounds
-module _ {set : List (List ℕ)} {x y : Settings} {calls-a calls-b : List Call} {a b : State} (ms : MessageSet set) (pa : Premises set x calls-a a) (pb : Premises set y calls-b b)
-    (p : Play) (fair : Fair p x y) (r : ℕ) (at : ℕ → ℕ → ℕ) (clock : Clock x (readings (allAsked set x y calls-a calls-b a b p r at))) where
+module _ {set : List (List ℕ)} {x y : Settings} {calls-a calls-b : List Call} {a b : State} (ms : MessageSet set)
+    (pa : Premises set x calls-a a) (pb : Premises set y calls-b b)
+    (p : Play) (fair : Fair p x y) (r : ℕ) (at : ℕ → ℕ → ℕ)
+    (clock : Clock x (readings (allAsked set x y calls-a calls-b a b p r at))) where
   abbrev askers : List Call
   askers = askerRounds p r at (afterAll calls-a a) (afterAll calls-b b)
 
@@ -139,13 +164,16 @@ module _ {set : List (List ℕ)} {x y : Settings} {calls-a calls-b : List Call} 
   abbrev firstly : ℕ
   firstly = getD (readings calls-a ++ (readings askers ++ [])) 0 0
 
-  before-rounds : Holding set x firstly (pastAll 0 calls-a) (readings askers ++ []) 0 (gotAll [] calls-a a) (afterAll calls-a a)
+  before-rounds : Holding set x firstly (pastAll 0 calls-a) (readings askers ++ []) 0 (gotAll [] calls-a a)
+      (afterAll calls-a a)
   before-rounds =
       let e : readings (calls-a ++ askers) ≡ readings calls-a ++ (readings askers ++ []) =
-      readings-append calls-a askers ∙ ap (λ (l : List ℕ). readings calls-a ++ l) (sym (append-nil (readings askers))) in
+      readings-append calls-a askers ∙ ap (λ (l : List ℕ). readings calls-a ++ l)
+      (sym (append-nil (readings askers))) in
       let f = pa .few-heartbeats in
       holding-on ms calls-a (readings askers ++ []) 0
-      (holding-fresh (readings calls-a ++ (readings askers ++ [])) (beats calls-a + 0) (pa .fresh) (pa .set-seen) (pa .set-cached) (subst (Clock x) e clock) (omega arith))
+      (holding-fresh (readings calls-a ++ (readings askers ++ [])) (beats calls-a + 0) (pa .fresh) (pa .set-seen)
+      (pa .set-cached) (subst (Clock x) e clock) (omega arith))
       (pa .members)
 
   rounds : RoundsDone set (gotAll [] calls-a a) (gotAll [] calls-b b) p r at (afterAll calls-a a) (afterAll calls-b b)
@@ -160,7 +188,8 @@ module _ {set : List (List ℕ)} {x y : Settings} {calls-a calls-b : List Call} 
       let fa = pa .few-heartbeats in
       let fb = pb .few-heartbeats in
       let e : readings (calls-b ++ tellers) ≡ readings calls-b =
-      readings-append calls-b tellers ∙ ap (λ (l : List ℕ). readings calls-b ++ l) (teller-readings p r at (afterAll calls-a a) (afterAll calls-b b)) ∙ append-nil (readings calls-b) in
+      readings-append calls-b tellers ∙ ap (λ (l : List ℕ). readings calls-b ++ l)
+      (teller-readings p r at (afterAll calls-a a) (afterAll calls-b b)) ∙ append-nil (readings calls-b) in
       record {
         missing-left = rw (after-append calls-a askers a, after-append calls-b tellers b) (rounds .missing-left);
         asker-done = rounds .asker-done;
@@ -187,8 +216,11 @@ module _ {set : List (List ℕ)} {x y : Settings} {calls-a calls-b : List Call} 
       }
 
   -- so nothing is missing after as many rounds as n/15, rounded up
-  pub all-arrived : (n : ℕ) → length (lacked (p .topic) (afterAll calls-a a) (afterAll calls-b b)) ≤ n → (n + 14) / 15 ≤ r
-      → lacked (p .topic) (afterAll (allAsked set x y calls-a calls-b a b p r at) a) (afterAll (allTold set x y calls-a calls-b a b p r at) b) ≡ []
+  pub all-arrived : (n : ℕ) → length (lacked (p .topic) (afterAll calls-a a) (afterAll calls-b b)) ≤ n
+      → (n + 14) / 15 ≤ r
+      → lacked (p .topic) (afterAll (allAsked set x y calls-a calls-b a b p r at) a)
+      (afterAll (allTold set x y calls-a calls-b a b p r at) b) ≡ []
   all-arrived n few enough =
       let l = caught-up .missing-left in
-      drop-of-length-le (lacked (p .topic) (afterAll (calls-a ++ askers) a) (afterAll (calls-b ++ tellers) b)) {i = 0} (omega arith)
+      drop-of-length-le (lacked (p .topic) (afterAll (calls-a ++ askers) a) (afterAll (calls-b ++ tellers) b)) {i = 0}
+      (omega arith)

@@ -1,5 +1,5 @@
--- A round's reply, from node b that tells to node a that asks: it is taken, and the message at each index below the number served is, byte for
--- byte, that of the messages that a lacks; at the number served there is no message more.
+-- A round's reply, from node b that tells to node a that asks: it is taken, and the message at each index below the
+-- number served is, byte for byte, that of the messages that a lacks; at the number served there is no message more.
 use Prim.Native.Nat.{ℕ, _≤_, _<_}
 use mathlib.Core.Path.{_≡_, refl, sym, ap, subst, _∙_}
 use mathlib.Core.Bool.{Bool}
@@ -29,7 +29,8 @@ use Rattle.history.specs.Script.{Placed}
 use Rattle.agreement.specs.HandOver.{reply-has}
 
 -- ---- an element of a list of messages, and its bytes
-nth-raw : {i : ℕ} {xs : List RawMessage} {x : RawMessage} → Nth i xs x → getD (map (λ (m : RawMessage). m .raw) xs) i [] ≡ x .raw
+nth-raw : {i : ℕ} {xs : List RawMessage} {x : RawMessage} → Nth i xs x → getD (map (λ (m : RawMessage). m .raw) xs) i []
+    ≡ x .raw
 nth-raw here = refl
 nth-raw (there n) = nth-raw n
 
@@ -62,15 +63,20 @@ delivers ms out r =
     }
 
 -- what an admit of such a message does is what it does with that message's bytes
-pub plan-delivered : (ms : List (List ℕ)) (out : List ℕ) → Delivers ms out → (n : Node) (ss cs : List ℕ) (i : ℕ) (word : Bool) (at : ℕ) → lentOf n ss cs ≡ lent.Fine → i < servedOf ms out
+pub plan-delivered : (ms : List (List ℕ)) (out : List ℕ) → Delivers ms out
+    → (n : Node) (ss cs : List ℕ) (i : ℕ) (word : Bool) (at : ℕ) → lentOf n ss cs ≡ lent.Fine → i < servedOf ms out
     → planned n ss cs (replyBytes ms out) i word at ≡ planFit n at (getD ms i []) (admissionOf (getD ms i []) word)
 unfolding planned
 plan-delivered ms out d n ss cs i word at fine h = let p = d .each i h in rw (fine, d .accepted, p .found, p .bytes)
 
 -- ---- the reply to the request of node a for what node b tells of
-module _ (b : Node) (bs bc topic : List ℕ) (windows : ℕ) (fine : lentOf b bs bc ≡ lent.Fine) (bytes : Bytes bc) (short : length topic ≤ 1024) (a : Node) («as» ac out : List ℕ) where
-  pub reply-taken : Delivers (having (gatewayIn b bs bc) (lacking (gatewayIn a «as» ac) (toldOf topic windows (gatewayIn b bs bc)))) out
+module _ (b : Node) (bs bc topic : List ℕ) (windows : ℕ) (fine : lentOf b bs bc ≡ lent.Fine) (bytes : Bytes bc)
+    (short : length topic ≤ 1024) (a : Node) («as» ac out : List ℕ) where
+  pub reply-taken : Delivers
+      (having (gatewayIn b bs bc) (lacking (gatewayIn a «as» ac) (toldOf topic windows (gatewayIn b bs bc)))) out
   reply-taken =
       let body = askBytes a «as» (advertiseBytes b bc topic windows) in
-      delivers (having (gatewayIn b bs bc) (lacking (gatewayIn a «as» ac) (toldOf topic windows (gatewayIn b bs bc)))) out
-      (subst (λ (ms : List (List ℕ)). Replies ms out) (reply-has b bs bc topic windows fine bytes short a «as» ac) (serve-means b bs bc body out fine bytes))
+      delivers (having (gatewayIn b bs bc) (lacking (gatewayIn a «as» ac) (toldOf topic windows (gatewayIn b bs bc))))
+      out
+      (subst (λ (ms : List (List ℕ)). Replies ms out) (reply-has b bs bc topic windows fine bytes short a «as» ac)
+      (serve-means b bs bc body out fine bytes))

@@ -1,5 +1,6 @@
--- An example: two gateways, two messages, of which one is lost on its way to the first gateway, and histories that meet every premise. How often
--- each message is got, new and a duplicate is computed for it; a round between the two follows in ExampleRound.
+-- An example: two gateways, two messages, of which one is lost on its way to the first gateway, and histories that meet
+-- every premise. How often each message is got, new and a duplicate is computed for it; a round between the two follows
+-- in ExampleRound.
 use Prim.Native.Nat.{ℕ, zero, suc, _+_, _-_, _*_, _^_, _≤_, _<_}
 use mathlib.Core.Path.{_≡_, refl, sym, ap, subst, _∙_}
 use mathlib.Core.Bool.{true}
@@ -59,12 +60,14 @@ signature =
 -- from `A`, data `hello`, seqno 1, topic `t`
 unfoldable pub first : List ℕ
 first =
-    0x0a ∷ 0x01 ∷ 0x41 ∷ 0x12 ∷ 0x05 ∷ 0x68 ∷ 0x65 ∷ 0x6c ∷ 0x6c ∷ 0x6f ∷ 0x1a ∷ 0x01 ∷ 0x01 ∷ 0x22 ∷ 0x01 ∷ 0x74 ∷ 0x2a ∷ 0x40 ∷ signature
+    0x0a ∷ 0x01 ∷ 0x41 ∷ 0x12 ∷ 0x05 ∷ 0x68 ∷ 0x65 ∷ 0x6c ∷ 0x6c ∷ 0x6f ∷ 0x1a ∷ 0x01 ∷ 0x01 ∷ 0x22 ∷ 0x01 ∷ 0x74 ∷ 0x2a
+    ∷ 0x40 ∷ signature
 
 -- from `B`, data `bye`, seqno 2, topic `t`
 unfoldable pub second : List ℕ
 second =
-    0x0a ∷ 0x01 ∷ 0x42 ∷ 0x12 ∷ 0x03 ∷ 0x62 ∷ 0x79 ∷ 0x65 ∷ 0x1a ∷ 0x01 ∷ 0x02 ∷ 0x22 ∷ 0x01 ∷ 0x74 ∷ 0x2a ∷ 0x40 ∷ signature
+    0x0a ∷ 0x01 ∷ 0x42 ∷ 0x12 ∷ 0x03 ∷ 0x62 ∷ 0x79 ∷ 0x65 ∷ 0x1a ∷ 0x01 ∷ 0x02 ∷ 0x22 ∷ 0x01 ∷ 0x74 ∷ 0x2a ∷ 0x40
+    ∷ signature
 
 unfoldable pub messages : List (List ℕ)
 messages = first ∷ second ∷ []
@@ -84,12 +87,18 @@ unfoldable pub second-body : List ℕ
 second-body = 0x12 ∷ 0x50 ∷ second
 
 pub first-carried : Carries first-body first first-id
-unfolding signature first first-body acceptOf bodyRecords counted overKinds toDepth textCount roleOf rank ownOf isUtf8 run walkAt walkFrom readField readValue skipField skipFixed readVarint readLen readTag readUvarint readFrom groupOf messageAt givesId admissionOf onLimits topicsOf firstLong idParts slotsOf withField setPlace sameBytes
-first-carried = record { accepted = refl; placed = record { start = 2; next = 84; found = refl; bytes = refl }; own = refl }
+unfolding signature first first-body acceptOf bodyRecords counted overKinds toDepth textCount roleOf rank ownOf isUtf8
+    run walkAt walkFrom readField readValue skipField skipFixed readVarint readLen readTag readUvarint readFrom groupOf
+    messageAt givesId admissionOf onLimits topicsOf firstLong idParts slotsOf withField setPlace sameBytes
+first-carried =
+    record { accepted = refl; placed = record { start = 2; next = 84; found = refl; bytes = refl }; own = refl }
 
 pub second-carried : Carries second-body second second-id
-unfolding signature second second-body acceptOf bodyRecords counted overKinds toDepth textCount roleOf rank ownOf isUtf8 run walkAt walkFrom readField readValue skipField skipFixed readVarint readLen readTag readUvarint readFrom groupOf messageAt givesId admissionOf onLimits topicsOf firstLong idParts slotsOf withField setPlace sameBytes
-second-carried = record { accepted = refl; placed = record { start = 2; next = 82; found = refl; bytes = refl }; own = refl }
+unfolding signature second second-body acceptOf bodyRecords counted overKinds toDepth textCount roleOf rank ownOf isUtf8
+    run walkAt walkFrom readField readValue skipField skipFixed readVarint readLen readTag readUvarint readFrom groupOf
+    messageAt givesId admissionOf onLimits topicsOf firstLong idParts slotsOf withField setPlace sameBytes
+second-carried =
+    record { accepted = refl; placed = record { start = 2; next = 82; found = refl; bytes = refl }; own = refl }
 
 -- ---- what a test of all numbers of a list says of each
 upto-each : (most : ℕ) (l : List ℕ) → allUpTo most l ≡ true → (i : ℕ) → getD l i 0 ≤ most
@@ -106,7 +115,8 @@ of-two : (P : List ℕ → Type 0) → P first → P second → (m : List ℕ) �
 unfolding messages among
 of-two P p q m h =
     either (sameBytes first m) (λ t. subst P (same-equal first m t) p)
-    (λ t. either (sameBytes second m) (λ u. subst P (same-equal second m u) q) (λ u. clash (let z = simp (t, u) at h in cc)))
+    (λ t. either (sameBytes second m) (λ u. subst P (same-equal second m u) q)
+    (λ u. clash (let z = simp (t, u) at h in cc)))
 
 first-bytes : Bytes first
 unfolding signature first allUpTo
@@ -119,7 +129,8 @@ second-bytes = upto-bytes second refl
 -- no id is that of both
 not-both : {A : Type 0} (id : List ℕ) → givesId first id ≡ true → givesId second id ≡ true → A
 not-both id g h =
-    let e : first-id ≡ second-id = sym (one-id first id first-id g (first-carried .own)) ∙ one-id second id second-id h (second-carried .own) in
+    let e : first-id ≡ second-id = sym (one-id first id first-id g (first-carried .own))
+    ∙ one-id second id second-id h (second-carried .own) in
     let z : _≡_ {A = ℕ} 0x41 0x42 = ap (λ (l : List ℕ). getD l 0 0) e in
     absurd (omega arith)
 
@@ -135,11 +146,14 @@ pub message-set : MessageSet messages
 message-set =
     record {
       bytes = of-two Bytes first-bytes second-bytes;
-      admissible = of-two (λ (m : List ℕ). (id : List ℕ) × (givesId m id ≡ true)) (first-id, first-carried .own) (second-id, second-carried .own);
+      admissible = of-two (λ (m : List ℕ). (id : List ℕ) × (givesId m id ≡ true)) (first-id, first-carried .own)
+          (second-id, second-carried .own);
       ids-differ = λ m k id a b.
           of-two (λ (m : List ℕ). givesId m id ≡ true → givesId k id ≡ true → m ≡ k)
-          (of-two (λ (k : List ℕ). givesId first id ≡ true → givesId k id ≡ true → first ≡ k) (λ g h. refl) (λ g h. not-both id g h) k b)
-          (of-two (λ (k : List ℕ). givesId second id ≡ true → givesId k id ≡ true → second ≡ k) (λ g h. not-both id h g) (λ g h. refl) k b)
+          (of-two (λ (k : List ℕ). givesId first id ≡ true → givesId k id ≡ true → first ≡ k) (λ g h. refl)
+          (λ g h. not-both id g h) k b)
+          (of-two (λ (k : List ℕ). givesId second id ≡ true → givesId k id ≡ true → second ≡ k) (λ g h. not-both id h g)
+          (λ g h. refl) k b)
           m a;
     }
 
@@ -159,7 +173,8 @@ start x =
       messages = replicate (x .max-messages * messageSize) 0;
     }
 
-start-fresh : (x : Settings) → x .ttl < 2 ^ 64 → legalSettings (x .max-seen) (x .history-len) (x .max-messages) ≡ true → Fresh x (start x)
+start-fresh : (x : Settings) → x .ttl < 2 ^ 64 → legalSettings (x .max-seen) (x .history-len) (x .max-messages) ≡ true
+    → Fresh x (start x)
 unfolding start
 start-fresh x small ok =
     record {
@@ -179,7 +194,8 @@ pub fresh-b : Fresh settings-b (start settings-b)
 unfolding legalSettings legal
 fresh-b = start-fresh settings-b (omega arith) refl
 
--- ---- their calls: a gets the first message twice, and the second is lost on its way; b gets the second, the first, and the second again
+-- ---- their calls: a gets the first message twice, and the second is lost on its way; b gets the second, the first,
+-- and the second again
 unfoldable pub calls-a : List Call
 calls-a = admit first-body 0 true 10 ∷ admit first-body 0 true 12 ∷ []
 
@@ -191,7 +207,8 @@ abbrev pub script-a : List Act
 script-a = gets first-body first first-id 10 ∷ gets first-body first first-id 12 ∷ []
 
 abbrev pub script-b : List Act
-script-b = gets second-body second second-id 7 ∷ gets first-body first first-id 8 ∷ beats 9 ∷ gets second-body second second-id 11 ∷ []
+script-b = gets second-body second second-id 7 ∷ gets first-body first first-id 8 ∷ beats 9 ∷ gets second-body second
+    second-id 11 ∷ []
 
 pub calls-a-written : callsOf script-a ≡ calls-a
 unfolding callsOf calls-a
@@ -218,7 +235,8 @@ unfolding inSet
 inside-b = simp (first-in, second-in)
 
 -- ---- their histories meet the premises
-pub clock-by : (x : Settings) (rs : List ℕ) (most : ℕ) → risesFrom 0 rs ≡ true → allUpTo most rs ≡ true → most < getD rs 0 0 + x .ttl → most < 2 ^ 64 - 1 → Clock x rs
+pub clock-by : (x : Settings) (rs : List ℕ) (most : ℕ) → risesFrom 0 rs ≡ true → allUpTo most rs ≡ true
+    → most < getD rs 0 0 + x .ttl → most < 2 ^ 64 - 1 → Clock x rs
 clock-by x rs most up upto short small =
     record {
       rises = up;
@@ -301,13 +319,16 @@ pub record Counts (m : List ℕ) (calls : List Call) (s : State) (got new duplic
   pub times-new : timesNew m calls s ≡ new
   pub times-duplicate : timesDuplicate m calls s ≡ duplicate
 
-counts : {x : Settings} {s : State} (m : List ℕ) (xs : List Act) (calls : List Call) → Fresh x s → Written 0 xs → callsOf xs ≡ calls
+counts : {x : Settings} {s : State} (m : List ℕ) (xs : List Act) (calls : List Call) → Fresh x s → Written 0 xs
+    → callsOf xs ≡ calls
     → Counts m calls s (gotIn m xs) (newIn m xs (started (x .ttl) (x .max-seen) (x .history-len) (x .max-messages)))
     (gotIn m xs - newIn m xs (started (x .ttl) (x .max-seen) (x .history-len) (x .max-messages)))
 counts {x} {s} m xs calls f w e =
-    let g : timesGot m calls s ≡ gotIn m xs = subst (λ (cs : List Call). timesGot m cs s ≡ gotIn m xs) e (fresh-acted xs f w .times-got m) in
+    let g : timesGot m calls s ≡ gotIn m xs =
+    subst (λ (cs : List Call). timesGot m cs s ≡ gotIn m xs) e (fresh-acted xs f w .times-got m) in
     let n : timesNew m calls s ≡ newIn m xs (started (x .ttl) (x .max-seen) (x .history-len) (x .max-messages)) =
-    subst (λ (cs : List Call). timesNew m cs s ≡ newIn m xs (started (x .ttl) (x .max-seen) (x .history-len) (x .max-messages))) e (fresh-new xs f w m) in
+    subst (λ (cs : List Call). timesNew m cs s ≡ newIn m xs
+    (started (x .ttl) (x .max-seen) (x .history-len) (x .max-messages))) e (fresh-new xs f w m) in
     let d = new-or-duplicate m calls s in
     record { times-got = g; times-new = n; times-duplicate = omega arith }
 
@@ -318,13 +339,16 @@ first-at-a = counts first script-a calls-a fresh-a written-a calls-a-written
 
 -- the second never
 pub second-at-a : Counts second calls-a (start settings-a) 0 0 0
-unfolding signature first second gotIn newIn started isNew afterAdmit holds among sameBytes live inserted newest until held put
+unfolding signature first second gotIn newIn started isNew afterAdmit holds among sameBytes live inserted newest until
+    held put
 second-at-a = counts second script-a calls-a fresh-a written-a calls-a-written
 
 pub first-at-b : Counts first calls-b (start settings-b) 1 1 0
-unfolding signature first second gotIn newIn started isNew afterAdmit afterBeat holds among sameBytes live inserted newest until held put shift
+unfolding signature first second gotIn newIn started isNew afterAdmit afterBeat holds among sameBytes live inserted
+    newest until held put shift
 first-at-b = counts first script-b calls-b fresh-b written-b calls-b-written
 
 pub second-at-b : Counts second calls-b (start settings-b) 2 1 1
-unfolding signature first second gotIn newIn started isNew afterAdmit afterBeat holds among sameBytes live inserted newest until held put shift
+unfolding signature first second gotIn newIn started isNew afterAdmit afterBeat holds among sameBytes live inserted
+    newest until held put shift
 second-at-b = counts second script-b calls-b fresh-b written-b calls-b-written

@@ -1,4 +1,5 @@
--- The example's two gateways after their calls: what the one lacks, its request, one round, and the advertisements after it, to the byte.
+-- The example's two gateways after their calls: what the one lacks, its request, one round, and the advertisements
+-- after it, to the byte.
 use Prim.Native.Nat.{ℕ}
 use mathlib.Core.Path.{_≡_, refl, sym, ap, ap₂, subst, _∙_}
 use mathlib.Core.Bool.{true}
@@ -19,7 +20,8 @@ use Rattle.rows.specs.Store.{allUpTo}
 use Rattle.parts.specs.Parts.{fitting}
 use Rattle.seen.specs.Entries.{holds, until, inserted, live}
 use Rattle.mcache.specs.Messages.{Cached, idsOf, held, put, shift, get, carrying, enterId, inOrder, gossipIds}
-use Rattle.node.specs.Gateway.{Gateway, started, marked, isNew, afterAdmit, afterBeat, toldOf, lacking, having, advertisement, request}
+use Rattle.node.specs.Gateway.{Gateway, started, marked, isNew, afterAdmit, afterBeat, toldOf, lacking, having}
+use Rattle.node.specs.Gateway.{advertisement, request}
 use Rattle.node.specs.State.{risesFrom}
 use Rattle.node.specs.Calls.{toldIn, bytesFor, advertiseBytes, roomOf, servedOf, replyBytes}
 use Rattle.node.specs.Laws.{told-gateway}
@@ -27,7 +29,8 @@ use Rattle.history.specs.History.{State, gatewayOf, Call, admit, ask, after, af
 use Rattle.history.specs.Script.{Act, gets, asks, callsOf, gatewayAfter, Written, nothing, got, asked}
 use Rattle.history.specs.ScriptLaws.{fresh-leaves}
 use Rattle.agreement.specs.Premises.{Clock}
-use Rattle.agreement.specs.Round.{missing, lacked, Play, turned, advertOf, requestOf, replyOf, servedCount, askerRound, tellerRound, askerRounds, tellerRounds}
+use Rattle.agreement.specs.Round.{missing, lacked, Play, turned, advertOf, requestOf, replyOf, servedCount}
+use Rattle.agreement.specs.Round.{askerRound, tellerRound, askerRounds, tellerRounds}
 use Rattle.agreement.specs.Holding.{Holding, holding-all, gotAll, pastAll}
 use Rattle.agreement.specs.HandOver.{request-is}
 use Rattle.agreement.specs.Lacking.{fine}
@@ -35,7 +38,11 @@ use Rattle.agreement.specs.Played.{advert-is, requested, wants, replies,
 use Rattle.agreement.specs.Request.{request-is-exact}
 use Rattle.agreement.specs.CatchUp.{allAsked, allTold, CaughtUp, caught-up, all-arrived}
 use Rattle.agreement.specs.Identical.{Identical, identical-bytes}
-use Rattle.agreement.specs.Example.{topic, signature, first, second, messages, first-id, second-id, first-body, second-body, first-carried, second-carried, message-set, settings-a, settings-b, start, fresh-a, fresh-b, calls-a, calls-b, script-a, script-b, calls-a-written, calls-b-written, written-a, written-b, clock-by, premises-a, premises-b, buffer, buffer-full, play, fair}
+use Rattle.agreement.specs.Example.{topic, signature, first, second, messages, first-id, second-id, first-body}
+use Rattle.agreement.specs.Example.{second-body, first-carried, second-carried, message-set, settings-a}
+use Rattle.agreement.specs.Example.{settings-b, start, fresh-a, fresh-b, calls-a, calls-b, script-a, script-b}
+use Rattle.agreement.specs.Example.{calls-a-written, calls-b-written, written-a, written-b, clock-by, premises-a}
+use Rattle.agreement.specs.Example.{premises-b, buffer, buffer-full, play, fair}
 
 -- ---- the gateways after these calls
 abbrev pub at-a : State
@@ -65,7 +72,8 @@ gateway-b =
       max-messages = 4;
       clock = 11;
       seen = record { id = marked second-id; expiry = 57 } ∷ record { id = marked first-id; expiry = 58 } ∷ [];
-      cache = record { id = second-id; message = second; window = 1 } ∷ record { id = first-id; message = first; window = 1 } ∷ [];
+      cache = record { id = second-id; message = second; window = 1 }
+          ∷ record { id = first-id; message = first; window = 1 } ∷ [];
     }
 
 script-leaves-a : gatewayAfter script-a (started 100 2 2 2) ≡ gateway-a
@@ -73,22 +81,27 @@ unfolding gateway-a gatewayAfter started isNew afterAdmit holds among sameBytes 
 script-leaves-a = refl
 
 script-leaves-b : gatewayAfter script-b (started 50 3 3 4) ≡ gateway-b
-unfolding gateway-b gatewayAfter started isNew afterAdmit afterBeat holds among sameBytes live inserted newest until held put shift
+unfolding gateway-b gatewayAfter started isNew afterAdmit afterBeat holds among sameBytes live inserted newest until
+    held put shift
 script-leaves-b = refl
 
 a-is : gatewayOf at-a ≡ gateway-a
-a-is = ap (λ (cs : List Call). gatewayOf (afterAll cs (start settings-a))) (sym calls-a-written) ∙ fresh-leaves script-a fresh-a written-a ∙ script-leaves-a
+a-is = ap (λ (cs : List Call). gatewayOf (afterAll cs (start settings-a))) (sym calls-a-written)
+    ∙ fresh-leaves script-a fresh-a written-a ∙ script-leaves-a
 
 b-is : gatewayOf at-b ≡ gateway-b
-b-is = ap (λ (cs : List Call). gatewayOf (afterAll cs (start settings-b))) (sym calls-b-written) ∙ fresh-leaves script-b fresh-b written-b ∙ script-leaves-b
+b-is = ap (λ (cs : List Call). gatewayOf (afterAll cs (start settings-b))) (sym calls-b-written)
+    ∙ fresh-leaves script-b fresh-b written-b ∙ script-leaves-b
 
 -- ---- a lacks the second message, and b lacks nothing
 a-misses : missing topic gateway-a (gateway-b .cache) ≡ record { id = second-id; message = second; window = 1 } ∷ []
-unfolding gateway-a gateway-b missing holds among sameBytes signature first second walkAt walkFrom readField readValue skipField skipFixed readVarint readLen readTag readUvarint readFrom groupOf topicsOf
+unfolding gateway-a gateway-b missing holds among sameBytes signature first second walkAt walkFrom readField readValue
+    skipField skipFixed readVarint readLen readTag readUvarint readFrom groupOf topicsOf
 a-misses = refl
 
 b-misses : missing topic gateway-b (gateway-a .cache) ≡ []
-unfolding gateway-a gateway-b missing holds among sameBytes signature first second walkAt walkFrom readField readValue skipField skipFixed readVarint readLen readTag readUvarint readFrom groupOf topicsOf
+unfolding gateway-a gateway-b missing holds among sameBytes signature first second walkAt walkFrom readField readValue
+    skipField skipFixed readVarint readLen readTag readUvarint readFrom groupOf topicsOf
 b-misses = refl
 
 pub a-lacks-the-second : lacked topic at-a at-b ≡ record { id = second-id; message = second; window = 1 } ∷ []
@@ -98,14 +111,17 @@ pub b-lacks-nothing : lacked topic at-b at-a ≡ []
 b-lacks-nothing = ap₂ (λ (g h : Gateway). missing topic g (h .cache)) b-is a-is ∙ b-misses
 
 -- ---- a's request, given b's advertisement, names its id
-holding-a : Holding messages settings-a (firstOf calls-a) (pastAll 0 calls-a) [] 0 (gotAll [] calls-a (start settings-a)) at-a
+holding-a : Holding messages settings-a (firstOf calls-a) (pastAll 0 calls-a) [] 0
+    (gotAll [] calls-a (start settings-a)) at-a
 holding-a = holding-all message-set premises-a
 
-holding-b : Holding messages settings-b (firstOf calls-b) (pastAll 0 calls-b) [] 0 (gotAll [] calls-b (start settings-b)) at-b
+holding-b : Holding messages settings-b (firstOf calls-b) (pastAll 0 calls-b) [] 0
+    (gotAll [] calls-b (start settings-b)) at-b
 holding-b = holding-all message-set premises-b
 
 b-tells : toldOf topic 3 gateway-b ≡ first-id ∷ second-id ∷ []
-unfolding gateway-b gossipIds inOrder enterId carrying precedesBytes among sameBytes signature first second walkAt walkFrom readField readValue skipField skipFixed readVarint readLen readTag readUvarint readFrom groupOf topicsOf
+unfolding gateway-b gossipIds inOrder enterId carrying precedesBytes among sameBytes signature first second walkAt
+    walkFrom readField readValue skipField skipFixed readVarint readLen readTag readUvarint readFrom groupOf topicsOf
 b-tells = refl
 
 a-wants : lacking gateway-a (first-id ∷ second-id ∷ []) ≡ second-id ∷ []
@@ -123,7 +139,8 @@ request-written = refl
 pub request-bytes : requestOf play at-a at-b ≡ 26 ∷ 6 ∷ 18 ∷ 4 ∷ 10 ∷ 2 ∷ 66 ∷ 2 ∷ []
 request-bytes =
     requested holding-a holding-b play fair
-    ∙ request-is (at-b .node) (at-b .ids) (at-b .messages) topic 3 (fine holding-b topic 3 (fair .windows-y)) (holding-b .bytes) (fair .topic-short) (at-a .node) (at-a .ids) (at-a .messages)
+    ∙ request-is (at-b .node) (at-b .ids) (at-b .messages) topic 3 (fine holding-b topic 3 (fair .windows-y))
+    (holding-b .bytes) (fair .topic-short) (at-a .node) (at-a .ids) (at-a .messages)
     ∙ ap (λ (l : List (List ℕ)). bytesFor l (request l)) wanted-is
     ∙ request-written
 
@@ -131,7 +148,8 @@ request-bytes =
 only-one : (l : List (List ℕ)) (i : List ℕ) → length l ≡ 1 → among i l ≡ true → l ≡ i ∷ []
 unfolding among
 only-one [] i n h = absurd (omega arith)
-only-one (j ∷ []) i n h = either (sameBytes j i) (λ t. ap (λ (k : List ℕ). k ∷ []) (same-equal j i t)) (λ t. clash (let z = simp t at h in cc))
+only-one (j ∷ []) i n h = either (sameBytes j i) (λ t. ap (λ (k : List ℕ). k ∷ []) (same-equal j i t))
+    (λ t. clash (let z = simp t at h in cc))
 only-one (j ∷ k ∷ l) i n h = absurd (omega arith)
 
 second-named : among second-id (second-id ∷ []) ≡ true
@@ -146,13 +164,15 @@ request-names =
 
 -- and b asks for nothing
 b-wants : lacking (gatewayOf at-b) (toldOf topic 3 (gatewayOf at-a)) ≡ []
-unfolding gateway-a gateway-b lacking gossipIds inOrder enterId carrying holds among sameBytes signature first walkAt walkFrom readField readValue skipField skipFixed readVarint readLen readTag readUvarint readFrom groupOf topicsOf
+unfolding gateway-a gateway-b lacking gossipIds inOrder enterId carrying holds among sameBytes signature first walkAt
+    walkFrom readField readValue skipField skipFixed readVarint readLen readTag readUvarint readFrom groupOf topicsOf
 b-wants = ap₂ (λ (g h : Gateway). lacking g (toldOf topic 3 h)) b-is a-is
 
 pub no-request-bytes : requestOf play at-b at-a ≡ []
 no-request-bytes =
     requested holding-b holding-a play (turned fair)
-    ∙ request-is (at-a .node) (at-a .ids) (at-a .messages) topic 3 (fine holding-a topic 3 (fair .windows-x)) (holding-a .bytes) (fair .topic-short) (at-b .node) (at-b .ids) (at-b .messages)
+    ∙ request-is (at-a .node) (at-a .ids) (at-a .messages) topic 3 (fine holding-a topic 3 (fair .windows-x))
+    (holding-a .bytes) (fair .topic-short) (at-b .node) (at-b .ids) (at-b .messages)
     ∙ ap (λ (l : List (List ℕ)). bytesFor l (request l)) b-wants
 
 -- ---- b's reply is the body with the second message
@@ -181,10 +201,12 @@ unfolding replyBytes second-body bytesField tag uvarint bytesOf signature second
 reply-written = rw one-served
 
 pub reply-bytes : replyOf play at-a at-b ≡ second-body
-reply-bytes = replied holding-a holding-b play fair ∙ ap (λ (ms : List (List ℕ)). replyBytes ms buffer) replies-are ∙ reply-written
+reply-bytes = replied holding-a holding-b play fair ∙ ap (λ (ms : List (List ℕ)). replyBytes ms buffer) replies-are
+    ∙ reply-written
 
 pub reply-count : servedCount play at-a at-b ≡ 1
-reply-count = served-is holding-a holding-b play fair ∙ ap (λ (ms : List (List ℕ)). servedOf ms buffer) replies-are ∙ one-served
+reply-count = served-is holding-a holding-b play fair ∙ ap (λ (ms : List (List ℕ)). servedOf ms buffer) replies-are
+    ∙ one-served
 
 -- ---- one round, a's admits at 20
 abbrev pub reading : ℕ → ℕ → ℕ
@@ -196,7 +218,8 @@ unfolding askerRounds askerRound admits
 round-calls p at a b body e n = rw (e, n)
 
 -- a's calls in it: it asks, and admits the message served
-pub one-round : askerRounds play 1 reading at-a at-b ≡ ask (advertOf play at-b) buffer ∷ admit second-body 0 true 20 ∷ []
+pub one-round : askerRounds play 1 reading at-a at-b ≡ ask (advertOf play at-b) buffer ∷ admit second-body 0 true 20
+    ∷ []
 one-round = round-calls play reading at-a at-b second-body reply-bytes reply-count
 
 -- all calls of each, with the round
@@ -210,14 +233,17 @@ abbrev advert : List ℕ
 advert = advertOf play at-b
 
 abbrev script-all : List Act
-script-all = gets first-body first first-id 10 ∷ gets first-body first first-id 12 ∷ asks advert buffer ∷ gets second-body second second-id 20 ∷ []
+script-all = gets first-body first first-id 10 ∷ gets first-body first first-id 12 ∷ asks advert buffer ∷ gets
+    second-body second second-id 20 ∷ []
 
 all-a-written : callsOf script-all ≡ all-a
 unfolding callsOf calls-a
 all-a-written = ap (λ (cs : List Call). admit first-body 0 true 10 ∷ admit first-body 0 true 12 ∷ cs) (sym one-round)
 
 written-all : Written 0 script-all
-written-all = got 0 10 first-carried (omega arith) (got 10 12 first-carried (omega arith) (asked (got 12 20 second-carried (omega arith) nothing)))
+written-all =
+    got 0 10 first-carried (omega arith)
+    (got 10 12 first-carried (omega arith) (asked (got 12 20 second-carried (omega arith) nothing)))
 
 clock-script : Clock settings-a (readings (callsOf script-all))
 unfolding callsOf readings risesFrom allUpTo
@@ -227,7 +253,8 @@ clock-all : Clock settings-a (readings all-a)
 clock-all = subst (λ (cs : List Call). Clock settings-a (readings cs)) all-a-written clock-script
 
 -- no call in the round is refused, and both histories, with the round, are under the premises
-pub round-done : CaughtUp messages settings-a settings-b calls-a calls-b (start settings-a) (start settings-b) play 1 reading
+pub round-done : CaughtUp messages settings-a settings-b calls-a calls-b (start settings-a) (start settings-b) play 1
+    reading
 round-done = caught-up message-set premises-a premises-b play fair 1 reading clock-all
 
 -- ---- after it neither lacks anything
@@ -241,7 +268,8 @@ one-lacking : length (lacked topic at-a at-b) ≡ 1
 one-lacking = ap length a-lacks-the-second
 
 pub a-lacks-nothing-then : lacked topic later-a later-b ≡ []
-a-lacks-nothing-then = all-arrived message-set premises-a premises-b play fair 1 reading clock-all 1 (omega (arith, one-lacking)) (omega arith)
+a-lacks-nothing-then = all-arrived message-set premises-a premises-b play fair 1 reading clock-all 1
+    (omega (arith, one-lacking)) (omega arith)
 
 unfoldable gateway-a-then : Gateway
 gateway-a-then =
@@ -252,7 +280,8 @@ gateway-a-then =
       max-messages = 2;
       clock = 20;
       seen = record { id = marked first-id; expiry = 110 } ∷ record { id = marked second-id; expiry = 120 } ∷ [];
-      cache = record { id = first-id; message = first; window = 0 } ∷ record { id = second-id; message = second; window = 0 } ∷ [];
+      cache = record { id = first-id; message = first; window = 0 }
+          ∷ record { id = second-id; message = second; window = 0 } ∷ [];
     }
 
 script-leaves-all : gatewayAfter script-all (started 100 2 2 2) ≡ gateway-a-then
@@ -260,7 +289,8 @@ unfolding gateway-a-then gatewayAfter started isNew afterAdmit holds among sameB
 script-leaves-all = refl
 
 a-is-then : gatewayOf later-a ≡ gateway-a-then
-a-is-then = ap (λ (cs : List Call). gatewayOf (afterAll cs (start settings-a))) (sym all-a-written) ∙ fresh-leaves script-all fresh-a written-all ∙ script-leaves-all
+a-is-then = ap (λ (cs : List Call). gatewayOf (afterAll cs (start settings-a))) (sym all-a-written)
+    ∙ fresh-leaves script-all fresh-a written-all ∙ script-leaves-all
 
 -- advertise and serve leave b as it is
 b-stays : later-b ≡ at-b
@@ -271,7 +301,8 @@ b-is-then : gatewayOf later-b ≡ gateway-b
 b-is-then = ap gatewayOf b-stays ∙ b-is
 
 b-misses-then : missing topic gateway-b (gateway-a-then .cache) ≡ []
-unfolding gateway-a-then gateway-b missing holds among sameBytes signature first second walkAt walkFrom readField readValue skipField skipFixed readVarint readLen readTag readUvarint readFrom groupOf topicsOf
+unfolding gateway-a-then gateway-b missing holds among sameBytes signature first second walkAt walkFrom readField
+    readValue skipField skipFixed readVarint readLen readTag readUvarint readFrom groupOf topicsOf
 b-misses-then = refl
 
 pub b-lacks-nothing-then : lacked topic later-b later-a ≡ []
@@ -280,7 +311,8 @@ b-lacks-nothing-then = ap₂ (λ (g h : Gateway). missing topic g (h .cache)) b-
 -- ---- and both advertise in the same bytes
 pub same-bytes : Identical play play later-a later-b
 same-bytes =
-    identical-bytes message-set (round-done .asker-history) (round-done .teller-history) play play fair fair refl a-lacks-nothing-then b-lacks-nothing-then
+    identical-bytes message-set (round-done .asker-history) (round-done .teller-history) play play fair fair refl
+    a-lacks-nothing-then b-lacks-nothing-then
 
 -- 26 and 13: the control. 10 and 11: the IHAVE. 10 and 1: the topic `t`. 18 and 2: each id, `A` and 1, `B` and 2
 advert-written : bytesFor (first-id ∷ second-id ∷ []) (advertisement topic (first-id ∷ second-id ∷ []))
@@ -288,13 +320,16 @@ advert-written : bytesFor (first-id ∷ second-id ∷ []) (advertisement topic (
 unfolding encodeRpc encodeControl encodeIWant encodeIHave bytesField tag uvarint bytesOf request advertisement
 advert-written = refl
 
-later-holding-a : Holding messages settings-a (firstOf all-a) (pastAll 0 all-a) [] 0 (gotAll [] all-a (start settings-a)) later-a
+later-holding-a : Holding messages settings-a (firstOf all-a) (pastAll 0 all-a) [] 0
+    (gotAll [] all-a (start settings-a)) later-a
 later-holding-a = holding-all message-set (round-done .asker-history)
 
-later-holding-b : Holding messages settings-b (firstOf all-b) (pastAll 0 all-b) [] 0 (gotAll [] all-b (start settings-b)) later-b
+later-holding-b : Holding messages settings-b (firstOf all-b) (pastAll 0 all-b) [] 0
+    (gotAll [] all-b (start settings-b)) later-b
 later-holding-b = holding-all message-set (round-done .teller-history)
 
-told-bytes : (s : State) (ids : List (List ℕ)) → toldIn (s .node) (s .messages) topic 3 ≡ ids → advertiseBytes (s .node) (s .messages) topic 3 ≡ bytesFor ids (advertisement topic ids)
+told-bytes : (s : State) (ids : List (List ℕ)) → toldIn (s .node) (s .messages) topic 3 ≡ ids
+    → advertiseBytes (s .node) (s .messages) topic 3 ≡ bytesFor ids (advertisement topic ids)
 unfolding advertiseBytes
 told-bytes s ids e = ap (λ (l : List (List ℕ)). bytesFor l (advertisement topic l)) e
 
@@ -302,7 +337,8 @@ pub advert-bytes-b : advertOf play later-b ≡ 26 ∷ 13 ∷ 10 ∷ 11 ∷ 10 �
 advert-bytes-b =
     advert-is later-holding-a later-holding-b play fair
     ∙ told-bytes later-b (first-id ∷ second-id ∷ [])
-    (told-gateway (later-b .node) (later-b .ids) (later-b .messages) topic 3 (fine later-holding-b topic 3 (fair .windows-y)) ∙ ap (toldOf topic 3) b-is-then ∙ b-tells)
+    (told-gateway (later-b .node) (later-b .ids) (later-b .messages) topic 3
+    (fine later-holding-b topic 3 (fair .windows-y)) ∙ ap (toldOf topic 3) b-is-then ∙ b-tells)
     ∙ advert-written
 
 pub advert-bytes-a : advertOf play later-a ≡ 26 ∷ 13 ∷ 10 ∷ 11 ∷ 10 ∷ 1 ∷ 116 ∷ 18 ∷ 2 ∷ 65 ∷ 1 ∷ 18 ∷ 2 ∷ 66 ∷ 2 ∷ []

@@ -1,4 +1,5 @@
--- Fifteen messages always fit a reply: a message of at most 4,096 bytes is a field of at most 4,099. Sixteen of 4,096 bytes do not.
+-- Fifteen messages always fit a reply: a message of at most 4,096 bytes is a field of at most 4,099. Sixteen of 4,096
+-- bytes do not.
 use Prim.Native.Nat.{ℕ, zero, suc, _+_, _-_, _*_, _/_, _≤_, _<_, min}
 use mathlib.Core.Path.{_≡_, refl, ap, _∙_}
 use mathlib.Core.List.{List, [], _∷_}
@@ -21,17 +22,26 @@ two-bytes n h k = rw (uvarint-big n h, uvarint-small (n / 128) (omega arith))
 
 at-most-two : (n : ℕ) → n < 16384 → length (uvarint n) ≤ 2
 at-most-two n k =
-    either (ltb n 128) (λ t. rw (uvarint-small n (ltb-true n 128 t)) (omega arith)) (λ t. omega (arith, two-bytes n (ltb-false n 128 t) k))
+    either (ltb n 128) (λ t. rw (uvarint-small n (ltb-true n 128 t)) (omega arith))
+    (λ t. omega (arith, two-bytes n (ltb-false n 128 t) k))
 
 pub message-field : (m : List ℕ) → length m ≤ 4096 → length (bytesField 2 m) ≤ 4099
-message-field m h = omega (arith, bytes-field-length 2 m, tag-one 2 2 (omega arith) (omega arith), at-most-two (length m) (omega arith))
+message-field m h =
+    omega (arith, bytes-field-length 2 m, tag-one 2 2 (omega arith) (omega arith), at-most-two (length m) (omega arith))
 
 pub longest-field : (m : List ℕ) → length m ≡ 4096 → length (bytesField 2 m) ≡ 4099
-longest-field m h = omega (arith, bytes-field-length 2 m, tag-one 2 2 (omega arith) (omega arith), two-bytes (length m) (omega arith) (omega arith))
+longest-field m h =
+    omega (
+      arith,
+      bytes-field-length 2 m,
+      tag-one 2 2 (omega arith) (omega arith),
+      two-bytes (length m) (omega arith) (omega arith),
+    )
 
 -- ---- fifteen fit
 -- k messages fit where there is room for k of the longest fields
-pub some-fit : (k room : ℕ) (ms : List (List ℕ)) → ((i : ℕ) → i < length ms → length (getD ms i []) ≤ 4096) → k * 4099 ≤ room → min k (length ms) ≤ fitting 2 room ms
+pub some-fit : (k room : ℕ) (ms : List (List ℕ)) → ((i : ℕ) → i < length ms → length (getD ms i []) ≤ 4096)
+    → k * 4099 ≤ room → min k (length ms) ≤ fitting 2 room ms
 some-fit zero room ms each h = omega arith
 some-fit (suc k) room [] each h = omega arith
 some-fit (suc k) room (m ∷ ms) each h =
@@ -39,28 +49,33 @@ some-fit (suc k) room (m ∷ ms) each h =
     let r = some-fit k (room - length (bytesField 2 m)) ms (λ i j. each (suc i) (omega arith)) (omega arith) in
     rw (fitting-more 2 room m ms (omega arith)) (omega arith)
 
-pub fifteen-fit : (ms : List (List ℕ)) → ((i : ℕ) → i < length ms → length (getD ms i []) ≤ 4096) → min 15 (length ms) ≤ fitting 2 65536 ms
+pub fifteen-fit : (ms : List (List ℕ)) → ((i : ℕ) → i < length ms → length (getD ms i []) ≤ 4096)
+    → min 15 (length ms) ≤ fitting 2 65536 ms
 fifteen-fit ms each = some-fit 15 65536 ms each (omega arith)
 
 -- ---- and no more where they are the longest
-pub longest-fit : (k room : ℕ) (ms : List (List ℕ)) → ((i : ℕ) → i < length ms → length (getD ms i []) ≡ 4096) → k < length ms → k * 4099 ≤ room → room < k * 4099 + 4099
+pub longest-fit : (k room : ℕ) (ms : List (List ℕ)) → ((i : ℕ) → i < length ms → length (getD ms i []) ≡ 4096)
+    → k < length ms → k * 4099 ≤ room → room < k * 4099 + 4099
     → fitting 2 room ms ≡ k
 longest-fit k room [] each n h z = absurd (omega arith)
 longest-fit zero room (m ∷ ms) each n h z =
     fitting-stop 2 room m ms (omega (arith, longest-field m (each 0 (zero-lt-suc (length ms)))))
 longest-fit (suc k) room (m ∷ ms) each n h z =
     let f = longest-field m (each 0 (zero-lt-suc (length ms))) in
-    let r = longest-fit k (room - length (bytesField 2 m)) ms (λ i j. each (suc i) (omega arith)) (omega arith) (omega arith) (omega arith) in
+    let r = longest-fit k (room - length (bytesField 2 m)) ms (λ i j. each (suc i) (omega arith)) (omega arith)
+    (omega arith) (omega arith) in
     rw (fitting-more 2 room m ms (omega arith)) (omega arith)
 
-pub sixteen-not : (ms : List (List ℕ)) → ((i : ℕ) → i < length ms → length (getD ms i []) ≡ 4096) → 16 ≤ length ms → fitting 2 65536 ms ≡ 15
+pub sixteen-not : (ms : List (List ℕ)) → ((i : ℕ) → i < length ms → length (getD ms i []) ≡ 4096) → 16 ≤ length ms
+    → fitting 2 65536 ms ≡ 15
 sixteen-not ms each n = longest-fit 15 65536 ms each (omega arith) (omega arith) (omega arith)
 
 same-zeros : (k n : ℕ) → 16 ≤ k → n ≡ 4096 → fitting 2 65536 (replicate k (replicate {A = ℕ} n 0)) ≡ 15
 same-zeros k n h e =
     let m : List ℕ = replicate {A = ℕ} n 0 in
     let l = length-replicate k m in
-    sixteen-not (replicate k m) (λ i j. ap length (getD-replicate k i m [] (omega arith)) ∙ length-replicate {A = ℕ} n 0 ∙ e) (omega arith)
+    sixteen-not (replicate k m) (λ i j. ap length (getD-replicate k i m [] (omega arith)) ∙ length-replicate {A = ℕ} n 0
+    ∙ e) (omega arith)
 
 -- as with sixteen messages of 4,096 zeros
 pub sixteen-zeros : fitting 2 65536 (replicate 16 (replicate {A = ℕ} 4096 0)) ≡ 15

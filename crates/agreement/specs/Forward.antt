@@ -33,18 +33,24 @@ module _ (n : Node) (at : ℕ) (h : n .clock ≤ at) (k : ℕ) where
   of-at word body (found.Count j) e = clash (cc)
   of-at word body (found.At a b) e = of-fit (between body a b) (admissionOf (between body a b) word) e
 
-  of-body : (word : Bool) (body : List ℕ) (i : ℕ) (r : Checked) → planBody n at word body i r ≡ no (answer.ClockBack k) → ⊥
+  of-body : (word : Bool) (body : List ℕ) (i : ℕ) (r : Checked) → planBody n at word body i r ≡ no (answer.ClockBack k)
+      → ⊥
   of-body word body i (checked.Refused why) e = clash (cc)
   of-body word body i checked.Fine e = of-at word body (messageAt body i) e
 
-  of-lent : (word : Bool) (body : List ℕ) (i : ℕ) (l : Lent) → onLent (λ (why : Fault). no (answer.Faulty why)) l (planBody n at word body i (acceptOf body)) ≡ no (answer.ClockBack k) → ⊥
+  of-lent : (word : Bool) (body : List ℕ) (i : ℕ) (l : Lent)
+      → onLent (λ (why : Fault). no (answer.Faulty why)) l (planBody n at word body i (acceptOf body))
+      ≡ no (answer.ClockBack k) → ⊥
   of-lent word body i (lent.Faulty why) e = clash (cc)
   of-lent word body i lent.Fine e = of-body word body i (acceptOf body) e
 
-  never-back : (ss cs body : List ℕ) (i : ℕ) (word : Bool) → planned n ss cs body i word at ≡ no (answer.ClockBack k) → ⊥
+  never-back : (ss cs body : List ℕ) (i : ℕ) (word : Bool) → planned n ss cs body i word at ≡ no (answer.ClockBack k)
+      → ⊥
   unfolding planned
   never-back ss cs body i word e = of-lent word body i (lentOf n ss cs) e
 
-pub admit-not-back : {set : List (List ℕ)} {x : Settings} {first past : ℕ} {got : List (List ℕ)} {s : State} (body : List ℕ) (i : ℕ) (word : Bool) (at : ℕ) {rs : List ℕ} {left : ℕ}
+pub admit-not-back : {set : List (List ℕ)} {x : Settings} {first past : ℕ} {got : List (List ℕ)} {s : State}
+    (body : List ℕ) (i : ℕ) (word : Bool) (at : ℕ) {rs : List ℕ} {left : ℕ}
     → Holding set x first past (at ∷ rs) left got s → (k : ℕ) → planIn s body i word at ≡ no (answer.ClockBack k) → ⊥
-admit-not-back {s} body i word at h k e = never-back (s .node) at (admit-forward body i word at h) k (s .ids) (s .messages) body i word e
+admit-not-back {s} body i word at h k e = never-back (s .node) at (admit-forward body i word at h) k (s .ids)
+    (s .messages) body i word e

@@ -1,5 +1,6 @@
--- A round's advertisement and request, between node b that tells and node a that asks: the advertisement is taken and offers what b tells of; the
--- request is taken and names exactly those of them that a has not seen, each once; and b has every message that is asked for.
+-- A round's advertisement and request, between node b that tells and node a that asks: the advertisement is taken and
+-- offers what b tells of; the request is taken and names exactly those of them that a has not seen, each once; and b
+-- has every message that is asked for.
 use Prim.Native.Nat.{ℕ, suc, _+_, _≤_}
 use mathlib.Core.Path.{_≡_, refl, sym, ap, subst, _∙_}
 use mathlib.Core.Bool.{true, false, not}
@@ -34,7 +35,8 @@ use Rattle.node.specs.Readers.{asked-exactly}
 use Rattle.node.specs.WireLaws.{advertisement-bytes, request-bytes}
 use Rattle.outputs.specs.Named.{offersOf, wantsOf}
 use Rattle.outputs.specs.Offered.{offered-once, wanted-once}
-use Rattle.outputs.specs.Bodies.{nothing, nothing-means, no-bytes, some-bytes, request-means, records-told, records-asked}
+use Rattle.outputs.specs.Bodies.{nothing, nothing-means, no-bytes, some-bytes, request-means, records-told}
+use Rattle.outputs.specs.Bodies.{records-asked}
 use Rattle.outputs.specs.Advertised.{advertise-means, advertise-none}
 
 -- ---- a list is empty, or not
@@ -50,7 +52,8 @@ lacking-few g (i ∷ is) =
     let r = lacking-few g is in
     either (holds (marked i) (g .seen)) (λ t. simp t (omega arith)) (λ t. simp t (omega arith))
 
-lacking-fields : (g : Gateway) (is : List (List ℕ)) → length (repeated (bytesField 1) (lacking g is)) ≤ length (repeated (bytesField 2) is)
+lacking-fields : (g : Gateway) (is : List (List ℕ)) → length (repeated (bytesField 1) (lacking g is)) ≤ length
+    (repeated (bytesField 2) is)
 unfolding lacking
 lacking-fields g [] = omega arith
 lacking-fields g (i ∷ is) =
@@ -71,7 +74,8 @@ lacking-distinct g (i ∷ is) d =
     either (holds (marked i) (g .seen)) (λ u. simp u r) (λ u. simp (u, n) r))
 
 -- exactly those named that are not seen
-pub lacking-exactly : (g : Gateway) (i : List ℕ) (is : List (List ℕ)) → (among i (lacking g is) ≡ true) ↔ ((among i is ≡ true) × (holds (marked i) (g .seen) ≡ false))
+pub lacking-exactly : (g : Gateway) (i : List ℕ) (is : List (List ℕ)) → (among i (lacking g is) ≡ true)
+    ↔ ((among i is ≡ true) × (holds (marked i) (g .seen) ≡ false))
 lacking-exactly g i is = (
   λ h.
       let b = both (among i is) (not (holds (marked i) (g .seen))) (sym (asked-exactly g i is) ∙ h) in
@@ -81,7 +85,8 @@ lacking-exactly g i is = (
 )
 
 -- ---- a request for what is lacking of the ids that an advertisement names is no longer than it
-request-shorter : (g : Gateway) (topic : List ℕ) (is : List (List ℕ)) → length (encodeRpc (request (lacking g is))) ≤ length (encodeRpc (advertisement topic is))
+request-shorter : (g : Gateway) (topic : List ℕ) (is : List (List ℕ))
+    → length (encodeRpc (request (lacking g is))) ≤ length (encodeRpc (advertisement topic is))
 request-shorter g topic is =
     let x = repeated (bytesField 1) (lacking g is) in
     let y = repeated (bytesField 2) is in
@@ -94,7 +99,8 @@ request-shorter g topic is =
     omega (arith, ap length (request-bytes (lacking g is)), ap length (advertisement-bytes topic is))
 
 -- so it is within capacity where the advertisement is
-request-within : (g : Gateway) (topic : List ℕ) (is : List (List ℕ)) → Within (encodeRpc (advertisement topic is)) (advertisement topic is)
+request-within : (g : Gateway) (topic : List ℕ) (is : List (List ℕ))
+    → Within (encodeRpc (advertisement topic is)) (advertisement topic is)
     → Within (encodeRpc (request (lacking g is))) (request (lacking g is))
 request-within g topic is w =
     let s = request-shorter g topic is in
@@ -110,9 +116,11 @@ request-some : (ids : List (List ℕ)) → encodeRpc (request ids) ≡ [] → �
 request-some ids e =
     let d = bytesField 2 (repeated (bytesField 1) ids) in
     let l : length (encodeRpc (request ids)) ≡ 0 = ap length e in
-    absurd (omega (arith, ap length (request-bytes ids), bytes-field-length 3 d, tag-one 3 2 (omega arith) (omega arith)))
+    absurd (omega
+    (arith, ap length (request-bytes ids), bytes-field-length 3 d, tag-one 3 2 (omega arith) (omega arith)))
 
-having-all : (g : Gateway) (is : List (List ℕ)) → ((i : List ℕ) → among i is ≡ true → held i (g .cache) ≡ true) → length (having g is) ≡ length is
+having-all : (g : Gateway) (is : List (List ℕ)) → ((i : List ℕ) → among i is ≡ true → held i (g .cache) ≡ true)
+    → length (having g is) ≡ length is
 unfolding having among
 having-all g [] h = refl
 having-all g (i ∷ is) h =
@@ -121,7 +129,8 @@ having-all g (i ∷ is) h =
     simp k (ap suc r)
 
 -- ---- the advertisement of node b
-module _ (b : Node) (bs bc topic : List ℕ) (windows : ℕ) (fine : lentOf b bs bc ≡ lent.Fine) (bytes : Bytes bc) (short : length topic ≤ 1024) where
+module _ (b : Node) (bs bc topic : List ℕ) (windows : ℕ) (fine : lentOf b bs bc ≡ lent.Fine) (bytes : Bytes bc)
+    (short : length topic ≤ 1024) where
   told-is : toldIn b bc topic windows ≡ toldOf topic windows (gatewayIn b bs bc)
   told-is = told-gateway b bs bc topic windows fine
 
@@ -133,12 +142,22 @@ module _ (b : Node) (bs bc topic : List ℕ) (windows : ℕ) (fine : lentOf b bs
       (advertise-means b bs bc topic windows fine bytes short (λ e. there (sym told-is ∙ e)))
 
   -- it is a body within capacity, also where it is empty
-  pub advert-rpc : (x : Rpc) × (Within (advertiseBytes b bc topic windows) x) × (offersOf x ≡ toldOf topic windows (gatewayIn b bs bc))
+  pub advert-rpc : (x : Rpc) × (Within (advertiseBytes b bc topic windows) x)
+      × (offersOf x ≡ toldOf topic windows (gatewayIn b bs bc))
   unfolding advertisement
   advert-rpc =
       by-cases (toldOf topic windows (gatewayIn b bs bc))
-      (λ e. (nothing, subst (λ (s : List ℕ). Within s nothing) (sym (advertise-none b bc topic windows (told-is ∙ e))) nothing-means, sym e))
-      (λ there. (advertisement topic (toldOf topic windows (gatewayIn b bs bc)), advert-means there, append-nil (toldOf topic windows (gatewayIn b bs bc))))
+      (λ e. (
+        nothing,
+        subst (λ (s : List ℕ). Within s nothing) (sym (advertise-none b bc topic windows (told-is ∙ e)))
+            nothing-means,
+        sym e,
+      ))
+      (λ there. (
+        advertisement topic (toldOf topic windows (gatewayIn b bs bc)),
+        advert-means there,
+        append-nil (toldOf topic windows (gatewayIn b bs bc)),
+      ))
 
   -- it is taken, also where it is empty
   pub advert-taken : acceptOf (advertiseBytes b bc topic windows) ≡ Fine
@@ -156,25 +175,32 @@ module _ (b : Node) (bs bc topic : List ℕ) (windows : ℕ) (fine : lentOf b bs
     asked = lacking (gatewayIn a «as» ac) (toldOf topic windows (gatewayIn b bs bc))
 
     -- it asks for what is lacking of what is told of
-    pub request-names : unseenOf a «as» (offered (advertiseBytes b bc topic windows)) ≡ lacking (gatewayIn a «as» ac) (toldOf topic windows (gatewayIn b bs bc))
-    request-names = ap (unseenOf a «as») advert-offers ∙ unseen-gateway a «as» ac (toldOf topic windows (gatewayIn b bs bc))
+    pub request-names : unseenOf a «as» (offered (advertiseBytes b bc topic windows)) ≡ lacking (gatewayIn a «as» ac)
+        (toldOf topic windows (gatewayIn b bs bc))
+    request-names = ap (unseenOf a «as») advert-offers
+        ∙ unseen-gateway a «as» ac (toldOf topic windows (gatewayIn b bs bc))
 
     pub request-is : askBytes a «as» (advertiseBytes b bc topic windows) ≡ bytesFor asked (request asked)
     unfolding askBytes
     request-is = ap (λ (l : List (List ℕ)). bytesFor l (request l)) request-names
 
     -- its bytes are none exactly where nothing is lacking
-    pub asked-something : (askBytes a «as» (advertiseBytes b bc topic windows) ≡ []) ↔ (lacking (gatewayIn a «as» ac) (toldOf topic windows (gatewayIn b bs bc)) ≡ [])
+    pub asked-something : (askBytes a «as» (advertiseBytes b bc topic windows) ≡ [])
+        ↔ (lacking (gatewayIn a «as» ac) (toldOf topic windows (gatewayIn b bs bc)) ≡ [])
     asked-something = (
-      λ h. by-cases asked (λ e. e) (λ there. absurd (request-some asked (sym (some-bytes asked (request asked) there) ∙ sym request-is ∙ h))),
+      λ h. by-cases asked (λ e. e)
+          (λ there. absurd (request-some asked (sym (some-bytes asked (request asked) there) ∙ sym request-is ∙ h))),
       λ e. request-is ∙ no-bytes asked (request asked) e,
     )
 
     pub asked-once : distinct (lacking (gatewayIn a «as» ac) (toldOf topic windows (gatewayIn b bs bc))) ≡ true
-    asked-once = lacking-distinct (gatewayIn a «as» ac) (toldOf topic windows (gatewayIn b bs bc)) (told-distinct topic windows (gatewayIn b bs bc .cache))
+    asked-once = lacking-distinct (gatewayIn a «as» ac) (toldOf topic windows (gatewayIn b bs bc))
+        (told-distinct topic windows (gatewayIn b bs bc .cache))
 
-    pub lacks-exactly : (i : List ℕ) → (among i (lacking (gatewayIn a «as» ac) (toldOf topic windows (gatewayIn b bs bc))) ≡ true)
-        ↔ ((among i (toldOf topic windows (gatewayIn b bs bc)) ≡ true) × (holds (marked i) (gatewayIn a «as» ac .seen) ≡ false))
+    pub lacks-exactly : (i : List ℕ)
+        → (among i (lacking (gatewayIn a «as» ac) (toldOf topic windows (gatewayIn b bs bc))) ≡ true)
+        ↔ ((among i (toldOf topic windows (gatewayIn b bs bc)) ≡ true)
+        × (holds (marked i) (gatewayIn a «as» ac .seen) ≡ false))
     lacks-exactly i = lacking-exactly (gatewayIn a «as» ac) i (toldOf topic windows (gatewayIn b bs bc))
 
     some-told : (asked ≡ [] → ⊥) → toldOf topic windows (gatewayIn b bs bc) ≡ [] → ⊥
@@ -186,9 +212,12 @@ module _ (b : Node) (bs bc topic : List ℕ) (windows : ℕ) (fine : lentOf b bs
     request-meant there =
         let t = toldOf topic windows (gatewayIn b bs bc) in
         let e : advertiseBytes b bc topic windows ≡ encodeRpc (advertisement topic t) =
-        ap (λ (l : List (List ℕ)). bytesFor l (advertisement topic l)) told-is ∙ some-bytes t (advertisement topic t) (some-told there) in
-        let w : Within (encodeRpc (advertisement topic t)) (advertisement topic t) = subst (λ (s : List ℕ). Within s (advertisement topic t)) e (advert-means (some-told there)) in
-        subst (λ (s : List ℕ). Within s (request asked)) (sym (request-is ∙ some-bytes asked (request asked) there)) (request-within (gatewayIn a «as» ac) topic t w)
+        ap (λ (l : List (List ℕ)). bytesFor l (advertisement topic l)) told-is
+        ∙ some-bytes t (advertisement topic t) (some-told there) in
+        let w : Within (encodeRpc (advertisement topic t)) (advertisement topic t) =
+        subst (λ (s : List ℕ). Within s (advertisement topic t)) e (advert-means (some-told there)) in
+        subst (λ (s : List ℕ). Within s (request asked)) (sym (request-is ∙ some-bytes asked (request asked) there))
+        (request-within (gatewayIn a «as» ac) topic t w)
 
     -- and so is the request
     pub request-rpc : (x : Rpc) × (Within (askBytes a «as» (advertiseBytes b bc topic windows)) x) × (wantsOf x ≡ asked)
@@ -200,14 +229,20 @@ module _ (b : Node) (bs bc topic : List ℕ) (windows : ℕ) (fine : lentOf b bs
 
     -- the request is taken, and it wants what is lacking
     pub request-taken : (acceptOf (askBytes a «as» (advertiseBytes b bc topic windows)) ≡ Fine)
-        × (wanted (askBytes a «as» (advertiseBytes b bc topic windows)) ≡ lacking (gatewayIn a «as» ac) (toldOf topic windows (gatewayIn b bs bc)))
-    request-taken = (taken (request-rpc .1), wanted-once (request-rpc .1 .means) ∙ ap once (request-rpc .2) ∙ once-same asked asked-once)
+        × (wanted (askBytes a «as» (advertiseBytes b bc topic windows)) ≡ lacking (gatewayIn a «as» ac)
+        (toldOf topic windows (gatewayIn b bs bc)))
+    request-taken = (
+      taken (request-rpc .1),
+      wanted-once (request-rpc .1 .means) ∙ ap once (request-rpc .2) ∙ once-same asked asked-once,
+    )
 
     -- ---- node b has every message that is asked for
     pub reply-has : cachedOf (b .cache) bc (wanted (askBytes a «as» (advertiseBytes b bc topic windows)))
         ≡ having (gatewayIn b bs bc) (lacking (gatewayIn a «as» ac) (toldOf topic windows (gatewayIn b bs bc)))
     reply-has = ap (cachedOf (b .cache) bc) (request-taken .1) ∙ cached-gateway b bs bc asked
 
-    pub reply-all : length (having (gatewayIn b bs bc) (lacking (gatewayIn a «as» ac) (toldOf topic windows (gatewayIn b bs bc))))
+    pub reply-all : length
+        (having (gatewayIn b bs bc) (lacking (gatewayIn a «as» ac) (toldOf topic windows (gatewayIn b bs bc))))
         ≡ length (lacking (gatewayIn a «as» ac) (toldOf topic windows (gatewayIn b bs bc)))
-    reply-all = having-all (gatewayIn b bs bc) asked (λ i h. told-held topic windows (gatewayIn b bs bc .cache) i (lacks-exactly i .0 h .0))
+    reply-all = having-all (gatewayIn b bs bc) asked
+        (λ i h. told-held topic windows (gatewayIn b bs bc .cache) i (lacks-exactly i .0 h .0))

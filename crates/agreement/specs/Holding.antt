@@ -1,5 +1,5 @@
--- What a gateway holds in a history under the premises: the messages got, each once, the oldest first. Their marked ids are the ids seen, they are
--- the messages cached, and nothing ever leaves.
+-- What a gateway holds in a history under the premises: the messages got, each once, the oldest first. Their marked ids
+-- are the ids seen, they are the messages cached, and nothing ever leaves.
 use Prim.Native.Nat.{ℕ, suc, _+_, _-_, _*_, _≤_, _<_}
 use mathlib.Core.Path.{_≡_, refl, sym, ap, subst, _∙_}
 use mathlib.Core.Bool.{Bool, true, false, cond, not, _||_, Bool·not-not}
@@ -57,7 +57,8 @@ gotAll got [] s = got
 gotAll got (c ∷ cs) s = gotAll (gotNext got s c) cs (after c s)
 
 -- ---- what a gateway holds, after its first reading and some heartbeats
-pub record Holds (set : List (List ℕ)) (x : Settings) (first past : ℕ) (got : List (List ℕ)) (g : Gateway) : Type 0 where
+pub record Holds (set : List (List ℕ)) (x : Settings) (first past : ℕ) (got : List (List ℕ))
+    (g : Gateway) : Type 0 where
   -- the settings, as at the start
   pub ttl : g .ttl ≡ x .ttl
   pub max-seen : g .max-seen ≡ x .max-seen
@@ -80,23 +81,28 @@ among-one m k h = either (sameBytes m k) (λ t. same-equal m k t) (λ t. clash (
 or-left : (a b : Bool) → a ≡ false → (a || b) ≡ true → b ≡ true
 or-left a b h k = rw h at k
 
-from-snoc : (set got : List (List ℕ)) (m : List ℕ) → among m set ≡ true → ((k : List ℕ) → among k got ≡ true → among k set ≡ true)
+from-snoc : (set got : List (List ℕ)) (m : List ℕ) → among m set ≡ true
+    → ((k : List ℕ) → among k got ≡ true → among k set ≡ true)
     → (k : List ℕ) → among k (got ++ (m ∷ [])) ≡ true → among k set ≡ true
 from-snoc set got m inside from k h =
     either (among k got) (λ t. from k t)
-    (λ t. rw (← among-one m k (or-left (among k got) (among k (m ∷ [])) t (rw (among-append k got (m ∷ [])) at h))) inside)
+    (λ t. rw (← among-one m k (or-left (among k got) (among k (m ∷ [])) t (rw (among-append k got (m ∷ [])) at h)))
+    inside)
 
 -- a set has room for one more of its messages
-room-more : (set got : List (List ℕ)) (m : List ℕ) → among m set ≡ true → among m got ≡ false → distinct got ≡ true → ((k : List ℕ) → among k got ≡ true → among k set ≡ true)
+room-more : (set got : List (List ℕ)) (m : List ℕ) → among m set ≡ true → among m got ≡ false → distinct got ≡ true
+    → ((k : List ℕ) → among k got ≡ true → among k set ≡ true)
     → length got < length set
 room-more set got m inside fresh d from =
     let f = all-few set (got ++ (m ∷ [])) (distinct-snoc got m d fresh) (from-snoc set got m inside from) in
     let e = length-append got (m ∷ []) in
     omega arith
 
-module _ {set : List (List ℕ)} {x : Settings} {first past : ℕ} {got : List (List ℕ)} {g : Gateway} (h : Holds set x first past got g) (at : ℕ) (lasting : at < until first (x .ttl)) where
+module _ {set : List (List ℕ)} {x : Settings} {first past : ℕ} {got : List (List ℕ)} {g : Gateway}
+    (h : Holds set x first past got g) (at : ℕ) (lasting : at < until first (x .ttl)) where
   -- ---- an admit of a message of the set
-  module _ (ms : MessageSet set) (later : first ≤ at) (m id : List ℕ) (inside : among m set ≡ true) (own : givesId m id ≡ true) where
+  module _ (ms : MessageSet set) (later : first ≤ at) (m id : List ℕ) (inside : among m set ≡ true)
+      (own : givesId m id ≡ true) where
     -- it is new exactly where it is not among those got
     pub holds-new : isNew at id g ≡ not (among m got)
     unfolding isNew
@@ -142,8 +148,10 @@ module _ {set : List (List ℕ)} {x : Settings} {first past : ℕ} {got : List (
               rw (
                 n,
                 v,
-                insert-room (g .max-seen) (marked id) at (g .ttl) (g .seen) (a .0 ∙ t) (omega (arith, h .max-seen, h .set-seen, l .0)),
-                room-keeps-all (g .max-messages) id m (g .cache) (a .1 ∙ t) (omega (arith, h .max-messages, h .set-cached, l .1)),
+                insert-room (g .max-seen) (marked id) at (g .ttl) (g .seen) (a .0 ∙ t)
+                    (omega (arith, h .max-seen, h .set-seen, l .0)),
+                room-keeps-all (g .max-messages) id m (g .cache) (a .1 ∙ t)
+                    (omega (arith, h .max-messages, h .set-cached, l .1)),
                 h .ttl,
               )
               (rows-snoc (h .rows) (record { own = own; seen = refl; message = refl; lasts = u; young = omega arith }));
@@ -184,7 +192,8 @@ pub record Reads (x : Settings) (first past clock at : ℕ) (rs : List ℕ) (lef
   pub lasting : at < until first (x .ttl)
   pub rest : Ahead x first past at rs left
 
-pub ahead-next : {x : Settings} {first past clock at : ℕ} {rs : List ℕ} {left : ℕ} → Ahead x first past clock (at ∷ rs) left → Reads x first past clock at rs left
+pub ahead-next : {x : Settings} {first past clock at : ℕ} {rs : List ℕ} {left : ℕ}
+    → Ahead x first past clock (at ∷ rs) left → Reads x first past clock at rs left
 unfolding risesFrom
 ahead-next {x} {first} {past} {clock} {at} {rs} {left} a =
     let b = both (leb clock at) (risesFrom at rs) (a .rises) in
@@ -192,36 +201,61 @@ ahead-next {x} {first} {past} {clock} {at} {rs} {left} a =
       forward = leb-true clock at (b .0);
       later = a .from-first 0 (zero-lt-suc (length rs));
       lasting = a .lasting 0 (zero-lt-suc (length rs));
-      rest = record { rises = b .1; from-first = λ i h. a .from-first (suc i) (omega arith); lasting = λ i h. a .lasting (suc i) (omega arith); few = a .few };
+      rest = record {
+        rises = b .1;
+        from-first = λ i h. a .from-first (suc i) (omega arith);
+        lasting = λ i h. a .lasting (suc i) (omega arith);
+        few = a .few;
+      };
     }
 
 -- where the clock stays
-pub reads-kept : {x : Settings} {first past clock at : ℕ} {rs : List ℕ} {left : ℕ} → Reads x first past clock at rs left → Ahead x first past clock rs left
+pub reads-kept : {x : Settings} {first past clock at : ℕ} {rs : List ℕ} {left : ℕ} → Reads x first past clock at rs left
+    → Ahead x first past clock rs left
 reads-kept {x} {first} {past} {clock} {at} {rs} r =
-    record { rises = rises-less clock at rs (r .forward) (r .rest .rises); from-first = r .rest .from-first; lasting = r .rest .lasting; few = r .rest .few }
+    record {
+      rises = rises-less clock at rs (r .forward) (r .rest .rises);
+      from-first = r .rest .from-first;
+      lasting = r .rest .lasting;
+      few = r .rest .few;
+    }
 
 -- ---- a state of a history, with the readings and heartbeats still to come
 -- `first` is the first reading of the history, `past` are the heartbeats so far
-pub record Holding (set : List (List ℕ)) (x : Settings) (first past : ℕ) (rs : List ℕ) (left : ℕ) (got : List (List ℕ)) (s : State) : Type 0 where
+pub record Holding (set : List (List ℕ)) (x : Settings) (first past : ℕ) (rs : List ℕ) (left : ℕ) (got : List (List ℕ))
+    (s : State) : Type 0 where
   pub kept : Kept s
   pub held : Holds set x first past got (gatewayOf s)
   pub bytes : Bytes (s .messages)
   pub ahead : Ahead x first past (gatewayOf s .clock) rs left
 
 -- ---- the start
-started-holds : {set : List (List ℕ)} {x : Settings} (first : ℕ) → length set ≤ x .max-seen → length set ≤ x .max-messages
+started-holds : {set : List (List ℕ)} {x : Settings} (first : ℕ) → length set ≤ x .max-seen
+    → length set ≤ x .max-messages
     → Holds set x first 0 [] (started (x .ttl) (x .max-seen) (x .history-len) (x .max-messages))
 unfolding started distinct among
 started-holds first a b =
-    record { ttl = refl; max-seen = refl; history-len = refl; max-messages = refl; set-seen = a; set-cached = b; each-once = refl; from-set = λ m h. clash (cc); rows = none }
+    record {
+      ttl = refl;
+      max-seen = refl;
+      history-len = refl;
+      max-messages = refl;
+      set-seen = a;
+      set-cached = b;
+      each-once = refl;
+      from-set = λ m h. clash (cc);
+      rows = none;
+    }
 
-pub holding-fresh : {set : List (List ℕ)} {x : Settings} {s : State} (rs : List ℕ) (left : ℕ) → Fresh x s → length set ≤ x .max-seen → length set ≤ x .max-messages → Clock x rs
+pub holding-fresh : {set : List (List ℕ)} {x : Settings} {s : State} (rs : List ℕ) (left : ℕ) → Fresh x s
+    → length set ≤ x .max-seen → length set ≤ x .max-messages → Clock x rs
     → left < x .history-len → Holding set x (getD rs 0 0) 0 rs left [] s
 holding-fresh {set} {x} {s} rs left f room-seen room-cached k few =
     let first = getD rs 0 0 in
     record {
       kept = fresh-keeps f;
-      held = subst (λ (h : Gateway). Holds set x first 0 [] h) (sym (fresh-starts f)) (started-holds first room-seen room-cached);
+      held = subst (λ (h : Gateway). Holds set x first 0 [] h) (sym (fresh-starts f))
+          (started-holds first room-seen room-cached);
       bytes = f .bytes;
       ahead =
           subst (λ (c : ℕ). Ahead x first 0 c rs left) (sym (fresh-clock f))
@@ -235,7 +269,8 @@ holding-fresh {set} {x} {s} rs left f room-seen room-cached k few =
 
 pub holding-start : {set : List (List ℕ)} {x : Settings} {calls : List Call} {s : State} → Premises set x calls s
     → Holding set x (firstOf calls) 0 (readings calls) (beats calls) [] s
-holding-start {set} {x} {calls} {s} p = holding-fresh (readings calls) (beats calls) (p .fresh) (p .set-seen) (p .set-cached) (p .clock) (p .few-heartbeats)
+holding-start {set} {x} {calls} {s} p = holding-fresh (readings calls) (beats calls) (p .fresh) (p .set-seen)
+    (p .set-cached) (p .clock) (p .few-heartbeats)
 
 -- ---- an admit: a refused one changes nothing; one that takes a message of the set
 -- its message is bytes, and so is the store then
@@ -243,16 +278,21 @@ entered-bytes : (c : MessageCache) (st m : List ℕ) → Bytes st → Bytes m �
 unfolding enteredStore
 entered-bytes c st m h g =
     let d = dropped ((c .count + 1) - c .«max_messages») c in
-    either (eqb (c .«max_messages») 0) (λ t. simp t h) (λ t. simp t (sets-bytes st (placeOf (ringOf d) (d .count) * messageSize) m h g))
+    either (eqb (c .«max_messages») 0) (λ t. simp t h)
+    (λ t. simp t (sets-bytes st (placeOf (ringOf d) (d .count) * messageSize) m h g))
 
 stored-bytes : (c : MessageCache) (st m id : List ℕ) → Bytes st → Bytes m → Bytes (storedUnder c st m id)
 unfolding storedUnder
-stored-bytes c st m id h g = either (ltb (indexIn c id) (c .count)) (λ t. simp t h) (λ t. simp t (entered-bytes c st m h g))
+stored-bytes c st m id h g = either (ltb (indexIn c id) (c .count)) (λ t. simp t h)
+    (λ t. simp t (entered-bytes c st m h g))
 
-admit-bytes : (n : Node) (ss cs : List ℕ) (at : ℕ) (m id : List ℕ) → Bytes cs → Bytes m → Bytes (admitCache n ss cs at (taken m id))
-admit-bytes n ss cs at m id h g = either (heldAt n ss at id) (λ t. simp t h) (λ t. simp t (stored-bytes (n .cache) cs m id h g))
+admit-bytes : (n : Node) (ss cs : List ℕ) (at : ℕ) (m id : List ℕ) → Bytes cs → Bytes m
+    → Bytes (admitCache n ss cs at (taken m id))
+admit-bytes n ss cs at m id h g =
+    either (heldAt n ss at id) (λ t. simp t h) (λ t. simp t (stored-bytes (n .cache) cs m id h g))
 
-module _ {set : List (List ℕ)} {x : Settings} {first past : ℕ} {got : List (List ℕ)} {s : State} (body : List ℕ) (i : ℕ) (word : Bool) (at : ℕ) {rs : List ℕ} {left : ℕ}
+module _ {set : List (List ℕ)} {x : Settings} {first past : ℕ} {got : List (List ℕ)} {s : State} (body : List ℕ) (i : ℕ)
+    (word : Bool) (at : ℕ) {rs : List ℕ} {left : ℕ}
     (h : Holding set x first past (at ∷ rs) left got s) where
   -- its reading
   pub admit-reads : Reads x first past (gatewayOf s .clock) at rs left
@@ -262,20 +302,23 @@ module _ {set : List (List ℕ)} {x : Settings} {first past : ℕ} {got : List (
   pub admit-forward : s .node .clock ≤ at
   admit-forward = rw (← node-clock s) (admit-reads .forward)
 
-  some-stored : (m id : List ℕ) → planIn s body i word at ≡ taken m id → Bytes m → Bytes (after (admit body i word at) s .messages)
+  some-stored : (m id : List ℕ) → planIn s body i word at ≡ taken m id → Bytes m
+      → Bytes (after (admit body i word at) s .messages)
   unfolding after
   some-stored m id e b = rw e (admit-bytes (s .node) (s .ids) (s .messages) at m id (h .bytes) b)
 
   module _ (ms : MessageSet set) where
     -- a message of the set is new exactly where it is not among those got
-    pub admit-held : (m id : List ℕ) → planIn s body i word at ≡ taken m id → among m set ≡ true → heldAt (s .node) (s .ids) at id ≡ among m got
+    pub admit-held : (m id : List ℕ) → planIn s body i word at ≡ taken m id → among m set ≡ true
+        → heldAt (s .node) (s .ids) at id ≡ among m got
     admit-held m id e inside =
         let t = plan-takes (s .node) (s .ids) (s .messages) body i word at m id e in
         let a = holds-new (h .held) at (admit-reads .lasting) ms (admit-reads .later) m id inside (t .own) in
         let b = is-new (s .node) (s .ids) (s .messages) (t .fine) at id in
         sym (Bool·not-not (heldAt (s .node) (s .ids) at id)) ∙ ap not (sym b ∙ a) ∙ Bool·not-not (among m got)
 
-    by-plan : (p : Plan) → planIn s body i word at ≡ p → Member set p → Holding set x first past rs left (gotBy got p) (after (admit body i word at) s)
+    by-plan : (p : Plan) → planIn s body i word at ≡ p → Member set p
+        → Holding set x first past rs left (gotBy got p) (after (admit body i word at) s)
     by-plan (no r) e inside =
         subst (λ (t : State). Holding set x first past rs left got t) (sym (admit-none s body i word at r e))
         (record { kept = h .kept; held = h .held; bytes = h .bytes; ahead = reads-kept admit-reads })
@@ -292,11 +335,13 @@ module _ {set : List (List ℕ)} {x : Settings} {first past : ℕ} {got : List (
           ahead = subst (λ (k : ℕ). Ahead x first past k rs left) (sym c) (admit-reads .rest);
         }
 
-    pub holding-admit : Member set (planIn s body i word at) → Holding set x first past rs left (gotNext got s (admit body i word at)) (after (admit body i word at) s)
+    pub holding-admit : Member set (planIn s body i word at)
+        → Holding set x first past rs left (gotNext got s (admit body i word at)) (after (admit body i word at) s)
     holding-admit inside = by-plan (planIn s body i word at) refl inside
 
 -- ---- a heartbeat
-module _ {set : List (List ℕ)} {x : Settings} {first past : ℕ} {got : List (List ℕ)} {s : State} (at : ℕ) {rs : List ℕ} (left : ℕ)
+module _ {set : List (List ℕ)} {x : Settings} {first past : ℕ} {got : List (List ℕ)} {s : State} (at : ℕ) {rs : List ℕ}
+    (left : ℕ)
     (h : Holding set x first past (at ∷ rs) (suc left) got s) where
   beat-ahead : Ahead x first (suc past) (gatewayOf s .clock) (at ∷ rs) left
   beat-ahead =
@@ -327,13 +372,15 @@ module _ {set : List (List ℕ)} {x : Settings} {first past : ℕ} {got : List (
       let c = beat-clock s (h .kept) at beat-forward in
       record {
         kept = after-keeps (heartbeat at) s (h .kept);
-        held = subst (λ (k : Gateway). Holds set x first (suc past) got k) (sym g) (holds-beat (h .held) at (beat-reads .lasting) beat-few);
+        held = subst (λ (k : Gateway). Holds set x first (suc past) got k) (sym g)
+            (holds-beat (h .held) at (beat-reads .lasting) beat-few);
         bytes = beat-bytes;
         ahead = subst (λ (k : ℕ). Ahead x first (suc past) k rs left) (sym c) (beat-reads .rest);
       }
 
 -- ---- any call
-left-same : {set : List (List ℕ)} {x : Settings} {first past : ℕ} {rs : List ℕ} {got : List (List ℕ)} {s : State} (a b : ℕ) → a ≡ b → Holding set x first past rs a got s → Holding set x first past rs b got s
+left-same : {set : List (List ℕ)} {x : Settings} {first past : ℕ} {rs : List ℕ} {got : List (List ℕ)} {s : State}
+    (a b : ℕ) → a ≡ b → Holding set x first past rs a got s → Holding set x first past rs b got s
 left-same {set} {x} {first} {past} {rs} {got} {s} a b e h = subst (λ (n : ℕ). Holding set x first past rs n got s) e h
 
 abbrev pub pastNext : ℕ → Call → ℕ
@@ -347,39 +394,49 @@ unfoldable pub pastAll : ℕ → List Call → ℕ
 pastAll past [] = past
 pastAll past (c ∷ cs) = pastAll (pastNext past c) cs
 
-module _ {set : List (List ℕ)} {x : Settings} {first past : ℕ} {got : List (List ℕ)} {s : State} (ms : MessageSet set) (rs : List ℕ) (left : ℕ) where
+module _ {set : List (List ℕ)} {x : Settings} {first past : ℕ} {got : List (List ℕ)} {s : State} (ms : MessageSet set)
+    (rs : List ℕ) (left : ℕ) where
   -- with readings and heartbeats that come after it
   pub holding-next : (c : Call) → Holding set x first past (reading c ++ rs) (beat c + left) got s → MemberAt set s c
       → Holding set x first (pastNext past c) rs left (gotNext got s c) (after c s)
   unfolding after
-  holding-next (admit body i word at) h inside = holding-admit body i word at (left-same (0 + left) left (omega arith) h) ms inside
+  holding-next (admit body i word at) h inside =
+      holding-admit body i word at (left-same (0 + left) left (omega arith) h) ms inside
   holding-next (heartbeat at) h inside = holding-beat at left (left-same (1 + left) (suc left) (omega arith) h)
   holding-next (advertise topic windows out) h inside = left-same (0 + left) left (omega arith) h
   holding-next (ask body out) h inside = left-same (0 + left) left (omega arith) h
   holding-next (serve body out) h inside = left-same (0 + left) left (omega arith) h
 
 -- ---- after some calls, with readings and heartbeats that come after them
-pub members-here : {set : List (List ℕ)} {c : Call} {cs : List Call} {s : State} → Members set (c ∷ cs) s → MemberAt set s c
+pub members-here : {set : List (List ℕ)} {c : Call} {cs : List Call} {s : State} → Members set (c ∷ cs) s
+    → MemberAt set s c
 members-here (member a rest) = a
 
-pub members-rest : {set : List (List ℕ)} {c : Call} {cs : List Call} {s : State} → Members set (c ∷ cs) s → Members set cs (after c s)
+pub members-rest : {set : List (List ℕ)} {c : Call} {cs : List Call} {s : State} → Members set (c ∷ cs) s
+    → Members set cs (after c s)
 members-rest (member a rest) = rest
 
-pub holding-on : {set : List (List ℕ)} {x : Settings} {first past : ℕ} {got : List (List ℕ)} {s : State} → MessageSet set → (calls : List Call) (rs : List ℕ) (left : ℕ)
+pub holding-on : {set : List (List ℕ)} {x : Settings} {first past : ℕ} {got : List (List ℕ)} {s : State}
+    → MessageSet set → (calls : List Call) (rs : List ℕ) (left : ℕ)
     → Holding set x first past (readings calls ++ rs) (beats calls + left) got s → Members set calls s
     → Holding set x first (pastAll past calls) rs left (gotAll got calls s) (afterAll calls s)
 unfolding gotAll afterAll readings beats pastAll
 holding-on ms [] rs left h ins = left-same (0 + left) left (omega arith) h
 holding-on {set} {x} {first} {past} {got} {s} ms (c ∷ cs) rs left h ins =
-    let e : (reading c ++ readings cs) ++ rs ≡ reading c ++ (readings cs ++ rs) = append-assoc (reading c) (readings cs) rs in
+    let e : (reading c ++ readings cs) ++ rs ≡ reading c ++ (readings cs ++ rs) =
+    append-assoc (reading c) (readings cs) rs in
     let f : (beat c + beats cs) + left ≡ beat c + (beats cs + left) = omega arith in
-    let k = left-same ((beat c + beats cs) + left) (beat c + (beats cs + left)) f (subst (λ (l : List ℕ). Holding set x first past l ((beat c + beats cs) + left) got s) e h) in
-    holding-on ms cs rs left (holding-next ms (readings cs ++ rs) (beats cs + left) c k (members-here ins)) (members-rest ins)
+    let k = left-same ((beat c + beats cs) + left) (beat c + (beats cs + left)) f
+    (subst (λ (l : List ℕ). Holding set x first past l ((beat c + beats cs) + left) got s) e h) in
+    holding-on ms cs rs left (holding-next ms (readings cs ++ rs) (beats cs + left) c k (members-here ins))
+    (members-rest ins)
 
-pub holding-all : {set : List (List ℕ)} {x : Settings} {calls : List Call} {s : State} → MessageSet set → Premises set x calls s
+pub holding-all : {set : List (List ℕ)} {x : Settings} {calls : List Call} {s : State} → MessageSet set
+    → Premises set x calls s
     → Holding set x (firstOf calls) (pastAll 0 calls) [] 0 (gotAll [] calls s) (afterAll calls s)
 holding-all {set} {x} {calls} {s} ms p =
     holding-on ms calls [] 0
     (left-same (beats calls) (beats calls + 0) (omega arith)
-    (subst (λ (l : List ℕ). Holding set x (firstOf calls) 0 l (beats calls) [] s) (sym (append-nil (readings calls))) (holding-start p)))
+    (subst (λ (l : List ℕ). Holding set x (firstOf calls) 0 l (beats calls) [] s) (sym (append-nil (readings calls)))
+    (holding-start p)))
     (p .members)

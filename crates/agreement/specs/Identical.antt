@@ -2,7 +2,8 @@
 use Prim.Native.Nat.{ℕ, _≤_}
 use mathlib.Core.Path.{_≡_, refl, sym, ap, subst, _∙_}
 use mathlib.Core.Bool.{true, not, _&&_, or-true}
-use mathlib.Core.List.{List, [], _∷_, List·Memᴰ, List·Memᴰ·not-nil, List·Memᴰ·cases-cons, List·Memᴰ·head, List·Memᴰ·tail}
+use mathlib.Core.List.{List, [], _∷_, List·Memᴰ, List·Memᴰ·not-nil, List·Memᴰ·cases-cons, List·Memᴰ·head}
+use mathlib.Core.List.{List·Memᴰ·tail}
 use mathlib.Core.Logic.{⊎-elim}
 use Rattle.basis.specs.Cases.{either, clash}
 use Rattle.rows.specs.Ids.{sameBytes, among}
@@ -29,13 +30,15 @@ pub record Kept (c : Cached) (got : List (List ℕ)) : Type 0 where
   pub was-got : among (c .message) got ≡ true
   pub own : givesId (c .message) (c .id) ≡ true
 
-pub rows-kept : {least most : ℕ} {ms : List (List ℕ)} {es : List Entry} {cs : List Cached} (c : Cached) → Rows least most ms es cs → List·Memᴰ c cs → Kept c ms
+pub rows-kept : {least most : ℕ} {ms : List (List ℕ)} {es : List Entry} {cs : List Cached} (c : Cached)
+    → Rows least most ms es cs → List·Memᴰ c cs → Kept c ms
 unfolding among
 rows-kept c none d = absurd (List·Memᴰ·not-nil d)
 rows-kept c (row {m} {c = k} {ms} x rs) d =
     ⊎-elim
     (λ (e : c ≡ k). rw e (record { was-got = rw (x .message) (simp (same-self m)); own = rw (x .message) (x .own) }))
-    (λ r. let q = rows-kept c rs r in record { was-got = rw (q .was-got) (or-true (sameBytes m (c .message))); own = q .own })
+    (λ r. let q = rows-kept c rs r in
+    record { was-got = rw (q .was-got) (or-true (sameBytes m (c .message))); own = q .own })
     (List·Memᴰ·cases-cons d)
 
 pub record Entered (m : List ℕ) (cs : List Cached) : Type 0 where
@@ -44,7 +47,8 @@ pub record Entered (m : List ℕ) (cs : List Cached) : Type 0 where
   pub message : entry .message ≡ m
   pub own : givesId m (entry .id) ≡ true
 
-pub rows-entry : {least most : ℕ} {ms : List (List ℕ)} {es : List Entry} {cs : List Cached} (m : List ℕ) → Rows least most ms es cs → among m ms ≡ true → Entered m cs
+pub rows-entry : {least most : ℕ} {ms : List (List ℕ)} {es : List Entry} {cs : List Cached} (m : List ℕ)
+    → Rows least most ms es cs → among m ms ≡ true → Entered m cs
 unfolding among
 rows-entry m none h = clash (cc)
 rows-entry m (row {m = k} {c} {ms} x rs) h =
@@ -57,7 +61,8 @@ rows-entry m (row {m = k} {c} {ms} x rs) h =
     record { entry = r .entry; there = List·Memᴰ·tail (r .there); message = r .message; own = r .own })
 
 -- ---- where nothing is missing, what carries the topic is seen
-pub none-missing : (topic : List ℕ) (g : Gateway) (cs : List Cached) (c : Cached) → missing topic g cs ≡ [] → List·Memᴰ c cs → List·Memᴰ topic (topics c) → holds (marked (c .id)) (g .seen) ≡ true
+pub none-missing : (topic : List ℕ) (g : Gateway) (cs : List Cached) (c : Cached) → missing topic g cs ≡ []
+    → List·Memᴰ c cs → List·Memᴰ topic (topics c) → holds (marked (c .id)) (g .seen) ≡ true
 unfolding missing
 none-missing topic g [] c e d t = absurd (List·Memᴰ·not-nil d)
 none-missing topic g (k ∷ cs) c e d t =
@@ -73,14 +78,18 @@ none-missing topic g (k ∷ cs) c e d t =
 
 module _ {set : List (List ℕ)} (ms : MessageSet set) where
   -- what one gateway carries the other carries too, where it lacks nothing
-  carried-over : {x y : Settings} {firstA pastA leftA firstB pastB leftB : ℕ} {rsA rsB : List ℕ} {gotA gotB : List (List ℕ)} {a b : State}
-      → Holding set x firstA pastA rsA leftA gotA a → Holding set y firstB pastB rsB leftB gotB b → (topic i : List ℕ) → lacked topic b a ≡ []
+  carried-over : {x y : Settings} {firstA pastA leftA firstB pastB leftB : ℕ} {rsA rsB : List ℕ}
+      {gotA gotB : List (List ℕ)} {a b : State}
+      → Holding set x firstA pastA rsA leftA gotA a → Holding set y firstB pastB rsB leftB gotB b → (topic i : List ℕ)
+      → lacked topic b a ≡ []
       → Carried i topic (gatewayOf a .cache) → Carried i topic (gatewayOf b .cache)
   carried-over {gotA} {gotB} {a} {b} ha hb topic i z c =
       let k = rows-kept (c .entry) (ha .held .rows) (c .cached) in
       let inside = ha .held .from-set (c .entry .message) (k .was-got) in
       let s = none-missing topic (gatewayOf b) (gatewayOf a .cache) (c .entry) z (c .cached) (c .carries) in
-      let g : among (c .entry .message) gotB ≡ true = sym (rows-held ms (c .entry .message) (c .entry .id) inside (k .own) (hb .held .from-set) (hb .held .rows) .0) ∙ s in
+      let g : among (c .entry .message) gotB ≡ true =
+      sym (rows-held ms (c .entry .message) (c .entry .id) inside (k .own) (hb .held .from-set) (hb .held .rows) .0)
+      ∙ s in
       let r = rows-entry (c .entry .message) (hb .held .rows) g in
       record {
         entry = r .entry;
@@ -90,17 +99,22 @@ module _ {set : List (List ℕ)} (ms : MessageSet set) where
       }
 
   -- ---- two gateways that lack nothing of each other
-  module _ {x y : Settings} {firstA pastA leftA firstB pastB leftB : ℕ} {rsA rsB : List ℕ} {gotA gotB : List (List ℕ)} {a b : State}
-      (ha : Holding set x firstA pastA rsA leftA gotA a) (hb : Holding set y firstB pastB rsB leftB gotB b) (topic : List ℕ) (windows windows2 : ℕ)
-      (wide : x .history-len ≤ windows) (wide2 : y .history-len ≤ windows2) (done-a : lacked topic a b ≡ []) (done-b : lacked topic b a ≡ []) where
+  module _ {x y : Settings} {firstA pastA leftA firstB pastB leftB : ℕ} {rsA rsB : List ℕ} {gotA gotB : List (List ℕ)}
+      {a b : State}
+      (ha : Holding set x firstA pastA rsA leftA gotA a) (hb : Holding set y firstB pastB rsB leftB gotB b)
+      (topic : List ℕ) (windows windows2 : ℕ)
+      (wide : x .history-len ≤ windows) (wide2 : y .history-len ≤ windows2) (done-a : lacked topic a b ≡ [])
+      (done-b : lacked topic b a ≡ []) where
     same-told : toldIn (a .node) (a .messages) topic windows ≡ toldIn (b .node) (b .messages) topic windows2
     same-told =
         told-gateway (a .node) (a .ids) (a .messages) topic windows (fine ha topic windows wide)
-        ∙ told-carried topic windows windows2 (gatewayOf a .cache) (gatewayOf b .cache) (all-recent ha topic windows wide) (all-recent hb topic windows2 wide2)
+        ∙ told-carried topic windows windows2 (gatewayOf a .cache) (gatewayOf b .cache)
+        (all-recent ha topic windows wide) (all-recent hb topic windows2 wide2)
         (λ i. (carried-over ha hb topic i done-b, carried-over hb ha topic i done-a))
         ∙ sym (told-gateway (b .node) (b .ids) (b .messages) topic windows2 (fine hb topic windows2 wide2))
 
-    pub same-bytes : advertiseBytes (a .node) (a .messages) topic windows ≡ advertiseBytes (b .node) (b .messages) topic windows2
+    pub same-bytes : advertiseBytes (a .node) (a .messages) topic windows ≡ advertiseBytes (b .node)
+        (b .messages) topic windows2
     unfolding advertiseBytes
     same-bytes = ap (λ (l : List (List ℕ)). bytesFor l (advertisement topic l)) same-told
 
@@ -111,9 +125,11 @@ pub record Identical (p q : Play) (a b : State) : Type 0 where
   pub taken-b : refusalAt b (advertise (q .topic) (q .windows) (q .advert-out)) ≡ 0
   pub same : advertOf p a ≡ advertOf q b
 
-pub identical-bytes : {set : List (List ℕ)} {x y : Settings} {calls-a calls-b : List Call} {a b : State} → MessageSet set → Premises set x calls-a a → Premises set y calls-b b
+pub identical-bytes : {set : List (List ℕ)} {x y : Settings} {calls-a calls-b : List Call} {a b : State}
+    → MessageSet set → Premises set x calls-a a → Premises set y calls-b b
     → (p q : Play) → Fair p x y → Fair q x y → p .topic ≡ q .topic
-    → lacked (p .topic) (afterAll calls-a a) (afterAll calls-b b) ≡ [] → lacked (p .topic) (afterAll calls-b b) (afterAll calls-a a) ≡ []
+    → lacked (p .topic) (afterAll calls-a a) (afterAll calls-b b) ≡ []
+    → lacked (p .topic) (afterAll calls-b b) (afterAll calls-a a) ≡ []
     → Identical p q (afterAll calls-a a) (afterAll calls-b b)
 identical-bytes {calls-a} {calls-b} {a} {b} ms pa pb p q fp fq e done-a done-b =
     let ha = holding-all ms pa in
@@ -125,6 +141,7 @@ identical-bytes {calls-a} {calls-b} {a} {b} ms pa pb p q fp fq e done-a done-b =
       same =
           advert-is hb ha p fp2
           ∙ same-bytes ms ha hb (p .topic) (p .windows) (q .windows) (fp .windows-x) (fq .windows-y) done-a done-b
-          ∙ ap (λ (t : List ℕ). advertiseBytes (afterAll calls-b b .node) (afterAll calls-b b .messages) t (q .windows)) e
+          ∙ ap (λ (t : List ℕ). advertiseBytes (afterAll calls-b b .node) (afterAll calls-b b .messages) t (q .windows))
+          e
           ∙ sym (advert-is ha hb q fq);
     }

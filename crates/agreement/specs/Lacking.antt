@@ -1,8 +1,10 @@
--- The ids that are asked for are those of the messages that the asker lacks, each once; and of each the teller has the message.
+-- The ids that are asked for are those of the messages that the asker lacks, each once; and of each the teller has the
+-- message.
 use Prim.Native.Nat.{ℕ, _≤_, _<_}
 use mathlib.Core.Path.{_≡_, refl, sym, ap, _∙_}
 use mathlib.Core.Bool.{true, false, not, _&&_, or-true, and-true, and-false}
-use mathlib.Core.List.{List, [], _∷_, List·Memᴰ, List·Memᴰ·not-nil, List·Memᴰ·cases-cons, List·Memᴰ·head, List·Memᴰ·tail}
+use mathlib.Core.List.{List, [], _∷_, List·Memᴰ, List·Memᴰ·not-nil, List·Memᴰ·cases-cons, List·Memᴰ·head}
+use mathlib.Core.List.{List·Memᴰ·tail}
 use mathlib.Core.Logic.{⊎-elim}
 use native.Mathlib.Omega.{arith}
 use lib.ListN.{length, length-map}
@@ -29,9 +31,11 @@ use Rattle.agreement.specs.Holding.{Holding}
 use Rattle.agreement.specs.HandOver.{lacking-distinct}
 
 -- ---- what the rows say of a cached message
-pub rows-young : {least most : ℕ} {ms : List (List ℕ)} {es : List Entry} {cs : List Cached} (c : Cached) → Rows least most ms es cs → List·Memᴰ c cs → c .window ≤ most
+pub rows-young : {least most : ℕ} {ms : List (List ℕ)} {es : List Entry} {cs : List Cached} (c : Cached)
+    → Rows least most ms es cs → List·Memᴰ c cs → c .window ≤ most
 rows-young c none d = absurd (List·Memᴰ·not-nil d)
-rows-young c (row {c = k} x rs) d = ⊎-elim (λ (e : c ≡ k). rw e (x .young)) (λ r. rows-young c rs r) (List·Memᴰ·cases-cons d)
+rows-young c (row {c = k} x rs) d =
+    ⊎-elim (λ (e : c ≡ k). rw e (x .young)) (λ r. rows-young c rs r) (List·Memᴰ·cases-cons d)
 
 -- the message of a cached id: it was got, and it gives that id
 pub record Got (i m : List ℕ) (got : List (List ℕ)) : Type 0 where
@@ -42,7 +46,8 @@ got-more : {i m : List ℕ} (k : List ℕ) (got : List (List ℕ)) → Got i m g
 unfolding among
 got-more {i} {m} k got g = record { among-got = rw (g .among-got) (or-true (sameBytes k m)); own = g .own }
 
-pub rows-get : {least most : ℕ} {ms : List (List ℕ)} {es : List Entry} {cs : List Cached} (i : List ℕ) → Rows least most ms es cs → held i cs ≡ true → Got i (get i cs) ms
+pub rows-get : {least most : ℕ} {ms : List (List ℕ)} {es : List Entry} {cs : List Cached} (i : List ℕ)
+    → Rows least most ms es cs → held i cs ≡ true → Got i (get i cs) ms
 unfolding held get among
 rows-get i none h = clash (cc)
 rows-get i (row {m} {e} {c} {ms} {es} {cs} x rs) h =
@@ -53,18 +58,23 @@ rows-get i (row {m} {e} {c} {ms} {es} {cs} x rs) h =
     (λ t. simp t (got-more m ms (rows-get i rs (simp t at h))))
 
 -- ---- the messages that are missing: none of them is seen
-missing-seen : (topic i : List ℕ) (g : Gateway) (cs : List Cached) → holds (marked i) (g .seen) ≡ true → among i (idsOf (missing topic g cs)) ≡ false
+missing-seen : (topic i : List ℕ) (g : Gateway) (cs : List Cached) → holds (marked i) (g .seen) ≡ true
+    → among i (idsOf (missing topic g cs)) ≡ false
 unfolding missing among
 missing-seen topic i g [] h = refl
 missing-seen topic i g (c ∷ cs) h =
     let r = missing-seen topic i g cs h in
     either (sameBytes (c .id) i)
-    (λ u. let z : holds (marked (c .id)) (g .seen) ≡ true = rw (same-equal (c .id) i u) h in either (among topic (topics c)) (λ t. simp (t, z) r) (λ t. simp t r))
-    (λ u. either (among topic (topics c) && not (holds (marked (c .id)) (g .seen))) (λ t. simp (t, u) r) (λ t. simp t r))
+    (λ u. let z : holds (marked (c .id)) (g .seen) ≡ true = rw (same-equal (c .id) i u) h in
+    either (among topic (topics c)) (λ t. simp (t, z) r) (λ t. simp t r))
+    (λ u. either (among topic (topics c) && not (holds (marked (c .id)) (g .seen))) (λ t. simp (t, u) r)
+    (λ t. simp t r))
 
 -- those that carry the topic and are not seen are missing
-missing-among : (topic i : List ℕ) (g : Gateway) (windows : ℕ) (cs : List Cached) → ((c : Cached) → List·Memᴰ c cs → c .window < windows)
-    → holds (marked i) (g .seen) ≡ false → among i (idsOf (carrying topic windows cs)) ≡ among i (idsOf (missing topic g cs))
+missing-among : (topic i : List ℕ) (g : Gateway) (windows : ℕ) (cs : List Cached)
+    → ((c : Cached) → List·Memᴰ c cs → c .window < windows)
+    → holds (marked i) (g .seen) ≡ false → among i (idsOf (carrying topic windows cs)) ≡ among i
+    (idsOf (missing topic g cs))
 unfolding carrying missing among
 missing-among topic i g windows [] young h = refl
 missing-among topic i g windows (c ∷ cs) young h =
@@ -77,7 +87,8 @@ missing-among topic i g windows (c ∷ cs) young h =
     (λ t. simp (w, t) r)
 
 -- their ids are some of those cached, and so differ where those do
-missing-held : (topic i : List ℕ) (g : Gateway) (cs : List Cached) → among i (idsOf cs) ≡ false → among i (idsOf (missing topic g cs)) ≡ false
+missing-held : (topic i : List ℕ) (g : Gateway) (cs : List Cached) → among i (idsOf cs) ≡ false
+    → among i (idsOf (missing topic g cs)) ≡ false
 unfolding missing among
 missing-held topic i g [] h = refl
 missing-held topic i g (c ∷ cs) h =
@@ -86,7 +97,8 @@ missing-held topic i g (c ∷ cs) h =
     let r = missing-held topic i g cs (simp u at h) in
     either (among topic (topics c) && not (holds (marked (c .id)) (g .seen))) (λ t. simp (t, u) r) (λ t. simp t r))
 
-missing-distinct : (topic : List ℕ) (g : Gateway) (cs : List Cached) → distinct (idsOf cs) ≡ true → distinct (idsOf (missing topic g cs)) ≡ true
+missing-distinct : (topic : List ℕ) (g : Gateway) (cs : List Cached) → distinct (idsOf cs) ≡ true
+    → distinct (idsOf (missing topic g cs)) ≡ true
 unfolding missing distinct
 missing-distinct topic g [] d = refl
 missing-distinct topic g (c ∷ cs) d =
@@ -97,7 +109,8 @@ missing-distinct topic g (c ∷ cs) d =
     either (among topic (topics c) && not (holds (marked (c .id)) (g .seen))) (λ t. simp (t, n) r) (λ t. simp t r))
 
 -- ---- what is asked for
-module _ {set : List (List ℕ)} {y : Settings} {first past left : ℕ} {rs : List ℕ} {got : List (List ℕ)} {b : State} (h : Holding set y first past rs left got b)
+module _ {set : List (List ℕ)} {y : Settings} {first past left : ℕ} {rs : List ℕ} {got : List (List ℕ)} {b : State}
+    (h : Holding set y first past rs left got b)
     (topic : List ℕ) (windows : ℕ) (wide : y .history-len ≤ windows) where
   pub fine : lentOf (b .node) (b .ids) (b .messages) ≡ lent.Fine
   fine = h .kept .fine
@@ -108,13 +121,15 @@ module _ {set : List (List ℕ)} {y : Settings} {first past left : ℕ} {rs : Li
 
   cached-distinct : distinct (idsOf (gatewayOf b .cache)) ≡ true
   unfolding gatewayIn
-  cached-distinct = ap distinct (ids-cached (b .node .cache) (b .messages)) ∙ fine-tests (b .node .cache) (b .messages) (node-tests (b .node) (b .ids) (b .messages) fine .messages) .once
+  cached-distinct = ap distinct (ids-cached (b .node .cache) (b .messages))
+      ∙ fine-tests (b .node .cache) (b .messages) (node-tests (b .node) (b .ids) (b .messages) fine .messages) .once
 
   abbrev told : List (List ℕ)
   told = toldOf topic windows (gatewayOf b)
 
   -- of each id told, b has the message
-  pub told-got : (i : List ℕ) → among i (toldOf topic windows (gatewayOf b)) ≡ true → Got i (get i (gatewayOf b .cache)) got
+  pub told-got : (i : List ℕ) → among i (toldOf topic windows (gatewayOf b)) ≡ true
+      → Got i (get i (gatewayOf b .cache)) got
   told-got i t = rows-get i (h .held .rows) (told-held topic windows (gatewayOf b .cache) i t)
 
   module _ (a : State) where
@@ -122,13 +137,15 @@ module _ {set : List (List ℕ)} {y : Settings} {first past left : ℕ} {rs : Li
     wants = lacking (gatewayOf a) (toldOf topic windows (gatewayOf b))
 
     -- exactly the ids of the messages that a lacks
-    pub wants-exactly : (i : List ℕ) → among i (lacking (gatewayOf a) (toldOf topic windows (gatewayOf b))) ≡ among i (idsOf (lacked topic a b))
+    pub wants-exactly : (i : List ℕ) → among i (lacking (gatewayOf a) (toldOf topic windows (gatewayOf b))) ≡ among i
+        (idsOf (lacked topic a b))
     unfolding gossipIds
     wants-exactly i =
         asked-exactly (gatewayOf a) i told
         ∙ either (holds (marked i) (gatewayOf a .seen))
         (λ t. simp t (and-false (among i told) ∙ sym (missing-seen topic i (gatewayOf a) (gatewayOf b .cache) t)))
-        (λ t. simp t (and-true (among i told) ∙ among-order i (idsOf (carrying topic windows (gatewayOf b .cache))) ∙ missing-among topic i (gatewayOf a) windows (gatewayOf b .cache) all-recent t))
+        (λ t. simp t (and-true (among i told) ∙ among-order i (idsOf (carrying topic windows (gatewayOf b .cache)))
+        ∙ missing-among topic i (gatewayOf a) windows (gatewayOf b .cache) all-recent t))
 
     pub wants-once : distinct (lacking (gatewayOf a) (toldOf topic windows (gatewayOf b))) ≡ true
     wants-once = lacking-distinct (gatewayOf a) told (told-distinct topic windows (gatewayOf b .cache))
@@ -138,6 +155,7 @@ module _ {set : List (List ℕ)} {y : Settings} {first past left : ℕ} {rs : Li
     wants-count =
         let l = idsOf (lacked topic a b) in
         let m = all-few l wants wants-once (λ i t. sym (wants-exactly i) ∙ t) in
-        let n = all-few wants l (missing-distinct topic (gatewayOf a) (gatewayOf b .cache) cached-distinct) (λ i t. wants-exactly i ∙ t) in
+        let n = all-few wants l (missing-distinct topic (gatewayOf a) (gatewayOf b .cache) cached-distinct)
+        (λ i t. wants-exactly i ∙ t) in
         let k = length-map (lacked topic a b) (λ (c : Cached). c .id) in
         omega arith

@@ -1,8 +1,9 @@
--- The premises of demand 3 are needed: for each, gateways for which that one does not hold, and what then goes wrong. The theorem is named after
--- the premise. The messages pass admission; that the other premises hold is to be seen from the figures, and is not stated.
+-- The premises of demand 3 are needed: for each, gateways for which that one does not hold, and what then goes wrong.
+-- The theorem is named after the premise. The messages pass admission; that the other premises hold is to be seen from
+-- the figures, and is not stated.
 --
--- One clause of MessageSet is not here, since no theorem cites it: `admissible` (a message that does not pass is never got). And 65,536 bytes are more
--- than a reply needs: 61,485 are enough for fifteen messages.
+-- One clause of MessageSet is not here, since no theorem cites it: `admissible` (a message that does not pass is never
+-- got). And 65,536 bytes are more than a reply needs: 61,485 are enough for fifteen messages.
 use Prim.Native.Nat.{ℕ, _-_, _^_, _≤_, _<_, min}
 use mathlib.Core.Path.{_≡_, refl, ap, _∙_}
 use mathlib.Core.Bool.{true, false}
@@ -39,7 +40,8 @@ use Rattle.node.specs.declared.Advertise.the-variants as told
 use Rattle.node.specs.declared.Ask.the-variants as asked
 use Rattle.node.specs.declared.Serve.the-variants as serve
 use Rattle.node.specs.Gateway.{Gateway, started, marked, isNew, afterAdmit, afterBeat, toldOf, lacking, having}
-use Rattle.node.specs.Calls.{lentOf, planned, no, beatAnswer, advertiseBytes, advertiseAnswer, askBytes, askAnswer, roomOf, servedOf, replyTo, serveNumber}
+use Rattle.node.specs.Calls.{lentOf, planned, no, beatAnswer, advertiseBytes, advertiseAnswer, askBytes, askAnswer}
+use Rattle.node.specs.Calls.{roomOf, servedOf, replyTo, serveNumber}
 use Rattle.agreement.specs.Round.{missing}
 use Rattle.agreement.specs.Fifteen.{longest-field, some-fit, longest-fit}
 use Rattle.agreement.specs.Example.{signature}
@@ -56,7 +58,9 @@ idOf n = 65 ∷ n ∷ []
 
 -- they pass admission, under these ids
 pub admissible : (givesId (message 1) (idOf 1) ≡ true) × (givesId (message 2) (idOf 2) ≡ true)
-unfolding signature counted overKinds toDepth textCount roleOf rank ownOf isUtf8 run walkAt walkFrom readField readValue skipField skipFixed readVarint readLen readTag readUvarint readFrom groupOf givesId admissionOf onLimits topicsOf firstLong idParts slotsOf withField setPlace sameBytes
+unfolding signature counted overKinds toDepth textCount roleOf rank ownOf isUtf8 run walkAt walkFrom readField readValue
+    skipField skipFixed readVarint readLen readTag readUvarint readFrom groupOf givesId admissionOf onLimits topicsOf
+    firstLong idParts slotsOf withField setPlace sameBytes
 admissible = (refl, refl)
 
 -- a gateway, and one of these messages admitted at a reading
@@ -76,7 +80,8 @@ needs-set-seen = record { first = refl; again = refl }
 
 -- ---- admitting set members only
 -- the set is message 1 alone and has room; a message from outside it drives the first out, which is then new again
-pub needs-members : (length (message 1 ∷ []) ≡ 1) × (among (message 2) (message 1 ∷ []) ≡ false) × NewTwice 1 3 (started 100 1 2 4) (with 2 2 (with 1 1 (started 100 1 2 4)))
+pub needs-members : (length (message 1 ∷ []) ≡ 1) × (among (message 2) (message 1 ∷ []) ≡ false)
+    × NewTwice 1 3 (started 100 1 2 4) (with 2 2 (with 1 1 (started 100 1 2 4)))
 unfolding among sameBytes
 needs-members = (refl, refl, needs-set-seen)
 
@@ -96,7 +101,15 @@ needs-below-last = record { first = refl; again = refl }
 -- an id that was seen before the history: its message, got for the first time, is a duplicate
 pub needs-fresh :
     isNew 1 (idOf 1)
-    (record { ttl = 100; max-seen = 4; history-len = 2; max-messages = 4; clock = 0; seen = record { id = marked (idOf 1); expiry = 100 } ∷ []; cache = [] })
+    (record {
+      ttl = 100;
+      max-seen = 4;
+      history-len = 2;
+      max-messages = 4;
+      clock = 0;
+      seen = record { id = marked (idOf 1); expiry = 100 } ∷ [];
+      cache = [];
+    })
     ≡ false
 unfolding isNew holds among sameBytes live
 needs-fresh = refl
@@ -115,7 +128,10 @@ pub record NeverNew (m k id : List ℕ) (g : Gateway) : Type 0 where
   pub not-kept : having (afterAdmit 2 k id (afterAdmit 1 m id g)) (id ∷ []) ≡ m ∷ []
 
 pub needs-ids-differ : NeverNew (message 1) otherMessage (idOf 1) (started 100 4 2 4)
-unfolding signature started isNew afterAdmit holds among live inserted newest until held put having get counted overKinds toDepth textCount roleOf rank ownOf isUtf8 run walkAt walkFrom readField readValue skipField skipFixed readVarint readLen readTag readUvarint readFrom groupOf givesId admissionOf onLimits topicsOf firstLong idParts slotsOf withField setPlace sameBytes
+unfolding signature started isNew afterAdmit holds among live inserted newest until held put having get counted
+    overKinds toDepth textCount roleOf rank ownOf isUtf8 run walkAt walkFrom readField readValue skipField skipFixed
+    readVarint readLen readTag readUvarint readFrom groupOf givesId admissionOf onLimits topicsOf firstLong idParts
+    slotsOf withField setPlace sameBytes
 needs-ids-differ = record { differ = refl; one-id = refl; same-id = refl; not-new = refl; not-kept = refl }
 
 -- ---- two gateways that lack nothing of each other, and tell of different ids
@@ -127,14 +143,20 @@ pub record Apart (windows : ℕ) (a b : Gateway) (tells-a tells-b : List (List �
 
 -- ---- the set is no larger than max_messages
 -- two messages and room for one: both gateways have seen both, and each holds the one that it got last
-pub needs-set-cached : Apart 2 (with 2 2 (with 1 1 (started 100 4 2 1))) (with 2 1 (with 1 2 (started 100 4 2 1))) (idOf 2 ∷ []) (idOf 1 ∷ [])
-unfolding signature started isNew afterAdmit holds among sameBytes live inserted newest until held put missing gossipIds inOrder enterId carrying topicsOf walkAt walkFrom readField readValue skipField skipFixed readVarint readLen readTag readUvarint readFrom groupOf
+pub needs-set-cached : Apart 2 (with 2 2 (with 1 1 (started 100 4 2 1))) (with 2 1 (with 1 2 (started 100 4 2 1)))
+    (idOf 2 ∷ []) (idOf 1 ∷ [])
+unfolding signature started isNew afterAdmit holds among sameBytes live inserted newest until held put missing gossipIds
+    inOrder enterId carrying topicsOf walkAt walkFrom readField readValue skipField skipFixed readVarint readLen readTag
+    readUvarint readFrom groupOf
 needs-set-cached = record { a-lacks = refl; b-lacks = refl; a-tells = refl; b-tells = refl }
 
 -- ---- fewer heartbeats than history_len
 -- both got the message; after as many heartbeats as history_len one holds it no more, and tells of nothing
-pub needs-few-heartbeats : Apart 2 (afterBeat 3 (afterBeat 2 (with 1 1 (started 100 4 2 4)))) (with 1 1 (started 100 4 2 4)) [] (idOf 1 ∷ [])
-unfolding signature started isNew afterAdmit afterBeat holds among sameBytes live inserted newest until held put shift missing gossipIds inOrder enterId carrying topicsOf walkAt walkFrom readField readValue skipField skipFixed readVarint readLen readTag readUvarint readFrom groupOf
+pub needs-few-heartbeats : Apart 2 (afterBeat 3 (afterBeat 2 (with 1 1 (started 100 4 2 4))))
+    (with 1 1 (started 100 4 2 4)) [] (idOf 1 ∷ [])
+unfolding signature started isNew afterAdmit afterBeat holds among sameBytes live inserted newest until held put shift
+    missing gossipIds inOrder enterId carrying topicsOf walkAt walkFrom readField readValue skipField skipFixed
+    readVarint readLen readTag readUvarint readFrom groupOf
 needs-few-heartbeats = record { a-lacks = refl; b-lacks = refl; a-tells = refl; b-tells = refl }
 
 -- ---- something is lacking, and what is told of does not have it
@@ -144,46 +166,58 @@ pub record Untold (told : List (List ℕ)) (a b : Gateway) : Type 0 where
 
 -- ---- windows at least both history_lens
 -- after one heartbeat the message is in the second window, and one window is told of: it is lacking, and not asked for
-pub needs-windows : Untold (toldOf topic 1 (afterBeat 2 (with 1 1 (started 100 4 2 4)))) (started 100 4 2 4) (afterBeat 2 (with 1 1 (started 100 4 2 4)))
-unfolding signature started isNew afterAdmit afterBeat holds among sameBytes live inserted newest until held put shift missing lacking gossipIds inOrder enterId carrying topicsOf walkAt walkFrom readField readValue skipField skipFixed readVarint readLen readTag readUvarint readFrom groupOf
+pub needs-windows : Untold (toldOf topic 1 (afterBeat 2 (with 1 1 (started 100 4 2 4)))) (started 100 4 2 4)
+    (afterBeat 2 (with 1 1 (started 100 4 2 4)))
+unfolding signature started isNew afterAdmit afterBeat holds among sameBytes live inserted newest until held put shift
+    missing lacking gossipIds inOrder enterId carrying topicsOf walkAt walkFrom readField readValue skipField skipFixed
+    readVarint readLen readTag readUvarint readFrom groupOf
 needs-windows = record { lacks = refl; asks = refl }
 
 -- ---- no other call from an advertisement to the ask given it
 -- the teller gets a message after it told: it is lacking, and not asked for
 pub needs-undisturbed : Untold (toldOf topic 2 (started 100 4 2 4)) (started 100 4 2 4) (with 1 1 (started 100 4 2 4))
-unfolding signature started isNew afterAdmit holds among sameBytes live inserted newest until held put missing lacking gossipIds inOrder enterId carrying topicsOf walkAt walkFrom readField readValue skipField skipFixed readVarint readLen readTag readUvarint readFrom groupOf
+unfolding signature started isNew afterAdmit holds among sameBytes live inserted newest until held put missing lacking
+    gossipIds inOrder enterId carrying topicsOf walkAt walkFrom readField readValue skipField skipFixed readVarint
+    readLen readTag readUvarint readFrom groupOf
 needs-undisturbed = record { lacks = refl; asks = refl }
 
 -- ---- the clock never falls
 -- a message that would be taken, and a heartbeat, are refused by 31 at a reading before the clock
-pub needs-rises : (n : Node) (ss cs body : List ℕ) (i at a e x y z w : ℕ) → lentOf n ss cs ≡ lent.Fine → acceptOf body ≡ checked.Fine → messageAt body i ≡ found.At a e
+pub needs-rises : (n : Node) (ss cs body : List ℕ) (i at a e x y z w : ℕ) → lentOf n ss cs ≡ lent.Fine
+    → acceptOf body ≡ checked.Fine → messageAt body i ≡ found.At a e
     → admissionOf (between body a e) true ≡ admission.Fit x y z w → at < n .clock
-    → (planned n ss cs body i true at ≡ no (admit.ClockBack (n .clock))) × (beatAnswer n ss cs at ≡ beat.ClockBack (n .clock))
+    → (planned n ss cs body i true at ≡ no (admit.ClockBack (n .clock)))
+    × (beatAnswer n ss cs at ≡ beat.ClockBack (n .clock))
 unfolding planned beatAnswer
-needs-rises n ss cs body i at a e x y z w fine ok there fit h = let t = lt-ltb at (n .clock) h in (rw (fine, ok, there, fit, t), rw (fine, t))
+needs-rises n ss cs body i at a e x y z w fine ok there fit h = let t = lt-ltb at (n .clock) h in
+    (rw (fine, ok, there, fit, t), rw (fine, t))
 
 -- ---- the topic has at most 1,024 bytes
 -- else the advertise is refused by 29
-pub needs-topic-short : (n : Node) (ss cs out long : List ℕ) (windows : ℕ) → lentOf n ss cs ≡ lent.Fine → 1024 < length long
+pub needs-topic-short : (n : Node) (ss cs out long : List ℕ) (windows : ℕ) → lentOf n ss cs ≡ lent.Fine
+    → 1024 < length long
     → advertiseAnswer n ss cs long windows out ≡ told.TopicTooLong (length long)
 unfolding advertiseAnswer
 needs-topic-short n ss cs out long windows fine h = rw (fine, lt-ltb 1024 (length long) h)
 
 -- ---- output buffers hold 65,536 bytes
 -- an advertisement and a request that do not fit are refused by 12
-pub needs-advert-room : (n : Node) (ss cs out topic : List ℕ) (windows : ℕ) → lentOf n ss cs ≡ lent.Fine → length topic ≤ 1024 → length out < length (advertiseBytes n cs topic windows)
+pub needs-advert-room : (n : Node) (ss cs out topic : List ℕ) (windows : ℕ) → lentOf n ss cs ≡ lent.Fine
+    → length topic ≤ 1024 → length out < length (advertiseBytes n cs topic windows)
     → advertiseAnswer n ss cs topic windows out ≡ told.Room (length (advertiseBytes n cs topic windows))
 unfolding advertiseAnswer answer
 needs-advert-room n ss cs out topic windows fine short h =
     rw (fine, le-ltb 1024 (length topic) short, lt-leb (length (advertiseBytes n cs topic windows)) (length out) h)
 
-pub needs-request-room : (n : Node) (ss cs out body : List ℕ) → lentOf n ss cs ≡ lent.Fine → acceptOf body ≡ checked.Fine → length out < length (askBytes n ss body)
+pub needs-request-room : (n : Node) (ss cs out body : List ℕ) → lentOf n ss cs ≡ lent.Fine
+    → acceptOf body ≡ checked.Fine → length out < length (askBytes n ss body)
     → askAnswer n ss cs body out ≡ asked.Room (length (askBytes n ss body))
 unfolding askAnswer answer
 needs-request-room n ss cs out body fine ok h = rw (fine, ok, lt-leb (length (askBytes n ss body)) (length out) h)
 
 -- fifteen messages fit 61,485 bytes
-pub reply-room-enough : (ms : List (List ℕ)) → ((i : ℕ) → i < length ms → length (getD ms i []) ≤ 4096) → min 15 (length ms) ≤ fitting 2 61485 ms
+pub reply-room-enough : (ms : List (List ℕ)) → ((i : ℕ) → i < length ms → length (getD ms i []) ≤ 4096)
+    → min 15 (length ms) ≤ fitting 2 61485 ms
 reply-room-enough ms each = some-fit 15 61485 ms each (omega arith)
 
 -- and with one byte less fourteen of the longest are served in a round
@@ -191,7 +225,8 @@ fourteen-zeros : (k n : ℕ) → k ≡ 15 → n ≡ 4096 → fitting 2 61484 (re
 fourteen-zeros k n h e =
     let m : List ℕ = replicate {A = ℕ} n 0 in
     let l = length-replicate k m in
-    longest-fit 14 61484 (replicate k m) (λ i j. ap length (getD-replicate k i m [] (omega arith)) ∙ length-replicate {A = ℕ} n 0 ∙ e) (omega arith) (omega arith) (omega arith)
+    longest-fit 14 61484 (replicate k m) (λ i j. ap length (getD-replicate k i m [] (omega arith))
+    ∙ length-replicate {A = ℕ} n 0 ∙ e) (omega arith) (omega arith) (omega arith)
 
 pub needs-reply-room : fitting 2 61484 (replicate 15 (replicate {A = ℕ} 4096 0)) ≡ 14
 needs-reply-room = fourteen-zeros 15 4096 refl refl

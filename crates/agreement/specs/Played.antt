@@ -1,5 +1,5 @@
--- What the calls of a round answer and write, with full buffers: none is refused; the advertisement, the request and the reply are those of the
--- definitions; and the reply has fifteen messages, or all that are asked for.
+-- What the calls of a round answer and write, with full buffers: none is refused; the advertisement, the request and
+-- the reply are those of the definitions; and the reply has fifteen messages, or all that are asked for.
 use Prim.Native.Nat.{ℕ, zero, suc, _-_, _≤_, _<_, min}
 use mathlib.Core.Path.{_≡_, refl, sym, subst}
 use mathlib.Core.Bool.{true}
@@ -25,12 +25,15 @@ use Rattle.node.specs.declared.Advertise.the-variants as told
 use Rattle.node.specs.declared.Ask.the-variants as asked
 use Rattle.node.specs.declared.Serve.{Serve}
 use Rattle.node.specs.Gateway.{Gateway, toldOf, lacking, having}
-use Rattle.node.specs.Calls.{lentOf, advertiseAnswer, advertiseLeft, advertiseBytes, askAnswer, askLeft, askBytes, serveAnswer, serveLeft, cachedOf, wanted, roomOf, servedOf, replyBytes, replyTo, serveNumber}
+use Rattle.node.specs.Calls.{lentOf, advertiseAnswer, advertiseLeft, advertiseBytes, askAnswer, askLeft, askBytes}
+use Rattle.node.specs.Calls.{serveAnswer, serveLeft, cachedOf, wanted, roomOf, servedOf, replyBytes, replyTo}
+use Rattle.node.specs.Calls.{serveNumber}
 use Rattle.history.specs.History.{State, gatewayOf, Settings, advertise, ask, serve, refusalAt, servedBytes}
 use Rattle.history.specs.History.{servedMessages}
 use Rattle.agreement.specs.Round.{Play, Fair, advertOf, requestOf, replyAnswer, replyOf, servedCount}
 use Rattle.agreement.specs.Holding.{Holding}
-use Rattle.agreement.specs.HandOver.{advert-rpc, advert-taken, request-rpc, request-taken, reply-has, reply-all, lacks-exactly}
+use Rattle.agreement.specs.HandOver.{advert-rpc, advert-taken, request-rpc, request-taken, reply-has, reply-all}
+use Rattle.agreement.specs.HandOver.{lacks-exactly}
 use Rattle.agreement.specs.Fifteen.{fifteen-fit}
 use Rattle.agreement.specs.Delivered.{Delivers, reply-taken}
 use Rattle.agreement.specs.Lacking.{Got, fine, told-got}
@@ -48,7 +51,8 @@ reply-fits : (ms : List (List ℕ)) (out : List ℕ) → length (replyBytes ms o
 unfolding replyBytes servedOf roomOf
 reply-fits ms out = omega (arith, fitting-room 2 (min (length out) 65536) ms)
 
-pub served-enough : (ms : List (List ℕ)) (out : List ℕ) → 65536 ≤ length out → ((i : ℕ) → i < length ms → length (getD ms i []) ≤ 4096) → min 15 (length ms) ≤ servedOf ms out
+pub served-enough : (ms : List (List ℕ)) (out : List ℕ) → 65536 ≤ length out
+    → ((i : ℕ) → i < length ms → length (getD ms i []) ≤ 4096) → min 15 (length ms) ≤ servedOf ms out
 unfolding servedOf
 served-enough ms out h each = rw (room-full out h) (fifteen-fit ms each)
 
@@ -58,7 +62,8 @@ pub record Answers (ms : List (List ℕ)) (out : List ℕ) (r : Serve) : Type 0 
   pub bytes : servedBytes r (sets out 0 (replyBytes ms out)) ≡ replyBytes ms out
   pub count : servedMessages r ≡ servedOf ms out
 
-reply-answers : (ms : List (List ℕ)) (out : List ℕ) → min 15 (length ms) ≤ servedOf ms out → Answers ms out (replyTo ms out)
+reply-answers : (ms : List (List ℕ)) (out : List ℕ) → min 15 (length ms) ≤ servedOf ms out
+    → Answers ms out (replyTo ms out)
 unfolding replyBytes servedOf fitting
 reply-answers [] out h = record { done = refl; bytes = refl; count = refl }
 reply-answers (m ∷ ms) out h =
@@ -66,7 +71,8 @@ reply-answers (m ∷ ms) out h =
     rw n (record { done = refl; bytes = front (replyBytes (m ∷ ms) out) out (reply-fits (m ∷ ms) out); count = refl })
 
 -- ---- each message that is asked for
-having-at : (g : Gateway) (is : List (List ℕ)) → ((i : List ℕ) → among i is ≡ true → held i (g .cache) ≡ true) → (j : ℕ) → j < length is → getD (having g is) j [] ≡ get (getD is j []) (g .cache)
+having-at : (g : Gateway) (is : List (List ℕ)) → ((i : List ℕ) → among i is ≡ true → held i (g .cache) ≡ true) → (j : ℕ)
+    → j < length is → getD (having g is) j [] ≡ get (getD is j []) (g .cache)
 unfolding having among
 having-at g [] h j l = absurd (omega arith)
 having-at g (i ∷ is) h zero l = let k : held i (g .cache) ≡ true = h i (rw (same-self i)) in simp k
@@ -74,8 +80,10 @@ having-at g (i ∷ is) h (suc j) l =
     let k : held i (g .cache) ≡ true = h i (rw (same-self i)) in
     simp k (having-at g is (λ x m. h x (either (sameBytes i x) (λ t. simp t) (λ t. simp t m))) j (omega arith))
 
-module _ {set : List (List ℕ)} {x y : Settings} {firstA pastA leftA firstB pastB leftB : ℕ} {rsA rsB : List ℕ} {gotA gotB : List (List ℕ)} {a b : State}
-    (ha : Holding set x firstA pastA rsA leftA gotA a) (hb : Holding set y firstB pastB rsB leftB gotB b) (p : Play) (fair : Fair p x y) where
+module _ {set : List (List ℕ)} {x y : Settings} {firstA pastA leftA firstB pastB leftB : ℕ} {rsA rsB : List ℕ}
+    {gotA gotB : List (List ℕ)} {a b : State}
+    (ha : Holding set x firstA pastA rsA leftA gotA a) (hb : Holding set y firstB pastB rsB leftB gotB b) (p : Play)
+    (fair : Fair p x y) where
   abbrev fineA : lentOf (a .node) (a .ids) (a .messages) ≡ lent.Fine
   fineA = fine ha (p .topic) (p .windows) (fair .windows-x)
 
@@ -88,17 +96,22 @@ module _ {set : List (List ℕ)} {x y : Settings} {firstA pastA leftA firstB pas
 
   advert-small : length advert ≤ length (p .advert-out)
   advert-small =
-      let w = advert-rpc (b .node) (b .ids) (b .messages) (p .topic) (p .windows) fineB (hb .bytes) (fair .topic-short) .1 .small in
+      let w = advert-rpc (b .node) (b .ids) (b .messages) (p .topic) (p .windows) fineB (hb .bytes)
+      (fair .topic-short) .1 .small in
       let r = fair .advert-room in
       omega arith
 
-  advert-answer : advertiseAnswer (b .node) (b .ids) (b .messages) (p .topic) (p .windows) (p .advert-out) ≡ told.Bytes (length advert)
+  advert-answer : advertiseAnswer (b .node) (b .ids) (b .messages) (p .topic) (p .windows) (p .advert-out) ≡ told.Bytes
+      (length advert)
   unfolding advertiseAnswer
-  advert-answer = rw (fineB, le-ltb 1024 (length (p .topic)) (fair .topic-short), answer-fits advert (p .advert-out) advert-small)
+  advert-answer =
+      rw (fineB, le-ltb 1024 (length (p .topic)) (fair .topic-short), answer-fits advert (p .advert-out) advert-small)
 
-  advert-left : advertiseLeft (b .node) (b .ids) (b .messages) (p .topic) (p .windows) (p .advert-out) ≡ sets (p .advert-out) 0 advert
+  advert-left : advertiseLeft (b .node) (b .ids) (b .messages) (p .topic) (p .windows) (p .advert-out)
+      ≡ sets (p .advert-out) 0 advert
   unfolding advertiseLeft
-  advert-left = rw (fineB, le-ltb 1024 (length (p .topic)) (fair .topic-short)) (written-fits advert (p .advert-out) advert-small)
+  advert-left =
+      rw (fineB, le-ltb 1024 (length (p .topic)) (fair .topic-short)) (written-fits advert (p .advert-out) advert-small)
 
   pub advert-done : refusalAt b (advertise (p .topic) (p .windows) (p .advert-out)) ≡ 0
   advert-done = rw advert-answer
@@ -113,12 +126,14 @@ module _ {set : List (List ℕ)} {x y : Settings} {firstA pastA leftA firstB pas
 
   asking-small : length asking ≤ length (p .request-out)
   asking-small =
-      let w = request-rpc (b .node) (b .ids) (b .messages) (p .topic) (p .windows) fineB (hb .bytes) (fair .topic-short) (a .node) (a .ids) (a .messages) .1 .small in
+      let w = request-rpc (b .node) (b .ids) (b .messages) (p .topic) (p .windows) fineB (hb .bytes) (fair .topic-short)
+      (a .node) (a .ids) (a .messages) .1 .small in
       let r = fair .request-room in
       omega arith
 
   advert-accepted : acceptOf advert ≡ checked.Fine
-  advert-accepted = advert-taken (b .node) (b .ids) (b .messages) (p .topic) (p .windows) fineB (hb .bytes) (fair .topic-short)
+  advert-accepted = advert-taken (b .node) (b .ids) (b .messages) (p .topic) (p .windows) fineB (hb .bytes)
+      (fair .topic-short)
 
   request-answer : askAnswer (a .node) (a .ids) (a .messages) advert (p .request-out) ≡ asked.Bytes (length asking)
   unfolding askAnswer
@@ -131,7 +146,8 @@ module _ {set : List (List ℕ)} {x y : Settings} {firstA pastA leftA firstB pas
   pub request-done : refusalAt a (ask (advertOf p b) (p .request-out)) ≡ 0
   request-done = rw (advert-is, request-answer)
 
-  pub requested : requestOf p a b ≡ askBytes (a .node) (a .ids) (advertiseBytes (b .node) (b .messages) (p .topic) (p .windows))
+  pub requested : requestOf p a b ≡ askBytes (a .node) (a .ids)
+      (advertiseBytes (b .node) (b .messages) (p .topic) (p .windows))
   unfolding requestOf
   requested = rw (advert-is, request-answer, request-left) (front asking (p .request-out) asking-small)
 
@@ -144,47 +160,57 @@ module _ {set : List (List ℕ)} {x y : Settings} {firstA pastA leftA firstB pas
 
   wants-told : (i : List ℕ) → among i wants ≡ true → among i (toldOf (p .topic) (p .windows) (gatewayOf b)) ≡ true
   unfolding wants
-  wants-told i t = lacks-exactly (b .node) (b .ids) (b .messages) (p .topic) (p .windows) fineB (hb .bytes) (fair .topic-short) (a .node) (a .ids) (a .messages) i .0 t .0
+  wants-told i t = lacks-exactly (b .node) (b .ids) (b .messages) (p .topic) (p .windows) fineB (hb .bytes)
+      (fair .topic-short) (a .node) (a .ids) (a .messages) i .0 t .0
 
   pub replies-count : length replies ≡ length wants
   unfolding replies wants
-  replies-count = reply-all (b .node) (b .ids) (b .messages) (p .topic) (p .windows) fineB (hb .bytes) (fair .topic-short) (a .node) (a .ids) (a .messages)
+  replies-count = reply-all (b .node) (b .ids) (b .messages) (p .topic) (p .windows) fineB (hb .bytes)
+      (fair .topic-short) (a .node) (a .ids) (a .messages)
 
   -- the j-th message asked for is that of the j-th id, which b got and which gives that id
   pub reply-at : (j : ℕ) → j < length wants → getD replies j [] ≡ get (getD wants j []) (gatewayOf b .cache)
   unfolding replies
-  reply-at j l = having-at (gatewayOf b) wants (λ i t. told-held (p .topic) (p .windows) (gatewayOf b .cache) i (wants-told i t)) j l
+  reply-at j l =
+      having-at (gatewayOf b) wants (λ i t. told-held (p .topic) (p .windows) (gatewayOf b .cache) i (wants-told i t)) j
+      l
 
   pub reply-got : (j : ℕ) → j < length wants → Got (getD wants j []) (getD replies j []) gotB
   reply-got j l =
       let i = getD wants j [] in
-      subst (λ (m : List ℕ). Got i m gotB) (sym (reply-at j l)) (told-got hb (p .topic) (p .windows) (fair .windows-y) i (wants-told i (among-at i wants j l refl)))
+      subst (λ (m : List ℕ). Got i m gotB) (sym (reply-at j l))
+      (told-got hb (p .topic) (p .windows) (fair .windows-y) i (wants-told i (among-at i wants j l refl)))
 
   reply-short : (j : ℕ) → j < length replies → length (getD replies j []) ≤ 4096
   reply-short j l =
       let n = replies-count in
       let g = gives-only (getD replies j []) (getD wants j []) (reply-got j (omega arith) .own) in
-      fit-limits (getD replies j []) true (g .from-start) (g .from-end) (g .seqno-start) (g .seqno-end) (g .taken) .small
+      fit-limits (getD replies j []) true (g .from-start) (g .from-end) (g .seqno-start) (g .seqno-end)
+      (g .taken) .small
 
   -- fifteen of them, or all
   pub enough : min 15 (length wants) ≤ servedOf replies (p .reply-out)
-  enough = let n = replies-count in let s = served-enough replies (p .reply-out) (fair .reply-room) reply-short in omega arith
+  enough = let n = replies-count in let s = served-enough replies (p .reply-out) (fair .reply-room) reply-short in
+      omega arith
 
   enough-replies : min 15 (length replies) ≤ servedOf replies (p .reply-out)
   enough-replies = served-enough replies (p .reply-out) (fair .reply-room) reply-short
 
   reply-cached : cachedOf (b .node .cache) (b .messages) (wanted asking) ≡ replies
   unfolding replies wants
-  reply-cached = reply-has (b .node) (b .ids) (b .messages) (p .topic) (p .windows) fineB (hb .bytes) (fair .topic-short) (a .node) (a .ids) (a .messages)
+  reply-cached = reply-has (b .node) (b .ids) (b .messages) (p .topic) (p .windows) fineB (hb .bytes)
+      (fair .topic-short) (a .node) (a .ids) (a .messages)
 
   request-accepted : acceptOf asking ≡ checked.Fine
-  request-accepted = request-taken (b .node) (b .ids) (b .messages) (p .topic) (p .windows) fineB (hb .bytes) (fair .topic-short) (a .node) (a .ids) (a .messages) .0
+  request-accepted = request-taken (b .node) (b .ids) (b .messages) (p .topic) (p .windows) fineB (hb .bytes)
+      (fair .topic-short) (a .node) (a .ids) (a .messages) .0
 
   reply-answer : replyAnswer p a b ≡ replyTo replies (p .reply-out)
   unfolding serveAnswer
   reply-answer = rw (requested, fineB, request-accepted, reply-cached)
 
-  reply-left : serveLeft (b .node) (b .ids) (b .messages) (requestOf p a b) (p .reply-out) ≡ sets (p .reply-out) 0 (replyBytes replies (p .reply-out))
+  reply-left : serveLeft (b .node) (b .ids) (b .messages) (requestOf p a b) (p .reply-out) ≡ sets (p .reply-out) 0
+      (replyBytes replies (p .reply-out))
   unfolding serveLeft
   reply-left = rw (requested, fineB, request-accepted, reply-cached)
 
@@ -204,4 +230,5 @@ module _ {set : List (List ℕ)} {x y : Settings} {firstA pastA leftA firstB pas
 
   pub reply-delivers : Delivers replies (p .reply-out)
   unfolding replies wants
-  reply-delivers = reply-taken (b .node) (b .ids) (b .messages) (p .topic) (p .windows) fineB (hb .bytes) (fair .topic-short) (a .node) (a .ids) (a .messages) (p .reply-out)
+  reply-delivers = reply-taken (b .node) (b .ids) (b .messages) (p .topic) (p .windows) fineB (hb .bytes)
+      (fair .topic-short) (a .node) (a .ids) (a .messages) (p .reply-out)

@@ -18,7 +18,8 @@ pub record MessageSet (set : List (List ℕ)) : Type 0 where
   -- every one passes admission with the host's word
   pub admissible : (m : List ℕ) → among m set ≡ true → (id : List ℕ) × (givesId m id ≡ true)
   -- different messages of the set have different ids
-  pub ids-differ : (m k id : List ℕ) → among m set ≡ true → among k set ≡ true → givesId m id ≡ true → givesId k id ≡ true → m ≡ k
+  pub ids-differ : (m k id : List ℕ) → among m set ≡ true → among k set ≡ true → givesId m id ≡ true
+      → givesId k id ≡ true → m ≡ k
 
 -- ---- admitting set members only; where the body is refused or the host's word withheld, the node gets nothing
 abbrev pub Member : List (List ℕ) → Plan → Type 0
@@ -34,7 +35,8 @@ MemberAt set s (serve body out) = _≡_ {A = ℕ} 0 0
 
 pub data Members (set : List (List ℕ)) : List Call → State → Type 0 where
   none-left : {s : State} → Members set [] s
-  member : {c : Call} {cs : List Call} {s : State} → MemberAt set s c → Members set cs (after c s) → Members set (c ∷ cs) s
+  member : {c : Call} {cs : List Call} {s : State} → MemberAt set s c → Members set cs (after c s)
+      → Members set (c ∷ cs) s
 
 -- ---- the clock
 pub record Clock (x : Settings) (rs : List ℕ) : Type 0 where

@@ -1,5 +1,5 @@
--- The request is exact: given the other's advertisement, a gateway writes a request exactly where it lacks something that the other holds, and the
--- request names exactly that, each id once.
+-- The request is exact: given the other's advertisement, a gateway writes a request exactly where it lacks something
+-- that the other holds, and the request names exactly that, each id once.
 use Prim.Native.Nat.{ℕ}
 use mathlib.Core.Path.{_≡_, refl, sym, ap, subst, _∙_}
 use mathlib.Core.Bool.{true}
@@ -38,13 +38,16 @@ empty-same : {A B : Type 0} (l : List A) (m : List B) → length l ≡ length m 
 empty-same l [] e z = refl
 empty-same l (x ∷ m) e z = let k = ap length z in absurd (omega arith)
 
-pub exact-request : {set : List (List ℕ)} {x y : Settings} {firstA pastA leftA firstB pastB leftB : ℕ} {rsA rsB : List ℕ} {gotA gotB : List (List ℕ)} {a b : State}
-    → Holding set x firstA pastA rsA leftA gotA a → Holding set y firstB pastB rsB leftB gotB b → (p : Play) → Fair p x y → ExactRequest p a b
+pub exact-request : {set : List (List ℕ)} {x y : Settings} {firstA pastA leftA firstB pastB leftB : ℕ}
+    {rsA rsB : List ℕ} {gotA gotB : List (List ℕ)} {a b : State}
+    → Holding set x firstA pastA rsA leftA gotA a → Holding set y firstB pastB rsB leftB gotB b → (p : Play)
+    → Fair p x y → ExactRequest p a b
 exact-request {a} {b} ha hb p fair =
     let w = lacking (gatewayOf a) (toldOf (p .topic) (p .windows) (gatewayOf b)) in
     let fb = fine hb (p .topic) (p .windows) (fair .windows-y) in
     let n = wants-count hb (p .topic) (p .windows) (fair .windows-y) a in
-    let s = asked-something (b .node) (b .ids) (b .messages) (p .topic) (p .windows) fb (hb .bytes) (fair .topic-short) (a .node) (a .ids) (a .messages) in
+    let s = asked-something (b .node) (b .ids) (b .messages) (p .topic) (p .windows) fb (hb .bytes) (fair .topic-short)
+    (a .node) (a .ids) (a .messages) in
     let e = requested ha hb p fair in
     record {
       advert-taken = advert-done ha hb p fair;
@@ -56,7 +59,8 @@ exact-request {a} {b} ha hb p fair =
       ids = w;
       names = λ there.
           subst (λ (l : List ℕ). Within l (request w)) (sym e)
-          (request-meant (b .node) (b .ids) (b .messages) (p .topic) (p .windows) fb (hb .bytes) (fair .topic-short) (a .node) (a .ids) (a .messages)
+          (request-meant (b .node) (b .ids) (b .messages) (p .topic) (p .windows) fb (hb .bytes) (fair .topic-short)
+          (a .node) (a .ids) (a .messages)
           (λ z. there (empty-same w (lacked (p .topic) a b) n z)));
       once = wants-once hb (p .topic) (p .windows) (fair .windows-y) a;
       exactly = wants-exactly hb (p .topic) (p .windows) (fair .windows-y) a;
@@ -64,6 +68,7 @@ exact-request {a} {b} ha hb p fair =
     }
 
 -- ---- for two histories under the premises
-pub request-is-exact : {set : List (List ℕ)} {x y : Settings} {calls-a calls-b : List Call} {a b : State} → MessageSet set → Premises set x calls-a a → Premises set y calls-b b
+pub request-is-exact : {set : List (List ℕ)} {x y : Settings} {calls-a calls-b : List Call} {a b : State}
+    → MessageSet set → Premises set x calls-a a → Premises set y calls-b b
     → (p : Play) → Fair p x y → ExactRequest p (afterAll calls-a a) (afterAll calls-b b)
 request-is-exact ms pa pb p fair = exact-request (holding-all ms pa) (holding-all ms pb) p fair

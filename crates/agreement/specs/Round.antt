@@ -1,5 +1,5 @@
--- Rounds for one topic, between a gateway that asks and one that tells: advertise, ask, serve, admit all served with the host's word. And what the one
--- lacks of the other.
+-- Rounds for one topic, between a gateway that asks and one that tells: advertise, ask, serve, admit all served with
+-- the host's word. And what the one lacks of the other.
 use Prim.Native.Nat.{ℕ, zero, suc, _≤_}
 use mathlib.Core.Bool.{cond, not, _&&_}
 use mathlib.Core.List.{List, [], _∷_, _++_}
@@ -72,7 +72,8 @@ module _ (p : Play) where
   replyAnswer a b = serveAnswer (b .node) (b .ids) (b .messages) (requestOf a b) (p .reply-out)
 
   unfoldable pub replyOf : State → State → List ℕ
-  replyOf a b = servedBytes (replyAnswer a b) (serveLeft (b .node) (b .ids) (b .messages) (requestOf a b) (p .reply-out))
+  replyOf a b =
+      servedBytes (replyAnswer a b) (serveLeft (b .node) (b .ids) (b .messages) (requestOf a b) (p .reply-out))
 
   unfoldable pub servedCount : State → State → ℕ
   servedCount a b = servedMessages (replyAnswer a b)
@@ -85,11 +86,15 @@ module _ (p : Play) where
   unfoldable pub tellerRound : State → State → List Call
   tellerRound a b = advertise (p .topic) (p .windows) (p .advert-out) ∷ serve (requestOf p a b) (p .reply-out) ∷ []
 
-  -- so many rounds, one after the other, and no other call of either; `at k i` is the reading at the i-th admit of the k-th round
+  -- so many rounds, one after the other, and no other call of either; `at k i` is the reading at the i-th admit of the
+  -- k-th round
   unfoldable pub askerRounds : ℕ → (ℕ → ℕ → ℕ) → State → State → List Call
   askerRounds zero at a b = []
-  askerRounds (suc r) at a b = askerRound (at 0) a b ++ askerRounds r (λ k. at (suc k)) (afterAll (askerRound (at 0) a b) a) (afterAll (tellerRound a b) b)
+  askerRounds (suc r) at a b =
+      askerRound (at 0) a b ++ askerRounds r (λ k. at (suc k)) (afterAll (askerRound (at 0) a b) a)
+      (afterAll (tellerRound a b) b)
 
   unfoldable pub tellerRounds : ℕ → (ℕ → ℕ → ℕ) → State → State → List Call
   tellerRounds zero at a b = []
-  tellerRounds (suc r) at a b = tellerRound a b ++ tellerRounds r (λ k. at (suc k)) (afterAll (askerRound (at 0) a b) a) (afterAll (tellerRound a b) b)
+  tellerRounds (suc r) at a b = tellerRound a b ++ tellerRounds r (λ k. at (suc k)) (afterAll (askerRound (at 0) a b) a)
+      (afterAll (tellerRound a b) b)

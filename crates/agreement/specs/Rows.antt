@@ -1,4 +1,5 @@
--- The messages that a gateway got, beside the ids that it has seen and the messages that it holds: one row for each, the oldest first.
+-- The messages that a gateway got, beside the ids that it has seen and the messages that it holds: one row for each,
+-- the oldest first.
 use Prim.Native.Nat.{ℕ, suc, _+_, _-_, _≤_, _<_}
 use mathlib.Core.Path.{_≡_, refl, sym, ap, ap₂, _∙_}
 use mathlib.Core.Bool.{Bool, true, _||_, or-true}
@@ -17,7 +18,8 @@ use Rattle.mcache.specs.Messages.{Cached, held, shift}
 use Rattle.node.specs.Gateway.{marked}
 use Rattle.agreement.specs.Premises.{MessageSet}
 
--- a message got, its marked id as it is seen and the message as it is cached: the expiry is at least `least`, the window at most `most`
+-- a message got, its marked id as it is seen and the message as it is cached: the expiry is at least `least`, the
+-- window at most `most`
 pub record Row (least most : ℕ) (m : List ℕ) (e : Entry) (c : Cached) : Type 0 where
   pub own : givesId m (c .id) ≡ true
   pub seen : e .id ≡ marked (c .id)
@@ -30,33 +32,41 @@ pub data Rows (least most : ℕ) : List (List ℕ) → List Entry → List Cache
   row : {m : List ℕ} {e : Entry} {c : Cached} {ms : List (List ℕ)} {es : List Entry} {cs : List Cached}
       → Row least most m e c → Rows least most ms es cs → Rows least most (m ∷ ms) (e ∷ es) (c ∷ cs)
 
-pub rows-snoc : {least most : ℕ} {m : List ℕ} {e : Entry} {c : Cached} {ms : List (List ℕ)} {es : List Entry} {cs : List Cached}
-    → Rows least most ms es cs → Row least most m e c → Rows least most (ms ++ (m ∷ [])) (es ++ (e ∷ [])) (cs ++ (c ∷ []))
+pub rows-snoc : {least most : ℕ} {m : List ℕ} {e : Entry} {c : Cached} {ms : List (List ℕ)} {es : List Entry}
+    {cs : List Cached}
+    → Rows least most ms es cs → Row least most m e c
+    → Rows least most (ms ++ (m ∷ [])) (es ++ (e ∷ [])) (cs ++ (c ∷ []))
 rows-snoc none r = row r none
 rows-snoc (row x rs) r = row x (rows-snoc rs r)
 
-pub rows-lengths : {least most : ℕ} {ms : List (List ℕ)} {es : List Entry} {cs : List Cached} → Rows least most ms es cs → (length es ≡ length ms) × (length cs ≡ length ms)
+pub rows-lengths : {least most : ℕ} {ms : List (List ℕ)} {es : List Entry} {cs : List Cached} → Rows least most ms es cs
+    → (length es ≡ length ms) × (length cs ≡ length ms)
 rows-lengths none = (refl, refl)
 rows-lengths (row x rs) = let l = rows-lengths rs in (ap suc (l .0), ap suc (l .1))
 
 -- ---- a clean-up drops nothing before the least expiry
-pub rows-live : {least most : ℕ} {ms : List (List ℕ)} {es : List Entry} {cs : List Cached} (at : ℕ) → at < least → Rows least most ms es cs → live at es ≡ es
+pub rows-live : {least most : ℕ} {ms : List (List ℕ)} {es : List Entry} {cs : List Cached} (at : ℕ) → at < least
+    → Rows least most ms es cs → live at es ≡ es
 unfolding live
 rows-live at h none = refl
 rows-live at h (row {m} {e} {c} {ms} {es} {cs} x rs) = let l = x .lasts in rw (lt-leb (e .expiry) at (omega arith))
 
 -- ---- a shift drops nothing before the windows are used up
-pub rows-shift : {least most : ℕ} {ms : List (List ℕ)} {es : List Entry} {cs : List Cached} (history : ℕ) → suc most < history → Rows least most ms es cs
+pub rows-shift : {least most : ℕ} {ms : List (List ℕ)} {es : List Entry} {cs : List Cached} (history : ℕ)
+    → suc most < history → Rows least most ms es cs
     → Rows least (suc most) ms es (shift history cs)
 unfolding shift
 rows-shift history h none = none
 rows-shift {least} {most} history h (row {m} {e} {c} {ms} {es} {cs} x rs) =
     let y = x .young in
     rw (lt-ltb (suc (c .window)) history (omega arith))
-    (row {c = record { id = c .id; message = c .message; window = suc (c .window) }} (record { own = x .own; seen = x .seen; message = x .message; lasts = x .lasts; young = omega arith }) (rows-shift history h rs))
+    (row {c = record { id = c .id; message = c .message; window = suc (c .window) }}
+    (record { own = x .own; seen = x .seen; message = x .message; lasts = x .lasts; young = omega arith })
+    (rows-shift history h rs))
 
 -- ---- the ids of a set's messages are the same exactly where the messages are
-module _ {set : List (List ℕ)} (ms : MessageSet set) (m id : List ℕ) (inside : among m set ≡ true) (own : givesId m id ≡ true) where
+module _ {set : List (List ℕ)} (ms : MessageSet set) (m id : List ℕ) (inside : among m set ≡ true)
+    (own : givesId m id ≡ true) where
   same-ids : (k i : List ℕ) → among k set ≡ true → givesId k i ≡ true → sameBytes i id ≡ sameBytes k m
   same-ids k i a g =
       either (sameBytes k m)
@@ -69,7 +79,8 @@ module _ {set : List (List ℕ)} (ms : MessageSet set) (m id : List ℕ) (inside
       (λ u. u ∙ sym t))
 
   -- a message is got exactly where its id is seen, and exactly where it is cached
-  pub rows-held : {least most : ℕ} {got : List (List ℕ)} {es : List Entry} {cs : List Cached} → ((k : List ℕ) → among k got ≡ true → among k set ≡ true)
+  pub rows-held : {least most : ℕ} {got : List (List ℕ)} {es : List Entry} {cs : List Cached}
+      → ((k : List ℕ) → among k got ≡ true → among k set ≡ true)
       → Rows least most got es cs → (holds (marked id) es ≡ among m got) × (held id cs ≡ among m got)
   unfolding holds held among sameBytes
   rows-held from none = (refl, refl)

@@ -1,4 +1,5 @@
--- What is told depends only on which ids there are: two lists of ids put in order are the same where the same ids are among them.
+-- What is told depends only on which ids there are: two lists of ids put in order are the same where the same ids are
+-- among them.
 use Prim.Native.Nat.{ℕ, _<_}
 use mathlib.Core.Path.{_≡_, refl, sym, ap, _∙_}
 use mathlib.Core.Bool.{Bool, true, false, _||_, or-true}
@@ -8,7 +9,8 @@ use Rattle.basis.specs.Cases.{either, clash}
 use Rattle.rows.specs.Ids.{sameBytes, precedesBytes, among}
 use Rattle.rows.specs.IdsLaws.{same-self, same-equal}
 use Rattle.mcache.specs.Messages.{Cached, topics, idsOf, carrying, enterId, inOrder, gossipIds}
-use Rattle.mcache.specs.GossipLaws.{order-cases, enter-same, enter-past, enter-front, enter-swap, among-enter, gossip-exactly}
+use Rattle.mcache.specs.GossipLaws.{order-cases, enter-same, enter-past, enter-front, enter-swap, among-enter}
+use Rattle.mcache.specs.GossipLaws.{gossip-exactly}
 
 -- ---- an id entered twice is entered once
 enter-twice : (i : List ℕ) (l : List (List ℕ)) → enterId i (enterId i l) ≡ enterId i l
@@ -31,7 +33,8 @@ enter-there i (j ∷ is) h =
     (λ t. enter-swap i j (inOrder is) ∙ ap (enterId j) (enter-there i is (simp t at g)))
 
 -- ---- ids that are all there already change nothing
-absorbed : (is js : List (List ℕ)) → ((i : List ℕ) → among i (inOrder is) ≡ true → among i (inOrder js) ≡ true) → inOrder (is ++ js) ≡ inOrder js
+absorbed : (is js : List (List ℕ)) → ((i : List ℕ) → among i (inOrder is) ≡ true → among i (inOrder js) ≡ true)
+    → inOrder (is ++ js) ≡ inOrder js
 unfolding inOrder
 absorbed [] js h = refl
 absorbed (i ∷ is) js h =
@@ -50,7 +53,8 @@ order-swap [] js = ap inOrder (sym (append-nil js))
 order-swap (i ∷ is) js = ap (enterId i) (order-swap is js) ∙ sym (order-middle js is i)
 
 -- two lists in order with the same ids are the same
-pub ordered-same : (is js : List (List ℕ)) → ((i : List ℕ) → among i (inOrder is) ≡ among i (inOrder js)) → inOrder is ≡ inOrder js
+pub ordered-same : (is js : List (List ℕ)) → ((i : List ℕ) → among i (inOrder is) ≡ among i (inOrder js))
+    → inOrder is ≡ inOrder js
 ordered-same is js h =
     sym (absorbed js is (λ i m. h i ∙ m)) ∙ order-swap js is ∙ absorbed is js (λ i m. sym (h i) ∙ m)
 
@@ -59,7 +63,8 @@ pub told-same : (topic : List ℕ) (windows windows2 : ℕ) (ms ks : List Cached
     → ((i : List ℕ) → among i (gossipIds topic windows ms) ≡ among i (gossipIds topic windows2 ks))
     → gossipIds topic windows ms ≡ gossipIds topic windows2 ks
 unfolding gossipIds
-told-same topic windows windows2 ms ks h = ordered-same (idsOf (carrying topic windows ms)) (idsOf (carrying topic windows2 ks)) h
+told-same topic windows windows2 ms ks h =
+    ordered-same (idsOf (carrying topic windows ms)) (idsOf (carrying topic windows2 ks)) h
 
 -- ---- where all windows are asked for, every message that carries the topic is told of
 pub record Carried (i topic : List ℕ) (ms : List Cached) : Type 0 where
@@ -68,13 +73,20 @@ pub record Carried (i topic : List ℕ) (ms : List Cached) : Type 0 where
   pub named : entry .id ≡ i
   pub carries : List·Memᴰ topic (topics entry)
 
-pub told-all : (i topic : List ℕ) (windows : ℕ) (ms : List Cached) → ((m : Cached) → List·Memᴰ m ms → m .window < windows)
+pub told-all : (i topic : List ℕ) (windows : ℕ) (ms : List Cached)
+    → ((m : Cached) → List·Memᴰ m ms → m .window < windows)
     → (among i (gossipIds topic windows ms) ≡ true) ↔ Carried i topic ms
 told-all i topic windows ms all = (
   λ h. let t = gossip-exactly i topic windows ms .0 h in
       record { entry = t .entry; cached = t .cached; named = t .named; carries = t .carries },
   λ (c : Carried i topic ms). gossip-exactly i topic windows ms .1
-      (record { entry = c .entry; cached = c .cached; named = c .named; recent = all (c .entry) (c .cached); carries = c .carries }),
+      (record {
+        entry = c .entry;
+        cached = c .cached;
+        named = c .named;
+        recent = all (c .entry) (c .cached);
+        carries = c .carries;
+      }),
 )
 
 -- ---- two caches, all of whose windows are asked for, tell the same where they have the same ids that carry the topic

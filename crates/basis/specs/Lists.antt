@@ -15,9 +15,12 @@ use Rattle.basis.specs.Bytes.{Bytes}
 use Rattle.basis.specs.Writing.{answer, written, endIn, setIn}
 
 -- one write after another is one write
-pub sets-append : {A : Type 0} (l : List A) (i : ℕ) (xs ys : List A) → sets l i (xs ++ ys) ≡ sets (sets l i xs) (i + length xs) ys
+pub sets-append : {A : Type 0} (l : List A) (i : ℕ) (xs ys : List A)
+    → sets l i (xs ++ ys) ≡ sets (sets l i xs) (i + length xs) ys
 sets-append l i [] ys = rw (add-zero i)
-sets-append l i (x ∷ xs) ys = sets-append (set l i x) (suc i) xs ys ∙ ap (λ (k : ℕ). sets (sets (set l i x) (suc i) xs) k ys) {x = suc i + length xs} {y = i + suc (length xs)} (omega arith)
+sets-append l i (x ∷ xs) ys = sets-append (set l i x) (suc i) xs ys
+    ∙ ap (λ (k : ℕ). sets (sets (set l i x) (suc i) xs) k ys) {x = suc i + length xs} {y = i + suc (length xs)}
+    (omega arith)
 
 -- a writer that has the room
 pub answer-fits : (xs out : List ℕ) → length xs ≤ length out → answer xs out ≡ Wrote (length xs)

@@ -1,4 +1,5 @@
--- What a call tells: 01's number, 0 where it is done, and the values beside it, at most four: what was done, or what 01's table returns.
+-- What a call tells: 01's number, 0 where it is done, and the values beside it, at most four: what was done, or what
+-- 01's table returns.
 use Prim.Native.Nat.{ℕ}
 use mathlib.Core.List.{List, [], _∷_}
 use lib.ListN.{length, getD, take}

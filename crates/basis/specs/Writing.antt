@@ -14,8 +14,8 @@ answer xs out = cond (leb (length xs) (length out)) (Bytes (length xs)) (Room (l
 unfoldable pub written : List ℕ → List ℕ → List ℕ
 written xs out = cond (leb (length xs) (length out)) (xs ++ drop (length xs) out) out
 
--- a writer within a line or a body: xs goes to `at` where `room` bytes are there from `at` on, and the answer is the place after xs; else
--- nothing is written, and the place is as it was
+-- a writer within a line or a body: xs goes to `at` where `room` bytes are there from `at` on, and the answer is the
+-- place after xs; else nothing is written, and the place is as it was
 unfoldable pub endIn : ℕ → ℕ → List ℕ → List ℕ → ℕ
 endIn room at xs out = cond (leb (at + room) (length out)) (at + length xs) at
 

@@ -1,6 +1,6 @@
--- The canonical bytes of a message, as the writer makes them from its body: the fields of the table in the order of their numbers, of a singular
--- one the last, of repeated ones each, submessages in the same way. specs of rpc say what these bytes are for the RPC that a body means
--- (`canon-written`).
+-- The canonical bytes of a message, as the writer makes them from its body: the fields of the table in the order of
+-- their numbers, of a singular one the last, of repeated ones each, submessages in the same way. specs of rpc say what
+-- these bytes are for the RPC that a body means (`canon-written`).
 use Prim.Native.Nat.{ℕ, zero, suc, _+_}
 use mathlib.Core.Bool.{cond}
 use mathlib.Core.List.{List, [], _++_}
@@ -41,7 +41,8 @@ placed n s place.Absent = []
 placed n s (place.Present a e) = bytesField n (between s a e)
 
 unfoldable pub slotIn : ℕ → Slots → Place
-slotIn i t = cond (eqb i 1) (t .first) (cond (eqb i 2) (t .second) (cond (eqb i 3) (t .third) (cond (eqb i 4) (t .fourth) (t .fifth))))
+slotIn i t = cond (eqb i 1) (t .first)
+    (cond (eqb i 2) (t .second) (cond (eqb i 3) (t .third) (cond (eqb i 4) (t .fourth) (t .fifth))))
 
 -- of a flag only whether it is zero is written
 abbrev pub figured : Figure → ℕ → ℕ

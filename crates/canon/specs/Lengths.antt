@@ -11,7 +11,8 @@ use borrow.Author.Tests.{ltb-true, ltb-false, eqb-true, eq-eqb, ne-eqb}
 use Rattle.basis.specs.Cases.{either}
 use Rattle.peer_id.specs.Uvarint.{uvarint}
 use Rattle.peer_id.specs.Laws.{uvarint-small, uvarint-big, uvarint-some}
-use Rattle.protobuf.specs.Grammar.{Payload, number, eight, bytes, four, Entry, Value, varint, i64, len-prefix, i32, Body, none as no-fields, field}
+use Rattle.protobuf.specs.Grammar.{Payload, number, eight, bytes, four, Entry, Value, varint, i64, len-prefix, i32}
+use Rattle.protobuf.specs.Grammar.{Body, none as no-fields, field}
 use Rattle.protobuf.specs.Encode.{tag, varintField, bytesField}
 use Rattle.protobuf.specs.EncodeLaws.{varint-field-length, bytes-field-length}
 use Rattle.rpc.specs.Grammar.{putNumber, numbersIn, putBytes, bytesIn, orElse, last, Pairs, no-pairs, _paired_}
@@ -45,15 +46,19 @@ double (suc b) =
 pub uvarint-sum : (a b : ℕ) → length (uvarint (a + b)) ≤ length (uvarint a) + length (uvarint b)
 uvarint-sum a b =
     either (ltb a b)
-    (λ t. let h = ltb-true a b t in let d = double b in let m = uvarint-mono (a + b) (b + b) (omega arith) in let s = uvarint-some a in omega arith)
-    (λ t. let h = ltb-false a b t in let d = double a in let m = uvarint-mono (a + b) (a + a) (omega arith) in let s = uvarint-some b in omega arith)
+    (λ t. let h = ltb-true a b t in let d = double b in let m = uvarint-mono (a + b) (b + b) (omega arith) in
+    let s = uvarint-some a in omega arith)
+    (λ t. let h = ltb-false a b t in let d = double a in let m = uvarint-mono (a + b) (a + a) (omega arith) in
+    let s = uvarint-some b in omega arith)
 
 -- ---- fields
 pub varint-field-mono : (n a b : ℕ) → a ≤ b → length (varintField n a) ≤ length (varintField n b)
-varint-field-mono n a b h = let m = uvarint-mono a b h in omega (arith, varint-field-length n a, varint-field-length n b)
+varint-field-mono n a b h = let m = uvarint-mono a b h in
+    omega (arith, varint-field-length n a, varint-field-length n b)
 
 pub bytes-field-mono : (n : ℕ) (d e : List ℕ) → length d ≤ length e → length (bytesField n d) ≤ length (bytesField n e)
-bytes-field-mono n d e h = let m = uvarint-mono (length d) (length e) h in omega (arith, bytes-field-length n d, bytes-field-length n e)
+bytes-field-mono n d e h = let m = uvarint-mono (length d) (length e) h in
+    omega (arith, bytes-field-length n d, bytes-field-length n e)
 
 -- ---- a body is as long as its fields
 abbrev valueLength : ℕ → Payload → ℕ
@@ -66,7 +71,8 @@ abbrev entriesLength : List Entry → ℕ
 entriesLength [] = 0
 entriesLength (e ∷ es) = valueLength (e .field) (e .payload) + entriesLength es
 
-value-length : {type : ℕ} {v : List ℕ} {p : Payload} (n : ℕ) → Value type v p → length (uvarint (n * 8 + type)) + length v ≡ valueLength n p
+value-length : {type : ℕ} {v : List ℕ} {p : Payload} (n : ℕ) → Value type v p
+    → length (uvarint (n * 8 + type)) + length v ≡ valueLength n p
 unfolding varintField bytesField tag
 value-length n (varint {v = v} b) = sym (length-append (uvarint (n * 8 + 0)) (uvarint v))
 value-length n (i64 g) = refl
@@ -98,30 +104,35 @@ spentTo zero es = 0
 spentTo (suc c) es = spentTo c es + spentOn (suc c) es
 
 -- one field is counted once at most
-other-entry : (m n : ℕ) (p : Payload) (es : List Entry) → eqb n m ≡ false → spentOn m (record { field = n; payload = p } ∷ es) ≡ spentOn m es
+other-entry : (m n : ℕ) (p : Payload) (es : List Entry) → eqb n m ≡ false
+    → spentOn m (record { field = n; payload = p } ∷ es) ≡ spentOn m es
 other-entry m n (number v) es t = simp t
 other-entry m n (eight d) es t = refl
 other-entry m n (bytes d) es t = simp t
 other-entry m n (four d) es t = refl
 
-this-entry : (m : ℕ) (p : Payload) (es : List Entry) → spentOn m (record { field = m; payload = p } ∷ es) ≤ valueLength m p + spentOn m es
+this-entry : (m : ℕ) (p : Payload) (es : List Entry)
+    → spentOn m (record { field = m; payload = p } ∷ es) ≤ valueLength m p + spentOn m es
 this-entry m (number v) es = simp (eq-eqb m m refl) (omega arith)
 this-entry m (eight d) es = omega arith
 this-entry m (bytes d) es = simp (eq-eqb m m refl) (omega arith)
 this-entry m (four d) es = omega arith
 
-later-entry : (c n : ℕ) (p : Payload) (es : List Entry) → c < n → spentTo c (record { field = n; payload = p } ∷ es) ≡ spentTo c es
+later-entry : (c n : ℕ) (p : Payload) (es : List Entry) → c < n → spentTo c (record { field = n; payload = p } ∷ es)
+    ≡ spentTo c es
 later-entry zero n p es h = refl
 later-entry (suc c) n p es h =
     let a = later-entry c n p es (omega arith) in
     let b = other-entry (suc c) n p es (ne-eqb n (suc c) (λ e. omega arith)) in
     omega arith
 
-one-entry : (c n : ℕ) (p : Payload) (es : List Entry) → spentTo c (record { field = n; payload = p } ∷ es) ≤ valueLength n p + spentTo c es
+one-entry : (c n : ℕ) (p : Payload) (es : List Entry)
+    → spentTo c (record { field = n; payload = p } ∷ es) ≤ valueLength n p + spentTo c es
 one-entry zero n p es = omega arith
 one-entry (suc c) n p es =
     either (eqb n (suc c))
-    (λ t. let e = eqb-true n (suc c) t in rw e (let a = later-entry c (suc c) p es (omega arith) in let b = this-entry (suc c) p es in omega arith))
+    (λ t. let e = eqb-true n (suc c) t in rw e (let a = later-entry c (suc c) p es (omega arith) in let b = this-entry
+    (suc c) p es in omega arith))
     (λ t. let a = one-entry c n p es in let b = other-entry (suc c) n p es t in omega arith)
 
 spent-fits : (c : ℕ) (es : List Entry) → spentTo c es ≤ entriesLength es
@@ -139,15 +150,18 @@ pub last-bytes : (m : ℕ) (ds : List (List ℕ)) → length (optional (bytesFie
 last-bytes m [] = omega arith
 last-bytes m (d ∷ ds) = of-last (last ds) (last-bytes m ds)
   where
-    of-last : (o : Option (List ℕ)) → length (optional (bytesField m) o) ≤ bytesLength m ds → length (optional (bytesField m) (orElse o d)) ≤ length (bytesField m d) + bytesLength m ds
+    of-last : (o : Option (List ℕ)) → length (optional (bytesField m) o) ≤ bytesLength m ds
+        → length (optional (bytesField m) (orElse o d)) ≤ length (bytesField m d) + bytesLength m ds
     of-last none h = omega arith
     of-last (some x) h = omega arith
 
-pub last-numbers : (m : ℕ) (f : ℕ → ℕ) → ((v : ℕ) → f v ≤ v) → (vs : List ℕ) → length (optional (λ v. varintField m (f v)) (last vs)) ≤ numbersLength m vs
+pub last-numbers : (m : ℕ) (f : ℕ → ℕ) → ((v : ℕ) → f v ≤ v) → (vs : List ℕ)
+    → length (optional (λ v. varintField m (f v)) (last vs)) ≤ numbersLength m vs
 last-numbers m f small [] = omega arith
 last-numbers m f small (v ∷ vs) = of-last (last vs) (last-numbers m f small vs)
   where
-    of-last : (o : Option ℕ) → length (optional (λ v. varintField m (f v)) o) ≤ numbersLength m vs → length (optional (λ v. varintField m (f v)) (orElse o v)) ≤ length (varintField m v) + numbersLength m vs
+    of-last : (o : Option ℕ) → length (optional (λ v. varintField m (f v)) o) ≤ numbersLength m vs
+        → length (optional (λ v. varintField m (f v)) (orElse o v)) ≤ length (varintField m v) + numbersLength m vs
     of-last none h = let l = varint-field-mono m (f v) v (small v) in omega arith
     of-last (some x) h = omega arith
 
@@ -156,7 +170,9 @@ all-bytes m [] = refl
 all-bytes m (d ∷ ds) = length-append (bytesField m d) (repeated (bytesField m) ds) ∙ omega (arith, all-bytes m ds)
 
 -- submessages that are no longer than those that they stand for
-pub all-subs : {X : Type 0} {R : List ℕ → X → Type 0} (m : ℕ) (enc : X → List ℕ) → ((d : List ℕ) (x : X) → R d x → length (enc x) ≤ length d) → {ds : List (List ℕ)} {xs : List X} → Pairs R ds xs → length (repeated (λ x. bytesField m (enc x)) xs) ≤ bytesLength m ds
+pub all-subs : {X : Type 0} {R : List ℕ → X → Type 0} (m : ℕ) (enc : X → List ℕ)
+    → ((d : List ℕ) (x : X) → R d x → length (enc x) ≤ length d) → {ds : List (List ℕ)} {xs : List X} → Pairs R ds xs
+    → length (repeated (λ x. bytesField m (enc x)) xs) ≤ bytesLength m ds
 all-subs m enc short no-pairs = omega arith
 all-subs m enc short (_paired_ {x = d} {y = x} {xs = ds} {ys = xs} p ps) =
     let a = length-append (bytesField m (enc x)) (repeated (λ x. bytesField m (enc x)) xs) in

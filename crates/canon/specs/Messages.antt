@@ -1,4 +1,5 @@
--- The message at an index of a body is that message of the RPC that the body means; and where there is none, the number of messages is told.
+-- The message at an index of a body is that message of the RPC that the body means; and where there is none, the number
+-- of messages is told.
 use Prim.Native.Nat.{ℕ, zero, suc, _+_, _≤_, _<_}
 use mathlib.Core.Path.{_≡_, refl, sym, ap, ap₂, subst, _∙_}
 use mathlib.Core.Bool.{Bool, cond}
@@ -32,29 +33,35 @@ pub raw-is : {p : List ℕ} {m : RawMessage} → IsMessage p m → m .raw ≡ p
 raw-is (is-message g u) = refl
 
 -- with n messages passed, the message k further on is the element k of those that are left
-list-at : (s : List ℕ) (fs : List Field) (i n k a e : ℕ) → i ≡ n + k → messageAlong i n (whole fs) ≡ At a e → Nth k (bytesIn 2 (entriesOf s fs)) (between s a e)
+list-at : (s : List ℕ) (fs : List Field) (i n k a e : ℕ) → i ≡ n + k → messageAlong i n (whole fs) ≡ At a e
+    → Nth k (bytesIn 2 (entriesOf s fs)) (between s a e)
 list-at s [] i n k a e q h = clash (cc)
 list-at s (f ∷ fs) i n k a e q h =
     let ds = bytesIn 2 (entriesOf s fs) in
     let pb = put-bytes s 2 f ds in
     either (isBytes 2 f)
-    (λ t. subst (λ (l : List (List ℕ)). Nth k l (between s a e)) (sym (pb ∙ ap (λ (x : Bool). cond x (valueIn s f ∷ ds) ds) t))
+    (λ t. subst (λ (l : List (List ℕ)). Nth k l (between s a e))
+    (sym (pb ∙ ap (λ (x : Bool). cond x (valueIn s f ∷ ds) ds) t))
     (either (eqb n i)
     (λ u. let g = simp (t, u) at h in
     let pa : f .start ≡ a = cc in let pe : f .next ≡ e = cc in
     let z = eqb-true n i u in
-    subst (λ (j : ℕ). Nth j (valueIn s f ∷ ds) (between s a e)) (omega arith) (subst (λ (d : List ℕ). Nth 0 (valueIn s f ∷ ds) d) (ap₂ (between s) pa pe) here))
+    subst (λ (j : ℕ). Nth j (valueIn s f ∷ ds) (between s a e)) (omega arith)
+    (subst (λ (d : List ℕ). Nth 0 (valueIn s f ∷ ds) d) (ap₂ (between s) pa pe) here))
     (λ u. let g = simp (t, u) at h in
     let z = eqb-false n i u in
     step k (λ j r. list-at s fs i (n + 1) j a e r g) q z)))
-    (λ t. subst (λ (l : List (List ℕ)). Nth k l (between s a e)) (sym (pb ∙ ap (λ (x : Bool). cond x (valueIn s f ∷ ds) ds) t)) (list-at s fs i n k a e q (simp t at h)))
+    (λ t. subst (λ (l : List (List ℕ)). Nth k l (between s a e))
+    (sym (pb ∙ ap (λ (x : Bool). cond x (valueIn s f ∷ ds) ds) t)) (list-at s fs i n k a e q (simp t at h)))
   where
-    step : (k : ℕ) → ((j : ℕ) → i ≡ n + 1 + j → Nth j (bytesIn 2 (entriesOf s fs)) (between s a e)) → i ≡ n + k → (n ≡ i → ⊥) → Nth k (valueIn s f ∷ bytesIn 2 (entriesOf s fs)) (between s a e)
+    step : (k : ℕ) → ((j : ℕ) → i ≡ n + 1 + j → Nth j (bytesIn 2 (entriesOf s fs)) (between s a e)) → i ≡ n + k
+        → (n ≡ i → ⊥) → Nth k (valueIn s f ∷ bytesIn 2 (entriesOf s fs)) (between s a e)
     step zero r q z = absurd (z (omega arith))
     step (suc j) r q z = there (r j (omega arith))
 
 -- and where there is none, all are counted
-list-count : (s : List ℕ) (fs : List Field) (i n m : ℕ) → n ≤ i → messageAlong i n (whole fs) ≡ Count m → (m ≡ n + length (bytesIn 2 (entriesOf s fs))) × (m ≤ i)
+list-count : (s : List ℕ) (fs : List Field) (i n m : ℕ) → n ≤ i → messageAlong i n (whole fs) ≡ Count m
+    → (m ≡ n + length (bytesIn 2 (entriesOf s fs))) × (m ≤ i)
 list-count s [] i n m l h = let e : n ≡ m = cc in omega arith
 list-count s (f ∷ fs) i n m l h =
     let ds = bytesIn 2 (entriesOf s fs) in
@@ -62,14 +69,17 @@ list-count s (f ∷ fs) i n m l h =
     either (isBytes 2 f)
     (λ t. let g = ap length (pb ∙ ap (λ (x : Bool). cond x (valueIn s f ∷ ds) ds) t) in
     either (eqb n i) (λ u. clash (let k = simp (t, u) at h in cc))
-    (λ u. let z = eqb-false n i u in let r = list-count s fs i (n + 1) m (lt-of n i l z) (simp (t, u) at h) in omega (arith, g)))
-    (λ t. let g = ap length (pb ∙ ap (λ (x : Bool). cond x (valueIn s f ∷ ds) ds) t) in let r = list-count s fs i n m l (simp t at h) in omega (arith, g))
+    (λ u. let z = eqb-false n i u in let r = list-count s fs i (n + 1) m (lt-of n i l z) (simp (t, u) at h) in
+    omega (arith, g)))
+    (λ t. let g = ap length (pb ∙ ap (λ (x : Bool). cond x (valueIn s f ∷ ds) ds) t) in let r = list-count s fs i n m l
+    (simp t at h) in omega (arith, g))
   where
     lt-of : (n i : ℕ) → n ≤ i → (n ≡ i → ⊥) → n + 1 ≤ i
     lt-of n i l z = omega arith
 
 -- ---- in the RPC
-pairs-nth : {ds : List (List ℕ)} {ms : List RawMessage} {i : ℕ} {d : List ℕ} → Pairs IsMessage ds ms → Nth i ds d → (m : RawMessage) × (Nth i ms m) × (IsMessage d m)
+pairs-nth : {ds : List (List ℕ)} {ms : List RawMessage} {i : ℕ} {d : List ℕ} → Pairs IsMessage ds ms → Nth i ds d
+    → (m : RawMessage) × (Nth i ms m) × (IsMessage d m)
 pairs-nth (_paired_ {y = m} p ps) here = (m, here, p)
 pairs-nth (p paired ps) (there n) = let r = pairs-nth ps n in (r .0, there (r .1), r .2)
 
@@ -78,7 +88,8 @@ pairs-length no-pairs = refl
 pairs-length (p paired ps) = ap suc (pairs-length ps)
 
 -- the message that is found is that of the RPC
-pub message-found : {s : List ℕ} {x : Rpc} (i a e : ℕ) → IsRpc s x → messageAt s i ≡ At a e → (m : RawMessage) × (Nth i (x .publish) m) × (IsMessage (between s a e) m)
+pub message-found : {s : List ℕ} {x : Rpc} (i a e : ℕ) → IsRpc s x → messageAt s i ≡ At a e → (m : RawMessage)
+    × (Nth i (x .publish) m) × (IsMessage (between s a e) m)
 unfolding messageAt
 message-found i a e (is-rpc {s = s} {es = es} g h1 h2 h3) q =
     let w = body-walks s es g in
@@ -86,7 +97,8 @@ message-found i a e (is-rpc {s = s} {es = es} g h1 h2 h3) q =
     pairs-nth h2 (subst (λ (l : List Entry). Nth i (bytesIn 2 l) (between s a e)) (w .entries) n)
 
 -- where none is found, the RPC has no message at the index, and its messages are counted
-pub message-missing : {s : List ℕ} {x : Rpc} (i n : ℕ) → IsRpc s x → messageAt s i ≡ Count n → (n ≡ length (x .publish)) × (length (x .publish) ≤ i)
+pub message-missing : {s : List ℕ} {x : Rpc} (i n : ℕ) → IsRpc s x → messageAt s i ≡ Count n → (n ≡ length (x .publish))
+    × (length (x .publish) ≤ i)
 unfolding messageAt
 message-missing i n (is-rpc {s = s} {es = es} g h1 h2 h3) q =
     let w = body-walks s es g in

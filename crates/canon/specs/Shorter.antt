@@ -13,9 +13,13 @@ use Rattle.peer_id.specs.Uvarint.{uvarint}
 use Rattle.protobuf.specs.Grammar.{Entry, Body}
 use Rattle.protobuf.specs.Encode.{varintField, bytesField}
 use Rattle.protobuf.specs.EncodeLaws.{bytes-field-length}
-use Rattle.rpc.specs.Rpc.{SubOpts, RawMessage, ControlIHave, ControlIWant, ControlGraft, PeerInfo, ControlPrune, ControlMessage, Rpc}
-use Rattle.rpc.specs.Grammar.{numbersIn, bytesIn, last, nonzero, IsSubOpts, is-sub-opts, IsMessage, is-message, IsIHave, is-ihave, IsIWant, is-iwant, IsGraft, is-graft, IsPeerInfo, is-peer-info, IsPrune, is-prune, IsControl, is-control, join, joinTo, joined, IsRpc, is-rpc}
-use Rattle.rpc.specs.Encode.{optional, repeated, flag, encodeSubOpts, encodeIHave, encodeIWant, encodeGraft, encodePeerInfo, encodePrune, encodeControl, encodeRpc}
+use Rattle.rpc.specs.Rpc.{SubOpts, RawMessage, ControlIHave, ControlIWant, ControlGraft, PeerInfo, ControlPrune}
+use Rattle.rpc.specs.Rpc.{ControlMessage, Rpc}
+use Rattle.rpc.specs.Grammar.{numbersIn, bytesIn, last, nonzero, IsSubOpts, is-sub-opts, IsMessage, is-message, IsIHave}
+use Rattle.rpc.specs.Grammar.{is-ihave, IsIWant, is-iwant, IsGraft, is-graft, IsPeerInfo, is-peer-info, IsPrune}
+use Rattle.rpc.specs.Grammar.{is-prune, IsControl, is-control, join, joinTo, joined, IsRpc, is-rpc}
+use Rattle.rpc.specs.Encode.{optional, repeated, flag, encodeSubOpts, encodeIHave, encodeIWant, encodeGraft}
+use Rattle.rpc.specs.Encode.{encodePeerInfo, encodePrune, encodeControl, encodeRpc}
 use Rattle.canon.specs.Lengths.{uvarint-sum, fields-fit, last-bytes, last-numbers, all-bytes, all-subs}
 
 -- ---- each message
@@ -25,7 +29,8 @@ oneIfSome v = flag (not (eqb v 0))
 one-small : (v : ℕ) → oneIfSome v ≤ v
 one-small v = either (eqb v 0) (λ t. simp t (omega arith)) (λ t. let z = eqb-false v 0 t in simp t (omega arith))
 
-flag-nonzero : (o : Option ℕ) → optional (λ b. varintField 1 (flag b)) (nonzero o) ≡ optional (λ v. varintField 1 (oneIfSome v)) o
+flag-nonzero : (o : Option ℕ) → optional (λ b. varintField 1 (flag b)) (nonzero o) ≡ optional
+    (λ v. varintField 1 (oneIfSome v)) o
 flag-nonzero none = refl
 flag-nonzero (some v) = refl
 
@@ -36,7 +41,8 @@ sub-opts-shorter _ _ (is-sub-opts {s = s} {es = es} g u) =
     let b = last-numbers 1 oneIfSome one-small (numbersIn 1 es) in
     let c = last-bytes 2 (bytesIn 2 es) in
     let n = ap length (flag-nonzero (last (numbersIn 1 es))) in
-    let l = length-append (optional (λ b. varintField 1 (flag b)) (nonzero (last (numbersIn 1 es)))) (optional (bytesField 2) (last (bytesIn 2 es))) in
+    let l = length-append (optional (λ b. varintField 1 (flag b)) (nonzero (last (numbersIn 1 es))))
+    (optional (bytesField 2) (last (bytesIn 2 es))) in
     omega arith
 
 pub ihave-shorter : (s : List ℕ) (x : ControlIHave) → IsIHave s x → length (encodeIHave x) ≤ length s
@@ -50,11 +56,13 @@ ihave-shorter _ _ (is-ihave {s = s} {es = es} g u) =
 
 pub iwant-shorter : (s : List ℕ) (x : ControlIWant) → IsIWant s x → length (encodeIWant x) ≤ length s
 unfolding encodeIWant
-iwant-shorter _ _ (is-iwant {s = s} {es = es} g) = let a = fields-fit 1 g in let c = all-bytes 1 (bytesIn 1 es) in omega arith
+iwant-shorter _ _ (is-iwant {s = s} {es = es} g) = let a = fields-fit 1 g in let c = all-bytes 1 (bytesIn 1 es) in
+    omega arith
 
 pub graft-shorter : (s : List ℕ) (x : ControlGraft) → IsGraft s x → length (encodeGraft x) ≤ length s
 unfolding encodeGraft
-graft-shorter _ _ (is-graft {s = s} {es = es} g u) = let a = fields-fit 1 g in let b = last-bytes 1 (bytesIn 1 es) in omega arith
+graft-shorter _ _ (is-graft {s = s} {es = es} g u) = let a = fields-fit 1 g in let b = last-bytes 1 (bytesIn 1 es) in
+    omega arith
 
 pub peer-info-shorter : (s : List ℕ) (x : PeerInfo) → IsPeerInfo s x → length (encodePeerInfo x) ≤ length s
 unfolding encodePeerInfo
@@ -62,7 +70,8 @@ peer-info-shorter _ _ (is-peer-info {s = s} {es = es} g) =
     let a = fields-fit 2 g in
     let b = last-bytes 1 (bytesIn 1 es) in
     let c = last-bytes 2 (bytesIn 2 es) in
-    let l = length-append (optional (bytesField 1) (last (bytesIn 1 es))) (optional (bytesField 2) (last (bytesIn 2 es))) in
+    let l = length-append (optional (bytesField 1) (last (bytesIn 1 es)))
+    (optional (bytesField 2) (last (bytesIn 2 es))) in
     omega arith
 
 pub prune-shorter : (s : List ℕ) (x : ControlPrune) → IsPrune s x → length (encodePrune x) ≤ length s
@@ -78,7 +87,11 @@ prune-shorter _ _ (is-prune {s = s} {es = es} {ps = ps} g u h) =
     let l = length-append r n in
     omega arith
 
-control-length : (x : ControlMessage) → length (encodeControl x) ≡ length (repeated (λ h. bytesField 1 (encodeIHave h)) (x .ihave)) + length (repeated (λ w. bytesField 2 (encodeIWant w)) (x .iwant)) + length (repeated (λ g. bytesField 3 (encodeGraft g)) (x .graft)) + length (repeated (λ p. bytesField 4 (encodePrune p)) (x .prune))
+control-length : (x : ControlMessage)
+    → length (encodeControl x) ≡ length (repeated (λ h. bytesField 1 (encodeIHave h)) (x .ihave)) + length
+    (repeated (λ w. bytesField 2 (encodeIWant w)) (x .iwant)) + length
+    (repeated (λ g. bytesField 3 (encodeGraft g)) (x .graft)) + length
+    (repeated (λ p. bytesField 4 (encodePrune p)) (x .prune))
 unfolding encodeControl
 control-length x =
     let a = repeated (λ h. bytesField 1 (encodeIHave h)) (x .ihave) in
@@ -101,14 +114,18 @@ control-shorter _ _ (is-control {s = s} {es = es} {hs = hs} {ws = ws} {gs = gs} 
     omega arith
 
 -- ---- several controls as one
-pub repeated-append : {X : Type 0} (f : X → List ℕ) (xs ys : List X) → repeated f (xs ++ ys) ≡ repeated f xs ++ repeated f ys
+pub repeated-append : {X : Type 0} (f : X → List ℕ) (xs ys : List X) → repeated f (xs ++ ys) ≡ repeated f xs
+    ++ repeated f ys
 repeated-append f [] ys = refl
-repeated-append f (x ∷ xs) ys = ap (λ (l : List ℕ). f x ++ l) (repeated-append f xs ys) ∙ sym (append-assoc (f x) (repeated f xs) (repeated f ys))
+repeated-append f (x ∷ xs) ys = ap (λ (l : List ℕ). f x ++ l) (repeated-append f xs ys)
+    ∙ sym (append-assoc (f x) (repeated f xs) (repeated f ys))
 
-repeated-length : {X : Type 0} (f : X → List ℕ) (xs ys : List X) → length (repeated f (xs ++ ys)) ≡ length (repeated f xs) + length (repeated f ys)
+repeated-length : {X : Type 0} (f : X → List ℕ) (xs ys : List X)
+    → length (repeated f (xs ++ ys)) ≡ length (repeated f xs) + length (repeated f ys)
 repeated-length f xs ys = ap length (repeated-append f xs ys) ∙ length-append (repeated f xs) (repeated f ys)
 
-join-length : (c d : ControlMessage) → length (encodeControl (join c d)) ≡ length (encodeControl c) + length (encodeControl d)
+join-length : (c d : ControlMessage) → length (encodeControl (join c d)) ≡ length (encodeControl c) + length
+    (encodeControl d)
 join-length c d =
     let a = repeated-length (λ h. bytesField 1 (encodeIHave h)) (c .ihave) (d .ihave) in
     let b = repeated-length (λ w. bytesField 2 (encodeIWant w)) (c .iwant) (d .iwant) in
@@ -116,17 +133,21 @@ join-length c d =
     let f = repeated-length (λ p. bytesField 4 (encodePrune p)) (c .prune) (d .prune) in
     control-length (join c d) ∙ omega (arith, control-length c, control-length d)
 
-pub field-sum : (n : ℕ) (x y z : List ℕ) → length z ≡ length x + length y → length (bytesField n z) ≤ length (bytesField n x) + length (bytesField n y)
+pub field-sum : (n : ℕ) (x y z : List ℕ) → length z ≡ length x + length y
+    → length (bytesField n z) ≤ length (bytesField n x) + length (bytesField n y)
 field-sum n x y z e =
     let u = uvarint-sum (length x) (length y) in
     let w = ap (λ (k : ℕ). length (uvarint k)) e in
     omega (arith, bytes-field-length n x, bytes-field-length n y, bytes-field-length n z)
 
-join-field : (c : ControlMessage) (o : Option ControlMessage) → length (optional (λ c. bytesField 3 (encodeControl c)) (joinTo c o)) ≤ length (bytesField 3 (encodeControl c)) + length (optional (λ c. bytesField 3 (encodeControl c)) o)
+join-field : (c : ControlMessage) (o : Option ControlMessage)
+    → length (optional (λ c. bytesField 3 (encodeControl c)) (joinTo c o)) ≤ length (bytesField 3 (encodeControl c))
+    + length (optional (λ c. bytesField 3 (encodeControl c)) o)
 join-field c none = omega arith
 join-field c (some d) = field-sum 3 (encodeControl c) (encodeControl d) (encodeControl (join c d)) (join-length c d)
 
-joined-field : (cs : List ControlMessage) → length (optional (λ c. bytesField 3 (encodeControl c)) (joined cs)) ≤ length (repeated (λ c. bytesField 3 (encodeControl c)) cs)
+joined-field : (cs : List ControlMessage) → length (optional (λ c. bytesField 3 (encodeControl c)) (joined cs)) ≤ length
+    (repeated (λ c. bytesField 3 (encodeControl c)) cs)
 joined-field [] = omega arith
 joined-field (c ∷ cs) =
     let a = join-field c (joined cs) in

@@ -1,4 +1,5 @@
--- A body is taken exactly when it means an RPC within capacity; and then its canonical bytes are never longer than it, nor those of a message in it.
+-- A body is taken exactly when it means an RPC within capacity; and then its canonical bytes are never longer than it,
+-- nor those of a message in it.
 use Prim.Native.Nat.{ℕ, _≤_}
 use mathlib.Core.Path.{_≡_, sym, subst}
 use mathlib.Core.List.{List}
@@ -48,12 +49,14 @@ taken-exactly s b = (only-taken s b, λ p. taken (p .1))
 
 -- ---- never longer
 pub output-shorter : {s : List ℕ} {x : Rpc} → Within s x → length (canonBody s) ≤ length s
-output-shorter {s} w = subst (λ (b : List ℕ). length b ≤ length s) (sym (canon-written (w .means))) (never-longer (w .means))
+output-shorter {s} w = subst (λ (b : List ℕ). length b ≤ length s) (sym (canon-written (w .means)))
+    (never-longer (w .means))
 
 pub taken-shorter : (s : List ℕ) → Bytes s → acceptOf s ≡ Fine → length (canonBody s) ≤ length s
 taken-shorter s b h = let t = only-taken s b h in output-shorter (t .1)
 
-pub signed-shorter : (s : List ℕ) (i a e : ℕ) → Bytes s → acceptOf s ≡ Fine → messageAt s i ≡ At a e → length (canon kind.RawMessage (between s a e)) ≤ length (between s a e)
+pub signed-shorter : (s : List ℕ) (i a e : ℕ) → Bytes s → acceptOf s ≡ Fine → messageAt s i ≡ At a e
+    → length (canon kind.RawMessage (between s a e)) ≤ length (between s a e)
 signed-shorter s i a e b h q =
     let t = only-taken s b h in
     let f = message-found i a e (t .1 .means) q in

@@ -24,14 +24,22 @@ use Rattle.schema.specs.declared.Number.{Number}
 use Rattle.schema.specs.declared.Number.the-variants as number
 use Rattle.schema.specs.declared.Slots.{Slots}
 use Rattle.schema.specs.Slots.{noSlots, slotsOf}
-use Rattle.rpc.specs.Rpc.{SubOpts, RawMessage, ControlIHave, ControlIWant, ControlGraft, PeerInfo, ControlPrune, ControlMessage, Rpc}
-use Rattle.rpc.specs.Grammar.{numbersIn, bytesIn, last, nonzero, Pairs, no-pairs, _paired_, IsSubOpts, is-sub-opts, IsMessage, is-message, IsIHave, is-ihave, IsIWant, is-iwant, IsGraft, is-graft, IsPeerInfo, is-peer-info, IsPrune, is-prune, IsControl, is-control, join, joined, IsRpc, is-rpc}
-use Rattle.rpc.specs.Encode.{optional, repeated, flag, encodeSubOpts, encodeIHave, encodeIWant, encodeGraft, encodePeerInfo, encodePrune, encodeControl, encodeRpc, signPrefix, signBytes}
+use Rattle.rpc.specs.Rpc.{SubOpts, RawMessage, ControlIHave, ControlIWant, ControlGraft, PeerInfo, ControlPrune}
+use Rattle.rpc.specs.Rpc.{ControlMessage, Rpc}
+use Rattle.rpc.specs.Grammar.{numbersIn, bytesIn, last, nonzero, Pairs, no-pairs, _paired_, IsSubOpts, is-sub-opts}
+use Rattle.rpc.specs.Grammar.{IsMessage, is-message, IsIHave, is-ihave, IsIWant, is-iwant, IsGraft, is-graft}
+use Rattle.rpc.specs.Grammar.{IsPeerInfo, is-peer-info, IsPrune, is-prune, IsControl, is-control, join, joined, IsRpc}
+use Rattle.rpc.specs.Grammar.{is-rpc}
+use Rattle.rpc.specs.Encode.{optional, repeated, flag, encodeSubOpts, encodeIHave, encodeIWant, encodeGraft}
+use Rattle.rpc.specs.Encode.{encodePeerInfo, encodePrune, encodeControl, encodeRpc, signPrefix, signBytes}
 use Rattle.meaning.specs.ReadBack.{bytesAt, numberAt}
 use Rattle.meaning.specs.Entries.{put-bytes}
 use Rattle.meaning.specs.Last.{Feeds, FeedsNumber}
-use Rattle.meaning.specs.Back.{sub-opts-topic, ihave-topic, graft-topic, prune-topic, peer-id, peer-record, message-from, message-data, message-seqno, sub-opts-subscribe, prune-backoff, slot-value, number-value, whole-part, flat, any, joined-flat, rpc-control}
-use Rattle.canon.specs.Canon.{placed, slotIn, figured, numbered, ownPart, eachAlong, eachOf, heldPart, partWith, canon, entriesOf, mergedOf, bodyPart, canonBody, signOf}
+use Rattle.meaning.specs.Back.{sub-opts-topic, ihave-topic, graft-topic, prune-topic, peer-id, peer-record}
+use Rattle.meaning.specs.Back.{message-from, message-data, message-seqno, sub-opts-subscribe, prune-backoff, slot-value}
+use Rattle.meaning.specs.Back.{number-value, whole-part, flat, any, joined-flat, rpc-control}
+use Rattle.canon.specs.Canon.{placed, slotIn, figured, numbered, ownPart, eachAlong, eachOf, heldPart, partWith}
+use Rattle.canon.specs.Canon.{canon, entriesOf, mergedOf, bodyPart, canonBody, signOf}
 use Rattle.canon.specs.CanonLaws.{canon-fields}
 use Rattle.canon.specs.Shorter.{signedFields, signed-shorter, repeated-append}
 
@@ -39,57 +47,76 @@ use Rattle.canon.specs.Shorter.{signedFields, signed-shorter, repeated-a
 placed-at : (n : ℕ) (s : List ℕ) (p : Place) → placed n s p ≡ optional (bytesField n) (bytesAt s 0 p)
 unfolding placed
 placed-at n s place.Absent = refl
-placed-at n s (place.Present a e) = ap₂ (λ (x y : ℕ). bytesField n (between s x y)) (sym (zero-add a)) (sym (zero-add e))
+placed-at n s (place.Present a e) = ap₂ (λ (x y : ℕ). bytesField n (between s x y)) (sym (zero-add a))
+    (sym (zero-add e))
 
-numbered-at : (figure : Figure) (n : ℕ) (x : Number) → numbered figure n x ≡ optional (λ v. varintField n (figured figure v)) (numberAt x)
+numbered-at : (figure : Figure) (n : ℕ) (x : Number)
+    → numbered figure n x ≡ optional (λ v. varintField n (figured figure v)) (numberAt x)
 unfolding numbered
 numbered-at figure n number.Absent = refl
 numbered-at figure n (number.Present v) = refl
 
 -- ---- repeated fields
-each-list : (g : List ℕ → List ℕ) (n : ℕ) (s : List ℕ) (fs : List Field) → eachAlong g n s (whole fs) ≡ repeated g (bytesIn n (fieldEntries s fs))
+each-list : (g : List ℕ → List ℕ) (n : ℕ) (s : List ℕ) (fs : List Field)
+    → eachAlong g n s (whole fs) ≡ repeated g (bytesIn n (fieldEntries s fs))
 each-list g n s [] = refl
 each-list g n s (f ∷ fs) =
     let ds = bytesIn n (fieldEntries s fs) in
     let ih = each-list g n s fs in
     let pb = put-bytes s n f ds in
     either (isBytes n f)
-    (λ t. ap₂ (λ (x : Bool) (l : List ℕ). cond x (g (valueIn s f)) [] ++ l) t ih ∙ sym (ap (repeated g) (pb ∙ ap (λ (x : Bool). cond x (valueIn s f ∷ ds) ds) t)))
-    (λ t. ap₂ (λ (x : Bool) (l : List ℕ). cond x (g (valueIn s f)) [] ++ l) t ih ∙ sym (ap (repeated g) (pb ∙ ap (λ (x : Bool). cond x (valueIn s f ∷ ds) ds) t)))
+    (λ t. ap₂ (λ (x : Bool) (l : List ℕ). cond x (g (valueIn s f)) [] ++ l) t ih
+    ∙ sym (ap (repeated g) (pb ∙ ap (λ (x : Bool). cond x (valueIn s f ∷ ds) ds) t)))
+    (λ t. ap₂ (λ (x : Bool) (l : List ℕ). cond x (g (valueIn s f)) [] ++ l) t ih
+    ∙ sym (ap (repeated g) (pb ∙ ap (λ (x : Bool). cond x (valueIn s f ∷ ds) ds) t)))
 
 -- of a body that the grammar has
-each-body : (g : List ℕ → List ℕ) (n : ℕ) (s : List ℕ) (es : List Entry) → Body s es → eachOf g n s ≡ repeated g (bytesIn n es)
+each-body : (g : List ℕ → List ℕ) (n : ℕ) (s : List ℕ) (es : List Entry) → Body s es
+    → eachOf g n s ≡ repeated g (bytesIn n es)
 each-body g n s es h =
     let w = body-walks s es h in
-    ap (eachAlong g n s) (w .walked) ∙ each-list g n s (w .fields) ∙ ap (λ (l : List Entry). repeated g (bytesIn n l)) (w .entries)
+    ap (eachAlong g n s) (w .walked) ∙ each-list g n s (w .fields) ∙ ap (λ (l : List Entry). repeated g (bytesIn n l))
+    (w .entries)
 
 -- submessages that are changed to their encodings
-each-pairs : {X : Type 0} {R : List ℕ → X → Type 0} (g : List ℕ → List ℕ) (f : X → List ℕ) → ((d : List ℕ) (x : X) → R d x → g d ≡ f x) → {ds : List (List ℕ)} {xs : List X} → Pairs R ds xs → repeated g ds ≡ repeated f xs
+each-pairs : {X : Type 0} {R : List ℕ → X → Type 0} (g : List ℕ → List ℕ) (f : X → List ℕ)
+    → ((d : List ℕ) (x : X) → R d x → g d ≡ f x) → {ds : List (List ℕ)} {xs : List X} → Pairs R ds xs
+    → repeated g ds ≡ repeated f xs
 each-pairs g f same no-pairs = refl
-each-pairs g f same (_paired_ {x = d} {y = x} p ps) = ap₂ (λ (y z : List ℕ). y ++ z) (same d x p) (each-pairs g f same ps)
+each-pairs g f same (_paired_ {x = d} {y = x} p ps) =
+    ap₂ (λ (y z : List ℕ). y ++ z) (same d x p) (each-pairs g f same ps)
 
 -- those of the field n, whose canonical bytes are their encodings
-module _ {X : Type 0} {R : List ℕ → X → Type 0} (j : Kind) (enc : X → List ℕ) (same : (d : List ℕ) (x : X) → R d x → canon j d ≡ enc x) where
-  subs-written : (n : ℕ) (s : List ℕ) (es : List Entry) (xs : List X) → Body s es → Pairs R (bytesIn n es) xs → heldPart canon n s (held.Anew j) ≡ repeated (λ x. bytesField n (enc x)) xs
+module _ {X : Type 0} {R : List ℕ → X → Type 0} (j : Kind) (enc : X → List ℕ) (same : (d : List ℕ) (x : X) → R d x
+    → canon j d ≡ enc x) where
+  subs-written : (n : ℕ) (s : List ℕ) (es : List Entry) (xs : List X) → Body s es → Pairs R (bytesIn n es) xs
+      → heldPart canon n s (held.Anew j) ≡ repeated (λ x. bytesField n (enc x)) xs
   unfolding heldPart
   subs-written n s es xs g h =
       each-body (λ p. bytesField n (canon j p)) n s es g
-      ∙ each-pairs (λ p. bytesField n (canon j p)) (λ x. bytesField n (enc x)) (λ d x r. ap (bytesField n) (same d x r)) h
+      ∙ each-pairs (λ p. bytesField n (canon j p)) (λ x. bytesField n (enc x)) (λ d x r. ap (bytesField n) (same d x r))
+      h
 
 -- a slot, and the number
-slot-part : (n : ℕ) (s : List ℕ) (k : Kind) (g : Slots → Place) (m : ℕ) (es : List Entry) → Body s es → Feeds k g m → bytesAt s 0 (g noSlots) ≡ none → placed n s (g (slotsOf k s)) ≡ optional (bytesField n) (last (bytesIn m es))
+slot-part : (n : ℕ) (s : List ℕ) (k : Kind) (g : Slots → Place) (m : ℕ) (es : List Entry) → Body s es → Feeds k g m
+    → bytesAt s 0 (g noSlots) ≡ none → placed n s (g (slotsOf k s)) ≡ optional (bytesField n) (last (bytesIn m es))
 slot-part n s k g m es h feed z =
     let w = body-walks s es h in
-    placed-at n s (g (slotsOf k s)) ∙ ap (optional (bytesField n)) (slot-value s 0 s k g m (w .fields) es (whole-part s) feed (w .walked) (w .entries) z)
+    placed-at n s (g (slotsOf k s))
+    ∙ ap (optional (bytesField n)) (slot-value s 0 s k g m (w .fields) es (whole-part s) feed (w .walked)
+    (w .entries) z)
 
-number-part : (figure : Figure) (n : ℕ) (s : List ℕ) (k : Kind) (m : ℕ) (es : List Entry) → Body s es → FeedsNumber k m → numbered figure n (slotsOf k s .number) ≡ optional (λ v. varintField n (figured figure v)) (last (numbersIn m es))
+number-part : (figure : Figure) (n : ℕ) (s : List ℕ) (k : Kind) (m : ℕ) (es : List Entry) → Body s es → FeedsNumber k m
+    → numbered figure n (slotsOf k s .number) ≡ optional (λ v. varintField n (figured figure v)) (last (numbersIn m es))
 number-part figure n s k m es h feed =
     let w = body-walks s es h in
     numbered-at figure n (slotsOf k s .number)
-    ∙ ap (optional (λ v. varintField n (figured figure v))) (number-value s k m (w .fields) es feed (w .walked) (w .entries))
+    ∙ ap (optional (λ v. varintField n (figured figure v)))
+    (number-value s k m (w .fields) es feed (w .walked) (w .entries))
 
 -- ---- each message
-flag-value : (o : Option ℕ) → optional (λ v. varintField 1 (figured Flag v)) o ≡ optional (λ b. varintField 1 (flag b)) (nonzero o)
+flag-value : (o : Option ℕ) → optional (λ v. varintField 1 (figured Flag v)) o ≡ optional (λ b. varintField 1 (flag b))
+    (nonzero o)
 flag-value none = refl
 flag-value (some v) = either (eqb v 0) (λ t. simp t) (λ t. simp t)
 
@@ -151,28 +178,44 @@ parts-of _ _ (is-control {s = s} {es = es} {hs = hs} {ws = ws} {gs = gs} {ps = p
       prunes = subs-written kind.ControlPrune encodePrune canon-prune 4 s es ps g h4;
     }
 
--- the entries of the joined control: f writes one of those that `get` takes out of a control, and `part` those of a control's bytes
-flat-parts : {X : Type 0} (part : List ℕ → List ℕ) (f : X → List ℕ) (get : ControlMessage → List X) → get (flat []) ≡ [] → ((c d : ControlMessage) → get (join c d) ≡ get c ++ get d) → ((d : List ℕ) (c : ControlMessage) → IsControl d c → part d ≡ repeated f (get c)) → {ds : List (List ℕ)} {cs : List ControlMessage} → Pairs IsControl ds cs → repeated part ds ≡ repeated f (get (flat cs))
+-- the entries of the joined control: f writes one of those that `get` takes out of a control, and `part` those of a
+-- control's bytes
+flat-parts : {X : Type 0} (part : List ℕ → List ℕ) (f : X → List ℕ) (get : ControlMessage → List X) → get (flat []) ≡ []
+    → ((c d : ControlMessage) → get (join c d) ≡ get c ++ get d)
+    → ((d : List ℕ) (c : ControlMessage) → IsControl d c → part d ≡ repeated f (get c))
+    → {ds : List (List ℕ)} {cs : List ControlMessage} → Pairs IsControl ds cs
+    → repeated part ds ≡ repeated f (get (flat cs))
 flat-parts part f get empty joins same no-pairs = ap (repeated f) (sym empty)
 flat-parts part f get empty joins same (_paired_ {x = d} {y = c} {ys = cs} p ps) =
     ap₂ (λ (x y : List ℕ). x ++ y) (same d c p) (flat-parts part f get empty joins same ps)
     ∙ sym (repeated-append f (get c) (get (flat cs)))
     ∙ ap (repeated f) (sym (joins c (flat cs)))
 
-merged : (s : List ℕ) (es : List Entry) (cs : List ControlMessage) → Body s es → Pairs IsControl (bytesIn 3 es) cs → mergedOf kind.ControlMessage 3 s ≡ encodeControl (flat cs)
+merged : (s : List ℕ) (es : List Entry) (cs : List ControlMessage) → Body s es → Pairs IsControl (bytesIn 3 es) cs
+    → mergedOf kind.ControlMessage 3 s ≡ encodeControl (flat cs)
 unfolding mergedOf entriesOf encodeControl
 merged s es cs g h =
-    let e1 = each-body (λ p. heldPart canon 1 p (held.Anew kind.ControlIHave)) 3 s es g ∙ flat-parts (λ p. heldPart canon 1 p (held.Anew kind.ControlIHave)) (λ h. bytesField 1 (encodeIHave h)) (λ c. c .ihave) refl (λ c d. refl) (λ d c i. parts-of d c i .ihaves) h in
-    let e2 = each-body (λ p. heldPart canon 2 p (held.Anew kind.ControlIWant)) 3 s es g ∙ flat-parts (λ p. heldPart canon 2 p (held.Anew kind.ControlIWant)) (λ w. bytesField 2 (encodeIWant w)) (λ c. c .iwant) refl (λ c d. refl) (λ d c i. parts-of d c i .iwants) h in
-    let e3 = each-body (λ p. heldPart canon 3 p (held.Anew kind.ControlGraft)) 3 s es g ∙ flat-parts (λ p. heldPart canon 3 p (held.Anew kind.ControlGraft)) (λ g. bytesField 3 (encodeGraft g)) (λ c. c .graft) refl (λ c d. refl) (λ d c i. parts-of d c i .grafts) h in
-    let e4 = each-body (λ p. heldPart canon 4 p (held.Anew kind.ControlPrune)) 3 s es g ∙ flat-parts (λ p. heldPart canon 4 p (held.Anew kind.ControlPrune)) (λ p. bytesField 4 (encodePrune p)) (λ c. c .prune) refl (λ c d. refl) (λ d c i. parts-of d c i .prunes) h in
+    let e1 = each-body (λ p. heldPart canon 1 p (held.Anew kind.ControlIHave)) 3 s es g
+    ∙ flat-parts (λ p. heldPart canon 1 p (held.Anew kind.ControlIHave)) (λ h. bytesField 1 (encodeIHave h))
+    (λ c. c .ihave) refl (λ c d. refl) (λ d c i. parts-of d c i .ihaves) h in
+    let e2 = each-body (λ p. heldPart canon 2 p (held.Anew kind.ControlIWant)) 3 s es g
+    ∙ flat-parts (λ p. heldPart canon 2 p (held.Anew kind.ControlIWant)) (λ w. bytesField 2 (encodeIWant w))
+    (λ c. c .iwant) refl (λ c d. refl) (λ d c i. parts-of d c i .iwants) h in
+    let e3 = each-body (λ p. heldPart canon 3 p (held.Anew kind.ControlGraft)) 3 s es g
+    ∙ flat-parts (λ p. heldPart canon 3 p (held.Anew kind.ControlGraft)) (λ g. bytesField 3 (encodeGraft g))
+    (λ c. c .graft) refl (λ c d. refl) (λ d c i. parts-of d c i .grafts) h in
+    let e4 = each-body (λ p. heldPart canon 4 p (held.Anew kind.ControlPrune)) 3 s es g
+    ∙ flat-parts (λ p. heldPart canon 4 p (held.Anew kind.ControlPrune)) (λ p. bytesField 4 (encodePrune p))
+    (λ c. c .prune) refl (λ c d. refl) (λ d c i. parts-of d c i .prunes) h in
     ap₂ _++_ e1 (ap₂ _++_ e2 (ap₂ _++_ e3 (append-nil _ ∙ e4)))
 
 -- ---- the body
-control-written : (cs : List ControlMessage) → cond (any cs) (bytesField 3 (encodeControl (flat cs))) [] ≡ optional (λ c. bytesField 3 (encodeControl c)) (joined cs)
+control-written : (cs : List ControlMessage) → cond (any cs) (bytesField 3 (encodeControl (flat cs))) [] ≡ optional
+    (λ c. bytesField 3 (encodeControl c)) (joined cs)
 control-written cs = of-any (any cs) (joined cs) (joined-flat cs)
   where
-    of-any : (t : Bool) (o : Option ControlMessage) → cond t (some (flat cs)) none ≡ o → cond t (bytesField 3 (encodeControl (flat cs))) [] ≡ optional (λ c. bytesField 3 (encodeControl c)) o
+    of-any : (t : Bool) (o : Option ControlMessage) → cond t (some (flat cs)) none ≡ o
+        → cond t (bytesField 3 (encodeControl (flat cs))) [] ≡ optional (λ c. bytesField 3 (encodeControl c)) o
     of-any true o e = ap (optional (λ c. bytesField 3 (encodeControl c))) e
     of-any false o e = ap (optional (λ c. bytesField 3 (encodeControl c))) e
 
@@ -185,7 +228,8 @@ unfolding canonBody bodyPart heldPart encodeRpc
 canon-written (is-rpc {s = s} {es = es} {ss = ss} {ms = ms} {cs = cs} g h1 h2 h3) =
     let a = subs-written kind.SubOpts encodeSubOpts canon-sub-opts 1 s es ss g h1 in
     let b = each-body (bytesField 2) 2 s es g ∙ each-pairs (bytesField 2) (λ m. bytesField 2 (m .raw)) raw-of h2 in
-    let c = ap₂ (λ (t : Bool) (x : List ℕ). cond t (bytesField 3 x) []) (rpc-control s es cs g h3) (merged s es cs g h3) ∙ control-written cs in
+    let c = ap₂ (λ (t : Bool) (x : List ℕ). cond t (bytesField 3 x) []) (rpc-control s es cs g h3) (merged s es cs g h3)
+    ∙ control-written cs in
     ap₂ _++_ a (ap₂ _++_ b (append-nil _ ∙ c))
 
 -- ---- the bytes that are signed
@@ -205,4 +249,5 @@ sign-written (is-message {s = s} {es = es} g u) = ap (λ (x : List ℕ). signPre
 
 -- and they are at most 14 more than the message
 pub message-shorter : {s : List ℕ} {m : RawMessage} → IsMessage s m → length (canon kind.RawMessage s) ≤ length s
-message-shorter (is-message {s = s} {es = es} g u) = subst (λ (x : List ℕ). length x ≤ length s) (sym (canon-message s es g)) (signed-shorter g)
+message-shorter (is-message {s = s} {es = es} g u) =
+    subst (λ (x : List ℕ). length x ≤ length s) (sym (canon-message s es g)) (signed-shorter g)

@@ -1,5 +1,6 @@
--- Re-encoding is canonical: for every body that is well formed and within capacity its output is accepted and means the same RPC, is never
--- longer, does not change when it is re-encoded, and is the same for every body that means that RPC; and given room it always succeeds.
+-- Re-encoding is canonical: for every body that is well formed and within capacity its output is accepted and means the
+-- same RPC, is never longer, does not change when it is re-encoded, and is the same for every body that means that RPC;
+-- and given room it always succeeds.
 use Prim.Native.Nat.{ℕ, _≤_}
 use mathlib.Core.Path.{_≡_, sym, ap, subst, _∙_}
 use mathlib.Core.List.{List}
@@ -26,7 +27,8 @@ module _ {s : List ℕ} {x : Rpc} (w : Within s x) where
   output-means =
       let l = output-shorter w in
       record {
-        means = subst (λ (b : List ℕ). IsRpc b x) (sym (canon-written (w .means))) (canonical-means (omega (arith, w .small)) (w .means));
+        means = subst (λ (b : List ℕ). IsRpc b x) (sym (canon-written (w .means)))
+            (canonical-means (omega (arith, w .small)) (w .means));
         small = omega (arith, w .small);
         few = w .few;
       }
@@ -36,7 +38,8 @@ module _ {s : List ℕ} {x : Rpc} (w : Within s x) where
   output-stays = canon-written (output-means .means) ∙ sym (canon-written (w .means))
 
   -- given room, re-encoding succeeds: as much room as the body takes is always enough
-  pub output-succeeds : (out : List ℕ) → length (canonBody s) ≤ length out → encodeAnswer s out ≡ Bytes (length (canonBody s))
+  pub output-succeeds : (out : List ℕ) → length (canonBody s) ≤ length out
+      → encodeAnswer s out ≡ Bytes (length (canonBody s))
   unfolding encodeAnswer
   output-succeeds out r = ap (encodeChecked s out) (taken w) ∙ ap ofWritten (answer-fits (canonBody s) out r)
 

@@ -10,24 +10,36 @@ use lib.Dec.{eqb}
 use borrow.Author.Tests.{eq-eqb}
 use Rattle.peer_id.specs.Uvarint.{uvarint}
 use Rattle.utf8.specs.Grammar.{Utf8}
-use Rattle.protobuf.specs.Grammar.{Payload, number, eight, bytes, four, Entry, Value, varint, i64, len-prefix, i32, Body, none as no-fields, field}
+use Rattle.protobuf.specs.Grammar.{Payload, number, eight, bytes, four, Entry, Value, varint, i64, len-prefix, i32}
+use Rattle.protobuf.specs.Grammar.{Body, none as no-fields, field}
 use Rattle.protobuf.specs.Encode.{tag, varintField, bytesField}
 use Rattle.protobuf.specs.EncodeLaws.{bytes-field-length}
-use Rattle.rpc.specs.Rpc.{SubOpts, RawMessage, ControlIHave, ControlIWant, ControlGraft, PeerInfo, ControlPrune, ControlMessage, Rpc}
-use Rattle.rpc.specs.Grammar.{putNumber, numbersIn, putBytes, bytesIn, orElse, last, nonzero, Each, none-left, _and_, Pairs, no-pairs, _paired_, IsSubOpts, is-sub-opts, IsMessage, is-message, IsIHave, is-ihave, IsIWant, is-iwant, IsGraft, is-graft, IsPeerInfo, is-peer-info, IsPrune, is-prune, IsControl, is-control, join, joinTo, joined, IsRpc, is-rpc}
-use Rattle.rpc.specs.Encode.{optional, repeated, flag, encodeSubOpts, encodeIHave, encodeIWant, encodeGraft, encodePeerInfo, encodePrune, encodeControl, encodeRpc}
-use Rattle.canon.specs.Shorter.{sub-opts-shorter, ihave-shorter, iwant-shorter, graft-shorter, peer-info-shorter, prune-shorter, never-longer, raw-same}
+use Rattle.rpc.specs.Rpc.{SubOpts, RawMessage, ControlIHave, ControlIWant, ControlGraft, PeerInfo, ControlPrune}
+use Rattle.rpc.specs.Rpc.{ControlMessage, Rpc}
+use Rattle.rpc.specs.Grammar.{putNumber, numbersIn, putBytes, bytesIn, orElse, last, nonzero, Each, none-left, _and_}
+use Rattle.rpc.specs.Grammar.{Pairs, no-pairs, _paired_, IsSubOpts, is-sub-opts, IsMessage, is-message, IsIHave}
+use Rattle.rpc.specs.Grammar.{is-ihave, IsIWant, is-iwant, IsGraft, is-graft, IsPeerInfo, is-peer-info, IsPrune}
+use Rattle.rpc.specs.Grammar.{is-prune, IsControl, is-control, join, joinTo, joined, IsRpc, is-rpc}
+use Rattle.rpc.specs.Encode.{optional, repeated, flag, encodeSubOpts, encodeIHave, encodeIWant, encodeGraft}
+use Rattle.rpc.specs.Encode.{encodePeerInfo, encodePrune, encodeControl, encodeRpc}
+use Rattle.canon.specs.Shorter.{sub-opts-shorter, ihave-shorter, iwant-shorter, graft-shorter, peer-info-shorter}
+use Rattle.canon.specs.Shorter.{prune-shorter, never-longer, raw-same}
 
 -- ---- writing fields gives a body of them
 pub body-append : {a b : List ℕ} {es fs : List Entry} → Body a es → Body b fs → Body (a ++ b) (es ++ fs)
 body-append no-fields h = h
 body-append {b = b} {fs = fs} (field {n = n} {type = type} {v = v} {rest = rest} {p = p} {es = es} l m w r) h =
     let e : (uvarint (n * 8 + type) ++ (v ++ rest)) ++ b ≡ uvarint (n * 8 + type) ++ (v ++ (rest ++ b)) =
-    append-assoc (uvarint (n * 8 + type)) (v ++ rest) b ∙ ap (λ (x : List ℕ). uvarint (n * 8 + type) ++ x) (append-assoc v rest b) in
-    subst (λ (x : List ℕ). Body x (record { field = n; payload = p } ∷ (es ++ fs))) (sym e) (field l m w (body-append r h))
+    append-assoc (uvarint (n * 8 + type)) (v ++ rest) b ∙ ap (λ (x : List ℕ). uvarint (n * 8 + type) ++ x)
+    (append-assoc v rest b) in
+    subst (λ (x : List ℕ). Body x (record { field = n; payload = p } ∷ (es ++ fs))) (sym e)
+    (field l m w (body-append r h))
 
-one-body : {type : ℕ} {v : List ℕ} {p : Payload} (n : ℕ) → 1 ≤ n → n ≤ 536870911 → Value type v p → Body (uvarint (n * 8 + type) ++ v) (record { field = n; payload = p } ∷ [])
-one-body {type} {v} {p} n l m w = subst (λ (x : List ℕ). Body (uvarint (n * 8 + type) ++ x) (record { field = n; payload = p } ∷ [])) (append-nil v) (field l m w no-fields)
+one-body : {type : ℕ} {v : List ℕ} {p : Payload} (n : ℕ) → 1 ≤ n → n ≤ 536870911 → Value type v p
+    → Body (uvarint (n * 8 + type) ++ v) (record { field = n; payload = p } ∷ [])
+one-body {type} {v} {p} n l m w =
+    subst (λ (x : List ℕ). Body (uvarint (n * 8 + type) ++ x) (record { field = n; payload = p } ∷ [])) (append-nil v)
+    (field l m w no-fields)
 
 -- what fits a length
 abbrev pub Sized : List ℕ → Type 0
@@ -44,12 +56,14 @@ abbrev numberEntries : ℕ → List ℕ → List Entry
 numberEntries n [] = []
 numberEntries n (v ∷ vs) = record { field = n; payload = number v } ∷ numberEntries n vs
 
-pub bytes-body : (n : ℕ) → 1 ≤ n → n ≤ 536870911 → (ds : List (List ℕ)) → Each Sized ds → Body (repeated (bytesField n) ds) (bytesEntries n ds)
+pub bytes-body : (n : ℕ) → 1 ≤ n → n ≤ 536870911 → (ds : List (List ℕ)) → Each Sized ds
+    → Body (repeated (bytesField n) ds) (bytesEntries n ds)
 unfolding bytesField tag
 bytes-body n l m [] none-left = no-fields
 bytes-body n l m (d ∷ ds) (p and ps) = body-append (one-body n l m (len-prefix p)) (bytes-body n l m ds ps)
 
-number-body : (n : ℕ) → 1 ≤ n → n ≤ 536870911 → (vs : List ℕ) → Each Small vs → Body (repeated (varintField n) vs) (numberEntries n vs)
+number-body : (n : ℕ) → 1 ≤ n → n ≤ 536870911 → (vs : List ℕ) → Each Small vs
+    → Body (repeated (varintField n) vs) (numberEntries n vs)
 unfolding varintField tag
 number-body n l m [] none-left = no-fields
 number-body n l m (v ∷ vs) (p and ps) = body-append (one-body n l m (varint p)) (number-body n l m vs ps)
@@ -57,7 +71,8 @@ number-body n l m (v ∷ vs) (p and ps) = body-append (one-body n l m (varint p)
 -- ---- and those fields are found in it
 bytes-append : (m : ℕ) (es fs : List Entry) → bytesIn m (es ++ fs) ≡ bytesIn m es ++ bytesIn m fs
 bytes-append m [] fs = refl
-bytes-append m (e ∷ es) fs = ap (putBytes (eqb (e .field) m) (e .payload)) (bytes-append m es fs) ∙ put (eqb (e .field) m) (e .payload) (bytesIn m es) (bytesIn m fs)
+bytes-append m (e ∷ es) fs = ap (putBytes (eqb (e .field) m) (e .payload)) (bytes-append m es fs)
+    ∙ put (eqb (e .field) m) (e .payload) (bytesIn m es) (bytesIn m fs)
   where
     put : (t : Bool) (p : Payload) (xs ys : List (List ℕ)) → putBytes t p (xs ++ ys) ≡ putBytes t p xs ++ ys
     put t (number v) xs ys = refl
@@ -68,7 +83,8 @@ bytes-append m (e ∷ es) fs = ap (putBytes (eqb (e .field) m) (e .payload)) (by
 
 numbers-append : (m : ℕ) (es fs : List Entry) → numbersIn m (es ++ fs) ≡ numbersIn m es ++ numbersIn m fs
 numbers-append m [] fs = refl
-numbers-append m (e ∷ es) fs = ap (putNumber (eqb (e .field) m) (e .payload)) (numbers-append m es fs) ∙ put (eqb (e .field) m) (e .payload) (numbersIn m es) (numbersIn m fs)
+numbers-append m (e ∷ es) fs = ap (putNumber (eqb (e .field) m) (e .payload)) (numbers-append m es fs)
+    ∙ put (eqb (e .field) m) (e .payload) (numbersIn m es) (numbersIn m fs)
   where
     put : (t : Bool) (p : Payload) (xs ys : List ℕ) → putNumber t p (xs ++ ys) ≡ putNumber t p xs ++ ys
     put true (number v) xs ys = refl
@@ -79,15 +95,20 @@ numbers-append m (e ∷ es) fs = ap (putNumber (eqb (e .field) m) (e .payload)) 
 
 pub bytes-here : (n : ℕ) (ds : List (List ℕ)) → bytesIn n (bytesEntries n ds) ≡ ds
 bytes-here n [] = refl
-bytes-here n (d ∷ ds) = ap (λ (t : Bool). cond t (d ∷ bytesIn n (bytesEntries n ds)) (bytesIn n (bytesEntries n ds))) (eq-eqb n n refl) ∙ ap (λ (l : List (List ℕ)). d ∷ l) (bytes-here n ds)
+bytes-here n (d ∷ ds) = ap (λ (t : Bool). cond t (d ∷ bytesIn n (bytesEntries n ds)) (bytesIn n (bytesEntries n ds)))
+    (eq-eqb n n refl) ∙ ap (λ (l : List (List ℕ)). d ∷ l) (bytes-here n ds)
 
 pub bytes-there : (n m : ℕ) → eqb n m ≡ false → (ds : List (List ℕ)) → bytesIn m (bytesEntries n ds) ≡ []
 bytes-there n m e [] = refl
-bytes-there n m e (d ∷ ds) = ap (λ (t : Bool). cond t (d ∷ bytesIn m (bytesEntries n ds)) (bytesIn m (bytesEntries n ds))) e ∙ bytes-there n m e ds
+bytes-there n m e (d ∷ ds) =
+    ap (λ (t : Bool). cond t (d ∷ bytesIn m (bytesEntries n ds)) (bytesIn m (bytesEntries n ds))) e
+    ∙ bytes-there n m e ds
 
 numbers-here : (n : ℕ) (vs : List ℕ) → numbersIn n (numberEntries n vs) ≡ vs
 numbers-here n [] = refl
-numbers-here n (v ∷ vs) = ap (λ (t : Bool). cond t (v ∷ numbersIn n (numberEntries n vs)) (numbersIn n (numberEntries n vs))) (eq-eqb n n refl) ∙ ap (λ (l : List ℕ). v ∷ l) (numbers-here n vs)
+numbers-here n (v ∷ vs) =
+    ap (λ (t : Bool). cond t (v ∷ numbersIn n (numberEntries n vs)) (numbersIn n (numberEntries n vs)))
+    (eq-eqb n n refl) ∙ ap (λ (l : List ℕ). v ∷ l) (numbers-here n vs)
 
 no-bytes : (n m : ℕ) (vs : List ℕ) → bytesIn m (numberEntries n vs) ≡ []
 no-bytes n m [] = refl
@@ -119,7 +140,8 @@ each-last none-left = none-left
 each-last (_and_ {x = x} {xs = xs} p ps) = each-opt-step (last xs) x p (each-last ps)
 
 -- ---- what stands in a body fits a length
-value-sized : {type : ℕ} {v : List ℕ} {p : Payload} (t : Bool) (ds : List (List ℕ)) → Value type v p → Each Sized ds → Each Sized (putBytes t p ds)
+value-sized : {type : ℕ} {v : List ℕ} {p : Payload} (t : Bool) (ds : List (List ℕ)) → Value type v p → Each Sized ds
+    → Each Sized (putBytes t p ds)
 value-sized t ds (varint b) h = h
 value-sized t ds (i64 g) h = h
 value-sized true ds (len-prefix b) h = b and h
@@ -130,7 +152,8 @@ bytes-sized : {s : List ℕ} {es : List Entry} (m : ℕ) → Body s es → Each 
 bytes-sized m no-fields = none-left
 bytes-sized m (field {n = n} {es = es} l k w r) = value-sized (eqb n m) (bytesIn m es) w (bytes-sized m r)
 
-value-small : {type : ℕ} {v : List ℕ} {p : Payload} (t : Bool) (vs : List ℕ) → Value type v p → Each Small vs → Each Small (putNumber t p vs)
+value-small : {type : ℕ} {v : List ℕ} {p : Payload} (t : Bool) (vs : List ℕ) → Value type v p → Each Small vs
+    → Each Small (putNumber t p vs)
 value-small true vs (varint b) h = b and h
 value-small false vs (varint b) h = h
 value-small t vs (i64 g) h = h
@@ -146,17 +169,22 @@ abbrev encodings : {X : Type 0} → (X → List ℕ) → List X → List (List �
 encodings enc [] = []
 encodings enc (x ∷ xs) = enc x ∷ encodings enc xs
 
-repeated-encodings : {X : Type 0} (n : ℕ) (enc : X → List ℕ) (xs : List X) → repeated (bytesField n) (encodings enc xs) ≡ repeated (λ x. bytesField n (enc x)) xs
+repeated-encodings : {X : Type 0} (n : ℕ) (enc : X → List ℕ) (xs : List X) → repeated (bytesField n) (encodings enc xs)
+    ≡ repeated (λ x. bytesField n (enc x)) xs
 repeated-encodings n enc [] = refl
 repeated-encodings n enc (x ∷ xs) = ap (λ (l : List ℕ). bytesField n (enc x) ++ l) (repeated-encodings n enc xs)
 
-subs-mean : {X : Type 0} {R : List ℕ → X → Type 0} (enc : X → List ℕ) → ((d : List ℕ) (x : X) → R d x → R (enc x) x) → {ds : List (List ℕ)} {xs : List X} → Pairs R ds xs → Pairs R (encodings enc xs) xs
+subs-mean : {X : Type 0} {R : List ℕ → X → Type 0} (enc : X → List ℕ) → ((d : List ℕ) (x : X) → R d x → R (enc x) x)
+    → {ds : List (List ℕ)} {xs : List X} → Pairs R ds xs → Pairs R (encodings enc xs) xs
 subs-mean enc f no-pairs = no-pairs
 subs-mean enc f (_paired_ {x = d} {y = x} p ps) = f d x p paired subs-mean enc f ps
 
-subs-sized : {X : Type 0} {R : List ℕ → X → Type 0} (enc : X → List ℕ) → ((d : List ℕ) (x : X) → R d x → length (enc x) ≤ length d) → {ds : List (List ℕ)} {xs : List X} → Pairs R ds xs → Each Sized ds → Each Sized (encodings enc xs)
+subs-sized : {X : Type 0} {R : List ℕ → X → Type 0} (enc : X → List ℕ)
+    → ((d : List ℕ) (x : X) → R d x → length (enc x) ≤ length d) → {ds : List (List ℕ)} {xs : List X} → Pairs R ds xs
+    → Each Sized ds → Each Sized (encodings enc xs)
 subs-sized enc f no-pairs none-left = none-left
-subs-sized enc f (_paired_ {x = d} {y = x} p ps) (q and qs) = let l = f d x p in let k : Sized (enc x) = omega arith in k and subs-sized enc f ps qs
+subs-sized enc f (_paired_ {x = d} {y = x} p ps) (q and qs) = let l = f d x p in let k : Sized (enc x) = omega arith in
+    k and subs-sized enc f ps qs
 
 -- ---- each message
 -- bytes that are equal to a body's mean what it means
@@ -164,10 +192,12 @@ means-as : {X : Type 0} (R : List ℕ → X → Type 0) {b c : List ℕ} {x y : 
 means-as R {c = c} {x = x} e f r = subst (R c) f (subst (λ (l : List ℕ). R l x) e r)
 
 -- a field found in two groups of fields
-pub found : (m : ℕ) (a b : List Entry) (xs ys : List (List ℕ)) → bytesIn m a ≡ xs → bytesIn m b ≡ ys → bytesIn m (a ++ b) ≡ xs ++ ys
+pub found : (m : ℕ) (a b : List Entry) (xs ys : List (List ℕ)) → bytesIn m a ≡ xs → bytesIn m b ≡ ys
+    → bytesIn m (a ++ b) ≡ xs ++ ys
 found m a b xs ys p q = bytes-append m a b ∙ ap₂ (λ (x y : List (List ℕ)). x ++ y) p q
 
-counted : (m : ℕ) (a b : List Entry) (xs ys : List ℕ) → numbersIn m a ≡ xs → numbersIn m b ≡ ys → numbersIn m (a ++ b) ≡ xs ++ ys
+counted : (m : ℕ) (a b : List Entry) (xs ys : List ℕ) → numbersIn m a ≡ xs → numbersIn m b ≡ ys
+    → numbersIn m (a ++ b) ≡ xs ++ ys
 counted m a b xs ys p q = numbers-append m a b ∙ ap₂ (λ (x y : List ℕ). x ++ y) p q
 
 abbrev flags : Option Bool → Option ℕ
@@ -195,26 +225,35 @@ sub-opts-canonical _ _ (is-sub-opts {s = s} {es = es} g u) =
     let t = last (bytesIn 2 es) in
     let a = numberEntries 1 (opt (flags r)) in
     let b = bytesEntries 2 (opt t) in
-    let w = body-append (number-body 1 (omega arith) (omega arith) (opt (flags r)) (flags-small r)) (bytes-body 2 (omega arith) (omega arith) (opt t) (each-last (bytes-sized 2 g))) in
-    let n : numbersIn 1 (a ++ b) ≡ opt (flags r) ++ [] = counted 1 a b (opt (flags r)) [] (numbers-here 1 (opt (flags r))) (no-numbers 2 1 (opt t)) in
-    let d : bytesIn 2 (a ++ b) ≡ [] ++ opt t = found 2 a b [] (opt t) (no-bytes 1 2 (opt (flags r))) (bytes-here 2 (opt t)) in
-    let v1 : nonzero (last (numbersIn 1 (a ++ b))) ≡ r = ap (λ (l : List ℕ). nonzero (last l)) (n ∙ append-nil (opt (flags r))) ∙ ap nonzero (last-opt (flags r)) ∙ flags-back r in
+    let w = body-append (number-body 1 (omega arith) (omega arith) (opt (flags r)) (flags-small r))
+    (bytes-body 2 (omega arith) (omega arith) (opt t) (each-last (bytes-sized 2 g))) in
+    let n : numbersIn 1 (a ++ b) ≡ opt (flags r) ++ [] =
+    counted 1 a b (opt (flags r)) [] (numbers-here 1 (opt (flags r))) (no-numbers 2 1 (opt t)) in
+    let d : bytesIn 2 (a ++ b) ≡ [] ++ opt t =
+    found 2 a b [] (opt t) (no-bytes 1 2 (opt (flags r))) (bytes-here 2 (opt t)) in
+    let v1 : nonzero (last (numbersIn 1 (a ++ b))) ≡ r =
+    ap (λ (l : List ℕ). nonzero (last l)) (n ∙ append-nil (opt (flags r))) ∙ ap nonzero (last-opt (flags r))
+    ∙ flags-back r in
     let v2 : last (bytesIn 2 (a ++ b)) ≡ t = ap last d ∙ last-opt t in
-    means-as IsSubOpts (ap₂ (λ (y z : List ℕ). y ++ z) (flags-written r) (optional-opt (bytesField 2) t)) (ap₂ (λ (y : Option Bool) (z : Option (List ℕ)). record { subscribe = y; «topic_id» = z }) v1 v2)
+    means-as IsSubOpts (ap₂ (λ (y z : List ℕ). y ++ z) (flags-written r) (optional-opt (bytesField 2) t))
+    (ap₂ (λ (y : Option Bool) (z : Option (List ℕ)). record { subscribe = y; «topic_id» = z }) v1 v2)
     (is-sub-opts w (subst (Each Utf8) (sym d) (each-last u)))
 
 pub iwant-canonical : (s : List ℕ) (x : ControlIWant) → IsIWant s x → IsIWant (encodeIWant x) x
 unfolding encodeIWant
 iwant-canonical _ _ (is-iwant {s = s} {es = es} g) =
     let ds = bytesIn 1 es in
-    means-as IsIWant refl (ap (λ (y : List (List ℕ)). record { «message_ids» = y }) (bytes-here 1 ds)) (is-iwant (bytes-body 1 (omega arith) (omega arith) ds (bytes-sized 1 g)))
+    means-as IsIWant refl (ap (λ (y : List (List ℕ)). record { «message_ids» = y }) (bytes-here 1 ds))
+    (is-iwant (bytes-body 1 (omega arith) (omega arith) ds (bytes-sized 1 g)))
 
 pub graft-canonical : (s : List ℕ) (x : ControlGraft) → IsGraft s x → IsGraft (encodeGraft x) x
 unfolding encodeGraft
 graft-canonical _ _ (is-graft {s = s} {es = es} g u) =
     let t = last (bytesIn 1 es) in
-    means-as IsGraft (optional-opt (bytesField 1) t) (ap (λ (y : Option (List ℕ)). record { «topic_id» = y }) (ap last (bytes-here 1 (opt t)) ∙ last-opt t))
-    (is-graft (bytes-body 1 (omega arith) (omega arith) (opt t) (each-last (bytes-sized 1 g))) (subst (Each Utf8) (sym (bytes-here 1 (opt t))) (each-last u)))
+    means-as IsGraft (optional-opt (bytesField 1) t)
+    (ap (λ (y : Option (List ℕ)). record { «topic_id» = y }) (ap last (bytes-here 1 (opt t)) ∙ last-opt t))
+    (is-graft (bytes-body 1 (omega arith) (omega arith) (opt t) (each-last (bytes-sized 1 g)))
+    (subst (Each Utf8) (sym (bytes-here 1 (opt t))) (each-last u)))
 
 pub ihave-canonical : (s : List ℕ) (x : ControlIHave) → IsIHave s x → IsIHave (encodeIHave x) x
 unfolding encodeIHave
@@ -223,10 +262,14 @@ ihave-canonical _ _ (is-ihave {s = s} {es = es} g u) =
     let ds = bytesIn 2 es in
     let a = bytesEntries 1 (opt t) in
     let b = bytesEntries 2 ds in
-    let w = body-append (bytes-body 1 (omega arith) (omega arith) (opt t) (each-last (bytes-sized 1 g))) (bytes-body 2 (omega arith) (omega arith) ds (bytes-sized 2 g)) in
-    let d1 : bytesIn 1 (a ++ b) ≡ opt t = found 1 a b (opt t) [] (bytes-here 1 (opt t)) (bytes-there 2 1 refl ds) ∙ append-nil (opt t) in
+    let w = body-append (bytes-body 1 (omega arith) (omega arith) (opt t) (each-last (bytes-sized 1 g)))
+    (bytes-body 2 (omega arith) (omega arith) ds (bytes-sized 2 g)) in
+    let d1 : bytesIn 1 (a ++ b) ≡ opt t = found 1 a b (opt t) [] (bytes-here 1 (opt t)) (bytes-there 2 1 refl ds)
+    ∙ append-nil (opt t) in
     let d2 : bytesIn 2 (a ++ b) ≡ ds = found 2 a b [] ds (bytes-there 1 2 refl (opt t)) (bytes-here 2 ds) in
-    means-as IsIHave (ap (λ (y : List ℕ). y ++ repeated (bytesField 2) ds) (optional-opt (bytesField 1) t)) (ap₂ (λ (y : Option (List ℕ)) (z : List (List ℕ)). record { «topic_id» = y; «message_ids» = z }) (ap last d1 ∙ last-opt t) d2)
+    means-as IsIHave (ap (λ (y : List ℕ). y ++ repeated (bytesField 2) ds) (optional-opt (bytesField 1) t))
+    (ap₂ (λ (y : Option (List ℕ)) (z : List (List ℕ)). record { «topic_id» = y; «message_ids» = z })
+    (ap last d1 ∙ last-opt t) d2)
     (is-ihave w (subst (Each Utf8) (sym d1) (each-last u)))
 
 pub peer-info-canonical : (s : List ℕ) (x : PeerInfo) → IsPeerInfo s x → IsPeerInfo (encodePeerInfo x) x
@@ -236,15 +279,21 @@ peer-info-canonical _ _ (is-peer-info {s = s} {es = es} g) =
     let q = last (bytesIn 2 es) in
     let a = bytesEntries 1 (opt t) in
     let b = bytesEntries 2 (opt q) in
-    let w = body-append (bytes-body 1 (omega arith) (omega arith) (opt t) (each-last (bytes-sized 1 g))) (bytes-body 2 (omega arith) (omega arith) (opt q) (each-last (bytes-sized 2 g))) in
-    let d1 : bytesIn 1 (a ++ b) ≡ opt t = found 1 a b (opt t) [] (bytes-here 1 (opt t)) (bytes-there 2 1 refl (opt q)) ∙ append-nil (opt t) in
-    let d2 : bytesIn 2 (a ++ b) ≡ opt q = found 2 a b [] (opt q) (bytes-there 1 2 refl (opt t)) (bytes-here 2 (opt q)) in
-    means-as IsPeerInfo (ap₂ (λ (y z : List ℕ). y ++ z) (optional-opt (bytesField 1) t) (optional-opt (bytesField 2) q)) (ap₂ (λ (y z : Option (List ℕ)). record { «peer_id» = y; «signed_peer_record» = z }) (ap last d1 ∙ last-opt t) (ap last d2 ∙ last-opt q)) (is-peer-info w)
+    let w = body-append (bytes-body 1 (omega arith) (omega arith) (opt t) (each-last (bytes-sized 1 g)))
+    (bytes-body 2 (omega arith) (omega arith) (opt q) (each-last (bytes-sized 2 g))) in
+    let d1 : bytesIn 1 (a ++ b) ≡ opt t = found 1 a b (opt t) [] (bytes-here 1 (opt t)) (bytes-there 2 1 refl (opt q))
+    ∙ append-nil (opt t) in
+    let d2 : bytesIn 2 (a ++ b) ≡ opt q =
+    found 2 a b [] (opt q) (bytes-there 1 2 refl (opt t)) (bytes-here 2 (opt q)) in
+    means-as IsPeerInfo (ap₂ (λ (y z : List ℕ). y ++ z) (optional-opt (bytesField 1) t) (optional-opt (bytesField 2) q))
+    (ap₂ (λ (y z : Option (List ℕ)). record { «peer_id» = y; «signed_peer_record» = z }) (ap last d1 ∙ last-opt t)
+    (ap last d2 ∙ last-opt q)) (is-peer-info w)
 
 mkPrune : Option (List ℕ) → List PeerInfo → Option ℕ → ControlPrune
 mkPrune t ps n = record { «topic_id» = t; peers = ps; backoff = n }
 
-same-prune : {t t' : Option (List ℕ)} (ps : List PeerInfo) {n n' : Option ℕ} → t ≡ t' → n ≡ n' → mkPrune t ps n ≡ mkPrune t' ps n'
+same-prune : {t t' : Option (List ℕ)} (ps : List PeerInfo) {n n' : Option ℕ} → t ≡ t' → n ≡ n'
+    → mkPrune t ps n ≡ mkPrune t' ps n'
 same-prune ps e1 e2 = cc
 
 pub prune-canonical : (s : List ℕ) (x : ControlPrune) → IsPrune s x → IsPrune (encodePrune x) x
@@ -256,30 +305,48 @@ prune-canonical _ _ (is-prune {s = s} {es = es} {ps = ps} g u h) =
     let a = bytesEntries 1 (opt t) in
     let b = bytesEntries 2 ds in
     let c = numberEntries 3 (opt q) in
-    let w = body-append (bytes-body 1 (omega arith) (omega arith) (opt t) (each-last (bytes-sized 1 g))) (body-append (bytes-body 2 (omega arith) (omega arith) ds (subs-sized encodePeerInfo peer-info-shorter h (bytes-sized 2 g))) (number-body 3 (omega arith) (omega arith) (opt q) (each-last (numbers-small 3 g)))) in
-    let d1 : bytesIn 1 (a ++ (b ++ c)) ≡ opt t = found 1 a (b ++ c) (opt t) [] (bytes-here 1 (opt t)) (found 1 b c [] [] (bytes-there 2 1 refl ds) (no-bytes 3 1 (opt q))) ∙ append-nil (opt t) in
-    let d2 : bytesIn 2 (a ++ (b ++ c)) ≡ ds = found 2 a (b ++ c) [] (ds ++ []) (bytes-there 1 2 refl (opt t)) (found 2 b c ds [] (bytes-here 2 ds) (no-bytes 3 2 (opt q))) ∙ append-nil ds in
-    let d3 : numbersIn 3 (a ++ (b ++ c)) ≡ opt q = counted 3 a (b ++ c) [] (opt q) (no-numbers 1 3 (opt t)) (counted 3 b c [] (opt q) (no-numbers 2 3 ds) (numbers-here 3 (opt q))) in
-    let e : repeated (bytesField 1) (opt t) ++ (repeated (bytesField 2) ds ++ repeated (varintField 3) (opt q)) ≡ optional (bytesField 1) t ++ (repeated (λ p. bytesField 2 (encodePeerInfo p)) ps ++ optional (varintField 3) q) =
-    ap₂ (λ (y z : List ℕ). y ++ z) (optional-opt (bytesField 1) t) (ap₂ (λ (y z : List ℕ). y ++ z) (repeated-encodings 2 encodePeerInfo ps) (optional-opt (varintField 3) q)) in
+    let w = body-append (bytes-body 1 (omega arith) (omega arith) (opt t) (each-last (bytes-sized 1 g)))
+    (body-append (bytes-body 2 (omega arith) (omega arith) ds
+    (subs-sized encodePeerInfo peer-info-shorter h (bytes-sized 2 g)))
+    (number-body 3 (omega arith) (omega arith) (opt q) (each-last (numbers-small 3 g)))) in
+    let d1 : bytesIn 1 (a ++ (b ++ c)) ≡ opt t =
+    found 1 a (b ++ c) (opt t) [] (bytes-here 1 (opt t))
+    (found 1 b c [] [] (bytes-there 2 1 refl ds) (no-bytes 3 1 (opt q))) ∙ append-nil (opt t) in
+    let d2 : bytesIn 2 (a ++ (b ++ c)) ≡ ds =
+    found 2 a (b ++ c) [] (ds ++ []) (bytes-there 1 2 refl (opt t))
+    (found 2 b c ds [] (bytes-here 2 ds) (no-bytes 3 2 (opt q))) ∙ append-nil ds in
+    let d3 : numbersIn 3 (a ++ (b ++ c)) ≡ opt q =
+    counted 3 a (b ++ c) [] (opt q) (no-numbers 1 3 (opt t))
+    (counted 3 b c [] (opt q) (no-numbers 2 3 ds) (numbers-here 3 (opt q))) in
+    let e : repeated (bytesField 1) (opt t) ++ (repeated (bytesField 2) ds ++ repeated (varintField 3) (opt q))
+    ≡ optional (bytesField 1) t
+    ++ (repeated (λ p. bytesField 2 (encodePeerInfo p)) ps ++ optional (varintField 3) q) =
+    ap₂ (λ (y z : List ℕ). y ++ z) (optional-opt (bytesField 1) t)
+    (ap₂ (λ (y z : List ℕ). y ++ z) (repeated-encodings 2 encodePeerInfo ps) (optional-opt (varintField 3) q)) in
     means-as IsPrune e (same-prune ps (ap last d1 ∙ last-opt t) (ap last d3 ∙ last-opt q))
-    (is-prune w (subst (Each Utf8) (sym d1) (each-last u)) (subst (λ (l : List (List ℕ)). Pairs IsPeerInfo l ps) (sym d2) (subs-mean encodePeerInfo peer-info-canonical h)))
+    (is-prune w (subst (Each Utf8) (sym d1) (each-last u))
+    (subst (λ (l : List (List ℕ)). Pairs IsPeerInfo l ps) (sym d2)
+    (subs-mean encodePeerInfo peer-info-canonical h)))
 
 -- ---- a control: its entries mean themselves, and so do those of two controls
 record Entries {X : Type 0} (R : List ℕ → X → Type 0) (enc : X → List ℕ) (xs : List X) : Type 0 where
   mean : Pairs R (encodings enc xs) xs
   sized : Each Sized (encodings enc xs)
 
-pairs-join : {X : Type 0} {R : List ℕ → X → Type 0} (enc : X → List ℕ) {xs ys : List X} → Pairs R (encodings enc xs) xs → Pairs R (encodings enc ys) ys → Pairs R (encodings enc (xs ++ ys)) (xs ++ ys)
+pairs-join : {X : Type 0} {R : List ℕ → X → Type 0} (enc : X → List ℕ) {xs ys : List X} → Pairs R (encodings enc xs) xs
+    → Pairs R (encodings enc ys) ys → Pairs R (encodings enc (xs ++ ys)) (xs ++ ys)
 pairs-join enc {xs = []} p q = q
 pairs-join enc {xs = x ∷ xs} (r paired p) q = r paired pairs-join enc p q
 
-each-join : {X : Type 0} (enc : X → List ℕ) (xs ys : List X) → Each Sized (encodings enc xs) → Each Sized (encodings enc ys) → Each Sized (encodings enc (xs ++ ys))
+each-join : {X : Type 0} (enc : X → List ℕ) (xs ys : List X) → Each Sized (encodings enc xs)
+    → Each Sized (encodings enc ys) → Each Sized (encodings enc (xs ++ ys))
 each-join enc [] ys p q = q
 each-join enc (x ∷ xs) ys (r and p) q = r and each-join enc xs ys p q
 
-entries-join : {X : Type 0} {R : List ℕ → X → Type 0} {enc : X → List ℕ} {xs ys : List X} → Entries R enc xs → Entries R enc ys → Entries R enc (xs ++ ys)
-entries-join {enc = enc} {xs = xs} {ys = ys} a b = record { mean = pairs-join enc (a .mean) (b .mean); sized = each-join enc xs ys (a .sized) (b .sized) }
+entries-join : {X : Type 0} {R : List ℕ → X → Type 0} {enc : X → List ℕ} {xs ys : List X} → Entries R enc xs
+    → Entries R enc ys → Entries R enc (xs ++ ys)
+entries-join {enc = enc} {xs = xs} {ys = ys} a b =
+    record { mean = pairs-join enc (a .mean) (b .mean); sized = each-join enc xs ys (a .sized) (b .sized) }
 
 record Sound (c : ControlMessage) : Type 0 where
   ihaves : Entries IsIHave encodeIHave (c .ihave)
@@ -290,10 +357,22 @@ record Sound (c : ControlMessage) : Type 0 where
 sound-of : (s : List ℕ) (x : ControlMessage) → IsControl s x → Sound x
 sound-of _ _ (is-control {s = s} {es = es} g h1 h2 h3 h4) =
     record {
-      ihaves = record { mean = subs-mean encodeIHave ihave-canonical h1; sized = subs-sized encodeIHave ihave-shorter h1 (bytes-sized 1 g) };
-      iwants = record { mean = subs-mean encodeIWant iwant-canonical h2; sized = subs-sized encodeIWant iwant-shorter h2 (bytes-sized 2 g) };
-      grafts = record { mean = subs-mean encodeGraft graft-canonical h3; sized = subs-sized encodeGraft graft-shorter h3 (bytes-sized 3 g) };
-      prunes = record { mean = subs-mean encodePrune prune-canonical h4; sized = subs-sized encodePrune prune-shorter h4 (bytes-sized 4 g) };
+      ihaves = record {
+        mean = subs-mean encodeIHave ihave-canonical h1;
+        sized = subs-sized encodeIHave ihave-shorter h1 (bytes-sized 1 g);
+      };
+      iwants = record {
+        mean = subs-mean encodeIWant iwant-canonical h2;
+        sized = subs-sized encodeIWant iwant-shorter h2 (bytes-sized 2 g);
+      };
+      grafts = record {
+        mean = subs-mean encodeGraft graft-canonical h3;
+        sized = subs-sized encodeGraft graft-shorter h3 (bytes-sized 3 g);
+      };
+      prunes = record {
+        mean = subs-mean encodePrune prune-canonical h4;
+        sized = subs-sized encodePrune prune-shorter h4 (bytes-sized 4 g);
+      };
     }
 
 sound-join : (c d : ControlMessage) → Sound c → Sound d → Sound (join c d)
@@ -309,19 +388,41 @@ control-sound : (x : ControlMessage) → Sound x → IsControl (encodeControl x)
 unfolding encodeControl
 control-sound x o =
     let hs = x .ihave in let ws = x .iwant in let gs = x .graft in let ps = x .prune in
-    let e1 = encodings encodeIHave hs in let e2 = encodings encodeIWant ws in let e3 = encodings encodeGraft gs in let e4 = encodings encodePrune ps in
+    let e1 = encodings encodeIHave hs in let e2 = encodings encodeIWant ws in let e3 = encodings encodeGraft gs in
+    let e4 = encodings encodePrune ps in
     let a = bytesEntries 1 e1 in let b = bytesEntries 2 e2 in let c = bytesEntries 3 e3 in let d = bytesEntries 4 e4 in
-    let w = body-append (bytes-body 1 (omega arith) (omega arith) e1 (o .ihaves .sized)) (body-append (bytes-body 2 (omega arith) (omega arith) e2 (o .iwants .sized)) (body-append (bytes-body 3 (omega arith) (omega arith) e3 (o .grafts .sized)) (bytes-body 4 (omega arith) (omega arith) e4 (o .prunes .sized)))) in
-    let d1 : bytesIn 1 (a ++ (b ++ (c ++ d))) ≡ e1 = found 1 a (b ++ (c ++ d)) e1 [] (bytes-here 1 e1) (found 1 b (c ++ d) [] [] (bytes-there 2 1 refl e2) (found 1 c d [] [] (bytes-there 3 1 refl e3) (bytes-there 4 1 refl e4))) ∙ append-nil e1 in
-    let d2 : bytesIn 2 (a ++ (b ++ (c ++ d))) ≡ e2 = found 2 a (b ++ (c ++ d)) [] (e2 ++ []) (bytes-there 1 2 refl e1) (found 2 b (c ++ d) e2 [] (bytes-here 2 e2) (found 2 c d [] [] (bytes-there 3 2 refl e3) (bytes-there 4 2 refl e4))) ∙ append-nil e2 in
-    let d3 : bytesIn 3 (a ++ (b ++ (c ++ d))) ≡ e3 = found 3 a (b ++ (c ++ d)) [] (e3 ++ []) (bytes-there 1 3 refl e1) (found 3 b (c ++ d) [] (e3 ++ []) (bytes-there 2 3 refl e2) (found 3 c d e3 [] (bytes-here 3 e3) (bytes-there 4 3 refl e4))) ∙ append-nil e3 in
-    let d4 : bytesIn 4 (a ++ (b ++ (c ++ d))) ≡ e4 = found 4 a (b ++ (c ++ d)) [] e4 (bytes-there 1 4 refl e1) (found 4 b (c ++ d) [] e4 (bytes-there 2 4 refl e2) (found 4 c d [] e4 (bytes-there 3 4 refl e3) (bytes-here 4 e4))) in
-    let e = ap₂ (λ (y z : List ℕ). y ++ z) (repeated-encodings 1 encodeIHave hs) (ap₂ (λ (y z : List ℕ). y ++ z) (repeated-encodings 2 encodeIWant ws) (ap₂ (λ (y z : List ℕ). y ++ z) (repeated-encodings 3 encodeGraft gs) (repeated-encodings 4 encodePrune ps))) in
+    let w = body-append (bytes-body 1 (omega arith) (omega arith) e1 (o .ihaves .sized))
+    (body-append (bytes-body 2 (omega arith) (omega arith) e2 (o .iwants .sized))
+    (body-append (bytes-body 3 (omega arith) (omega arith) e3 (o .grafts .sized))
+    (bytes-body 4 (omega arith) (omega arith) e4 (o .prunes .sized)))) in
+    let d1 : bytesIn 1 (a ++ (b ++ (c ++ d))) ≡ e1 =
+    found 1 a (b ++ (c ++ d)) e1 [] (bytes-here 1 e1)
+    (found 1 b (c ++ d) [] [] (bytes-there 2 1 refl e2)
+    (found 1 c d [] [] (bytes-there 3 1 refl e3) (bytes-there 4 1 refl e4))) ∙ append-nil e1 in
+    let d2 : bytesIn 2 (a ++ (b ++ (c ++ d))) ≡ e2 =
+    found 2 a (b ++ (c ++ d)) [] (e2 ++ []) (bytes-there 1 2 refl e1)
+    (found 2 b (c ++ d) e2 [] (bytes-here 2 e2)
+    (found 2 c d [] [] (bytes-there 3 2 refl e3) (bytes-there 4 2 refl e4))) ∙ append-nil e2 in
+    let d3 : bytesIn 3 (a ++ (b ++ (c ++ d))) ≡ e3 =
+    found 3 a (b ++ (c ++ d)) [] (e3 ++ []) (bytes-there 1 3 refl e1)
+    (found 3 b (c ++ d) [] (e3 ++ []) (bytes-there 2 3 refl e2)
+    (found 3 c d e3 [] (bytes-here 3 e3) (bytes-there 4 3 refl e4))) ∙ append-nil e3 in
+    let d4 : bytesIn 4 (a ++ (b ++ (c ++ d))) ≡ e4 =
+    found 4 a (b ++ (c ++ d)) [] e4 (bytes-there 1 4 refl e1)
+    (found 4 b (c ++ d) [] e4 (bytes-there 2 4 refl e2)
+    (found 4 c d [] e4 (bytes-there 3 4 refl e3) (bytes-here 4 e4))) in
+    let e = ap₂ (λ (y z : List ℕ). y ++ z) (repeated-encodings 1 encodeIHave hs)
+    (ap₂ (λ (y z : List ℕ). y ++ z) (repeated-encodings 2 encodeIWant ws)
+    (ap₂ (λ (y z : List ℕ). y ++ z) (repeated-encodings 3 encodeGraft gs) (repeated-encodings 4 encodePrune ps))) in
     means-as IsControl e refl
-    (is-control w (subst (λ (l : List (List ℕ)). Pairs IsIHave l hs) (sym d1) (o .ihaves .mean)) (subst (λ (l : List (List ℕ)). Pairs IsIWant l ws) (sym d2) (o .iwants .mean)) (subst (λ (l : List (List ℕ)). Pairs IsGraft l gs) (sym d3) (o .grafts .mean)) (subst (λ (l : List (List ℕ)). Pairs IsPrune l ps) (sym d4) (o .prunes .mean)))
+    (is-control w (subst (λ (l : List (List ℕ)). Pairs IsIHave l hs) (sym d1) (o .ihaves .mean))
+    (subst (λ (l : List (List ℕ)). Pairs IsIWant l ws) (sym d2) (o .iwants .mean))
+    (subst (λ (l : List (List ℕ)). Pairs IsGraft l gs) (sym d3) (o .grafts .mean))
+    (subst (λ (l : List (List ℕ)). Pairs IsPrune l ps) (sym d4) (o .prunes .mean)))
 
 -- ---- several controls as one
-sound-join-to : (c : ControlMessage) (o : Option ControlMessage) → Sound c → Each Sound (opt o) → Each Sound (opt (joinTo c o))
+sound-join-to : (c : ControlMessage) (o : Option ControlMessage) → Sound c → Each Sound (opt o)
+    → Each Sound (opt (joinTo c o))
 sound-join-to c none p none-left = p and none-left
 sound-join-to c (some d) p (q and none-left) = sound-join c d p q and none-left
 
@@ -329,7 +430,8 @@ sound-joined : {ds : List (List ℕ)} {cs : List ControlMessage} → Pairs IsCon
 sound-joined no-pairs = none-left
 sound-joined (_paired_ {x = d} {y = c} {ys = cs} p ps) = sound-join-to c (joined cs) (sound-of d c p) (sound-joined ps)
 
-pairs-sound : (o : Option ControlMessage) → Each Sound (opt o) → Pairs IsControl (encodings encodeControl (opt o)) (opt o)
+pairs-sound : (o : Option ControlMessage) → Each Sound (opt o)
+    → Pairs IsControl (encodings encodeControl (opt o)) (opt o)
 pairs-sound none h = no-pairs
 pairs-sound (some c) (p and none-left) = control-sound c p paired no-pairs
 
@@ -341,29 +443,49 @@ joined-opt (some c) = refl
 message-canonical : (d : List ℕ) (m : RawMessage) → IsMessage d m → IsMessage (m .raw) m
 message-canonical _ _ (is-message g u) = is-message g u
 
-control-sized : (o : Option ControlMessage) → length (optional (λ c. bytesField 3 (encodeControl c)) o) < 2 ^ 64 → Each Sized (encodings encodeControl (opt o))
+control-sized : (o : Option ControlMessage) → length (optional (λ c. bytesField 3 (encodeControl c)) o) < 2 ^ 64
+    → Each Sized (encodings encodeControl (opt o))
 control-sized none h = none-left
-control-sized (some c) h = let k : Sized (encodeControl c) = omega (arith, bytes-field-length 3 (encodeControl c)) in k and none-left
+control-sized (some c) h = let k : Sized (encodeControl c) = omega (arith, bytes-field-length 3 (encodeControl c)) in
+    k and none-left
 
 last-part : (a b c : List ℕ) → length c ≤ length (a ++ (b ++ c))
 last-part a b c = omega (arith, length-append a (b ++ c), length-append b c)
 
-rpc-canonical : {s : List ℕ} {x : Rpc} → length s < 2 ^ 64 → length (encodeRpc x) ≤ length s → IsRpc s x → IsRpc (encodeRpc x) x
+rpc-canonical : {s : List ℕ} {x : Rpc} → length s < 2 ^ 64 → length (encodeRpc x) ≤ length s → IsRpc s x
+    → IsRpc (encodeRpc x) x
 unfolding encodeRpc
 rpc-canonical k short (is-rpc {s = s} {es = es} {ss = ss} {ms = ms} {cs = cs} g h1 h2 h3) =
     let o = joined cs in
-    let e1 = encodings encodeSubOpts ss in let e2 = encodings (λ m. m .raw) ms in let e3 = encodings encodeControl (opt o) in
+    let e1 = encodings encodeSubOpts ss in let e2 = encodings (λ m. m .raw) ms in
+    let e3 = encodings encodeControl (opt o) in
     let a = bytesEntries 1 e1 in let b = bytesEntries 2 e2 in let c = bytesEntries 3 e3 in
-    let x1 = repeated (λ x. bytesField 1 (encodeSubOpts x)) ss in let x2 = repeated (λ m. bytesField 2 (m .raw)) ms in let x3 = optional (λ c. bytesField 3 (encodeControl c)) o in
+    let x1 = repeated (λ x. bytesField 1 (encodeSubOpts x)) ss in let x2 = repeated (λ m. bytesField 2 (m .raw)) ms in
+    let x3 = optional (λ c. bytesField 3 (encodeControl c)) o in
     let z = last-part x1 x2 x3 in
     let s3 = control-sized o (omega arith) in
-    let w = body-append (bytes-body 1 (omega arith) (omega arith) e1 (subs-sized encodeSubOpts sub-opts-shorter h1 (bytes-sized 1 g))) (body-append (bytes-body 2 (omega arith) (omega arith) e2 (subs-sized (λ m. m .raw) raw-same h2 (bytes-sized 2 g))) (bytes-body 3 (omega arith) (omega arith) e3 s3)) in
-    let d1 : bytesIn 1 (a ++ (b ++ c)) ≡ e1 = found 1 a (b ++ c) e1 [] (bytes-here 1 e1) (found 1 b c [] [] (bytes-there 2 1 refl e2) (bytes-there 3 1 refl e3)) ∙ append-nil e1 in
-    let d2 : bytesIn 2 (a ++ (b ++ c)) ≡ e2 = found 2 a (b ++ c) [] (e2 ++ []) (bytes-there 1 2 refl e1) (found 2 b c e2 [] (bytes-here 2 e2) (bytes-there 3 2 refl e3)) ∙ append-nil e2 in
-    let d3 : bytesIn 3 (a ++ (b ++ c)) ≡ e3 = found 3 a (b ++ c) [] e3 (bytes-there 1 3 refl e1) (found 3 b c [] e3 (bytes-there 2 3 refl e2) (bytes-here 3 e3)) in
-    let e = ap₂ (λ (y z : List ℕ). y ++ z) (repeated-encodings 1 encodeSubOpts ss) (ap₂ (λ (y z : List ℕ). y ++ z) (repeated-encodings 2 (λ m. m .raw) ms) (repeated-encodings 3 encodeControl (opt o) ∙ optional-opt (λ c. bytesField 3 (encodeControl c)) o)) in
-    means-as IsRpc e (ap (λ (y : Option ControlMessage). record { subscriptions = ss; publish = ms; control = y }) (joined-opt o))
-    (is-rpc w (subst (λ (l : List (List ℕ)). Pairs IsSubOpts l ss) (sym d1) (subs-mean encodeSubOpts sub-opts-canonical h1)) (subst (λ (l : List (List ℕ)). Pairs IsMessage l ms) (sym d2) (subs-mean (λ m. m .raw) message-canonical h2)) (subst (λ (l : List (List ℕ)). Pairs IsControl l (opt o)) (sym d3) (pairs-sound o (sound-joined h3))))
+    let w = body-append
+    (bytes-body 1 (omega arith) (omega arith) e1 (subs-sized encodeSubOpts sub-opts-shorter h1 (bytes-sized 1 g)))
+    (body-append (bytes-body 2 (omega arith) (omega arith) e2
+    (subs-sized (λ m. m .raw) raw-same h2 (bytes-sized 2 g))) (bytes-body 3 (omega arith) (omega arith) e3 s3)) in
+    let d1 : bytesIn 1 (a ++ (b ++ c)) ≡ e1 =
+    found 1 a (b ++ c) e1 [] (bytes-here 1 e1)
+    (found 1 b c [] [] (bytes-there 2 1 refl e2) (bytes-there 3 1 refl e3)) ∙ append-nil e1 in
+    let d2 : bytesIn 2 (a ++ (b ++ c)) ≡ e2 =
+    found 2 a (b ++ c) [] (e2 ++ []) (bytes-there 1 2 refl e1)
+    (found 2 b c e2 [] (bytes-here 2 e2) (bytes-there 3 2 refl e3)) ∙ append-nil e2 in
+    let d3 : bytesIn 3 (a ++ (b ++ c)) ≡ e3 =
+    found 3 a (b ++ c) [] e3 (bytes-there 1 3 refl e1)
+    (found 3 b c [] e3 (bytes-there 2 3 refl e2) (bytes-here 3 e3)) in
+    let e = ap₂ (λ (y z : List ℕ). y ++ z) (repeated-encodings 1 encodeSubOpts ss)
+    (ap₂ (λ (y z : List ℕ). y ++ z) (repeated-encodings 2 (λ m. m .raw) ms)
+    (repeated-encodings 3 encodeControl (opt o) ∙ optional-opt (λ c. bytesField 3 (encodeControl c)) o)) in
+    means-as IsRpc e (ap (λ (y : Option ControlMessage). record { subscriptions = ss; publish = ms; control = y })
+    (joined-opt o))
+    (is-rpc w (subst (λ (l : List (List ℕ)). Pairs IsSubOpts l ss) (sym d1)
+    (subs-mean encodeSubOpts sub-opts-canonical h1)) (subst (λ (l : List (List ℕ)). Pairs IsMessage l ms) (sym d2)
+    (subs-mean (λ m. m .raw) message-canonical h2)) (subst (λ (l : List (List ℕ)). Pairs IsControl l (opt o))
+    (sym d3) (pairs-sound o (sound-joined h3))))
 
 -- the canonical bytes of an RPC mean it
 pub canonical-means : {s : List ℕ} {x : Rpc} → length s < 2 ^ 64 → IsRpc s x → IsRpc (encodeRpc x) x

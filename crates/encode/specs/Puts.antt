@@ -1,5 +1,5 @@
--- Writing at a place of lent bytes: where the bytes xs end, and that they stand there where there is room for them. Where there is none the
--- answer is the same, so a writer that is lent nothing measures.
+-- Writing at a place of lent bytes: where the bytes xs end, and that they stand there where there is room for them.
+-- Where there is none the answer is the same, so a writer that is lent nothing measures.
 use Prim.Native.Nat.{ℕ, _+_, _≤_, _<_}
 use mathlib.Core.Path.{_≡_, refl, sym, ap, _∙_}
 use mathlib.Core.List.{List, [], _++_}
@@ -22,18 +22,22 @@ pub puts-none : (out : List ℕ) (at : ℕ) → Puts out at [] out at
 puts-none out at = record { ends = omega arith; holds = λ h. refl }
 
 -- what put_uvarint and put_bytes leave
-pub puts-set : (out : List ℕ) (at : ℕ) (xs after : List ℕ) (end : ℕ) → end ≡ at + length xs → after ≡ setIn (length xs) at xs out → Puts out at xs after end
+pub puts-set : (out : List ℕ) (at : ℕ) (xs after : List ℕ) (end : ℕ) → end ≡ at + length xs
+    → after ≡ setIn (length xs) at xs out → Puts out at xs after end
 puts-set out at xs after end p e = record { ends = p; holds = λ h. e ∙ set-fits (length xs) at xs out h }
 
 -- without the room anything may be left
-pub puts-short : (out : List ℕ) (at : ℕ) (xs after : List ℕ) (end : ℕ) → end ≡ at + length xs → length out < end → Puts out at xs after end
+pub puts-short : (out : List ℕ) (at : ℕ) (xs after : List ℕ) (end : ℕ) → end ≡ at + length xs → length out < end
+    → Puts out at xs after end
 puts-short out at xs after end p h = record { ends = p; holds = λ r. absurd (omega arith) }
 
-pub puts-same : (out : List ℕ) (at : ℕ) (xs ys after : List ℕ) (end : ℕ) → xs ≡ ys → Puts out at xs after end → Puts out at ys after end
+pub puts-same : (out : List ℕ) (at : ℕ) (xs ys after : List ℕ) (end : ℕ) → xs ≡ ys → Puts out at xs after end
+    → Puts out at ys after end
 puts-same out at xs ys after end e p = rw (← e) p
 
 -- xs, and ys where they end, are xs ++ ys
-pub puts-append : (out mid after : List ℕ) (at i end : ℕ) (xs ys : List ℕ) → Puts out at xs mid i → Puts mid i ys after end → Puts out at (xs ++ ys) after end
+pub puts-append : (out mid after : List ℕ) (at i end : ℕ) (xs ys : List ℕ) → Puts out at xs mid i
+    → Puts mid i ys after end → Puts out at (xs ++ ys) after end
 puts-append out mid after at i end xs ys p q =
     let l = length-append xs ys in
     record {
@@ -58,7 +62,8 @@ fits-first at xs ys h = omega (arith, length-append xs ys)
 pub fits-next : (out mid : List ℕ) (at i : ℕ) (xs ys : List ℕ) → Puts out at xs mid i → Fits at (xs ++ ys) → Fits i ys
 fits-next out mid at i xs ys p h = omega (arith, p .ends, length-append xs ys)
 
--- ---- bytes written one part after the other: what is left of them, written at `end` of the bytes as they are, makes all of them
+-- ---- bytes written one part after the other: what is left of them, written at `end` of the bytes as they are, makes
+-- all of them
 pub record Going (out₀ : List ℕ) (at : ℕ) (all out : List ℕ) (end : ℕ) (rest : List ℕ) : Type 0 where
   pub fits : Fits end rest
   pub goes : (after : List ℕ) (e : ℕ) → Puts out end rest after e → Puts out₀ at all after e
@@ -67,9 +72,11 @@ pub going-all : (out : List ℕ) (at : ℕ) (all : List ℕ) → Fits at all →
 going-all out at all h = record { fits = h; goes = λ after e p. p }
 
 pub going-same : (out : List ℕ) (at : ℕ) (all rest : List ℕ) → all ≡ rest → Fits at all → Going out at all out at rest
-going-same out at all rest e h = record { fits = fits-same at all rest e h; goes = λ after z p. puts-same out at rest all after z (sym e) p }
+going-same out at all rest e h =
+    record { fits = fits-same at all rest e h; goes = λ after z p. puts-same out at rest all after z (sym e) p }
 
-module _ (out₀ : List ℕ) (at : ℕ) (all out : List ℕ) (end : ℕ) (rest : List ℕ) (g : Going out₀ at all out end rest) where
+module _ (out₀ : List ℕ) (at : ℕ) (all out : List ℕ) (end : ℕ) (rest : List ℕ)
+    (g : Going out₀ at all out end rest) where
   pub going-none : rest ≡ [] → Puts out₀ at all out end
   going-none e = g .goes out end (puts-same out end [] rest out end (sym e) (puts-none out end))
 
@@ -81,5 +88,6 @@ module _ (out₀ : List ℕ) (at : ℕ) (all out : List ℕ) (end : ℕ) (rest :
     going-part mid i p =
         record {
           fits = fits-next out mid end i xs ys p (fits-same end rest (xs ++ ys) e (g .fits));
-          goes = λ after z q. g .goes after z (puts-same out end (xs ++ ys) rest after z (sym e) (puts-append out mid after end i z xs ys p q));
+          goes = λ after z q. g .goes after z
+              (puts-same out end (xs ++ ys) rest after z (sym e) (puts-append out mid after end i z xs ys p q));
         }

@@ -11,8 +11,8 @@ ghost use Rattle.protobuf.specs.Walk.{fieldsOf, isBytes, valueIn};
 ghost use Rattle.protobuf.specs.Encode.{tag, bytesField, ofWritten as encoded};
 ghost use Rattle.schema.specs.Schema.{rowOf, heldOf};
 ghost use Rattle.schema.specs.Slots.{slotsOf, hasField};
-ghost use Rattle.schema.specs.SlotsLaws.{Inside, Good};
-ghost use Rattle.schema.specs.Count.{Within};
+ghost use Rattle.schema.specs.SlotsLaws.{PlaceInside, SlotsInside};
+ghost use Rattle.schema.specs.Count.{FieldWithin};
 ghost use Rattle.ids.specs.Ids.{ofWritten};
 ghost use Rattle.canon.specs.Canon.{placed, slotIn, figured, numbered, ownPart, eachOf, heldPart, canon, entriesOf, mergedOf, bodyPart, canonBody, signOf};
 ghost use Rattle.encode.specs.Encode.{encodeAnswer, encodeLeft};
@@ -127,7 +127,7 @@ fn emit_number(how: Figure, n: u64, number: Number, out: &mut [u8], at: usize) -
 
 // A singular field of bytes.
 fn emit_place(n: u64, input: &[u8], place: Place, out: &mut [u8], at: usize) -> usize
-    requires { ⌜ (n ≤ 6) × Inside (now input) place × Fits at (placed n (now input) place) ⌝ }
+    requires { ⌜ (n ≤ 6) × PlaceInside (now input) place × Fits at (placed n (now input) place) ⌝ }
     ensures { λ r. ⌜ Puts (now (out .entry)) at (placed n (now (input .entry)) place) (now (out .exit)) r ⌝ }
 {
     match place {
@@ -141,7 +141,7 @@ fn emit_place(n: u64, input: &[u8], place: Place, out: &mut [u8], at: usize) -> 
 
 // The bytes in a slot of a message, as its field n.
 fn emit_slot(input: &[u8], slots: Slots, n: u64, slot: u8, out: &mut [u8], at: usize) -> usize
-    requires { ⌜ (n ≤ 6) × Good (now input) slots × Fits at (placed n (now input) (slotIn slot slots)) ⌝ }
+    requires { ⌜ (n ≤ 6) × SlotsInside (now input) slots × Fits at (placed n (now input) (slotIn slot slots)) ⌝ }
     ensures { λ r. ⌜ Puts (now (out .entry)) at (placed n (now (input .entry)) (slotIn slot slots)) (now (out .exit)) r ⌝ }
 {
     let place = slot_in(slot, slots);
@@ -150,7 +150,7 @@ fn emit_slot(input: &[u8], slots: Slots, n: u64, slot: u8, out: &mut [u8], at: u
 
 // The singular field n, by its role.
 fn emit_own(input: &[u8], slots: Slots, n: u64, role: Role, out: &mut [u8], at: usize) -> usize
-    requires { ⌜ (n ≤ 6) × Good (now input) slots × Fits at (ownPart slots n (now input) role) ⌝ }
+    requires { ⌜ (n ≤ 6) × SlotsInside (now input) slots × Fits at (ownPart slots n (now input) role) ⌝ }
     ensures { λ r. ⌜ Puts (now (out .entry)) at (ownPart slots n (now (input .entry)) role) (now (out .exit)) r ⌝ }
 {
     match role {
@@ -170,7 +170,7 @@ fn emit_own(input: &[u8], slots: Slots, n: u64, role: Role, out: &mut [u8], at: 
 
 // A field as it stands, where it is length-delimited and has the number n.
 fn emit_there(input: &[u8], f: Field, n: u64, out: &mut [u8], at: usize) -> usize
-    requires { ⌜ (n ≤ 6) × Within (now input) f × Fits at (cond (isBytes n f) (bytesField n (valueIn (now input) f)) []) ⌝ }
+    requires { ⌜ (n ≤ 6) × FieldWithin (now input) f × Fits at (cond (isBytes n f) (bytesField n (valueIn (now input) f)) []) ⌝ }
     ensures { λ r. ⌜ Puts (now (out .entry)) at (cond (isBytes n f) (bytesField n (valueIn (now (input .entry)) f)) []) (now (out .exit)) r ⌝ }
 {
     let start = f.start;
@@ -249,7 +249,7 @@ fn emit_anew(input: &[u8], n: u64, kind: Kind, out: &mut [u8], at: usize) -> usi
 
 // A field, where it is length-delimited and has the number n: the canonical bytes of the submessage in it, measured before they are written.
 fn emit_sub(input: &[u8], f: Field, n: u64, kind: Kind, out: &mut [u8], at: usize) -> usize
-    requires { ⌜ (n ≤ 6) × Within (now input) f × Fits at (cond (isBytes n f) (bytesField n (canon kind (valueIn (now input) f))) []) ⌝ }
+    requires { ⌜ (n ≤ 6) × FieldWithin (now input) f × Fits at (cond (isBytes n f) (bytesField n (canon kind (valueIn (now input) f))) []) ⌝ }
     ensures { λ r. ⌜ Puts (now (out .entry)) at (cond (isBytes n f) (bytesField n (canon kind (valueIn (now (input .entry)) f))) []) (now (out .exit)) r ⌝ }
 {
     let start = f.start;
@@ -289,7 +289,7 @@ fn emit_message(part: &[u8], kind: Kind, out: &mut [u8], at: usize) -> usize
 
 // The entries m of a field, where it is the submessage n of that kind.
 fn emit_entry(body: &[u8], f: Field, kind: Kind, n: u64, m: u64, out: &mut [u8], at: usize) -> usize
-    requires { ⌜ (m ≤ 6) × Within (now body) f × Fits at (cond (isBytes n f) (heldPart canon m (valueIn (now body) f) (heldOf (rowOf kind m))) []) ⌝ }
+    requires { ⌜ (m ≤ 6) × FieldWithin (now body) f × Fits at (cond (isBytes n f) (heldPart canon m (valueIn (now body) f) (heldOf (rowOf kind m))) []) ⌝ }
     ensures { λ r. ⌜ Puts (now (out .entry)) at (cond (isBytes n f) (heldPart canon m (valueIn (now (body .entry)) f) (heldOf (rowOf kind m))) []) (now (out .exit)) r ⌝ }
 {
     let start = f.start;

@@ -1,5 +1,6 @@
--- Histories of a gateway: a fresh node, and calls one after the other, each lent the node and stores as the last one left
--- them, refused calls included. A call is its input; what it answers and leaves are the definitions that its contract cites.
+-- Histories of a gateway: a fresh node, and calls one after the other, each lent the node and stores as the last one
+-- left them, refused calls included. A call is its input; what it answers and leaves are the definitions that its
+-- contract cites.
 use Prim.Native.Nat.{ℕ, zero, suc, _+_, _*_, _^_, _<_}
 use mathlib.Core.Path.{_≡_}
 use mathlib.Core.Bool.{Bool, true, cond}
@@ -70,7 +71,8 @@ after (admit body i word at) s =
       ids = admitSeen (s .node) (s .ids) at (planIn s body i word at);
       messages = admitCache (s .node) (s .ids) (s .messages) at (planIn s body i word at);
     }
-after (heartbeat at) s = record { node = beatNode (s .node) (s .ids) (s .messages) at; ids = s .ids; messages = s .messages }
+after (heartbeat at) s =
+    record { node = beatNode (s .node) (s .ids) (s .messages) at; ids = s .ids; messages = s .messages }
 after (advertise topic windows out) s = s
 after (ask body out) s = s
 after (serve body out) s = s
@@ -110,13 +112,15 @@ beats (c ∷ cs) = beat c + beats cs
 abbrev pub refusalAt : State → Call → ℕ
 refusalAt s (admit body i word at) = admitNumber (admitAnswer (s .node) (s .ids) at (planIn s body i word at))
 refusalAt s (heartbeat at) = beatNumber (beatAnswer (s .node) (s .ids) (s .messages) at)
-refusalAt s (advertise topic windows out) = advertiseNumber (advertiseAnswer (s .node) (s .ids) (s .messages) topic windows out)
+refusalAt s (advertise topic windows out) =
+    advertiseNumber (advertiseAnswer (s .node) (s .ids) (s .messages) topic windows out)
 refusalAt s (ask body out) = askNumber (askAnswer (s .node) (s .ids) (s .messages) body out)
 refusalAt s (serve body out) = serveNumber (serveAnswer (s .node) (s .ids) (s .messages) body out)
 
 pub data NoneRefused : List Call → State → Type 0 where
   all-done : {s : State} → NoneRefused [] s
-  done : {c : Call} {cs : List Call} {s : State} → refusalAt s c ≡ 0 → NoneRefused cs (after c s) → NoneRefused (c ∷ cs) s
+  done : {c : Call} {cs : List Call} {s : State} → refusalAt s c ≡ 0 → NoneRefused cs (after c s)
+      → NoneRefused (c ∷ cs) s
 
 -- ---- what a call wrote: as many bytes as it answers, from the front of the buffer as it leaves it
 abbrev pub toldBytes : Advertise → List ℕ → List ℕ

@@ -1,5 +1,5 @@
--- Laws about histories that rest on no set of messages: calls and then more calls; what one call leaves; and every state
--- that calls leave from a fresh one is well formed.
+-- Laws about histories that rest on no set of messages: calls and then more calls; what one call leaves; and every
+-- state that calls leave from a fresh one is well formed.
 use Prim.Native.Nat.{ℕ, zero, suc, _+_, _≤_}
 use mathlib.Core.Path.{_≡_, refl, sym, ap, subst, _∙_}
 use mathlib.Core.Bool.{Bool}
@@ -18,7 +18,8 @@ use Rattle.node.specs.Calls.{beatNumber, beatAnswer, beatNode}
 use Rattle.node.specs.WellFormed.{Typed}
 use Rattle.node.specs.Laws.{fresh-gateway, admit-gateway, beat-says, beat-gateway}
 use Rattle.node.specs.WellFormedLaws.{Keeps, begun-keeps, admitted-keeps, beaten-keeps}
-use Rattle.history.specs.History.{State, gatewayOf, Settings, Fresh, Call, admit, heartbeat, advertise, ask, serve}
+use Rattle.history.specs.History.{State, gatewayOf, Settings, Fresh, Call, admit, heartbeat, advertise, ask}
+use Rattle.history.specs.History.{serve}
 use Rattle.history.specs.History.{planIn, after, afterAll, reading, readings, beats, refusalAt, NoneRefused}
 use Rattle.history.specs.History.{all-done, done, admits, isNew, isDuplicate, countPlan, countAt, times, timesGot}
 use Rattle.history.specs.History.{timesNew, timesDuplicate, newAt, newIds}
@@ -33,7 +34,8 @@ pub readings-append : (cs ds : List Call) → readings (cs ++ ds) ≡ readings c
 unfolding readings
 readings-append [] ds = refl
 readings-append (c ∷ cs) ds =
-    ap (λ (l : List ℕ). reading c ++ l) (readings-append cs ds) ∙ sym (append-assoc (reading c) (readings cs) (readings ds))
+    ap (λ (l : List ℕ). reading c ++ l) (readings-append cs ds)
+    ∙ sym (append-assoc (reading c) (readings cs) (readings ds))
 
 pub beats-append : (cs ds : List Call) → beats (cs ++ ds) ≡ beats cs + beats ds
 unfolding beats
@@ -183,7 +185,8 @@ answered-plan m s at (no r) = refl
 answered-plan m s at (taken k id) =
     either (sameBytes k m) (λ t. either (heldAt (s .node) (s .ids) at id) (λ u. rw (t, u)) (λ u. rw (t, u))) (λ t. rw t)
 
-answered-at : (m : List ℕ) (s : State) (c : Call) → countAt (λ r. 1) m s c ≡ countAt isNew m s c + countAt isDuplicate m s c
+answered-at : (m : List ℕ) (s : State) (c : Call)
+    → countAt (λ r. 1) m s c ≡ countAt isNew m s c + countAt isDuplicate m s c
 answered-at m s (admit body i word at) = answered-plan m s at (planIn s body i word at)
 answered-at m s (heartbeat at) = refl
 answered-at m s (advertise topic windows out) = refl

@@ -1,5 +1,5 @@
--- A history written out: each admit beside the message that its body carries and that message's id. What such calls leave,
--- and how often a message is got and new in them, is then computed over gateways, without their stores.
+-- A history written out: each admit beside the message that its body carries and that message's id. What such calls
+-- leave, and how often a message is got and new in them, is then computed over gateways, without their stores.
 use Prim.Native.Nat.{ℕ, _+_, _≤_}
 use mathlib.Core.Path.{_≡_}
 use mathlib.Core.Bool.{true, cond}

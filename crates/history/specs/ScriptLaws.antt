@@ -1,5 +1,5 @@
--- Calls that are written out: each admit takes its message, they leave the gateway that is computed, and a message is got
--- and new in them as often as is computed.
+-- Calls that are written out: each admit takes its message, they leave the gateway that is computed, and a message is
+-- got and new in them as often as is computed.
 use Prim.Native.Nat.{ℕ, _+_, _≤_}
 use mathlib.Core.Path.{_≡_, refl, sym, ap, ap₂, subst, _∙_}
 use mathlib.Core.Bool.{true}
@@ -11,9 +11,11 @@ use Rattle.node.specs.Calls.{taken, lentOf, planned, heldAt}
 use Rattle.node.specs.Laws.{fit-plan, is-new}
 use Rattle.history.specs.History.{State, gatewayOf, Settings, Fresh, admit, heartbeat, planIn, after, afterAll}
 use Rattle.history.specs.History.{countAt, times, timesGot, timesNew, isNew as newAnswer}
-use Rattle.history.specs.Laws.{node-clock, Kept, after-keeps, fresh-keeps, fresh-starts, fresh-clock, admit-leaves}
+use Rattle.history.specs.Laws.{node-clock, Kept, after-keeps, fresh-keeps, fresh-starts, fresh-clock}
+use Rattle.history.specs.Laws.{admit-leaves}
 use Rattle.history.specs.Laws.{admit-clock, beat-leaves, beat-clock}
-use Rattle.history.specs.Script.{Carries, Act, gets, beats, asks, callsOf, gatewayAfter, gotBy, gotIn, newBy, newIn}
+use Rattle.history.specs.Script.{Carries, Act, gets, beats, asks, callsOf, gatewayAfter, gotBy, gotIn, newBy}
+use Rattle.history.specs.Script.{newIn}
 use Rattle.history.specs.Script.{Written, nothing, got, beaten, asked}
 
 -- ---- each admit takes the message that it is written with
@@ -72,13 +74,15 @@ acted (gets body m id at ∷ xs) s kept (got clock now c forward w) =
       takes = takes-got e (rest .takes);
       gateway = rest .gateway ∙ ap (gatewayAfter xs) g;
       times-got = λ k. ap₂ (λ (a b : ℕ). a + b) (admit-got s kept body m id at e k) (rest .times-got k);
-      times-new = λ k. ap₂ (λ (a b : ℕ). a + b) (admit-new s kept body m id at e k) (rest .times-new k ∙ ap (newIn k xs) g);
+      times-new = λ k. ap₂ (λ (a b : ℕ). a + b) (admit-new s kept body m id at e k) (rest .times-new k
+          ∙ ap (newIn k xs) g);
     }
 acted (beats at ∷ xs) s kept (beaten clock now forward w) =
     let f = subst (λ (k : ℕ). k ≤ at) (node-clock s) forward in
     let g = beat-leaves s kept at f in
     let later = sym (beat-clock s kept at f) in
-    let rest = acted xs (after (heartbeat at) s) (after-keeps (heartbeat at) s kept) (subst (λ (k : ℕ). Written k xs) later w) in
+    let rest = acted xs (after (heartbeat at) s) (after-keeps (heartbeat at) s kept)
+    (subst (λ (k : ℕ). Written k xs) later w) in
     record {
       takes = takes-beat (rest .takes);
       gateway = rest .gateway ∙ ap (gatewayAfter xs) g;
@@ -93,7 +97,8 @@ fresh-acted {x} {s} xs f w = acted xs s (fresh-keeps f) (subst (λ (k : ℕ). Wr
 
 -- the gateway that they leave
 pub fresh-leaves : {x : Settings} {s : State} (xs : List Act) → Fresh x s → Written 0 xs
-    → gatewayOf (afterAll (callsOf xs) s) ≡ gatewayAfter xs (started (x .ttl) (x .max-seen) (x .history-len) (x .max-messages))
+    → gatewayOf (afterAll (callsOf xs) s) ≡ gatewayAfter xs
+    (started (x .ttl) (x .max-seen) (x .history-len) (x .max-messages))
 fresh-leaves xs f w = fresh-acted xs f w .gateway ∙ ap (gatewayAfter xs) (fresh-starts f)
 
 -- how often a message is new in them

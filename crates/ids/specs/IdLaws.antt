@@ -13,7 +13,7 @@ use Rattle.schema.specs.declared.Kind.the-variants as kind
 use Rattle.schema.specs.declared.Place.{Place}
 use Rattle.schema.specs.declared.Place.the-variants as place
 use Rattle.schema.specs.Slots.{slotsOf}
-use Rattle.schema.specs.SlotsLaws.{Inside, slots-inside}
+use Rattle.schema.specs.SlotsLaws.{PlaceInside, slots-inside}
 use Rattle.ids.specs.declared.MessageAt.the-variants.{At}
 use Rattle.ids.specs.declared.MessageId.the-variants as id
 use Rattle.ids.specs.Ids.{messageAlong, messageAt, onSeqno, onFrom, idParts, idBytes}
@@ -27,7 +27,8 @@ along-inside s i a e =
     (λ at f st r rest n h.
     either (isBytes 2 f)
     (λ t. either (eqb n i)
-    (λ u. let k = simp (t, u) at h in let p : a ≡ f .start = cc in let q : e ≡ f .next = cc in (omega (arith, st .ends), omega (arith, st .within)))
+    (λ u. let k = simp (t, u) at h in let p : a ≡ f .start = cc in let q : e ≡ f .next = cc in
+    (omega (arith, st .ends), omega (arith, st .within)))
     (λ u. rest (n + 1) (simp (t, u) at h)))
     (λ t. rest n (simp t at h)))
 
@@ -42,7 +43,8 @@ pub record Fits (p : List ℕ) (a e b f : ℕ) : Type 0 where
   pub seqno : (b ≤ f) × (f ≤ length p)
   pub seqno-short : f - b ≤ 64
 
-of-seqno : (p : List ℕ) (a e b f x y : ℕ) (q : Place) → Inside p q → onSeqno x y q ≡ id.Parts a e b f → (x ≡ a) × (y ≡ e) × (b ≤ f) × (f ≤ length p) × (f - b ≤ 64)
+of-seqno : (p : List ℕ) (a e b f x y : ℕ) (q : Place) → PlaceInside p q → onSeqno x y q ≡ id.Parts a e b f → (x ≡ a)
+    × (y ≡ e) × (b ≤ f) × (f ≤ length p) × (f - b ≤ 64)
 of-seqno p a e b f x y place.Absent i h = clash (cc)
 of-seqno p a e b f x y (place.Present c d) i h =
     either (eqb (d - c) 0) (λ t. clash (let k = simp t at h in cc))
@@ -53,7 +55,8 @@ of-seqno p a e b f x y (place.Present c d) i h =
     let m = i c d refl in
     (ex, ey, omega arith, omega arith, omega arith)))
 
-of-from : (p : List ℕ) (a e b f : ℕ) (q r : Place) → Inside p q → Inside p r → onFrom q r ≡ id.Parts a e b f → Fits p a e b f
+of-from : (p : List ℕ) (a e b f : ℕ) (q r : Place) → PlaceInside p q → PlaceInside p r → onFrom q r ≡ id.Parts a e b f
+    → Fits p a e b f
 of-from p a e b f place.Absent r i j h = clash (cc)
 of-from p a e b f (place.Present x y) r i j h =
     either (eqb (y - x) 0) (λ t. clash (let k = simp t at h in cc))
@@ -62,7 +65,12 @@ of-from p a e b f (place.Present x y) r i j h =
     let l = ltb-false 64 (y - x) u in
     let s = of-seqno p a e b f x y r j k in
     let m = i x y refl in
-    record { from = omega (arith, s .0, s .1); from-short = omega (arith, s .0, s .1); seqno = (s .2, s .3); seqno-short = s .4 }))
+    record {
+      from = omega (arith, s .0, s .1);
+      from-short = omega (arith, s .0, s .1);
+      seqno = (s .2, s .3);
+      seqno-short = s .4;
+    }))
 
 pub id-fits : (p : List ℕ) (a e b f : ℕ) → idParts p ≡ id.Parts a e b f → Fits p a e b f
 unfolding idParts
@@ -95,7 +103,8 @@ unfolding idParts
 id-some p a e b f h = some-from a e b f (slotsOf kind.RawMessage p .first) (slotsOf kind.RawMessage p .third) h
 
 -- an id has 2 to 128 bytes
-pub id-size : (p : List ℕ) (a e b f : ℕ) → idParts p ≡ id.Parts a e b f → (2 ≤ length (idBytes p a e b f)) × (length (idBytes p a e b f) ≤ 128)
+pub id-size : (p : List ℕ) (a e b f : ℕ) → idParts p ≡ id.Parts a e b f → (2 ≤ length (idBytes p a e b f))
+    × (length (idBytes p a e b f) ≤ 128)
 id-size p a e b f h =
     let g = id-fits p a e b f h in
     let m = id-some p a e b f h in

@@ -1,5 +1,5 @@
--- One message of a body, and its id: what `message_id` answers and leaves. Refusals come in the order of 01's table: 10, 1 to 7, 11, 20, 21, 22,
--- 23, 12.
+-- One message of a body, and its id: what `message_id` answers and leaves. Refusals come in the order of 01's table:
+-- 10, 1 to 7, 11, 20, 21, 22, 23, 12.
 use Prim.Native.Nat.{ℕ, _+_, _-_}
 use mathlib.Core.List.{List, [], _∷_, _++_}
 use mathlib.Core.Bool.{Bool, true, false, cond, _||_}
@@ -21,13 +21,15 @@ use Rattle.ids.specs.declared.MessageAt.the-variants.{At, Count}
 use Rattle.ids.specs.declared.MessageId.{MessageId}
 use Rattle.ids.specs.declared.MessageId.the-variants as id
 use Rattle.ids.specs.declared.MessageBytes.{MessageBytes}
-use Rattle.ids.specs.declared.MessageBytes.the-variants.{Bytes, Room, Refused, NoMessage, MissingFrom, InvalidFrom, InvalidSeqno}
+use Rattle.ids.specs.declared.MessageBytes.the-variants.{Bytes, Room, Refused, NoMessage, MissingFrom}
+use Rattle.ids.specs.declared.MessageBytes.the-variants.{InvalidFrom, InvalidSeqno}
 
 -- ---- the message at an index: length-delimited fields 2, counted from 0; or how many there are
 abbrev pub messageAlong : ℕ → ℕ → Fields → MessageAt
 messageAlong i n end = Count n
 messageAlong i n (refused why) = Count n
-messageAlong i n (f then w) = cond (isBytes 2 f) (cond (eqb n i) (At (f .start) (f .next)) (messageAlong i (n + 1) w)) (messageAlong i n w)
+messageAlong i n (f then w) = cond (isBytes 2 f) (cond (eqb n i) (At (f .start) (f .next)) (messageAlong i (n + 1) w))
+    (messageAlong i n w)
 
 unfoldable pub messageAt : List ℕ → ℕ → MessageAt
 messageAt s i = messageAlong i 0 (fieldsOf s)

@@ -1,4 +1,5 @@
--- The lines that answer a body, in ASCII: one for the call, and one for each record. Absent is ` -`; bytes are ` =` and their hex.
+-- The lines that answer a body, in ASCII: one for the call, and one for each record. Absent is ` -`; bytes are ` =` and
+-- their hex.
 use Prim.Native.Nat.{ℕ}
 use mathlib.Core.List.{List, [], _∷_, _++_, map}
 use mathlib.Core.Bool.{true, cond}
@@ -27,7 +28,8 @@ bytesText s = 32 ∷ 61 ∷ hex s
 -- a place that does not lie within s, which decode never leaves, is as absent
 unfoldable pub placeText : List ℕ → Place → List ℕ
 placeText s place.Absent = 32 ∷ 45 ∷ []
-placeText s (place.Present a e) = cond (ltb e a) (32 ∷ 45 ∷ []) (cond (ltb (length s) e) (32 ∷ 45 ∷ []) (bytesText (between s a e)))
+placeText s (place.Present a e) =
+    cond (ltb e a) (32 ∷ 45 ∷ []) (cond (ltb (length s) e) (32 ∷ 45 ∷ []) (bytesText (between s a e)))
 
 unfoldable pub countText : Number → List ℕ
 countText num.Absent = 32 ∷ 45 ∷ []
@@ -47,7 +49,8 @@ subText s t = (32 ∷ 32 ∷ 115 ∷ 117 ∷ 98 ∷ []) ++ (flagText (t .number)
 unfoldable pub messageText : List ℕ → Slots → List ℕ
 messageText s t =
     ((32 ∷ 32 ∷ 109 ∷ 101 ∷ 115 ∷ 115 ∷ 97 ∷ 103 ∷ 101 ∷ []) ++ bytesText s)
-    ++ (placeText s (t .first) ++ (placeText s (t .second) ++ (placeText s (t .third) ++ (placeText s (t .fourth) ++ placeText s (t .fifth)))))
+    ++ (placeText s (t .first)
+    ++ (placeText s (t .second) ++ (placeText s (t .third) ++ (placeText s (t .fourth) ++ placeText s (t .fifth)))))
 
 -- `  prune`, the topic, the backoff
 unfoldable pub pruneText : List ℕ → Slots → List ℕ
@@ -92,7 +95,8 @@ unfoldable pub decodedText : Told → List ℕ
 decodedText t =
     (32 ∷ 100 ∷ 101 ∷ 99 ∷ 111 ∷ 100 ∷ 101 ∷ 32 ∷ 111 ∷ 107 ∷ [])
     ++ (number (t .first)
-    ++ cond (eqb (t .second) 1) (32 ∷ 99 ∷ 111 ∷ 110 ∷ 116 ∷ 114 ∷ 111 ∷ 108 ∷ []) (32 ∷ 112 ∷ 108 ∷ 97 ∷ 105 ∷ 110 ∷ []))
+    ++ cond (eqb (t .second) 1) (32 ∷ 99 ∷ 111 ∷ 110 ∷ 116 ∷ 114 ∷ 111 ∷ 108 ∷ [])
+    (32 ∷ 112 ∷ 108 ∷ 97 ∷ 105 ∷ 110 ∷ []))
 
 -- the line of the input's record n; or ` decode` and a refusal; where the table is short, refusal 12
 unfoldable pub decodeLine : ℕ → Told → List ℕ

@@ -1,6 +1,7 @@
 // Answers records from standard input, a line for each: the record's number from 1, the call, the answer. A record is its content's length
 // (u32), its kind (u16) and its content, little-endian. Kinds: 1 decode (body), 2 encode (body), 3 sign (index u16, body),
 // 4 id (index u16, body), 5 walk (place u64, body), 6 varint (bytes), 7 utf8 (bytes). After the line of kind 1 come those of the body's records.
+mod made;
 mod records;
 
 ghost use Prim.Native.Nat.{_+_, _≤_};
@@ -10,11 +11,13 @@ ghost use Rattle.lines.specs.Lines.{Holds};
 ghost use Rattle.inspect.specs.Answers.{walk, varint, walkAnswer, varintAnswer, utf8Answer, answerTo, lineOf};
 use ids::told::told_message;
 use lines::end_line;
-use lines::made_line;
 use lines::put_refusal;
 use lines::put_value;
 use lines::put_word;
 use lines::start_line;
+use made::encode_line;
+use made::id_line;
+use made::sign_line;
 use message::told::told_decoded;
 use peer_id::Uvarint;
 use peer_id::told::told_varint;
@@ -169,7 +172,7 @@ fn reply_encode(n: u64, body: &[u8], made: &mut [u8], out: &mut [u8]) -> bool
     requires { ⌜ 787456 ≤ length (now out) ⌝ }
 {
     let e = encode::encode(body, made);
-    let k = made_line(n, b" encode", true, made, told_encoded(e), out);
+    let k = encode_line(n, made, told_encoded(e), out);
     io::write_all(1, &out[..k])
 }
 
@@ -183,7 +186,7 @@ fn reply_sign(n: u64, content: &[u8], made: &mut [u8], out: &mut [u8]) -> bool
     }
     let index = basis::little_at(content, 0, 2);
     let r = encode::sign_bytes(&content[2..], index as usize, made);
-    let k = made_line(n, b" sign", true, made, told_message(r), out);
+    let k = sign_line(n, made, told_message(r), out);
     io::write_all(1, &out[..k])
 }
 
@@ -197,7 +200,7 @@ fn reply_id(n: u64, content: &[u8], made: &mut [u8], out: &mut [u8]) -> bool
     }
     let index = basis::little_at(content, 0, 2);
     let r = ids::message_id(&content[2..], index as usize, made);
-    let k = made_line(n, b" id", true, made, told_message(r), out);
+    let k = id_line(n, made, told_message(r), out);
     io::write_all(1, &out[..k])
 }
 

@@ -20,17 +20,23 @@ pub holds-as : {xs ys out : List ℕ} {r : ℕ} → xs ≡ ys → Holds xs out r
 holds-as e h = record { size = h .size ∙ ap length e; counts = h .counts; text = h .text ∙ e }
 
 -- either way of a test
-pub holds-yes : {xs out : List ℕ} {r : ℕ} (t : Bool) (ys : List ℕ) → t ≡ true → Holds xs out r → Holds (cond t xs ys) out r
+pub holds-yes : {xs out : List ℕ} {r : ℕ} (t : Bool) (ys : List ℕ) → t ≡ true → Holds xs out r
+    → Holds (cond t xs ys) out r
 holds-yes t ys e h = rw e h
 
-pub holds-no : {ys out : List ℕ} {r : ℕ} (t : Bool) (xs : List ℕ) → t ≡ false → Holds ys out r → Holds (cond t xs ys) out r
+pub holds-no : {ys out : List ℕ} {r : ℕ} (t : Bool) (xs : List ℕ) → t ≡ false → Holds ys out r
+    → Holds (cond t xs ys) out r
 holds-no t xs e h = rw e h
 
 -- what was put at the front is a line
 pub puts-holds : {p r : ℕ} {xs b a : List ℕ} → Puts p xs b 0 a r → r ≤ length b → Holds xs a r
 puts-holds {r = r} {a = a} f h =
     let l = puts-length f in
-    record { size = omega (arith, f .place); counts = (omega arith, sym (length-take-le r a (omega arith))); text = puts-front f h }
+    record {
+      size = omega (arith, f .place);
+      counts = (omega arith, sym (length-take-le r a (omega arith)));
+      text = puts-front f h;
+    }
 
 -- ---- buffers, as programs lend them
 -- a part from the front has as many elements as it was asked for

@@ -34,7 +34,8 @@ numberLine n words value = decimal n ++ ((words ++ number value) ++ (10 ∷ []))
 unfoldable pub refusalLine : ℕ → List ℕ → Bool → Told → List ℕ
 refusalLine n words full t =
     decimal n
-    ++ ((words ++ refused (t .number) (take (cond full (t .count) 0) (t .first ∷ t .second ∷ t .third ∷ []))) ++ (10 ∷ []))
+    ++ ((words ++ refused (t .number) (take (cond full (t .count) 0) (t .first ∷ t .second ∷ t .third ∷ [])))
+    ++ (10 ∷ []))
 
 -- what was done, or the call and its refusal
 unfoldable pub toldLine : ℕ → List ℕ → List ℕ → Bool → Told → List ℕ
@@ -50,7 +51,8 @@ unfoldable pub bytesLine : ℕ → List ℕ → List ℕ → Told → List ℕ
 bytesLine n words s t =
     decimal n
     ++ ((words
-    ++ ((number (t .first) ++ shownText s (t .first)) ++ numbers (take (t .count - 1) (t .second ∷ t .third ∷ t .fourth ∷ []))))
+    ++ ((number (t .first) ++ shownText s (t .first))
+    ++ numbers (take (t .count - 1) (t .second ∷ t .third ∷ t .fourth ∷ []))))
     ++ (10 ∷ []))
 
 unfoldable pub madeLine : ℕ → List ℕ → Bool → List ℕ → Told → List ℕ

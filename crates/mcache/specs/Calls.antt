@@ -1,5 +1,6 @@
--- What each call on the message cache answers and leaves. Refusals come in the order of 01's table: 40 at the start; 41, 42; then for `put` 10, 1 to
--- 7, 11, 20, 21 to 26, 28, 29, 30, and for `gossip_ids` 29. A refused call leaves the cache and the store as they were.
+-- What each call on the message cache answers and leaves. Refusals come in the order of 01's table: 40 at the start;
+-- 41, 42; then for `put` 10, 1 to 7, 11, 20, 21 to 26, 28, 29, 30, and for `gossip_ids` 29. A refused call leaves the
+-- cache and the store as they were.
 use Prim.Native.Nat.{ℕ, _+_, _-_, _*_}
 use mathlib.Core.List.{List, [], _∷_, _++_}
 use mathlib.Core.Bool.{true, cond}
@@ -31,7 +32,8 @@ use Rattle.mcache.specs.declared.Lookup.the-variants as lookup
 use Rattle.mcache.specs.declared.Gossip.{Gossip}
 use Rattle.mcache.specs.declared.Gossip.the-variants as gossip
 use Rattle.mcache.specs.Told.{lentTold, putTold}
-use Rattle.mcache.specs.State.{messageIn, legal, wellFormed, fresh, dropped, appended, passed, aged, stale, told, gatherInto, messageSize, messageIdSize, maxMessages, ringOf}
+use Rattle.mcache.specs.State.{messageIn, legal, wellFormed, fresh, dropped, appended, passed, aged, stale, told}
+use Rattle.mcache.specs.State.{gatherInto, messageSize, messageIdSize, maxMessages, ringOf}
 
 -- ---- 01's numbers
 abbrev pub lentNumber : Lent → ℕ
@@ -50,7 +52,8 @@ startCache history max = cond (legal history max) (fresh history max) (fresh 1 0
 
 -- ---- the lent state: 41, 42
 unfoldable pub lentOf : MessageCache → List ℕ → Lent
-lentOf c st = cond (eqb (length st) (c .«max_messages» * messageSize)) (cond (wellFormed c st) lent.Fine lent.Malformed) lent.BadStore
+lentOf c st = cond (eqb (length st) (c .«max_messages» * messageSize)) (cond (wellFormed c st) lent.Fine lent.Malformed)
+    lent.BadStore
 
 abbrev pub whenFine : {A : Type 0} → Lent → A → A → A
 whenFine lent.Fine new old = new
@@ -64,7 +67,8 @@ indexIn c id = indexOf id (idsIn messageIdSize (ringOf c) (c .«id_len») (c .id
 
 -- the oldest leaves where there is no room; then a message of n bytes more. With max_messages 0 none is kept.
 unfoldable pub entered : ℕ → List ℕ → MessageCache → MessageCache
-entered n id c = cond (eqb (c .«max_messages») 0) (passed c) (appended n id (dropped ((c .count + 1) - c .«max_messages») c))
+entered n id c =
+    cond (eqb (c .«max_messages») 0) (passed c) (appended n id (dropped ((c .count + 1) - c .«max_messages») c))
 
 -- the bytes of the message are written where it is kept, and no others
 unfoldable pub enteredStore : MessageCache → List ℕ → List ℕ → List ℕ
@@ -81,11 +85,13 @@ found c st id = cond (ltb (indexIn c id) (c .count)) (messageIn (c .len) st (pla
 -- the places of the messages that are told of, in the order of their ids
 unfoldable pub gossipList : MessageCache → List ℕ → List ℕ → ℕ → List ℕ
 gossipList c st topic windows =
-    gatherInto (told (c .window) (c .len) st windows topic) (idAt messageIdSize (c .«id_len») (c .ids)) [] (rowsIn (λ (p : ℕ). p) (ringOf c))
+    gatherInto (told (c .window) (c .len) st windows topic) (idAt messageIdSize (c .«id_len») (c .ids)) []
+    (rowsIn (λ (p : ℕ). p) (ringOf c))
 
 -- and zeros after them
 unfoldable pub gossipArray : MessageCache → List ℕ → List ℕ → ℕ → List ℕ
-gossipArray c st topic windows = gossipList c st topic windows ++ drop (length (gossipList c st topic windows)) (replicate maxMessages 0)
+gossipArray c st topic windows = gossipList c st topic windows ++ drop (length (gossipList c st topic windows))
+    (replicate maxMessages 0)
 
 -- ---- put
 -- what a put is to do: keep a message under an id; or nothing, and answer so
@@ -162,7 +168,8 @@ gossipOn lent.BadStore r = gossip.BadStore
 gossipOn lent.Malformed r = gossip.Malformed
 
 unfoldable pub gossipAnswer : MessageCache → List ℕ → List ℕ → Gossip
-gossipAnswer c st topic = gossipOn (lentOf c st) (cond (ltb 1024 (length topic)) (gossip.TopicTooLong (length topic)) gossip.Ids)
+gossipAnswer c st topic =
+    gossipOn (lentOf c st) (cond (ltb 1024 (length topic)) (gossip.TopicTooLong (length topic)) gossip.Ids)
 
 abbrev pub whenTold : {A : Type 0} → Gossip → A → A → A
 whenTold gossip.Ids x y = x
@@ -174,4 +181,5 @@ unfoldable pub gossipCount : MessageCache → List ℕ → List ℕ → ℕ → 
 gossipCount c st topic windows = whenTold (gossipAnswer c st topic) (length (gossipList c st topic windows)) 0
 
 unfoldable pub gossipRows : MessageCache → List ℕ → List ℕ → ℕ → List ℕ
-gossipRows c st topic windows = whenTold (gossipAnswer c st topic) (gossipArray c st topic windows) (replicate maxMessages 0)
+gossipRows c st topic windows = whenTold (gossipAnswer c st topic) (gossipArray c st topic windows)
+    (replicate maxMessages 0)

@@ -33,11 +33,18 @@ use Rattle.mcache.specs.declared.MessageCache.{MessageCache}
 use Rattle.mcache.specs.declared.Lent.{Lent}
 use Rattle.mcache.specs.declared.Lent.the-variants as lent
 use Rattle.mcache.specs.Messages.{Cached, shift}
-use Rattle.mcache.specs.State.{cachedIn, fallsFrom, runsTo, givesAt, allTrue, givesIn, legal, fresh, dropped, passed, older, aged, stale, messageSize, messageIdSize, maxMessages, maxHistory, idsSize, ringOf}
-use Rattle.mcache.specs.Calls.{lentOf, whenFine, indexIn, entered, enteredStore, planUnder, keptUnder, storedUnder, shifted, Plan, no, keep, keptIn, storedIn, planFit, planAt, planBody, planned, shiftCache}
+use Rattle.mcache.specs.State.{cachedIn, fallsFrom, runsTo, givesAt, allTrue, givesIn, legal, fresh, dropped}
+use Rattle.mcache.specs.State.{passed, older, aged, stale, messageSize, messageIdSize, maxMessages, maxHistory}
+use Rattle.mcache.specs.State.{idsSize, ringOf}
+use Rattle.mcache.specs.Calls.{lentOf, whenFine, indexIn, entered, enteredStore, planUnder, keptUnder}
+use Rattle.mcache.specs.Calls.{storedUnder, shifted, Plan, no, keep, keptIn, storedIn, planFit, planAt, planBody}
+use Rattle.mcache.specs.Calls.{planned, shiftCache}
 use Rattle.mcache.specs.WellFormed.{Sized, Typed, freshAt, Reached, begun, given, opened}
 use Rattle.mcache.specs.StateLaws.{Tests, fine-tests, tests-fine}
-use Rattle.mcache.specs.CachedLaws.{windowsOf, windows-cached, cached-shifted, stale-in, leaving, spot, left-few, rest-starts, ring-entered, kept-id, kept-message, kept-number, new-id, new-message, new-number, grown, entered-some, entered-none, stored-some, stored-none, rest}
+use Rattle.mcache.specs.CachedLaws.{windowsOf, windows-cached, cached-shifted, stale-in, leaving, spot, left-few}
+use Rattle.mcache.specs.CachedLaws.{rest-starts, ring-entered, kept-id, kept-message, kept-number, new-id}
+use Rattle.mcache.specs.CachedLaws.{new-message, new-number, grown, entered-some, entered-none, stored-some}
+use Rattle.mcache.specs.CachedLaws.{stored-none, rest}
 use Rattle.mcache.specs.Laws.{held-rows}
 
 -- ---- the oldest leave, and what was true of the rows still is
@@ -68,7 +75,8 @@ runs-drop : (next k : ℕ) (l : List ℕ) → runsTo next l ≡ true → runsTo 
 unfolding runsTo
 runs-drop next zero l r = r
 runs-drop next (suc k) [] r = refl
-runs-drop next (suc k) (g ∷ l) r = runs-drop next k l (both (eqb ((g + length (g ∷ l)) % 2 ^ 64) next) (runsTo next l) r .1)
+runs-drop next (suc k) (g ∷ l) r =
+    runs-drop next k l (both (eqb ((g + length (g ∷ l)) % 2 ^ 64) next) (runsTo next l) r .1)
 
 -- the next arrival number is given to a row more
 runs-snoc : (next : ℕ) (l : List ℕ) → runsTo next l ≡ true → runsTo ((next + 1) % 2 ^ 64) (l ++ (next ∷ [])) ≡ true
@@ -78,7 +86,8 @@ runs-snoc next (g ∷ l) r =
     let b = both (eqb ((g + length (g ∷ l)) % 2 ^ 64) next) (runsTo next l) r in
     let e : (g + suc (length l)) % 2 ^ 64 ≡ next = eqb-true ((g + length (g ∷ l)) % 2 ^ 64) next (b .0) in
     let n = length-append l (next ∷ []) in
-    rw (eq-eqb ((g + suc (length (l ++ (next ∷ [])))) % 2 ^ 64) ((next + 1) % 2 ^ 64) (omega arith)) (runs-snoc next l (b .1))
+    rw (eq-eqb ((g + suc (length (l ++ (next ∷ [])))) % 2 ^ 64) ((next + 1) % 2 ^ 64) (omega arith))
+    (runs-snoc next l (b .1))
 
 pub upto-drop : (most k : ℕ) (l : List ℕ) → allUpTo most l ≡ true → allUpTo most (drop k l) ≡ true
 unfolding allUpTo
@@ -109,7 +118,8 @@ pub fresh-first : (history max : ℕ) → fresh history max ≡ freshAt 0 histor
 unfolding fresh freshAt
 fresh-first history max = refl
 
-fresh-tests : (next history max : ℕ) (st : List ℕ) → legal history max ≡ true → length st ≡ max * messageSize → Tests (freshAt next history max) st
+fresh-tests : (next history max : ℕ) (st : List ℕ) → legal history max ≡ true → length st ≡ max * messageSize
+    → Tests (freshAt next history max) st
 unfolding freshAt legal inUse idsIn givesIn rowsIn fallsFrom runsTo allUpTo allTrue distinct
 fresh-tests next history max st l r =
     let a = both (leb 1 history) (leb history maxHistory && leb max maxMessages) l in
@@ -128,14 +138,17 @@ fresh-tests next history max st l r =
       once = refl;
     }
 
-pub start-at-fine : (next history max : ℕ) (st : List ℕ) → legal history max ≡ true → length st ≡ max * messageSize → lentOf (freshAt next history max) st ≡ lent.Fine
+pub start-at-fine : (next history max : ℕ) (st : List ℕ) → legal history max ≡ true → length st ≡ max * messageSize
+    → lentOf (freshAt next history max) st ≡ lent.Fine
 start-at-fine next history max st l r = tests-fine (freshAt next history max) st (fresh-tests next history max st l r)
 
-pub start-fine : (history max : ℕ) (st : List ℕ) → legal history max ≡ true → length st ≡ max * messageSize → lentOf (fresh history max) st ≡ lent.Fine
+pub start-fine : (history max : ℕ) (st : List ℕ) → legal history max ≡ true → length st ≡ max * messageSize
+    → lentOf (fresh history max) st ≡ lent.Fine
 start-fine history max st l r = rw (fresh-first history max) (start-at-fine 0 history max st l r)
 
 -- ---- shift
-shift-falls : (history most more : ℕ) (ms : List Cached) → fallsFrom most (windowsOf ms) ≡ true → ((w : ℕ) → w ≤ most → suc w < history → suc w ≤ more)
+shift-falls : (history most more : ℕ) (ms : List Cached) → fallsFrom most (windowsOf ms) ≡ true
+    → ((w : ℕ) → w ≤ most → suc w < history → suc w ≤ more)
     → fallsFrom more (windowsOf (shift history ms)) ≡ true
 unfolding shift fallsFrom
 shift-falls history most more [] f up = refl
@@ -145,25 +158,30 @@ shift-falls history most more (m ∷ ms) f up =
     either (ltb (suc (m .window)) history)
     (λ t.
     let h = ltb-true (suc (m .window)) history t in
-    rw (t, le-leb (suc (m .window)) more (up (m .window) k h)) (shift-falls history (m .window) (suc (m .window)) ms (b .1) (λ w i j. omega arith)))
+    rw (t, le-leb (suc (m .window)) more (up (m .window) k h))
+    (shift-falls history (m .window) (suc (m .window)) ms (b .1) (λ w i j. omega arith)))
     (λ t. rw t (shift-falls history (m .window) more ms (b .1) (λ w i j. up w (omega arith) j)))
 
 shifted-windows : (c : MessageCache) (st : List ℕ) → Tests c st → Sized c
     → fallsFrom (c .«history_len» - 1) (inUse (ringOf (shifted c)) (shifted c .window)) ≡ true
 shifted-windows c st t z =
     rw (← windows-cached (shifted c) st, cached-shifted c st t z)
-    (shift-falls (c .«history_len») (c .«history_len» - 1) (c .«history_len» - 1) (cachedIn c st) (rw (windows-cached c st) (t .falls)) (λ w i j. omega arith))
+    (shift-falls (c .«history_len») (c .«history_len» - 1) (c .«history_len» - 1) (cachedIn c st)
+    (rw (windows-cached c st) (t .falls)) (λ w i j. omega arith))
 
 -- the numbers of the rows that stay
-numbers-less : (k : ℕ) (ring : Ring) (l : List ℕ) → ring .start ≤ ring .cap → ring .count ≤ ring .cap → k ≤ ring .count → inUse (without k ring) l ≡ drop k (inUse ring l)
+numbers-less : (k : ℕ) (ring : Ring) (l : List ℕ) → ring .start ≤ ring .cap → ring .count ≤ ring .cap → k ≤ ring .count
+    → inUse (without k ring) l ≡ drop k (inUse ring l)
 unfolding inUse
 numbers-less k ring l a b h = ring-drop (λ (p : ℕ). getD l p 0) ring k a b h
 
-ids-less : (k : ℕ) (ring : Ring) (lens ids : List ℕ) → ring .start ≤ ring .cap → ring .count ≤ ring .cap → k ≤ ring .count → idsIn messageIdSize (without k ring) lens ids ≡ drop k (idsIn messageIdSize ring lens ids)
+ids-less : (k : ℕ) (ring : Ring) (lens ids : List ℕ) → ring .start ≤ ring .cap → ring .count ≤ ring .cap
+    → k ≤ ring .count → idsIn messageIdSize (without k ring) lens ids ≡ drop k (idsIn messageIdSize ring lens ids)
 unfolding idsIn
 ids-less k ring lens ids a b h = ring-drop (idAt messageIdSize lens ids) ring k a b h
 
-gives-less : (k : ℕ) (ring : Ring) (lens ilens ids st : List ℕ) → ring .start ≤ ring .cap → ring .count ≤ ring .cap → k ≤ ring .count → givesIn ring lens ilens ids st ≡ true
+gives-less : (k : ℕ) (ring : Ring) (lens ilens ids st : List ℕ) → ring .start ≤ ring .cap → ring .count ≤ ring .cap
+    → k ≤ ring .count → givesIn ring lens ilens ids st ≡ true
     → givesIn (without k ring) lens ilens ids st ≡ true
 unfolding givesIn
 gives-less k ring lens ilens ids st a b h g =
@@ -182,16 +200,21 @@ shifted-tests c st t z =
       starts = place-le (ringOf c) k (t .starts) (omega (arith, t .within));
       within = omega (arith, t .within);
       falls = shifted-windows c st t z;
-      runs = rw (numbers-less k (ringOf c) (c .generation) (t .starts) (t .within) h) (runs-drop (c .«next_generation») k (inUse (ringOf c) (c .generation)) (t .runs));
-      id-short = rw (numbers-less k (ringOf c) (c .«id_len») (t .starts) (t .within) h) (upto-drop messageIdSize k (inUse (ringOf c) (c .«id_len»)) (t .id-short));
+      runs = rw (numbers-less k (ringOf c) (c .generation) (t .starts) (t .within) h)
+          (runs-drop (c .«next_generation») k (inUse (ringOf c) (c .generation)) (t .runs));
+      id-short = rw (numbers-less k (ringOf c) (c .«id_len») (t .starts) (t .within) h)
+          (upto-drop messageIdSize k (inUse (ringOf c) (c .«id_len»)) (t .id-short));
       gives = gives-less k (ringOf c) (c .len) (c .«id_len») (c .ids) st (t .starts) (t .within) h (t .gives);
-      once = rw (ids-less k (ringOf c) (c .«id_len») (c .ids) (t .starts) (t .within) h) (distinct-drop k (idsIn messageIdSize (ringOf c) (c .«id_len») (c .ids)) (t .once));
+      once = rw (ids-less k (ringOf c) (c .«id_len») (c .ids) (t .starts) (t .within) h)
+          (distinct-drop k (idsIn messageIdSize (ringOf c) (c .«id_len») (c .ids)) (t .once));
     }
 
-pub shifted-fine : (c : MessageCache) (st : List ℕ) → lentOf c st ≡ lent.Fine → Sized c → lentOf (shifted c) st ≡ lent.Fine
+pub shifted-fine : (c : MessageCache) (st : List ℕ) → lentOf c st ≡ lent.Fine → Sized c
+    → lentOf (shifted c) st ≡ lent.Fine
 shifted-fine c st f z = tests-fine (shifted c) st (shifted-tests c st (fine-tests c st f) z)
 
-pub shift-fine : (c : MessageCache) (st : List ℕ) → lentOf c st ≡ lent.Fine → Sized c → lentOf (shiftCache c st) st ≡ lent.Fine
+pub shift-fine : (c : MessageCache) (st : List ℕ) → lentOf c st ≡ lent.Fine → Sized c
+    → lentOf (shiftCache c st) st ≡ lent.Fine
 unfolding shiftCache
 shift-fine c st f z = rw f (tests-fine (shifted c) st (shifted-tests c st (fine-tests c st f) z))
 
@@ -203,7 +226,8 @@ pub record Keeps (c : MessageCache) (m id : List ℕ) : Type 0 where
   pub own : givesId m id ≡ true
   pub fresh : ltb (indexIn c id) (c .count) ≡ false
 
-of-fit : (c : MessageCache) (p m id : List ℕ) (n : ℕ) (r : Admission) → counted kind.RawMessage p ≡ count.Records n → admissionOf p true ≡ r → planFit c p r ≡ keep m id → Keeps c m id
+of-fit : (c : MessageCache) (p m id : List ℕ) (n : ℕ) (r : Admission) → counted kind.RawMessage p ≡ count.Records n
+    → admissionOf p true ≡ r → planFit c p r ≡ keep m id → Keeps c m id
 of-fit c p m id n (admission.Unfit why) k e h = clash (cc)
 of-fit c p m id n (admission.Fit x y z w) k e h =
     either (ltb (indexIn c (idBytes p x y z w)) (c .count))
@@ -219,49 +243,64 @@ of-fit c p m id n (admission.Fit x y z w) k e h =
       fresh = rw (← b) t;
     })
 
-of-at : (c : MessageCache) (body m id : List ℕ) (i : ℕ) (r : MessageAt) → acceptOf body ≡ checked.Fine → messageAt body i ≡ r → planAt c body r ≡ keep m id → Keeps c m id
+of-at : (c : MessageCache) (body m id : List ℕ) (i : ℕ) (r : MessageAt) → acceptOf body ≡ checked.Fine
+    → messageAt body i ≡ r → planAt c body r ≡ keep m id → Keeps c m id
 of-at c body m id i (at.Count n) a e h = clash (cc)
 of-at c body m id i (at.At x y) a e h =
     let q = message-read body i x y a e in
     of-fit c (between body x y) m id (q .0) (admissionOf (between body x y) true) (q .1) refl h
 
-of-body : (c : MessageCache) (body m id : List ℕ) (i : ℕ) (r : Checked) → acceptOf body ≡ r → planBody c body i r ≡ keep m id → Keeps c m id
+of-body : (c : MessageCache) (body m id : List ℕ) (i : ℕ) (r : Checked) → acceptOf body ≡ r
+    → planBody c body i r ≡ keep m id → Keeps c m id
 of-body c body m id i (checked.Refused why) a h = clash (cc)
 of-body c body m id i checked.Fine a h = of-at c body m id i (messageAt body i) a refl h
 
-pub planned-keeps : (c : MessageCache) (st body m id : List ℕ) (i : ℕ) → lentOf c st ≡ lent.Fine → planned c st body i ≡ keep m id → Keeps c m id
+pub planned-keeps : (c : MessageCache) (st body m id : List ℕ) (i : ℕ) → lentOf c st ≡ lent.Fine
+    → planned c st body i ≡ keep m id → Keeps c m id
 unfolding planned
 planned-keeps c st body m id i f h = of-body c body m id i (acceptOf body) refl (rw f at h)
 
-not-held : (c : MessageCache) (m id : List ℕ) → Keeps c m id → among id (idsIn messageIdSize (ringOf c) (c .«id_len») (c .ids)) ≡ false
+not-held : (c : MessageCache) (m id : List ℕ) → Keeps c m id
+    → among id (idsIn messageIdSize (ringOf c) (c .«id_len») (c .ids)) ≡ false
 not-held c m id k = held-rows c id ∙ k .fresh
 
-module _ (c : MessageCache) (st m id : List ℕ) (t : Tests c st) (z : Sized c) (k : Keeps c m id) (some : c .«max_messages» ≡ 0 → ⊥) where
+module _ (c : MessageCache) (st m id : List ℕ) (t : Tests c st) (z : Sized c) (k : Keeps c m id)
+    (some : c .«max_messages» ≡ 0 → ⊥) where
   numbers-more : (l : List ℕ) (x : ℕ) → length l ≡ maxMessages
       → inUse (oneMore (rest c)) (set l (spot c) x) ≡ newest (c .«max_messages») (inUse (ringOf c) l ++ (x ∷ []))
   unfolding inUse
   numbers-more l x e =
       ring-entered c (t .starts) (t .within) some (λ (p : ℕ). getD l p 0) (λ (p : ℕ). getD (set l (spot c) x) p 0) x
-      (kept-number c st m id t z (k .id-small) (k .small) some l x) (new-number c st m id t z (k .id-small) (k .small) some l x e)
+      (kept-number c st m id t z (k .id-small) (k .small) some l x)
+      (new-number c st m id t z (k .id-small) (k .small) some l x e)
 
-  ids-more : idsIn messageIdSize (oneMore (rest c)) (set (c .«id_len») (spot c) (length id)) (sets (c .ids) (spot c * messageIdSize) id)
+  ids-more : idsIn messageIdSize (oneMore (rest c)) (set (c .«id_len») (spot c) (length id))
+      (sets (c .ids) (spot c * messageIdSize) id)
       ≡ newest (c .«max_messages») (idsIn messageIdSize (ringOf c) (c .«id_len») (c .ids) ++ (id ∷ []))
   unfolding idsIn
   ids-more =
-      ring-entered c (t .starts) (t .within) some (idAt messageIdSize (c .«id_len») (c .ids)) (idAt messageIdSize (set (c .«id_len») (spot c) (length id)) (sets (c .ids) (spot c * messageIdSize) id)) id
+      ring-entered c (t .starts) (t .within) some (idAt messageIdSize (c .«id_len») (c .ids))
+      (idAt messageIdSize (set (c .«id_len») (spot c) (length id)) (sets (c .ids) (spot c * messageIdSize) id)) id
       (kept-id c st m id t z (k .id-small) (k .small) some) (new-id c st m id t z (k .id-small) (k .small) some)
 
   gives-more : givesIn (oneMore (rest c)) (set (c .len) (spot c) (length m))
-      (set (c .«id_len») (spot c) (length id)) (sets (c .ids) (spot c * messageIdSize) id) (sets st (spot c * messageSize) m) ≡ true
+      (set (c .«id_len») (spot c) (length id)) (sets (c .ids) (spot c * messageIdSize) id)
+      (sets st (spot c * messageSize) m) ≡ true
   unfolding givesIn givesAt newest
   gives-more =
       let old = givesAt (c .len) (c .«id_len») (c .ids) st in
       let l = rowsIn old (ringOf c) ++ (true ∷ []) in
       rw
       (ring-entered c (t .starts) (t .within) some old
-      (givesAt (set (c .len) (spot c) (length m)) (set (c .«id_len») (spot c) (length id)) (sets (c .ids) (spot c * messageIdSize) id) (sets st (spot c * messageSize) m)) true
+      (givesAt (set (c .len) (spot c) (length m)) (set (c .«id_len») (spot c) (length id))
+      (sets (c .ids) (spot c * messageIdSize) id) (sets st (spot c * messageSize) m)) true
       (λ i h.
-      rw (kept-number c st m id t z (k .id-small) (k .small) some (c .len) (length m) i h, kept-message c st m id t z (k .id-small) (k .small) some i h, kept-id c st m id t z (k .id-small) (k .small) some i h))
+      rw (
+        kept-number c st m id t z (k .id-small) (k .small) some (c .len) (length m) i h,
+        kept-message c st m id t z (k .id-small) (k .small) some i h,
+        kept-id c st m id t z (k .id-small)
+            (k .small) some i h,
+      ))
       (rw (
         new-number c st m id t z (k .id-small) (k .small) some (c .len) (length m) (z .lengths),
         new-message c st m id t z (k .id-small) (k .small) some,
@@ -284,13 +323,20 @@ module _ (c : MessageCache) (st m id : List ℕ) (t : Tests c st) (z : Sized c) 
         few = t .few;
         starts = rest-starts c (t .starts) (t .within) some;
         within = omega (arith, left-few c (t .starts) (t .within) some);
-        falls = rw (numbers-more (c .window) 0 (z .windows)) (falls-drop (c .«history_len» - 1) (length (windows ++ (0 ∷ [])) - c .«max_messages») (windows ++ (0 ∷ [])) (falls-snoc (c .«history_len» - 1) windows (t .falls)));
+        falls = rw (numbers-more (c .window) 0 (z .windows))
+            (falls-drop (c .«history_len» - 1) (length (windows ++ (0 ∷ [])) - c .«max_messages») (windows ++ (0 ∷ []))
+            (falls-snoc (c .«history_len» - 1) windows (t .falls)));
         runs =
             rw (numbers-more (c .generation) (c .«next_generation») (z .generations))
-            (runs-drop ((c .«next_generation» + 1) % 2 ^ 64) (length (numbers ++ (c .«next_generation» ∷ [])) - c .«max_messages») (numbers ++ (c .«next_generation» ∷ [])) (runs-snoc (c .«next_generation») numbers (t .runs)));
-        id-short = rw (numbers-more (c .«id_len») (length id) (z .id-lengths)) (upto-drop messageIdSize (length (lens ++ (length id ∷ [])) - c .«max_messages») (lens ++ (length id ∷ [])) (upto-snoc messageIdSize (length id) lens (k .id-small) (t .id-short)));
+            (runs-drop ((c .«next_generation» + 1) % 2 ^ 64)
+            (length (numbers ++ (c .«next_generation» ∷ [])) - c .«max_messages»)
+            (numbers ++ (c .«next_generation» ∷ [])) (runs-snoc (c .«next_generation») numbers (t .runs)));
+        id-short = rw (numbers-more (c .«id_len») (length id) (z .id-lengths))
+            (upto-drop messageIdSize (length (lens ++ (length id ∷ [])) - c .«max_messages») (lens ++ (length id ∷ []))
+            (upto-snoc messageIdSize (length id) lens (k .id-small) (t .id-short)));
         gives = gives-more;
-        once = rw ids-more (distinct-drop (length (ids ++ (id ∷ [])) - c .«max_messages») (ids ++ (id ∷ [])) (distinct-snoc ids id (t .once) (not-held c m id k)));
+        once = rw ids-more (distinct-drop (length (ids ++ (id ∷ [])) - c .«max_messages») (ids ++ (id ∷ []))
+            (distinct-snoc ids id (t .once) (not-held c m id k)));
       }
 
 passed-tests : (c : MessageCache) (st : List ℕ) → Tests c st → c .«max_messages» ≡ 0 → Tests (passed c) st
@@ -311,7 +357,8 @@ passed-tests c st t e =
       once = t .once;
     }
 
-entered-fine : (c : MessageCache) (st m id : List ℕ) → Tests c st → Sized c → Keeps c m id → lentOf (entered (length m) id c) (enteredStore c st m) ≡ lent.Fine
+entered-fine : (c : MessageCache) (st m id : List ℕ) → Tests c st → Sized c → Keeps c m id
+    → lentOf (entered (length m) id c) (enteredStore c st m) ≡ lent.Fine
 entered-fine c st m id t z k =
     either (eqb (c .«max_messages») 0)
     (λ u.
@@ -319,18 +366,22 @@ entered-fine c st m id t z k =
     rw (entered-none (length m) id c e, stored-none c st m e) (tests-fine (passed c) st (passed-tests c st t e)))
     (λ u.
     let some = eqb-false (c .«max_messages») 0 u in
-    rw (entered-some (length m) id c some, stored-some c st m some) (tests-fine (grown (length m) id c) (sets st (spot c * messageSize) m) (grown-tests c st m id t z k some)))
+    rw (entered-some (length m) id c some, stored-some c st m some)
+    (tests-fine (grown (length m) id c) (sets st (spot c * messageSize) m) (grown-tests c st m id t z k some)))
 
-put-by : (c : MessageCache) (st body : List ℕ) (i : ℕ) → lentOf c st ≡ lent.Fine → Sized c → (r : Plan) → planned c st body i ≡ r → lentOf (keptIn c r) (storedIn c st r) ≡ lent.Fine
+put-by : (c : MessageCache) (st body : List ℕ) (i : ℕ) → lentOf c st ≡ lent.Fine → Sized c → (r : Plan)
+    → planned c st body i ≡ r → lentOf (keptIn c r) (storedIn c st r) ≡ lent.Fine
 put-by c st body i f z (no r) e = f
 put-by c st body i f z (keep m id) e = entered-fine c st m id (fine-tests c st f) z (planned-keeps c st body m id i f e)
 
 -- whatever is asked, refused puts too
-pub put-fine : (c : MessageCache) (st body : List ℕ) (i : ℕ) → lentOf c st ≡ lent.Fine → Sized c → lentOf (keptIn c (planned c st body i)) (storedIn c st (planned c st body i)) ≡ lent.Fine
+pub put-fine : (c : MessageCache) (st body : List ℕ) (i : ℕ) → lentOf c st ≡ lent.Fine → Sized c
+    → lentOf (keptIn c (planned c st body i)) (storedIn c st (planned c st body i)) ≡ lent.Fine
 put-fine c st body i f z = put-by c st body i f z (planned c st body i) refl
 
 -- a message that may be taken, put under its id, whatever it came from
-pub under-fine : (c : MessageCache) (st m id : List ℕ) → lentOf c st ≡ lent.Fine → Sized c → length m ≤ messageSize → length id ≤ messageIdSize → givesId m id ≡ true
+pub under-fine : (c : MessageCache) (st m id : List ℕ) → lentOf c st ≡ lent.Fine → Sized c → length m ≤ messageSize
+    → length id ≤ messageIdSize → givesId m id ≡ true
     → lentOf (keptUnder m id c) (storedUnder c st m id) ≡ lent.Fine
 unfolding keptUnder storedUnder
 under-fine c st m id f z n k g =
@@ -352,11 +403,25 @@ grown-sized n id c z =
 
 passed-sized : (c : MessageCache) → Sized c → Sized (passed c)
 unfolding passed
-passed-sized c z = record { generations = z .generations; windows = z .windows; lengths = z .lengths; id-lengths = z .id-lengths; id-room = z .id-room }
+passed-sized c z =
+    record {
+      generations = z .generations;
+      windows = z .windows;
+      lengths = z .lengths;
+      id-lengths = z .id-lengths;
+      id-room = z .id-room;
+    }
 
 pub shifted-sized : (c : MessageCache) → Sized c → Sized (shifted c)
 unfolding shifted dropped aged
-shifted-sized c z = record { generations = z .generations; windows = length-map (c .window) older ∙ z .windows; lengths = z .lengths; id-lengths = z .id-lengths; id-room = z .id-room }
+shifted-sized c z =
+    record {
+      generations = z .generations;
+      windows = length-map (c .window) older ∙ z .windows;
+      lengths = z .lengths;
+      id-lengths = z .id-lengths;
+      id-room = z .id-room;
+    }
 
 pub fresh-sized : (next history max : ℕ) → Sized (freshAt next history max)
 unfolding freshAt
@@ -369,18 +434,24 @@ fresh-sized next history max =
       id-room = length-replicate {A = ℕ} idsSize 0;
     }
 
-set-small : (l : List ℕ) (q x : ℕ) → ((p : ℕ) → getD l p 0 < 2 ^ 64) → x < 2 ^ 64 → (p : ℕ) → getD (set l q x) p 0 < 2 ^ 64
+set-small : (l : List ℕ) (q x : ℕ) → ((p : ℕ) → getD l p 0 < 2 ^ 64) → x < 2 ^ 64 → (p : ℕ)
+    → getD (set l q x) p 0 < 2 ^ 64
 set-small l q x s h p =
     either (eqb p q)
     (λ t.
     let e = eqb-true p q t in
-    either (ltb q (length l)) (λ u. rw (e, getD-set-same l q x 0 (ltb-true q (length l) u)) h) (λ u. rw (set-out l q x (ltb-false q (length l) u)) (s p)))
+    either (ltb q (length l)) (λ u. rw (e, getD-set-same l q x 0 (ltb-true q (length l) u)) h)
+    (λ u. rw (set-out l q x (ltb-false q (length l) u)) (s p)))
     (λ t. rw (getD-set-other l q p x 0 (eqb-false p q t)) (s p))
 
 grown-typed : (n : ℕ) (id : List ℕ) (c : MessageCache) → Typed c → Typed (grown n id c)
 unfolding grown
 grown-typed n id c y =
-    record { sized = grown-sized n id c (y .sized); next-small = omega arith; small = set-small (c .generation) (spot c) (c .«next_generation») (y .small) (y .next-small) }
+    record {
+      sized = grown-sized n id c (y .sized);
+      next-small = omega arith;
+      small = set-small (c .generation) (spot c) (c .«next_generation») (y .small) (y .next-small);
+    }
 
 passed-typed : (c : MessageCache) → Typed c → Typed (passed c)
 unfolding passed
@@ -397,7 +468,8 @@ zeros-small (suc n) (suc p) = zeros-small n p
 
 pub fresh-typed : (next history max : ℕ) → next < 2 ^ 64 → Typed (freshAt next history max)
 unfolding freshAt
-fresh-typed next history max h = record { sized = fresh-sized next history max; next-small = h; small = zeros-small maxMessages }
+fresh-typed next history max h =
+    record { sized = fresh-sized next history max; next-small = h; small = zeros-small maxMessages }
 
 entered-sized : (n : ℕ) (id : List ℕ) (c : MessageCache) → Sized c → Sized (entered n id c)
 entered-sized n id c z =
@@ -450,8 +522,10 @@ shift-typed c st y = typed-shift c y (lentOf c st)
 -- ---- every state that the calls reach
 reached-both : {c : MessageCache} {st : List ℕ} → Reached c st → (lentOf c st ≡ lent.Fine) × Typed c
 reached-both (begun next history max st n l r) = (start-at-fine next history max st l r, fresh-typed next history max n)
-reached-both (given {c} {st} r body i) = let b = reached-both r in (put-fine c st body i (b .0) (b .1 .sized), put-typed c st body i (b .1))
-reached-both (opened {c} {st} r) = let b = reached-both r in (shift-fine c st (b .0) (b .1 .sized), shift-typed c st (b .1))
+reached-both (given {c} {st} r body i) = let b = reached-both r in
+    (put-fine c st body i (b .0) (b .1 .sized), put-typed c st body i (b .1))
+reached-both (opened {c} {st} r) = let b = reached-both r in
+    (shift-fine c st (b .0) (b .1 .sized), shift-typed c st (b .1))
 
 pub reached-fine : {c : MessageCache} {st : List ℕ} → Reached c st → lentOf c st ≡ lent.Fine
 reached-fine r = reached-both r .0

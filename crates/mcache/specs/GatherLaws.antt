@@ -31,17 +31,21 @@ each-insert P id p (q ∷ l) h k =
 pub length-insert : (id : ℕ → List ℕ) (p : ℕ) (l : List ℕ) → length (insertRow id p l) ≡ suc (length l)
 unfolding insertRow
 length-insert id p [] = refl
-length-insert id p (q ∷ l) = either (precedesBytes (id q) (id p)) (λ t. rw t (ap suc (length-insert id p l))) (λ t. rw t)
+length-insert id p (q ∷ l) = either (precedesBytes (id q) (id p)) (λ t. rw t (ap suc (length-insert id p l)))
+    (λ t. rw t)
 
-pub each-gather : (P : ℕ → Type 0) (t : ℕ → Bool) (id : ℕ → List ℕ) (qs ps : List ℕ) → Each P qs → Each P ps → Each P (gatherInto t id qs ps)
+pub each-gather : (P : ℕ → Type 0) (t : ℕ → Bool) (id : ℕ → List ℕ) (qs ps : List ℕ) → Each P qs → Each P ps
+    → Each P (gatherInto t id qs ps)
 unfolding gatherInto
 each-gather P t id qs [] h k = h
 each-gather P t id qs (p ∷ ps) h k =
     either (t p)
-    (λ u. rw u (each-gather P t id (insertRow id p qs) ps (each-insert P id p qs (k 0 (omega arith)) h) (each-rest P p ps k)))
+    (λ u. rw u (each-gather P t id (insertRow id p qs) ps (each-insert P id p qs (k 0 (omega arith)) h)
+    (each-rest P p ps k)))
     (λ u. rw u (each-gather P t id qs ps h (each-rest P p ps k)))
 
-pub length-gather : (t : ℕ → Bool) (id : ℕ → List ℕ) (qs ps : List ℕ) → length (gatherInto t id qs ps) ≤ length qs + length ps
+pub length-gather : (t : ℕ → Bool) (id : ℕ → List ℕ) (qs ps : List ℕ)
+    → length (gatherInto t id qs ps) ≤ length qs + length ps
 unfolding gatherInto
 length-gather t id qs [] = omega arith
 length-gather t id qs (p ∷ ps) =

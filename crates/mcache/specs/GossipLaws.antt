@@ -1,7 +1,9 @@
--- What `gossip_ids` tells of: exactly the ids of the messages that carry the topic in the windows asked for, in byte order, each once.
+-- What `gossip_ids` tells of: exactly the ids of the messages that carry the topic in the windows asked for, in byte
+-- order, each once.
 use Prim.Native.Nat.{ℕ, zero, suc, _≤_, _<_}
 use mathlib.Core.Path.{_≡_, refl, sym, ap, subst, _∙_}
-use mathlib.Core.List.{List, [], _∷_, map, List·Memᴰ, List·Memᴰ·head, List·Memᴰ·tail, List·Memᴰ·not-nil, List·Memᴰ·cases-cons}
+use mathlib.Core.List.{List, [], _∷_, map, List·Memᴰ, List·Memᴰ·head, List·Memᴰ·tail, List·Memᴰ·not-nil}
+use mathlib.Core.List.{List·Memᴰ·cases-cons}
 use mathlib.Core.Bool.{Bool, true, false, cond, _&&_, _||_, or-true, or-self-left}
 use mathlib.Core.Logic.{_↔_, ⊎-elim}
 use native.Mathlib.Omega.{arith}
@@ -20,7 +22,8 @@ use Rattle.mcache.specs.declared.MessageCache.{MessageCache}
 use Rattle.mcache.specs.declared.Lent.the-variants as lent
 use Rattle.mcache.specs.declared.Gossip.the-variants as gossip
 use Rattle.mcache.specs.Messages.{Cached, topics, idsOf, held, carrying, enterId, inOrder, gossipIds}
-use Rattle.mcache.specs.State.{messageIn, cachedAt, cachedIn, told, insertRow, gatherInto, messageIdSize, maxMessages, ringOf}
+use Rattle.mcache.specs.State.{messageIn, cachedAt, cachedIn, told, insertRow, gatherInto, messageIdSize}
+use Rattle.mcache.specs.State.{maxMessages, ringOf}
 use Rattle.mcache.specs.Calls.{lentOf, gossipList, gossipArray, gossipAnswer, gossipCount, gossipRows}
 use Rattle.mcache.specs.StateLaws.{fine-tests}
 
@@ -28,30 +31,38 @@ use Rattle.mcache.specs.StateLaws.{fine-tests}
 pub among-in : (x : List ℕ) (l : List (List ℕ)) → among x l ≡ true → List·Memᴰ x l
 unfolding among
 among-in x [] h = clash (cc)
-among-in x (y ∷ l) h = either (sameBytes y x) (λ t. List·Memᴰ·head (sym (same-equal y x t))) (λ t. List·Memᴰ·tail (among-in x l (simp t at h)))
+among-in x (y ∷ l) h = either (sameBytes y x) (λ t. List·Memᴰ·head (sym (same-equal y x t)))
+    (λ t. List·Memᴰ·tail (among-in x l (simp t at h)))
 
 pub in-among : (x : List ℕ) (l : List (List ℕ)) → List·Memᴰ x l → among x l ≡ true
 unfolding among
 in-among x [] m = absurd (List·Memᴰ·not-nil m)
 in-among x (y ∷ l) m =
-    ⊎-elim (λ (e : x ≡ y). rw (e, same-self y)) (λ (r : List·Memᴰ x l). rw (in-among x l r) (or-true (sameBytes y x))) (List·Memᴰ·cases-cons m)
+    ⊎-elim (λ (e : x ≡ y). rw (e, same-self y)) (λ (r : List·Memᴰ x l). rw (in-among x l r) (or-true (sameBytes y x)))
+    (List·Memᴰ·cases-cons m)
 
 -- ---- an id entered
 same-false : (a b : List ℕ) → precedesBytes a b ≡ true → (sameBytes a b ≡ false) × (sameBytes b a ≡ false)
 same-false a b h = (
-  either (sameBytes a b) (λ t. clash (let e = same-equal a b t in let k = order-irreflexive b in let g = rw e at h in cc)) (λ t. t),
-  either (sameBytes b a) (λ t. clash (let e = same-equal b a t in let k = order-irreflexive a in let g = rw e at h in cc)) (λ t. t),
+  either (sameBytes a b)
+      (λ t. clash (let e = same-equal a b t in let k = order-irreflexive b in let g = rw e at h in cc)) (λ t. t),
+  either (sameBytes b a)
+      (λ t. clash (let e = same-equal b a t in let k = order-irreflexive a in let g = rw e at h in cc)) (λ t. t),
 )
 
 -- of two ids one comes first, or they are the same
-pub order-cases : {A : Type 0} (a b : List ℕ) → (a ≡ b → A) → (precedesBytes a b ≡ true → A) → (precedesBytes b a ≡ true → A) → A
+pub order-cases : {A : Type 0} (a b : List ℕ) → (a ≡ b → A) → (precedesBytes a b ≡ true → A)
+    → (precedesBytes b a ≡ true → A) → A
 order-cases a b f g h =
     either (sameBytes a b) (λ t. f (same-equal a b t))
-    (λ t. either (precedesBytes a b) g (λ u. h (either (precedesBytes b a) (λ v. v) (λ v. clash (let e = order-total a b t in let w = rw (u, v) at e in cc)))))
+    (λ t. either (precedesBytes a b) g
+    (λ u. h (either (precedesBytes b a) (λ v. v)
+    (λ v. clash (let e = order-total a b t in let w = rw (u, v) at e in cc)))))
 
 precedes-not : (a b : List ℕ) → precedesBytes a b ≡ true → precedesBytes b a ≡ false
 precedes-not a b h =
-    either (precedesBytes b a) (λ t. clash (let e = order-trans a b a h t in let k = order-irreflexive a in cc)) (λ t. t)
+    either (precedesBytes b a) (λ t. clash (let e = order-trans a b a h t in let k = order-irreflexive a in cc))
+    (λ t. t)
 
 enter-nil : (i : List ℕ) → enterId i [] ≡ i ∷ []
 unfolding enterId
@@ -86,7 +97,8 @@ among-enter x i (j ∷ l) =
     (λ h. rw (enter-past i j l h, among-enter x i l) (or-swap (sameBytes j x) (sameBytes i x) (among x l)))
 
 -- the order of entering does not matter
-enter-first : (i j : List ℕ) (l : List (List ℕ)) → precedesBytes i j ≡ true → enterId i (enterId j l) ≡ enterId j (enterId i l)
+enter-first : (i j : List ℕ) (l : List (List ℕ)) → precedesBytes i j ≡ true
+    → enterId i (enterId j l) ≡ enterId j (enterId i l)
 enter-first i j [] h = rw (enter-nil j, enter-nil i, enter-front i j [] h, enter-past j i [] h, enter-nil j)
 enter-first i j (k ∷ l) h =
     order-cases i k
@@ -101,7 +113,13 @@ enter-first i j (k ∷ l) h =
     (λ (b : precedesBytes k j ≡ true). rw (enter-past j k l b, enter-front i k (enterId j l) a))))
     (λ (a : precedesBytes k i ≡ true).
     let b = order-trans k i j a h in
-    rw (enter-past j k l b, enter-past i k (enterId j l) a, enter-past i k l a, enter-past j k (enterId i l) b, enter-first i j l h))
+    rw (
+      enter-past j k l b,
+      enter-past i k (enterId j l) a,
+      enter-past i k l a,
+      enter-past j k (enterId i l) b,
+      enter-first i j l h,
+    ))
 
 pub enter-swap : (i j : List ℕ) (l : List (List ℕ)) → enterId i (enterId j l) ≡ enterId j (enterId i l)
 enter-swap i j l = order-cases i j (λ (e : i ≡ j). rw e) (λ h. enter-first i j l h) (λ h. sym (enter-first j i l h))
@@ -122,7 +140,8 @@ enter-order [] = refl
 enter-order (i ∷ is) = ap (enterId i) (enter-order is)
 
 -- ---- the rows' way: a row inserted is its id entered, where it is not there yet
-pub insert-enter : (id : ℕ → List ℕ) (p : ℕ) (qs : List ℕ) → among (id p) (map id qs) ≡ false → map id (insertRow id p qs) ≡ enterId (id p) (map id qs)
+pub insert-enter : (id : ℕ → List ℕ) (p : ℕ) (qs : List ℕ) → among (id p) (map id qs) ≡ false
+    → map id (insertRow id p qs) ≡ enterId (id p) (map id qs)
 unfolding insertRow among
 insert-enter id p [] n = sym (enter-nil (id p))
 insert-enter id p (q ∷ qs) n =
@@ -140,12 +159,14 @@ chosen t (p ∷ ps) = cond (t p) (p ∷ chosen t ps) (chosen t ps)
 Apart : List (List ℕ) → List (List ℕ) → Type 0
 Apart a b = (x : List ℕ) → among x a ≡ true → among x b ≡ false
 
-gather-enter : (t : ℕ → Bool) (id : ℕ → List ℕ) (qs ps : List ℕ) → distinct (map id ps) ≡ true → Apart (map id ps) (map id qs)
+gather-enter : (t : ℕ → Bool) (id : ℕ → List ℕ) (qs ps : List ℕ) → distinct (map id ps) ≡ true
+    → Apart (map id ps) (map id qs)
     → map id (gatherInto t id qs ps) ≡ enterOn (map id qs) (map id (chosen t ps))
 unfolding gatherInto distinct among enterOn chosen Apart
 gather-enter t id qs [] d a = refl
 gather-enter t id qs (p ∷ ps) d a =
-    let n : among (id p) (map id ps) ≡ false = either (among (id p) (map id ps)) (λ u. clash (let z = simp u at d in cc)) (λ u. u) in
+    let n : among (id p) (map id ps) ≡ false =
+    either (among (id p) (map id ps)) (λ u. clash (let z = simp u at d in cc)) (λ u. u) in
     let e : distinct (map id ps) ≡ true = simp n at d in
     let own : among (id p) (map id qs) ≡ false = a (id p) (rw (same-self (id p))) in
     let r = insert-enter id p qs own in
@@ -163,7 +184,8 @@ gather-enter t id qs (p ∷ ps) d a =
 
 -- ---- the messages that carry a topic are those in the rows that are told of
 carrying-rows : (c : MessageCache) (st topic : List ℕ) (windows : ℕ) (ps : List ℕ)
-    → idsOf (carrying topic windows (map (cachedAt c st) ps)) ≡ map (idAt messageIdSize (c .«id_len») (c .ids)) (chosen (told (c .window) (c .len) st windows topic) ps)
+    → idsOf (carrying topic windows (map (cachedAt c st) ps)) ≡ map (idAt messageIdSize (c .«id_len») (c .ids))
+    (chosen (told (c .window) (c .len) st windows topic) ps)
 unfolding carrying chosen cachedAt told
 carrying-rows c st topic windows [] = refl
 carrying-rows c st topic windows (p ∷ ps) =
@@ -173,7 +195,8 @@ carrying-rows c st topic windows (p ∷ ps) =
     (λ t. rw t r)
 
 pub gossip-ids : (c : MessageCache) (st topic : List ℕ) (windows : ℕ) → lentOf c st ≡ lent.Fine
-    → map (idAt messageIdSize (c .«id_len») (c .ids)) (gossipList c st topic windows) ≡ gossipIds topic windows (cachedIn c st)
+    → map (idAt messageIdSize (c .«id_len») (c .ids)) (gossipList c st topic windows) ≡ gossipIds topic windows
+    (cachedIn c st)
 unfolding gossipList gossipIds cachedIn Apart among idsIn
 gossip-ids c st topic windows f =
     let ps = rowsIn (λ (p : ℕ). p) (ringOf c) in
@@ -184,20 +207,25 @@ gossip-ids c st topic windows f =
     (λ x m. refl)
     ∙ enter-order (map id (chosen t ps))
     ∙ ap inOrder (sym (carrying-rows c st topic windows ps))
-    ∙ ap (λ (ms : List Cached). inOrder (idsOf (carrying topic windows ms))) (map-ring (cachedAt c st) (λ (p : ℕ). p) (ringOf c))
+    ∙ ap (λ (ms : List Cached). inOrder (idsOf (carrying topic windows ms)))
+    (map-ring (cachedAt c st) (λ (p : ℕ). p) (ringOf c))
 
 -- ---- what the call answers: of the rows that it gives, the first `count` hold those ids
 module _ (c : MessageCache) (st topic : List ℕ) (fine : lentOf c st ≡ lent.Fine) where
-  pub gossip-says : gossipAnswer c st topic ≡ cond (ltb 1024 (length topic)) (gossip.TopicTooLong (length topic)) gossip.Ids
+  pub gossip-says : gossipAnswer c st topic ≡ cond (ltb 1024 (length topic)) (gossip.TopicTooLong (length topic))
+      gossip.Ids
   unfolding gossipAnswer
   gossip-says = rw fine
 
   pub gossip-told : (windows : ℕ) → length topic ≤ 1024
-      → map (idAt messageIdSize (c .«id_len») (c .ids)) (take (gossipCount c st topic windows) (gossipRows c st topic windows)) ≡ gossipIds topic windows (cachedIn c st)
+      → map (idAt messageIdSize (c .«id_len») (c .ids))
+      (take (gossipCount c st topic windows) (gossipRows c st topic windows)) ≡ gossipIds topic windows
+      (cachedIn c st)
   unfolding gossipCount gossipRows gossipArray
   gossip-told windows h =
       let l = gossipList c st topic windows in
-      rw (gossip-says, le-ltb 1024 (length topic) h, take-append-seam l (drop (length l) (replicate maxMessages 0))) (gossip-ids c st topic windows fine)
+      rw (gossip-says, le-ltb 1024 (length topic) h, take-append-seam l (drop (length l) (replicate maxMessages 0)))
+      (gossip-ids c st topic windows fine)
 
 -- ---- in byte order, each once
 -- each comes before the next, the first after `i`
@@ -209,7 +237,8 @@ rises : List (List ℕ) → Bool
 rises [] = true
 rises (i ∷ is) = risesFrom i is
 
-rises-past : (j i : List ℕ) (js : List (List ℕ)) → precedesBytes j i ≡ true → risesFrom j js ≡ true → risesFrom j (enterId i js) ≡ true
+rises-past : (j i : List ℕ) (js : List (List ℕ)) → precedesBytes j i ≡ true → risesFrom j js ≡ true
+    → risesFrom j (enterId i js) ≡ true
 unfolding risesFrom
 rises-past j i [] h r = rw (enter-nil i, h)
 rises-past j i (k ∷ js) h r =
@@ -233,7 +262,8 @@ unfolding inOrder rises
 rises-order [] = refl
 rises-order (i ∷ is) = rises-enter i (inOrder is) (rises-order is)
 
-from-each : (i : List ℕ) (l : List (List ℕ)) (b : ℕ) → risesFrom i l ≡ true → b < length l → precedesBytes i (getD l b []) ≡ true
+from-each : (i : List ℕ) (l : List (List ℕ)) (b : ℕ) → risesFrom i l ≡ true → b < length l
+    → precedesBytes i (getD l b []) ≡ true
 unfolding risesFrom
 from-each i [] b r h = absurd (omega arith)
 from-each i (j ∷ l) zero r h = both (precedesBytes i j) (risesFrom j l) r .0
@@ -246,7 +276,8 @@ unfolding risesFrom rises
 from-rises i [] r = refl
 from-rises i (j ∷ l) r = both (precedesBytes i j) (risesFrom j l) r .1
 
-rises-each : (l : List (List ℕ)) (a b : ℕ) → rises l ≡ true → a < b → b < length l → precedesBytes (getD l a []) (getD l b []) ≡ true
+rises-each : (l : List (List ℕ)) (a b : ℕ) → rises l ≡ true → a < b → b < length l
+    → precedesBytes (getD l a []) (getD l b []) ≡ true
 unfolding rises
 rises-each [] a b r h k = absurd (omega arith)
 rises-each (i ∷ l) a zero r h k = absurd (omega arith)
@@ -254,10 +285,12 @@ rises-each (i ∷ l) zero (suc b) r h k = from-each i l b r (omega arith)
 rises-each (i ∷ l) (suc a) (suc b) r h k = rises-each l a b (from-rises i l r) (omega arith) (omega arith)
 
 -- of two ids that are told of, the first comes first in byte order
-pub gossip-sorted : (topic : List ℕ) (windows : ℕ) (ms : List Cached) (a b : ℕ) → a < b → b < length (gossipIds topic windows ms)
+pub gossip-sorted : (topic : List ℕ) (windows : ℕ) (ms : List Cached) (a b : ℕ) → a < b
+    → b < length (gossipIds topic windows ms)
     → precedesBytes (getD (gossipIds topic windows ms) a []) (getD (gossipIds topic windows ms) b []) ≡ true
 unfolding gossipIds
-gossip-sorted topic windows ms a b h k = rises-each (inOrder (idsOf (carrying topic windows ms))) a b (rises-order (idsOf (carrying topic windows ms))) h k
+gossip-sorted topic windows ms a b h k =
+    rises-each (inOrder (idsOf (carrying topic windows ms))) a b (rises-order (idsOf (carrying topic windows ms))) h k
 
 -- ---- exactly those
 -- some message of ms has the id, stands in one of the newest windows and carries the topic
@@ -278,7 +311,14 @@ picks topic windows m = ltb (m .window) windows && among topic (topics m)
 
 module _ (i topic : List ℕ) (windows : ℕ) where
   tells-more : (m : Cached) (ms : List Cached) → Tells i topic windows ms → Tells i topic windows (m ∷ ms)
-  tells-more m ms t = record { entry = t .entry; cached = List·Memᴰ·tail (t .cached); named = t .named; recent = t .recent; carries = t .carries }
+  tells-more m ms t =
+      record {
+        entry = t .entry;
+        cached = List·Memᴰ·tail (t .cached);
+        named = t .named;
+        recent = t .recent;
+        carries = t .carries;
+      }
 
   carrying-tells : (ms : List Cached) → among i (idsOf (carrying topic windows ms)) ≡ true → Tells i topic windows ms
   unfolding carrying among
@@ -289,16 +329,24 @@ module _ (i topic : List ℕ) (windows : ℕ) where
       let b = both (ltb (m .window) windows) (among topic (topics m)) t in
       let g : (sameBytes (m .id) i || among i (idsOf (carrying topic windows ms))) ≡ true = rw t at h in
       either (sameBytes (m .id) i)
-      (λ u. record { entry = m; cached = List·Memᴰ·head refl; named = same-equal (m .id) i u; recent = ltb-true (m .window) windows (b .0); carries = among-in topic (topics m) (b .1) })
+      (λ u. record {
+        entry = m;
+        cached = List·Memᴰ·head refl;
+        named = same-equal (m .id) i u;
+        recent = ltb-true (m .window) windows (b .0);
+        carries = among-in topic (topics m) (b .1);
+      })
       (λ u. tells-more m ms (carrying-tells ms (simp u at g))))
       (λ t. tells-more m ms (carrying-tells ms (rw t at h)))
 
-  tells-carrying : (ms : List Cached) (m : Cached) → List·Memᴰ m ms → m .id ≡ i → picks topic windows m ≡ true → among i (idsOf (carrying topic windows ms)) ≡ true
+  tells-carrying : (ms : List Cached) (m : Cached) → List·Memᴰ m ms → m .id ≡ i → picks topic windows m ≡ true
+      → among i (idsOf (carrying topic windows ms)) ≡ true
   unfolding carrying among
   tells-carrying [] m d e t = absurd (List·Memᴰ·not-nil d)
   tells-carrying (n ∷ ms) m d e t =
       ⊎-elim
-      (λ (g : m ≡ n). let u : picks topic windows n ≡ true = rw g at t in let v : n .id ≡ i = rw g at e in rw (u, v, same-self i))
+      (λ (g : m ≡ n). let u : picks topic windows n ≡ true = rw g at t in let v : n .id ≡ i = rw g at e in
+      rw (u, v, same-self i))
       (λ (r : List·Memᴰ m ms).
       let k = tells-carrying ms m r e t in
       either (picks topic windows n) (λ u. rw (u, k) (or-true (sameBytes (n .id) i))) (λ u. rw u k))
@@ -309,7 +357,8 @@ module _ (i topic : List ℕ) (windows : ℕ) where
   gossip-exactly ms = (
     λ h. carrying-tells ms (sym (among-order i (idsOf (carrying topic windows ms))) ∙ h),
     λ t. among-order i (idsOf (carrying topic windows ms))
-        ∙ tells-carrying ms (t .entry) (t .cached) (t .named) (rw (lt-ltb (t .entry .window) windows (t .recent)) (in-among topic (topics (t .entry)) (t .carries))),
+        ∙ tells-carrying ms (t .entry) (t .cached) (t .named)
+        (rw (lt-ltb (t .entry .window) windows (t .recent)) (in-among topic (topics (t .entry)) (t .carries))),
   )
 
 -- ---- what is told of is sorted, and so no id is there twice
@@ -319,7 +368,8 @@ told-distinct topic windows ms =
     each-distinct l
     (λ i j h k e.
     let p = gossip-sorted topic windows ms i j h k in
-    let z : precedesBytes (getD l j []) (getD l j []) ≡ true = subst (λ (x : List ℕ). precedesBytes x (getD l j []) ≡ true) e p in
+    let z : precedesBytes (getD l j []) (getD l j []) ≡ true =
+    subst (λ (x : List ℕ). precedesBytes x (getD l j []) ≡ true) e p in
     let y = order-irreflexive (getD l j []) in
     clash (cc))
 
@@ -333,7 +383,8 @@ mem-held m (k ∷ ms) d =
     (λ (r : List·Memᴰ m ms). either (sameBytes (k .id) (m .id)) (λ t. simp t) (λ t. simp t (mem-held m ms r)))
     (List·Memᴰ·cases-cons d)
 
-pub told-held : (topic : List ℕ) (windows : ℕ) (ms : List Cached) (i : List ℕ) → among i (gossipIds topic windows ms) ≡ true → held i ms ≡ true
+pub told-held : (topic : List ℕ) (windows : ℕ) (ms : List Cached) (i : List ℕ)
+    → among i (gossipIds topic windows ms) ≡ true → held i ms ≡ true
 told-held topic windows ms i h =
     let t = gossip-exactly i topic windows ms .0 h in
     subst (λ (x : List ℕ). held x ms ≡ true) (t .named) (mem-held (t .entry) ms (t .cached))

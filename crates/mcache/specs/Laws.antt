@@ -27,14 +27,18 @@ use Rattle.mcache.specs.declared.Lent.the-variants as lent
 use Rattle.mcache.specs.declared.Put.the-variants as put
 use Rattle.mcache.specs.declared.Lookup.the-variants as lookup
 use Rattle.mcache.specs.Messages.{Cached, idsOf, held, put as putIn, get, shift}
-use Rattle.mcache.specs.State.{messageIn, cachedAt, cachedIn, dropped, appended, passed, aged, messageSize, messageIdSize, ringOf}
-use Rattle.mcache.specs.Calls.{lentNumber, lentOf, whenFine, shifted, putNumber, indexIn, entered, planUnder, keptUnder, storedUnder, found, Plan, no, keep, answered, keptIn, storedIn, planned, shiftCache, getPart, lookupAnswer}
+use Rattle.mcache.specs.State.{messageIn, cachedAt, cachedIn, dropped, appended, passed, aged, messageSize}
+use Rattle.mcache.specs.State.{messageIdSize, ringOf}
+use Rattle.mcache.specs.Calls.{lentNumber, lentOf, whenFine, shifted, putNumber, indexIn, entered, planUnder}
+use Rattle.mcache.specs.Calls.{keptUnder, storedUnder, found, Plan, no, keep, answered, keptIn, storedIn, planned}
+use Rattle.mcache.specs.Calls.{shiftCache, getPart, lookupAnswer}
 use Rattle.mcache.specs.WellFormed.{Sized}
 use Rattle.mcache.specs.StateLaws.{fine-tests}
 use Rattle.mcache.specs.CachedLaws.{length-cached, ids-cached, cached-shifted, cached-entered, new}
 
 -- ---- shift
-pub shift-cached : (c : MessageCache) (st : List ℕ) → lentOf c st ≡ lent.Fine → Sized c → cachedIn (shiftCache c st) st ≡ shift (c .«history_len») (cachedIn c st)
+pub shift-cached : (c : MessageCache) (st : List ℕ) → lentOf c st ≡ lent.Fine → Sized c
+    → cachedIn (shiftCache c st) st ≡ shift (c .«history_len») (cachedIn c st)
 unfolding shiftCache
 shift-cached c st f z = rw f (cached-shifted c st (fine-tests c st f) z)
 
@@ -48,35 +52,41 @@ pub shift-refused : (c : MessageCache) (st : List ℕ) → (lentNumber (lentOf c
 unfolding shiftCache
 shift-refused c st n = shift-by c (shifted c) (lentOf c st) n
 
-pub shifted-settings : (c : MessageCache) → (shifted c .«history_len» ≡ c .«history_len») × (shifted c .«max_messages» ≡ c .«max_messages»)
+pub shifted-settings : (c : MessageCache) → (shifted c .«history_len» ≡ c .«history_len»)
+    × (shifted c .«max_messages» ≡ c .«max_messages»)
 unfolding shifted dropped aged
 shifted-settings c = (refl, refl)
 
 -- ---- an id is held
-pub held-rows : (c : MessageCache) (id : List ℕ) → among id (idsIn messageIdSize (ringOf c) (c .«id_len») (c .ids)) ≡ ltb (indexIn c id) (c .count)
+pub held-rows : (c : MessageCache) (id : List ℕ) → among id (idsIn messageIdSize (ringOf c) (c .«id_len») (c .ids))
+    ≡ ltb (indexIn c id) (c .count)
 unfolding indexIn idsIn
 held-rows c id =
     index-among id (rowsIn (idAt messageIdSize (c .«id_len») (c .ids)) (ringOf c))
-    ∙ ap (ltb (indexOf id (rowsIn (idAt messageIdSize (c .«id_len») (c .ids)) (ringOf c)))) (length-ring (idAt messageIdSize (c .«id_len») (c .ids)) (ringOf c))
+    ∙ ap (ltb (indexOf id (rowsIn (idAt messageIdSize (c .«id_len») (c .ids)) (ringOf c))))
+    (length-ring (idAt messageIdSize (c .«id_len») (c .ids)) (ringOf c))
 
 pub held-index : (c : MessageCache) (st id : List ℕ) → held id (cachedIn c st) ≡ ltb (indexIn c id) (c .count)
 unfolding held
 held-index c st id = ap (among id) (ids-cached c st) ∙ held-rows c id
 
 -- ---- a message put under its id, whatever it came from
-pub under-settings : (m id : List ℕ) (c : MessageCache) → (keptUnder m id c .«history_len» ≡ c .«history_len») × (keptUnder m id c .«max_messages» ≡ c .«max_messages»)
+pub under-settings : (m id : List ℕ) (c : MessageCache) → (keptUnder m id c .«history_len» ≡ c .«history_len»)
+    × (keptUnder m id c .«max_messages» ≡ c .«max_messages»)
 unfolding keptUnder entered passed appended dropped
 under-settings m id c =
     either (ltb (indexIn c id) (c .count))
     (λ t. rw t (refl, refl))
     (λ t. either (eqb (c .«max_messages») 0) (λ u. rw (t, u) (refl, refl)) (λ u. rw (t, u) (refl, refl)))
 
-pub under-cached : (c : MessageCache) (st m id : List ℕ) → lentOf c st ≡ lent.Fine → Sized c → length id ≤ messageIdSize → length m ≤ messageSize
+pub under-cached : (c : MessageCache) (st m id : List ℕ) → lentOf c st ≡ lent.Fine → Sized c → length id ≤ messageIdSize
+    → length m ≤ messageSize
     → cachedIn (keptUnder m id c) (storedUnder c st m id) ≡ putIn (c .«max_messages») id m (cachedIn c st)
 unfolding keptUnder storedUnder putIn
 under-cached c st m id f z k n =
     rw (held-index c st id)
-    (either (ltb (indexIn c id) (c .count)) (λ t. rw t) (λ t. rw t (cached-entered c st m id (fine-tests c st f) z k n)))
+    (either (ltb (indexIn c id) (c .count)) (λ t. rw t)
+    (λ t. rw t (cached-entered c st m id (fine-tests c st f) z k n)))
 
 -- ---- put
 -- of a message that may be taken
@@ -103,13 +113,16 @@ module _
     pub put-says : answered (planned c st body i) ≡ cond (held id (cachedIn c st)) put.Held put.Stored
     put-says = rw put-plan (either (held id (cachedIn c st)) (λ t. rw t) (λ t. rw t))
 
-    pub put-cached : Sized c → cachedIn (keptIn c (planned c st body i)) (storedIn c st (planned c st body i)) ≡ putIn (c .«max_messages») id p (cachedIn c st)
+    pub put-cached : Sized c → cachedIn (keptIn c (planned c st body i)) (storedIn c st (planned c st body i))
+        ≡ putIn (c .«max_messages») id p (cachedIn c st)
     unfolding keptUnder storedUnder
     put-cached s =
-        rw plan-under (under-cached c st p id fine s (fit-id p true x y z w fit .1) (fit-limits p true x y z w fit .small))
+        rw plan-under (under-cached c st p id fine s (fit-id p true x y z w fit .1)
+        (fit-limits p true x y z w fit .small))
 
 -- all else changes nothing
-not-stored : (c : MessageCache) (st : List ℕ) (r : Plan) → (answered r ≡ put.Stored → ⊥) → (keptIn c r ≡ c) × (storedIn c st r ≡ st)
+not-stored : (c : MessageCache) (st : List ℕ) (r : Plan) → (answered r ≡ put.Stored → ⊥) → (keptIn c r ≡ c)
+    × (storedIn c st r ≡ st)
 not-stored c st (no r) n = (refl, refl)
 not-stored c st (keep m id) n = absurd (n refl)
 
@@ -122,7 +135,8 @@ pub put-held : (c : MessageCache) (st body : List ℕ) (i : ℕ) → answered (p
 put-held c st body i h = not-stored c st (planned c st body i) (λ e. clash (let q = sym h ∙ e in cc))
 
 -- ---- get
-get-here : (id : List ℕ) (ms : List Cached) (d : Cached) → indexOf id (idsOf ms) < length ms → get id ms ≡ getD ms (indexOf id (idsOf ms)) d .message
+get-here : (id : List ℕ) (ms : List Cached) (d : Cached) → indexOf id (idsOf ms) < length ms
+    → get id ms ≡ getD ms (indexOf id (idsOf ms)) d .message
 unfolding get indexOf
 get-here id [] d h = absurd (omega arith)
 get-here id (m ∷ ms) d h =
@@ -140,7 +154,8 @@ index-cached : (c : MessageCache) (st id : List ℕ) → indexOf id (idsOf (cach
 unfolding indexIn
 index-cached c st id = ap (indexOf id) (ids-cached c st)
 
-row-cached : (c : MessageCache) (st : List ℕ) (i : ℕ) (d : Cached) → i < c .count → getD (cachedIn c st) i d ≡ cachedAt c st (placeOf (ringOf c) i)
+row-cached : (c : MessageCache) (st : List ℕ) (i : ℕ) (d : Cached) → i < c .count
+    → getD (cachedIn c st) i d ≡ cachedAt c st (placeOf (ringOf c) i)
 unfolding cachedIn rowsIn
 row-cached c st i d h = getD-tab (λ (j : ℕ). cachedAt c st (placeOf (ringOf c) j)) (c .count) i d h
 
@@ -156,8 +171,10 @@ found-cached c st id =
     either (ltb (indexIn c id) (c .count))
     (λ t.
     let h = ltb-true (indexIn c id) (c .count) t in
-    rw t (sym (get-here id (cachedIn c st) (new [] []) (omega arith) ∙ ap (λ (j : ℕ). getD (cachedIn c st) j (new [] []) .message) x
-    ∙ ap (λ (m : Cached). m .message) (row-cached c st (indexIn c id) (new [] []) h) ∙ message-at c st (placeOf (ringOf c) (indexIn c id)))))
+    rw t (sym (get-here id (cachedIn c st) (new [] []) (omega arith)
+    ∙ ap (λ (j : ℕ). getD (cachedIn c st) j (new [] []) .message) x
+    ∙ ap (λ (m : Cached). m .message) (row-cached c st (indexIn c id) (new [] []) h)
+    ∙ message-at c st (placeOf (ringOf c) (indexIn c id)))))
     (λ t. let h = ltb-false (indexIn c id) (c .count) t in rw t (sym (get-none id (cachedIn c st) (omega arith))))
 
 module _ (c : MessageCache) (st id : List ℕ) (fine : lentOf c st ≡ lent.Fine) where

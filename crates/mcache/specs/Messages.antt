@@ -1,5 +1,5 @@
--- The message cache as 01, mcache.rs and the gossipsub document have it: messages with their ids, topics and windows, the oldest first. A window
--- is counted from the newest, which is 0.
+-- The message cache as 01, mcache.rs and the gossipsub document have it: messages with their ids, topics and windows,
+-- the oldest first. A window is counted from the newest, which is 0.
 use Prim.Native.Nat.{ℕ, suc}
 use mathlib.Core.List.{List, [], _∷_, _++_, map}
 use mathlib.Core.Bool.{Bool, cond, _&&_}
@@ -23,15 +23,18 @@ idsOf ms = map (λ (m : Cached). m .id) ms
 unfoldable pub held : List ℕ → List Cached → Bool
 held id ms = among id (idsOf ms)
 
--- `put` of a held id does nothing; otherwise the message goes last, into the newest window, and past max_messages the oldest goes
+-- `put` of a held id does nothing; otherwise the message goes last, into the newest window, and past max_messages the
+-- oldest goes
 unfoldable pub put : ℕ → List ℕ → List ℕ → List Cached → List Cached
-put max id message ms = cond (held id ms) ms (newest max (ms ++ (record { id = id; message = message; window = 0 } ∷ [])))
+put max id message ms =
+    cond (held id ms) ms (newest max (ms ++ (record { id = id; message = message; window = 0 } ∷ [])))
 
 -- `shift` opens a window; what is in windows beyond history_len goes
 unfoldable pub shift : ℕ → List Cached → List Cached
 shift history [] = []
 shift history (m ∷ ms) =
-    cond (ltb (suc (m .window)) history) (record { id = m .id; message = m .message; window = suc (m .window) } ∷ shift history ms) (shift history ms)
+    cond (ltb (suc (m .window)) history)
+    (record { id = m .id; message = m .message; window = suc (m .window) } ∷ shift history ms) (shift history ms)
 
 -- `get`: the message with an id, empty for none
 unfoldable pub get : List ℕ → List Cached → List ℕ
@@ -41,7 +44,8 @@ get id (m ∷ ms) = cond (sameBytes (m .id) id) (m .message) (get id ms)
 -- `gossip_ids`: those of the newest windows asked for that carry the topic
 unfoldable pub carrying : List ℕ → ℕ → List Cached → List Cached
 carrying topic windows [] = []
-carrying topic windows (m ∷ ms) = cond (ltb (m .window) windows && among topic (topics m)) (m ∷ carrying topic windows ms) (carrying topic windows ms)
+carrying topic windows (m ∷ ms) =
+    cond (ltb (m .window) windows && among topic (topics m)) (m ∷ carrying topic windows ms) (carrying topic windows ms)
 
 -- their ids in byte order, each once
 unfoldable pub enterId : List ℕ → List (List ℕ) → List (List ℕ)

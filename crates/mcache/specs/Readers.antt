@@ -25,7 +25,8 @@ use Rattle.mcache.specs.State.{cachedIn, messageSize, ringOf}
 use Rattle.mcache.specs.Calls.{lentOf, no, keep, answered, keptIn, storedIn, planned}
 use Rattle.mcache.specs.WellFormed.{Sized, rowOf}
 use Rattle.mcache.specs.StateLaws.{fine-tests}
-use Rattle.mcache.specs.CachedLaws.{new, leaving, spot, stays, spot-in, spot-free, grown, entered-some, stored-some, rest}
+use Rattle.mcache.specs.CachedLaws.{new, leaving, spot, stays, spot-in, spot-free, grown, entered-some}
+use Rattle.mcache.specs.CachedLaws.{stored-some, rest}
 use Rattle.mcache.specs.Laws.{put-plan, put-cached}
 
 -- ---- the messages
@@ -35,19 +36,22 @@ unfolding putIn
 held-kept max id m ms h = rw h
 
 -- with room, all stay
-pub room-keeps-all : (max : ℕ) (id m : List ℕ) (ms : List Cached) → held id ms ≡ false → length ms < max → putIn max id m ms ≡ ms ++ (new id m ∷ [])
+pub room-keeps-all : (max : ℕ) (id m : List ℕ) (ms : List Cached) → held id ms ≡ false → length ms < max
+    → putIn max id m ms ≡ ms ++ (new id m ∷ [])
 unfolding putIn
 room-keeps-all max id m ms h r =
     let e : (length ms + 1) - max ≡ 0 = omega arith in
     rw h (newest-more max ms (new id m) (λ z. omega arith) ∙ ap (λ (n : ℕ). drop n ms ++ (new id m ∷ [])) e)
 
 -- a full cache loses its oldest, and the others stay
-pub oldest-leaves : (max : ℕ) (id m : List ℕ) (oldest : Cached) (ms : List Cached) → held id (oldest ∷ ms) ≡ false → length (oldest ∷ ms) ≡ max
+pub oldest-leaves : (max : ℕ) (id m : List ℕ) (oldest : Cached) (ms : List Cached) → held id (oldest ∷ ms) ≡ false
+    → length (oldest ∷ ms) ≡ max
     → putIn max id m (oldest ∷ ms) ≡ ms ++ (new id m ∷ [])
 unfolding putIn
 oldest-leaves max id m oldest ms h f =
     let e : (suc (length ms) + 1) - max ≡ 1 = omega arith in
-    rw h (newest-more max (oldest ∷ ms) (new id m) (λ z. omega arith) ∙ ap (λ (n : ℕ). drop n (oldest ∷ ms) ++ (new id m ∷ [])) e)
+    rw h (newest-more max (oldest ∷ ms) (new id m) (λ z. omega arith)
+    ∙ ap (λ (n : ℕ). drop n (oldest ∷ ms) ++ (new id m ∷ [])) e)
 
 -- ---- the calls
 module _
@@ -59,15 +63,18 @@ module _
   where
     -- a put of a held id answers so and changes nothing, also where the message is another one with that id
     pub held-not-replaced : held (idBytes (between body a e) x y z w) (cachedIn c st) ≡ true
-        → (answered (planned c st body i) ≡ put.Held) × (keptIn c (planned c st body i) ≡ c) × (storedIn c st (planned c st body i) ≡ st)
+        → (answered (planned c st body i) ≡ put.Held) × (keptIn c (planned c st body i) ≡ c)
+        × (storedIn c st (planned c st body i) ≡ st)
     held-not-replaced h =
         let p : planned c st body i ≡ no put.Held = rw h at (put-plan c st body i a e x y z w fine ok there fit) in
         (ap answered p, ap (keptIn c) p, ap (storedIn c st) p)
 
     -- a put into a full cache: the oldest goes, the others stay, and the message is the newest
-    pub oldest-leaves-put : Sized c → (oldest : Cached) (ms : List Cached) → cachedIn c st ≡ oldest ∷ ms → length (oldest ∷ ms) ≡ c .«max_messages»
+    pub oldest-leaves-put : Sized c → (oldest : Cached) (ms : List Cached) → cachedIn c st ≡ oldest ∷ ms
+        → length (oldest ∷ ms) ≡ c .«max_messages»
         → held (idBytes (between body a e) x y z w) (oldest ∷ ms) ≡ false
-        → cachedIn (keptIn c (planned c st body i)) (storedIn c st (planned c st body i)) ≡ ms ++ (new (idBytes (between body a e) x y z w) (between body a e) ∷ [])
+        → cachedIn (keptIn c (planned c st body i)) (storedIn c st (planned c st body i)) ≡ ms
+        ++ (new (idBytes (between body a e) x y z w) (between body a e) ∷ [])
     oldest-leaves-put s oldest ms at-first full h =
         put-cached c st body i a e x y z w fine ok there fit s
         ∙ ap (putIn (c .«max_messages») (idBytes (between body a e) x y z w) (between body a e)) at-first
@@ -86,21 +93,26 @@ pub record Written (c d : MessageCache) (st st2 m : List ℕ) : Type 0 where
   -- and the message is all that is written
   pub stored : st2 ≡ sets st (place * messageSize) m
 
-full-place : (ring : Ring) → ring .start ≤ ring .cap → 1 ≤ ring .cap → placeOf (without 1 ring) (ring .cap - 1) ≡ placeOf ring 0
+full-place : (ring : Ring) → ring .start ≤ ring .cap → 1 ≤ ring .cap
+    → placeOf (without 1 ring) (ring .cap - 1) ≡ placeOf ring 0
 full-place ring a b =
     let l = place-le ring 1 a b in
     ⊎-elim
-    (λ u. ⊎-elim (λ v. ⊎-elim (λ r. omega arith) (λ r. omega arith) (place-is ring 0 a)) (λ v. ⊎-elim (λ r. omega arith) (λ r. omega arith) (place-is ring 0 a))
+    (λ u. ⊎-elim (λ v. ⊎-elim (λ r. omega arith) (λ r. omega arith) (place-is ring 0 a))
+    (λ v. ⊎-elim (λ r. omega arith) (λ r. omega arith) (place-is ring 0 a))
     (place-is (without 1 ring) (ring .cap - 1) l))
-    (λ u. ⊎-elim (λ v. ⊎-elim (λ r. omega arith) (λ r. omega arith) (place-is ring 0 a)) (λ v. ⊎-elim (λ r. omega arith) (λ r. omega arith) (place-is ring 0 a))
+    (λ u. ⊎-elim (λ v. ⊎-elim (λ r. omega arith) (λ r. omega arith) (place-is ring 0 a))
+    (λ v. ⊎-elim (λ r. omega arith) (λ r. omega arith) (place-is ring 0 a))
     (place-is (without 1 ring) (ring .cap - 1) l))
     (place-is ring 1 a)
 
-spot-freed : (c : MessageCache) → c .start ≤ c .«max_messages» → (c .«max_messages» ≡ 0 → ⊥) → c .count ≡ c .«max_messages» → spot c ≡ rowOf c 0
+spot-freed : (c : MessageCache) → c .start ≤ c .«max_messages» → (c .«max_messages» ≡ 0 → ⊥)
+    → c .count ≡ c .«max_messages» → spot c ≡ rowOf c 0
 unfolding spot
 spot-freed c a some full =
     let k : (c .count + 1) - c .«max_messages» ≡ 1 = omega arith in
-    rw (k, full) (full-place (record { cap = c .«max_messages»; start = c .start; count = c .«max_messages» }) a (omega (arith, some)))
+    rw (k, full) (full-place (record { cap = c .«max_messages»; start = c .start; count = c .«max_messages» }) a
+    (omega (arith, some)))
 
 spot-is : (c : MessageCache) → spot c ≡ placeOf (oneMore (rest c)) (c .count - leaving c)
 unfolding spot placeOf
@@ -110,7 +122,8 @@ stays-row : (c : MessageCache) (j : ℕ) → stays c j ≡ placeOf (oneMore (res
 unfolding stays placeOf
 stays-row c j = refl
 
-grown-written : (c : MessageCache) (st m id : List ℕ) → lentOf c st ≡ lent.Fine → (c .«max_messages» ≡ 0 → ⊥) → Written c (grown (length m) id c) st (sets st (spot c * messageSize) m) m
+grown-written : (c : MessageCache) (st m id : List ℕ) → lentOf c st ≡ lent.Fine → (c .«max_messages» ≡ 0 → ⊥)
+    → Written c (grown (length m) id c) st (sets st (spot c * messageSize) m) m
 unfolding grown
 grown-written c st m id fine some =
     let t = fine-tests c st fine in
@@ -124,7 +137,8 @@ grown-written c st m id fine some =
       stored = refl;
     }
 
-pub freed-place-used : (c : MessageCache) (st body m id : List ℕ) (i : ℕ) → lentOf c st ≡ lent.Fine → (c .«max_messages» ≡ 0 → ⊥) → planned c st body i ≡ keep m id
+pub freed-place-used : (c : MessageCache) (st body m id : List ℕ) (i : ℕ) → lentOf c st ≡ lent.Fine
+    → (c .«max_messages» ≡ 0 → ⊥) → planned c st body i ≡ keep m id
     → Written c (keptIn c (planned c st body i)) st (storedIn c st (planned c st body i)) m
 freed-place-used c st body m id i fine some e =
     rw (e, entered-some (length m) id c some, stored-some c st m some) (grown-written c st m id fine some)

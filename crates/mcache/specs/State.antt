@@ -1,5 +1,5 @@
--- What a cache and its store hold. A store has max_messages places of 4,096 bytes. The message in place p is the first `len[p]` bytes of that
--- place; its id is the first `id_len[p]` bytes of the p-th 128 bytes of `ids`.
+-- What a cache and its store hold. A store has max_messages places of 4,096 bytes. The message in place p is the first
+-- `len[p]` bytes of that place; its id is the first `id_len[p]` bytes of the p-th 128 bytes of `ids`.
 use Prim.Native.Nat.{ℕ, suc, _+_, _-_, _*_, _%_, _^_, _≤_, _<_}
 use mathlib.Core.Path.{_≡_}
 use mathlib.Core.List.{List, [], _∷_, _++_, map}
@@ -41,7 +41,12 @@ unfoldable pub messageIn : List ℕ → List ℕ → ℕ → List ℕ
 messageIn lens st p = take (getD lens p 0) (drop (p * messageSize) st)
 
 unfoldable pub cachedAt : MessageCache → List ℕ → ℕ → Cached
-cachedAt c st p = record { id = idAt messageIdSize (c .«id_len») (c .ids) p; message = messageIn (c .len) st p; window = getD (c .window) p 0 }
+cachedAt c st p =
+    record {
+      id = idAt messageIdSize (c .«id_len») (c .ids) p;
+      message = messageIn (c .len) st p;
+      window = getD (c .window) p 0;
+    }
 
 -- the messages, the oldest first
 unfoldable pub cachedIn : MessageCache → List ℕ → List Cached
@@ -60,7 +65,8 @@ runsTo next (g ∷ gs) = eqb ((g + length (g ∷ gs)) % 2 ^ 64) next && runsTo n
 
 -- a message fits its place, may be taken, and gives its stored id
 unfoldable pub givesAt : List ℕ → List ℕ → List ℕ → List ℕ → ℕ → Bool
-givesAt lens ilens ids st p = leb (getD lens p 0) messageSize && givesId (messageIn lens st p) (idAt messageIdSize ilens ids p)
+givesAt lens ilens ids st p =
+    leb (getD lens p 0) messageSize && givesId (messageIn lens st p) (idAt messageIdSize ilens ids p)
 
 unfoldable pub allTrue : List Bool → Bool
 allTrue [] = true
@@ -87,7 +93,8 @@ legal history max = leb 1 history && (leb history maxHistory && leb max maxMessa
 
 unfoldable pub wellFormed : MessageCache → List ℕ → Bool
 wellFormed c st =
-    legal (c .«history_len») (c .«max_messages») && (leb (c .start) (c .«max_messages») && (leb (c .count) (c .«max_messages») && rowsFit c st))
+    legal (c .«history_len») (c .«max_messages»)
+    && (leb (c .start) (c .«max_messages») && (leb (c .count) (c .«max_messages») && rowsFit c st))
 
 -- ---- what the rows need of the arrays and the store
 pub record Laid (ring : Ring) (lens ilens ids st : List ℕ) : Type 0 where

@@ -16,7 +16,8 @@ use Rattle.rows.specs.Store.{idAt, idsIn, inUse, allUpTo, Sound}
 use Rattle.admission.specs.Admission.{givesId}
 use Rattle.mcache.specs.declared.MessageCache.{MessageCache}
 use Rattle.mcache.specs.declared.Lent.the-variants as lent
-use Rattle.mcache.specs.State.{messageIn, fallsFrom, runsTo, givesAt, allTrue, givesIn, idsFit, rowsFit, legal, wellFormed, Usable, messageSize, messageIdSize, maxMessages, maxHistory, ringOf}
+use Rattle.mcache.specs.State.{messageIn, fallsFrom, runsTo, givesAt, allTrue, givesIn, idsFit, rowsFit, legal}
+use Rattle.mcache.specs.State.{wellFormed, Usable, messageSize, messageIdSize, maxMessages, maxHistory, ringOf}
 use Rattle.mcache.specs.Calls.{lentOf}
 use Rattle.mcache.specs.WellFormed.{Sized}
 use Rattle.rows.specs.StoreLaws.{short-in}
@@ -35,11 +36,13 @@ pub record Tests (c : MessageCache) (st : List ℕ) : Type 0 where
   pub gives : givesIn (ringOf c) (c .len) (c .«id_len») (c .ids) st ≡ true
   pub once : distinct (idsIn messageIdSize (ringOf c) (c .«id_len») (c .ids)) ≡ true
 
-fine-both : (c : MessageCache) (st : List ℕ) → lentOf c st ≡ lent.Fine → (length st ≡ c .«max_messages» * messageSize) × (wellFormed c st ≡ true)
+fine-both : (c : MessageCache) (st : List ℕ) → lentOf c st ≡ lent.Fine → (length st ≡ c .«max_messages» * messageSize)
+    × (wellFormed c st ≡ true)
 unfolding lentOf
 fine-both c st h =
     either (eqb (length st) (c .«max_messages» * messageSize))
-    (λ t. either (wellFormed c st) (λ u. (eqb-true (length st) (c .«max_messages» * messageSize) t, u)) (λ u. clash (let z = simp (t, u) at h in cc)))
+    (λ t. either (wellFormed c st) (λ u. (eqb-true (length st) (c .«max_messages» * messageSize) t, u))
+    (λ u. clash (let z = simp (t, u) at h in cc)))
     (λ t. clash (let z = simp t at h in cc))
 
 pub fine-tests : (c : MessageCache) (st : List ℕ) → lentOf c st ≡ lent.Fine → Tests c st
@@ -111,14 +114,16 @@ module _ (f : ℕ → Bool) (ring : Ring) where
   unfolding rowsIn
   in-true h =
       let g : ℕ → Bool = λ (j : ℕ). f (placeOf ring j) in
-      each-all (tab g (ring .count)) (λ i k. let l : i < ring .count = rw (length-tab g (ring .count)) at k in getD-tab g (ring .count) i true l ∙ h i l)
+      each-all (tab g (ring .count)) (λ i k. let l : i < ring .count = rw (length-tab g (ring .count)) at k in
+      getD-tab g (ring .count) i true l ∙ h i l)
 
 -- ---- each row's message fits its place and gives its id
 module _ (c : MessageCache) (st : List ℕ) (t : Tests c st) (i : ℕ) (h : i < c .count) where
   abbrev p : ℕ
   p = placeOf (ringOf c) i
 
-  gives-row : (leb (getD (c .len) p 0) messageSize ≡ true) × (givesId (messageIn (c .len) st p) (idAt messageIdSize (c .«id_len») (c .ids) p) ≡ true)
+  gives-row : (leb (getD (c .len) p 0) messageSize ≡ true)
+      × (givesId (messageIn (c .len) st p) (idAt messageIdSize (c .«id_len») (c .ids) p) ≡ true)
   unfolding givesIn givesAt
   gives-row = both _ _ (true-in (givesAt (c .len) (c .«id_len») (c .ids) st) (ringOf c) (t .gives) i h)
 
@@ -153,7 +158,8 @@ lent-kept c st h z =
     }
 
 -- and a legal history
-pub lent-history : (c : MessageCache) (st : List ℕ) → lentOf c st ≡ lent.Fine → (1 ≤ c .«history_len») × (c .«history_len» ≤ maxHistory)
+pub lent-history : (c : MessageCache) (st : List ℕ) → lentOf c st ≡ lent.Fine → (1 ≤ c .«history_len»)
+    × (c .«history_len» ≤ maxHistory)
 lent-history c st h = let t = fine-tests c st h in (t .history-some, t .history-few)
 
 -- ---- the ids of a tested state stand in sound rows

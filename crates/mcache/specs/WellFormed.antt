@@ -1,4 +1,5 @@
--- A well formed message cache, as 01 has it: each clause by name. `well-formed-exactly` of WellFormedLaws says that this is what the test asks.
+-- A well formed message cache, as 01 has it: each clause by name. `well-formed-exactly` of WellFormedLaws says that
+-- this is what the test asks.
 use Prim.Native.Nat.{ℕ, suc, _+_, _*_, _%_, _^_, _≤_, _<_}
 use mathlib.Core.Path.{_≡_}
 use mathlib.Core.Bool.{true}
@@ -8,7 +9,8 @@ use Rattle.rows.specs.Rows.{placeOf}
 use Rattle.rows.specs.Store.{idAt}
 use Rattle.admission.specs.AdmissionLaws.{Gives}
 use Rattle.mcache.specs.declared.MessageCache.{MessageCache}
-use Rattle.mcache.specs.State.{messageIn, legal, messageSize, messageIdSize, maxMessages, maxHistory, idsSize, ringOf}
+use Rattle.mcache.specs.State.{messageIn, legal, messageSize, messageIdSize, maxMessages, maxHistory, idsSize}
+use Rattle.mcache.specs.State.{ringOf}
 use Rattle.mcache.specs.Calls.{planned, keptIn, storedIn, shiftCache}
 
 -- ---- true of every MessageCache, by its type: its arrays have their sizes
@@ -79,8 +81,11 @@ freshAt next history max =
       ids = replicate idsSize 0;
     }
 
--- a new cache with legal settings and a store of their length; then puts of anything, the refused ones too, and windows opened
+-- a new cache with legal settings and a store of their length; then puts of anything, the refused ones too, and windows
+-- opened
 pub data Reached : MessageCache → List ℕ → Type 0 where
-  begun : (next history max : ℕ) (st : List ℕ) → next < 2 ^ 64 → legal history max ≡ true → length st ≡ max * messageSize → Reached (freshAt next history max) st
-  given : {c : MessageCache} {st : List ℕ} → Reached c st → (body : List ℕ) (i : ℕ) → Reached (keptIn c (planned c st body i)) (storedIn c st (planned c st body i))
+  begun : (next history max : ℕ) (st : List ℕ) → next < 2 ^ 64 → legal history max ≡ true
+      → length st ≡ max * messageSize → Reached (freshAt next history max) st
+  given : {c : MessageCache} {st : List ℕ} → Reached c st → (body : List ℕ) (i : ℕ)
+      → Reached (keptIn c (planned c st body i)) (storedIn c st (planned c st body i))
   opened : {c : MessageCache} {st : List ℕ} → Reached c st → Reached (shiftCache c st) st

@@ -26,22 +26,30 @@ use Rattle.mcache.specs.StateLaws.{fine-tests, tests-fine, in-true, row-
 use Rattle.mcache.specs.CachedLaws.{falls-each, falls-in}
 
 -- ---- windows that never rise
-falls-next : (most : ℕ) (l : List ℕ) (i : ℕ) → fallsFrom most l ≡ true → suc i < length l → getD l (suc i) 0 ≤ getD l i 0
+falls-next : (most : ℕ) (l : List ℕ) (i : ℕ) → fallsFrom most l ≡ true → suc i < length l
+    → getD l (suc i) 0 ≤ getD l i 0
 unfolding fallsFrom
 falls-next most [] i f h = absurd (omega arith)
 falls-next most (w ∷ l) zero f h = falls-each w l 0 (both (leb w most) (fallsFrom w l) f .1) (omega arith)
 falls-next most (w ∷ l) (suc i) f h = falls-next w l i (both (leb w most) (fallsFrom w l) f .1) (omega arith)
 
-next-falls : (most : ℕ) (l : List ℕ) → (0 < length l → getD l 0 0 ≤ most) → ((i : ℕ) → suc i < length l → getD l (suc i) 0 ≤ getD l i 0) → fallsFrom most l ≡ true
+next-falls : (most : ℕ) (l : List ℕ) → (0 < length l → getD l 0 0 ≤ most)
+    → ((i : ℕ) → suc i < length l → getD l (suc i) 0 ≤ getD l i 0) → fallsFrom most l ≡ true
 unfolding fallsFrom
 next-falls most [] a f = refl
-next-falls most (w ∷ l) a f = rw (le-leb w most (a (zero-lt-suc (length l)))) (next-falls w l (λ h. f 0 (omega arith)) (λ i h. f (suc i) (omega arith)))
+next-falls most (w ∷ l) a f =
+    rw (le-leb w most (a (zero-lt-suc (length l)))) (next-falls w l (λ h. f 0 (omega arith))
+    (λ i h. f (suc i) (omega arith)))
 
 -- ---- arrival numbers that run on
-runs-each : (next : ℕ) (l : List ℕ) (i : ℕ) → runsTo next l ≡ true → i < length l → (getD l i 0 + (length l - i)) % 2 ^ 64 ≡ next
+runs-each : (next : ℕ) (l : List ℕ) (i : ℕ) → runsTo next l ≡ true → i < length l
+    → (getD l i 0 + (length l - i)) % 2 ^ 64 ≡ next
 unfolding runsTo
 runs-each next [] i r h = absurd (omega arith)
-runs-each next (g ∷ l) zero r h = rw (sub-zero (suc (length l))) (eqb-true ((g + length (g ∷ l)) % 2 ^ 64) next (both (eqb ((g + length (g ∷ l)) % 2 ^ 64) next) (runsTo next l) r .0))
+runs-each next (g ∷ l) zero r h =
+    rw (sub-zero (suc (length l)))
+    (eqb-true ((g + length (g ∷ l)) % 2 ^ 64) next
+    (both (eqb ((g + length (g ∷ l)) % 2 ^ 64) next) (runsTo next l) r .0))
 runs-each next (g ∷ l) (suc i) r h =
     let e = runs-each next l i (both (eqb ((g + length (g ∷ l)) % 2 ^ 64) next) (runsTo next l) r .1) (omega arith) in
     let n : suc (length l) - suc i ≡ length l - i = omega arith in
@@ -53,7 +61,8 @@ unfolding runsTo
 each-runs next [] f a = refl
 each-runs next (g ∷ []) f a = rw (eq-eqb ((g + 1) % 2 ^ 64) next (sym (a 0 refl)))
 each-runs next (g ∷ h ∷ l) f a =
-    let r : runsTo next (h ∷ l) ≡ true = each-runs next (h ∷ l) (λ i k. f (suc i) (omega arith)) (λ i k. a (suc i) (ap suc k)) in
+    let r : runsTo next (h ∷ l) ≡ true = each-runs next (h ∷ l) (λ i k. f (suc i) (omega arith))
+    (λ i k. a (suc i) (ap suc k)) in
     let b = both (eqb ((h + length (h ∷ l)) % 2 ^ 64) next) (runsTo next l) r in
     let e : (h + suc (length l)) % 2 ^ 64 ≡ next = eqb-true ((h + length (h ∷ l)) % 2 ^ 64) next (b .0) in
     let n : h ≡ (g + 1) % 2 ^ 64 = f 0 (omega arith) in
@@ -64,7 +73,8 @@ module _ (l : List ℕ) (ring : Ring) where
   abbrev at : ℕ → ℕ
   at i = getD l (placeOf ring i) 0
 
-  pub falls-rows : (most : ℕ) → fallsFrom most (inUse ring l) ≡ true → (i : ℕ) → suc i < ring .count → getD l (placeOf ring (suc i)) 0 ≤ getD l (placeOf ring i) 0
+  pub falls-rows : (most : ℕ) → fallsFrom most (inUse ring l) ≡ true → (i : ℕ) → suc i < ring .count
+      → getD l (placeOf ring (suc i)) 0 ≤ getD l (placeOf ring i) 0
   unfolding inUse rowsIn
   falls-rows most f i h =
       let k : suc i < length (tab at (ring .count)) = rw (length-tab at (ring .count)) h in
@@ -72,36 +82,48 @@ module _ (l : List ℕ) (ring : Ring) where
       rw (getD-tab at (ring .count) (suc i) 0 h, getD-tab at (ring .count) i 0 (omega arith)) at r
 
   pub rows-falls : (most : ℕ) → ((i : ℕ) → i < ring .count → getD l (placeOf ring i) 0 ≤ most)
-      → ((i : ℕ) → suc i < ring .count → getD l (placeOf ring (suc i)) 0 ≤ getD l (placeOf ring i) 0) → fallsFrom most (inUse ring l) ≡ true
+      → ((i : ℕ) → suc i < ring .count → getD l (placeOf ring (suc i)) 0 ≤ getD l (placeOf ring i) 0)
+      → fallsFrom most (inUse ring l) ≡ true
   unfolding inUse rowsIn
   rows-falls most a f =
       next-falls most (tab at (ring .count))
-      (λ h. let k : 0 < ring .count = rw (length-tab at (ring .count)) at h in rw (getD-tab at (ring .count) 0 0 k) (a 0 k))
-      (λ i h. let k : suc i < ring .count = rw (length-tab at (ring .count)) at h in rw (getD-tab at (ring .count) (suc i) 0 k, getD-tab at (ring .count) i 0 (omega arith)) (f i k))
+      (λ h. let k : 0 < ring .count = rw (length-tab at (ring .count)) at h in rw (getD-tab at (ring .count) 0 0 k)
+      (a 0 k))
+      (λ i h. let k : suc i < ring .count = rw (length-tab at (ring .count)) at h in
+      rw (getD-tab at (ring .count) (suc i) 0 k, getD-tab at (ring .count) i 0 (omega arith)) (f i k))
 
-  pub runs-rows : (next : ℕ) → runsTo next (inUse ring l) ≡ true → (i : ℕ) → i < ring .count → (getD l (placeOf ring i) 0 + (ring .count - i)) % 2 ^ 64 ≡ next
+  pub runs-rows : (next : ℕ) → runsTo next (inUse ring l) ≡ true → (i : ℕ) → i < ring .count
+      → (getD l (placeOf ring i) 0 + (ring .count - i)) % 2 ^ 64 ≡ next
   unfolding inUse rowsIn
   runs-rows next r i h =
       let k : i < length (tab at (ring .count)) = rw (length-tab at (ring .count)) h in
       let e = runs-each next (tab at (ring .count)) i r k in
       rw (getD-tab at (ring .count) i 0 h, length-tab at (ring .count)) at e
 
-  pub rows-run : (next : ℕ) → ((i : ℕ) → suc i < ring .count → getD l (placeOf ring (suc i)) 0 ≡ (getD l (placeOf ring i) 0 + 1) % 2 ^ 64)
-      → ((i : ℕ) → suc i ≡ ring .count → next ≡ (getD l (placeOf ring i) 0 + 1) % 2 ^ 64) → runsTo next (inUse ring l) ≡ true
+  pub rows-run : (next : ℕ)
+      → ((i : ℕ) → suc i < ring .count → getD l (placeOf ring (suc i)) 0 ≡ (getD l (placeOf ring i) 0 + 1) % 2 ^ 64)
+      → ((i : ℕ) → suc i ≡ ring .count → next ≡ (getD l (placeOf ring i) 0 + 1) % 2 ^ 64)
+      → runsTo next (inUse ring l) ≡ true
   unfolding inUse rowsIn
   rows-run next f a =
       each-runs next (tab at (ring .count))
-      (λ i h. let k : suc i < ring .count = rw (length-tab at (ring .count)) at h in rw (getD-tab at (ring .count) (suc i) 0 k, getD-tab at (ring .count) i 0 (omega arith)) (f i k))
-      (λ i h. let k : suc i ≡ ring .count = h ∙ length-tab at (ring .count) in rw (getD-tab at (ring .count) i 0 (omega arith)) (a i k))
+      (λ i h. let k : suc i < ring .count = rw (length-tab at (ring .count)) at h in
+      rw (getD-tab at (ring .count) (suc i) 0 k, getD-tab at (ring .count) i 0 (omega arith)) (f i k))
+      (λ i h. let k : suc i ≡ ring .count = h ∙ length-tab at (ring .count) in
+      rw (getD-tab at (ring .count) i 0 (omega arith)) (a i k))
 
 gives-back : (p i : List ℕ) → Gives p i → givesId p i ≡ true
-gives-back p i g = rw (g .named) (gives-own p (g .records) (g .from-start) (g .from-end) (g .seqno-start) (g .seqno-end) (g .read) (g .taken))
+gives-back p i g =
+    rw (g .named) (gives-own p (g .records) (g .from-start) (g .from-end) (g .seqno-start) (g .seqno-end) (g .read)
+    (g .taken))
 
-rows-give : (c : MessageCache) (st : List ℕ) → WellFormed c st → givesIn (ringOf c) (c .len) (c .«id_len») (c .ids) st ≡ true
+rows-give : (c : MessageCache) (st : List ℕ) → WellFormed c st → givesIn (ringOf c) (c .len) (c .«id_len») (c .ids) st
+    ≡ true
 unfolding givesIn givesAt
 rows-give c st w =
     in-true (givesAt (c .len) (c .«id_len») (c .ids) st) (ringOf c)
-    (λ i h. rw (le-leb (getD (c .len) (rowOf c i) 0) messageSize (w .short i h)) (gives-back (messageIn (c .len) st (rowOf c i)) (idOf c i) (w .gives i h)))
+    (λ i h. rw (le-leb (getD (c .len) (rowOf c i) 0) messageSize (w .short i h))
+    (gives-back (messageIn (c .len) st (rowOf c i)) (idOf c i) (w .gives i h)))
 
 -- ---- well formed, exactly
 pub fine-well-formed : (c : MessageCache) (st : List ℕ) → Typed c → lentOf c st ≡ lent.Fine → WellFormed c st
@@ -117,7 +139,8 @@ fine-well-formed c st y f =
       short = row-short c st t;
       id-short = row-id-short c st t;
       once = once-in messageIdSize (c .«id_len») (c .ids) (ringOf c) (t .once);
-      recent = λ i h. omega (arith, falls-in (c .«history_len» - 1) (c .window) (ringOf c) (t .falls) i h, t .history-some);
+      recent = λ i h. omega
+          (arith, falls-in (c .«history_len» - 1) (c .window) (ringOf c) (t .falls) i h, t .history-some);
       falls = falls-rows (c .window) (ringOf c) (c .«history_len» - 1) (t .falls);
       follows =
           λ i h.
@@ -125,7 +148,8 @@ fine-well-formed c st y f =
           let b = runs-rows (c .generation) (ringOf c) (c .«next_generation») (t .runs) (suc i) h in
           let s = y .small (rowOf c (suc i)) in
           omega arith;
-      last = λ i h. let a = runs-rows (c .generation) (ringOf c) (c .«next_generation») (t .runs) i (omega arith) in omega arith;
+      last = λ i h. let a = runs-rows (c .generation) (ringOf c) (c .«next_generation») (t .runs) i (omega arith) in
+          omega arith;
       gives = λ i h. gives-only (messageIn (c .len) st (rowOf c i)) (idOf c i) (row-gives c st t i h);
     }
 

@@ -25,8 +25,11 @@ use Rattle.admission.specs.Admission.{admissionOf}
 use Rattle.mcache.specs.declared.MessageCache.{MessageCache}
 use Rattle.mcache.specs.declared.Lent.{Lent}
 use Rattle.mcache.specs.declared.Lent.the-variants as lent
-use Rattle.mcache.specs.State.{cachedAt, cachedIn, runsTo, rowsFit, idsFit, legal, wellFormed, dropped, passed, aged, maxMessages, maxHistory, ringOf}
-use Rattle.mcache.specs.Calls.{lentOf, whenFine, indexIn, entered, enteredStore, shifted, found, gossipList, gossipArray, Plan, no, keep, answered, keptIn, storedIn, planFit, planAt, planBody, planned, shiftCache, getPart, lookupAnswer, gossipAnswer, gossipCount, gossipRows}
+use Rattle.mcache.specs.State.{cachedAt, cachedIn, runsTo, rowsFit, idsFit, legal, wellFormed, dropped, passed}
+use Rattle.mcache.specs.State.{aged, maxMessages, maxHistory, ringOf}
+use Rattle.mcache.specs.Calls.{lentOf, whenFine, indexIn, entered, enteredStore, shifted, found, gossipList}
+use Rattle.mcache.specs.Calls.{gossipArray, Plan, no, keep, answered, keptIn, storedIn, planFit, planAt, planBody}
+use Rattle.mcache.specs.Calls.{planned, shiftCache, getPart, lookupAnswer, gossipAnswer, gossipCount, gossipRows}
 use Rattle.mcache.specs.WellFormed.{Typed}
 use Rattle.mcache.specs.CachedLaws.{spot, grown, entered-some, entered-none}
 
@@ -47,13 +50,15 @@ moved k c =
     }
 
 -- ---- the test
-runs-moved : (k next : ℕ) (l : List ℕ) → next < 2 ^ 64 → runsTo ((next + k) % 2 ^ 64) (map (λ (g : ℕ). (g + k) % 2 ^ 64) l) ≡ runsTo next l
+runs-moved : (k next : ℕ) (l : List ℕ) → next < 2 ^ 64
+    → runsTo ((next + k) % 2 ^ 64) (map (λ (g : ℕ). (g + k) % 2 ^ 64) l) ≡ runsTo next l
 unfolding runsTo
 runs-moved k next [] h = refl
 runs-moved k next (g ∷ l) h =
     let n = length-map l (λ (x : ℕ). (x + k) % 2 ^ 64) in
     let r = runs-moved k next l h in
-    let s : eqb (((g + k) % 2 ^ 64 + suc (length (map (λ (x : ℕ). (x + k) % 2 ^ 64) l))) % 2 ^ 64) ((next + k) % 2 ^ 64) ≡ eqb ((g + suc (length l)) % 2 ^ 64) next =
+    let s : eqb (((g + k) % 2 ^ 64 + suc (length (map (λ (x : ℕ). (x + k) % 2 ^ 64) l))) % 2 ^ 64) ((next + k) % 2 ^ 64)
+    ≡ eqb ((g + suc (length l)) % 2 ^ 64) next =
     rw n
     (either (eqb ((g + suc (length l)) % 2 ^ 64) next)
     (λ t.
@@ -69,7 +74,8 @@ getD-map f [] p h = absurd (omega arith)
 getD-map f (x ∷ l) zero h = refl
 getD-map f (x ∷ l) (suc p) h = getD-map f l p (omega arith)
 
-lens-moved : (f : ℕ → ℕ) (l : List ℕ) (ring : Ring) → ring .start ≤ ring .cap → ring .count ≤ ring .cap → ring .cap ≤ length l → inUse ring (map f l) ≡ map f (inUse ring l)
+lens-moved : (f : ℕ → ℕ) (l : List ℕ) (ring : Ring) → ring .start ≤ ring .cap → ring .count ≤ ring .cap
+    → ring .cap ≤ length l → inUse ring (map f l) ≡ map f (inUse ring l)
 unfolding inUse
 lens-moved f l ring a b h =
     ring-ext (λ (p : ℕ). f (getD l p 0)) ring (λ (p : ℕ). getD (map f l) p 0)
@@ -80,7 +86,8 @@ and-same : (a b d : Bool) → (a ≡ true → b ≡ d) → (a && b) ≡ (a && d)
 and-same true b d h = h refl
 and-same false b d h = refl
 
-rows-moved : (k : ℕ) (c : MessageCache) (st : List ℕ) → Typed c → c .«max_messages» ≤ maxMessages → c .start ≤ c .«max_messages» → c .count ≤ c .«max_messages» → rowsFit (moved k c) st ≡ rowsFit c st
+rows-moved : (k : ℕ) (c : MessageCache) (st : List ℕ) → Typed c → c .«max_messages» ≤ maxMessages
+    → c .start ≤ c .«max_messages» → c .count ≤ c .«max_messages» → rowsFit (moved k c) st ≡ rowsFit c st
 unfolding rowsFit idsFit moved
 rows-moved k c st y f a b =
     rw (
@@ -98,7 +105,8 @@ at-moved : (k : ℕ) (c : MessageCache) (body : List ℕ) (r : MessageAt) → pl
 at-moved k c body (at.Count n) = refl
 at-moved k c body (at.At a e) = fit-moved k c (between body a e) (admissionOf (between body a e) true)
 
-body-moved : (k : ℕ) (c : MessageCache) (body : List ℕ) (i : ℕ) (r : Checked) → planBody (moved k c) body i r ≡ planBody c body i r
+body-moved : (k : ℕ) (c : MessageCache) (body : List ℕ) (i : ℕ) (r : Checked)
+    → planBody (moved k c) body i r ≡ planBody c body i r
 body-moved k c body i (checked.Refused why) = refl
 body-moved k c body i checked.Fine = at-moved k c body (messageAt body i)
 
@@ -118,7 +126,10 @@ passed-moved k c = rw (next-moved k (c .«next_generation»))
 grown-moved : (k n : ℕ) (id : List ℕ) (c : MessageCache) → grown n id (moved k c) ≡ moved k (grown n id c)
 unfolding grown spot moved
 grown-moved k n id c =
-    rw (next-moved k (c .«next_generation»), map-set (λ (g : ℕ). (g + k) % 2 ^ 64) (c .generation) (spot c) (c .«next_generation»))
+    rw (
+      next-moved k (c .«next_generation»),
+      map-set (λ (g : ℕ). (g + k) % 2 ^ 64) (c .generation) (spot c) (c .«next_generation»),
+    )
 
 entered-moved : (k n : ℕ) (id : List ℕ) (c : MessageCache) → entered n id (moved k c) ≡ moved k (entered n id c)
 unfolding moved
@@ -156,12 +167,16 @@ module _ (k : ℕ) (c : MessageCache) (st : List ℕ) (y : Typed c) where
   well-formed-moved : wellFormed (moved k c) st ≡ wellFormed c st
   unfolding wellFormed legal moved
   well-formed-moved =
-      and-same (leb 1 (c .«history_len») && (leb (c .«history_len») maxHistory && leb (c .«max_messages») maxMessages)) _ _
+      and-same (leb 1 (c .«history_len») && (leb (c .«history_len») maxHistory && leb (c .«max_messages») maxMessages))
+      _ _
       (λ l.
-      let few = leb-true (c .«max_messages») maxMessages (both (leb (c .«history_len») maxHistory) (leb (c .«max_messages») maxMessages) (both (leb 1 (c .«history_len»)) _ l .1) .1) in
+      let few = leb-true (c .«max_messages») maxMessages
+      (both (leb (c .«history_len») maxHistory) (leb (c .«max_messages») maxMessages)
+      (both (leb 1 (c .«history_len»)) _ l .1) .1) in
       and-same (leb (c .start) (c .«max_messages»)) _ _
       (λ a. and-same (leb (c .count) (c .«max_messages»)) _ _
-      (λ b. rows-moved k c st y few (leb-true (c .start) (c .«max_messages») a) (leb-true (c .count) (c .«max_messages») b))))
+      (λ b. rows-moved k c st y few (leb-true (c .start) (c .«max_messages») a)
+      (leb-true (c .count) (c .«max_messages») b))))
 
   pub wrap-free : lentOf (moved k c) st ≡ lentOf c st
   unfolding lentOf moved
@@ -176,7 +191,8 @@ module _ (k : ℕ) (c : MessageCache) (st : List ℕ) (y : Typed c) where
   unfolding planned
   wrap-free-put body i = rw (wrap-free, body-moved k c body i (acceptOf body))
 
-  pub wrap-free-answer : (body : List ℕ) (i : ℕ) → answered (planned (moved k c) st body i) ≡ answered (planned c st body i)
+  pub wrap-free-answer : (body : List ℕ) (i : ℕ) → answered (planned (moved k c) st body i) ≡ answered
+      (planned c st body i)
   wrap-free-answer body i = ap answered (wrap-free-put body i)
 
   pub wrap-free-get : (id : List ℕ) → getPart (moved k c) st id ≡ getPart c st id
@@ -187,20 +203,25 @@ module _ (k : ℕ) (c : MessageCache) (st : List ℕ) (y : Typed c) where
   unfolding lookupAnswer indexIn moved
   wrap-free-lookup id = rw wrap-free
 
-  pub wrap-free-gossip : (topic : List ℕ) (windows : ℕ) → gossipRows (moved k c) st topic windows ≡ gossipRows c st topic windows
+  pub wrap-free-gossip : (topic : List ℕ) (windows : ℕ)
+      → gossipRows (moved k c) st topic windows ≡ gossipRows c st topic windows
   unfolding gossipRows gossipArray gossipAnswer gossipList moved
   wrap-free-gossip topic windows = rw wrap-free
 
-  pub wrap-free-told : (topic : List ℕ) (windows : ℕ) → (gossipAnswer (moved k c) st topic ≡ gossipAnswer c st topic) × (gossipCount (moved k c) st topic windows ≡ gossipCount c st topic windows)
+  pub wrap-free-told : (topic : List ℕ) (windows : ℕ) → (gossipAnswer (moved k c) st topic ≡ gossipAnswer c st topic)
+      × (gossipCount (moved k c) st topic windows ≡ gossipCount c st topic windows)
   unfolding gossipCount gossipAnswer gossipList moved
   wrap-free-told topic windows = (rw wrap-free, rw wrap-free)
 
   -- and the same states, but for the numbers: so the answers of all later calls are the same too
-  pub wrap-free-kept : (body : List ℕ) (i : ℕ) → keptIn (moved k c) (planned (moved k c) st body i) ≡ moved k (keptIn c (planned c st body i))
+  pub wrap-free-kept : (body : List ℕ) (i : ℕ) → keptIn (moved k c) (planned (moved k c) st body i) ≡ moved k
+      (keptIn c (planned c st body i))
   wrap-free-kept body i = ap (keptIn (moved k c)) (wrap-free-put body i) ∙ kept-moved k c (planned c st body i)
 
-  pub wrap-free-stored : (body : List ℕ) (i : ℕ) → storedIn (moved k c) st (planned (moved k c) st body i) ≡ storedIn c st (planned c st body i)
-  wrap-free-stored body i = ap (storedIn (moved k c) st) (wrap-free-put body i) ∙ storing-moved k c st (planned c st body i)
+  pub wrap-free-stored : (body : List ℕ) (i : ℕ) → storedIn (moved k c) st (planned (moved k c) st body i)
+      ≡ storedIn c st (planned c st body i)
+  wrap-free-stored body i = ap (storedIn (moved k c) st) (wrap-free-put body i)
+      ∙ storing-moved k c st (planned c st body i)
 
   pub wrap-free-shift : shiftCache (moved k c) st ≡ moved k (shiftCache c st)
   unfolding shiftCache

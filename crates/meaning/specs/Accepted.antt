@@ -16,8 +16,11 @@ use Rattle.protobuf.specs.Exactly.{exactly, body-walks}
 use Rattle.schema.specs.declared.Kind.{Kind}
 use Rattle.schema.specs.declared.Kind.the-variants as kind
 use Rattle.schema.specs.Schema.{roleOf}
-use Rattle.rpc.specs.Rpc.{SubOpts, RawMessage, ControlIHave, ControlIWant, ControlGraft, PeerInfo, ControlPrune, ControlMessage, Rpc}
-use Rattle.rpc.specs.Grammar.{bytesIn, Each, none-left, _and_, Pairs, no-pairs, _paired_, IsSubOpts, is-sub-opts, IsMessage, is-message, IsIHave, is-ihave, IsIWant, is-iwant, IsGraft, is-graft, IsPeerInfo, is-peer-info, IsPrune, is-prune, IsControl, is-control, IsRpc, is-rpc}
+use Rattle.rpc.specs.Rpc.{SubOpts, RawMessage, ControlIHave, ControlIWant, ControlGraft, PeerInfo, ControlPrune}
+use Rattle.rpc.specs.Rpc.{ControlMessage, Rpc}
+use Rattle.rpc.specs.Grammar.{bytesIn, Each, none-left, _and_, Pairs, no-pairs, _paired_, IsSubOpts, is-sub-opts}
+use Rattle.rpc.specs.Grammar.{IsMessage, is-message, IsIHave, is-ihave, IsIWant, is-iwant, IsGraft, is-graft}
+use Rattle.rpc.specs.Grammar.{IsPeerInfo, is-peer-info, IsPrune, is-prune, IsControl, is-control, IsRpc, is-rpc}
 use Rattle.protobuf.specs.Walk.{isBytes, valueIn}
 use Rattle.meaning.specs.Entries.{put-bytes}
 use Rattle.meaning.specs.Good.{Accepted, GoodRole, Good, walked-good, good-walked, accepted-walks, each-put}
@@ -40,11 +43,13 @@ pub record Some {X : Type 0} (R : List ℕ → X → Type 0) (d : List ℕ) : Ty
   pub value : X
   pub means : R d value
 
-pairs-each : {X : Type 0} {R : List ℕ → X → Type 0} {ds : List (List ℕ)} → Each (Some R) ds → (xs : List X) × Pairs R ds xs
+pairs-each : {X : Type 0} {R : List ℕ → X → Type 0} {ds : List (List ℕ)} → Each (Some R) ds → (xs : List X)
+    × Pairs R ds xs
 pairs-each none-left = ([], no-pairs)
 pairs-each (p and ps) = let r = pairs-each ps in (p .value ∷ r .0, p .means paired r .1)
 
-each-pairs : {X : Type 0} {R : List ℕ → X → Type 0} {ds : List (List ℕ)} {xs : List X} → Pairs R ds xs → Each (Some R) ds
+each-pairs : {X : Type 0} {R : List ℕ → X → Type 0} {ds : List (List ℕ)} {xs : List X} → Pairs R ds xs
+    → Each (Some R) ds
 each-pairs no-pairs = none-left
 each-pairs (p paired ps) = record { value = _; means = p } and each-pairs ps
 
@@ -53,7 +58,8 @@ bytes-each : (s : List ℕ) (fs : List Field) (m : ℕ) → Bytes s → Each Byt
 bytes-each s [] m b = none-left
 bytes-each s (f ∷ fs) m b =
     subst (Each Bytes) (sym (put-bytes s m f (bytesIn m (entriesOf s fs))))
-    (each-put Bytes (isBytes m f) (valueIn s f) (bytesIn m (entriesOf s fs)) (λ t. take-bytes (f .next - f .start) (drop (f .start) s) (drop-bytes (f .start) s b)) (bytes-each s fs m b))
+    (each-put Bytes (isBytes m f) (valueIn s f) (bytesIn m (entriesOf s fs))
+    (λ t. take-bytes (f .next - f .start) (drop (f .start) s) (drop-bytes (f .start) s b)) (bytes-each s fs m b))
 
 -- ---- from acceptance: the body, and its good fields
 record Read (k : Kind) (s : List ℕ) : Type 0 where
@@ -79,13 +85,17 @@ written k s es g h =
     good-walked k s (w .fields) (w .walked) (subst (Good k) (sym (w .entries)) h)
 
 -- a field of text, and of submessages
-texts : (k : Kind) (s : List ℕ) (r : Read k s) (m : ℕ) → ((d : List ℕ) → GoodRole (roleOf k m 2) d → Utf8 d) → Each Utf8 (bytesIn m (r .entries))
+texts : (k : Kind) (s : List ℕ) (r : Read k s) (m : ℕ) → ((d : List ℕ) → GoodRole (roleOf k m 2) d → Utf8 d)
+    → Each Utf8 (bytesIn m (r .entries))
 texts k s r m f = map-each f (r .good m)
 
-subs : (k j : Kind) (s : List ℕ) (r : Read k s) (m : ℕ) {X : Type 0} {R : List ℕ → X → Type 0} → ((d : List ℕ) → GoodRole (roleOf k m 2) d → Accepted j d) → ((d : List ℕ) → Bytes d → Accepted j d → Some R d) → (xs : List X) × Pairs R (bytesIn m (r .entries)) xs
+subs : (k j : Kind) (s : List ℕ) (r : Read k s) (m : ℕ) {X : Type 0} {R : List ℕ → X → Type 0}
+    → ((d : List ℕ) → GoodRole (roleOf k m 2) d → Accepted j d) → ((d : List ℕ) → Bytes d → Accepted j d → Some R d)
+    → (xs : List X) × Pairs R (bytesIn m (r .entries)) xs
 subs k j s r m f g = pairs-each (map-each (λ d p. g d (p .1) (f d (p .0))) (zip-each (r .good m) (r .small m)))
 
-accepted-subs : {X : Type 0} {R : List ℕ → X → Type 0} {ds : List (List ℕ)} {xs : List X} (j : Kind) → ((d : List ℕ) → Some R d → Accepted j d) → Pairs R ds xs → Each (Accepted j) ds
+accepted-subs : {X : Type 0} {R : List ℕ → X → Type 0} {ds : List (List ℕ)} {xs : List X} (j : Kind)
+    → ((d : List ℕ) → Some R d → Accepted j d) → Pairs R ds xs → Each (Accepted j) ds
 accepted-subs j f ps = map-each f (each-pairs ps)
 
 -- ---- each kind of message
@@ -211,7 +221,8 @@ peer-info-written (is-peer-info {s = s} {es = es} g) = written kind.PeerInfo s e
 pub peer-info-accepted : (s : List ℕ) → Some IsPeerInfo s → Accepted kind.PeerInfo s
 peer-info-accepted s x = peer-info-written (x .means)
 
-prune-good : (es : List Entry) → Each Utf8 (bytesIn 1 es) → Each (Accepted kind.PeerInfo) (bytesIn 2 es) → Good kind.ControlPrune es
+prune-good : (es : List Entry) → Each Utf8 (bytesIn 1 es) → Each (Accepted kind.PeerInfo) (bytesIn 2 es)
+    → Good kind.ControlPrune es
 unfolding roleOf
 prune-good es t1 p2 m =
     either (eqb m 1) (λ e1. let z = eqb-true m 1 e1 in rw z (map-each (λ d u. u) t1))
@@ -227,12 +238,15 @@ prune-means s b a =
     record { value = _; means = is-prune (r .body) (texts kind.ControlPrune s r 1 (λ d u. u)) (x0 .1) }
 
 prune-written : {s : List ℕ} {v : ControlPrune} → IsPrune s v → Accepted kind.ControlPrune s
-prune-written (is-prune {s = s} {es = es} g t1 p2) = written kind.ControlPrune s es g (prune-good es t1 (accepted-subs kind.PeerInfo peer-info-accepted p2))
+prune-written (is-prune {s = s} {es = es} g t1 p2) =
+    written kind.ControlPrune s es g (prune-good es t1 (accepted-subs kind.PeerInfo peer-info-accepted p2))
 
 pub prune-accepted : (s : List ℕ) → Some IsPrune s → Accepted kind.ControlPrune s
 prune-accepted s x = prune-written (x .means)
 
-control-good : (es : List Entry) → Each (Accepted kind.ControlIHave) (bytesIn 1 es) → Each (Accepted kind.ControlIWant) (bytesIn 2 es) → Each (Accepted kind.ControlGraft) (bytesIn 3 es) → Each (Accepted kind.ControlPrune) (bytesIn 4 es) → Good kind.ControlMessage es
+control-good : (es : List Entry) → Each (Accepted kind.ControlIHave) (bytesIn 1 es)
+    → Each (Accepted kind.ControlIWant) (bytesIn 2 es) → Each (Accepted kind.ControlGraft) (bytesIn 3 es)
+    → Each (Accepted kind.ControlPrune) (bytesIn 4 es) → Good kind.ControlMessage es
 unfolding roleOf
 control-good es p1 p2 p3 p4 m =
     either (eqb m 1) (λ e1. let z = eqb-true m 1 e1 in rw z (map-each (λ d u. u) p1))
@@ -255,12 +269,17 @@ control-means s b a =
     record { value = _; means = is-control (r .body) (x0 .1) (x1 .1) (x2 .1) (x3 .1) }
 
 control-written : {s : List ℕ} {v : ControlMessage} → IsControl s v → Accepted kind.ControlMessage s
-control-written (is-control {s = s} {es = es} g p1 p2 p3 p4) = written kind.ControlMessage s es g (control-good es (accepted-subs kind.ControlIHave ihave-accepted p1) (accepted-subs kind.ControlIWant iwant-accepted p2) (accepted-subs kind.ControlGraft graft-accepted p3) (accepted-subs kind.ControlPrune prune-accepted p4))
+control-written (is-control {s = s} {es = es} g p1 p2 p3 p4) =
+    written kind.ControlMessage s es g (control-good es (accepted-subs kind.ControlIHave ihave-accepted p1)
+    (accepted-subs kind.ControlIWant iwant-accepted p2) (accepted-subs kind.ControlGraft graft-accepted p3)
+    (accepted-subs kind.ControlPrune prune-accepted p4))
 
 pub control-accepted : (s : List ℕ) → Some IsControl s → Accepted kind.ControlMessage s
 control-accepted s x = control-written (x .means)
 
-rpc-good : (es : List Entry) → Each (Accepted kind.SubOpts) (bytesIn 1 es) → Each (Accepted kind.RawMessage) (bytesIn 2 es) → Each (Accepted kind.ControlMessage) (bytesIn 3 es) → Good kind.Rpc es
+rpc-good : (es : List Entry) → Each (Accepted kind.SubOpts) (bytesIn 1 es)
+    → Each (Accepted kind.RawMessage) (bytesIn 2 es) → Each (Accepted kind.ControlMessage) (bytesIn 3 es)
+    → Good kind.Rpc es
 unfolding roleOf
 rpc-good es p1 p2 p3 m =
     either (eqb m 1) (λ e1. let z = eqb-true m 1 e1 in rw z (map-each (λ d u. u) p1))
@@ -280,7 +299,9 @@ rpc-means s b a =
     record { value = _; means = is-rpc (r .body) (x0 .1) (x1 .1) (x2 .1) }
 
 rpc-written : {s : List ℕ} {v : Rpc} → IsRpc s v → Accepted kind.Rpc s
-rpc-written (is-rpc {s = s} {es = es} g p1 p2 p3) = written kind.Rpc s es g (rpc-good es (accepted-subs kind.SubOpts sub-opts-accepted p1) (accepted-subs kind.RawMessage message-accepted p2) (accepted-subs kind.ControlMessage control-accepted p3))
+rpc-written (is-rpc {s = s} {es = es} g p1 p2 p3) =
+    written kind.Rpc s es g (rpc-good es (accepted-subs kind.SubOpts sub-opts-accepted p1)
+    (accepted-subs kind.RawMessage message-accepted p2) (accepted-subs kind.ControlMessage control-accepted p3))
 
 pub rpc-accepted : (s : List ℕ) → Some IsRpc s → Accepted kind.Rpc s
 rpc-accepted s x = rpc-written (x .means)

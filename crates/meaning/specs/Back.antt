@@ -20,114 +20,143 @@ use Rattle.schema.specs.declared.Place.{Place}
 use Rattle.schema.specs.declared.Number.the-variants as number
 use Rattle.schema.specs.declared.Slots.{Slots}
 use Rattle.schema.specs.declared.Role.{Role}
-use Rattle.schema.specs.declared.Role.the-variants.{Skip, Number as NumberRole, Text, Bytes, Unsigned, Topic, MessageId, Sub}
+use Rattle.schema.specs.declared.Role.the-variants.{Skip, Number as NumberRole, Text, Bytes, Unsigned, Topic, MessageId}
+use Rattle.schema.specs.declared.Role.the-variants.{Sub}
 use Rattle.schema.specs.Schema.{isVarint, rowOf, lenRole, numberRole, roleOf, ownOf}
-use Rattle.schema.specs.Slots.{noSlots, setPlace, placeOf, roleSlots, withField, slotsAlong, slotsOf, hasAlong, hasField}
+use Rattle.schema.specs.Slots.{noSlots, setPlace, placeOf, roleSlots, withField, slotsAlong, slotsOf, hasAlong}
+use Rattle.schema.specs.Slots.{hasField}
 use Rattle.message.specs.declared.Record.{Record}
 use Rattle.message.specs.Rows.{bareRow, leafRow, roleRows, rowsAlong, ownRows, rowsOf}
 use Rattle.message.specs.RowsLaws.{rows-along}
 use Rattle.message.specs.Decode.{hasControl}
-use Rattle.rpc.specs.Rpc.{SubOpts, RawMessage, ControlIHave, ControlIWant, ControlGraft, PeerInfo, ControlPrune, ControlMessage, Rpc}
-use Rattle.rpc.specs.Grammar.{numbersIn, bytesIn, last, nonzero, Each, none-left, _and_, Pairs, no-pairs, _paired_, IsSubOpts, is-sub-opts, IsMessage, is-message, IsIHave, is-ihave, IsIWant, is-iwant, IsGraft, is-graft, IsPeerInfo, is-peer-info, IsPrune, is-prune, IsControl, is-control, join, joinTo, joined, IsRpc, is-rpc}
-use Rattle.meaning.specs.ReadBack.{bytesAt, numberAt, rawOf, Gathered, emptyControl, nothing, addIHave, addIWant, addGraft, addPrune, gatherKind, gather, rpcFrom, readBack}
+use Rattle.rpc.specs.Rpc.{SubOpts, RawMessage, ControlIHave, ControlIWant, ControlGraft, PeerInfo, ControlPrune}
+use Rattle.rpc.specs.Rpc.{ControlMessage, Rpc}
+use Rattle.rpc.specs.Grammar.{numbersIn, bytesIn, last, nonzero, Each, none-left, _and_, Pairs, no-pairs, _paired_}
+use Rattle.rpc.specs.Grammar.{IsSubOpts, is-sub-opts, IsMessage, is-message, IsIHave, is-ihave, IsIWant, is-iwant}
+use Rattle.rpc.specs.Grammar.{IsGraft, is-graft, IsPeerInfo, is-peer-info, IsPrune, is-prune, IsControl, is-control}
+use Rattle.rpc.specs.Grammar.{join, joinTo, joined, IsRpc, is-rpc}
+use Rattle.meaning.specs.ReadBack.{bytesAt, numberAt, rawOf, Gathered, emptyControl, nothing, addIHave, addIWant}
+use Rattle.meaning.specs.ReadBack.{addGraft, addPrune, gatherKind, gather, rpcFrom, readBack}
 use Rattle.protobuf.specs.Walk.{isBytes, valueIn}
 use Rattle.meaning.specs.Entries.{put-bytes}
-use Rattle.meaning.specs.Last.{Part, Inside, walk-inside, part-value, part-part, Feeds, slot-last, FeedsNumber, number-last, six, feeds-from}
+use Rattle.meaning.specs.Last.{Part, walk-inside, part-value, part-part, Feeds, slot-last, FeedsNumber}
+use Rattle.schema.specs.Count.{FieldWithin}
+use Rattle.meaning.specs.Last.{number-last, six, feeds-from}
 
 -- ---- which fields feed which slots
 pub sub-opts-topic : Feeds kind.SubOpts (λ t. t .first) 2
 unfolding setPlace
 sub-opts-topic =
     feeds-from kind.SubOpts (λ t. t .first) 2 (λ t v. refl)
-    (λ t f n. six (λ n. roleSlots t f (lenRole kind.SubOpts n) .first ≡ cond (eqb n 2) (placeOf f) (t .first)) refl refl refl refl refl refl (λ n e1 e2 e3 e4 e5 e6. simp (e1, e2)) n)
+    (λ t f n. six (λ n. roleSlots t f (lenRole kind.SubOpts n) .first ≡ cond (eqb n 2) (placeOf f) (t .first)) refl refl
+    refl refl refl refl (λ n e1 e2 e3 e4 e5 e6. simp (e1, e2)) n)
 
 pub message-from : Feeds kind.RawMessage (λ t. t .first) 1
 unfolding setPlace
 message-from =
     feeds-from kind.RawMessage (λ t. t .first) 1 (λ t v. refl)
-    (λ t f n. six (λ n. roleSlots t f (lenRole kind.RawMessage n) .first ≡ cond (eqb n 1) (placeOf f) (t .first)) refl refl refl refl refl refl (λ n e1 e2 e3 e4 e5 e6. simp (e1, e2, e3, e4, e5, e6)) n)
+    (λ t f n. six (λ n. roleSlots t f (lenRole kind.RawMessage n) .first ≡ cond (eqb n 1) (placeOf f) (t .first)) refl
+    refl refl refl refl refl (λ n e1 e2 e3 e4 e5 e6. simp (e1, e2, e3, e4, e5, e6)) n)
 
 pub message-data : Feeds kind.RawMessage (λ t. t .second) 2
 unfolding setPlace
 message-data =
     feeds-from kind.RawMessage (λ t. t .second) 2 (λ t v. refl)
-    (λ t f n. six (λ n. roleSlots t f (lenRole kind.RawMessage n) .second ≡ cond (eqb n 2) (placeOf f) (t .second)) refl refl refl refl refl refl (λ n e1 e2 e3 e4 e5 e6. simp (e1, e2, e3, e4, e5, e6)) n)
+    (λ t f n. six (λ n. roleSlots t f (lenRole kind.RawMessage n) .second ≡ cond (eqb n 2) (placeOf f) (t .second)) refl
+    refl refl refl refl refl (λ n e1 e2 e3 e4 e5 e6. simp (e1, e2, e3, e4, e5, e6)) n)
 
 pub message-seqno : Feeds kind.RawMessage (λ t. t .third) 3
 unfolding setPlace
 message-seqno =
     feeds-from kind.RawMessage (λ t. t .third) 3 (λ t v. refl)
-    (λ t f n. six (λ n. roleSlots t f (lenRole kind.RawMessage n) .third ≡ cond (eqb n 3) (placeOf f) (t .third)) refl refl refl refl refl refl (λ n e1 e2 e3 e4 e5 e6. simp (e1, e2, e3, e4, e5, e6)) n)
+    (λ t f n. six (λ n. roleSlots t f (lenRole kind.RawMessage n) .third ≡ cond (eqb n 3) (placeOf f) (t .third)) refl
+    refl refl refl refl refl (λ n e1 e2 e3 e4 e5 e6. simp (e1, e2, e3, e4, e5, e6)) n)
 
 pub message-signature : Feeds kind.RawMessage (λ t. t .fourth) 5
 unfolding setPlace
 message-signature =
     feeds-from kind.RawMessage (λ t. t .fourth) 5 (λ t v. refl)
-    (λ t f n. six (λ n. roleSlots t f (lenRole kind.RawMessage n) .fourth ≡ cond (eqb n 5) (placeOf f) (t .fourth)) refl refl refl refl refl refl (λ n e1 e2 e3 e4 e5 e6. simp (e1, e2, e3, e4, e5, e6)) n)
+    (λ t f n. six (λ n. roleSlots t f (lenRole kind.RawMessage n) .fourth ≡ cond (eqb n 5) (placeOf f) (t .fourth)) refl
+    refl refl refl refl refl (λ n e1 e2 e3 e4 e5 e6. simp (e1, e2, e3, e4, e5, e6)) n)
 
 pub message-key : Feeds kind.RawMessage (λ t. t .fifth) 6
 unfolding setPlace
 message-key =
     feeds-from kind.RawMessage (λ t. t .fifth) 6 (λ t v. refl)
-    (λ t f n. six (λ n. roleSlots t f (lenRole kind.RawMessage n) .fifth ≡ cond (eqb n 6) (placeOf f) (t .fifth)) refl refl refl refl refl refl (λ n e1 e2 e3 e4 e5 e6. simp (e1, e2, e3, e4, e5, e6)) n)
+    (λ t f n. six (λ n. roleSlots t f (lenRole kind.RawMessage n) .fifth ≡ cond (eqb n 6) (placeOf f) (t .fifth)) refl
+    refl refl refl refl refl (λ n e1 e2 e3 e4 e5 e6. simp (e1, e2, e3, e4, e5, e6)) n)
 
 pub ihave-topic : Feeds kind.ControlIHave (λ t. t .first) 1
 unfolding setPlace
 ihave-topic =
     feeds-from kind.ControlIHave (λ t. t .first) 1 (λ t v. refl)
-    (λ t f n. six (λ n. roleSlots t f (lenRole kind.ControlIHave n) .first ≡ cond (eqb n 1) (placeOf f) (t .first)) refl refl refl refl refl refl (λ n e1 e2 e3 e4 e5 e6. simp (e1, e2)) n)
+    (λ t f n. six (λ n. roleSlots t f (lenRole kind.ControlIHave n) .first ≡ cond (eqb n 1) (placeOf f) (t .first)) refl
+    refl refl refl refl refl (λ n e1 e2 e3 e4 e5 e6. simp (e1, e2)) n)
 
 pub graft-topic : Feeds kind.ControlGraft (λ t. t .first) 1
 unfolding setPlace
 graft-topic =
     feeds-from kind.ControlGraft (λ t. t .first) 1 (λ t v. refl)
-    (λ t f n. six (λ n. roleSlots t f (lenRole kind.ControlGraft n) .first ≡ cond (eqb n 1) (placeOf f) (t .first)) refl refl refl refl refl refl (λ n e1 e2 e3 e4 e5 e6. simp (e1)) n)
+    (λ t f n. six (λ n. roleSlots t f (lenRole kind.ControlGraft n) .first ≡ cond (eqb n 1) (placeOf f) (t .first)) refl
+    refl refl refl refl refl (λ n e1 e2 e3 e4 e5 e6. simp (e1)) n)
 
 pub prune-topic : Feeds kind.ControlPrune (λ t. t .first) 1
 unfolding setPlace
 prune-topic =
     feeds-from kind.ControlPrune (λ t. t .first) 1 (λ t v. refl)
-    (λ t f n. six (λ n. roleSlots t f (lenRole kind.ControlPrune n) .first ≡ cond (eqb n 1) (placeOf f) (t .first)) refl refl refl refl refl refl (λ n e1 e2 e3 e4 e5 e6. simp (e1, e2, e3)) n)
+    (λ t f n. six (λ n. roleSlots t f (lenRole kind.ControlPrune n) .first ≡ cond (eqb n 1) (placeOf f) (t .first)) refl
+    refl refl refl refl refl (λ n e1 e2 e3 e4 e5 e6. simp (e1, e2, e3)) n)
 
 pub peer-id : Feeds kind.PeerInfo (λ t. t .first) 1
 unfolding setPlace
 peer-id =
     feeds-from kind.PeerInfo (λ t. t .first) 1 (λ t v. refl)
-    (λ t f n. six (λ n. roleSlots t f (lenRole kind.PeerInfo n) .first ≡ cond (eqb n 1) (placeOf f) (t .first)) refl refl refl refl refl refl (λ n e1 e2 e3 e4 e5 e6. simp (e1, e2)) n)
+    (λ t f n. six (λ n. roleSlots t f (lenRole kind.PeerInfo n) .first ≡ cond (eqb n 1) (placeOf f) (t .first)) refl
+    refl refl refl refl refl (λ n e1 e2 e3 e4 e5 e6. simp (e1, e2)) n)
 
 pub peer-record : Feeds kind.PeerInfo (λ t. t .second) 2
 unfolding setPlace
 peer-record =
     feeds-from kind.PeerInfo (λ t. t .second) 2 (λ t v. refl)
-    (λ t f n. six (λ n. roleSlots t f (lenRole kind.PeerInfo n) .second ≡ cond (eqb n 2) (placeOf f) (t .second)) refl refl refl refl refl refl (λ n e1 e2 e3 e4 e5 e6. simp (e1, e2)) n)
+    (λ t f n. six (λ n. roleSlots t f (lenRole kind.PeerInfo n) .second ≡ cond (eqb n 2) (placeOf f) (t .second)) refl
+    refl refl refl refl refl (λ n e1 e2 e3 e4 e5 e6. simp (e1, e2)) n)
 
-numbers-from : (k : Kind) (m : ℕ) → ((t : Slots) (f : Field) (n : ℕ) → roleSlots t f (lenRole k n) .number ≡ t .number) → ((t : Slots) (f : Field) (n : ℕ) → roleSlots t f (numberRole k n) .number ≡ cond (eqb n m) (number.Present (f .value)) (t .number)) → FeedsNumber k m
+numbers-from : (k : Kind) (m : ℕ) → ((t : Slots) (f : Field) (n : ℕ) → roleSlots t f (lenRole k n) .number ≡ t .number)
+    → ((t : Slots) (f : Field) (n : ℕ) → roleSlots t f (numberRole k n) .number ≡ cond (eqb n m)
+    (number.Present (f .value)) (t .number)) → FeedsNumber k m
 unfolding withField roleOf
 numbers-from k m lens nums t f =
     either (eqb (f .«wire_type») 2)
-    (λ t2. let z : eqb (f .«wire_type») 0 ≡ false = rw (eqb-true (f .«wire_type») 2 t2) in simp (t2, z) (lens t f (f .field)))
+    (λ t2. let z : eqb (f .«wire_type») 0 ≡ false = rw (eqb-true (f .«wire_type») 2 t2) in
+    simp (t2, z) (lens t f (f .field)))
     (λ t2. either (eqb (f .«wire_type») 0) (λ t0. simp (t2, t0) (nums t f (f .field))) (λ t0. simp (t2, t0)))
 
 pub sub-opts-subscribe : FeedsNumber kind.SubOpts 1
 unfolding setPlace
 sub-opts-subscribe =
     numbers-from kind.SubOpts 1
-    (λ t f n. six (λ n. roleSlots t f (lenRole kind.SubOpts n) .number ≡ t .number) refl refl refl refl refl refl (λ n e1 e2 e3 e4 e5 e6. simp (e1, e2)) n)
-    (λ t f n. six (λ n. roleSlots t f (numberRole kind.SubOpts n) .number ≡ cond (eqb n 1) (number.Present (f .value)) (t .number)) refl refl refl refl refl refl (λ n e1 e2 e3 e4 e5 e6. simp (e1, e2)) n)
+    (λ t f n. six (λ n. roleSlots t f (lenRole kind.SubOpts n) .number ≡ t .number) refl refl refl refl refl refl
+    (λ n e1 e2 e3 e4 e5 e6. simp (e1, e2)) n)
+    (λ t f n. six (λ n. roleSlots t f (numberRole kind.SubOpts n) .number ≡ cond (eqb n 1) (number.Present (f .value))
+    (t .number)) refl refl refl refl refl refl (λ n e1 e2 e3 e4 e5 e6. simp (e1, e2)) n)
 
 pub prune-backoff : FeedsNumber kind.ControlPrune 3
 unfolding setPlace
 prune-backoff =
     numbers-from kind.ControlPrune 3
-    (λ t f n. six (λ n. roleSlots t f (lenRole kind.ControlPrune n) .number ≡ t .number) refl refl refl refl refl refl (λ n e1 e2 e3 e4 e5 e6. simp (e1, e2, e3)) n)
-    (λ t f n. six (λ n. roleSlots t f (numberRole kind.ControlPrune n) .number ≡ cond (eqb n 3) (number.Present (f .value)) (t .number)) refl refl refl refl refl refl (λ n e1 e2 e3 e4 e5 e6. simp (e1, e2, e3)) n)
+    (λ t f n. six (λ n. roleSlots t f (lenRole kind.ControlPrune n) .number ≡ t .number) refl refl refl refl refl refl
+    (λ n e1 e2 e3 e4 e5 e6. simp (e1, e2, e3)) n)
+    (λ t f n. six (λ n. roleSlots t f (numberRole kind.ControlPrune n) .number ≡ cond (eqb n 3)
+    (number.Present (f .value)) (t .number)) refl refl refl refl refl refl
+    (λ n e1 e2 e3 e4 e5 e6. simp (e1, e2, e3)) n)
 
 -- ---- gathering
 gather-append : (b : List ℕ) (rs ts : List Record) (g : Gathered) → gather b (rs ++ ts) g ≡ gather b rs (gather b ts g)
 gather-append b [] ts g = refl
 gather-append b (r ∷ rs) ts g = ap (gatherKind (r .kind) b r) (gather-append b rs ts g)
 
-abbrev pub state : List (List ℕ) → List (List ℕ) → List PeerInfo → List SubOpts → List RawMessage → ControlMessage → Gathered
+abbrev pub state : List (List ℕ) → List (List ℕ) → List PeerInfo → List SubOpts → List RawMessage → ControlMessage
+    → Gathered
 state ts is ps ss ms c = record { topics = ts; ids = is; peers = ps; subscriptions = ss; publish = ms; control = c }
 
 -- the rows of one field: only a length-delimited one has any
@@ -141,22 +170,31 @@ number-rows base p f Topic = refl
 number-rows base p f MessageId = refl
 number-rows base p f (Sub k form) = refl
 
-rows-from : (k : Kind) (base : ℕ) (p : List ℕ) (f : Field) (rows : ℕ → List Record) → ((n : ℕ) → roleRows rowsOf base p f (lenRole k n) ≡ rows n) → roleRows rowsOf base p f (roleOf k (f .field) (f .«wire_type»)) ≡ cond (eqb (f .«wire_type») 2) (rows (f .field)) []
+rows-from : (k : Kind) (base : ℕ) (p : List ℕ) (f : Field) (rows : ℕ → List Record)
+    → ((n : ℕ) → roleRows rowsOf base p f (lenRole k n) ≡ rows n)
+    → roleRows rowsOf base p f (roleOf k (f .field) (f .«wire_type»)) ≡ cond (eqb (f .«wire_type») 2)
+    (rows (f .field)) []
 unfolding roleOf
 rows-from k base p f rows lens =
     either (eqb (f .«wire_type») 2) (λ t2. simp t2 (lens (f .field)))
-    (λ t2. either (eqb (f .«wire_type») 0) (λ t0. simp (t2, t0) (number-rows base p f (rowOf k (f .field)))) (λ t0. simp (t2, t0)))
+    (λ t2. either (eqb (f .«wire_type») 0) (λ t0. simp (t2, t0) (number-rows base p f (rowOf k (f .field))))
+    (λ t0. simp (t2, t0)))
 
 -- a field that gives rows where it is length-delimited and of number m
 cond-and : {A : Type 0} (a c : Bool) (x y : A) → cond a (cond c x y) y ≡ cond (a && c) x y
 cond-and true c x y = refl
 cond-and false c x y = refl
 
-one-from : (k : Kind) (m : ℕ) (base : ℕ) (p : List ℕ) (f : Field) (rows : List Record) → ((n : ℕ) → roleRows rowsOf base p f (lenRole k n) ≡ cond (eqb n m) rows []) → roleRows rowsOf base p f (roleOf k (f .field) (f .«wire_type»)) ≡ cond (isBytes m f) rows []
-one-from k m base p f rows lens = rows-from k base p f (λ n. cond (eqb n m) rows []) lens ∙ cond-and (eqb (f .«wire_type») 2) (eqb (f .field) m) rows []
+one-from : (k : Kind) (m : ℕ) (base : ℕ) (p : List ℕ) (f : Field) (rows : List Record)
+    → ((n : ℕ) → roleRows rowsOf base p f (lenRole k n) ≡ cond (eqb n m) rows [])
+    → roleRows rowsOf base p f (roleOf k (f .field) (f .«wire_type»)) ≡ cond (isBytes m f) rows []
+one-from k m base p f rows lens = rows-from k base p f (λ n. cond (eqb n m) rows []) lens
+    ∙ cond-and (eqb (f .«wire_type») 2) (eqb (f .field) m) rows []
 
-none-from : (k : Kind) (base : ℕ) (p : List ℕ) (f : Field) → ((n : ℕ) → roleRows rowsOf base p f (lenRole k n) ≡ []) → roleRows rowsOf base p f (roleOf k (f .field) (f .«wire_type»)) ≡ []
-none-from k base p f lens = rows-from k base p f (λ n. []) lens ∙ either (eqb (f .«wire_type») 2) (λ t. simp t) (λ t. simp t)
+none-from : (k : Kind) (base : ℕ) (p : List ℕ) (f : Field) → ((n : ℕ) → roleRows rowsOf base p f (lenRole k n) ≡ [])
+    → roleRows rowsOf base p f (roleOf k (f .field) (f .«wire_type»)) ≡ []
+none-from k base p f lens = rows-from k base p f (λ n. []) lens ∙ either (eqb (f .«wire_type») 2) (λ t. simp t)
+    (λ t. simp t)
 
 -- a message without records inside it
 Bare : Kind → Type 0
@@ -169,37 +207,55 @@ bare-along k bare base p (f ∷ fs) = ap₂ (λ (x y : List Record). x ++ y) (ba
 
 sub-opts-bare : Bare kind.SubOpts
 unfolding Bare
-sub-opts-bare base p f = none-from kind.SubOpts base p f (six (λ n. roleRows rowsOf base p f (lenRole kind.SubOpts n) ≡ []) refl refl refl refl refl refl (λ n e1 e2 e3 e4 e5 e6. simp (e1, e2)))
+sub-opts-bare base p f =
+    none-from kind.SubOpts base p f (six (λ n. roleRows rowsOf base p f (lenRole kind.SubOpts n) ≡ []) refl refl refl
+    refl refl refl (λ n e1 e2 e3 e4 e5 e6. simp (e1, e2)))
 
 graft-bare : Bare kind.ControlGraft
 unfolding Bare
-graft-bare base p f = none-from kind.ControlGraft base p f (six (λ n. roleRows rowsOf base p f (lenRole kind.ControlGraft n) ≡ []) refl refl refl refl refl refl (λ n e1 e2 e3 e4 e5 e6. simp (e1)))
+graft-bare base p f =
+    none-from kind.ControlGraft base p f
+    (six (λ n. roleRows rowsOf base p f (lenRole kind.ControlGraft n) ≡ []) refl refl refl refl refl refl
+    (λ n e1 e2 e3 e4 e5 e6. simp (e1)))
 
 peer-info-bare : Bare kind.PeerInfo
 unfolding Bare
-peer-info-bare base p f = none-from kind.PeerInfo base p f (six (λ n. roleRows rowsOf base p f (lenRole kind.PeerInfo n) ≡ []) refl refl refl refl refl refl (λ n e1 e2 e3 e4 e5 e6. simp (e1, e2)))
+peer-info-bare base p f =
+    none-from kind.PeerInfo base p f (six (λ n. roleRows rowsOf base p f (lenRole kind.PeerInfo n) ≡ []) refl refl refl
+    refl refl refl (λ n e1 e2 e3 e4 e5 e6. simp (e1, e2)))
 
 -- a message with leaves of kind j in its fields m
 Leafy : Kind → Kind → ℕ → Type 0
-Leafy k j m = (base : ℕ) (p : List ℕ) (f : Field) → roleRows rowsOf base p f (roleOf k (f .field) (f .«wire_type»)) ≡ cond (isBytes m f) (leafRow j base f ∷ []) []
+Leafy k j m = (base : ℕ) (p : List ℕ) (f : Field) → roleRows rowsOf base p f (roleOf k (f .field) (f .«wire_type»))
+    ≡ cond (isBytes m f) (leafRow j base f ∷ []) []
 
 message-topics : Leafy kind.RawMessage kind.Topic 4
 unfolding Leafy
-message-topics base p f = one-from kind.RawMessage 4 base p f (leafRow kind.Topic base f ∷ []) (six (λ n. roleRows rowsOf base p f (lenRole kind.RawMessage n) ≡ cond (eqb n 4) (leafRow kind.Topic base f ∷ []) []) refl refl refl refl refl refl (λ n e1 e2 e3 e4 e5 e6. simp (e1, e2, e3, e4, e5, e6)))
+message-topics base p f = one-from kind.RawMessage 4 base p f (leafRow kind.Topic base f ∷ [])
+    (six (λ n. roleRows rowsOf base p f (lenRole kind.RawMessage n) ≡ cond (eqb n 4) (leafRow kind.Topic base f ∷ [])
+    []) refl refl refl refl refl refl (λ n e1 e2 e3 e4 e5 e6. simp (e1, e2, e3, e4, e5, e6)))
 
 ihave-ids : Leafy kind.ControlIHave kind.MessageId 2
 unfolding Leafy
-ihave-ids base p f = one-from kind.ControlIHave 2 base p f (leafRow kind.MessageId base f ∷ []) (six (λ n. roleRows rowsOf base p f (lenRole kind.ControlIHave n) ≡ cond (eqb n 2) (leafRow kind.MessageId base f ∷ []) []) refl refl refl refl refl refl (λ n e1 e2 e3 e4 e5 e6. simp (e1, e2)))
+ihave-ids base p f = one-from kind.ControlIHave 2 base p f (leafRow kind.MessageId base f ∷ [])
+    (six (λ n. roleRows rowsOf base p f (lenRole kind.ControlIHave n) ≡ cond (eqb n 2)
+    (leafRow kind.MessageId base f ∷ []) []) refl refl refl refl refl refl (λ n e1 e2 e3 e4 e5 e6. simp (e1, e2)))
 
 iwant-ids : Leafy kind.ControlIWant kind.MessageId 1
 unfolding Leafy
-iwant-ids base p f = one-from kind.ControlIWant 1 base p f (leafRow kind.MessageId base f ∷ []) (six (λ n. roleRows rowsOf base p f (lenRole kind.ControlIWant n) ≡ cond (eqb n 1) (leafRow kind.MessageId base f ∷ []) []) refl refl refl refl refl refl (λ n e1 e2 e3 e4 e5 e6. simp (e1)))
+iwant-ids base p f = one-from kind.ControlIWant 1 base p f (leafRow kind.MessageId base f ∷ [])
+    (six (λ n. roleRows rowsOf base p f (lenRole kind.ControlIWant n) ≡ cond (eqb n 1)
+    (leafRow kind.MessageId base f ∷ []) []) refl refl refl refl refl refl (λ n e1 e2 e3 e4 e5 e6. simp (e1)))
 
 abbrev addAll : {X : Type 0} → (X → Gathered → Gathered) → List X → Gathered → Gathered
 addAll add [] g = g
 addAll add (x ∷ xs) g = add x (addAll add xs g)
 
-leaves-along : (b : List ℕ) (base : ℕ) (p : List ℕ) (k j : Kind) (m : ℕ) (add : List ℕ → Gathered → Gathered) → Part b base p → Leafy k j m → ((a e : ℕ) (g : Gathered) → gatherKind j b (bareRow j a e) g ≡ add (between b a e) g) → (fs : List Field) (g : Gathered) → Each (Inside p) fs → gather b (rowsAlong rowsOf k base p (whole fs)) g ≡ addAll add (bytesIn m (entriesOf p fs)) g
+leaves-along : (b : List ℕ) (base : ℕ) (p : List ℕ) (k j : Kind) (m : ℕ) (add : List ℕ → Gathered → Gathered)
+    → Part b base p → Leafy k j m
+    → ((a e : ℕ) (g : Gathered) → gatherKind j b (bareRow j a e) g ≡ add (between b a e) g)
+    → (fs : List Field) (g : Gathered) → Each (FieldWithin p) fs → gather b (rowsAlong rowsOf k base p (whole fs)) g
+    ≡ addAll add (bytesIn m (entriesOf p fs)) g
 unfolding Leafy
 leaves-along b base p k j m add q leafy adds [] g none-left = refl
 leaves-along b base p k j m add q leafy adds (f ∷ fs) g (i and is) =
@@ -213,7 +269,8 @@ leaves-along b base p k j m add q leafy adds (f ∷ fs) g (i and is) =
     (λ x. let rx = row ∙ ap (λ (z : Bool). cond z (leafRow j base f ∷ []) []) x in
     let px = pb ∙ ap (λ (z : Bool). cond z (valueIn p f ∷ ds) ds) x in
     let v = part-value b base p (f .start) (f .next) q (i .order) (i .fits) in
-    go ∙ ap₂ (gather b) rx ih ∙ adds (base + f .start) (base + f .next) (addAll add ds g) ∙ ap (λ (d : List ℕ). add d (addAll add ds g)) v ∙ sym (ap (λ (l : List (List ℕ)). addAll add l g) px))
+    go ∙ ap₂ (gather b) rx ih ∙ adds (base + f .start) (base + f .next) (addAll add ds g)
+    ∙ ap (λ (d : List ℕ). add d (addAll add ds g)) v ∙ sym (ap (λ (l : List (List ℕ)). addAll add l g) px))
     (λ x. let rx = row ∙ ap (λ (z : Bool). cond z (leafRow j base f ∷ []) []) x in
     let px = pb ∙ ap (λ (z : Bool). cond z (valueIn p f ∷ ds) ds) x in
     go ∙ ap₂ (gather b) rx ih ∙ sym (ap (λ (l : List (List ℕ)). addAll add l g) px))
@@ -222,22 +279,29 @@ leaves-along b base p k j m add q leafy adds (f ∷ fs) g (i and is) =
 abbrev ownRow : Kind → ℕ → List ℕ → Record
 ownRow k base p = record { kind = k; start = base; end = base + length p; slots = slotsOf k p }
 
-rows-split : (k : Kind) (base : ℕ) (p : List ℕ) (fs : List Field) → fieldsOf p ≡ whole fs → ownRows k base p ≡ ownRow k base p ∷ [] → rowsOf k base p ≡ ownRow k base p ∷ rowsAlong rowsOf k base p (whole fs)
-rows-split k base p fs w o = rows-along k base p ∙ ap₂ (λ (x : List Record) (y : Fields). x ++ rowsAlong rowsOf k base p y) o w
+rows-split : (k : Kind) (base : ℕ) (p : List ℕ) (fs : List Field) → fieldsOf p ≡ whole fs
+    → ownRows k base p ≡ ownRow k base p ∷ [] → rowsOf k base p ≡ ownRow k base p ∷ rowsAlong rowsOf k base p (whole fs)
+rows-split k base p fs w o =
+    rows-along k base p ∙ ap₂ (λ (x : List Record) (y : Fields). x ++ rowsAlong rowsOf k base p y) o w
 
 raw-part : (b : List ℕ) (base : ℕ) (p : List ℕ) (k : Kind) → Part b base p → rawOf b (ownRow k base p) ≡ p
 raw-part b base p k q = sym (q .here)
 
 -- a slot of the own record, as the grammar has it
-pub slot-value : (b : List ℕ) (base : ℕ) (p : List ℕ) (k : Kind) (g : Slots → Place) (m : ℕ) (fs : List Field) (es : List Entry) → Part b base p → Feeds k g m → fieldsOf p ≡ whole fs → entriesOf p fs ≡ es → bytesAt b base (g noSlots) ≡ none → bytesAt b base (g (slotsOf k p)) ≡ last (bytesIn m es)
+pub slot-value : (b : List ℕ) (base : ℕ) (p : List ℕ) (k : Kind) (g : Slots → Place) (m : ℕ) (fs : List Field)
+    (es : List Entry) → Part b base p → Feeds k g m → fieldsOf p ≡ whole fs → entriesOf p fs ≡ es
+    → bytesAt b base (g noSlots) ≡ none → bytesAt b base (g (slotsOf k p)) ≡ last (bytesIn m es)
 unfolding slotsOf
 slot-value b base p k g m fs es q feed w e z =
-    ap (λ (x : Fields). bytesAt b base (g (slotsAlong k noSlots x))) w ∙ slot-last b base p k g m q feed fs noSlots (walk-inside p fs w) z ∙ ap (λ (x : List Entry). last (bytesIn m x)) e
+    ap (λ (x : Fields). bytesAt b base (g (slotsAlong k noSlots x))) w ∙ slot-last b base p k g m q feed fs noSlots
+    (walk-inside p fs w) z ∙ ap (λ (x : List Entry). last (bytesIn m x)) e
 
-pub number-value : (p : List ℕ) (k : Kind) (m : ℕ) (fs : List Field) (es : List Entry) → FeedsNumber k m → fieldsOf p ≡ whole fs → entriesOf p fs ≡ es → numberAt (slotsOf k p .number) ≡ last (numbersIn m es)
+pub number-value : (p : List ℕ) (k : Kind) (m : ℕ) (fs : List Field) (es : List Entry) → FeedsNumber k m
+    → fieldsOf p ≡ whole fs → entriesOf p fs ≡ es → numberAt (slotsOf k p .number) ≡ last (numbersIn m es)
 unfolding slotsOf
 number-value p k m fs es feed w e =
-    ap (λ (x : Fields). numberAt (slotsAlong k noSlots x .number)) w ∙ number-last p k m feed fs noSlots refl ∙ ap (λ (x : List Entry). last (numbersIn m x)) e
+    ap (λ (x : Fields). numberAt (slotsAlong k noSlots x .number)) w ∙ number-last p k m feed fs noSlots refl
+    ∙ ap (λ (x : List Entry). last (numbersIn m x)) e
 
 -- ---- each kind of message, read back
 own-sub-opts : (base : ℕ) (p : List ℕ) → ownRows kind.SubOpts base p ≡ ownRow kind.SubOpts base p ∷ []
@@ -269,103 +333,172 @@ unfolding ownRows ownOf
 own-prune base p = refl
 
 -- SubOpts
-sub-opts-read : (b : List ℕ) (base : ℕ) (p : List ℕ) (es : List Entry) → Part b base p → Body p es → (ts is : List (List ℕ)) (ps : List PeerInfo) (ss : List SubOpts) (ms : List RawMessage) (c : ControlMessage) → gather b (rowsOf kind.SubOpts base p) (state ts is ps ss ms c) ≡ state ts is ps (record { subscribe = nonzero (last (numbersIn 1 es)); «topic_id» = last (bytesIn 2 es) } ∷ ss) ms c
+sub-opts-read : (b : List ℕ) (base : ℕ) (p : List ℕ) (es : List Entry) → Part b base p → Body p es
+    → (ts is : List (List ℕ)) (ps : List PeerInfo) (ss : List SubOpts) (ms : List RawMessage) (c : ControlMessage)
+    → gather b (rowsOf kind.SubOpts base p) (state ts is ps ss ms c) ≡ state ts is ps
+    (record { subscribe = nonzero (last (numbersIn 1 es)); «topic_id» = last (bytesIn 2 es) } ∷ ss) ms c
 sub-opts-read b base p es q g ts is ps ss ms c =
     let w = body-walks p es g in
-    let rows = rows-split kind.SubOpts base p (w .fields) (w .walked) (own-sub-opts base p) ∙ ap (λ (l : List Record). ownRow kind.SubOpts base p ∷ l) (bare-along kind.SubOpts sub-opts-bare base p (w .fields)) in
+    let rows = rows-split kind.SubOpts base p (w .fields) (w .walked) (own-sub-opts base p)
+    ∙ ap (λ (l : List Record). ownRow kind.SubOpts base p ∷ l)
+    (bare-along kind.SubOpts sub-opts-bare base p (w .fields)) in
     let n = number-value p kind.SubOpts 1 (w .fields) es sub-opts-subscribe (w .walked) (w .entries) in
-    let t = slot-value b base p kind.SubOpts (λ t. t .first) 2 (w .fields) es q sub-opts-topic (w .walked) (w .entries) refl in
+    let t = slot-value b base p kind.SubOpts (λ t. t .first) 2 (w .fields) es q sub-opts-topic (w .walked)
+    (w .entries) refl in
     ap (λ (l : List Record). gather b l (state ts is ps ss ms c)) rows
-    ∙ ap₂ (λ (x : Option ℕ) (y : Option (List ℕ)). state ts is ps (record { subscribe = nonzero x; «topic_id» = y } ∷ ss) ms c) n t
+    ∙ ap₂ (λ (x : Option ℕ) (y : Option (List ℕ)). state ts is ps
+    (record { subscribe = nonzero x; «topic_id» = y } ∷ ss) ms c) n t
 
 -- PeerInfo
-peer-info-read : (b : List ℕ) (base : ℕ) (p : List ℕ) (es : List Entry) → Part b base p → Body p es → (ts is : List (List ℕ)) (ps : List PeerInfo) (ss : List SubOpts) (ms : List RawMessage) (c : ControlMessage) → gather b (rowsOf kind.PeerInfo base p) (state ts is ps ss ms c) ≡ state ts is (record { «peer_id» = last (bytesIn 1 es); «signed_peer_record» = last (bytesIn 2 es) } ∷ ps) ss ms c
+peer-info-read : (b : List ℕ) (base : ℕ) (p : List ℕ) (es : List Entry) → Part b base p → Body p es
+    → (ts is : List (List ℕ)) (ps : List PeerInfo) (ss : List SubOpts) (ms : List RawMessage) (c : ControlMessage)
+    → gather b (rowsOf kind.PeerInfo base p) (state ts is ps ss ms c) ≡ state ts is
+    (record { «peer_id» = last (bytesIn 1 es); «signed_peer_record» = last (bytesIn 2 es) } ∷ ps) ss ms c
 peer-info-read b base p es q g ts is ps ss ms c =
     let w = body-walks p es g in
-    let rows = rows-split kind.PeerInfo base p (w .fields) (w .walked) (own-peer-info base p) ∙ ap (λ (l : List Record). ownRow kind.PeerInfo base p ∷ l) (bare-along kind.PeerInfo peer-info-bare base p (w .fields)) in
-    let i = slot-value b base p kind.PeerInfo (λ t. t .first) 1 (w .fields) es q peer-id (w .walked) (w .entries) refl in
-    let r = slot-value b base p kind.PeerInfo (λ t. t .second) 2 (w .fields) es q peer-record (w .walked) (w .entries) refl in
+    let rows = rows-split kind.PeerInfo base p (w .fields) (w .walked) (own-peer-info base p)
+    ∙ ap (λ (l : List Record). ownRow kind.PeerInfo base p ∷ l)
+    (bare-along kind.PeerInfo peer-info-bare base p (w .fields)) in
+    let i = slot-value b base p kind.PeerInfo (λ t. t .first) 1 (w .fields) es q peer-id (w .walked)
+    (w .entries) refl in
+    let r = slot-value b base p kind.PeerInfo (λ t. t .second) 2 (w .fields) es q peer-record (w .walked)
+    (w .entries) refl in
     ap (λ (l : List Record). gather b l (state ts is ps ss ms c)) rows
     ∙ ap₂ (λ (x y : Option (List ℕ)). state ts is (record { «peer_id» = x; «signed_peer_record» = y } ∷ ps) ss ms c) i r
 
 -- ControlGraft
-graft-read : (b : List ℕ) (base : ℕ) (p : List ℕ) (es : List Entry) → Part b base p → Body p es → (ts is : List (List ℕ)) (ps : List PeerInfo) (ss : List SubOpts) (ms : List RawMessage) (c : ControlMessage) → gather b (rowsOf kind.ControlGraft base p) (state ts is ps ss ms c) ≡ state ts is ps ss ms (addGraft (record { «topic_id» = last (bytesIn 1 es) }) c)
+graft-read : (b : List ℕ) (base : ℕ) (p : List ℕ) (es : List Entry) → Part b base p → Body p es
+    → (ts is : List (List ℕ)) (ps : List PeerInfo) (ss : List SubOpts) (ms : List RawMessage) (c : ControlMessage)
+    → gather b (rowsOf kind.ControlGraft base p) (state ts is ps ss ms c) ≡ state ts is ps ss ms
+    (addGraft (record { «topic_id» = last (bytesIn 1 es) }) c)
 graft-read b base p es q g ts is ps ss ms c =
     let w = body-walks p es g in
-    let rows = rows-split kind.ControlGraft base p (w .fields) (w .walked) (own-graft base p) ∙ ap (λ (l : List Record). ownRow kind.ControlGraft base p ∷ l) (bare-along kind.ControlGraft graft-bare base p (w .fields)) in
-    let t = slot-value b base p kind.ControlGraft (λ t. t .first) 1 (w .fields) es q graft-topic (w .walked) (w .entries) refl in
+    let rows = rows-split kind.ControlGraft base p (w .fields) (w .walked) (own-graft base p)
+    ∙ ap (λ (l : List Record). ownRow kind.ControlGraft base p ∷ l)
+    (bare-along kind.ControlGraft graft-bare base p (w .fields)) in
+    let t = slot-value b base p kind.ControlGraft (λ t. t .first) 1 (w .fields) es q graft-topic (w .walked)
+    (w .entries) refl in
     ap (λ (l : List Record). gather b l (state ts is ps ss ms c)) rows
     ∙ ap (λ (x : Option (List ℕ)). state ts is ps ss ms (addGraft (record { «topic_id» = x }) c)) t
 
 -- leaves are put before those that wait
 abbrev putTopic : List ℕ → Gathered → Gathered
-putTopic d g = record { topics = d ∷ g .topics; ids = g .ids; peers = g .peers; subscriptions = g .subscriptions; publish = g .publish; control = g .control }
+putTopic d g =
+    record {
+      topics = d ∷ g .topics;
+      ids = g .ids;
+      peers = g .peers;
+      subscriptions = g .subscriptions;
+      publish = g .publish;
+      control = g .control;
+    }
 
 abbrev putId : List ℕ → Gathered → Gathered
-putId d g = record { topics = g .topics; ids = d ∷ g .ids; peers = g .peers; subscriptions = g .subscriptions; publish = g .publish; control = g .control }
+putId d g = record {
+  topics = g .topics;
+  ids = d ∷ g .ids;
+  peers = g .peers;
+  subscriptions = g .subscriptions;
+  publish = g .publish;
+  control = g .control;
+}
 
-put-topics : (ds ts is : List (List ℕ)) (ps : List PeerInfo) (ss : List SubOpts) (ms : List RawMessage) (c : ControlMessage) → addAll putTopic ds (state ts is ps ss ms c) ≡ state (ds ++ ts) is ps ss ms c
+put-topics : (ds ts is : List (List ℕ)) (ps : List PeerInfo) (ss : List SubOpts) (ms : List RawMessage)
+    (c : ControlMessage) → addAll putTopic ds (state ts is ps ss ms c) ≡ state (ds ++ ts) is ps ss ms c
 put-topics [] ts is ps ss ms c = refl
 put-topics (d ∷ ds) ts is ps ss ms c = ap (putTopic d) (put-topics ds ts is ps ss ms c)
 
-put-ids : (ds ts is : List (List ℕ)) (ps : List PeerInfo) (ss : List SubOpts) (ms : List RawMessage) (c : ControlMessage) → addAll putId ds (state ts is ps ss ms c) ≡ state ts (ds ++ is) ps ss ms c
+put-ids : (ds ts is : List (List ℕ)) (ps : List PeerInfo) (ss : List SubOpts) (ms : List RawMessage)
+    (c : ControlMessage) → addAll putId ds (state ts is ps ss ms c) ≡ state ts (ds ++ is) ps ss ms c
 put-ids [] ts is ps ss ms c = refl
 put-ids (d ∷ ds) ts is ps ss ms c = ap (putId d) (put-ids ds ts is ps ss ms c)
 
 -- RawMessage
-mkMessage : List ℕ → Option (List ℕ) → Option (List ℕ) → Option (List ℕ) → List (List ℕ) → Option (List ℕ) → Option (List ℕ) → RawMessage
+mkMessage : List ℕ → Option (List ℕ) → Option (List ℕ) → Option (List ℕ) → List (List ℕ) → Option (List ℕ)
+    → Option (List ℕ) → RawMessage
 mkMessage r f d q ts s k = record { raw = r; from = f; «data» = d; seqno = q; «topic_ids» = ts; signature = s; key = k }
 
-same-message : {r r' : List ℕ} {f f' d d' q q' s s' k k' : Option (List ℕ)} {ts ts' : List (List ℕ)} → r ≡ r' → f ≡ f' → d ≡ d' → q ≡ q' → ts ≡ ts' → s ≡ s' → k ≡ k' → mkMessage r f d q ts s k ≡ mkMessage r' f' d' q' ts' s' k'
+same-message : {r r' : List ℕ} {f f' d d' q q' s s' k k' : Option (List ℕ)} {ts ts' : List (List ℕ)} → r ≡ r' → f ≡ f'
+    → d ≡ d' → q ≡ q' → ts ≡ ts' → s ≡ s' → k ≡ k' → mkMessage r f d q ts s k ≡ mkMessage r' f' d' q' ts' s' k'
 same-message e1 e2 e3 e4 e5 e6 e7 = cc
 
-message-read : (b : List ℕ) (base : ℕ) (p : List ℕ) (es : List Entry) → Part b base p → Body p es → (is : List (List ℕ)) (ps : List PeerInfo) (ss : List SubOpts) (ms : List RawMessage) (c : ControlMessage) → gather b (rowsOf kind.RawMessage base p) (state [] is ps ss ms c) ≡ state [] is ps ss (mkMessage p (last (bytesIn 1 es)) (last (bytesIn 2 es)) (last (bytesIn 3 es)) (bytesIn 4 es) (last (bytesIn 5 es)) (last (bytesIn 6 es)) ∷ ms) c
+message-read : (b : List ℕ) (base : ℕ) (p : List ℕ) (es : List Entry) → Part b base p → Body p es
+    → (is : List (List ℕ)) (ps : List PeerInfo) (ss : List SubOpts) (ms : List RawMessage) (c : ControlMessage)
+    → gather b (rowsOf kind.RawMessage base p) (state [] is ps ss ms c) ≡ state [] is ps ss
+    (mkMessage p (last (bytesIn 1 es)) (last (bytesIn 2 es)) (last (bytesIn 3 es)) (bytesIn 4 es) (last (bytesIn 5 es))
+    (last (bytesIn 6 es)) ∷ ms) c
 unfolding mkMessage
 message-read b base p es q g is ps ss ms c =
     let w = body-walks p es g in
     let fs = w .fields in
     let rows = rows-split kind.RawMessage base p fs (w .walked) (own-message base p) in
-    let leaves = leaves-along b base p kind.RawMessage kind.Topic 4 putTopic q message-topics (λ a e g. refl) fs (state [] is ps ss ms c) (walk-inside p fs (w .walked)) ∙ put-topics (bytesIn 4 (entriesOf p fs)) [] is ps ss ms c in
-    let topics : bytesIn 4 (entriesOf p fs) ++ [] ≡ bytesIn 4 es = append-nil (bytesIn 4 (entriesOf p fs)) ∙ ap (bytesIn 4) (w .entries) in
+    let leaves = leaves-along b base p kind.RawMessage kind.Topic 4 putTopic q message-topics (λ a e g. refl) fs
+    (state [] is ps ss ms c) (walk-inside p fs (w .walked))
+    ∙ put-topics (bytesIn 4 (entriesOf p fs)) [] is ps ss ms c in
+    let topics : bytesIn 4 (entriesOf p fs) ++ [] ≡ bytesIn 4 es = append-nil (bytesIn 4 (entriesOf p fs))
+    ∙ ap (bytesIn 4) (w .entries) in
     let v1 = slot-value b base p kind.RawMessage (λ t. t .first) 1 fs es q message-from (w .walked) (w .entries) refl in
-    let v2 = slot-value b base p kind.RawMessage (λ t. t .second) 2 fs es q message-data (w .walked) (w .entries) refl in
-    let v3 = slot-value b base p kind.RawMessage (λ t. t .third) 3 fs es q message-seqno (w .walked) (w .entries) refl in
-    let v5 = slot-value b base p kind.RawMessage (λ t. t .fourth) 5 fs es q message-signature (w .walked) (w .entries) refl in
+    let v2 = slot-value b base p kind.RawMessage (λ t. t .second) 2 fs es q message-data (w .walked)
+    (w .entries) refl in
+    let v3 = slot-value b base p kind.RawMessage (λ t. t .third) 3 fs es q message-seqno (w .walked)
+    (w .entries) refl in
+    let v5 = slot-value b base p kind.RawMessage (λ t. t .fourth) 5 fs es q message-signature (w .walked)
+    (w .entries) refl in
     let v6 = slot-value b base p kind.RawMessage (λ t. t .fifth) 6 fs es q message-key (w .walked) (w .entries) refl in
     ap (λ (l : List Record). gather b l (state [] is ps ss ms c)) rows
     ∙ ap (gatherKind kind.RawMessage b (ownRow kind.RawMessage base p)) leaves
-    ∙ ap (λ (m : RawMessage). state [] is ps ss (m ∷ ms) c) (same-message (raw-part b base p kind.RawMessage q) v1 v2 v3 topics v5 v6)
+    ∙ ap (λ (m : RawMessage). state [] is ps ss (m ∷ ms) c)
+    (same-message (raw-part b base p kind.RawMessage q) v1 v2 v3 topics v5 v6)
 
 -- ControlIHave and ControlIWant
-ihave-read : (b : List ℕ) (base : ℕ) (p : List ℕ) (es : List Entry) → Part b base p → Body p es → (ts : List (List ℕ)) (ps : List PeerInfo) (ss : List SubOpts) (ms : List RawMessage) (c : ControlMessage) → gather b (rowsOf kind.ControlIHave base p) (state ts [] ps ss ms c) ≡ state ts [] ps ss ms (addIHave (record { «topic_id» = last (bytesIn 1 es); «message_ids» = bytesIn 2 es }) c)
+ihave-read : (b : List ℕ) (base : ℕ) (p : List ℕ) (es : List Entry) → Part b base p → Body p es
+    → (ts : List (List ℕ)) (ps : List PeerInfo) (ss : List SubOpts) (ms : List RawMessage) (c : ControlMessage)
+    → gather b (rowsOf kind.ControlIHave base p) (state ts [] ps ss ms c) ≡ state ts [] ps ss ms
+    (addIHave (record { «topic_id» = last (bytesIn 1 es); «message_ids» = bytesIn 2 es }) c)
 ihave-read b base p es q g ts ps ss ms c =
     let w = body-walks p es g in
     let fs = w .fields in
     let rows = rows-split kind.ControlIHave base p fs (w .walked) (own-ihave base p) in
-    let leaves = leaves-along b base p kind.ControlIHave kind.MessageId 2 putId q ihave-ids (λ a e g. refl) fs (state ts [] ps ss ms c) (walk-inside p fs (w .walked)) ∙ put-ids (bytesIn 2 (entriesOf p fs)) ts [] ps ss ms c in
-    let ids : bytesIn 2 (entriesOf p fs) ++ [] ≡ bytesIn 2 es = append-nil (bytesIn 2 (entriesOf p fs)) ∙ ap (bytesIn 2) (w .entries) in
+    let leaves = leaves-along b base p kind.ControlIHave kind.MessageId 2 putId q ihave-ids (λ a e g. refl) fs
+    (state ts [] ps ss ms c) (walk-inside p fs (w .walked))
+    ∙ put-ids (bytesIn 2 (entriesOf p fs)) ts [] ps ss ms c in
+    let ids : bytesIn 2 (entriesOf p fs) ++ [] ≡ bytesIn 2 es = append-nil (bytesIn 2 (entriesOf p fs))
+    ∙ ap (bytesIn 2) (w .entries) in
     let t = slot-value b base p kind.ControlIHave (λ t. t .first) 1 fs es q ihave-topic (w .walked) (w .entries) refl in
     ap (λ (l : List Record). gather b l (state ts [] ps ss ms c)) rows
     ∙ ap (gatherKind kind.ControlIHave b (ownRow kind.ControlIHave base p)) leaves
-    ∙ ap₂ (λ (x : Option (List ℕ)) (y : List (List ℕ)). state ts [] ps ss ms (addIHave (record { «topic_id» = x; «message_ids» = y }) c)) t ids
+    ∙ ap₂ (λ (x : Option (List ℕ)) (y : List (List ℕ)). state ts [] ps ss ms
+    (addIHave (record { «topic_id» = x; «message_ids» = y }) c)) t ids
 
-iwant-read : (b : List ℕ) (base : ℕ) (p : List ℕ) (es : List Entry) → Part b base p → Body p es → (ts : List (List ℕ)) (ps : List PeerInfo) (ss : List SubOpts) (ms : List RawMessage) (c : ControlMessage) → gather b (rowsOf kind.ControlIWant base p) (state ts [] ps ss ms c) ≡ state ts [] ps ss ms (addIWant (record { «message_ids» = bytesIn 1 es }) c)
+iwant-read : (b : List ℕ) (base : ℕ) (p : List ℕ) (es : List Entry) → Part b base p → Body p es
+    → (ts : List (List ℕ)) (ps : List PeerInfo) (ss : List SubOpts) (ms : List RawMessage) (c : ControlMessage)
+    → gather b (rowsOf kind.ControlIWant base p) (state ts [] ps ss ms c) ≡ state ts [] ps ss ms
+    (addIWant (record { «message_ids» = bytesIn 1 es }) c)
 iwant-read b base p es q g ts ps ss ms c =
     let w = body-walks p es g in
     let fs = w .fields in
     let rows = rows-split kind.ControlIWant base p fs (w .walked) (own-iwant base p) in
-    let leaves = leaves-along b base p kind.ControlIWant kind.MessageId 1 putId q iwant-ids (λ a e g. refl) fs (state ts [] ps ss ms c) (walk-inside p fs (w .walked)) ∙ put-ids (bytesIn 1 (entriesOf p fs)) ts [] ps ss ms c in
-    let ids : bytesIn 1 (entriesOf p fs) ++ [] ≡ bytesIn 1 es = append-nil (bytesIn 1 (entriesOf p fs)) ∙ ap (bytesIn 1) (w .entries) in
+    let leaves = leaves-along b base p kind.ControlIWant kind.MessageId 1 putId q iwant-ids (λ a e g. refl) fs
+    (state ts [] ps ss ms c) (walk-inside p fs (w .walked))
+    ∙ put-ids (bytesIn 1 (entriesOf p fs)) ts [] ps ss ms c in
+    let ids : bytesIn 1 (entriesOf p fs) ++ [] ≡ bytesIn 1 es = append-nil (bytesIn 1 (entriesOf p fs))
+    ∙ ap (bytesIn 1) (w .entries) in
     ap (λ (l : List Record). gather b l (state ts [] ps ss ms c)) rows
     ∙ ap (gatherKind kind.ControlIWant b (ownRow kind.ControlIWant base p)) leaves
     ∙ ap (λ (y : List (List ℕ)). state ts [] ps ss ms (addIWant (record { «message_ids» = y }) c)) ids
 
 -- ---- submessages: what a field takes from the pairs
-pairs-at : {X : Type 0} {R : List ℕ → X → Type 0} (p : List ℕ) (m : ℕ) (f : Field) (fs : List Field) (xs : List X) → Pairs R (bytesIn m (entriesOf p (f ∷ fs))) xs → Pairs R (cond (isBytes m f) (valueIn p f ∷ bytesIn m (entriesOf p fs)) (bytesIn m (entriesOf p fs))) xs
-pairs-at {R = R} p m f fs xs h = subst (λ (l : List (List ℕ)). Pairs R l xs) (put-bytes p m f (bytesIn m (entriesOf p fs))) h
+pairs-at : {X : Type 0} {R : List ℕ → X → Type 0} (p : List ℕ) (m : ℕ) (f : Field) (fs : List Field) (xs : List X)
+    → Pairs R (bytesIn m (entriesOf p (f ∷ fs))) xs
+    → Pairs R (cond (isBytes m f) (valueIn p f ∷ bytesIn m (entriesOf p fs)) (bytesIn m (entriesOf p fs))) xs
+pairs-at {R = R} p m f fs xs h =
+    subst (λ (l : List (List ℕ)). Pairs R l xs) (put-bytes p m f (bytesIn m (entriesOf p fs))) h
 
-pairs-skip : {X : Type 0} {R : List ℕ → X → Type 0} (p : List ℕ) (m : ℕ) (f : Field) (fs : List Field) (xs : List X) → isBytes m f ≡ false → Pairs R (bytesIn m (entriesOf p (f ∷ fs))) xs → Pairs R (bytesIn m (entriesOf p fs)) xs
-pairs-skip {R = R} p m f fs xs e h = subst (λ (t : Bool). Pairs R (cond t (valueIn p f ∷ bytesIn m (entriesOf p fs)) (bytesIn m (entriesOf p fs))) xs) e (pairs-at p m f fs xs h)
+pairs-skip : {X : Type 0} {R : List ℕ → X → Type 0} (p : List ℕ) (m : ℕ) (f : Field) (fs : List Field) (xs : List X)
+    → isBytes m f ≡ false → Pairs R (bytesIn m (entriesOf p (f ∷ fs))) xs → Pairs R (bytesIn m (entriesOf p fs)) xs
+pairs-skip {R = R} p m f fs xs e h =
+    subst (λ (t : Bool). Pairs R (cond t (valueIn p f ∷ bytesIn m (entriesOf p fs)) (bytesIn m (entriesOf p fs))) xs) e
+    (pairs-at p m f fs xs h)
 
 record Taken {X : Type 0} (R : List ℕ → X → Type 0) (d : List ℕ) (ds : List (List ℕ)) (xs : List X) : Type 0 where
   head : X
@@ -374,11 +507,17 @@ record Taken {X : Type 0} (R : List ℕ → X → Type 0) (d : List ℕ) (ds : L
   means : R d head
   rest : Pairs R ds tail
 
-uncons : {X : Type 0} {R : List ℕ → X → Type 0} {d : List ℕ} {ds : List (List ℕ)} {xs : List X} → Pairs R (d ∷ ds) xs → Taken R d ds xs
+uncons : {X : Type 0} {R : List ℕ → X → Type 0} {d : List ℕ} {ds : List (List ℕ)} {xs : List X} → Pairs R (d ∷ ds) xs
+    → Taken R d ds xs
 uncons (_paired_ {y = y} {ys = ys} r rs) = record { head = y; tail = ys; split = refl; means = r; rest = rs }
 
-pairs-take : {X : Type 0} {R : List ℕ → X → Type 0} (p : List ℕ) (m : ℕ) (f : Field) (fs : List Field) (xs : List X) → isBytes m f ≡ true → Pairs R (bytesIn m (entriesOf p (f ∷ fs))) xs → Taken R (valueIn p f) (bytesIn m (entriesOf p fs)) xs
-pairs-take {R = R} p m f fs xs e h = uncons (subst (λ (t : Bool). Pairs R (cond t (valueIn p f ∷ bytesIn m (entriesOf p fs)) (bytesIn m (entriesOf p fs))) xs) e (pairs-at p m f fs xs h))
+pairs-take : {X : Type 0} {R : List ℕ → X → Type 0} (p : List ℕ) (m : ℕ) (f : Field) (fs : List Field) (xs : List X)
+    → isBytes m f ≡ true → Pairs R (bytesIn m (entriesOf p (f ∷ fs))) xs
+    → Taken R (valueIn p f) (bytesIn m (entriesOf p fs)) xs
+pairs-take {R = R} p m f fs xs e h =
+    uncons (subst
+    (λ (t : Bool). Pairs R (cond t (valueIn p f ∷ bytesIn m (entriesOf p fs)) (bytesIn m (entriesOf p fs))) xs) e
+    (pairs-at p m f fs xs h))
 
 pairs-none : {X : Type 0} {R : List ℕ → X → Type 0} {xs : List X} → Pairs R [] xs → xs ≡ []
 pairs-none no-pairs = refl
@@ -388,7 +527,8 @@ bytes-is : (f : Field) (m : ℕ) → eqb (f .«wire_type») 2 ≡ true → eqb (
 bytes-is f m t e = ap₂ (λ (x y : Bool). x && y) t e
 
 bytes-other : (f : Field) (j m : ℕ) → eqb (f .field) j ≡ true → eqb j m ≡ false → isBytes m f ≡ false
-bytes-other f j m e d = ap (λ (n : ℕ). eqb (f .«wire_type») 2 && eqb n m) (eqb-true (f .field) j e) ∙ ap (λ (x : Bool). eqb (f .«wire_type») 2 && x) d ∙ and-false (eqb (f .«wire_type») 2)
+bytes-other f j m e d = ap (λ (n : ℕ). eqb (f .«wire_type») 2 && eqb n m) (eqb-true (f .field) j e)
+    ∙ ap (λ (x : Bool). eqb (f .«wire_type») 2 && x) d ∙ and-false (eqb (f .«wire_type») 2)
 
 bytes-not : (f : Field) (m : ℕ) → eqb (f .field) m ≡ false → isBytes m f ≡ false
 bytes-not f m e = ap (λ (x : Bool). eqb (f .«wire_type») 2 && x) e ∙ and-false (eqb (f .«wire_type») 2)
@@ -397,16 +537,30 @@ bytes-type : (f : Field) (m : ℕ) → eqb (f .«wire_type») 2 ≡ false → is
 bytes-type f m t = ap (λ (x : Bool). x && eqb (f .field) m) t
 
 -- ---- ControlPrune
-prune-peers : (base : ℕ) (p : List ℕ) (f : Field) → roleRows rowsOf base p f (roleOf kind.ControlPrune (f .field) (f .«wire_type»)) ≡ cond (isBytes 2 f) (rowsOf kind.PeerInfo (base + f .start) (valueIn p f)) []
-prune-peers base p f = one-from kind.ControlPrune 2 base p f (rowsOf kind.PeerInfo (base + f .start) (valueIn p f)) (six (λ n. roleRows rowsOf base p f (lenRole kind.ControlPrune n) ≡ cond (eqb n 2) (rowsOf kind.PeerInfo (base + f .start) (valueIn p f)) []) refl refl refl refl refl refl (λ n e1 e2 e3 e4 e5 e6. simp (e1, e2, e3)))
+prune-peers : (base : ℕ) (p : List ℕ) (f : Field)
+    → roleRows rowsOf base p f (roleOf kind.ControlPrune (f .field) (f .«wire_type»)) ≡ cond (isBytes 2 f)
+    (rowsOf kind.PeerInfo (base + f .start) (valueIn p f)) []
+prune-peers base p f = one-from kind.ControlPrune 2 base p f (rowsOf kind.PeerInfo (base + f .start) (valueIn p f))
+    (six (λ n. roleRows rowsOf base p f (lenRole kind.ControlPrune n) ≡ cond (eqb n 2)
+    (rowsOf kind.PeerInfo (base + f .start) (valueIn p f)) []) refl refl refl refl refl refl
+    (λ n e1 e2 e3 e4 e5 e6. simp (e1, e2, e3)))
 
-peer-info-of : {p : List ℕ} {x : PeerInfo} (b : List ℕ) (base : ℕ) → Part b base p → IsPeerInfo p x → (ts is : List (List ℕ)) (ps : List PeerInfo) (ss : List SubOpts) (ms : List RawMessage) (c : ControlMessage) → gather b (rowsOf kind.PeerInfo base p) (state ts is ps ss ms c) ≡ state ts is (x ∷ ps) ss ms c
-peer-info-of b base q (is-peer-info {s = s} {es = es} g) ts is ps ss ms c = peer-info-read b base s es q g ts is ps ss ms c
+peer-info-of : {p : List ℕ} {x : PeerInfo} (b : List ℕ) (base : ℕ) → Part b base p → IsPeerInfo p x
+    → (ts is : List (List ℕ)) (ps : List PeerInfo) (ss : List SubOpts) (ms : List RawMessage) (c : ControlMessage)
+    → gather b (rowsOf kind.PeerInfo base p) (state ts is ps ss ms c) ≡ state ts is (x ∷ ps) ss ms c
+peer-info-of b base q (is-peer-info {s = s} {es = es} g) ts is ps ss ms c =
+    peer-info-read b base s es q g ts is ps ss ms c
 
-peers-along : (b : List ℕ) (base : ℕ) (p : List ℕ) → Part b base p → (fs : List Field) (xs : List PeerInfo) → Pairs IsPeerInfo (bytesIn 2 (entriesOf p fs)) xs → Each (Inside p) fs → (ts is : List (List ℕ)) (ps : List PeerInfo) (ss : List SubOpts) (ms : List RawMessage) (c : ControlMessage) → gather b (rowsAlong rowsOf kind.ControlPrune base p (whole fs)) (state ts is ps ss ms c) ≡ state ts is (xs ++ ps) ss ms c
-peers-along b base p q [] xs h none-left ts is ps ss ms c = ap (λ (l : List PeerInfo). state ts is (l ++ ps) ss ms c) (sym (pairs-none h))
+peers-along : (b : List ℕ) (base : ℕ) (p : List ℕ) → Part b base p → (fs : List Field) (xs : List PeerInfo)
+    → Pairs IsPeerInfo (bytesIn 2 (entriesOf p fs)) xs → Each (FieldWithin p) fs
+    → (ts is : List (List ℕ)) (ps : List PeerInfo) (ss : List SubOpts) (ms : List RawMessage) (c : ControlMessage)
+    → gather b (rowsAlong rowsOf kind.ControlPrune base p (whole fs)) (state ts is ps ss ms c) ≡ state ts is
+    (xs ++ ps) ss ms c
+peers-along b base p q [] xs h none-left ts is ps ss ms c =
+    ap (λ (l : List PeerInfo). state ts is (l ++ ps) ss ms c) (sym (pairs-none h))
 peers-along b base p q (f ∷ fs) xs h (i and ins) ts is ps ss ms c =
-    let go = gather-append b (roleRows rowsOf base p f (roleOf kind.ControlPrune (f .field) (f .«wire_type»))) (rowsAlong rowsOf kind.ControlPrune base p (whole fs)) (state ts is ps ss ms c) in
+    let go = gather-append b (roleRows rowsOf base p f (roleOf kind.ControlPrune (f .field) (f .«wire_type»)))
+    (rowsAlong rowsOf kind.ControlPrune base p (whole fs)) (state ts is ps ss ms c) in
     let row = prune-peers base p f in
     let rows = rowsOf kind.PeerInfo (base + f .start) (valueIn p f) in
     either (isBytes 2 f)
@@ -421,10 +575,14 @@ peers-along b base p q (f ∷ fs) xs h (i and ins) ts is ps ss ms c =
 mkPrune : Option (List ℕ) → List PeerInfo → Option ℕ → ControlPrune
 mkPrune t ps n = record { «topic_id» = t; peers = ps; backoff = n }
 
-same-prune : {t t' : Option (List ℕ)} {ps ps' : List PeerInfo} {n n' : Option ℕ} → t ≡ t' → ps ≡ ps' → n ≡ n' → mkPrune t ps n ≡ mkPrune t' ps' n'
+same-prune : {t t' : Option (List ℕ)} {ps ps' : List PeerInfo} {n n' : Option ℕ} → t ≡ t' → ps ≡ ps' → n ≡ n'
+    → mkPrune t ps n ≡ mkPrune t' ps' n'
 same-prune e1 e2 e3 = cc
 
-prune-read : (b : List ℕ) (base : ℕ) (p : List ℕ) (es : List Entry) (xs : List PeerInfo) → Part b base p → Body p es → Pairs IsPeerInfo (bytesIn 2 es) xs → (ts is : List (List ℕ)) (ss : List SubOpts) (ms : List RawMessage) (c : ControlMessage) → gather b (rowsOf kind.ControlPrune base p) (state ts is [] ss ms c) ≡ state ts is [] ss ms (addPrune (mkPrune (last (bytesIn 1 es)) xs (last (numbersIn 3 es))) c)
+prune-read : (b : List ℕ) (base : ℕ) (p : List ℕ) (es : List Entry) (xs : List PeerInfo) → Part b base p → Body p es
+    → Pairs IsPeerInfo (bytesIn 2 es) xs → (ts is : List (List ℕ)) (ss : List SubOpts) (ms : List RawMessage)
+    (c : ControlMessage) → gather b (rowsOf kind.ControlPrune base p) (state ts is [] ss ms c) ≡ state ts is [] ss ms
+    (addPrune (mkPrune (last (bytesIn 1 es)) xs (last (numbersIn 3 es))) c)
 unfolding mkPrune
 prune-read b base p es xs q g h ts is ss ms c =
     let w = body-walks p es g in
@@ -438,139 +596,229 @@ prune-read b base p es xs q g h ts is ss ms c =
     ∙ ap (gatherKind kind.ControlPrune b (ownRow kind.ControlPrune base p)) inner
     ∙ ap (λ (x : ControlPrune). state ts is [] ss ms (addPrune x c)) (same-prune t (append-nil xs) n)
 
-sub-opts-of : {p : List ℕ} {x : SubOpts} (b : List ℕ) (base : ℕ) → Part b base p → IsSubOpts p x → (ss : List SubOpts) (ms : List RawMessage) (c : ControlMessage) → gather b (rowsOf kind.SubOpts base p) (state [] [] [] ss ms c) ≡ state [] [] [] (x ∷ ss) ms c
+sub-opts-of : {p : List ℕ} {x : SubOpts} (b : List ℕ) (base : ℕ) → Part b base p → IsSubOpts p x
+    → (ss : List SubOpts) (ms : List RawMessage) (c : ControlMessage)
+    → gather b (rowsOf kind.SubOpts base p) (state [] [] [] ss ms c) ≡ state [] [] [] (x ∷ ss) ms c
 sub-opts-of b base q (is-sub-opts {s = s} {es = es} g u) ss ms c = sub-opts-read b base s es q g [] [] [] ss ms c
 
-message-of : {p : List ℕ} {x : RawMessage} (b : List ℕ) (base : ℕ) → Part b base p → IsMessage p x → (ss : List SubOpts) (ms : List RawMessage) (c : ControlMessage) → gather b (rowsOf kind.RawMessage base p) (state [] [] [] ss ms c) ≡ state [] [] [] ss (x ∷ ms) c
+message-of : {p : List ℕ} {x : RawMessage} (b : List ℕ) (base : ℕ) → Part b base p → IsMessage p x
+    → (ss : List SubOpts) (ms : List RawMessage) (c : ControlMessage)
+    → gather b (rowsOf kind.RawMessage base p) (state [] [] [] ss ms c) ≡ state [] [] [] ss (x ∷ ms) c
 unfolding mkMessage
 message-of b base q (is-message {s = s} {es = es} g u) ss ms c = message-read b base s es q g [] [] ss ms c
 
-ihave-of : {p : List ℕ} {x : ControlIHave} (b : List ℕ) (base : ℕ) → Part b base p → IsIHave p x → (ss : List SubOpts) (ms : List RawMessage) (c : ControlMessage) → gather b (rowsOf kind.ControlIHave base p) (state [] [] [] ss ms c) ≡ state [] [] [] ss ms (addIHave x c)
+ihave-of : {p : List ℕ} {x : ControlIHave} (b : List ℕ) (base : ℕ) → Part b base p → IsIHave p x
+    → (ss : List SubOpts) (ms : List RawMessage) (c : ControlMessage)
+    → gather b (rowsOf kind.ControlIHave base p) (state [] [] [] ss ms c) ≡ state [] [] [] ss ms (addIHave x c)
 ihave-of b base q (is-ihave {s = s} {es = es} g u) ss ms c = ihave-read b base s es q g [] [] ss ms c
 
-iwant-of : {p : List ℕ} {x : ControlIWant} (b : List ℕ) (base : ℕ) → Part b base p → IsIWant p x → (ss : List SubOpts) (ms : List RawMessage) (c : ControlMessage) → gather b (rowsOf kind.ControlIWant base p) (state [] [] [] ss ms c) ≡ state [] [] [] ss ms (addIWant x c)
+iwant-of : {p : List ℕ} {x : ControlIWant} (b : List ℕ) (base : ℕ) → Part b base p → IsIWant p x
+    → (ss : List SubOpts) (ms : List RawMessage) (c : ControlMessage)
+    → gather b (rowsOf kind.ControlIWant base p) (state [] [] [] ss ms c) ≡ state [] [] [] ss ms (addIWant x c)
 iwant-of b base q (is-iwant {s = s} {es = es} g) ss ms c = iwant-read b base s es q g [] [] ss ms c
 
-graft-of : {p : List ℕ} {x : ControlGraft} (b : List ℕ) (base : ℕ) → Part b base p → IsGraft p x → (ss : List SubOpts) (ms : List RawMessage) (c : ControlMessage) → gather b (rowsOf kind.ControlGraft base p) (state [] [] [] ss ms c) ≡ state [] [] [] ss ms (addGraft x c)
+graft-of : {p : List ℕ} {x : ControlGraft} (b : List ℕ) (base : ℕ) → Part b base p → IsGraft p x
+    → (ss : List SubOpts) (ms : List RawMessage) (c : ControlMessage)
+    → gather b (rowsOf kind.ControlGraft base p) (state [] [] [] ss ms c) ≡ state [] [] [] ss ms (addGraft x c)
 graft-of b base q (is-graft {s = s} {es = es} g u) ss ms c = graft-read b base s es q g [] [] [] ss ms c
 
-prune-of : {p : List ℕ} {x : ControlPrune} (b : List ℕ) (base : ℕ) → Part b base p → IsPrune p x → (ss : List SubOpts) (ms : List RawMessage) (c : ControlMessage) → gather b (rowsOf kind.ControlPrune base p) (state [] [] [] ss ms c) ≡ state [] [] [] ss ms (addPrune x c)
+prune-of : {p : List ℕ} {x : ControlPrune} (b : List ℕ) (base : ℕ) → Part b base p → IsPrune p x
+    → (ss : List SubOpts) (ms : List RawMessage) (c : ControlMessage)
+    → gather b (rowsOf kind.ControlPrune base p) (state [] [] [] ss ms c) ≡ state [] [] [] ss ms (addPrune x c)
 unfolding mkPrune
 prune-of b base q (is-prune {s = s} {es = es} {ps = ps} g u h) ss ms c = prune-read b base s es ps q g h [] [] ss ms c
 
 -- ---- ControlMessage
 controlRows : ℕ → List ℕ → Field → ℕ → List Record
-controlRows base p f n = cond (eqb n 1) (rowsOf kind.ControlIHave (base + f .start) (valueIn p f)) (cond (eqb n 2) (rowsOf kind.ControlIWant (base + f .start) (valueIn p f)) (cond (eqb n 3) (rowsOf kind.ControlGraft (base + f .start) (valueIn p f)) (cond (eqb n 4) (rowsOf kind.ControlPrune (base + f .start) (valueIn p f)) [])))
+controlRows base p f n = cond (eqb n 1) (rowsOf kind.ControlIHave (base + f .start) (valueIn p f))
+    (cond (eqb n 2) (rowsOf kind.ControlIWant (base + f .start) (valueIn p f))
+    (cond (eqb n 3) (rowsOf kind.ControlGraft (base + f .start) (valueIn p f))
+    (cond (eqb n 4) (rowsOf kind.ControlPrune (base + f .start) (valueIn p f)) [])))
 
-control-rows : (base : ℕ) (p : List ℕ) (f : Field) → roleRows rowsOf base p f (roleOf kind.ControlMessage (f .field) (f .«wire_type»)) ≡ cond (eqb (f .«wire_type») 2) (controlRows base p f (f .field)) []
+control-rows : (base : ℕ) (p : List ℕ) (f : Field)
+    → roleRows rowsOf base p f (roleOf kind.ControlMessage (f .field) (f .«wire_type»)) ≡ cond (eqb (f .«wire_type») 2)
+    (controlRows base p f (f .field)) []
 unfolding controlRows
-control-rows base p f = rows-from kind.ControlMessage base p f (controlRows base p f) (six (λ n. roleRows rowsOf base p f (lenRole kind.ControlMessage n) ≡ controlRows base p f n) refl refl refl refl refl refl (λ n e1 e2 e3 e4 e5 e6. simp (e1, e2, e3, e4)))
+control-rows base p f =
+    rows-from kind.ControlMessage base p f (controlRows base p f)
+    (six (λ n. roleRows rowsOf base p f (lenRole kind.ControlMessage n) ≡ controlRows base p f n) refl refl refl refl
+    refl refl (λ n e1 e2 e3 e4 e5 e6. simp (e1, e2, e3, e4)))
 
-control-row-1 : (base : ℕ) (p : List ℕ) (f : Field) → eqb (f .«wire_type») 2 ≡ true → eqb (f .field) 1 ≡ true → roleRows rowsOf base p f (roleOf kind.ControlMessage (f .field) (f .«wire_type»)) ≡ rowsOf kind.ControlIHave (base + f .start) (valueIn p f)
+control-row-1 : (base : ℕ) (p : List ℕ) (f : Field) → eqb (f .«wire_type») 2 ≡ true → eqb (f .field) 1 ≡ true
+    → roleRows rowsOf base p f (roleOf kind.ControlMessage (f .field) (f .«wire_type»)) ≡ rowsOf kind.ControlIHave
+    (base + f .start) (valueIn p f)
 unfolding controlRows
-control-row-1 base p f t e = control-rows base p f ∙ ap (λ (x : Bool). cond x (controlRows base p f (f .field)) []) t ∙ ap (controlRows base p f) (eqb-true (f .field) 1 e)
+control-row-1 base p f t e = control-rows base p f ∙ ap (λ (x : Bool). cond x (controlRows base p f (f .field)) []) t
+    ∙ ap (controlRows base p f) (eqb-true (f .field) 1 e)
 
-control-row-2 : (base : ℕ) (p : List ℕ) (f : Field) → eqb (f .«wire_type») 2 ≡ true → eqb (f .field) 2 ≡ true → roleRows rowsOf base p f (roleOf kind.ControlMessage (f .field) (f .«wire_type»)) ≡ rowsOf kind.ControlIWant (base + f .start) (valueIn p f)
+control-row-2 : (base : ℕ) (p : List ℕ) (f : Field) → eqb (f .«wire_type») 2 ≡ true → eqb (f .field) 2 ≡ true
+    → roleRows rowsOf base p f (roleOf kind.ControlMessage (f .field) (f .«wire_type»)) ≡ rowsOf kind.ControlIWant
+    (base + f .start) (valueIn p f)
 unfolding controlRows
-control-row-2 base p f t e = control-rows base p f ∙ ap (λ (x : Bool). cond x (controlRows base p f (f .field)) []) t ∙ ap (controlRows base p f) (eqb-true (f .field) 2 e)
+control-row-2 base p f t e = control-rows base p f ∙ ap (λ (x : Bool). cond x (controlRows base p f (f .field)) []) t
+    ∙ ap (controlRows base p f) (eqb-true (f .field) 2 e)
 
-control-row-3 : (base : ℕ) (p : List ℕ) (f : Field) → eqb (f .«wire_type») 2 ≡ true → eqb (f .field) 3 ≡ true → roleRows rowsOf base p f (roleOf kind.ControlMessage (f .field) (f .«wire_type»)) ≡ rowsOf kind.ControlGraft (base + f .start) (valueIn p f)
+control-row-3 : (base : ℕ) (p : List ℕ) (f : Field) → eqb (f .«wire_type») 2 ≡ true → eqb (f .field) 3 ≡ true
+    → roleRows rowsOf base p f (roleOf kind.ControlMessage (f .field) (f .«wire_type»)) ≡ rowsOf kind.ControlGraft
+    (base + f .start) (valueIn p f)
 unfolding controlRows
-control-row-3 base p f t e = control-rows base p f ∙ ap (λ (x : Bool). cond x (controlRows base p f (f .field)) []) t ∙ ap (controlRows base p f) (eqb-true (f .field) 3 e)
+control-row-3 base p f t e = control-rows base p f ∙ ap (λ (x : Bool). cond x (controlRows base p f (f .field)) []) t
+    ∙ ap (controlRows base p f) (eqb-true (f .field) 3 e)
 
-control-row-4 : (base : ℕ) (p : List ℕ) (f : Field) → eqb (f .«wire_type») 2 ≡ true → eqb (f .field) 4 ≡ true → roleRows rowsOf base p f (roleOf kind.ControlMessage (f .field) (f .«wire_type»)) ≡ rowsOf kind.ControlPrune (base + f .start) (valueIn p f)
+control-row-4 : (base : ℕ) (p : List ℕ) (f : Field) → eqb (f .«wire_type») 2 ≡ true → eqb (f .field) 4 ≡ true
+    → roleRows rowsOf base p f (roleOf kind.ControlMessage (f .field) (f .«wire_type»)) ≡ rowsOf kind.ControlPrune
+    (base + f .start) (valueIn p f)
 unfolding controlRows
-control-row-4 base p f t e = control-rows base p f ∙ ap (λ (x : Bool). cond x (controlRows base p f (f .field)) []) t ∙ ap (controlRows base p f) (eqb-true (f .field) 4 e)
+control-row-4 base p f t e = control-rows base p f ∙ ap (λ (x : Bool). cond x (controlRows base p f (f .field)) []) t
+    ∙ ap (controlRows base p f) (eqb-true (f .field) 4 e)
 
-control-row-other : (base : ℕ) (p : List ℕ) (f : Field) → eqb (f .field) 1 ≡ false → eqb (f .field) 2 ≡ false → eqb (f .field) 3 ≡ false → eqb (f .field) 4 ≡ false → roleRows rowsOf base p f (roleOf kind.ControlMessage (f .field) (f .«wire_type»)) ≡ []
+control-row-other : (base : ℕ) (p : List ℕ) (f : Field) → eqb (f .field) 1 ≡ false → eqb (f .field) 2 ≡ false
+    → eqb (f .field) 3 ≡ false → eqb (f .field) 4 ≡ false
+    → roleRows rowsOf base p f (roleOf kind.ControlMessage (f .field) (f .«wire_type»)) ≡ []
 unfolding controlRows
-control-row-other base p f e1 e2 e3 e4 = control-rows base p f ∙ either (eqb (f .«wire_type») 2) (λ t. simp (t, e1, e2, e3, e4)) (λ t. simp t)
+control-row-other base p f e1 e2 e3 e4 = control-rows base p f ∙ either (eqb (f .«wire_type») 2)
+    (λ t. simp (t, e1, e2, e3, e4)) (λ t. simp t)
 
-control-row-type : (base : ℕ) (p : List ℕ) (f : Field) → eqb (f .«wire_type») 2 ≡ false → roleRows rowsOf base p f (roleOf kind.ControlMessage (f .field) (f .«wire_type»)) ≡ []
+control-row-type : (base : ℕ) (p : List ℕ) (f : Field) → eqb (f .«wire_type») 2 ≡ false
+    → roleRows rowsOf base p f (roleOf kind.ControlMessage (f .field) (f .«wire_type»)) ≡ []
 control-row-type base p f t = control-rows base p f ∙ ap (λ (x : Bool). cond x (controlRows base p f (f .field)) []) t
 
 abbrev ctl : List ControlIHave → List ControlIWant → List ControlGraft → List ControlPrune → ControlMessage
 ctl hs ws gs ps = record { ihave = hs; iwant = ws; graft = gs; prune = ps }
 
-control-none : (hs : List ControlIHave) (ws : List ControlIWant) (gs : List ControlGraft) (ps : List ControlPrune) → hs ≡ [] → ws ≡ [] → gs ≡ [] → ps ≡ [] → (ss : List SubOpts) (ms : List RawMessage) (c : ControlMessage) → state [] [] [] ss ms (join (ctl hs ws gs ps) c) ≡ state [] [] [] ss ms c
+control-none : (hs : List ControlIHave) (ws : List ControlIWant) (gs : List ControlGraft) (ps : List ControlPrune)
+    → hs ≡ [] → ws ≡ [] → gs ≡ [] → ps ≡ [] → (ss : List SubOpts) (ms : List RawMessage) (c : ControlMessage)
+    → state [] [] [] ss ms (join (ctl hs ws gs ps) c) ≡ state [] [] [] ss ms c
 control-none hs ws gs ps e1 e2 e3 e4 ss ms c = rw (e1, e2, e3, e4)
 
-control-along : (b : List ℕ) (base : ℕ) (p : List ℕ) → Part b base p → (fs : List Field) (hs : List ControlIHave) (ws : List ControlIWant) (gs : List ControlGraft) (ps : List ControlPrune) → Pairs IsIHave (bytesIn 1 (entriesOf p fs)) hs → Pairs IsIWant (bytesIn 2 (entriesOf p fs)) ws → Pairs IsGraft (bytesIn 3 (entriesOf p fs)) gs → Pairs IsPrune (bytesIn 4 (entriesOf p fs)) ps → Each (Inside p) fs → (ss : List SubOpts) (ms : List RawMessage) (c : ControlMessage) → gather b (rowsAlong rowsOf kind.ControlMessage base p (whole fs)) (state [] [] [] ss ms c) ≡ state [] [] [] ss ms (join (ctl hs ws gs ps) c)
-control-along b base p q [] hs ws gs ps h1 h2 h3 h4 none-left ss ms c = sym (control-none hs ws gs ps (pairs-none h1) (pairs-none h2) (pairs-none h3) (pairs-none h4) ss ms c)
+control-along : (b : List ℕ) (base : ℕ) (p : List ℕ) → Part b base p
+    → (fs : List Field) (hs : List ControlIHave) (ws : List ControlIWant) (gs : List ControlGraft)
+    (ps : List ControlPrune) → Pairs IsIHave (bytesIn 1 (entriesOf p fs)) hs
+    → Pairs IsIWant (bytesIn 2 (entriesOf p fs)) ws → Pairs IsGraft (bytesIn 3 (entriesOf p fs)) gs
+    → Pairs IsPrune (bytesIn 4 (entriesOf p fs)) ps → Each (FieldWithin p) fs
+    → (ss : List SubOpts) (ms : List RawMessage) (c : ControlMessage)
+    → gather b (rowsAlong rowsOf kind.ControlMessage base p (whole fs)) (state [] [] [] ss ms c) ≡ state [] [] [] ss ms
+    (join (ctl hs ws gs ps) c)
+control-along b base p q [] hs ws gs ps h1 h2 h3 h4 none-left ss ms c =
+    sym (control-none hs ws gs ps (pairs-none h1) (pairs-none h2) (pairs-none h3) (pairs-none h4) ss ms c)
 control-along b base p q (f ∷ fs) hs ws gs ps h1 h2 h3 h4 (i and ins) ss ms c =
-    let go = gather-append b (roleRows rowsOf base p f (roleOf kind.ControlMessage (f .field) (f .«wire_type»))) (rowsAlong rowsOf kind.ControlMessage base p (whole fs)) (state [] [] [] ss ms c) in
+    let go = gather-append b (roleRows rowsOf base p f (roleOf kind.ControlMessage (f .field) (f .«wire_type»)))
+    (rowsAlong rowsOf kind.ControlMessage base p (whole fs)) (state [] [] [] ss ms c) in
     either (eqb (f .«wire_type») 2)
     (λ t2. either (eqb (f .field) 1)
     (λ e. let t = pairs-take p 1 f fs hs (bytes-is f 1 t2 e) h1 in
-    let ih = control-along b base p q fs (t .tail) ws gs ps (t .rest) (pairs-skip p 2 f fs ws (bytes-other f 1 2 e refl) h2) (pairs-skip p 3 f fs gs (bytes-other f 1 3 e refl) h3) (pairs-skip p 4 f fs ps (bytes-other f 1 4 e refl) h4) ins ss ms c in
+    let ih = control-along b base p q fs (t .tail) ws gs ps (t .rest)
+    (pairs-skip p 2 f fs ws (bytes-other f 1 2 e refl) h2) (pairs-skip p 3 f fs gs (bytes-other f 1 3 e refl) h3)
+    (pairs-skip p 4 f fs ps (bytes-other f 1 4 e refl) h4) ins ss ms c in
     go ∙ ap₂ (gather b) (control-row-1 base p f t2 e) ih
     ∙ ihave-of b (base + f .start) (part-part b base p f q i) (t .means) ss ms (join (ctl (t .tail) ws gs ps) c)
     ∙ ap (λ (l : List ControlIHave). state [] [] [] ss ms (join (ctl l ws gs ps) c)) (sym (t .split)))
     (λ n1. either (eqb (f .field) 2)
     (λ e. let t = pairs-take p 2 f fs ws (bytes-is f 2 t2 e) h2 in
-    let ih = control-along b base p q fs hs (t .tail) gs ps (pairs-skip p 1 f fs hs (bytes-other f 2 1 e refl) h1) (t .rest) (pairs-skip p 3 f fs gs (bytes-other f 2 3 e refl) h3) (pairs-skip p 4 f fs ps (bytes-other f 2 4 e refl) h4) ins ss ms c in
+    let ih = control-along b base p q fs hs (t .tail) gs ps (pairs-skip p 1 f fs hs (bytes-other f 2 1 e refl) h1)
+    (t .rest) (pairs-skip p 3 f fs gs (bytes-other f 2 3 e refl) h3)
+    (pairs-skip p 4 f fs ps (bytes-other f 2 4 e refl) h4) ins ss ms c in
     go ∙ ap₂ (gather b) (control-row-2 base p f t2 e) ih
     ∙ iwant-of b (base + f .start) (part-part b base p f q i) (t .means) ss ms (join (ctl hs (t .tail) gs ps) c)
     ∙ ap (λ (l : List ControlIWant). state [] [] [] ss ms (join (ctl hs l gs ps) c)) (sym (t .split)))
     (λ n2. either (eqb (f .field) 3)
     (λ e. let t = pairs-take p 3 f fs gs (bytes-is f 3 t2 e) h3 in
-    let ih = control-along b base p q fs hs ws (t .tail) ps (pairs-skip p 1 f fs hs (bytes-other f 3 1 e refl) h1) (pairs-skip p 2 f fs ws (bytes-other f 3 2 e refl) h2) (t .rest) (pairs-skip p 4 f fs ps (bytes-other f 3 4 e refl) h4) ins ss ms c in
+    let ih = control-along b base p q fs hs ws (t .tail) ps (pairs-skip p 1 f fs hs (bytes-other f 3 1 e refl) h1)
+    (pairs-skip p 2 f fs ws (bytes-other f 3 2 e refl) h2) (t .rest)
+    (pairs-skip p 4 f fs ps (bytes-other f 3 4 e refl) h4) ins ss ms c in
     go ∙ ap₂ (gather b) (control-row-3 base p f t2 e) ih
     ∙ graft-of b (base + f .start) (part-part b base p f q i) (t .means) ss ms (join (ctl hs ws (t .tail) ps) c)
     ∙ ap (λ (l : List ControlGraft). state [] [] [] ss ms (join (ctl hs ws l ps) c)) (sym (t .split)))
     (λ n3. either (eqb (f .field) 4)
     (λ e. let t = pairs-take p 4 f fs ps (bytes-is f 4 t2 e) h4 in
-    let ih = control-along b base p q fs hs ws gs (t .tail) (pairs-skip p 1 f fs hs (bytes-other f 4 1 e refl) h1) (pairs-skip p 2 f fs ws (bytes-other f 4 2 e refl) h2) (pairs-skip p 3 f fs gs (bytes-other f 4 3 e refl) h3) (t .rest) ins ss ms c in
+    let ih = control-along b base p q fs hs ws gs (t .tail) (pairs-skip p 1 f fs hs (bytes-other f 4 1 e refl) h1)
+    (pairs-skip p 2 f fs ws (bytes-other f 4 2 e refl) h2) (pairs-skip p 3 f fs gs (bytes-other f 4 3 e refl) h3)
+    (t .rest) ins ss ms c in
     go ∙ ap₂ (gather b) (control-row-4 base p f t2 e) ih
     ∙ prune-of b (base + f .start) (part-part b base p f q i) (t .means) ss ms (join (ctl hs ws gs (t .tail)) c)
     ∙ ap (λ (l : List ControlPrune). state [] [] [] ss ms (join (ctl hs ws gs l) c)) (sym (t .split)))
     (λ n4.
-    let ih = control-along b base p q fs hs ws gs ps (pairs-skip p 1 f fs hs (bytes-not f 1 n1) h1) (pairs-skip p 2 f fs ws (bytes-not f 2 n2) h2) (pairs-skip p 3 f fs gs (bytes-not f 3 n3) h3) (pairs-skip p 4 f fs ps (bytes-not f 4 n4) h4) ins ss ms c in
+    let ih = control-along b base p q fs hs ws gs ps (pairs-skip p 1 f fs hs (bytes-not f 1 n1) h1)
+    (pairs-skip p 2 f fs ws (bytes-not f 2 n2) h2) (pairs-skip p 3 f fs gs (bytes-not f 3 n3) h3)
+    (pairs-skip p 4 f fs ps (bytes-not f 4 n4) h4) ins ss ms c in
     go ∙ ap₂ (gather b) (control-row-other base p f n1 n2 n3 n4) ih)))))
-    (λ t2. let ih = control-along b base p q fs hs ws gs ps (pairs-skip p 1 f fs hs (bytes-type f 1 t2) h1) (pairs-skip p 2 f fs ws (bytes-type f 2 t2) h2) (pairs-skip p 3 f fs gs (bytes-type f 3 t2) h3) (pairs-skip p 4 f fs ps (bytes-type f 4 t2) h4) ins ss ms c in
+    (λ t2. let ih = control-along b base p q fs hs ws gs ps (pairs-skip p 1 f fs hs (bytes-type f 1 t2) h1)
+    (pairs-skip p 2 f fs ws (bytes-type f 2 t2) h2) (pairs-skip p 3 f fs gs (bytes-type f 3 t2) h3)
+    (pairs-skip p 4 f fs ps (bytes-type f 4 t2) h4) ins ss ms c in
     go ∙ ap₂ (gather b) (control-row-type base p f t2) ih)
 
 own-control : (base : ℕ) (p : List ℕ) → ownRows kind.ControlMessage base p ≡ []
 unfolding ownRows ownOf
 own-control base p = refl
 
-control-read : (b : List ℕ) (base : ℕ) (p : List ℕ) (es : List Entry) (hs : List ControlIHave) (ws : List ControlIWant) (gs : List ControlGraft) (ps : List ControlPrune) → Part b base p → Body p es → Pairs IsIHave (bytesIn 1 es) hs → Pairs IsIWant (bytesIn 2 es) ws → Pairs IsGraft (bytesIn 3 es) gs → Pairs IsPrune (bytesIn 4 es) ps → (ss : List SubOpts) (ms : List RawMessage) (c : ControlMessage) → gather b (rowsOf kind.ControlMessage base p) (state [] [] [] ss ms c) ≡ state [] [] [] ss ms (join (ctl hs ws gs ps) c)
+control-read : (b : List ℕ) (base : ℕ) (p : List ℕ) (es : List Entry) (hs : List ControlIHave) (ws : List ControlIWant)
+    (gs : List ControlGraft) (ps : List ControlPrune) → Part b base p → Body p es → Pairs IsIHave (bytesIn 1 es) hs
+    → Pairs IsIWant (bytesIn 2 es) ws → Pairs IsGraft (bytesIn 3 es) gs → Pairs IsPrune (bytesIn 4 es) ps
+    → (ss : List SubOpts) (ms : List RawMessage) (c : ControlMessage)
+    → gather b (rowsOf kind.ControlMessage base p) (state [] [] [] ss ms c) ≡ state [] [] [] ss ms
+    (join (ctl hs ws gs ps) c)
 control-read b base p es hs ws gs ps q g h1 h2 h3 h4 ss ms c =
     let w = body-walks p es g in
     let fs = w .fields in
-    let rows = rows-along kind.ControlMessage base p ∙ ap₂ (λ (x : List Record) (y : Fields). x ++ rowsAlong rowsOf kind.ControlMessage base p y) (own-control base p) (w .walked) in
+    let rows = rows-along kind.ControlMessage base p
+    ∙ ap₂ (λ (x : List Record) (y : Fields). x ++ rowsAlong rowsOf kind.ControlMessage base p y)
+    (own-control base p) (w .walked) in
     let e = sym (w .entries) in
     ap (λ (l : List Record). gather b l (state [] [] [] ss ms c)) rows
-    ∙ control-along b base p q fs hs ws gs ps (subst (λ (l : List Entry). Pairs IsIHave (bytesIn 1 l) hs) e h1) (subst (λ (l : List Entry). Pairs IsIWant (bytesIn 2 l) ws) e h2) (subst (λ (l : List Entry). Pairs IsGraft (bytesIn 3 l) gs) e h3) (subst (λ (l : List Entry). Pairs IsPrune (bytesIn 4 l) ps) e h4) (walk-inside p fs (w .walked)) ss ms c
+    ∙ control-along b base p q fs hs ws gs ps (subst (λ (l : List Entry). Pairs IsIHave (bytesIn 1 l) hs) e h1)
+    (subst (λ (l : List Entry). Pairs IsIWant (bytesIn 2 l) ws) e h2)
+    (subst (λ (l : List Entry). Pairs IsGraft (bytesIn 3 l) gs) e h3)
+    (subst (λ (l : List Entry). Pairs IsPrune (bytesIn 4 l) ps) e h4) (walk-inside p fs (w .walked)) ss ms c
 
-control-of : {p : List ℕ} {x : ControlMessage} (b : List ℕ) (base : ℕ) → Part b base p → IsControl p x → (ss : List SubOpts) (ms : List RawMessage) (c : ControlMessage) → gather b (rowsOf kind.ControlMessage base p) (state [] [] [] ss ms c) ≡ state [] [] [] ss ms (join x c)
-control-of b base q (is-control {s = s} {es = es} {hs = hs} {ws = ws} {gs = gs} {ps = ps} g h1 h2 h3 h4) ss ms c = control-read b base s es hs ws gs ps q g h1 h2 h3 h4 ss ms c
+control-of : {p : List ℕ} {x : ControlMessage} (b : List ℕ) (base : ℕ) → Part b base p → IsControl p x
+    → (ss : List SubOpts) (ms : List RawMessage) (c : ControlMessage)
+    → gather b (rowsOf kind.ControlMessage base p) (state [] [] [] ss ms c) ≡ state [] [] [] ss ms (join x c)
+control-of b base q (is-control {s = s} {es = es} {hs = hs} {ws = ws} {gs = gs} {ps = ps} g h1 h2 h3 h4) ss ms c =
+    control-read b base s es hs ws gs ps q g h1 h2 h3 h4 ss ms c
 
 -- ---- the RPC
 rpcRows : ℕ → List ℕ → Field → ℕ → List Record
-rpcRows base p f n = cond (eqb n 1) (rowsOf kind.SubOpts (base + f .start) (valueIn p f)) (cond (eqb n 2) (rowsOf kind.RawMessage (base + f .start) (valueIn p f)) (cond (eqb n 3) (rowsOf kind.ControlMessage (base + f .start) (valueIn p f)) []))
+rpcRows base p f n = cond (eqb n 1) (rowsOf kind.SubOpts (base + f .start) (valueIn p f))
+    (cond (eqb n 2) (rowsOf kind.RawMessage (base + f .start) (valueIn p f))
+    (cond (eqb n 3) (rowsOf kind.ControlMessage (base + f .start) (valueIn p f)) []))
 
-rpc-rows : (base : ℕ) (p : List ℕ) (f : Field) → roleRows rowsOf base p f (roleOf kind.Rpc (f .field) (f .«wire_type»)) ≡ cond (eqb (f .«wire_type») 2) (rpcRows base p f (f .field)) []
+rpc-rows : (base : ℕ) (p : List ℕ) (f : Field) → roleRows rowsOf base p f (roleOf kind.Rpc (f .field) (f .«wire_type»))
+    ≡ cond (eqb (f .«wire_type») 2) (rpcRows base p f (f .field)) []
 unfolding rpcRows
-rpc-rows base p f = rows-from kind.Rpc base p f (rpcRows base p f) (six (λ n. roleRows rowsOf base p f (lenRole kind.Rpc n) ≡ rpcRows base p f n) refl refl refl refl refl refl (λ n e1 e2 e3 e4 e5 e6. simp (e1, e2, e3)))
+rpc-rows base p f =
+    rows-from kind.Rpc base p f (rpcRows base p f)
+    (six (λ n. roleRows rowsOf base p f (lenRole kind.Rpc n) ≡ rpcRows base p f n) refl refl refl refl refl refl
+    (λ n e1 e2 e3 e4 e5 e6. simp (e1, e2, e3)))
 
-rpc-row-1 : (base : ℕ) (p : List ℕ) (f : Field) → eqb (f .«wire_type») 2 ≡ true → eqb (f .field) 1 ≡ true → roleRows rowsOf base p f (roleOf kind.Rpc (f .field) (f .«wire_type»)) ≡ rowsOf kind.SubOpts (base + f .start) (valueIn p f)
+rpc-row-1 : (base : ℕ) (p : List ℕ) (f : Field) → eqb (f .«wire_type») 2 ≡ true → eqb (f .field) 1 ≡ true
+    → roleRows rowsOf base p f (roleOf kind.Rpc (f .field) (f .«wire_type»)) ≡ rowsOf kind.SubOpts (base + f .start)
+    (valueIn p f)
 unfolding rpcRows
-rpc-row-1 base p f t e = rpc-rows base p f ∙ ap (λ (x : Bool). cond x (rpcRows base p f (f .field)) []) t ∙ ap (rpcRows base p f) (eqb-true (f .field) 1 e)
+rpc-row-1 base p f t e = rpc-rows base p f ∙ ap (λ (x : Bool). cond x (rpcRows base p f (f .field)) []) t
+    ∙ ap (rpcRows base p f) (eqb-true (f .field) 1 e)
 
-rpc-row-2 : (base : ℕ) (p : List ℕ) (f : Field) → eqb (f .«wire_type») 2 ≡ true → eqb (f .field) 2 ≡ true → roleRows rowsOf base p f (roleOf kind.Rpc (f .field) (f .«wire_type»)) ≡ rowsOf kind.RawMessage (base + f .start) (valueIn p f)
+rpc-row-2 : (base : ℕ) (p : List ℕ) (f : Field) → eqb (f .«wire_type») 2 ≡ true → eqb (f .field) 2 ≡ true
+    → roleRows rowsOf base p f (roleOf kind.Rpc (f .field) (f .«wire_type»)) ≡ rowsOf kind.RawMessage (base + f .start)
+    (valueIn p f)
 unfolding rpcRows
-rpc-row-2 base p f t e = rpc-rows base p f ∙ ap (λ (x : Bool). cond x (rpcRows base p f (f .field)) []) t ∙ ap (rpcRows base p f) (eqb-true (f .field) 2 e)
+rpc-row-2 base p f t e = rpc-rows base p f ∙ ap (λ (x : Bool). cond x (rpcRows base p f (f .field)) []) t
+    ∙ ap (rpcRows base p f) (eqb-true (f .field) 2 e)
 
-rpc-row-3 : (base : ℕ) (p : List ℕ) (f : Field) → eqb (f .«wire_type») 2 ≡ true → eqb (f .field) 3 ≡ true → roleRows rowsOf base p f (roleOf kind.Rpc (f .field) (f .«wire_type»)) ≡ rowsOf kind.ControlMessage (base + f .start) (valueIn p f)
+rpc-row-3 : (base : ℕ) (p : List ℕ) (f : Field) → eqb (f .«wire_type») 2 ≡ true → eqb (f .field) 3 ≡ true
+    → roleRows rowsOf base p f (roleOf kind.Rpc (f .field) (f .«wire_type»)) ≡ rowsOf kind.ControlMessage
+    (base + f .start) (valueIn p f)
 unfolding rpcRows
-rpc-row-3 base p f t e = rpc-rows base p f ∙ ap (λ (x : Bool). cond x (rpcRows base p f (f .field)) []) t ∙ ap (rpcRows base p f) (eqb-true (f .field) 3 e)
+rpc-row-3 base p f t e = rpc-rows base p f ∙ ap (λ (x : Bool). cond x (rpcRows base p f (f .field)) []) t
+    ∙ ap (rpcRows base p f) (eqb-true (f .field) 3 e)
 
-rpc-row-other : (base : ℕ) (p : List ℕ) (f : Field) → eqb (f .field) 1 ≡ false → eqb (f .field) 2 ≡ false → eqb (f .field) 3 ≡ false → roleRows rowsOf base p f (roleOf kind.Rpc (f .field) (f .«wire_type»)) ≡ []
+rpc-row-other : (base : ℕ) (p : List ℕ) (f : Field) → eqb (f .field) 1 ≡ false → eqb (f .field) 2 ≡ false
+    → eqb (f .field) 3 ≡ false → roleRows rowsOf base p f (roleOf kind.Rpc (f .field) (f .«wire_type»)) ≡ []
 unfolding rpcRows
-rpc-row-other base p f e1 e2 e3 = rpc-rows base p f ∙ either (eqb (f .«wire_type») 2) (λ t. simp (t, e1, e2, e3)) (λ t. simp t)
+rpc-row-other base p f e1 e2 e3 = rpc-rows base p f ∙ either (eqb (f .«wire_type») 2) (λ t. simp (t, e1, e2, e3))
+    (λ t. simp t)
 
-rpc-row-type : (base : ℕ) (p : List ℕ) (f : Field) → eqb (f .«wire_type») 2 ≡ false → roleRows rowsOf base p f (roleOf kind.Rpc (f .field) (f .«wire_type»)) ≡ []
+rpc-row-type : (base : ℕ) (p : List ℕ) (f : Field) → eqb (f .«wire_type») 2 ≡ false
+    → roleRows rowsOf base p f (roleOf kind.Rpc (f .field) (f .«wire_type»)) ≡ []
 rpc-row-type base p f t = rpc-rows base p f ∙ ap (λ (x : Bool). cond x (rpcRows base p f (f .field)) []) t
 
 -- the controls, one after the other
@@ -578,40 +826,53 @@ abbrev pub flat : List ControlMessage → ControlMessage
 flat [] = emptyControl
 flat (c ∷ cs) = join c (flat cs)
 
-rpc-none : (ss : List SubOpts) (ms : List RawMessage) (cs : List ControlMessage) → ss ≡ [] → ms ≡ [] → cs ≡ [] → state [] [] [] ss ms (flat cs) ≡ nothing
+rpc-none : (ss : List SubOpts) (ms : List RawMessage) (cs : List ControlMessage) → ss ≡ [] → ms ≡ [] → cs ≡ []
+    → state [] [] [] ss ms (flat cs) ≡ nothing
 rpc-none ss ms cs e1 e2 e3 = rw (e1, e2, e3)
 
-rpc-along : (b : List ℕ) (base : ℕ) (p : List ℕ) → Part b base p → (fs : List Field) (ss : List SubOpts) (ms : List RawMessage) (cs : List ControlMessage) → Pairs IsSubOpts (bytesIn 1 (entriesOf p fs)) ss → Pairs IsMessage (bytesIn 2 (entriesOf p fs)) ms → Pairs IsControl (bytesIn 3 (entriesOf p fs)) cs → Each (Inside p) fs → gather b (rowsAlong rowsOf kind.Rpc base p (whole fs)) nothing ≡ state [] [] [] ss ms (flat cs)
-rpc-along b base p q [] ss ms cs h1 h2 h3 none-left = sym (rpc-none ss ms cs (pairs-none h1) (pairs-none h2) (pairs-none h3))
+rpc-along : (b : List ℕ) (base : ℕ) (p : List ℕ) → Part b base p
+    → (fs : List Field) (ss : List SubOpts) (ms : List RawMessage) (cs : List ControlMessage)
+    → Pairs IsSubOpts (bytesIn 1 (entriesOf p fs)) ss → Pairs IsMessage (bytesIn 2 (entriesOf p fs)) ms
+    → Pairs IsControl (bytesIn 3 (entriesOf p fs)) cs → Each (FieldWithin p) fs
+    → gather b (rowsAlong rowsOf kind.Rpc base p (whole fs)) nothing ≡ state [] [] [] ss ms (flat cs)
+rpc-along b base p q [] ss ms cs h1 h2 h3 none-left =
+    sym (rpc-none ss ms cs (pairs-none h1) (pairs-none h2) (pairs-none h3))
 rpc-along b base p q (f ∷ fs) ss ms cs h1 h2 h3 (i and ins) =
-    let go = gather-append b (roleRows rowsOf base p f (roleOf kind.Rpc (f .field) (f .«wire_type»))) (rowsAlong rowsOf kind.Rpc base p (whole fs)) nothing in
+    let go = gather-append b (roleRows rowsOf base p f (roleOf kind.Rpc (f .field) (f .«wire_type»)))
+    (rowsAlong rowsOf kind.Rpc base p (whole fs)) nothing in
     either (eqb (f .«wire_type») 2)
     (λ t2. either (eqb (f .field) 1)
     (λ e. let t = pairs-take p 1 f fs ss (bytes-is f 1 t2 e) h1 in
-    let ih = rpc-along b base p q fs (t .tail) ms cs (t .rest) (pairs-skip p 2 f fs ms (bytes-other f 1 2 e refl) h2) (pairs-skip p 3 f fs cs (bytes-other f 1 3 e refl) h3) ins in
+    let ih = rpc-along b base p q fs (t .tail) ms cs (t .rest) (pairs-skip p 2 f fs ms (bytes-other f 1 2 e refl) h2)
+    (pairs-skip p 3 f fs cs (bytes-other f 1 3 e refl) h3) ins in
     go ∙ ap₂ (gather b) (rpc-row-1 base p f t2 e) ih
     ∙ sub-opts-of b (base + f .start) (part-part b base p f q i) (t .means) (t .tail) ms (flat cs)
     ∙ ap (λ (l : List SubOpts). state [] [] [] l ms (flat cs)) (sym (t .split)))
     (λ n1. either (eqb (f .field) 2)
     (λ e. let t = pairs-take p 2 f fs ms (bytes-is f 2 t2 e) h2 in
-    let ih = rpc-along b base p q fs ss (t .tail) cs (pairs-skip p 1 f fs ss (bytes-other f 2 1 e refl) h1) (t .rest) (pairs-skip p 3 f fs cs (bytes-other f 2 3 e refl) h3) ins in
+    let ih = rpc-along b base p q fs ss (t .tail) cs (pairs-skip p 1 f fs ss (bytes-other f 2 1 e refl) h1) (t .rest)
+    (pairs-skip p 3 f fs cs (bytes-other f 2 3 e refl) h3) ins in
     go ∙ ap₂ (gather b) (rpc-row-2 base p f t2 e) ih
     ∙ message-of b (base + f .start) (part-part b base p f q i) (t .means) ss (t .tail) (flat cs)
     ∙ ap (λ (l : List RawMessage). state [] [] [] ss l (flat cs)) (sym (t .split)))
     (λ n2. either (eqb (f .field) 3)
     (λ e. let t = pairs-take p 3 f fs cs (bytes-is f 3 t2 e) h3 in
-    let ih = rpc-along b base p q fs ss ms (t .tail) (pairs-skip p 1 f fs ss (bytes-other f 3 1 e refl) h1) (pairs-skip p 2 f fs ms (bytes-other f 3 2 e refl) h2) (t .rest) ins in
+    let ih = rpc-along b base p q fs ss ms (t .tail) (pairs-skip p 1 f fs ss (bytes-other f 3 1 e refl) h1)
+    (pairs-skip p 2 f fs ms (bytes-other f 3 2 e refl) h2) (t .rest) ins in
     go ∙ ap₂ (gather b) (rpc-row-3 base p f t2 e) ih
     ∙ control-of b (base + f .start) (part-part b base p f q i) (t .means) ss ms (flat (t .tail))
     ∙ ap (λ (l : List ControlMessage). state [] [] [] ss ms (flat l)) (sym (t .split)))
     (λ n3.
-    let ih = rpc-along b base p q fs ss ms cs (pairs-skip p 1 f fs ss (bytes-not f 1 n1) h1) (pairs-skip p 2 f fs ms (bytes-not f 2 n2) h2) (pairs-skip p 3 f fs cs (bytes-not f 3 n3) h3) ins in
+    let ih = rpc-along b base p q fs ss ms cs (pairs-skip p 1 f fs ss (bytes-not f 1 n1) h1)
+    (pairs-skip p 2 f fs ms (bytes-not f 2 n2) h2) (pairs-skip p 3 f fs cs (bytes-not f 3 n3) h3) ins in
     go ∙ ap₂ (gather b) (rpc-row-other base p f n1 n2 n3) ih))))
-    (λ t2. let ih = rpc-along b base p q fs ss ms cs (pairs-skip p 1 f fs ss (bytes-type f 1 t2) h1) (pairs-skip p 2 f fs ms (bytes-type f 2 t2) h2) (pairs-skip p 3 f fs cs (bytes-type f 3 t2) h3) ins in
+    (λ t2. let ih = rpc-along b base p q fs ss ms cs (pairs-skip p 1 f fs ss (bytes-type f 1 t2) h1)
+    (pairs-skip p 2 f fs ms (bytes-type f 2 t2) h2) (pairs-skip p 3 f fs cs (bytes-type f 3 t2) h3) ins in
     go ∙ ap₂ (gather b) (rpc-row-type base p f t2) ih)
 
 pub whole-part : (b : List ℕ) → Part b 0 b
-whole-part b = let e : 0 + length b - 0 ≡ length b = omega arith in record { here = sym (ap (λ (n : ℕ). take n b) e ∙ take-length b); fits = omega arith }
+whole-part b = let e : 0 + length b - 0 ≡ length b = omega arith in
+    record { here = sym (ap (λ (n : ℕ). take n b) e ∙ take-length b); fits = omega arith }
 
 -- whether there is any
 abbrev pub any : {A : Type 0} → List A → Bool
@@ -639,29 +900,41 @@ control-any p n (f ∷ fs) =
     let ds = bytesIn n (entriesOf p fs) in
     let pb = ap any (put-bytes p n f ds) in
     either (isBytes n f)
-    (λ e. ap (λ (x : Bool). x || hasAlong n (whole fs)) e ∙ sym (pb ∙ ap (λ (x : Bool). any (cond x (valueIn p f ∷ ds) ds)) e))
-    (λ e. ap (λ (x : Bool). x || hasAlong n (whole fs)) e ∙ control-any p n fs ∙ sym (pb ∙ ap (λ (x : Bool). any (cond x (valueIn p f ∷ ds) ds)) e))
+    (λ e. ap (λ (x : Bool). x || hasAlong n (whole fs)) e
+    ∙ sym (pb ∙ ap (λ (x : Bool). any (cond x (valueIn p f ∷ ds) ds)) e))
+    (λ e. ap (λ (x : Bool). x || hasAlong n (whole fs)) e ∙ control-any p n fs
+    ∙ sym (pb ∙ ap (λ (x : Bool). any (cond x (valueIn p f ∷ ds) ds)) e))
 
 own-rpc : (base : ℕ) (p : List ℕ) → ownRows kind.Rpc base p ≡ []
 unfolding ownRows ownOf
 own-rpc base p = refl
 
-pub rpc-gathered : (b : List ℕ) (es : List Entry) (ss : List SubOpts) (ms : List RawMessage) (cs : List ControlMessage) → Body b es → Pairs IsSubOpts (bytesIn 1 es) ss → Pairs IsMessage (bytesIn 2 es) ms → Pairs IsControl (bytesIn 3 es) cs → gather b (rowsOf kind.Rpc 0 b) nothing ≡ state [] [] [] ss ms (flat cs)
+pub rpc-gathered : (b : List ℕ) (es : List Entry) (ss : List SubOpts) (ms : List RawMessage) (cs : List ControlMessage)
+    → Body b es → Pairs IsSubOpts (bytesIn 1 es) ss → Pairs IsMessage (bytesIn 2 es) ms
+    → Pairs IsControl (bytesIn 3 es) cs → gather b (rowsOf kind.Rpc 0 b) nothing ≡ state [] [] [] ss ms (flat cs)
 rpc-gathered b es ss ms cs g h1 h2 h3 =
     let w = body-walks b es g in
     let fs = w .fields in
-    let rows = rows-along kind.Rpc 0 b ∙ ap₂ (λ (x : List Record) (y : Fields). x ++ rowsAlong rowsOf kind.Rpc 0 b y) (own-rpc 0 b) (w .walked) in
+    let rows = rows-along kind.Rpc 0 b ∙ ap₂ (λ (x : List Record) (y : Fields). x ++ rowsAlong rowsOf kind.Rpc 0 b y)
+    (own-rpc 0 b) (w .walked) in
     let e = sym (w .entries) in
     ap (λ (l : List Record). gather b l nothing) rows
-    ∙ rpc-along b 0 b (whole-part b) fs ss ms cs (subst (λ (l : List Entry). Pairs IsSubOpts (bytesIn 1 l) ss) e h1) (subst (λ (l : List Entry). Pairs IsMessage (bytesIn 2 l) ms) e h2) (subst (λ (l : List Entry). Pairs IsControl (bytesIn 3 l) cs) e h3) (walk-inside b fs (w .walked))
+    ∙ rpc-along b 0 b (whole-part b) fs ss ms cs (subst (λ (l : List Entry). Pairs IsSubOpts (bytesIn 1 l) ss) e h1)
+    (subst (λ (l : List Entry). Pairs IsMessage (bytesIn 2 l) ms) e h2)
+    (subst (λ (l : List Entry). Pairs IsControl (bytesIn 3 l) cs) e h3) (walk-inside b fs (w .walked))
 
-pub rpc-control : (b : List ℕ) (es : List Entry) (cs : List ControlMessage) → Body b es → Pairs IsControl (bytesIn 3 es) cs → hasField 3 b ≡ any cs
+pub rpc-control : (b : List ℕ) (es : List Entry) (cs : List ControlMessage) → Body b es
+    → Pairs IsControl (bytesIn 3 es) cs → hasField 3 b ≡ any cs
 unfolding hasField
 rpc-control b es cs g h3 =
     let w = body-walks b es g in
-    ap (hasAlong 3) (w .walked) ∙ control-any b 3 (w .fields) ∙ ap (λ (l : List Entry). any (bytesIn 3 l)) (w .entries) ∙ any-pairs h3
+    ap (hasAlong 3) (w .walked) ∙ control-any b 3 (w .fields) ∙ ap (λ (l : List Entry). any (bytesIn 3 l)) (w .entries)
+    ∙ any-pairs h3
 
-rpc-read : (b : List ℕ) (es : List Entry) (ss : List SubOpts) (ms : List RawMessage) (cs : List ControlMessage) → Body b es → Pairs IsSubOpts (bytesIn 1 es) ss → Pairs IsMessage (bytesIn 2 es) ms → Pairs IsControl (bytesIn 3 es) cs → readBack b (rowsOf kind.Rpc 0 b) (hasControl b) ≡ record { subscriptions = ss; publish = ms; control = joined cs }
+rpc-read : (b : List ℕ) (es : List Entry) (ss : List SubOpts) (ms : List RawMessage) (cs : List ControlMessage)
+    → Body b es → Pairs IsSubOpts (bytesIn 1 es) ss → Pairs IsMessage (bytesIn 2 es) ms
+    → Pairs IsControl (bytesIn 3 es) cs → readBack b (rowsOf kind.Rpc 0 b) (hasControl b)
+    ≡ record { subscriptions = ss; publish = ms; control = joined cs }
 unfolding readBack hasControl
 rpc-read b es ss ms cs g h1 h2 h3 =
     ap₂ rpcFrom (rpc-control b es cs g h3) (rpc-gathered b es ss ms cs g h1 h2 h3)

@@ -10,7 +10,8 @@ use Rattle.protobuf.specs.declared.Field.{Field}
 use Rattle.protobuf.specs.Walk.{payloadOf, entryOf, isBytes, isNumber, valueIn}
 use Rattle.rpc.specs.Grammar.{putNumber, putBytes}
 
-payload-bytes : (s : List ℕ) (m : ℕ) (f : Field) (ds : List (List ℕ)) → putBytes (eqb (f .field) m) (payloadOf s f) ds ≡ cond (isBytes m f) (valueIn s f ∷ ds) ds
+payload-bytes : (s : List ℕ) (m : ℕ) (f : Field) (ds : List (List ℕ)) → putBytes (eqb (f .field) m) (payloadOf s f) ds
+    ≡ cond (isBytes m f) (valueIn s f ∷ ds) ds
 unfolding payloadOf
 payload-bytes s m f ds =
     either (eqb (f .«wire_type») 2)
@@ -18,17 +19,20 @@ payload-bytes s m f ds =
     (λ t2. either (eqb (f .«wire_type») 0) (λ t0. simp (t0, t2))
     (λ t0. either (eqb (f .«wire_type») 5) (λ t5. simp (t0, t2, t5)) (λ t5. simp (t0, t2, t5))))
 
-payload-number : (s : List ℕ) (m : ℕ) (f : Field) (vs : List ℕ) → putNumber (eqb (f .field) m) (payloadOf s f) vs ≡ cond (isNumber m f) (f .value ∷ vs) vs
+payload-number : (s : List ℕ) (m : ℕ) (f : Field) (vs : List ℕ) → putNumber (eqb (f .field) m) (payloadOf s f) vs
+    ≡ cond (isNumber m f) (f .value ∷ vs) vs
 unfolding payloadOf
 payload-number s m f vs =
     either (eqb (f .«wire_type») 0) (λ t0. simp t0)
     (λ t0. either (eqb (f .«wire_type») 2) (λ t2. simp (t0, t2))
     (λ t2. either (eqb (f .«wire_type») 5) (λ t5. simp (t0, t2, t5)) (λ t5. simp (t0, t2, t5))))
 
-pub put-bytes : (s : List ℕ) (m : ℕ) (f : Field) (ds : List (List ℕ)) → putBytes (eqb (entryOf s f .field) m) (entryOf s f .payload) ds ≡ cond (isBytes m f) (valueIn s f ∷ ds) ds
+pub put-bytes : (s : List ℕ) (m : ℕ) (f : Field) (ds : List (List ℕ))
+    → putBytes (eqb (entryOf s f .field) m) (entryOf s f .payload) ds ≡ cond (isBytes m f) (valueIn s f ∷ ds) ds
 unfolding entryOf
 put-bytes s m f ds = payload-bytes s m f ds
 
-pub put-number : (s : List ℕ) (m : ℕ) (f : Field) (vs : List ℕ) → putNumber (eqb (entryOf s f .field) m) (entryOf s f .payload) vs ≡ cond (isNumber m f) (f .value ∷ vs) vs
+pub put-number : (s : List ℕ) (m : ℕ) (f : Field) (vs : List ℕ)
+    → putNumber (eqb (entryOf s f .field) m) (entryOf s f .payload) vs ≡ cond (isNumber m f) (f .value ∷ vs) vs
 unfolding entryOf
 put-number s m f vs = payload-number s m f vs

@@ -1,5 +1,5 @@
--- A message of any kind is accepted exactly where its body is well formed and the bytes of each of its fields are good: text is UTF-8, and a
--- submessage is accepted.
+-- A message of any kind is accepted exactly where its body is well formed and the bytes of each of its fields are good:
+-- text is UTF-8, and a submessage is accepted.
 use Prim.Native.Nat.{ℕ, _+_}
 use mathlib.Core.Path.{_≡_, refl, sym, ap, ap₂, subst, _∙_}
 use mathlib.Core.Bool.{Bool, true, false, cond}
@@ -57,7 +57,8 @@ good-text : (s : List ℕ) (f : Field) (n : ℕ) → Utf8 (valueIn s f) → text
 unfolding textCount
 good-text s f n u = let t : isUtf8 (valueIn s f) ≡ true = exactly (valueIn s f) .1 u in simp t
 
-counts-good : (s : List ℕ) (f : Field) (r : Role) (m : ℕ) → roleCount counted s f r ≡ Records m → GoodRole r (valueIn s f)
+counts-good : (s : List ℕ) (f : Field) (r : Role) (m : ℕ) → roleCount counted s f r ≡ Records m
+    → GoodRole r (valueIn s f)
 counts-good s f Skip m h = tt
 counts-good s f (Number figure) m h = tt
 counts-good s f (Text slot) m h = text-good s f 0 m h
@@ -65,9 +66,11 @@ counts-good s f (Bytes slot) m h = tt
 counts-good s f (Unsigned slot) m h = tt
 counts-good s f Topic m h = text-good s f 1 m h
 counts-good s f MessageId m h = tt
-counts-good s f (Sub j form) m h = let t = plus-fits (ownOf j) m (counted j (valueIn s f)) h in record { records = t .0; counts = t .1 }
+counts-good s f (Sub j form) m h = let t = plus-fits (ownOf j) m (counted j (valueIn s f)) h in
+    record { records = t .0; counts = t .1 }
 
-good-counts : (s : List ℕ) (f : Field) (r : Role) → GoodRole r (valueIn s f) → (m : ℕ) × (roleCount counted s f r ≡ Records m)
+good-counts : (s : List ℕ) (f : Field) (r : Role) → GoodRole r (valueIn s f) → (m : ℕ)
+    × (roleCount counted s f r ≡ Records m)
 good-counts s f Skip g = (0, refl)
 good-counts s f (Number figure) g = (0, refl)
 good-counts s f (Text slot) g = (0, good-text s f 0 g)
@@ -88,20 +91,25 @@ number-counts s f Topic = refl
 number-counts s f MessageId = refl
 number-counts s f (Sub k form) = refl
 
-other-counts : (k : Kind) (s : List ℕ) (f : Field) → eqb (f .«wire_type») 2 ≡ false → (m : ℕ) × (roleCount counted s f (RoleAt k f) ≡ Records m)
+other-counts : (k : Kind) (s : List ℕ) (f : Field) → eqb (f .«wire_type») 2 ≡ false → (m : ℕ)
+    × (roleCount counted s f (RoleAt k f) ≡ Records m)
 unfolding roleOf
 other-counts k s f t2 =
-    either (eqb (f .«wire_type») 0) (λ t0. (0, simp (t2, t0) (number-counts s f (rowOf k (f .field))))) (λ t0. (0, simp (t2, t0)))
+    either (eqb (f .«wire_type») 0) (λ t0. (0, simp (t2, t0) (number-counts s f (rowOf k (f .field)))))
+    (λ t0. (0, simp (t2, t0)))
 
 -- ---- all fields of a walk that reaches the end
-pub each-put : (P : List ℕ → Type 0) (t : Bool) (d : List ℕ) (ds : List (List ℕ)) → (t ≡ true → P d) → Each P ds → Each P (cond t (d ∷ ds) ds)
+pub each-put : (P : List ℕ → Type 0) (t : Bool) (d : List ℕ) (ds : List (List ℕ)) → (t ≡ true → P d) → Each P ds
+    → Each P (cond t (d ∷ ds) ds)
 each-put P true d ds p ps = p refl and ps
 each-put P false d ds p ps = ps
 
 pub is-bytes : (m : ℕ) (f : Field) → isBytes m f ≡ true → (f .«wire_type» ≡ 2) × (f .field ≡ m)
-is-bytes m f h = let t = both (eqb (f .«wire_type») 2) (eqb (f .field) m) h in (eqb-true _ _ (t .0), eqb-true _ _ (t .1))
+is-bytes m f h = let t = both (eqb (f .«wire_type») 2) (eqb (f .field) m) h in
+    (eqb-true _ _ (t .0), eqb-true _ _ (t .1))
 
-along-good : (k : Kind) (s : List ℕ) (fs : List Field) (n : ℕ) → countAlong counted k s (whole fs) ≡ Records n → Good k (entriesOf s fs)
+along-good : (k : Kind) (s : List ℕ) (fs : List Field) (n : ℕ) → countAlong counted k s (whole fs) ≡ Records n
+    → Good k (entriesOf s fs)
 along-good k s [] n h m = none-left
 along-good k s (f ∷ fs) n h m =
     let t = then-fits (roleCount counted s f (RoleAt k f)) (countAlong counted k s (whole fs)) n h in
@@ -115,26 +123,35 @@ along-good k s (f ∷ fs) n h m =
 each-head : (P : List ℕ → Type 0) (d : List ℕ) (ds : List (List ℕ)) → Each P (d ∷ ds) → P d × Each P ds
 each-head P d ds (p and ps) = (p, ps)
 
-good-rest : (k : Kind) (s : List ℕ) (f : Field) (fs : List Field) → Good k (entriesOf s (f ∷ fs)) → Good k (entriesOf s fs)
+good-rest : (k : Kind) (s : List ℕ) (f : Field) (fs : List Field) → Good k (entriesOf s (f ∷ fs))
+    → Good k (entriesOf s fs)
 good-rest k s f fs g m =
-    let h : Each (GoodRole (roleOf k m 2)) (cond (isBytes m f) (valueIn s f ∷ bytesIn m (entriesOf s fs)) (bytesIn m (entriesOf s fs))) =
+    let h : Each (GoodRole (roleOf k m 2)) (cond (isBytes m f) (valueIn s f ∷ bytesIn m (entriesOf s fs))
+    (bytesIn m (entriesOf s fs))) =
     subst (Each (GoodRole (roleOf k m 2))) (put-bytes s m f (bytesIn m (entriesOf s fs))) (g m) in
-    either (isBytes m f) (λ b. each-head (GoodRole (roleOf k m 2)) (valueIn s f) (bytesIn m (entriesOf s fs)) (simp b at h) .1) (λ b. simp b at h)
+    either (isBytes m f) (λ b. each-head (GoodRole (roleOf k m 2)) (valueIn s f) (bytesIn m (entriesOf s fs))
+    (simp b at h) .1) (λ b. simp b at h)
 
-good-first : (k : Kind) (s : List ℕ) (f : Field) (fs : List Field) → Good k (entriesOf s (f ∷ fs)) → eqb (f .«wire_type») 2 ≡ true → GoodRole (RoleAt k f) (valueIn s f)
+good-first : (k : Kind) (s : List ℕ) (f : Field) (fs : List Field) → Good k (entriesOf s (f ∷ fs))
+    → eqb (f .«wire_type») 2 ≡ true → GoodRole (RoleAt k f) (valueIn s f)
 good-first k s f fs g t2 =
     let m = f .field in
     let b : isBytes m f ≡ true = simp (t2, eq-eqb m m refl) in
-    let h : Each (GoodRole (roleOf k m 2)) (cond (isBytes m f) (valueIn s f ∷ bytesIn m (entriesOf s fs)) (bytesIn m (entriesOf s fs))) =
+    let h : Each (GoodRole (roleOf k m 2)) (cond (isBytes m f) (valueIn s f ∷ bytesIn m (entriesOf s fs))
+    (bytesIn m (entriesOf s fs))) =
     subst (Each (GoodRole (roleOf k m 2))) (put-bytes s m f (bytesIn m (entriesOf s fs))) (g m) in
     let r : roleOf k m 2 ≡ RoleAt k f = ap (roleOf k m) (sym (eqb-true (f .«wire_type») 2 t2)) in
-    subst (λ (x : Role). GoodRole x (valueIn s f)) r (each-head (GoodRole (roleOf k m 2)) (valueIn s f) (bytesIn m (entriesOf s fs)) (simp b at h) .0)
+    subst (λ (x : Role). GoodRole x (valueIn s f)) r
+    (each-head (GoodRole (roleOf k m 2)) (valueIn s f) (bytesIn m (entriesOf s fs)) (simp b at h) .0)
 
-field-counts : (k : Kind) (s : List ℕ) (f : Field) (fs : List Field) → Good k (entriesOf s (f ∷ fs)) → (m : ℕ) × (roleCount counted s f (RoleAt k f) ≡ Records m)
+field-counts : (k : Kind) (s : List ℕ) (f : Field) (fs : List Field) → Good k (entriesOf s (f ∷ fs)) → (m : ℕ)
+    × (roleCount counted s f (RoleAt k f) ≡ Records m)
 field-counts k s f fs g =
-    either (eqb (f .«wire_type») 2) (λ t2. good-counts s f (RoleAt k f) (good-first k s f fs g t2)) (λ t2. other-counts k s f t2)
+    either (eqb (f .«wire_type») 2) (λ t2. good-counts s f (RoleAt k f) (good-first k s f fs g t2))
+    (λ t2. other-counts k s f t2)
 
-good-along : (k : Kind) (s : List ℕ) (fs : List Field) → Good k (entriesOf s fs) → (n : ℕ) × (countAlong counted k s (whole fs) ≡ Records n)
+good-along : (k : Kind) (s : List ℕ) (fs : List Field) → Good k (entriesOf s fs) → (n : ℕ)
+    × (countAlong counted k s (whole fs) ≡ Records n)
 good-along k s [] g = (0, refl)
 good-along k s (f ∷ fs) g =
     let a = field-counts k s f fs g in
@@ -142,14 +159,19 @@ good-along k s (f ∷ fs) g =
     (a .0 + b .0, ap₂ andThen (a .1) (b .1))
 
 -- ---- a message is accepted where its walk reaches the end, and its fields are good
-pub walked-good : (k : Kind) (s : List ℕ) (fs : List Field) → fieldsOf s ≡ whole fs → Accepted k s → Good k (entriesOf s fs)
-walked-good k s fs w a = along-good k s fs (a .records) (ap (countAlong counted k s) (sym w) ∙ sym (count-along k s) ∙ a .counts)
+pub walked-good : (k : Kind) (s : List ℕ) (fs : List Field) → fieldsOf s ≡ whole fs → Accepted k s
+    → Good k (entriesOf s fs)
+walked-good k s fs w a = along-good k s fs (a .records) (ap (countAlong counted k s) (sym w) ∙ sym (count-along k s)
+    ∙ a .counts)
 
-pub good-walked : (k : Kind) (s : List ℕ) (fs : List Field) → fieldsOf s ≡ whole fs → Good k (entriesOf s fs) → Accepted k s
-good-walked k s fs w g = let a = good-along k s fs g in record { records = a .0; counts = count-along k s ∙ ap (countAlong counted k s) w ∙ a .1 }
+pub good-walked : (k : Kind) (s : List ℕ) (fs : List Field) → fieldsOf s ≡ whole fs → Good k (entriesOf s fs)
+    → Accepted k s
+good-walked k s fs w g = let a = good-along k s fs g in
+    record { records = a .0; counts = count-along k s ∙ ap (countAlong counted k s) w ∙ a .1 }
 
 -- what is accepted has a walk that reaches the end
-ends : (k : Kind) (s : List ℕ) (w : Fields) (n : ℕ) → countAlong counted k s w ≡ Records n → (fs : List Field) × (w ≡ whole fs)
+ends : (k : Kind) (s : List ℕ) (w : Fields) (n : ℕ) → countAlong counted k s w ≡ Records n → (fs : List Field)
+    × (w ≡ whole fs)
 ends k s end n h = ([], refl)
 ends k s (refused why) n h = clash (cc)
 ends k s (f then w) n h =

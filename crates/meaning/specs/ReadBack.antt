@@ -1,5 +1,5 @@
--- The RPC that a body and its records say. The records are taken from the last to the first: topics, message ids and peers are collected up to
--- the record that holds them.
+-- The RPC that a body and its records say. The records are taken from the last to the first: topics, message ids and
+-- peers are collected up to the record that holds them.
 use Prim.Native.Nat.{ℕ, _+_}
 use mathlib.Core.Bool.{Bool, cond}
 use mathlib.Core.List.{List, [], _∷_}
@@ -12,7 +12,8 @@ use Rattle.schema.specs.declared.Place.the-variants as place
 use Rattle.schema.specs.declared.Number.{Number}
 use Rattle.schema.specs.declared.Number.the-variants as number
 use Rattle.message.specs.declared.Record.{Record}
-use Rattle.rpc.specs.Rpc.{SubOpts, RawMessage, ControlIHave, ControlIWant, ControlGraft, PeerInfo, ControlPrune, ControlMessage, Rpc}
+use Rattle.rpc.specs.Rpc.{SubOpts, RawMessage, ControlIHave, ControlIWant, ControlGraft, PeerInfo, ControlPrune}
+use Rattle.rpc.specs.Rpc.{ControlMessage, Rpc}
 use Rattle.rpc.specs.Grammar.{nonzero}
 
 -- the bytes at a place of a record that begins at `at`
@@ -49,7 +50,11 @@ gatherSub b r g =
       topics = g .topics;
       ids = g .ids;
       peers = g .peers;
-      subscriptions = record { subscribe = nonzero (numberAt (r .slots .number)); «topic_id» = bytesAt b (r .start) (r .slots .first) } ∷ g .subscriptions;
+      subscriptions =
+          record {
+            subscribe = nonzero (numberAt (r .slots .number));
+            «topic_id» = bytesAt b (r .start) (r .slots .first);
+          } ∷ g .subscriptions;
       publish = g .publish;
       control = g .control;
     }
@@ -76,17 +81,36 @@ gatherMessage b r g =
     }
 
 abbrev pub gatherTopic : List ℕ → Record → Gathered → Gathered
-gatherTopic b r g = record { topics = rawOf b r ∷ g .topics; ids = g .ids; peers = g .peers; subscriptions = g .subscriptions; publish = g .publish; control = g .control }
+gatherTopic b r g =
+    record {
+      topics = rawOf b r ∷ g .topics;
+      ids = g .ids;
+      peers = g .peers;
+      subscriptions = g .subscriptions;
+      publish = g .publish;
+      control = g .control;
+    }
 
 abbrev pub gatherId : List ℕ → Record → Gathered → Gathered
-gatherId b r g = record { topics = g .topics; ids = rawOf b r ∷ g .ids; peers = g .peers; subscriptions = g .subscriptions; publish = g .publish; control = g .control }
+gatherId b r g =
+    record {
+      topics = g .topics;
+      ids = rawOf b r ∷ g .ids;
+      peers = g .peers;
+      subscriptions = g .subscriptions;
+      publish = g .publish;
+      control = g .control;
+    }
 
 abbrev pub gatherPeer : List ℕ → Record → Gathered → Gathered
 gatherPeer b r g =
     record {
       topics = g .topics;
       ids = g .ids;
-      peers = record { «peer_id» = bytesAt b (r .start) (r .slots .first); «signed_peer_record» = bytesAt b (r .start) (r .slots .second) } ∷ g .peers;
+      peers = record {
+        «peer_id» = bytesAt b (r .start) (r .slots .first);
+        «signed_peer_record» = bytesAt b (r .start) (r .slots .second);
+      } ∷ g .peers;
       subscriptions = g .subscriptions;
       publish = g .publish;
       control = g .control;
@@ -113,7 +137,8 @@ gatherIHave b r g =
       peers = g .peers;
       subscriptions = g .subscriptions;
       publish = g .publish;
-      control = addIHave (record { «topic_id» = bytesAt b (r .start) (r .slots .first); «message_ids» = g .ids }) (g .control);
+      control = addIHave (record { «topic_id» = bytesAt b (r .start) (r .slots .first); «message_ids» = g .ids })
+          (g .control);
     }
 
 abbrev pub gatherIWant : List ℕ → Record → Gathered → Gathered
@@ -146,7 +171,12 @@ gatherPrune b r g =
       peers = [];
       subscriptions = g .subscriptions;
       publish = g .publish;
-      control = addPrune (record { «topic_id» = bytesAt b (r .start) (r .slots .first); peers = g .peers; backoff = numberAt (r .slots .number) }) (g .control);
+      control = addPrune
+          (record {
+            «topic_id» = bytesAt b (r .start) (r .slots .first);
+            peers = g .peers;
+            backoff = numberAt (r .slots .number);
+          }) (g .control);
     }
 
 abbrev pub gatherKind : Kind → List ℕ → Record → Gathered → Gathered
@@ -169,7 +199,8 @@ gather b (r ∷ rs) g = gatherKind (r .kind) b r (gather b rs g)
 
 -- the RPC: a control is there where the decoder says so
 abbrev pub rpcFrom : Bool → Gathered → Rpc
-rpcFrom c g = record { subscriptions = g .subscriptions; publish = g .publish; control = cond c (some (g .control)) none }
+rpcFrom c g =
+    record { subscriptions = g .subscriptions; publish = g .publish; control = cond c (some (g .control)) none }
 
 unfoldable pub readBack : List ℕ → List Record → Bool → Rpc
 readBack b rs c = rpcFrom c (gather b rs nothing)

@@ -1,5 +1,5 @@
--- How many records an RPC has, by 01's list: each SubOpts, message, topic of a message, IHAVE, IWANT, message id, GRAFT, PRUNE and PeerInfo;
--- and a body has as many as the RPC that it means.
+-- How many records an RPC has, by 01's list: each SubOpts, message, topic of a message, IHAVE, IWANT, message id,
+-- GRAFT, PRUNE and PeerInfo; and a body has as many as the RPC that it means.
 use Prim.Native.Nat.{ℕ, _+_, _<_}
 use mathlib.Core.Path.{_≡_, refl, sym, ap, _∙_}
 use mathlib.Core.List.{List, [], _∷_, _++_}
@@ -23,7 +23,8 @@ use Rattle.schema.specs.CountLaws.{own-one}
 use Rattle.message.specs.declared.Record.{Record}
 use Rattle.message.specs.Rows.{roleRows, rowsAlong, ownRows, rowsOf}
 use Rattle.message.specs.RowsLaws.{rows-along}
-use Rattle.rpc.specs.Rpc.{SubOpts, RawMessage, ControlIHave, ControlIWant, ControlGraft, PeerInfo, ControlPrune, ControlMessage, Rpc}
+use Rattle.rpc.specs.Rpc.{SubOpts, RawMessage, ControlIHave, ControlIWant, ControlGraft, PeerInfo, ControlPrune}
+use Rattle.rpc.specs.Rpc.{ControlMessage, Rpc}
 use Rattle.rpc.specs.Grammar.{joined, IsRpc, is-rpc}
 use Rattle.meaning.specs.ReadBack.{Gathered, nothing, gatherKind, gather}
 use Rattle.meaning.specs.Back.{flat, joined-some, rpc-gathered}
@@ -45,7 +46,8 @@ someRecords none = 0
 someRecords (some c) = controlRecords c
 
 unfoldable pub recordsIn : Rpc → ℕ
-recordsIn x = length (x .subscriptions) + sumOf (λ m. 1 + length (m .«topic_ids»)) (x .publish) + someRecords (x .control)
+recordsIn x = length (x .subscriptions) + sumOf (λ m. 1 + length (m .«topic_ids»)) (x .publish) + someRecords
+    (x .control)
 
 -- ---- each record that is gathered counts once
 abbrev size : Gathered → ℕ
@@ -86,7 +88,9 @@ weight-own k base s =
     either (eqb (ownOf k) 0) (λ t. simp t)
     (λ t. let o = own-one k in let z = eqb-false (ownOf k) 0 t in simp t (omega arith))
 
-weight-role : (base : ℕ) (s : List ℕ) (f : Field) (r : Role) → ((j : Kind) (form : Form) (b : ℕ) (p : List ℕ) → r ≡ Sub j form → weight (rowsOf j b p) ≡ length (rowsOf j b p)) → weight (roleRows rowsOf base s f r) ≡ length (roleRows rowsOf base s f r)
+weight-role : (base : ℕ) (s : List ℕ) (f : Field) (r : Role)
+    → ((j : Kind) (form : Form) (b : ℕ) (p : List ℕ) → r ≡ Sub j form → weight (rowsOf j b p) ≡ length (rowsOf j b p))
+    → weight (roleRows rowsOf base s f r) ≡ length (roleRows rowsOf base s f r)
 unfolding ownOf
 weight-role base s f Skip h = refl
 weight-role base s f (Number figure) h = refl
@@ -97,12 +101,15 @@ weight-role base s f Topic h = refl
 weight-role base s f MessageId h = refl
 weight-role base s f (Sub k form) h = h k form (base + f .start) (between s (f .start) (f .next)) refl
 
-weight-along : (k : Kind) (base : ℕ) (s : List ℕ) (w : Fields) → ((j : Kind) (b : ℕ) (p : List ℕ) → rank j < rank k → weight (rowsOf j b p) ≡ length (rowsOf j b p)) → weight (rowsAlong rowsOf k base s w) ≡ length (rowsAlong rowsOf k base s w)
+weight-along : (k : Kind) (base : ℕ) (s : List ℕ) (w : Fields)
+    → ((j : Kind) (b : ℕ) (p : List ℕ) → rank j < rank k → weight (rowsOf j b p) ≡ length (rowsOf j b p))
+    → weight (rowsAlong rowsOf k base s w) ≡ length (rowsAlong rowsOf k base s w)
 weight-along k base s end h = refl
 weight-along k base s (refused why) h = refl
 weight-along k base s (f then w) h =
     let rs = roleRows rowsOf base s f (roleOf k (f .field) (f .«wire_type»)) in
-    let a = weight-role base s f (roleOf k (f .field) (f .«wire_type»)) (λ j form b p q. h j b p (sub-rank k j form (f .field) (f .«wire_type») q)) in
+    let a = weight-role base s f (roleOf k (f .field) (f .«wire_type»))
+    (λ j form b p q. h j b p (sub-rank k j form (f .field) (f .«wire_type») q)) in
     let b = weight-along k base s w h in
     weight-append rs (rowsAlong rowsOf k base s w) ∙ omega (arith, a, b, length-append rs (rowsAlong rowsOf k base s w))
 
@@ -114,7 +121,8 @@ weight-all =
     let b = weight-along k base s (fieldsOf s) (λ j b p q. ih j q b p) in
     let own = ownRows k base s in
     let rest = rowsAlong rowsOf k base s (fieldsOf s) in
-    ap weight (rows-along k base s) ∙ weight-append own rest ∙ omega (arith, a, b, length-append own rest) ∙ sym (ap length (rows-along k base s)))
+    ap weight (rows-along k base s) ∙ weight-append own rest ∙ omega (arith, a, b, length-append own rest)
+    ∙ sym (ap length (rows-along k base s)))
 
 flat-records : (cs : List ControlMessage) → someRecords (joined cs) ≡ controlRecords (flat cs)
 flat-records [] = refl

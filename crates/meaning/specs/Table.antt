@@ -15,7 +15,8 @@ use Rattle.schema.specs.declared.Number.{Number}
 use Rattle.schema.specs.declared.Number.the-variants as number
 use Rattle.message.specs.declared.Record.{Record}
 use Rattle.message.specs.declared.RecordAt.the-variants as found
-use Rattle.message.specs.Rows.{kindCode, numberWords, placeWords, placesWords, wordsOf, wordsOfAll, kindFrom, recordFrom, recordAt}
+use Rattle.message.specs.Rows.{kindCode, numberWords, placeWords, placesWords, wordsOf, wordsOfAll, kindFrom}
+use Rattle.message.specs.Rows.{recordFrom, recordAt}
 use Rattle.schema.specs.Made.{numberFrom, placeFrom}
 use Rattle.message.specs.RowsLaws.{number-length, place-length, words-length, all-length}
 
@@ -34,12 +35,14 @@ kind-back kind.ControlGraft = refl
 kind-back kind.ControlPrune = refl
 kind-back kind.PeerInfo = refl
 
-number-back : (n : Number) (rest : List ℕ) → numberFrom (getD (numberWords n ++ rest) 0 0) (getD (numberWords n ++ rest) 1 0) ≡ n
+number-back : (n : Number) (rest : List ℕ)
+    → numberFrom (getD (numberWords n ++ rest) 0 0) (getD (numberWords n ++ rest) 1 0) ≡ n
 unfolding numberFrom numberWords
 number-back number.Absent rest = refl
 number-back (number.Present v) rest = refl
 
-place-back : (p : Place) (rest : List ℕ) → placeFrom (getD (placeWords p ++ rest) 0 0) (getD (placeWords p ++ rest) 1 0) (getD (placeWords p ++ rest) 2 0) ≡ p
+place-back : (p : Place) (rest : List ℕ) → placeFrom (getD (placeWords p ++ rest) 0 0) (getD (placeWords p ++ rest) 1 0)
+    (getD (placeWords p ++ rest) 2 0) ≡ p
 unfolding placeFrom placeWords
 place-back place.Absent rest = refl
 place-back (place.Present a e) rest = refl
@@ -50,9 +53,16 @@ past xs ys n j e = ap (λ (k : ℕ). getD (xs ++ ys) (k + j) 0) (sym e) ∙ getD
 
 mkRecord : Kind → ℕ → ℕ → Number → Place → Place → Place → Place → Place → Record
 mkRecord k a e n p₁ p₂ p₃ p₄ p₅ =
-    record { kind = k; start = a; end = e; slots = record { number = n; first = p₁; second = p₂; third = p₃; fourth = p₄; fifth = p₅ } }
+    record {
+      kind = k;
+      start = a;
+      end = e;
+      slots = record { number = n; first = p₁; second = p₂; third = p₃; fourth = p₄; fifth = p₅ };
+    }
 
-same-record : {k k' : Kind} {a a' e e' : ℕ} {n n' : Number} {p₁ p₁' p₂ p₂' p₃ p₃' p₄ p₄' p₅ p₅' : Place} → k ≡ k' → a ≡ a' → e ≡ e' → n ≡ n' → p₁ ≡ p₁' → p₂ ≡ p₂' → p₃ ≡ p₃' → p₄ ≡ p₄' → p₅ ≡ p₅' → mkRecord k a e n p₁ p₂ p₃ p₄ p₅ ≡ mkRecord k' a' e' n' p₁' p₂' p₃' p₄' p₅'
+same-record : {k k' : Kind} {a a' e e' : ℕ} {n n' : Number} {p₁ p₁' p₂ p₂' p₃ p₃' p₄ p₄' p₅ p₅' : Place} → k ≡ k'
+    → a ≡ a' → e ≡ e' → n ≡ n' → p₁ ≡ p₁' → p₂ ≡ p₂' → p₃ ≡ p₃' → p₄ ≡ p₄' → p₅ ≡ p₅'
+    → mkRecord k a e n p₁ p₂ p₃ p₄ p₅ ≡ mkRecord k' a' e' n' p₁' p₂' p₃' p₄' p₅'
 same-record e1 e2 e3 e4 e5 e6 e7 e8 e9 = cc
 
 same-place : {a a' b b' c c' : ℕ} → a ≡ a' → b ≡ b' → c ≡ c' → placeFrom a b c ≡ placeFrom a' b' c'
@@ -91,40 +101,51 @@ module _ (r : Record) (rest : List ℕ) where
 
   at₁ : (j : ℕ) → getD all (5 + j) 0 ≡ getD tail₁ j 0
   unfolding tail₀
-  at₁ j = let e : 5 + j ≡ 3 + (2 + j) = omega arith in ap (λ (k : ℕ). getD all k 0) e ∙ at₀ (2 + j) ∙ past (numberWords (r .slots .number)) tail₁ 2 j (number-length (r .slots .number))
+  at₁ j = let e : 5 + j ≡ 3 + (2 + j) = omega arith in ap (λ (k : ℕ). getD all k 0) e ∙ at₀ (2 + j)
+      ∙ past (numberWords (r .slots .number)) tail₁ 2 j (number-length (r .slots .number))
 
   at₂ : (j : ℕ) → getD all (8 + j) 0 ≡ getD tail₂ j 0
   unfolding tail₁
-  at₂ j = let e : 8 + j ≡ 5 + (3 + j) = omega arith in ap (λ (k : ℕ). getD all k 0) e ∙ at₁ (3 + j) ∙ past (placeWords (r .slots .first)) tail₂ 3 j (place-length (r .slots .first))
+  at₂ j = let e : 8 + j ≡ 5 + (3 + j) = omega arith in ap (λ (k : ℕ). getD all k 0) e ∙ at₁ (3 + j)
+      ∙ past (placeWords (r .slots .first)) tail₂ 3 j (place-length (r .slots .first))
 
   at₃ : (j : ℕ) → getD all (11 + j) 0 ≡ getD tail₃ j 0
   unfolding tail₂
-  at₃ j = let e : 11 + j ≡ 8 + (3 + j) = omega arith in ap (λ (k : ℕ). getD all k 0) e ∙ at₂ (3 + j) ∙ past (placeWords (r .slots .second)) tail₃ 3 j (place-length (r .slots .second))
+  at₃ j = let e : 11 + j ≡ 8 + (3 + j) = omega arith in ap (λ (k : ℕ). getD all k 0) e ∙ at₂ (3 + j)
+      ∙ past (placeWords (r .slots .second)) tail₃ 3 j (place-length (r .slots .second))
 
   at₄ : (j : ℕ) → getD all (14 + j) 0 ≡ getD tail₄ j 0
   unfolding tail₃
-  at₄ j = let e : 14 + j ≡ 11 + (3 + j) = omega arith in ap (λ (k : ℕ). getD all k 0) e ∙ at₃ (3 + j) ∙ past (placeWords (r .slots .third)) tail₄ 3 j (place-length (r .slots .third))
+  at₄ j = let e : 14 + j ≡ 11 + (3 + j) = omega arith in ap (λ (k : ℕ). getD all k 0) e ∙ at₃ (3 + j)
+      ∙ past (placeWords (r .slots .third)) tail₄ 3 j (place-length (r .slots .third))
 
   at₅ : (j : ℕ) → getD all (17 + j) 0 ≡ getD tail₅ j 0
   unfolding tail₄
-  at₅ j = let e : 17 + j ≡ 14 + (3 + j) = omega arith in ap (λ (k : ℕ). getD all k 0) e ∙ at₄ (3 + j) ∙ past (placeWords (r .slots .fourth)) tail₅ 3 j (place-length (r .slots .fourth))
+  at₅ j = let e : 17 + j ≡ 14 + (3 + j) = omega arith in ap (λ (k : ℕ). getD all k 0) e ∙ at₄ (3 + j)
+      ∙ past (placeWords (r .slots .fourth)) tail₅ 3 j (place-length (r .slots .fourth))
 
 -- what stands in a table from word i on, where a record's words begin there
 record-back : (t : List ℕ) (i : ℕ) (r : Record) (rest : List ℕ) → drop i t ≡ wordsOf r ++ rest → recordFrom t i ≡ r
 unfolding recordFrom mkRecord all tail₀ tail₁ tail₂ tail₃ tail₄ tail₅
 record-back t i r rest h =
-    let at : (j : ℕ) → getD t (i + j) 0 ≡ getD (all r rest) j 0 = λ j. sym (getD-drop i t j 0) ∙ ap (λ (l : List ℕ). getD l j 0) (h ∙ spread r rest) in
+    let at : (j : ℕ) → getD t (i + j) 0 ≡ getD (all r rest) j 0 = λ j. sym (getD-drop i t j 0)
+    ∙ ap (λ (l : List ℕ). getD l j 0) (h ∙ spread r rest) in
     let z : getD t i 0 ≡ getD t (i + 0) 0 = ap (λ (k : ℕ). getD t k 0) (sym (add-zero i)) in
     same-record
     (ap kindFrom (z ∙ at 0) ∙ kind-back (r .kind))
     (at 1)
     (at 2)
     (ap₂ numberFrom (at 3 ∙ at₀ r rest 0) (at 4 ∙ at₀ r rest 1) ∙ number-back (r .slots .number) (tail₁ r rest))
-    (same-place (at 5 ∙ at₁ r rest 0) (at 6 ∙ at₁ r rest 1) (at 7 ∙ at₁ r rest 2) ∙ place-back (r .slots .first) (tail₂ r rest))
-    (same-place (at 8 ∙ at₂ r rest 0) (at 9 ∙ at₂ r rest 1) (at 10 ∙ at₂ r rest 2) ∙ place-back (r .slots .second) (tail₃ r rest))
-    (same-place (at 11 ∙ at₃ r rest 0) (at 12 ∙ at₃ r rest 1) (at 13 ∙ at₃ r rest 2) ∙ place-back (r .slots .third) (tail₄ r rest))
-    (same-place (at 14 ∙ at₄ r rest 0) (at 15 ∙ at₄ r rest 1) (at 16 ∙ at₄ r rest 2) ∙ place-back (r .slots .fourth) (tail₅ r rest))
-    (same-place (at 17 ∙ at₅ r rest 0) (at 18 ∙ at₅ r rest 1) (at 19 ∙ at₅ r rest 2) ∙ place-back (r .slots .fifth) rest)
+    (same-place (at 5 ∙ at₁ r rest 0) (at 6 ∙ at₁ r rest 1) (at 7 ∙ at₁ r rest 2)
+    ∙ place-back (r .slots .first) (tail₂ r rest))
+    (same-place (at 8 ∙ at₂ r rest 0) (at 9 ∙ at₂ r rest 1) (at 10 ∙ at₂ r rest 2)
+    ∙ place-back (r .slots .second) (tail₃ r rest))
+    (same-place (at 11 ∙ at₃ r rest 0) (at 12 ∙ at₃ r rest 1) (at 13 ∙ at₃ r rest 2)
+    ∙ place-back (r .slots .third) (tail₄ r rest))
+    (same-place (at 14 ∙ at₄ r rest 0) (at 15 ∙ at₄ r rest 1) (at 16 ∙ at₄ r rest 2)
+    ∙ place-back (r .slots .fourth) (tail₅ r rest))
+    (same-place (at 17 ∙ at₅ r rest 0) (at 18 ∙ at₅ r rest 1) (at 19 ∙ at₅ r rest 2)
+    ∙ place-back (r .slots .fifth) rest)
 
 -- ---- the records at the front of a table
 -- the records in the first n rows
@@ -132,22 +153,29 @@ abbrev pub rowsIn : List ℕ → ℕ → ℕ → List Record
 rowsIn t row zero = []
 rowsIn t row (suc n) = recordFrom t (row * 20) ∷ rowsIn t (row + 1) n
 
-front-back : (t : List ℕ) (row : ℕ) (rs : List Record) (rest : List ℕ) → drop (row * 20) t ≡ wordsOfAll rs ++ rest → rowsIn t row (length rs) ≡ rs
+front-back : (t : List ℕ) (row : ℕ) (rs : List Record) (rest : List ℕ) → drop (row * 20) t ≡ wordsOfAll rs ++ rest
+    → rowsIn t row (length rs) ≡ rs
 front-back t row [] rest h = refl
 front-back t row (r ∷ rs) rest h =
-    let h1 : drop (row * 20) t ≡ wordsOf r ++ (wordsOfAll rs ++ rest) = h ∙ append-assoc (wordsOf r) (wordsOfAll rs) rest in
+    let h1 : drop (row * 20) t ≡ wordsOf r ++ (wordsOfAll rs ++ rest) =
+    h ∙ append-assoc (wordsOf r) (wordsOfAll rs) rest in
     let e : (row + 1) * 20 ≡ row * 20 + 20 = omega arith in
     let h2 : drop ((row + 1) * 20) t ≡ wordsOfAll rs ++ rest =
-    ap (λ (k : ℕ). drop k t) e ∙ sym (drop-drop 20 (row * 20) t) ∙ ap (drop 20) h1 ∙ drop-at (wordsOf r) (wordsOfAll rs ++ rest) 20 (words-length r) in
-    ap₂ (λ (x : Record) (y : List Record). x ∷ y) (record-back t (row * 20) r (wordsOfAll rs ++ rest) h1) (front-back t (row + 1) rs rest h2)
+    ap (λ (k : ℕ). drop k t) e ∙ sym (drop-drop 20 (row * 20) t) ∙ ap (drop 20) h1
+    ∙ drop-at (wordsOf r) (wordsOfAll rs ++ rest) 20 (words-length r) in
+    ap₂ (λ (x : Record) (y : List Record). x ∷ y) (record-back t (row * 20) r (wordsOfAll rs ++ rest) h1)
+    (front-back t (row + 1) rs rest h2)
 
 -- what was written at the front of a table is read back from it
-pub table-back : (t : List ℕ) (rs : List Record) → length rs * 20 ≤ length t → rowsIn (sets t 0 (wordsOfAll rs)) 0 (length rs) ≡ rs
+pub table-back : (t : List ℕ) (rs : List Record) → length rs * 20 ≤ length t
+    → rowsIn (sets t 0 (wordsOfAll rs)) 0 (length rs) ≡ rs
 table-back t rs h =
     let l = all-length rs in
-    front-back (sets t 0 (wordsOfAll rs)) 0 rs (drop (0 + length (wordsOfAll rs)) t) (sets-eq (wordsOfAll rs) t 0 (omega arith))
+    front-back (sets t 0 (wordsOfAll rs)) 0 rs (drop (0 + length (wordsOfAll rs)) t)
+    (sets-eq (wordsOfAll rs) t 0 (omega arith))
 
 -- the host's reader gives these records
-pub record-at-row : (t : List ℕ) (row : ℕ) → row < length t / 20 → recordAt t row ≡ found.Record (recordFrom t (row * 20))
+pub record-at-row : (t : List ℕ) (row : ℕ) → row < length t / 20
+    → recordAt t row ≡ found.Record (recordFrom t (row * 20))
 unfolding recordAt
 record-at-row t row h = simp (lt-leb (length t / 20) row h)

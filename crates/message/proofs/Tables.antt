@@ -16,7 +16,9 @@ use Rattle.message.specs.RowsLaws.{number-length, place-length}
 sized : (t u : List ℕ) (i e n : ℕ) (xs : List ℕ) → length xs ≡ n → (e ≡ i + n) × (u ≡ sets t i xs) → Put t i xs u e
 sized t u i e n xs l p = (omega arith, p .1)
 
-pub slots-put : (t₀ t₁ t₂ t₃ t₄ t₅ : List ℕ) (i a b c d e : ℕ) (s : Slots) → (a ≡ i + 3) × (t₁ ≡ sets t₀ i (placeWords (s .first))) → (b ≡ a + 3) × (t₂ ≡ sets t₁ a (placeWords (s .second))) → (c ≡ b + 3) × (t₃ ≡ sets t₂ b (placeWords (s .third))) → (d ≡ c + 3) × (t₄ ≡ sets t₃ c (placeWords (s .fourth))) → (e ≡ d + 3) × (t₅ ≡ sets t₄ d (placeWords (s .fifth))) → (e ≡ i + 15) × (t₅ ≡ sets t₀ i (placesWords s))
+pub slots-put : (t₀ t₁ t₂ t₃ t₄ t₅ : List ℕ) (i a b c d e : ℕ) (s : Slots) → (a ≡ i + 3) × (t₁ ≡ sets t₀ i (placeWords (s .first))) → (b ≡ a + 3)
+    × (t₂ ≡ sets t₁ a (placeWords (s .second))) → (c ≡ b + 3) × (t₃ ≡ sets t₂ b (placeWords (s .third))) → (d ≡ c + 3)
+    × (t₄ ≡ sets t₃ c (placeWords (s .fourth))) → (e ≡ d + 3) × (t₅ ≡ sets t₄ d (placeWords (s .fifth))) → (e ≡ i + 15) × (t₅ ≡ sets t₀ i (placesWords s))
 unfolding placesWords
 slots-put t₀ t₁ t₂ t₃ t₄ t₅ i a b c d e s p q r v w =
     let x = placeWords (s .first) in

@@ -1,5 +1,6 @@
--- The records of a message, in the order in which its bytes have them, each before what stands inside it; and how a record stands in the
--- lent table: twenty words. What is absent is zeros; a place that is present is 1, its start and its end, and a number 1 and its value.
+-- The records of a message, in the order in which its bytes have them, each before what stands inside it; and how a
+-- record stands in the lent table: twenty words. What is absent is zeros; a place that is present is 1, its start and
+-- its end, and a number 1 and its value.
 use Prim.Native.Nat.{ℕ, _+_, _*_, _/_}
 use mathlib.Core.List.{List, [], _∷_, _++_}
 use mathlib.Core.Bool.{cond}
@@ -46,11 +47,13 @@ roleRows sub base s f (Sub k form) = sub k (base + f .start) (between s (f .star
 abbrev pub rowsAlong : (Kind → ℕ → List ℕ → List Record) → Kind → ℕ → List ℕ → Fields → List Record
 rowsAlong sub k base s end = []
 rowsAlong sub k base s (refused why) = []
-rowsAlong sub k base s (f then w) = roleRows sub base s f (roleOf k (f .field) (f .«wire_type»)) ++ rowsAlong sub k base s w
+rowsAlong sub k base s (f then w) = roleRows sub base s f (roleOf k (f .field) (f .«wire_type»))
+    ++ rowsAlong sub k base s w
 
 -- the message's own record, where its kind has one
 unfoldable pub ownRows : Kind → ℕ → List ℕ → List Record
-ownRows k base s = cond (eqb (ownOf k) 0) [] (record { kind = k; start = base; end = base + length s; slots = slotsOf k s } ∷ [])
+ownRows k base s =
+    cond (eqb (ownOf k) 0) [] (record { kind = k; start = base; end = base + length s; slots = slotsOf k s } ∷ [])
 
 -- a message that stands at a base, with what stands inside it
 abbrev pub rowsStep : (Kind → ℕ × List ℕ → List Record) → Kind → ℕ × List ℕ → List Record
@@ -86,7 +89,9 @@ placeWords place.Absent = 0 ∷ 0 ∷ 0 ∷ []
 placeWords (place.Present a e) = 1 ∷ a ∷ e ∷ []
 
 unfoldable pub placesWords : Slots → List ℕ
-placesWords t = placeWords (t .first) ++ (placeWords (t .second) ++ (placeWords (t .third) ++ (placeWords (t .fourth) ++ placeWords (t .fifth))))
+placesWords t =
+    placeWords (t .first)
+    ++ (placeWords (t .second) ++ (placeWords (t .third) ++ (placeWords (t .fourth) ++ placeWords (t .fifth))))
 
 unfoldable pub wordsOf : Record → List ℕ
 wordsOf r = (kindCode (r .kind) ∷ r .start ∷ r .end ∷ []) ++ (numberWords (r .slots .number) ++ placesWords (r .slots))

@@ -1,5 +1,5 @@
--- Laws of the records: they stand along a message's fields; a message that is accepted has as many records as were counted; and a record takes twenty
--- words.
+-- Laws of the records: they stand along a message's fields; a message that is accepted has as many records as were
+-- counted; and a record takes twenty words.
 use Prim.Native.Nat.{ℕ, _+_, _-_, _*_, _<_}
 use mathlib.Core.Path.{_≡_, refl, sym, ap, ap₂, _∙_}
 use mathlib.Core.List.{List, [], _∷_, _++_, append-assoc}
@@ -26,10 +26,13 @@ use Rattle.schema.specs.SchemaLaws.{sub-rank}
 use Rattle.schema.specs.Kinds.{unfolds, by-rank}
 use Rattle.schema.specs.CountLaws.{count-along, own-one, text-fits, plus-fits, then-fits}
 use Rattle.message.specs.declared.Record.{Record}
-use Rattle.message.specs.Rows.{roleRows, rowsAlong, ownRows, rowsStep, rowsOf, numberWords, placeWords, placesWords, wordsOf, wordsOfAll}
+use Rattle.message.specs.Rows.{roleRows, rowsAlong, ownRows, rowsStep, rowsOf, numberWords, placeWords}
+use Rattle.message.specs.Rows.{placesWords, wordsOf, wordsOfAll}
 
 -- ---- the records of a message: its own, and then those along its fields
-same-role : (f g : Kind → ℕ → List ℕ → List Record) (base : ℕ) (s : List ℕ) (x : Field) (r : Role) → ((j : Kind) (form : Form) (b : ℕ) (p : List ℕ) → r ≡ Sub j form → f j b p ≡ g j b p) → roleRows f base s x r ≡ roleRows g base s x r
+same-role : (f g : Kind → ℕ → List ℕ → List Record) (base : ℕ) (s : List ℕ) (x : Field) (r : Role)
+    → ((j : Kind) (form : Form) (b : ℕ) (p : List ℕ) → r ≡ Sub j form → f j b p ≡ g j b p)
+    → roleRows f base s x r ≡ roleRows g base s x r
 same-role f g base s x Skip h = refl
 same-role f g base s x (Number figure) h = refl
 same-role f g base s x (Text slot) h = refl
@@ -39,20 +42,25 @@ same-role f g base s x Topic h = refl
 same-role f g base s x MessageId h = refl
 same-role f g base s x (Sub k form) h = h k form (base + x .start) (between s (x .start) (x .next)) refl
 
-same-along : (f g : Kind → ℕ → List ℕ → List Record) (k : Kind) (base : ℕ) (s : List ℕ) (w : Fields) → ((j : Kind) (b : ℕ) (p : List ℕ) → rank j < rank k → f j b p ≡ g j b p) → rowsAlong f k base s w ≡ rowsAlong g k base s w
+same-along : (f g : Kind → ℕ → List ℕ → List Record) (k : Kind) (base : ℕ) (s : List ℕ) (w : Fields)
+    → ((j : Kind) (b : ℕ) (p : List ℕ) → rank j < rank k → f j b p ≡ g j b p)
+    → rowsAlong f k base s w ≡ rowsAlong g k base s w
 same-along f g k base s end h = refl
 same-along f g k base s (refused why) h = refl
 same-along f g k base s (x then w) h =
     ap₂ (λ (a b : List Record). a ++ b)
-    (same-role f g base s x (roleOf k (x .field) (x .«wire_type»)) (λ j form b p e. h j b p (sub-rank k j form (x .field) (x .«wire_type») e)))
+    (same-role f g base s x (roleOf k (x .field) (x .«wire_type»))
+    (λ j form b p e. h j b p (sub-rank k j form (x .field) (x .«wire_type») e)))
     (same-along f g k base s w h)
 
-pub rows-along : (k : Kind) (base : ℕ) (s : List ℕ) → rowsOf k base s ≡ ownRows k base s ++ rowsAlong rowsOf k base s (fieldsOf s)
+pub rows-along : (k : Kind) (base : ℕ) (s : List ℕ) → rowsOf k base s ≡ ownRows k base s
+    ++ rowsAlong rowsOf k base s (fieldsOf s)
 unfolding rowsOf
 rows-along k base s =
     unfolds rowsStep []
     (λ f g j x h. ap (λ (l : List Record). ownRows j (x .0) (x .1) ++ l)
-    (same-along (λ i b p. f i (b, p)) (λ i b p. g i (b, p)) j (x .0) (x .1) (fieldsOf (x .1)) (λ i b p l. h i (b, p) l)))
+    (same-along (λ i b p. f i (b, p)) (λ i b p. g i (b, p)) j (x .0) (x .1) (fieldsOf (x .1))
+    (λ i b p l. h i (b, p) l)))
     k (base, s)
 
 -- ---- as many records as were counted
@@ -62,7 +70,9 @@ own-length k base s =
     either (eqb (ownOf k) 0) (λ t. simp t (sym (eqb-true (ownOf k) 0 t)))
     (λ t. let o = own-one k in let z = eqb-false (ownOf k) 0 t in let e : 1 ≡ ownOf k = omega arith in simp t e)
 
-role-length : (base : ℕ) (s : List ℕ) (f : Field) (r : Role) (m : ℕ) → roleCount counted s f r ≡ Records m → ((j : Kind) (form : Form) (b : ℕ) (p : List ℕ) (x : ℕ) → r ≡ Sub j form → counted j p ≡ Records x → length (rowsOf j b p) ≡ ownOf j + x) → length (roleRows rowsOf base s f r) ≡ m
+role-length : (base : ℕ) (s : List ℕ) (f : Field) (r : Role) (m : ℕ) → roleCount counted s f r ≡ Records m
+    → ((j : Kind) (form : Form) (b : ℕ) (p : List ℕ) (x : ℕ) → r ≡ Sub j form → counted j p ≡ Records x
+    → length (rowsOf j b p) ≡ ownOf j + x) → length (roleRows rowsOf base s f r) ≡ m
 role-length base s f Skip m h ih = cc
 role-length base s f (Number figure) m h ih = cc
 role-length base s f (Text slot) m h ih = sym (text-fits s f 0 m h)
@@ -74,16 +84,21 @@ role-length base s f (Sub k form) m h ih =
     let t = plus-fits (ownOf k) m (counted k (between s (f .start) (f .next))) h in
     ih k form (base + f .start) (between s (f .start) (f .next)) (t .0) refl (t .1) ∙ sym (t .2)
 
-along-length : (k : Kind) (base : ℕ) (s : List ℕ) (w : Fields) (n : ℕ) → countAlong counted k s w ≡ Records n → ((j : Kind) (b : ℕ) (p : List ℕ) (x : ℕ) → rank j < rank k → counted j p ≡ Records x → length (rowsOf j b p) ≡ ownOf j + x) → length (rowsAlong rowsOf k base s w) ≡ n
+along-length : (k : Kind) (base : ℕ) (s : List ℕ) (w : Fields) (n : ℕ) → countAlong counted k s w ≡ Records n
+    → ((j : Kind) (b : ℕ) (p : List ℕ) (x : ℕ) → rank j < rank k → counted j p ≡ Records x
+    → length (rowsOf j b p) ≡ ownOf j + x) → length (rowsAlong rowsOf k base s w) ≡ n
 along-length k base s end n h ih = cc
 along-length k base s (refused why) n h ih = clash (cc)
 along-length k base s (f then w) n h ih =
     let t = then-fits (roleCount counted s f (roleOf k (f .field) (f .«wire_type»))) (countAlong counted k s w) n h in
-    let a = role-length base s f (roleOf k (f .field) (f .«wire_type»)) (t .0) (t .2) (λ j form b p x q. ih j b p x (sub-rank k j form (f .field) (f .«wire_type») q)) in
+    let a = role-length base s f (roleOf k (f .field) (f .«wire_type»)) (t .0) (t .2)
+    (λ j form b p x q. ih j b p x (sub-rank k j form (f .field) (f .«wire_type») q)) in
     let b = along-length k base s w (t .1) (t .3) ih in
-    length-append (roleRows rowsOf base s f (roleOf k (f .field) (f .«wire_type»))) (rowsAlong rowsOf k base s w) ∙ omega (arith, a, b, t .4)
+    length-append (roleRows rowsOf base s f (roleOf k (f .field) (f .«wire_type»))) (rowsAlong rowsOf k base s w)
+    ∙ omega (arith, a, b, t .4)
 
-pub rows-length : (k : Kind) (base : ℕ) (s : List ℕ) (n : ℕ) → counted k s ≡ Records n → length (rowsOf k base s) ≡ ownOf k + n
+pub rows-length : (k : Kind) (base : ℕ) (s : List ℕ) (n : ℕ) → counted k s ≡ Records n
+    → length (rowsOf k base s) ≡ ownOf k + n
 rows-length =
     by-rank (λ k. (base : ℕ) (s : List ℕ) (n : ℕ) → counted k s ≡ Records n → length (rowsOf k base s) ≡ ownOf k + n)
     (λ k ih base s n h.
@@ -117,4 +132,5 @@ all-length (r ∷ rs) = length-append (wordsOf r) (wordsOfAll rs) ∙ omega (ari
 
 pub all-append : (rs ts : List Record) → wordsOfAll (rs ++ ts) ≡ wordsOfAll rs ++ wordsOfAll ts
 all-append [] ts = refl
-all-append (r ∷ rs) ts = ap (λ (l : List ℕ). wordsOf r ++ l) (all-append rs ts) ∙ sym (append-assoc (wordsOf r) (wordsOfAll rs) (wordsOfAll ts))
+all-append (r ∷ rs) ts = ap (λ (l : List ℕ). wordsOf r ++ l) (all-append rs ts)
+    ∙ sym (append-assoc (wordsOf r) (wordsOfAll rs) (wordsOfAll ts))

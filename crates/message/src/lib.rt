@@ -8,7 +8,7 @@ ghost use lib.ListN.{length};
 ghost use lib.Seq.{sets};
 ghost use Rattle.schema.specs.Schema.{ownOf};
 ghost use Rattle.schema.specs.Slots.{noSlots};
-ghost use Rattle.schema.specs.Count.{Within};
+ghost use Rattle.schema.specs.Count.{FieldWithin};
 ghost use Rattle.message.specs.Rows.{bareRow, ownRows, rowsOf, fieldRows, kindCode, numberWords, placeWords, placesWords, wordsOf, wordsOfAll, kindFrom, recordAt};
 ghost use Rattle.message.specs.Decode.{hasControl, decodeAnswer, decodeTable};
 use protobuf::Field;
@@ -162,7 +162,7 @@ fn write_field(
     table: &mut [u64],
     row: usize,
 ) -> usize
-    requires { ⌜ (base + length (now input) ≤ 65536) × Within (now input) f × ((row + length (fieldRows kind base (now input) f)) * 20 ≤ length (now table)) ⌝ }
+    requires { ⌜ (base + length (now input) ≤ 65536) × FieldWithin (now input) f × ((row + length (fieldRows kind base (now input) f)) * 20 ≤ length (now table)) ⌝ }
     ensures { λ r. ⌜ r ≡ row + length (fieldRows kind base (now (input .entry)) f) ⌝ }
     ensures { λ _. ⌜ now (table .exit) ≡ sets (now (table .entry)) (row * 20) (wordsOfAll (fieldRows kind base (now (input .entry)) f)) ⌝ }
 {

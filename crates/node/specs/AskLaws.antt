@@ -1,4 +1,5 @@
--- How long parts are as fields, and that the fields of a request or a reply are far fewer bytes than the numbers of the machine.
+-- How long parts are as fields, and that the fields of a request or a reply are far fewer bytes than the numbers of the
+-- machine.
 use Prim.Native.Nat.{ℕ, _+_, _-_, _*_, _^_, _≤_, _<_}
 use mathlib.Core.Path.{ap}
 use mathlib.Core.List.{List}
@@ -18,10 +19,13 @@ use Rattle.node.specs.WireLaws.{request-bytes, field-most, fields-most}
 pub between-most : (s : List ℕ) (a e : ℕ) → length (between s a e) ≤ length s
 between-most s a e = omega (arith, length-take (e - a) (drop a s), length-drop a s)
 
-pub parts-most : (n most : ℕ) (s t : List ℕ) (m : ℕ) → n ≤ 6 → most < 2 ^ 63 → length s ≤ most → length (repeated (bytesField n) (partsIn s t m)) ≤ m * (11 + most)
+pub parts-most : (n most : ℕ) (s t : List ℕ) (m : ℕ) → n ≤ 6 → most < 2 ^ 63 → length s ≤ most
+    → length (repeated (bytesField n) (partsIn s t m)) ≤ m * (11 + most)
 parts-most n most s t m h k l =
     let z = length-parts s t m in
-    let f = fields-most n most h k (partsIn s t m) (λ i j. let b = between-most s (getD t (i * 2) 0) (getD t (i * 2 + 1) 0) in let q = ap length (part-is s t m i (omega arith)) in omega arith) in
+    let f = fields-most n most h k (partsIn s t m)
+    (λ i j. let b = between-most s (getD t (i * 2) 0) (getD t (i * 2 + 1) 0) in let q = ap length
+    (part-is s t m i (omega arith)) in omega arith) in
     rw z at f
 
 -- at most 512 parts, of a body that is taken

@@ -1,5 +1,5 @@
--- What each call on a node answers and leaves. Refusals come in the order of 01's table: 40, 41, 42 for the lent node and stores; then what
--- concerns the call. A refused call leaves the node and every lent byte as they were.
+-- What each call on a node answers and leaves. Refusals come in the order of 01's table: 40, 41, 42 for the lent node
+-- and stores; then what concerns the call. A refused call leaves the node and every lent byte as they were.
 use Prim.Native.Nat.{ℕ, _-_, _*_, min}
 use mathlib.Core.List.{List, [], _∷_, map}
 use mathlib.Core.Bool.{Bool, cond, _&&_}
@@ -77,16 +77,19 @@ startAnswer max-seen history max = cond (legalSettings max-seen history max) sta
 
 -- where the settings are refused, a node that keeps nothing
 unfoldable pub startNode : ℕ → ℕ → ℕ → ℕ → Node
-startNode ttl max-seen history max = cond (legalSettings max-seen history max) (freshNode ttl max-seen history max) (freshNode 0 0 1 0)
+startNode ttl max-seen history max = cond (legalSettings max-seen history max) (freshNode ttl max-seen history max)
+    (freshNode 0 0 1 0)
 
 -- ---- the lent node and its stores: 40, 41, 42
 unfoldable pub rightSizes : Node → List ℕ → List ℕ → Bool
-rightSizes n ss cs = eqb (length ss) (n .«max_seen» * idSize) && eqb (length cs) (n .cache .«max_messages» * messageSize)
+rightSizes n ss cs = eqb (length ss) (n .«max_seen» * idSize)
+    && eqb (length cs) (n .cache .«max_messages» * messageSize)
 
 unfoldable pub lentOf : Node → List ℕ → List ℕ → Lent
 lentOf n ss cs =
     cond (ltb (capOf ss) (n .«max_seen»)) (lent.Faulty fault.BadSetting)
-    (cond (rightSizes n ss cs) (cond (wellFormed n ss cs) lent.Fine (lent.Faulty fault.Malformed)) (lent.Faulty fault.BadStore))
+    (cond (rightSizes n ss cs) (cond (wellFormed n ss cs) lent.Fine (lent.Faulty fault.Malformed))
+    (lent.Faulty fault.BadStore))
 
 abbrev pub onLent : {A : Type 0} → (Fault → A) → Lent → A → A
 onLent bad lent.Fine r = r
@@ -109,7 +112,8 @@ pub data Plan : Type 0 where
 -- 21 to 30, and then 31
 abbrev pub planFit : Node → ℕ → List ℕ → Admission → Plan
 planFit n at p (admission.Unfit why) = no (admit.Unfit why)
-planFit n at p (admission.Fit a e b f) = cond (ltb at (n .clock)) (no (admit.ClockBack (n .clock))) (taken p (idBytes p a e b f))
+planFit n at p (admission.Fit a e b f) =
+    cond (ltb at (n .clock)) (no (admit.ClockBack (n .clock))) (taken p (idBytes p a e b f))
 
 -- 20
 abbrev pub planAt : Node → ℕ → Bool → List ℕ → MessageAt → Plan
@@ -123,7 +127,8 @@ planBody n at word body i checked.Fine = planAt n at word body (messageAt body i
 
 -- 40, 41, 42
 unfoldable pub planned : Node → List ℕ → List ℕ → List ℕ → ℕ → Bool → ℕ → Plan
-planned n ss cs body i word at = onLent (λ (why : Fault). no (admit.Faulty why)) (lentOf n ss cs) (planBody n at word body i (acceptOf body))
+planned n ss cs body i word at =
+    onLent (λ (why : Fault). no (admit.Faulty why)) (lentOf n ss cs) (planBody n at word body i (acceptOf body))
 
 -- the ids that are seen after the clean-up
 unfoldable pub swept : Node → ℕ → SeenCache
@@ -141,11 +146,13 @@ abbrev pub admitNode : Node → List ℕ → ℕ → Plan → Node
 admitNode n ss at (no r) = n
 admitNode n ss at (taken m id) =
     cond (heldAt n ss at id) (laterNode at (swept n at) (n .cache) n)
-    (laterNode at (entered (n .«max_seen») (n .«max_seen») (length (marked id)) (until at (n .ttl)) (swept n at)) (keptUnder m id (n .cache)) n)
+    (laterNode at (entered (n .«max_seen») (n .«max_seen») (length (marked id)) (until at (n .ttl)) (swept n at))
+    (keptUnder m id (n .cache)) n)
 
 abbrev pub admitSeen : Node → List ℕ → ℕ → Plan → List ℕ
 admitSeen n ss at (no r) = ss
-admitSeen n ss at (taken m id) = cond (heldAt n ss at id) ss (enteredStore (n .«max_seen») (n .«max_seen») (swept n at) ss (marked id))
+admitSeen n ss at (taken m id) =
+    cond (heldAt n ss at id) ss (enteredStore (n .«max_seen») (n .«max_seen») (swept n at) ss (marked id))
 
 abbrev pub admitCache : Node → List ℕ → List ℕ → ℕ → Plan → List ℕ
 admitCache n ss cs at (no r) = cs
@@ -153,7 +160,8 @@ admitCache n ss cs at (taken m id) = cond (heldAt n ss at id) cs (storedUnder (n
 
 -- ---- heartbeat: 40, 41, 42, 31
 unfoldable pub beatAnswer : Node → List ℕ → List ℕ → ℕ → Beat
-beatAnswer n ss cs at = onLent beat.Faulty (lentOf n ss cs) (cond (ltb at (n .clock)) (beat.ClockBack (n .clock)) beat.Done)
+beatAnswer n ss cs at =
+    onLent beat.Faulty (lentOf n ss cs) (cond (ltb at (n .clock)) (beat.ClockBack (n .clock)) beat.Done)
 
 abbrev pub whenDone : {A : Type 0} → Beat → A → A → A
 whenDone beat.Done new old = new
@@ -171,10 +179,12 @@ bytesFor (i ∷ is) x = encodeRpc x
 -- ---- advertise: 40, 41, 42, 29, 12
 -- the ids that are told of, sorted
 unfoldable pub toldIn : Node → List ℕ → List ℕ → ℕ → List (List ℕ)
-toldIn n cs topic windows = map (idAt messageIdSize (n .cache .«id_len») (n .cache .ids)) (gossipList (n .cache) cs topic windows)
+toldIn n cs topic windows =
+    map (idAt messageIdSize (n .cache .«id_len») (n .cache .ids)) (gossipList (n .cache) cs topic windows)
 
 unfoldable pub advertiseBytes : Node → List ℕ → List ℕ → ℕ → List ℕ
-advertiseBytes n cs topic windows = bytesFor (toldIn n cs topic windows) (advertisement topic (toldIn n cs topic windows))
+advertiseBytes n cs topic windows =
+    bytesFor (toldIn n cs topic windows) (advertisement topic (toldIn n cs topic windows))
 
 abbrev pub advertised : Written → Advertise
 advertised (done.Bytes n) = advertise.Bytes n
@@ -183,7 +193,8 @@ advertised (done.Room n) = advertise.Room n
 unfoldable pub advertiseAnswer : Node → List ℕ → List ℕ → List ℕ → ℕ → List ℕ → Advertise
 advertiseAnswer n ss cs topic windows out =
     onLent advertise.Faulty (lentOf n ss cs)
-    (cond (ltb 1024 (length topic)) (advertise.TopicTooLong (length topic)) (advertised (answer (advertiseBytes n cs topic windows) out)))
+    (cond (ltb 1024 (length topic)) (advertise.TopicTooLong (length topic))
+    (advertised (answer (advertiseBytes n cs topic windows) out)))
 
 unfoldable pub advertiseLeft : Node → List ℕ → List ℕ → List ℕ → ℕ → List ℕ → List ℕ
 advertiseLeft n ss cs topic windows out =
@@ -214,14 +225,16 @@ askOn r checked.Fine = r
 askOn r (checked.Refused why) = ask.Refused why
 
 unfoldable pub askAnswer : Node → List ℕ → List ℕ → List ℕ → List ℕ → Ask
-askAnswer n ss cs body out = onLent ask.Faulty (lentOf n ss cs) (askOn (asked (answer (askBytes n ss body) out)) (acceptOf body))
+askAnswer n ss cs body out =
+    onLent ask.Faulty (lentOf n ss cs) (askOn (asked (answer (askBytes n ss body) out)) (acceptOf body))
 
 abbrev pub whenTaken : {A : Type 0} → Checked → A → A → A
 whenTaken checked.Fine new old = new
 whenTaken (checked.Refused why) new old = old
 
 unfoldable pub askLeft : Node → List ℕ → List ℕ → List ℕ → List ℕ → List ℕ
-askLeft n ss cs body out = whenFine (lentOf n ss cs) (whenTaken (acceptOf body) (written (askBytes n ss body) out) out) out
+askLeft n ss cs body out = whenFine (lentOf n ss cs) (whenTaken (acceptOf body) (written (askBytes n ss body) out) out)
+    out
 
 -- ---- serve: 40, 41, 42, 10, 1 to 7, 11, 12
 -- the ids in the IWANTs of a body, each at its first mention
@@ -232,7 +245,8 @@ wanted body = once (atPath (3 ∷ 2 ∷ 1 ∷ []) body)
 unfoldable pub rowsFor : Ring → List (List ℕ) → List (List ℕ) → List ℕ
 rowsFor ring held [] = []
 rowsFor ring held (i ∷ is) =
-    cond (ltb (indexOf i held) (length held)) (placeOf ring (indexOf i held) ∷ rowsFor ring held is) (rowsFor ring held is)
+    cond (ltb (indexOf i held) (length held)) (placeOf ring (indexOf i held) ∷ rowsFor ring held is)
+    (rowsFor ring held is)
 
 -- the cached messages among those named
 unfoldable pub cachedOf : MessageCache → List ℕ → List (List ℕ) → List (List ℕ)
@@ -266,8 +280,10 @@ serveOn r checked.Fine = r
 serveOn r (checked.Refused why) = serve.Refused why
 
 unfoldable pub serveAnswer : Node → List ℕ → List ℕ → List ℕ → List ℕ → Serve
-serveAnswer n ss cs body out = onLent serve.Faulty (lentOf n ss cs) (serveOn (replyTo (cachedOf (n .cache) cs (wanted body)) out) (acceptOf body))
+serveAnswer n ss cs body out =
+    onLent serve.Faulty (lentOf n ss cs) (serveOn (replyTo (cachedOf (n .cache) cs (wanted body)) out) (acceptOf body))
 
 unfoldable pub serveLeft : Node → List ℕ → List ℕ → List ℕ → List ℕ → List ℕ
 serveLeft n ss cs body out =
-    whenFine (lentOf n ss cs) (whenTaken (acceptOf body) (sets out 0 (replyBytes (cachedOf (n .cache) cs (wanted body)) out)) out) out
+    whenFine (lentOf n ss cs)
+    (whenTaken (acceptOf body) (sets out 0 (replyBytes (cachedOf (n .cache) cs (wanted body)) out)) out) out

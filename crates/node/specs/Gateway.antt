@@ -1,5 +1,5 @@
--- A gateway as 01 has it, "The node": its settings, its clock, the ids that it has seen and the messages that it holds, the oldest first; and what
--- each call does to it and makes of it. Nothing here speaks of bytes in a store.
+-- A gateway as 01 has it, "The node": its settings, its clock, the ids that it has seen and the messages that it holds,
+-- the oldest first; and what each call does to it and makes of it. Nothing here speaks of bytes in a store.
 use Prim.Native.Nat.{ℕ}
 use mathlib.Core.Bool.{Bool, cond, not}
 use mathlib.Core.List.{List, [], _∷_}
@@ -20,7 +20,15 @@ pub record Gateway : Type 0 where
 -- the clock starts at 0
 unfoldable pub started : ℕ → ℕ → ℕ → ℕ → Gateway
 started ttl max-seen history-len max-messages =
-    record { ttl = ttl; max-seen = max-seen; history-len = history-len; max-messages = max-messages; clock = 0; seen = []; cache = [] }
+    record {
+      ttl = ttl;
+      max-seen = max-seen;
+      history-len = history-len;
+      max-messages = max-messages;
+      clock = 0;
+      seen = [];
+      cache = [];
+    }
 
 -- the form in which an id is seen: mark byte 1, and then the id
 abbrev pub marked : List ℕ → List ℕ
@@ -77,7 +85,13 @@ controlled c = record { subscriptions = []; publish = []; control = some c }
 
 -- an RPC with one control, one IHAVE, the topic, the sorted ids
 unfoldable pub advertisement : List ℕ → List (List ℕ) → Rpc
-advertisement topic ids = controlled (record { ihave = record { «topic_id» = some topic; «message_ids» = ids } ∷ []; iwant = []; graft = []; prune = [] })
+advertisement topic ids =
+    controlled (record {
+      ihave = record { «topic_id» = some topic; «message_ids» = ids } ∷ [];
+      iwant = [];
+      graft = [];
+      prune = [];
+    })
 
 -- an RPC with one IWANT
 unfoldable pub request : List (List ℕ) → Rpc

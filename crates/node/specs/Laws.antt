@@ -1,4 +1,5 @@
--- What the calls on a node mean: they do to the gateway what 01 says, they speak of what it holds, and a refused call changes nothing.
+-- What the calls on a node mean: they do to the gateway what 01 says, they speak of what it holds, and a refused call
+-- changes nothing.
 use Prim.Native.Nat.{ℕ, _≤_}
 use mathlib.Core.Path.{_≡_, refl, sym, ap, _∙_}
 use mathlib.Core.List.{List, [], _∷_}
@@ -31,7 +32,8 @@ use Rattle.seen.specs.declared.Lent.the-variants as seenLent
 use Rattle.seen.specs.declared.Insert.the-variants as insert
 use Rattle.seen.specs.Entries.{idsOf, holds, until, inserted, live}
 use Rattle.seen.specs.State.{entriesIn, fresh as noIds}
-use Rattle.seen.specs.Calls.{lentOf as seenLentOf, entered, enteredStore, insertAnswer, insertCache, insertStore, gcCache}
+use Rattle.seen.specs.Calls.{lentOf as seenLentOf, entered, enteredStore, insertAnswer, insertCache, insertStore}
+use Rattle.seen.specs.Calls.{gcCache}
 use Rattle.seen.specs.WellFormed.{Sized}
 use Rattle.seen.specs.EntriesLaws.{ids-entries, holds-entries}
 use Rattle.seen.specs.Laws.{gc-entries, gc-fine, gc-sized, insert-says, insert-entries}
@@ -50,14 +52,21 @@ use Rattle.node.specs.declared.Start.the-variants as start
 use Rattle.node.specs.declared.Admit.the-variants as admit
 use Rattle.node.specs.declared.Beat.{Beat}
 use Rattle.node.specs.declared.Beat.the-variants as beat
-use Rattle.node.specs.Gateway.{Gateway, started, marked, isNew, afterAdmit, afterBeat, toldOf, lacking, having, advertisement, request}
+use Rattle.node.specs.Gateway.{Gateway, started, marked, isNew, afterAdmit, afterBeat, toldOf, lacking, having}
+use Rattle.node.specs.Gateway.{advertisement, request}
 use Rattle.node.specs.State.{gatewayIn, legalSettings, freshNode}
-use Rattle.node.specs.Calls.{admitNumber, beatNumber, advertiseNumber, askNumber, serveNumber, startAnswer, startNode, lentOf, laterNode, Plan, no, taken, planFit, planAt, planBody, planned, swept, heldAt, admitAnswer, admitNode, admitSeen, admitCache, whenDone, beatAnswer, beatNode, bytesFor, toldIn, advertiseBytes, advertised, advertiseAnswer, advertiseLeft, offered, unseenFrom, unseenOf, askBytes, asked, askAnswer, askLeft, wanted, rowsFor, cachedOf, servedOf, replyBytes, replyTo, serveAnswer, serveLeft}
+use Rattle.node.specs.Calls.{admitNumber, beatNumber, advertiseNumber, askNumber, serveNumber, startAnswer}
+use Rattle.node.specs.Calls.{startNode, lentOf, laterNode, Plan, no, taken, planFit, planAt, planBody, planned}
+use Rattle.node.specs.Calls.{swept, heldAt, admitAnswer, admitNode, admitSeen, admitCache, whenDone, beatAnswer}
+use Rattle.node.specs.Calls.{beatNode, bytesFor, toldIn, advertiseBytes, advertised, advertiseAnswer}
+use Rattle.node.specs.Calls.{advertiseLeft, offered, unseenFrom, unseenOf, askBytes, asked, askAnswer, askLeft}
+use Rattle.node.specs.Calls.{wanted, rowsFor, cachedOf, servedOf, replyBytes, replyTo, serveAnswer, serveLeft}
 use Rattle.node.specs.WellFormed.{Typed}
 use Rattle.node.specs.StateLaws.{fine-tests, room-cap}
 
 -- ---- start
-pub fresh-gateway : (ttl max-seen history max : ℕ) (ss cs : List ℕ) → gatewayIn (freshNode ttl max-seen history max) ss cs ≡ started ttl max-seen history max
+pub fresh-gateway : (ttl max-seen history max : ℕ) (ss cs : List ℕ)
+    → gatewayIn (freshNode ttl max-seen history max) ss cs ≡ started ttl max-seen history max
 unfolding gatewayIn freshNode started noIds noMessages entriesIn cachedIn rowsIn
 fresh-gateway ttl max-seen history max ss cs = refl
 
@@ -66,7 +75,8 @@ pub start-gateway : (ttl max-seen history max : ℕ) (ss cs : List ℕ) → lega
 unfolding startNode
 start-gateway ttl max-seen history max ss cs h = rw h (fresh-gateway ttl max-seen history max ss cs)
 
-pub start-says : (max-seen history max : ℕ) → legalSettings max-seen history max ≡ true → startAnswer max-seen history max ≡ start.Started
+pub start-says : (max-seen history max : ℕ) → legalSettings max-seen history max ≡ true
+    → startAnswer max-seen history max ≡ start.Started
 unfolding startAnswer
 start-says max-seen history max h = rw h
 
@@ -81,7 +91,8 @@ pub record Takes (n : Node) (ss cs : List ℕ) (word : Bool) (at : ℕ) (m id : 
   pub own : givesId m id ≡ true
 
 module _ (n : Node) (ss cs : List ℕ) (word : Bool) (at : ℕ) (m id : List ℕ) (fine : lentOf n ss cs ≡ lent.Fine) where
-  of-fit : (p : List ℕ) (k : ℕ) (r : Admission) → counted kind.RawMessage p ≡ count.Records k → admissionOf p word ≡ r → planFit n at p r ≡ taken m id → Takes n ss cs word at m id
+  of-fit : (p : List ℕ) (k : ℕ) (r : Admission) → counted kind.RawMessage p ≡ count.Records k → admissionOf p word ≡ r
+      → planFit n at p r ≡ taken m id → Takes n ss cs word at m id
   of-fit p k (admission.Unfit why) c e h = clash (cc)
   of-fit p k (admission.Fit x y z w) c e h =
       either (ltb at (n .clock))
@@ -100,33 +111,42 @@ module _ (n : Node) (ss cs : List ℕ) (word : Bool) (at : ℕ) (m id : List ℕ
         own = rw (← a, ← b) (gives-own p k x y z w c (rw v at e));
       })
 
-  of-at : (body : List ℕ) (i : ℕ) (r : MessageAt) → acceptOf body ≡ checked.Fine → messageAt body i ≡ r → planAt n at word body r ≡ taken m id → Takes n ss cs word at m id
+  of-at : (body : List ℕ) (i : ℕ) (r : MessageAt) → acceptOf body ≡ checked.Fine → messageAt body i ≡ r
+      → planAt n at word body r ≡ taken m id → Takes n ss cs word at m id
   of-at body i (found.Count k) a e h = clash (cc)
   of-at body i (found.At x y) a e h =
       let q = message-read body i x y a e in
       of-fit (between body x y) (q .0) (admissionOf (between body x y) word) (q .1) refl h
 
-  of-body : (body : List ℕ) (i : ℕ) (r : Checked) → acceptOf body ≡ r → planBody n at word body i r ≡ taken m id → Takes n ss cs word at m id
+  of-body : (body : List ℕ) (i : ℕ) (r : Checked) → acceptOf body ≡ r → planBody n at word body i r ≡ taken m id
+      → Takes n ss cs word at m id
   of-body body i (checked.Refused why) a h = clash (cc)
   of-body body i checked.Fine a h = of-at body i (messageAt body i) a refl h
 
-of-lent : (n : Node) (ss cs body : List ℕ) (i : ℕ) (word : Bool) (at : ℕ) (m id : List ℕ) (l : Lent) → lentOf n ss cs ≡ l → planned n ss cs body i word at ≡ taken m id → Takes n ss cs word at m id
+of-lent : (n : Node) (ss cs body : List ℕ) (i : ℕ) (word : Bool) (at : ℕ) (m id : List ℕ) (l : Lent)
+    → lentOf n ss cs ≡ l → planned n ss cs body i word at ≡ taken m id → Takes n ss cs word at m id
 unfolding planned
 of-lent n ss cs body i word at m id (lent.Faulty why) e h = clash (let q = rw e at h in cc)
-of-lent n ss cs body i word at m id lent.Fine e h = of-body n ss cs word at m id e body i (acceptOf body) refl (rw e at h)
+of-lent n ss cs body i word at m id lent.Fine e h =
+    of-body n ss cs word at m id e body i (acceptOf body) refl (rw e at h)
 
-pub plan-takes : (n : Node) (ss cs body : List ℕ) (i : ℕ) (word : Bool) (at : ℕ) (m id : List ℕ) → planned n ss cs body i word at ≡ taken m id → Takes n ss cs word at m id
+pub plan-takes : (n : Node) (ss cs body : List ℕ) (i : ℕ) (word : Bool) (at : ℕ) (m id : List ℕ)
+    → planned n ss cs body i word at ≡ taken m id → Takes n ss cs word at m id
 plan-takes n ss cs body i word at m id h = of-lent n ss cs body i word at m id (lentOf n ss cs) refl h
 
 -- where nothing is refused, the message at the index is taken, under its id
-pub plan-taken : (n : Node) (ss cs body : List ℕ) (i at a e x y z w : ℕ) → lentOf n ss cs ≡ lent.Fine → acceptOf body ≡ checked.Fine → messageAt body i ≡ found.At a e
-    → admissionOf (between body a e) true ≡ admission.Fit x y z w → n .clock ≤ at → planned n ss cs body i true at ≡ taken (between body a e) (idBytes (between body a e) x y z w)
+pub plan-taken : (n : Node) (ss cs body : List ℕ) (i at a e x y z w : ℕ) → lentOf n ss cs ≡ lent.Fine
+    → acceptOf body ≡ checked.Fine → messageAt body i ≡ found.At a e
+    → admissionOf (between body a e) true ≡ admission.Fit x y z w → n .clock ≤ at
+    → planned n ss cs body i true at ≡ taken (between body a e) (idBytes (between body a e) x y z w)
 unfolding planned
 plan-taken n ss cs body i at a e x y z w fine ok there fit h = rw (fine, ok, there, fit, le-ltb at (n .clock) h)
 
 -- a message that gives an id is taken under it, where the clock does not go back
-pub fit-plan : (n : Node) (at : ℕ) (m id : List ℕ) → givesId m id ≡ true → n .clock ≤ at → planFit n at m (admissionOf m true) ≡ taken m id
-fit-plan n at m id own h = let g = gives-only m id own in rw (g .taken, le-ltb at (n .clock) h) (ap (λ (i : List ℕ). taken m i) (sym (g .named)))
+pub fit-plan : (n : Node) (at : ℕ) (m id : List ℕ) → givesId m id ≡ true → n .clock ≤ at
+    → planFit n at m (admissionOf m true) ≡ taken m id
+fit-plan n at m id own h = let g = gives-only m id own in
+    rw (g .taken, le-ltb at (n .clock) h) (ap (λ (i : List ℕ). taken m i) (sym (g .named)))
 
 -- ---- the ids seen, after a clean-up and an insert: what the seen cache's own calls leave
 module _ (n : Node) (ss cs : List ℕ) (fine : lentOf n ss cs ≡ lent.Fine) (at : ℕ) where
@@ -135,9 +155,11 @@ module _ (n : Node) (ss cs : List ℕ) (fine : lentOf n ss cs ≡ lent.Fine) (at
   swept-gc = let t = fine-tests n ss cs fine in rw (t .ids, room-cap n ss (t .room))
 
   pub entries-swept : entriesIn (n .«max_seen») (swept n at) ss ≡ live at (entriesIn (n .«max_seen») (n .seen) ss)
-  entries-swept = let t = fine-tests n ss cs fine in rw (swept-gc, ← room-cap n ss (t .room)) (gc-entries (n .seen) ss (t .ids) at)
+  entries-swept = let t = fine-tests n ss cs fine in
+      rw (swept-gc, ← room-cap n ss (t .room)) (gc-entries (n .seen) ss (t .ids) at)
 
-  pub held-swept : (id : List ℕ) → holds (marked id) (live at (entriesIn (n .«max_seen») (n .seen) ss)) ≡ heldAt n ss at id
+  pub held-swept : (id : List ℕ) → holds (marked id) (live at (entriesIn (n .«max_seen») (n .seen) ss))
+      ≡ heldAt n ss at id
   unfolding heldAt
   held-swept id = ap (holds (marked id)) (sym entries-swept) ∙ holds-entries (n .«max_seen») (swept n at) ss (marked id)
 
@@ -153,7 +175,8 @@ module _ (n : Node) (ss cs : List ℕ) (fine : lentOf n ss cs ≡ lent.Fine) (at
     swept-sized = rw swept-gc (gc-sized (n .seen) ss (fine-tests n ss cs fine .ids) z at)
 
     module _ (id : List ℕ) (k : length id ≤ messageIdSize) where
-      insert-answer : insertAnswer (n .«max_seen») (swept n at) ss (marked id) ≡ cond (heldAt n ss at id) insert.Held insert.Fresh
+      insert-answer : insertAnswer (n .«max_seen») (swept n at) ss (marked id) ≡ cond (heldAt n ss at id) insert.Held
+          insert.Fresh
       unfolding heldAt
       insert-answer =
           let c = room-cap n ss (fine-tests n ss cs fine .room) in
@@ -161,35 +184,43 @@ module _ (n : Node) (ss cs : List ℕ) (fine : lentOf n ss cs ≡ lent.Fine) (at
           (rw c at (insert-says (swept n at) ss swept-fine (n .«max_seen») (marked id) (omega arith) (omega arith)))
 
       -- what an admit leaves
-      pub seen-inserted : cond (heldAt n ss at id) (swept n at) (entered (n .«max_seen») (n .«max_seen») (length (marked id)) (until at (n .ttl)) (swept n at))
+      pub seen-inserted : cond (heldAt n ss at id) (swept n at)
+          (entered (n .«max_seen») (n .«max_seen») (length (marked id)) (until at (n .ttl)) (swept n at))
           ≡ insertCache (n .«max_seen») at (n .ttl) (swept n at) ss (marked id)
       unfolding insertCache
       seen-inserted =
           let c = room-cap n ss (fine-tests n ss cs fine .room) in
           rw (insert-answer, c) (either (heldAt n ss at id) (λ t. rw t) (λ t. rw t))
 
-      pub store-inserted : cond (heldAt n ss at id) ss (enteredStore (n .«max_seen») (n .«max_seen») (swept n at) ss (marked id))
+      pub store-inserted : cond (heldAt n ss at id) ss (enteredStore (n .«max_seen») (n .«max_seen») (swept n at) ss
+          (marked id))
           ≡ insertStore (n .«max_seen») (swept n at) ss (marked id)
       unfolding insertStore
       store-inserted =
           let c = room-cap n ss (fine-tests n ss cs fine .room) in
           rw (insert-answer, c) (either (heldAt n ss at id) (λ t. rw t) (λ t. rw t))
 
-      pub entries-inserted : entriesIn (n .«max_seen») (insertCache (n .«max_seen») at (n .ttl) (swept n at) ss (marked id)) (insertStore (n .«max_seen») (swept n at) ss (marked id))
+      pub entries-inserted : entriesIn (n .«max_seen»)
+          (insertCache (n .«max_seen») at (n .ttl) (swept n at) ss (marked id))
+          (insertStore (n .«max_seen») (swept n at) ss (marked id))
           ≡ inserted (n .«max_seen») (marked id) at (n .ttl) (live at (entriesIn (n .«max_seen») (n .seen) ss))
       entries-inserted =
           let c = room-cap n ss (fine-tests n ss cs fine .room) in
           rw (← entries-swept)
-          (rw c at (insert-entries (swept n at) ss swept-fine swept-sized (n .«max_seen») at (n .ttl) (marked id) (omega arith) (omega arith)))
+          (rw c at (insert-entries (swept n at) ss swept-fine swept-sized (n .«max_seen») at (n .ttl) (marked id)
+          (omega arith) (omega arith)))
 
 -- ---- admit
-module _ (n : Node) (ss cs body : List ℕ) (i : ℕ) (word : Bool) (at : ℕ) (m id : List ℕ) (typed : Typed n) (plan : planned n ss cs body i word at ≡ taken m id) where
-  pub admit-says : admitAnswer n ss at (planned n ss cs body i word at) ≡ cond (isNew at id (gatewayIn n ss cs)) admit.New admit.Duplicate
+module _ (n : Node) (ss cs body : List ℕ) (i : ℕ) (word : Bool) (at : ℕ) (m id : List ℕ) (typed : Typed n)
+    (plan : planned n ss cs body i word at ≡ taken m id) where
+  pub admit-says : admitAnswer n ss at (planned n ss cs body i word at) ≡ cond (isNew at id (gatewayIn n ss cs))
+      admit.New admit.Duplicate
   admit-says =
       let t = plan-takes n ss cs body i word at m id plan in
       rw (plan, is-new n ss cs (t .fine) at id) (either (heldAt n ss at id) (λ u. rw u) (λ u. rw u))
 
-  pub admit-gateway : gatewayIn (admitNode n ss at (planned n ss cs body i word at)) (admitSeen n ss at (planned n ss cs body i word at)) (admitCache n ss cs at (planned n ss cs body i word at))
+  pub admit-gateway : gatewayIn (admitNode n ss at (planned n ss cs body i word at))
+      (admitSeen n ss at (planned n ss cs body i word at)) (admitCache n ss cs at (planned n ss cs body i word at))
       ≡ afterAdmit at m id (gatewayIn n ss cs)
   unfolding gatewayIn afterAdmit laterNode
   admit-gateway =
@@ -204,29 +235,34 @@ module _ (n : Node) (ss cs body : List ℕ) (i : ℕ) (word : Bool) (at : ℕ) (
       (either (heldAt n ss at id) (λ u. rw u) (λ u. rw (u, c, s .0, s .1)))
 
 -- ---- heartbeat
-beat-passes : (n : Node) (ss cs : List ℕ) (at : ℕ) (l : Lent) → lentOf n ss cs ≡ l → beatAnswer n ss cs at ≡ beat.Done → lentOf n ss cs ≡ lent.Fine
+beat-passes : (n : Node) (ss cs : List ℕ) (at : ℕ) (l : Lent) → lentOf n ss cs ≡ l → beatAnswer n ss cs at ≡ beat.Done
+    → lentOf n ss cs ≡ lent.Fine
 unfolding beatAnswer
 beat-passes n ss cs at (lent.Faulty why) e h = clash (let q = rw e at h in cc)
 beat-passes n ss cs at lent.Fine e h = e
 
 -- a heartbeat that is done: the node passed, and the clock did not go back
-pub beat-done : (n : Node) (ss cs : List ℕ) (at : ℕ) → beatAnswer n ss cs at ≡ beat.Done → (lentOf n ss cs ≡ lent.Fine) × (n .clock ≤ at)
+pub beat-done : (n : Node) (ss cs : List ℕ) (at : ℕ) → beatAnswer n ss cs at ≡ beat.Done → (lentOf n ss cs ≡ lent.Fine)
+    × (n .clock ≤ at)
 unfolding beatAnswer
 beat-done n ss cs at h =
     let f = beat-passes n ss cs at (lentOf n ss cs) refl h in
     (f, either (ltb at (n .clock)) (λ t. clash (let q = rw (f, t) at h in cc)) (λ t. ltb-false at (n .clock) t))
 
 -- and where it is done
-pub beat-says : (n : Node) (ss cs : List ℕ) (at : ℕ) → lentOf n ss cs ≡ lent.Fine → n .clock ≤ at → beatAnswer n ss cs at ≡ beat.Done
+pub beat-says : (n : Node) (ss cs : List ℕ) (at : ℕ) → lentOf n ss cs ≡ lent.Fine → n .clock ≤ at
+    → beatAnswer n ss cs at ≡ beat.Done
 unfolding beatAnswer
 beat-says n ss cs at f h = rw (f, le-ltb at (n .clock) h)
 
 -- it sets the clock
-pub beat-clock : (n : Node) (ss cs : List ℕ) (at : ℕ) → beatAnswer n ss cs at ≡ beat.Done → beatNode n ss cs at .clock ≡ at
+pub beat-clock : (n : Node) (ss cs : List ℕ) (at : ℕ) → beatAnswer n ss cs at ≡ beat.Done
+    → beatNode n ss cs at .clock ≡ at
 unfolding beatNode laterNode
 beat-clock n ss cs at h = rw h
 
-pub beat-gateway : (n : Node) (ss cs : List ℕ) (at : ℕ) → Typed n → beatAnswer n ss cs at ≡ beat.Done → gatewayIn (beatNode n ss cs at) ss cs ≡ afterBeat at (gatewayIn n ss cs)
+pub beat-gateway : (n : Node) (ss cs : List ℕ) (at : ℕ) → Typed n → beatAnswer n ss cs at ≡ beat.Done
+    → gatewayIn (beatNode n ss cs at) ss cs ≡ afterBeat at (gatewayIn n ss cs)
 unfolding beatNode gatewayIn afterBeat laterNode
 beat-gateway n ss cs at typed h =
     let d = beat-done n ss cs at h in
@@ -238,7 +274,8 @@ beat-gateway n ss cs at typed h =
 
 -- ---- what the other calls speak of
 -- the ids that are told of
-pub told-gateway : (n : Node) (ss cs topic : List ℕ) (windows : ℕ) → lentOf n ss cs ≡ lent.Fine → toldIn n cs topic windows ≡ toldOf topic windows (gatewayIn n ss cs)
+pub told-gateway : (n : Node) (ss cs topic : List ℕ) (windows : ℕ) → lentOf n ss cs ≡ lent.Fine
+    → toldIn n cs topic windows ≡ toldOf topic windows (gatewayIn n ss cs)
 unfolding toldIn gatewayIn
 told-gateway n ss cs topic windows f = gossip-ids (n .cache) cs topic windows (fine-tests n ss cs f .messages)
 
@@ -248,16 +285,19 @@ unfolding unseenFrom lacking holds
 unseen-lacking g l [] e = refl
 unseen-lacking g l (i ∷ is) e = rw (e, unseen-lacking g l is e)
 
-pub unseen-gateway : (n : Node) (ss cs : List ℕ) (is : List (List ℕ)) → unseenOf n ss is ≡ lacking (gatewayIn n ss cs) is
+pub unseen-gateway : (n : Node) (ss cs : List ℕ) (is : List (List ℕ))
+    → unseenOf n ss is ≡ lacking (gatewayIn n ss cs) is
 unfolding unseenOf gatewayIn
 unseen-gateway n ss cs is = unseen-lacking (gatewayIn n ss cs) _ is (ids-entries (n .«max_seen») (n .seen) ss)
 
 -- the messages that are served
-found-here : (c : MessageCache) (cs i : List ℕ) → ltb (indexIn c i) (c .count) ≡ true → messageIn (c .len) cs (placeOf (ringOf c) (indexIn c i)) ≡ get i (cachedIn c cs)
+found-here : (c : MessageCache) (cs i : List ℕ) → ltb (indexIn c i) (c .count) ≡ true
+    → messageIn (c .len) cs (placeOf (ringOf c) (indexIn c i)) ≡ get i (cachedIn c cs)
 unfolding foundIn
 found-here c cs i t = rw t at (found-cached c cs i)
 
-cached-more : (c : MessageCache) (cs i : List ℕ) (is l : List (List ℕ)) → cachedOf c cs is ≡ l → cachedOf c cs (i ∷ is) ≡ cond (ltb (indexIn c i) (c .count)) (get i (cachedIn c cs) ∷ l) l
+cached-more : (c : MessageCache) (cs i : List ℕ) (is l : List (List ℕ)) → cachedOf c cs is ≡ l
+    → cachedOf c cs (i ∷ is) ≡ cond (ltb (indexIn c i) (c .count)) (get i (cachedIn c cs) ∷ l) l
 unfolding cachedOf rowsFor indexIn idsIn
 cached-more c cs i is l e =
     let n = length-ring (idAt messageIdSize (c .«id_len») (c .ids)) (ringOf c) in
@@ -266,7 +306,8 @@ cached-more c cs i is l e =
     (λ t. rw (t, e, found-here c cs i t))
     (λ t. rw (t, e)))
 
-cached-having : (g : Gateway) (c : MessageCache) (cs : List ℕ) (is : List (List ℕ)) → g .cache ≡ cachedIn c cs → cachedOf c cs is ≡ having g is
+cached-having : (g : Gateway) (c : MessageCache) (cs : List ℕ) (is : List (List ℕ)) → g .cache ≡ cachedIn c cs
+    → cachedOf c cs is ≡ having g is
 unfolding cachedOf rowsFor having
 cached-having g c cs [] e = refl
 cached-having g c cs (i ∷ is) e =
@@ -275,22 +316,32 @@ cached-having g c cs (i ∷ is) e =
     ∙ ap (λ (b : Bool). cond b (get i (cachedIn c cs) ∷ l) l) (sym (held-index c cs i))
     ∙ ap (λ (ms : List Cached). cond (held i ms) (get i ms ∷ l) l) (sym e)
 
-pub cached-gateway : (n : Node) (ss cs : List ℕ) (is : List (List ℕ)) → cachedOf (n .cache) cs is ≡ having (gatewayIn n ss cs) is
+pub cached-gateway : (n : Node) (ss cs : List ℕ) (is : List (List ℕ))
+    → cachedOf (n .cache) cs is ≡ having (gatewayIn n ss cs) is
 unfolding gatewayIn
 cached-gateway n ss cs is = cached-having (gatewayIn n ss cs) (n .cache) cs is refl
 
 -- ---- what is written, where nothing is refused before
 module _ (n : Node) (ss cs out : List ℕ) (fine : lentOf n ss cs ≡ lent.Fine) where
   pub advertise-says : (topic : List ℕ) (windows : ℕ) → length topic ≤ 1024
-      → (advertiseAnswer n ss cs topic windows out ≡ advertised (answer (bytesFor (toldOf topic windows (gatewayIn n ss cs)) (advertisement topic (toldOf topic windows (gatewayIn n ss cs)))) out))
-      × (advertiseLeft n ss cs topic windows out ≡ written (bytesFor (toldOf topic windows (gatewayIn n ss cs)) (advertisement topic (toldOf topic windows (gatewayIn n ss cs)))) out)
+      → (advertiseAnswer n ss cs topic windows out ≡ advertised
+      (answer (bytesFor (toldOf topic windows (gatewayIn n ss cs))
+      (advertisement topic (toldOf topic windows (gatewayIn n ss cs)))) out))
+      × (advertiseLeft n ss cs topic windows out ≡ written
+      (bytesFor (toldOf topic windows (gatewayIn n ss cs))
+      (advertisement topic (toldOf topic windows (gatewayIn n ss cs)))) out)
   unfolding advertiseAnswer advertiseLeft advertiseBytes
   advertise-says topic windows h =
       rw (fine, le-ltb 1024 (length topic) h, told-gateway n ss cs topic windows fine) (refl, refl)
 
   module _ (body : List ℕ) (ok : acceptOf body ≡ checked.Fine) where
-    pub ask-says : (askAnswer n ss cs body out ≡ asked (answer (bytesFor (lacking (gatewayIn n ss cs) (offered body)) (request (lacking (gatewayIn n ss cs) (offered body)))) out))
-        × (askLeft n ss cs body out ≡ written (bytesFor (lacking (gatewayIn n ss cs) (offered body)) (request (lacking (gatewayIn n ss cs) (offered body)))) out)
+    pub ask-says : (askAnswer n ss cs body out
+        ≡ asked (answer
+        (bytesFor (lacking (gatewayIn n ss cs) (offered body)) (request (lacking (gatewayIn n ss cs) (offered body))))
+        out))
+        × (askLeft n ss cs body out ≡ written
+        (bytesFor (lacking (gatewayIn n ss cs) (offered body))
+        (request (lacking (gatewayIn n ss cs) (offered body)))) out)
     unfolding askAnswer askLeft askBytes
     ask-says = rw (fine, ok, unseen-gateway n ss cs (offered body)) (refl, refl)
 
@@ -300,12 +351,16 @@ module _ (n : Node) (ss cs out : List ℕ) (fine : lentOf n ss cs ≡ lent.Fine)
     serve-says = rw (fine, ok, cached-gateway n ss cs (wanted body)) (refl, refl)
 
 -- ---- a refused call changes nothing
-plan-refused : (n : Node) (ss cs : List ℕ) (at : ℕ) (r : Plan) → (admitNumber (admitAnswer n ss at r) ≡ 0 → ⊥) → (admitNode n ss at r ≡ n) × (admitSeen n ss at r ≡ ss) × (admitCache n ss cs at r ≡ cs)
+plan-refused : (n : Node) (ss cs : List ℕ) (at : ℕ) (r : Plan) → (admitNumber (admitAnswer n ss at r) ≡ 0 → ⊥)
+    → (admitNode n ss at r ≡ n) × (admitSeen n ss at r ≡ ss) × (admitCache n ss cs at r ≡ cs)
 plan-refused n ss cs at (no r) h = (refl, refl, refl)
 plan-refused n ss cs at (taken m id) h = absurd (h (either (heldAt n ss at id) (λ t. rw t) (λ t. rw t)))
 
-pub admit-refused : (n : Node) (ss cs body : List ℕ) (i : ℕ) (word : Bool) (at : ℕ) → (admitNumber (admitAnswer n ss at (planned n ss cs body i word at)) ≡ 0 → ⊥)
-    → (admitNode n ss at (planned n ss cs body i word at) ≡ n) × (admitSeen n ss at (planned n ss cs body i word at) ≡ ss) × (admitCache n ss cs at (planned n ss cs body i word at) ≡ cs)
+pub admit-refused : (n : Node) (ss cs body : List ℕ) (i : ℕ) (word : Bool) (at : ℕ)
+    → (admitNumber (admitAnswer n ss at (planned n ss cs body i word at)) ≡ 0 → ⊥)
+    → (admitNode n ss at (planned n ss cs body i word at) ≡ n)
+    × (admitSeen n ss at (planned n ss cs body i word at) ≡ ss)
+    × (admitCache n ss cs at (planned n ss cs body i word at) ≡ cs)
 admit-refused n ss cs body i word at h = plan-refused n ss cs at (planned n ss cs body i word at) h
 
 -- a heartbeat is not given the stores to write
@@ -314,7 +369,8 @@ done-or-not n d beat.Done h = absurd (h refl)
 done-or-not n d (beat.Faulty why) h = refl
 done-or-not n d (beat.ClockBack clock) h = refl
 
-pub beat-refused : (n : Node) (ss cs : List ℕ) (at : ℕ) → (beatNumber (beatAnswer n ss cs at) ≡ 0 → ⊥) → beatNode n ss cs at ≡ n
+pub beat-refused : (n : Node) (ss cs : List ℕ) (at : ℕ) → (beatNumber (beatAnswer n ss cs at) ≡ 0 → ⊥)
+    → beatNode n ss cs at ≡ n
 unfolding beatNode
 beat-refused n ss cs at h = done-or-not n (laterNode at (swept n at) (shifted (n .cache)) n) (beatAnswer n ss cs at) h
 
@@ -324,7 +380,8 @@ unfolding written
 written-not xs out h = either (leb (length xs) (length out)) (λ t. absurd (h t)) (λ t. rw t)
 
 module _ (n : Node) (ss cs out : List ℕ) where
-  advertise-by : (topic : List ℕ) (windows : ℕ) (l : Lent) → lentOf n ss cs ≡ l → (advertiseNumber (advertiseAnswer n ss cs topic windows out) ≡ 0 → ⊥)
+  advertise-by : (topic : List ℕ) (windows : ℕ) (l : Lent) → lentOf n ss cs ≡ l
+      → (advertiseNumber (advertiseAnswer n ss cs topic windows out) ≡ 0 → ⊥)
       → advertiseLeft n ss cs topic windows out ≡ out
   unfolding advertiseAnswer advertiseLeft answer
   advertise-by topic windows (lent.Faulty why) e h = rw e
@@ -332,10 +389,13 @@ module _ (n : Node) (ss cs out : List ℕ) where
       either (ltb 1024 (length topic)) (λ t. rw (e, t))
       (λ t. rw (e, t) (written-not (advertiseBytes n cs topic windows) out (λ u. h (rw (e, t, u)))))
 
-  pub advertise-refused : (topic : List ℕ) (windows : ℕ) → (advertiseNumber (advertiseAnswer n ss cs topic windows out) ≡ 0 → ⊥) → advertiseLeft n ss cs topic windows out ≡ out
+  pub advertise-refused : (topic : List ℕ) (windows : ℕ)
+      → (advertiseNumber (advertiseAnswer n ss cs topic windows out) ≡ 0 → ⊥)
+      → advertiseLeft n ss cs topic windows out ≡ out
   advertise-refused topic windows h = advertise-by topic windows (lentOf n ss cs) refl h
 
-  ask-by : (body : List ℕ) (l : Lent) (r : Checked) → lentOf n ss cs ≡ l → acceptOf body ≡ r → (askNumber (askAnswer n ss cs body out) ≡ 0 → ⊥) → askLeft n ss cs body out ≡ out
+  ask-by : (body : List ℕ) (l : Lent) (r : Checked) → lentOf n ss cs ≡ l → acceptOf body ≡ r
+      → (askNumber (askAnswer n ss cs body out) ≡ 0 → ⊥) → askLeft n ss cs body out ≡ out
   unfolding askAnswer askLeft answer
   ask-by body (lent.Faulty why) r e a h = rw e
   ask-by body lent.Fine (checked.Refused why) e a h = rw (e, a)
@@ -353,11 +413,14 @@ module _ (n : Node) (ss cs out : List ℕ) where
       (λ t. rw (eqb-true (servedOf (m ∷ ms) out) 0 t))
       (λ t. absurd (h (rw t)))
 
-  serve-by : (body : List ℕ) (l : Lent) (r : Checked) → lentOf n ss cs ≡ l → acceptOf body ≡ r → (serveNumber (serveAnswer n ss cs body out) ≡ 0 → ⊥) → serveLeft n ss cs body out ≡ out
+  serve-by : (body : List ℕ) (l : Lent) (r : Checked) → lentOf n ss cs ≡ l → acceptOf body ≡ r
+      → (serveNumber (serveAnswer n ss cs body out) ≡ 0 → ⊥) → serveLeft n ss cs body out ≡ out
   unfolding serveAnswer serveLeft
   serve-by body (lent.Faulty why) r e a h = rw e
   serve-by body lent.Fine (checked.Refused why) e a h = rw (e, a)
-  serve-by body lent.Fine checked.Fine e a h = rw (e, a) (reply-refused (cachedOf (n .cache) cs (wanted body)) (λ u. h (rw (e, a) u)))
+  serve-by body lent.Fine checked.Fine e a h =
+      rw (e, a) (reply-refused (cachedOf (n .cache) cs (wanted body)) (λ u. h (rw (e, a) u)))
 
-  pub serve-refused : (body : List ℕ) → (serveNumber (serveAnswer n ss cs body out) ≡ 0 → ⊥) → serveLeft n ss cs body out ≡ out
+  pub serve-refused : (body : List ℕ) → (serveNumber (serveAnswer n ss cs body out) ≡ 0 → ⊥)
+      → serveLeft n ss cs body out ≡ out
   serve-refused body h = serve-by body (lentOf n ss cs) (acceptOf body) refl refl h

@@ -42,10 +42,14 @@ use Rattle.node.specs.declared.Advertised.{Advertised}
 use Rattle.node.specs.declared.Asked.{Asked}
 use Rattle.node.specs.declared.Served.{Served}
 use Rattle.node.specs.State.{gatewayIn}
-use Rattle.node.specs.Calls.{lentOf, whenFine, taken, planned, admitAnswer, admitNode, admitSeen, admitCache, beatAnswer, beatNode, bytesFor, advertiseAnswer, offered, unseenOf, askBytes, askAnswer, whenTaken, wanted, cachedOf, roomOf, servedOf, replyBytes, replyTo, serveAnswer, serveLeft}
+use Rattle.node.specs.Calls.{lentOf, whenFine, taken, planned, admitAnswer, admitNode, admitSeen, admitCache}
+use Rattle.node.specs.Calls.{beatAnswer, beatNode, bytesFor, advertiseAnswer, offered, unseenOf, askBytes}
+use Rattle.node.specs.Calls.{askAnswer, whenTaken, wanted, cachedOf, roomOf, servedOf, replyBytes, replyTo}
+use Rattle.node.specs.Calls.{serveAnswer, serveLeft}
 use Rattle.node.specs.WellFormed.{Typed}
 use Rattle.node.specs.StateLaws.{fine-tests, room-cap}
-use Rattle.node.specs.Laws.{plan-takes, plan-taken, admit-says, admit-gateway, beat-says, beat-clock, unseen-gateway, cached-gateway}
+use Rattle.node.specs.Laws.{plan-takes, plan-taken, admit-says, admit-gateway, beat-says, beat-clock}
+use Rattle.node.specs.Laws.{unseen-gateway, cached-gateway}
 use Rattle.node.specs.Gateway.{Gateway, started, marked, isNew, afterAdmit, afterBeat, lacking, having, request}
 use Rattle.node.specs.WellFormedLaws.{expiriesOf, beat-fine}
 
@@ -53,12 +57,17 @@ use Rattle.node.specs.WellFormedLaws.{expiriesOf, beat-fine}
 holds-last : (i : List ℕ) (es : List Entry) (e : ℕ) → holds i (es ++ (record { id = i; expiry = e } ∷ [])) ≡ true
 unfolding holds among
 holds-last i es e =
-    rw (map-append (λ (x : Entry). x .id) es (record { id = i; expiry = e } ∷ []), among-append i (entries.idsOf es) (i ∷ []), same-self i) (or-true (among i (entries.idsOf es)))
+    rw (
+      map-append (λ (x : Entry). x .id) es (record { id = i; expiry = e } ∷ []),
+      among-append i (entries.idsOf es) (i ∷ []),
+      same-self i,
+    ) (or-true (among i (entries.idsOf es)))
 
 held-last : (i m : List ℕ) (ms : List Cached) → held i (ms ++ (new i m ∷ [])) ≡ true
 unfolding held among
 held-last i m ms =
-    rw (map-append (λ (x : Cached). x .id) ms (new i m ∷ []), among-append i (messages.idsOf ms) (i ∷ []), same-self i) (or-true (among i (messages.idsOf ms)))
+    rw (map-append (λ (x : Cached). x .id) ms (new i m ∷ []), among-append i (messages.idsOf ms) (i ∷ []), same-self i)
+    (or-true (among i (messages.idsOf ms)))
 
 get-last : (i m : List ℕ) (ms : List Cached) → held i ms ≡ false → get i (ms ++ (new i m ∷ [])) ≡ m
 unfolding held among get
@@ -77,15 +86,25 @@ module _ (at : ℕ) (m id : List ℕ) (g : Gateway) (fresh : isNew at id g ≡ t
   unfolding afterAdmit isNew inserted
   new-is-seen some =
       let es = live at (g .seen) in
-      rw (sym (Bool·not-not (holds (marked id) es)) ∙ ap not fresh, newest-more (g .max-seen) es (record { id = marked id; expiry = until at (g .ttl) }) some)
+      rw (
+        sym (Bool·not-not (holds (marked id) es)) ∙ ap not fresh,
+        newest-more (g .max-seen) es (record { id = marked id; expiry = until at (g .ttl) }) some,
+      )
       (holds-last (marked id) (drop ((length es + 1) - g .max-seen) es) (until at (g .ttl)))
 
   -- and its message is served
-  pub new-is-served : (g .max-messages ≡ 0 → ⊥) → held id (g .cache) ≡ false → having (afterAdmit at m id g) (id ∷ []) ≡ m ∷ []
+  pub new-is-served : (g .max-messages ≡ 0 → ⊥) → held id (g .cache) ≡ false
+      → having (afterAdmit at m id g) (id ∷ []) ≡ m ∷ []
   unfolding having afterAdmit put
   new-is-served some h =
       let k = (length (g .cache) + 1) - g .max-messages in
-      rw (fresh, h, newest-more (g .max-messages) (g .cache) (new id m) some, held-last id m (drop k (g .cache)), get-last id m (drop k (g .cache)) (held-drop id k (g .cache) h))
+      rw (
+        fresh,
+        h,
+        newest-more (g .max-messages) (g .cache) (new id m) some,
+        held-last id m (drop k (g .cache)),
+        get-last id m (drop k (g .cache)) (held-drop id k (g .cache) h),
+      )
 
 -- an id that is seen is not asked for
 seen-not-asked : (g : Gateway) (id : List ℕ) → holds (marked id) (g .seen) ≡ true → lacking g (id ∷ []) ≡ []
@@ -103,18 +122,25 @@ module _ (n : Node) (ss cs body : List ℕ) (i : ℕ) (word : Bool) (at : ℕ) (
         either (isNew at id (gatewayIn n ss cs)) (λ t. t) (λ t. clash (let z = rw (t, says) at s in cc))
 
     pub admitted-not-asked : (n .«max_seen» ≡ 0 → ⊥)
-        → unseenOf (admitNode n ss at (planned n ss cs body i word at)) (admitSeen n ss at (planned n ss cs body i word at)) (id ∷ []) ≡ []
+        → unseenOf (admitNode n ss at (planned n ss cs body i word at))
+        (admitSeen n ss at (planned n ss cs body i word at)) (id ∷ []) ≡ []
     unfolding gatewayIn
     admitted-not-asked some =
-        unseen-gateway (admitNode n ss at (planned n ss cs body i word at)) (admitSeen n ss at (planned n ss cs body i word at)) (admitCache n ss cs at (planned n ss cs body i word at)) (id ∷ [])
+        unseen-gateway (admitNode n ss at (planned n ss cs body i word at))
+        (admitSeen n ss at (planned n ss cs body i word at))
+        (admitCache n ss cs at (planned n ss cs body i word at)) (id ∷ [])
         ∙ ap (λ (g : Gateway). lacking g (id ∷ [])) (admit-gateway n ss cs body i word at m id typed plan)
-        ∙ seen-not-asked (afterAdmit at m id (gatewayIn n ss cs)) id (new-is-seen at m id (gatewayIn n ss cs) was-new some)
+        ∙ seen-not-asked (afterAdmit at m id (gatewayIn n ss cs)) id
+        (new-is-seen at m id (gatewayIn n ss cs) was-new some)
 
     pub admitted-served : (n .cache .«max_messages» ≡ 0 → ⊥) → held id (cachedIn (n .cache) cs) ≡ false
-        → cachedOf (admitNode n ss at (planned n ss cs body i word at) .cache) (admitCache n ss cs at (planned n ss cs body i word at)) (id ∷ []) ≡ m ∷ []
+        → cachedOf (admitNode n ss at (planned n ss cs body i word at) .cache)
+        (admitCache n ss cs at (planned n ss cs body i word at)) (id ∷ []) ≡ m ∷ []
     unfolding gatewayIn
     admitted-served some h =
-        cached-gateway (admitNode n ss at (planned n ss cs body i word at)) (admitSeen n ss at (planned n ss cs body i word at)) (admitCache n ss cs at (planned n ss cs body i word at)) (id ∷ [])
+        cached-gateway (admitNode n ss at (planned n ss cs body i word at))
+        (admitSeen n ss at (planned n ss cs body i word at))
+        (admitCache n ss cs at (planned n ss cs body i word at)) (id ∷ [])
         ∙ ap (λ (g : Gateway). having g (id ∷ [])) (admit-gateway n ss cs body i word at m id typed plan)
         ∙ new-is-served at m id (gatewayIn n ss cs) was-new some h
 
@@ -125,7 +151,8 @@ unfolding lacking
 unseen-asked g id h = rw h
 
 -- of the ids named, those and no others
-pub asked-exactly : (g : Gateway) (i : List ℕ) (is : List (List ℕ)) → among i (lacking g is) ≡ (among i is && not (holds (marked i) (g .seen)))
+pub asked-exactly : (g : Gateway) (i : List ℕ) (is : List (List ℕ))
+    → among i (lacking g is) ≡ (among i is && not (holds (marked i) (g .seen)))
 unfolding lacking among
 asked-exactly g i [] = refl
 asked-exactly g i (j ∷ is) =
@@ -133,7 +160,8 @@ asked-exactly g i (j ∷ is) =
     either (sameBytes j i)
     (λ t.
     let e : j ≡ i = same-equal j i t in
-    either (holds (marked i) (g .seen)) (λ u. rw (e, u, same-self i) (rw u at r ∙ and-false (among i is))) (λ u. rw (e, u, same-self i)))
+    either (holds (marked i) (g .seen)) (λ u. rw (e, u, same-self i) (rw u at r ∙ and-false (among i is)))
+    (λ u. rw (e, u, same-self i)))
     (λ t. either (holds (marked j) (g .seen)) (λ u. rw (u, t) r) (λ u. rw (u, t) r))
 
 -- where such an id is named, an RPC is written that asks for it
@@ -142,20 +170,27 @@ unfolding among
 written-for i [] x h = clash (cc)
 written-for i (j ∷ is) x h = refl
 
-pub ask-asks : (n : Node) (ss cs body i : List ℕ) → among i (offered body) ≡ true → holds (marked i) (gatewayIn n ss cs .seen) ≡ false
-    → (among i (unseenOf n ss (offered body)) ≡ true) × (askBytes n ss body ≡ encodeRpc (request (unseenOf n ss (offered body))))
+pub ask-asks : (n : Node) (ss cs body i : List ℕ) → among i (offered body) ≡ true
+    → holds (marked i) (gatewayIn n ss cs .seen) ≡ false
+    → (among i (unseenOf n ss (offered body)) ≡ true)
+    × (askBytes n ss body ≡ encodeRpc (request (unseenOf n ss (offered body))))
 unfolding askBytes
 ask-asks n ss cs body i h k =
-    let e : among i (unseenOf n ss (offered body)) ≡ true = ap (among i) (unseen-gateway n ss cs (offered body)) ∙ asked-exactly (gatewayIn n ss cs) i (offered body) ∙ rw (h, k) in
+    let e : among i (unseenOf n ss (offered body)) ≡ true = ap (among i) (unseen-gateway n ss cs (offered body))
+    ∙ asked-exactly (gatewayIn n ss cs) i (offered body) ∙ rw (h, k) in
     (e, written-for i (unseenOf n ss (offered body)) (request (unseenOf n ss (offered body))) e)
 
 -- ---- serve sends again in every round
--- node k comes after any number of advertises, asks and serves from node n on, as their contracts have them; the stores are lent to be read
+-- node k comes after any number of advertises, asks and serves from node n on, as their contracts have them; the stores
+-- are lent to be read
 pub data Quiet (n : Node) (ss cs : List ℕ) : Node → Type 0 where
   first : Quiet n ss cs n
-  advertises : {k : Node} → Quiet n ss cs k → (topic : List ℕ) (windows : ℕ) (out : List ℕ) (r : Advertised) → r .answer ≡ advertiseAnswer k ss cs topic windows out → r .node ≡ k → Quiet n ss cs (r .node)
-  asks : {k : Node} → Quiet n ss cs k → (body out : List ℕ) (r : Asked) → r .answer ≡ askAnswer k ss cs body out → r .node ≡ k → Quiet n ss cs (r .node)
-  serves : {k : Node} → Quiet n ss cs k → (body out : List ℕ) (r : Served) → r .answer ≡ serveAnswer k ss cs body out → r .node ≡ k → Quiet n ss cs (r .node)
+  advertises : {k : Node} → Quiet n ss cs k → (topic : List ℕ) (windows : ℕ) (out : List ℕ) (r : Advertised)
+      → r .answer ≡ advertiseAnswer k ss cs topic windows out → r .node ≡ k → Quiet n ss cs (r .node)
+  asks : {k : Node} → Quiet n ss cs k → (body out : List ℕ) (r : Asked) → r .answer ≡ askAnswer k ss cs body out
+      → r .node ≡ k → Quiet n ss cs (r .node)
+  serves : {k : Node} → Quiet n ss cs k → (body out : List ℕ) (r : Served) → r .answer ≡ serveAnswer k ss cs body out
+      → r .node ≡ k → Quiet n ss cs (r .node)
 
 quiet-same : {n : Node} {ss cs : List ℕ} {k : Node} → Quiet n ss cs k → k ≡ n
 quiet-same first = refl
@@ -164,17 +199,20 @@ quiet-same (asks q body out r a e) = e ∙ quiet-same q
 quiet-same (serves q body out r a e) = e ∙ quiet-same q
 
 -- a buffer's length is all that a reply takes from it
-reply-same : (ms : List (List ℕ)) (out out2 : List ℕ) → length out2 ≡ length out → (replyTo ms out2 ≡ replyTo ms out) × (replyBytes ms out2 ≡ replyBytes ms out)
+reply-same : (ms : List (List ℕ)) (out out2 : List ℕ) → length out2 ≡ length out → (replyTo ms out2 ≡ replyTo ms out)
+    × (replyBytes ms out2 ≡ replyBytes ms out)
 unfolding replyBytes servedOf roomOf
 reply-same [] out out2 e = (refl, rw e)
 reply-same (m ∷ ms) out out2 e = (rw e, rw e)
 
 -- the bytes that a serve writes at the front of the buffer; none where it is refused
 unfoldable pub servedBytes : Node → List ℕ → List ℕ → List ℕ → List ℕ → List ℕ
-servedBytes n ss cs body out = whenFine (lentOf n ss cs) (whenTaken (acceptOf body) (replyBytes (cachedOf (n .cache) cs (wanted body)) out) []) []
+servedBytes n ss cs body out =
+    whenFine (lentOf n ss cs) (whenTaken (acceptOf body) (replyBytes (cachedOf (n .cache) cs (wanted body)) out) []) []
 
 module _ (n : Node) (ss cs body : List ℕ) where
-  writes-by : (out : List ℕ) (l : Lent) (r : Checked) → lentOf n ss cs ≡ l → acceptOf body ≡ r → serveLeft n ss cs body out ≡ sets out 0 (servedBytes n ss cs body out)
+  writes-by : (out : List ℕ) (l : Lent) (r : Checked) → lentOf n ss cs ≡ l → acceptOf body ≡ r
+      → serveLeft n ss cs body out ≡ sets out 0 (servedBytes n ss cs body out)
   unfolding serveLeft servedBytes
   writes-by out (lent.Faulty why) r e a = rw e
   writes-by out lent.Fine (checked.Refused why) e a = rw (e, a)
@@ -184,7 +222,8 @@ module _ (n : Node) (ss cs body : List ℕ) where
   serve-writes out = writes-by out (lentOf n ss cs) (acceptOf body) refl refl
 
   same-length : (out out2 : List ℕ) → length out2 ≡ length out
-      → (serveAnswer n ss cs body out2 ≡ serveAnswer n ss cs body out) × (servedBytes n ss cs body out2 ≡ servedBytes n ss cs body out)
+      → (serveAnswer n ss cs body out2 ≡ serveAnswer n ss cs body out)
+      × (servedBytes n ss cs body out2 ≡ servedBytes n ss cs body out)
   unfolding serveAnswer servedBytes
   same-length out out2 e =
       let r = reply-same (cachedOf (n .cache) cs (wanted body)) out out2 e in
@@ -192,14 +231,16 @@ module _ (n : Node) (ss cs body : List ℕ) where
 
 -- the same request later, with a buffer as long, gets the same answer and the same bytes
 pub serve-again : {n k : Node} {ss cs : List ℕ} → Quiet n ss cs k → (body out out2 : List ℕ) → length out2 ≡ length out
-    → (serveAnswer k ss cs body out2 ≡ serveAnswer n ss cs body out) × (servedBytes k ss cs body out2 ≡ servedBytes n ss cs body out)
+    → (serveAnswer k ss cs body out2 ≡ serveAnswer n ss cs body out)
+    × (servedBytes k ss cs body out2 ≡ servedBytes n ss cs body out)
 serve-again {n} {k} {ss} {cs} q body out out2 e = rw (quiet-same q) (same-length n ss cs body out out2 e)
 
 -- ---- line 8: an id whose entry has expired is new, whatever the cache holds
 live-none : (at : ℕ) (es : List Entry) → allUpTo at (expiriesOf es) ≡ true → live at es ≡ []
 unfolding live allUpTo
 live-none at [] h = refl
-live-none at (e ∷ es) h = let b = both (leb (e .expiry) at) (allUpTo at (expiriesOf es)) h in rw (b .0) (live-none at es (b .1))
+live-none at (e ∷ es) h = let b = both (leb (e .expiry) at) (allUpTo at (expiriesOf es)) h in
+    rw (b .0) (live-none at es (b .1))
 
 pub expired-new : (at : ℕ) (id : List ℕ) (g : Gateway) → allUpTo at (expiriesOf (g .seen)) ≡ true → isNew at id g ≡ true
 unfolding isNew holds among
@@ -219,37 +260,51 @@ line-8-new m id = refl
 
 -- ---- readings at the edge
 -- a second heartbeat at the same reading is taken
-pub beat-twice-done : (n : Node) (ss cs : List ℕ) (at : ℕ) → Typed n → beatAnswer n ss cs at ≡ beat.Done → beatAnswer (beatNode n ss cs at) ss cs at ≡ beat.Done
-beat-twice-done n ss cs at typed h = beat-says (beatNode n ss cs at) ss cs at (beat-fine n ss cs at typed h) (omega (arith, beat-clock n ss cs at h))
+pub beat-twice-done : (n : Node) (ss cs : List ℕ) (at : ℕ) → Typed n → beatAnswer n ss cs at ≡ beat.Done
+    → beatAnswer (beatNode n ss cs at) ss cs at ≡ beat.Done
+beat-twice-done n ss cs at typed h = beat-says (beatNode n ss cs at) ss cs at (beat-fine n ss cs at typed h)
+    (omega (arith, beat-clock n ss cs at h))
 
 -- the last reading, 2^64 - 1, is taken: by a heartbeat, and by an admit
-pub last-beat : (n : Node) (ss cs : List ℕ) → lentOf n ss cs ≡ lent.Fine → n .clock < 2 ^ 64 → beatAnswer n ss cs (2 ^ 64 - 1) ≡ beat.Done
+pub last-beat : (n : Node) (ss cs : List ℕ) → lentOf n ss cs ≡ lent.Fine → n .clock < 2 ^ 64
+    → beatAnswer n ss cs (2 ^ 64 - 1) ≡ beat.Done
 last-beat n ss cs fine h = beat-says n ss cs (2 ^ 64 - 1) fine (omega arith)
 
-pub last-admit : (n : Node) (ss cs body : List ℕ) (i a e x y z w : ℕ) → lentOf n ss cs ≡ lent.Fine → acceptOf body ≡ checked.Fine → messageAt body i ≡ found.At a e
-    → admissionOf (between body a e) true ≡ admission.Fit x y z w → n .clock < 2 ^ 64 → planned n ss cs body i true (2 ^ 64 - 1) ≡ taken (between body a e) (idBytes (between body a e) x y z w)
-last-admit n ss cs body i a e x y z w fine ok there fit h = plan-taken n ss cs body i (2 ^ 64 - 1) a e x y z w fine ok there fit (omega arith)
+pub last-admit : (n : Node) (ss cs body : List ℕ) (i a e x y z w : ℕ) → lentOf n ss cs ≡ lent.Fine
+    → acceptOf body ≡ checked.Fine → messageAt body i ≡ found.At a e
+    → admissionOf (between body a e) true ≡ admission.Fit x y z w → n .clock < 2 ^ 64
+    → planned n ss cs body i true (2 ^ 64 - 1) ≡ taken (between body a e) (idBytes (between body a e) x y z w)
+last-admit n ss cs body i a e x y z w fine ok there fit h =
+    plan-taken n ss cs body i (2 ^ 64 - 1) a e x y z w fine ok there fit (omega arith)
 
 -- with max_seen 0 every admit is new, and nothing is kept as seen
-pub none-seen : (at : ℕ) (m id : List ℕ) (g : Gateway) → g .max-seen ≡ 0 → g .seen ≡ [] → (isNew at id g ≡ true) × (afterAdmit at m id g .seen ≡ [])
+pub none-seen : (at : ℕ) (m id : List ℕ) (g : Gateway) → g .max-seen ≡ 0 → g .seen ≡ [] → (isNew at id g ≡ true)
+    × (afterAdmit at m id g .seen ≡ [])
 unfolding isNew afterAdmit inserted live holds among newest
 none-seen at m id g z e = rw (e, z) (refl, refl)
 
 -- of a node that passes, with max_seen 0
-pub no-room-none-seen : (n : Node) (ss cs : List ℕ) → lentOf n ss cs ≡ lent.Fine → n .«max_seen» ≡ 0 → gatewayIn n ss cs .seen ≡ []
+pub no-room-none-seen : (n : Node) (ss cs : List ℕ) → lentOf n ss cs ≡ lent.Fine → n .«max_seen» ≡ 0
+    → gatewayIn n ss cs .seen ≡ []
 unfolding gatewayIn
 no-room-none-seen n ss cs fine z =
     let t = fine-tests n ss cs fine in
     let w = seen-exactly (n .seen) ss .0 (t .ids) in
     let c = room-cap n ss (t .room) in
-    drop-of-length-le (entriesIn (n .«max_seen») (n .seen) ss) {i = 0} (omega (arith, length-entries (n .«max_seen») (n .seen) ss, w .within))
+    drop-of-length-le (entriesIn (n .«max_seen») (n .seen) ss) {i = 0}
+    (omega (arith, length-entries (n .«max_seen») (n .seen) ss, w .within))
 
-pub no-room-admit : (n : Node) (ss cs body : List ℕ) (i : ℕ) (word : Bool) (at : ℕ) (m id : List ℕ) → Typed n → planned n ss cs body i word at ≡ taken m id → n .«max_seen» ≡ 0
+pub no-room-admit : (n : Node) (ss cs body : List ℕ) (i : ℕ) (word : Bool) (at : ℕ) (m id : List ℕ) → Typed n
+    → planned n ss cs body i word at ≡ taken m id → n .«max_seen» ≡ 0
     → (admitAnswer n ss at (planned n ss cs body i word at) ≡ admit.New)
-    × (gatewayIn (admitNode n ss at (planned n ss cs body i word at)) (admitSeen n ss at (planned n ss cs body i word at)) (admitCache n ss cs at (planned n ss cs body i word at)) .seen ≡ [])
+    × (gatewayIn (admitNode n ss at (planned n ss cs body i word at))
+    (admitSeen n ss at (planned n ss cs body i word at))
+    (admitCache n ss cs at (planned n ss cs body i word at)) .seen ≡ [])
 unfolding gatewayIn
 no-room-admit n ss cs body i word at m id typed plan z =
     let t = plan-takes n ss cs body i word at m id plan in
     let e = no-room-none-seen n ss cs (t .fine) z in
-    let b = none-seen at m id (gatewayIn n ss cs) z e in
-    (admit-says n ss cs body i word at m id typed plan ∙ rw (b .0), ap (λ (g : Gateway). g .seen) (admit-gateway n ss cs body i word at m id typed plan) ∙ b .1)
+    let b = none-seen at m id (gatewayIn n ss cs) z e in (
+      admit-says n ss cs body i word at m id typed plan ∙ rw (b .0),
+      ap (λ (g : Gateway). g .seen) (admit-gateway n ss cs body i word at m id typed plan) ∙ b .1,
+    )

@@ -7,7 +7,8 @@ use lib.ListN.{length}
 use lib.Dec.{leb}
 use Rattle.rows.specs.declared.Ring.{Ring}
 use Rattle.rows.specs.Store.{InStore, Sound, inUse}
-use Rattle.seen.specs.State.{entriesIn, wellFormed as seenWellFormed, fresh as noIds, idSize, maxIds, ringOf as seenRingOf}
+use Rattle.seen.specs.State.{entriesIn, wellFormed as seenWellFormed, fresh as noIds, idSize, maxIds}
+use Rattle.seen.specs.State.{ringOf as seenRingOf}
 use Rattle.mcache.specs.State.{Usable, cachedIn, legal, wellFormed as cacheWellFormed, fresh as noMessages}
 use Rattle.node.specs.declared.Node.{Node}
 use Rattle.node.specs.Gateway.{Gateway}
@@ -34,7 +35,8 @@ unfoldable pub legalSettings : ℕ → ℕ → ℕ → Bool
 legalSettings max-seen history max = leb max-seen maxIds && legal history max
 
 unfoldable pub freshNode : ℕ → ℕ → ℕ → ℕ → Node
-freshNode ttl max-seen history max = record { ttl = ttl; «max_seen» = max-seen; clock = 0; seen = noIds; cache = noMessages history max }
+freshNode ttl max-seen history max =
+    record { ttl = ttl; «max_seen» = max-seen; clock = 0; seen = noIds; cache = noMessages history max }
 
 -- ---- well formed
 -- expiries never fall from old to new, and the first is at least `least`

@@ -1,5 +1,5 @@
--- Laws of the test for a node and its stores: what a fine answer says, part by part, and that it is enough; and that such a node is ready for the
--- steps.
+-- Laws of the test for a node and its stores: what a fine answer says, part by part, and that it is enough; and that
+-- such a node is ready for the steps.
 use Prim.Native.Nat.{ℕ, _*_, _/_, _%_, _≤_}
 use mathlib.Core.Path.{_≡_}
 use mathlib.Core.List.{List}
@@ -38,11 +38,14 @@ pub room-cap : (n : Node) (ss : List ℕ) → length ss ≡ n .«max_seen» * id
 unfolding capOf
 room-cap n ss h = omega arith
 
-pub room-whole : (n : Node) (ss : List ℕ) → length ss ≡ n .«max_seen» * idSize → n .«max_seen» ≤ maxIds → wholeRows ss ≡ true
+pub room-whole : (n : Node) (ss : List ℕ) → length ss ≡ n .«max_seen» * idSize → n .«max_seen» ≤ maxIds
+    → wholeRows ss ≡ true
 unfolding wholeRows capOf
-room-whole n ss h f = simp (eq-eqb (length ss % idSize) 0 (omega arith), le-leb (length ss / idSize) maxIds (omega arith))
+room-whole n ss h f =
+    simp (eq-eqb (length ss % idSize) 0 (omega arith), le-leb (length ss / idSize) maxIds (omega arith))
 
-fine-parts : (n : Node) (ss cs : List ℕ) → lentOf n ss cs ≡ lent.Fine → (rightSizes n ss cs ≡ true) × (wellFormed n ss cs ≡ true)
+fine-parts : (n : Node) (ss cs : List ℕ) → lentOf n ss cs ≡ lent.Fine → (rightSizes n ss cs ≡ true)
+    × (wellFormed n ss cs ≡ true)
 unfolding lentOf
 fine-parts n ss cs h =
     either (ltb (capOf ss) (n .«max_seen»)) (λ t. clash (let z = simp t at h in cc))
@@ -73,7 +76,8 @@ module _ (n : Node) (ss cs : List ℕ) where
   pub lent-ready : lentOf n ss cs ≡ lent.Fine → seen.Sized (n .seen) → mcache.Sized (n .cache) → Ready n ss cs
   lent-ready h z y =
       let t = fine-tests h in
-      let s : Sound idSize (seenRing n) (n .seen .len) ss = rw (← room-cap n ss (t .room)) (lent-sound (n .seen) ss (t .ids) z) in
+      let s : Sound idSize (seenRing n) (n .seen .len) ss =
+      rw (← room-cap n ss (t .room)) (lent-sound (n .seen) ss (t .ids) z) in
       let r = s .rows in
       record {
         seen-room = t .room;
@@ -82,14 +86,17 @@ module _ (n : Node) (ss cs : List ℕ) where
         kept = lent-kept (n .cache) cs (t .messages) y;
       }
 
-seen-parts : (n : Node) (ss : List ℕ) → length ss ≡ n .«max_seen» * idSize → seenLentOf (n .seen) ss ≡ seenLent.Fine → seenWellFormed (n .«max_seen») (n .seen) ss ≡ true
+seen-parts : (n : Node) (ss : List ℕ) → length ss ≡ n .«max_seen» * idSize → seenLentOf (n .seen) ss ≡ seenLent.Fine
+    → seenWellFormed (n .«max_seen») (n .seen) ss ≡ true
 unfolding seenLentOf
 seen-parts n ss r h =
     either (wholeRows ss)
-    (λ t. either (seenWellFormed (capOf ss) (n .seen) ss) (λ u. rw (← room-cap n ss r) u) (λ u. clash (let z = simp (t, u) at h in cc)))
+    (λ t. either (seenWellFormed (capOf ss) (n .seen) ss) (λ u. rw (← room-cap n ss r) u)
+    (λ u. clash (let z = simp (t, u) at h in cc)))
     (λ t. clash (let z = simp t at h in cc))
 
-cache-parts : (n : Node) (cs : List ℕ) → cacheLentOf (n .cache) cs ≡ cacheLent.Fine → (eqb (length cs) (n .cache .«max_messages» * messageSize) ≡ true) × (cacheWellFormed (n .cache) cs ≡ true)
+cache-parts : (n : Node) (cs : List ℕ) → cacheLentOf (n .cache) cs ≡ cacheLent.Fine
+    → (eqb (length cs) (n .cache .«max_messages» * messageSize) ≡ true) × (cacheWellFormed (n .cache) cs ≡ true)
 unfolding cacheLentOf
 cache-parts n cs h =
     either (eqb (length cs) (n .cache .«max_messages» * messageSize))

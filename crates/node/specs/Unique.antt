@@ -1,5 +1,5 @@
--- The contract of each call, as a record of what it says of an answer, the node that comes back and every lent byte; and that it leaves no choice: two
--- results that meet it are the same.
+-- The contract of each call, as a record of what it says of an answer, the node that comes back and every lent byte;
+-- and that it leaves no choice: two results that meet it are the same.
 use Prim.Native.Nat.{ℕ}
 use mathlib.Core.Path.{_≡_, sym, ap₂, _∙_}
 use mathlib.Core.Bool.{Bool}
@@ -17,27 +17,35 @@ use Rattle.node.specs.declared.Ask.{Ask}
 use Rattle.node.specs.declared.Asked.{Asked}
 use Rattle.node.specs.declared.Serve.{Serve}
 use Rattle.node.specs.declared.Served.{Served}
-use Rattle.node.specs.Calls.{startAnswer, startNode, planned, admitAnswer, admitNode, admitSeen, admitCache, beatAnswer, beatNode, advertiseAnswer, advertiseLeft, askAnswer, askLeft, serveAnswer, serveLeft}
+use Rattle.node.specs.Calls.{startAnswer, startNode, planned, admitAnswer, admitNode, admitSeen, admitCache}
+use Rattle.node.specs.Calls.{beatAnswer, beatNode, advertiseAnswer, advertiseLeft, askAnswer, askLeft}
+use Rattle.node.specs.Calls.{serveAnswer, serveLeft}
 
 pub record Starts (ttl max-seen history max : ℕ) (r : Started) : Type 0 where
   pub answer : r .answer ≡ startAnswer max-seen history max
   pub node : r .node ≡ startNode ttl max-seen history max
 
-pub one-start : (ttl max-seen history max : ℕ) (r s : Started) → Starts ttl max-seen history max r → Starts ttl max-seen history max s → r ≡ s
+pub one-start : (ttl max-seen history max : ℕ) (r s : Started) → Starts ttl max-seen history max r
+    → Starts ttl max-seen history max s → r ≡ s
 one-start ttl max-seen history max r s a b =
-    ap₂ (λ (x : Start) (n : Node). record { answer = x; node = n }) (a .answer ∙ sym (b .answer)) (a .node ∙ sym (b .node))
+    ap₂ (λ (x : Start) (n : Node). record { answer = x; node = n }) (a .answer ∙ sym (b .answer))
+    (a .node ∙ sym (b .node))
 
 -- the stores as they are left
-pub record Admits (n : Node) (ss cs body : List ℕ) (i : ℕ) (word : Bool) (at : ℕ) (r : Admitted) (ids messages : List ℕ) : Type 0 where
+pub record Admits (n : Node) (ss cs body : List ℕ) (i : ℕ) (word : Bool) (at : ℕ) (r : Admitted)
+    (ids messages : List ℕ) : Type 0 where
   pub answer : r .answer ≡ admitAnswer n ss at (planned n ss cs body i word at)
   pub node : r .node ≡ admitNode n ss at (planned n ss cs body i word at)
   pub seen : ids ≡ admitSeen n ss at (planned n ss cs body i word at)
   pub cache : messages ≡ admitCache n ss cs at (planned n ss cs body i word at)
 
-pub one-admit : (n : Node) (ss cs body : List ℕ) (i : ℕ) (word : Bool) (at : ℕ) (r s : Admitted) (ids messages ids2 messages2 : List ℕ)
-    → Admits n ss cs body i word at r ids messages → Admits n ss cs body i word at s ids2 messages2 → (r ≡ s) × (ids ≡ ids2) × (messages ≡ messages2)
+pub one-admit : (n : Node) (ss cs body : List ℕ) (i : ℕ) (word : Bool) (at : ℕ) (r s : Admitted)
+    (ids messages ids2 messages2 : List ℕ)
+    → Admits n ss cs body i word at r ids messages → Admits n ss cs body i word at s ids2 messages2 → (r ≡ s)
+    × (ids ≡ ids2) × (messages ≡ messages2)
 one-admit n ss cs body i word at r s ids messages ids2 messages2 a b = (
-  ap₂ (λ (x : Admit) (m : Node). record { answer = x; node = m }) (a .answer ∙ sym (b .answer)) (a .node ∙ sym (b .node)),
+  ap₂ (λ (x : Admit) (m : Node). record { answer = x; node = m }) (a .answer ∙ sym (b .answer))
+      (a .node ∙ sym (b .node)),
   a .seen ∙ sym (b .seen),
   a .cache ∙ sym (b .cache),
 )
@@ -47,18 +55,24 @@ pub record Beats (n : Node) (ss cs : List ℕ) (at : ℕ) (r : Beaten) : Type 0 
   pub node : r .node ≡ beatNode n ss cs at
 
 pub one-beat : (n : Node) (ss cs : List ℕ) (at : ℕ) (r s : Beaten) → Beats n ss cs at r → Beats n ss cs at s → r ≡ s
-one-beat n ss cs at r s a b = ap₂ (λ (x : Beat) (m : Node). record { answer = x; node = m }) (a .answer ∙ sym (b .answer)) (a .node ∙ sym (b .node))
+one-beat n ss cs at r s a b =
+    ap₂ (λ (x : Beat) (m : Node). record { answer = x; node = m }) (a .answer ∙ sym (b .answer))
+    (a .node ∙ sym (b .node))
 
 -- the buffer as it is left
-pub record Advertises (n : Node) (ss cs topic : List ℕ) (windows : ℕ) (out : List ℕ) (r : Advertised) (left : List ℕ) : Type 0 where
+pub record Advertises (n : Node) (ss cs topic : List ℕ) (windows : ℕ) (out : List ℕ) (r : Advertised)
+    (left : List ℕ) : Type 0 where
   pub answer : r .answer ≡ advertiseAnswer n ss cs topic windows out
   pub node : r .node ≡ n
   pub buffer : left ≡ advertiseLeft n ss cs topic windows out
 
-pub one-advertise : (n : Node) (ss cs topic : List ℕ) (windows : ℕ) (out : List ℕ) (r s : Advertised) (left left2 : List ℕ)
-    → Advertises n ss cs topic windows out r left → Advertises n ss cs topic windows out s left2 → (r ≡ s) × (left ≡ left2)
+pub one-advertise : (n : Node) (ss cs topic : List ℕ) (windows : ℕ) (out : List ℕ) (r s : Advertised)
+    (left left2 : List ℕ)
+    → Advertises n ss cs topic windows out r left → Advertises n ss cs topic windows out s left2 → (r ≡ s)
+    × (left ≡ left2)
 one-advertise n ss cs topic windows out r s left left2 a b = (
-  ap₂ (λ (x : Advertise) (m : Node). record { answer = x; node = m }) (a .answer ∙ sym (b .answer)) (a .node ∙ sym (b .node)),
+  ap₂ (λ (x : Advertise) (m : Node). record { answer = x; node = m }) (a .answer ∙ sym (b .answer))
+      (a .node ∙ sym (b .node)),
   a .buffer ∙ sym (b .buffer),
 )
 
@@ -67,7 +81,8 @@ pub record Asks (n : Node) (ss cs body out : List ℕ) (r : Asked) (left : List 
   pub node : r .node ≡ n
   pub buffer : left ≡ askLeft n ss cs body out
 
-pub one-ask : (n : Node) (ss cs body out : List ℕ) (r s : Asked) (left left2 : List ℕ) → Asks n ss cs body out r left → Asks n ss cs body out s left2 → (r ≡ s) × (left ≡ left2)
+pub one-ask : (n : Node) (ss cs body out : List ℕ) (r s : Asked) (left left2 : List ℕ) → Asks n ss cs body out r left
+    → Asks n ss cs body out s left2 → (r ≡ s) × (left ≡ left2)
 one-ask n ss cs body out r s left left2 a b = (
   ap₂ (λ (x : Ask) (m : Node). record { answer = x; node = m }) (a .answer ∙ sym (b .answer)) (a .node ∙ sym (b .node)),
   a .buffer ∙ sym (b .buffer),
@@ -78,8 +93,10 @@ pub record Serves (n : Node) (ss cs body out : List ℕ) (r : Served) (left : Li
   pub node : r .node ≡ n
   pub buffer : left ≡ serveLeft n ss cs body out
 
-pub one-serve : (n : Node) (ss cs body out : List ℕ) (r s : Served) (left left2 : List ℕ) → Serves n ss cs body out r left → Serves n ss cs body out s left2 → (r ≡ s) × (left ≡ left2)
+pub one-serve : (n : Node) (ss cs body out : List ℕ) (r s : Served) (left left2 : List ℕ)
+    → Serves n ss cs body out r left → Serves n ss cs body out s left2 → (r ≡ s) × (left ≡ left2)
 one-serve n ss cs body out r s left left2 a b = (
-  ap₂ (λ (x : Serve) (m : Node). record { answer = x; node = m }) (a .answer ∙ sym (b .answer)) (a .node ∙ sym (b .node)),
+  ap₂ (λ (x : Serve) (m : Node). record { answer = x; node = m }) (a .answer ∙ sym (b .answer))
+      (a .node ∙ sym (b .node)),
   a .buffer ∙ sym (b .buffer),
 )

@@ -1,4 +1,5 @@
--- A well formed node with its stores, as 01 has it: each clause by name. And the states that calls reach from a fresh node.
+-- A well formed node with its stores, as 01 has it: each clause by name. And the states that calls reach from a fresh
+-- node.
 use Prim.Native.Nat.{ℕ, suc, _*_, _^_, _≤_, _<_}
 use mathlib.Core.Path.{_≡_}
 use mathlib.Core.Bool.{Bool, true}
@@ -34,11 +35,15 @@ pub record WellFormed (n : Node) (ss cs : List ℕ) : Type 0 where
   -- the message cache: its store, its settings, and 01's other clauses
   pub messages : mcache.WellFormed (n .cache) cs
 
--- ---- the states that the calls reach: a fresh node with stores of the right lengths; then admits of anything at any reading, the refused ones
+-- ---- the states that the calls reach: a fresh node with stores of the right lengths; then admits of anything at any
+-- reading, the refused ones
 -- too, and heartbeats. Advertise, ask and serve leave the node and its stores as they are.
 pub data Reached : Node → List ℕ → List ℕ → Type 0 where
   begun : (ttl max-seen history max : ℕ) (ss cs : List ℕ) → ttl < 2 ^ 64 → legalSettings max-seen history max ≡ true
-      → length ss ≡ max-seen * idSize → length cs ≡ max * messageSize → Reached (freshNode ttl max-seen history max) ss cs
-  admitted : {n : Node} {ss cs : List ℕ} → Reached n ss cs → (body : List ℕ) (i : ℕ) (word : Bool) (at : ℕ) → at < 2 ^ 64
-      → Reached (admitNode n ss at (planned n ss cs body i word at)) (admitSeen n ss at (planned n ss cs body i word at)) (admitCache n ss cs at (planned n ss cs body i word at))
+      → length ss ≡ max-seen * idSize → length cs ≡ max * messageSize
+      → Reached (freshNode ttl max-seen history max) ss cs
+  admitted : {n : Node} {ss cs : List ℕ} → Reached n ss cs → (body : List ℕ) (i : ℕ) (word : Bool) (at : ℕ)
+      → at < 2 ^ 64
+      → Reached (admitNode n ss at (planned n ss cs body i word at))
+      (admitSeen n ss at (planned n ss cs body i word at)) (admitCache n ss cs at (planned n ss cs body i word at))
   beaten : {n : Node} {ss cs : List ℕ} → Reached n ss cs → (at : ℕ) → at < 2 ^ 64 → Reached (beatNode n ss cs at) ss cs

@@ -1,5 +1,5 @@
--- An advertisement is a body with one IHAVE that names a topic and the ids of cached messages that carry it; it is canonical. A topic that is not
--- UTF-8 is carried by no cached message, and nothing is written of it.
+-- An advertisement is a body with one IHAVE that names a topic and the ids of cached messages that carry it; it is
+-- canonical. A topic that is not UTF-8 is carried by no cached message, and nothing is written of it.
 use Prim.Native.Nat.{ℕ, suc, _+_, _*_, _≤_}
 use mathlib.Core.Path.{_≡_, refl, sym, ap, _∙_}
 use mathlib.Core.Bool.{true, _&&_}
@@ -45,7 +45,8 @@ record Told (ids : List (List ℕ)) (n : ℕ) : Type 0 where
   few : length ids ≤ n
   short : Each Short ids
 
-carried : (topic : List ℕ) (windows : ℕ) {ms : List Cached} → Each CachedMessage ms → Told (idsOf (carrying topic windows ms)) (length ms)
+carried : (topic : List ℕ) (windows : ℕ) {ms : List Cached} → Each CachedMessage ms
+    → Told (idsOf (carrying topic windows ms)) (length ms)
 unfolding carrying Short
 carried topic windows none-left = record { few = omega arith; short = none-left }
 carried topic windows (_and_ {x = m} {xs = ms} p ps) =
@@ -61,7 +62,8 @@ entered i n p (_and_ {x = j} {xs = js} q qs) h =
     order-cases i j
     (λ (e : i ≡ j). rw (enter-same i j js e) (record { few = omega arith; short = q and qs }))
     (λ a. rw (enter-front i j js a) (record { few = omega arith; short = p and (q and qs) }))
-    (λ a. rw (enter-past i j js a) (let r = entered i (length js) p qs (omega arith) in record { few = omega (arith, r .few); short = q and r .short }))
+    (λ a. rw (enter-past i j js a) (let r = entered i (length js) p qs (omega arith) in
+    record { few = omega (arith, r .few); short = q and r .short }))
 
 ordered : {is : List (List ℕ)} (n : ℕ) → Each Short is → length is ≤ n → Told (inOrder is) n
 unfolding inOrder
@@ -72,9 +74,16 @@ ordered n (_and_ {x = i} {xs = is} p ps) h =
     record { few = omega (arith, e .few); short = e .short }
 
 -- ---- how long an advertisement is
-field-small : (n : ℕ) (d : List ℕ) (k : ℕ) → 1 ≤ n → n ≤ 15 → length d ≤ k → k ≤ 65536 → length (bytesField n d) ≤ 20 + k
+field-small : (n : ℕ) (d : List ℕ) (k : ℕ) → 1 ≤ n → n ≤ 15 → length d ≤ k → k ≤ 65536
+    → length (bytesField n d) ≤ 20 + k
 field-small n d k a b h l =
-    omega (arith, bytes-field-length n d, tag-at-most-ten n 2 (record { some = a; most = omega arith; bits = omega arith }), at-most-ten (length d) (omega arith))
+    omega (
+      arith,
+      bytes-field-length n d,
+      tag-at-most-ten n 2 (record { some = a; most = omega arith; bits = omega arith }),
+      at-most-ten (length d)
+          (omega arith),
+    )
 
 ids-small : {ids : List (List ℕ)} → Each Short ids → length (repeated (bytesField 2) ids) ≤ 148 * length ids
 unfolding Short
@@ -84,7 +93,8 @@ ids-small (_and_ {x = i} {xs = is} p ps) =
     let r = ids-small ps in
     omega (arith, length-append (bytesField 2 i) (repeated (bytesField 2) is))
 
-advertisement-small : (topic : List ℕ) (ids : List (List ℕ)) → length topic ≤ 1024 → Told ids 64 → length (encodeRpc (advertisement topic ids)) ≤ 10556
+advertisement-small : (topic : List ℕ) (ids : List (List ℕ)) → length topic ≤ 1024 → Told ids 64
+    → length (encodeRpc (advertisement topic ids)) ≤ 10556
 advertisement-small topic ids h t =
     let a = field-small 1 topic 1024 (omega arith) (omega arith) h (omega arith) in
     let b = ids-small (t .short) in
@@ -95,7 +105,8 @@ advertisement-small topic ids h t =
     omega (arith, ap length (advertisement-bytes topic ids))
 
 -- ---- of a tested cache
-module _ (c : MessageCache) (st topic : List ℕ) (windows : ℕ) (fine : cacheLentOf c st ≡ cacheLent.Fine) (bytes : Bytes st) where
+module _ (c : MessageCache) (st topic : List ℕ) (windows : ℕ) (fine : cacheLentOf c st ≡ cacheLent.Fine)
+    (bytes : Bytes st) where
   abbrev told : List (List ℕ)
   told = gossipIds topic windows (cachedIn c st)
 
@@ -111,13 +122,16 @@ module _ (c : MessageCache) (st topic : List ℕ) (windows : ℕ) (fine : cacheL
   told-text : (i : List ℕ) → among i told ≡ true → Utf8 topic
   told-text i h =
       let w = gossip-exactly i topic windows (cachedIn c st) .0 h in
-      each-in topic (each-in (w .entry) (each-cached c st (fine-tests c st fine) bytes) (w .cached) .message .texts) (w .carries)
+      each-in topic (each-in (w .entry) (each-cached c st (fine-tests c st fine) bytes) (w .cached) .message .texts)
+      (w .carries)
 
 first-among : (i : List ℕ) (is : List (List ℕ)) → among i (i ∷ is) ≡ true
 unfolding among
 first-among i is = rw (same-self i)
 
-of-ids : (topic : List ℕ) (ids : List (List ℕ)) → length topic ≤ 1024 → Told ids 64 → ((i : List ℕ) → among i ids ≡ true → Utf8 topic) → (ids ≡ [] → ⊥) → Within (bytesFor ids (advertisement topic ids)) (advertisement topic ids)
+of-ids : (topic : List ℕ) (ids : List (List ℕ)) → length topic ≤ 1024 → Told ids 64
+    → ((i : List ℕ) → among i ids ≡ true → Utf8 topic) → (ids ≡ [] → ⊥)
+    → Within (bytesFor ids (advertisement topic ids)) (advertisement topic ids)
 of-ids topic [] h t text there = absurd (there refl)
 of-ids topic (i ∷ is) h t text there =
     let l = advertisement-small topic (i ∷ is) h t in
@@ -127,12 +141,14 @@ of-ids topic (i ∷ is) h t text there =
       few = omega (arith, records-told topic (i ∷ is), t .few);
     }
 
-of-none : (topic : List ℕ) (ids : List (List ℕ)) → ((i : List ℕ) → among i ids ≡ true → Utf8 topic) → (Utf8 topic → ⊥) → ids ≡ []
+of-none : (topic : List ℕ) (ids : List (List ℕ)) → ((i : List ℕ) → among i ids ≡ true → Utf8 topic) → (Utf8 topic → ⊥)
+    → ids ≡ []
 of-none topic [] text no-text = refl
 of-none topic (i ∷ is) text no-text = absurd (no-text (text i (first-among i is)))
 
 -- nothing to tell of: no bytes
-pub advertise-none : (n : Node) (cs topic : List ℕ) (windows : ℕ) → toldIn n cs topic windows ≡ [] → advertiseBytes n cs topic windows ≡ []
+pub advertise-none : (n : Node) (cs topic : List ℕ) (windows : ℕ) → toldIn n cs topic windows ≡ []
+    → advertiseBytes n cs topic windows ≡ []
 unfolding advertiseBytes
 advertise-none n cs topic windows e = let ids = toldIn n cs topic windows in no-bytes ids (advertisement topic ids) e
 
@@ -151,15 +167,18 @@ module _ (n : Node) (ss cs topic : List ℕ) (windows : ℕ) (fine : lentOf n ss
   text : (i : List ℕ) → among i (toldIn n cs topic windows) ≡ true → Utf8 topic
   text i h = told-text (n .cache) cs topic windows cache-fine bytes i (ap (among i) (sym told-is) ∙ h)
 
-  pub advertise-means : length topic ≤ 1024 → (toldIn n cs topic windows ≡ [] → ⊥) → Within (advertiseBytes n cs topic windows) (advertisement topic (toldIn n cs topic windows))
+  pub advertise-means : length topic ≤ 1024 → (toldIn n cs topic windows ≡ [] → ⊥)
+      → Within (advertiseBytes n cs topic windows) (advertisement topic (toldIn n cs topic windows))
   unfolding advertiseBytes
   advertise-means h there = of-ids topic (toldIn n cs topic windows) h few text there
 
-  pub advertise-stays : length topic ≤ 1024 → (toldIn n cs topic windows ≡ [] → ⊥) → canonBody (advertiseBytes n cs topic windows) ≡ advertiseBytes n cs topic windows
+  pub advertise-stays : length topic ≤ 1024 → (toldIn n cs topic windows ≡ [] → ⊥)
+      → canonBody (advertiseBytes n cs topic windows) ≡ advertiseBytes n cs topic windows
   unfolding advertiseBytes
   advertise-stays h there =
       let ids = toldIn n cs topic windows in
       canon-written (advertise-means h there .means) ∙ sym (some-bytes ids (advertisement topic ids) there)
 
   pub no-topic-no-bytes : (Utf8 topic → ⊥) → (toldIn n cs topic windows ≡ []) × (advertiseBytes n cs topic windows ≡ [])
-  no-topic-no-bytes no-text = let e = of-none topic (toldIn n cs topic windows) text no-text in (e, advertise-none n cs topic windows e)
+  no-topic-no-bytes no-text = let e = of-none topic (toldIn n cs topic windows) text no-text in
+      (e, advertise-none n cs topic windows e)

@@ -1,5 +1,5 @@
--- Bodies that are a field or several, each of bytes, and what they mean: messages that are published; a control, with one IHAVE or one IWANT; and
--- nothing.
+-- Bodies that are a field or several, each of bytes, and what they mean: messages that are published; a control, with
+-- one IHAVE or one IWANT; and nothing.
 use Prim.Native.Nat.{ℕ, _^_, _≤_, _<_, _+_}
 use mathlib.Core.Path.{_≡_, refl, sym, ap, ap₂, subst}
 use mathlib.Core.Bool.{false}
@@ -13,7 +13,9 @@ use Rattle.protobuf.specs.Grammar.{Body, none as no-fields}
 use Rattle.protobuf.specs.Encode.{bytesField}
 use Rattle.protobuf.specs.EncodeLaws.{field-holds}
 use Rattle.rpc.specs.Rpc.{RawMessage, ControlIHave, ControlIWant, ControlMessage, Rpc}
-use Rattle.rpc.specs.Grammar.{bytesIn, last, Each, none-left, _and_, Pairs, no-pairs, _paired_, IsSubOpts, IsMessage, IsIHave, is-ihave, IsIWant, is-iwant, IsGraft, IsPrune, IsControl, is-control, IsRpc, is-rpc}
+use Rattle.rpc.specs.Grammar.{bytesIn, last, Each, none-left, _and_, Pairs, no-pairs, _paired_, IsSubOpts, IsMessage}
+use Rattle.rpc.specs.Grammar.{IsIHave, is-ihave, IsIWant, is-iwant, IsGraft, IsPrune, IsControl, is-control, IsRpc}
+use Rattle.rpc.specs.Grammar.{is-rpc}
 use Rattle.rpc.specs.Encode.{encodeRpc, repeated}
 use Rattle.meaning.specs.Size.{recordsIn}
 use Rattle.canonical.specs.Means.{body-append, Sized, bytesEntries, bytes-body, bytes-here, bytes-there, found}
@@ -23,16 +25,19 @@ use Rattle.node.specs.Calls.{bytesFor}
 use Rattle.node.specs.WireLaws.{advertisement-bytes, request-bytes}
 
 -- ---- fields that are not there
-no-subs : {X : Type 0} (R : List ℕ → X → Type 0) (n m : ℕ) (ds : List (List ℕ)) → eqb n m ≡ false → Pairs R (bytesIn m (bytesEntries n ds)) []
+no-subs : {X : Type 0} (R : List ℕ → X → Type 0) (n m : ℕ) (ds : List (List ℕ)) → eqb n m ≡ false
+    → Pairs R (bytesIn m (bytesEntries n ds)) []
 no-subs R n m ds e = subst (λ (l : List (List ℕ)). Pairs R l []) (sym (bytes-there n m e ds)) no-pairs
 
 -- and those that are
-subs : {X : Type 0} (R : List ℕ → X → Type 0) (n : ℕ) {ds : List (List ℕ)} {xs : List X} → Pairs R ds xs → Pairs R (bytesIn n (bytesEntries n ds)) xs
+subs : {X : Type 0} (R : List ℕ → X → Type 0) (n : ℕ) {ds : List (List ℕ)} {xs : List X} → Pairs R ds xs
+    → Pairs R (bytesIn n (bytesEntries n ds)) xs
 subs R n {ds} {xs} p = subst (λ (l : List (List ℕ)). Pairs R l xs) (sym (bytes-here n ds)) p
 
 -- one field
 one-field : (n : ℕ) → 1 ≤ n → n ≤ 536870911 → (d : List ℕ) → Sized d → Body (bytesField n d) (bytesEntries n (d ∷ []))
-one-field n l m d z = subst (λ (s : List ℕ). Body s (bytesEntries n (d ∷ []))) (append-nil (bytesField n d)) (bytes-body n l m (d ∷ []) (z and none-left))
+one-field n l m d z = subst (λ (s : List ℕ). Body s (bytesEntries n (d ∷ []))) (append-nil (bytesField n d))
+    (bytes-body n l m (d ∷ []) (z and none-left))
 
 -- ---- no bytes mean an RPC with nothing in it
 abbrev pub nothing : Rpc
@@ -46,7 +51,8 @@ nothing-means = record { means = is-rpc no-fields no-pairs no-pairs no-pairs; sm
 abbrev pub published : List RawMessage → Rpc
 published ms = record { subscriptions = []; publish = ms; control = none }
 
-pub messages-mean : {ds : List (List ℕ)} {ms : List RawMessage} → Each Sized ds → Pairs IsMessage ds ms → IsRpc (repeated (bytesField 2) ds) (published ms)
+pub messages-mean : {ds : List (List ℕ)} {ms : List RawMessage} → Each Sized ds → Pairs IsMessage ds ms
+    → IsRpc (repeated (bytesField 2) ds) (published ms)
 messages-mean {ds} {ms} z p =
     is-rpc (bytes-body 2 (omega arith) (omega arith) ds z) (no-subs IsSubOpts 2 1 ds refl) (subs IsMessage 2 p)
     (no-subs IsControl 2 3 ds refl)
@@ -67,31 +73,39 @@ control-means {d} {c} z p =
 pub ihave-means : {d : List ℕ} {h : ControlIHave} → Sized d → IsIHave d h → IsControl (bytesField 1 d) (oneIHave h)
 ihave-means {d} {h} z p =
     let ds = d ∷ [] in
-    is-control (one-field 1 (omega arith) (omega arith) d z) (subs IsIHave 1 (p paired no-pairs)) (no-subs IsIWant 1 2 ds refl)
+    is-control (one-field 1 (omega arith) (omega arith) d z) (subs IsIHave 1 (p paired no-pairs))
+    (no-subs IsIWant 1 2 ds refl)
     (no-subs IsGraft 1 3 ds refl) (no-subs IsPrune 1 4 ds refl)
 
 pub iwant-means : {d : List ℕ} {w : ControlIWant} → Sized d → IsIWant d w → IsControl (bytesField 2 d) (oneIWant w)
 iwant-means {d} {w} z p =
     let ds = d ∷ [] in
-    is-control (one-field 2 (omega arith) (omega arith) d z) (no-subs IsIHave 2 1 ds refl) (subs IsIWant 2 (p paired no-pairs))
+    is-control (one-field 2 (omega arith) (omega arith) d z) (no-subs IsIHave 2 1 ds refl)
+    (subs IsIWant 2 (p paired no-pairs))
     (no-subs IsGraft 2 3 ds refl) (no-subs IsPrune 2 4 ds refl)
 
 -- a topic and ids
-pub topic-ids : (topic : List ℕ) (ids : List (List ℕ)) → Utf8 topic → Sized topic → Each Sized ids → IsIHave (bytesField 1 topic ++ repeated (bytesField 2) ids) (record { «topic_id» = some topic; «message_ids» = ids })
+pub topic-ids : (topic : List ℕ) (ids : List (List ℕ)) → Utf8 topic → Sized topic → Each Sized ids
+    → IsIHave (bytesField 1 topic ++ repeated (bytesField 2) ids)
+    (record { «topic_id» = some topic; «message_ids» = ids })
 topic-ids topic ids u z w =
     let a = bytesEntries 1 (topic ∷ []) in
     let b = bytesEntries 2 ids in
-    let d1 : bytesIn 1 (a ++ b) ≡ topic ∷ [] = found 1 a b (topic ∷ []) [] (bytes-here 1 (topic ∷ [])) (bytes-there 2 1 refl ids) in
+    let d1 : bytesIn 1 (a ++ b) ≡ topic ∷ [] =
+    found 1 a b (topic ∷ []) [] (bytes-here 1 (topic ∷ [])) (bytes-there 2 1 refl ids) in
     let d2 : bytesIn 2 (a ++ b) ≡ ids = found 2 a b [] ids (bytes-there 1 2 refl (topic ∷ [])) (bytes-here 2 ids) in
-    let g = body-append (one-field 1 (omega arith) (omega arith) topic z) (bytes-body 2 (omega arith) (omega arith) ids w) in
+    let g = body-append (one-field 1 (omega arith) (omega arith) topic z)
+    (bytes-body 2 (omega arith) (omega arith) ids w) in
     subst (IsIHave (bytesField 1 topic ++ repeated (bytesField 2) ids))
     (ap₂ (λ (y : Option (List ℕ)) (i : List (List ℕ)). record { «topic_id» = y; «message_ids» = i }) (ap last d1) d2)
     (is-ihave g (subst (Each Utf8) (sym d1) (u and none-left)))
 
 -- ids alone
-pub ids-alone : (ids : List (List ℕ)) → Each Sized ids → IsIWant (repeated (bytesField 1) ids) (record { «message_ids» = ids })
+pub ids-alone : (ids : List (List ℕ)) → Each Sized ids
+    → IsIWant (repeated (bytesField 1) ids) (record { «message_ids» = ids })
 ids-alone ids w =
-    subst (IsIWant (repeated (bytesField 1) ids)) (ap (λ (i : List (List ℕ)). record { «message_ids» = i }) (bytes-here 1 ids))
+    subst (IsIWant (repeated (bytesField 1) ids)) (ap (λ (i : List (List ℕ)). record { «message_ids» = i })
+    (bytes-here 1 ids))
     (is-iwant (bytes-body 1 (omega arith) (omega arith) ids w))
 
 -- ---- the RPCs that a node writes
@@ -112,7 +126,9 @@ fields-sized n (d ∷ ds) h =
     let k : Sized d = omega arith in
     k and fields-sized n ds (omega arith)
 
-pub advertisement-means : (topic : List ℕ) (ids : List (List ℕ)) → Utf8 topic → length (encodeRpc (advertisement topic ids)) < 2 ^ 64 → IsRpc (encodeRpc (advertisement topic ids)) (advertisement topic ids)
+pub advertisement-means : (topic : List ℕ) (ids : List (List ℕ)) → Utf8 topic
+    → length (encodeRpc (advertisement topic ids)) < 2 ^ 64
+    → IsRpc (encodeRpc (advertisement topic ids)) (advertisement topic ids)
 unfolding advertisement
 advertisement-means topic ids u h =
     let t = bytesField 1 topic in
@@ -123,9 +139,11 @@ advertisement-means topic ids u h =
     let b = field-holds 1 (t ++ i) in
     let l = length-append t i in
     let f = field-holds 1 topic in
-    rw e (control-means (omega arith) (ihave-means (omega arith) (topic-ids topic ids u (omega arith) (fields-sized 2 ids (omega arith)))))
+    rw e (control-means (omega arith)
+    (ihave-means (omega arith) (topic-ids topic ids u (omega arith) (fields-sized 2 ids (omega arith)))))
 
-pub request-means : (ids : List (List ℕ)) → length (encodeRpc (request ids)) < 2 ^ 64 → IsRpc (encodeRpc (request ids)) (request ids)
+pub request-means : (ids : List (List ℕ)) → length (encodeRpc (request ids)) < 2 ^ 64
+    → IsRpc (encodeRpc (request ids)) (request ids)
 unfolding request
 request-means ids h =
     let i = repeated (bytesField 1) ids in

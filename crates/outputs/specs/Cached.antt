@@ -1,5 +1,5 @@
--- The messages in a tested cache: each is a message of the grammar, with at most 4 topics, all UTF-8, and at most 4,096 bytes; and its id has at most
--- 128.
+-- The messages in a tested cache: each is a message of the grammar, with at most 4 topics, all UTF-8, and at most 4,096
+-- bytes; and its id has at most 128.
 use Prim.Native.Nat.{ℕ, zero, suc, _+_, _*_, _≤_, _<_}
 use mathlib.Core.Path.{_≡_, refl, sym, ap₂, subst, _∙_}
 use mathlib.Core.List.{List, [], _∷_, map, List·Memᴰ, List·Memᴰ·not-nil, List·Memᴰ·cases-cons}
@@ -80,14 +80,16 @@ module _ (c : MessageCache) (st : List ℕ) (t : Tests c st) (b : Bytes st) wher
   pub row-message : (i : ℕ) → i < c .count → Message (messageIn (c .len) st (placeOf (ringOf c) i))
   row-message i h =
       let p = placeOf (ringOf c) i in
-      message-given (messageIn (c .len) st p) (idAt messageIdSize (c .«id_len») (c .ids) p) (bytes-in (c .len) st p b) (gives-only (messageIn (c .len) st p) (idAt messageIdSize (c .«id_len») (c .ids) p) (row-gives c st t i h))
+      message-given (messageIn (c .len) st p) (idAt messageIdSize (c .«id_len») (c .ids) p) (bytes-in (c .len) st p b)
+      (gives-only (messageIn (c .len) st p) (idAt messageIdSize (c .«id_len») (c .ids) p) (row-gives c st t i h))
 
 -- a cached message with its id
 pub record CachedMessage (m : Cached) : Type 0 where
   pub message : Message (m .message)
   pub id-short : length (m .id) ≤ messageIdSize
 
-id-length : (lens ids : List ℕ) (p : ℕ) → getD lens p 0 ≤ messageIdSize → length (idAt messageIdSize lens ids p) ≤ messageIdSize
+id-length : (lens ids : List ℕ) (p : ℕ) → getD lens p 0 ≤ messageIdSize
+    → length (idAt messageIdSize lens ids p) ≤ messageIdSize
 unfolding idAt
 id-length lens ids p h = omega (arith, length-take (getD lens p 0) (drop (p * messageIdSize) ids))
 

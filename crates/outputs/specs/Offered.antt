@@ -1,4 +1,5 @@
--- The ids that stand in the IHAVEs and in the IWANTs of a body are those that its RPC names; and they are no more than its records.
+-- The ids that stand in the IHAVEs and in the IWANTs of a body are those that its RPC names; and they are no more than
+-- its records.
 use Prim.Native.Nat.{ℕ, _+_, _≤_}
 use mathlib.Core.Path.{_≡_, refl, sym, ap, ap₂, _∙_}
 use mathlib.Core.Bool.{cond}
@@ -11,7 +12,8 @@ use Rattle.protobuf.specs.Grammar.{Entry, Body}
 use Rattle.protobuf.specs.Walk.{whole, fieldsOf, entriesOf, isBytes, valueIn}
 use Rattle.protobuf.specs.Exactly.{body-walks}
 use Rattle.rpc.specs.Rpc.{ControlIHave, ControlIWant, ControlMessage, Rpc}
-use Rattle.rpc.specs.Grammar.{bytesIn, Pairs, no-pairs, _paired_, IsIHave, is-ihave, IsIWant, is-iwant, IsControl, is-control, joinTo, joined, IsRpc, is-rpc}
+use Rattle.rpc.specs.Grammar.{bytesIn, Pairs, no-pairs, _paired_, IsIHave, is-ihave, IsIWant, is-iwant, IsControl}
+use Rattle.rpc.specs.Grammar.{is-control, joinTo, joined, IsRpc, is-rpc}
 use Rattle.meaning.specs.Entries.{put-bytes}
 use Rattle.meaning.specs.Size.{sumOf, someRecords, recordsIn}
 use Rattle.parts.specs.Parts.{valuesAlong, inEach, atPath, once}
@@ -31,7 +33,8 @@ values-body n s es g =
     ap (valuesAlong n s) (w .walked) ∙ values-list n s (w .fields) ∙ ap (bytesIn n) (w .entries)
 
 -- ---- a path, one field further
-path-body : (n : ℕ) (ns s : List ℕ) (es : List Entry) → Body s es → atPath (n ∷ ns) s ≡ inEach (atPath ns) (bytesIn n es)
+path-body : (n : ℕ) (ns s : List ℕ) (es : List Entry) → Body s es
+    → atPath (n ∷ ns) s ≡ inEach (atPath ns) (bytesIn n es)
 unfolding atPath
 path-body n ns s es g = ap (inEach (atPath ns)) (values-body n s es g)
 
@@ -41,15 +44,19 @@ each-itself [] = refl
 each-itself (d ∷ ds) = ap (λ (l : List (List ℕ)). d ∷ l) (each-itself ds)
 
 -- ---- submessages, each with ids of its own: `all` are those of several, one after the other
-module _ {X : Type 0} (all : List X → List (List ℕ)) (own : X → List (List ℕ)) (empty : [] ≡ all []) (more : (x : X) (xs : List X) → own x ++ all xs ≡ all (x ∷ xs)) where
-  in-pairs : {R : List ℕ → X → Type 0} (g : List ℕ → List (List ℕ)) → ((d : List ℕ) (x : X) → R d x → g d ≡ own x) → {ds : List (List ℕ)} {xs : List X} → Pairs R ds xs → inEach g ds ≡ all xs
+module _ {X : Type 0} (all : List X → List (List ℕ)) (own : X → List (List ℕ)) (empty : [] ≡ all [])
+    (more : (x : X) (xs : List X) → own x ++ all xs ≡ all (x ∷ xs)) where
+  in-pairs : {R : List ℕ → X → Type 0} (g : List ℕ → List (List ℕ)) → ((d : List ℕ) (x : X) → R d x → g d ≡ own x)
+      → {ds : List (List ℕ)} {xs : List X} → Pairs R ds xs → inEach g ds ≡ all xs
   in-pairs g same no-pairs = empty
-  in-pairs g same (_paired_ {x = d} {y = x} {ys = xs} p ps) = ap₂ (λ (a b : List (List ℕ)). a ++ b) (same d x p) (in-pairs g same ps) ∙ more x xs
+  in-pairs g same (_paired_ {x = d} {y = x} {ys = xs} p ps) =
+      ap₂ (λ (a b : List (List ℕ)). a ++ b) (same d x p) (in-pairs g same ps) ∙ more x xs
 
   all-append : (xs ys : List X) → all xs ++ all ys ≡ all (xs ++ ys)
   all-append [] ys = ap (λ (l : List (List ℕ)). l ++ all ys) (sym empty)
   all-append (x ∷ xs) ys =
-      ap (λ (l : List (List ℕ)). l ++ all ys) (sym (more x xs)) ∙ append-assoc (own x) (all xs) (all ys) ∙ ap (λ (l : List (List ℕ)). own x ++ l) (all-append xs ys) ∙ more x (xs ++ ys)
+      ap (λ (l : List (List ℕ)). l ++ all ys) (sym (more x xs)) ∙ append-assoc (own x) (all xs) (all ys)
+      ∙ ap (λ (l : List (List ℕ)). own x ++ l) (all-append xs ys) ∙ more x (xs ++ ys)
 
   -- each submessage is a record, and so is each id
   ids-few : (xs : List X) → sumOf (λ x. 1 + length (own x)) xs ≡ length xs + length (all xs)
@@ -65,14 +72,17 @@ iwant-ids _ _ (is-iwant {s = s} {es = es} g) = path-body 1 [] s es g ∙ each-it
 
 control-offers : (d : List ℕ) (c : ControlMessage) → IsControl d c → atPath (1 ∷ 2 ∷ []) d ≡ ihaveIds (c .ihave)
 control-offers _ _ (is-control {s = s} {es = es} g h1 h2 h3 h4) =
-    path-body 1 (2 ∷ []) s es g ∙ in-pairs ihaveIds (λ h. h .«message_ids») refl (λ h hs. refl) (atPath (2 ∷ [])) ihave-ids h1
+    path-body 1 (2 ∷ []) s es g ∙ in-pairs ihaveIds (λ h. h .«message_ids») refl
+    (λ h hs. refl) (atPath (2 ∷ [])) ihave-ids h1
 
 control-wants : (d : List ℕ) (c : ControlMessage) → IsControl d c → atPath (2 ∷ 1 ∷ []) d ≡ iwantIds (c .iwant)
 control-wants _ _ (is-control {s = s} {es = es} g h1 h2 h3 h4) =
-    path-body 2 (1 ∷ []) s es g ∙ in-pairs iwantIds (λ w. w .«message_ids») refl (λ w ws. refl) (atPath (1 ∷ [])) iwant-ids h2
+    path-body 2 (1 ∷ []) s es g ∙ in-pairs iwantIds (λ w. w .«message_ids») refl
+    (λ w ws. refl) (atPath (1 ∷ [])) iwant-ids h2
 
 -- ---- controls are joined, and so are the ids that they name
-offers-join : (c : ControlMessage) (o : Option ControlMessage) → ihaveIds (c .ihave) ++ offersIn o ≡ offersIn (joinTo c o)
+offers-join : (c : ControlMessage) (o : Option ControlMessage)
+    → ihaveIds (c .ihave) ++ offersIn o ≡ offersIn (joinTo c o)
 offers-join c none = append-nil (ihaveIds (c .ihave))
 offers-join c (some d) = all-append ihaveIds (λ h. h .«message_ids») refl (λ h hs. refl) (c .ihave) (d .ihave)
 
@@ -84,12 +94,14 @@ wants-join c (some d) = all-append iwantIds (λ w. w .«message_ids») refl (λ 
 pub offered-means : {s : List ℕ} {x : Rpc} → IsRpc s x → atPath (3 ∷ 1 ∷ 2 ∷ []) s ≡ offersOf x
 offered-means (is-rpc {s = s} {es = es} g h1 h2 h3) =
     path-body 3 (1 ∷ 2 ∷ []) s es g
-    ∙ in-pairs (λ cs. offersIn (joined cs)) (λ c. ihaveIds (c .ihave)) refl (λ c cs. offers-join c (joined cs)) (atPath (1 ∷ 2 ∷ [])) control-offers h3
+    ∙ in-pairs (λ cs. offersIn (joined cs)) (λ c. ihaveIds (c .ihave)) refl (λ c cs. offers-join c (joined cs))
+    (atPath (1 ∷ 2 ∷ [])) control-offers h3
 
 pub wanted-means : {s : List ℕ} {x : Rpc} → IsRpc s x → atPath (3 ∷ 2 ∷ 1 ∷ []) s ≡ wantsOf x
 wanted-means (is-rpc {s = s} {es = es} g h1 h2 h3) =
     path-body 3 (2 ∷ 1 ∷ []) s es g
-    ∙ in-pairs (λ cs. wantsIn (joined cs)) (λ c. iwantIds (c .iwant)) refl (λ c cs. wants-join c (joined cs)) (atPath (2 ∷ 1 ∷ [])) control-wants h3
+    ∙ in-pairs (λ cs. wantsIn (joined cs)) (λ c. iwantIds (c .iwant)) refl (λ c cs. wants-join c (joined cs))
+    (atPath (2 ∷ 1 ∷ [])) control-wants h3
 
 -- each at its first mention
 pub offered-once : {s : List ℕ} {x : Rpc} → IsRpc s x → offered s ≡ once (offersOf x)

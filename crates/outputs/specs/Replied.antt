@@ -1,5 +1,5 @@
--- A reply to a body is a body that publishes cached messages, byte for byte, as many as the room has, from the first on; and it is canonical. What
--- is answered counts them, and those that are left.
+-- A reply to a body is a body that publishes cached messages, byte for byte, as many as the room has, from the first
+-- on; and it is canonical. What is answered counts them, and those that are left.
 use Prim.Native.Nat.{ℕ, suc, _+_, _-_, _≤_, _<_, min}
 use mathlib.Core.Path.{_≡_, refl, sym, ap, _∙_}
 use mathlib.Core.Bool.{true}
@@ -39,7 +39,8 @@ use Rattle.node.specs.declared.Lent.the-variants as lent
 use Rattle.node.specs.declared.Serve.the-variants as serve
 use Rattle.node.specs.Gateway.{having}
 use Rattle.node.specs.State.{gatewayIn}
-use Rattle.node.specs.Calls.{lentOf, wanted, rowsFor, cachedOf, roomOf, servedOf, replyBytes, replyTo, serveAnswer, maxRpcSize}
+use Rattle.node.specs.Calls.{lentOf, wanted, rowsFor, cachedOf, roomOf, servedOf, replyBytes, replyTo, serveAnswer}
+use Rattle.node.specs.Calls.{maxRpcSize}
 use Rattle.node.specs.Laws.{serve-says}
 use Rattle.node.specs.StateLaws.{fine-tests as node-tests}
 use Rattle.outputs.specs.Bodies.{published, messages-mean}
@@ -54,12 +55,14 @@ rows-shared ring held (i ∷ is) =
     let e = index-among i held in
     either (among i held) (λ t. simp (t, sym e ∙ t) (ap suc r)) (λ t. simp (t, sym e ∙ t) r)
 
-rows-each : {P : List ℕ → Type 0} (f : ℕ → List ℕ) (ring : Ring) (held is : List (List ℕ)) → ((j : ℕ) → j < length held → P (f (placeOf ring j))) → Each P (map f (rowsFor ring held is))
+rows-each : {P : List ℕ → Type 0} (f : ℕ → List ℕ) (ring : Ring) (held is : List (List ℕ))
+    → ((j : ℕ) → j < length held → P (f (placeOf ring j))) → Each P (map f (rowsFor ring held is))
 unfolding rowsFor
 rows-each f ring held [] h = none-left
 rows-each f ring held (i ∷ is) h =
     let r = rows-each f ring held is h in
-    either (ltb (indexOf i held) (length held)) (λ t. simp t (h (indexOf i held) (ltb-true _ _ t) and r)) (λ t. simp t r)
+    either (ltb (indexOf i held) (length held)) (λ t. simp t (h (indexOf i held) (ltb-true _ _ t) and r))
+    (λ t. simp t r)
 
 module _ (c : MessageCache) (st : List ℕ) (t : Tests c st) (is : List (List ℕ)) where
   held-count : length (idsIn messageIdSize (ringOf c) (c .«id_len») (c .ids)) ≡ c .count
@@ -101,11 +104,13 @@ reply-small : (ms : List (List ℕ)) (out : List ℕ) → length (replyBytes ms 
 unfolding replyBytes servedOf roomOf
 reply-small ms out = omega (arith, fitting-room 2 (min (length out) maxRpcSize) ms)
 
-raw-fields : (vs : List RawMessage) → repeated (λ m. bytesField 2 (m .raw)) vs ≡ repeated (bytesField 2) (map (λ (m : RawMessage). m .raw) vs)
+raw-fields : (vs : List RawMessage) → repeated (λ m. bytesField 2 (m .raw)) vs ≡ repeated (bytesField 2)
+    (map (λ (m : RawMessage). m .raw) vs)
 raw-fields [] = refl
 raw-fields (v ∷ vs) = ap (λ (l : List ℕ). bytesField 2 (v .raw) ++ l) (raw-fields vs)
 
-published-bytes : (vs : List RawMessage) → encodeRpc (published vs) ≡ repeated (bytesField 2) (map (λ (m : RawMessage). m .raw) vs)
+published-bytes : (vs : List RawMessage)
+    → encodeRpc (published vs) ≡ repeated (bytesField 2) (map (λ (m : RawMessage). m .raw) vs)
 unfolding encodeRpc
 published-bytes vs = append-nil (repeated (λ m. bytesField 2 (m .raw)) vs) ∙ raw-fields vs
 
@@ -136,9 +141,11 @@ module _ (n : Node) (ss cs body out : List ℕ) (fine : lentOf n ss cs ≡ lent.
   unfolding wanted
   serve-means =
       let t = fine-tests (n .cache) cs (node-tests n ss cs fine .messages) in
-      replies ms out (cached-messages (n .cache) cs t (wanted body) bytes) (cached-few (n .cache) cs t (wanted body) (once-distinct (atPath (3 ∷ 2 ∷ 1 ∷ []) body)))
+      replies ms out (cached-messages (n .cache) cs t (wanted body) bytes)
+      (cached-few (n .cache) cs t (wanted body) (once-distinct (atPath (3 ∷ 2 ∷ 1 ∷ []) body)))
 
-  pub serve-stays : canonBody (replyBytes (cachedOf (n .cache) cs (wanted body)) out) ≡ replyBytes (cachedOf (n .cache) cs (wanted body)) out
+  pub serve-stays : canonBody (replyBytes (cachedOf (n .cache) cs (wanted body)) out) ≡ replyBytes
+      (cachedOf (n .cache) cs (wanted body)) out
   serve-stays = serve-means .stays
 
 -- ---- what is answered
@@ -153,11 +160,13 @@ none-count : (out : List ℕ) → (servedOf [] out ≡ 0) × (length (replyBytes
 unfolding replyBytes servedOf fitting
 none-count out = (refl, refl)
 
-next-passes : (ms : List (List ℕ)) (out : List ℕ) → servedOf ms out < length ms → roomOf out < length (repeated (bytesField 2) (take (servedOf ms out + 1) ms))
+next-passes : (ms : List (List ℕ)) (out : List ℕ) → servedOf ms out < length ms
+    → roomOf out < length (repeated (bytesField 2) (take (servedOf ms out + 1) ms))
 unfolding servedOf
 next-passes ms out h = fitting-next 2 (roomOf out) ms h
 
-pub serve-counts : (ms : List (List ℕ)) (out : List ℕ) (k w l : ℕ) → replyTo ms out ≡ serve.Reply k w l → Counts ms out k w l
+pub serve-counts : (ms : List (List ℕ)) (out : List ℕ) (k w l : ℕ) → replyTo ms out ≡ serve.Reply k w l
+    → Counts ms out k w l
 serve-counts [] out k w l h =
     let a : k ≡ 0 = cc in let b : w ≡ 0 = cc in let c : l ≡ 0 = cc in
     let n = none-count out in
@@ -169,10 +178,16 @@ serve-counts (m ∷ ms) out k w l h =
     let q : serve.Reply (length (replyBytes (m ∷ ms) out)) s (length (m ∷ ms) - s) ≡ serve.Reply k w l = simp t at h in
     let a : length (replyBytes (m ∷ ms) out) ≡ k = cc in let b : s ≡ w = cc in let c : length (m ∷ ms) - s ≡ l = cc in
     let g = served-le (m ∷ ms) out in
-    record { written = sym a; served = sym b; all = omega arith; next = λ z. rw (← b) (next-passes (m ∷ ms) out (omega (arith, z))) })
+    record {
+      written = sym a;
+      served = sym b;
+      all = omega arith;
+      next = λ z. rw (← b) (next-passes (m ∷ ms) out (omega (arith, z)));
+    })
 
 -- no room for the first message: its field is longer than the room, and no byte is written
-pub serve-room : (ms : List (List ℕ)) (out : List ℕ) (k : ℕ) → replyTo ms out ≡ serve.Room k → (roomOf out < k) × (replyBytes ms out ≡ [])
+pub serve-room : (ms : List (List ℕ)) (out : List ℕ) (k : ℕ) → replyTo ms out ≡ serve.Room k → (roomOf out < k)
+    × (replyBytes ms out ≡ [])
 unfolding replyBytes
 serve-room [] out k h = clash (cc)
 serve-room (m ∷ ms) out k h =
@@ -183,11 +198,14 @@ serve-room (m ∷ ms) out k h =
     let q : serve.Room (length (bytesField 2 m)) ≡ serve.Room k = simp t at h in
     let a : length (bytesField 2 m) ≡ k = cc in
     let n = next-passes (m ∷ ms) out (omega arith) in
-    let f : length (repeated (bytesField 2) (take (s + 1) (m ∷ ms))) ≡ length (bytesField 2 m) = rw z (ap length (append-nil (bytesField 2 m))) in
+    let f : length (repeated (bytesField 2) (take (s + 1) (m ∷ ms))) ≡ length (bytesField 2 m) =
+    rw z (ap length (append-nil (bytesField 2 m))) in
     (omega arith, rw z))
     (λ t. clash (let q = simp t at h in cc))
 
 -- ---- of a call: it counts the messages that are cached and named, those written and those left
-pub serve-tells : (n : Node) (ss cs body out : List ℕ) (k w l : ℕ) → lentOf n ss cs ≡ lent.Fine → acceptOf body ≡ checked.Fine → serveAnswer n ss cs body out ≡ serve.Reply k w l
+pub serve-tells : (n : Node) (ss cs body out : List ℕ) (k w l : ℕ) → lentOf n ss cs ≡ lent.Fine
+    → acceptOf body ≡ checked.Fine → serveAnswer n ss cs body out ≡ serve.Reply k w l
     → Counts (having (gatewayIn n ss cs) (wanted body)) out k w l
-serve-tells n ss cs body out k w l fine ok h = serve-counts (having (gatewayIn n ss cs) (wanted body)) out k w l (sym (serve-says n ss cs out fine body ok .0) ∙ h)
+serve-tells n ss cs body out k w l fine ok h =
+    serve-counts (having (gatewayIn n ss cs) (wanted body)) out k w l (sym (serve-says n ss cs out fine body ok .0) ∙ h)

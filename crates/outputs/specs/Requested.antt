@@ -1,4 +1,5 @@
--- A request is a body with one IWANT that names the ids offered and not seen; it is canonical, and never longer than the body that offers them.
+-- A request is a body with one IWANT that names the ids offered and not seen; it is canonical, and never longer than
+-- the body that offers them.
 use Prim.Native.Nat.{ℕ, _+_, _≤_}
 use mathlib.Core.Path.{_≡_, refl, sym, ap, _∙_}
 use mathlib.Core.List.{List, [], _∷_, _++_, append-nil}
@@ -13,7 +14,8 @@ use Rattle.protobuf.specs.declared.Checked.the-variants.{Fine}
 use Rattle.protobuf.specs.Encode.{bytesField}
 use Rattle.protobuf.specs.EncodeLaws.{heads-same}
 use Rattle.rpc.specs.Rpc.{ControlIHave, ControlMessage, Rpc}
-use Rattle.rpc.specs.Encode.{optional, repeated, encodeIHave, encodeIWant, encodeSubOpts, encodeGraft, encodePrune, encodeControl, encodeRpc}
+use Rattle.rpc.specs.Encode.{optional, repeated, encodeIHave, encodeIWant, encodeSubOpts, encodeGraft, encodePrune}
+use Rattle.rpc.specs.Encode.{encodeControl, encodeRpc}
 use Rattle.meaning.specs.Size.{sumOf}
 use Rattle.schema.specs.Accept.{acceptOf}
 use Rattle.canon.specs.Canon.{canonBody}
@@ -66,41 +68,62 @@ length-sum : (is : List (List ℕ)) → sumOf (λ i. 1) is ≡ length is
 length-sum [] = refl
 length-sum (i ∷ is) = omega (arith, length-sum is)
 
-fields-sum : (n : ℕ) (is : List (List ℕ)) → sumOf (λ i. length (bytesField n i)) is ≡ length (repeated (bytesField n) is)
+fields-sum : (n : ℕ) (is : List (List ℕ))
+    → sumOf (λ i. length (bytesField n i)) is ≡ length (repeated (bytesField n) is)
 fields-sum n [] = refl
 fields-sum n (i ∷ is) = omega (arith, fields-sum n is, length-append (bytesField n i) (repeated (bytesField n) is))
 
 less-count : (is js : List (List ℕ)) → Less is js → length is ≤ length js
 less-count is js h = omega (arith, h (λ i. 1), length-sum is, length-sum js)
 
-less-fields : (n : ℕ) (is js : List (List ℕ)) → Less is js → length (repeated (bytesField n) is) ≤ length (repeated (bytesField n) js)
+less-fields : (n : ℕ) (is js : List (List ℕ)) → Less is js
+    → length (repeated (bytesField n) is) ≤ length (repeated (bytesField n) js)
 less-fields n is js h = omega (arith, h (λ i. length (bytesField n i)), fields-sum n is, fields-sum n js)
 
 -- ---- one IWANT with all ids that some IHAVEs name is no longer than they are
 fields-same : (ds : List (List ℕ)) → length (repeated (bytesField 1) ds) ≡ length (repeated (bytesField 2) ds)
 fields-same [] = refl
 fields-same (d ∷ ds) =
-    omega (arith, heads-same d, fields-same ds, length-append (bytesField 1 d) (repeated (bytesField 1) ds), length-append (bytesField 2 d) (repeated (bytesField 2) ds))
+    omega (
+      arith,
+      heads-same d,
+      fields-same ds,
+      length-append (bytesField 1 d) (repeated (bytesField 1) ds),
+      length-append (bytesField 2 d) (repeated (bytesField 2) ds),
+    )
 
 ids-in : (h : ControlIHave) → length (repeated (bytesField 1) (h .«message_ids»)) ≤ length (encodeIHave h)
 unfolding encodeIHave
-ids-in h = omega (arith, fields-same (h .«message_ids»), length-append (optional (bytesField 1) (h .«topic_id»)) (repeated (bytesField 2) (h .«message_ids»)))
+ids-in h = omega (
+  arith,
+  fields-same (h .«message_ids»),
+  length-append (optional (bytesField 1) (h .«topic_id»)) (repeated (bytesField 2) (h .«message_ids»)),
+)
 
 -- of one IHAVE
-one-in : (h : ControlIHave) → length (bytesField 2 (repeated (bytesField 1) (h .«message_ids»))) ≤ length (bytesField 1 (encodeIHave h))
-one-in h = omega (arith, heads-same (repeated (bytesField 1) (h .«message_ids»)), bytes-field-mono 1 (repeated (bytesField 1) (h .«message_ids»)) (encodeIHave h) (ids-in h))
+one-in : (h : ControlIHave) → length (bytesField 2 (repeated (bytesField 1) (h .«message_ids»))) ≤ length
+    (bytesField 1 (encodeIHave h))
+one-in h = omega (
+  arith,
+  heads-same (repeated (bytesField 1) (h .«message_ids»)),
+  bytes-field-mono 1 (repeated (bytesField 1) (h .«message_ids»)) (encodeIHave h) (ids-in h),
+)
 
-all-in : (h : ControlIHave) (hs : List ControlIHave) → length (bytesField 2 (repeated (bytesField 1) (ihaveIds (h ∷ hs)))) ≤ length (repeated (λ k. bytesField 1 (encodeIHave k)) (h ∷ hs))
+all-in : (h : ControlIHave) (hs : List ControlIHave)
+    → length (bytesField 2 (repeated (bytesField 1) (ihaveIds (h ∷ hs)))) ≤ length
+    (repeated (λ k. bytesField 1 (encodeIHave k)) (h ∷ hs))
 all-in h [] =
     let a = one-in h in
-    let e = ap (λ (l : List (List ℕ)). length (bytesField 2 (repeated (bytesField 1) l))) (append-nil (h .«message_ids»)) in
+    let e = ap (λ (l : List (List ℕ)). length (bytesField 2 (repeated (bytesField 1) l)))
+    (append-nil (h .«message_ids»)) in
     let l = length-append (bytesField 1 (encodeIHave h)) [] in
     omega arith
 all-in h (g ∷ hs) =
     let x = repeated (bytesField 1) (h .«message_ids») in
     let y = repeated (bytesField 1) (ihaveIds (g ∷ hs)) in
     let z = repeated (bytesField 1) (ihaveIds (h ∷ g ∷ hs)) in
-    let e : length z ≡ length x + length y = ap length (repeated-append (bytesField 1) (h .«message_ids») (ihaveIds (g ∷ hs))) ∙ length-append x y in
+    let e : length z ≡ length x + length y =
+    ap length (repeated-append (bytesField 1) (h .«message_ids») (ihaveIds (g ∷ hs))) ∙ length-append x y in
     let a = field-sum 2 x y z e in
     let b = one-in h in
     let c = all-in g hs in
@@ -108,23 +131,32 @@ all-in h (g ∷ hs) =
     omega arith
 
 -- ---- and so the whole request, in one control, is no longer than the RPC that offers
-control-in : (c : ControlMessage) → 1 ≤ length (ihaveIds (c .ihave)) → length (bytesField 2 (repeated (bytesField 1) (ihaveIds (c .ihave)))) ≤ length (encodeControl c)
+control-in : (c : ControlMessage) → 1 ≤ length (ihaveIds (c .ihave))
+    → length (bytesField 2 (repeated (bytesField 1) (ihaveIds (c .ihave)))) ≤ length (encodeControl c)
 unfolding encodeControl
 control-in c h =
-    let rest = repeated (λ w. bytesField 2 (encodeIWant w)) (c .iwant) ++ (repeated (λ g. bytesField 3 (encodeGraft g)) (c .graft) ++ repeated (λ p. bytesField 4 (encodePrune p)) (c .prune)) in
+    let rest = repeated (λ w. bytesField 2 (encodeIWant w)) (c .iwant)
+    ++ (repeated (λ g. bytesField 3 (encodeGraft g)) (c .graft) ++ repeated (λ p. bytesField 4 (encodePrune p))
+    (c .prune)) in
     let l = length-append (repeated (λ k. bytesField 1 (encodeIHave k)) (c .ihave)) rest in
     let a = some-in (c .ihave) h in
     omega arith
   where
-    some-in : (hs : List ControlIHave) → 1 ≤ length (ihaveIds hs) → length (bytesField 2 (repeated (bytesField 1) (ihaveIds hs))) ≤ length (repeated (λ k. bytesField 1 (encodeIHave k)) hs)
+    some-in : (hs : List ControlIHave) → 1 ≤ length (ihaveIds hs)
+        → length (bytesField 2 (repeated (bytesField 1) (ihaveIds hs))) ≤ length
+        (repeated (λ k. bytesField 1 (encodeIHave k)) hs)
     some-in [] k = absurd (omega arith)
     some-in (g ∷ hs) k = all-in g hs
 
-offers-in : (o : Option ControlMessage) → 1 ≤ length (offersIn o) → length (bytesField 3 (bytesField 2 (repeated (bytesField 1) (offersIn o)))) ≤ length (optional (λ c. bytesField 3 (encodeControl c)) o)
+offers-in : (o : Option ControlMessage) → 1 ≤ length (offersIn o)
+    → length (bytesField 3 (bytesField 2 (repeated (bytesField 1) (offersIn o)))) ≤ length
+    (optional (λ c. bytesField 3 (encodeControl c)) o)
 offers-in none h = absurd (omega arith)
-offers-in (some c) h = bytes-field-mono 3 (bytesField 2 (repeated (bytesField 1) (ihaveIds (c .ihave)))) (encodeControl c) (control-in c h)
+offers-in (some c) h = bytes-field-mono 3 (bytesField 2 (repeated (bytesField 1) (ihaveIds (c .ihave))))
+    (encodeControl c) (control-in c h)
 
-rpc-in : (x : Rpc) → 1 ≤ length (offersOf x) → length (bytesField 3 (bytesField 2 (repeated (bytesField 1) (offersOf x)))) ≤ length (encodeRpc x)
+rpc-in : (x : Rpc) → 1 ≤ length (offersOf x)
+    → length (bytesField 3 (bytesField 2 (repeated (bytesField 1) (offersOf x)))) ≤ length (encodeRpc x)
 unfolding encodeRpc
 rpc-in x h =
     let a = repeated (λ o. bytesField 1 (encodeSubOpts o)) (x .subscriptions) in
@@ -145,7 +177,8 @@ module _ (x : Rpc) (i : List ℕ) (is : List (List ℕ)) (less : Less (i ∷ is)
       let e = ap length (request-bytes ids) in
       let a = less-fields 1 ids (offersOf x) less in
       let b = bytes-field-mono 2 (repeated (bytesField 1) ids) (repeated (bytesField 1) (offersOf x)) a in
-      let c = bytes-field-mono 3 (bytesField 2 (repeated (bytesField 1) ids)) (bytesField 2 (repeated (bytesField 1) (offersOf x))) b in
+      let c = bytes-field-mono 3 (bytesField 2 (repeated (bytesField 1) ids))
+      (bytesField 2 (repeated (bytesField 1) (offersOf x))) b in
       omega (arith, rpc-in x some-offered)
 
   means : {body : List ℕ} → Within body x → Within (encodeRpc (request ids)) (request ids)
@@ -154,13 +187,19 @@ module _ (x : Rpc) (i : List ℕ) (is : List (List ℕ)) (less : Less (i ∷ is)
       let b = never-longer (w .means) in
       let c = offers-fewer x some-offered in
       let d = less-count ids (offersOf x) less in
-      record { means = request-means ids (omega (arith, w .small)); small = omega (arith, w .small); few = omega (arith, w .few, records-asked ids) }
+      record {
+        means = request-means ids (omega (arith, w .small));
+        small = omega (arith, w .small);
+        few = omega (arith, w .few, records-asked ids);
+      }
 
-of-ids : {body : List ℕ} {x : Rpc} → Within body x → (ids : List (List ℕ)) → Less ids (offersOf x) → (ids ≡ [] → ⊥) → Within (bytesFor ids (request ids)) (request ids)
+of-ids : {body : List ℕ} {x : Rpc} → Within body x → (ids : List (List ℕ)) → Less ids (offersOf x) → (ids ≡ [] → ⊥)
+    → Within (bytesFor ids (request ids)) (request ids)
 of-ids w [] less there = absurd (there refl)
 of-ids {x = x} w (i ∷ is) less there = means x i is less w
 
-ids-shorter : {body : List ℕ} {x : Rpc} → Within body x → (ids : List (List ℕ)) → Less ids (offersOf x) → length (bytesFor ids (request ids)) ≤ length body
+ids-shorter : {body : List ℕ} {x : Rpc} → Within body x → (ids : List (List ℕ)) → Less ids (offersOf x)
+    → length (bytesFor ids (request ids)) ≤ length body
 ids-shorter w [] less = omega arith
 ids-shorter {x = x} w (i ∷ is) less = omega (arith, shorter x i is less, never-longer (w .means))
 
@@ -180,7 +219,8 @@ module _ (n : Node) (ss body : List ℕ) (fine : acceptOf body ≡ Fine) (bytes 
   less-asked : Less asked (offersOf (meant .0))
   less-asked = rw (← offered-means (meant .1 .means)) (asked-less n ss body)
 
-  pub ask-means : (unseenOf n ss (offered body) ≡ [] → ⊥) → Within (askBytes n ss body) (request (unseenOf n ss (offered body)))
+  pub ask-means : (unseenOf n ss (offered body) ≡ [] → ⊥)
+      → Within (askBytes n ss body) (request (unseenOf n ss (offered body)))
   unfolding askBytes
   ask-means there = of-ids (meant .1) asked less-asked there
 

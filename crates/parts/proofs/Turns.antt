@@ -16,7 +16,7 @@ use Rattle.protobuf.specs.declared.Field.{Field}
 use Rattle.protobuf.specs.declared.Step.the-variants as step
 use Rattle.protobuf.specs.Field.{readField}
 use Rattle.protobuf.specs.Walk.{between, valueIn}
-use Rattle.schema.specs.Count.{Within}
+use Rattle.schema.specs.Count.{FieldWithin}
 use Rattle.protobuf.specs.Encode.{tag, bytesField}
 use Rattle.protobuf.specs.EncodeLaws.{bytes-field-length}
 use Rattle.rpc.specs.Encode.{repeated}
@@ -154,7 +154,7 @@ tail-is path = take-all (length path - 1) (drop 1 path) (omega (arith, length-dr
 pub tail-size : (path : List ℕ) → length (take (length path - 1) (drop 1 path)) ≡ length path - 1
 tail-size path = ap length (tail-is path) ∙ length-drop 1 path
 
-module _ (s : List ℕ) (b z : ℕ) (path : List ℕ) (f : Field) (w : Within (between s b z) f) (c : (b ≤ z) × (z ≤ length s)) where
+module _ (s : List ℕ) (b z : ℕ) (path : List ℕ) (f : Field) (w : FieldWithin (between s b z) f) (c : (b ≤ z) × (z ≤ length s)) where
   inner-size : length (between s b z) ≡ z - b
   inner-size = between-length s b z (c .1)
 

@@ -1,5 +1,6 @@
--- Parts of some bytes, as a table of places has them: two words a part, where it starts and where it ends. And the parts of a body that stand
--- at a path of field numbers, from the Protocol Buffers document: a submessage is a body of its own.
+-- Parts of some bytes, as a table of places has them: two words a part, where it starts and where it ends. And the
+-- parts of a body that stand at a path of field numbers, from the Protocol Buffers document: a submessage is a body of
+-- its own.
 use Prim.Native.Nat.{ℕ, _+_, _-_, _*_, _≤_, _<_}
 use mathlib.Core.List.{List, [], _∷_, _++_}
 use mathlib.Core.Bool.{cond}
@@ -51,4 +52,5 @@ once is = onceAfter [] is
 -- ---- how many parts, from the first on, fit as fields n into so many bytes
 unfoldable pub fitting : ℕ → ℕ → List (List ℕ) → ℕ
 fitting n room [] = 0
-fitting n room (m ∷ ms) = cond (leb (length (bytesField n m)) room) (1 + fitting n (room - length (bytesField n m)) ms) 0
+fitting n room (m ∷ ms) = cond (leb (length (bytesField n m)) room) (1 + fitting n (room - length (bytesField n m)) ms)
+    0

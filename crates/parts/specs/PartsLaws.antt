@@ -1,5 +1,5 @@
--- Laws of tables of places: the parts one by one, one part more, and a part of a part; the parts at a path field by field, and how many there
--- can be; each part once; and how many fit.
+-- Laws of tables of places: the parts one by one, one part more, and a part of a part; the parts at a path field by
+-- field, and how many there can be; each part once; and how many fit.
 use Prim.Native.Nat.{ℕ, zero, suc, _+_, _-_, _*_, _≤_, _<_}
 use mathlib.Core.Path.{_≡_, refl, sym, ap, ap₂, _∙_}
 use mathlib.Core.List.{List, [], _∷_, _++_, append-assoc, append-nil}
@@ -50,7 +50,8 @@ part-is s t n i h = getD-tab (partAt s t) n i [] h
 pub parts-from : (s t : List ℕ) (n i : ℕ) → i < n → drop i (partsIn s t n) ≡ partAt s t i ∷ drop (i + 1) (partsIn s t n)
 parts-from s t n i h =
     let l = length-parts s t n in
-    rw (add-one i) (drop-cons (partsIn s t n) i [] (omega arith) ∙ ap (λ (p : List ℕ). p ∷ drop (suc i) (partsIn s t n)) (part-is s t n i h))
+    rw (add-one i) (drop-cons (partsIn s t n) i [] (omega arith) ∙ ap (λ (p : List ℕ). p ∷ drop (suc i) (partsIn s t n))
+    (part-is s t n i h))
 
 pub parts-end : (s t : List ℕ) (n i : ℕ) → n ≤ i → drop i (partsIn s t n) ≡ []
 parts-end s t n i h = let l = length-parts s t n in drop-of-length-le (partsIn s t n) {i = i} (omega arith)
@@ -69,7 +70,9 @@ pub parts-fewer : (s t : List ℕ) (k n : ℕ) → k ≤ n → Parts s t n → P
 parts-fewer s t k n h p = let r = p .room in record { room = omega arith; within = λ i q. p .within i (omega arith) }
 
 -- two tables that have the same places
-pub parts-ext : (s t u : List ℕ) (n : ℕ) → ((i : ℕ) → i < n → (getD t (i * 2) 0 ≡ getD u (i * 2) 0) × (getD t (i * 2 + 1) 0 ≡ getD u (i * 2 + 1) 0)) → partsIn s t n ≡ partsIn s u n
+pub parts-ext : (s t u : List ℕ) (n : ℕ)
+    → ((i : ℕ) → i < n → (getD t (i * 2) 0 ≡ getD u (i * 2) 0) × (getD t (i * 2 + 1) 0 ≡ getD u (i * 2 + 1) 0))
+    → partsIn s t n ≡ partsIn s u n
 unfolding partsIn
 parts-ext s t u n h = tab-ext (partAt s t) (partAt s u) n (λ i k. ap₂ (between s) (h i k .0) (h i k .1))
 
@@ -80,19 +83,22 @@ module _ (t : List ℕ) (n a e : ℕ) where
 
   more-before : (j : ℕ) → j < n * 2 → getD more j 0 ≡ getD t j 0
   more-before j h =
-      getD-set-other (set t (n * 2) a) (suc (n * 2)) j e 0 (λ q. omega arith) ∙ getD-set-other t (n * 2) j a 0 (λ q. omega arith)
+      getD-set-other (set t (n * 2) a) (suc (n * 2)) j e 0 (λ q. omega arith) ∙ getD-set-other t (n * 2) j a 0
+      (λ q. omega arith)
 
   module _ (room : (n + 1) * 2 ≤ length t) where
     more-start : getD more (n * 2) 0 ≡ a
     more-start =
-        getD-set-other (set t (n * 2) a) (suc (n * 2)) (n * 2) e 0 (λ q. omega arith) ∙ getD-set-same t (n * 2) a 0 (omega arith)
+        getD-set-other (set t (n * 2) a) (suc (n * 2)) (n * 2) e 0 (λ q. omega arith)
+        ∙ getD-set-same t (n * 2) a 0 (omega arith)
 
     more-end : getD more (n * 2 + 1) 0 ≡ e
     more-end =
         let l = length-sets t (n * 2) (a ∷ []) in
         rw (add-one (n * 2)) (getD-set-same (set t (n * 2) a) (suc (n * 2)) e 0 (omega arith))
 
-    pub parts-more : (s : List ℕ) → partsIn s (sets t (n * 2) (a ∷ e ∷ [])) (n + 1) ≡ partsIn s t n ++ (between s a e ∷ [])
+    pub parts-more : (s : List ℕ) → partsIn s (sets t (n * 2) (a ∷ e ∷ [])) (n + 1) ≡ partsIn s t n
+        ++ (between s a e ∷ [])
     unfolding partsIn
     parts-more s =
         rw (add-one n) (tab-snoc (partAt s more) n
@@ -100,12 +106,14 @@ module _ (t : List ℕ) (n a e : ℕ) where
         (parts-ext s more t n (λ i k. (more-before (i * 2) (omega arith), more-before (i * 2 + 1) (omega arith))))
         (ap₂ (between s) more-start more-end))
 
-    pub parts-within-more : (s : List ℕ) → Parts s t n → a ≤ e → e ≤ length s → Parts s (sets t (n * 2) (a ∷ e ∷ [])) (n + 1)
+    pub parts-within-more : (s : List ℕ) → Parts s t n → a ≤ e → e ≤ length s
+        → Parts s (sets t (n * 2) (a ∷ e ∷ [])) (n + 1)
     parts-within-more s p h k =
         record {
           room = omega (arith, length-sets t (n * 2) (a ∷ e ∷ []));
           within = λ i q. either (ltb i n)
-              (λ u. let r = ltb-true i n u in let w = p .within i r in rw (more-before (i * 2) (omega arith), more-before (i * 2 + 1) (omega arith)) w)
+              (λ u. let r = ltb-true i n u in let w = p .within i r in
+              rw (more-before (i * 2) (omega arith), more-before (i * 2 + 1) (omega arith)) w)
               (λ u. let r = ltb-false i n u in let z : i ≡ n = omega arith in rw (z, more-start, more-end) (h, k));
         }
 
@@ -118,11 +126,13 @@ pub parts-none : (s t : List ℕ) → Parts s t 0
 parts-none s t = record { room = omega arith; within = λ i h. absurd (omega arith) }
 
 -- ---- a part of a part is a part of the whole
-pub between-between : (s : List ℕ) (b z a e : ℕ) → a ≤ e → e ≤ length (between s b z) → between (between s b z) a e ≡ between s (b + a) (b + e)
+pub between-between : (s : List ℕ) (b z a e : ℕ) → a ≤ e → e ≤ length (between s b z)
+    → between (between s b z) a e ≡ between s (b + a) (b + e)
 between-between s b z a e h k =
     let l = length-take (z - b) (drop b s) in
     let d : (b + e) - (b + a) ≡ e - a = omega arith in
-    rw (d, drop-take (z - b) a (drop b s), drop-drop a b s) (take-take (e - a) (z - b - a) (drop (b + a) s) (omega arith))
+    rw (d, drop-take (z - b) a (drop b s), drop-drop a b s)
+    (take-take (e - a) (z - b - a) (drop (b + a) s) (omega arith))
 
 -- ---- the parts at a path, field by field: those in the fields from a place on
 abbrev pub restAt : List ℕ → List ℕ → ℕ → List (List ℕ)
@@ -142,19 +152,24 @@ unfolding atPath
 path-all [] s h = absurd (omega arith)
 path-all (n ∷ ns) s h = refl
 
-pub path-field : (path s : List ℕ) (at : ℕ) (f : Field) → step.At f ≡ readField s at → restAt path s at ≡ fieldParts path s f ++ restAt path s (f .next)
+pub path-field : (path s : List ℕ) (at : ℕ) (f : Field) → step.At f ≡ readField s at
+    → restAt path s at ≡ fieldParts path s f ++ restAt path s (f .next)
 path-field path s at f h =
     ap (λ (w : Fields). inEach (atPath (drop 1 path)) (valuesAlong (getD path 0 0) s w)) (walk-on s at (step.At f) h)
     ∙ either (isBytes (getD path 0 0) f) (λ t. simp t) (λ t. simp t)
 
 pub path-end : (path s : List ℕ) (at : ℕ) → step.End ≡ readField s at → restAt path s at ≡ []
-path-end path s at h = ap (λ (w : Fields). inEach (atPath (drop 1 path)) (valuesAlong (getD path 0 0) s w)) (walk-on s at step.End h)
+path-end path s at h = ap (λ (w : Fields). inEach (atPath (drop 1 path)) (valuesAlong (getD path 0 0) s w))
+    (walk-on s at step.End h)
 
-pub path-refused : (path s : List ℕ) (at : ℕ) (why : WireError) → step.Refused why ≡ readField s at → restAt path s at ≡ []
-path-refused path s at why h = ap (λ (w : Fields). inEach (atPath (drop 1 path)) (valuesAlong (getD path 0 0) s w)) (walk-on s at (step.Refused why) h)
+pub path-refused : (path s : List ℕ) (at : ℕ) (why : WireError) → step.Refused why ≡ readField s at
+    → restAt path s at ≡ []
+path-refused path s at why h = ap (λ (w : Fields). inEach (atPath (drop 1 path)) (valuesAlong (getD path 0 0) s w))
+    (walk-on s at (step.Refused why) h)
 
 pub path-done : (path s : List ℕ) (at : ℕ) → length s ≤ at → restAt path s at ≡ []
-path-done path s at h = ap (λ (w : Fields). inEach (atPath (drop 1 path)) (valuesAlong (getD path 0 0) s w)) (walk-end s at h)
+path-done path s at h = ap (λ (w : Fields). inEach (atPath (drop 1 path)) (valuesAlong (getD path 0 0) s w))
+    (walk-end s at h)
 
 -- ---- each once
 module _ (earlier is : List (List ℕ)) (i : List ℕ) where
@@ -169,12 +184,14 @@ module _ (earlier is : List (List ℕ)) (i : List ℕ) where
 snoc-append : (l r : List (List ℕ)) (i : List ℕ) → (l ++ (i ∷ [])) ++ r ≡ l ++ (i ∷ r)
 snoc-append l r i = append-assoc l (i ∷ []) r
 
-after-distinct : (earlier is : List (List ℕ)) → distinct earlier ≡ true → distinct (earlier ++ onceAfter earlier is) ≡ true
+after-distinct : (earlier is : List (List ℕ)) → distinct earlier ≡ true → distinct (earlier ++ onceAfter earlier is)
+    ≡ true
 unfolding onceAfter
 after-distinct earlier [] h = rw append-nil h
 after-distinct earlier (i ∷ is) h =
     either (among i earlier) (λ t. rw (once-again earlier is i t) (after-distinct earlier is h))
-    (λ t. rw (once-new earlier is i t, ← (snoc-append earlier (onceAfter (earlier ++ (i ∷ [])) is) i)) (after-distinct (earlier ++ (i ∷ [])) is (distinct-snoc earlier i h t)))
+    (λ t. rw (once-new earlier is i t, ← (snoc-append earlier (onceAfter (earlier ++ (i ∷ [])) is) i))
+    (after-distinct (earlier ++ (i ∷ [])) is (distinct-snoc earlier i h t)))
 
 -- no part twice
 pub once-distinct : (is : List (List ℕ)) → distinct (once is) ≡ true
@@ -198,12 +215,14 @@ or-none : (a : Bool) → a ≡ (a || false)
 or-none true = refl
 or-none false = refl
 
-after-among : (x : List ℕ) (earlier is : List (List ℕ)) → among x (earlier ++ onceAfter earlier is) ≡ (among x earlier || among x is)
+after-among : (x : List ℕ) (earlier is : List (List ℕ))
+    → among x (earlier ++ onceAfter earlier is) ≡ (among x earlier || among x is)
 unfolding onceAfter among
 after-among x earlier [] = rw append-nil (or-none (among x earlier))
 after-among x earlier (i ∷ is) =
     either (among i earlier)
-    (λ t. rw (once-again earlier is i t) (after-among x earlier is ∙ or-seen (among x earlier) (sameBytes i x) (among x is) (seen x i earlier t)))
+    (λ t. rw (once-again earlier is i t) (after-among x earlier is
+    ∙ or-seen (among x earlier) (sameBytes i x) (among x is) (seen x i earlier t)))
     (λ t. rw (once-new earlier is i t, ← (snoc-append earlier (onceAfter (earlier ++ (i ∷ [])) is) i))
     (after-among x (earlier ++ (i ∷ [])) is
     ∙ ap (λ (b : Bool). b || among x is) (among-append x earlier (i ∷ []))
@@ -220,14 +239,16 @@ unfolding onceAfter
 once-from earlier [] d = refl
 once-from earlier (i ∷ is) d =
     let e : distinct ((earlier ++ (i ∷ [])) ++ is) ≡ true = ap distinct (append-assoc earlier (i ∷ []) is) ∙ d in
-    once-new earlier is i (distinct-middle earlier is i d) ∙ ap (λ (l : List (List ℕ)). i ∷ l) (once-from (earlier ++ (i ∷ [])) is e)
+    once-new earlier is i (distinct-middle earlier is i d)
+    ∙ ap (λ (l : List (List ℕ)). i ∷ l) (once-from (earlier ++ (i ∷ [])) is e)
 
 pub once-same : (is : List (List ℕ)) → distinct is ≡ true → once is ≡ is
 once-same is d = once-from [] is d
 
 -- ---- how many fit
 module _ (n room : ℕ) (m : List ℕ) (ms : List (List ℕ)) where
-  pub fitting-more : length (bytesField n m) ≤ room → fitting n room (m ∷ ms) ≡ 1 + fitting n (room - length (bytesField n m)) ms
+  pub fitting-more : length (bytesField n m) ≤ room
+      → fitting n room (m ∷ ms) ≡ 1 + fitting n (room - length (bytesField n m)) ms
   unfolding fitting
   fitting-more h = simp (le-leb _ _ h)
 
@@ -239,14 +260,17 @@ pub fitting-le : (n room : ℕ) (ms : List (List ℕ)) → fitting n room ms ≤
 unfolding fitting
 fitting-le n room [] = omega arith
 fitting-le n room (m ∷ ms) =
-    either (leb (length (bytesField n m)) room) (λ t. let k = fitting-le n (room - length (bytesField n m)) ms in simp t (omega arith)) (λ t. simp t (omega arith))
+    either (leb (length (bytesField n m)) room) (λ t. let k = fitting-le n (room - length (bytesField n m)) ms in
+    simp t (omega arith)) (λ t. simp t (omega arith))
 
 -- the fields of k parts after the first
-fields-more : (n k : ℕ) (m : List ℕ) (ms : List (List ℕ)) → length (repeated (bytesField n) (take (1 + k) (m ∷ ms))) ≡ length (bytesField n m) + length (repeated (bytesField n) (take k ms))
+fields-more : (n k : ℕ) (m : List ℕ) (ms : List (List ℕ)) → length (repeated (bytesField n) (take (1 + k) (m ∷ ms)))
+    ≡ length (bytesField n m) + length (repeated (bytesField n) (take k ms))
 fields-more n k m ms = rw (one-add k) (length-append (bytesField n m) (repeated (bytesField n) (take k ms)))
 
 -- those that fit have the room
-pub fitting-room : (n room : ℕ) (ms : List (List ℕ)) → length (repeated (bytesField n) (take (fitting n room ms) ms)) ≤ room
+pub fitting-room : (n room : ℕ) (ms : List (List ℕ))
+    → length (repeated (bytesField n) (take (fitting n room ms) ms)) ≤ room
 unfolding fitting
 fitting-room n room [] = omega arith
 fitting-room n room (m ∷ ms) =
@@ -259,7 +283,8 @@ fitting-room n room (m ∷ ms) =
     (λ t. rw (fitting-stop n room m ms (leb-false _ _ t)) (omega arith))
 
 -- and one more does not fit
-pub fitting-next : (n room : ℕ) (ms : List (List ℕ)) → fitting n room ms < length ms → room < length (repeated (bytesField n) (take (fitting n room ms + 1) ms))
+pub fitting-next : (n room : ℕ) (ms : List (List ℕ)) → fitting n room ms < length ms
+    → room < length (repeated (bytesField n) (take (fitting n room ms + 1) ms))
 unfolding fitting
 fitting-next n room [] h = absurd (omega arith)
 fitting-next n room (m ∷ ms) h =
@@ -274,7 +299,9 @@ fitting-next n room (m ∷ ms) h =
     (λ t. let k = leb-false _ _ t in let l = fields-more n 0 m ms in rw (fitting-stop n room m ms k) (omega arith))
 
 -- ---- a body has no more parts at a path than records
-along-counted : (k : Kind) (m : ℕ) (s : List ℕ) (g : List ℕ → List (List ℕ)) → ((f : Field) (x : ℕ) → roleCount counted s f (roleOf k m 2) ≡ Records x → length (g (valueIn s f)) ≤ x) → (w : Fields) (r : ℕ) → countAlong counted k s w ≡ Records r → length (inEach g (valuesAlong m s w)) ≤ r
+along-counted : (k : Kind) (m : ℕ) (s : List ℕ) (g : List ℕ → List (List ℕ))
+    → ((f : Field) (x : ℕ) → roleCount counted s f (roleOf k m 2) ≡ Records x → length (g (valueIn s f)) ≤ x)
+    → (w : Fields) (r : ℕ) → countAlong counted k s w ≡ Records r → length (inEach g (valuesAlong m s w)) ≤ r
 along-counted k m s g h end r e = omega arith
 along-counted k m s g h (refused why) r e = clash (cc)
 along-counted k m s g h (f then w) r e =
@@ -283,14 +310,17 @@ along-counted k m s g h (f then w) r e =
     let z = t .4 in
     either (isBytes m f)
     (λ u. let b = both _ _ u in
-    let q : roleOf k (f .field) (f .«wire_type») ≡ roleOf k m 2 = ap₂ (roleOf k) (eqb-true _ _ (b .1)) (eqb-true _ _ (b .0)) in
+    let q : roleOf k (f .field) (f .«wire_type») ≡ roleOf k m 2 =
+    ap₂ (roleOf k) (eqb-true _ _ (b .1)) (eqb-true _ _ (b .0)) in
     let y = h f (t .0) (sym (ap (roleCount counted s f) q) ∙ t .2) in
     let l = length-append (g (valueIn s f)) (inEach g (valuesAlong m s w)) in
     simp u (omega arith))
     (λ u. simp u (omega arith))
 
 -- the field m leads into submessages, or holds the parts themselves
-pub path-sub : (k j : Kind) (form : Form) (m : ℕ) (ns : List ℕ) → roleOf k m 2 ≡ Sub j form → ((p : List ℕ) (x : ℕ) → counted j p ≡ Records x → length (atPath ns p) ≤ x) → (s : List ℕ) (r : ℕ) → counted k s ≡ Records r → length (atPath (m ∷ ns) s) ≤ r
+pub path-sub : (k j : Kind) (form : Form) (m : ℕ) (ns : List ℕ) → roleOf k m 2 ≡ Sub j form
+    → ((p : List ℕ) (x : ℕ) → counted j p ≡ Records x → length (atPath ns p) ≤ x) → (s : List ℕ) (r : ℕ)
+    → counted k s ≡ Records r → length (atPath (m ∷ ns) s) ≤ r
 unfolding atPath
 path-sub k j form m ns q h s r e =
     along-counted k m s (atPath ns)
@@ -298,11 +328,13 @@ path-sub k j form m ns q h s r e =
     let y = h (valueIn s f) (t .0) (t .1) in let z = t .2 in omega arith)
     (fieldsOf s) r (sym (count-along k s) ∙ e)
 
-pub path-id : (k : Kind) (m : ℕ) → roleOf k m 2 ≡ MessageId → (s : List ℕ) (r : ℕ) → counted k s ≡ Records r → length (atPath (m ∷ []) s) ≤ r
+pub path-id : (k : Kind) (m : ℕ) → roleOf k m 2 ≡ MessageId → (s : List ℕ) (r : ℕ) → counted k s ≡ Records r
+    → length (atPath (m ∷ []) s) ≤ r
 unfolding atPath
 path-id k m q s r e =
     along-counted k m s (atPath [])
-    (λ f x c. let z : Records 1 ≡ Records x = sym (ap (roleCount counted s f) q) ∙ c in let y : x ≡ 1 = cc in omega arith)
+    (λ f x c. let z : Records 1 ≡ Records x = sym (ap (roleCount counted s f) q)
+    ∙ c in let y : x ≡ 1 = cc in omega arith)
     (fieldsOf s) r (sym (count-along k s) ∙ e)
 
 -- the ids of IHAVEs and of IWANTs
@@ -318,8 +350,11 @@ iwant-counted =
     path-sub kind.Rpc kind.ControlMessage Merged 3 (2 ∷ 1 ∷ []) refl
     (path-sub kind.ControlMessage kind.ControlIWant Anew 2 (1 ∷ []) refl (path-id kind.ControlIWant 1 refl))
 
-pub path-counted : (s : List ℕ) (r : ℕ) → counted kind.Rpc s ≡ Records r → (length (atPath (3 ∷ 1 ∷ 2 ∷ []) s) ≤ r) × (length (atPath (3 ∷ 2 ∷ 1 ∷ []) s) ≤ r)
+pub path-counted : (s : List ℕ) (r : ℕ) → counted kind.Rpc s ≡ Records r → (length (atPath (3 ∷ 1 ∷ 2 ∷ []) s) ≤ r)
+    × (length (atPath (3 ∷ 2 ∷ 1 ∷ []) s) ≤ r)
 path-counted s r e = (ihave-counted s r e, iwant-counted s r e)
 
-pub path-accepted : (s : List ℕ) → acceptOf s ≡ Fine → (length (atPath (3 ∷ 1 ∷ 2 ∷ []) s) ≤ 512) × (length (atPath (3 ∷ 2 ∷ 1 ∷ []) s) ≤ 512)
-path-accepted s h = let t = accept-records s h in let p = path-counted s (t .0) (t .1) in let m = t .2 in (omega arith, omega arith)
+pub path-accepted : (s : List ℕ) → acceptOf s ≡ Fine → (length (atPath (3 ∷ 1 ∷ 2 ∷ []) s) ≤ 512)
+    × (length (atPath (3 ∷ 2 ∷ 1 ∷ []) s) ≤ 512)
+path-accepted s h = let t = accept-records s h in let p = path-counted s (t .0) (t .1) in let m = t .2 in
+    (omega arith, omega arith)

@@ -10,7 +10,7 @@ ghost use Rattle.protobuf.specs.Walk.{between, isBytes, valueIn};
 ghost use Rattle.protobuf.specs.Encode.{bytesField};
 ghost use Rattle.rpc.specs.Encode.{repeated};
 ghost use Rattle.encode.specs.Puts.{Puts, Fits};
-ghost use Rattle.schema.specs.Count.{Within};
+ghost use Rattle.schema.specs.Count.{FieldWithin};
 ghost use Rattle.parts.specs.Parts.{partsIn, Parts, atPath, once, fitting};
 use encode::emit_bytes;
 use encode::emit_head;
@@ -81,7 +81,7 @@ fn field_at(
     n: usize,
 ) -> usize
     requires { ⌜ (start ≤ end) × (end ≤ length (now body)) × (1 ≤ length (now path)) ⌝ }
-    requires { ⌜ Within (between (now body) start end) f ⌝ }
+    requires { ⌜ FieldWithin (between (now body) start end) f ⌝ }
     requires { ⌜ Parts (now body) (now table) n ⌝ }
     requires { ⌜ (n + length (cond (isBytes (getD (now path) 0 0) f) (atPath (drop 1 (now path)) (valueIn (between (now body) start end) f)) [])) * 2 ≤ length (now table) ⌝ }
     ensures { λ r. ⌜ partsIn (now (body .entry)) (now (table .exit)) r ≡ partsIn (now (body .entry)) (now (table .entry)) n ++ cond (isBytes (getD (now (path .entry)) 0 0) f) (atPath (drop 1 (now (path .entry))) (valueIn (between (now (body .entry)) start end) f)) [] ⌝ }

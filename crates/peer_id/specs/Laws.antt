@@ -1,4 +1,5 @@
--- Laws of the varint definitions. A varint is read exactly where the bytes begin with the minimal encoding of a value below 2^64.
+-- Laws of the varint definitions. A varint is read exactly where the bytes begin with the minimal encoding of a value
+-- below 2^64.
 use Prim.Native.Nat.{ℕ, zero, suc, _+_, _-_, _*_, _/_, _%_, _^_, _≤_, _<_}
 use mathlib.Core.Path.{_≡_, refl, sym, ap, ap₂, subst, _∙_}
 use mathlib.Core.List.{List, [], _∷_, _++_}
@@ -26,7 +27,9 @@ fuel zero zero n p q = refl
 fuel zero (suc g) n p q = rw (lt-ltb n 128 (omega arith))
 fuel (suc f) zero n p q = rw (lt-ltb n 128 (omega arith))
 fuel (suc f) (suc g) n p q =
-    either (ltb n 128) (λ e. rw e) (λ e. let h : 128 ≤ n = ltb-false n 128 e in rw e (ap (λ (l : List ℕ). (n % 128 + 128) ∷ l) (fuel f g (n / 128) (omega arith) (omega arith))))
+    either (ltb n 128) (λ e. rw e)
+    (λ e. let h : 128 ≤ n = ltb-false n 128 e in
+    rw e (ap (λ (l : List ℕ). (n % 128 + 128) ∷ l) (fuel f g (n / 128) (omega arith) (omega arith))))
 
 pub uvarint-small : (n : ℕ) → n < 128 → uvarint n ≡ n ∷ []
 unfolding uvarint bytesOf
@@ -36,18 +39,22 @@ uvarint-small (suc n) h = rw (lt-ltb (suc n) 128 h)
 pub uvarint-big : (n : ℕ) → 128 ≤ n → uvarint n ≡ (n % 128 + 128) ∷ uvarint (n / 128)
 unfolding uvarint bytesOf
 uvarint-big zero h = absurd (omega arith)
-uvarint-big (suc n) h = rw (le-ltb (suc n) 128 h) (ap (λ (l : List ℕ). (suc n % 128 + 128) ∷ l) (fuel n (suc n / 128) (suc n / 128) (omega arith) (omega arith)))
+uvarint-big (suc n) h =
+    rw (le-ltb (suc n) 128 h)
+    (ap (λ (l : List ℕ). (suc n % 128 + 128) ∷ l) (fuel n (suc n / 128) (suc n / 128) (omega arith) (omega arith)))
 
 -- ---- how long an encoding is
 pub uvarint-some : (n : ℕ) → 1 ≤ length (uvarint n)
 uvarint-some n =
-    either (ltb n 128) (λ e. rw (uvarint-small n (ltb-true n 128 e)) (omega arith)) (λ e. rw (uvarint-big n (ltb-false n 128 e)) (omega arith))
+    either (ltb n 128) (λ e. rw (uvarint-small n (ltb-true n 128 e)) (omega arith))
+    (λ e. rw (uvarint-big n (ltb-false n 128 e)) (omega arith))
 
 at-most-from : (f n : ℕ) → n < 2 * 128 ^ f → length (uvarint n) ≤ suc f
 at-most-from zero n h = rw (uvarint-small n (omega arith)) (omega arith)
 at-most-from (suc f) n h =
     either (ltb n 128) (λ e. rw (uvarint-small n (ltb-true n 128 e)) (omega arith))
-    (λ e. rw (uvarint-big n (ltb-false n 128 e)) (let l = at-most-from f (n / 128) (omega (arith, pow-suc 128 f)) in omega arith))
+    (λ e. rw (uvarint-big n (ltb-false n 128 e)) (let l = at-most-from f (n / 128) (omega (arith, pow-suc 128 f)) in
+    omega arith))
 
 pub at-most-ten : (n : ℕ) → n < 2 ^ 64 → length (uvarint n) ≤ 10
 at-most-ten n h = at-most-from 9 n h
@@ -102,7 +109,8 @@ unfolding groupOf
 is-more k b n h = simp (ne-eqb k 9 n, le-leb 128 b h)
 
 -- ---- reading what was written: k bytes passed, f more allowed after the next
-written-small : (f k x : ℕ) (rest : List ℕ) → k + f ≡ 9 → x < 2 * 128 ^ f → (x ≡ 0 → k ≡ 0) → x < 128 → readFrom k (uvarint x ++ rest) ≡ Value x (length (uvarint x))
+written-small : (f k x : ℕ) (rest : List ℕ) → k + f ≡ 9 → x < 2 * 128 ^ f → (x ≡ 0 → k ≡ 0) → x < 128
+    → readFrom k (uvarint x ++ rest) ≡ Value x (length (uvarint x))
 unfolding readFrom
 written-small f k x rest e b z h = rw (uvarint-small x h) (simp (is-last k x h (λ p. tenth f p e b) z))
   where
@@ -110,14 +118,18 @@ written-small f k x rest e b z h = rw (uvarint-small x h) (simp (is-last k x h (
     tenth zero p e b = b
     tenth (suc f) p e b = absurd (omega arith)
 
-written-from : (f k x : ℕ) (rest : List ℕ) → k + f ≡ 9 → x < 2 * 128 ^ f → (x ≡ 0 → k ≡ 0) → readFrom k (uvarint x ++ rest) ≡ Value x (length (uvarint x))
+written-from : (f k x : ℕ) (rest : List ℕ) → k + f ≡ 9 → x < 2 * 128 ^ f → (x ≡ 0 → k ≡ 0)
+    → readFrom k (uvarint x ++ rest) ≡ Value x (length (uvarint x))
 unfolding readFrom
 written-from zero k x rest e b z = written-small zero k x rest e b z (omega arith)
 written-from (suc f) k x rest e b z =
     either (ltb x 128) (λ t. written-small (suc f) k x rest e b z (ltb-true x 128 t))
     (λ t. let h : 128 ≤ x = ltb-false x 128 t in
     rw (uvarint-big x h)
-    (simp (is-more k (x % 128 + 128) (omega arith) (omega arith), written-from f (k + 1) (x / 128) rest (omega arith) (omega (arith, pow-suc 128 f)) (λ z. absurd (omega arith)))
+    (simp (
+      is-more k (x % 128 + 128) (omega arith) (omega arith),
+      written-from f (k + 1) (x / 128) rest (omega arith) (omega (arith, pow-suc 128 f)) (λ z. absurd (omega arith)),
+    )
     (ap₂ Value (omega arith) (omega arith))))
 
 -- reading what was written gives the value back, whatever follows it
@@ -135,19 +147,22 @@ record Taken (f k : ℕ) (s : List ℕ) (v n : ℕ) : Type 0 where
 on-last : (f k b : ℕ) (s : List ℕ) (v n : ℕ) → k + f ≡ 9 → Says k b Last → Value b 1 ≡ Value v n → Taken f k (b ∷ s) v n
 on-last f k b s v n e (last p q r) h =
     let ev : b ≡ v = cc in let en : 1 ≡ n = cc in
-    rw (← ev, ← en) (record { size = rw (uvarint-small b p); front = rw (uvarint-small b p); bound = last-bound f e; minimal = r })
+    rw (← ev, ← en)
+    (record { size = rw (uvarint-small b p); front = rw (uvarint-small b p); bound = last-bound f e; minimal = r })
   where
     last-bound : (f : ℕ) → k + f ≡ 9 → b < 2 * 128 ^ f
     last-bound zero e = q (omega arith)
     last-bound (suc f) e = omega (arith, pow-suc 128 f, one-le-pow f 128 (omega arith))
 
-on-more : (f k b : ℕ) (s : List ℕ) (v n : ℕ) (r : Uvarint) → b < 256 → k + suc f ≡ 9 → 128 ≤ b → below b r ≡ Value v n → ((x m : ℕ) → r ≡ Value x m → Taken f (k + 1) s x m) → Taken (suc f) k (b ∷ s) v n
+on-more : (f k b : ℕ) (s : List ℕ) (v n : ℕ) (r : Uvarint) → b < 256 → k + suc f ≡ 9 → 128 ≤ b → below b r ≡ Value v n
+    → ((x m : ℕ) → r ≡ Value x m → Taken f (k + 1) s x m) → Taken (suc f) k (b ∷ s) v n
 on-more f k b s v n (Value x m) small e h q ih =
     let t = ih x m refl in
     let w : ℕ = b % 128 + 128 * x in
     let nz : x ≢ 0 = λ z. let y = t .minimal z in omega arith in
     let ev : w ≡ v = cc in let en : 1 + m ≡ n = cc in
-    let g : uvarint w ≡ b ∷ uvarint x = uvarint-big w (omega arith) ∙ ap₂ (λ (p y : ℕ). p ∷ uvarint y) (omega arith) (omega arith) in
+    let g : uvarint w ≡ b ∷ uvarint x = uvarint-big w (omega arith) ∙ ap₂ (λ (p y : ℕ). p ∷ uvarint y) (omega arith)
+    (omega arith) in
     rw (← ev, ← en)
     (record {
       size = omega (arith, t .size, ap length g);
@@ -157,9 +172,13 @@ on-more f k b s v n (Value x m) small e h q ih =
     })
 on-more f k b s v n (Refused why) small e h q ih = clash (cc)
 
-on-byte : (f k b : ℕ) (s : List ℕ) (v n : ℕ) (g : Group) → Says k b g → b < 256 → k + f ≡ 9 → onGroup g b (readFrom (k + 1) s) ≡ Value v n → ((g : ℕ) → k + 1 + g ≡ 9 → (x m : ℕ) → readFrom (k + 1) s ≡ Value x m → Taken g (k + 1) s x m) → Taken f k (b ∷ s) v n
+on-byte : (f k b : ℕ) (s : List ℕ) (v n : ℕ) (g : Group) → Says k b g → b < 256 → k + f ≡ 9
+    → onGroup g b (readFrom (k + 1) s) ≡ Value v n
+    → ((g : ℕ) → k + 1 + g ≡ 9 → (x m : ℕ) → readFrom (k + 1) s ≡ Value x m → Taken g (k + 1) s x m)
+    → Taken f k (b ∷ s) v n
 on-byte zero k b s v n _ (more p q) small e h ih = absurd (p (omega arith))
-on-byte (suc f) k b s v n _ (more p q) small e h ih = on-more f k b s v n (readFrom (k + 1) s) small e q h (ih f (omega arith))
+on-byte (suc f) k b s v n _ (more p q) small e h ih =
+    on-more f k b s v n (readFrom (k + 1) s) small e q h (ih f (omega arith))
 on-byte f k b s v n _ (last p q r) small e h ih = on-last f k b s v n e (last p q r) h
 on-byte f k b s v n _ (large p q) small e h ih = clash (cc)
 on-byte f k b s v n _ (padded p q) small e h ih = clash (cc)
@@ -167,7 +186,8 @@ on-byte f k b s v n _ (padded p q) small e h ih = clash (cc)
 accepted-from : (s : List ℕ) (f k v n : ℕ) → Bytes s → k + f ≡ 9 → readFrom k s ≡ Value v n → Taken f k s v n
 unfolding readFrom
 accepted-from [] f k v n bs e h = clash (cc)
-accepted-from (b ∷ s) f k v n bs e h = on-byte f k b s v n (groupOf k b) (says k b) (bs 0) e h (λ g p x m q. accepted-from s g (k + 1) x m (λ i. bs (suc i)) p q)
+accepted-from (b ∷ s) f k v n bs e h = on-byte f k b s v n (groupOf k b) (says k b) (bs 0) e h
+    (λ g p x m q. accepted-from s g (k + 1) x m (λ i. bs (suc i)) p q)
 
 -- s begins with the minimal encoding of v, of n bytes, and v is below 2^64
 pub record Begins (s : List ℕ) (v n : ℕ) : Type 0 where
@@ -177,13 +197,16 @@ pub record Begins (s : List ℕ) (v n : ℕ) : Type 0 where
 
 pub accepted : (s : List ℕ) (v n : ℕ) → Bytes s → readUvarint s ≡ Value v n → Begins s v n
 unfolding readUvarint
-accepted s v n bs h = let t = accepted-from s 9 0 v n bs refl h in record { front = t .front; size = t .size; bound = t .bound }
+accepted s v n bs h = let t = accepted-from s 9 0 v n bs refl h in
+    record { front = t .front; size = t .size; bound = t .bound }
 
 pub accepted-exactly : (s : List ℕ) (v n : ℕ) → Bytes s → (readUvarint s ≡ Value v n) ↔ Begins s v n
-accepted-exactly s v n bs = (accepted s v n bs, λ h. rw (h .front, h .size) (read-written v (drop (length (uvarint v)) s) (h .bound)))
+accepted-exactly s v n bs =
+    (accepted s v n bs, λ h. rw (h .front, h .size) (read-written v (drop (length (uvarint v)) s) (h .bound)))
 
 -- ---- how many bytes are used
-used-byte : (b : ℕ) (s : List ℕ) (v n : ℕ) (g : Group) (r : Uvarint) → onGroup g b r ≡ Value v n → ((x m : ℕ) → r ≡ Value x m → (1 ≤ m) × (m ≤ length s)) → (1 ≤ n) × (n ≤ suc (length s))
+used-byte : (b : ℕ) (s : List ℕ) (v n : ℕ) (g : Group) (r : Uvarint) → onGroup g b r ≡ Value v n
+    → ((x m : ℕ) → r ≡ Value x m → (1 ≤ m) × (m ≤ length s)) → (1 ≤ n) × (n ≤ suc (length s))
 used-byte b s v n More (Value x m) h ih = let l = ih x m refl in let e : 1 + m ≡ n = cc in omega arith
 used-byte b s v n More (Refused why) h ih = clash (cc)
 used-byte b s v n Last r h ih = let e : 1 ≡ n = cc in omega arith

@@ -1,5 +1,5 @@
--- Unsigned varints, from the Protocol Buffers encoding document, "Base 128 Varints": groups of seven bits, the low group first, each byte but the
--- last with 128 added.
+-- Unsigned varints, from the Protocol Buffers encoding document, "Base 128 Varints": groups of seven bits, the low
+-- group first, each byte but the last with 128 added.
 use Prim.Native.Nat.{ℕ, zero, suc, _+_, _*_, _/_, _%_}
 use mathlib.Core.List.{List, [], _∷_}
 use mathlib.Core.Bool.{cond}
@@ -20,7 +20,8 @@ bytesOf (suc f) n = let r = bytesOf f (n / 128) in cond (ltb n 128) (n ∷ []) (
 unfoldable pub uvarint : ℕ → List ℕ
 uvarint n = bytesOf n n
 
--- what the byte b says, with k bytes before it: a tenth byte above 1 is an overflow, and a last byte 0 after others is not minimal
+-- what the byte b says, with k bytes before it: a tenth byte above 1 is an overflow, and a last byte 0 after others is
+-- not minimal
 unfoldable pub groupOf : ℕ → ℕ → Group
 groupOf k b =
     cond (eqb k 9)

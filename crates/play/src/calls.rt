@@ -2,10 +2,12 @@
 ghost use Prim.Native.Nat.{_≤_};
 ghost use lib.ListN.{length};
 use answers::admit_line;
+use answers::advertise_line;
+use answers::ask_line;
 use answers::beat_line;
+use answers::serve_line;
 use answers::set_line;
 use basis::little_at;
-use lines::made_line;
 use node::Node;
 use node::Start;
 use node::told::told_admit;
@@ -182,7 +184,7 @@ fn advertise(
     let node = run.node;
     let r = node.advertise(seen_store, cache_store, &content[2..], windows, made);
     let answer = r.answer;
-    let k = made_line(n, b" advertise", full, made, told_advertise(answer), out);
+    let k = advertise_line(n, full, made, told_advertise(answer), out);
     print(out, k, r.node, run)
 }
 
@@ -203,7 +205,7 @@ fn ask(
     let node = run.node;
     let r = node.ask(seen_store, cache_store, content, made);
     let answer = r.answer;
-    let k = made_line(n, b" ask", full, made, told_ask(answer), out);
+    let k = ask_line(n, full, made, told_ask(answer), out);
     print(out, k, r.node, run)
 }
 
@@ -224,7 +226,7 @@ fn serve(
     let node = run.node;
     let r = node.serve(seen_store, cache_store, content, made);
     let answer = r.answer;
-    let k = made_line(n, b" serve", full, made, told_serve(answer), out);
+    let k = serve_line(n, full, made, told_serve(answer), out);
     print(out, k, r.node, run)
 }
 

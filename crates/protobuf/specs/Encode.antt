@@ -1,5 +1,5 @@
--- Writing fields, from the Protocol Buffers encoding document, "Message Structure": a tag is the field number with three bits of wire type
--- below it, as a varint; then comes a varint, or a length and so many bytes.
+-- Writing fields, from the Protocol Buffers encoding document, "Message Structure": a tag is the field number with
+-- three bits of wire type below it, as a varint; then comes a varint, or a length and so many bytes.
 use Prim.Native.Nat.{ℕ, _+_, _*_}
 use mathlib.Core.List.{List, _++_}
 use mathlib.Core.Bool.{cond}

@@ -1,5 +1,5 @@
--- Laws of writing fields: which tags can be written, how long a field is, what a writer answers and leaves, and parts written one after the
--- other.
+-- Laws of writing fields: which tags can be written, how long a field is, what a writer answers and leaves, and parts
+-- written one after the other.
 use Prim.Native.Nat.{ℕ, _+_, _*_, _≤_, _<_}
 use mathlib.Core.Path.{_≡_, sym, ap, _∙_}
 use mathlib.Core.List.{List, _++_}
@@ -17,7 +17,8 @@ use Rattle.peer_id.specs.Laws.{uvarint-some, uvarint-small, at-most-ten}
 use Rattle.protobuf.specs.declared.WireError.{WireError}
 use Rattle.protobuf.specs.declared.Checked.the-variants.{Fine, Refused as Wrong}
 use Rattle.protobuf.specs.declared.Encoded.the-variants.{Bytes, Room, Refused}
-use Rattle.protobuf.specs.Encode.{tag, varintField, bytesField, tagRefused, ofWritten, answerOf, leftOf, encoded, left}
+use Rattle.protobuf.specs.Encode.{tag, varintField, bytesField, tagRefused, ofWritten, answerOf, leftOf, encoded}
+use Rattle.protobuf.specs.Encode.{left}
 
 -- ---- which tags can be written
 pub record CanTag (n type : ℕ) : Type 0 where
@@ -59,7 +60,8 @@ pub varint-field-length : (n v : ℕ) → length (varintField n v) ≡ length (t
 unfolding varintField
 varint-field-length n v = simp length-append
 
-pub bytes-field-length : (n : ℕ) (d : List ℕ) → length (bytesField n d) ≡ length (tag n 2) + length (uvarint (length d)) + length d
+pub bytes-field-length : (n : ℕ) (d : List ℕ) → length (bytesField n d) ≡ length (tag n 2) + length (uvarint (length d))
+    + length d
 unfolding bytesField
 bytes-field-length n d = simp length-append (omega arith)
 
@@ -106,21 +108,26 @@ abbrev pub Put : List ℕ → ℕ → List ℕ → List ℕ → ℕ → Type 0
 Put out at xs after end = (end ≡ at + length xs) × (after ≡ sets out at xs)
 
 -- what put_uvarint and put_bytes ensure, where there is room
-pub put-fits : (out : List ℕ) (at : ℕ) (xs after : List ℕ) (end : ℕ) → at + length xs ≤ length out → (end ≡ endIn (length xs) at xs out) × (after ≡ setIn (length xs) at xs out) → Put out at xs after end
+pub put-fits : (out : List ℕ) (at : ℕ) (xs after : List ℕ) (end : ℕ) → at + length xs ≤ length out
+    → (end ≡ endIn (length xs) at xs out) × (after ≡ setIn (length xs) at xs out) → Put out at xs after end
 put-fits out at xs after end h e = (e .0 ∙ end-fits (length xs) at xs out h, e .1 ∙ set-fits (length xs) at xs out h)
 
 -- xs, and ys where they end, are xs ++ ys
-pub put-append : (out mid after : List ℕ) (at i end : ℕ) (xs ys : List ℕ) → Put out at xs mid i → Put mid i ys after end → Put out at (xs ++ ys) after end
+pub put-append : (out mid after : List ℕ) (at i end : ℕ) (xs ys : List ℕ) → Put out at xs mid i → Put mid i ys after end
+    → Put out at (xs ++ ys) after end
 put-append out mid after at i end xs ys (pi, pm) (qe, qa) =
     (simp length-append (omega arith), rw (qa, pm, pi) (sym (sets-append out at xs ys)))
 
 -- a tag and a varint are a field
-pub put-varint-field : (out o₁ after : List ℕ) (at i end n v : ℕ) → Put out at (tag n 0) o₁ i → Put o₁ i (uvarint v) after end → Put out at (varintField n v) after end
+pub put-varint-field : (out o₁ after : List ℕ) (at i end n v : ℕ) → Put out at (tag n 0) o₁ i
+    → Put o₁ i (uvarint v) after end → Put out at (varintField n v) after end
 unfolding varintField
 put-varint-field out o₁ after at i end n v p q = put-append out o₁ after at i end (tag n 0) (uvarint v) p q
 
 -- a tag, a length and the bytes are a field
-pub put-bytes-field : (out o₁ o₂ after : List ℕ) (at i j end n : ℕ) (d : List ℕ) → Put out at (tag n 2) o₁ i → Put o₁ i (uvarint (length d)) o₂ j → Put o₂ j d after end → Put out at (bytesField n d) after end
+pub put-bytes-field : (out o₁ o₂ after : List ℕ) (at i j end n : ℕ) (d : List ℕ) → Put out at (tag n 2) o₁ i
+    → Put o₁ i (uvarint (length d)) o₂ j → Put o₂ j d after end → Put out at (bytesField n d) after end
 unfolding bytesField
 put-bytes-field out o₁ o₂ after at i j end n d p q r =
-    put-append out o₁ after at i end (tag n 2) (uvarint (length d) ++ d) p (put-append o₁ o₂ after i j end (uvarint (length d)) d q r)
+    put-append out o₁ after at i end (tag n 2) (uvarint (length d) ++ d) p
+    (put-append o₁ o₂ after i j end (uvarint (length d)) d q r)

@@ -1,4 +1,5 @@
--- The walk is the grammar's: it reaches the end of a body exactly where the body is well formed, and then its fields are the grammar's.
+-- The walk is the grammar's: it reaches the end of a body exactly where the body is well formed, and then its fields
+-- are the grammar's.
 use Prim.Native.Nat.{ℕ, _+_, _-_, _*_, _/_, _%_, _^_, _≤_, _<_}
 use mathlib.Core.Path.{_≡_, refl, sym, ap, ap₂, subst, _∙_}
 use mathlib.Core.List.{List, [], _∷_, _++_, append-assoc}
@@ -27,9 +28,12 @@ use Rattle.protobuf.specs.declared.Skip.the-variants as skip
 use Rattle.protobuf.specs.declared.Field.{Field}
 use Rattle.protobuf.specs.declared.Step.{Step}
 use Rattle.protobuf.specs.declared.Step.the-variants as step
-use Rattle.protobuf.specs.Field.{after, tagOf, readTag, partOf, readLen, readVarint, skipFixed, skipField, ofValue, ofPart, ofSkip, readValue, ofTag, readField}
-use Rattle.protobuf.specs.Grammar.{Payload, number, eight, bytes, four, Entry, Value, varint, i64, len-prefix, i32, Body, none, field}
-use Rattle.protobuf.specs.Walk.{Fields, refused, _then_, onStep, walkAt, whole, between, payloadOf, entryOf, entriesOf}
+use Rattle.protobuf.specs.Field.{after, tagOf, readTag, partOf, readLen, readVarint, skipFixed, skipField}
+use Rattle.protobuf.specs.Field.{ofValue, ofPart, ofSkip, readValue, ofTag, readField}
+use Rattle.protobuf.specs.Grammar.{Payload, number, eight, bytes, four, Entry, Value, varint, i64, len-prefix}
+use Rattle.protobuf.specs.Grammar.{i32, Body, none, field}
+use Rattle.protobuf.specs.Walk.{Fields, refused, _then_, onStep, walkAt, whole, between, payloadOf, entryOf}
+use Rattle.protobuf.specs.Walk.{entriesOf}
 use Rattle.protobuf.specs.WalkLaws.{between-length, walk-on, walk-end}
 
 -- ---- a varint at a place, both ways
@@ -43,12 +47,14 @@ spelt s at x n b h =
     let t = accepted (drop at s) x n (drop-bytes at s b) (sym h) in
     record { here = t .front ∙ ap (λ (l : List ℕ). uvarint x ++ l) (drop-drop n at s); bound = t .bound }
 
-reads-spelt : (s : List ℕ) (at x : ℕ) (rest : List ℕ) → x < 2 ^ 64 → drop at s ≡ uvarint x ++ rest → readUvarint (drop at s) ≡ Read x (length (uvarint x))
+reads-spelt : (s : List ℕ) (at x : ℕ) (rest : List ℕ) → x < 2 ^ 64 → drop at s ≡ uvarint x ++ rest
+    → readUvarint (drop at s) ≡ Read x (length (uvarint x))
 reads-spelt s at x rest b h = rw h (read-written x rest b)
 
 -- past a front of what is left
 drop-front : (s : List ℕ) (at : ℕ) (xs rest : List ℕ) → drop at s ≡ xs ++ rest → drop (at + length xs) s ≡ rest
-drop-front s at xs rest h = sym (drop-drop (length xs) at s) ∙ ap (drop (length xs)) h ∙ drop-at xs rest (length xs) refl
+drop-front s at xs rest h = sym (drop-drop (length xs) at s) ∙ ap (drop (length xs)) h
+    ∙ drop-at xs rest (length xs) refl
 
 take-front : (s : List ℕ) (at : ℕ) (xs rest : List ℕ) → drop at s ≡ xs ++ rest → take (length xs) (drop at s) ≡ xs
 take-front s at xs rest h = ap (take (length xs)) h ∙ take-at xs rest (length xs) refl
@@ -56,11 +62,14 @@ take-front s at xs rest h = ap (take (length xs)) h ∙ take-at xs rest (length 
 split : (s : List ℕ) (a e : ℕ) → a ≤ e → drop a s ≡ between s a e ++ drop e s
 split s a e h =
     let q : a + (e - a) ≡ e = omega arith in
-    sym (take-append-drop (e - a) (drop a s)) ∙ ap (λ (l : List ℕ). take (e - a) (drop a s) ++ l) (drop-drop (e - a) a s ∙ ap (λ (k : ℕ). drop k s) q)
+    sym (take-append-drop (e - a) (drop a s)) ∙ ap (λ (l : List ℕ). take (e - a) (drop a s) ++ l) (drop-drop (e - a) a s
+    ∙ ap (λ (k : ℕ). drop k s) q)
 
 -- ---- from the walk to the grammar: what each reader found is spelt out
-varint-at : (s : List ℕ) (at x e : ℕ) (r : Uvarint) → Bytes s → r ≡ readUvarint (drop at s) → value.Value x e ≡ after at value.Refused value.Value r → Spells s at x e
-varint-at s at x e (Read y n) b q h = let ex : x ≡ y = cc in let ee : e ≡ at + n = cc in rw (ex, ee) (spelt s at y n b q)
+varint-at : (s : List ℕ) (at x e : ℕ) (r : Uvarint) → Bytes s → r ≡ readUvarint (drop at s)
+    → value.Value x e ≡ after at value.Refused value.Value r → Spells s at x e
+varint-at s at x e (Read y n) b q h = let ex : x ≡ y = cc in let ee : e ≡ at + n = cc in
+    rw (ex, ee) (spelt s at y n b q)
 varint-at s at x e (Unread why) b q h = clash (cc)
 
 varint-spelt : (s : List ℕ) (at x e : ℕ) → Bytes s → value.Value x e ≡ readVarint s at → Spells s at x e
@@ -72,7 +81,8 @@ record Spanned (s : List ℕ) (at a e : ℕ) : Type 0 where
   order : a ≤ e
   within : e ≤ length s
 
-part-at : (s : List ℕ) (at a e : ℕ) (r : Uvarint) → Bytes s → r ≡ readUvarint (drop at s) → part.Bytes a e ≡ after at part.Refused (partOf (length s)) r → Spanned s at a e
+part-at : (s : List ℕ) (at a e : ℕ) (r : Uvarint) → Bytes s → r ≡ readUvarint (drop at s)
+    → part.Bytes a e ≡ after at part.Refused (partOf (length s)) r → Spanned s at a e
 part-at s at a e (Read x n) b q h =
     either (ltb (length s - (at + n)) x) (λ t. clash (let k = simp t at h in cc))
     (λ t. let k = simp t at h in
@@ -92,7 +102,8 @@ record Tagged (s : List ℕ) (at n type e : ℕ) : Type 0 where
   most : n ≤ 536870911
   spells : Spells s at (n * 8 + type) e
 
-tag-at : (s : List ℕ) (at n type e : ℕ) (r : Uvarint) → Bytes s → r ≡ readUvarint (drop at s) → tag.Field n type e ≡ after at tag.Refused (tagOf at) r → Tagged s at n type e
+tag-at : (s : List ℕ) (at n type e : ℕ) (r : Uvarint) → Bytes s → r ≡ readUvarint (drop at s)
+    → tag.Field n type e ≡ after at tag.Refused (tagOf at) r → Tagged s at n type e
 tag-at s at n type e (Read x m) b q h =
     either (eqb (x / 8) 0) (λ t. clash (let k = simp t at h in cc))
     (λ t. either (ltb 536870911 (x / 8)) (λ w. clash (let k = simp (t, w) at h in cc))
@@ -116,7 +127,8 @@ record Valued (s : List ℕ) (to : ℕ) (f : Field) : Type 0 where
   is : Value (f .«wire_type») bytes-of (payloadOf s f)
   here : drop to s ≡ bytes-of ++ drop (f .next) s
 
-value-valued : (s : List ℕ) (n type to : ℕ) (f : Field) (r : VarintValue) → Bytes s → type ≡ 0 → r ≡ readVarint s to → step.At f ≡ ofValue n type to r → Valued s to f
+value-valued : (s : List ℕ) (n type to : ℕ) (f : Field) (r : VarintValue) → Bytes s → type ≡ 0 → r ≡ readVarint s to
+    → step.At f ≡ ofValue n type to r → Valued s to f
 unfolding payloadOf
 value-valued s n type to f (value.Value x e) b z q h =
     let t = varint-spelt s to x e b q in
@@ -124,7 +136,8 @@ value-valued s n type to f (value.Value x e) b z q h =
     subst (Valued s to) (sym ef) (record { bytes-of = uvarint x; is = varint (t .bound); here = t .here })
 value-valued s n type to f (value.Refused why) b z q h = clash (cc)
 
-part-valued : (s : List ℕ) (n type to : ℕ) (f : Field) (r : Part) → Bytes s → type ≡ 2 → r ≡ readLen s to → step.At f ≡ ofPart n type to r → Valued s to f
+part-valued : (s : List ℕ) (n type to : ℕ) (f : Field) (r : Part) → Bytes s → type ≡ 2 → r ≡ readLen s to
+    → step.At f ≡ ofPart n type to r → Valued s to f
 unfolding payloadOf
 part-valued s n type to f (part.Bytes a e) b z q h =
     let t = part-spelt s to a e b q in
@@ -135,7 +148,8 @@ part-valued s n type to f (part.Bytes a e) b z q h =
     (record {
       bytes-of = uvarint (length d) ++ d;
       is = len-prefix (rw g (t .size .bound));
-      here = t .size .here ∙ ap₂ (λ (k : ℕ) (l : List ℕ). uvarint k ++ l) (sym g) (split s a e (t .order)) ∙ sym (append-assoc (uvarint (length d)) d (drop e s));
+      here = t .size .here ∙ ap₂ (λ (k : ℕ) (l : List ℕ). uvarint k ++ l) (sym g) (split s a e (t .order))
+          ∙ sym (append-assoc (uvarint (length d)) d (drop e s));
     })
 part-valued s n type to f (part.Refused why) b z q h = clash (cc)
 
@@ -147,9 +161,11 @@ fixed-at : (s : List ℕ) (at n e : ℕ) → 0 < n → skip.Next e ≡ skipFixed
 unfolding skipFixed
 fixed-at s at n e z h =
     either (ltb (length s - at) n) (λ t. clash (let k = simp t at h in cc))
-    (λ t. let k = simp t at h in let l : n ≤ length s - at = ltb-false _ _ t in let p : e ≡ at + n = cc in record { ends = p; within = omega arith })
+    (λ t. let k = simp t at h in let l : n ≤ length s - at = ltb-false _ _ t in let p : e ≡ at + n = cc in
+    record { ends = p; within = omega arith })
 
-four-valued : (s : List ℕ) (n to : ℕ) (f : Field) (e : ℕ) → Fixed s to 4 e → step.At f ≡ ofSkip n 5 to (skip.Next e) → Valued s to f
+four-valued : (s : List ℕ) (n to : ℕ) (f : Field) (e : ℕ) → Fixed s to 4 e → step.At f ≡ ofSkip n 5 to (skip.Next e)
+    → Valued s to f
 unfolding payloadOf
 four-valued s n to f e t h =
     let o : to ≤ e = omega (arith, t .ends) in
@@ -157,7 +173,8 @@ four-valued s n to f e t h =
     let ef : f ≡ record { field = n; «wire_type» = 5; «tag_end» = to; value = 0; start = to; next = e } = (cc) in
     subst (Valued s to) (sym ef) (record { bytes-of = between s to e; is = i32 g; here = split s to e o })
 
-eight-valued : (s : List ℕ) (n to : ℕ) (f : Field) (e : ℕ) → Fixed s to 8 e → step.At f ≡ ofSkip n 1 to (skip.Next e) → Valued s to f
+eight-valued : (s : List ℕ) (n to : ℕ) (f : Field) (e : ℕ) → Fixed s to 8 e → step.At f ≡ ofSkip n 1 to (skip.Next e)
+    → Valued s to f
 unfolding payloadOf
 eight-valued s n to f e t h =
     let o : to ≤ e = omega (arith, t .ends) in
@@ -165,13 +182,16 @@ eight-valued s n to f e t h =
     let ef : f ≡ record { field = n; «wire_type» = 1; «tag_end» = to; value = 0; start = to; next = e } = (cc) in
     subst (Valued s to) (sym ef) (record { bytes-of = between s to e; is = i64 g; here = split s to e o })
 
-skip-valued : (s : List ℕ) (n type to : ℕ) (f : Field) (r : Skip) → eqb type 0 ≡ false → eqb type 2 ≡ false → r ≡ skipField s to type → step.At f ≡ ofSkip n type to r → Valued s to f
+skip-valued : (s : List ℕ) (n type to : ℕ) (f : Field) (r : Skip) → eqb type 0 ≡ false → eqb type 2 ≡ false
+    → r ≡ skipField s to type → step.At f ≡ ofSkip n type to r → Valued s to f
 unfolding skipField
 skip-valued s n type to f (skip.Next e) t0 t2 q h =
     either (eqb type 5)
-    (λ t5. let z : type ≡ 5 = eqb-true type 5 t5 in four-valued s n to f e (fixed-at s to 4 e (omega arith) (simp (t0, t2, t5) at q)) (rw z at h))
+    (λ t5. let z : type ≡ 5 = eqb-true type 5 t5 in four-valued s n to f e
+    (fixed-at s to 4 e (omega arith) (simp (t0, t2, t5) at q)) (rw z at h))
     (λ t5. either (eqb type 1)
-    (λ t1. let z : type ≡ 1 = eqb-true type 1 t1 in eight-valued s n to f e (fixed-at s to 8 e (omega arith) (simp (t0, t2, t5, t1) at q)) (rw z at h))
+    (λ t1. let z : type ≡ 1 = eqb-true type 1 t1 in eight-valued s n to f e
+    (fixed-at s to 8 e (omega arith) (simp (t0, t2, t5, t1) at q)) (rw z at h))
     (λ t1. clash (let k = simp (t0, t2, t5, t1) at q in cc)))
 skip-valued s n type to f (skip.Refused why) t0 t2 q h = clash (cc)
 
@@ -179,7 +199,8 @@ read-valued : (s : List ℕ) (n type to : ℕ) (f : Field) → Bytes s → step.
 unfolding readValue
 read-valued s n type to f b h =
     either (eqb type 0) (λ t0. value-valued s n type to f (readVarint s to) b (eqb-true type 0 t0) refl (simp t0 at h))
-    (λ t0. either (eqb type 2) (λ t2. part-valued s n type to f (readLen s to) b (eqb-true type 2 t2) refl (simp (t0, t2) at h))
+    (λ t0. either (eqb type 2) (λ t2. part-valued s n type to f (readLen s to) b (eqb-true type 2 t2) refl
+    (simp (t0, t2) at h))
     (λ t2. skip-valued s n type to f (skipField s to type) t0 t2 refl (simp (t0, t2) at h)))
 
 -- a field that was read has the tag's number and type
@@ -206,7 +227,8 @@ read-named s n type to f h =
     (λ t0. either (eqb type 2) (λ t2. part-named n type to f (readLen s to) (simp (t0, t2) at h))
     (λ t2. skip-named n type to f (skipField s to type) (simp (t0, t2) at h)))
 
-tag-sound : (s : List ℕ) (at : ℕ) (f : Field) (es : List Entry) (r : Tag) → Bytes s → r ≡ readTag s at → step.At f ≡ ofTag s r → Body (drop (f .next) s) es → Body (drop at s) (entryOf s f ∷ es)
+tag-sound : (s : List ℕ) (at : ℕ) (f : Field) (es : List Entry) (r : Tag) → Bytes s → r ≡ readTag s at
+    → step.At f ≡ ofTag s r → Body (drop (f .next) s) es → Body (drop at s) (entryOf s f ∷ es)
 unfolding entryOf
 tag-sound s at f es tag.End b q h w = clash (cc)
 tag-sound s at f es (tag.Refused why) b q h w = clash (cc)
@@ -214,14 +236,17 @@ tag-sound s at f es (tag.Field n type to) b q h w =
     let t = tag-spelt s at n type to b q in
     let v = read-valued s n type to f b h in
     let m = read-named s n type to f h in
-    let tn : uvarint (f .field * 8 + f .«wire_type») ≡ uvarint (n * 8 + type) = ap₂ (λ (x y : ℕ). uvarint (x * 8 + y)) (m .number-of) (m .type-of) in
+    let tn : uvarint (f .field * 8 + f .«wire_type») ≡ uvarint (n * 8 + type) =
+    ap₂ (λ (x y : ℕ). uvarint (x * 8 + y)) (m .number-of) (m .type-of) in
     let e : drop at s ≡ uvarint (f .field * 8 + f .«wire_type») ++ (v .bytes-of ++ drop (f .next) s) =
     t .spells .here ∙ ap₂ (λ (x y : List ℕ). x ++ y) (sym tn) (v .here) in
     let l : 1 ≤ f .field = omega (arith, m .number-of, t .least) in
     let u : f .field ≤ 536870911 = omega (arith, m .number-of, t .most) in
-    subst (λ (x : List ℕ). Body x (record { field = f .field; payload = payloadOf s f } ∷ es)) (sym e) (field l u (v .is) w)
+    subst (λ (x : List ℕ). Body x (record { field = f .field; payload = payloadOf s f } ∷ es)) (sym e)
+    (field l u (v .is) w)
 
-field-sound : (s : List ℕ) (at : ℕ) (f : Field) (es : List Entry) → Bytes s → step.At f ≡ readField s at → Body (drop (f .next) s) es → Body (drop at s) (entryOf s f ∷ es)
+field-sound : (s : List ℕ) (at : ℕ) (f : Field) (es : List Entry) → Bytes s → step.At f ≡ readField s at
+    → Body (drop (f .next) s) es → Body (drop at s) (entryOf s f ∷ es)
 unfolding readField
 field-sound s at f es b h w = tag-sound s at f es (readTag s at) b refl h w
 
@@ -229,7 +254,8 @@ field-sound s at f es b h w = tag-sound s at f es (readTag s at) b refl h w
 past-varint : (at : ℕ) (r : Uvarint) → tag.End ≡ after at tag.Refused (tagOf at) r → ⊥
 past-varint at (Read x n) h =
     either (eqb (x / 8) 0) (λ t. clash (let k = simp t at h in cc))
-    (λ t. either (ltb 536870911 (x / 8)) (λ w. clash (let k = simp (t, w) at h in cc)) (λ w. clash (let k = simp (t, w) at h in cc)))
+    (λ t. either (ltb 536870911 (x / 8)) (λ w. clash (let k = simp (t, w) at h in cc))
+    (λ w. clash (let k = simp (t, w) at h in cc)))
 past-varint at (Unread why) h = clash (cc)
 
 value-going : (s : List ℕ) (n type to : ℕ) → step.End ≡ readValue s n type to → ⊥
@@ -254,7 +280,8 @@ value-going s n type to h =
 tag-ended : (s : List ℕ) (at : ℕ) (r : Tag) → r ≡ readTag s at → step.End ≡ ofTag s r → length s ≤ at
 unfolding readTag
 tag-ended s at tag.End q h =
-    either (leb (length s) at) (λ t. leb-true _ _ t) (λ t. absurd (past-varint at (readUvarint (drop at s)) (simp t at q)))
+    either (leb (length s) at) (λ t. leb-true _ _ t)
+    (λ t. absurd (past-varint at (readUvarint (drop at s)) (simp t at q)))
 tag-ended s at (tag.Refused why) q h = clash (cc)
 tag-ended s at (tag.Field n type to) q h = absurd (value-going s n type to h)
 
@@ -262,7 +289,9 @@ pub field-ended : (s : List ℕ) (at : ℕ) → step.End ≡ readField s at → 
 unfolding readField
 field-ended s at h = tag-ended s at (readTag s at) refl h
 
-step-sound : (s : List ℕ) (at : ℕ) (fs : List Field) (r : Step) → Bytes s → r ≡ readField s at → onStep (walkAt s) r ≡ whole fs → ((f : Field) (gs : List Field) → walkAt s (f .next) ≡ whole gs → (fs ≡ f ∷ gs) → Body (drop (f .next) s) (entriesOf s gs)) → Body (drop at s) (entriesOf s fs)
+step-sound : (s : List ℕ) (at : ℕ) (fs : List Field) (r : Step) → Bytes s → r ≡ readField s at
+    → onStep (walkAt s) r ≡ whole fs → ((f : Field) (gs : List Field) → walkAt s (f .next) ≡ whole gs → (fs ≡ f ∷ gs)
+    → Body (drop (f .next) s) (entriesOf s gs)) → Body (drop at s) (entriesOf s fs)
 step-sound s at [] step.End b q h ih = rw (drop-of-length-le s (field-ended s at q)) none
 step-sound s at (f ∷ fs) step.End b q h ih = clash (cc)
 step-sound s at fs (step.Refused why) b q h ih = never fs h
@@ -277,7 +306,8 @@ step-sound s at (g ∷ gs) (step.At f) b q h ih =
     rw eg (field-sound s at f (entriesOf s gs) b q (ih f gs ew (ap (λ (x : Field). x ∷ gs) eg)))
 
 sound : (s : List ℕ) (fs : List Field) (at : ℕ) → Bytes s → walkAt s at ≡ whole fs → Body (drop at s) (entriesOf s fs)
-sound s [] at b h = step-sound s at [] (readField s at) b refl (sym (walk-on s at (readField s at) refl) ∙ h) (λ f gs w e. clash (cc))
+sound s [] at b h = step-sound s at [] (readField s at) b refl (sym (walk-on s at (readField s at) refl) ∙ h)
+    (λ f gs w e. clash (cc))
 sound s (g ∷ hs) at b h =
     step-sound s at (g ∷ hs) (readField s at) b refl (sym (walk-on s at (readField s at) refl) ∙ h)
     (λ f gs w e. let eh : hs ≡ gs = cc in rw (← eh) (sound s hs (f .next) b (w ∙ ap whole (sym eh))))
@@ -298,10 +328,13 @@ record Held (s : List ℕ) (n type to : ℕ) (p : Payload) (rest : List ℕ) : T
   left : drop (f .next) s ≡ rest
 
 -- what is left is no longer than all
-left-fits : (s : List ℕ) (at : ℕ) (xs rest : List ℕ) → 0 < length xs → drop at s ≡ xs ++ rest → at + length xs + length rest ≡ length s
-left-fits s at xs rest z h = let e : length s - at ≡ length xs + length rest = sym (length-drop at s) ∙ ap length h ∙ length-append xs rest in omega arith
+left-fits : (s : List ℕ) (at : ℕ) (xs rest : List ℕ) → 0 < length xs → drop at s ≡ xs ++ rest
+    → at + length xs + length rest ≡ length s
+left-fits s at xs rest z h = let e : length s - at ≡ length xs + length rest = sym (length-drop at s) ∙ ap length h
+    ∙ length-append xs rest in omega arith
 
-varint-held : (s : List ℕ) (n to v : ℕ) (rest : List ℕ) → v < 2 ^ 64 → drop to s ≡ uvarint v ++ rest → Held s n 0 to (number v) rest
+varint-held : (s : List ℕ) (n to v : ℕ) (rest : List ℕ) → v < 2 ^ 64 → drop to s ≡ uvarint v ++ rest
+    → Held s n 0 to (number v) rest
 unfolding readValue readVarint entryOf payloadOf
 varint-held s n to v rest b h =
     let e = to + length (uvarint v) in
@@ -312,7 +345,8 @@ varint-held s n to v rest b h =
       left = drop-front s to (uvarint v) rest h;
     }
 
-bytes-held : (s : List ℕ) (n to : ℕ) (d rest : List ℕ) → length d < 2 ^ 64 → drop to s ≡ (uvarint (length d) ++ d) ++ rest → Held s n 2 to (bytes d) rest
+bytes-held : (s : List ℕ) (n to : ℕ) (d rest : List ℕ) → length d < 2 ^ 64 → drop to s ≡ (uvarint (length d) ++ d)
+    ++ rest → Held s n 2 to (bytes d) rest
 unfolding readValue readLen entryOf payloadOf
 bytes-held s n to d rest b h =
     let a = to + length (uvarint (length d)) in
@@ -332,16 +366,22 @@ bytes-held s n to d rest b h =
     }
 
 -- fixed numbers of bytes
-fixed-reads : (s : List ℕ) (to : ℕ) (d rest : List ℕ) (k : ℕ) → 0 < k → length d ≡ k → drop to s ≡ d ++ rest → skipFixed (length s) to k ≡ skip.Next (to + k)
+fixed-reads : (s : List ℕ) (to : ℕ) (d rest : List ℕ) (k : ℕ) → 0 < k → length d ≡ k → drop to s ≡ d ++ rest
+    → skipFixed (length s) to k ≡ skip.Next (to + k)
 unfolding skipFixed
-fixed-reads s to d rest k z g h = let l = left-fits s to d rest (omega arith) h in let m : k ≤ length s - to = omega arith in simp (le-ltb _ _ m)
+fixed-reads s to d rest k z g h = let l = left-fits s to d rest (omega arith) h in let m : k ≤ length s - to =
+    omega arith in simp (le-ltb _ _ m)
 
-fixed-bytes : (s : List ℕ) (to : ℕ) (d rest : List ℕ) (k : ℕ) → length d ≡ k → drop to s ≡ d ++ rest → (between s to (to + k) ≡ d) × (drop (to + k) s ≡ rest)
+fixed-bytes : (s : List ℕ) (to : ℕ) (d rest : List ℕ) (k : ℕ) → length d ≡ k → drop to s ≡ d ++ rest
+    → (between s to (to + k) ≡ d) × (drop (to + k) s ≡ rest)
 fixed-bytes s to d rest k g h =
-    let x : to + k - to ≡ length d = omega arith in
-    (ap (λ (i : ℕ). take i (drop to s)) x ∙ take-front s to d rest h, ap (λ (i : ℕ). drop (to + i) s) (sym g) ∙ drop-front s to d rest h)
+    let x : to + k - to ≡ length d = omega arith in (
+      ap (λ (i : ℕ). take i (drop to s)) x ∙ take-front s to d rest h,
+      ap (λ (i : ℕ). drop (to + i) s) (sym g) ∙ drop-front s to d rest h,
+    )
 
-four-held : (s : List ℕ) (n to : ℕ) (d rest : List ℕ) → length d ≡ 4 → drop to s ≡ d ++ rest → Held s n 5 to (four d) rest
+four-held : (s : List ℕ) (n to : ℕ) (d rest : List ℕ) → length d ≡ 4 → drop to s ≡ d ++ rest
+    → Held s n 5 to (four d) rest
 unfolding readValue skipField entryOf payloadOf
 four-held s n to d rest g h =
     let t = fixed-bytes s to d rest 4 g h in
@@ -352,7 +392,8 @@ four-held s n to d rest g h =
       left = t .1;
     }
 
-eight-held : (s : List ℕ) (n to : ℕ) (d rest : List ℕ) → length d ≡ 8 → drop to s ≡ d ++ rest → Held s n 1 to (eight d) rest
+eight-held : (s : List ℕ) (n to : ℕ) (d rest : List ℕ) → length d ≡ 8 → drop to s ≡ d ++ rest
+    → Held s n 1 to (eight d) rest
 unfolding readValue skipField entryOf payloadOf
 eight-held s n to d rest g h =
     let t = fixed-bytes s to d rest 8 g h in
@@ -363,7 +404,8 @@ eight-held s n to d rest g h =
       left = t .1;
     }
 
-held : {type : ℕ} {v : List ℕ} {p : Payload} (s : List ℕ) (n to : ℕ) (rest : List ℕ) → Value type v p → drop to s ≡ v ++ rest → Held s n type to p rest
+held : {type : ℕ} {v : List ℕ} {p : Payload} (s : List ℕ) (n to : ℕ) (rest : List ℕ) → Value type v p
+    → drop to s ≡ v ++ rest → Held s n type to p rest
 held s n to rest (varint b) h = varint-held s n to _ rest b h
 held s n to rest (i64 g) h = eight-held s n to _ rest g h
 held s n to rest (len-prefix b) h = bytes-held s n to _ rest b h
@@ -375,7 +417,9 @@ type-bits (i64 g) = omega arith
 type-bits (len-prefix b) = omega arith
 type-bits (i32 g) = omega arith
 
-tag-reads : (s : List ℕ) (at n type : ℕ) (rest : List ℕ) → 1 ≤ n → n ≤ 536870911 → type < 8 → drop at s ≡ uvarint (n * 8 + type) ++ rest → readTag s at ≡ tag.Field n type (at + length (uvarint (n * 8 + type)))
+tag-reads : (s : List ℕ) (at n type : ℕ) (rest : List ℕ) → 1 ≤ n → n ≤ 536870911 → type < 8
+    → drop at s ≡ uvarint (n * 8 + type) ++ rest
+    → readTag s at ≡ tag.Field n type (at + length (uvarint (n * 8 + type)))
 unfolding readTag
 tag-reads s at n type rest l m b h =
     let u = uvarint-some (n * 8 + type) in
@@ -383,13 +427,22 @@ tag-reads s at n type rest l m b h =
     let i : at < length s = omega arith in
     let x : (n * 8 + type) / 8 ≡ n = omega arith in
     let y : (n * 8 + type) % 8 ≡ type = omega arith in
-    simp (lt-leb _ _ i, reads-spelt s at (n * 8 + type) rest (omega arith) h, x, y, ne-eqb n 0 (λ z. omega arith), le-ltb 536870911 n m)
+    simp (
+      lt-leb _ _ i,
+      reads-spelt s at (n * 8 + type) rest (omega arith) h,
+      x,
+      y,
+      ne-eqb n 0 (λ z. omega arith),
+      le-ltb 536870911 n m,
+    )
 
-found : (s : List ℕ) (at n type : ℕ) (v rest : List ℕ) (p : Payload) → 1 ≤ n → n ≤ 536870911 → Value type v p → drop at s ≡ uvarint (n * 8 + type) ++ (v ++ rest) → Found s at n p rest
+found : (s : List ℕ) (at n type : ℕ) (v rest : List ℕ) (p : Payload) → 1 ≤ n → n ≤ 536870911 → Value type v p
+    → drop at s ≡ uvarint (n * 8 + type) ++ (v ++ rest) → Found s at n p rest
 unfolding readField
 found s at n type v rest p l m w h =
     let t = tag-reads s at n type (v ++ rest) l m (type-bits w) h in
-    let r = held s n (at + length (uvarint (n * 8 + type))) rest w (drop-front s at (uvarint (n * 8 + type)) (v ++ rest) h) in
+    let r = held s n (at + length (uvarint (n * 8 + type))) rest w
+    (drop-front s at (uvarint (n * 8 + type)) (v ++ rest) h) in
     record { f = r .f; read = r .read ∙ ap (ofTag s) (sym t); entry = r .entry; left = r .left }
 
 -- the walk that a body of the grammar has
@@ -423,7 +476,8 @@ whole-same : (fs gs : List Field) → whole fs ≡ whole gs → fs ≡ gs
 whole-same [] [] e = refl
 whole-same [] (g ∷ gs) e = clash (cc)
 whole-same (f ∷ fs) [] e = clash (cc)
-whole-same (f ∷ fs) (g ∷ gs) e = let h : f ≡ g = cc in let t : whole fs ≡ whole gs = cc in ap₂ (λ (x : Field) (y : List Field). x ∷ y) h (whole-same fs gs t)
+whole-same (f ∷ fs) (g ∷ gs) e = let h : f ≡ g = cc in let t : whole fs ≡ whole gs = cc in
+    ap₂ (λ (x : Field) (y : List Field). x ∷ y) h (whole-same fs gs t)
 
 pub one-meaning : (s : List ℕ) (ds es : List Entry) → Body s ds → Body s es → ds ≡ es
 one-meaning s ds es p q =

@@ -1,5 +1,6 @@
--- Reading the fields of a body, with every refusal of 01's table and its values, in the Rust's reading order. A place past the end answers
--- as the end does. specs/Grammar.antt has the Protocol Buffers document's own words, and specs/Exactly.antt joins the two.
+-- Reading the fields of a body, with every refusal of 01's table and its values, in the Rust's reading order. A place
+-- past the end answers as the end does. specs/Grammar.antt has the Protocol Buffers document's own words, and
+-- specs/Exactly.antt joins the two.
 use Prim.Native.Nat.{ℕ, _+_, _-_, _/_, _%_}
 use mathlib.Core.List.{List}
 use mathlib.Core.Bool.{cond}
@@ -10,7 +11,8 @@ use Rattle.peer_id.specs.declared.Uvarint.the-variants.{Value as Read, Refused 
 use Rattle.peer_id.specs.Uvarint.{readUvarint}
 use Rattle.utf8.specs.Utf8.{isUtf8}
 use Rattle.protobuf.specs.declared.WireError.{WireError}
-use Rattle.protobuf.specs.declared.WireError.the-variants.{Varint, FieldOverflow, UnsupportedWireType, InvalidFieldNumber, InvalidUtf8, TooLarge}
+use Rattle.protobuf.specs.declared.WireError.the-variants.{Varint, FieldOverflow, UnsupportedWireType}
+use Rattle.protobuf.specs.declared.WireError.the-variants.{InvalidFieldNumber, InvalidUtf8, TooLarge}
 use Rattle.protobuf.specs.declared.Tag.{Tag}
 use Rattle.protobuf.specs.declared.Tag.the-variants as tag
 use Rattle.protobuf.specs.declared.Part.{Part}
@@ -41,14 +43,16 @@ readTag s at = cond (leb (length s) at) tag.End (after at tag.Refused (tagOf at)
 
 -- a length that ends at `start`, of `total` bytes in all; 4 points after the length
 abbrev pub partOf : ℕ → ℕ → ℕ → Part
-partOf total size start = cond (ltb (total - start) size) (part.Refused (FieldOverflow start size (total - start))) (part.Bytes start (start + size))
+partOf total size start = cond (ltb (total - start) size) (part.Refused (FieldOverflow start size (total - start)))
+    (part.Bytes start (start + size))
 
 unfoldable pub readLen : List ℕ → ℕ → Part
 readLen s at = after at part.Refused (partOf (length s)) (readUvarint (drop at s))
 
 -- bytes that must be UTF-8; 7 points at the length
 abbrev pub stringOf : List ℕ → ℕ → Part → Part
-stringOf s at (part.Bytes a e) = cond (isUtf8 (take (e - a) (drop a s))) (part.Bytes a e) (part.Refused (InvalidUtf8 at))
+stringOf s at (part.Bytes a e) =
+    cond (isUtf8 (take (e - a) (drop a s))) (part.Bytes a e) (part.Refused (InvalidUtf8 at))
 stringOf s at (part.Refused why) = part.Refused why
 
 unfoldable pub readString : List ℕ → ℕ → Part
@@ -80,15 +84,18 @@ skipField s at type =
 
 -- ---- a field, with its value
 abbrev pub ofValue : ℕ → ℕ → ℕ → VarintValue → Step
-ofValue n type at (value.Value x next) = step.At (record { field = n; «wire_type» = type; «tag_end» = at; value = x; start = next; next = next })
+ofValue n type at (value.Value x next) =
+    step.At (record { field = n; «wire_type» = type; «tag_end» = at; value = x; start = next; next = next })
 ofValue n type at (value.Refused why) = step.Refused why
 
 abbrev pub ofPart : ℕ → ℕ → ℕ → Part → Step
-ofPart n type at (part.Bytes a e) = step.At (record { field = n; «wire_type» = type; «tag_end» = at; value = e - a; start = a; next = e })
+ofPart n type at (part.Bytes a e) =
+    step.At (record { field = n; «wire_type» = type; «tag_end» = at; value = e - a; start = a; next = e })
 ofPart n type at (part.Refused why) = step.Refused why
 
 abbrev pub ofSkip : ℕ → ℕ → ℕ → Skip → Step
-ofSkip n type at (skip.Next e) = step.At (record { field = n; «wire_type» = type; «tag_end» = at; value = 0; start = at; next = e })
+ofSkip n type at (skip.Next e) =
+    step.At (record { field = n; «wire_type» = type; «tag_end» = at; value = 0; start = at; next = e })
 ofSkip n type at (skip.Refused why) = step.Refused why
 
 unfoldable pub readValue : List ℕ → ℕ → ℕ → ℕ → Step

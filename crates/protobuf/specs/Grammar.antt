@@ -1,5 +1,5 @@
--- A body as the Protocol Buffers encoding document has it, section "Message Structure", with 01's rules: varints are minimal, field numbers
--- are 1 to 536870911, and groups (types 3 and 4) are not taken. Nothing here speaks of a reader.
+-- A body as the Protocol Buffers encoding document has it, section "Message Structure", with 01's rules: varints are
+-- minimal, field numbers are 1 to 536870911, and groups (types 3 and 4) are not taken. Nothing here speaks of a reader.
 use Prim.Native.Nat.{ℕ, _+_, _*_, _^_, _≤_, _<_}
 use mathlib.Core.Path.{_≡_}
 use mathlib.Core.List.{List, [], _∷_, _++_}
@@ -25,7 +25,9 @@ pub data Value : ℕ → List ℕ → Payload → Type 0 where
   len-prefix : {d : List ℕ} → length d < 2 ^ 64 → Value 2 (uvarint (length d) ++ d) (bytes d)
   i32 : {d : List ℕ} → length d ≡ 4 → Value 5 d (four d)
 
--- message := (tag value)*, where a tag is the number shifted left by three bits, with the type in those bits, as a varint
+-- message := (tag value)*, where a tag is the number shifted left by three bits, with the type in those bits, as a
+-- varint
 pub data Body : List ℕ → List Entry → Type 0 where
   none : Body [] []
-  field : {n type : ℕ} {v rest : List ℕ} {p : Payload} {es : List Entry} → 1 ≤ n → n ≤ 536870911 → Value type v p → Body rest es → Body (uvarint (n * 8 + type) ++ (v ++ rest)) (record { field = n; payload = p } ∷ es)
+  field : {n type : ℕ} {v rest : List ℕ} {p : Payload} {es : List Entry} → 1 ≤ n → n ≤ 536870911 → Value type v p
+      → Body rest es → Body (uvarint (n * 8 + type) ++ (v ++ rest)) (record { field = n; payload = p } ∷ es)

@@ -1,4 +1,5 @@
--- Laws of reading: what is read lies within the bytes, and a field moves on. Callers cite these and not the definitions' text.
+-- Laws of reading: what is read lies within the bytes, and a field moves on. Callers cite these and not the
+-- definitions' text.
 use Prim.Native.Nat.{ℕ, _+_, _-_, _/_, _≤_, _<_}
 use mathlib.Core.Path.{_≡_, refl}
 use mathlib.Core.List.{List}
@@ -23,14 +24,18 @@ use Rattle.protobuf.specs.declared.Skip.{Skip}
 use Rattle.protobuf.specs.declared.Skip.the-variants as skip
 use Rattle.protobuf.specs.declared.Field.{Field}
 use Rattle.protobuf.specs.declared.Step.the-variants as step
-use Rattle.protobuf.specs.Field.{after, tagOf, readTag, partOf, readLen, stringOf, readString, readVarint, skipFixed, pastValue, pastPart, skipField, ofValue, ofPart, ofSkip, readValue, ofTag, readField}
+use Rattle.protobuf.specs.Field.{after, tagOf, readTag, partOf, readLen, stringOf, readString, readVarint}
+use Rattle.protobuf.specs.Field.{skipFixed, pastValue, pastPart, skipField, ofValue, ofPart, ofSkip, readValue}
+use Rattle.protobuf.specs.Field.{ofTag, readField}
 
 -- ---- a part that is read lies within the bytes
-of-part : (s : List ℕ) (at a e : ℕ) (r : Uvarint) → r ≡ readUvarint (drop at s) → part.Bytes a e ≡ after at part.Refused (partOf (length s)) r → (at < a) × (a ≤ e) × (e ≤ length s)
+of-part : (s : List ℕ) (at a e : ℕ) (r : Uvarint) → r ≡ readUvarint (drop at s)
+    → part.Bytes a e ≡ after at part.Refused (partOf (length s)) r → (at < a) × (a ≤ e) × (e ≤ length s)
 of-part s at a e (Read x n) q h =
     let u = used s at x n q in
     either (ltb (length s - (at + n)) x) (λ t. clash (let k = simp t at h in cc))
-    (λ t. let k = simp t at h in let l : x ≤ length s - (at + n) = ltb-false _ _ t in let ea : a ≡ at + n = cc in let ee : e ≡ at + n + x = cc in omega arith)
+    (λ t. let k = simp t at h in let l : x ≤ length s - (at + n) = ltb-false _ _ t in let ea : a ≡ at + n = cc in
+    let ee : e ≡ at + n + x = cc in omega arith)
 of-part s at a e (Unread why) q h = clash (cc)
 
 pub part-fits : (s : List ℕ) (at a e : ℕ) → part.Bytes a e ≡ readLen s at → (at < a) × (a ≤ e) × (e ≤ length s)
@@ -38,19 +43,22 @@ unfolding readLen
 part-fits s at a e h = of-part s at a e (readUvarint (drop at s)) refl h
 
 -- a string that is read is the part, and UTF-8
-of-string : (s : List ℕ) (at a e : ℕ) (r : Part) → part.Bytes a e ≡ stringOf s at r → (r ≡ part.Bytes a e) × (isUtf8 (take (e - a) (drop a s)) ≡ true)
+of-string : (s : List ℕ) (at a e : ℕ) (r : Part) → part.Bytes a e ≡ stringOf s at r → (r ≡ part.Bytes a e)
+    × (isUtf8 (take (e - a) (drop a s)) ≡ true)
 of-string s at a e (part.Bytes b f) h =
     either (isUtf8 (take (f - b) (drop b s)))
     (λ t. let k = simp t at h in let eb : b ≡ a = cc in let ef : f ≡ e = cc in rw (← eb, ← ef) (refl, t))
     (λ t. clash (let k = simp t at h in cc))
 of-string s at a e (part.Refused why) h = clash (cc)
 
-pub string-part : (s : List ℕ) (at a e : ℕ) → part.Bytes a e ≡ readString s at → (readLen s at ≡ part.Bytes a e) × (isUtf8 (take (e - a) (drop a s)) ≡ true)
+pub string-part : (s : List ℕ) (at a e : ℕ) → part.Bytes a e ≡ readString s at → (readLen s at ≡ part.Bytes a e)
+    × (isUtf8 (take (e - a) (drop a s)) ≡ true)
 unfolding readString
 string-part s at a e h = of-string s at a e (readLen s at) h
 
 -- ---- a value that is read moves on, within the bytes
-of-varint : (s : List ℕ) (at x e : ℕ) (r : Uvarint) → r ≡ readUvarint (drop at s) → value.Value x e ≡ after at value.Refused value.Value r → (at < e) × (e ≤ length s)
+of-varint : (s : List ℕ) (at x e : ℕ) (r : Uvarint) → r ≡ readUvarint (drop at s)
+    → value.Value x e ≡ after at value.Refused value.Value r → (at < e) × (e ≤ length s)
 of-varint s at x e (Read y n) q h = let u = used s at y n q in let p : e ≡ at + n = cc in omega arith
 of-varint s at x e (Unread why) q h = clash (cc)
 
@@ -59,7 +67,8 @@ unfolding readVarint
 varint-moves s at x e h = of-varint s at x e (readUvarint (drop at s)) refl h
 
 -- ---- a tag that is read moves on, within the bytes
-of-tag : (s : List ℕ) (at m k e : ℕ) (r : Uvarint) → r ≡ readUvarint (drop at s) → tag.Field m k e ≡ after at tag.Refused (tagOf at) r → (at < e) × (e ≤ length s)
+of-tag : (s : List ℕ) (at m k e : ℕ) (r : Uvarint) → r ≡ readUvarint (drop at s)
+    → tag.Field m k e ≡ after at tag.Refused (tagOf at) r → (at < e) × (e ≤ length s)
 of-tag s at m k e (Read x n) q h =
     let u = used s at x n q in
     either (eqb (x / 8) 0) (λ t. clash (let k = simp t at h in cc))
@@ -84,7 +93,8 @@ of-fixed total at n e z h =
     either (ltb (total - at) n) (λ t. clash (let k = simp t at h in cc))
     (λ t. let k = simp t at h in let l : n ≤ total - at = ltb-false _ _ t in let p : e ≡ at + n = cc in omega arith)
 
-past-value : (s : List ℕ) (at e : ℕ) (r : VarintValue) → r ≡ readVarint s at → skip.Next e ≡ pastValue r → (at < e) × (e ≤ length s)
+past-value : (s : List ℕ) (at e : ℕ) (r : VarintValue) → r ≡ readVarint s at → skip.Next e ≡ pastValue r → (at < e)
+    × (e ≤ length s)
 past-value s at e (value.Value x n) q h = let p : n ≡ e = cc in rw (← p) (varint-moves s at x n q)
 past-value s at e (value.Refused why) q h = clash (cc)
 
@@ -108,21 +118,24 @@ pub record Stands (s : List ℕ) (at : ℕ) (f : Field) : Type 0 where
   pub ends : f .start ≤ f .next
   pub within : f .next ≤ length s
 
-value-stands : (s : List ℕ) (at n type to : ℕ) (f : Field) (r : VarintValue) → at < to → r ≡ readVarint s to → step.At f ≡ ofValue n type to r → Stands s at f
+value-stands : (s : List ℕ) (at n type to : ℕ) (f : Field) (r : VarintValue) → at < to → r ≡ readVarint s to
+    → step.At f ≡ ofValue n type to r → Stands s at f
 value-stands s at n type to f (value.Value x e) p q h =
     let m = varint-moves s to x e q in
     let a : f .«tag_end» ≡ to = cc in let b : f .start ≡ e = cc in let c : f .next ≡ e = cc in
     record { tagged = omega arith; begins = omega arith; ends = omega arith; within = omega arith }
 value-stands s at n type to f (value.Refused why) p q h = clash (cc)
 
-part-stands : (s : List ℕ) (at n type to : ℕ) (f : Field) (r : Part) → at < to → r ≡ readLen s to → step.At f ≡ ofPart n type to r → Stands s at f
+part-stands : (s : List ℕ) (at n type to : ℕ) (f : Field) (r : Part) → at < to → r ≡ readLen s to
+    → step.At f ≡ ofPart n type to r → Stands s at f
 part-stands s at n type to f (part.Bytes x e) p q h =
     let m = part-fits s to x e q in
     let a : f .«tag_end» ≡ to = cc in let b : f .start ≡ x = cc in let c : f .next ≡ e = cc in
     record { tagged = omega arith; begins = omega arith; ends = omega arith; within = omega arith }
 part-stands s at n type to f (part.Refused why) p q h = clash (cc)
 
-skip-stands : (s : List ℕ) (at n type to : ℕ) (f : Field) (r : Skip) → at < to → r ≡ skipField s to type → step.At f ≡ ofSkip n type to r → Stands s at f
+skip-stands : (s : List ℕ) (at n type to : ℕ) (f : Field) (r : Skip) → at < to → r ≡ skipField s to type
+    → step.At f ≡ ofSkip n type to r → Stands s at f
 skip-stands s at n type to f (skip.Next e) p q h =
     let m = skip-moves s to type e q in
     let a : f .«tag_end» ≡ to = cc in let b : f .start ≡ to = cc in let c : f .next ≡ e = cc in
@@ -139,7 +152,8 @@ read-stands s at n type to f p h =
 tag-stands : (s : List ℕ) (at : ℕ) (f : Field) (r : Tag) → r ≡ readTag s at → step.At f ≡ ofTag s r → Stands s at f
 tag-stands s at f tag.End q h = clash (cc)
 tag-stands s at f (tag.Refused why) q h = clash (cc)
-tag-stands s at f (tag.Field n type to) q h = let m = tag-moves s at n type to q in read-stands s at n type to f (m .0) h
+tag-stands s at f (tag.Field n type to) q h = let m = tag-moves s at n type to q in
+    read-stands s at n type to f (m .0) h
 
 pub field-stands : (s : List ℕ) (at : ℕ) (f : Field) → step.At f ≡ readField s at → Stands s at f
 unfolding readField

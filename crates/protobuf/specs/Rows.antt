@@ -5,11 +5,13 @@ use lib.ListN.{replicate}
 use Rattle.peer_id.specs.declared.VarintError.the-variants.{BufferTooShort, NonCanonical}
 use Rattle.peer_id.specs.Uvarint.{readUvarint, readFrom, groupOf}
 use Rattle.utf8.specs.Utf8.{isUtf8, run}
-use Rattle.protobuf.specs.declared.WireError.the-variants.{Varint, FieldOverflow, UnsupportedWireType, InvalidFieldNumber, InvalidUtf8}
+use Rattle.protobuf.specs.declared.WireError.the-variants.{Varint, FieldOverflow, UnsupportedWireType}
+use Rattle.protobuf.specs.declared.WireError.the-variants.{InvalidFieldNumber, InvalidUtf8}
 use Rattle.protobuf.specs.declared.Tag.the-variants as tag
 use Rattle.protobuf.specs.declared.Part.the-variants as part
 use Rattle.protobuf.specs.declared.Step.the-variants as step
-use Rattle.protobuf.specs.Field.{readTag, readLen, readString, readVarint, skipFixed, skipField, readValue, readField}
+use Rattle.protobuf.specs.Field.{readTag, readLen, readString, readVarint, skipFixed, skipField, readValue}
+use Rattle.protobuf.specs.Field.{readField}
 
 pub rows :
     (readField [] 0 ≡ step.End)
@@ -27,5 +29,6 @@ pub rows :
     × (readString (0x12 ∷ 2 ∷ 0xff ∷ []) 1 ≡ part.Refused (FieldOverflow 2 2 1))
     × (readTag (0xf8 ∷ 0xff ∷ 0xff ∷ 0xff ∷ 0x0f ∷ 0 ∷ []) 0 ≡ tag.Field 536870911 0 5)
     × (readTag (0x80 ∷ 0x80 ∷ 0x80 ∷ 0x80 ∷ 0x10 ∷ []) 0 ≡ tag.Refused (InvalidFieldNumber 536870912 0))
-unfolding readUvarint readFrom groupOf isUtf8 run readTag readLen readString readVarint skipFixed skipField readValue readField
+unfolding readUvarint readFrom groupOf isUtf8 run readTag readLen readString readVarint skipFixed skipField readValue
+    readField
 rows = (refl, refl, refl, refl, refl, refl, refl, refl, refl, refl, refl, refl, refl, refl, refl)

@@ -2,7 +2,8 @@
 use Prim.Native.Nat.{ℕ}
 use mathlib.Core.List.{[], _∷_}
 use Rattle.basis.specs.declared.Told.{Told}
-use Rattle.basis.specs.Refusals.{too-large, field-overflow, unsupported-wire-type, invalid-field-number, invalid-utf8, too-many-records, short-room}
+use Rattle.basis.specs.Refusals.{too-large, field-overflow, unsupported-wire-type, invalid-field-number, invalid-utf8}
+use Rattle.basis.specs.Refusals.{too-many-records, short-room}
 use Rattle.basis.specs.Told.{told, done}
 use Rattle.peer_id.specs.Told.{varintTold}
 use Rattle.protobuf.specs.declared.Cursor.{Cursor}
@@ -31,7 +32,8 @@ encodedTold (encoded.Bytes count) = done (count ∷ [])
 encodedTold (encoded.Room needed) = told short-room (needed ∷ [])
 encodedTold (encoded.Refused why) = wireTold why
 
--- the field's number, its wire type, the place after its tag and that of the next field; 0 alone at the end, as no field has the number 0
+-- the field's number, its wire type, the place after its tag and that of the next field; 0 alone at the end, as no
+-- field has the number 0
 abbrev pub walkTold : Walk → Told
 walkTold walk.End = done (0 ∷ [])
 walkTold (walk.Field field type tag next) = done (field ∷ type ∷ tag ∷ next .at ∷ [])

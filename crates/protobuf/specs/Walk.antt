@@ -1,5 +1,5 @@
--- The walk of a body: its fields one after the other, up to the end or to what refuses the body. It is written once over the step, and every
--- submessage's decoder goes along it.
+-- The walk of a body: its fields one after the other, up to the end or to what refuses the body. It is written once
+-- over the step, and every submessage's decoder goes along it.
 use Prim.Native.Nat.{ℕ, zero, suc, _-_}
 use mathlib.Core.List.{List, [], _∷_}
 use mathlib.Core.Bool.{Bool, cond, _&&_}

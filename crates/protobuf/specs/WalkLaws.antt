@@ -22,7 +22,8 @@ use Rattle.protobuf.specs.declared.Walk.the-variants as walk
 use Rattle.protobuf.specs.declared.Field.{Field}
 use Rattle.protobuf.specs.declared.Step.{Step}
 use Rattle.protobuf.specs.declared.Step.the-variants as step
-use Rattle.protobuf.specs.Field.{readTag, readLen, readVarint, pastValue, pastPart, skipField, ofValue, ofPart, ofSkip, readValue, ofTag, readField, walkSkip, walkTag, walkStep}
+use Rattle.protobuf.specs.Field.{readTag, readLen, readVarint, pastValue, pastPart, skipField, ofValue, ofPart}
+use Rattle.protobuf.specs.Field.{ofSkip, readValue, ofTag, readField, walkSkip, walkTag, walkStep}
 use Rattle.protobuf.specs.Laws.{Stands, field-stands, field-end}
 use Rattle.protobuf.specs.Walk.{Fields, end, refused, _then_, onStep, walkFrom, walkAt, between}
 
@@ -30,7 +31,8 @@ use Rattle.protobuf.specs.Walk.{Fields, end, refused, _then_, onStep, wa
 pub between-length : (s : List ℕ) (a e : ℕ) → e ≤ length s → length (between s a e) ≡ e - a
 between-length s a e h = rw (length-take (e - a) (drop a s), length-drop a s) (omega arith)
 
-same-step : (f g : ℕ → Fields) (r : Step) → ((x : Field) → step.At x ≡ r → f (x .next) ≡ g (x .next)) → onStep f r ≡ onStep g r
+same-step : (f g : ℕ → Fields) (r : Step) → ((x : Field) → step.At x ≡ r → f (x .next) ≡ g (x .next))
+    → onStep f r ≡ onStep g r
 same-step f g step.End h = refl
 same-step f g (step.Refused why) h = refl
 same-step f g (step.At x) h = ap (λ (w : Fields). x then w) (h x refl)
@@ -49,7 +51,8 @@ pub walk-step : (s : List ℕ) (at : ℕ) → walkAt s at ≡ onStep (walkAt s) 
 unfolding walkAt walkFrom
 walk-step s at =
     same-step (walkFrom (length s - at) s) (walkAt s) (readField s at)
-    (λ x h. let m = field-stands s at x h in fuel (length s - at) (suc (length s - x .next)) s (x .next) (omega arith) (omega arith))
+    (λ x h. let m = field-stands s at x h in fuel (length s - at) (suc (length s - x .next)) s (x .next) (omega arith)
+    (omega arith))
 
 -- the same with the step's answer in hand
 pub walk-on : (s : List ℕ) (at : ℕ) (r : Step) → r ≡ readField s at → walkAt s at ≡ onStep (walkAt s) r
@@ -81,15 +84,20 @@ skip-of-varint : (s : List ℕ) (at type : ℕ) → eqb type 0 ≡ true → skip
 unfolding skipField
 skip-of-varint s at type t0 = simp t0
 
-skip-of-len : (s : List ℕ) (at type : ℕ) → eqb type 0 ≡ false → eqb type 2 ≡ true → skipField s at type ≡ pastPart (readLen s at)
+skip-of-len : (s : List ℕ) (at type : ℕ) → eqb type 0 ≡ false → eqb type 2 ≡ true
+    → skipField s at type ≡ pastPart (readLen s at)
 unfolding skipField
 skip-of-len s at type t0 t2 = simp (t0, t2)
 
 read-outline : (s : List ℕ) (n type at : ℕ) → walkSkip n type at (skipField s at type) ≡ outline (readValue s n type at)
 unfolding readValue
 read-outline s n type at =
-    either (eqb type 0) (λ t0. simp t0 (ap (walkSkip n type at) (skip-of-varint s at type t0) ∙ value-outline n type at (readVarint s at)))
-    (λ t0. either (eqb type 2) (λ t2. simp (t0, t2) (ap (walkSkip n type at) (skip-of-len s at type t0 t2) ∙ part-outline n type at (readLen s at)))
+    either (eqb type 0)
+    (λ t0. simp t0 (ap (walkSkip n type at) (skip-of-varint s at type t0)
+    ∙ value-outline n type at (readVarint s at)))
+    (λ t0. either (eqb type 2)
+    (λ t2. simp (t0, t2) (ap (walkSkip n type at) (skip-of-len s at type t0 t2)
+    ∙ part-outline n type at (readLen s at)))
     (λ t2. simp (t0, t2) (skip-outline n type at (skipField s at type))))
 
 tag-outline : (s : List ℕ) (r : Tag) → walkTag s r ≡ outline (ofTag s r)
@@ -101,9 +109,13 @@ pub walk-outline : (s : List ℕ) (at : ℕ) → length s ≤ 65536 → walkStep
 unfolding walkStep readField
 walk-outline s at h = simp (le-ltb _ _ h) (tag-outline s (readTag s at))
 
--- ---- induction along the walk: what holds at the end and at a refusal, and before a field where it holds after it, holds from every place
-module _ (s : List ℕ) (P : ℕ → Fields → Type 0) (at-end : (at : ℕ) → P at end) (at-refusal : (at : ℕ) (why : WireError) → step.Refused why ≡ readField s at → P at (refused why)) (at-field : (at : ℕ) (f : Field) → Stands s at f → step.At f ≡ readField s at → P (f .next) (walkAt s (f .next)) → P at (f then walkAt s (f .next))) where
-  along-step : (at : ℕ) (r : Step) → r ≡ readField s at → ((f : Field) → step.At f ≡ readField s at → P (f .next) (walkAt s (f .next))) → P at (onStep (walkAt s) r)
+-- ---- induction along the walk: what holds at the end and at a refusal, and before a field where it holds after it,
+-- holds from every place
+module _ (s : List ℕ) (P : ℕ → Fields → Type 0) (at-end : (at : ℕ) → P at end) (at-refusal : (at : ℕ) (why : WireError)
+    → step.Refused why ≡ readField s at → P at (refused why)) (at-field : (at : ℕ) (f : Field) → Stands s at f
+    → step.At f ≡ readField s at → P (f .next) (walkAt s (f .next)) → P at (f then walkAt s (f .next))) where
+  along-step : (at : ℕ) (r : Step) → r ≡ readField s at
+      → ((f : Field) → step.At f ≡ readField s at → P (f .next) (walkAt s (f .next))) → P at (onStep (walkAt s) r)
   along-step at step.End e ih = at-end at
   along-step at (step.Refused why) e ih = at-refusal at why e
   along-step at (step.At f) e ih = at-field at f (field-stands s at f e) e (ih f e)
@@ -112,7 +124,8 @@ module _ (s : List ℕ) (P : ℕ → Fields → Type 0) (at-end : (at : ℕ) →
   along-from zero at h = absurd (omega arith)
   along-from (suc n) at h =
       subst (P at) (sym (walk-step s at))
-      (along-step at (readField s at) refl (λ f e. let m = field-stands s at f e in along-from n (f .next) (omega arith)))
+      (along-step at (readField s at) refl
+      (λ f e. let m = field-stands s at f e in along-from n (f .next) (omega arith)))
 
   pub along : (at : ℕ) → P at (walkAt s at)
   along at = along-from (suc (length s - at)) at (omega arith)

@@ -1,4 +1,5 @@
--- The bucket of an id: one of 4096, from all of its bytes. Equal ids have the same bucket; what else it is matters only to speed.
+-- The bucket of an id: one of 4096, from all of its bytes. Equal ids have the same bucket; what else it is matters only
+-- to speed.
 use Prim.Native.Nat.{ℕ, _+_, _*_, _%_}
 use mathlib.Core.List.{List, [], _∷_}
 

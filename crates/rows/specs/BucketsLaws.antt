@@ -1,4 +1,5 @@
--- Laws of buckets: one step of the walk over an id's bytes, and what the flags of the buckets that were met say of the ids met.
+-- Laws of buckets: one step of the walk over an id's bytes, and what the flags of the buckets that were met say of the
+-- ids met.
 use Prim.Native.Nat.{ℕ, suc, _+_, _-_, _*_, _%_, _≤_, _<_}
 use mathlib.Core.Path.{_≡_, sym, ap, _∙_}
 use mathlib.Core.List.{List, [], _∷_}
@@ -33,7 +34,8 @@ unfolding bucketOf
 bucket-more id i x h k e =
     let n : suc (i - 1) ≡ i = omega arith in
     let l : i - 1 < length id = omega arith in
-    ap (λ (y : ℕ). (y * 33 + getD id (i - 1) 0) % buckets) (e ∙ ap (λ (k : ℕ). bucketOf (drop k id)) (sym n)) ∙ ap bucketOf (sym (drop-cons id (i - 1) 0 l))
+    ap (λ (y : ℕ). (y * 33 + getD id (i - 1) 0) % buckets) (e ∙ ap (λ (k : ℕ). bucketOf (drop k id)) (sym n))
+    ∙ ap bucketOf (sym (drop-cons id (i - 1) 0 l))
 
 pub bucket-all : (id : List ℕ) (i x : ℕ) → i ≤ 0 → x ≡ bucketOf (drop i id) → x ≡ bucketOf id
 bucket-all id i x h e = let z : i ≡ 0 = omega arith in rw z at e
@@ -42,11 +44,13 @@ bucket-all id i x h e = let z : i ≡ 0 = omega arith in rw z at e
 abbrev pub Met : List ℕ → List (List ℕ) → Type 0
 Met flags l = (id : List ℕ) → getD flags (bucketOf id) 0 ≡ 0 → among id l ≡ false
 
-pub met-flag : (flags : List ℕ) (l : List (List ℕ)) (id : List ℕ) (b : ℕ) → Met flags l → b ≡ bucketOf id → getD flags b 0 ≡ 0 → among id l ≡ false
+pub met-flag : (flags : List ℕ) (l : List (List ℕ)) (id : List ℕ) (b : ℕ) → Met flags l → b ≡ bucketOf id
+    → getD flags b 0 ≡ 0 → among id l ≡ false
 met-flag flags l id b m e h = m id (rw e at h)
 
 -- one id more, whose flag is set
-met-cons : (flags : List ℕ) (j : List ℕ) (l : List (List ℕ)) → bucketOf j < length flags → Met flags l → Met (set flags (bucketOf j) 1) (j ∷ l)
+met-cons : (flags : List ℕ) (j : List ℕ) (l : List (List ℕ)) → bucketOf j < length flags → Met flags l
+    → Met (set flags (bucketOf j) 1) (j ∷ l)
 unfolding among
 met-cons flags j l b m id h =
     either (eqb (bucketOf id) (bucketOf j))
@@ -56,7 +60,8 @@ met-cons flags j l b m id h =
     let f : getD flags (bucketOf id) 0 ≡ 0 = sym (getD-set-other flags (bucketOf j) (bucketOf id) 1 0 d) ∙ h in
     either (sameBytes j id) (λ u. absurd (d (ap bucketOf (sym (same-equal j id u))))) (λ u. simp u (m id f)))
 
-pub met-more : (flags : List ℕ) (b : ℕ) (id : List ℕ) (l m : List (List ℕ)) → m ≡ id ∷ l → b ≡ bucketOf id → length flags ≡ buckets → Met flags l → Met (set flags b 1) m
+pub met-more : (flags : List ℕ) (b : ℕ) (id : List ℕ) (l m : List (List ℕ)) → m ≡ id ∷ l → b ≡ bucketOf id
+    → length flags ≡ buckets → Met flags l → Met (set flags b 1) m
 met-more flags b id l m row e n met =
     let k : bucketOf id < length flags = rw n (bucket-lt id) in
     rw (row, e) (met-cons flags id l k met)

@@ -1,4 +1,5 @@
--- Laws of ids: the test for equal bytes is exact, the order is a strict total order, and one step of each walk over bytes and over ids.
+-- Laws of ids: the test for equal bytes is exact, the order is a strict total order, and one step of each walk over
+-- bytes and over ids.
 use Prim.Native.Nat.{ℕ, zero, suc, _+_, _-_, _≤_, _<_}
 use mathlib.Core.Path.{_≡_, refl, sym, ap, ap₂, subst, _∙_}
 use mathlib.Core.List.{List, [], _∷_, _++_}
@@ -25,7 +26,8 @@ same-equal [] [] h = refl
 same-equal [] (y ∷ ys) h = clash (cc)
 same-equal (x ∷ xs) [] h = clash (cc)
 same-equal (x ∷ xs) (y ∷ ys) h =
-    either (eqb x y) (λ t. let k = simp t at h in ap₂ (λ (u : ℕ) (v : List ℕ). u ∷ v) (eqb-true x y t) (same-equal xs ys k))
+    either (eqb x y) (λ t. let k = simp t at h in ap₂ (λ (u : ℕ) (v : List ℕ). u ∷ v) (eqb-true x y t)
+    (same-equal xs ys k))
     (λ t. clash (let k = simp t at h in cc))
 
 pub same-length : (a b : List ℕ) → (length a ≡ length b → ⊥) → sameBytes a b ≡ false
@@ -47,7 +49,9 @@ unfolding sameBytes
 same-from a b i h k = rw (drop-of-length-le a h, drop-of-length-le b k)
 
 -- and so are those from the byte before
-pub same-more : (a b : List ℕ) (i : ℕ) → 0 < i → i ≤ length a → length a ≡ length b → sameBytes (drop i a) (drop i b) ≡ true → getD a (i - 1) 0 ≡ getD b (i - 1) 0 → sameBytes (drop (i - 1) a) (drop (i - 1) b) ≡ true
+pub same-more : (a b : List ℕ) (i : ℕ) → 0 < i → i ≤ length a → length a ≡ length b
+    → sameBytes (drop i a) (drop i b) ≡ true → getD a (i - 1) 0 ≡ getD b (i - 1) 0
+    → sameBytes (drop (i - 1) a) (drop (i - 1) b) ≡ true
 same-more a b i h k l r e =
     let n : (i - 1) + 1 ≡ i = omega arith in
     let q : sameBytes (drop ((i - 1) + 1) a) (drop ((i - 1) + 1) b) ≡ true = rw n r in
@@ -63,7 +67,8 @@ same-not a b i n =
 
 -- ---- byte order
 precedes-step : (a b : List ℕ) (i : ℕ) → i < length a → i < length b
-    → precedesBytes (drop i a) (drop i b) ≡ cond (eqb (getD a i 0) (getD b i 0)) (precedesBytes (drop (i + 1) a) (drop (i + 1) b)) (ltb (getD a i 0) (getD b i 0))
+    → precedesBytes (drop i a) (drop i b) ≡ cond (eqb (getD a i 0) (getD b i 0))
+    (precedesBytes (drop (i + 1) a) (drop (i + 1) b)) (ltb (getD a i 0) (getD b i 0))
 unfolding precedesBytes
 precedes-step a b i h k = rw (add-one i, drop-cons a i 0 h, drop-cons b i 0 k)
 
@@ -73,10 +78,12 @@ precedes-nil [] = refl
 precedes-nil (x ∷ xs) = refl
 
 module _ (a b : List ℕ) (i : ℕ) (inv : precedesBytes (drop i a) (drop i b) ≡ precedesBytes a b) where
-  pub order-more : i < length a → i < length b → getD a i 0 ≡ getD b i 0 → precedesBytes (drop (i + 1) a) (drop (i + 1) b) ≡ precedesBytes a b
+  pub order-more : i < length a → i < length b → getD a i 0 ≡ getD b i 0
+      → precedesBytes (drop (i + 1) a) (drop (i + 1) b) ≡ precedesBytes a b
   order-more h k e = sym (simp (eq-eqb (getD a i 0) (getD b i 0) e) at (precedes-step a b i h k)) ∙ inv
 
-  pub order-here : i < length a → i < length b → (getD a i 0 ≡ getD b i 0 → ⊥) → ltb (getD a i 0) (getD b i 0) ≡ precedesBytes a b
+  pub order-here : i < length a → i < length b → (getD a i 0 ≡ getD b i 0 → ⊥)
+      → ltb (getD a i 0) (getD b i 0) ≡ precedesBytes a b
   order-here h k e = sym (simp (ne-eqb (getD a i 0) (getD b i 0) e) at (precedes-step a b i h k)) ∙ inv
 
   pub order-short : length b ≤ i → false ≡ precedesBytes a b
@@ -118,11 +125,13 @@ order-trans (x ∷ xs) (y ∷ ys) (z ∷ zs) h k =
     (λ t. let e = eqb-true x y t in
     either (eqb y z)
     (λ u. let g = eqb-true y z u in simp (eq-eqb x z (e ∙ g)) (order-trans xs ys zs (simp t at h) (simp u at k)))
-    (λ u. let n = eqb-false y z u in let l = ltb-true y z (simp u at k) in simp (ne-eqb x z (λ g. n (sym e ∙ g))) (lt-ltb x z (omega arith))))
+    (λ u. let n = eqb-false y z u in let l = ltb-true y z (simp u at k) in simp (ne-eqb x z (λ g. n (sym e ∙ g)))
+    (lt-ltb x z (omega arith))))
     (λ t. let m = ltb-true x y (simp t at h) in
     either (eqb y z)
     (λ u. let g = eqb-true y z u in simp (ne-eqb x z (λ p. absurd (omega arith))) (lt-ltb x z (omega arith)))
-    (λ u. let l = ltb-true y z (simp u at k) in simp (ne-eqb x z (λ p. absurd (omega arith))) (lt-ltb x z (omega arith))))
+    (λ u. let l = ltb-true y z (simp u at k) in simp (ne-eqb x z (λ p. absurd (omega arith)))
+    (lt-ltb x z (omega arith))))
 
 -- ---- an id among others, one further
 module _ (i : List ℕ) {j : List ℕ} {l js : List (List ℕ)} (w : Bool) (at-row : l ≡ j ∷ js) (inv : among i l ≡ w) where
@@ -148,23 +157,28 @@ pub among-drop : (i : List ℕ) (k : ℕ) (l : List (List ℕ)) → among i l �
 unfolding among
 among-drop i k [] h = rw (drop-of-length-le {A = List ℕ} [] {i = k} (omega arith))
 among-drop i zero (j ∷ l) h = h
-among-drop i (suc k) (j ∷ l) h = either (sameBytes j i) (λ t. clash (let z = simp t at h in cc)) (λ t. among-drop i k l (simp t at h))
+among-drop i (suc k) (j ∷ l) h = either (sameBytes j i) (λ t. clash (let z = simp t at h in cc))
+    (λ t. among-drop i k l (simp t at h))
 
 -- the oldest leave, and the others still differ
 pub distinct-drop : (k : ℕ) (l : List (List ℕ)) → distinct l ≡ true → distinct (drop k l) ≡ true
 unfolding distinct
 distinct-drop k [] h = rw (drop-of-length-le {A = List ℕ} [] {i = k} (omega arith))
 distinct-drop zero (j ∷ l) h = h
-distinct-drop (suc k) (j ∷ l) h = either (among j l) (λ t. clash (let z = simp t at h in cc)) (λ t. distinct-drop k l (simp t at h))
+distinct-drop (suc k) (j ∷ l) h = either (among j l) (λ t. clash (let z = simp t at h in cc))
+    (λ t. distinct-drop k l (simp t at h))
 
 -- an id in front of those from the k-th on
-pub distinct-more : {l : List (List ℕ)} (j : List ℕ) (js : List (List ℕ)) → l ≡ j ∷ js → among j js ≡ false → distinct js ≡ true → distinct l ≡ true
+pub distinct-more : {l : List (List ℕ)} (j : List ℕ) (js : List (List ℕ)) → l ≡ j ∷ js → among j js ≡ false
+    → distinct js ≡ true → distinct l ≡ true
 unfolding distinct
 distinct-more j js e n d = rw e (simp n d)
 
-pub distinct-twice : {j : List ℕ} {js : List (List ℕ)} (k : ℕ) (l : List (List ℕ)) → drop k l ≡ j ∷ js → among j js ≡ true → false ≡ distinct l
+pub distinct-twice : {j : List ℕ} {js : List (List ℕ)} (k : ℕ) (l : List (List ℕ)) → drop k l ≡ j ∷ js
+    → among j js ≡ true → false ≡ distinct l
 unfolding distinct
-distinct-twice k l e t = either (distinct l) (λ d. clash (let z = simp t at (rw e at (distinct-drop k l d)) in cc)) (λ d. sym d)
+distinct-twice k l e t = either (distinct l) (λ d. clash (let z = simp t at (rw e at (distinct-drop k l d)) in cc))
+    (λ d. sym d)
 
 same-sym : (a b : List ℕ) → sameBytes a b ≡ sameBytes b a
 unfolding sameBytes
@@ -176,7 +190,8 @@ same-sym (x ∷ xs) (y ∷ ys) =
     (λ t. simp (t, ne-eqb y x (λ e. eqb-false x y t (sym e))))
 
 -- an id that is not among others, and they, all differ
-pub distinct-snoc : (l : List (List ℕ)) (i : List ℕ) → distinct l ≡ true → among i l ≡ false → distinct (l ++ (i ∷ [])) ≡ true
+pub distinct-snoc : (l : List (List ℕ)) (i : List ℕ) → distinct l ≡ true → among i l ≡ false
+    → distinct (l ++ (i ∷ [])) ≡ true
 unfolding distinct among
 distinct-snoc [] i d n = refl
 distinct-snoc (j ∷ l) i d n =
@@ -189,16 +204,19 @@ pub among-take : (k : ℕ) (i : List ℕ) (l : List (List ℕ)) → among i l �
 unfolding among
 among-take zero i l h = refl
 among-take (suc k) i [] h = refl
-among-take (suc k) i (j ∷ l) h = either (sameBytes j i) (λ t. clash (let z = simp t at h in cc)) (λ t. simp t (among-take k i l (simp t at h)))
+among-take (suc k) i (j ∷ l) h = either (sameBytes j i) (λ t. clash (let z = simp t at h in cc))
+    (λ t. simp t (among-take k i l (simp t at h)))
 
 pub distinct-take : (k : ℕ) (l : List (List ℕ)) → distinct l ≡ true → distinct (take k l) ≡ true
 unfolding distinct
 distinct-take zero l d = refl
 distinct-take (suc k) [] d = refl
 distinct-take (suc k) (i ∷ l) d =
-    either (among i l) (λ t. clash (let z = simp t at d in cc)) (λ t. simp (among-take k i l t) (distinct-take k l (simp t at d)))
+    either (among i l) (λ t. clash (let z = simp t at d in cc))
+    (λ t. simp (among-take k i l t) (distinct-take k l (simp t at d)))
 
-pub distinct-append : (l r : List (List ℕ)) → distinct l ≡ true → distinct r ≡ true → ((i : List ℕ) → among i l ≡ true → among i r ≡ false) → distinct (l ++ r) ≡ true
+pub distinct-append : (l r : List (List ℕ)) → distinct l ≡ true → distinct r ≡ true
+    → ((i : List ℕ) → among i l ≡ true → among i r ≡ false) → distinct (l ++ r) ≡ true
 unfolding distinct among
 distinct-append [] r d e apart = e
 distinct-append (i ∷ l) r d e apart =
@@ -220,7 +238,8 @@ distinct-middle (j ∷ l) r i d =
     let a : (among j l || (sameBytes i j || among j r)) ≡ false = sym (among-append j l (i ∷ r)) ∙ t in
     either (sameBytes j i)
     (λ u. clash
-    (let z : (among i l || (sameBytes i i || among i r)) ≡ false = subst (λ (x : List ℕ). (among x l || (sameBytes i x || among x r)) ≡ false) (same-equal j i u) a in
+    (let z : (among i l || (sameBytes i i || among i r)) ≡ false = subst
+    (λ (x : List ℕ). (among x l || (sameBytes i x || among x r)) ≡ false) (same-equal j i u) a in
     let y = simp (m, same-self i) at z in cc))
     (λ u. simp (u, m)))
 
@@ -238,21 +257,26 @@ none-among x (y ∷ l) h =
     either (sameBytes y x) (λ t. absurd (h 0 (zero-lt-suc (length l)) (sym (same-equal y x t))))
     (λ t. simp t (none-among x l (λ j k. h (suc j) (omega arith))))
 
-pub distinct-each : (l : List (List ℕ)) (i j : ℕ) → distinct l ≡ true → i < j → j < length l → getD l i [] ≡ getD l j [] → ⊥
+pub distinct-each : (l : List (List ℕ)) (i j : ℕ) → distinct l ≡ true → i < j → j < length l → getD l i [] ≡ getD l j []
+    → ⊥
 unfolding distinct
 distinct-each [] i j d a b e = omega arith
 distinct-each (x ∷ l) i zero d a b e = omega arith
 distinct-each (x ∷ l) zero (suc j) d a b e = clash (let z = simp (among-at x l j (omega arith) e) at d in cc)
-distinct-each (x ∷ l) (suc i) (suc j) d a b e = either (among x l) (λ t. clash (let z = simp t at d in cc)) (λ t. distinct-each l i j (simp t at d) (omega arith) (omega arith) e)
+distinct-each (x ∷ l) (suc i) (suc j) d a b e = either (among x l) (λ t. clash (let z = simp t at d in cc))
+    (λ t. distinct-each l i j (simp t at d) (omega arith) (omega arith) e)
 
-pub each-distinct : (l : List (List ℕ)) → ((i j : ℕ) → i < j → j < length l → getD l i [] ≡ getD l j [] → ⊥) → distinct l ≡ true
+pub each-distinct : (l : List (List ℕ)) → ((i j : ℕ) → i < j → j < length l → getD l i [] ≡ getD l j [] → ⊥)
+    → distinct l ≡ true
 unfolding distinct
 each-distinct [] h = refl
 each-distinct (x ∷ l) h =
-    simp (none-among x l (λ j k. h 0 (suc j) (zero-lt-suc j) (omega arith))) (each-distinct l (λ i j a b. h (suc i) (suc j) (omega arith) (omega arith)))
+    simp (none-among x l (λ j k. h 0 (suc j) (zero-lt-suc j) (omega arith)))
+    (each-distinct l (λ i j a b. h (suc i) (suc j) (omega arith) (omega arith)))
 
 -- the bytes of two parts: those of the first, and then those of the second
-pub same-append : (a b c : List ℕ) → sameBytes (a ++ b) c ≡ (sameBytes a (take (length a) c) && sameBytes b (drop (length a) c))
+pub same-append : (a b c : List ℕ)
+    → sameBytes (a ++ b) c ≡ (sameBytes a (take (length a) c) && sameBytes b (drop (length a) c))
 unfolding sameBytes
 same-append [] b c = refl
 same-append (x ∷ a) b [] = refl
@@ -267,7 +291,8 @@ without i (j ∷ js) = cond (sameBytes j i) js (j ∷ without i js)
 without-shorter : (i : List ℕ) (l : List (List ℕ)) → among i l ≡ true → length l ≡ suc (length (without i l))
 unfolding among without
 without-shorter i [] h = clash (cc)
-without-shorter i (j ∷ l) h = either (sameBytes j i) (λ t. simp t) (λ t. simp t (ap suc (without-shorter i l (simp t at h))))
+without-shorter i (j ∷ l) h =
+    either (sameBytes j i) (λ t. simp t) (λ t. simp t (ap suc (without-shorter i l (simp t at h))))
 
 -- another stays
 without-other : (i x : List ℕ) (l : List (List ℕ)) → sameBytes i x ≡ false → among x (without i l) ≡ among x l
@@ -310,5 +335,6 @@ shared-all l (i ∷ is) h =
     let a : among i l ≡ true = h i (simp (same-self i)) in
     simp a (ap suc (shared-all l is (λ k t. h k (rw t (or-true (sameBytes i k))))))
 
-pub all-few : (l is : List (List ℕ)) → distinct is ≡ true → ((i : List ℕ) → among i is ≡ true → among i l ≡ true) → length is ≤ length l
+pub all-few : (l is : List (List ℕ)) → distinct is ≡ true → ((i : List ℕ) → among i is ≡ true → among i l ≡ true)
+    → length is ≤ length l
 all-few l is d h = let e = shared-all l is h in let r = shared-few l is d in omega arith

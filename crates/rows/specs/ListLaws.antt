@@ -16,17 +16,21 @@ module _ {A : Type 0} where
   part-set : (l : List A) (i : ℕ) (v : A) (n a : ℕ) → a + n ≤ i → take n (drop a (set l i v)) ≡ take n (drop a l)
   part-set l i v n a h =
       let e : i ≡ a + (i - a) = omega arith in
-      ap (λ (j : ℕ). take n (drop a (set l j v))) e ∙ ap (take n) (drop-set-add a l (i - a) v) ∙ take-set-le n (drop a l) (i - a) v (omega arith)
+      ap (λ (j : ℕ). take n (drop a (set l j v))) e ∙ ap (take n) (drop-set-add a l (i - a) v)
+      ∙ take-set-le n (drop a l) (i - a) v (omega arith)
 
-  pub part-sets : (l : List A) (i : ℕ) (vs : List A) (n a : ℕ) → a + n ≤ i → take n (drop a (sets l i vs)) ≡ take n (drop a l)
+  pub part-sets : (l : List A) (i : ℕ) (vs : List A) (n a : ℕ) → a + n ≤ i
+      → take n (drop a (sets l i vs)) ≡ take n (drop a l)
   part-sets l i [] n a h = refl
   part-sets l i (v ∷ vs) n a h = part-sets (set l i v) (suc i) vs n a (omega arith) ∙ part-set l i v n a h
 
   -- and what it puts
-  pub put-sets : (l : List A) (i : ℕ) (vs : List A) → i + length vs ≤ length l → take (length vs) (drop i (sets l i vs)) ≡ vs
+  pub put-sets : (l : List A) (i : ℕ) (vs : List A) → i + length vs ≤ length l
+      → take (length vs) (drop i (sets l i vs)) ≡ vs
   put-sets l i vs h =
       let t : length (take i l) ≡ i = length-take-le i l (omega arith) in
-      rw (sets-eq vs l i h, append-assoc, drop-at (take i l) (vs ++ drop (i + length vs) l) i t) (take-at vs (drop (i + length vs) l) (length vs) refl)
+      rw (sets-eq vs l i h, append-assoc, drop-at (take i l) (vs ++ drop (i + length vs) l) i t)
+      (take-at vs (drop (i + length vs) l) (length vs) refl)
 
 pub map-drop : {A B : Type 0} (f : A → B) (k : ℕ) (l : List A) → map f (drop k l) ≡ drop k (map f l)
 map-drop f zero l = refl

@@ -28,7 +28,8 @@ module _ {A : Type 0} where
   -- two tables that agree below n
   pub tab-ext : (f g : ℕ → A) (n : ℕ) → ((i : ℕ) → i < n → f i ≡ g i) → tab f n ≡ tab g n
   tab-ext f g zero h = refl
-  tab-ext f g (suc n) h = cc (h 0 (zero-lt-suc n), tab-ext (λ (i : ℕ). f (suc i)) (λ (i : ℕ). g (suc i)) n (λ i k. h (suc i) (omega arith)))
+  tab-ext f g (suc n) h =
+      cc (h 0 (zero-lt-suc n), tab-ext (λ (i : ℕ). f (suc i)) (λ (i : ℕ). g (suc i)) n (λ i k. h (suc i) (omega arith)))
 
   pub tab-snoc : (f : ℕ → A) (n : ℕ) → tab f (suc n) ≡ tab f n ++ (f n ∷ [])
   tab-snoc f zero = refl
@@ -41,17 +42,21 @@ module _ {A : Type 0} where
       rw e
   drop-tab f (suc k) (suc n) =
       let e : suc n - suc k ≡ n - k = omega arith in
-      rw e (drop-tab (λ (i : ℕ). f (suc i)) k n ∙ tab-ext (λ (i : ℕ). f (suc (k + i))) (λ (i : ℕ). f (suc k + i)) (n - k) (λ i h. ap f (sym (suc-add k i))))
+      rw e (drop-tab (λ (i : ℕ). f (suc i)) k n ∙ tab-ext (λ (i : ℕ). f (suc (k + i))) (λ (i : ℕ). f (suc k + i))
+      (n - k) (λ i h. ap f (sym (suc-add k i))))
 
 pub map-tab : {A B : Type 0} (g : A → B) (f : ℕ → A) (n : ℕ) → map g (tab f n) ≡ tab (λ (i : ℕ). g (f i)) n
 map-tab g f zero = refl
 map-tab g f (suc n) = ap (λ l. g (f 0) ∷ l) (map-tab g (λ (i : ℕ). f (suc i)) n)
 
 -- ---- places
-pub place-is : (ring : Ring) (i : ℕ) → ring .start ≤ ring .cap → ((ring .start + i < ring .cap) × (placeOf ring i ≡ ring .start + i)) ⊎ ((ring .cap ≤ ring .start + i) × (placeOf ring i + ring .cap ≡ ring .start + i))
+pub place-is : (ring : Ring) (i : ℕ) → ring .start ≤ ring .cap
+    → ((ring .start + i < ring .cap) × (placeOf ring i ≡ ring .start + i)) ⊎ ((ring .cap ≤ ring .start + i)
+    × (placeOf ring i + ring .cap ≡ ring .start + i))
 unfolding placeOf
 place-is ring i a =
-    either (ltb i (ring .cap - ring .start)) (λ t. let h = ltb-true i (ring .cap - ring .start) t in inl (omega arith, simp t))
+    either (ltb i (ring .cap - ring .start))
+    (λ t. let h = ltb-true i (ring .cap - ring .start) t in inl (omega arith, simp t))
     (λ t. let h = ltb-false i (ring .cap - ring .start) t in
     let e : placeOf ring i ≡ i - (ring .cap - ring .start) = simp t in
     inr (omega arith, omega (arith, e)))
@@ -63,17 +68,22 @@ pub place-le : (ring : Ring) (i : ℕ) → ring .start ≤ ring .cap → i ≤ r
 place-le ring i a b = ⊎-elim (λ w. omega arith) (λ w. omega arith) (place-is ring i a)
 
 -- from the k-th on
-pub place-place : (ring : Ring) (k i : ℕ) → ring .start ≤ ring .cap → k + i < ring .cap → placeOf (without k ring) i ≡ placeOf ring (k + i)
+pub place-place : (ring : Ring) (k i : ℕ) → ring .start ≤ ring .cap → k + i < ring .cap
+    → placeOf (without k ring) i ≡ placeOf ring (k + i)
 place-place ring k i a b =
     let c = place-le ring k a (omega arith) in
-    ⊎-elim (λ u. ⊎-elim (λ v. ⊎-elim (λ w. omega arith) (λ w. omega arith) (place-is ring (k + i) a)) (λ v. ⊎-elim (λ w. omega arith) (λ w. omega arith) (place-is ring (k + i) a))
+    ⊎-elim (λ u. ⊎-elim (λ v. ⊎-elim (λ w. omega arith) (λ w. omega arith) (place-is ring (k + i) a))
+    (λ v. ⊎-elim (λ w. omega arith) (λ w. omega arith) (place-is ring (k + i) a))
     (place-is (without k ring) i c))
-    (λ u. ⊎-elim (λ v. ⊎-elim (λ w. omega arith) (λ w. omega arith) (place-is ring (k + i) a)) (λ v. ⊎-elim (λ w. omega arith) (λ w. omega arith) (place-is ring (k + i) a))
+    (λ u. ⊎-elim (λ v. ⊎-elim (λ w. omega arith) (λ w. omega arith) (place-is ring (k + i) a))
+    (λ v. ⊎-elim (λ w. omega arith) (λ w. omega arith) (place-is ring (k + i) a))
     (place-is (without k ring) i c)) (place-is ring k a)
 
-pub place-differs : (ring : Ring) (i j : ℕ) → ring .start ≤ ring .cap → i < j → j < ring .cap → placeOf ring i ≡ placeOf ring j → ⊥
+pub place-differs : (ring : Ring) (i j : ℕ) → ring .start ≤ ring .cap → i < j → j < ring .cap
+    → placeOf ring i ≡ placeOf ring j → ⊥
 place-differs ring i j a b c e =
-    ⊎-elim (λ u. ⊎-elim (λ v. omega arith) (λ v. omega arith) (place-is ring j a)) (λ u. ⊎-elim (λ v. omega arith) (λ v. omega arith) (place-is ring j a)) (place-is ring i a)
+    ⊎-elim (λ u. ⊎-elim (λ v. omega arith) (λ v. omega arith) (place-is ring j a))
+    (λ u. ⊎-elim (λ v. omega arith) (λ v. omega arith) (place-is ring j a)) (place-is ring i a)
 
 -- ---- rings
 module _ {A : Type 0} (f : ℕ → A) (ring : Ring) where
@@ -93,7 +103,8 @@ module _ {A : Type 0} (f : ℕ → A) (ring : Ring) where
   ring-end i h = drop-of-length-le (rowsIn f ring) {i = i} (rw length-ring h)
 
   -- without the k oldest
-  pub ring-drop : (k : ℕ) → ring .start ≤ ring .cap → ring .count ≤ ring .cap → k ≤ ring .count → rowsIn f (without k ring) ≡ drop k (rowsIn f ring)
+  pub ring-drop : (k : ℕ) → ring .start ≤ ring .cap → ring .count ≤ ring .cap → k ≤ ring .count
+      → rowsIn f (without k ring) ≡ drop k (rowsIn f ring)
   unfolding rowsIn
   ring-drop k a b h =
       tab-ext (λ (i : ℕ). f (placeOf (without k ring) i)) (λ (i : ℕ). f (placeOf ring (k + i))) (ring .count - k)
@@ -101,7 +112,8 @@ module _ {A : Type 0} (f : ℕ → A) (ring : Ring) where
       ∙ sym (drop-tab (λ (i : ℕ). f (placeOf ring i)) k (ring .count))
 
   -- the same where f and g agree on the places in use
-  pub ring-ext : (g : ℕ → A) → ((i : ℕ) → i < ring .count → g (placeOf ring i) ≡ f (placeOf ring i)) → rowsIn g ring ≡ rowsIn f ring
+  pub ring-ext : (g : ℕ → A) → ((i : ℕ) → i < ring .count → g (placeOf ring i) ≡ f (placeOf ring i))
+      → rowsIn g ring ≡ rowsIn f ring
   unfolding rowsIn
   ring-ext g same = tab-ext (λ (i : ℕ). g (placeOf ring i)) (λ (i : ℕ). f (placeOf ring i)) (ring .count) same
 
@@ -112,9 +124,11 @@ module _ {A : Type 0} (f : ℕ → A) (ring : Ring) where
   ring-more g same =
       rw (add-one (ring .count))
       (tab-snoc (λ (i : ℕ). g (placeOf ring i)) (ring .count)
-      ∙ ap (λ l. l ++ (g (placeOf ring (ring .count)) ∷ [])) (tab-ext (λ (i : ℕ). g (placeOf ring i)) (λ (i : ℕ). f (placeOf ring i)) (ring .count) same))
+      ∙ ap (λ l. l ++ (g (placeOf ring (ring .count)) ∷ [])) (tab-ext (λ (i : ℕ). g (placeOf ring i))
+      (λ (i : ℕ). f (placeOf ring i)) (ring .count) same))
 
-pub map-ring : {A B : Type 0} (g : A → B) (f : ℕ → A) (ring : Ring) → map g (rowsIn f ring) ≡ rowsIn (λ (p : ℕ). g (f p)) ring
+pub map-ring : {A B : Type 0} (g : A → B) (f : ℕ → A) (ring : Ring)
+    → map g (rowsIn f ring) ≡ rowsIn (λ (p : ℕ). g (f p)) ring
 unfolding rowsIn
 map-ring g f ring = map-tab g (λ (i : ℕ). f (placeOf ring i)) (ring .count)
 
@@ -128,6 +142,8 @@ unfolding placeOf
 place-far ring i b e h = simp (le-ltb i (ring .cap - ring .start) (omega arith)) (ap (λ (n : ℕ). i - n) e)
 
 -- ---- one more: the oldest leave where there is no room
-pub newest-more : {A : Type 0} (max : ℕ) (l : List A) (x : A) → (max ≡ 0 → ⊥) → newest max (l ++ (x ∷ [])) ≡ drop ((length l + 1) - max) l ++ (x ∷ [])
+pub newest-more : {A : Type 0} (max : ℕ) (l : List A) (x : A) → (max ≡ 0 → ⊥)
+    → newest max (l ++ (x ∷ [])) ≡ drop ((length l + 1) - max) l ++ (x ∷ [])
 unfolding newest
-newest-more max l x some = rw (length-append l (x ∷ [])) (drop-append-le ((length l + 1) - max) l (x ∷ []) (omega (arith, some)))
+newest-more max l x some =
+    rw (length-append l (x ∷ [])) (drop-append-le ((length l + 1) - max) l (x ∷ []) (omega (arith, some)))

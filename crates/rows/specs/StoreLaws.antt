@@ -1,5 +1,5 @@
--- Laws of ids in a store: where a row lies, one step of each walk over the rows, what the tests say of each row, and what a row more or some rows
--- less leave.
+-- Laws of ids in a store: where a row lies, one step of each walk over the rows, what the tests say of each row, and
+-- what a row more or some rows less leave.
 use Prim.Native.Nat.{ℕ, zero, suc, _+_, _-_, _*_, _≤_, _<_}
 use mathlib.Core.Path.{_≡_, refl, sym, ap, _∙_}
 use mathlib.Core.List.{List, [], _∷_}
@@ -17,11 +17,13 @@ use Rattle.rows.specs.Rows.{tab, placeOf, rowsIn, without, oneMore}
 use Rattle.rows.specs.Ids.{sameBytes, among, distinct, indexOf}
 use Rattle.rows.specs.IdsLaws.{distinct-more, distinct-twice, distinct-each, each-distinct}
 use Rattle.rows.specs.ListLaws.{drop-sets, part-sets, put-sets}
-use Rattle.rows.specs.RowsLaws.{length-tab, getD-tab, length-ring, ring-from, ring-end, place-lt, place-le, place-place, place-differs}
+use Rattle.rows.specs.RowsLaws.{length-tab, getD-tab, length-ring, ring-from, ring-end, place-lt, place-le}
+use Rattle.rows.specs.RowsLaws.{place-place, place-differs}
 use Rattle.rows.specs.Store.{idAt, idsIn, inUse, allUpTo, InStore, Sound}
 
 -- ---- places
-pub place-in : {ring : Ring} {l : List ℕ} → InStore ring l → (i p : ℕ) → i < ring .cap → p ≡ placeOf ring i → (p < ring .cap) × (p < length l)
+pub place-in : {ring : Ring} {l : List ℕ} → InStore ring l → (i p : ℕ) → i < ring .cap → p ≡ placeOf ring i
+    → (p < ring .cap) × (p < length l)
 place-in {ring} r i p h at =
     let b : p < ring .cap = rw at (place-lt ring i (r .starts) h) in
     (b, omega (arith, r .size))
@@ -34,8 +36,10 @@ row-fits size cap p n m h k r =
     omega arith
 
 -- ---- numbers in use
-module _ (most : ℕ) (ring : Ring) (l : List ℕ) (i : ℕ) (inv : allUpTo most (drop i (inUse ring l)) ≡ allUpTo most (inUse ring l)) where
-  pub within-more : i < ring .count → getD l (placeOf ring i) 0 ≤ most → allUpTo most (drop (i + 1) (inUse ring l)) ≡ allUpTo most (inUse ring l)
+module _ (most : ℕ) (ring : Ring) (l : List ℕ) (i : ℕ) (inv : allUpTo most (drop i (inUse ring l)) ≡ allUpTo most
+    (inUse ring l)) where
+  pub within-more : i < ring .count → getD l (placeOf ring i) 0 ≤ most → allUpTo most (drop (i + 1) (inUse ring l))
+      ≡ allUpTo most (inUse ring l)
   unfolding allUpTo inUse
   within-more h e =
       simp (le-leb (getD l (placeOf ring i) 0) most e) at (rw (ring-from (λ (p : ℕ). getD l p 0) ring i h) at inv)
@@ -50,8 +54,10 @@ module _ (most : ℕ) (ring : Ring) (l : List ℕ) (i : ℕ) (inv : allUpTo most
   within-all h = rw (ring-end (λ (p : ℕ). getD l p 0) ring i h) at inv
 
 -- ---- finding an id
-module _ (size : ℕ) (ring : Ring) (lens st id : List ℕ) (i r : ℕ) (inv : i + indexOf id (drop i (idsIn size ring lens st)) ≡ r) where
-  pub find-more : i < ring .count → sameBytes (idAt size lens st (placeOf ring i)) id ≡ false → (i + 1) + indexOf id (drop (i + 1) (idsIn size ring lens st)) ≡ r
+module _ (size : ℕ) (ring : Ring) (lens st id : List ℕ) (i r : ℕ)
+    (inv : i + indexOf id (drop i (idsIn size ring lens st)) ≡ r) where
+  pub find-more : i < ring .count → sameBytes (idAt size lens st (placeOf ring i)) id ≡ false
+      → (i + 1) + indexOf id (drop (i + 1) (idsIn size ring lens st)) ≡ r
   unfolding indexOf idsIn
   find-more h e =
       let k = simp e at (rw (ring-from (idAt size lens st) ring i h) at inv) in
@@ -78,17 +84,20 @@ index-among i (j ∷ js) =
     (λ t. simp t (index-among i js ∙ below (indexOf i js) (length js)))
   where
     below : (m n : ℕ) → ltb m n ≡ ltb (suc m) (suc n)
-    below m n = either (ltb m n) (λ t. t ∙ sym (lt-ltb (suc m) (suc n) (let h = ltb-true m n t in omega arith))) (λ t. t ∙ sym (le-ltb (suc m) (suc n) (let h = ltb-false m n t in omega arith)))
+    below m n = either (ltb m n) (λ t. t ∙ sym (lt-ltb (suc m) (suc n) (let h = ltb-true m n t in omega arith)))
+        (λ t. t ∙ sym (le-ltb (suc m) (suc n) (let h = ltb-false m n t in omega arith)))
 
 -- the i-th row: its place has a length, and lies within the store
-pub row-within : (size : ℕ) (ring : Ring) (lens st : List ℕ) (i p : ℕ) → Sound size ring lens st → i < ring .count → p ≡ placeOf ring i → (p < length lens) × (p * size + getD lens p 0 ≤ length st)
+pub row-within : (size : ℕ) (ring : Ring) (lens st : List ℕ) (i p : ℕ) → Sound size ring lens st → i < ring .count
+    → p ≡ placeOf ring i → (p < length lens) × (p * size + getD lens p 0 ≤ length st)
 row-within size ring lens st i p ok h e =
     let b = place-in (ok .rows) i p (omega (arith, ok .rows .within)) e in
     let n : getD lens p 0 ≤ size = rw e (ok .short i h) in
     (b .1, row-fits size (ring .cap) p (getD lens p 0) (length st) (b .0) n (ok .room))
 
 -- the bytes of the i-th row
-pub row-id : (size : ℕ) (ring : Ring) (lens st : List ℕ) (i p : ℕ) → p ≡ placeOf ring i → take ((p * size + getD lens p 0) - p * size) (drop (p * size) st) ≡ idAt size lens st (placeOf ring i)
+pub row-id : (size : ℕ) (ring : Ring) (lens st : List ℕ) (i p : ℕ) → p ≡ placeOf ring i
+    → take ((p * size + getD lens p 0) - p * size) (drop (p * size) st) ≡ idAt size lens st (placeOf ring i)
 unfolding idAt
 row-id size ring lens st i p e =
     let k : (p * size + getD lens p 0) - p * size ≡ getD lens p 0 = omega arith in
@@ -97,18 +106,22 @@ row-id size ring lens st i p e =
 -- ---- what is found says whether an id is among those from the k-th on
 shifted : (a b r count k : ℕ) → r ≡ k + a → b ≡ count - k → k ≤ count → ltb a b ≡ ltb r count
 shifted a b r count k e f h =
-    either (ltb a b) (λ t. let l = ltb-true a b t in t ∙ sym (lt-ltb r count (omega arith))) (λ t. let l = ltb-false a b t in t ∙ sym (le-ltb r count (omega arith)))
+    either (ltb a b) (λ t. let l = ltb-true a b t in t ∙ sym (lt-ltb r count (omega arith)))
+    (λ t. let l = ltb-false a b t in t ∙ sym (le-ltb r count (omega arith)))
 
-pub find-among : (size : ℕ) (ring : Ring) (lens st id : List ℕ) (k r : ℕ) → k ≤ ring .count → r ≡ k + indexOf id (drop k (idsIn size ring lens st))
+pub find-among : (size : ℕ) (ring : Ring) (lens st id : List ℕ) (k r : ℕ) → k ≤ ring .count
+    → r ≡ k + indexOf id (drop k (idsIn size ring lens st))
     → among id (drop k (idsIn size ring lens st)) ≡ ltb r (ring .count)
 unfolding idsIn
 find-among size ring lens st id k r h e =
     let ids : List (List ℕ) = rowsIn (idAt size lens st) ring in
-    let l : length (drop k ids) ≡ ring .count - k = length-drop k ids ∙ ap (λ (n : ℕ). n - k) (length-ring (idAt size lens st) ring) in
+    let l : length (drop k ids) ≡ ring .count - k =
+    length-drop k ids ∙ ap (λ (n : ℕ). n - k) (length-ring (idAt size lens st) ring) in
     index-among id (drop k ids) ∙ shifted (indexOf id (drop k ids)) (length (drop k ids)) r (ring .count) k e l h
 
 -- ---- ids that differ, from the newest to the oldest: the row before the i-th
-module _ (size : ℕ) (ring : Ring) (lens st : List ℕ) (i p : ℕ) (h : 0 < i) (k : i ≤ ring .count) (e : p ≡ placeOf ring (i - 1)) where
+module _ (size : ℕ) (ring : Ring) (lens st : List ℕ) (i p : ℕ) (h : 0 < i) (k : i ≤ ring .count)
+    (e : p ≡ placeOf ring (i - 1)) where
   abbrev ids : List (List ℕ)
   ids = idsIn size ring lens st
 
@@ -145,10 +158,13 @@ differ-all i l h d = let z : i ≡ 0 = omega arith in sym (rw z at d)
 number-within : (most : ℕ) (l : List ℕ) (i : ℕ) → allUpTo most l ≡ true → i < length l → getD l i 0 ≤ most
 unfolding allUpTo
 number-within most [] i h k = absurd (omega arith)
-number-within most (n ∷ l) zero h k = either (leb n most) (λ t. leb-true n most t) (λ t. clash (let z = simp t at h in cc))
-number-within most (n ∷ l) (suc i) h k = either (leb n most) (λ t. number-within most l i (simp t at h) (omega arith)) (λ t. clash (let z = simp t at h in cc))
+number-within most (n ∷ l) zero h k =
+    either (leb n most) (λ t. leb-true n most t) (λ t. clash (let z = simp t at h in cc))
+number-within most (n ∷ l) (suc i) h k = either (leb n most) (λ t. number-within most l i (simp t at h) (omega arith))
+    (λ t. clash (let z = simp t at h in cc))
 
-pub short-in : (most : ℕ) (lens : List ℕ) (ring : Ring) → allUpTo most (inUse ring lens) ≡ true → (i : ℕ) → i < ring .count → getD lens (placeOf ring i) 0 ≤ most
+pub short-in : (most : ℕ) (lens : List ℕ) (ring : Ring) → allUpTo most (inUse ring lens) ≡ true → (i : ℕ)
+    → i < ring .count → getD lens (placeOf ring i) 0 ≤ most
 unfolding inUse rowsIn
 short-in most lens ring h i k =
     let f : ℕ → ℕ = λ (j : ℕ). getD lens (placeOf ring j) 0 in
@@ -159,33 +175,42 @@ short-in most lens ring h i k =
 numbers-within : (most : ℕ) (l : List ℕ) → ((i : ℕ) → i < length l → getD l i 0 ≤ most) → allUpTo most l ≡ true
 unfolding allUpTo
 numbers-within most [] h = refl
-numbers-within most (n ∷ l) h = simp (le-leb n most (h 0 (zero-lt-suc (length l)))) (numbers-within most l (λ i k. h (suc i) (omega arith)))
+numbers-within most (n ∷ l) h =
+    simp (le-leb n most (h 0 (zero-lt-suc (length l)))) (numbers-within most l (λ i k. h (suc i) (omega arith)))
 
-pub short-all : (most : ℕ) (lens : List ℕ) (ring : Ring) → ((i : ℕ) → i < ring .count → getD lens (placeOf ring i) 0 ≤ most) → allUpTo most (inUse ring lens) ≡ true
+pub short-all : (most : ℕ) (lens : List ℕ) (ring : Ring)
+    → ((i : ℕ) → i < ring .count → getD lens (placeOf ring i) 0 ≤ most) → allUpTo most (inUse ring lens) ≡ true
 unfolding inUse rowsIn
 short-all most lens ring h =
     let f : ℕ → ℕ = λ (j : ℕ). getD lens (placeOf ring j) 0 in
-    numbers-within most (tab f (ring .count)) (λ i k. let l : i < ring .count = rw (length-tab f (ring .count)) at k in rw (getD-tab f (ring .count) i 0 l) (h i l))
+    numbers-within most (tab f (ring .count)) (λ i k. let l : i < ring .count = rw (length-tab f (ring .count)) at k in
+    rw (getD-tab f (ring .count) i 0 l) (h i l))
 
 -- no id stands in two rows
-pub once-in : (size : ℕ) (lens st : List ℕ) (ring : Ring) → distinct (idsIn size ring lens st) ≡ true → (i j : ℕ) → i < j → j < ring .count
+pub once-in : (size : ℕ) (lens st : List ℕ) (ring : Ring) → distinct (idsIn size ring lens st) ≡ true → (i j : ℕ)
+    → i < j → j < ring .count
     → idAt size lens st (placeOf ring i) ≡ idAt size lens st (placeOf ring j) → ⊥
 unfolding idsIn rowsIn
 once-in size lens st ring d i j a b e =
     let f : ℕ → List ℕ = λ (k : ℕ). idAt size lens st (placeOf ring k) in
     let l : j < length (tab f (ring .count)) = rw (length-tab f (ring .count)) b in
-    distinct-each (tab f (ring .count)) i j d a l (getD-tab f (ring .count) i [] (omega arith) ∙ e ∙ sym (getD-tab f (ring .count) j [] b))
+    distinct-each (tab f (ring .count)) i j d a l (getD-tab f (ring .count) i [] (omega arith) ∙ e
+    ∙ sym (getD-tab f (ring .count) j [] b))
 
-pub all-once : (size : ℕ) (lens st : List ℕ) (ring : Ring) → ((i j : ℕ) → i < j → j < ring .count → idAt size lens st (placeOf ring i) ≡ idAt size lens st (placeOf ring j) → ⊥)
+pub all-once : (size : ℕ) (lens st : List ℕ) (ring : Ring)
+    → ((i j : ℕ) → i < j → j < ring .count → idAt size lens st (placeOf ring i) ≡ idAt size lens st (placeOf ring j)
+    → ⊥)
     → distinct (idsIn size ring lens st) ≡ true
 unfolding idsIn rowsIn
 all-once size lens st ring h =
     let f : ℕ → List ℕ = λ (k : ℕ). idAt size lens st (placeOf ring k) in
     each-distinct (tab f (ring .count))
-    (λ i j a b e. let l : j < ring .count = rw (length-tab f (ring .count)) at b in h i j a l (sym (getD-tab f (ring .count) i [] (omega arith)) ∙ e ∙ getD-tab f (ring .count) j [] l))
+    (λ i j a b e. let l : j < ring .count = rw (length-tab f (ring .count)) at b in
+    h i j a l (sym (getD-tab f (ring .count) i [] (omega arith)) ∙ e ∙ getD-tab f (ring .count) j [] l))
 
 -- ---- without the k oldest
-pub sound-less : (size : ℕ) (ring : Ring) (k : ℕ) (lens st : List ℕ) → Sound size ring lens st → k ≤ ring .count → Sound size (without k ring) lens st
+pub sound-less : (size : ℕ) (ring : Ring) (k : ℕ) (lens st : List ℕ) → Sound size ring lens st → k ≤ ring .count
+    → Sound size (without k ring) lens st
 sound-less size ring k lens st s h =
     let r = s .rows in
     record {
@@ -197,29 +222,35 @@ sound-less size ring k lens st s h =
 -- ---- an id put into place q
 module _ (size : ℕ) (lens st id : List ℕ) (q : ℕ) where
   -- another place holds what it held
-  pub id-kept : length id ≤ size → (p : ℕ) → (p ≡ q → ⊥) → getD lens p 0 ≤ size → idAt size (set lens q (length id)) (sets st (q * size) id) p ≡ idAt size lens st p
+  pub id-kept : length id ≤ size → (p : ℕ) → (p ≡ q → ⊥) → getD lens p 0 ≤ size
+      → idAt size (set lens q (length id)) (sets st (q * size) id) p ≡ idAt size lens st p
   unfolding idAt
   id-kept k p other n =
       rw (getD-set-other lens q p (length id) 0 other)
       (either (ltb p q)
-      (λ t. part-sets st (q * size) id (getD lens p 0) (p * size) (row-fits size q p (getD lens p 0) (q * size) (ltb-true p q t) n (omega arith)))
+      (λ t. part-sets st (q * size) id (getD lens p 0) (p * size)
+      (row-fits size q p (getD lens p 0) (q * size) (ltb-true p q t) n (omega arith)))
       (λ t. let l : q < p = let g = ltb-false p q t in omega (arith, other) in
-      ap (take (getD lens p 0)) (drop-sets st (q * size) id (p * size) (row-fits size p q (length id) (p * size) l k (omega arith)))))
+      ap (take (getD lens p 0))
+      (drop-sets st (q * size) id (p * size) (row-fits size p q (length id) (p * size) l k (omega arith)))))
 
-  pub id-put : q < length lens → q * size + length id ≤ length st → idAt size (set lens q (length id)) (sets st (q * size) id) q ≡ id
+  pub id-put : q < length lens → q * size + length id ≤ length st
+      → idAt size (set lens q (length id)) (sets st (q * size) id) q ≡ id
   unfolding idAt
   id-put h r = rw (getD-set-same lens q (length id) 0 h) (put-sets st (q * size) id r)
 
 -- ---- with a row more
 module _ (size : ℕ) (ring : Ring) (lens st : List ℕ) (s : Sound size ring lens st) (h : ring .count < ring .cap) where
   -- its place has a length, and lies within the store
-  pub free-within : (n p : ℕ) → n ≤ size → p ≡ placeOf ring (ring .count) → (p < length lens) × (p * size + n ≤ length st)
+  pub free-within : (n p : ℕ) → n ≤ size → p ≡ placeOf ring (ring .count) → (p < length lens)
+      × (p * size + n ≤ length st)
   free-within n p k e =
       let b = place-in (s .rows) (ring .count) p h e in
       (b .1, row-fits size (ring .cap) p n (length st) (b .0) k (s .room))
 
   pub sound-more : (id : List ℕ) → length id ≤ size
-      → Sound size (oneMore ring) (set lens (placeOf ring (ring .count)) (length id)) (sets st (placeOf ring (ring .count) * size) id)
+      → Sound size (oneMore ring) (set lens (placeOf ring (ring .count)) (length id))
+      (sets st (placeOf ring (ring .count) * size) id)
   unfolding placeOf
   sound-more id k =
       let r = s .rows in
@@ -229,6 +260,7 @@ module _ (size : ℕ) (ring : Ring) (lens st : List ℕ) (s : Sound size ring le
         room = rw (length-sets st (q * size) id) (s .room);
         short =
             below-more _ (ring .count)
-            (λ i j. rw (getD-set-other lens q (placeOf ring i) (length id) 0 (place-differs ring i (ring .count) (r .starts) j h)) (s .short i j))
+            (λ i j. rw (getD-set-other lens q (placeOf ring i) (length id) 0
+            (place-differs ring i (ring .count) (r .starts) j h)) (s .short i j))
             (rw (getD-set-same lens q (length id) 0 (place-in r (ring .count) q h refl .1)) k);
       }

@@ -1,11 +1,12 @@
--- Writing an RPC: the bytes that stand for it, from the Protocol Buffers encoding document and message.rs. Fields stand in the order of their
--- numbers; what is absent is not written; a message stands as its raw bytes.
+-- Writing an RPC: the bytes that stand for it, from the Protocol Buffers encoding document and message.rs. Fields stand
+-- in the order of their numbers; what is absent is not written; a message stands as its raw bytes.
 use Prim.Native.Nat.{ℕ}
 use mathlib.Core.Bool.{Bool, true, false}
 use mathlib.Core.List.{List, [], _∷_, _++_}
 use mathlib.Core.Option.{Option, none, some}
 use Rattle.protobuf.specs.Encode.{varintField, bytesField}
-use Rattle.rpc.specs.Rpc.{SubOpts, RawMessage, ControlIHave, ControlIWant, ControlGraft, PeerInfo, ControlPrune, ControlMessage, Rpc}
+use Rattle.rpc.specs.Rpc.{SubOpts, RawMessage, ControlIHave, ControlIWant, ControlGraft, PeerInfo, ControlPrune}
+use Rattle.rpc.specs.Rpc.{ControlMessage, Rpc}
 
 -- an optional field, and a repeated one
 abbrev pub optional : {A : Type 0} → (A → List ℕ) → Option A → List ℕ
@@ -36,7 +37,8 @@ unfoldable pub encodePeerInfo : PeerInfo → List ℕ
 encodePeerInfo x = optional (bytesField 1) (x .«peer_id») ++ optional (bytesField 2) (x .«signed_peer_record»)
 
 unfoldable pub encodePrune : ControlPrune → List ℕ
-encodePrune x = optional (bytesField 1) (x .«topic_id») ++ (repeated (λ p. bytesField 2 (encodePeerInfo p)) (x .peers) ++ optional (varintField 3) (x .backoff))
+encodePrune x = optional (bytesField 1) (x .«topic_id») ++ (repeated (λ p. bytesField 2 (encodePeerInfo p)) (x .peers)
+    ++ optional (varintField 3) (x .backoff))
 
 unfoldable pub encodeControl : ControlMessage → List ℕ
 encodeControl x =
@@ -48,7 +50,8 @@ encodeControl x =
 unfoldable pub encodeRpc : Rpc → List ℕ
 encodeRpc x =
     repeated (λ o. bytesField 1 (encodeSubOpts o)) (x .subscriptions)
-    ++ (repeated (λ m. bytesField 2 (m .raw)) (x .publish) ++ optional (λ c. bytesField 3 (encodeControl c)) (x .control))
+    ++ (repeated (λ m. bytesField 2 (m .raw)) (x .publish) ++ optional (λ c. bytesField 3 (encodeControl c))
+    (x .control))
 
 -- `libp2p-pubsub:`
 abbrev pub signPrefix : List ℕ
@@ -59,4 +62,5 @@ unfoldable pub signBytes : RawMessage → List ℕ
 signBytes m =
     signPrefix
     ++ (optional (bytesField 1) (m .from)
-    ++ (optional (bytesField 2) (m .«data») ++ (optional (bytesField 3) (m .seqno) ++ repeated (bytesField 4) (m .«topic_ids»))))
+    ++ (optional (bytesField 2) (m .«data»)
+    ++ (optional (bytesField 3) (m .seqno) ++ repeated (bytesField 4) (m .«topic_ids»))))

@@ -1,6 +1,7 @@
--- Which bodies mean which RPC, from the Protocol Buffers encoding document and 01's rules. A body is fields one after the other
--- (protobuf's `Body`); a field is known by its number and its wire type, and all others are passed over; of a singular field the last wins;
--- repeated ones append; a submessage is a body of its own; topics are UTF-8. Nothing here speaks of a reader.
+-- Which bodies mean which RPC, from the Protocol Buffers encoding document and 01's rules. A body is fields one after
+-- the other (protobuf's `Body`); a field is known by its number and its wire type, and all others are passed over; of a
+-- singular field the last wins; repeated ones append; a submessage is a body of its own; topics are UTF-8. Nothing here
+-- speaks of a reader.
 use Prim.Native.Nat.{ℕ}
 use mathlib.Core.Bool.{Bool, not, cond}
 use mathlib.Core.List.{List, [], _∷_, _++_}
@@ -8,7 +9,8 @@ use mathlib.Core.Option.{Option, none, some}
 use lib.Dec.{eqb}
 use Rattle.utf8.specs.Grammar.{Utf8}
 use Rattle.protobuf.specs.Grammar.{Payload, number, eight, bytes, four, Entry, Body}
-use Rattle.rpc.specs.Rpc.{SubOpts, RawMessage, ControlIHave, ControlIWant, ControlGraft, PeerInfo, ControlPrune, ControlMessage, Rpc}
+use Rattle.rpc.specs.Rpc.{SubOpts, RawMessage, ControlIHave, ControlIWant, ControlGraft, PeerInfo, ControlPrune}
+use Rattle.rpc.specs.Rpc.{ControlMessage, Rpc}
 
 -- ---- the values of a field, in order
 -- a number before those that follow, where the field is the one asked for and a varint
@@ -86,24 +88,33 @@ pub data IsIWant : List ℕ → ControlIWant → Type 0 where
   is-iwant : {s : List ℕ} {es : List Entry} → Body s es → IsIWant s (record { «message_ids» = bytesIn 1 es })
 
 pub data IsGraft : List ℕ → ControlGraft → Type 0 where
-  is-graft : {s : List ℕ} {es : List Entry} → Body s es → Each Utf8 (bytesIn 1 es) → IsGraft s (record { «topic_id» = last (bytesIn 1 es) })
+  is-graft : {s : List ℕ} {es : List Entry} → Body s es → Each Utf8 (bytesIn 1 es)
+      → IsGraft s (record { «topic_id» = last (bytesIn 1 es) })
 
 pub data IsPeerInfo : List ℕ → PeerInfo → Type 0 where
   is-peer-info : {s : List ℕ} {es : List Entry} → Body s es
       → IsPeerInfo s (record { «peer_id» = last (bytesIn 1 es); «signed_peer_record» = last (bytesIn 2 es) })
 
 pub data IsPrune : List ℕ → ControlPrune → Type 0 where
-  is-prune : {s : List ℕ} {es : List Entry} {ps : List PeerInfo} → Body s es → Each Utf8 (bytesIn 1 es) → Pairs IsPeerInfo (bytesIn 2 es) ps
+  is-prune : {s : List ℕ} {es : List Entry} {ps : List PeerInfo} → Body s es → Each Utf8 (bytesIn 1 es)
+      → Pairs IsPeerInfo (bytesIn 2 es) ps
       → IsPrune s (record { «topic_id» = last (bytesIn 1 es); peers = ps; backoff = last (numbersIn 3 es) })
 
 pub data IsControl : List ℕ → ControlMessage → Type 0 where
-  is-control : {s : List ℕ} {es : List Entry} {hs : List ControlIHave} {ws : List ControlIWant} {gs : List ControlGraft} {ps : List ControlPrune}
-      → Body s es → Pairs IsIHave (bytesIn 1 es) hs → Pairs IsIWant (bytesIn 2 es) ws → Pairs IsGraft (bytesIn 3 es) gs → Pairs IsPrune (bytesIn 4 es) ps
+  is-control : {s : List ℕ} {es : List Entry} {hs : List ControlIHave} {ws : List ControlIWant} {gs : List ControlGraft}
+      {ps : List ControlPrune}
+      → Body s es → Pairs IsIHave (bytesIn 1 es) hs → Pairs IsIWant (bytesIn 2 es) ws → Pairs IsGraft (bytesIn 3 es) gs
+      → Pairs IsPrune (bytesIn 4 es) ps
       → IsControl s (record { ihave = hs; iwant = ws; graft = gs; prune = ps })
 
 -- a further control appends to the first
 abbrev pub join : ControlMessage → ControlMessage → ControlMessage
-join c d = record { ihave = c .ihave ++ d .ihave; iwant = c .iwant ++ d .iwant; graft = c .graft ++ d .graft; prune = c .prune ++ d .prune }
+join c d = record {
+  ihave = c .ihave ++ d .ihave;
+  iwant = c .iwant ++ d .iwant;
+  graft = c .graft ++ d .graft;
+  prune = c .prune ++ d .prune;
+}
 
 abbrev pub joinTo : ControlMessage → Option ControlMessage → Option ControlMessage
 joinTo c none = some c
@@ -115,5 +126,6 @@ joined (c ∷ cs) = joinTo c (joined cs)
 
 pub data IsRpc : List ℕ → Rpc → Type 0 where
   is-rpc : {s : List ℕ} {es : List Entry} {ss : List SubOpts} {ms : List RawMessage} {cs : List ControlMessage}
-      → Body s es → Pairs IsSubOpts (bytesIn 1 es) ss → Pairs IsMessage (bytesIn 2 es) ms → Pairs IsControl (bytesIn 3 es) cs
+      → Body s es → Pairs IsSubOpts (bytesIn 1 es) ss → Pairs IsMessage (bytesIn 2 es) ms
+      → Pairs IsControl (bytesIn 3 es) cs
       → IsRpc s (record { subscriptions = ss; publish = ms; control = joined cs })

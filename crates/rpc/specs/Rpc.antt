@@ -1,5 +1,5 @@
--- The RPC as a value: the messages of the gossipsub v1.1 protobuf, over lists of bytes. What may be absent is an Option, so that absent and
--- empty stay apart. Names are message.rs's.
+-- The RPC as a value: the messages of the gossipsub v1.1 protobuf, over lists of bytes. What may be absent is an
+-- Option, so that absent and empty stay apart. Names are message.rs's.
 use Prim.Native.Nat.{ℕ}
 use mathlib.Core.Bool.{Bool}
 use mathlib.Core.List.{List}
@@ -10,8 +10,8 @@ pub record SubOpts : Type 0 where
   pub subscribe : Option Bool
   pub «topic_id» : Option (List ℕ)
 
--- message Message { optional bytes from = 1; optional bytes data = 2; optional bytes seqno = 3; repeated string topicIDs = 4; optional bytes
--- signature = 5; optional bytes key = 6; }; `raw` is the message as it stood in the body
+-- message Message { optional bytes from = 1; optional bytes data = 2; optional bytes seqno = 3; repeated string
+-- topicIDs = 4; optional bytes signature = 5; optional bytes key = 6; }; `raw` is the message as it stood in the body
 pub record RawMessage : Type 0 where
   pub raw : List ℕ
   pub from : Option (List ℕ)
@@ -45,15 +45,16 @@ pub record ControlPrune : Type 0 where
   pub peers : List PeerInfo
   pub backoff : Option ℕ
 
--- message ControlMessage { repeated ControlIHave ihave = 1; repeated ControlIWant iwant = 2; repeated ControlGraft graft = 3; repeated
--- ControlPrune prune = 4; }
+-- message ControlMessage { repeated ControlIHave ihave = 1; repeated ControlIWant iwant = 2; repeated ControlGraft
+-- graft = 3; repeated ControlPrune prune = 4; }
 pub record ControlMessage : Type 0 where
   pub ihave : List ControlIHave
   pub iwant : List ControlIWant
   pub graft : List ControlGraft
   pub prune : List ControlPrune
 
--- message RPC { repeated SubOpts subscriptions = 1; repeated Message publish = 2; optional ControlMessage control = 3; }
+-- message RPC { repeated SubOpts subscriptions = 1; repeated Message publish = 2; optional ControlMessage control = 3;
+-- }
 pub record Rpc : Type 0 where
   pub subscriptions : List SubOpts
   pub publish : List RawMessage

@@ -58,6 +58,9 @@ pub number-sixes : (ss es ts : List ℕ) (v : ℕ) → Sixes ss es ts → Sixes 
 number-sixes ss es ts v k = (length-set ss 0 v ∙ k .0, k .1, length-set ts 0 1 ∙ k .2)
 
 -- the fields, each made by itself
-pub all-made : (ss es ts : List ℕ) (t : Slots) → t .number ≡ numberFrom (getD ts 0 0) (getD ss 0 0) → t .first ≡ placeFrom (getD ts 1 0) (getD ss 1 0) (getD es 1 0) → t .second ≡ placeFrom (getD ts 2 0) (getD ss 2 0) (getD es 2 0) → t .third ≡ placeFrom (getD ts 3 0) (getD ss 3 0) (getD es 3 0) → t .fourth ≡ placeFrom (getD ts 4 0) (getD ss 4 0) (getD es 4 0) → t .fifth ≡ placeFrom (getD ts 5 0) (getD ss 5 0) (getD es 5 0) → t ≡ madeFrom ss es ts
+pub all-made : (ss es ts : List ℕ) (t : Slots) → t .number ≡ numberFrom (getD ts 0 0) (getD ss 0 0)
+    → t .first ≡ placeFrom (getD ts 1 0) (getD ss 1 0) (getD es 1 0) → t .second ≡ placeFrom (getD ts 2 0) (getD ss 2 0) (getD es 2 0)
+    → t .third ≡ placeFrom (getD ts 3 0) (getD ss 3 0) (getD es 3 0) → t .fourth ≡ placeFrom (getD ts 4 0) (getD ss 4 0) (getD es 4 0)
+    → t .fifth ≡ placeFrom (getD ts 5 0) (getD ss 5 0) (getD es 5 0) → t ≡ madeFrom ss es ts
 unfolding madeFrom
 all-made ss es ts t h₀ h₁ h₂ h₃ h₄ h₅ = rw (sym h₀, sym h₁, sym h₂, sym h₃, sym h₄, sym h₅)

@@ -1,5 +1,5 @@
--- Whether a body is taken: it has at most 65,536 bytes (10), it is read to its end without a refusal (1 to 7), and it has at most 512
--- records (11). Every call that takes a body tests it so.
+-- Whether a body is taken: it has at most 65,536 bytes (10), it is read to its end without a refusal (1 to 7), and it
+-- has at most 512 records (11). Every call that takes a body tests it so.
 use Prim.Native.Nat.{ℕ}
 use mathlib.Core.List.{List}
 use mathlib.Core.Bool.{cond}

@@ -1,4 +1,5 @@
--- Where a body's answer comes from: it is too large; or counting refuses it; or it has too many records; or it is taken.
+-- Where a body's answer comes from: it is too large; or counting refuses it; or it has too many records; or it is
+-- taken.
 use Prim.Native.Nat.{ℕ, _≤_, _<_}
 use mathlib.Core.Path.{_≡_, refl, ap, _∙_}
 use mathlib.Core.List.{List}
@@ -19,12 +20,12 @@ pub data Gate (s : List ℕ) : Counted → Type 0 where
   large : 65536 < length s → Gate s (Refused (TooLarge (length s)))
   bad : length s ≤ 65536 → (why : WireError) → counted kind.Rpc s ≡ Refused why → Gate s (Refused why)
   many : length s ≤ 65536 → (n : ℕ) → counted kind.Rpc s ≡ Records n → 512 < n → Gate s (Refused (TooManyRecords n))
-  taken : length s ≤ 65536 → (n : ℕ) → counted kind.Rpc s ≡ Records n → n ≤ 512 → Gate s (Records n)
+  passes : length s ≤ 65536 → (n : ℕ) → counted kind.Rpc s ≡ Records n → n ≤ 512 → Gate s (Records n)
 
 of-counted : (s : List ℕ) (r : Counted) → length s ≤ 65536 → counted kind.Rpc s ≡ r → Gate s (few r)
 of-counted s (Refused why) h e = bad h why e
 of-counted s (Records n) h e =
-    either (ltb 512 n) (λ t. simp t (many h n e (ltb-true 512 n t))) (λ t. simp t (taken h n e (ltb-false 512 n t)))
+    either (ltb 512 n) (λ t. simp t (many h n e (ltb-true 512 n t))) (λ t. simp t (passes h n e (ltb-false 512 n t)))
 
 pub gate : (s : List ℕ) → Gate s (bodyRecords s)
 unfolding bodyRecords
@@ -33,11 +34,13 @@ gate s =
     (λ t. simp t (of-counted s (counted kind.Rpc s) (ltb-false 65536 (length s) t) refl))
 
 -- ---- and back
-pub records-taken : (s : List ℕ) (n : ℕ) → length s ≤ 65536 → counted kind.Rpc s ≡ Records n → n ≤ 512 → bodyRecords s ≡ Records n
+pub records-taken : (s : List ℕ) (n : ℕ) → length s ≤ 65536 → counted kind.Rpc s ≡ Records n → n ≤ 512
+    → bodyRecords s ≡ Records n
 unfolding bodyRecords
 records-taken s n h e l = simp (le-ltb 65536 (length s) h, e, le-ltb 512 n l)
 
-pub records-many : (s : List ℕ) (n : ℕ) → length s ≤ 65536 → counted kind.Rpc s ≡ Records n → 512 < n → bodyRecords s ≡ Refused (TooManyRecords n)
+pub records-many : (s : List ℕ) (n : ℕ) → length s ≤ 65536 → counted kind.Rpc s ≡ Records n → 512 < n
+    → bodyRecords s ≡ Refused (TooManyRecords n)
 unfolding bodyRecords
 records-many s n h e l = simp (le-ltb 65536 (length s) h, e, lt-ltb 512 n l)
 
@@ -56,7 +59,7 @@ of-gate : (s : List ℕ) (r : Counted) → Gate s r → checked r ≡ Fine → T
 of-gate s _ (large h) e = clash (cc)
 of-gate s _ (bad h why q) e = clash (cc)
 of-gate s _ (many h n q l) e = clash (cc)
-of-gate s _ (taken h n q l) e = record { records = n; counts = q; few = l; small = h }
+of-gate s _ (passes h n q l) e = record { records = n; counts = q; few = l; small = h }
 
 pub is-taken : (s : List ℕ) → acceptOf s ≡ Fine → Taken s
 unfolding acceptOf

@@ -1,4 +1,5 @@
--- How many records stand in a message, or the first refusal in reading order. Offsets are those of the message's own bytes.
+-- How many records stand in a message, or the first refusal in reading order. Offsets are those of the message's own
+-- bytes.
 use Prim.Native.Nat.{ℕ, _+_, _≤_}
 use mathlib.Core.List.{List}
 use mathlib.Core.Bool.{cond}
@@ -16,7 +17,7 @@ use Rattle.schema.specs.Schema.{roleOf, ownOf}
 use Rattle.schema.specs.Kinds.{overKinds}
 
 -- the field's value lies within the bytes
-pub record Within (s : List ℕ) (f : Field) : Type 0 where
+pub record FieldWithin (s : List ℕ) (f : Field) : Type 0 where
   pub order : f .start ≤ f .next
   pub fits : f .next ≤ length s
 
@@ -48,7 +49,8 @@ roleCount sub s f (Sub k form) = plus (ownOf k) (sub k (between s (f .start) (f 
 abbrev pub countAlong : (Kind → List ℕ → Counted) → Kind → List ℕ → Fields → Counted
 countAlong sub k s end = Records 0
 countAlong sub k s (refused why) = Refused why
-countAlong sub k s (f then w) = andThen (roleCount sub s f (roleOf k (f .field) (f .«wire_type»))) (countAlong sub k s w)
+countAlong sub k s (f then w) = andThen (roleCount sub s f (roleOf k (f .field) (f .«wire_type»)))
+    (countAlong sub k s w)
 
 abbrev pub countStep : (Kind → List ℕ → Counted) → Kind → List ℕ → Counted
 countStep sub k s = countAlong sub k s (fieldsOf s)

@@ -1,6 +1,5 @@
--- To be believed: Count, Accept.
--- Cited by contracts, and joined to these by theorems: Schema (the table; by Decoded of meaning), Slots (by Back of meaning), Kinds, Made.
--- On the way to them: SchemaLaws, CountLaws, AcceptLaws, SlotsLaws.
+-- To be believed: Count, Accept. Cited by contracts, and joined to these by theorems: Schema (the table; by Decoded of
+-- meaning), Slots (by Back of meaning), Kinds, Made. On the way to them: SchemaLaws, CountLaws, AcceptLaws, SlotsLaws.
 pub mod Schema
 pub mod Kinds
 pub mod Count

@@ -1,5 +1,5 @@
--- The gossipsub protobuf as a table: for each message the roles of its fields 1, 2, 3 and so on. A field is known by its number and its wire
--- type; a known field with another type, and an unknown field, are passed over.
+-- The gossipsub protobuf as a table: for each message the roles of its fields 1, 2, 3 and so on. A field is known by
+-- its number and its wire type; a known field with another type, and an unknown field, are passed over.
 use Prim.Native.Nat.{ℕ, _+_}
 use mathlib.Core.Bool.{Bool, true, false, cond}
 use mathlib.Core.List.{List, [], _∷_}

@@ -20,10 +20,12 @@ abbrev pub Rows : (ℕ → Role → Type 0) → ℕ → List Role → Type 0
 Rows P i [] = Unit {0}
 Rows P i (r ∷ rs) = P i r × Rows P (i + 1) rs
 
-pub each-row : (P : ℕ → Role → Type 0) → ((n : ℕ) → P n Skip) → (i : ℕ) (rs : List Role) → Rows P i rs → (n : ℕ) → P n (rowFrom i rs n)
+pub each-row : (P : ℕ → Role → Type 0) → ((n : ℕ) → P n Skip) → (i : ℕ) (rs : List Role) → Rows P i rs → (n : ℕ)
+    → P n (rowFrom i rs n)
 each-row P z i [] h n = z n
 each-row P z i (r ∷ rs) h n =
-    either (eqb n i) (λ t. simp t (subst (λ (m : ℕ). P m r) (sym (eqb-true n i t)) (h .0))) (λ t. simp t (each-row P z (i + 1) rs (h .1) n))
+    either (eqb n i) (λ t. simp t (subst (λ (m : ℕ). P m r) (sym (eqb-true n i t)) (h .0)))
+    (λ t. simp t (each-row P z (i + 1) rs (h .1) n))
 
 -- ---- a submessage's kind ranks lower
 abbrev Below : Kind → Role → Type 0
@@ -60,9 +62,11 @@ pub sub-rank : (k j : Kind) (form : Form) (n type : ℕ) → roleOf k n type ≡
 unfolding roleOf
 sub-rank k j form n type h =
     either (eqb type 2)
-    (λ a. either (isVarint (rowOf k n)) (λ b. clash (let e = simp (a, b) at h in cc)) (λ b. row-rank k j form n (simp (a, b) at h)))
+    (λ a. either (isVarint (rowOf k n)) (λ b. clash (let e = simp (a, b) at h in cc))
+    (λ b. row-rank k j form n (simp (a, b) at h)))
     (λ a. either (eqb type 0)
-    (λ b. either (isVarint (rowOf k n)) (λ c. row-rank k j form n (simp (a, b, c) at h)) (λ c. clash (let e = simp (a, b, c) at h in cc)))
+    (λ b. either (isVarint (rowOf k n)) (λ c. row-rank k j form n (simp (a, b, c) at h))
+    (λ c. clash (let e = simp (a, b, c) at h in cc)))
     (λ b. clash (let e = simp (a, b) at h in cc)))
 
 -- and so does the kind of entries that are written anew

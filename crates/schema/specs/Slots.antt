@@ -1,4 +1,5 @@
--- The singular fields of a message: the last wins. Places are counted from the start of the message's own bytes. And whether a field is there.
+-- The singular fields of a message: the last wins. Places are counted from the start of the message's own bytes. And
+-- whether a field is there.
 use Prim.Native.Nat.{ℕ}
 use mathlib.Core.List.{List}
 use mathlib.Core.Bool.{Bool, false, cond, _||_}
@@ -26,16 +27,63 @@ noSlots =
     }
 
 abbrev pub setNumber : Slots → ℕ → Slots
-setNumber t v = record { number = number.Present v; first = t .first; second = t .second; third = t .third; fourth = t .fourth; fifth = t .fifth }
+setNumber t v =
+    record {
+      number = number.Present v;
+      first = t .first;
+      second = t .second;
+      third = t .third;
+      fourth = t .fourth;
+      fifth = t .fifth;
+    }
 
 -- slot 1 to 5; no other is in the table
 unfoldable pub setPlace : Slots → ℕ → Place → Slots
 setPlace t slot p =
-    cond (eqb slot 1) (record { number = t .number; first = p; second = t .second; third = t .third; fourth = t .fourth; fifth = t .fifth })
-    (cond (eqb slot 2) (record { number = t .number; first = t .first; second = p; third = t .third; fourth = t .fourth; fifth = t .fifth })
-    (cond (eqb slot 3) (record { number = t .number; first = t .first; second = t .second; third = p; fourth = t .fourth; fifth = t .fifth })
-    (cond (eqb slot 4) (record { number = t .number; first = t .first; second = t .second; third = t .third; fourth = p; fifth = t .fifth })
-    (record { number = t .number; first = t .first; second = t .second; third = t .third; fourth = t .fourth; fifth = p }))))
+    cond (eqb slot 1)
+    (record {
+      number = t .number;
+      first = p;
+      second = t .second;
+      third = t .third;
+      fourth = t .fourth;
+      fifth = t .fifth;
+    })
+    (cond (eqb slot 2)
+    (record {
+      number = t .number;
+      first = t .first;
+      second = p;
+      third = t .third;
+      fourth = t .fourth;
+      fifth = t .fifth;
+    })
+    (cond (eqb slot 3)
+    (record {
+      number = t .number;
+      first = t .first;
+      second = t .second;
+      third = p;
+      fourth = t .fourth;
+      fifth = t .fifth;
+    })
+    (cond (eqb slot 4)
+    (record {
+      number = t .number;
+      first = t .first;
+      second = t .second;
+      third = t .third;
+      fourth = p;
+      fifth = t .fifth;
+    })
+    (record {
+      number = t .number;
+      first = t .first;
+      second = t .second;
+      third = t .third;
+      fourth = t .fourth;
+      fifth = p;
+    }))))
 
 abbrev pub placeOf : Field → Place
 placeOf f = place.Present (f .start) (f .next)

@@ -20,25 +20,31 @@ use Rattle.schema.specs.Schema.{roleOf}
 use Rattle.schema.specs.Slots.{noSlots, setPlace, placeOf, roleSlots, withField, slotsAlong, slotsOf}
 
 -- a place lies within the message
-abbrev pub Inside : List ℕ → Place → Type 0
-Inside s p = (a e : ℕ) → p ≡ place.Present a e → (a ≤ e) × (e ≤ length s)
+abbrev pub PlaceInside : List ℕ → Place → Type 0
+PlaceInside s p = (a e : ℕ) → p ≡ place.Present a e → (a ≤ e) × (e ≤ length s)
 
 -- each slot's place does
-pub record Good (s : List ℕ) (t : Slots) : Type 0 where
-  pub first : Inside s (t .first)
-  pub second : Inside s (t .second)
-  pub third : Inside s (t .third)
-  pub fourth : Inside s (t .fourth)
-  pub fifth : Inside s (t .fifth)
+pub record SlotsInside (s : List ℕ) (t : Slots) : Type 0 where
+  pub first : PlaceInside s (t .first)
+  pub second : PlaceInside s (t .second)
+  pub third : PlaceInside s (t .third)
+  pub fourth : PlaceInside s (t .fourth)
+  pub fifth : PlaceInside s (t .fifth)
 
-absent-inside : (s : List ℕ) → Inside s place.Absent
+absent-inside : (s : List ℕ) → PlaceInside s place.Absent
 absent-inside s a e h = clash (cc)
 
-none-good : (s : List ℕ) → Good s noSlots
+none-good : (s : List ℕ) → SlotsInside s noSlots
 none-good s =
-    record { first = absent-inside s; second = absent-inside s; third = absent-inside s; fourth = absent-inside s; fifth = absent-inside s }
+    record {
+      first = absent-inside s;
+      second = absent-inside s;
+      third = absent-inside s;
+      fourth = absent-inside s;
+      fifth = absent-inside s;
+    }
 
-set-good : (s : List ℕ) (t : Slots) (slot : ℕ) (p : Place) → Good s t → Inside s p → Good s (setPlace t slot p)
+set-good : (s : List ℕ) (t : Slots) (slot : ℕ) (p : Place) → SlotsInside s t → PlaceInside s p → SlotsInside s (setPlace t slot p)
 unfolding setPlace
 set-good s t slot p g h =
     either (eqb slot 1)
@@ -46,17 +52,23 @@ set-good s t slot p g h =
     (λ a. either (eqb slot 2)
     (λ b. simp (a, b) (record { first = g .first; second = h; third = g .third; fourth = g .fourth; fifth = g .fifth }))
     (λ b. either (eqb slot 3)
-    (λ c. simp (a, b, c) (record { first = g .first; second = g .second; third = h; fourth = g .fourth; fifth = g .fifth }))
+    (λ c. simp (a, b, c)
+    (record { first = g .first; second = g .second; third = h; fourth = g .fourth; fifth = g .fifth }))
     (λ c. either (eqb slot 4)
-    (λ d. simp (a, b, c, d) (record { first = g .first; second = g .second; third = g .third; fourth = h; fifth = g .fifth }))
-    (λ d. simp (a, b, c, d) (record { first = g .first; second = g .second; third = g .third; fourth = g .fourth; fifth = h })))))
+    (λ d. simp (a, b, c, d)
+    (record { first = g .first; second = g .second; third = g .third; fourth = h; fifth = g .fifth }))
+    (λ d. simp (a, b, c, d)
+    (record { first = g .first; second = g .second; third = g .third; fourth = g .fourth; fifth = h })))))
 
-field-inside : (s : List ℕ) (at : ℕ) (f : Field) → Stands s at f → Inside s (placeOf f)
-field-inside s at f st a e h = let p : f .start ≡ a = cc in let q : f .next ≡ e = cc in (omega (arith, st .ends), omega (arith, st .within))
+field-inside : (s : List ℕ) (at : ℕ) (f : Field) → Stands s at f → PlaceInside s (placeOf f)
+field-inside s at f st a e h = let p : f .start ≡ a = cc in let q : f .next ≡ e = cc in
+    (omega (arith, st .ends), omega (arith, st .within))
 
-role-good : (s : List ℕ) (at : ℕ) (f : Field) (t : Slots) (r : Role) → Stands s at f → Good s t → Good s (roleSlots t f r)
+role-good : (s : List ℕ) (at : ℕ) (f : Field) (t : Slots) (r : Role) → Stands s at f → SlotsInside s t
+    → SlotsInside s (roleSlots t f r)
 role-good s at f t Skip st g = g
-role-good s at f t (Number figure) st g = record { first = g .first; second = g .second; third = g .third; fourth = g .fourth; fifth = g .fifth }
+role-good s at f t (Number figure) st g =
+    record { first = g .first; second = g .second; third = g .third; fourth = g .fourth; fifth = g .fifth }
 role-good s at f t (Text slot) st g = set-good s t slot (placeOf f) g (field-inside s at f st)
 role-good s at f t (Bytes slot) st g = set-good s t slot (placeOf f) g (field-inside s at f st)
 role-good s at f t (Unsigned slot) st g = set-good s t slot (placeOf f) g (field-inside s at f st)
@@ -64,15 +76,15 @@ role-good s at f t Topic st g = g
 role-good s at f t MessageId st g = g
 role-good s at f t (Sub k form) st g = g
 
-good-along : (k : Kind) (s : List ℕ) (at : ℕ) (t : Slots) → Good s t → Good s (slotsAlong k t (walkAt s at))
+good-along : (k : Kind) (s : List ℕ) (at : ℕ) (t : Slots) → SlotsInside s t → SlotsInside s (slotsAlong k t (walkAt s at))
 unfolding withField
 good-along k s =
-    along s (λ (at : ℕ) (w : Fields). (t : Slots) → Good s t → Good s (slotsAlong k t w))
+    along s (λ (at : ℕ) (w : Fields). (t : Slots) → SlotsInside s t → SlotsInside s (slotsAlong k t w))
     (λ at t g. g)
     (λ at why r t g. g)
     (λ at f st e rest t g. rest _ (role-good s at f t (roleOf k (f .field) (f .«wire_type»)) st g))
 
 -- the places of a message's singular fields lie within the message
-pub slots-inside : (k : Kind) (s : List ℕ) → Good s (slotsOf k s)
+pub slots-inside : (k : Kind) (s : List ℕ) → SlotsInside s (slotsOf k s)
 unfolding slotsOf
 slots-inside k s = good-along k s 0 noSlots (none-good s)

@@ -5,7 +5,7 @@ ghost use mathlib.Core.Path.{_≡_};
 ghost use lib.ListN.{length};
 ghost use Rattle.schema.specs.Schema.{table, rowOf, isVarint, roleOf, formedAs, heldOf, ownOf};
 ghost use Rattle.schema.specs.Accept.{bodyRecords, acceptOf};
-ghost use Rattle.schema.specs.Count.{Within, counted, fieldCount, textCount};
+ghost use Rattle.schema.specs.Count.{FieldWithin, counted, fieldCount, textCount};
 ghost use Rattle.schema.specs.Slots.{setPlace, placeOf, withField, slotsOf, hasField};
 ghost use Rattle.schema.specs.Made.{placeFrom, numberFrom, madeFrom, indexOf, Sixes};
 use protobuf::Checked;
@@ -309,7 +309,7 @@ pub fn own(kind: Kind) -> usize
 
 // n records for a field of text, or refusal 7.
 fn count_text(input: &[u8], f: Field, n: usize) -> Counted
-    requires { ⌜ Within (now input) f ⌝ }
+    requires { ⌜ FieldWithin (now input) f ⌝ }
     ensures { λ r. ⌜ r ≡ textCount (now (input .entry)) f n ⌝ }
 {
     let start = f.start;
@@ -322,7 +322,7 @@ fn count_text(input: &[u8], f: Field, n: usize) -> Counted
 
 // How many records a field of a message has, or why the field is refused.
 fn count_field(input: &[u8], kind: Kind, f: Field) -> Counted
-    requires { ⌜ Within (now input) f ⌝ }
+    requires { ⌜ FieldWithin (now input) f ⌝ }
     ensures { λ r. ⌜ r ≡ fieldCount kind (now (input .entry)) f ⌝ }
 {
     let role = role_of(kind, f.field, f.wire_type);

@@ -1,5 +1,5 @@
--- What each call on the seen cache answers and leaves. Refusals come in the order of 01's table: 40, 41, 42, 33; a refused call leaves the cache
--- and the store as they were.
+-- What each call on the seen cache answers and leaves. Refusals come in the order of 01's table: 40, 41, 42, 33; a
+-- refused call leaves the cache and the store as they were.
 use Prim.Native.Nat.{ℕ, _+_, _-_, _*_, _/_, _%_}
 use mathlib.Core.List.{List, [], _∷_}
 use mathlib.Core.Bool.{Bool, cond, _&&_}
@@ -50,9 +50,11 @@ heldIn cap c st id = among id (idsIn idSize (ringOf cap c) (c .len) st)
 unfoldable pub cleaned : ℕ → ℕ → SeenCache → SeenCache
 cleaned cap at c = dropped cap (spent at (inUse (ringOf cap c) (c .expiry))) c
 
--- the oldest leave, so that with one more at most `max` remain; then a row for an id of n bytes. With max 0 all leave, and none comes.
+-- the oldest leave, so that with one more at most `max` remain; then a row for an id of n bytes. With max 0 all leave,
+-- and none comes.
 unfoldable pub entered : ℕ → ℕ → ℕ → ℕ → SeenCache → SeenCache
-entered cap max n e c = cond (eqb max 0) (dropped cap (c .count) c) (appended cap n e (dropped cap ((c .count + 1) - max) c))
+entered cap max n e c =
+    cond (eqb max 0) (dropped cap (c .count) c) (appended cap n e (dropped cap ((c .count + 1) - max) c))
 
 -- the bytes of the id are written where that row is, and no others
 unfoldable pub enteredStore : ℕ → ℕ → SeenCache → List ℕ → List ℕ → List ℕ
@@ -69,7 +71,8 @@ insertOn lent.Malformed r = insert.Malformed
 unfoldable pub insertAnswer : ℕ → SeenCache → List ℕ → List ℕ → Insert
 insertAnswer max c st id =
     cond (ltb (capOf st) max) insert.BadSetting
-    (insertOn (lentOf c st) (cond (ltb idSize (length id)) (insert.TooLong (length id)) (cond (heldIn (capOf st) c st id) insert.Held insert.Fresh)))
+    (insertOn (lentOf c st) (cond (ltb idSize (length id)) (insert.TooLong (length id))
+    (cond (heldIn (capOf st) c st id) insert.Held insert.Fresh)))
 
 -- only a fresh id changes anything
 abbrev pub whenFresh : {A : Type 0} → Insert → A → A → A
@@ -81,7 +84,8 @@ whenFresh insert.Malformed new old = old
 whenFresh (insert.TooLong n) new old = old
 
 unfoldable pub insertCache : ℕ → ℕ → ℕ → SeenCache → List ℕ → List ℕ → SeenCache
-insertCache max at ttl c st id = whenFresh (insertAnswer max c st id) (entered (capOf st) max (length id) (until at ttl) c) c
+insertCache max at ttl c st id =
+    whenFresh (insertAnswer max c st id) (entered (capOf st) max (length id) (until at ttl) c) c
 
 unfoldable pub insertStore : ℕ → SeenCache → List ℕ → List ℕ → List ℕ
 insertStore max c st id = whenFresh (insertAnswer max c st id) (enteredStore (capOf st) max c st id) st
@@ -94,7 +98,8 @@ containsOn lent.Malformed r = contains.Malformed
 
 unfoldable pub containsAnswer : SeenCache → List ℕ → List ℕ → Contains
 containsAnswer c st id =
-    containsOn (lentOf c st) (cond (ltb idSize (length id)) (contains.TooLong (length id)) (cond (heldIn (capOf st) c st id) contains.Yes contains.No))
+    containsOn (lentOf c st) (cond (ltb idSize (length id)) (contains.TooLong (length id))
+    (cond (heldIn (capOf st) c st id) contains.Yes contains.No))
 
 -- ---- clean-up: 41, 42
 abbrev pub whenFine : {A : Type 0} → Lent → A → A → A
@@ -120,4 +125,6 @@ nextOn lent.BadStore r = next.BadStore
 nextOn lent.Malformed r = next.Malformed
 
 unfoldable pub nextAnswer : SeenCache → List ℕ → NextExpiry
-nextAnswer c st = nextOn (lentOf c st) (cond (eqb (c .count) 0) next.None (next.At (getD (c .expiry) (placeOf (ringOf (capOf st) c) 0) 0)))
+nextAnswer c st =
+    nextOn (lentOf c st)
+    (cond (eqb (c .count) 0) next.None (next.At (getD (c .expiry) (placeOf (ringOf (capOf st) c) 0) 0)))

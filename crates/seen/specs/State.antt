@@ -1,5 +1,5 @@
--- What a cache and its store hold. A store has `cap` places of 129 bytes. The row in place p is the id in the first `len[p]` bytes of that place,
--- with `expiry[p]`.
+-- What a cache and its store hold. A store has `cap` places of 129 bytes. The row in place p is the id in the first
+-- `len[p]` bytes of that place, with `expiry[p]`.
 use Prim.Native.Nat.{ℕ, suc, _+_, _-_}
 use mathlib.Core.List.{List, [], _∷_}
 use mathlib.Core.Bool.{Bool, cond, _&&_}
@@ -33,7 +33,9 @@ entriesIn cap c st = rowsIn (rowAt c st) (ringOf cap c)
 -- ---- well formed, as 01 has it for a seen cache alone: counts and lengths within limits, no id twice
 unfoldable pub wellFormed : ℕ → SeenCache → List ℕ → Bool
 wellFormed cap c st =
-    leb (c .start) cap && (leb (c .count) cap && (allUpTo idSize (inUse (ringOf cap c) (c .len)) && distinct (idsIn idSize (ringOf cap c) (c .len) st)))
+    leb (c .start) cap
+    && (leb (c .count) cap
+    && (allUpTo idSize (inUse (ringOf cap c) (c .len)) && distinct (idsIn idSize (ringOf cap c) (c .len) st)))
 
 -- ---- how many of the oldest have expired
 unfoldable pub spent : ℕ → List ℕ → ℕ

@@ -17,9 +17,11 @@ use Rattle.seen.specs.declared.SeenCache.{SeenCache}
 use Rattle.seen.specs.State.{spent, dropped, idSize, ringOf}
 
 -- ---- the expiries
-module _ (expiry : List ℕ) (ring : Ring) (at i : ℕ) (inv : spent at (inUse ring expiry) ≡ i + spent at (drop i (inUse ring expiry))) where
+module _ (expiry : List ℕ) (ring : Ring) (at i : ℕ)
+    (inv : spent at (inUse ring expiry) ≡ i + spent at (drop i (inUse ring expiry))) where
   spent-from : (p : ℕ) → i < ring .count → p ≡ placeOf ring i
-      → spent at (inUse ring expiry) ≡ i + cond (leb (getD expiry p 0) at) (suc (spent at (drop (i + 1) (inUse ring expiry)))) 0
+      → spent at (inUse ring expiry) ≡ i + cond (leb (getD expiry p 0) at)
+      (suc (spent at (drop (i + 1) (inUse ring expiry)))) 0
   unfolding inUse spent
   spent-from p h e = rw e (rw (ring-from (λ (q : ℕ). getD expiry q 0) ring i h) at inv)
 
@@ -29,7 +31,8 @@ module _ (expiry : List ℕ) (ring : Ring) (at i : ℕ) (inv : spent at (inUse r
       let s = simp (le-leb (getD expiry p 0) at k) at (spent-from p h e) in
       omega arith
 
-  pub spent-stop : (p : ℕ) → i < ring .count → p ≡ placeOf ring i → at < getD expiry p 0 → i ≡ spent at (inUse ring expiry)
+  pub spent-stop : (p : ℕ) → i < ring .count → p ≡ placeOf ring i → at < getD expiry p 0
+      → i ≡ spent at (inUse ring expiry)
   spent-stop p h e k =
       let s = simp (lt-leb (getD expiry p 0) at k) at (spent-from p h e) in
       omega arith
@@ -47,7 +50,8 @@ spent-le at (e ∷ l) = let h = spent-le at l in either (leb e at) (λ t. simp t
 
 pub spent-in : (at : ℕ) (ring : Ring) (expiry : List ℕ) → spent at (inUse ring expiry) ≤ ring .count
 unfolding inUse
-spent-in at ring expiry = let l = length-ring (λ (q : ℕ). getD expiry q 0) ring in omega (arith, spent-le at (rowsIn (λ (q : ℕ). getD expiry q 0) ring))
+spent-in at ring expiry = let l = length-ring (λ (q : ℕ). getD expiry q 0) ring in
+    omega (arith, spent-le at (rowsIn (λ (q : ℕ). getD expiry q 0) ring))
 
 -- ---- without the k oldest
 pub sound-dropped : (cap k : ℕ) (c : SeenCache) (st : List ℕ) → Sound idSize (ringOf cap c) (c .len) st → k ≤ c .count

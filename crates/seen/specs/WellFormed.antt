@@ -1,4 +1,5 @@
--- A well formed seen cache, as 01 has it: each clause by name. `well-formed-exactly` of Laws says that this is what the test asks.
+-- A well formed seen cache, as 01 has it: each clause by name. `well-formed-exactly` of Laws says that this is what the
+-- test asks.
 use Prim.Native.Nat.{ℕ, _*_, _≤_, _<_}
 use mathlib.Core.Path.{_≡_}
 use mathlib.Core.Bool.{true}
@@ -23,10 +24,13 @@ pub record WellFormed (c : SeenCache) (st : List ℕ) : Type 0 where
   -- the i-th row from the oldest stands in place `placeOf (ringOf (capOf st) c) i`
   pub short : (i : ℕ) → i < c .count → getD (c .len) (placeOf (ringOf (capOf st) c) i) 0 ≤ idSize
   -- no id twice
-  pub once : (i j : ℕ) → i < j → j < c .count → idAt idSize (c .len) st (placeOf (ringOf (capOf st) c) i) ≡ idAt idSize (c .len) st (placeOf (ringOf (capOf st) c) j) → ⊥
+  pub once : (i j : ℕ) → i < j → j < c .count → idAt idSize (c .len) st (placeOf (ringOf (capOf st) c) i) ≡ idAt idSize
+      (c .len) st (placeOf (ringOf (capOf st) c) j) → ⊥
 
--- the states that the calls reach: a new cache with a store of whole rows; then inserts of anything, the refused ones too, and clean-ups
+-- the states that the calls reach: a new cache with a store of whole rows; then inserts of anything, the refused ones
+-- too, and clean-ups
 pub data Reached : SeenCache → List ℕ → Type 0 where
   begun : (st : List ℕ) → wholeRows st ≡ true → Reached fresh st
-  recorded : {c : SeenCache} {st : List ℕ} → Reached c st → (max at ttl : ℕ) (id : List ℕ) → Reached (insertCache max at ttl c st id) (insertStore max c st id)
+  recorded : {c : SeenCache} {st : List ℕ} → Reached c st → (max at ttl : ℕ) (id : List ℕ)
+      → Reached (insertCache max at ttl c st id) (insertStore max c st id)
   swept : {c : SeenCache} {st : List ℕ} → Reached c st → (at : ℕ) → Reached (gcCache at c st) st

@@ -35,7 +35,24 @@ seen-read s expiry len l start count h a b c i d =
     let e : len ≡ between s 2768 3024 = part-copied s len l 2768 3024 (omega arith) (omega arith) i d in
     rw (a, b, c, e)
 
-pub cache-read : (s generation len window lens ids l₁ l₂ l₃ : List ℕ) (history most next start count : ℕ) → length s ≡ 11344 → history ≡ wordAt s 40 → most ≡ wordAt s 48 → next ≡ wordAt s 56 → start ≡ wordAt s 64 → count ≡ wordAt s 72 → generation ≡ gathered 8 64 (drop 2128 s) → len ≡ gathered 2 64 (drop 2640 s) → length l₁ ≡ 64 → window ≡ setIn (length (between s 3024 3088)) 0 (between s 3024 3088) l₁ → length l₂ ≡ 64 → lens ≡ setIn (length (between s 3088 3152)) 0 (between s 3088 3152) l₂ → length l₃ ≡ 8192 → ids ≡ setIn (length (between s 3152 11344)) 0 (between s 3152 11344) l₃ → _≡_ {A = MessageCache} (record { «history_len» = history; «max_messages» = most; «next_generation» = next; start = start; count = count; generation = generation; window = window; len = len; «id_len» = lens; ids = ids }) (nodeIn s .cache)
+pub cache-read : (s generation len window lens ids l₁ l₂ l₃ : List ℕ) (history most next start count : ℕ) → length s ≡ 11344 → history ≡ wordAt s 40
+    → most ≡ wordAt s 48 → next ≡ wordAt s 56 → start ≡ wordAt s 64 → count ≡ wordAt s 72 → generation ≡ gathered 8 64 (drop 2128 s)
+    → len ≡ gathered 2 64 (drop 2640 s) → length l₁ ≡ 64 → window ≡ setIn (length (between s 3024 3088)) 0 (between s 3024 3088) l₁ → length l₂ ≡ 64
+    → lens ≡ setIn (length (between s 3088 3152)) 0 (between s 3088 3152) l₂ → length l₃ ≡ 8192
+    → ids ≡ setIn (length (between s 3152 11344)) 0 (between s 3152 11344) l₃
+    → _≡_ {A = MessageCache}
+    (record {
+      «history_len» = history;
+      «max_messages» = most;
+      «next_generation» = next;
+      start = start;
+      count = count;
+      generation = generation;
+      window = window;
+      len = len;
+      «id_len» = lens;
+      ids = ids;
+    }) (nodeIn s .cache)
 unfolding nodeIn
 cache-read s generation len window lens ids l₁ l₂ l₃ history most next start count h a b c d e f g i₁ p₁ i₂ p₂ i₃ p₃ =
     let x : window ≡ between s 3024 3088 = part-copied s window l₁ 3024 3088 (omega arith) (omega arith) i₁ p₁ in
@@ -71,7 +88,12 @@ _then_ {l} {mid} {after} {xs} {ys} {k} {i} {e} p q =
     let w = put-append l mid after k i e xs ys (p .ends, p .now) (q .ends, q .now) in
     record { ends = w .0; now = w .1 }
 
-pub node-written : (n : Node) (o₀ o₁ o₂ o₃ o₄ o₅ o₆ o₇ o₈ : List ℕ) → length o₀ ≡ 11344 → length (n .seen .expiry) ≡ 256 → length (n .cache .generation) ≡ 64 → length (n .cache .len) ≡ 64 → length (n .seen .len) ≡ 256 → length (n .cache .window) ≡ 64 → length (n .cache .«id_len») ≡ 64 → length (n .cache .ids) ≡ 8192 → o₁ ≡ sets o₀ 0 (spread 8 (headOf n)) → o₂ ≡ sets o₁ 80 (spread 8 (n .seen .expiry)) → o₃ ≡ sets o₂ 2128 (spread 8 (n .cache .generation)) → o₄ ≡ sets o₃ 2640 (spread 2 (n .cache .len)) → o₅ ≡ setIn (length (n .seen .len)) 2768 (n .seen .len) o₄ → o₆ ≡ setIn (length (n .cache .window)) 3024 (n .cache .window) o₅ → o₇ ≡ setIn (length (n .cache .«id_len»)) 3088 (n .cache .«id_len») o₆ → o₈ ≡ setIn (length (n .cache .ids)) 3152 (n .cache .ids) o₇ → o₈ ≡ nodeBytes n
+pub node-written : (n : Node) (o₀ o₁ o₂ o₃ o₄ o₅ o₆ o₇ o₈ : List ℕ) → length o₀ ≡ 11344 → length (n .seen .expiry) ≡ 256 → length (n .cache .generation) ≡ 64
+    → length (n .cache .len) ≡ 64 → length (n .seen .len) ≡ 256 → length (n .cache .window) ≡ 64 → length (n .cache .«id_len») ≡ 64
+    → length (n .cache .ids) ≡ 8192 → o₁ ≡ sets o₀ 0 (spread 8 (headOf n)) → o₂ ≡ sets o₁ 80 (spread 8 (n .seen .expiry))
+    → o₃ ≡ sets o₂ 2128 (spread 8 (n .cache .generation)) → o₄ ≡ sets o₃ 2640 (spread 2 (n .cache .len))
+    → o₅ ≡ setIn (length (n .seen .len)) 2768 (n .seen .len) o₄ → o₆ ≡ setIn (length (n .cache .window)) 3024 (n .cache .window) o₅
+    → o₇ ≡ setIn (length (n .cache .«id_len»)) 3088 (n .cache .«id_len») o₆ → o₈ ≡ setIn (length (n .cache .ids)) 3152 (n .cache .ids) o₇ → o₈ ≡ nodeBytes n
 unfolding nodeBytes headOf
 node-written n o₀ o₁ o₂ o₃ o₄ o₅ o₆ o₇ o₈ h i₂ i₃ i₄ i₅ i₆ i₇ i₈ e₁ e₂ e₃ e₄ e₅ e₆ e₇ e₈ =
     let p₁ = numbers 8 o₀ o₁ (headOf n) 0 80 (omega arith) e₁ in

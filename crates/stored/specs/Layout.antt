@@ -1,4 +1,5 @@
--- A node as bytes that a host keeps between two calls: its fields one after the other, each number with its lowest byte first.
+-- A node as bytes that a host keeps between two calls: its fields one after the other, each number with its lowest byte
+-- first.
 use Prim.Native.Nat.{ℕ, zero, suc, _^_, _<_}
 use mathlib.Core.Path.{_≡_}
 use mathlib.Core.List.{List, [], _∷_, _++_}
@@ -20,11 +21,13 @@ unfoldable pub gathered : ℕ → ℕ → List ℕ → List ℕ
 gathered w zero s = []
 gathered w (suc n) s = little (take w s) ∷ gathered w n (drop w s)
 
--- ---- the layout: ten numbers of 8 bytes; the expiries and the arrival numbers, of 8 bytes each; the lengths of the messages, of 2 bytes each; then
+-- ---- the layout: ten numbers of 8 bytes; the expiries and the arrival numbers, of 8 bytes each; the lengths of the
+-- messages, of 2 bytes each; then
 -- bytes: the lengths of the ids seen, the windows, the lengths of the ids cached, and these ids
 unfoldable pub headOf : Node → List ℕ
 headOf n =
-    n .ttl ∷ n .«max_seen» ∷ n .clock ∷ n .seen .start ∷ n .seen .count ∷ n .cache .«history_len» ∷ n .cache .«max_messages» ∷ n .cache .«next_generation»
+    n .ttl ∷ n .«max_seen» ∷ n .clock ∷ n .seen .start ∷ n .seen .count ∷ n .cache .«history_len»
+    ∷ n .cache .«max_messages» ∷ n .cache .«next_generation»
     ∷ n .cache .start ∷ n .cache .count ∷ []
 
 unfoldable pub nodeBytes : Node → List ℕ
@@ -48,7 +51,12 @@ nodeIn s =
       ttl = wordAt s 0;
       «max_seen» = wordAt s 8;
       clock = wordAt s 16;
-      seen = record { start = wordAt s 24; count = wordAt s 32; expiry = gathered 8 256 (drop 80 s); len = between s 2768 3024 };
+      seen = record {
+        start = wordAt s 24;
+        count = wordAt s 32;
+        expiry = gathered 8 256 (drop 80 s);
+        len = between s 2768 3024;
+      };
       cache =
           record {
             «history_len» = wordAt s 40;

@@ -20,11 +20,19 @@ spread-length w [] = sym (mul-zero w)
 spread-length w (v ∷ vs) = rw (length-append, bytes-length, spread-length w vs, mul-suc w (length vs)) (omega arith)
 
 -- ---- several numbers and their bytes
-pub gathered-spread : (w : ℕ) (vs rest : List ℕ) → ((i : ℕ) → getD vs i 0 < 256 ^ w) → gathered w (length vs) (spread w vs ++ rest) ≡ vs
+pub gathered-spread : (w : ℕ) (vs rest : List ℕ) → ((i : ℕ) → getD vs i 0 < 256 ^ w)
+    → gathered w (length vs) (spread w vs ++ rest) ≡ vs
 unfolding gathered spread
 gathered-spread w [] rest h = refl
 gathered-spread w (v ∷ vs) rest h =
-    rw (append-assoc (bytesOf w v) (spread w vs) rest, take-at (bytesOf w v) (spread w vs ++ rest) w (bytes-length w v), drop-at (bytesOf w v) (spread w vs ++ rest) w (bytes-length w v), little-of-bytes w v (h 0), gathered-spread w vs rest (λ i. h (suc i)))
+    rw (
+      append-assoc (bytesOf w v) (spread w vs) rest,
+      take-at (bytesOf w v) (spread w vs ++ rest) w (bytes-length w v),
+      drop-at (bytesOf w v) (spread w vs ++ rest) w (bytes-length w v),
+      little-of-bytes w v (h 0),
+      gathered-spread w
+          vs rest (λ i. h (suc i)),
+    )
 
 pub spread-gathered : (w n : ℕ) (s : List ℕ) → n * w ≤ length s → Bytes s → spread w (gathered w n s) ≡ take (n * w) s
 unfolding gathered spread
@@ -48,25 +56,60 @@ gathered-at w (suc n) (suc i) s h =
 -- ---- the node: how many bytes
 pub node-bytes-length : (n : Node) → Fits n → length (nodeBytes n) ≡ 11344
 unfolding nodeBytes headOf
-node-bytes-length n f = simp (length-append, spread-length) (omega (arith, f .expiries, f .id-lengths, f .generations, f .windows, f .lengths, f .cached-id-lengths, f .cached-ids))
+node-bytes-length n f =
+    simp (length-append, spread-length)
+    (omega (
+      arith,
+      f .expiries,
+      f .id-lengths,
+      f .generations,
+      f .windows,
+      f .lengths,
+      f .cached-id-lengths,
+      f .cached-ids,
+    ))
 
 -- ---- the bytes of a node are that node
 -- where a part p of m elements ends, the rest begins
 next : (k m : ℕ) (s p r : List ℕ) → drop k s ≡ p ++ r → length p ≡ m → drop (k + m) s ≡ r
 next k m s p r e l = sym (drop-drop m k s) ∙ ap (drop m) e ∙ drop-at p r m l
 
-numbers-found : (w k m : ℕ) (s vs r : List ℕ) → drop k s ≡ spread w vs ++ r → length vs ≡ m → ((i : ℕ) → getD vs i 0 < 256 ^ w) → gathered w m (drop k s) ≡ vs
+numbers-found : (w k m : ℕ) (s vs r : List ℕ) → drop k s ≡ spread w vs ++ r → length vs ≡ m
+    → ((i : ℕ) → getD vs i 0 < 256 ^ w) → gathered w m (drop k s) ≡ vs
 numbers-found w k m s vs r e l b = rw (e, ← l) (gathered-spread w vs r b)
 
 bytes-found : (k m : ℕ) (s xs r : List ℕ) → drop k s ≡ xs ++ r → length xs ≡ m → take m (drop k s) ≡ xs
 bytes-found k m s xs r e l = rw e (take-at xs r m l)
 
 -- a node by its fields
-by-fields : (n : Node) (s : List ℕ) → gathered 8 10 s ≡ headOf n → gathered 8 256 (drop 80 s) ≡ n .seen .expiry → gathered 8 64 (drop 2128 s) ≡ n .cache .generation → gathered 2 64 (drop 2640 s) ≡ n .cache .len → between s 2768 3024 ≡ n .seen .len → between s 3024 3088 ≡ n .cache .window → between s 3088 3152 ≡ n .cache .«id_len» → between s 3152 11344 ≡ n .cache .ids → nodeIn s ≡ n
+by-fields : (n : Node) (s : List ℕ) → gathered 8 10 s ≡ headOf n → gathered 8 256 (drop 80 s) ≡ n .seen .expiry
+    → gathered 8 64 (drop 2128 s) ≡ n .cache .generation → gathered 2 64 (drop 2640 s) ≡ n .cache .len
+    → between s 2768 3024 ≡ n .seen .len → between s 3024 3088 ≡ n .cache .window
+    → between s 3088 3152 ≡ n .cache .«id_len» → between s 3152 11344 ≡ n .cache .ids → nodeIn s ≡ n
 unfolding nodeIn headOf
 by-fields n s h e₁ e₂ e₃ e₄ e₅ e₆ e₇ =
-    let head : (i : ℕ) → i < 10 → little (take 8 (drop (i * 8) s)) ≡ getD (headOf n) i 0 = λ i l. sym (gathered-at 8 10 i s l) ∙ ap (λ (vs : List ℕ). getD vs i 0) h in
-    rw (head 0 (omega arith), head 1 (omega arith), head 2 (omega arith), head 3 (omega arith), head 4 (omega arith), head 5 (omega arith), head 6 (omega arith), head 7 (omega arith), head 8 (omega arith), head 9 (omega arith), e₁, e₂, e₃, e₄, e₅, e₆, e₇)
+    let head : (i : ℕ) → i < 10 → little (take 8 (drop (i * 8) s)) ≡ getD (headOf n) i 0 =
+    λ i l. sym (gathered-at 8 10 i s l) ∙ ap (λ (vs : List ℕ). getD vs i 0) h in
+    rw (
+      head 0 (omega arith),
+      head 1 (omega arith),
+      head 2 (omega arith),
+      head 3 (omega arith),
+      head 4 (omega arith),
+      head 5 (omega arith),
+      head 6 (omega arith),
+      head 7 (omega arith),
+      head 8 (omega arith),
+      head 9
+          (omega arith),
+      e₁,
+      e₂,
+      e₃,
+      e₄,
+      e₅,
+      e₆,
+      e₇,
+    )
 
 pub stored-loaded : (n : Node) → Fits n → nodeIn (nodeBytes n) ≡ n
 unfolding nodeBytes headOf
@@ -80,11 +123,13 @@ stored-loaded n f =
     let r₁ = spread 8 (n .seen .expiry) ++ r₂ in
     let d₁ : drop 80 s ≡ r₁ = next 0 80 s (spread 8 (headOf n)) r₁ refl (spread-length 8 (headOf n)) in
     let d₂ : drop 2128 s ≡ r₂ = next 80 2048 s (spread 8 (n .seen .expiry)) r₂ d₁ (rw (spread-length, f .expiries)) in
-    let d₃ : drop 2640 s ≡ r₃ = next 2128 512 s (spread 8 (n .cache .generation)) r₃ d₂ (rw (spread-length, f .generations)) in
+    let d₃ : drop 2640 s ≡ r₃ =
+    next 2128 512 s (spread 8 (n .cache .generation)) r₃ d₂ (rw (spread-length, f .generations)) in
     let d₄ : drop 2768 s ≡ r₄ = next 2640 128 s (spread 2 (n .cache .len)) r₄ d₃ (rw (spread-length, f .lengths)) in
     let d₅ : drop 3024 s ≡ r₅ = next 2768 256 s (n .seen .len) r₅ d₄ (f .id-lengths) in
     let d₆ : drop 3088 s ≡ r₆ = next 3024 64 s (n .cache .window) r₆ d₅ (f .windows) in
-    let d₇ : drop 3152 s ≡ n .cache .ids = next 3088 64 s (n .cache .«id_len») (n .cache .ids) d₆ (f .cached-id-lengths) in
+    let d₇ : drop 3152 s ≡ n .cache .ids =
+    next 3088 64 s (n .cache .«id_len») (n .cache .ids) d₆ (f .cached-id-lengths) in
     by-fields n s
     (numbers-found 8 0 10 s (headOf n) r₁ refl refl (f .head))
     (numbers-found 8 80 256 s (n .seen .expiry) r₂ d₁ (f .expiries) (f .expiry))
@@ -101,13 +146,33 @@ rejoined : (m k : ℕ) (s : List ℕ) → take m (drop k s) ++ drop (k + m) s �
 rejoined m k s = rw (← drop-drop m k s) (take-append-drop m (drop k s))
 
 -- the parts by their sizes
-whole : (s p₀ p₁ p₂ p₃ p₄ p₅ p₆ p₇ : List ℕ) → length s ≡ 11344 → p₀ ≡ take 80 s → p₁ ≡ take 2048 (drop 80 s) → p₂ ≡ take 512 (drop 2128 s) → p₃ ≡ take 128 (drop 2640 s) → p₄ ≡ take 256 (drop 2768 s) → p₅ ≡ take 64 (drop 3024 s) → p₆ ≡ take 64 (drop 3088 s) → p₇ ≡ take 8192 (drop 3152 s) → p₀ ++ (p₁ ++ (p₂ ++ (p₃ ++ (p₄ ++ (p₅ ++ (p₆ ++ p₇)))))) ≡ s
+whole : (s p₀ p₁ p₂ p₃ p₄ p₅ p₆ p₇ : List ℕ) → length s ≡ 11344 → p₀ ≡ take 80 s → p₁ ≡ take 2048 (drop 80 s)
+    → p₂ ≡ take 512 (drop 2128 s) → p₃ ≡ take 128 (drop 2640 s) → p₄ ≡ take 256 (drop 2768 s)
+    → p₅ ≡ take 64 (drop 3024 s) → p₆ ≡ take 64 (drop 3088 s) → p₇ ≡ take 8192 (drop 3152 s)
+    → p₀ ++ (p₁ ++ (p₂ ++ (p₃ ++ (p₄ ++ (p₅ ++ (p₆ ++ p₇)))))) ≡ s
 whole s p₀ p₁ p₂ p₃ p₄ p₅ p₆ p₇ l e₀ e₁ e₂ e₃ e₄ e₅ e₆ e₇ =
     let k : length (drop 3152 s) ≤ 8192 = rw (length-drop 3152 s) (omega arith) in
-    rw (e₀, e₁, e₂, e₃, e₄, e₅, e₆, e₇, take-all 8192 (drop 3152 s) k, rejoined 64 3088 s, rejoined 64 3024 s, rejoined 256 2768 s, rejoined 128 2640 s, rejoined 512 2128 s, rejoined 2048 80 s) (take-append-drop 80 s)
+    rw (
+      e₀,
+      e₁,
+      e₂,
+      e₃,
+      e₄,
+      e₅,
+      e₆,
+      e₇,
+      take-all 8192 (drop 3152 s) k,
+      rejoined 64 3088 s,
+      rejoined 64 3024 s,
+      rejoined 256 2768 s,
+      rejoined 128 2640 s,
+      rejoined 512 2128 s,
+      rejoined 2048 80 s,
+    ) (take-append-drop 80 s)
 
 -- the head's numbers are the first ten
-gathered-cons : (w n k : ℕ) (s : List ℕ) → gathered w (suc n) (drop k s) ≡ little (take w (drop k s)) ∷ gathered w n (drop (k + w) s)
+gathered-cons : (w n k : ℕ) (s : List ℕ) → gathered w (suc n) (drop k s) ≡ little (take w (drop k s)) ∷ gathered w n
+    (drop (k + w) s)
 unfolding gathered
 gathered-cons w n k s = rw (drop-drop w k s)
 
@@ -118,10 +183,24 @@ gathered-none w s = refl
 head-gathered : (s : List ℕ) → headOf (nodeIn s) ≡ gathered 8 10 s
 unfolding headOf nodeIn
 head-gathered s =
-    rw (gathered-cons 8 9 0 s, gathered-cons 8 8 8 s, gathered-cons 8 7 16 s, gathered-cons 8 6 24 s, gathered-cons 8 5 32 s, gathered-cons 8 4 40 s, gathered-cons 8 3 48 s, gathered-cons 8 2 56 s, gathered-cons 8 1 64 s, gathered-cons 8 0 72 s, gathered-none 8 (drop 80 s))
+    rw (
+      gathered-cons 8 9 0 s,
+      gathered-cons 8 8 8 s,
+      gathered-cons 8 7 16 s,
+      gathered-cons 8 6 24 s,
+      gathered-cons 8 5 32 s,
+      gathered-cons 8 4 40 s,
+      gathered-cons 8 3 48 s,
+      gathered-cons 8 2 56 s,
+      gathered-cons 8
+          1 64 s,
+      gathered-cons 8 0 72 s,
+      gathered-none 8 (drop 80 s),
+    )
 
 -- numbers that stand in s
-numbers-again : (w n k : ℕ) (s : List ℕ) → k + n * w ≤ length s → Bytes s → spread w (gathered w n (drop k s)) ≡ take (n * w) (drop k s)
+numbers-again : (w n k : ℕ) (s : List ℕ) → k + n * w ≤ length s → Bytes s
+    → spread w (gathered w n (drop k s)) ≡ take (n * w) (drop k s)
 numbers-again w n k s h b =
     let l : n * w ≤ length (drop k s) = rw (length-drop k s) (omega arith) in
     spread-gathered w n (drop k s) l (drop-bytes k s b)
@@ -130,7 +209,9 @@ pub loaded-stored : (s : List ℕ) → length s ≡ 11344 → Bytes s → nodeBy
 unfolding nodeBytes nodeIn
 loaded-stored s l b =
     let h : spread 8 (headOf (nodeIn s)) ≡ take 80 s = rw (head-gathered s) (numbers-again 8 10 0 s (omega arith) b) in
-    whole s (spread 8 (headOf (nodeIn s))) (spread 8 (gathered 8 256 (drop 80 s))) (spread 8 (gathered 8 64 (drop 2128 s))) (spread 2 (gathered 2 64 (drop 2640 s))) (between s 2768 3024) (between s 3024 3088) (between s 3088 3152) (between s 3152 11344) l h
+    whole s (spread 8 (headOf (nodeIn s))) (spread 8 (gathered 8 256 (drop 80 s)))
+    (spread 8 (gathered 8 64 (drop 2128 s))) (spread 2 (gathered 2 64 (drop 2640 s))) (between s 2768 3024)
+    (between s 3024 3088) (between s 3088 3152) (between s 3152 11344) l h
     (numbers-again 8 256 80 s (omega arith) b)
     (numbers-again 8 64 2128 s (omega arith) b)
     (numbers-again 2 64 2640 s (omega arith) b)

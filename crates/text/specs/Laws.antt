@@ -24,11 +24,18 @@ pub puts-none : (b : List ℕ) (at : ℕ) → Puts 0 [] b at b at
 puts-none b at = record { bytes = refl; place = omega arith; small = omega arith }
 
 -- what a public writer did, where it had the room
-pub puts-in : {room at end : ℕ} {xs b a : List ℕ} → at + room ≤ length b → length xs ≤ room → (end ≡ endIn room at xs b) × (a ≡ setIn room at xs b) → Puts room xs b at a end
-puts-in {room} {at} {end} {xs} {b} {a} h l e = record { bytes = e .1 ∙ set-fits room at xs b h; place = e .0 ∙ end-fits room at xs b h; small = omega (arith, e .0 ∙ end-fits room at xs b h) }
+pub puts-in : {room at end : ℕ} {xs b a : List ℕ} → at + room ≤ length b → length xs ≤ room → (end ≡ endIn room at xs b)
+    × (a ≡ setIn room at xs b) → Puts room xs b at a end
+puts-in {room} {at} {end} {xs} {b} {a} h l e =
+    record {
+      bytes = e .1 ∙ set-fits room at xs b h;
+      place = e .0 ∙ end-fits room at xs b h;
+      small = omega (arith, e .0 ∙ end-fits room at xs b h);
+    }
 
 -- one text after another is one text
-pub puts-then : {p q : ℕ} {xs ys b m a : List ℕ} {at i end : ℕ} → Puts p xs b at m i → Puts q ys m i a end → Puts (p + q) (xs ++ ys) b at a end
+pub puts-then : {p q : ℕ} {xs ys b m a : List ℕ} {at i end : ℕ} → Puts p xs b at m i → Puts q ys m i a end
+    → Puts (p + q) (xs ++ ys) b at a end
 puts-then {p} {q} {xs} {ys} {b} {m} {a} {at} {i} {end} f g =
     record {
       bytes = g .bytes ∙ rw (f .bytes, f .place) (sym (sets-append b at xs ys));
@@ -37,12 +44,15 @@ puts-then {p} {q} {xs} {ys} {b} {m} {a} {at} {i} {end} f g =
     }
 
 -- one byte, and then a text
-pub puts-cons : {p x : ℕ} {xs b a : List ℕ} {at end : ℕ} → Puts p xs (set b at x) (at + 1) a end → Puts (1 + p) (x ∷ xs) b at a end
+pub puts-cons : {p x : ℕ} {xs b a : List ℕ} {at end : ℕ} → Puts p xs (set b at x) (at + 1) a end
+    → Puts (1 + p) (x ∷ xs) b at a end
 puts-cons {at = at} f = record { bytes = f .bytes ∙ rw (add-one at); place = omega arith; small = omega arith }
 
 -- the same text, and more room
-pub puts-as : {p q : ℕ} {xs ys b a : List ℕ} {at end : ℕ} → xs ≡ ys → p ≤ q → Puts p xs b at a end → Puts q ys b at a end
-puts-as {at = at} e h f = record { bytes = rw (← e) (f .bytes); place = omega (arith, ap length e); small = omega arith }
+pub puts-as : {p q : ℕ} {xs ys b a : List ℕ} {at end : ℕ} → xs ≡ ys → p ≤ q → Puts p xs b at a end
+    → Puts q ys b at a end
+puts-as {at = at} e h f =
+    record { bytes = rw (← e) (f .bytes); place = omega (arith, ap length e); small = omega arith }
 
 pub puts-length : {p : ℕ} {xs b a : List ℕ} {at end : ℕ} → Puts p xs b at a end → length a ≡ length b
 puts-length {xs = xs} {b = b} {at = at} f = ap length (f .bytes) ∙ length-sets b at xs
@@ -56,7 +66,8 @@ puts-front {p} {xs} {b} {a} {end} f h =
 -- ---- decimal numbers
 length-digits : (b k n : ℕ) → length (digits b k n) ≡ k
 length-digits b zero n = refl
-length-digits b (suc k) n = omega (arith, length-append (digits b k (n / b)) (glyph (n % b) ∷ []), length-digits b k (n / b))
+length-digits b (suc k) n =
+    omega (arith, length-append (digits b k (n / b)) (glyph (n % b) ∷ []), length-digits b k (n / b))
 
 fewest-small : (n k : ℕ) → n < 10 → Fewest 10 1 n k → k ≡ 1
 fewest-small n zero h p = absurd (omega arith)
@@ -80,7 +91,8 @@ fewest-from zero n k h p = fewest-small n k (omega arith) p
 fewest-from (suc f) n zero h p = absurd (omega arith)
 fewest-from (suc f) n (suc k) h p =
     either (ltb n 10) (λ e. rw e (fewest-small n (suc k) (ltb-true n 10 e) p))
-    (λ e. let l : 10 ≤ n = ltb-false n 10 e in rw e (ap suc (fewest-from f (n / 10) k (omega arith) (fewest-below n k l p))))
+    (λ e. let l : 10 ≤ n = ltb-false n 10 e in
+    rw e (ap suc (fewest-from f (n / 10) k (omega arith) (fewest-below n k l p))))
 
 -- the fewest digits of n are its decimal text
 pub fewest-decimal : (n k : ℕ) → Fewest 10 1 n k → digits 10 k n ≡ decimal n
@@ -114,35 +126,47 @@ unfolding numbers
 length-numbers zero a b c p q r = omega arith
 length-numbers (suc zero) a b c p q r = rw (length-append (number a) []) (omega (arith, length-number a p))
 length-numbers (suc (suc zero)) a b c p q r = simp length-append (omega (arith, length-number a p, length-number b q))
-length-numbers (suc (suc (suc n))) a b c p q r = rw (take-nil n) (simp length-append (omega (arith, length-number a p, length-number b q, length-number c r)))
+length-numbers (suc (suc (suc n))) a b c p q r =
+    rw (take-nil n) (simp length-append (omega (arith, length-number a p, length-number b q, length-number c r)))
 
-pub length-refused : (m n a b c : ℕ) → m < 2 ^ 64 → a < 2 ^ 64 → b < 2 ^ 64 → c < 2 ^ 64 → length (refused m (take n (a ∷ b ∷ c ∷ []))) ≤ 92
+pub length-refused : (m n a b c : ℕ) → m < 2 ^ 64 → a < 2 ^ 64 → b < 2 ^ 64 → c < 2 ^ 64
+    → length (refused m (take n (a ∷ b ∷ c ∷ []))) ≤ 92
 unfolding refused
 length-refused m n a b c h p q r = simp length-append (omega (arith, length-number m h, length-numbers n a b c p q r))
 
 -- ---- what each public writer did
-pub text-puts : {at end : ℕ} {xs b a : List ℕ} → at + length xs ≤ length b → (end ≡ endIn (length xs) at xs b) × (a ≡ setIn (length xs) at xs b) → Puts (length xs) xs b at a end
+pub text-puts : {at end : ℕ} {xs b a : List ℕ} → at + length xs ≤ length b → (end ≡ endIn (length xs) at xs b)
+    × (a ≡ setIn (length xs) at xs b) → Puts (length xs) xs b at a end
 text-puts h e = puts-in h (omega arith) e
 
-pub decimal-puts : {at end n : ℕ} {b a : List ℕ} → n < 2 ^ 64 → at + 20 ≤ length b → (end ≡ endIn 20 at (decimal n) b) × (a ≡ setIn 20 at (decimal n) b) → Puts 20 (decimal n) b at a end
+pub decimal-puts : {at end n : ℕ} {b a : List ℕ} → n < 2 ^ 64 → at + 20 ≤ length b → (end ≡ endIn 20 at (decimal n) b)
+    × (a ≡ setIn 20 at (decimal n) b) → Puts 20 (decimal n) b at a end
 decimal-puts {n = n} l h e = puts-in h (decimal-twenty n l) e
 
-pub number-puts : {at end n : ℕ} {b a : List ℕ} → n < 2 ^ 64 → at + 21 ≤ length b → (end ≡ endIn 21 at (number n) b) × (a ≡ setIn 21 at (number n) b) → Puts 21 (number n) b at a end
+pub number-puts : {at end n : ℕ} {b a : List ℕ} → n < 2 ^ 64 → at + 21 ≤ length b → (end ≡ endIn 21 at (number n) b)
+    × (a ≡ setIn 21 at (number n) b) → Puts 21 (number n) b at a end
 number-puts {n = n} l h e = puts-in h (length-number n l) e
 
 pub numbers-puts : (n p q r : ℕ) {at end : ℕ} {b a : List ℕ} → p < 2 ^ 64 → q < 2 ^ 64 → r < 2 ^ 64 → at + 63 ≤ length b
-    → (end ≡ endIn 63 at (numbers (take n (p ∷ q ∷ r ∷ []))) b) × (a ≡ setIn 63 at (numbers (take n (p ∷ q ∷ r ∷ []))) b)
+    → (end ≡ endIn 63 at (numbers (take n (p ∷ q ∷ r ∷ []))) b)
+    × (a ≡ setIn 63 at (numbers (take n (p ∷ q ∷ r ∷ []))) b)
     → Puts 63 (numbers (take n (p ∷ q ∷ r ∷ []))) b at a end
 numbers-puts n p q r j k l h e = puts-in h (length-numbers n p q r j k l) e
 
-pub refused-puts : (n p q r : ℕ) {at end m : ℕ} {b a : List ℕ} → m < 2 ^ 64 → p < 2 ^ 64 → q < 2 ^ 64 → r < 2 ^ 64 → at + 92 ≤ length b → (end ≡ endIn 92 at (refused m (take n (p ∷ q ∷ r ∷ []))) b) × (a ≡ setIn 92 at (refused m (take n (p ∷ q ∷ r ∷ []))) b) → Puts 92 (refused m (take n (p ∷ q ∷ r ∷ []))) b at a end
+pub refused-puts : (n p q r : ℕ) {at end m : ℕ} {b a : List ℕ} → m < 2 ^ 64 → p < 2 ^ 64 → q < 2 ^ 64 → r < 2 ^ 64
+    → at + 92 ≤ length b → (end ≡ endIn 92 at (refused m (take n (p ∷ q ∷ r ∷ []))) b)
+    × (a ≡ setIn 92 at (refused m (take n (p ∷ q ∷ r ∷ []))) b)
+    → Puts 92 (refused m (take n (p ∷ q ∷ r ∷ []))) b at a end
 refused-puts n p q r {m = m} i j k l h e = puts-in h (length-refused m n p q r i j k l) e
 
-pub hex-puts : (s : List ℕ) {at end : ℕ} {b a : List ℕ} → at + 2 * length s ≤ length b → (end ≡ endIn (2 * length s) at (hex s) b) × (a ≡ setIn (2 * length s) at (hex s) b) → Puts (2 * length s) (hex s) b at a end
+pub hex-puts : (s : List ℕ) {at end : ℕ} {b a : List ℕ} → at + 2 * length s ≤ length b
+    → (end ≡ endIn (2 * length s) at (hex s) b) × (a ≡ setIn (2 * length s) at (hex s) b)
+    → Puts (2 * length s) (hex s) b at a end
 hex-puts s h e = puts-in h (omega (arith, length-hex s)) e
 
 -- ---- a header
-tests : (a b c d : Bool) (k l most : ℕ) → (c ≡ false → l ≤ most) → contentLength (cond a End (cond b Bad (cond c Long (cond d Bad (Record k l))))) ≤ most
+tests : (a b c d : Bool) (k l most : ℕ) → (c ≡ false → l ≤ most)
+    → contentLength (cond a End (cond b Bad (cond c Long (cond d Bad (Record k l))))) ≤ most
 tests true b c d k l most h = omega arith
 tests false true c d k l most h = omega arith
 tests false false true d k l most h = omega arith
@@ -152,4 +176,5 @@ tests false false false false k l most h = h refl
 -- a record's content has at most `most` bytes
 pub header-within : (most : ℕ) (s : List ℕ) → contentLength (headerOf most s) ≤ most
 unfolding headerOf
-header-within most s = tests (eqb (length s) 0) (ltb (length s) 4) (ltb most (little (take 4 (drop 0 s)))) (ltb (length s) 6) _ _ most (ltb-false most _)
+header-within most s = tests (eqb (length s) 0) (ltb (length s) 4) (ltb most (little (take 4 (drop 0 s))))
+    (ltb (length s) 6) _ _ most (ltb-false most _)

@@ -8,7 +8,8 @@ use Rattle.basis.specs.Little.{little}
 use Rattle.text.specs.declared.Header.{Header}
 use Rattle.text.specs.declared.Header.the-variants.{End, Bad, Long, Record}
 
--- the header that s begins, where s was cut only if it has less than 6 bytes: a length above `most` is tested first, also where the kind is cut
+-- the header that s begins, where s was cut only if it has less than 6 bytes: a length above `most` is tested first,
+-- also where the kind is cut
 unfoldable pub headerOf : ℕ → List ℕ → Header
 headerOf most s =
     cond (eqb (length s) 0) End

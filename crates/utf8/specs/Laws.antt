@@ -11,7 +11,8 @@ use Rattle.basis.specs.Cases.{either}
 use Rattle.utf8.specs.declared.State.{State}
 use Rattle.utf8.specs.declared.State.the-variants.{Want, Bad}
 use Rattle.utf8.specs.Utf8.{leadOf, stepOf, run, isUtf8}
-use Rattle.utf8.specs.Grammar.{In, Utf8, none, utf8-1, utf8-2, utf8-3a, utf8-3b, utf8-3c, utf8-3d, utf8-4a, utf8-4b, utf8-4c}
+use Rattle.utf8.specs.Grammar.{In, Utf8, none, utf8-1, utf8-2, utf8-3a, utf8-3b, utf8-3c, utf8-3d, utf8-4a}
+use Rattle.utf8.specs.Grammar.{utf8-4b, utf8-4c}
 
 -- ---- the rows of the grammar, as the first byte picks them
 data Lead (a : ℕ) : State → Type 0 where
@@ -30,15 +31,22 @@ leadIs : (a : ℕ) → Lead a (leadOf a)
 leadIs a =
     either (leb a 0x7f) (λ p1. let h1 = leb-true a 0x7f p1 in simp p1 (l1 (omega arith)))
     (λ p1. either (ltb a 0xc2) (λ p2. simp (p1, p2) bad)
-    (λ p2. let h2 = ltb-false a 0xc2 p2 in either (leb a 0xdf) (λ p3. let h3 = leb-true a 0xdf p3 in simp (p1, p2, p3) (l2 (omega arith)))
-    (λ p3. let h3 = leb-false a 0xdf p3 in either (eqb a 0xe0) (λ p4. let h4 = eqb-true a 0xe0 p4 in simp (p1, p2, p3, p4) (l3a (omega arith)))
-    (λ p4. let h4 : a ≢ 0xe0 = eqb-false a 0xe0 p4 in either (eqb a 0xed) (λ p5. let h5 = eqb-true a 0xed p5 in simp (p1, p2, p3, p4, p5) (l3c (omega arith)))
+    (λ p2. let h2 = ltb-false a 0xc2 p2 in either (leb a 0xdf)
+    (λ p3. let h3 = leb-true a 0xdf p3 in simp (p1, p2, p3) (l2 (omega arith)))
+    (λ p3. let h3 = leb-false a 0xdf p3 in either (eqb a 0xe0)
+    (λ p4. let h4 = eqb-true a 0xe0 p4 in simp (p1, p2, p3, p4) (l3a (omega arith)))
+    (λ p4. let h4 : a ≢ 0xe0 = eqb-false a 0xe0 p4 in either (eqb a 0xed)
+    (λ p5. let h5 = eqb-true a 0xed p5 in simp (p1, p2, p3, p4, p5) (l3c (omega arith)))
     (λ p5. let h5 : a ≢ 0xed = eqb-false a 0xed p5 in either (leb a 0xef)
     (λ p6. let h6 = leb-true a 0xef p6 in simp (p1, p2, p3, p4, p5, p6)
-    (either (ltb a 0xed) (λ q. let g = ltb-true a 0xed q in l3b (omega arith)) (λ q. let g = ltb-false a 0xed q in l3d (omega arith))))
-    (λ p6. let h6 = leb-false a 0xef p6 in either (eqb a 0xf0) (λ p7. let h7 = eqb-true a 0xf0 p7 in simp (p1, p2, p3, p4, p5, p6, p7) (l4a (omega arith)))
-    (λ p7. let h7 : a ≢ 0xf0 = eqb-false a 0xf0 p7 in either (leb a 0xf3) (λ p8. let h8 = leb-true a 0xf3 p8 in simp (p1, p2, p3, p4, p5, p6, p7, p8) (l4b (omega arith)))
-    (λ p8. either (eqb a 0xf4) (λ p9. let h9 = eqb-true a 0xf4 p9 in simp (p1, p2, p3, p4, p5, p6, p7, p8, p9) (l4c (omega arith)))
+    (either (ltb a 0xed) (λ q. let g = ltb-true a 0xed q in l3b (omega arith))
+    (λ q. let g = ltb-false a 0xed q in l3d (omega arith))))
+    (λ p6. let h6 = leb-false a 0xef p6 in either (eqb a 0xf0)
+    (λ p7. let h7 = eqb-true a 0xf0 p7 in simp (p1, p2, p3, p4, p5, p6, p7) (l4a (omega arith)))
+    (λ p7. let h7 : a ≢ 0xf0 = eqb-false a 0xf0 p7 in either (leb a 0xf3)
+    (λ p8. let h8 = leb-true a 0xf3 p8 in simp (p1, p2, p3, p4, p5, p6, p7, p8) (l4b (omega arith)))
+    (λ p8. either (eqb a 0xf4) (λ p9. let h9 = eqb-true a 0xf4 p9 in simp (p1, p2, p3, p4, p5, p6, p7, p8, p9)
+    (l4c (omega arith)))
     (λ p9. simp (p1, p2, p3, p4, p5, p6, p7, p8, p9) bad)))))))))
 
 -- the row that a first byte picks
@@ -52,7 +60,15 @@ row3a : (a : ℕ) → In 0xe0 0xe0 a → leadOf a ≡ Want 2 0xa0 0xbf
 row3a a i = rw (eq-of 0xe0 a i)
 
 row3b : (a : ℕ) → 0xe1 ≤ a → a ≤ 0xef → a ≢ 0xed → leadOf a ≡ Want 2 0x80 0xbf
-row3b a p q n = simp (lt-leb a 0x7f (omega arith), le-ltb a 0xc2 (omega arith), lt-leb a 0xdf (omega arith), ne-eqb a 0xe0 (omega arith), ne-eqb a 0xed n, le-leb a 0xef q)
+row3b a p q n =
+    simp (
+      lt-leb a 0x7f (omega arith),
+      le-ltb a 0xc2 (omega arith),
+      lt-leb a 0xdf (omega arith),
+      ne-eqb a 0xe0 (omega arith),
+      ne-eqb a 0xed n,
+      le-leb a 0xef q,
+    )
 
 row3c : (a : ℕ) → In 0xed 0xed a → leadOf a ≡ Want 2 0x80 0x9f
 row3c a i = rw (eq-of 0xed a i)
@@ -61,7 +77,16 @@ row4a : (a : ℕ) → In 0xf0 0xf0 a → leadOf a ≡ Want 3 0x90 0xbf
 row4a a i = rw (eq-of 0xf0 a i)
 
 row4b : (a : ℕ) → In 0xf1 0xf3 a → leadOf a ≡ Want 3 0x80 0xbf
-row4b a i = simp (lt-leb a 0x7f (omega arith), le-ltb a 0xc2 (omega arith), lt-leb a 0xdf (omega arith), ne-eqb a 0xe0 (omega arith), ne-eqb a 0xed (omega arith), lt-leb a 0xef (omega arith), ne-eqb a 0xf0 (omega arith), le-leb a 0xf3 (omega arith))
+row4b a i = simp (
+  lt-leb a 0x7f (omega arith),
+  le-ltb a 0xc2 (omega arith),
+  lt-leb a 0xdf (omega arith),
+  ne-eqb a 0xe0 (omega arith),
+  ne-eqb a 0xed (omega arith),
+  lt-leb a 0xef (omega arith),
+  ne-eqb a 0xf0 (omega arith),
+  le-leb a 0xf3 (omega arith),
+)
 
 row4c : (a : ℕ) → In 0xf4 0xf4 a → leadOf a ≡ Want 3 0x80 0x8f
 row4c a i = rw (eq-of 0xf4 a i)
@@ -76,15 +101,18 @@ Rest zero lo hi s = Utf8 s
 Rest (suc n) lo hi [] = ⊥
 Rest (suc n) lo hi (b ∷ s) = In lo hi b × Rest n 0x80 0xbf s
 
-tails1 : (P : List ℕ → Type 0) (lo hi : ℕ) (s : List ℕ) → Rest 1 lo hi s → ((b : ℕ) (t : List ℕ) → In lo hi b → Utf8 t → P (b ∷ t)) → P s
+tails1 : (P : List ℕ → Type 0) (lo hi : ℕ) (s : List ℕ) → Rest 1 lo hi s
+    → ((b : ℕ) (t : List ℕ) → In lo hi b → Utf8 t → P (b ∷ t)) → P s
 tails1 P lo hi [] r f = absurd r
 tails1 P lo hi (b ∷ t) r f = f b t (r .0) (r .1)
 
-tails2 : (P : List ℕ → Type 0) (lo hi : ℕ) (s : List ℕ) → Rest 2 lo hi s → ((b c : ℕ) (t : List ℕ) → In lo hi b → In 0x80 0xbf c → Utf8 t → P (b ∷ c ∷ t)) → P s
+tails2 : (P : List ℕ → Type 0) (lo hi : ℕ) (s : List ℕ) → Rest 2 lo hi s
+    → ((b c : ℕ) (t : List ℕ) → In lo hi b → In 0x80 0xbf c → Utf8 t → P (b ∷ c ∷ t)) → P s
 tails2 P lo hi [] r f = absurd r
 tails2 P lo hi (b ∷ t) r f = tails1 (λ t. P (b ∷ t)) 0x80 0xbf t (r .1) (λ c t x. f b c t (r .0) x)
 
-tails3 : (P : List ℕ → Type 0) (lo hi : ℕ) (s : List ℕ) → Rest 3 lo hi s → ((b c d : ℕ) (t : List ℕ) → In lo hi b → In 0x80 0xbf c → In 0x80 0xbf d → Utf8 t → P (b ∷ c ∷ d ∷ t)) → P s
+tails3 : (P : List ℕ → Type 0) (lo hi : ℕ) (s : List ℕ) → Rest 3 lo hi s
+    → ((b c d : ℕ) (t : List ℕ) → In lo hi b → In 0x80 0xbf c → In 0x80 0xbf d → Utf8 t → P (b ∷ c ∷ d ∷ t)) → P s
 tails3 P lo hi [] r f = absurd r
 tails3 P lo hi (b ∷ t) r f = tails2 (λ t. P (b ∷ t)) 0x80 0xbf t (r .1) (λ c d t x y. f b c d t (r .0) x y)
 
@@ -93,16 +121,24 @@ unfolding run
 never [] = refl
 never (b ∷ s) = never s
 
-from-lead : (a : ℕ) (s : List ℕ) (st : State) → Lead a st → run st s ≡ true → ((n lo hi : ℕ) → run (Want n lo hi) s ≡ true → Rest n lo hi s) → Utf8 (a ∷ s)
+from-lead : (a : ℕ) (s : List ℕ) (st : State) → Lead a st → run st s ≡ true
+    → ((n lo hi : ℕ) → run (Want n lo hi) s ≡ true → Rest n lo hi s) → Utf8 (a ∷ s)
 from-lead a s _ (l1 i) h ih = utf8-1 i (ih 0 0x80 0xbf h)
 from-lead a s _ (l2 i) h ih = tails1 (λ t. Utf8 (a ∷ t)) 0x80 0xbf s (ih 1 0x80 0xbf h) (λ b t x u. utf8-2 i x u)
-from-lead a s _ (l3a i) h ih = tails2 (λ t. Utf8 (a ∷ t)) 0xa0 0xbf s (ih 2 0xa0 0xbf h) (λ b c t x y u. utf8-3a i x y u)
-from-lead a s _ (l3b i) h ih = tails2 (λ t. Utf8 (a ∷ t)) 0x80 0xbf s (ih 2 0x80 0xbf h) (λ b c t x y u. utf8-3b i x y u)
-from-lead a s _ (l3c i) h ih = tails2 (λ t. Utf8 (a ∷ t)) 0x80 0x9f s (ih 2 0x80 0x9f h) (λ b c t x y u. utf8-3c i x y u)
-from-lead a s _ (l3d i) h ih = tails2 (λ t. Utf8 (a ∷ t)) 0x80 0xbf s (ih 2 0x80 0xbf h) (λ b c t x y u. utf8-3d i x y u)
-from-lead a s _ (l4a i) h ih = tails3 (λ t. Utf8 (a ∷ t)) 0x90 0xbf s (ih 3 0x90 0xbf h) (λ b c d t x y z u. utf8-4a i x y z u)
-from-lead a s _ (l4b i) h ih = tails3 (λ t. Utf8 (a ∷ t)) 0x80 0xbf s (ih 3 0x80 0xbf h) (λ b c d t x y z u. utf8-4b i x y z u)
-from-lead a s _ (l4c i) h ih = tails3 (λ t. Utf8 (a ∷ t)) 0x80 0x8f s (ih 3 0x80 0x8f h) (λ b c d t x y z u. utf8-4c i x y z u)
+from-lead a s _ (l3a i) h ih = tails2 (λ t. Utf8 (a ∷ t)) 0xa0 0xbf s (ih 2 0xa0 0xbf h)
+    (λ b c t x y u. utf8-3a i x y u)
+from-lead a s _ (l3b i) h ih = tails2 (λ t. Utf8 (a ∷ t)) 0x80 0xbf s (ih 2 0x80 0xbf h)
+    (λ b c t x y u. utf8-3b i x y u)
+from-lead a s _ (l3c i) h ih = tails2 (λ t. Utf8 (a ∷ t)) 0x80 0x9f s (ih 2 0x80 0x9f h)
+    (λ b c t x y u. utf8-3c i x y u)
+from-lead a s _ (l3d i) h ih = tails2 (λ t. Utf8 (a ∷ t)) 0x80 0xbf s (ih 2 0x80 0xbf h)
+    (λ b c t x y u. utf8-3d i x y u)
+from-lead a s _ (l4a i) h ih = tails3 (λ t. Utf8 (a ∷ t)) 0x90 0xbf s (ih 3 0x90 0xbf h)
+    (λ b c d t x y z u. utf8-4a i x y z u)
+from-lead a s _ (l4b i) h ih = tails3 (λ t. Utf8 (a ∷ t)) 0x80 0xbf s (ih 3 0x80 0xbf h)
+    (λ b c d t x y z u. utf8-4b i x y z u)
+from-lead a s _ (l4c i) h ih = tails3 (λ t. Utf8 (a ∷ t)) 0x80 0x8f s (ih 3 0x80 0x8f h)
+    (λ b c d t x y z u. utf8-4c i x y z u)
 from-lead a s _ bad h ih = absurd (false≢true (sym (never s) ∙ h))
 
 -- a byte within the range goes on, and another does not
@@ -131,13 +167,43 @@ unfolding run
 complete none = refl
 complete (utf8-1 {a = a} i u) = rw (le-leb a 0x7f (i .most)) (complete u)
 complete (utf8-2 {a = a} {b = b} i x u) = simp (row2 a i, tail-in 1 0x80 0xbf b (omega arith) x) (complete u)
-complete (utf8-3a {a = a} {b = b} {c = c} i x y u) = simp (row3a a i, tail-in 2 0xa0 0xbf b (omega arith) x, tail-in 1 0x80 0xbf c (omega arith) y) (complete u)
-complete (utf8-3b {a = a} {b = b} {c = c} i x y u) = simp (row3b a (i .least) (omega arith) (omega arith), tail-in 2 0x80 0xbf b (omega arith) x, tail-in 1 0x80 0xbf c (omega arith) y) (complete u)
-complete (utf8-3c {a = a} {b = b} {c = c} i x y u) = simp (row3c a i, tail-in 2 0x80 0x9f b (omega arith) x, tail-in 1 0x80 0xbf c (omega arith) y) (complete u)
-complete (utf8-3d {a = a} {b = b} {c = c} i x y u) = simp (row3b a (omega arith) (i .most) (omega arith), tail-in 2 0x80 0xbf b (omega arith) x, tail-in 1 0x80 0xbf c (omega arith) y) (complete u)
-complete (utf8-4a {a = a} {b = b} {c = c} {d = d} i x y z u) = simp (row4a a i, tail-in 3 0x90 0xbf b (omega arith) x, tail-in 2 0x80 0xbf c (omega arith) y, tail-in 1 0x80 0xbf d (omega arith) z) (complete u)
-complete (utf8-4b {a = a} {b = b} {c = c} {d = d} i x y z u) = simp (row4b a i, tail-in 3 0x80 0xbf b (omega arith) x, tail-in 2 0x80 0xbf c (omega arith) y, tail-in 1 0x80 0xbf d (omega arith) z) (complete u)
-complete (utf8-4c {a = a} {b = b} {c = c} {d = d} i x y z u) = simp (row4c a i, tail-in 3 0x80 0x8f b (omega arith) x, tail-in 2 0x80 0xbf c (omega arith) y, tail-in 1 0x80 0xbf d (omega arith) z) (complete u)
+complete (utf8-3a {a = a} {b = b} {c = c} i x y u) =
+    simp (row3a a i, tail-in 2 0xa0 0xbf b (omega arith) x, tail-in 1 0x80 0xbf c (omega arith) y) (complete u)
+complete (utf8-3b {a = a} {b = b} {c = c} i x y u) =
+    simp (
+      row3b a (i .least) (omega arith) (omega arith),
+      tail-in 2 0x80 0xbf b (omega arith) x,
+      tail-in 1 0x80 0xbf c (omega arith) y,
+    ) (complete u)
+complete (utf8-3c {a = a} {b = b} {c = c} i x y u) =
+    simp (row3c a i, tail-in 2 0x80 0x9f b (omega arith) x, tail-in 1 0x80 0xbf c (omega arith) y) (complete u)
+complete (utf8-3d {a = a} {b = b} {c = c} i x y u) =
+    simp (
+      row3b a (omega arith) (i .most) (omega arith),
+      tail-in 2 0x80 0xbf b (omega arith) x,
+      tail-in 1 0x80 0xbf c (omega arith) y,
+    ) (complete u)
+complete (utf8-4a {a = a} {b = b} {c = c} {d = d} i x y z u) =
+    simp (
+      row4a a i,
+      tail-in 3 0x90 0xbf b (omega arith) x,
+      tail-in 2 0x80 0xbf c (omega arith) y,
+      tail-in 1 0x80 0xbf d (omega arith) z,
+    ) (complete u)
+complete (utf8-4b {a = a} {b = b} {c = c} {d = d} i x y z u) =
+    simp (
+      row4b a i,
+      tail-in 3 0x80 0xbf b (omega arith) x,
+      tail-in 2 0x80 0xbf c (omega arith) y,
+      tail-in 1 0x80 0xbf d (omega arith) z,
+    ) (complete u)
+complete (utf8-4c {a = a} {b = b} {c = c} {d = d} i x y z u) =
+    simp (
+      row4c a i,
+      tail-in 3 0x80 0x8f b (omega arith) x,
+      tail-in 2 0x80 0xbf c (omega arith) y,
+      tail-in 1 0x80 0xbf d (omega arith) z,
+    ) (complete u)
 
 pub exactly : (s : List ℕ) → (isUtf8 s ≡ true) ↔ Utf8 s
 unfolding isUtf8

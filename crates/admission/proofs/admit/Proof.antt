@@ -44,7 +44,14 @@ returns-3 : tie.Need-returns-3
 returns-3 c = admit-on _ _ _ _ _ (c .before .before .before .slots-of .ensures) (c .before .before .id-of .ensures) (c .enum-told2 .given .1)
 
 returns-4 : tie.Need-returns-4
-returns-4 c = (c .signed .ensures) ∙ ap (λ (t : Slots). onSignature (t .fourth) (t .fifth) (onWord (c .before .before .before .before .before .before .before .args .verified) (onLimits ((c .before .before .before .before .before .before .before .args .part .now)) (admission.Fit ((c .before .before .id2 .given .0 .0)) ((c .before .before .id2 .given .0 .1 .0)) ((c .before .before .id2 .given .0 .1 .1 .0)) ((c .before .before .id2 .given .0 .1 .1 .1 .0)))))) (c .before .before .before .before .before .slots-of .ensures) ∙ admit-on _ _ _ _ _ (c .before .before .before .before .before .slots-of .ensures) (c .before .before .before .before .id-of .ensures) (c .before .before .id2 .given .1)
+returns-4 c =
+    (c .signed .ensures)
+    ∙ ap (λ (t : Slots). onSignature (t .fourth) (t .fifth) (onWord (c .before .before .before .before .before .before .before .args .verified)
+    (onLimits ((c .before .before .before .before .before .before .before .args .part .now))
+    (admission.Fit ((c .before .before .id2 .given .0 .0)) ((c .before .before .id2 .given .0 .1 .0)) ((c .before .before .id2 .given .0 .1 .1 .0))
+    ((c .before .before .id2 .given .0 .1 .1 .1 .0)))))) (c .before .before .before .before .before .slots-of .ensures)
+    ∙ admit-on _ _ _ _ _ (c .before .before .before .before .before .slots-of .ensures) (c .before .before .before .before .id-of .ensures)
+    (c .before .before .id2 .given .1)
 
 pub admit-spec : {M : Type 1} → statement M
 admit-spec =

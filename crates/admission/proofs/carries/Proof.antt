@@ -62,19 +62,55 @@ same-requires : tie.Need-same-requires Inv-loop μ-loop
 same-requires c κs = search needs
 
 returns-3 : tie.Need-returns-3 Inv-loop μ-loop
-returns-3 c = carries-here ((c .before .before .before .before .before .before .before .before .before .before .before .before .before .args .part .now)) ((c .before .before .before .before .before .before .before .before .before .before .before .before .before .args .topic .now)) ((c .before .before .before .before .before .before .before .before .before .before .loop .at)) ((c .before .before .before .before .before .before .step .given .0 .0)) _ (sym (c .before .before .before .before .before .before .step .given .1) ∙ (c .before .before .before .before .before .before .before .before .read-field .ensures)) (sym (c .before .before .before .before .is-topic .ensures) ∙ (c .before .before .before .if1 .taken)) ((c .before .before .before .before .before .before .before .before .before .before .loop .inv .1)) (sym (c .before .same .ensures) ∙ (c .if2 .taken))
+returns-3 c = carries-here ((c .before .before .before .before .before .before .before .before .before .before .before .before .before .args .part .now))
+    ((c .before .before .before .before .before .before .before .before .before .before .before .before .before .args .topic .now))
+    ((c .before .before .before .before .before .before .before .before .before .before .loop .at))
+    ((c .before .before .before .before .before .before .step .given .0 .0)) _ (sym (c .before .before .before .before .before .before .step .given .1)
+    ∙ (c .before .before .before .before .before .before .before .before .read-field .ensures)) (sym (c .before .before .before .before .is-topic .ensures)
+    ∙ (c .before .before .before .if1 .taken)) ((c .before .before .before .before .before .before .before .before .before .before .loop .inv .1))
+    (sym (c .before .same .ensures) ∙ (c .if2 .taken))
 
 loop-less : tie.Need-loop-less Inv-loop μ-loop
-loop-less c = omega (arith, field-stands ((c .before .before .before .before .before .before .before .before .before .before .before .before .before .args .part .now)) ((c .before .before .before .before .before .before .before .before .before .before .loop .at)) ((c .before .before .before .before .before .before .step .given .0 .0)) (sym (c .before .before .before .before .before .before .step .given .1) ∙ (c .before .before .before .before .before .before .before .before .read-field .ensures)))
+loop-less c =
+    omega (
+      arith,
+      field-stands ((c .before .before .before .before .before .before .before .before .before .before .before .before .before .args .part .now))
+          ((c .before .before .before .before .before .before .before .before .before .before .loop .at))
+          ((c .before .before .before .before .before .before .step .given .0 .0)) (sym (c .before .before .before .before .before .before .step .given .1)
+          ∙ (c .before .before .before .before .before .before .before .before .read-field .ensures)),
+    )
 
 loop-again : tie.Need-loop-again Inv-loop μ-loop
-loop-again c = (field-stands ((c .before .before .before .before .before .before .before .before .before .before .before .before .before .args .part .now)) ((c .before .before .before .before .before .before .before .before .before .before .loop .at)) ((c .before .before .before .before .before .before .step .given .0 .0)) (sym (c .before .before .before .before .before .before .step .given .1) ∙ (c .before .before .before .before .before .before .before .before .read-field .ensures)) .within, carries-other ((c .before .before .before .before .before .before .before .before .before .before .before .before .before .args .part .now)) ((c .before .before .before .before .before .before .before .before .before .before .before .before .before .args .topic .now)) ((c .before .before .before .before .before .before .before .before .before .before .loop .at)) ((c .before .before .before .before .before .before .step .given .0 .0)) _ (sym (c .before .before .before .before .before .before .step .given .1) ∙ (c .before .before .before .before .before .before .before .before .read-field .ensures)) (sym (c .before .before .before .before .is-topic .ensures) ∙ (c .before .before .before .if1 .taken)) ((c .before .before .before .before .before .before .before .before .before .before .loop .inv .1)) (sym (c .before .same .ensures) ∙ (c .if2 .left)))
+loop-again c = (
+  field-stands ((c .before .before .before .before .before .before .before .before .before .before .before .before .before .args .part .now))
+      ((c .before .before .before .before .before .before .before .before .before .before .loop .at))
+      ((c .before .before .before .before .before .before .step .given .0 .0)) (sym (c .before .before .before .before .before .before .step .given .1)
+      ∙ (c .before .before .before .before .before .before .before .before .read-field .ensures)) .within,
+  carries-other
+      ((c .before .before .before .before .before .before .before .before .before .before .before .before .before .args .part .now))
+      ((c .before .before .before .before .before .before .before .before .before .before .before .before .before .args .topic .now))
+      ((c .before .before .before .before .before .before .before .before .before .before .loop .at))
+      ((c .before .before .before .before .before .before .step .given .0 .0)) _ (sym (c .before .before .before .before .before .before .step .given .1)
+      ∙ (c .before .before .before .before .before .before .before .before .read-field .ensures)) (sym (c .before .before .before .before .is-topic .ensures)
+      ∙ (c .before .before .before .if1 .taken)) ((c .before .before .before .before .before .before .before .before .before .before .loop .inv .1))
+      (sym (c .before .same .ensures) ∙ (c .if2 .left)),
+)
 
 loop-less-2 : tie.Need-loop-less-2 Inv-loop μ-loop
 loop-less-2 c = omega (arith, field-stands ((c .before .before .before .before .before .before .before .before .before .before .args .part .now)) ((c .before .before .before .before .before .before .before .loop .at)) ((c .before .before .before .step .given .0 .0)) (sym (c .before .before .before .step .given .1) ∙ (c .before .before .before .before .before .read-field .ensures)))
 
 loop-again-2 : tie.Need-loop-again-2 Inv-loop μ-loop
-loop-again-2 c = (field-stands ((c .before .before .before .before .before .before .before .before .before .before .args .part .now)) ((c .before .before .before .before .before .before .before .loop .at)) ((c .before .before .before .step .given .0 .0)) (sym (c .before .before .before .step .given .1) ∙ (c .before .before .before .before .before .read-field .ensures)) .within, carries-past ((c .before .before .before .before .before .before .before .before .before .before .args .part .now)) ((c .before .before .before .before .before .before .before .before .before .before .args .topic .now)) ((c .before .before .before .before .before .before .before .loop .at)) ((c .before .before .before .step .given .0 .0)) _ (sym (c .before .before .before .step .given .1) ∙ (c .before .before .before .before .before .read-field .ensures)) (sym (c .before .is-topic .ensures) ∙ (c .if1 .left)) ((c .before .before .before .before .before .before .before .loop .inv .1)))
+loop-again-2 c = (
+  field-stands ((c .before .before .before .before .before .before .before .before .before .before .args .part .now))
+      ((c .before .before .before .before .before .before .before .loop .at)) ((c .before .before .before .step .given .0 .0))
+      (sym (c .before .before .before .step .given .1) ∙ (c .before .before .before .before .before .read-field .ensures)) .within,
+  carries-past
+      ((c .before .before .before .before .before .before .before .before .before .before .args .part .now))
+      ((c .before .before .before .before .before .before .before .before .before .before .args .topic .now))
+      ((c .before .before .before .before .before .before .before .loop .at)) ((c .before .before .before .step .given .0 .0)) _
+      (sym (c .before .before .before .step .given .1) ∙ (c .before .before .before .before .before .read-field .ensures)) (sym (c .before .is-topic .ensures)
+      ∙ (c .if1 .left)) ((c .before .before .before .before .before .before .before .loop .inv .1)),
+)
 
 returns-4 : tie.Need-returns-4 Inv-loop μ-loop
 returns-4 c = among-none _ _ _ (topics-past _ _ (c .loop-test .left)) ((c .before .loop .inv .1))

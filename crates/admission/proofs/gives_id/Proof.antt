@@ -41,7 +41,10 @@ returns-2 : tie.Need-returns-2
 returns-2 c = gives-unfit ((c .before .before .before .before .before .before .before .before .args .part .now)) ((c .before .before .before .before .before .before .before .before .args .id .now)) _ _ (sym (c .before .before .before .before .before .count .ensures) ∙ (c .before .before .before .enum-told2 .given .1)) (sym (c .before .before .admit .ensures) ∙ (c .enum-told3 .given .1))
 
 returns-3 : tie.Need-returns-3
-returns-3 c = gives-fit ((c .before .before .before .before .before .before .before .before .before .before .args .part .now)) ((c .before .before .before .before .before .before .before .before .before .before .args .id .now)) _ _ _ _ _ _ (sym (c .before .before .before .before .before .before .before .count .ensures) ∙ (c .before .before .before .before .before .enum-told2 .given .1)) (sym (c .before .before .before .before .admit .ensures) ∙ (c .before .before .r .given .1)) (c .same-parts .ensures)
+returns-3 c = gives-fit ((c .before .before .before .before .before .before .before .before .before .before .args .part .now))
+    ((c .before .before .before .before .before .before .before .before .before .before .args .id .now)) _ _ _ _ _ _
+    (sym (c .before .before .before .before .before .before .before .count .ensures) ∙ (c .before .before .before .before .before .enum-told2 .given .1))
+    (sym (c .before .before .before .before .admit .ensures) ∙ (c .before .before .r .given .1)) (c .same-parts .ensures)
 
 pub gives-id-spec : {M : Type 1} → statement M
 gives-id-spec =

@@ -53,10 +53,22 @@ same-requires-2 : tie.Need-same-requires-2
 same-requires-2 c κs = search needs
 
 returns-2 : tie.Need-returns-2
-returns-2 c = parts-first ((c .before .before .before .before .before .before .before .before .before .before .args .part .now)) ((c .before .before .before .before .before .before .before .before .before .before .args .id .now)) (c .before .before .before .before .before .before .before .before .before .before .args .a) (c .before .before .before .before .before .before .before .before .before .before .args .e) (c .before .before .before .before .before .before .before .before .before .before .args .b) (c .before .before .before .before .before .before .before .before .before .before .args .f) ((c .before .before .before .before .before .before .before .before .before .before .pre .0)) ((c .before .before .before .before .before .before .before .before .before .before .pre .1)) _ (sym (c .before .before .before .before .same .ensures) ∙ (c .before .before .before .if2 .taken)) (c .same2 .ensures)
+returns-2 c = parts-first ((c .before .before .before .before .before .before .before .before .before .before .args .part .now))
+    ((c .before .before .before .before .before .before .before .before .before .before .args .id .now))
+    (c .before .before .before .before .before .before .before .before .before .before .args .a)
+    (c .before .before .before .before .before .before .before .before .before .before .args .e)
+    (c .before .before .before .before .before .before .before .before .before .before .args .b)
+    (c .before .before .before .before .before .before .before .before .before .before .args .f)
+    ((c .before .before .before .before .before .before .before .before .before .before .pre .0))
+    ((c .before .before .before .before .before .before .before .before .before .before .pre .1)) _ (sym (c .before .before .before .before .same .ensures)
+    ∙ (c .before .before .before .if2 .taken)) (c .same2 .ensures)
 
 returns-3 : tie.Need-returns-3
-returns-3 c = parts-differ ((c .before .before .before .before .before .before .before .args .part .now)) ((c .before .before .before .before .before .before .before .args .id .now)) (c .before .before .before .before .before .before .before .args .a) (c .before .before .before .before .before .before .before .args .e) (c .before .before .before .before .before .before .before .args .b) (c .before .before .before .before .before .before .before .args .f) ((c .before .before .before .before .before .before .before .pre .0)) ((c .before .before .before .before .before .before .before .pre .1)) (sym (c .before .same .ensures) ∙ (c .if2 .left))
+returns-3 c = parts-differ ((c .before .before .before .before .before .before .before .args .part .now))
+    ((c .before .before .before .before .before .before .before .args .id .now)) (c .before .before .before .before .before .before .before .args .a)
+    (c .before .before .before .before .before .before .before .args .e) (c .before .before .before .before .before .before .before .args .b)
+    (c .before .before .before .before .before .before .before .args .f) ((c .before .before .before .before .before .before .before .pre .0))
+    ((c .before .before .before .before .before .before .before .pre .1)) (sym (c .before .same .ensures) ∙ (c .if2 .left))
 
 pub same-parts-spec : {M : Type 1} → statement M
 same-parts-spec =

@@ -55,12 +55,34 @@ long-after-requires : tie.Need-long-after-requires Inv-loop μ-loop
 long-after-requires c κs = search needs
 
 loop-less : tie.Need-loop-less Inv-loop μ-loop
-loop-less c = omega (arith, field-stands ((c .before .before .before .before .before .before .before .before .before .before .args .part .now)) ((c .before .before .before .before .before .before .before .before .loop .at)) ((c .before .before .before .before .step .given .0 .0)) (sym (c .before .before .before .before .step .given .1) ∙ (c .before .before .before .before .before .before .read-field .ensures)))
+loop-less c =
+    omega (
+      arith,
+      field-stands ((c .before .before .before .before .before .before .before .before .before .before .args .part .now))
+          ((c .before .before .before .before .before .before .before .before .loop .at)) ((c .before .before .before .before .step .given .0 .0))
+          (sym (c .before .before .before .before .step .given .1) ∙ (c .before .before .before .before .before .before .read-field .ensures)),
+    )
 
 loop-again : tie.Need-loop-again Inv-loop μ-loop
-loop-again c = let st = field-stands ((c .before .before .before .before .before .before .before .before .before .before .args .part .now)) ((c .before .before .before .before .before .before .before .before .loop .at)) ((c .before .before .before .before .step .given .0 .0)) (sym (c .before .before .before .before .step .given .1) ∙ (c .before .before .before .before .before .before .read-field .ensures)) in
-    let k = at-most (isBytes 4 ((c .before .before .before .before .step .given .0 .0))) ((c .before .before .before .before .before .before .before .before .loop .n)) (c .before .before .count-after .result) (c .before .before .count-after .ensures) in
-    (st .within, omega arith, (c .before .before .before .before .before .before .before .before .loop .inv .2) ∙ count-more ((c .before .before .before .before .before .before .before .before .before .before .args .part .now)) ((c .before .before .before .before .before .before .before .before .loop .at)) ((c .before .before .before .before .before .before .before .before .loop .n)) (c .before .before .count-after .result) ((c .before .before .before .before .step .given .0 .0)) (sym (c .before .before .before .before .step .given .1) ∙ (c .before .before .before .before .before .before .read-field .ensures)) (c .before .before .count-after .ensures), (c .before .before .before .before .before .before .before .before .loop .inv .3) ∙ long-more ((c .before .before .before .before .before .before .before .before .before .before .args .part .now)) ((c .before .before .before .before .before .before .before .before .loop .at)) ((c .before .before .before .before .before .before .before .before .loop .long)) (c .long-after .result) ((c .before .before .before .before .step .given .0 .0)) (sym (c .before .before .before .before .step .given .1) ∙ (c .before .before .before .before .before .before .read-field .ensures)) st (c .long-after .ensures))
+loop-again c = let st = field-stands ((c .before .before .before .before .before .before .before .before .before .before .args .part .now))
+    ((c .before .before .before .before .before .before .before .before .loop .at)) ((c .before .before .before .before .step .given .0 .0))
+    (sym (c .before .before .before .before .step .given .1) ∙ (c .before .before .before .before .before .before .read-field .ensures)) in
+    let k = at-most (isBytes 4 ((c .before .before .before .before .step .given .0 .0))) ((c .before .before .before .before .before .before .before .before .loop .n)) (c .before .before .count-after .result) (c .before .before .count-after .ensures) in (
+      st .within,
+      omega arith,
+      (c .before .before .before .before .before .before .before .before .loop .inv .2)
+          ∙ count-more ((c .before .before .before .before .before .before .before .before .before .before .args .part .now))
+          ((c .before .before .before .before .before .before .before .before .loop .at))
+          ((c .before .before .before .before .before .before .before .before .loop .n)) (c .before .before .count-after .result)
+          ((c .before .before .before .before .step .given .0 .0)) (sym (c .before .before .before .before .step .given .1)
+          ∙ (c .before .before .before .before .before .before .read-field .ensures)) (c .before .before .count-after .ensures),
+      (c .before .before .before .before .before .before .before .before .loop .inv .3)
+          ∙ long-more ((c .before .before .before .before .before .before .before .before .before .before .args .part .now))
+          ((c .before .before .before .before .before .before .before .before .loop .at))
+          ((c .before .before .before .before .before .before .before .before .loop .long)) (c .long-after .result)
+          ((c .before .before .before .before .step .given .0 .0)) (sym (c .before .before .before .before .step .given .1)
+          ∙ (c .before .before .before .before .before .before .read-field .ensures)) st (c .long-after .ensures),
+    )
 
 returns-3 : tie.Need-returns-3 Inv-loop μ-loop
 returns-3 c = topics-done _ _ _ _ (topics-past _ _ (c .loop-test .left)) ((c .before .loop .inv .2)) ((c .before .loop .inv .3))

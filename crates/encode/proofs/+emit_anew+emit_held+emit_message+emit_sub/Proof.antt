@@ -13,7 +13,7 @@ use Rattle.protobuf.specs.WalkLaws.{walk-on, walk-end}
 use Rattle.protobuf.specs.Encode.{bytesField}
 use Rattle.schema.specs.Schema.{rowOf, heldOf, rank}
 use Rattle.schema.specs.Slots.{slotsOf}
-use Rattle.schema.specs.SlotsLaws.{Good, slots-inside}
+use Rattle.schema.specs.SlotsLaws.{SlotsInside, slots-inside}
 use Rattle.canon.specs.Canon.{inOrder, ownPart, eachAlong, eachOf, heldPart, partWith, canon}
 use Rattle.canon.specs.CanonLaws.{canon-fields}
 use Rattle.encode.specs.Puts.{puts-none, puts-same, fits-same, fits-first, Going, going-same, going-none, going-all, going-fits, going-part}
@@ -260,7 +260,7 @@ emit-message-emit-own-requires t c κs =
     let q = c .before .before .before .before .before .slots-of .ensures in
     let m = few-rows (a .kind) in (
       omega (arith, c .before .before .before .before .rows .ensures),
-      subst (Good (a .part .now)) (sym q) (slots-inside (a .kind) (a .part .now)),
+      subst (SlotsInside (a .part .now)) (sym q) (slots-inside (a .kind) (a .part .now)),
       own-fits _ (a .kind) (a .part .now) (l .n) _ q r _ (fits-first _ (ownPart (slotsOf (a .kind) (a .part .now)) (l .n) (a .part .now) (rowOf (a .kind) (l .n))) (heldPart canon (l .n) (a .part .now) (heldOf (rowOf (a .kind) (l .n)))) (going-fits _ _ _ _ _ _ (l .inv .2) (part (l .n)) _ d)),
     )
 
@@ -277,8 +277,14 @@ emit-message-emit-held-requires t c κs =
     let q = c .before .before .before .before .before .before .before .before .before .before .slots-of .ensures in
     let m = few-rows (a .kind) in
     let h = c .before .held-of .ensures ∙ ap heldOf r in
-    let z = depth-rank (a .kind) (l .n) _ h in
-    (omega (arith, c .before .before .before .before .before .before .before .before .before .before .before .before .before .pre .0), (omega (arith, c .before .before .before .before .before .before .before .before .before .rows .ensures), held-fits _ (a .kind) (a .part .now) (l .n) _ q r _ h (c .before .before .before .before .emit-own .ensures) (going-fits _ _ _ _ _ _ (l .inv .2) (part (l .n)) _ d)))
+    let z = depth-rank (a .kind) (l .n) _ h in (
+      omega (arith, c .before .before .before .before .before .before .before .before .before .before .before .before .before .pre .0),
+      (
+        omega (arith, c .before .before .before .before .before .before .before .before .before .rows .ensures),
+        held-fits _ (a .kind) (a .part .now) (l .n) _ q r _ h (c .before .before .before .before .emit-own .ensures)
+            (going-fits _ _ _ _ _ _ (l .inv .2) (part (l .n)) _ d),
+      ),
+    )
 
 emit-message-add-n : (t : ℕ) → emit-message-lts.Need-add-n (emit-message-claims t) (emit-message-at t) emit-message.Post emit-message-Inv-loop emit-message-μ-loop
 emit-message-add-n t c = let m = few-rows (c .before .before .before .before .before .before .before .before .before .before .before .before .before .before .before .before .args .kind) in omega (arith, c .before .before .before .before .before .before .before .before .before .before .before .before .rows .ensures)
@@ -372,8 +378,16 @@ emit-sub-emit-message-requires-2 : (t : ℕ) → emit-sub-lts.Need-emit-message-
 emit-sub-emit-message-requires-2 t c κs =
     let a = c .before .before .before .before .before .before .before .before .before .before .before .before .before .before .before .before .before .args in
     let d = canon (a .kind) (valueIn (a .input .now) (a .f)) in
-    let y = field-yes (a .n) (a .f) (bytesField (a .n) d) (c .before .before .before .before .before .before .before .before .before .before .before .before .before .if1 .taken) (c .before .before .before .before .before .before .before .before .before .before .before .if2 .taken) in
-    (omega (arith, c .before .before .before .before .before .before .before .before .before .before .before .before .before .before .before .before .before .pre .0), value-fits (a .n) _ d (a .at) y (c .before .before .before .before .before .before .before .before .before .before .before .before .before .before .before .before .before .pre .1 .2) _ _ _ (c .before .before .before .before .before .before .before .before .emit-message .ensures) _ _ _ (c .before .before .before .before .before .emit-head .ensures))
+    let y = field-yes (a .n) (a .f) (bytesField (a .n) d) (c .before .before .before .before .before .before .before .before .before .before .before .before .before .if1 .taken) (c .before .before .before .before .before .before .before .before .before .before .before .if2 .taken) in (
+      omega (
+        arith,
+        c .before .before .before .before .before .before .before .before .before .before .before .before .before .before .before .before .before .pre .0,
+      ),
+      value-fits (a .n) _ d (a .at) y
+          (c .before .before .before .before .before .before .before .before .before .before .before .before .before .before .before .before .before .pre .1 .2) _
+          _ _ (c .before .before .before .before .before .before .before .before .emit-message .ensures) _ _ _
+          (c .before .before .before .before .before .emit-head .ensures),
+    )
 
 emit-sub-same-length-2 : (t : ℕ) → emit-sub-lts.Need-same-length-2 (emit-sub-claims t) (emit-sub-at t) emit-sub.Post
 emit-sub-same-length-2 t c = search needs
@@ -383,7 +397,10 @@ emit-sub-returns-2 t c =
     let a = c .before .before .before .before .before .before .before .before .before .before .before .before .before .before .before .before .before .before .before .before .args in
     let d = canon (a .kind) (valueIn (a .input .now) (a .f)) in
     let y = field-yes (a .n) (a .f) (bytesField (a .n) d) (c .before .before .before .before .before .before .before .before .before .before .before .before .before .before .before .before .if1 .taken) (c .before .before .before .before .before .before .before .before .before .before .before .before .before .before .if2 .taken) in
-    field-puts (a .n) _ d (a .at) y (c .before .before .before .before .before .before .before .before .before .before .before .before .before .before .before .before .before .before .before .before .pre .1 .2) _ _ _ (c .before .before .before .before .before .before .before .before .before .before .before .emit-message .ensures) _ _ _ (c .before .before .before .before .before .before .before .before .emit-head .ensures) _ _ (c .before .before .emit-message2 .ensures)
+    field-puts (a .n) _ d (a .at) y
+    (c .before .before .before .before .before .before .before .before .before .before .before .before .before .before .before .before .before .before
+    .before .before .pre .1 .2) _ _ _ (c .before .before .before .before .before .before .before .before .before .before .before .emit-message .ensures) _ _
+    _ (c .before .before .before .before .before .before .before .before .emit-head .ensures) _ _ (c .before .before .emit-message2 .ensures)
 
 emit-sub-returns-3 : (t : ℕ) → emit-sub-lts.Need-returns-3 (emit-sub-claims t) (emit-sub-at t) emit-sub.Post
 emit-sub-returns-3 t c =

@@ -55,8 +55,15 @@ loop-again : tie.Need-loop-again Inv-loop μ-loop
 loop-again c =
     let a = c .before .before .before .before .before .before .before .before .before .before .before .args in
     let l = c .before .before .before .before .before .before .before .loop in
-    let k = l .inv .3 in
-    (omega arith, omega (arith, c .before .before .before .before .before .before .loop-test .taken), going-part _ _ _ _ _ _ (l .inv .2) (top (a .body .now) (l .n)) _ (order-step (top (a .body .now)) (l .n) _ (c .before .before .before .before .before .before .loop-test .taken)) _ _ (puts-same _ _ _ _ _ _ (ap (bodyPart (a .body .now) (l .n)) (c .before .before .before .before .held-of .ensures ∙ ap heldOf (c .before .before .before .before .before .row-of .ensures))) (c .before .before .emit-top .ensures)), omega arith)
+    let k = l .inv .3 in (
+      omega arith,
+      omega (arith, c .before .before .before .before .before .before .loop-test .taken),
+      going-part _ _ _ _ _ _ (l .inv .2) (top (a .body .now) (l .n)) _
+          (order-step (top (a .body .now)) (l .n) _ (c .before .before .before .before .before .before .loop-test .taken)) _ _
+          (puts-same _ _ _ _ _ _ (ap (bodyPart (a .body .now) (l .n)) (c .before .before .before .before .held-of .ensures
+          ∙ ap heldOf (c .before .before .before .before .before .row-of .ensures))) (c .before .before .emit-top .ensures)),
+      omega arith,
+    )
 
 same-length : tie.Need-same-length Inv-loop μ-loop
 same-length c = let k = c .before .loop .inv .3 in omega arith

@@ -21,28 +21,69 @@ emit-merged-requires : tie.Need-emit-merged-requires
 emit-merged-requires c κs = let a = c .before .before .before .before .before .args in let x = mergedOf (a .kind) (a .n) (a .body .now) in measure-fits (a .n) _ x (a .at) (ap (λ (t : Bool). cond t (bytesField (a .n) x) []) (sym (c .before .before .has-field .ensures) ∙ c .before .if1 .taken)) (c .before .before .before .before .before .pre .1)
 
 emit-head-requires : tie.Need-emit-head-requires
-emit-head-requires c κs = let a = (c .before .before .before .before .before .before .before .before .args) in let x = mergedOf (a .kind) (a .n) (a .body .now) in (c .before .before .before .before .before .before .before .before .pre .0, head-fits (a .n) _ x (a .at) (ap (λ (t : Bool). cond t (bytesField (a .n) x) []) (sym (c .before .before .before .before .before .has-field .ensures) ∙ (c .before .before .before .before .if1 .taken))) (c .before .before .before .before .before .before .before .before .pre .1) _ _ _ (c .before .before .emit-merged .ensures))
+emit-head-requires c κs = let a = (c .before .before .before .before .before .before .before .before .args) in
+    let x = mergedOf (a .kind) (a .n) (a .body .now) in (
+      c .before .before .before .before .before .before .before .before .pre .0,
+      head-fits (a .n) _ x (a .at) (ap (λ (t : Bool). cond t (bytesField (a .n) x) []) (sym (c .before .before .before .before .before .has-field .ensures)
+          ∙ (c .before .before .before .before .if1 .taken))) (c .before .before .before .before .before .before .before .before .pre .1) _ _ _
+          (c .before .before .emit-merged .ensures),
+    )
 
 add-if2 : tie.Need-add-if2
-add-if2 c = let a = (c .before .before .before .before .before .before .before .before .before .before .before .args) in let x = mergedOf (a .kind) (a .n) (a .body .now) in let z = sum-fits (a .n) _ x (a .at) (ap (λ (t : Bool). cond t (bytesField (a .n) x) []) (sym (c .before .before .before .before .before .before .before .before .has-field .ensures) ∙ (c .before .before .before .before .before .before .before .if1 .taken))) (c .before .before .before .before .before .before .before .before .before .before .before .pre .1) _ _ _ (c .before .before .before .before .before .emit-merged .ensures) _ _ _ (c .before .before .emit-head .ensures) in omega arith
+add-if2 c = let a = (c .before .before .before .before .before .before .before .before .before .before .before .args) in
+    let x = mergedOf (a .kind) (a .n) (a .body .now) in
+    let z = sum-fits (a .n) _ x (a .at)
+    (ap (λ (t : Bool). cond t (bytesField (a .n) x) []) (sym (c .before .before .before .before .before .before .before .before .has-field .ensures)
+    ∙ (c .before .before .before .before .before .before .before .if1 .taken)))
+    (c .before .before .before .before .before .before .before .before .before .before .before .pre .1) _ _ _
+    (c .before .before .before .before .before .emit-merged .ensures) _ _ _ (c .before .before .emit-head .ensures) in omega arith
 
 add-result : tie.Need-add-result
-add-result c = let a = (c .before .before .before .before .before .before .before .before .before .before .before .before .args) in let x = mergedOf (a .kind) (a .n) (a .body .now) in let z = sum-fits (a .n) _ x (a .at) (ap (λ (t : Bool). cond t (bytesField (a .n) x) []) (sym (c .before .before .before .before .before .before .before .before .before .has-field .ensures) ∙ (c .before .before .before .before .before .before .before .before .if1 .taken))) (c .before .before .before .before .before .before .before .before .before .before .before .before .pre .1) _ _ _ (c .before .before .before .before .before .before .emit-merged .ensures) _ _ _ (c .before .before .before .emit-head .ensures) in omega arith
+add-result c = let a = (c .before .before .before .before .before .before .before .before .before .before .before .before .args) in
+    let x = mergedOf (a .kind) (a .n) (a .body .now) in
+    let z = sum-fits (a .n) _ x (a .at)
+    (ap (λ (t : Bool). cond t (bytesField (a .n) x) []) (sym (c .before .before .before .before .before .before .before .before .before .has-field .ensures)
+    ∙ (c .before .before .before .before .before .before .before .before .if1 .taken)))
+    (c .before .before .before .before .before .before .before .before .before .before .before .before .pre .1) _ _ _
+    (c .before .before .before .before .before .before .emit-merged .ensures) _ _ _ (c .before .before .before .emit-head .ensures) in omega arith
 
 same-length : tie.Need-same-length
 same-length c = search needs
 
 returns : tie.Need-returns
-returns c = let a = (c .before .before .before .before .before .before .before .before .before .before .before .before .args) in let x = mergedOf (a .kind) (a .n) (a .body .now) in field-short (a .n) _ x (a .at) (ap (λ (t : Bool). cond t (bytesField (a .n) x) []) (sym (c .before .before .before .before .before .before .before .before .before .has-field .ensures) ∙ (c .before .before .before .before .before .before .before .before .if1 .taken))) (c .before .before .before .before .before .before .before .before .before .before .before .before .pre .1) _ _ _ (c .before .before .before .before .before .before .emit-merged .ensures) _ _ _ (c .before .before .before .emit-head .ensures) (search needs) (c .if2 .taken)
+returns c = let a = (c .before .before .before .before .before .before .before .before .before .before .before .before .args) in
+    let x = mergedOf (a .kind) (a .n) (a .body .now) in
+    field-short (a .n) _ x (a .at)
+    (ap (λ (t : Bool). cond t (bytesField (a .n) x) []) (sym (c .before .before .before .before .before .before .before .before .before .has-field .ensures)
+    ∙ (c .before .before .before .before .before .before .before .before .if1 .taken)))
+    (c .before .before .before .before .before .before .before .before .before .before .before .before .pre .1) _ _ _
+    (c .before .before .before .before .before .before .emit-merged .ensures) _ _ _ (c .before .before .before .emit-head .ensures) (search needs)
+    (c .if2 .taken)
 
 emit-merged-requires-2 : tie.Need-emit-merged-requires-2
-emit-merged-requires-2 c κs = let a = (c .before .before .before .before .before .before .before .before .before .before .before .before .before .args) in let x = mergedOf (a .kind) (a .n) (a .body .now) in value-fits (a .n) _ x (a .at) (ap (λ (t : Bool). cond t (bytesField (a .n) x) []) (sym (c .before .before .before .before .before .before .before .before .before .before .has-field .ensures) ∙ (c .before .before .before .before .before .before .before .before .before .if1 .taken))) (c .before .before .before .before .before .before .before .before .before .before .before .before .before .pre .1) _ _ _ (c .before .before .before .before .before .before .before .emit-merged .ensures) _ _ _ (c .before .before .before .before .emit-head .ensures)
+emit-merged-requires-2 c κs = let a = (c .before .before .before .before .before .before .before .before .before .before .before .before .before .args) in
+    let x = mergedOf (a .kind) (a .n) (a .body .now) in
+    value-fits (a .n) _ x (a .at)
+    (ap (λ (t : Bool). cond t (bytesField (a .n) x) [])
+    (sym (c .before .before .before .before .before .before .before .before .before .before .has-field .ensures)
+    ∙ (c .before .before .before .before .before .before .before .before .before .if1 .taken)))
+    (c .before .before .before .before .before .before .before .before .before .before .before .before .before .pre .1) _ _ _
+    (c .before .before .before .before .before .before .before .emit-merged .ensures) _ _ _ (c .before .before .before .before .emit-head .ensures)
 
 same-length-2 : tie.Need-same-length-2
 same-length-2 c = search needs
 
 returns-2 : tie.Need-returns-2
-returns-2 c = let a = (c .before .before .before .before .before .before .before .before .before .before .before .before .before .before .before .before .args) in let x = mergedOf (a .kind) (a .n) (a .body .now) in field-puts (a .n) _ x (a .at) (ap (λ (t : Bool). cond t (bytesField (a .n) x) []) (sym (c .before .before .before .before .before .before .before .before .before .before .before .before .before .has-field .ensures) ∙ (c .before .before .before .before .before .before .before .before .before .before .before .before .if1 .taken))) (c .before .before .before .before .before .before .before .before .before .before .before .before .before .before .before .before .pre .1) _ _ _ (c .before .before .before .before .before .before .before .before .before .before .emit-merged .ensures) _ _ _ (c .before .before .before .before .before .before .before .emit-head .ensures) _ _ (c .before .before .emit-merged2 .ensures)
+returns-2 c = let a =
+    (c .before .before .before .before .before .before .before .before .before .before .before .before .before .before .before .before .args) in
+    let x = mergedOf (a .kind) (a .n) (a .body .now) in
+    field-puts (a .n) _ x (a .at)
+    (ap (λ (t : Bool). cond t (bytesField (a .n) x) [])
+    (sym (c .before .before .before .before .before .before .before .before .before .before .before .before .before .has-field .ensures)
+    ∙ (c .before .before .before .before .before .before .before .before .before .before .before .before .if1 .taken)))
+    (c .before .before .before .before .before .before .before .before .before .before .before .before .before .before .before .before .pre .1) _ _ _
+    (c .before .before .before .before .before .before .before .before .before .before .emit-merged .ensures) _ _ _
+    (c .before .before .before .before .before .before .before .emit-head .ensures) _ _ (c .before .before .emit-merged2 .ensures)
 
 returns-3 : tie.Need-returns-3
 returns-3 c = let a = (c .before .before .before .before .args) in let x = mergedOf (a .kind) (a .n) (a .body .now) in puts-same (a .out .now) (a .at) [] _ _ _ (sym (ap (λ (t : Bool). cond t (bytesField (a .n) x) []) (sym (c .before .has-field .ensures) ∙ (c .if1 .left)))) (puts-none (a .out .now) (a .at))

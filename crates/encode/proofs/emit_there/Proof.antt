@@ -32,7 +32,11 @@ part-emit-bytes-end c = search needs
 emit-bytes-requires : tie.Need-emit-bytes-requires
 emit-bytes-requires c κs =
     let a = c .before .before .before .before .before .before .before .before .before .before .before .before .args in
-    let y = field-yes (a .n) (a .f) (bytesField (a .n) (valueIn (a .input .now) (a .f))) (c .before .before .before .before .before .before .before .before .if1 .taken) (c .before .before .before .before .before .before .if2 .taken) ∙ part-is (a .n) (a .f .start) (a .f .next) (a .input .now) (c .before .before .before .before .before .before .before .before .before .before .before .before .pre .1 .order) (c .before .before .before .before .before .before .before .before .before .before .before .before .pre .1 .fits) in
+    let y = field-yes (a .n) (a .f) (bytesField (a .n) (valueIn (a .input .now) (a .f)))
+    (c .before .before .before .before .before .before .before .before .if1 .taken) (c .before .before .before .before .before .before .if2 .taken)
+    ∙ part-is (a .n) (a .f .start) (a .f .next) (a .input .now)
+    (c .before .before .before .before .before .before .before .before .before .before .before .before .pre .1 .order)
+    (c .before .before .before .before .before .before .before .before .before .before .before .before .pre .1 .fits) in
     fits-next (a .out .now) _ (a .at) _ (tag (a .n) 2 ++ uvarint (a .f .next - a .f .start)) (valueIn (a .input .now) (a .f)) (c .before .before .before .before .emit-head .ensures) (fits-same (a .at) _ _ y (c .before .before .before .before .before .before .before .before .before .before .before .before .pre .2))
 
 same-length : tie.Need-same-length
@@ -41,7 +45,11 @@ same-length c = search needs
 returns : tie.Need-returns
 returns c =
     let a = c .before .before .before .before .before .before .before .before .before .before .before .before .before .before .before .args in
-    let y = field-yes (a .n) (a .f) (bytesField (a .n) (valueIn (a .input .now) (a .f))) (c .before .before .before .before .before .before .before .before .before .before .before .if1 .taken) (c .before .before .before .before .before .before .before .before .before .if2 .taken) ∙ part-is (a .n) (a .f .start) (a .f .next) (a .input .now) (c .before .before .before .before .before .before .before .before .before .before .before .before .before .before .before .pre .1 .order) (c .before .before .before .before .before .before .before .before .before .before .before .before .before .before .before .pre .1 .fits) in
+    let y = field-yes (a .n) (a .f) (bytesField (a .n) (valueIn (a .input .now) (a .f)))
+    (c .before .before .before .before .before .before .before .before .before .before .before .if1 .taken)
+    (c .before .before .before .before .before .before .before .before .before .if2 .taken) ∙ part-is (a .n) (a .f .start) (a .f .next) (a .input .now)
+    (c .before .before .before .before .before .before .before .before .before .before .before .before .before .before .before .pre .1 .order)
+    (c .before .before .before .before .before .before .before .before .before .before .before .before .before .before .before .pre .1 .fits) in
     puts-same (a .out .now) (a .at) _ _ _ _ (sym y) (puts-append (a .out .now) _ _ (a .at) _ _ _ _ (c .before .before .before .before .before .before .before .emit-head .ensures) (c .before .before .emit-bytes .ensures))
 
 returns-2 : tie.Need-returns-2

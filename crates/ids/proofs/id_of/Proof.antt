@@ -39,13 +39,41 @@ span-requires-2 : tie.Need-span-requires-2
 span-requires-2 c κs = search needs
 
 returns-5 : tie.Need-returns-5
-returns-5 c = simp ((c .before .before .before .before .before .before .before .before .before .from .given .1), (c .before .before .before .seqno .given .1), ne-eqb _ _ (λ z. (c .before .before .before .before .before .before .if1 .left) ((c .before .before .before .before .before .before .before .span .ensures) ∙ z)), le-ltb _ _ (rw (c .before .before .before .before .before .before .before .span .ensures) at (c .before .before .before .before .before .if2 .left)), eq-eqb _ _ (sym (c .before .span2 .ensures) ∙ (c .if3 .taken)))
+returns-5 c =
+    simp (
+      (c .before .before .before .before .before .before .before .before .before .from .given .1),
+      (c .before .before .before .seqno .given .1),
+      ne-eqb _ _ (λ z. (c .before .before .before .before .before .before .if1 .left) ((c .before .before .before .before .before .before .before .span .ensures)
+          ∙ z)),
+      le-ltb _ _ (rw (c .before .before .before .before .before .before .before .span .ensures) at (c .before .before .before .before .before .if2 .left)),
+      eq-eqb _ _ (sym (c .before .span2 .ensures) ∙ (c .if3 .taken)),
+    )
 
 returns-6 : tie.Need-returns-6
-returns-6 c = simp ((c .before .before .before .before .before .before .before .before .before .before .from .given .1), (c .before .before .before .before .seqno .given .1), ne-eqb _ _ (λ z. (c .before .before .before .before .before .before .before .if1 .left) ((c .before .before .before .before .before .before .before .before .span .ensures) ∙ z)), le-ltb _ _ (rw (c .before .before .before .before .before .before .before .before .span .ensures) at (c .before .before .before .before .before .before .if2 .left)), ne-eqb _ _ (λ z. (c .before .if3 .left) ((c .before .before .span2 .ensures) ∙ z)), lt-ltb _ _ (rw (c .before .before .span2 .ensures) at (c .if4 .taken)))
+returns-6 c =
+    simp (
+      (c .before .before .before .before .before .before .before .before .before .before .from .given .1),
+      (c .before .before .before .before .seqno .given .1),
+      ne-eqb _ _ (λ z. (c .before .before .before .before .before .before .before .if1 .left)
+          ((c .before .before .before .before .before .before .before .before .span .ensures) ∙ z)),
+      le-ltb _ _
+          (rw (c .before .before .before .before .before .before .before .before .span .ensures) at (c .before .before .before .before .before .before .if2 .left)),
+      ne-eqb _ _ (λ z. (c .before .if3 .left) ((c .before .before .span2 .ensures) ∙ z)),
+      lt-ltb _ _ (rw (c .before .before .span2 .ensures) at (c .if4 .taken)),
+    )
 
 returns-7 : tie.Need-returns-7
-returns-7 c = simp ((c .before .before .before .before .before .before .before .before .before .before .from .given .1), (c .before .before .before .before .seqno .given .1), ne-eqb _ _ (λ z. (c .before .before .before .before .before .before .before .if1 .left) ((c .before .before .before .before .before .before .before .before .span .ensures) ∙ z)), le-ltb _ _ (rw (c .before .before .before .before .before .before .before .before .span .ensures) at (c .before .before .before .before .before .before .if2 .left)), ne-eqb _ _ (λ z. (c .before .if3 .left) ((c .before .before .span2 .ensures) ∙ z)), le-ltb _ _ (rw (c .before .before .span2 .ensures) at (c .if4 .left)))
+returns-7 c =
+    simp (
+      (c .before .before .before .before .before .before .before .before .before .before .from .given .1),
+      (c .before .before .before .before .seqno .given .1),
+      ne-eqb _ _ (λ z. (c .before .before .before .before .before .before .before .if1 .left)
+          ((c .before .before .before .before .before .before .before .before .span .ensures) ∙ z)),
+      le-ltb _ _
+          (rw (c .before .before .before .before .before .before .before .before .span .ensures) at (c .before .before .before .before .before .before .if2 .left)),
+      ne-eqb _ _ (λ z. (c .before .if3 .left) ((c .before .before .span2 .ensures) ∙ z)),
+      le-ltb _ _ (rw (c .before .before .span2 .ensures) at (c .if4 .left)),
+    )
 
 pub id-of-spec : {M : Type 1} → statement M
 id-of-spec =

@@ -55,7 +55,13 @@ messages-after-requires : tie.Need-messages-after-requires Inv-loop μ-loop
 messages-after-requires c κs = omega arith
 
 loop-less : tie.Need-loop-less Inv-loop μ-loop
-loop-less c = omega (arith, field-stands (c .before .before .before .before .before .before .before .before .before .before .args .body .now) (c .before .before .before .before .before .before .before .before .loop .at) (c .before .before .before .before .step .given .0 .0) (sym (c .before .before .before .before .step .given .1) ∙ c .before .before .before .before .before .before .read-field .ensures))
+loop-less c =
+    omega (
+      arith,
+      field-stands (c .before .before .before .before .before .before .before .before .before .before .args .body .now)
+          (c .before .before .before .before .before .before .before .before .loop .at) (c .before .before .before .before .step .given .0 .0)
+          (sym (c .before .before .before .before .step .given .1) ∙ c .before .before .before .before .before .before .read-field .ensures),
+    )
 
 loop-again : tie.Need-loop-again Inv-loop μ-loop
 loop-again c =
@@ -64,7 +70,11 @@ loop-again c =
     let k = at-most (isBytes 2 (c .before .before .before .before .step .given .0 .0)) (l .n) (c .messages-after .result) (c .messages-after .ensures) in (
       omega (arith, m .within),
       omega arith,
-      l .inv .2 ∙ found-later (c .before .before .before .before .before .before .before .before .before .before .args .body .now) (l .at) (c .before .before .before .before .before .before .before .before .before .before .args .index) (l .n) (c .messages-after .result) (c .before .before .before .before .step .given .0 .0) (sym (c .before .before .before .before .step .given .1) ∙ c .before .before .before .before .before .before .read-field .ensures) (sym (c .before .before .is-it .ensures) ∙ c .before .if1 .left) (c .messages-after .ensures),
+      l .inv .2 ∙ found-later (c .before .before .before .before .before .before .before .before .before .before .args .body .now) (l .at)
+          (c .before .before .before .before .before .before .before .before .before .before .args .index) (l .n) (c .messages-after .result)
+          (c .before .before .before .before .step .given .0 .0) (sym (c .before .before .before .before .step .given .1)
+          ∙ c .before .before .before .before .before .before .read-field .ensures) (sym (c .before .before .is-it .ensures) ∙ c .before .if1 .left)
+          (c .messages-after .ensures),
     )
 
 returns-4 : tie.Need-returns-4 Inv-loop μ-loop

@@ -69,13 +69,25 @@ put-bytes-requires-2 : tie.Need-put-bytes-requires-2
 put-bytes-requires-2 c κs = search needs
 
 sub-put-bytes-2 : tie.Need-sub-put-bytes-2
-sub-put-bytes-2 c = id-fits (c .before .before .before .before .before .before .before .before .before .before .before .before .before .before .before .before .before .before .args .part .now) _ _ _ _ (sym (c .before .before .before .before .before .before .before .before .before .before .before .before .before .before .id-parts .ensures) ∙ c .before .before .before .before .before .before .before .before .before .before .before .before .id2 .given .1) .seqno .0
+sub-put-bytes-2 c =
+    id-fits (c .before .before .before .before .before .before .before .before .before .before .before .before .before .before .before .before .before .before
+    .args .part .now) _ _ _ _
+    (sym (c .before .before .before .before .before .before .before .before .before .before .before .before .before .before .id-parts .ensures)
+    ∙ c .before .before .before .before .before .before .before .before .before .before .before .before .id2 .given .1) .seqno .0
 
 part-put-bytes-start-2 : tie.Need-part-put-bytes-start-2
-part-put-bytes-start-2 c = id-fits (c .before .before .before .before .before .before .before .before .before .before .before .before .before .before .before .before .before .before .args .part .now) _ _ _ _ (sym (c .before .before .before .before .before .before .before .before .before .before .before .before .before .before .id-parts .ensures) ∙ c .before .before .before .before .before .before .before .before .before .before .before .before .id2 .given .1) .seqno .0
+part-put-bytes-start-2 c =
+    id-fits (c .before .before .before .before .before .before .before .before .before .before .before .before .before .before .before .before .before .before
+    .args .part .now) _ _ _ _
+    (sym (c .before .before .before .before .before .before .before .before .before .before .before .before .before .before .id-parts .ensures)
+    ∙ c .before .before .before .before .before .before .before .before .before .before .before .before .id2 .given .1) .seqno .0
 
 part-put-bytes-end-2 : tie.Need-part-put-bytes-end-2
-part-put-bytes-end-2 c = id-fits (c .before .before .before .before .before .before .before .before .before .before .before .before .before .before .before .before .before .before .args .part .now) _ _ _ _ (sym (c .before .before .before .before .before .before .before .before .before .before .before .before .before .before .id-parts .ensures) ∙ c .before .before .before .before .before .before .before .before .before .before .before .before .id2 .given .1) .seqno .1
+part-put-bytes-end-2 c =
+    id-fits (c .before .before .before .before .before .before .before .before .before .before .before .before .before .before .before .before .before .before
+    .args .part .now) _ _ _ _
+    (sym (c .before .before .before .before .before .before .before .before .before .before .before .before .before .before .id-parts .ensures)
+    ∙ c .before .before .before .before .before .before .before .before .before .before .before .before .id2 .given .1) .seqno .1
 
 put-bytes-requires-3 : tie.Need-put-bytes-requires-3
 put-bytes-requires-3 c κs = search needs
@@ -105,7 +117,10 @@ returns-5 : tie.Need-returns-5
 returns-5 c =
     let a = c .before .before .before .before .before .before .before .before .before .before .before .before .before .before .before .before .before .before .before .before .before .before .args in
     let e = sym (c .before .before .before .before .before .before .before .before .before .before .before .before .before .before .before .before .before .before .id-parts .ensures) ∙ c .before .before .before .before .before .before .before .before .before .before .before .before .before .before .before .before .id2 .given .1 in
-    let s = id-put (a .before .now) (a .part .now) (a .out .now) _ _ _ _ _ _ _ _ _ _ (id-fits (a .part .now) _ _ _ _ e) (c .before .before .before .before .before .before .before .before .before .before .before .before .before .before .if1 .left) (c .before .before .before .before .before .before .before .before .before .before .before .before .put-bytes .ensures) (c .before .before .before .before .before .before .before .put-bytes2 .ensures) (c .before .before .put-bytes3 .ensures) in
+    let s = id-put (a .before .now) (a .part .now) (a .out .now) _ _ _ _ _ _ _ _ _ _ (id-fits (a .part .now) _ _ _ _ e)
+    (c .before .before .before .before .before .before .before .before .before .before .before .before .before .before .if1 .left)
+    (c .before .before .before .before .before .before .before .before .before .before .before .before .put-bytes .ensures)
+    (c .before .before .before .before .before .before .before .put-bytes2 .ensures) (c .before .before .put-bytes3 .ensures) in
     (s .0 ∙ ap (answerId (a .before .now) (a .part .now) (a .out .now)) (sym e), s .1 ∙ ap (leftId (a .before .now) (a .part .now) (a .out .now)) (sym e))
 
 pub put-id-spec : {M : Type 1} → statement M

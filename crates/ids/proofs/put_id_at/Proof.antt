@@ -53,7 +53,12 @@ same-length : tie.Need-same-length
 same-length c = search needs
 
 returns-3 : tie.Need-returns-3
-returns-3 c = let a = c .before .before .before .before .before .before .before .before .before .before .before .before .before .before .before .args in at-message (a .before .now) (a .body .now) (a .index) (a .out .now) _ _ _ _ (sym (c .before .before .before .before .before .before .before .before .before .before .before .accept .ensures) ∙ c .before .before .before .before .before .before .before .before .before .enum-told .given .1) (sym (c .before .before .before .before .before .before .before .before .message-at .ensures) ∙ c .before .before .before .before .before .before .m2 .given .1) (c .before .before .put-id .ensures)
+returns-3 c = let a = c .before .before .before .before .before .before .before .before .before .before .before .before .before .before .before .args in
+    at-message (a .before .now) (a .body .now) (a .index) (a .out .now) _ _ _ _
+    (sym (c .before .before .before .before .before .before .before .before .before .before .before .accept .ensures)
+    ∙ c .before .before .before .before .before .before .before .before .before .enum-told .given .1)
+    (sym (c .before .before .before .before .before .before .before .before .message-at .ensures)
+    ∙ c .before .before .before .before .before .before .m2 .given .1) (c .before .before .put-id .ensures)
 
 pub put-id-at-spec : {M : Type 1} → statement M
 put-id-at-spec =

@@ -37,7 +37,10 @@ same-length : tie.Need-same-length
 same-length c = search needs
 
 returns-2 : tie.Need-returns-2
-returns-2 c = puts-as (walk-answer _ _ _ (c .before .before .before .before .before .before .before .before .before .before .before .before .if1 .left) (c .before .before .before .before .before .before .before .before .before .before .before .little-at .ensures) (c .before .before .before .before .before .before .before .before .before .step .ensures)) (omega arith) (puts-then (c .before .before .before .before .before .before .put-word .ensures) (c .before .before .put-walk .ensures))
+returns-2 c = puts-as (walk-answer _ _ _ (c .before .before .before .before .before .before .before .before .before .before .before .before .if1 .left)
+    (c .before .before .before .before .before .before .before .before .before .before .before .little-at .ensures)
+    (c .before .before .before .before .before .before .before .before .before .step .ensures)) (omega arith)
+    (puts-then (c .before .before .before .before .before .before .put-word .ensures) (c .before .before .put-walk .ensures))
 
 pub answer-walk-spec : {M : Type 1} → statement M
 answer-walk-spec =

@@ -29,7 +29,11 @@ same-length-2 : tie.Need-same-length-2
 same-length-2 c = search needs
 
 returns-2 : tie.Need-returns-2
-returns-2 c = line-some (c .before .before .before .before .before .before .before .before .before .before .before .before .before .before .before .args .n) (c .before .before .before .before .before .before .before .before .before .before .before .before .before .before .before .args .kind) _ (c .before .before .before .before .before .before .before .before .before .before .before .start-line .ensures) (c .before .before .before .before .before .before .before .answer .ensures) (c .before .before .end-line .ensures) (c .before .before .before .before .if1 .left) (omega arith)
+returns-2 c = line-some (c .before .before .before .before .before .before .before .before .before .before .before .before .before .before .before .args .n)
+    (c .before .before .before .before .before .before .before .before .before .before .before .before .before .before .before .args .kind) _
+    (c .before .before .before .before .before .before .before .before .before .before .before .start-line .ensures)
+    (c .before .before .before .before .before .before .before .answer .ensures) (c .before .before .end-line .ensures)
+    (c .before .before .before .before .if1 .left) (omega arith)
 
 pub line-spec : {M : Type 1} → statement M
 line-spec =

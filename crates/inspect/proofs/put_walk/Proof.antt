@@ -29,4 +29,10 @@ put-walk-spec =
     (λ c. search needs)
     (λ c. puts-as (ap walk (sym (c .before .before .before .before .before .before .w .given .1))) (omega arith) (rw (c .before .before .before .told-wire .ensures) at (c .before .before .put-refusal .ensures)))
     (λ c. search needs)
-    (λ c. puts-as (ap walk (sym (c .before .before .before .before .before .before .before .before .before .before .before .before .before .before .before .before .before .w2 .given .1))) (omega arith) (puts-then (c .before .before .before .before .before .before .before .before .before .before .before .before .before .before .put-value .ensures) (puts-then (c .before .before .before .before .before .before .before .before .before .before .put-value2 .ensures) (puts-then (c .before .before .before .before .before .before .put-value3 .ensures) (c .before .before .put-value4 .ensures))))))
+    (λ c. puts-as
+    (ap walk (sym
+    (c .before .before .before .before .before .before .before .before .before .before .before .before .before .before .before .before .before .w2 .given
+    .1))) (omega arith)
+    (puts-then (c .before .before .before .before .before .before .before .before .before .before .before .before .before .before .put-value .ensures)
+    (puts-then (c .before .before .before .before .before .before .before .before .before .before .put-value2 .ensures)
+    (puts-then (c .before .before .before .before .before .before .put-value3 .ensures) (c .before .before .put-value4 .ensures))))))

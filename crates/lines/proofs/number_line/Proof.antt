@@ -30,7 +30,10 @@ same-length c = search needs
 
 returns : tie.Need-returns
 unfolding numberLine
-returns c = puts-holds (puts-then ((c .before .before .before .before .before .before .before .before .before .before .before .before .before .before .start-line .ensures)) (puts-then (puts-then ((c .before .before .before .before .before .before .before .before .before .before .put-word .ensures)) ((c .before .before .before .before .before .before .put-value .ensures))) ((c .before .before .end-line .ensures)))) (omega arith)
+returns c = puts-holds
+    (puts-then ((c .before .before .before .before .before .before .before .before .before .before .before .before .before .before .start-line .ensures))
+    (puts-then (puts-then ((c .before .before .before .before .before .before .before .before .before .before .put-word .ensures))
+    ((c .before .before .before .before .before .before .put-value .ensures))) ((c .before .before .end-line .ensures)))) (omega arith)
 
 pub number-line-spec : {M : Type 1} → statement M
 number-line-spec =

@@ -27,7 +27,10 @@ mul-wrapping-sub-u64 : tie.Need-mul-wrapping-sub-u64 Inv-loop μ-loop
 mul-wrapping-sub-u64 c = let l = place-lt (c .before .before .before .before .before .args .ring) (c .before .before .before .loop .i) (c .before .before .before .before .before .pre .starts) (omega (arith, (c .before .before .before .before .before .pre .within))) in let e = (c .place .ensures) in omega (arith, (c .before .before .before .before .before .pre .size))
 
 shared-slice-read-wrapping-sub-u64 : tie.Need-shared-slice-read-wrapping-sub-u64 Inv-loop μ-loop
-shared-slice-read-wrapping-sub-u64 c = let l = place-lt (c .before .before .before .before .before .before .args .ring) (c .before .before .before .before .loop .i) (c .before .before .before .before .before .before .pre .starts) (omega (arith, (c .before .before .before .before .before .before .pre .within))) in let e = (c .before .place .ensures) in omega (arith, (c .before .before .before .before .before .before .pre .size))
+shared-slice-read-wrapping-sub-u64 c = let l = place-lt (c .before .before .before .before .before .before .args .ring)
+    (c .before .before .before .before .loop .i) (c .before .before .before .before .before .before .pre .starts)
+    (omega (arith, (c .before .before .before .before .before .before .pre .within))) in let e = (c .before .place .ensures) in
+    omega (arith, (c .before .before .before .before .before .before .pre .size))
 
 wrapping-sub-u64-requires : tie.Need-wrapping-sub-u64-requires Inv-loop μ-loop
 wrapping-sub-u64-requires c κs = search needs
@@ -36,7 +39,13 @@ sub-if2 : tie.Need-sub-if2 Inv-loop μ-loop
 sub-if2 c = search needs
 
 returns : tie.Need-returns Inv-loop μ-loop
-returns c = runs-not (c .before .before .before .before .before .before .before .before .before .args .next) (c .before .before .before .before .before .before .before .before .before .args .ring) (now (c .before .before .before .before .before .before .before .before .before .args .generation)) (c .before .before .before .before .before .before .before .loop .i) (c .before .before .before .before .before .before .before .loop .inv .1) _ (c .before .before .wrapping-sub-u64 .result) (c .before .before .before .before .before .if1 .taken) (ap (λ (p : ℕ). getD (now (c .before .before .before .before .before .before .before .before .before .args .generation)) p 0) (c .before .before .before .before .place .ensures)) (c .before .before .wrapping-sub-u64 .ensures) (search needs) (search needs) (c .if2 .taken)
+returns c = runs-not (c .before .before .before .before .before .before .before .before .before .args .next)
+    (c .before .before .before .before .before .before .before .before .before .args .ring)
+    (now (c .before .before .before .before .before .before .before .before .before .args .generation))
+    (c .before .before .before .before .before .before .before .loop .i) (c .before .before .before .before .before .before .before .loop .inv .1) _
+    (c .before .before .wrapping-sub-u64 .result) (c .before .before .before .before .before .if1 .taken)
+    (ap (λ (p : ℕ). getD (now (c .before .before .before .before .before .before .before .before .before .args .generation)) p 0)
+    (c .before .before .before .before .place .ensures)) (c .before .before .wrapping-sub-u64 .ensures) (search needs) (search needs) (c .if2 .taken)
 
 add-i : tie.Need-add-i Inv-loop μ-loop
 add-i c = search needs
@@ -45,7 +54,16 @@ loop-less : tie.Need-loop-less Inv-loop μ-loop
 loop-less c = search needs
 
 loop-again : tie.Need-loop-again Inv-loop μ-loop
-loop-again c = (omega arith, runs-more (c .before .before .before .before .before .before .before .before .before .args .next) (c .before .before .before .before .before .before .before .before .before .args .ring) (now (c .before .before .before .before .before .before .before .before .before .args .generation)) (c .before .before .before .before .before .before .before .loop .i) (c .before .before .before .before .before .before .before .loop .inv .1) _ (c .before .before .wrapping-sub-u64 .result) (c .before .before .before .before .before .if1 .taken) (ap (λ (p : ℕ). getD (now (c .before .before .before .before .before .before .before .before .before .args .generation)) p 0) (c .before .before .before .before .place .ensures)) (c .before .before .wrapping-sub-u64 .ensures) (c .if2 .left))
+loop-again c = (
+  omega arith,
+  runs-more (c .before .before .before .before .before .before .before .before .before .args .next)
+      (c .before .before .before .before .before .before .before .before .before .args .ring)
+      (now (c .before .before .before .before .before .before .before .before .before .args .generation))
+      (c .before .before .before .before .before .before .before .loop .i) (c .before .before .before .before .before .before .before .loop .inv .1) _
+      (c .before .before .wrapping-sub-u64 .result) (c .before .before .before .before .before .if1 .taken)
+      (ap (λ (p : ℕ). getD (now (c .before .before .before .before .before .before .before .before .before .args .generation)) p 0)
+      (c .before .before .before .before .place .ensures)) (c .before .before .wrapping-sub-u64 .ensures) (c .if2 .left),
+)
 
 returns-2 : tie.Need-returns-2 Inv-loop μ-loop
 returns-2 c = runs-all (c .before .before .before .before .args .next) (c .before .before .before .before .args .ring) (now (c .before .before .before .before .args .generation)) (c .before .before .loop .i) (c .before .before .loop .inv .1) (c .if1 .left)

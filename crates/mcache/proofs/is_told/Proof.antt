@@ -13,7 +13,10 @@ cast-w : tie.Need-cast-w
 cast-w c = omega (arith, (c .before .before .before .before .shared-slice-known .given) (c .before .before .before .before .before .args .p))
 
 returns : tie.Need-returns
-returns c = told-not (now (c .before .before .before .before .before .before .args .window)) (now (c .before .before .before .before .before .before .args .lens)) (now (c .before .before .before .before .before .before .args .store)) (c .before .before .before .before .before .before .args .windows) (now (c .before .before .before .before .before .before .args .topic)) (c .before .before .before .before .before .before .args .p) (c .if1 .taken)
+returns c = told-not (now (c .before .before .before .before .before .before .args .window))
+    (now (c .before .before .before .before .before .before .args .lens)) (now (c .before .before .before .before .before .before .args .store))
+    (c .before .before .before .before .before .before .args .windows) (now (c .before .before .before .before .before .before .args .topic))
+    (c .before .before .before .before .before .before .args .p) (c .if1 .taken)
 
 mul-base : tie.Need-mul-base
 mul-base c = search needs
@@ -43,7 +46,13 @@ carries-requires : tie.Need-carries-requires
 carries-requires c κs = search needs
 
 returns-2 : tie.Need-returns-2
-returns-2 c = told-is (now (c .before .before .before .before .before .before .before .before .before .args .window)) (now (c .before .before .before .before .before .before .before .before .before .args .lens)) (now (c .before .before .before .before .before .before .before .before .before .args .store)) (c .before .before .before .before .before .before .before .before .before .args .windows) (now (c .before .before .before .before .before .before .before .before .before .args .topic)) (c .before .before .before .before .before .before .before .before .before .args .p) (c .carries .result) (c .before .before .before .if1 .left) (c .carries .ensures)
+returns-2 c = told-is (now (c .before .before .before .before .before .before .before .before .before .args .window))
+    (now (c .before .before .before .before .before .before .before .before .before .args .lens))
+    (now (c .before .before .before .before .before .before .before .before .before .args .store))
+    (c .before .before .before .before .before .before .before .before .before .args .windows)
+    (now (c .before .before .before .before .before .before .before .before .before .args .topic))
+    (c .before .before .before .before .before .before .before .before .before .args .p) (c .carries .result) (c .before .before .before .if1 .left)
+    (c .carries .ensures)
 
 pub is-told-spec : {M : Type 1} → statement M
 is-told-spec =

@@ -30,7 +30,14 @@ loop-less : tie.Need-loop-less Inv-loop μ-loop
 loop-less c = search needs
 
 loop-again : tie.Need-loop-again Inv-loop μ-loop
-loop-again c = (omega arith, omega arith, simp length-set (c .before .before .loop .inv .2), half-more (c .before .before .before .args .at) (c .before .before .before .args .p) (now (c .before .before .before .args .rows)) (c .before .before .loop .rows) (c .before .before .loop .v) (c .before .before .loop .i) (c .before .before .loop .inv .0) (omega (arith, (c .before .before .before .pre))) (c .before .before .loop .inv .3))
+loop-again c = (
+  omega arith,
+  omega arith,
+  simp length-set (c .before .before .loop .inv .2),
+  half-more (c .before .before .before .args .at) (c .before .before .before .args .p) (now (c .before .before .before .args .rows))
+      (c .before .before .loop .rows) (c .before .before .loop .v) (c .before .before .loop .i) (c .before .before .loop .inv .0)
+      (omega (arith, (c .before .before .before .pre))) (c .before .before .loop .inv .3),
+)
 
 same-length : tie.Need-same-length Inv-loop μ-loop
 same-length c = search needs

@@ -39,16 +39,32 @@ cast-q : tie.Need-cast-q Inv-loop μ-loop
 cast-q c = omega (arith, (c .shared-slice-known5 .given) (c .before .before .loop .i))
 
 mul-q-base : tie.Need-mul-q-base Inv-loop μ-loop
-mul-q-base c = let w = listed-at (c .before .before .before .before .before .before .before .args .n) (now (c .before .before .before .before .before .before .before .args .rows)) (now (c .before .before .before .before .before .before .before .args .id-lens)) (now (c .before .before .before .before .before .before .before .args .ids)) (c .before .before .loop .i) (c .before .before .before .before .before .before .before .pre .1 .0) (c .before .loop-test .taken) in omega arith
+mul-q-base c = let w = listed-at (c .before .before .before .before .before .before .before .args .n)
+    (now (c .before .before .before .before .before .before .before .args .rows))
+    (now (c .before .before .before .before .before .before .before .args .id-lens))
+    (now (c .before .before .before .before .before .before .before .args .ids)) (c .before .before .loop .i)
+    (c .before .before .before .before .before .before .before .pre .1 .0) (c .before .loop-test .taken) in omega arith
 
 shared-slice-read-q-end : tie.Need-shared-slice-read-q-end Inv-loop μ-loop
-shared-slice-read-q-end c = let w = listed-at (c .before .before .before .before .before .before .before .before .args .n) (now (c .before .before .before .before .before .before .before .before .args .rows)) (now (c .before .before .before .before .before .before .before .before .args .id-lens)) (now (c .before .before .before .before .before .before .before .before .args .ids)) (c .before .before .before .loop .i) (c .before .before .before .before .before .before .before .before .pre .1 .0) (c .before .before .loop-test .taken) in omega arith
+shared-slice-read-q-end c = let w = listed-at (c .before .before .before .before .before .before .before .before .args .n)
+    (now (c .before .before .before .before .before .before .before .before .args .rows))
+    (now (c .before .before .before .before .before .before .before .before .args .id-lens))
+    (now (c .before .before .before .before .before .before .before .before .args .ids)) (c .before .before .before .loop .i)
+    (c .before .before .before .before .before .before .before .before .pre .1 .0) (c .before .before .loop-test .taken) in omega arith
 
 cast-q-end : tie.Need-cast-q-end Inv-loop μ-loop
-cast-q-end c = let w = listed-at (c .before .before .before .before .before .before .before .before .args .n) (now (c .before .before .before .before .before .before .before .before .args .rows)) (now (c .before .before .before .before .before .before .before .before .args .id-lens)) (now (c .before .before .before .before .before .before .before .before .args .ids)) (c .before .before .before .loop .i) (c .before .before .before .before .before .before .before .before .pre .1 .0) (c .before .before .loop-test .taken) in omega arith
+cast-q-end c = let w = listed-at (c .before .before .before .before .before .before .before .before .args .n)
+    (now (c .before .before .before .before .before .before .before .before .args .rows))
+    (now (c .before .before .before .before .before .before .before .before .args .id-lens))
+    (now (c .before .before .before .before .before .before .before .before .args .ids)) (c .before .before .before .loop .i)
+    (c .before .before .before .before .before .before .before .before .pre .1 .0) (c .before .before .loop-test .taken) in omega arith
 
 add-q-end : tie.Need-add-q-end Inv-loop μ-loop
-add-q-end c = let w = listed-at (c .before .before .before .before .before .before .before .before .args .n) (now (c .before .before .before .before .before .before .before .before .args .rows)) (now (c .before .before .before .before .before .before .before .before .args .id-lens)) (now (c .before .before .before .before .before .before .before .before .args .ids)) (c .before .before .before .loop .i) (c .before .before .before .before .before .before .before .before .pre .1 .0) (c .before .before .loop-test .taken) in omega arith
+add-q-end c = let w = listed-at (c .before .before .before .before .before .before .before .before .args .n)
+    (now (c .before .before .before .before .before .before .before .before .args .rows))
+    (now (c .before .before .before .before .before .before .before .before .args .id-lens))
+    (now (c .before .before .before .before .before .before .before .before .args .ids)) (c .before .before .before .loop .i)
+    (c .before .before .before .before .before .before .before .before .pre .1 .0) (c .before .before .loop-test .taken) in omega arith
 
 sub-precedes : tie.Need-sub-precedes Inv-loop μ-loop
 sub-precedes c = search needs
@@ -57,7 +73,11 @@ part-precedes-start : tie.Need-part-precedes-start Inv-loop μ-loop
 part-precedes-start c = search needs
 
 part-precedes-end : tie.Need-part-precedes-end Inv-loop μ-loop
-part-precedes-end c = let w = listed-at (c .before .before .before .before .before .before .before .before .args .n) (now (c .before .before .before .before .before .before .before .before .args .rows)) (now (c .before .before .before .before .before .before .before .before .args .id-lens)) (now (c .before .before .before .before .before .before .before .before .args .ids)) (c .before .before .before .loop .i) (c .before .before .before .before .before .before .before .before .pre .1 .0) (c .before .before .loop-test .taken) in omega arith
+part-precedes-end c = let w = listed-at (c .before .before .before .before .before .before .before .before .args .n)
+    (now (c .before .before .before .before .before .before .before .before .args .rows))
+    (now (c .before .before .before .before .before .before .before .before .args .id-lens))
+    (now (c .before .before .before .before .before .before .before .before .args .ids)) (c .before .before .before .loop .i)
+    (c .before .before .before .before .before .before .before .before .pre .1 .0) (c .before .before .loop-test .taken) in omega arith
 
 sub-precedes-2 : tie.Need-sub-precedes-2 Inv-loop μ-loop
 sub-precedes-2 c = search needs
@@ -78,13 +98,38 @@ loop-less : tie.Need-loop-less Inv-loop μ-loop
 loop-less c = search needs
 
 loop-again : tie.Need-loop-again Inv-loop μ-loop
-loop-again c = (omega arith, spot-next (c .before .before .before .before .before .before .before .before .before .before .before .before .args .p) (c .before .before .before .before .before .before .before .before .before .before .before .before .args .n) (now (c .before .before .before .before .before .before .before .before .before .before .before .before .args .rows)) (now (c .before .before .before .before .before .before .before .before .before .before .before .before .args .id-lens)) (now (c .before .before .before .before .before .before .before .before .before .before .before .before .args .ids)) (c .before .before .before .before .before .before .before .loop .i) (c .before .precedes .result) (c .before .before .before .before .before .before .before .before .before .before .before .before .pre .0) (c .before .before .before .before .before .before .loop-test .taken) (c .before .before .before .before .before .before .before .loop .inv .1) (c .before .precedes .ensures) (c .if1 .taken))
+loop-again c = (
+  omega arith,
+  spot-next (c .before .before .before .before .before .before .before .before .before .before .before .before .args .p)
+      (c .before .before .before .before .before .before .before .before .before .before .before .before .args .n)
+      (now (c .before .before .before .before .before .before .before .before .before .before .before .before .args .rows))
+      (now (c .before .before .before .before .before .before .before .before .before .before .before .before .args .id-lens))
+      (now (c .before .before .before .before .before .before .before .before .before .before .before .before .args .ids))
+      (c .before .before .before .before .before .before .before .loop .i) (c .before .precedes .result)
+      (c .before .before .before .before .before .before .before .before .before .before .before .before .pre .0)
+      (c .before .before .before .before .before .before .loop-test .taken) (c .before .before .before .before .before .before .before .loop .inv .1)
+      (c .before .precedes .ensures) (c .if1 .taken),
+)
 
 returns : tie.Need-returns Inv-loop μ-loop
-returns c = spot-now (c .before .before .before .before .before .before .before .before .before .before .before .before .args .p) (c .before .before .before .before .before .before .before .before .before .before .before .before .args .n) (now (c .before .before .before .before .before .before .before .before .before .before .before .before .args .rows)) (now (c .before .before .before .before .before .before .before .before .before .before .before .before .args .id-lens)) (now (c .before .before .before .before .before .before .before .before .before .before .before .before .args .ids)) (c .before .before .before .before .before .before .before .loop .i) (c .before .precedes .result) (c .before .before .before .before .before .before .before .before .before .before .before .before .pre .0) (c .before .before .before .before .before .before .loop-test .taken) (c .before .before .before .before .before .before .before .loop .inv .1) (c .before .precedes .ensures) (c .if1 .left)
+returns c = spot-now (c .before .before .before .before .before .before .before .before .before .before .before .before .args .p)
+    (c .before .before .before .before .before .before .before .before .before .before .before .before .args .n)
+    (now (c .before .before .before .before .before .before .before .before .before .before .before .before .args .rows))
+    (now (c .before .before .before .before .before .before .before .before .before .before .before .before .args .id-lens))
+    (now (c .before .before .before .before .before .before .before .before .before .before .before .before .args .ids))
+    (c .before .before .before .before .before .before .before .loop .i) (c .before .precedes .result)
+    (c .before .before .before .before .before .before .before .before .before .before .before .before .pre .0)
+    (c .before .before .before .before .before .before .loop-test .taken) (c .before .before .before .before .before .before .before .loop .inv .1)
+    (c .before .precedes .ensures) (c .if1 .left)
 
 returns-2 : tie.Need-returns-2 Inv-loop μ-loop
-returns-2 c = spot-last (idAt messageIdSize (now (c .before .before .before .before .before .before .args .id-lens)) (now (c .before .before .before .before .before .before .args .ids))) (c .before .before .before .before .before .before .args .p) (take (c .before .before .before .before .before .before .args .n) (now (c .before .before .before .before .before .before .args .rows))) (c .before .loop .i) (c .before .loop .inv .1) (taken-length (c .before .before .before .before .before .before .args .n) (now (c .before .before .before .before .before .before .args .rows)) (c .before .loop .i) (c .before .before .before .before .before .before .pre .0) (c .loop-test .left))
+returns-2 c =
+    spot-last (idAt messageIdSize (now (c .before .before .before .before .before .before .args .id-lens))
+    (now (c .before .before .before .before .before .before .args .ids))) (c .before .before .before .before .before .before .args .p)
+    (take (c .before .before .before .before .before .before .args .n) (now (c .before .before .before .before .before .before .args .rows)))
+    (c .before .loop .i) (c .before .loop .inv .1) (taken-length (c .before .before .before .before .before .before .args .n)
+    (now (c .before .before .before .before .before .before .args .rows)) (c .before .loop .i) (c .before .before .before .before .before .before .pre .0)
+    (c .loop-test .left))
 
 pub spot-spec : {M : Type 1} → statement M
 spot-spec =

@@ -24,7 +24,9 @@ place-requires : tie.Need-place-requires Inv-loop μ-loop
 place-requires c κs = search needs
 
 shared-slice-read-w : tie.Need-shared-slice-read-w Inv-loop μ-loop
-shared-slice-read-w c = let l = place-lt (c .before .before .before .before .before .before .args .ring) (c .before .before .before .before .loop .i) (c .before .before .before .before .before .before .pre .starts) (omega (arith, (c .before .before .before .before .before .before .pre .within))) in let e = (c .before .place .ensures) in omega (arith, (c .before .before .before .before .before .before .pre .size))
+shared-slice-read-w c = let l = place-lt (c .before .before .before .before .before .before .args .ring) (c .before .before .before .before .loop .i)
+    (c .before .before .before .before .before .before .pre .starts) (omega (arith, (c .before .before .before .before .before .before .pre .within))) in
+    let e = (c .before .place .ensures) in omega (arith, (c .before .before .before .before .before .before .pre .size))
 
 cast-w : tie.Need-cast-w Inv-loop μ-loop
 cast-w c = omega (arith, (c .shared-slice-known2 .given) (c .before .place .result))
@@ -33,7 +35,11 @@ add-if2 : tie.Need-add-if2 Inv-loop μ-loop
 add-if2 c = omega (arith, (c .shared-slice-known2 .given) (c .before .place .result))
 
 returns : tie.Need-returns Inv-loop μ-loop
-returns c = stale-stays (c .before .before .before .before .before .before .before .args .history-len) (c .before .before .before .before .before .before .before .args .ring) (now (c .before .before .before .before .before .before .before .args .window)) (c .before .before .before .before .before .loop .i) (c .before .before .before .before .before .loop .inv .1) _ (c .before .before .before .if1 .taken) (ap (λ (p : ℕ). getD (now (c .before .before .before .before .before .before .before .args .window)) p 0) (c .before .before .place .ensures)) (c .if2 .taken)
+returns c = stale-stays (c .before .before .before .before .before .before .before .args .history-len)
+    (c .before .before .before .before .before .before .before .args .ring) (now (c .before .before .before .before .before .before .before .args .window))
+    (c .before .before .before .before .before .loop .i) (c .before .before .before .before .before .loop .inv .1) _ (c .before .before .before .if1 .taken)
+    (ap (λ (p : ℕ). getD (now (c .before .before .before .before .before .before .before .args .window)) p 0) (c .before .before .place .ensures))
+    (c .if2 .taken)
 
 add-i : tie.Need-add-i Inv-loop μ-loop
 add-i c = search needs
@@ -42,7 +48,14 @@ loop-less : tie.Need-loop-less Inv-loop μ-loop
 loop-less c = search needs
 
 loop-again : tie.Need-loop-again Inv-loop μ-loop
-loop-again c = (omega arith, stale-more (c .before .before .before .before .before .before .before .args .history-len) (c .before .before .before .before .before .before .before .args .ring) (now (c .before .before .before .before .before .before .before .args .window)) (c .before .before .before .before .before .loop .i) (c .before .before .before .before .before .loop .inv .1) _ (c .before .before .before .if1 .taken) (ap (λ (p : ℕ). getD (now (c .before .before .before .before .before .before .before .args .window)) p 0) (c .before .before .place .ensures)) (c .if2 .left))
+loop-again c = (
+  omega arith,
+  stale-more (c .before .before .before .before .before .before .before .args .history-len)
+      (c .before .before .before .before .before .before .before .args .ring) (now (c .before .before .before .before .before .before .before .args .window))
+      (c .before .before .before .before .before .loop .i) (c .before .before .before .before .before .loop .inv .1) _ (c .before .before .before .if1 .taken)
+      (ap (λ (p : ℕ). getD (now (c .before .before .before .before .before .before .before .args .window)) p 0) (c .before .before .place .ensures))
+      (c .if2 .left),
+)
 
 returns-2 : tie.Need-returns-2 Inv-loop μ-loop
 returns-2 c = stale-all (c .before .before .before .before .args .history-len) (c .before .before .before .before .args .ring) (now (c .before .before .before .before .args .window)) (c .before .before .loop .i) (c .before .before .loop .inv .1) (c .if1 .left)

@@ -12,7 +12,7 @@ use Rattle.schema.specs.declared.Counted.{Counted}
 use Rattle.schema.specs.declared.Counted.the-variants as counted
 use Rattle.schema.specs.Schema.{ownOf}
 use Rattle.schema.specs.Accept.{bodyRecords}
-use Rattle.schema.specs.AcceptLaws.{Gate, large, bad, many, taken, gate}
+use Rattle.schema.specs.AcceptLaws.{Gate, large, bad, many, passes, gate}
 use Rattle.message.specs.declared.Decoded.{Decoded}
 use Rattle.message.specs.declared.Decoded.the-variants.{Records, Room}
 use Rattle.message.specs.Rows.{rowsOf}
@@ -45,7 +45,7 @@ unfolding ownOf
 of-gate s t n _ (large h) e l = clash (cc)
 of-gate s t n _ (bad h why q) e l = clash (cc)
 of-gate s t n _ (many h m q x) e l = clash (cc)
-of-gate s t n _ (taken h m q x) e l = let z : n ≡ m = cc in let k = rows-length kind.Rpc 0 s m q in (omega arith, omega arith)
+of-gate s t n _ (passes h m q x) e l = let z : n ≡ m = cc in let k = rows-length kind.Rpc 0 s m q in (omega arith, omega arith)
 
 room : (s t : List ℕ) (n : ℕ) → counted.Records n ≡ bodyRecords s → n ≤ length t / 20 → (0 + length s ≤ 65536) × ((0 + length (rowsOf kind.Rpc 0 s)) * 20 ≤ length t)
 room s t n e h = of-gate s t n (bodyRecords s) (gate s) e h

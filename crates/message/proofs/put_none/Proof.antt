@@ -38,7 +38,17 @@ same-length c = search needs
 
 -- src/lib.rt:184:1
 returns : tie.Need-returns
-returns c = let a = (c .before .before .before .before .before .before .before .before .before .before .before .before .before .before .before .before .before .before .before .before .before .before .before .before .before .args) in none-put (a .table .now) _ _ _ _ _ _ (a .i) _ _ _ _ _ _ (c .before .before .before .before .before .before .before .before .before .before .before .before .before .before .before .before .before .before .before .before .before .before .put-pair .ensures) (c .before .before .before .before .before .before .before .before .before .before .before .before .before .before .before .before .before .before .put-triple .ensures) (c .before .before .before .before .before .before .before .before .before .before .before .before .before .before .put-triple2 .ensures) (c .before .before .before .before .before .before .before .before .before .before .put-triple3 .ensures) (c .before .before .before .before .before .before .put-triple4 .ensures) (c .before .before .put-triple5 .ensures)
+returns c = let a =
+    (c .before .before .before .before .before .before .before .before .before .before .before .before .before .before .before .before .before .before .before
+    .before .before .before .before .before .before .args) in
+    none-put (a .table .now) _ _ _ _ _ _ (a .i) _ _ _ _ _ _
+    (c .before .before .before .before .before .before .before .before .before .before .before .before .before .before .before .before .before .before .before
+    .before .before .before .put-pair .ensures)
+    (c .before .before .before .before .before .before .before .before .before .before .before .before .before .before .before .before .before .before
+    .put-triple .ensures)
+    (c .before .before .before .before .before .before .before .before .before .before .before .before .before .before .put-triple2 .ensures)
+    (c .before .before .before .before .before .before .before .before .before .before .put-triple3 .ensures)
+    (c .before .before .before .before .before .before .put-triple4 .ensures) (c .before .before .put-triple5 .ensures)
 
 pub put-none-spec : {M : Type 1} → statement M
 put-none-spec =

@@ -38,7 +38,12 @@ same-length c = search needs
 
 -- src/lib.rt:197:1
 returns : tie.Need-returns
-returns c = let a = (c .before .before .before .before .before .before .before .before .before .before .args) in (refl, leaf-put (a .table .now) _ _ (a .row * 20) _ _ (bareRow (a .kind) (a .start) (a .end)) (c .before .before .before .before .before .before .before .before .kind-code .ensures) (c .before .before .before .before .before .before .put-triple .ensures) (c .before .before .put-none .ensures))
+returns c = let a = (c .before .before .before .before .before .before .before .before .before .before .args) in (
+  refl,
+  leaf-put (a .table .now) _ _ (a .row * 20) _ _ (bareRow (a .kind) (a .start) (a .end))
+      (c .before .before .before .before .before .before .before .before .kind-code .ensures)
+      (c .before .before .before .before .before .before .put-triple .ensures) (c .before .before .put-none .ensures),
+)
 
 pub write-leaf-spec : {M : Type 1} → statement M
 write-leaf-spec =

@@ -52,7 +52,18 @@ find-from-requires : tie.Need-find-from-requires Inv-loop μ-loop
 find-from-requires c κs = ((c .before .before .before .before .before .before .before .before .before .before .before .pre .0), omega arith)
 
 add-message-requires : tie.Need-add-message-requires Inv-loop μ-loop
-add-message-requires c κs = let m = (c .before .before .before .before .before .before .loop) in let s = (c .before .before .before .before .before .before .before .before .before .before .before .before .before .pre .0 .rows) in ((s .starts, s .within, (c .before .before .before .before .before .before .before .before .before .before .before .before .before .pre .1 .0 .0), (c .before .before .before .before .before .before .before .before .before .before .before .before .before .pre .1 .0 .1)), found-room _ _ _ _ _ _ _ _ _ _ (m .inv .0) _ (c .before .before .before .before .before .loop-test .taken) (c .before .before .before .before .before .before .before .before .before .before .before .before .before .pre .1 .1 .1) (m .inv .1))
+add-message-requires c κs = let m = (c .before .before .before .before .before .before .loop) in let s =
+    (c .before .before .before .before .before .before .before .before .before .before .before .before .before .pre .0 .rows) in (
+      (
+        s .starts,
+        s .within,
+        (c .before .before .before .before .before .before .before .before .before .before .before .before .before .pre .1 .0 .0),
+        (c .before .before .before .before .before .before .before .before .before .before .before .before .before .pre .1 .0 .1),
+      ),
+      found-room _ _ _ _ _ _ _ _ _ _
+          (m .inv .0) _ (c .before .before .before .before .before .loop-test .taken)
+          (c .before .before .before .before .before .before .before .before .before .before .before .before .before .pre .1 .1 .1) (m .inv .1),
+    )
 
 add-i : tie.Need-add-i Inv-loop μ-loop
 add-i c = search needs
@@ -63,8 +74,13 @@ loop-less c = search needs
 loop-again : tie.Need-loop-again Inv-loop μ-loop
 loop-again c = let m = (c .before .before .before .before .before .before .before .before .before .loop) in
     let room = found-room _ _ _ _ _ _ _ _ _ _ (m .inv .0) _ (c .before .before .before .before .before .before .before .before .loop-test .taken) (c .before .before .before .before .before .before .before .before .before .before .before .before .before .before .before .before .pre .1 .1 .1) (m .inv .1) in
-    let q = m .inv .1 in
-    (found-turn _ _ _ _ _ _ _ _ _ _ (m .inv .0) (c .before .before .before .before .before .before .before .before .loop-test .taken) (c .before .before .before .before .before .before .before .before .before .before .before .before .before .before .before .before .pre .0) (c .before .before .before .before .before .before .before .before .before .before .before .before .before .before .before .before .pre .1 .0 .2) room _ (c .before .before .before .before .find-from .ensures) _ _ (c .before .before .add-message .ensures), omega arith)
+    let q = m .inv .1 in (
+      found-turn _ _ _ _ _ _ _ _ _ _ (m .inv .0) (c .before .before .before .before .before .before .before .before .loop-test .taken)
+          (c .before .before .before .before .before .before .before .before .before .before .before .before .before .before .before .before .pre .0)
+          (c .before .before .before .before .before .before .before .before .before .before .before .before .before .before .before .before .pre .1 .0 .2) room _
+          (c .before .before .before .before .find-from .ensures) _ _ (c .before .before .add-message .ensures),
+      omega arith,
+    )
 
 same-length : tie.Need-same-length Inv-loop μ-loop
 same-length c = (c .before .loop .inv .1)

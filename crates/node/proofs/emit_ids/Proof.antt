@@ -35,10 +35,17 @@ mul-base : tie.Need-mul-base Inv-loop μ-loop
 mul-base c = let b = c .before .before .before .before .before .before .before .before in let a = b .args in let w = id-lies (a .n) (now (a .rows)) (now (a .id-lens)) (now (a .ids)) (c .before .before .before .loop .i) (b .pre .1 .0) (b .pre .0) (c .before .before .loop-test .taken) in omega (arith, w .0, w .1, w .2, w .3)
 
 emit-head-requires : tie.Need-emit-head-requires Inv-loop μ-loop
-emit-head-requires c κs = let b = c .before .before .before .before .before .before .before .before .before in let a = b .args in (omega arith, id-head-fits (a .n) (now (a .rows)) (now (a .id-lens)) (now (a .ids)) (c .before .before .before .before .loop .i) (b .pre .1 .0) (b .pre .0) (c .before .before .before .loop-test .taken) (now (a .out)) (a .at) _ (c .before .before .before .before .loop .out) (c .before .before .before .before .loop .end) (c .before .before .before .before .loop .inv .1))
+emit-head-requires c κs = let b = c .before .before .before .before .before .before .before .before .before in let a = b .args in (
+  omega arith,
+  id-head-fits (a .n) (now (a .rows)) (now (a .id-lens)) (now (a .ids)) (c .before .before .before .before .loop .i) (b .pre .1 .0) (b .pre .0)
+      (c .before .before .before .loop-test .taken) (now (a .out)) (a .at) _ (c .before .before .before .before .loop .out)
+      (c .before .before .before .before .loop .end) (c .before .before .before .before .loop .inv .1),
+)
 
 add-emit-bytes : tie.Need-add-emit-bytes Inv-loop μ-loop
-add-emit-bytes c = let b = c .before .before .before .before .before .before .before .before .before .before .before .before in let a = b .args in let w = id-lies (a .n) (now (a .rows)) (now (a .id-lens)) (now (a .ids)) (c .before .before .before .before .before .before .before .loop .i) (b .pre .1 .0) (b .pre .0) (c .before .before .before .before .before .before .loop-test .taken) in omega (arith, w .0, w .1, w .2, w .3)
+add-emit-bytes c = let b = c .before .before .before .before .before .before .before .before .before .before .before .before in let a = b .args in
+    let w = id-lies (a .n) (now (a .rows)) (now (a .id-lens)) (now (a .ids)) (c .before .before .before .before .before .before .before .loop .i) (b .pre .1 .0)
+    (b .pre .0) (c .before .before .before .before .before .before .loop-test .taken) in omega (arith, w .0, w .1, w .2, w .3)
 
 sub-emit-bytes : tie.Need-sub-emit-bytes Inv-loop μ-loop
 sub-emit-bytes c = search needs
@@ -47,10 +54,18 @@ part-emit-bytes-start : tie.Need-part-emit-bytes-start Inv-loop μ-loop
 part-emit-bytes-start c = search needs
 
 part-emit-bytes-end : tie.Need-part-emit-bytes-end Inv-loop μ-loop
-part-emit-bytes-end c = let b = c .before .before .before .before .before .before .before .before .before .before .before .before in let a = b .args in let w = id-lies (a .n) (now (a .rows)) (now (a .id-lens)) (now (a .ids)) (c .before .before .before .before .before .before .before .loop .i) (b .pre .1 .0) (b .pre .0) (c .before .before .before .before .before .before .loop-test .taken) in omega (arith, w .0, w .1, w .2, w .3)
+part-emit-bytes-end c = let b = c .before .before .before .before .before .before .before .before .before .before .before .before in let a = b .args in
+    let w = id-lies (a .n) (now (a .rows)) (now (a .id-lens)) (now (a .ids)) (c .before .before .before .before .before .before .before .loop .i) (b .pre .1 .0)
+    (b .pre .0) (c .before .before .before .before .before .before .loop-test .taken) in omega (arith, w .0, w .1, w .2, w .3)
 
 emit-bytes-requires : tie.Need-emit-bytes-requires Inv-loop μ-loop
-emit-bytes-requires c κs = let b = c .before .before .before .before .before .before .before .before .before .before .before .before .before .before in let a = b .args in id-fits (a .n) (now (a .rows)) (now (a .id-lens)) (now (a .ids)) (c .before .before .before .before .before .before .before .before .before .loop .i) (b .pre .1 .0) (b .pre .0) (c .before .before .before .before .before .before .before .before .loop-test .taken) (now (a .out)) (a .at) _ (c .before .before .before .before .before .before .before .before .before .loop .out) (c .before .before .before .before .before .before .before .before .before .loop .end) (c .before .before .before .before .before .before .before .before .before .loop .inv .1) _ _ (c .before .before .before .before .emit-head .ensures)
+emit-bytes-requires c κs = let b = c .before .before .before .before .before .before .before .before .before .before .before .before .before .before in
+    let a = b .args in
+    id-fits (a .n) (now (a .rows)) (now (a .id-lens)) (now (a .ids)) (c .before .before .before .before .before .before .before .before .before .loop .i)
+    (b .pre .1 .0) (b .pre .0) (c .before .before .before .before .before .before .before .before .loop-test .taken) (now (a .out)) (a .at) _
+    (c .before .before .before .before .before .before .before .before .before .loop .out)
+    (c .before .before .before .before .before .before .before .before .before .loop .end)
+    (c .before .before .before .before .before .before .before .before .before .loop .inv .1) _ _ (c .before .before .before .before .emit-head .ensures)
 
 add-i : tie.Need-add-i Inv-loop μ-loop
 add-i c = search needs
@@ -59,7 +74,19 @@ loop-less : tie.Need-loop-less Inv-loop μ-loop
 loop-less c = search needs
 
 loop-again : tie.Need-loop-again Inv-loop μ-loop
-loop-again c = let b = c .before .before .before .before .before .before .before .before .before .before .before .before .before .before .before .before .before in let a = b .args in let k = (c .before .before .before .before .before .before .before .before .before .before .before .before .loop .inv .2) in (omega arith, ids-more (a .n) (now (a .rows)) (now (a .id-lens)) (now (a .ids)) (c .before .before .before .before .before .before .before .before .before .before .before .before .loop .i) (b .pre .1 .0) (b .pre .0) (c .before .before .before .before .before .before .before .before .before .before .before .loop-test .taken) (now (a .out)) (a .at) _ (c .before .before .before .before .before .before .before .before .before .before .before .before .loop .out) (c .before .before .before .before .before .before .before .before .before .before .before .before .loop .end) (c .before .before .before .before .before .before .before .before .before .before .before .before .loop .inv .1) _ _ (c .before .before .before .before .before .before .before .emit-head .ensures) _ _ (c .before .before .emit-bytes .ensures), omega arith)
+loop-again c = let b =
+    c .before .before .before .before .before .before .before .before .before .before .before .before .before .before .before .before .before in
+    let a = b .args in let k = (c .before .before .before .before .before .before .before .before .before .before .before .before .loop .inv .2) in (
+      omega arith,
+      ids-more (a .n) (now (a .rows)) (now (a .id-lens)) (now (a .ids))
+          (c .before .before .before .before .before .before .before .before .before .before .before .before .loop .i) (b .pre .1 .0) (b .pre .0)
+          (c .before .before .before .before .before .before .before .before .before .before .before .loop-test .taken) (now (a .out)) (a .at) _
+          (c .before .before .before .before .before .before .before .before .before .before .before .before .loop .out)
+          (c .before .before .before .before .before .before .before .before .before .before .before .before .loop .end)
+          (c .before .before .before .before .before .before .before .before .before .before .before .before .loop .inv .1) _ _
+          (c .before .before .before .before .before .before .before .emit-head .ensures) _ _ (c .before .before .emit-bytes .ensures),
+      omega arith,
+    )
 
 same-length : tie.Need-same-length Inv-loop μ-loop
 same-length c = let k = (c .before .loop .inv .2) in omega arith

@@ -22,22 +22,61 @@ emit-head-requires : tie.Need-emit-head-requires
 emit-head-requires c κs = let a = (c .before .before .before .before .before .before .before .args) in let p = partsIn (a .body .now) (a .table .now) (a .n) in (omega arith, entry-head-fits (a .at) (repeated (bytesField 1) p) _ (request-bytes p) (c .before .before .before .before .before .before .before .pre .1) _ _ _ (c .before .before .emit-parts .ensures))
 
 add-entry : tie.Need-add-entry
-add-entry c = let a = (c .before .before .before .before .before .before .before .before .before .args) in let p = partsIn (a .body .now) (a .table .now) (a .n) in let z = entry-fits (a .at) (repeated (bytesField 1) p) _ (request-bytes p) (c .before .before .before .before .before .before .before .before .before .pre .1) _ _ _ (c .before .before .before .before .emit-parts .ensures) _ _ _ (c .before .emit-head .ensures) in omega arith
+add-entry c = let a = (c .before .before .before .before .before .before .before .before .before .args) in
+    let p = partsIn (a .body .now) (a .table .now) (a .n) in
+    let z = entry-fits (a .at) (repeated (bytesField 1) p) _ (request-bytes p)
+    (c .before .before .before .before .before .before .before .before .before .pre .1) _ _ _ (c .before .before .before .before .emit-parts .ensures) _ _ _
+    (c .before .emit-head .ensures) in omega arith
 
 emit-head-requires-2 : tie.Need-emit-head-requires-2
-emit-head-requires-2 c κs = let a = (c .before .before .before .before .before .before .before .before .before .before .args) in let p = partsIn (a .body .now) (a .table .now) (a .n) in (omega arith, control-head-fits (a .at) (repeated (bytesField 1) p) _ (request-bytes p) (c .before .before .before .before .before .before .before .before .before .before .pre .1) _ _ _ (c .before .before .before .before .before .emit-parts .ensures) _ _ _ (c .before .before .emit-head .ensures))
+emit-head-requires-2 c κs = let a = (c .before .before .before .before .before .before .before .before .before .before .args) in
+    let p = partsIn (a .body .now) (a .table .now) (a .n) in (
+      omega arith,
+      control-head-fits (a .at) (repeated (bytesField 1) p) _ (request-bytes p)
+          (c .before .before .before .before .before .before .before .before .before .before .pre .1) _ _ _
+          (c .before .before .before .before .before .emit-parts .ensures) _ _ _ (c .before .before .emit-head .ensures),
+    )
 
 emit-head-requires-3 : tie.Need-emit-head-requires-3
-emit-head-requires-3 c κs = let a = (c .before .before .before .before .before .before .before .before .before .before .before .before .before .before .args) in let p = partsIn (a .body .now) (a .table .now) (a .n) in (omega arith, want-head-fits (a .at) (repeated (bytesField 1) p) _ (request-bytes p) (c .before .before .before .before .before .before .before .before .before .before .before .before .before .before .pre .1) _ _ _ (c .before .before .before .before .before .before .before .before .before .emit-parts .ensures) _ _ _ (c .before .before .before .before .before .before .emit-head .ensures) _ _ _ (c .before .before .before .emit-head2 .ensures))
+emit-head-requires-3 c κs = let a = (c .before .before .before .before .before .before .before .before .before .before .before .before .before .before .args) in
+    let p = partsIn (a .body .now) (a .table .now) (a .n) in (
+      omega arith,
+      want-head-fits (a .at) (repeated (bytesField 1) p) _ (request-bytes p)
+          (c .before .before .before .before .before .before .before .before .before .before .before .before .before .before .pre .1) _ _ _
+          (c .before .before .before .before .before .before .before .before .before .emit-parts .ensures) _ _ _
+          (c .before .before .before .before .before .before .emit-head .ensures) _ _ _ (c .before .before .before .emit-head2 .ensures),
+    )
 
 emit-parts-requires-2 : tie.Need-emit-parts-requires-2
-emit-parts-requires-2 c κs = let a = (c .before .before .before .before .before .before .before .before .before .before .before .before .before .before .before .before .before .before .args) in let p = partsIn (a .body .now) (a .table .now) (a .n) in ((c .before .before .before .before .before .before .before .before .before .before .before .before .before .before .before .before .before .before .pre .0), (omega arith, want-ids-fit (a .at) (repeated (bytesField 1) p) _ (request-bytes p) (c .before .before .before .before .before .before .before .before .before .before .before .before .before .before .before .before .before .before .pre .1) _ _ _ (c .before .before .before .before .before .before .before .before .before .before .before .before .before .emit-parts .ensures) _ _ _ (c .before .before .before .before .before .before .before .before .before .before .emit-head .ensures) _ _ _ (c .before .before .before .before .before .before .before .emit-head2 .ensures) _ _ (c .before .before .before .emit-head3 .ensures)))
+emit-parts-requires-2 c κs = let a =
+    (c .before .before .before .before .before .before .before .before .before .before .before .before .before .before .before .before .before .before .args) in
+    let p = partsIn (a .body .now) (a .table .now) (a .n) in (
+      (c .before .before .before .before .before .before .before .before .before .before .before .before .before .before .before .before .before .before .pre
+          .0),
+      (
+        omega arith,
+        want-ids-fit (a .at) (repeated (bytesField 1) p) _ (request-bytes p)
+            (c .before .before .before .before .before .before .before .before .before .before .before .before .before .before .before .before .before .before .pre .1)
+            _ _ _ (c .before .before .before .before .before .before .before .before .before .before .before .before .before .emit-parts .ensures) _ _ _
+            (c .before .before .before .before .before .before .before .before .before .before .emit-head .ensures) _ _ _
+            (c .before .before .before .before .before .before .before .emit-head2 .ensures) _ _ (c .before .before .before .emit-head3 .ensures),
+      ),
+    )
 
 same-length : tie.Need-same-length
 same-length c = search needs
 
 returns : tie.Need-returns
-returns c = let a = (c .before .before .before .before .before .before .before .before .before .before .before .before .before .before .before .before .before .before .before .before .before .args) in let p = partsIn (a .body .now) (a .table .now) (a .n) in request-puts (a .at) (repeated (bytesField 1) p) _ (request-bytes p) (c .before .before .before .before .before .before .before .before .before .before .before .before .before .before .before .before .before .before .before .before .before .pre .1) _ _ _ (c .before .before .before .before .before .before .before .before .before .before .before .before .before .before .before .before .emit-parts .ensures) _ _ _ (c .before .before .before .before .before .before .before .before .before .before .before .before .before .emit-head .ensures) _ _ _ (c .before .before .before .before .before .before .before .before .before .before .emit-head2 .ensures) _ _ (c .before .before .before .before .before .before .emit-head3 .ensures) _ _ (c .before .before .emit-parts2 .ensures)
+returns c = let a =
+    (c .before .before .before .before .before .before .before .before .before .before .before .before .before .before .before .before .before .before .before
+    .before .before .args) in let p = partsIn (a .body .now) (a .table .now) (a .n) in
+    request-puts (a .at) (repeated (bytesField 1) p) _ (request-bytes p)
+    (c .before .before .before .before .before .before .before .before .before .before .before .before .before .before .before .before .before .before .before
+    .before .before .pre .1) _ _ _
+    (c .before .before .before .before .before .before .before .before .before .before .before .before .before .before .before .before .emit-parts .ensures) _ _
+    _ (c .before .before .before .before .before .before .before .before .before .before .before .before .before .emit-head .ensures) _ _ _
+    (c .before .before .before .before .before .before .before .before .before .before .emit-head2 .ensures) _ _
+    (c .before .before .before .before .before .before .emit-head3 .ensures) _ _ (c .before .before .emit-parts2 .ensures)
 
 pub emit-request-spec : {M : Type 1} → statement M
 emit-request-spec =

@@ -31,7 +31,10 @@ shared-slice-read-e : tie.Need-shared-slice-read-e Inv-loop μ-loop
 shared-slice-read-e c = let r = place-in (c .before .before .before .before .before .before .pre) (c .before .before .before .before .loop .i) (c .before .place .result) (omega (arith, (c .before .before .before .before .before .before .pre .within))) (c .before .place .ensures) in omega arith
 
 returns : tie.Need-returns Inv-loop μ-loop
-returns c = let a = c .before .before .before .before .before .before .before .args in rises-not (a .ring) (now (a .expiry)) (c .before .before .before .before .before .loop .last) (c .before .before .before .before .before .loop .i) (c .before .before .before .before .before .loop .inv .1) _ (c .before .before .before .if1 .taken) (ap (λ (p : ℕ). getD (now (a .expiry)) p 0) (c .before .before .place .ensures)) (c .if2 .taken)
+returns c = let a = c .before .before .before .before .before .before .before .args in
+    rises-not (a .ring) (now (a .expiry)) (c .before .before .before .before .before .loop .last) (c .before .before .before .before .before .loop .i)
+    (c .before .before .before .before .before .loop .inv .1) _ (c .before .before .before .if1 .taken)
+    (ap (λ (p : ℕ). getD (now (a .expiry)) p 0) (c .before .before .place .ensures)) (c .if2 .taken)
 
 add-i : tie.Need-add-i Inv-loop μ-loop
 add-i c = search needs
@@ -40,7 +43,12 @@ loop-less : tie.Need-loop-less Inv-loop μ-loop
 loop-less c = search needs
 
 loop-again : tie.Need-loop-again Inv-loop μ-loop
-loop-again c = let a = c .before .before .before .before .before .before .before .args in (omega arith, rises-more (a .ring) (now (a .expiry)) (c .before .before .before .before .before .loop .last) (c .before .before .before .before .before .loop .i) (c .before .before .before .before .before .loop .inv .1) _ (c .before .before .before .if1 .taken) (ap (λ (p : ℕ). getD (now (a .expiry)) p 0) (c .before .before .place .ensures)) (c .if2 .left))
+loop-again c = let a = c .before .before .before .before .before .before .before .args in (
+  omega arith,
+  rises-more (a .ring) (now (a .expiry)) (c .before .before .before .before .before .loop .last) (c .before .before .before .before .before .loop .i)
+      (c .before .before .before .before .before .loop .inv .1) _ (c .before .before .before .if1 .taken)
+      (ap (λ (p : ℕ). getD (now (a .expiry)) p 0) (c .before .before .place .ensures)) (c .if2 .left),
+)
 
 returns-2 : tie.Need-returns-2 Inv-loop μ-loop
 returns-2 c = let a = c .before .before .before .before .args in rises-all (a .ring) (now (a .expiry)) (c .before .before .loop .last) (c .before .before .loop .i) (c .before .before .loop .inv .1) (c .if1 .left)

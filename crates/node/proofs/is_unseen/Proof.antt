@@ -34,7 +34,11 @@ find-from-requires : tie.Need-find-from-requires
 find-from-requires c κs = search needs
 
 returns-2 : tie.Need-returns-2
-returns-2 c = let a = c .before .before .before .before .before .before .before .before .before .before .args in seen-or-not (a .ring) (now (a .lens)) (now (a .store)) (now (a .id)) _ (c .before .find-from .result) (key-holds (replicate 129 0) (now (a .id)) _ (length (now (a .id))) refl refl (c .before .before .before .before .before .before .if1 .left) ((c .before .before .before .before .put-bytes .ensures .1) ∙ set-fits _ _ _ _ (omega (arith, (c .before .before .before .before .before .before .if1 .left))))) (c .before .find-from .ensures)
+returns-2 c = let a = c .before .before .before .before .before .before .before .before .before .before .args in
+    seen-or-not (a .ring) (now (a .lens)) (now (a .store)) (now (a .id)) _ (c .before .find-from .result)
+    (key-holds (replicate 129 0) (now (a .id)) _ (length (now (a .id))) refl refl (c .before .before .before .before .before .before .if1 .left)
+    ((c .before .before .before .before .put-bytes .ensures .1)
+    ∙ set-fits _ _ _ _ (omega (arith, (c .before .before .before .before .before .before .if1 .left))))) (c .before .find-from .ensures)
 
 pub is-unseen-spec : {M : Type 1} → statement M
 is-unseen-spec =

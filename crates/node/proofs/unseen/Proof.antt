@@ -63,8 +63,13 @@ loop-less c = search needs
 loop-again : tie.Need-loop-again Inv-loop μ-loop
 loop-again c = let m = (c .before .before .before .before .before .before .before .before .before .loop) in
     let room = lacked-room _ _ _ _ _ _ _ (m .inv .0) _ (c .before .before .before .before .before .before .before .before .loop-test .taken) (c .before .before .before .before .before .before .before .before .before .before .before .before .before .before .before .pre .1 .1) (m .inv .1) in
-    let q = m .inv .1 in
-    (lacked-turn _ _ _ _ _ _ _ (m .inv .0) (c .before .before .before .before .before .before .before .before .loop-test .taken) (c .before .before .before .before .before .before .before .before .before .before .before .before .before .before .before .pre .1 .0) room _ (c .before .before .before .before .is-unseen .ensures) _ _ (c .before .before .add-where .ensures .0) (c .before .before .add-where .ensures .1), omega arith)
+    let q = m .inv .1 in (
+      lacked-turn _ _ _ _ _ _ _ (m .inv .0) (c .before .before .before .before .before .before .before .before .loop-test .taken)
+          (c .before .before .before .before .before .before .before .before .before .before .before .before .before .before .before .pre .1 .0) room _
+          (c .before .before .before .before .is-unseen .ensures) _ _ (c .before .before .add-where .ensures .0) (c .before .before .add-where .ensures .1),
+      omega
+          arith,
+    )
 
 same-length : tie.Need-same-length Inv-loop μ-loop
 same-length c = (c .before .loop .inv .1)

@@ -46,48 +46,70 @@ abbrev parts-at-below : ℕ → In 3 parts-at-kinds.ps
 parts-at-below t =
     and 3 parts-at-kinds.ps (falls 3 parts-at-kinds.ps _<_ μ-parts-at t) parts-at.Pre
 
-field-at-shared-slice-read-if2 : (t : ℕ) → field-at-lts.Need-shared-slice-read-if2 (
-  parts-at-below t,
-  parts-at.Post,
-) (field-at-at t) field-at.Post
+abbrev field-at-claims : ℕ → field-at-lts.Claims
+field-at-claims t = (parts-at-below t, parts-at.Post)
+
+abbrev parts-at-claims : ℕ → parts-at-lts.Claims
+parts-at-claims t = (add-part-reads.Asked, add-part-reads.Learnt, read-field-reads.Asked, read-field-reads.Learnt, field-at-below t, field-at.Post)
+
+field-at-shared-slice-read-if2 : (t : ℕ) → field-at-lts.Need-shared-slice-read-if2 (field-at-claims t) (field-at-at t) field-at.Post
 field-at-shared-slice-read-if2 t c = omega (arith, (c .before .before .before .before .before .before .pre .1 .0 .2))
 
 field-at-add-parts-at :
     (t : ℕ) →
     field-at-lts.Need-add-parts-at (parts-at-below t, parts-at.Post) (field-at-at t) field-at.Post
-field-at-add-parts-at t c = let a = c .before .before .before .before .before .before .before .before .before .args in let q = field-inside (a .body .now) (a .start) (a .end) (a .path .now) (a .f) (c .before .before .before .before .before .before .before .before .before .pre .1 .1 .0) ((c .before .before .before .before .before .before .before .before .before .pre .1 .0 .0), (c .before .before .before .before .before .before .before .before .before .pre .1 .0 .1)) in omega arith
+field-at-add-parts-at t c = let a = c .before .before .before .before .before .before .before .before .before .args in
+    let q = field-inside (a .body .now) (a .start) (a .end) (a .path .now) (a .f)
+    (c .before .before .before .before .before .before .before .before .before .pre .1 .1 .0) (
+      (c .before .before .before .before .before .before .before .before .before .pre .1 .0 .0),
+      (c .before .before .before .before .before .before .before .before .before .pre .1 .0 .1),
+    ) in omega arith
 
-field-at-add-parts-at-2 : (t : ℕ) → field-at-lts.Need-add-parts-at-2 (
-  parts-at-below t,
-  parts-at.Post,
-) (field-at-at t) field-at.Post
-field-at-add-parts-at-2 t c = let a = c .before .before .before .before .before .before .before .before .before .before .args in let q = field-inside (a .body .now) (a .start) (a .end) (a .path .now) (a .f) (c .before .before .before .before .before .before .before .before .before .before .pre .1 .1 .0) ((c .before .before .before .before .before .before .before .before .before .before .pre .1 .0 .0), (c .before .before .before .before .before .before .before .before .before .before .pre .1 .0 .1)) in omega arith
+field-at-add-parts-at-2 : (t : ℕ) → field-at-lts.Need-add-parts-at-2 (field-at-claims t) (field-at-at t) field-at.Post
+field-at-add-parts-at-2 t c = let a = c .before .before .before .before .before .before .before .before .before .before .args in
+    let q = field-inside (a .body .now) (a .start) (a .end) (a .path .now) (a .f)
+    (c .before .before .before .before .before .before .before .before .before .before .pre .1 .1 .0) (
+      (c .before .before .before .before .before .before .before .before .before .before .pre .1 .0 .0),
+      (c .before .before .before .before .before .before .before .before .before .before .pre .1 .0 .1),
+    ) in omega arith
 
 field-at-sub-parts-at :
     (t : ℕ) →
     field-at-lts.Need-sub-parts-at (parts-at-below t, parts-at.Post) (field-at-at t) field-at.Post
 field-at-sub-parts-at t c = omega (arith, (c .before .before .before .before .before .before .before .before .before .before .pre .1 .0 .2))
 
-field-at-part-parts-at-start : (t : ℕ) → field-at-lts.Need-part-parts-at-start (
-  parts-at-below t,
-  parts-at.Post,
-) (field-at-at t) field-at.Post
+field-at-part-parts-at-start : (t : ℕ) → field-at-lts.Need-part-parts-at-start (field-at-claims t) (field-at-at t) field-at.Post
 field-at-part-parts-at-start t c = search needs
 
-field-at-part-parts-at-end : (t : ℕ) → field-at-lts.Need-part-parts-at-end (
-  parts-at-below t,
-  parts-at.Post,
-) (field-at-at t) field-at.Post
+field-at-part-parts-at-end : (t : ℕ) → field-at-lts.Need-part-parts-at-end (field-at-claims t) (field-at-at t) field-at.Post
 field-at-part-parts-at-end t c = search needs
 
-field-at-parts-at-requires : (t : ℕ) → field-at-lts.Need-parts-at-requires (
-  parts-at-below t,
-  parts-at.Post,
-) (field-at-at t) field-at.Post
+field-at-parts-at-requires : (t : ℕ) → field-at-lts.Need-parts-at-requires (field-at-claims t) (field-at-at t) field-at.Post
 field-at-parts-at-requires t c κs = let a = c .before .before .before .before .before .before .before .before .before .before .before .before .args in
     let k = tail-size (a .path .now) in
-    let e = field-there (a .body .now) (a .start) (a .end) (a .path .now) (a .f) (c .before .before .before .before .before .before .before .before .before .before .before .before .pre .1 .1 .0) ((c .before .before .before .before .before .before .before .before .before .before .before .before .pre .1 .0 .0), (c .before .before .before .before .before .before .before .before .before .before .before .before .pre .1 .0 .1)) (c .before .before .before .before .before .before .before .if1 .taken) (c .before .before .before .before .if2 .taken) in
-    (omega (arith, (c .before .before .before .before .before .before .before .before .before .before .before .before .pre .0), (c .before .before .before .before .before .before .before .before .before .before .before .before .pre .1 .0 .2)), (field-inside (a .body .now) (a .start) (a .end) (a .path .now) (a .f) (c .before .before .before .before .before .before .before .before .before .before .before .before .pre .1 .1 .0) ((c .before .before .before .before .before .before .before .before .before .before .before .before .pre .1 .0 .0), (c .before .before .before .before .before .before .before .before .before .before .before .before .pre .1 .0 .1)), ((c .before .before .before .before .before .before .before .before .before .before .before .before .pre .1 .1 .1 .0), omega (arith, ap length e, (c .before .before .before .before .before .before .before .before .before .before .before .before .pre .1 .1 .1 .1)))))
+    let e = field-there (a .body .now) (a .start) (a .end) (a .path .now) (a .f)
+    (c .before .before .before .before .before .before .before .before .before .before .before .before .pre .1 .1 .0) (
+      (c .before .before .before .before .before .before .before .before .before .before .before .before .pre .1 .0 .0),
+      (c .before .before .before .before .before .before .before .before .before .before .before .before .pre .1 .0 .1),
+    )
+    (c .before .before .before .before .before .before .before .if1 .taken) (c .before .before .before .before .if2 .taken) in (
+      omega (
+        arith,
+        (c .before .before .before .before .before .before .before .before .before .before .before .before .pre .0),
+        (c .before .before .before .before .before .before .before .before .before .before .before .before .pre .1 .0 .2),
+      ),
+      (
+        field-inside (a .body .now) (a .start) (a .end) (a .path .now) (a .f)
+            (c .before .before .before .before .before .before .before .before .before .before .before .before .pre .1 .1 .0) (
+              (c .before .before .before .before .before .before .before .before .before .before .before .before .pre .1 .0 .0),
+              (c .before .before .before .before .before .before .before .before .before .before .before .before .pre .1 .0 .1),
+            ),
+        (
+          (c .before .before .before .before .before .before .before .before .before .before .before .before .pre .1 .1 .1 .0),
+          omega (arith, ap length e, (c .before .before .before .before .before .before .before .before .before .before .before .before .pre .1 .1 .1 .1)),
+        ),
+      ),
+    )
 
 field-at-same-length :
     (t : ℕ) →
@@ -98,7 +120,13 @@ field-at-returns :
     (t : ℕ) →
     field-at-lts.Need-returns (parts-at-below t, parts-at.Post) (field-at-at t) field-at.Post
 field-at-returns t c = let a = c .before .before .before .before .before .before .before .before .before .before .before .before .before .before .before .args in
-    let e = field-there (a .body .now) (a .start) (a .end) (a .path .now) (a .f) (c .before .before .before .before .before .before .before .before .before .before .before .before .before .before .before .pre .1 .1 .0) ((c .before .before .before .before .before .before .before .before .before .before .before .before .before .before .before .pre .1 .0 .0), (c .before .before .before .before .before .before .before .before .before .before .before .before .before .before .before .pre .1 .0 .1)) (c .before .before .before .before .before .before .before .before .before .before .if1 .taken) (c .before .before .before .before .before .before .before .if2 .taken) in
+    let e = field-there (a .body .now) (a .start) (a .end) (a .path .now) (a .f)
+    (c .before .before .before .before .before .before .before .before .before .before .before .before .before .before .before .pre .1 .1 .0) (
+      (c .before .before .before .before .before .before .before .before .before .before .before .before .before .before .before .pre .1 .0 .0),
+      (c .before .before .before .before .before .before .before .before .before .before .before .before .before .before .before .pre .1 .0 .1),
+    )
+    (c .before .before .before .before .before .before .before .before .before .before .if1 .taken)
+    (c .before .before .before .before .before .before .before .if2 .taken) in
     ((c .before .before .parts-at .ensures .0) ∙ ap (λ (l : List (List ℕ)). partsIn (a .body .now) (a .table .now) (a .n) ++ l) (sym e), (c .before .before .parts-at .ensures .1))
 
 field-at-returns-2 :
@@ -117,232 +145,104 @@ parts-at-Inv-loop body start end path table₀ n at₀ k₀ table at k = Walked 
 abbrev parts-at-μ-loop : parts-at-lts.MeasureT-loop
 parts-at-μ-loop body start end path table₀ n at₀ k₀ table at k = (end - start) - at
 
-parts-at-add-part-requires : (t : ℕ) → parts-at-lts.Need-add-part-requires (
-  add-part-reads.Asked,
-  add-part-reads.Learnt,
-  read-field-reads.Asked,
-  read-field-reads.Learnt,
-  field-at-below t,
-  field-at.Post,
-) (parts-at-at t) parts-at.Post parts-at-Inv-loop parts-at-μ-loop
+parts-at-add-part-requires : (t : ℕ) → parts-at-lts.Need-add-part-requires (parts-at-claims t) (parts-at-at t) parts-at.Post parts-at-Inv-loop parts-at-μ-loop
 parts-at-add-part-requires t c κs = let a = c .before .before .before .before .before .args in one-room (a .body .now) (a .path .now) (a .table .now) (a .n) (a .start) (a .end) (c .before .if1 .taken) (c .before .before .before .before .before .pre .1 .1 .1)
 
-parts-at-same-length : (t : ℕ) → parts-at-lts.Need-same-length (
-  add-part-reads.Asked,
-  add-part-reads.Learnt,
-  read-field-reads.Asked,
-  read-field-reads.Learnt,
-  field-at-below t,
-  field-at.Post,
-) (parts-at-at t) parts-at.Post parts-at-Inv-loop parts-at-μ-loop
+parts-at-same-length : (t : ℕ) → parts-at-lts.Need-same-length (parts-at-claims t) (parts-at-at t) parts-at.Post parts-at-Inv-loop parts-at-μ-loop
 parts-at-same-length t c = search needs
 
-parts-at-returns : (t : ℕ) → parts-at-lts.Need-returns (
-  add-part-reads.Asked,
-  add-part-reads.Learnt,
-  read-field-reads.Asked,
-  read-field-reads.Learnt,
-  field-at-below t,
-  field-at.Post,
-) (parts-at-at t) parts-at.Post parts-at-Inv-loop parts-at-μ-loop
-parts-at-returns t c = let a = c .before .before .before .before .before .before .before .before .args in one-more (a .body .now) (a .path .now) (a .table .now) (a .n) (a .start) (a .end) (c .before .before .before .before .if1 .taken) (c .before .before .before .before .before .before .before .before .pre .1 .1 .1) (c .before .before .before .before .before .before .before .before .pre .1 .1 .0) (c .before .before .before .before .before .before .before .before .pre .1 .0) _ _ (c .before .before .add-part .ensures .0) (c .before .before .add-part .ensures .1)
+parts-at-returns : (t : ℕ) → parts-at-lts.Need-returns (parts-at-claims t) (parts-at-at t) parts-at.Post parts-at-Inv-loop parts-at-μ-loop
+parts-at-returns t c = let a = c .before .before .before .before .before .before .before .before .args in
+    one-more (a .body .now) (a .path .now) (a .table .now) (a .n) (a .start) (a .end) (c .before .before .before .before .if1 .taken)
+    (c .before .before .before .before .before .before .before .before .pre .1 .1 .1)
+    (c .before .before .before .before .before .before .before .before .pre .1 .1 .0)
+    (c .before .before .before .before .before .before .before .before .pre .1 .0) _ _ (c .before .before .add-part .ensures .0)
+    (c .before .before .add-part .ensures .1)
 
-parts-at-loop-holds : (t : ℕ) → parts-at-lts.Need-loop-holds (
-  add-part-reads.Asked,
-  add-part-reads.Learnt,
-  read-field-reads.Asked,
-  read-field-reads.Learnt,
-  field-at-below t,
-  field-at.Post,
-) (parts-at-at t) parts-at.Post parts-at-Inv-loop parts-at-μ-loop
+parts-at-loop-holds : (t : ℕ) → parts-at-lts.Need-loop-holds (parts-at-claims t) (parts-at-at t) parts-at.Post parts-at-Inv-loop parts-at-μ-loop
 parts-at-loop-holds t c = let a = c .before .before .before .before .args in (walked-all (a .body .now) (a .start) (a .end) (a .path .now) (a .table .now) (a .n) (c .before .before .before .before .pre .1 .1 .0) (c .if1 .left), refl)
 
-parts-at-sub-loop : (t : ℕ) → parts-at-lts.Need-sub-loop (
-  add-part-reads.Asked,
-  add-part-reads.Learnt,
-  read-field-reads.Asked,
-  read-field-reads.Learnt,
-  field-at-below t,
-  field-at.Post,
-) (parts-at-at t) parts-at.Post parts-at-Inv-loop parts-at-μ-loop
+parts-at-sub-loop : (t : ℕ) → parts-at-lts.Need-sub-loop (parts-at-claims t) (parts-at-at t) parts-at.Post parts-at-Inv-loop parts-at-μ-loop
 parts-at-sub-loop t c = c .before .before .before .before .before .pre .1 .0 .0
 
-parts-at-sub-read-field : (t : ℕ) → parts-at-lts.Need-sub-read-field (
-  add-part-reads.Asked,
-  add-part-reads.Learnt,
-  read-field-reads.Asked,
-  read-field-reads.Learnt,
-  field-at-below t,
-  field-at.Post,
-) (parts-at-at t) parts-at.Post parts-at-Inv-loop parts-at-μ-loop
+parts-at-sub-read-field : (t : ℕ) → parts-at-lts.Need-sub-read-field (parts-at-claims t) (parts-at-at t) parts-at.Post parts-at-Inv-loop parts-at-μ-loop
 parts-at-sub-read-field t c = c .before .before .before .before .before .before .pre .1 .0 .0
 
-parts-at-part-read-field-start : (t : ℕ) → parts-at-lts.Need-part-read-field-start (
-  add-part-reads.Asked,
-  add-part-reads.Learnt,
-  read-field-reads.Asked,
-  read-field-reads.Learnt,
-  field-at-below t,
-  field-at.Post,
-) (parts-at-at t) parts-at.Post parts-at-Inv-loop parts-at-μ-loop
+parts-at-part-read-field-start : (t : ℕ) → parts-at-lts.Need-part-read-field-start (parts-at-claims t) (parts-at-at t) parts-at.Post parts-at-Inv-loop parts-at-μ-loop
 parts-at-part-read-field-start t c = c .before .before .before .before .before .before .pre .1 .0 .0
 
-parts-at-part-read-field-end : (t : ℕ) → parts-at-lts.Need-part-read-field-end (
-  add-part-reads.Asked,
-  add-part-reads.Learnt,
-  read-field-reads.Asked,
-  read-field-reads.Learnt,
-  field-at-below t,
-  field-at.Post,
-) (parts-at-at t) parts-at.Post parts-at-Inv-loop parts-at-μ-loop
+parts-at-part-read-field-end : (t : ℕ) → parts-at-lts.Need-part-read-field-end (parts-at-claims t) (parts-at-at t) parts-at.Post parts-at-Inv-loop parts-at-μ-loop
 parts-at-part-read-field-end t c = c .before .before .before .before .before .before .pre .1 .0 .1
 
-parts-at-read-field-requires : (t : ℕ) → parts-at-lts.Need-read-field-requires (
-  add-part-reads.Asked,
-  add-part-reads.Learnt,
-  read-field-reads.Asked,
-  read-field-reads.Learnt,
-  field-at-below t,
-  field-at.Post,
-) (parts-at-at t) parts-at.Post parts-at-Inv-loop parts-at-μ-loop
+parts-at-read-field-requires : (t : ℕ) → parts-at-lts.Need-read-field-requires (parts-at-claims t) (parts-at-at t) parts-at.Post parts-at-Inv-loop parts-at-μ-loop
 parts-at-read-field-requires t c κs = search needs
 
-parts-at-enum-told : (t : ℕ) → parts-at-lts.Need-enum-told (
-  add-part-reads.Asked,
-  add-part-reads.Learnt,
-  read-field-reads.Asked,
-  read-field-reads.Learnt,
-  field-at-below t,
-  field-at.Post,
-) (parts-at-at t) parts-at.Post parts-at-Inv-loop parts-at-μ-loop
+parts-at-enum-told : (t : ℕ) → parts-at-lts.Need-enum-told (parts-at-claims t) (parts-at-at t) parts-at.Post parts-at-Inv-loop parts-at-μ-loop
 parts-at-enum-told t c = search needs
 
-parts-at-same-length-2 : (t : ℕ) → parts-at-lts.Need-same-length-2 (
-  add-part-reads.Asked,
-  add-part-reads.Learnt,
-  read-field-reads.Asked,
-  read-field-reads.Learnt,
-  field-at-below t,
-  field-at.Post,
-) (parts-at-at t) parts-at.Post parts-at-Inv-loop parts-at-μ-loop
+parts-at-same-length-2 : (t : ℕ) → parts-at-lts.Need-same-length-2 (parts-at-claims t) (parts-at-at t) parts-at.Post parts-at-Inv-loop parts-at-μ-loop
 parts-at-same-length-2 t c = c .before .before .before .before .before .loop .inv .1
 
-parts-at-returns-2 : (t : ℕ) → parts-at-lts.Need-returns-2 (
-  add-part-reads.Asked,
-  add-part-reads.Learnt,
-  read-field-reads.Asked,
-  read-field-reads.Learnt,
-  field-at-below t,
-  field-at.Post,
-) (parts-at-at t) parts-at.Post parts-at-Inv-loop parts-at-μ-loop
+parts-at-returns-2 : (t : ℕ) → parts-at-lts.Need-returns-2 (parts-at-claims t) (parts-at-at t) parts-at.Post parts-at-Inv-loop parts-at-μ-loop
 parts-at-returns-2 t c = let a = c .before .before .before .before .before .before .before .before .before .before .args in let l = c .before .before .before .before .before .loop in walked-done _ _ _ _ _ _ _ _ _ (l .inv .0) (path-end (a .path .now) (between (a .body .now) (a .start) (a .end)) (l .at) (sym (c .enum-told .given .1) ∙ (c .before .before .read-field .ensures)))
 
-parts-at-enum-told-2 : (t : ℕ) → parts-at-lts.Need-enum-told-2 (
-  add-part-reads.Asked,
-  add-part-reads.Learnt,
-  read-field-reads.Asked,
-  read-field-reads.Learnt,
-  field-at-below t,
-  field-at.Post,
-) (parts-at-at t) parts-at.Post parts-at-Inv-loop parts-at-μ-loop
+parts-at-enum-told-2 : (t : ℕ) → parts-at-lts.Need-enum-told-2 (parts-at-claims t) (parts-at-at t) parts-at.Post parts-at-Inv-loop parts-at-μ-loop
 parts-at-enum-told-2 t c = search needs
 
-parts-at-same-length-3 : (t : ℕ) → parts-at-lts.Need-same-length-3 (
-  add-part-reads.Asked,
-  add-part-reads.Learnt,
-  read-field-reads.Asked,
-  read-field-reads.Learnt,
-  field-at-below t,
-  field-at.Post,
-) (parts-at-at t) parts-at.Post parts-at-Inv-loop parts-at-μ-loop
+parts-at-same-length-3 : (t : ℕ) → parts-at-lts.Need-same-length-3 (parts-at-claims t) (parts-at-at t) parts-at.Post parts-at-Inv-loop parts-at-μ-loop
 parts-at-same-length-3 t c = c .before .before .before .before .before .loop .inv .1
 
-parts-at-returns-3 : (t : ℕ) → parts-at-lts.Need-returns-3 (
-  add-part-reads.Asked,
-  add-part-reads.Learnt,
-  read-field-reads.Asked,
-  read-field-reads.Learnt,
-  field-at-below t,
-  field-at.Post,
-) (parts-at-at t) parts-at.Post parts-at-Inv-loop parts-at-μ-loop
+parts-at-returns-3 : (t : ℕ) → parts-at-lts.Need-returns-3 (parts-at-claims t) (parts-at-at t) parts-at.Post parts-at-Inv-loop parts-at-μ-loop
 parts-at-returns-3 t c = let a = c .before .before .before .before .before .before .before .before .before .before .args in let l = c .before .before .before .before .before .loop in walked-done _ _ _ _ _ _ _ _ _ (l .inv .0) (path-refused (a .path .now) (between (a .body .now) (a .start) (a .end)) (l .at) _ (sym (c .enum-told2 .given .1) ∙ (c .before .before .read-field .ensures)))
 
-parts-at-enum-known-step : (t : ℕ) → parts-at-lts.Need-enum-known-step (
-  add-part-reads.Asked,
-  add-part-reads.Learnt,
-  read-field-reads.Asked,
-  read-field-reads.Learnt,
-  field-at-below t,
-  field-at.Post,
-) (parts-at-at t) parts-at.Post parts-at-Inv-loop parts-at-μ-loop
+parts-at-enum-known-step : (t : ℕ) → parts-at-lts.Need-enum-known-step (parts-at-claims t) (parts-at-at t) parts-at.Post parts-at-Inv-loop parts-at-μ-loop
 parts-at-enum-known-step t c = search needs
 
-parts-at-field-at-requires : (t : ℕ) → parts-at-lts.Need-field-at-requires (
-  add-part-reads.Asked,
-  add-part-reads.Learnt,
-  read-field-reads.Asked,
-  read-field-reads.Learnt,
-  field-at-below t,
-  field-at.Post,
-) (parts-at-at t) parts-at.Post parts-at-Inv-loop parts-at-μ-loop
+parts-at-field-at-requires : (t : ℕ) → parts-at-lts.Need-field-at-requires (parts-at-claims t) (parts-at-at t) parts-at.Post parts-at-Inv-loop parts-at-μ-loop
 parts-at-field-at-requires t c κs = let a = c .before .before .before .before .before .before .before .before .before .before .before .before .args in let l = c .before .before .before .before .before .before .before .loop in
     let e = sym (c .before .before .step .given .1) ∙ (c .before .before .before .before .read-field .ensures) in
-    let m = field-stands (between (a .body .now) (a .start) (a .end)) (l .at) _ e in
-    (omega (arith, (c .before .before .before .before .before .before .before .before .before .before .before .before .pre .0)), (((c .before .before .before .before .before .before .before .before .before .before .before .before .pre .1 .0 .0), (c .before .before .before .before .before .before .before .before .before .before .before .before .pre .1 .0 .1), omega (arith, (c .before .before .before .before .before .before .before .before .if1 .left))), (record { order = m .ends; fits = m .within }, (l .inv .0 .parts, walked-room _ _ _ _ _ _ _ _ _ (l .inv .0) _ e (l .inv .1) (c .before .before .before .before .before .before .before .before .before .before .before .before .pre .1 .1 .1)))))
+    let m = field-stands (between (a .body .now) (a .start) (a .end)) (l .at) _ e in (
+      omega (arith, (c .before .before .before .before .before .before .before .before .before .before .before .before .pre .0)),
+      (
+        (
+          (c .before .before .before .before .before .before .before .before .before .before .before .before .pre .1 .0 .0),
+          (c .before .before .before .before .before .before .before .before .before .before .before .before .pre .1 .0 .1),
+          omega
+              (arith, (c .before .before .before .before .before .before .before .before .if1 .left)),
+        ),
+        (
+          record { order = m .ends; fits = m .within },
+          (
+            l .inv .0 .parts,
+            walked-room _ _ _ _ _ _ _ _ _ (l .inv .0) _ e (l .inv .1)
+                (c .before .before .before .before .before .before .before .before .before .before .before .before .pre .1 .1 .1),
+          ),
+        ),
+      ),
+    )
 
-parts-at-loop-less : (t : ℕ) → parts-at-lts.Need-loop-less (
-  add-part-reads.Asked,
-  add-part-reads.Learnt,
-  read-field-reads.Asked,
-  read-field-reads.Learnt,
-  field-at-below t,
-  field-at.Post,
-) (parts-at-at t) parts-at.Post parts-at-Inv-loop parts-at-μ-loop
+parts-at-loop-less : (t : ℕ) → parts-at-lts.Need-loop-less (parts-at-claims t) (parts-at-at t) parts-at.Post parts-at-Inv-loop parts-at-μ-loop
 parts-at-loop-less t c = let a = c .before .before .before .before .before .before .before .before .before .before .before .before .before .before .before .args in let l = c .before .before .before .before .before .before .before .before .before .before .loop in
     let m = field-stands (between (a .body .now) (a .start) (a .end)) (l .at) _ (sym (c .before .before .before .before .before .step .given .1) ∙ (c .before .before .before .before .before .before .before .read-field .ensures)) in
     omega (arith, m .tagged, m .begins, m .ends, (c .before .before .before .before .before .before .before .before .before .loop-test .taken))
 
-parts-at-loop-again : (t : ℕ) → parts-at-lts.Need-loop-again (
-  add-part-reads.Asked,
-  add-part-reads.Learnt,
-  read-field-reads.Asked,
-  read-field-reads.Learnt,
-  field-at-below t,
-  field-at.Post,
-) (parts-at-at t) parts-at.Post parts-at-Inv-loop parts-at-μ-loop
+parts-at-loop-again : (t : ℕ) → parts-at-lts.Need-loop-again (parts-at-claims t) (parts-at-at t) parts-at.Post parts-at-Inv-loop parts-at-μ-loop
 parts-at-loop-again t c = let a = c .before .before .before .before .before .before .before .before .before .before .before .before .before .before .before .args in let l = c .before .before .before .before .before .before .before .before .before .before .loop in
     let e = sym (c .before .before .before .before .before .step .given .1) ∙ (c .before .before .before .before .before .before .before .read-field .ensures) in
     let k = l .inv .1 in
     (walked-turn _ _ _ _ _ _ _ _ _ (l .inv .0) _ e _ _ (c .before .before .field-at .ensures .0) (c .before .before .field-at .ensures .1), omega arith)
 
-parts-at-same-length-4 : (t : ℕ) → parts-at-lts.Need-same-length-4 (
-  add-part-reads.Asked,
-  add-part-reads.Learnt,
-  read-field-reads.Asked,
-  read-field-reads.Learnt,
-  field-at-below t,
-  field-at.Post,
-) (parts-at-at t) parts-at.Post parts-at-Inv-loop parts-at-μ-loop
+parts-at-same-length-4 : (t : ℕ) → parts-at-lts.Need-same-length-4 (parts-at-claims t) (parts-at-at t) parts-at.Post parts-at-Inv-loop parts-at-μ-loop
 parts-at-same-length-4 t c = c .before .loop .inv .1
 
-parts-at-returns-4 : (t : ℕ) → parts-at-lts.Need-returns-4 (
-  add-part-reads.Asked,
-  add-part-reads.Learnt,
-  read-field-reads.Asked,
-  read-field-reads.Learnt,
-  field-at-below t,
-  field-at.Post,
-) (parts-at-at t) parts-at.Post parts-at-Inv-loop parts-at-μ-loop
+parts-at-returns-4 : (t : ℕ) → parts-at-lts.Need-returns-4 (parts-at-claims t) (parts-at-at t) parts-at.Post parts-at-Inv-loop parts-at-μ-loop
 parts-at-returns-4 t c = let a = c .before .before .before .before .before .before .args in let l = c .before .loop in
     let z = between-length (a .body .now) (a .start) (a .end) (c .before .before .before .before .before .before .pre .1 .0 .1) in
     let h : length (between (a .body .now) (a .start) (a .end)) ≤ l .at = omega arith in
     walked-done _ _ _ _ _ _ _ _ _ (l .inv .0) (path-done (a .path .now) (between (a .body .now) (a .start) (a .end)) (l .at) h)
 
 pub +field-at+parts-at-spec : {M : Type 1} → statement M
-+field-at+parts-at-spec = close μ-field-at μ-parts-at (λ t. field-at-lts.spec (
-  parts-at-below t,
-  parts-at.Post,
-)
++field-at+parts-at-spec = close μ-field-at μ-parts-at (λ t. field-at-lts.spec (field-at-claims t)
     (field-at-at t)
     field-at.Post
     (field-at-shared-slice-read-if2 t)
@@ -356,14 +256,7 @@ pub +field-at+parts-at-spec : {M : Type 1} → statement M
     (field-at-returns t)
     (field-at-returns-2 t)
     (field-at-returns-3 t))
-    λ t. parts-at-lts.spec (
-      add-part-reads.Asked,
-      add-part-reads.Learnt,
-      read-field-reads.Asked,
-      read-field-reads.Learnt,
-      field-at-below t,
-      field-at.Post,
-    )
+    λ t. parts-at-lts.spec (parts-at-claims t)
     (parts-at-at t)
     parts-at.Post
     parts-at-Inv-loop

@@ -74,7 +74,10 @@ loop-less c = search needs
 
 loop-again : tie.Need-loop-again Inv-loop μ-loop
 loop-again c = let a = c .before .before .before .before .before .before .before .before .before .before .before .before .before .before .before .before .args in let l = c .before .before .before .before .before .before .before .before .before .before .before .before .loop in
-    let g = going-part _ _ _ _ _ _ (l .inv .1) _ _ (write-turn (a .field) (a .s .now) (a .table .now) (a .n) (l .i) (c .before .before .before .before .before .before .before .before .before .before .before .before .before .before .before .before .pre .0) (c .before .before .before .before .before .before .before .before .before .before .before .loop-test .taken)) _ _ (c .before .before .before .before .before .before .before .emit-head .ensures) in
+    let g = going-part _ _ _ _ _ _ (l .inv .1) _ _ (write-turn (a .field) (a .s .now) (a .table .now) (a .n) (l .i)
+    (c .before .before .before .before .before .before .before .before .before .before .before .before .before .before .before .before .pre .0)
+    (c .before .before .before .before .before .before .before .before .before .before .before .loop-test .taken)) _ _
+    (c .before .before .before .before .before .before .before .emit-head .ensures) in
     let h = going-part _ _ _ _ _ _ g (partAt (a .s .now) (a .table .now) (l .i)) _ refl _ _ (c .before .before .emit-bytes .ensures) in
     let k = l .inv .2 in
     (omega arith, h, omega arith)

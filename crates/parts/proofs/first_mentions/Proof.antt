@@ -124,8 +124,14 @@ named-less-2 c = search needs
 named-again-2 : tie.Need-named-again-2 Inv-loop μ-loop Inv-named μ-named
 named-again-2 c = let a = c .before .before .before .before .before .before .before .before .before .before .before .before .before .args in let m = c .before .before .before .before .before .before .before .before .before .named in let l = c .before .before .before .before .before .loop in
     let x = partAt (a .body .now) (a .from .now) (m .i) in
-    let f = m .inv .0 .fewer in let k = m .inv .1 in
-    (named-new _ _ _ _ _ _ (m .inv .0) (c .before .before .before .before .before .before .before .before .named-test .taken) (look-none x (a .body .now) (m .to) (m .k) (l .j) (l .inv .1) (c .before .before .before .before .loop-test .left)) (c .before .before .before .before .before .before .before .before .before .before .before .before .before .pre .0) (omega (arith, (c .before .before .before .before .before .before .before .before .before .before .before .before .before .pre .1))) _ _ (c .before .before .add-part .ensures .0) (c .before .before .add-part .ensures .1), omega arith)
+    let f = m .inv .0 .fewer in let k = m .inv .1 in (
+      named-new _ _ _ _ _ _ (m .inv .0) (c .before .before .before .before .before .before .before .before .named-test .taken)
+          (look-none x (a .body .now) (m .to) (m .k) (l .j) (l .inv .1) (c .before .before .before .before .loop-test .left))
+          (c .before .before .before .before .before .before .before .before .before .before .before .before .before .pre .0)
+          (omega (arith, (c .before .before .before .before .before .before .before .before .before .before .before .before .before .pre .1))) _ _
+          (c .before .before .add-part .ensures .0) (c .before .before .add-part .ensures .1),
+      omega arith,
+    )
 
 same-length : tie.Need-same-length Inv-loop μ-loop Inv-named μ-named
 same-length c = c .before .named .inv .1

@@ -63,11 +63,17 @@ uvarint-len-requires-2 c κs = search needs
 
 add-size : tie.Need-add-size Inv-loop μ-loop
 add-size c = let a = c .before .before .before .before .before .before .before .before .before .args in let l = c .before .before .before .before .before .before .loop in
-    let z = size-fits (a .field) (a .s .now) (a .table .now) (a .n) (l .i) (c .before .before .before .before .before .before .before .before .before .pre .0) (c .before .before .before .before .before .loop-test .taken) _ _ (c .before .uvarint-len .ensures) (c .uvarint-len2 .ensures) (c .before .before .before .before .before .before .before .before .before .pre .1) (omega (arith, (c .before .before .before .before .before .before .before .before .before .good .0 .1))) in omega arith
+    let z = size-fits (a .field) (a .s .now) (a .table .now) (a .n) (l .i) (c .before .before .before .before .before .before .before .before .before .pre .0)
+    (c .before .before .before .before .before .loop-test .taken) _ _ (c .before .uvarint-len .ensures) (c .uvarint-len2 .ensures)
+    (c .before .before .before .before .before .before .before .before .before .pre .1)
+    (omega (arith, (c .before .before .before .before .before .before .before .before .before .good .0 .1))) in omega arith
 
 add-size-2 : tie.Need-add-size-2 Inv-loop μ-loop
 add-size-2 c = let a = c .before .before .before .before .before .before .before .before .before .args in let l = c .before .before .before .before .before .before .loop in
-    let z = size-fits (a .field) (a .s .now) (a .table .now) (a .n) (l .i) (c .before .before .before .before .before .before .before .before .before .pre .0) (c .before .before .before .before .before .loop-test .taken) _ _ (c .before .uvarint-len .ensures) (c .uvarint-len2 .ensures) (c .before .before .before .before .before .before .before .before .before .pre .1) (omega (arith, (c .before .before .before .before .before .before .before .before .before .good .0 .1))) in omega arith
+    let z = size-fits (a .field) (a .s .now) (a .table .now) (a .n) (l .i) (c .before .before .before .before .before .before .before .before .before .pre .0)
+    (c .before .before .before .before .before .loop-test .taken) _ _ (c .before .uvarint-len .ensures) (c .uvarint-len2 .ensures)
+    (c .before .before .before .before .before .before .before .before .before .pre .1)
+    (omega (arith, (c .before .before .before .before .before .before .before .before .before .good .0 .1))) in omega arith
 
 returns : tie.Need-returns Inv-loop μ-loop
 returns c = let a = c .before .before .before .before .before .before .before .before .before .before .args in let l = c .before .before .before .before .before .before .before .loop in

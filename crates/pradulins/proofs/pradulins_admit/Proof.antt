@@ -19,4 +19,9 @@ pradulins-admit-spec =
     (λ c κs. search needs)
     (λ c. search needs)
     (λ c. search needs)
-    (λ c. let node = c .before .before .before .before .before .before .before .before .before .before .before .before .before .load .ensures in let did = c .before .before .before .before .before .before .before .before .before .before .admit .ensures in with-rest (told-as admitTold (now (c .before .before .before .before .before .before .before .before .before .before .before .before .before .before .before .before .before .before .args .values)) (rw node at (did .0)) (c .before .before .told-admit .ensures) (c .tell .ensures)) ((c .before .before .before .store .ensures) ∙ ap nodeBytes (rw node at (did .1 .0)), (rw node at (did .1 .1 .0), rw node at (did .1 .1 .1)))))
+    (λ c. let node = c .before .before .before .before .before .before .before .before .before .before .before .before .before .load .ensures in
+    let did = c .before .before .before .before .before .before .before .before .before .before .admit .ensures in
+    with-rest (told-as admitTold
+    (now (c .before .before .before .before .before .before .before .before .before .before .before .before .before .before .before .before .before .before
+    .args .values)) (rw node at (did .0)) (c .before .before .told-admit .ensures) (c .tell .ensures))
+    ((c .before .before .before .store .ensures) ∙ ap nodeBytes (rw node at (did .1 .0)), (rw node at (did .1 .1 .0), rw node at (did .1 .1 .1)))))

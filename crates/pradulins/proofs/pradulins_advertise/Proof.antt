@@ -15,4 +15,7 @@ pradulins-advertise-spec =
     (λ c κs. search needs)
     (λ c κs. search needs)
     (λ c. search needs)
-    (λ c. let node = c .before .before .before .before .before .before .before .load .ensures in let did = c .before .before .before .before .before .advertise .ensures in with-rest (told-as advertiseTold (now (c .before .before .before .before .before .before .before .before .before .before .before .before .args .values)) (rw node at (did .0)) (c .before .before .told-advertise .ensures) (c .tell .ensures)) (rw node at (did .1 .1))))
+    (λ c. let node = c .before .before .before .before .before .before .before .load .ensures in
+    let did = c .before .before .before .before .before .advertise .ensures in
+    with-rest (told-as advertiseTold (now (c .before .before .before .before .before .before .before .before .before .before .before .before .args .values))
+    (rw node at (did .0)) (c .before .before .told-advertise .ensures) (c .tell .ensures)) (rw node at (did .1 .1))))

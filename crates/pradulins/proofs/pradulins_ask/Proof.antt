@@ -15,4 +15,7 @@ pradulins-ask-spec =
     (λ c κs. search needs)
     (λ c κs. search needs)
     (λ c. search needs)
-    (λ c. let node = c .before .before .before .before .before .before .before .load .ensures in let did = c .before .before .before .before .before .ask .ensures in with-rest (told-as askTold (now (c .before .before .before .before .before .before .before .before .before .before .before .before .args .values)) (rw node at (did .0)) (c .before .before .told-ask .ensures) (c .tell .ensures)) (rw node at (did .1 .1))))
+    (λ c. let node = c .before .before .before .before .before .before .before .load .ensures in
+    let did = c .before .before .before .before .before .ask .ensures in
+    with-rest (told-as askTold (now (c .before .before .before .before .before .before .before .before .before .before .before .before .args .values))
+    (rw node at (did .0)) (c .before .before .told-ask .ensures) (c .tell .ensures)) (rw node at (did .1 .1))))

@@ -17,4 +17,8 @@ pradulins-heartbeat-spec =
     (λ c κs. search needs)
     (λ c κs. search needs)
     (λ c κs. search needs)
-    (λ c. let node = c .before .before .before .before .before .before .before .load .ensures in let did = c .before .before .before .before .before .before .heartbeat .ensures in with-rest (told-as beatTold (now (c .before .before .before .before .before .before .before .before .before .before .before .args .values)) (rw node at (did .0)) (c .before .before .told-beat .ensures) (c .tell .ensures)) ((c .before .before .before .store .ensures) ∙ ap nodeBytes (rw node at (did .1)))))
+    (λ c. let node = c .before .before .before .before .before .before .before .load .ensures in
+    let did = c .before .before .before .before .before .before .heartbeat .ensures in
+    with-rest (told-as beatTold (now (c .before .before .before .before .before .before .before .before .before .before .before .args .values))
+    (rw node at (did .0)) (c .before .before .told-beat .ensures) (c .tell .ensures)) ((c .before .before .before .store .ensures)
+    ∙ ap nodeBytes (rw node at (did .1)))))

@@ -15,4 +15,7 @@ pradulins-serve-spec =
     (λ c κs. search needs)
     (λ c κs. search needs)
     (λ c. search needs)
-    (λ c. let node = c .before .before .before .before .before .before .before .load .ensures in let did = c .before .before .before .before .before .serve .ensures in with-rest (told-as serveTold (now (c .before .before .before .before .before .before .before .before .before .before .before .before .args .values)) (rw node at (did .0)) (c .before .before .told-serve .ensures) (c .tell .ensures)) (rw node at (did .1 .1))))
+    (λ c. let node = c .before .before .before .before .before .before .before .load .ensures in
+    let did = c .before .before .before .before .before .serve .ensures in
+    with-rest (told-as serveTold (now (c .before .before .before .before .before .before .before .before .before .before .before .before .args .values))
+    (rw node at (did .0)) (c .before .before .told-serve .ensures) (c .tell .ensures)) (rw node at (did .1 .1))))

@@ -23,10 +23,15 @@ place-requires : tie.Need-place-requires Inv-loop μ-loop
 place-requires c κs = search needs
 
 shared-slice-read-if2 : tie.Need-shared-slice-read-if2 Inv-loop μ-loop
-shared-slice-read-if2 c = let l = place-lt (c .before .before .before .before .before .before .args .ring) (c .before .before .before .before .loop .i) ((c .before .before .before .before .before .before .pre .starts)) (omega (arith, (c .before .before .before .before .before .before .pre .within))) in let e = (c .before .place .ensures) in omega (arith, (c .before .before .before .before .before .before .pre .size))
+shared-slice-read-if2 c = let l = place-lt (c .before .before .before .before .before .before .args .ring) (c .before .before .before .before .loop .i)
+    ((c .before .before .before .before .before .before .pre .starts)) (omega (arith, (c .before .before .before .before .before .before .pre .within))) in
+    let e = (c .before .place .ensures) in omega (arith, (c .before .before .before .before .before .before .pre .size))
 
 returns : tie.Need-returns Inv-loop μ-loop
-returns c = within-not (c .before .before .before .before .before .before .before .args .most) (c .before .before .before .before .before .before .before .args .ring) (now (c .before .before .before .before .before .before .before .args .lens)) (c .before .before .before .before .before .loop .i) ((c .before .before .before .before .before .loop .inv .1)) (c .before .before .before .if1 .taken) (rw (sym (c .before .before .place .ensures)) (c .if2 .taken))
+returns c = within-not (c .before .before .before .before .before .before .before .args .most)
+    (c .before .before .before .before .before .before .before .args .ring) (now (c .before .before .before .before .before .before .before .args .lens))
+    (c .before .before .before .before .before .loop .i) ((c .before .before .before .before .before .loop .inv .1)) (c .before .before .before .if1 .taken)
+    (rw (sym (c .before .before .place .ensures)) (c .if2 .taken))
 
 add-i : tie.Need-add-i Inv-loop μ-loop
 add-i c = search needs
@@ -35,7 +40,13 @@ loop-less : tie.Need-loop-less Inv-loop μ-loop
 loop-less c = search needs
 
 loop-again : tie.Need-loop-again Inv-loop μ-loop
-loop-again c = (omega arith, within-more (c .before .before .before .before .before .before .before .args .most) (c .before .before .before .before .before .before .before .args .ring) (now (c .before .before .before .before .before .before .before .args .lens)) (c .before .before .before .before .before .loop .i) ((c .before .before .before .before .before .loop .inv .1)) (c .before .before .before .if1 .taken) (rw (sym (c .before .before .place .ensures)) (c .if2 .left)))
+loop-again c = (
+  omega arith,
+  within-more (c .before .before .before .before .before .before .before .args .most) (c .before .before .before .before .before .before .before .args .ring)
+      (now (c .before .before .before .before .before .before .before .args .lens)) (c .before .before .before .before .before .loop .i)
+      ((c .before .before .before .before .before .loop .inv .1)) (c .before .before .before .if1 .taken)
+      (rw (sym (c .before .before .place .ensures)) (c .if2 .left)),
+)
 
 returns-2 : tie.Need-returns-2 Inv-loop μ-loop
 returns-2 c = within-all (c .before .before .before .before .args .most) (c .before .before .before .before .args .ring) (now (c .before .before .before .before .args .lens)) (c .before .before .loop .i) ((c .before .before .loop .inv .1)) (c .if1 .left)

@@ -30,16 +30,24 @@ place-requires : tie.Need-place-requires Inv-loop μ-loop
 place-requires c κs = search needs
 
 mul-base : tie.Need-mul-base Inv-loop μ-loop
-mul-base c = let w = row-within (c .before .before .before .before .before .args .size) (c .before .before .before .before .before .args .ring) (now (c .before .before .before .before .before .args .lens)) (now (c .before .before .before .before .before .args .ids)) ((c .before .before .loop .i) - 1) (c .place .result) (c .before .before .before .before .before .pre) (omega arith) (c .place .ensures) in search needs
+mul-base c = let w = row-within (c .before .before .before .before .before .args .size) (c .before .before .before .before .before .args .ring)
+    (now (c .before .before .before .before .before .args .lens)) (now (c .before .before .before .before .before .args .ids))
+    ((c .before .before .loop .i) - 1) (c .place .result) (c .before .before .before .before .before .pre) (omega arith) (c .place .ensures) in search needs
 
 shared-slice-read-end : tie.Need-shared-slice-read-end Inv-loop μ-loop
-shared-slice-read-end c = let w = row-within (c .before .before .before .before .before .before .args .size) (c .before .before .before .before .before .before .args .ring) (now (c .before .before .before .before .before .before .args .lens)) (now (c .before .before .before .before .before .before .args .ids)) ((c .before .before .before .loop .i) - 1) (c .before .place .result) (c .before .before .before .before .before .before .pre) (omega arith) (c .before .place .ensures) in omega arith
+shared-slice-read-end c = let w = row-within (c .before .before .before .before .before .before .args .size)
+    (c .before .before .before .before .before .before .args .ring) (now (c .before .before .before .before .before .before .args .lens))
+    (now (c .before .before .before .before .before .before .args .ids)) ((c .before .before .before .loop .i) - 1) (c .before .place .result)
+    (c .before .before .before .before .before .before .pre) (omega arith) (c .before .place .ensures) in omega arith
 
 cast-end : tie.Need-cast-end Inv-loop μ-loop
 cast-end c = omega (arith, (c .shared-slice-known3 .given) (c .before .place .result))
 
 add-end : tie.Need-add-end Inv-loop μ-loop
-add-end c = let w = row-within (c .before .before .before .before .before .before .args .size) (c .before .before .before .before .before .before .args .ring) (now (c .before .before .before .before .before .before .args .lens)) (now (c .before .before .before .before .before .before .args .ids)) ((c .before .before .before .loop .i) - 1) (c .before .place .result) (c .before .before .before .before .before .before .pre) (omega arith) (c .before .place .ensures) in search needs
+add-end c = let w = row-within (c .before .before .before .before .before .before .args .size) (c .before .before .before .before .before .before .args .ring)
+    (now (c .before .before .before .before .before .before .args .lens)) (now (c .before .before .before .before .before .before .args .ids))
+    ((c .before .before .before .loop .i) - 1) (c .before .place .result) (c .before .before .before .before .before .before .pre) (omega arith)
+    (c .before .place .ensures) in search needs
 
 sub-id : tie.Need-sub-id Inv-loop μ-loop
 sub-id c = search needs
@@ -48,7 +56,10 @@ part-id-start : tie.Need-part-id-start Inv-loop μ-loop
 part-id-start c = search needs
 
 part-id-end : tie.Need-part-id-end Inv-loop μ-loop
-part-id-end c = let w = row-within (c .before .before .before .before .before .before .args .size) (c .before .before .before .before .before .before .args .ring) (now (c .before .before .before .before .before .before .args .lens)) (now (c .before .before .before .before .before .before .args .ids)) ((c .before .before .before .loop .i) - 1) (c .before .place .result) (c .before .before .before .before .before .before .pre) (omega arith) (c .before .place .ensures) in omega arith
+part-id-end c = let w = row-within (c .before .before .before .before .before .before .args .size)
+    (c .before .before .before .before .before .before .args .ring) (now (c .before .before .before .before .before .before .args .lens))
+    (now (c .before .before .before .before .before .before .args .ids)) ((c .before .before .before .loop .i) - 1) (c .before .place .result)
+    (c .before .before .before .before .before .before .pre) (omega arith) (c .before .place .ensures) in omega arith
 
 bucket-requires : tie.Need-bucket-requires Inv-loop μ-loop
 bucket-requires c κs = search needs
@@ -60,7 +71,13 @@ again-requires : tie.Need-again-requires Inv-loop μ-loop
 again-requires c κs = ((c .before .before .before .before .before .before .before .before .pre), ((c .before .before .before .before .before .loop .inv .0), met-flag (c .before .before .before .before .before .loop .met) _ _ (c .bucket .result) (c .before .before .before .before .before .loop .inv .1 .1 .1) (c .bucket .ensures)))
 
 returns : tie.Need-returns Inv-loop μ-loop
-returns c = differ-not (c .before .before .before .before .before .before .before .before .before .before .args .size) (c .before .before .before .before .before .before .before .before .before .before .args .ring) (now (c .before .before .before .before .before .before .before .before .before .before .args .lens)) (now (c .before .before .before .before .before .before .before .before .before .before .args .ids)) (c .before .before .before .before .before .before .before .loop .i) (c .before .before .before .before .before .place .result) (c .before .before .before .before .before .before .loop-test .taken) (c .before .before .before .before .before .before .before .loop .inv .0) (c .before .before .before .before .before .place .ensures) (sym (c .before .again .ensures) ∙ (c .if1 .taken))
+returns c = differ-not (c .before .before .before .before .before .before .before .before .before .before .args .size)
+    (c .before .before .before .before .before .before .before .before .before .before .args .ring)
+    (now (c .before .before .before .before .before .before .before .before .before .before .args .lens))
+    (now (c .before .before .before .before .before .before .before .before .before .before .args .ids))
+    (c .before .before .before .before .before .before .before .loop .i) (c .before .before .before .before .before .place .result)
+    (c .before .before .before .before .before .before .loop-test .taken) (c .before .before .before .before .before .before .before .loop .inv .0)
+    (c .before .before .before .before .before .place .ensures) (sym (c .before .again .ensures) ∙ (c .if1 .taken))
 
 array-write-met : tie.Need-array-write-met Inv-loop μ-loop
 array-write-met c = bucket-in _ (c .before .before .bucket .result) (c .before .before .bucket .ensures)
@@ -69,7 +86,34 @@ loop-less : tie.Need-loop-less Inv-loop μ-loop
 loop-less c = search needs
 
 loop-again : tie.Need-loop-again Inv-loop μ-loop
-loop-again c = (omega arith, (length-set (c .before .before .before .before .before .before .before .loop .met) (c .before .before .bucket .result) 1 ∙ (c .before .before .before .before .before .before .before .loop .inv .1 .0), (differ-more (c .before .before .before .before .before .before .before .before .before .before .args .size) (c .before .before .before .before .before .before .before .before .before .before .args .ring) (now (c .before .before .before .before .before .before .before .before .before .before .args .lens)) (now (c .before .before .before .before .before .before .before .before .before .before .args .ids)) (c .before .before .before .before .before .before .before .loop .i) (c .before .before .before .before .before .place .result) (c .before .before .before .before .before .before .loop-test .taken) (c .before .before .before .before .before .before .before .loop .inv .0) (c .before .before .before .before .before .place .ensures) (sym (c .before .again .ensures) ∙ (c .if1 .left)) (c .before .before .before .before .before .before .before .loop .inv .1 .1 .0), met-more (c .before .before .before .before .before .before .before .loop .met) (c .before .before .bucket .result) _ _ _ (row-before (c .before .before .before .before .before .before .before .before .before .before .args .size) (c .before .before .before .before .before .before .before .before .before .before .args .ring) (now (c .before .before .before .before .before .before .before .before .before .before .args .lens)) (now (c .before .before .before .before .before .before .before .before .before .before .args .ids)) (c .before .before .before .before .before .before .before .loop .i) (c .before .before .before .before .before .place .result) (c .before .before .before .before .before .before .loop-test .taken) (c .before .before .before .before .before .before .before .loop .inv .0) (c .before .before .before .before .before .place .ensures)) (c .before .before .bucket .ensures) (c .before .before .before .before .before .before .before .loop .inv .1 .0) (c .before .before .before .before .before .before .before .loop .inv .1 .1 .1))))
+loop-again c = (
+  omega arith,
+  (
+    length-set (c .before .before .before .before .before .before .before .loop .met) (c .before .before .bucket .result) 1
+        ∙ (c .before .before .before .before .before .before .before .loop .inv .1 .0),
+    (
+      differ-more (c .before .before .before .before .before .before .before .before .before .before .args .size)
+          (c .before .before .before .before .before .before .before .before .before .before .args .ring)
+          (now (c .before .before .before .before .before .before .before .before .before .before .args .lens))
+          (now (c .before .before .before .before .before .before .before .before .before .before .args .ids))
+          (c .before .before .before .before .before .before .before .loop .i) (c .before .before .before .before .before .place .result)
+          (c .before .before .before .before .before .before .loop-test .taken) (c .before .before .before .before .before .before .before .loop .inv .0)
+          (c .before .before .before .before .before .place .ensures) (sym (c .before .again .ensures) ∙ (c .if1 .left))
+          (c .before .before .before .before .before .before .before .loop .inv .1 .1 .0),
+      met-more
+          (c .before .before .before .before .before .before .before .loop .met) (c .before .before .bucket .result) _ _ _
+          (row-before (c .before .before .before .before .before .before .before .before .before .before .args .size)
+          (c .before .before .before .before .before .before .before .before .before .before .args .ring)
+          (now (c .before .before .before .before .before .before .before .before .before .before .args .lens))
+          (now (c .before .before .before .before .before .before .before .before .before .before .args .ids))
+          (c .before .before .before .before .before .before .before .loop .i) (c .before .before .before .before .before .place .result)
+          (c .before .before .before .before .before .before .loop-test .taken) (c .before .before .before .before .before .before .before .loop .inv .0)
+          (c .before .before .before .before .before .place .ensures)) (c .before .before .bucket .ensures)
+          (c .before .before .before .before .before .before .before .loop .inv .1 .0)
+          (c .before .before .before .before .before .before .before .loop .inv .1 .1 .1),
+    ),
+  ),
+)
 
 returns-2 : tie.Need-returns-2 Inv-loop μ-loop
 returns-2 c = differ-all (c .before .loop .i) (idsIn (c .before .before .before .before .args .size) (c .before .before .before .before .args .ring) (now (c .before .before .before .before .args .lens)) (now (c .before .before .before .before .args .ids))) (c .loop-test .left) (c .before .loop .inv .1 .1 .0)

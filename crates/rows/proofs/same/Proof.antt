@@ -38,7 +38,12 @@ loop-less : tie.Need-loop-less Inv-loop μ-loop
 loop-less c = search needs
 
 loop-again : tie.Need-loop-again Inv-loop μ-loop
-loop-again c = (omega arith, same-more (now (c .before .before .before .before .before .before .args .a)) (now (c .before .before .before .before .before .before .args .b)) (c .before .before .before .before .loop .i) (c .before .before .before .loop-test .taken) ((c .before .before .before .before .loop .inv .0)) (c .before .before .before .before .before .if1 .left) ((c .before .before .before .before .loop .inv .1)) (c .if2 .left))
+loop-again c = (
+  omega arith,
+  same-more (now (c .before .before .before .before .before .before .args .a)) (now (c .before .before .before .before .before .before .args .b))
+      (c .before .before .before .before .loop .i) (c .before .before .before .loop-test .taken) ((c .before .before .before .before .loop .inv .0))
+      (c .before .before .before .before .before .if1 .left) ((c .before .before .before .before .loop .inv .1)) (c .if2 .left),
+)
 
 returns-3 : tie.Need-returns-3 Inv-loop μ-loop
 returns-3 c = same-all (now (c .before .before .before .args .a)) (now (c .before .before .before .args .b)) (c .before .loop .i) (c .loop-test .left) ((c .before .loop .inv .1))

@@ -74,7 +74,13 @@ place-from-requires-5 : tie.Need-place-from-requires-5
 place-from-requires-5 c κs = search needs
 
 returns : tie.Need-returns
-returns c = all-made _ _ _ _ (c .before .before .before .before .before .before .before .before .before .before .before .before .before .before .before .before .before .before .before .before .number-from .ensures) (c .before .before .before .before .before .before .before .before .before .before .before .before .before .before .before .before .place-from .ensures) (c .before .before .before .before .before .before .before .before .before .before .before .before .place-from2 .ensures) (c .before .before .before .before .before .before .before .before .place-from3 .ensures) (c .before .before .before .before .place-from4 .ensures) (c .place-from5 .ensures)
+returns c = all-made _ _ _ _
+    (c .before .before .before .before .before .before .before .before .before .before .before .before .before .before .before .before .before .before .before
+    .before .number-from .ensures)
+    (c .before .before .before .before .before .before .before .before .before .before .before .before .before .before .before .before .place-from .ensures)
+    (c .before .before .before .before .before .before .before .before .before .before .before .before .place-from2 .ensures)
+    (c .before .before .before .before .before .before .before .before .place-from3 .ensures) (c .before .before .before .before .place-from4 .ensures)
+    (c .place-from5 .ensures)
 
 pub made-spec : {M : Type 1} → statement M
 made-spec =

@@ -35,7 +35,11 @@ same-length-3 : tie.Need-same-length-3
 same-length-3 c = search needs
 
 returns-4 : tie.Need-returns-4
-returns-4 c = let a = c .before .before .before .before .before .before .before .before .before .before .before .before .before .before .before .before .args in let h : 3 ≤ a .count = omega arith in puts-as (three _ (a .first) (a .second) (a .third) h) (omega arith) (puts-then (puts-then (c .before .before .before .before .before .before .before .before .before .before .before .before .spell-number .ensures) (c .before .before .before .before .before .before .before .spell-number2 .ensures)) (c .before .before .spell-number3 .ensures))
+returns-4 c = let a = c .before .before .before .before .before .before .before .before .before .before .before .before .before .before .before .before .args in
+    let h : 3 ≤ a .count = omega arith in
+    puts-as (three _ (a .first) (a .second) (a .third) h) (omega arith)
+    (puts-then (puts-then (c .before .before .before .before .before .before .before .before .before .before .before .before .spell-number .ensures)
+    (c .before .before .before .before .before .before .before .spell-number2 .ensures)) (c .before .before .spell-number3 .ensures))
 
 pub spell-numbers-spec : {M : Type 1} → statement M
 spell-numbers-spec =

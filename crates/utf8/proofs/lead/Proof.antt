@@ -27,13 +27,53 @@ returns-7 : tie.Need-returns-7
 returns-7 c = simp (lt-leb _ _ (c .before .before .before .before .before .before .if1 .left), le-ltb _ _ (c .before .before .before .before .before .if2 .left), lt-leb _ _ (c .before .before .before .before .if3 .left), ne-eqb _ _ (c .before .before .before .if4 .left), ne-eqb _ _ (c .before .before .if5 .left), lt-leb _ _ (c .before .if6 .left), eq-eqb _ _ (c .if7 .taken))
 
 returns-8 : tie.Need-returns-8
-returns-8 c = simp (lt-leb _ _ (c .before .before .before .before .before .before .before .if1 .left), le-ltb _ _ (c .before .before .before .before .before .before .if2 .left), lt-leb _ _ (c .before .before .before .before .before .if3 .left), ne-eqb _ _ (c .before .before .before .before .if4 .left), ne-eqb _ _ (c .before .before .before .if5 .left), lt-leb _ _ (c .before .before .if6 .left), ne-eqb _ _ (c .before .if7 .left), le-leb _ _ (c .if8 .taken))
+returns-8 c =
+    simp (
+      lt-leb _ _ (c .before .before .before .before .before .before .before .if1 .left),
+      le-ltb _ _ (c .before .before .before .before .before .before .if2 .left),
+      lt-leb _ _ (c .before .before .before .before .before .if3 .left),
+      ne-eqb _ _
+          (c .before .before .before .before .if4 .left),
+      ne-eqb _ _ (c .before .before .before .if5 .left),
+      lt-leb _ _ (c .before .before .if6 .left),
+      ne-eqb _ _
+          (c .before .if7 .left),
+      le-leb _ _ (c .if8 .taken),
+    )
 
 returns-9 : tie.Need-returns-9
-returns-9 c = simp (lt-leb _ _ (c .before .before .before .before .before .before .before .before .if1 .left), le-ltb _ _ (c .before .before .before .before .before .before .before .if2 .left), lt-leb _ _ (c .before .before .before .before .before .before .if3 .left), ne-eqb _ _ (c .before .before .before .before .before .if4 .left), ne-eqb _ _ (c .before .before .before .before .if5 .left), lt-leb _ _ (c .before .before .before .if6 .left), ne-eqb _ _ (c .before .before .if7 .left), lt-leb _ _ (c .before .if8 .left), eq-eqb _ _ (c .if9 .taken))
+returns-9 c =
+    simp (
+      lt-leb _ _ (c .before .before .before .before .before .before .before .before .if1 .left),
+      le-ltb _ _ (c .before .before .before .before .before .before .before .if2 .left),
+      lt-leb _ _
+          (c .before .before .before .before .before .before .if3 .left),
+      ne-eqb _ _ (c .before .before .before .before .before .if4 .left),
+      ne-eqb _ _
+          (c .before .before .before .before .if5 .left),
+      lt-leb _ _ (c .before .before .before .if6 .left),
+      ne-eqb _ _ (c .before .before .if7 .left),
+      lt-leb _ _
+          (c .before .if8 .left),
+      eq-eqb _ _ (c .if9 .taken),
+    )
 
 returns-10 : tie.Need-returns-10
-returns-10 c = simp (lt-leb _ _ (c .before .before .before .before .before .before .before .before .if1 .left), le-ltb _ _ (c .before .before .before .before .before .before .before .if2 .left), lt-leb _ _ (c .before .before .before .before .before .before .if3 .left), ne-eqb _ _ (c .before .before .before .before .before .if4 .left), ne-eqb _ _ (c .before .before .before .before .if5 .left), lt-leb _ _ (c .before .before .before .if6 .left), ne-eqb _ _ (c .before .before .if7 .left), lt-leb _ _ (c .before .if8 .left), ne-eqb _ _ (c .if9 .left))
+returns-10 c =
+    simp (
+      lt-leb _ _ (c .before .before .before .before .before .before .before .before .if1 .left),
+      le-ltb _ _ (c .before .before .before .before .before .before .before .if2 .left),
+      lt-leb _ _
+          (c .before .before .before .before .before .before .if3 .left),
+      ne-eqb _ _ (c .before .before .before .before .before .if4 .left),
+      ne-eqb _ _
+          (c .before .before .before .before .if5 .left),
+      lt-leb _ _ (c .before .before .before .if6 .left),
+      ne-eqb _ _ (c .before .before .if7 .left),
+      lt-leb _ _
+          (c .before .if8 .left),
+      ne-eqb _ _ (c .if9 .left),
+    )
 
 pub lead-spec : {M : Type 1} → statement M
 lead-spec =

@@ -33,7 +33,14 @@ same-length c = search needs
 
 returns : tie.Need-returns
 unfolding messageText
-returns c = puts-as refl (omega arith) (puts-then (c .before .before .before .before .before .before .before .before .before .before .before .before .before .before .before .before .before .before .before .before .before .before .put-whole .ensures) (puts-then (c .before .before .before .before .before .before .before .before .before .before .before .before .before .before .before .before .before .before .put-place .ensures) (puts-then (c .before .before .before .before .before .before .before .before .before .before .before .before .before .before .put-place2 .ensures) (puts-then (c .before .before .before .before .before .before .before .before .before .before .put-place3 .ensures) (puts-then (c .before .before .before .before .before .before .put-place4 .ensures) (c .before .before .put-place5 .ensures))))))
+returns c = puts-as refl (omega arith)
+    (puts-then (c .before .before .before .before .before .before .before .before .before .before .before .before .before .before .before .before .before
+    .before .before .before .before .before .put-whole .ensures)
+    (puts-then (c .before .before .before .before .before .before .before .before .before .before .before .before .before .before .before .before .before
+    .before .put-place .ensures)
+    (puts-then (c .before .before .before .before .before .before .before .before .before .before .before .before .before .before .put-place2 .ensures)
+    (puts-then (c .before .before .before .before .before .before .before .before .before .before .put-place3 .ensures)
+    (puts-then (c .before .before .before .before .before .before .put-place4 .ensures) (c .before .before .put-place5 .ensures))))))
 
 pub put-message-spec : {M : Type 1} → statement M
 put-message-spec =

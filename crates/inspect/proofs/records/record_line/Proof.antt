@@ -33,7 +33,10 @@ same-length : tie.Need-same-length
 same-length c = search needs
 
 returns-3 : tie.Need-returns-3
-returns-3 c = holds-as (record-there _ (c .before .before .before .before .before .before .before .before .before .before .before .before .before .args .found) (c .before .before .before .before .before .before .before .before .before .before .if1 .left) (c .before .before .before .before .before .before .before .before .before .if2 .left)) (puts-holds (puts-then (c .before .before .before .before .before .before .put-record .ensures) (c .before .before .end-line .ensures)) (omega arith))
+returns-3 c = holds-as (record-there _ (c .before .before .before .before .before .before .before .before .before .before .before .before .before .args .found)
+    (c .before .before .before .before .before .before .before .before .before .before .if1 .left)
+    (c .before .before .before .before .before .before .before .before .before .if2 .left))
+    (puts-holds (puts-then (c .before .before .before .before .before .before .put-record .ensures) (c .before .before .end-line .ensures)) (omega arith))
 
 pub record-line-spec : {M : Type 1} → statement M
 record-line-spec =

@@ -13,7 +13,10 @@ place-requires : tie.Need-place-requires
 place-requires c κs = search needs
 
 mul-put-bytes : tie.Need-mul-put-bytes
-mul-put-bytes c = let w = next-lies (c .before .before .before .before .before .before .args .t1) (now (c .before .before .before .before .before .before .args .store)) (c .before .place .result) (c .before .before .before .before .before .before .pre .0) (c .before .before .before .before .before .before .pre .1 .0) (rw (c .before .before .ring .ensures) at (c .before .place .ensures)) in omega arith
+mul-put-bytes c = let w = next-lies (c .before .before .before .before .before .before .args .t1)
+    (now (c .before .before .before .before .before .before .args .store)) (c .before .place .result)
+    (c .before .before .before .before .before .before .pre .0) (c .before .before .before .before .before .before .pre .1 .0)
+    (rw (c .before .before .ring .ensures) at (c .before .place .ensures)) in omega arith
 
 put-bytes-requires : tie.Need-put-bytes-requires
 put-bytes-requires c κs = search needs
@@ -22,7 +25,13 @@ slice-aggregate-put-bytes : tie.Need-slice-aggregate-put-bytes
 slice-aggregate-put-bytes c = search needs
 
 mul-put-bytes-2 : tie.Need-mul-put-bytes-2
-mul-put-bytes-2 c = let w = next-lies (c .before .before .before .before .before .before .before .before .before .before .before .args .t1) (now (c .before .before .before .before .before .before .before .before .before .before .before .args .store)) (c .before .before .before .before .before .before .place .result) (c .before .before .before .before .before .before .before .before .before .before .before .pre .0) (c .before .before .before .before .before .before .before .before .before .before .before .pre .1 .0) (rw (c .before .before .before .before .before .before .before .ring .ensures) at (c .before .before .before .before .before .before .place .ensures)) in omega arith
+mul-put-bytes-2 c = let w = next-lies (c .before .before .before .before .before .before .before .before .before .before .before .args .t1)
+    (now (c .before .before .before .before .before .before .before .before .before .before .before .args .store))
+    (c .before .before .before .before .before .before .place .result)
+    (c .before .before .before .before .before .before .before .before .before .before .before .pre .0)
+    (c .before .before .before .before .before .before .before .before .before .before .before .pre .1 .0)
+    (rw (c .before .before .before .before .before .before .before .ring .ensures) at (c .before .before .before .before .before .before .place .ensures)) in
+    omega arith
 
 put-bytes-requires-2 : tie.Need-put-bytes-requires-2
 put-bytes-requires-2 c κs = search needs
@@ -31,25 +40,61 @@ cast-self : tie.Need-cast-self
 cast-self c = search needs
 
 element-write-self : tie.Need-element-write-self
-element-write-self c = let w = next-lies (c .before .before .before .before .before .before .before .before .before .before .before .before .before .args .t1) (now (c .before .before .before .before .before .before .before .before .before .before .before .before .before .args .store)) (c .before .before .before .before .before .before .before .before .place .result) (c .before .before .before .before .before .before .before .before .before .before .before .before .before .pre .0) (c .before .before .before .before .before .before .before .before .before .before .before .before .before .pre .1 .0) (rw (c .before .before .before .before .before .before .before .before .before .ring .ensures) at (c .before .before .before .before .before .before .before .before .place .ensures)) in omega arith
+element-write-self c = let w = next-lies (c .before .before .before .before .before .before .before .before .before .before .before .before .before .args .t1)
+    (now (c .before .before .before .before .before .before .before .before .before .before .before .before .before .args .store))
+    (c .before .before .before .before .before .before .before .before .place .result)
+    (c .before .before .before .before .before .before .before .before .before .before .before .before .before .pre .0)
+    (c .before .before .before .before .before .before .before .before .before .before .before .before .before .pre .1 .0)
+    (rw (c .before .before .before .before .before .before .before .before .before .ring .ensures) at
+    (c .before .before .before .before .before .before .before .before .place .ensures)) in omega arith
 
 cast-self-2 : tie.Need-cast-self-2
 cast-self-2 c = search needs
 
 mul-self : tie.Need-mul-self
-mul-self c = let w = next-lies (c .before .before .before .before .before .before .before .before .before .before .before .before .before .args .t1) (now (c .before .before .before .before .before .before .before .before .before .before .before .before .before .args .store)) (c .before .before .before .before .before .before .before .before .place .result) (c .before .before .before .before .before .before .before .before .before .before .before .before .before .pre .0) (c .before .before .before .before .before .before .before .before .before .before .before .before .before .pre .1 .0) (rw (c .before .before .before .before .before .before .before .before .before .ring .ensures) at (c .before .before .before .before .before .before .before .before .place .ensures)) in omega arith
+mul-self c = let w = next-lies (c .before .before .before .before .before .before .before .before .before .before .before .before .before .args .t1)
+    (now (c .before .before .before .before .before .before .before .before .before .before .before .before .before .args .store))
+    (c .before .before .before .before .before .before .before .before .place .result)
+    (c .before .before .before .before .before .before .before .before .before .before .before .before .before .pre .0)
+    (c .before .before .before .before .before .before .before .before .before .before .before .before .before .pre .1 .0)
+    (rw (c .before .before .before .before .before .before .before .before .before .ring .ensures) at
+    (c .before .before .before .before .before .before .before .before .place .ensures)) in omega arith
 
 element-write-self-2 : tie.Need-element-write-self-2
-element-write-self-2 c = let w = next-lies (c .before .before .before .before .before .before .before .before .before .before .before .before .before .args .t1) (now (c .before .before .before .before .before .before .before .before .before .before .before .before .before .args .store)) (c .before .before .before .before .before .before .before .before .place .result) (c .before .before .before .before .before .before .before .before .before .before .before .before .before .pre .0) (c .before .before .before .before .before .before .before .before .before .before .before .before .before .pre .1 .0) (rw (c .before .before .before .before .before .before .before .before .before .ring .ensures) at (c .before .before .before .before .before .before .before .before .place .ensures)) in omega arith
+element-write-self-2 c = let w = next-lies (c .before .before .before .before .before .before .before .before .before .before .before .before .before .args .t1)
+    (now (c .before .before .before .before .before .before .before .before .before .before .before .before .before .args .store))
+    (c .before .before .before .before .before .before .before .before .place .result)
+    (c .before .before .before .before .before .before .before .before .before .before .before .before .before .pre .0)
+    (c .before .before .before .before .before .before .before .before .before .before .before .before .before .pre .1 .0)
+    (rw (c .before .before .before .before .before .before .before .before .before .ring .ensures) at
+    (c .before .before .before .before .before .before .before .before .place .ensures)) in omega arith
 
 element-write-self-3 : tie.Need-element-write-self-3
-element-write-self-3 c = let w = next-lies (c .before .before .before .before .before .before .before .before .before .before .before .before .before .args .t1) (now (c .before .before .before .before .before .before .before .before .before .before .before .before .before .args .store)) (c .before .before .before .before .before .before .before .before .place .result) (c .before .before .before .before .before .before .before .before .before .before .before .before .before .pre .0) (c .before .before .before .before .before .before .before .before .before .before .before .before .before .pre .1 .0) (rw (c .before .before .before .before .before .before .before .before .before .ring .ensures) at (c .before .before .before .before .before .before .before .before .place .ensures)) in omega arith
+element-write-self-3 c = let w = next-lies (c .before .before .before .before .before .before .before .before .before .before .before .before .before .args .t1)
+    (now (c .before .before .before .before .before .before .before .before .before .before .before .before .before .args .store))
+    (c .before .before .before .before .before .before .before .before .place .result)
+    (c .before .before .before .before .before .before .before .before .before .before .before .before .before .pre .0)
+    (c .before .before .before .before .before .before .before .before .before .before .before .before .before .pre .1 .0)
+    (rw (c .before .before .before .before .before .before .before .before .before .ring .ensures) at
+    (c .before .before .before .before .before .before .before .before .place .ensures)) in omega arith
 
 mul-self-2 : tie.Need-mul-self-2
-mul-self-2 c = let w = next-lies (c .before .before .before .before .before .before .before .before .before .before .before .before .before .args .t1) (now (c .before .before .before .before .before .before .before .before .before .before .before .before .before .args .store)) (c .before .before .before .before .before .before .before .before .place .result) (c .before .before .before .before .before .before .before .before .before .before .before .before .before .pre .0) (c .before .before .before .before .before .before .before .before .before .before .before .before .before .pre .1 .0) (rw (c .before .before .before .before .before .before .before .before .before .ring .ensures) at (c .before .before .before .before .before .before .before .before .place .ensures)) in omega arith
+mul-self-2 c = let w = next-lies (c .before .before .before .before .before .before .before .before .before .before .before .before .before .args .t1)
+    (now (c .before .before .before .before .before .before .before .before .before .before .before .before .before .args .store))
+    (c .before .before .before .before .before .before .before .before .place .result)
+    (c .before .before .before .before .before .before .before .before .before .before .before .before .before .pre .0)
+    (c .before .before .before .before .before .before .before .before .before .before .before .before .before .pre .1 .0)
+    (rw (c .before .before .before .before .before .before .before .before .before .ring .ensures) at
+    (c .before .before .before .before .before .before .before .before .place .ensures)) in omega arith
 
 element-write-self-4 : tie.Need-element-write-self-4
-element-write-self-4 c = let w = next-lies (c .before .before .before .before .before .before .before .before .before .before .before .before .before .args .t1) (now (c .before .before .before .before .before .before .before .before .before .before .before .before .before .args .store)) (c .before .before .before .before .before .before .before .before .place .result) (c .before .before .before .before .before .before .before .before .before .before .before .before .before .pre .0) (c .before .before .before .before .before .before .before .before .before .before .before .before .before .pre .1 .0) (rw (c .before .before .before .before .before .before .before .before .before .ring .ensures) at (c .before .before .before .before .before .before .before .before .place .ensures)) in omega arith
+element-write-self-4 c = let w = next-lies (c .before .before .before .before .before .before .before .before .before .before .before .before .before .args .t1)
+    (now (c .before .before .before .before .before .before .before .before .before .before .before .before .before .args .store))
+    (c .before .before .before .before .before .before .before .before .place .result)
+    (c .before .before .before .before .before .before .before .before .before .before .before .before .before .pre .0)
+    (c .before .before .before .before .before .before .before .before .before .before .before .before .before .pre .1 .0)
+    (rw (c .before .before .before .before .before .before .before .before .before .ring .ensures) at
+    (c .before .before .before .before .before .before .before .before .place .ensures)) in omega arith
 
 wrapping-add-u64-requires : tie.Need-wrapping-add-u64-requires
 wrapping-add-u64-requires c κs = search needs
@@ -61,7 +106,35 @@ same-length : tie.Need-same-length
 same-length c = search needs
 
 returns : tie.Need-returns
-returns c = let w = next-lies (c .before .before .before .before .before .before .before .before .before .before .before .before .before .before .args .t1) (now (c .before .before .before .before .before .before .before .before .before .before .before .before .before .before .args .store)) (c .before .before .before .before .before .before .before .before .before .place .result) (c .before .before .before .before .before .before .before .before .before .before .before .before .before .before .pre .0) (c .before .before .before .before .before .before .before .before .before .before .before .before .before .before .pre .1 .0) (rw (c .before .before .before .before .before .before .before .before .before .before .ring .ensures) at (c .before .before .before .before .before .before .before .before .before .place .ensures)) in (appended-is (length (now (c .before .before .before .before .before .before .before .before .before .before .before .before .before .before .args .part))) (now (c .before .before .before .before .before .before .before .before .before .before .before .before .before .before .args .id)) (c .before .before .before .before .before .before .before .before .before .before .before .before .before .before .args .t1) (c .before .before .before .before .before .before .before .before .before .place .result) (c .wrapping-add-u64 .result) _ (rw (c .before .before .before .before .before .before .before .before .before .before .ring .ensures) at (c .before .before .before .before .before .before .before .before .before .place .ensures)) (c .wrapping-add-u64 .ensures) (bytes-put _ (now (c .before .before .before .before .before .before .before .before .before .before .before .before .before .before .args .id)) (c .before .before .before .before .before .before .before .before .before .before .before .before .before .before .args .t1 .ids) _ (omega (arith, (c .before .before .before .before .before .before .before .before .before .before .before .before .before .before .pre .1 .1))) (c .before .before .put-bytes2 .ensures .1)), appended-store (c .before .before .before .before .before .before .before .before .before .before .before .before .before .before .args .t1) (c .before .before .before .before .before .before .before .before .before .place .result) (now (c .before .before .before .before .before .before .before .before .before .before .before .before .before .before .args .store)) _ (now (c .before .before .before .before .before .before .before .before .before .before .before .before .before .before .args .part)) (rw (c .before .before .before .before .before .before .before .before .before .before .ring .ensures) at (c .before .before .before .before .before .before .before .before .before .place .ensures)) (bytes-put _ (now (c .before .before .before .before .before .before .before .before .before .before .before .before .before .before .args .part)) (now (c .before .before .before .before .before .before .before .before .before .before .before .before .before .before .args .store)) _ (omega (arith, (c .before .before .before .before .before .before .before .before .before .before .before .before .before .before .pre .1 .1))) (c .before .before .before .before .before .before .before .put-bytes .ensures .1)))
+returns c = let w = next-lies (c .before .before .before .before .before .before .before .before .before .before .before .before .before .before .args .t1)
+    (now (c .before .before .before .before .before .before .before .before .before .before .before .before .before .before .args .store))
+    (c .before .before .before .before .before .before .before .before .before .place .result)
+    (c .before .before .before .before .before .before .before .before .before .before .before .before .before .before .pre .0)
+    (c .before .before .before .before .before .before .before .before .before .before .before .before .before .before .pre .1 .0)
+    (rw (c .before .before .before .before .before .before .before .before .before .before .ring .ensures) at
+    (c .before .before .before .before .before .before .before .before .before .place .ensures)) in (
+      appended-is (length (now (c .before .before .before .before .before .before .before .before .before .before .before .before .before .before .args .part)))
+          (now (c .before .before .before .before .before .before .before .before .before .before .before .before .before .before .args .id))
+          (c .before .before .before .before .before .before .before .before .before .before .before .before .before .before .args .t1)
+          (c .before .before .before .before .before .before .before .before .before .place .result) (c .wrapping-add-u64 .result) _
+          (rw (c .before .before .before .before .before .before .before .before .before .before .ring .ensures) at
+          (c .before .before .before .before .before .before .before .before .before .place .ensures)) (c .wrapping-add-u64 .ensures)
+          (bytes-put _ (now (c .before .before .before .before .before .before .before .before .before .before .before .before .before .before .args .id))
+          (c .before .before .before .before .before .before .before .before .before .before .before .before .before .before .args .t1 .ids) _
+          (omega (arith, (c .before .before .before .before .before .before .before .before .before .before .before .before .before .before .pre .1 .1)))
+          (c .before .before .put-bytes2 .ensures .1)),
+      appended-store
+          (c .before .before .before .before .before .before .before .before .before .before .before .before .before .before .args .t1)
+          (c .before .before .before .before .before .before .before .before .before .place .result)
+          (now (c .before .before .before .before .before .before .before .before .before .before .before .before .before .before .args .store)) _
+          (now (c .before .before .before .before .before .before .before .before .before .before .before .before .before .before .args .part))
+          (rw (c .before .before .before .before .before .before .before .before .before .before .ring .ensures) at
+          (c .before .before .before .before .before .before .before .before .before .place .ensures))
+          (bytes-put _ (now (c .before .before .before .before .before .before .before .before .before .before .before .before .before .before .args .part))
+          (now (c .before .before .before .before .before .before .before .before .before .before .before .before .before .before .args .store)) _
+          (omega (arith, (c .before .before .before .before .before .before .before .before .before .before .before .before .before .before .pre .1 .1)))
+          (c .before .before .before .before .before .before .before .put-bytes .ensures .1)),
+    )
 
 pub append-spec : {M : Type 1} → statement M
 append-spec =

@@ -17,7 +17,9 @@ cast-all-within : tie.Need-cast-all-within
 cast-all-within c = search needs
 
 all-within-requires : tie.Need-all-within-requires
-all-within-requires c κs = rw (c .before .before .before .before .ring .ensures) (ring-of (c .before .before .before .before .before .before .args .self) (now (c .before .before .before .before .before .before .args .store)) (c .before .before .before .before .before .before .pre .0) (c .before .before .before .before .before .before .pre .1) (c .before .before .before .before .before .before .pre .2) _ (search needs))
+all-within-requires c κs = rw (c .before .before .before .before .ring .ensures) (ring-of (c .before .before .before .before .before .before .args .self)
+    (now (c .before .before .before .before .before .before .args .store)) (c .before .before .before .before .before .before .pre .0)
+    (c .before .before .before .before .before .before .pre .1) (c .before .before .before .before .before .before .pre .2) _ (search needs))
 
 slice-aggregate-messages-fit : tie.Need-slice-aggregate-messages-fit
 slice-aggregate-messages-fit c = search needs
@@ -29,7 +31,15 @@ slice-aggregate-messages-fit-3 : tie.Need-slice-aggregate-messages-fit-3
 slice-aggregate-messages-fit-3 c = search needs
 
 messages-fit-requires : tie.Need-messages-fit-requires
-messages-fit-requires c κs = rw (c .before .before .before .before .before .before .before .before .before .ring .ensures) (rows-of (c .before .before .before .before .before .before .before .before .before .before .before .args .self) (now (c .before .before .before .before .before .before .before .before .before .before .before .args .store)) (c .before .before .before .before .before .before .before .before .before .before .before .pre .0) (c .before .before .before .before .before .before .before .before .before .before .before .pre .1) (c .before .before .before .before .before .before .before .before .before .before .before .pre .2) (search needs) (search needs) (search needs) (c .before .before .before .before .before .before .before .before .before .before .before .pre .3) (sym (rw (c .before .before .before .before .before .before .before .before .before .ring .ensures) at (c .before .before .before .before .all-within .ensures)) ∙ (c .before .before .before .if1 .taken)))
+messages-fit-requires c κs = rw (c .before .before .before .before .before .before .before .before .before .ring .ensures)
+    (rows-of (c .before .before .before .before .before .before .before .before .before .before .before .args .self)
+    (now (c .before .before .before .before .before .before .before .before .before .before .before .args .store))
+    (c .before .before .before .before .before .before .before .before .before .before .before .pre .0)
+    (c .before .before .before .before .before .before .before .before .before .before .before .pre .1)
+    (c .before .before .before .before .before .before .before .before .before .before .before .pre .2) (search needs) (search needs) (search needs)
+    (c .before .before .before .before .before .before .before .before .before .before .before .pre .3)
+    (sym (rw (c .before .before .before .before .before .before .before .before .before .ring .ensures) at
+    (c .before .before .before .before .all-within .ensures)) ∙ (c .before .before .before .if1 .taken)))
 
 slice-aggregate-ids-differ : tie.Need-slice-aggregate-ids-differ
 slice-aggregate-ids-differ c = search needs
@@ -38,13 +48,35 @@ slice-aggregate-ids-differ-2 : tie.Need-slice-aggregate-ids-differ-2
 slice-aggregate-ids-differ-2 c = search needs
 
 ids-differ-requires : tie.Need-ids-differ-requires
-ids-differ-requires c κs = rw (c .before .before .before .before .before .before .before .before .before .before .before .before .before .ring .ensures) (sound-of (c .before .before .before .before .before .before .before .before .before .before .before .before .before .before .before .args .self) (now (c .before .before .before .before .before .before .before .before .before .before .before .before .before .before .before .args .store)) (c .before .before .before .before .before .before .before .before .before .before .before .before .before .before .before .pre .0) (c .before .before .before .before .before .before .before .before .before .before .before .before .before .before .before .pre .1) (c .before .before .before .before .before .before .before .before .before .before .before .before .before .before .before .pre .2) (search needs) (search needs) (sym (rw (c .before .before .before .before .before .before .before .before .before .before .before .before .before .ring .ensures) at (c .before .before .before .before .before .before .before .before .all-within .ensures)) ∙ (c .before .before .before .before .before .before .before .if1 .taken)))
+ids-differ-requires c κs = rw (c .before .before .before .before .before .before .before .before .before .before .before .before .before .ring .ensures)
+    (sound-of (c .before .before .before .before .before .before .before .before .before .before .before .before .before .before .before .args .self)
+    (now (c .before .before .before .before .before .before .before .before .before .before .before .before .before .before .before .args .store))
+    (c .before .before .before .before .before .before .before .before .before .before .before .before .before .before .before .pre .0)
+    (c .before .before .before .before .before .before .before .before .before .before .before .before .before .before .before .pre .1)
+    (c .before .before .before .before .before .before .before .before .before .before .before .before .before .before .before .pre .2) (search needs)
+    (search needs) (sym (rw (c .before .before .before .before .before .before .before .before .before .before .before .before .before .ring .ensures) at
+    (c .before .before .before .before .before .before .before .before .all-within .ensures))
+    ∙ (c .before .before .before .before .before .before .before .if1 .taken)))
 
 returns : tie.Need-returns
-returns c = ids-differ (c .before .before .before .before .before .before .before .before .before .before .before .before .before .before .before .before .args .self) (now (c .before .before .before .before .before .before .before .before .before .before .before .before .before .before .before .before .args .store)) (sym (rw (c .before .before .before .before .before .before .before .before .before .before .before .before .before .before .ring .ensures) at (c .before .before .before .before .before .before .before .before .before .all-within .ensures)) ∙ (c .before .before .before .before .before .before .before .before .if1 .taken)) (sym (rw (c .before .before .before .before .before .before .before .before .before .before .before .before .before .before .ring .ensures) at (c .before .before .before .before .messages-fit .ensures)) ∙ (c .before .before .before .if2 .taken)) (c .ids-differ .result) (rw (c .before .before .before .before .before .before .before .before .before .before .before .before .before .before .ring .ensures) at (c .ids-differ .ensures))
+returns c = ids-differ
+    (c .before .before .before .before .before .before .before .before .before .before .before .before .before .before .before .before .args .self)
+    (now (c .before .before .before .before .before .before .before .before .before .before .before .before .before .before .before .before .args .store))
+    (sym (rw (c .before .before .before .before .before .before .before .before .before .before .before .before .before .before .ring .ensures) at
+    (c .before .before .before .before .before .before .before .before .before .all-within .ensures))
+    ∙ (c .before .before .before .before .before .before .before .before .if1 .taken))
+    (sym (rw (c .before .before .before .before .before .before .before .before .before .before .before .before .before .before .ring .ensures) at
+    (c .before .before .before .before .messages-fit .ensures)) ∙ (c .before .before .before .if2 .taken)) (c .ids-differ .result)
+    (rw (c .before .before .before .before .before .before .before .before .before .before .before .before .before .before .ring .ensures) at
+    (c .ids-differ .ensures))
 
 returns-2 : tie.Need-returns-2
-returns-2 c = ids-gives (c .before .before .before .before .before .before .before .before .before .before .before .before .before .args .self) (now (c .before .before .before .before .before .before .before .before .before .before .before .before .before .args .store)) (sym (rw (c .before .before .before .before .before .before .before .before .before .before .before .ring .ensures) at (c .before .before .before .before .before .before .all-within .ensures)) ∙ (c .before .before .before .before .before .if1 .taken)) (sym (rw (c .before .before .before .before .before .before .before .before .before .before .before .ring .ensures) at (c .before .messages-fit .ensures)) ∙ (c .if2 .left))
+returns-2 c = ids-gives (c .before .before .before .before .before .before .before .before .before .before .before .before .before .args .self)
+    (now (c .before .before .before .before .before .before .before .before .before .before .before .before .before .args .store))
+    (sym (rw (c .before .before .before .before .before .before .before .before .before .before .before .ring .ensures) at
+    (c .before .before .before .before .before .before .all-within .ensures)) ∙ (c .before .before .before .before .before .if1 .taken))
+    (sym (rw (c .before .before .before .before .before .before .before .before .before .before .before .ring .ensures) at (c .before .messages-fit .ensures))
+    ∙ (c .if2 .left))
 
 returns-3 : tie.Need-returns-3
 returns-3 c = ids-short (c .before .before .before .before .before .before .before .before .args .self) (now (c .before .before .before .before .before .before .before .before .args .store)) (sym (rw (c .before .before .before .before .before .before .ring .ensures) at (c .before .all-within .ensures)) ∙ (c .if1 .left))

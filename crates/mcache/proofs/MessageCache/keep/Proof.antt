@@ -18,7 +18,12 @@ same-length : tie.Need-same-length
 same-length c = search needs
 
 returns-2 : tie.Need-returns-2
-returns-2 c = under-new (c .before .before .before .before .before .before .before .before .before .before .args .self) (now (c .before .before .before .before .before .before .before .before .before .before .args .store)) (now (c .before .before .before .before .before .before .before .before .before .before .args .part)) (now (c .before .before .before .before .before .before .before .before .before .before .args .id)) (c .before .before .before .before .before .before .find .result) (c .before .before .before .before .before .before .find .ensures) (c .before .before .before .before .if1 .left) _ _ (c .before .before .enter .ensures)
+returns-2 c = under-new (c .before .before .before .before .before .before .before .before .before .before .args .self)
+    (now (c .before .before .before .before .before .before .before .before .before .before .args .store))
+    (now (c .before .before .before .before .before .before .before .before .before .before .args .part))
+    (now (c .before .before .before .before .before .before .before .before .before .before .args .id))
+    (c .before .before .before .before .before .before .find .result) (c .before .before .before .before .before .before .find .ensures)
+    (c .before .before .before .before .if1 .left) _ _ (c .before .before .enter .ensures)
 
 pub keep-spec : {M : Type 1} → statement M
 keep-spec = tie.close (tie.spec find-requires returns enter-requires same-length returns-2)

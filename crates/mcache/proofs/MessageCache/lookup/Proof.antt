@@ -19,10 +19,15 @@ enum-told-3 : tie.Need-enum-told-3
 enum-told-3 c = search needs
 
 find-requires : tie.Need-find-requires
-find-requires c κs = kept-sound (c .before .before .before .before .before .args .self) (now (c .before .before .before .before .before .args .store)) (tested (c .before .before .before .before .before .args .self) (now (c .before .before .before .before .before .args .store)) (sym (c .enum-told3 .given .1) ∙ (c .before .before .lent .ensures)) (search needs) (search needs) (search needs) (search needs) (search needs))
+find-requires c κs = kept-sound (c .before .before .before .before .before .args .self) (now (c .before .before .before .before .before .args .store))
+    (tested (c .before .before .before .before .before .args .self) (now (c .before .before .before .before .before .args .store))
+    (sym (c .enum-told3 .given .1) ∙ (c .before .before .lent .ensures)) (search needs) (search needs) (search needs) (search needs) (search needs))
 
 returns : tie.Need-returns
-returns c = lookup-found (c .before .before .before .before .before .before .before .before .args .self) (now (c .before .before .before .before .before .before .before .before .args .store)) (now (c .before .before .before .before .before .before .before .before .args .id)) (sym (c .before .before .before .enum-told3 .given .1) ∙ (c .before .before .before .before .before .lent .ensures)) (c .before .before .find .result) (c .before .before .find .ensures) (c .if1 .taken)
+returns c = lookup-found (c .before .before .before .before .before .before .before .before .args .self)
+    (now (c .before .before .before .before .before .before .before .before .args .store))
+    (now (c .before .before .before .before .before .before .before .before .args .id)) (sym (c .before .before .before .enum-told3 .given .1)
+    ∙ (c .before .before .before .before .before .lent .ensures)) (c .before .before .find .result) (c .before .before .find .ensures) (c .if1 .taken)
 
 returns-2 : tie.Need-returns-2
 returns-2 c = lookup-store (c .before .before .before .before .before .args .self) (now (c .before .before .before .before .before .args .store)) (now (c .before .before .before .before .before .args .id)) (sym (c .enum-told .given .1) ∙ (c .before .before .lent .ensures))
@@ -31,7 +36,10 @@ returns-3 : tie.Need-returns-3
 returns-3 c = lookup-malformed (c .before .before .before .before .before .args .self) (now (c .before .before .before .before .before .args .store)) (now (c .before .before .before .before .before .args .id)) (sym (c .enum-told2 .given .1) ∙ (c .before .before .lent .ensures))
 
 returns-4 : tie.Need-returns-4
-returns-4 c = lookup-missing (c .before .before .before .before .before .before .before .before .args .self) (now (c .before .before .before .before .before .before .before .before .args .store)) (now (c .before .before .before .before .before .before .before .before .args .id)) (sym (c .before .before .before .enum-told3 .given .1) ∙ (c .before .before .before .before .before .lent .ensures)) (c .before .before .find .result) (c .before .before .find .ensures) (c .if1 .left)
+returns-4 c = lookup-missing (c .before .before .before .before .before .before .before .before .args .self)
+    (now (c .before .before .before .before .before .before .before .before .args .store))
+    (now (c .before .before .before .before .before .before .before .before .args .id)) (sym (c .before .before .before .enum-told3 .given .1)
+    ∙ (c .before .before .before .before .before .lent .ensures)) (c .before .before .find .result) (c .before .before .find .ensures) (c .if1 .left)
 
 pub lookup-spec : {M : Type 1} → statement M
 lookup-spec =

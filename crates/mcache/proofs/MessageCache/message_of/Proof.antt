@@ -17,19 +17,31 @@ place-requires : tie.Need-place-requires
 place-requires c κs = search needs
 
 mul-base : tie.Need-mul-base
-mul-base c = let w = found-lies (c .before .before .before .before .before .before .args .t1) (now (c .before .before .before .before .before .before .args .store)) (now (c .before .before .before .before .before .before .args .id)) (c .before .before .before .find .result) (c .place .result) (c .before .before .before .before .before .before .pre) (c .before .before .if1 .taken) (rw (c .before .ring .ensures) at (c .place .ensures)) in omega arith
+mul-base c = let w = found-lies (c .before .before .before .before .before .before .args .t1)
+    (now (c .before .before .before .before .before .before .args .store)) (now (c .before .before .before .before .before .before .args .id))
+    (c .before .before .before .find .result) (c .place .result) (c .before .before .before .before .before .before .pre) (c .before .before .if1 .taken)
+    (rw (c .before .ring .ensures) at (c .place .ensures)) in omega arith
 
 mul-end : tie.Need-mul-end
-mul-end c = let w = found-lies (c .before .before .before .before .before .before .args .t1) (now (c .before .before .before .before .before .before .args .store)) (now (c .before .before .before .before .before .before .args .id)) (c .before .before .before .find .result) (c .place .result) (c .before .before .before .before .before .before .pre) (c .before .before .if1 .taken) (rw (c .before .ring .ensures) at (c .place .ensures)) in omega arith
+mul-end c = let w = found-lies (c .before .before .before .before .before .before .args .t1)
+    (now (c .before .before .before .before .before .before .args .store)) (now (c .before .before .before .before .before .before .args .id))
+    (c .before .before .before .find .result) (c .place .result) (c .before .before .before .before .before .before .pre) (c .before .before .if1 .taken)
+    (rw (c .before .ring .ensures) at (c .place .ensures)) in omega arith
 
 element-copy-out-end : tie.Need-element-copy-out-end
-element-copy-out-end c = let w = found-lies (c .before .before .before .before .before .before .args .t1) (now (c .before .before .before .before .before .before .args .store)) (now (c .before .before .before .before .before .before .args .id)) (c .before .before .before .find .result) (c .place .result) (c .before .before .before .before .before .before .pre) (c .before .before .if1 .taken) (rw (c .before .ring .ensures) at (c .place .ensures)) in omega arith
+element-copy-out-end c = let w = found-lies (c .before .before .before .before .before .before .args .t1)
+    (now (c .before .before .before .before .before .before .args .store)) (now (c .before .before .before .before .before .before .args .id))
+    (c .before .before .before .find .result) (c .place .result) (c .before .before .before .before .before .before .pre) (c .before .before .if1 .taken)
+    (rw (c .before .ring .ensures) at (c .place .ensures)) in omega arith
 
 cast-end : tie.Need-cast-end
 cast-end c = search needs
 
 add-end : tie.Need-add-end
-add-end c = let w = found-lies (c .before .before .before .before .before .before .before .args .t1) (now (c .before .before .before .before .before .before .before .args .store)) (now (c .before .before .before .before .before .before .before .args .id)) (c .before .before .before .before .find .result) (c .before .place .result) (c .before .before .before .before .before .before .before .pre) (c .before .before .before .if1 .taken) (rw (c .before .before .ring .ensures) at (c .before .place .ensures)) in omega arith
+add-end c = let w = found-lies (c .before .before .before .before .before .before .before .args .t1)
+    (now (c .before .before .before .before .before .before .before .args .store)) (now (c .before .before .before .before .before .before .before .args .id))
+    (c .before .before .before .before .find .result) (c .before .place .result) (c .before .before .before .before .before .before .before .pre)
+    (c .before .before .before .if1 .taken) (rw (c .before .before .ring .ensures) at (c .before .place .ensures)) in omega arith
 
 sub-result : tie.Need-sub-result
 sub-result c = search needs
@@ -38,10 +50,17 @@ part-result-start : tie.Need-part-result-start
 part-result-start c = search needs
 
 part-result-end : tie.Need-part-result-end
-part-result-end c = let w = found-lies (c .before .before .before .before .before .before .before .args .t1) (now (c .before .before .before .before .before .before .before .args .store)) (now (c .before .before .before .before .before .before .before .args .id)) (c .before .before .before .before .find .result) (c .before .place .result) (c .before .before .before .before .before .before .before .pre) (c .before .before .before .if1 .taken) (rw (c .before .before .ring .ensures) at (c .before .place .ensures)) in omega arith
+part-result-end c = let w = found-lies (c .before .before .before .before .before .before .before .args .t1)
+    (now (c .before .before .before .before .before .before .before .args .store)) (now (c .before .before .before .before .before .before .before .args .id))
+    (c .before .before .before .before .find .result) (c .before .place .result) (c .before .before .before .before .before .before .before .pre)
+    (c .before .before .before .if1 .taken) (rw (c .before .before .ring .ensures) at (c .before .place .ensures)) in omega arith
 
 returns : tie.Need-returns
-returns c = found-at (c .before .before .before .before .before .before .before .before .args .t1) (now (c .before .before .before .before .before .before .before .before .args .store)) (now (c .before .before .before .before .before .before .before .before .args .id)) (c .before .before .before .before .before .find .result) (c .before .before .place .result) (c .before .before .before .before .before .find .ensures) (c .before .before .before .before .if1 .taken) (rw (c .before .before .before .ring .ensures) at (c .before .before .place .ensures))
+returns c = found-at (c .before .before .before .before .before .before .before .before .args .t1)
+    (now (c .before .before .before .before .before .before .before .before .args .store))
+    (now (c .before .before .before .before .before .before .before .before .args .id)) (c .before .before .before .before .before .find .result)
+    (c .before .before .place .result) (c .before .before .before .before .before .find .ensures) (c .before .before .before .before .if1 .taken)
+    (rw (c .before .before .before .ring .ensures) at (c .before .before .place .ensures))
 
 slice-aggregate-result : tie.Need-slice-aggregate-result
 slice-aggregate-result c = search needs

@@ -20,7 +20,10 @@ age-windows-requires : tie.Need-age-windows-requires
 age-windows-requires c κs = search needs
 
 without-requires : tie.Need-without-requires
-without-requires c κs = stale-within (c .before .before .before .before .before .before .before .args .self .«history_len») (ringOf (c .before .before .before .before .before .before .before .args .self)) (c .before .before .before .before .before .before .before .args .self .window) (c .before .before .before .stale-rows .result) (rw (c .before .before .before .before .before .before .ring .ensures) at (c .before .before .before .stale-rows .ensures))
+without-requires c κs = stale-within (c .before .before .before .before .before .before .before .args .self .«history_len»)
+    (ringOf (c .before .before .before .before .before .before .before .args .self))
+    (c .before .before .before .before .before .before .before .args .self .window) (c .before .before .before .stale-rows .result)
+    (rw (c .before .before .before .before .before .before .ring .ensures) at (c .before .before .before .stale-rows .ensures))
 
 returns : tie.Need-returns
 returns c = shifted-is (c .before .before .before .before .before .before .before .before .args .self) (c .before .before .before .before .stale-rows .result) _ _ (rw (c .before .before .before .before .before .before .before .ring .ensures) at (c .before .before .before .before .stale-rows .ensures)) (c .before .before .age-windows .ensures) (c .without .ensures)

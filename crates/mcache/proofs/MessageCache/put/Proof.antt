@@ -40,43 +40,94 @@ sub-put-part : tie.Need-sub-put-part
 sub-put-part c = message-inside (now (c .before .before .before .before .before .before .before .before .before .before .before .before .before .before .args .body)) (c .before .before .before .before .before .before .before .before .before .before .before .before .before .before .args .index) _ _ (sym (c .before .before .before .before .message-at .ensures) ∙ (c .before .before .m2 .given .1)) .0
 
 part-put-part-start : tie.Need-part-put-part-start
-part-put-part-start c = message-inside (now (c .before .before .before .before .before .before .before .before .before .before .before .before .before .before .args .body)) (c .before .before .before .before .before .before .before .before .before .before .before .before .before .before .args .index) _ _ (sym (c .before .before .before .before .message-at .ensures) ∙ (c .before .before .m2 .given .1)) .0
+part-put-part-start c =
+    message-inside (now (c .before .before .before .before .before .before .before .before .before .before .before .before .before .before .args .body))
+    (c .before .before .before .before .before .before .before .before .before .before .before .before .before .before .args .index) _ _
+    (sym (c .before .before .before .before .message-at .ensures) ∙ (c .before .before .m2 .given .1)) .0
 
 part-put-part-end : tie.Need-part-put-part-end
-part-put-part-end c = message-inside (now (c .before .before .before .before .before .before .before .before .before .before .before .before .before .before .args .body)) (c .before .before .before .before .before .before .before .before .before .before .before .before .before .before .args .index) _ _ (sym (c .before .before .before .before .message-at .ensures) ∙ (c .before .before .m2 .given .1)) .1
+part-put-part-end c =
+    message-inside (now (c .before .before .before .before .before .before .before .before .before .before .before .before .before .before .args .body))
+    (c .before .before .before .before .before .before .before .before .before .before .before .before .before .before .args .index) _ _
+    (sym (c .before .before .before .before .message-at .ensures) ∙ (c .before .before .m2 .given .1)) .1
 
 put-part-requires : tie.Need-put-part-requires
-put-part-requires c κs = tested (c .before .before .before .before .before .before .before .before .before .before .before .before .before .before .before .args .self) (now (c .before .before .before .before .before .before .before .before .before .before .before .before .before .before .before .args .store)) (sym (c .before .before .before .before .before .before .before .before .before .enum-told3 .given .1) ∙ (c .before .before .before .before .before .before .before .before .before .before .before .lent .ensures)) (search needs) (search needs) (search needs) (search needs) (search needs)
+put-part-requires c κs =
+    tested (c .before .before .before .before .before .before .before .before .before .before .before .before .before .before .before .args .self)
+    (now (c .before .before .before .before .before .before .before .before .before .before .before .before .before .before .before .args .store))
+    (sym (c .before .before .before .before .before .before .before .before .before .enum-told3 .given .1)
+    ∙ (c .before .before .before .before .before .before .before .before .before .before .before .lent .ensures)) (search needs) (search needs) (search needs)
+    (search needs) (search needs)
 
 same-length : tie.Need-same-length
 same-length c = search needs
 
 returns : tie.Need-returns
-returns c = nested (puts-no (c .before .before .before .before .before .before .args .self) (now (c .before .before .before .before .before .before .args .store)) _ _ (plan-store (c .before .before .before .before .before .before .args .self) (now (c .before .before .before .before .before .before .args .store)) (now (c .before .before .before .before .before .before .args .body)) (c .before .before .before .before .before .before .args .index) (sym (c .enum-told .given .1) ∙ (c .before .before .lent .ensures))))
+returns c = nested (puts-no (c .before .before .before .before .before .before .args .self)
+    (now (c .before .before .before .before .before .before .args .store)) _ _ (plan-store (c .before .before .before .before .before .before .args .self)
+    (now (c .before .before .before .before .before .before .args .store)) (now (c .before .before .before .before .before .before .args .body))
+    (c .before .before .before .before .before .before .args .index) (sym (c .enum-told .given .1) ∙ (c .before .before .lent .ensures))))
 
 same-length-2 : tie.Need-same-length-2
 same-length-2 c = search needs
 
 returns-2 : tie.Need-returns-2
-returns-2 c = nested (puts-no (c .before .before .before .before .before .before .args .self) (now (c .before .before .before .before .before .before .args .store)) _ _ (plan-malformed (c .before .before .before .before .before .before .args .self) (now (c .before .before .before .before .before .before .args .store)) (now (c .before .before .before .before .before .before .args .body)) (c .before .before .before .before .before .before .args .index) (sym (c .enum-told2 .given .1) ∙ (c .before .before .lent .ensures))))
+returns-2 c =
+    nested (puts-no (c .before .before .before .before .before .before .args .self) (now (c .before .before .before .before .before .before .args .store)) _ _
+    (plan-malformed (c .before .before .before .before .before .before .args .self) (now (c .before .before .before .before .before .before .args .store))
+    (now (c .before .before .before .before .before .before .args .body)) (c .before .before .before .before .before .before .args .index)
+    (sym (c .enum-told2 .given .1) ∙ (c .before .before .lent .ensures))))
 
 same-length-3 : tie.Need-same-length-3
 same-length-3 c = search needs
 
 returns-3 : tie.Need-returns-3
-returns-3 c = nested (puts-no (c .before .before .before .before .before .before .before .before .before .before .args .self) (now (c .before .before .before .before .before .before .before .before .before .before .args .store)) _ _ (plan-refused (c .before .before .before .before .before .before .before .before .before .before .args .self) (now (c .before .before .before .before .before .before .before .before .before .before .args .store)) (now (c .before .before .before .before .before .before .before .before .before .before .args .body)) (c .before .before .before .before .before .before .before .before .before .before .args .index) _ (sym (c .before .before .before .before .enum-told3 .given .1) ∙ (c .before .before .before .before .before .before .lent .ensures)) (sym (c .before .c .given .1) ∙ (c .before .before .before .accept .ensures))))
+returns-3 c =
+    nested (puts-no (c .before .before .before .before .before .before .before .before .before .before .args .self)
+    (now (c .before .before .before .before .before .before .before .before .before .before .args .store)) _ _
+    (plan-refused (c .before .before .before .before .before .before .before .before .before .before .args .self)
+    (now (c .before .before .before .before .before .before .before .before .before .before .args .store))
+    (now (c .before .before .before .before .before .before .before .before .before .before .args .body))
+    (c .before .before .before .before .before .before .before .before .before .before .args .index) _
+    (sym (c .before .before .before .before .enum-told3 .given .1) ∙ (c .before .before .before .before .before .before .lent .ensures))
+    (sym (c .before .c .given .1) ∙ (c .before .before .before .accept .ensures))))
 
 same-length-4 : tie.Need-same-length-4
 same-length-4 c = search needs
 
 returns-4 : tie.Need-returns-4
-returns-4 c = nested (puts-no (c .before .before .before .before .before .before .before .before .before .before .before .before .before .args .self) (now (c .before .before .before .before .before .before .before .before .before .before .before .before .before .args .store)) _ _ (plan-missing (c .before .before .before .before .before .before .before .before .before .before .before .before .before .args .self) (now (c .before .before .before .before .before .before .before .before .before .before .before .before .before .args .store)) (now (c .before .before .before .before .before .before .before .before .before .before .before .before .before .args .body)) (c .before .before .before .before .before .before .before .before .before .before .before .before .before .args .index) _ (sym (c .before .before .before .before .before .before .before .enum-told3 .given .1) ∙ (c .before .before .before .before .before .before .before .before .before .lent .ensures)) (sym (c .before .before .before .before .enum-told4 .given .1) ∙ (c .before .before .before .before .before .before .accept .ensures)) (sym (c .before .m .given .1) ∙ (c .before .before .before .message-at .ensures))))
+returns-4 c = nested (puts-no (c .before .before .before .before .before .before .before .before .before .before .before .before .before .args .self)
+    (now (c .before .before .before .before .before .before .before .before .before .before .before .before .before .args .store)) _ _
+    (plan-missing (c .before .before .before .before .before .before .before .before .before .before .before .before .before .args .self)
+    (now (c .before .before .before .before .before .before .before .before .before .before .before .before .before .args .store))
+    (now (c .before .before .before .before .before .before .before .before .before .before .before .before .before .args .body))
+    (c .before .before .before .before .before .before .before .before .before .before .before .before .before .args .index) _
+    (sym (c .before .before .before .before .before .before .before .enum-told3 .given .1)
+    ∙ (c .before .before .before .before .before .before .before .before .before .lent .ensures)) (sym (c .before .before .before .before .enum-told4 .given .1)
+    ∙ (c .before .before .before .before .before .before .accept .ensures)) (sym (c .before .m .given .1) ∙ (c .before .before .before .message-at .ensures))))
 
 same-length-5 : tie.Need-same-length-5
 same-length-5 c = search needs
 
 returns-5 : tie.Need-returns-5
-returns-5 c = nested (puts-as (c .before .before .before .before .before .before .before .before .before .before .before .before .before .before .before .before .before .before .args .self) (now (c .before .before .before .before .before .before .before .before .before .before .before .before .before .before .before .before .before .before .args .store)) _ _ _ _ _ (plan-at (c .before .before .before .before .before .before .before .before .before .before .before .before .before .before .before .before .before .before .args .self) (now (c .before .before .before .before .before .before .before .before .before .before .before .before .before .before .before .before .before .before .args .store)) (now (c .before .before .before .before .before .before .before .before .before .before .before .before .before .before .before .before .before .before .args .body)) (c .before .before .before .before .before .before .before .before .before .before .before .before .before .before .before .before .before .before .args .index) _ _ (sym (c .before .before .before .before .before .before .before .before .before .before .before .before .enum-told3 .given .1) ∙ (c .before .before .before .before .before .before .before .before .before .before .before .before .before .before .lent .ensures)) (sym (c .before .before .before .before .before .before .before .before .before .enum-told4 .given .1) ∙ (c .before .before .before .before .before .before .before .before .before .before .before .accept .ensures)) (sym (c .before .before .before .before .before .before .m2 .given .1) ∙ (c .before .before .before .before .before .before .before .before .message-at .ensures))) ((c .before .before .put-part .ensures .0), (c .before .before .put-part .ensures .1 .0), (c .before .before .put-part .ensures .1 .1)))
+returns-5 c =
+    nested (puts-as
+    (c .before .before .before .before .before .before .before .before .before .before .before .before .before .before .before .before .before .before .args
+    .self) (now (c .before .before .before .before .before .before .before .before .before .before .before .before .before .before .before .before .before
+    .before .args .store)) _ _ _ _ _
+    (plan-at (c .before .before .before .before .before .before .before .before .before .before .before .before .before .before .before .before .before .before
+    .args .self) (now
+    (c .before .before .before .before .before .before .before .before .before .before .before .before .before .before .before .before .before .before .args
+    .store)) (now
+    (c .before .before .before .before .before .before .before .before .before .before .before .before .before .before .before .before .before .before .args
+    .body)) (c .before .before .before .before .before .before .before .before .before .before .before .before .before .before .before .before .before .before
+    .args .index) _ _ (sym (c .before .before .before .before .before .before .before .before .before .before .before .before .enum-told3 .given .1)
+    ∙ (c .before .before .before .before .before .before .before .before .before .before .before .before .before .before .lent .ensures))
+    (sym (c .before .before .before .before .before .before .before .before .before .enum-told4 .given .1)
+    ∙ (c .before .before .before .before .before .before .before .before .before .before .before .accept .ensures))
+    (sym (c .before .before .before .before .before .before .m2 .given .1)
+    ∙ (c .before .before .before .before .before .before .before .before .message-at .ensures)))
+    ((c .before .before .put-part .ensures .0), (c .before .before .put-part .ensures .1 .0), (c .before .before .put-part .ensures .1 .1)))
 
 pub put-spec : {M : Type 1} → statement M
 put-spec =

@@ -26,10 +26,19 @@ array-share-prefix-id : tie.Need-array-share-prefix-id
 array-share-prefix-id c = id-fits-in (now (c .before .before .before .before .before .before .before .before .before .before .args .part)) _ _ _ _ (sym (c .before .before .before .before .before .before .before .admit .ensures) ∙ (c .before .before .before .before .before .a2 .given .1)) (c .before .before .form-id .result) _ _ refl (c .before .before .form-id .ensures)
 
 slice-aggregate-keep : tie.Need-slice-aggregate-keep
-slice-aggregate-keep c = id-counts (now (c .before .before .before .before .before .before .before .before .before .before .before .args .part)) _ _ _ _ (sym (c .before .before .before .before .before .before .before .before .admit .ensures) ∙ (c .before .before .before .before .before .before .a2 .given .1)) (c .before .before .before .form-id .result) _ _ refl (c .before .before .before .form-id .ensures)
+slice-aggregate-keep c = id-counts (now (c .before .before .before .before .before .before .before .before .before .before .before .args .part)) _ _ _ _
+    (sym (c .before .before .before .before .before .before .before .before .admit .ensures)
+    ∙ (c .before .before .before .before .before .before .a2 .given .1)) (c .before .before .before .form-id .result) _ _ refl
+    (c .before .before .before .form-id .ensures)
 
 keep-requires : tie.Need-keep-requires
-keep-requires c κs = (c .before .before .before .before .before .before .before .before .before .before .before .pre, id-small (now (c .before .before .before .before .before .before .before .before .before .before .before .args .part)) _ _ _ _ (sym (c .before .before .before .before .before .before .before .before .admit .ensures) ∙ (c .before .before .before .before .before .before .a2 .given .1)) (c .before .before .before .form-id .result) _ _ refl (c .before .before .before .form-id .ensures))
+keep-requires c κs = (
+  c .before .before .before .before .before .before .before .before .before .before .before .pre,
+  id-small (now (c .before .before .before .before .before .before .before .before .before .before .before .args .part)) _ _ _ _
+      (sym (c .before .before .before .before .before .before .before .before .admit .ensures)
+      ∙ (c .before .before .before .before .before .before .a2 .given .1)) (c .before .before .before .form-id .result) _ _ refl
+      (c .before .before .before .form-id .ensures),
+)
 
 returns : tie.Need-returns
 returns c = nested (puts-no (c .before .before .before .before .before .before .args .self) (now (c .before .before .before .before .before .before .args .store)) _ _ (plan-unfit (c .before .before .before .before .before .before .args .self) (now (c .before .before .before .before .before .before .args .part)) _ (sym (c .before .a .given .1) ∙ (c .before .before .before .admit .ensures))))
@@ -38,7 +47,13 @@ same-length : tie.Need-same-length
 same-length c = search needs
 
 returns-2 : tie.Need-returns-2
-returns-2 c = put-under (now (c .before .before .before .before .before .before .before .before .before .before .before .before .before .before .args .part)) _ _ _ _ (sym (c .before .before .before .before .before .before .before .before .before .before .before .admit .ensures) ∙ (c .before .before .before .before .before .before .before .before .before .a2 .given .1)) (c .before .before .before .before .before .before .form-id .result) _ _ refl (c .before .before .before .before .before .before .form-id .ensures) (c .before .before .before .before .before .before .before .before .before .before .before .before .before .before .args .self) (now (c .before .before .before .before .before .before .before .before .before .before .before .before .before .before .args .store)) (c .before .before .keep .ensures)
+returns-2 c = put-under (now (c .before .before .before .before .before .before .before .before .before .before .before .before .before .before .args .part)) _
+    _ _ _ (sym (c .before .before .before .before .before .before .before .before .before .before .before .admit .ensures)
+    ∙ (c .before .before .before .before .before .before .before .before .before .a2 .given .1))
+    (c .before .before .before .before .before .before .form-id .result) _ _ refl (c .before .before .before .before .before .before .form-id .ensures)
+    (c .before .before .before .before .before .before .before .before .before .before .before .before .before .before .args .self)
+    (now (c .before .before .before .before .before .before .before .before .before .before .before .before .before .before .args .store))
+    (c .before .before .keep .ensures)
 
 pub put-part-spec : {M : Type 1} → statement M
 put-part-spec =

@@ -17,22 +17,40 @@ sub-windows-fall : tie.Need-sub-windows-fall
 sub-windows-fall c = search needs
 
 windows-fall-requires : tie.Need-windows-fall-requires
-windows-fall-requires c κs = rw (c .before .before .before .before .ring .ensures) (ring-of (c .before .before .before .before .before .before .args .self) (now (c .before .before .before .before .before .before .args .store)) (c .before .before .before .before .before .before .pre .0 .0) (c .before .before .before .before .before .before .pre .0 .1) (c .before .before .before .before .before .before .pre .0 .2) _ (search needs))
+windows-fall-requires c κs = rw (c .before .before .before .before .ring .ensures) (ring-of (c .before .before .before .before .before .before .args .self)
+    (now (c .before .before .before .before .before .before .args .store)) (c .before .before .before .before .before .before .pre .0 .0)
+    (c .before .before .before .before .before .before .pre .0 .1) (c .before .before .before .before .before .before .pre .0 .2) _ (search needs))
 
 slice-aggregate-generations-run : tie.Need-slice-aggregate-generations-run
 slice-aggregate-generations-run c = search needs
 
 generations-run-requires : tie.Need-generations-run-requires
-generations-run-requires c κs = rw (c .before .before .before .before .before .before .before .ring .ensures) (ring-of (c .before .before .before .before .before .before .before .before .before .args .self) (now (c .before .before .before .before .before .before .before .before .before .args .store)) (c .before .before .before .before .before .before .before .before .before .pre .0 .0) (c .before .before .before .before .before .before .before .before .before .pre .0 .1) (c .before .before .before .before .before .before .before .before .before .pre .0 .2) _ (search needs))
+generations-run-requires c κs = rw (c .before .before .before .before .before .before .before .ring .ensures)
+    (ring-of (c .before .before .before .before .before .before .before .before .before .args .self)
+    (now (c .before .before .before .before .before .before .before .before .before .args .store))
+    (c .before .before .before .before .before .before .before .before .before .pre .0 .0)
+    (c .before .before .before .before .before .before .before .before .before .pre .0 .1)
+    (c .before .before .before .before .before .before .before .before .before .pre .0 .2) _ (search needs))
 
 ids-fit-requires : tie.Need-ids-fit-requires
 ids-fit-requires c κs = (c .before .before .before .before .before .before .before .before .before .before .before .pre .0)
 
 returns : tie.Need-returns
-returns c = rows-ids (c .before .before .before .before .before .before .before .before .before .before .before .before .args .self) (now (c .before .before .before .before .before .before .before .before .before .before .before .before .args .store)) (sym (rw (c .before .before .before .before .before .before .before .before .before .before .ring .ensures) at (c .before .before .before .before .before .windows-fall .ensures)) ∙ (c .before .before .before .before .if1 .taken)) (sym (rw (c .before .before .before .before .before .before .before .before .before .before .ring .ensures) at (c .before .before .generations-run .ensures)) ∙ (c .before .if2 .taken)) (c .ids-fit .result) (c .ids-fit .ensures)
+returns c = rows-ids (c .before .before .before .before .before .before .before .before .before .before .before .before .args .self)
+    (now (c .before .before .before .before .before .before .before .before .before .before .before .before .args .store))
+    (sym (rw (c .before .before .before .before .before .before .before .before .before .before .ring .ensures) at
+    (c .before .before .before .before .before .windows-fall .ensures)) ∙ (c .before .before .before .before .if1 .taken))
+    (sym (rw (c .before .before .before .before .before .before .before .before .before .before .ring .ensures) at
+    (c .before .before .generations-run .ensures)) ∙ (c .before .if2 .taken)) (c .ids-fit .result) (c .ids-fit .ensures)
 
 returns-2 : tie.Need-returns-2
-returns-2 c = rows-runs (c .before .before .before .before .before .before .before .before .before .before .before .args .self) (now (c .before .before .before .before .before .before .before .before .before .before .before .args .store)) (sym (rw (c .before .before .before .before .before .before .before .before .before .ring .ensures) at (c .before .before .before .before .windows-fall .ensures)) ∙ (c .before .before .before .if1 .taken)) (sym (rw (c .before .before .before .before .before .before .before .before .before .ring .ensures) at (c .before .generations-run .ensures)) ∙ (c .if2 .left))
+returns-2 c = rows-runs (c .before .before .before .before .before .before .before .before .before .before .before .args .self)
+    (now (c .before .before .before .before .before .before .before .before .before .before .before .args .store))
+    (sym (rw (c .before .before .before .before .before .before .before .before .before .ring .ensures) at
+    (c .before .before .before .before .windows-fall .ensures))
+    ∙ (c .before .before .before .if1 .taken))
+    (sym (rw (c .before .before .before .before .before .before .before .before .before .ring .ensures) at (c .before .generations-run .ensures))
+    ∙ (c .if2 .left))
 
 returns-3 : tie.Need-returns-3
 returns-3 c = rows-falls (c .before .before .before .before .before .before .before .before .args .self) (now (c .before .before .before .before .before .before .before .before .args .store)) (sym (rw (c .before .before .before .before .before .before .ring .ensures) at (c .before .windows-fall .ensures)) ∙ (c .if1 .left))

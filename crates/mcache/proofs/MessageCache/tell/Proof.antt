@@ -78,9 +78,32 @@ loop-again : tie.Need-loop-again Inv-loop μ-loop
 loop-again c =
     let k = c .before .before .before .before .before .before .before .before .before .before .before .before .before .before .before .before .before .before .before .pre .rows in
     let h = rw (c .before .before .before .before .before .before .before .before .before .before .before .before .before .before .before .before .ring .ensures) at (c .before .before .before .before .before .before .before .before .before .if1 .taken) in
-    let w = row-lies _ _ _ _ _ (c .before .before .before .before .before .before .before .before .before .before .before .loop .i) (c .before .before .before .before .before .before .before .before .place .result) k h (rw (c .before .before .before .before .before .before .before .before .before .before .before .before .before .before .before .before .ring .ensures) at (c .before .before .before .before .before .before .before .before .place .ensures)) in
-    let few : c .before .before .before .before .before .before .before .before .before .before .before .loop .count < length (c .before .before .before .before .before .before .before .before .before .before .before .loop .rows) = omega (arith, c .before .before .before .before .before .before .before .before .before .before .before .loop .inv .1, c .before .before .before .before .before .before .before .before .before .before .before .loop .inv .2, h, k .within, k .few) in
-    let r = gather-turn _ _ _ _ (c .before .before .before .before .before .before .before .before .before .before .before .before .before .before .before .before .ring .result) (c .before .before .before .before .before .before .before .before .before .before .before .loop .i) (c .before .before .before .before .before .before .before .before .place .result) (c .before .before .before .before .before .before .before .before .before .before .before .loop .count) (c .before .before .before .before .before .before .before .before .before .before .before .loop .rows) (c .before .before .before .before .before .before .before .before .before .if1 .taken) (c .before .before .before .before .before .before .before .before .place .ensures) few (c .before .tell-row .result) _ _ _ (c .before .before .before .before .before .before .before .before .before .before .before .loop .inv .1) (c .before .before .before .before .before .before .before .before .before .before .before .loop .inv .3) (w .0) (w .5) (c .before .before .before .before .before .before .before .before .before .before .before .loop .inv .4) (rw (c .before .before .before .before .before .is-told .ensures) at (c .before .tell-row .ensures)) in
+    let w = row-lies _ _ _ _ _ (c .before .before .before .before .before .before .before .before .before .before .before .loop .i)
+    (c .before .before .before .before .before .before .before .before .place .result) k h
+    (rw (c .before .before .before .before .before .before .before .before .before .before .before .before .before .before .before .before .ring .ensures)
+    at (c .before .before .before .before .before .before .before .before .place .ensures)) in
+    let few : c .before .before .before .before .before .before .before .before .before .before .before .loop .count < length
+    (c .before .before .before .before .before .before .before .before .before .before .before .loop .rows) =
+    omega (
+      arith,
+      c .before .before .before .before .before .before .before .before .before .before .before .loop .inv .1,
+      c .before .before .before .before .before .before .before .before .before .before .before .loop .inv .2,
+      h,
+      k .within,
+      k .few,
+    ) in
+    let r = gather-turn _ _ _ _
+    (c .before .before .before .before .before .before .before .before .before .before .before .before .before .before .before .before .ring .result)
+    (c .before .before .before .before .before .before .before .before .before .before .before .loop .i)
+    (c .before .before .before .before .before .before .before .before .place .result)
+    (c .before .before .before .before .before .before .before .before .before .before .before .loop .count)
+    (c .before .before .before .before .before .before .before .before .before .before .before .loop .rows)
+    (c .before .before .before .before .before .before .before .before .before .if1 .taken)
+    (c .before .before .before .before .before .before .before .before .place .ensures) few (c .before .tell-row .result) _ _ _
+    (c .before .before .before .before .before .before .before .before .before .before .before .loop .inv .1)
+    (c .before .before .before .before .before .before .before .before .before .before .before .loop .inv .3) (w .0) (w .5)
+    (c .before .before .before .before .before .before .before .before .before .before .before .loop .inv .4)
+    (rw (c .before .before .before .before .before .is-told .ensures) at (c .before .tell-row .ensures)) in
     (omega arith, r .0, r .1, r .2, r .3)
 
 returns : tie.Need-returns Inv-loop μ-loop
@@ -89,7 +112,10 @@ returns c =
     let a = c .before .before .before .before .before .before .before .before .before .before .args in
     let k = c .before .before .before .before .before .before .before .before .before .before .pre .rows in
     let h : c .before .before .loop .i ≤ a .self .count = rw (c .before .before .before .before .before .before .before .ring .ensures) at (c .before .before .loop .inv .0) in
-    let r = rw (c .before .before .before .before .before .before .before .ring .ensures) at (gather-done _ _ _ _ (c .before .before .before .before .before .before .before .ring .result) (c .before .before .loop .i) (c .before .before .loop .count) (c .before .before .loop .rows) (c .if1 .left) (omega (arith, c .before .before .loop .inv .1, c .before .before .loop .inv .2, h, k .within, k .few)) (c .before .before .loop .inv .4)) in
+    let r = rw (c .before .before .before .before .before .before .before .ring .ensures) at
+    (gather-done _ _ _ _ (c .before .before .before .before .before .before .before .ring .result) (c .before .before .loop .i)
+    (c .before .before .loop .count) (c .before .before .loop .rows) (c .if1 .left)
+    (omega (arith, c .before .before .loop .inv .1, c .before .before .loop .inv .2, h, k .within, k .few)) (c .before .before .loop .inv .4)) in
     let q = told-rows (a .self) (now (a .store)) (now (a .topic)) (a .windows) (c .before .before .loop .count) _ _ refl (r .0) (r .1) in
     (refl, (q .0, q .1))
 

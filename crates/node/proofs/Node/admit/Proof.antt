@@ -44,7 +44,16 @@ part-admit-part-end : tie.Need-part-admit-part-end
 part-admit-part-end c = let a = c .before .before .before .before .before .before .before .before .before .before .before .before .before .before .before .before .before .args in message-inside (now (a .body)) (a .index) _ _ (sym (c .before .before .before .before .before .message-at .ensures) ∙ (c .before .before .before .m2 .given .1)) .1
 
 admit-part-requires : tie.Need-admit-part-requires
-admit-part-requires c κs = let b = c .before .before .before .before .before .before .before .before .before .before .before .before .before .before .before .before .before .before in let a = b .args in let g = b .good .0 in tested (a .self) (now (a .seen-store)) (now (a .cache-store)) (sym (c .before .before .before .before .before .before .before .before .before .before .enum-told .given .1) ∙ (c .before .before .before .before .before .before .before .before .before .before .before .before .lent .ensures)) (let q = (g .1 .1 .1 .1 .1 .0 .1 .1 .1 .1 .0) in search needs) (let q = (g .1 .1 .1 .1 .1 .0 .1 .1 .1 .1 .1 .0) in search needs) (let q = (g .1 .1 .1 .1 .1 .1 .0 .1 .1 .1 .1 .1 .1 .1 .0) in search needs) (let q = (g .1 .1 .1 .1 .1 .1 .0 .1 .1 .1 .1 .1 .1 .1 .1 .0) in search needs) (let q = (g .1 .1 .1 .1 .1 .1 .0 .1 .1 .1 .1 .1 .1 .1 .1 .1 .0) in search needs) (let q = (g .1 .1 .1 .1 .1 .1 .0 .1 .1 .1 .1 .1 .1 .1 .1 .1 .1 .0) in search needs) (let q = (g .1 .1 .1 .1 .1 .1 .0 .1 .1 .1 .1 .1 .1 .1 .1 .1 .1 .1 .0) in search needs)
+admit-part-requires c κs = let b =
+    c .before .before .before .before .before .before .before .before .before .before .before .before .before .before .before .before .before .before in
+    let a = b .args in let g = b .good .0 in
+    tested (a .self) (now (a .seen-store)) (now (a .cache-store))
+    (sym (c .before .before .before .before .before .before .before .before .before .before .enum-told .given .1)
+    ∙ (c .before .before .before .before .before .before .before .before .before .before .before .before .lent .ensures))
+    (let q = (g .1 .1 .1 .1 .1 .0 .1 .1 .1 .1 .0) in search needs) (let q = (g .1 .1 .1 .1 .1 .0 .1 .1 .1 .1 .1 .0) in search needs)
+    (let q = (g .1 .1 .1 .1 .1 .1 .0 .1 .1 .1 .1 .1 .1 .1 .0) in search needs) (let q = (g .1 .1 .1 .1 .1 .1 .0 .1 .1 .1 .1 .1 .1 .1 .1 .0) in search needs)
+    (let q = (g .1 .1 .1 .1 .1 .1 .0 .1 .1 .1 .1 .1 .1 .1 .1 .1 .0) in search needs) (let q = (g .1 .1 .1 .1 .1 .1 .0 .1 .1 .1 .1 .1 .1 .1 .1 .1 .1 .0) in
+    search needs) (let q = (g .1 .1 .1 .1 .1 .1 .0 .1 .1 .1 .1 .1 .1 .1 .1 .1 .1 .1 .0) in search needs)
 
 same-length : tie.Need-same-length
 same-length c = search needs
@@ -62,7 +71,10 @@ same-length-4 : tie.Need-same-length-4
 same-length-4 c = search needs
 
 returns-2 : tie.Need-returns-2
-returns-2 c = let a = c .before .before .before .before .before .before .before .before .before .before .before .before .args in admits-no (a .self) (now (a .seen-store)) (now (a .cache-store)) (a .at) _ _ (plan-refused (a .self) (now (a .seen-store)) (now (a .cache-store)) (now (a .body)) (a .index) (a .verified) (a .at) _ (sym (c .before .before .before .before .enum-told .given .1) ∙ (c .before .before .before .before .before .before .lent .ensures)) (sym (c .before .c .given .1) ∙ (c .before .before .before .accept .ensures)))
+returns-2 c = let a = c .before .before .before .before .before .before .before .before .before .before .before .before .args in
+    admits-no (a .self) (now (a .seen-store)) (now (a .cache-store)) (a .at) _ _ (plan-refused (a .self) (now (a .seen-store)) (now (a .cache-store))
+    (now (a .body)) (a .index) (a .verified) (a .at) _ (sym (c .before .before .before .before .enum-told .given .1)
+    ∙ (c .before .before .before .before .before .before .lent .ensures)) (sym (c .before .c .given .1) ∙ (c .before .before .before .accept .ensures)))
 
 same-length-5 : tie.Need-same-length-5
 same-length-5 c = search needs
@@ -71,7 +83,11 @@ same-length-6 : tie.Need-same-length-6
 same-length-6 c = search needs
 
 returns-3 : tie.Need-returns-3
-returns-3 c = let a = c .before .before .before .before .before .before .before .before .before .before .before .before .before .before .before .args in admits-no (a .self) (now (a .seen-store)) (now (a .cache-store)) (a .at) _ _ (plan-missing (a .self) (now (a .seen-store)) (now (a .cache-store)) (now (a .body)) (a .index) (a .verified) (a .at) _ (sym (c .before .before .before .before .before .before .before .enum-told .given .1) ∙ (c .before .before .before .before .before .before .before .before .before .lent .ensures)) (sym (c .before .before .before .before .enum-told2 .given .1) ∙ (c .before .before .before .before .before .before .accept .ensures)) (sym (c .before .m .given .1) ∙ (c .before .before .before .message-at .ensures)))
+returns-3 c = let a = c .before .before .before .before .before .before .before .before .before .before .before .before .before .before .before .args in
+    admits-no (a .self) (now (a .seen-store)) (now (a .cache-store)) (a .at) _ _ (plan-missing (a .self) (now (a .seen-store)) (now (a .cache-store))
+    (now (a .body)) (a .index) (a .verified) (a .at) _ (sym (c .before .before .before .before .before .before .before .enum-told .given .1)
+    ∙ (c .before .before .before .before .before .before .before .before .before .lent .ensures)) (sym (c .before .before .before .before .enum-told2 .given .1)
+    ∙ (c .before .before .before .before .before .before .accept .ensures)) (sym (c .before .m .given .1) ∙ (c .before .before .before .message-at .ensures)))
 
 same-length-7 : tie.Need-same-length-7
 same-length-7 c = search needs
@@ -80,7 +96,18 @@ same-length-8 : tie.Need-same-length-8
 same-length-8 c = search needs
 
 returns-4 : tie.Need-returns-4
-returns-4 c = let a = c .before .before .before .before .before .before .before .before .before .before .before .before .before .before .before .before .before .before .before .before .before .before .before .args in admits-as (a .self) (now (a .seen-store)) (now (a .cache-store)) (a .at) _ _ (plan-at (a .self) (now (a .seen-store)) (now (a .cache-store)) (now (a .body)) (a .index) (a .verified) (a .at) _ _ (sym (c .before .before .before .before .before .before .before .before .before .before .before .before .before .before .before .enum-told .given .1) ∙ (c .before .before .before .before .before .before .before .before .before .before .before .before .before .before .before .before .before .lent .ensures)) (sym (c .before .before .before .before .before .before .before .before .before .before .before .before .enum-told2 .given .1) ∙ (c .before .before .before .before .before .before .before .before .before .before .before .before .before .before .accept .ensures)) (sym (c .before .before .before .before .before .before .before .before .before .m2 .given .1) ∙ (c .before .before .before .before .before .before .before .before .before .before .before .message-at .ensures))) (c .before .before .before .before .admit-part .ensures)
+returns-4 c = let a =
+    c .before .before .before .before .before .before .before .before .before .before .before .before .before .before .before .before .before .before .before
+    .before .before .before .before .args in
+    admits-as (a .self) (now (a .seen-store)) (now (a .cache-store)) (a .at) _ _ (plan-at (a .self) (now (a .seen-store)) (now (a .cache-store)) (now (a .body))
+    (a .index) (a .verified) (a .at) _ _
+    (sym (c .before .before .before .before .before .before .before .before .before .before .before .before .before .before .before .enum-told .given .1)
+    ∙ (c .before .before .before .before .before .before .before .before .before .before .before .before .before .before .before .before .before .lent
+    .ensures)) (sym (c .before .before .before .before .before .before .before .before .before .before .before .before .enum-told2 .given .1)
+    ∙ (c .before .before .before .before .before .before .before .before .before .before .before .before .before .before .accept .ensures))
+    (sym (c .before .before .before .before .before .before .before .before .before .m2 .given .1)
+    ∙ (c .before .before .before .before .before .before .before .before .before .before .before .message-at .ensures)))
+    (c .before .before .before .before .admit-part .ensures)
 
 pub admit-spec : {M : Type 1} → statement M
 admit-spec =

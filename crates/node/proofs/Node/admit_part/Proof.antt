@@ -35,16 +35,35 @@ form-id-requires : tie.Need-form-id-requires
 form-id-requires c κs = let a = c .before .before .before .before .before .before .before .before .before .before .args in form-room (now (a .part)) (a .verified) _ _ _ _ (sym (c .before .before .before .before .before .before .admit .ensures) ∙ (c .before .before .before .before .a2 .given .1))
 
 add-key : tie.Need-add-key
-add-key c = let a = c .before .before .before .before .before .before .before .before .before .before .before .before .before .before .args in let l = formed-small (now (a .part)) (a .verified) _ _ _ _ (sym (c .before .before .before .before .before .before .before .before .before .before .admit .ensures) ∙ (c .before .before .before .before .before .before .before .before .a2 .given .1)) (c .before .before .before .form-id .result) _ _ refl (c .before .before .before .form-id .ensures) in omega (arith, l)
+add-key c = let a = c .before .before .before .before .before .before .before .before .before .before .before .before .before .before .args in
+    let l = formed-small (now (a .part)) (a .verified) _ _ _ _
+    (sym (c .before .before .before .before .before .before .before .before .before .before .admit .ensures)
+    ∙ (c .before .before .before .before .before .before .before .before .a2 .given .1)) (c .before .before .before .form-id .result) _ _ refl
+    (c .before .before .before .form-id .ensures) in omega (arith, l)
 
 array-share-prefix-key : tie.Need-array-share-prefix-key
-array-share-prefix-key c = let a = c .before .before .before .before .before .before .before .before .before .before .before .before .before .before .args in formed-room (now (a .part)) (a .verified) _ _ _ _ (sym (c .before .before .before .before .before .before .before .before .before .before .admit .ensures) ∙ (c .before .before .before .before .before .before .before .before .a2 .given .1)) (c .before .before .before .form-id .result) _ _ refl (c .before .before .before .form-id .ensures)
+array-share-prefix-key c = let a = c .before .before .before .before .before .before .before .before .before .before .before .before .before .before .args in
+    formed-room (now (a .part)) (a .verified) _ _ _ _ (sym (c .before .before .before .before .before .before .before .before .before .before .admit .ensures)
+    ∙ (c .before .before .before .before .before .before .before .before .a2 .given .1)) (c .before .before .before .form-id .result) _ _ refl
+    (c .before .before .before .form-id .ensures)
 
 slice-aggregate-insert : tie.Need-slice-aggregate-insert
-slice-aggregate-insert c = let a = c .before .before .before .before .before .before .before .before .before .before .before .before .before .before .before .args in formed-counts (now (a .part)) (a .verified) _ _ _ _ (sym (c .before .before .before .before .before .before .before .before .before .before .before .admit .ensures) ∙ (c .before .before .before .before .before .before .before .before .before .a2 .given .1)) (c .before .before .before .before .form-id .result) _ _ refl (c .before .before .before .before .form-id .ensures)
+slice-aggregate-insert c = let a =
+    c .before .before .before .before .before .before .before .before .before .before .before .before .before .before .before .args in
+    formed-counts (now (a .part)) (a .verified) _ _ _ _
+    (sym (c .before .before .before .before .before .before .before .before .before .before .before .admit .ensures)
+    ∙ (c .before .before .before .before .before .before .before .before .before .a2 .given .1)) (c .before .before .before .before .form-id .result) _ _ refl
+    (c .before .before .before .before .form-id .ensures)
 
 insert-requires : tie.Need-insert-requires
-insert-requires c κs = let b = c .before .before .before .before .before .before .before .before .before .before .before .before .before .before .before in let a = b .args in ((b .pre), formed-fits (now (a .part)) (a .verified) _ _ _ _ (sym (c .before .before .before .before .before .before .before .before .before .before .before .admit .ensures) ∙ (c .before .before .before .before .before .before .before .before .before .a2 .given .1)) (c .before .before .before .before .form-id .result) _ _ refl (c .before .before .before .before .form-id .ensures))
+insert-requires c κs = let b = c .before .before .before .before .before .before .before .before .before .before .before .before .before .before .before in
+    let a = b .args in (
+      (b .pre),
+      formed-fits (now (a .part)) (a .verified) _ _ _ _
+          (sym (c .before .before .before .before .before .before .before .before .before .before .before .admit .ensures)
+          ∙ (c .before .before .before .before .before .before .before .before .before .a2 .given .1)) (c .before .before .before .before .form-id .result) _ _ refl
+          (c .before .before .before .before .form-id .ensures),
+    )
 
 returns-2 : tie.Need-returns-2
 returns-2 c = let a = c .before .before .before .before .before .before .before .args in admits-no (a .self) (now (a .seen-store)) (now (a .cache-store)) (a .at) _ _ (plan-unfit (a .self) (a .at) (now (a .part)) (a .verified) _ (sym (c .before .a .given .1) ∙ (c .before .before .before .admit .ensures)))
@@ -56,7 +75,15 @@ same-length-2 : tie.Need-same-length-2
 same-length-2 c = search needs
 
 returns-3 : tie.Need-returns-3
-returns-3 c = let a = c .before .before .before .before .before .before .before .before .before .before .before .before .before .before .before .before .before .before .before .before .args in admits-formed (now (a .part)) (a .verified) _ _ _ _ (sym (c .before .before .before .before .before .before .before .before .before .before .before .before .before .before .before .before .admit .ensures) ∙ (c .before .before .before .before .before .before .before .before .before .before .before .before .before .before .a2 .given .1)) (c .before .before .before .before .before .before .before .before .before .form-id .result) _ _ refl (c .before .before .before .before .before .before .before .before .before .form-id .ensures) (a .self) (now (a .seen-store)) (now (a .cache-store)) (a .at) (c .before .before .before .before .before .before .before .before .before .before .before .if1 .left) (c .before .before .before .before .insert .ensures)
+returns-3 c = let a =
+    c .before .before .before .before .before .before .before .before .before .before .before .before .before .before .before .before .before .before .before
+    .before .args in
+    admits-formed (now (a .part)) (a .verified) _ _ _ _
+    (sym (c .before .before .before .before .before .before .before .before .before .before .before .before .before .before .before .before .admit .ensures)
+    ∙ (c .before .before .before .before .before .before .before .before .before .before .before .before .before .before .a2 .given .1))
+    (c .before .before .before .before .before .before .before .before .before .form-id .result) _ _ refl
+    (c .before .before .before .before .before .before .before .before .before .form-id .ensures) (a .self) (now (a .seen-store)) (now (a .cache-store)) (a .at)
+    (c .before .before .before .before .before .before .before .before .before .before .before .if1 .left) (c .before .before .before .before .insert .ensures)
 
 pub admit-part-spec : {M : Type 1} → statement M
 admit-part-spec =

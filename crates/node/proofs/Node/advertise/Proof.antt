@@ -19,7 +19,15 @@ returns : tie.Need-returns
 returns c = let a = c .before .before .before .before .before .before .before .before .args in advertise-long (a .self) (now (a .seen-store)) (now (a .cache-store)) (now (a .topic)) (a .windows) (now (a .out)) (sym (c .before .enum-told .given .1) ∙ (c .before .before .before .lent .ensures)) (c .if1 .taken)
 
 announce-requires : tie.Need-announce-requires
-announce-requires c κs = let b = c .before .before .before .before .before .before .before .before .before in let a = b .args in let g = b .good .0 in (tested (a .self) (now (a .seen-store)) (now (a .cache-store)) (sym (c .before .before .enum-told .given .1) ∙ (c .before .before .before .before .lent .ensures)) (let q = (g .1 .1 .1 .1 .1 .0 .1 .1 .1 .1 .0) in search needs) (let q = (g .1 .1 .1 .1 .1 .0 .1 .1 .1 .1 .1 .0) in search needs) (let q = (g .1 .1 .1 .1 .1 .1 .0 .1 .1 .1 .1 .1 .1 .1 .0) in search needs) (let q = (g .1 .1 .1 .1 .1 .1 .0 .1 .1 .1 .1 .1 .1 .1 .1 .0) in search needs) (let q = (g .1 .1 .1 .1 .1 .1 .0 .1 .1 .1 .1 .1 .1 .1 .1 .1 .0) in search needs) (let q = (g .1 .1 .1 .1 .1 .1 .0 .1 .1 .1 .1 .1 .1 .1 .1 .1 .1 .0) in search needs) (let q = (g .1 .1 .1 .1 .1 .1 .0 .1 .1 .1 .1 .1 .1 .1 .1 .1 .1 .1 .0) in search needs) .kept, (c .before .if1 .left))
+announce-requires c κs = let b = c .before .before .before .before .before .before .before .before .before in let a = b .args in let g = b .good .0 in (
+  tested (a .self) (now (a .seen-store)) (now (a .cache-store)) (sym (c .before .before .enum-told .given .1)
+      ∙ (c .before .before .before .before .lent .ensures)) (let q = (g .1 .1 .1 .1 .1 .0 .1 .1 .1 .1 .0) in search needs)
+      (let q = (g .1 .1 .1 .1 .1 .0 .1 .1 .1 .1 .1 .0) in search needs) (let q = (g .1 .1 .1 .1 .1 .1 .0 .1 .1 .1 .1 .1 .1 .1 .0) in search needs)
+      (let q = (g .1 .1 .1 .1 .1 .1 .0 .1 .1 .1 .1 .1 .1 .1 .1 .0) in search needs) (let q = (g .1 .1 .1 .1 .1 .1 .0 .1 .1 .1 .1 .1 .1 .1 .1 .1 .0) in
+      search needs) (let q = (g .1 .1 .1 .1 .1 .1 .0 .1 .1 .1 .1 .1 .1 .1 .1 .1 .1 .0) in search needs)
+      (let q = (g .1 .1 .1 .1 .1 .1 .0 .1 .1 .1 .1 .1 .1 .1 .1 .1 .1 .1 .0) in search needs) .kept,
+  (c .before .if1 .left),
+)
 
 returns-2 : tie.Need-returns-2
 returns-2 c = let a = c .before .before .before .before .before .before .before .before .args in advertise-faulty (a .self) (now (a .seen-store)) (now (a .cache-store)) (now (a .topic)) (a .windows) (now (a .out)) _ (sym (c .before .lent2 .given .1) ∙ (c .before .before .before .lent .ensures))
@@ -28,7 +36,10 @@ same-length : tie.Need-same-length
 same-length c = search needs
 
 returns-3 : tie.Need-returns-3
-returns-3 c = let a = c .before .before .before .before .before .before .before .before .before .before .before .before .args in advertise-told (a .self) (now (a .seen-store)) (now (a .cache-store)) (now (a .topic)) (a .windows) (now (a .out)) (sym (c .before .before .before .before .before .enum-told .given .1) ∙ (c .before .before .before .before .before .before .before .lent .ensures)) (c .before .before .before .before .if1 .left) _ _ (c .before .before .announce .ensures)
+returns-3 c = let a = c .before .before .before .before .before .before .before .before .before .before .before .before .args in
+    advertise-told (a .self) (now (a .seen-store)) (now (a .cache-store)) (now (a .topic)) (a .windows) (now (a .out))
+    (sym (c .before .before .before .before .before .enum-told .given .1) ∙ (c .before .before .before .before .before .before .before .lent .ensures))
+    (c .before .before .before .before .if1 .left) _ _ (c .before .before .announce .ensures)
 
 pub advertise-spec : {M : Type 1} → statement M
 advertise-spec =

@@ -19,10 +19,17 @@ returns : tie.Need-returns
 returns c = let a = c .before .before .before .before .before .before .before .args in beat-back (a .self) (now (a .seen-store)) (now (a .cache-store)) (a .at) (sym (c .before .before .enum-told .given .1) ∙ (c .before .before .before .before .lent .ensures)) (c .if1 .taken)
 
 clean-requires : tie.Need-clean-requires
-clean-requires c κs = let a = c .before .before .before .before .before .before .before .before .args in let g = c .before .before .before .before .before .before .before .before .good .0 in fine-expiries (a .self) (now (a .seen-store)) (now (a .cache-store)) (sym (c .before .before .before .enum-told .given .1) ∙ (c .before .before .before .before .before .lent .ensures)) (let q = g .1 .1 .1 .1 .1 .0 .1 .1 .1 .1 .0 in search needs) (let q = g .1 .1 .1 .1 .1 .0 .1 .1 .1 .1 .1 .0 in search needs)
+clean-requires c κs = let a = c .before .before .before .before .before .before .before .before .args in
+    let g = c .before .before .before .before .before .before .before .before .good .0 in
+    fine-expiries (a .self) (now (a .seen-store)) (now (a .cache-store)) (sym (c .before .before .before .enum-told .given .1)
+    ∙ (c .before .before .before .before .before .lent .ensures)) (let q = g .1 .1 .1 .1 .1 .0 .1 .1 .1 .1 .0 in search needs)
+    (let q = g .1 .1 .1 .1 .1 .0 .1 .1 .1 .1 .1 .0 in search needs)
 
 next-window-requires : tie.Need-next-window-requires
-next-window-requires c κs = let a = c .before .before .before .before .before .before .before .before .before .before .args in let g = c .before .before .before .before .before .before .before .before .before .before .good .0 in fine-windows (a .self) (now (a .seen-store)) (now (a .cache-store)) (sym (c .before .before .before .before .before .enum-told .given .1) ∙ (c .before .before .before .before .before .before .before .lent .ensures)) (let q = g .1 .1 .1 .1 .1 .1 .0 .1 .1 .1 .1 .1 .1 .1 .1 .0 in search needs)
+next-window-requires c κs = let a = c .before .before .before .before .before .before .before .before .before .before .args in
+    let g = c .before .before .before .before .before .before .before .before .before .before .good .0 in
+    fine-windows (a .self) (now (a .seen-store)) (now (a .cache-store)) (sym (c .before .before .before .before .before .enum-told .given .1)
+    ∙ (c .before .before .before .before .before .before .before .lent .ensures)) (let q = g .1 .1 .1 .1 .1 .1 .0 .1 .1 .1 .1 .1 .1 .1 .1 .0 in search needs)
 
 later-requires : tie.Need-later-requires
 later-requires c κs = search needs
@@ -31,7 +38,12 @@ returns-2 : tie.Need-returns-2
 returns-2 c = let a = c .before .before .before .before .before .before .args in beat-faulty (a .self) (now (a .seen-store)) (now (a .cache-store)) (a .at) _ (sym (c .before .lent2 .given .1) ∙ (c .before .before .before .lent .ensures))
 
 returns-3 : tie.Need-returns-3
-returns-3 c = let a = c .before .before .before .before .before .before .before .before .before .before .before .before .args in beat-done (a .self) (now (a .seen-store)) (now (a .cache-store)) (a .at) (sym (c .before .before .before .before .before .before .before .enum-told .given .1) ∙ (c .before .before .before .before .before .before .before .before .before .lent .ensures)) (c .before .before .before .before .before .if1 .left) (c .before .before .before .clean .result) (c .before .before .before .clean .ensures) (c .before .next-window .result) (c .before .next-window .ensures) _ (c .later .ensures)
+returns-3 c = let a = c .before .before .before .before .before .before .before .before .before .before .before .before .args in
+    beat-done (a .self) (now (a .seen-store)) (now (a .cache-store)) (a .at)
+    (sym (c .before .before .before .before .before .before .before .enum-told .given .1)
+    ∙ (c .before .before .before .before .before .before .before .before .before .lent .ensures)) (c .before .before .before .before .before .if1 .left)
+    (c .before .before .before .clean .result) (c .before .before .before .clean .ensures) (c .before .next-window .result) (c .before .next-window .ensures) _
+    (c .later .ensures)
 
 pub heartbeat-spec : {M : Type 1} → statement M
 heartbeat-spec =

@@ -19,13 +19,22 @@ same-length : tie.Need-same-length
 same-length c = search needs
 
 returns : tie.Need-returns
-returns c = let a = c .before .before .before .before .before .before .before .before .before .before .before .args in admits-held (a .self) (now (a .seen-store)) (now (a .cache-store)) (a .at) (c .before .before .before .before .clean .result) (c .before .before .before .before .clean .ensures) (now (a .key)) (c .before .before .before .before .before .before .before .before .before .before .before .pre .1 .2) (now (a .part)) (c .before .before .holds .result) (c .before .before .holds .ensures) (c .before .if1 .taken) (c .later .result) (c .later .ensures)
+returns c = let a = c .before .before .before .before .before .before .before .before .before .before .before .args in
+    admits-held (a .self) (now (a .seen-store)) (now (a .cache-store)) (a .at) (c .before .before .before .before .clean .result)
+    (c .before .before .before .before .clean .ensures) (now (a .key))
+    (c .before .before .before .before .before .before .before .before .before .before .before .pre .1 .2) (now (a .part)) (c .before .before .holds .result)
+    (c .before .before .holds .ensures) (c .before .if1 .taken) (c .later .result) (c .later .ensures)
 
 expiry-of-requires : tie.Need-expiry-of-requires
 expiry-of-requires c κs = search needs
 
 enter-requires : tie.Need-enter-requires
-enter-requires c κs = let a = c .before .before .before .before .before .before .before .before .before .before .before .before .args in (swept-sound (a .self) (now (a .seen-store)) (now (a .cache-store)) (a .at) (c .before .before .before .before .before .clean .result) (c .before .before .before .before .before .clean .ensures) (c .before .before .before .before .before .before .before .before .before .before .before .before .pre .0 .rows), (omega arith, (c .before .before .before .before .before .before .before .before .before .before .before .before .pre .1 .1)))
+enter-requires c κs = let a = c .before .before .before .before .before .before .before .before .before .before .before .before .args in (
+  swept-sound (a .self) (now (a .seen-store)) (now (a .cache-store)) (a .at) (c .before .before .before .before .before .clean .result)
+      (c .before .before .before .before .before .clean .ensures)
+      (c .before .before .before .before .before .before .before .before .before .before .before .before .pre .0 .rows),
+  (omega arith, (c .before .before .before .before .before .before .before .before .before .before .before .before .pre .1 .1)),
+)
 
 sub-keep : tie.Need-sub-keep
 sub-keep c = key-long (now (c .before .before .before .before .before .before .before .before .before .before .before .before .before .before .before .before .args .key)) (c .before .before .before .before .before .before .before .before .before .before .before .before .before .before .before .before .pre .1 .2)
@@ -37,7 +46,16 @@ part-keep-end : tie.Need-part-keep-end
 part-keep-end c = search needs
 
 keep-requires : tie.Need-keep-requires
-keep-requires c κs = ((c .before .before .before .before .before .before .before .before .before .before .before .before .before .before .before .before .before .pre .0 .kept), ((c .before .before .before .before .before .before .before .before .before .before .before .before .before .before .before .before .before .pre .1 .0), key-small (now (c .before .before .before .before .before .before .before .before .before .before .before .before .before .before .before .before .before .args .key)) (c .before .before .before .before .before .before .before .before .before .before .before .before .before .before .before .before .before .pre .1 .2) (c .before .before .before .before .before .before .before .before .before .before .before .before .before .before .before .before .before .pre .1 .1)))
+keep-requires c κs = (
+  (c .before .before .before .before .before .before .before .before .before .before .before .before .before .before .before .before .before .pre .0 .kept),
+  (
+    (c .before .before .before .before .before .before .before .before .before .before .before .before .before .before .before .before .before .pre .1 .0),
+    key-small (now
+        (c .before .before .before .before .before .before .before .before .before .before .before .before .before .before .before .before .before .args .key))
+        (c .before .before .before .before .before .before .before .before .before .before .before .before .before .before .before .before .before .pre .1 .2)
+        (c .before .before .before .before .before .before .before .before .before .before .before .before .before .before .before .before .before .pre .1 .1),
+  ),
+)
 
 later-requires-2 : tie.Need-later-requires-2
 later-requires-2 c κs = search needs
@@ -49,7 +67,22 @@ same-length-3 : tie.Need-same-length-3
 same-length-3 c = search needs
 
 returns-2 : tie.Need-returns-2
-returns-2 c = let a = c .before .before .before .before .before .before .before .before .before .before .before .before .before .before .before .before .before .before .before .before .before .before .args in admits-new (a .self) (now (a .seen-store)) (now (a .cache-store)) (a .at) (c .before .before .before .before .before .before .before .before .before .before .before .before .before .before .before .clean .result) (c .before .before .before .before .before .before .before .before .before .before .before .before .before .before .before .clean .ensures) (now (a .key)) (c .before .before .before .before .before .before .before .before .before .before .before .before .before .before .before .before .before .before .before .before .before .before .pre .1 .2) (now (a .part)) (c .before .before .before .before .before .before .before .before .before .before .before .before .before .holds .result) (c .before .before .before .before .before .before .before .before .before .before .before .before .before .holds .ensures) (c .before .before .before .before .before .before .before .before .before .before .before .before .if1 .left) (c .before .before .before .before .before .before .before .before .before .before .before .expiry-of .result) (c .before .before .before .before .before .before .before .before .before .before .before .expiry-of .ensures) (c .before .before .before .before .before .before .before .before .before .enter .result) _ (c .before .before .before .before .before .before .before .before .before .enter .ensures) (c .before .before .before .before .keep .result .cache) _ (c .before .before .before .before .keep .ensures .1) (c .later2 .result) (c .later2 .ensures)
+returns-2 c = let a =
+    c .before .before .before .before .before .before .before .before .before .before .before .before .before .before .before .before .before .before .before
+    .before .before .before .args in
+    admits-new (a .self) (now (a .seen-store)) (now (a .cache-store)) (a .at)
+    (c .before .before .before .before .before .before .before .before .before .before .before .before .before .before .before .clean .result)
+    (c .before .before .before .before .before .before .before .before .before .before .before .before .before .before .before .clean .ensures) (now (a .key))
+    (c .before .before .before .before .before .before .before .before .before .before .before .before .before .before .before .before .before .before .before
+    .before .before .before .pre .1 .2) (now (a .part))
+    (c .before .before .before .before .before .before .before .before .before .before .before .before .before .holds .result)
+    (c .before .before .before .before .before .before .before .before .before .before .before .before .before .holds .ensures)
+    (c .before .before .before .before .before .before .before .before .before .before .before .before .if1 .left)
+    (c .before .before .before .before .before .before .before .before .before .before .before .expiry-of .result)
+    (c .before .before .before .before .before .before .before .before .before .before .before .expiry-of .ensures)
+    (c .before .before .before .before .before .before .before .before .before .enter .result) _
+    (c .before .before .before .before .before .before .before .before .before .enter .ensures) (c .before .before .before .before .keep .result .cache) _
+    (c .before .before .before .before .keep .ensures .1) (c .later2 .result) (c .later2 .ensures)
 
 pub insert-spec : {M : Type 1} → statement M
 insert-spec =

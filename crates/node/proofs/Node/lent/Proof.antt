@@ -31,16 +31,28 @@ seen-fits-requires : tie.Need-seen-fits-requires
 seen-fits-requires c κs = let a = c .before .before .before .before .before .before .before .before .before .args in lent-room (a .self) (now (a .seen-store)) (now (a .cache-store)) (c .before .before .before .before .before .before .if1 .left) (c .before .before .before .before .before .if2 .left) (c .before .before .before .before .if3 .left)
 
 returns-4 : tie.Need-returns-4
-returns-4 c = let a = c .before .before .before .before .before .before .before .before .before .before .before .args in lent-fine (a .self) (now (a .seen-store)) (now (a .cache-store)) (c .before .before .before .before .before .before .before .before .if1 .left) (c .before .before .before .before .before .before .before .if2 .left) (c .before .before .before .before .before .before .if3 .left) (sym (c .before .before .enum-told3 .given .1) ∙ (c .before .before .before .before .lent .ensures)) (sym (c .before .seen-fits .ensures) ∙ (c .if4 .taken))
+returns-4 c = let a = c .before .before .before .before .before .before .before .before .before .before .before .args in
+    lent-fine (a .self) (now (a .seen-store)) (now (a .cache-store)) (c .before .before .before .before .before .before .before .before .if1 .left)
+    (c .before .before .before .before .before .before .before .if2 .left) (c .before .before .before .before .before .before .if3 .left)
+    (sym (c .before .before .enum-told3 .given .1) ∙ (c .before .before .before .before .lent .ensures)) (sym (c .before .seen-fits .ensures) ∙ (c .if4 .taken))
 
 returns-5 : tie.Need-returns-5
-returns-5 c = let a = c .before .before .before .before .before .before .before .before .before .args in lent-store (a .self) (now (a .seen-store)) (now (a .cache-store)) (c .before .before .before .before .before .before .if1 .left) (c .before .before .before .before .before .if2 .left) (c .before .before .before .before .if3 .left) (sym (c .enum-told .given .1) ∙ (c .before .before .lent .ensures))
+returns-5 c = let a = c .before .before .before .before .before .before .before .before .before .args in
+    lent-store (a .self) (now (a .seen-store)) (now (a .cache-store)) (c .before .before .before .before .before .before .if1 .left)
+    (c .before .before .before .before .before .if2 .left) (c .before .before .before .before .if3 .left) (sym (c .enum-told .given .1)
+    ∙ (c .before .before .lent .ensures))
 
 returns-6 : tie.Need-returns-6
-returns-6 c = let a = c .before .before .before .before .before .before .before .before .before .args in lent-malformed (a .self) (now (a .seen-store)) (now (a .cache-store)) (c .before .before .before .before .before .before .if1 .left) (c .before .before .before .before .before .if2 .left) (c .before .before .before .before .if3 .left) (sym (c .enum-told2 .given .1) ∙ (c .before .before .lent .ensures))
+returns-6 c = let a = c .before .before .before .before .before .before .before .before .before .args in
+    lent-malformed (a .self) (now (a .seen-store)) (now (a .cache-store)) (c .before .before .before .before .before .before .if1 .left)
+    (c .before .before .before .before .before .if2 .left) (c .before .before .before .before .if3 .left) (sym (c .enum-told2 .given .1)
+    ∙ (c .before .before .lent .ensures))
 
 returns-7 : tie.Need-returns-7
-returns-7 c = let a = c .before .before .before .before .before .before .before .before .before .before .before .args in lent-unfit (a .self) (now (a .seen-store)) (now (a .cache-store)) (c .before .before .before .before .before .before .before .before .if1 .left) (c .before .before .before .before .before .before .before .if2 .left) (c .before .before .before .before .before .before .if3 .left) (sym (c .before .before .enum-told3 .given .1) ∙ (c .before .before .before .before .lent .ensures)) (sym (c .before .seen-fits .ensures) ∙ (c .if4 .left))
+returns-7 c = let a = c .before .before .before .before .before .before .before .before .before .before .before .args in
+    lent-unfit (a .self) (now (a .seen-store)) (now (a .cache-store)) (c .before .before .before .before .before .before .before .before .if1 .left)
+    (c .before .before .before .before .before .before .before .if2 .left) (c .before .before .before .before .before .before .if3 .left)
+    (sym (c .before .before .enum-told3 .given .1) ∙ (c .before .before .before .before .lent .ensures)) (sym (c .before .seen-fits .ensures) ∙ (c .if4 .left))
 
 pub lent-spec : {M : Type 1} → statement M
 lent-spec =

@@ -47,11 +47,22 @@ slice-aggregate-cached-5 : tie.Need-slice-aggregate-cached-5
 slice-aggregate-cached-5 c = search needs
 
 cached-requires : tie.Need-cached-requires
-cached-requires c κs = let a = (c .before .before .before .before .before .before .before .before .before .before .before .before .before .before .before .before .before .before .before .before .before .args) in let k = (c .before .before .before .before .before .before .before .before .before .before .before .before .before .before .before .before .before .before .before .before .before .pre .0) in let p = (c .before .before .before .before .before .before .before .before .before .before .before .before .before .before .before .parts-at .ensures .1 .room) in let q = (c .before .before .before .before .before .before .before .before .before .before .before .first-mentions .ensures .1 .1) in
+cached-requires c κs = let a =
+    (c .before .before .before .before .before .before .before .before .before .before .before .before .before .before .before .before .before .before .before
+    .before .before .args) in let k =
+    (c .before .before .before .before .before .before .before .before .before .before .before .before .before .before .before .before .before .before .before
+    .before .before .pre .0) in let p =
+    (c .before .before .before .before .before .before .before .before .before .before .before .before .before .before .before .parts-at .ensures .1 .room) in
+    let q = (c .before .before .before .before .before .before .before .before .before .before .before .first-mentions .ensures .1 .1) in
     rw (c .before .before .before .before .before .before .before .before .ring .ensures) (kept-sound (a .self .cache) (a .cache-store .now) k, ((k .rows .few, k .rows .lengths, k .short), ((c .before .before .before .before .before .before .before .before .before .before .before .first-mentions .ensures .1 .0), omega arith)))
 
 returns : tie.Need-returns
-returns c = let a = (c .before .before .before .before .before .before .before .before .before .before .before .before .before .before .before .before .before .before .before .before .before .before .before .before .args) in let few = path-accepted (a .body .now) (c .before .before .before .before .before .before .before .before .before .before .before .before .before .before .before .before .before .before .before .before .before .before .before .before .pre .1) in
+returns c = let a =
+    (c .before .before .before .before .before .before .before .before .before .before .before .before .before .before .before .before .before .before .before
+    .before .before .before .before .before .args) in
+    let few = path-accepted (a .body .now)
+    (c .before .before .before .before .before .before .before .before .before .before .before .before .before .before .before .before .before .before .before
+    .before .before .before .before .before .pre .1) in
     let f = first-is (3 ∷ 2 ∷ 1 ∷ []) (a .body .now) (few .1) _ _ _ (c .before .before .before .before .before .before .before .before .before .before .before .before .before .before .before .before .before .before .parts-at .ensures .0) _ _ (c .before .before .before .before .before .before .before .before .before .before .before .before .before .before .first-mentions .ensures .0) in
     let q = messages-are (a .self .cache) (a .cache-store .now) (a .body .now) _ _ _ _ f (rw (c .before .before .before .before .before .before .before .before .before .before .before .ring .ensures) at (c .before .before .cached .ensures .0)) in
     reply-none _ (a .cache-store .now) _ _ (a .out .now) q (c .if1 .taken)
@@ -63,7 +74,15 @@ slice-aggregate-parts-that-fit : tie.Need-slice-aggregate-parts-that-fit
 slice-aggregate-parts-that-fit c = search needs
 
 parts-that-fit-requires : tie.Need-parts-that-fit-requires
-parts-that-fit-requires c κs = let a = (c .before .before .before .before .before .before .before .before .before .before .before .before .before .before .before .before .before .before .before .before .before .before .before .before .before .before .args) in ((rw (c .before .before .before .before .before .before .before .before .before .before .before .before .before .ring .ensures) at (c .before .before .before .before .cached .ensures .1 .0)) (a .cache-store .now) (c .before .before .before .before .before .before .before .before .before .before .before .before .before .before .before .before .before .before .before .before .before .before .before .before .before .before .pre .0 .rows .room), omega arith)
+parts-that-fit-requires c κs = let a =
+    (c .before .before .before .before .before .before .before .before .before .before .before .before .before .before .before .before .before .before .before
+    .before .before .before .before .before .before .before .args) in (
+      (rw (c .before .before .before .before .before .before .before .before .before .before .before .before .before .ring .ensures) at
+          (c .before .before .before .before .cached .ensures .1 .0)) (a .cache-store .now)
+          (c .before .before .before .before .before .before .before .before .before .before .before .before .before .before .before .before .before .before .before
+          .before .before .before .before .before .before .before .pre .0 .rows .room),
+      omega arith,
+    )
 
 slice-aggregate-emit-parts : tie.Need-slice-aggregate-emit-parts
 slice-aggregate-emit-parts c = search needs
@@ -73,12 +92,32 @@ slice-aggregate-emit-parts-2 c = search needs
 
 emit-parts-requires : tie.Need-emit-parts-requires
 emit-parts-requires c κs = let a = (c .before .before .before .before .before .before .before .before .before .before .before .before .before .before .before .before .before .before .before .before .before .before .before .before .before .before .before .before .before .before .args) in
-    let m = (rw (c .before .before .before .before .before .before .before .before .before .before .before .before .before .before .before .before .before .ring .ensures) at (c .before .before .before .before .before .before .before .before .cached .ensures .1 .0)) (a .cache-store .now) (c .before .before .before .before .before .before .before .before .before .before .before .before .before .before .before .before .before .before .before .before .before .before .before .before .before .before .before .before .before .before .pre .0 .rows .room) in
-    (parts-fewer (a .cache-store .now) _ 1 _ (omega (arith, (c .before .before .before .before .before .before .if1 .left))) m, (omega arith, reply-fits (a .cache-store .now) _ 1 (kept-size (a .self .cache) (a .cache-store .now) (c .before .before .before .before .before .before .before .before .before .before .before .before .before .before .before .before .before .before .before .before .before .before .before .before .before .before .before .before .before .before .pre .0)) (omega arith)))
+    let m = (rw (c .before .before .before .before .before .before .before .before .before .before .before .before .before .before .before .before .before .ring
+    .ensures) at (c .before .before .before .before .before .before .before .before .cached .ensures .1 .0)) (a .cache-store .now)
+    (c .before .before .before .before .before .before .before .before .before .before .before .before .before .before .before .before .before .before
+    .before .before .before .before .before .before .before .before .before .before .before .before .pre .0 .rows .room) in (
+      parts-fewer (a .cache-store .now) _ 1 _ (omega (arith, (c .before .before .before .before .before .before .if1 .left))) m,
+      (
+        omega arith,
+        reply-fits (a .cache-store .now) _ 1
+            (kept-size (a .self .cache) (a .cache-store .now)
+            (c .before .before .before .before .before .before .before .before .before .before .before .before .before .before .before .before .before .before
+            .before .before .before .before .before .before .before .before .before .before .before .before .pre .0)) (omega arith),
+      ),
+    )
 
 returns-2 : tie.Need-returns-2
-returns-2 c = let a = (c .before .before .before .before .before .before .before .before .before .before .before .before .before .before .before .before .before .before .before .before .before .before .before .before .before .before .before .before .before .before .before .before .args) in let few = path-accepted (a .body .now) (c .before .before .before .before .before .before .before .before .before .before .before .before .before .before .before .before .before .before .before .before .before .before .before .before .before .before .before .before .before .before .before .before .pre .1) in
-    let f = first-is (3 ∷ 2 ∷ 1 ∷ []) (a .body .now) (few .1) _ _ _ (c .before .before .before .before .before .before .before .before .before .before .before .before .before .before .before .before .before .before .before .before .before .before .before .before .before .before .parts-at .ensures .0) _ _ (c .before .before .before .before .before .before .before .before .before .before .before .before .before .before .before .before .before .before .before .before .before .before .first-mentions .ensures .0) in
+returns-2 c = let a =
+    (c .before .before .before .before .before .before .before .before .before .before .before .before .before .before .before .before .before .before .before
+    .before .before .before .before .before .before .before .before .before .before .before .before .before .args) in
+    let few = path-accepted (a .body .now)
+    (c .before .before .before .before .before .before .before .before .before .before .before .before .before .before .before .before .before .before .before
+    .before .before .before .before .before .before .before .before .before .before .before .before .before .pre .1) in
+    let f = first-is (3 ∷ 2 ∷ 1 ∷ []) (a .body .now) (few .1) _ _ _
+    (c .before .before .before .before .before .before .before .before .before .before .before .before .before .before .before .before .before .before
+    .before .before .before .before .before .before .before .before .parts-at .ensures .0) _ _
+    (c .before .before .before .before .before .before .before .before .before .before .before .before .before .before .before .before .before .before
+    .before .before .before .before .first-mentions .ensures .0) in
     let q = messages-are (a .self .cache) (a .cache-store .now) (a .body .now) _ _ _ _ f (rw (c .before .before .before .before .before .before .before .before .before .before .before .before .before .before .before .before .before .before .before .ring .ensures) at (c .before .before .before .before .before .before .before .before .before .before .cached .ensures .0)) in
     reply-short _ (a .cache-store .now) _ _ (a .out .now) q (c .before .before .before .before .before .before .before .before .if1 .left) _ _ (c .before .before .before .before .before .before .before .reply-room .ensures) (c .before .before .before .before .before .parts-that-fit .ensures .0) (c .before .before .before .before .if2 .taken) _ _ _ (c .before .emit-parts .ensures)
 
@@ -86,11 +125,31 @@ slice-aggregate-emit-parts-3 : tie.Need-slice-aggregate-emit-parts-3
 slice-aggregate-emit-parts-3 c = search needs
 
 emit-parts-requires-2 : tie.Need-emit-parts-requires-2
-emit-parts-requires-2 c κs = let a = (c .before .before .before .before .before .before .before .before .before .before .before .before .before .before .before .before .before .before .before .before .before .before .before .before .before .before .before .before .before .before .args) in let few = path-accepted (a .body .now) (c .before .before .before .before .before .before .before .before .before .before .before .before .before .before .before .before .before .before .before .before .before .before .before .before .before .before .before .before .before .before .pre .1) in
-    let n = first-few (3 ∷ 2 ∷ 1 ∷ []) (a .body .now) (few .1) _ _ _ (c .before .before .before .before .before .before .before .before .before .before .before .before .before .before .before .before .before .before .before .before .before .before .before .before .parts-at .ensures .0) _ _ (c .before .before .before .before .before .before .before .before .before .before .before .before .before .before .before .before .before .before .before .before .first-mentions .ensures .1 .1) (c .before .before .before .before .before .before .before .before .cached .ensures .1 .1) in
-    let m = (rw (c .before .before .before .before .before .before .before .before .before .before .before .before .before .before .before .before .before .ring .ensures) at (c .before .before .before .before .before .before .before .before .cached .ensures .1 .0)) (a .cache-store .now) (c .before .before .before .before .before .before .before .before .before .before .before .before .before .before .before .before .before .before .before .before .before .before .before .before .before .before .before .before .before .before .pre .0 .rows .room) in
-    let l = (c .before .before .before .parts-that-fit .ensures .1) in
-    (parts-fewer (a .cache-store .now) _ _ _ l m, (omega arith, reply-fits (a .cache-store .now) _ _ (kept-size (a .self .cache) (a .cache-store .now) (c .before .before .before .before .before .before .before .before .before .before .before .before .before .before .before .before .before .before .before .before .before .before .before .before .before .before .before .before .before .before .pre .0)) (omega arith)))
+emit-parts-requires-2 c κs = let a =
+    (c .before .before .before .before .before .before .before .before .before .before .before .before .before .before .before .before .before .before .before
+    .before .before .before .before .before .before .before .before .before .before .before .args) in
+    let few = path-accepted (a .body .now)
+    (c .before .before .before .before .before .before .before .before .before .before .before .before .before .before .before .before .before .before .before
+    .before .before .before .before .before .before .before .before .before .before .before .pre .1) in
+    let n = first-few (3 ∷ 2 ∷ 1 ∷ []) (a .body .now) (few .1) _ _ _
+    (c .before .before .before .before .before .before .before .before .before .before .before .before .before .before .before .before .before .before
+    .before .before .before .before .before .before .parts-at .ensures .0) _ _
+    (c .before .before .before .before .before .before .before .before .before .before .before .before .before .before .before .before .before .before
+    .before .before .first-mentions .ensures .1 .1) (c .before .before .before .before .before .before .before .before .cached .ensures .1 .1) in
+    let m = (rw (c .before .before .before .before .before .before .before .before .before .before .before .before .before .before .before .before .before .ring
+    .ensures) at (c .before .before .before .before .before .before .before .before .cached .ensures .1 .0)) (a .cache-store .now)
+    (c .before .before .before .before .before .before .before .before .before .before .before .before .before .before .before .before .before .before
+    .before .before .before .before .before .before .before .before .before .before .before .before .pre .0 .rows .room) in
+    let l = (c .before .before .before .parts-that-fit .ensures .1) in (
+      parts-fewer (a .cache-store .now) _ _ _ l m,
+      (
+        omega arith,
+        reply-fits (a .cache-store .now) _ _
+            (kept-size (a .self .cache) (a .cache-store .now)
+            (c .before .before .before .before .before .before .before .before .before .before .before .before .before .before .before .before .before .before
+            .before .before .before .before .before .before .before .before .before .before .before .before .pre .0)) (omega arith),
+      ),
+    )
 
 sub-t21 : tie.Need-sub-t21
 sub-t21 c = search needs
@@ -99,10 +158,22 @@ same-length : tie.Need-same-length
 same-length c = search needs
 
 returns-3 : tie.Need-returns-3
-returns-3 c = let a = (c .before .before .before .before .before .before .before .before .before .before .before .before .before .before .before .before .before .before .before .before .before .before .before .before .before .before .before .before .before .before .before .before .before .args) in let few = path-accepted (a .body .now) (c .before .before .before .before .before .before .before .before .before .before .before .before .before .before .before .before .before .before .before .before .before .before .before .before .before .before .before .before .before .before .before .before .before .pre .1) in
-    let f = first-is (3 ∷ 2 ∷ 1 ∷ []) (a .body .now) (few .1) _ _ _ (c .before .before .before .before .before .before .before .before .before .before .before .before .before .before .before .before .before .before .before .before .before .before .before .before .before .before .before .parts-at .ensures .0) _ _ (c .before .before .before .before .before .before .before .before .before .before .before .before .before .before .before .before .before .before .before .before .before .before .before .first-mentions .ensures .0) in
+returns-3 c = let a =
+    (c .before .before .before .before .before .before .before .before .before .before .before .before .before .before .before .before .before .before .before
+    .before .before .before .before .before .before .before .before .before .before .before .before .before .before .args) in
+    let few = path-accepted (a .body .now)
+    (c .before .before .before .before .before .before .before .before .before .before .before .before .before .before .before .before .before .before .before
+    .before .before .before .before .before .before .before .before .before .before .before .before .before .before .pre .1) in
+    let f = first-is (3 ∷ 2 ∷ 1 ∷ []) (a .body .now) (few .1) _ _ _
+    (c .before .before .before .before .before .before .before .before .before .before .before .before .before .before .before .before .before .before
+    .before .before .before .before .before .before .before .before .before .parts-at .ensures .0) _ _
+    (c .before .before .before .before .before .before .before .before .before .before .before .before .before .before .before .before .before .before
+    .before .before .before .before .before .first-mentions .ensures .0) in
     let q = messages-are (a .self .cache) (a .cache-store .now) (a .body .now) _ _ _ _ f (rw (c .before .before .before .before .before .before .before .before .before .before .before .before .before .before .before .before .before .before .before .before .ring .ensures) at (c .before .before .before .before .before .before .before .before .before .before .before .cached .ensures .0)) in
-    reply-put _ (a .cache-store .now) _ _ (a .out .now) q (c .before .before .before .before .before .before .before .before .before .if1 .left) _ _ (c .before .before .before .before .before .before .before .before .reply-room .ensures) (c .before .before .before .before .before .before .parts-that-fit .ensures .0) (c .before .before .before .before .before .if2 .left) (c .before .before .before .before .before .before .parts-that-fit .ensures .1) _ _ (c .before .before .emit-parts2 .ensures)
+    reply-put _ (a .cache-store .now) _ _ (a .out .now) q (c .before .before .before .before .before .before .before .before .before .if1 .left) _ _
+    (c .before .before .before .before .before .before .before .before .reply-room .ensures)
+    (c .before .before .before .before .before .before .parts-that-fit .ensures .0) (c .before .before .before .before .before .if2 .left)
+    (c .before .before .before .before .before .before .parts-that-fit .ensures .1) _ _ (c .before .before .emit-parts2 .ensures)
 
 pub reply-to-spec : {M : Type 1} → statement M
 reply-to-spec =

@@ -25,7 +25,9 @@ slice-aggregate-expiries-rise : tie.Need-slice-aggregate-expiries-rise
 slice-aggregate-expiries-rise c = search needs
 
 expiries-rise-requires : tie.Need-expiries-rise-requires
-expiries-rise-requires c κs = let a = c .before .before .before .before .before .before .before .before .args in rw (c .before .before .ring .ensures) (fits-ring (a .self) (now (a .seen-store)) (c .before .before .before .before .before .before .before .before .pre) (sym (c .before .before .before .enum-told3 .given .1) ∙ (c .before .before .before .before .before .lent .ensures)) (search needs) (search needs))
+expiries-rise-requires c κs = let a = c .before .before .before .before .before .before .before .before .args in
+    rw (c .before .before .ring .ensures) (fits-ring (a .self) (now (a .seen-store)) (c .before .before .before .before .before .before .before .before .pre)
+    (sym (c .before .before .before .enum-told3 .given .1) ∙ (c .before .before .before .before .before .lent .ensures)) (search needs) (search needs))
 
 returns : tie.Need-returns
 returns c = let a = c .before .before .before .before .before .args in fits-store (a .self) (now (a .seen-store)) (c .before .before .before .before .before .pre) (sym (c .enum-told .given .1) ∙ (c .before .before .lent .ensures))
@@ -34,7 +36,10 @@ returns-2 : tie.Need-returns-2
 returns-2 c = let a = c .before .before .before .before .before .args in fits-malformed (a .self) (now (a .seen-store)) (c .before .before .before .before .before .pre) (sym (c .enum-told2 .given .1) ∙ (c .before .before .lent .ensures))
 
 returns-3 : tie.Need-returns-3
-returns-3 c = let a = c .before .before .before .before .before .before .before .before .before .args in fits-fine (a .self) (now (a .seen-store)) (c .before .before .before .before .before .before .before .before .before .pre) (sym (c .before .before .before .before .enum-told3 .given .1) ∙ (c .before .before .before .before .before .before .lent .ensures)) _ (rw (c .before .before .before .ring .ensures) at (c .expiries-rise .ensures))
+returns-3 c = let a = c .before .before .before .before .before .before .before .before .before .args in
+    fits-fine (a .self) (now (a .seen-store)) (c .before .before .before .before .before .before .before .before .before .pre)
+    (sym (c .before .before .before .before .enum-told3 .given .1) ∙ (c .before .before .before .before .before .before .lent .ensures)) _
+    (rw (c .before .before .before .ring .ensures) at (c .expiries-rise .ensures))
 
 pub seen-fits-spec : {M : Type 1} → statement M
 seen-fits-spec =

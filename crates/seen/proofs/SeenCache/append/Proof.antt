@@ -23,11 +23,17 @@ write-id-requires : tie.Need-write-id-requires
 write-id-requires c κs = let r = place-in (c .before .before .before .before .before .pre .0 .rows) (c .before .before .before .before .before .args .t1 .count) (c .before .place .result) (c .before .before .before .before .before .pre .1 .0) (rw (c .before .before .ring .ensures) at (c .before .place .ensures)) in omega (arith, (c .before .before .before .before .before .pre))
 
 mul-self : tie.Need-mul-self
-mul-self c = let r = place-in (c .before .before .before .before .before .before .before .before .pre .0 .rows) (c .before .before .before .before .before .before .before .before .args .t1 .count) (c .before .before .before .before .place .result) (c .before .before .before .before .before .before .before .before .pre .1 .0) (rw (c .before .before .before .before .before .ring .ensures) at (c .before .before .before .before .place .ensures)) in omega arith
+mul-self c = let r = place-in (c .before .before .before .before .before .before .before .before .pre .0 .rows)
+    (c .before .before .before .before .before .before .before .before .args .t1 .count) (c .before .before .before .before .place .result)
+    (c .before .before .before .before .before .before .before .before .pre .1 .0) (rw (c .before .before .before .before .before .ring .ensures) at
+    (c .before .before .before .before .place .ensures)) in omega arith
 
 element-write-self : tie.Need-element-write-self
 element-write-self c =
-    let r = place-in (c .before .before .before .before .before .before .before .before .pre .0 .rows) (c .before .before .before .before .before .before .before .before .args .t1 .count) (c .before .before .before .before .place .result) (c .before .before .before .before .before .before .before .before .pre .1 .0) (rw (c .before .before .before .before .before .ring .ensures) at (c .before .before .before .before .place .ensures)) in
+    let r = place-in (c .before .before .before .before .before .before .before .before .pre .0 .rows)
+    (c .before .before .before .before .before .before .before .before .args .t1 .count) (c .before .before .before .before .place .result)
+    (c .before .before .before .before .before .before .before .before .pre .1 .0) (rw (c .before .before .before .before .before .ring .ensures) at
+    (c .before .before .before .before .place .ensures)) in
     let z : length (c .before .before .before .before .before .before .before .before .args .t1 .len) ≡ maxIds = search needs in
     omega arith
 
@@ -36,7 +42,10 @@ cast-self c = search needs
 
 element-write-self-2 : tie.Need-element-write-self-2
 element-write-self-2 c =
-    let r = place-in (c .before .before .before .before .before .before .before .before .pre .0 .rows) (c .before .before .before .before .before .before .before .before .args .t1 .count) (c .before .before .before .before .place .result) (c .before .before .before .before .before .before .before .before .pre .1 .0) (rw (c .before .before .before .before .before .ring .ensures) at (c .before .before .before .before .place .ensures)) in
+    let r = place-in (c .before .before .before .before .before .before .before .before .pre .0 .rows)
+    (c .before .before .before .before .before .before .before .before .args .t1 .count) (c .before .before .before .before .place .result)
+    (c .before .before .before .before .before .before .before .before .pre .1 .0) (rw (c .before .before .before .before .before .ring .ensures) at
+    (c .before .before .before .before .place .ensures)) in
     let z : length (c .before .before .before .before .before .before .before .before .args .t1 .len) ≡ maxIds = search needs in
     omega arith
 

@@ -35,7 +35,10 @@ same-length c = search needs
 returns-2 : tie.Need-returns-2
 returns-2 c =
     let a = c .before .before .before .before .before .before .before .before .before .args in
-    entered-some (a .cap) (a .max) (a .self) (now (a .store)) (now (a .id)) (c .before .before .before .before .before .minus .result) (c .before .before .before .before .without2 .result) (c .before .before .before .before .before .before .if1 .left) (c .before .before .before .before .before .minus .ensures) (c .before .before .before .before .without2 .ensures) (length (now (a .id))) (a .expires) _ _ (c .before .before .append .ensures .0) (c .before .before .append .ensures .1)
+    entered-some (a .cap) (a .max) (a .self) (now (a .store)) (now (a .id)) (c .before .before .before .before .before .minus .result)
+    (c .before .before .before .before .without2 .result) (c .before .before .before .before .before .before .if1 .left)
+    (c .before .before .before .before .before .minus .ensures) (c .before .before .before .before .without2 .ensures) (length (now (a .id)))
+    (a .expires) _ _ (c .before .before .append .ensures .0) (c .before .before .append .ensures .1)
 
 pub enter-spec : {M : Type 1} → statement M
 enter-spec =

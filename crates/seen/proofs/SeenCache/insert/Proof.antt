@@ -47,7 +47,13 @@ expiry-of-requires : tie.Need-expiry-of-requires
 expiry-of-requires c κs = search needs
 
 enter-requires : tie.Need-enter-requires
-enter-requires c κs = (tested (c .before .before .before .before .before .before .before .before .before .before .before .before .before .args .self) (now (c .before .before .before .before .before .before .before .before .before .before .before .before .before .args .store)) (sym (c .before .before .before .before .before .before .enum-told3 .given .1) ∙ (c .before .before .before .before .before .before .before .before .lent .ensures)) (search needs) (search needs), (omega arith, omega arith))
+enter-requires c κs = (
+  tested (c .before .before .before .before .before .before .before .before .before .before .before .before .before .args .self)
+      (now (c .before .before .before .before .before .before .before .before .before .before .before .before .before .args .store))
+      (sym (c .before .before .before .before .before .before .enum-told3 .given .1)
+      ∙ (c .before .before .before .before .before .before .before .before .lent .ensures)) (search needs) (search needs),
+  (omega arith, omega arith),
+)
 
 same-length-3 : tie.Need-same-length-3
 same-length-3 c = search needs
@@ -71,7 +77,12 @@ same-length-5 c = search needs
 returns-6 : tie.Need-returns-6
 returns-6 c =
     let a = c .before .before .before .before .before .before .before .before .before .before .before .before .before .before .before .before .args in
-    let r = insert-fresh (a .max-entries) (a .at) (a .ttl) (a .self) (now (a .store)) (now (a .id)) (omega arith) (sym (c .before .before .before .before .before .before .before .before .before .enum-told3 .given .1) ∙ (c .before .before .before .before .before .before .before .before .before .before .before .lent .ensures)) (omega arith) (sym (c .before .before .before .before .before .before .holds .ensures) ∙ (c .before .before .before .before .before .if3 .left)) (c .before .before .before .before .expiry-of .result) (c .before .before .before .before .expiry-of .ensures) _ _ (c .before .before .enter .ensures .0) (c .before .before .enter .ensures .1) in (r .0, (r .1, r .2))
+    let r = insert-fresh (a .max-entries) (a .at) (a .ttl) (a .self) (now (a .store)) (now (a .id)) (omega arith)
+    (sym (c .before .before .before .before .before .before .before .before .before .enum-told3 .given .1)
+    ∙ (c .before .before .before .before .before .before .before .before .before .before .before .lent .ensures)) (omega arith)
+    (sym (c .before .before .before .before .before .before .holds .ensures) ∙ (c .before .before .before .before .before .if3 .left))
+    (c .before .before .before .before .expiry-of .result) (c .before .before .before .before .expiry-of .ensures) _ _
+    (c .before .before .enter .ensures .0) (c .before .before .enter .ensures .1) in (r .0, (r .1, r .2))
 
 pub insert-spec : {M : Type 1} → statement M
 insert-spec =

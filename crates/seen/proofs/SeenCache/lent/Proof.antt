@@ -37,16 +37,36 @@ slice-aggregate-ids-differ : tie.Need-slice-aggregate-ids-differ
 slice-aggregate-ids-differ c = search needs
 
 ids-differ-requires : tie.Need-ids-differ-requires
-ids-differ-requires c κs = rw (c .before .before .before .before .before .ring .ensures) (lent-rows (c .before .before .before .before .before .before .before .before .before .before .before .before .before .args .self) (now (c .before .before .before .before .before .before .before .before .before .before .before .before .before .args .store)) (c .before .before .before .before .before .before .before .before .before .before .before .if1 .left) (omega arith) (omega arith) (omega arith) (sym (rw (c .before .before .before .before .before .ring .ensures) at (c .before .before .all-within .ensures)) ∙ (c .before .if5 .taken)) (search needs))
+ids-differ-requires c κs =
+    rw (c .before .before .before .before .before .ring .ensures)
+    (lent-rows (c .before .before .before .before .before .before .before .before .before .before .before .before .before .args .self)
+    (now (c .before .before .before .before .before .before .before .before .before .before .before .before .before .args .store))
+    (c .before .before .before .before .before .before .before .before .before .before .before .if1 .left) (omega arith) (omega arith) (omega arith)
+    (sym (rw (c .before .before .before .before .before .ring .ensures) at (c .before .before .all-within .ensures)) ∙ (c .before .if5 .taken)) (search needs))
 
 returns-5 : tie.Need-returns-5
-returns-5 c = lent-fine (c .before .before .before .before .before .before .before .before .before .before .before .before .before .before .before .args .self) (now (c .before .before .before .before .before .before .before .before .before .before .before .before .before .before .before .args .store)) (c .before .before .before .before .before .before .before .before .before .before .before .before .before .if1 .left) (omega arith) (omega arith) (omega arith) (sym (rw (c .before .before .before .before .before .before .before .ring .ensures) at (c .before .before .before .before .all-within .ensures)) ∙ (c .before .before .before .if5 .taken)) (sym (rw (c .before .before .before .before .before .before .before .ring .ensures) at (c .before .ids-differ .ensures)) ∙ (c .if6 .taken))
+returns-5 c = lent-fine (c .before .before .before .before .before .before .before .before .before .before .before .before .before .before .before .args .self)
+    (now (c .before .before .before .before .before .before .before .before .before .before .before .before .before .before .before .args .store))
+    (c .before .before .before .before .before .before .before .before .before .before .before .before .before .if1 .left) (omega arith) (omega arith)
+    (omega arith)
+    (sym (rw (c .before .before .before .before .before .before .before .ring .ensures) at (c .before .before .before .before .all-within .ensures))
+    ∙ (c .before .before .before .if5 .taken))
+    (sym (rw (c .before .before .before .before .before .before .before .ring .ensures) at (c .before .ids-differ .ensures)) ∙ (c .if6 .taken))
 
 returns-6 : tie.Need-returns-6
-returns-6 c = lent-twice (c .before .before .before .before .before .before .before .before .before .before .before .before .before .before .before .args .self) (now (c .before .before .before .before .before .before .before .before .before .before .before .before .before .before .before .args .store)) (c .before .before .before .before .before .before .before .before .before .before .before .before .before .if1 .left) (omega arith) (omega arith) (omega arith) (sym (rw (c .before .before .before .before .before .before .before .ring .ensures) at (c .before .before .before .before .all-within .ensures)) ∙ (c .before .before .before .if5 .taken)) (sym (rw (c .before .before .before .before .before .before .before .ring .ensures) at (c .before .ids-differ .ensures)) ∙ (c .if6 .left))
+returns-6 c = lent-twice (c .before .before .before .before .before .before .before .before .before .before .before .before .before .before .before .args .self)
+    (now (c .before .before .before .before .before .before .before .before .before .before .before .before .before .before .before .args .store))
+    (c .before .before .before .before .before .before .before .before .before .before .before .before .before .if1 .left) (omega arith) (omega arith)
+    (omega arith)
+    (sym (rw (c .before .before .before .before .before .before .before .ring .ensures) at (c .before .before .before .before .all-within .ensures))
+    ∙ (c .before .before .before .if5 .taken))
+    (sym (rw (c .before .before .before .before .before .before .before .ring .ensures) at (c .before .ids-differ .ensures)) ∙ (c .if6 .left))
 
 returns-7 : tie.Need-returns-7
-returns-7 c = lent-long (c .before .before .before .before .before .before .before .before .before .before .before .before .args .self) (now (c .before .before .before .before .before .before .before .before .before .before .before .before .args .store)) (c .before .before .before .before .before .before .before .before .before .before .if1 .left) (omega arith) (omega arith) (omega arith) (sym (rw (c .before .before .before .before .ring .ensures) at (c .before .all-within .ensures)) ∙ (c .if5 .left))
+returns-7 c = lent-long (c .before .before .before .before .before .before .before .before .before .before .before .before .args .self)
+    (now (c .before .before .before .before .before .before .before .before .before .before .before .before .args .store))
+    (c .before .before .before .before .before .before .before .before .before .before .if1 .left) (omega arith) (omega arith) (omega arith)
+    (sym (rw (c .before .before .before .before .ring .ensures) at (c .before .all-within .ensures)) ∙ (c .if5 .left))
 
 pub lent-spec : {M : Type 1} → statement M
 lent-spec =

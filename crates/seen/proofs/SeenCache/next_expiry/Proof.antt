@@ -54,7 +54,10 @@ returns-3 : tie.Need-returns-3
 returns-3 c = next-malformed (c .before .before .before .before .args .t1) (now (c .before .before .before .before .args .store)) (sym (c .enum-told2 .given .1) ∙ (c .before .before .lent .ensures))
 
 returns-4 : tie.Need-returns-4
-returns-4 c = next-at (c .before .before .before .before .before .before .before .before .args .t1) (now (c .before .before .before .before .before .before .before .before .args .store)) (sym (c .before .before .before .before .enum-told3 .given .1) ∙ (c .before .before .before .before .before .before .lent .ensures)) (c .before .before .before .if1 .left) (c .before .place .result) (rw (c .before .before .ring .ensures) at (c .before .place .ensures))
+returns-4 c = next-at (c .before .before .before .before .before .before .before .before .args .t1)
+    (now (c .before .before .before .before .before .before .before .before .args .store)) (sym (c .before .before .before .before .enum-told3 .given .1)
+    ∙ (c .before .before .before .before .before .before .lent .ensures)) (c .before .before .before .if1 .left) (c .before .place .result)
+    (rw (c .before .before .ring .ensures) at (c .before .place .ensures))
 
 pub next-expiry-spec : {M : Type 1} → statement M
 next-expiry-spec =

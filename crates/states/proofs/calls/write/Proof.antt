@@ -23,7 +23,12 @@ write-spec =
     (λ c. search needs)
     (λ c. search needs)
     (λ c. prefix _ _ (search needs))
-    (λ c κs. let l = length-take-le (c .before .before .before .before .before .before .little-at .result) (now (c .before .before .before .before .before .before .before .before .before .before .before .before .before .args .made)) (c .before .before .before .before .before .if2 .left) in (omega (arith, c .before .before .before .before .before .before .before .before .before .before .before .before .before .pre .0), c .before .before .before .before .before .before .before .before .before .before .before .before .before .pre .1))
+    (λ c κs. let l = length-take-le (c .before .before .before .before .before .before .little-at .result)
+    (now (c .before .before .before .before .before .before .before .before .before .before .before .before .before .args .made))
+    (c .before .before .before .before .before .if2 .left) in (
+      omega (arith, c .before .before .before .before .before .before .before .before .before .before .before .before .before .pre .0),
+      c .before .before .before .before .before .before .before .before .before .before .before .before .before .pre .1,
+    ))
     (λ c. search needs)
     (λ c. search needs)
     (λ c. search needs)
