@@ -1,4 +1,4 @@
--- To be believed: Answers, Made, Records.
+-- To be believed: Answers, Records.
 -- Theorems: Rows.
 pub mod Answers
 pub mod Records
