@@ -1,2 +1,2 @@
--- Theorems: Refused. The contracts cite the definitions of the crates below.
+-- Theorems: Refused; what the contracts cite stands in the crates below.
 pub mod Refused
