@@ -14,6 +14,7 @@ use Rattle.protobuf.specs.Grammar.{Payload, number, eight, bytes, four, Entry, 
 use Rattle.protobuf.specs.Grammar.{Body, none as no-fields, field}
 use Rattle.protobuf.specs.Encode.{tag, varintField, bytesField}
 use Rattle.protobuf.specs.EncodeLaws.{bytes-field-length}
+use Rattle.meaning.specs.Back.{mkPrune, same-prune}
 use Rattle.rpc.specs.Rpc.{SubOpts, RawMessage, ControlIHave, ControlIWant, ControlGraft, PeerInfo, ControlPrune}
 use Rattle.rpc.specs.Rpc.{ControlMessage, Rpc}
 use Rattle.rpc.specs.Grammar.{putNumber, numbersIn, putBytes, bytesIn, orElse, last, nonzero, Each, none-left, _and_}
@@ -289,13 +290,6 @@ peer-info-canonical _ _ (is-peer-info {s = s} {es = es} g) =
     (ap₂ (λ (y z : Option (List ℕ)). record { «peer_id» = y; «signed_peer_record» = z }) (ap last d1 ∙ last-opt t)
     (ap last d2 ∙ last-opt q)) (is-peer-info w)
 
-mkPrune : Option (List ℕ) → List PeerInfo → Option ℕ → ControlPrune
-mkPrune t ps n = record { «topic_id» = t; peers = ps; backoff = n }
-
-same-prune : {t t' : Option (List ℕ)} (ps : List PeerInfo) {n n' : Option ℕ} → t ≡ t' → n ≡ n'
-    → mkPrune t ps n ≡ mkPrune t' ps n'
-same-prune ps e1 e2 = cc
-
 pub prune-canonical : (s : List ℕ) (x : ControlPrune) → IsPrune s x → IsPrune (encodePrune x) x
 unfolding encodePrune mkPrune
 prune-canonical _ _ (is-prune {s = s} {es = es} {ps = ps} g u h) =
@@ -323,7 +317,7 @@ prune-canonical _ _ (is-prune {s = s} {es = es} {ps = ps} g u h) =
     ++ (repeated (λ p. bytesField 2 (encodePeerInfo p)) ps ++ optional (varintField 3) q) =
     ap₂ (λ (y z : List ℕ). y ++ z) (optional-opt (bytesField 1) t)
     (ap₂ (λ (y z : List ℕ). y ++ z) (repeated-encodings 2 encodePeerInfo ps) (optional-opt (varintField 3) q)) in
-    means-as IsPrune e (same-prune ps (ap last d1 ∙ last-opt t) (ap last d3 ∙ last-opt q))
+    means-as IsPrune e (same-prune {ps = ps} (ap last d1 ∙ last-opt t) refl (ap last d3 ∙ last-opt q))
     (is-prune w (subst (Each Utf8) (sym d1) (each-last u))
     (subst (λ (l : List (List ℕ)). Pairs IsPeerInfo l ps) (sym d2)
     (subs-mean encodePeerInfo peer-info-canonical h)))

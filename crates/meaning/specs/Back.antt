@@ -572,10 +572,10 @@ peers-along b base p q (f ∷ fs) xs h (i and ins) ts is ps ss ms c =
     (λ e. let ih = peers-along b base p q fs xs (pairs-skip p 2 f fs xs e h) ins ts is ps ss ms c in
     go ∙ ap₂ (gather b) (row ∙ ap (λ (z : Bool). cond z rows []) e) ih)
 
-mkPrune : Option (List ℕ) → List PeerInfo → Option ℕ → ControlPrune
+unfoldable pub mkPrune : Option (List ℕ) → List PeerInfo → Option ℕ → ControlPrune
 mkPrune t ps n = record { «topic_id» = t; peers = ps; backoff = n }
 
-same-prune : {t t' : Option (List ℕ)} {ps ps' : List PeerInfo} {n n' : Option ℕ} → t ≡ t' → ps ≡ ps' → n ≡ n'
+pub same-prune : {t t' : Option (List ℕ)} {ps ps' : List PeerInfo} {n n' : Option ℕ} → t ≡ t' → ps ≡ ps' → n ≡ n'
     → mkPrune t ps n ≡ mkPrune t' ps' n'
 same-prune e1 e2 e3 = cc
 
