@@ -6,7 +6,7 @@ ghost use Rattle.inspect.specs.Made.{encodeLine, signLine, idLine};
 use basis::Told;
 use lines::made_line;
 
-pub fn encode_line(n: u64, made: &[u8], t: Told, out: &mut [u8]) -> usize
+pub(crate) fn encode_line(n: u64, made: &[u8], t: Told, out: &mut [u8]) -> usize
     requires { ⌜ length (now made) ≤ 65600 ⌝ }
     requires { ⌜ 131350 ≤ length (now out) ⌝ }
     ensures { λ k. ⌜ Holds (encodeLine n (now (made .entry)) t) (now (out .exit)) k ⌝ }
@@ -14,7 +14,7 @@ pub fn encode_line(n: u64, made: &[u8], t: Told, out: &mut [u8]) -> usize
     made_line(n, b" encode", true, made, t, out)
 }
 
-pub fn sign_line(n: u64, made: &[u8], t: Told, out: &mut [u8]) -> usize
+pub(crate) fn sign_line(n: u64, made: &[u8], t: Told, out: &mut [u8]) -> usize
     requires { ⌜ length (now made) ≤ 65600 ⌝ }
     requires { ⌜ 131350 ≤ length (now out) ⌝ }
     ensures { λ k. ⌜ Holds (signLine n (now (made .entry)) t) (now (out .exit)) k ⌝ }
@@ -22,7 +22,7 @@ pub fn sign_line(n: u64, made: &[u8], t: Told, out: &mut [u8]) -> usize
     made_line(n, b" sign", true, made, t, out)
 }
 
-pub fn id_line(n: u64, made: &[u8], t: Told, out: &mut [u8]) -> usize
+pub(crate) fn id_line(n: u64, made: &[u8], t: Told, out: &mut [u8]) -> usize
     requires { ⌜ length (now made) ≤ 65600 ⌝ }
     requires { ⌜ 131350 ≤ length (now out) ⌝ }
     ensures { λ k. ⌜ Holds (idLine n (now (made .entry)) t) (now (out .exit)) k ⌝ }
