@@ -12,7 +12,7 @@ use borrow.Author.Tests.{eqb-true, eqb-false}
 use Rattle.basis.specs.Cases.{either, clash}
 use Rattle.rows.specs.Ids.{sameBytes, among, distinct}
 use Rattle.rows.specs.IdsLaws.{same-equal, among-append, among-at, among-take, distinct-take, distinct-append, all-few}
-use Rattle.parts.specs.PartsLaws.{fitting-le}
+use Rattle.node.specs.PartsLaws.{fitting-le}
 use Rattle.seen.specs.Entries.{holds}
 use Rattle.mcache.specs.Messages.{get}
 use Rattle.node.specs.declared.Lent.the-variants as lent

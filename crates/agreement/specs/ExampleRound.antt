@@ -17,7 +17,7 @@ use Rattle.rows.specs.Rows.{newest}
 use Rattle.rows.specs.Ids.{sameBytes, precedesBytes, among}
 use Rattle.rows.specs.IdsLaws.{same-equal}
 use Rattle.rows.specs.Store.{allUpTo}
-use Rattle.parts.specs.Parts.{fitting}
+use Rattle.node.specs.Parts.{fitting}
 use Rattle.seen.specs.Entries.{holds, until, inserted, live}
 use Rattle.mcache.specs.Messages.{Cached, idsOf, held, put, shift, get, carrying, enterId, inOrder, gossipIds}
 use Rattle.node.specs.Gateway.{Gateway, started, marked, isNew, afterAdmit, afterBeat, toldOf, lacking, having}

@@ -13,8 +13,8 @@ use Rattle.peer_id.specs.Uvarint.{uvarint}
 use Rattle.peer_id.specs.Laws.{uvarint-small, uvarint-big}
 use Rattle.protobuf.specs.Encode.{bytesField}
 use Rattle.protobuf.specs.EncodeLaws.{bytes-field-length, tag-one}
-use Rattle.parts.specs.Parts.{fitting}
-use Rattle.parts.specs.PartsLaws.{fitting-more, fitting-stop}
+use Rattle.node.specs.Parts.{fitting}
+use Rattle.node.specs.PartsLaws.{fitting-more, fitting-stop}
 
 -- ---- how long the field of a message is
 two-bytes : (n : ℕ) → 128 ≤ n → n < 16384 → length (uvarint n) ≡ 2

@@ -23,8 +23,8 @@ use Rattle.canon.specs.Taken.{Within, taken}
 use Rattle.seen.specs.Entries.{holds}
 use Rattle.mcache.specs.Messages.{held}
 use Rattle.mcache.specs.GossipLaws.{told-distinct, told-held}
-use Rattle.parts.specs.Parts.{once}
-use Rattle.parts.specs.PartsLaws.{once-same}
+use Rattle.node.specs.Parts.{once}
+use Rattle.node.specs.PartsLaws.{once-same}
 use Rattle.node.specs.declared.Node.{Node}
 use Rattle.node.specs.declared.Lent.the-variants as lent
 use Rattle.node.specs.Gateway.{Gateway, marked, toldOf, lacking, having, advertisement, request}

@@ -28,8 +28,8 @@ use Rattle.admission.specs.declared.Admission.the-variants as admission
 use Rattle.admission.specs.Admission.{topicsOf, firstLong, onLimits, admissionOf, givesId}
 use Rattle.rows.specs.Ids.{sameBytes, among}
 use Rattle.rows.specs.Rows.{newest}
-use Rattle.parts.specs.Parts.{fitting}
-use Rattle.parts.specs.PartsLaws.{fitting-stop}
+use Rattle.node.specs.Parts.{fitting}
+use Rattle.node.specs.PartsLaws.{fitting-stop}
 use Rattle.seen.specs.Entries.{holds, until, inserted, live}
 use Rattle.mcache.specs.Messages.{held, put, shift, get, carrying, enterId, inOrder, gossipIds}
 use Rattle.node.specs.declared.Node.{Node}

@@ -16,8 +16,8 @@ use Rattle.rows.specs.ListLaws.{put-sets}
 use Rattle.protobuf.specs.declared.Checked.the-variants as checked
 use Rattle.schema.specs.Accept.{acceptOf}
 use Rattle.admission.specs.AdmissionLaws.{gives-only, fit-limits}
-use Rattle.parts.specs.Parts.{fitting}
-use Rattle.parts.specs.PartsLaws.{fitting-room}
+use Rattle.node.specs.Parts.{fitting}
+use Rattle.node.specs.PartsLaws.{fitting-room}
 use Rattle.mcache.specs.Messages.{held, get}
 use Rattle.mcache.specs.GossipLaws.{told-held}
 use Rattle.node.specs.declared.Lent.the-variants as lent

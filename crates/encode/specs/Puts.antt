@@ -3,11 +3,16 @@
 use Prim.Native.Nat.{ℕ, _+_, _≤_, _<_}
 use mathlib.Core.Path.{_≡_, refl, sym, ap, _∙_}
 use mathlib.Core.List.{List, [], _++_}
+use mathlib.Core.Bool.{cond}
 use native.Mathlib.Omega.{arith}
 use lib.ListN.{length, length-append}
 use lib.Seq.{sets, length-sets}
+use lib.Dec.{ltb}
+use borrow.Author.Tests.{le-ltb}
 use Rattle.basis.specs.Writing.{setIn}
 use Rattle.basis.specs.Lists.{sets-append, set-fits}
+use Rattle.peer_id.specs.Uvarint.{uvarint}
+use Rattle.protobuf.specs.Encode.{tag}
 
 -- xs were written at `at` of the bytes `out`, which are `after` then; they end at `end`
 pub record Puts (out : List ℕ) (at : ℕ) (xs after : List ℕ) (end : ℕ) : Type 0 where
@@ -18,6 +23,16 @@ pub record Puts (out : List ℕ) (at : ℕ) (xs after : List ℕ) (end : ℕ) : 
 abbrev pub Fits : ℕ → List ℕ → Type 0
 Fits at xs = at + length xs ≤ 4611686018427387904
 
+-- the tag of a length-delimited field n and a length, to be written at a place; nothing for a number that no field has,
+-- or a place above 2^62
+unfoldable pub headAt : ℕ → ℕ → ℕ → List ℕ
+headAt n len at = cond (ltb 536870911 n) [] (cond (ltb 4611686018427387904 at) [] (tag n 2 ++ uvarint len))
+
+pub head-fits : (n len at : ℕ) → n ≤ 536870911 → Fits at (tag n 2 ++ uvarint len)
+    → headAt n len at ≡ tag n 2 ++ uvarint len
+unfolding headAt
+head-fits n len at h f = rw (le-ltb 536870911 n h, le-ltb 4611686018427387904 at (omega arith))
+
 pub puts-none : (out : List ℕ) (at : ℕ) → Puts out at [] out at
 puts-none out at = record { ends = omega arith; holds = λ h. refl }
 
@@ -26,14 +41,22 @@ pub puts-set : (out : List ℕ) (at : ℕ) (xs after : List ℕ) (end : ℕ) →
     → after ≡ setIn (length xs) at xs out → Puts out at xs after end
 puts-set out at xs after end p e = record { ends = p; holds = λ h. e ∙ set-fits (length xs) at xs out h }
 
+pub puts-same : (out : List ℕ) (at : ℕ) (xs ys after : List ℕ) (end : ℕ) → xs ≡ ys → Puts out at xs after end
+    → Puts out at ys after end
+puts-same out at xs ys after end e p = rw (← e) p
+
+-- what put_head leaves
+pub puts-head : (out : List ℕ) (n len at : ℕ) (after : List ℕ) (end : ℕ) → n ≤ 536870911
+    → Fits at (tag n 2 ++ uvarint len) → end ≡ at + length (headAt n len at)
+    → after ≡ setIn (length (headAt n len at)) at (headAt n len at) out → Puts out at (tag n 2 ++ uvarint len) after end
+puts-head out n len at after end h f p e =
+    puts-same out at (headAt n len at) (tag n 2 ++ uvarint len) after end (head-fits n len at h f)
+    (puts-set out at (headAt n len at) after end p e)
+
 -- without the room anything may be left
 pub puts-short : (out : List ℕ) (at : ℕ) (xs after : List ℕ) (end : ℕ) → end ≡ at + length xs → length out < end
     → Puts out at xs after end
 puts-short out at xs after end p h = record { ends = p; holds = λ r. absurd (omega arith) }
-
-pub puts-same : (out : List ℕ) (at : ℕ) (xs ys after : List ℕ) (end : ℕ) → xs ≡ ys → Puts out at xs after end
-    → Puts out at ys after end
-puts-same out at xs ys after end e p = rw (← e) p
 
 -- xs, and ys where they end, are xs ++ ys
 pub puts-append : (out mid after : List ℕ) (at i end : ℕ) (xs ys : List ℕ) → Puts out at xs mid i

@@ -5,7 +5,7 @@ ghost use mathlib.Core.List.{[], _++_};
 ghost use mathlib.Core.Bool.{cond};
 ghost use Prim.Native.Nat.{_+_, _≤_};
 ghost use lib.ListN.{length};
-ghost use Rattle.basis.specs.Writing.{answer, written};
+ghost use Rattle.basis.specs.Writing.{answer, written, setIn};
 ghost use Rattle.peer_id.specs.Uvarint.{uvarint};
 ghost use Rattle.protobuf.specs.Walk.{fieldsOf, isBytes, valueIn};
 ghost use Rattle.protobuf.specs.Encode.{tag, bytesField, ofWritten as encoded};
@@ -17,7 +17,7 @@ ghost use Rattle.ids.specs.Ids.{ofWritten};
 ghost use Rattle.canon.specs.Canon.{placed, slotIn, figured, numbered, ownPart, eachOf, heldPart, canon, entriesOf, mergedOf, bodyPart, canonBody, signOf};
 ghost use Rattle.encode.specs.Encode.{encodeAnswer, encodeLeft};
 ghost use Rattle.encode.specs.Sign.{signAnswer, signLeft};
-ghost use Rattle.encode.specs.Puts.{Puts, Fits};
+ghost use Rattle.encode.specs.Puts.{Puts, Fits, headAt};
 use ids::MessageAt;
 use ids::MessageBytes;
 use ids::message_at;
@@ -43,6 +43,11 @@ use schema::held_of;
 use schema::row_of;
 use schema::rows;
 use schema::slots_of;
+
+const MAX_FIELD_NUMBER: u64 = 536870911;
+
+// The largest place at which something is written: 2^62.
+const MAX_PLACE: usize = 4611686018427387904;
 
 // The place in a slot.
 fn slot_in(slot: u8, slots: Slots) -> Place
@@ -93,7 +98,7 @@ fn emit_varint(value: u64, out: &mut [u8], at: usize) -> usize
 }
 
 // Bytes as they stand.
-pub fn emit_bytes(part: &[u8], out: &mut [u8], at: usize) -> usize
+fn emit_bytes(part: &[u8], out: &mut [u8], at: usize) -> usize
     requires { ⌜ Fits at (now part) ⌝ }
     ensures { λ r. ⌜ Puts (now (out .entry)) at (now (part .entry)) (now (out .exit)) r ⌝ }
 {
@@ -102,12 +107,35 @@ pub fn emit_bytes(part: &[u8], out: &mut [u8], at: usize) -> usize
 }
 
 // The tag of a length-delimited field n, and its length.
-pub fn emit_head(n: u64, len: usize, out: &mut [u8], at: usize) -> usize
+fn emit_head(n: u64, len: usize, out: &mut [u8], at: usize) -> usize
     requires { ⌜ (n ≤ 6) × Fits at (tag n 2 ++ uvarint len) ⌝ }
     ensures { λ r. ⌜ Puts (now (out .entry)) at (tag n 2 ++ uvarint len) (now (out .exit)) r ⌝ }
 {
     let i = emit_varint(n * 8 + 2, out, at);
     emit_varint(len as u64, out, i)
+}
+
+// The tag of a length-delimited field n and its length, for those who write fields of their own: it says where they end, and writes them
+// there where there is room. A number that no field has, or a place above 2^62, gives nothing to write.
+pub fn put_head(n: u64, len: usize, out: &mut [u8], at: usize) -> usize
+    ensures { λ r. ⌜ r ≡ at + length (headAt n len at) ⌝ }
+    ensures { λ _. ⌜ now (out .exit) ≡ setIn (length (headAt n len at)) at (headAt n len at) (now (out .entry)) ⌝ }
+{
+    if MAX_FIELD_NUMBER < n {
+        return at;
+    }
+    if MAX_PLACE < at {
+        return at;
+    }
+    let tag = n * 8 + 2;
+    let i = at + uvarint_len(tag);
+    let end = i + uvarint_len(len as u64);
+    if out.len() < end {
+        return end;
+    }
+    put_uvarint(tag, out, at);
+    put_uvarint(len as u64, out, i);
+    end
 }
 
 // A singular number.

@@ -23,8 +23,8 @@ use Rattle.rpc.specs.Rpc.{Rpc}
 use Rattle.rpc.specs.Encode.{encodeRpc}
 use Rattle.encode.specs.Puts.{Puts, Fits, puts-same, puts-append, fits-same, fits-first, fits-next}
 use Rattle.schema.specs.Accept.{acceptOf}
-use Rattle.parts.specs.Parts.{partAt, partsIn, Parts, atPath, once}
-use Rattle.parts.specs.PartsLaws.{length-parts, parts-from, parts-end, parts-more, parts-within-more, no-parts, parts-none}
+use Rattle.node.specs.Parts.{partAt, partsIn, Parts, atPath, once}
+use Rattle.node.specs.PartsLaws.{length-parts, parts-from, parts-end, parts-more, parts-within-more, no-parts, parts-none}
 use Rattle.node.specs.State.{seenRing}
 use Rattle.node.specs.declared.Node.{Node}
 use Rattle.node.specs.declared.Lent.{Lent}

@@ -24,8 +24,8 @@ use Rattle.protobuf.specs.Encode.{bytesField}
 use Rattle.rpc.specs.Encode.{repeated}
 use Rattle.encode.specs.Puts.{Puts}
 use Rattle.schema.specs.Accept.{acceptOf}
-use Rattle.parts.specs.Parts.{partAt, partsIn, Parts, atPath, once, fitting}
-use Rattle.parts.specs.PartsLaws.{length-parts, parts-from, parts-end, parts-take, no-parts, parts-none, fitting-room}
+use Rattle.node.specs.Parts.{partAt, partsIn, Parts, atPath, once, fitting}
+use Rattle.node.specs.PartsLaws.{length-parts, parts-from, parts-end, parts-take, no-parts, parts-none, fitting-room}
 use Rattle.mcache.specs.declared.MessageCache.{MessageCache}
 use Rattle.mcache.specs.State.{messageIn, Usable, ringOf}
 use Rattle.node.specs.declared.Node.{Node}

@@ -10,8 +10,8 @@ use Rattle.protobuf.specs.Walk.{between}
 use Rattle.protobuf.specs.Encode.{bytesField}
 use Rattle.rpc.specs.Encode.{encodeRpc, repeated}
 use Rattle.encode.specs.Puts.{Fits}
-use Rattle.parts.specs.Parts.{partsIn}
-use Rattle.parts.specs.PartsLaws.{length-parts, part-is}
+use Rattle.node.specs.Parts.{partsIn}
+use Rattle.node.specs.PartsLaws.{length-parts, part-is}
 use Rattle.node.specs.Gateway.{request}
 use Rattle.node.specs.WireLaws.{request-bytes, field-most, fields-most}
 

@@ -26,7 +26,7 @@ use Rattle.ids.specs.Ids.{messageAt, idBytes}
 use Rattle.admission.specs.declared.Admission.{Admission}
 use Rattle.admission.specs.declared.Admission.the-variants as admission
 use Rattle.admission.specs.Admission.{admissionOf}
-use Rattle.parts.specs.Parts.{atPath, once, fitting}
+use Rattle.node.specs.Parts.{atPath, once, fitting}
 use Rattle.seen.specs.State.{idSize}
 use Rattle.seen.specs.declared.SeenCache.{SeenCache}
 use Rattle.seen.specs.Entries.{until}

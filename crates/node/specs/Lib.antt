@@ -2,6 +2,8 @@
 -- Cited by contracts, and joined to these by theorems: what the calls leave, in Calls, by Laws.
 -- Theorems: Laws, WellFormedLaws, Readers, Unique.
 -- On the way to them: StateLaws, WireLaws, AskLaws.
+pub mod Parts
+pub mod PartsLaws
 pub mod Told
 pub mod Gateway
 pub mod State

@@ -1,5 +1,6 @@
 // A gateway, 01's "The node": the settings, the clock, the ids seen and the messages held. The node goes in by value and comes back, beside two
 // lent stores: seen, max_seen rows of 129 bytes, and cache, max_messages places of 4,096 bytes. Each call tests them first.
+mod parts;
 pub mod told;
 
 ghost use mathlib.Core.Path.{_≡_};
@@ -20,7 +21,7 @@ ghost use Rattle.encode.specs.Puts.{Puts, Fits};
 ghost use Rattle.schema.specs.Accept.{acceptOf};
 ghost use Rattle.ids.specs.Ids.{messageAt, idBytes};
 ghost use Rattle.admission.specs.Admission.{admissionOf};
-ghost use Rattle.parts.specs.Parts.{partsIn, Parts};
+ghost use Rattle.node.specs.Parts.{partsIn, Parts};
 ghost use Rattle.seen.specs.State.{idSize};
 ghost use Rattle.mcache.specs.State.{messageSize, messageIdSize, maxMessages, messageIn, Listed, Usable};
 ghost use Rattle.node.specs.Gateway.{marked, advertisement, request};
@@ -33,8 +34,6 @@ use admission::Admission;
 use admission::MAX_TOPIC_SIZE;
 use admission::Unfit;
 use admission::admit;
-use encode::emit_bytes;
-use encode::emit_head;
 use ids::MessageAt;
 use ids::message_at;
 use mcache::MESSAGE_ID_SIZE;
@@ -42,6 +41,8 @@ use mcache::MESSAGE_SIZE;
 use mcache::MessageCache;
 use mcache::form_id;
 use parts::add_part;
+use parts::emit_bytes;
+use parts::emit_head;
 use parts::emit_parts;
 use parts::first_mentions;
 use parts::parts_at;

@@ -24,7 +24,7 @@ use Rattle.mcache.specs.declared.MessageCache.{MessageCache}
 use Rattle.mcache.specs.Messages.{Cached}
 use Rattle.mcache.specs.State.{messageIn, cachedAt, cachedIn, ringOf, messageSize, messageIdSize}
 use Rattle.mcache.specs.StateLaws.{Tests, row-gives, row-id-short}
-use Rattle.parts.specs.Parts.{valuesAlong}
+use Rattle.node.specs.Parts.{valuesAlong}
 use Rattle.canonical.specs.Means.{Sized}
 use Rattle.canon.specs.Messages.{raw-is}
 use Rattle.outputs.specs.Offered.{values-body}

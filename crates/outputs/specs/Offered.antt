@@ -16,7 +16,7 @@ use Rattle.rpc.specs.Grammar.{bytesIn, Pairs, no-pairs, _paired_, IsIHave, is-i
 use Rattle.rpc.specs.Grammar.{is-control, joinTo, joined, IsRpc, is-rpc}
 use Rattle.meaning.specs.Entries.{put-bytes}
 use Rattle.meaning.specs.Size.{sumOf, someRecords, recordsIn}
-use Rattle.parts.specs.Parts.{valuesAlong, inEach, atPath, once}
+use Rattle.node.specs.Parts.{valuesAlong, inEach, atPath, once}
 use Rattle.node.specs.Calls.{offered, wanted}
 use Rattle.outputs.specs.Named.{ihaveIds, iwantIds, offersIn, wantsIn, offersOf, wantsOf}
 

@@ -32,8 +32,8 @@ use Rattle.canon.specs.Taken.{Within}
 use Rattle.mcache.specs.declared.MessageCache.{MessageCache}
 use Rattle.mcache.specs.State.{messageIn, ringOf, messageIdSize}
 use Rattle.mcache.specs.StateLaws.{Tests, fine-tests}
-use Rattle.parts.specs.Parts.{atPath, fitting}
-use Rattle.parts.specs.PartsLaws.{once-distinct, fitting-le, fitting-room, fitting-next}
+use Rattle.node.specs.Parts.{atPath, fitting}
+use Rattle.node.specs.PartsLaws.{once-distinct, fitting-le, fitting-room, fitting-next}
 use Rattle.node.specs.declared.Node.{Node}
 use Rattle.node.specs.declared.Lent.the-variants as lent
 use Rattle.node.specs.declared.Serve.the-variants as serve

@@ -23,8 +23,8 @@ use Rattle.canon.specs.Lengths.{bytes-field-mono}
 use Rattle.canon.specs.Shorter.{repeated-append, field-sum, never-longer}
 use Rattle.canon.specs.Written.{canon-written}
 use Rattle.canon.specs.Taken.{Within, taken-exactly}
-use Rattle.parts.specs.Parts.{atPath, onceAfter, once}
-use Rattle.parts.specs.PartsLaws.{once-again, once-new}
+use Rattle.node.specs.Parts.{atPath, onceAfter, once}
+use Rattle.node.specs.PartsLaws.{once-again, once-new}
 use Rattle.node.specs.State.{seenRing}
 use Rattle.node.specs.declared.Node.{Node}
 use Rattle.node.specs.Gateway.{marked, request}

@@ -9,6 +9,9 @@ use std::io::Write;
 const TOPIC: &str = "ct";
 const WINDOWS: usize = 4;
 
+/// An hour, in seconds; also how long an id is kept.
+const HOUR: u64 = 3600;
+
 /// A gateway, and what came in for it.
 struct Site {
     name: &'static str,
@@ -19,7 +22,7 @@ struct Site {
 
 impl Site {
     fn new(name: &'static str, settings: Settings) -> Result<Site, Box<dyn Error>> {
-        Ok(Site { name, gateway: Gateway::start(settings)?, link: Frames::default(), clock: 1000 })
+        Ok(Site { name, gateway: Gateway::start(settings)?, link: Frames::default(), clock: 10_000 })
     }
 
     /// A frame comes in, in pieces.
@@ -102,7 +105,7 @@ fn catch_up(giver: &mut Site, taker: &mut Site, out: &mut dyn Write) -> Result<(
 
 /// Plays the story, and prints each round.
 pub fn run(out: &mut dyn Write) -> Result<(), Box<dyn Error>> {
-    let settings = Settings { ttl: 3600, max_seen: 256, history_len: WINDOWS, max_messages: 64 };
+    let settings = Settings { ttl: HOUR, max_seen: 256, history_len: WINDOWS, max_messages: 64 };
     let mut north = Site::new("north", settings)?;
     let mut south = Site::new("south", settings)?;
 
@@ -129,7 +132,7 @@ pub fn run(out: &mut dyn Write) -> Result<(), Box<dyn Error>> {
     // An old notice comes in again: seen. And once more by a clock that steps back an hour: refused, and nothing is lost.
     let old = notice("north", 1, TOPIC, &[1; 3900])?;
     writeln!(out, "an old notice at south: {:?}", south.gateway.admit(&old, 0, verified(&old, 0)?, south.clock)?)?;
-    let back = south.clock - 600;
+    let back = south.clock - HOUR;
     match south.gateway.admit(&old, 0, verified(&old, 0)?, back) {
         Err(refusal) => writeln!(out, "the same at {back}: {refusal}")?,
         Ok(admitted) => writeln!(out, "the same at {back}: {admitted:?}")?,

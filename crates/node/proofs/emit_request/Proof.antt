@@ -3,7 +3,7 @@ use native.Mathlib.Omega.{arith}
 use borrow.Author.Needs.{needs}
 use Rattle.protobuf.specs.Encode.{bytesField}
 use Rattle.rpc.specs.Encode.{repeated}
-use Rattle.parts.specs.Parts.{partsIn}
+use Rattle.node.specs.Parts.{partsIn}
 use Rattle.node.specs.WireLaws.{request-bytes}
 use Rattle.node.proofs.Asking.{ids-fit, entry-head-fits, entry-fits, control-head-fits, want-head-fits, want-ids-fit, request-puts}
 use Rattle.node.proofs.emit_request.Statement.{statement}

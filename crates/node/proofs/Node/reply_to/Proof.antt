@@ -1,7 +1,7 @@
 -- `reply_to` meets its contract: the ids that the body names, each once, the messages that are cached of them, and those that fit written.
 use mathlib.Core.List.{[], _∷_}
 use native.Mathlib.Omega.{arith}
-use Rattle.parts.specs.PartsLaws.{parts-none, parts-fewer, path-accepted}
+use Rattle.node.specs.PartsLaws.{parts-none, parts-fewer, path-accepted}
 use Rattle.node.specs.AskLaws.{reply-fits}
 use Rattle.node.proofs.Asking.{named-room, first-is, first-few}
 use Rattle.mcache.specs.StateLaws.{kept-sound}

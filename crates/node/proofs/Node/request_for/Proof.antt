@@ -5,7 +5,7 @@ use mathlib.Core.List.{[], _∷_}
 use native.Mathlib.Omega.{arith}
 use borrow.Author.Needs.{length-unmapped, needs}
 use Rattle.schema.specs.AcceptLaws.{accept-small}
-use Rattle.parts.specs.PartsLaws.{parts-none, path-accepted}
+use Rattle.node.specs.PartsLaws.{parts-none, path-accepted}
 use Rattle.node.specs.AskLaws.{request-fits}
 use Rattle.node.proofs.Asking.{named-room, first-is, first-few, ask-none, ask-short, ask-put}
 use Rattle.node.proofs.Node.request_for.Statement.{statement}

@@ -36,7 +36,7 @@ use Rattle.schema.specs.Count.{roleCount, countAlong, counted}
 use Rattle.schema.specs.CountLaws.{count-along, plus-fits, then-fits}
 use Rattle.schema.specs.Accept.{acceptOf}
 use Rattle.schema.specs.AcceptLaws.{accept-records}
-use Rattle.parts.specs.Parts.{partAt, partsIn, Parts, valuesAlong, inEach, atPath, onceAfter, once, fitting}
+use Rattle.node.specs.Parts.{partAt, partsIn, Parts, valuesAlong, inEach, atPath, onceAfter, once, fitting}
 
 -- ---- the parts one by one
 pub length-parts : (s t : List ℕ) (n : ℕ) → length (partsIn s t n) ≡ n

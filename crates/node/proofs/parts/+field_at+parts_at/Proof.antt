@@ -10,21 +10,21 @@ use lib.ListN.{length}
 use Rattle.protobuf.specs.Laws.{field-stands}
 use Rattle.protobuf.specs.Walk.{between}
 use Rattle.protobuf.specs.WalkLaws.{between-length}
-use Rattle.parts.specs.Parts.{partsIn}
-use Rattle.parts.specs.PartsLaws.{path-end, path-refused, path-done}
-use Rattle.parts.proofs.Turns.{field-no, field-other, tail-size, field-inside, field-there, none-more, one-room, one-more, Walked, walked-all, walked-done, walked-room, walked-turn}
+use Rattle.node.specs.Parts.{partsIn}
+use Rattle.node.specs.PartsLaws.{path-end, path-refused, path-done}
+use Rattle.node.proofs.Turns.{field-no, field-other, tail-size, field-inside, field-there, none-more, one-room, one-more, Walked, walked-all, walked-done, walked-room, walked-turn}
 use borrow.Fn.Kinds.{In}
 use borrow.Fn.PlainCycle.{Measures, is, falls, and}
-use Rattle.parts.proofs.field_at.Reads as field-at
-use Rattle.parts.proofs.field_at.Kinds as field-at-kinds
-use Rattle.parts.proofs.+field_at+parts_at.Lts-field_at as field-at-lts
-use Rattle.parts.proofs.parts_at.Reads as parts-at
-use Rattle.parts.proofs.parts_at.Kinds as parts-at-kinds
-use Rattle.parts.proofs.+field_at+parts_at.Lts-parts_at as parts-at-lts
-use Rattle.parts.proofs.add_part.Reads as add-part-reads
+use Rattle.node.proofs.parts.field_at.Reads as field-at
+use Rattle.node.proofs.parts.field_at.Kinds as field-at-kinds
+use Rattle.node.proofs.parts.+field_at+parts_at.Lts-field_at as field-at-lts
+use Rattle.node.proofs.parts.parts_at.Reads as parts-at
+use Rattle.node.proofs.parts.parts_at.Kinds as parts-at-kinds
+use Rattle.node.proofs.parts.+field_at+parts_at.Lts-parts_at as parts-at-lts
+use Rattle.node.proofs.parts.add_part.Reads as add-part-reads
 use Rattle.protobuf.proofs.read_field.Reads as read-field-reads
-use Rattle.parts.proofs.+field_at+parts_at.{statement}
-use Rattle.parts.proofs.+field_at+parts_at.Tie.{close}
+use Rattle.node.proofs.parts.+field_at+parts_at.{statement}
+use Rattle.node.proofs.parts.+field_at+parts_at.Tie.{close}
 
 abbrev μ-field-at : Measures 3 field-at-kinds.ps ℕ
 μ-field-at κs a = 2 * length (now (a .1 .1 .1 .1 .0))

@@ -9,10 +9,10 @@ use Rattle.peer_id.specs.Uvarint.{uvarint}
 use Rattle.protobuf.specs.Encode.{tag, bytesField}
 use Rattle.rpc.specs.Encode.{repeated}
 use Rattle.encode.specs.Puts.{Going, going-all, going-none, going-fits, going-part}
-use Rattle.parts.specs.Parts.{partAt, partsIn}
-use Rattle.parts.proofs.Turns.{write-turn, write-done}
-use Rattle.parts.proofs.emit_parts.Statement.{statement}
-use Rattle.parts.proofs.emit_parts.Tie as tie
+use Rattle.node.specs.Parts.{partAt, partsIn}
+use Rattle.node.proofs.Turns.{write-turn, write-done}
+use Rattle.node.proofs.parts.emit_parts.Statement.{statement}
+use Rattle.node.proofs.parts.emit_parts.Tie as tie
 
 abbrev Inv-loop : tie.InvT-loop
 Inv-loop s table n field out₀ at end₀ i₀ out end i = (i ≤ n) × Going out₀ at (repeated (bytesField field) (partsIn s table n)) out end (repeated (bytesField field) (drop i (partsIn s table n))) × (length out ≡ length out₀)

@@ -5,8 +5,8 @@ use native.Mathlib.Omega.{arith}
 use native.Mathlib.Numerals.{add-one}
 use lib.ListN.{set, length-set}
 use borrow.Author.Needs.{needs}
-use Rattle.parts.proofs.add_part.Statement.{statement}
-use Rattle.parts.proofs.add_part.Tie as tie
+use Rattle.node.proofs.parts.add_part.Statement.{statement}
+use Rattle.node.proofs.parts.add_part.Tie as tie
 
 mul-table : tie.Need-mul-table
 mul-table c = search needs

@@ -5,10 +5,10 @@ use native.Mathlib.Omega.{arith}
 use borrow.Author.Needs.{needs}
 use native.Mathlib.Nat.{zero-add}
 use lib.ListN.{drop}
-use Rattle.parts.specs.Parts.{partsIn, fitting}
-use Rattle.parts.proofs.Turns.{field-size, size-fits, fit-turn, fit-stop, fit-done}
-use Rattle.parts.proofs.parts_that_fit.Statement.{statement}
-use Rattle.parts.proofs.parts_that_fit.Tie as tie
+use Rattle.node.specs.Parts.{partsIn, fitting}
+use Rattle.node.proofs.Turns.{field-size, size-fits, fit-turn, fit-stop, fit-done}
+use Rattle.node.proofs.parts.parts_that_fit.Statement.{statement}
+use Rattle.node.proofs.parts.parts_that_fit.Tie as tie
 
 abbrev Inv-loop : tie.InvT-loop
 Inv-loop s table n field room left₀ i₀ left i = (i ≤ n) × (fitting field room (partsIn s table n) ≡ i + fitting field left (drop i (partsIn s table n)))

@@ -21,8 +21,8 @@ use Rattle.protobuf.specs.Encode.{tag, bytesField}
 use Rattle.protobuf.specs.EncodeLaws.{bytes-field-length}
 use Rattle.rpc.specs.Encode.{repeated}
 use Rattle.protobuf.specs.WalkLaws.{between-length}
-use Rattle.parts.specs.Parts.{partAt, partsIn, Parts, atPath, onceAfter, once, fitting}
-use Rattle.parts.specs.PartsLaws.{length-parts, between-between, restAt, fieldParts, path-none, path-all, path-field, parts-from, parts-end, parts-more, parts-within-more, no-parts, parts-none, once-again, once-new, fitting-more, fitting-stop}
+use Rattle.node.specs.Parts.{partAt, partsIn, Parts, atPath, onceAfter, once, fitting}
+use Rattle.node.specs.PartsLaws.{length-parts, between-between, restAt, fieldParts, path-none, path-all, path-field, parts-from, parts-end, parts-more, parts-within-more, no-parts, parts-none, once-again, once-new, fitting-more, fitting-stop}
 
 -- ---- a part written as a field: its head, its bytes, and then the other parts
 module _ (n : ℕ) (s t : List ℕ) (m i : ℕ) (p : Parts s t m) (h : i < m) where

@@ -7,22 +7,23 @@ ghost use Prim.Native.Nat.{_+_, _*_, _≤_, _<_};
 ghost use lib.ListN.{length, drop, getD};
 ghost use lib.Seq.{sets};
 ghost use Rattle.protobuf.specs.Walk.{between, isBytes, valueIn};
-ghost use Rattle.protobuf.specs.Encode.{bytesField};
+ghost use Rattle.peer_id.specs.Uvarint.{uvarint};
+ghost use Rattle.protobuf.specs.Encode.{tag, bytesField};
 ghost use Rattle.rpc.specs.Encode.{repeated};
 ghost use Rattle.encode.specs.Puts.{Puts, Fits};
 ghost use Rattle.schema.specs.Count.{FieldWithin};
-ghost use Rattle.parts.specs.Parts.{partsIn, Parts, atPath, once, fitting};
-use encode::emit_bytes;
-use encode::emit_head;
+ghost use Rattle.node.specs.Parts.{partsIn, Parts, atPath, once, fitting};
+use encode::put_head;
 use peer_id::uvarint_len;
 use protobuf::Field;
 use protobuf::Step;
 use protobuf::WIRE_LEN;
+use protobuf::put_bytes;
 use protobuf::read_field;
 use rows::same;
 
 // Puts a part into a table after its n parts; how many there are then.
-pub fn add_part(table: &mut [usize], n: usize, start: usize, end: usize) -> usize
+pub(crate) fn add_part(table: &mut [usize], n: usize, start: usize, end: usize) -> usize
     requires { ⌜ (n + 1) * 2 ≤ length (now table) ⌝ }
     ensures { λ r. ⌜ r ≡ n + 1 ⌝ }
     ensures { λ _. ⌜ now (table .exit) ≡ sets (now (table .entry)) (n * 2) (start ∷ end ∷ []) ⌝ }
@@ -33,7 +34,7 @@ pub fn add_part(table: &mut [usize], n: usize, start: usize, end: usize) -> usiz
 }
 
 // Puts the parts at a path of the submessage between start and end into a table after its n parts; how many there are then.
-pub fn parts_at(
+pub(crate) fn parts_at(
     body: &[u8],
     start: usize,
     end: usize,
@@ -96,7 +97,7 @@ fn field_at(
 }
 
 // Puts the parts of `from` that are not there before into `to`, each at its first mention; how many those are.
-pub fn first_mentions(body: &[u8], from: &[usize], n: usize, to: &mut [usize]) -> usize
+pub(crate) fn first_mentions(body: &[u8], from: &[usize], n: usize, to: &mut [usize]) -> usize
     requires { ⌜ Parts (now body) (now from) n ⌝ }
     requires { ⌜ n * 2 ≤ length (now to) ⌝ }
     ensures { λ r. ⌜ partsIn (now (body .entry)) (now (to .exit)) r ≡ once (partsIn (now (body .entry)) (now (from .entry)) n) ⌝ }
@@ -123,8 +124,25 @@ pub fn first_mentions(body: &[u8], from: &[usize], n: usize, to: &mut [usize]) -
     k
 }
 
+// Bytes as they stand: where they end, and written there where there is room.
+pub(crate) fn emit_bytes(part: &[u8], out: &mut [u8], at: usize) -> usize
+    requires { ⌜ Fits at (now part) ⌝ }
+    ensures { λ r. ⌜ Puts (now (out .entry)) at (now (part .entry)) (now (out .exit)) r ⌝ }
+{
+    put_bytes(out, at, part);
+    at + part.len()
+}
+
+// The tag of a length-delimited field n, and its length, in the same way.
+pub(crate) fn emit_head(n: u64, len: usize, out: &mut [u8], at: usize) -> usize
+    requires { ⌜ (n ≤ 6) × Fits at (tag n 2 ++ uvarint len) ⌝ }
+    ensures { λ r. ⌜ Puts (now (out .entry)) at (tag n 2 ++ uvarint len) (now (out .exit)) r ⌝ }
+{
+    put_head(n, len, out, at)
+}
+
 // Each of n parts as a field.
-pub fn emit_parts(
+pub(crate) fn emit_parts(
     s: &[u8],
     table: &[usize],
     n: usize,
@@ -149,7 +167,7 @@ pub fn emit_parts(
 }
 
 // How many of n parts, from the first on, fit as fields into so many bytes.
-pub fn parts_that_fit(s: &[u8], table: &[usize], n: usize, field: u64, room: usize) -> usize
+pub(crate) fn parts_that_fit(s: &[u8], table: &[usize], n: usize, field: u64, room: usize) -> usize
     requires { ⌜ Parts (now s) (now table) n ⌝ }
     requires { ⌜ field ≤ 6 ⌝ }
     ensures { λ r. ⌜ r ≡ fitting field room (partsIn (now (s .entry)) (now (table .entry)) n) ⌝ }

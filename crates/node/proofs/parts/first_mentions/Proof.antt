@@ -7,10 +7,10 @@ use borrow.Author.Needs.{needs}
 use lib.ListN.{length, drop}
 use Rattle.protobuf.specs.Walk.{between}
 use Rattle.rows.specs.Ids.{among}
-use Rattle.parts.specs.Parts.{partAt, partsIn}
-use Rattle.parts.proofs.Turns.{Named, named-all, named-done, named-again as again, named-new, look-more, look-here, look-none}
-use Rattle.parts.proofs.first_mentions.Statement.{statement}
-use Rattle.parts.proofs.first_mentions.Tie as tie
+use Rattle.node.specs.Parts.{partAt, partsIn}
+use Rattle.node.proofs.Turns.{Named, named-all, named-done, named-again as again, named-new, look-more, look-here, look-none}
+use Rattle.node.proofs.parts.first_mentions.Statement.{statement}
+use Rattle.node.proofs.parts.first_mentions.Tie as tie
 
 abbrev Inv-loop : tie.InvT-loop
 Inv-loop body from n to k i a e j₀ j = (j ≤ k) × (among (between body a e) (drop j (partsIn body to k)) ≡ among (between body a e) (partsIn body to k))
