@@ -1,12 +1,12 @@
 // Fixed rows in age order, for the caches: where a row stands in a ring of places, and comparing ids by their bytes.
 ghost use mathlib.Core.Path.{_≡_};
 ghost use mathlib.Core.Bool.{false};
-ghost use Prim.Native.Nat.{_+_, _-_, _≤_};
-ghost use lib.ListN.{drop};
+ghost use Prim.Native.Nat.{_+_, _-_, _*_, _≤_, min};
+ghost use lib.ListN.{drop, getD};
 ghost use Rattle.rows.specs.Rows.{placeOf};
 ghost use Rattle.rows.specs.Ids.{sameBytes, precedesBytes, indexOf, among, distinct};
 ghost use Rattle.rows.specs.Buckets.{bucketOf};
-ghost use Rattle.rows.specs.Store.{InStore, Sound, inUse, idsIn, allUpTo};
+ghost use Rattle.rows.specs.Store.{InStore, Sound, inUse, idAt, idsIn, allUpTo};
 
 // A lent store has `cap` places of one size; `count` of them are in use, from `start` on and from the last place to the first, the oldest first.
 pub struct Ring {
@@ -37,6 +37,69 @@ pub fn place(ring: Ring, i: usize) -> usize
         return ring.start + i;
     }
     i - behind
+}
+
+// What stands at a place of an array; 0 past its end.
+pub fn byte_at(l: &[u8], i: usize) -> u8
+    ensures { λ r. ⌜ r ≡ getD (now (l .entry)) i 0 ⌝ }
+{
+    if i < l.len() {
+        return l[i];
+    }
+    0
+}
+
+pub fn short_at(l: &[u16], i: usize) -> u16
+    ensures { λ r. ⌜ r ≡ getD (now (l .entry)) i 0 ⌝ }
+{
+    if i < l.len() {
+        return l[i];
+    }
+    0
+}
+
+pub fn number_at(l: &[u64], i: usize) -> u64
+    ensures { λ r. ⌜ r ≡ getD (now (l .entry)) i 0 ⌝ }
+{
+    if i < l.len() {
+        return l[i];
+    }
+    0
+}
+
+// Where place p of places of one size begins; the end where that is not before it. The product of two numbers below 2^32 fits; only a larger one
+// is divided for.
+fn begin_of(p: usize, size: usize, end: usize) -> usize
+    ensures { λ r. ⌜ r ≡ min (p * size) end ⌝ }
+{
+    if p < 4294967296 {
+        if size < 4294967296 {
+            return least(p * size, end);
+        }
+    }
+    if size == 0 {
+        return 0;
+    }
+    if end / size < p {
+        return end;
+    }
+    p * size
+}
+
+fn least(a: usize, b: usize) -> usize
+    ensures { λ r. ⌜ r ≡ min a b ⌝ }
+{
+    if a < b { a } else { b }
+}
+
+// The id in a place of a store: empty past the end of the lengths, and cut at the end of the store.
+pub fn id_at<'l, 's>(lens: &'l [u8], ids: &'s [u8], size: usize, p: usize) -> &'s [u8]
+    ensures { λ r. ⌜ now r ≡ idAt size (now (lens .entry)) (now (ids .entry)) p ⌝ }
+{
+    let begin = begin_of(p, size, ids.len());
+    let n = byte_at(lens, p) as usize;
+    let end = begin + least(n, ids.len() - begin);
+    &ids[begin..end]
 }
 
 // Whether two parts hold the same bytes. Ids of one publisher differ at their ends, so the last bytes are compared first.
