@@ -123,53 +123,34 @@ index-among i (j ∷ js) =
     below m n = either (ltb m n) (λ t. t ∙ sym (lt-ltb (suc m) (suc n) (let h = ltb-true m n t in omega arith)))
         (λ t. t ∙ sym (le-ltb (suc m) (suc n) (let h = ltb-false m n t in omega arith)))
 
--- the i-th row: its place has a length, and lies within the store
-pub row-within : (size : ℕ) (ring : Ring) (lens st : List ℕ) (i p : ℕ) → Sound size ring lens st → i < ring .count
-    → p ≡ placeOf ring i → (p < length lens) × (p * size + getD lens p 0 ≤ length st)
-row-within size ring lens st i p ok h e =
-    let b = place-in (ok .rows) i p (omega (arith, ok .rows .within)) e in
-    let n : getD lens p 0 ≤ size = rw e (ok .short i h) in
-    (b .1, row-fits size (ring .cap) p (getD lens p 0) (length st) (b .0) n (ok .room))
-
--- the bytes of the i-th row
-pub row-id : (size : ℕ) (ring : Ring) (lens st : List ℕ) (i p : ℕ) → p ≡ placeOf ring i
-    → take ((p * size + getD lens p 0) - p * size) (drop (p * size) st) ≡ idAt size lens st (placeOf ring i)
-unfolding idAt
-row-id size ring lens st i p e =
-    let k : (p * size + getD lens p 0) - p * size ≡ getD lens p 0 = omega arith in
-    rw (k, e)
-
 -- ---- what is found says whether an id is among those from the k-th on
-shifted : (a b r count k : ℕ) → r ≡ k + a → b ≡ count - k → k ≤ count → ltb a b ≡ ltb r count
-shifted a b r count k e f h =
+shifted : (a b r count k : ℕ) → r ≡ k + a → b ≡ count - k → ltb a b ≡ ltb r count
+shifted a b r count k e f =
     either (ltb a b) (λ t. let l = ltb-true a b t in t ∙ sym (lt-ltb r count (omega arith)))
     (λ t. let l = ltb-false a b t in t ∙ sym (le-ltb r count (omega arith)))
 
-pub find-among : (size : ℕ) (ring : Ring) (lens st id : List ℕ) (k r : ℕ) → k ≤ ring .count
+pub find-among : (size : ℕ) (ring : Ring) (lens st id : List ℕ) (k r : ℕ)
     → r ≡ k + indexOf id (drop k (idsIn size ring lens st))
     → among id (drop k (idsIn size ring lens st)) ≡ ltb r (ring .count)
 unfolding idsIn
-find-among size ring lens st id k r h e =
+find-among size ring lens st id k r e =
     let ids : List (List ℕ) = rowsIn (idAt size lens st) ring in
     let l : length (drop k ids) ≡ ring .count - k =
     length-drop k ids ∙ ap (λ (n : ℕ). n - k) (length-ring (idAt size lens st) ring) in
-    index-among id (drop k ids) ∙ shifted (indexOf id (drop k ids)) (length (drop k ids)) r (ring .count) k e l h
+    index-among id (drop k ids) ∙ shifted (indexOf id (drop k ids)) (length (drop k ids)) r (ring .count) k e l
 
 -- ---- ids that differ, from the newest to the oldest: the row before the i-th
 module _ (size : ℕ) (ring : Ring) (lens st : List ℕ) (i p : ℕ) (h : 0 < i) (k : i ≤ ring .count)
-    (e : p ≡ placeOf ring (i - 1)) where
+    (e : p ≡ placeOf ring (i - 1)) (id : List ℕ) (f : id ≡ idAt size lens st p) where
   abbrev ids : List (List ℕ)
   ids = idsIn size ring lens st
-
-  abbrev id : List ℕ
-  id = take ((p * size + getD lens p 0) - p * size) (drop (p * size) st)
 
   pub row-before : drop (i - 1) ids ≡ id ∷ drop i ids
   unfolding idsIn
   row-before =
       let n : (i - 1) + 1 ≡ i = omega arith in
       ring-from (idAt size lens st) ring (i - 1) (omega arith)
-      ∙ ap (λ (x : List ℕ). x ∷ drop ((i - 1) + 1) ids) (sym (row-id size ring lens st (i - 1) p e))
+      ∙ ap (λ (x : List ℕ). x ∷ drop ((i - 1) + 1) ids) (sym (f ∙ ap (idAt size lens st) e))
       ∙ ap (λ (m : ℕ). id ∷ drop m ids) n
 
   pub differ-more : among id (drop i ids) ≡ false → distinct (drop i ids) ≡ true → distinct (drop (i - 1) ids) ≡ true
