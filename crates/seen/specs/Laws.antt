@@ -34,7 +34,7 @@ use Rattle.seen.specs.EntriesLaws.{length-entries, ids-entries, holds-en
 use Rattle.seen.specs.EntriesLaws.{sound-entered, sized-entered, entries-cleaned}
 use Rattle.seen.specs.Calls.{capOf, wholeRows, lentOf, heldIn, cleaned, entered, enteredStore, insertNumber}
 use Rattle.seen.specs.Calls.{insertAnswer, insertCache, insertStore, containsAnswer, gcNumber, gcAnswer, gcCache}
-use Rattle.seen.specs.Calls.{canEnter, nextAnswer}
+use Rattle.seen.specs.Calls.{canEnter, lentNumber, nextAnswer}
 use Rattle.seen.specs.Unique.{Enters}
 use Rattle.seen.specs.WellFormed.{Sized, WellFormed, Reached, begun, recorded, swept}
 
@@ -375,8 +375,8 @@ reached-both (recorded {c} {st} r max at ttl id) = let b = reached-both r in
 reached-both (swept {c} {st} r at) = let b = reached-both r in
     (gc-fine c st (b .0) (b .1) at, gc-sized c st (b .0) (b .1) at)
 
-pub reached-fine : {c : SeenCache} {st : List ℕ} → Reached c st → lentOf c st ≡ lent.Fine
-reached-fine r = reached-both r .0
+pub reached-fine : {c : SeenCache} {st : List ℕ} → Reached c st → lentNumber (lentOf c st) ≡ 0
+reached-fine r = ap lentNumber (reached-both r .0)
 
 -- ---- for readers
 -- an entry whose expiry equals now is not kept

@@ -1,4 +1,5 @@
--- To be believed: Entries, WellFormed, Calls (the order of refusals), State (`entriesIn`), Told.
+-- To be believed: Entries, WellFormed, Calls (the order of refusals), State (`entriesIn`), Told, the conditions
+-- of Exactly.
 -- Cited by contracts, and joined to these by theorems: the other definitions of State and Calls, by Laws.
 -- Theorems: Laws, Unique, Exactly.
 -- On the way to them: StateLaws, EntriesLaws.
@@ -11,3 +12,4 @@ pub mod StateLaws
 pub mod WellFormed
 pub mod EntriesLaws
 pub mod Laws
+pub mod Exactly

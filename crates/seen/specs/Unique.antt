@@ -1,5 +1,5 @@
--- The contract of each call that answers and leaves something, as a record of what it says of the answer, the cache that
--- comes back and the lent store; and that it leaves no choice: two results that meet it are the same.
+-- The contract of each call that answers and leaves something, as a record of what it says of the answer, the cache
+-- that comes back and the lent store; and that it leaves no choice: two results that meet it are the same.
 use Prim.Native.Nat.{ℕ}
 use mathlib.Core.Path.{_≡_, sym, ap₂, _∙_}
 use mathlib.Core.Bool.{cond}
