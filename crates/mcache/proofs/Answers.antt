@@ -31,12 +31,16 @@ use Rattle.mcache.specs.declared.Lent.{Lent}
 use Rattle.mcache.specs.declared.Lent.the-variants as lent
 use Rattle.mcache.specs.declared.Put.{Put}
 use Rattle.mcache.specs.declared.Put.the-variants as put
+use Rattle.mcache.specs.declared.PutDone.{PutDone}
 use Rattle.mcache.specs.declared.Lookup.the-variants as lookup
 use Rattle.mcache.specs.declared.Gossip.{Gossip}
+use Rattle.mcache.specs.declared.GossipIds.{GossipIds}
 use Rattle.mcache.specs.declared.Gossip.the-variants as gossip
 use Rattle.mcache.specs.State.{messageIn, fallsFrom, runsTo, givesIn, idsFit, rowsFit, legal, wellFormed, Laid, Usable, messageSize, messageIdSize, maxMessages, maxHistory, idsSize, ringOf}
 use Rattle.mcache.specs.Calls.{lentOf, indexIn, entered, enteredStore, planUnder, keptUnder, storedUnder, shifted, found, gossipList, gossipArray, Plan, no, keep, answered, keptIn, storedIn, planFit, planned, shiftCache, getPart, lookupAnswer, gossipAnswer, gossipCount, gossipRows}
+use Rattle.mcache.specs.Unique.{Puts, Shifts, Gossips, Forms}
 use Rattle.mcache.specs.StateLaws.{lent-kept}
+use Rattle.mcache.specs.GuardLaws.{form-fit}
 use Rattle.mcache.proofs.Walks.{part-from}
 
 -- ---- the rows
@@ -207,29 +211,29 @@ module _ (c : MessageCache) (st id : List ℕ) where
 
 -- ---- shift
 module _ (c : MessageCache) (st : List ℕ) where
-  pub shift-store : lent.BadStore ≡ lentOf c st → (lent.BadStore ≡ lentOf c st) × (c ≡ shiftCache c st)
+  pub shift-store : lent.BadStore ≡ lentOf c st → Shifts c st (record { answer = lent.BadStore; cache = c })
   unfolding shiftCache
-  shift-store e = (e, rw (← e))
+  shift-store e = record { answer = e; cache = rw (← e) }
 
-  pub shift-malformed : lent.Malformed ≡ lentOf c st → (lent.Malformed ≡ lentOf c st) × (c ≡ shiftCache c st)
+  pub shift-malformed : lent.Malformed ≡ lentOf c st → Shifts c st (record { answer = lent.Malformed; cache = c })
   unfolding shiftCache
-  shift-malformed e = (e, rw (← e))
+  shift-malformed e = record { answer = e; cache = rw (← e) }
 
-  pub shift-fine : lent.Fine ≡ lentOf c st → (r : MessageCache) → r ≡ shifted c → (lent.Fine ≡ lentOf c st) × (r ≡ shiftCache c st)
+  pub shift-fine : lent.Fine ≡ lentOf c st → (r : MessageCache) → r ≡ shifted c → Shifts c st (record { answer = lent.Fine; cache = r })
   unfolding shiftCache
-  shift-fine e r h = (e, rw (← e) h)
+  shift-fine e r h = record { answer = e; cache = rw (← e) h }
 
 -- ---- gossip_ids
 abbrev Tells : (c : MessageCache) (st topic : List ℕ) (windows : ℕ) → Gossip → ℕ → List ℕ → Type 0
-Tells c st topic windows a n rows = (a ≡ gossipAnswer c st topic) × (n ≡ gossipCount c st topic windows) × (rows ≡ gossipRows c st topic windows)
+Tells c st topic windows a n rows = Gossips c st topic windows (record { answer = a; count = n; rows = rows })
 
 module _ (c : MessageCache) (st topic : List ℕ) (windows : ℕ) where
   untold : (a : Gossip) → gossipAnswer c st topic ≡ a → (a ≡ gossip.Ids → ⊥) → Tells c st topic windows a 0 (replicate maxMessages 0)
   unfolding gossipCount gossipRows
   untold gossip.Ids e n = absurd (n refl)
-  untold gossip.BadStore e n = (sym e, rw e, rw e)
-  untold gossip.Malformed e n = (sym e, rw e, rw e)
-  untold (gossip.TopicTooLong m) e n = (sym e, rw e, rw e)
+  untold gossip.BadStore e n = record { answer = sym e; count = rw e; rows = rw e }
+  untold gossip.Malformed e n = record { answer = sym e; count = rw e; rows = rw e }
+  untold (gossip.TopicTooLong m) e n = record { answer = sym e; count = rw e; rows = rw e }
 
   says-store : lent.BadStore ≡ lentOf c st → gossipAnswer c st topic ≡ gossip.BadStore
   unfolding gossipAnswer
@@ -259,17 +263,21 @@ module _ (c : MessageCache) (st topic : List ℕ) (windows : ℕ) where
   pub gossip-told : lent.Fine ≡ lentOf c st → length topic ≤ 1024 → (n : ℕ) (rows : List ℕ) → n ≡ length (gossipList c st topic windows) → rows ≡ gossipArray c st topic windows
       → Tells c st topic windows gossip.Ids n rows
   unfolding gossipCount gossipRows
-  gossip-told e h n rows f g = let s = says-ids e h in (sym s, rw s f, rw s g)
+  gossip-told e h n rows f g = let s = says-ids e h in record { answer = sym s; count = rw s f; rows = rw s g }
 
 -- ---- put
-abbrev Puts : MessageCache → List ℕ → Plan → Put → MessageCache → List ℕ → Type 0
-Puts c st plan a r s = (a ≡ answered plan) × (r ≡ keptIn c plan) × (s ≡ storedIn c st plan)
+-- what a plan says of the answer, the cache and the store
+abbrev Does : MessageCache → List ℕ → Plan → Put → MessageCache → List ℕ → Type 0
+Does c st plan a r s = (a ≡ answered plan) × ((r ≡ keptIn c plan) × (s ≡ storedIn c st plan))
 
-pub puts-no : (c : MessageCache) (st : List ℕ) (plan : Plan) (a : Put) → plan ≡ no a → Puts c st plan a c st
-puts-no c st plan a e = (rw e, rw e, rw e)
+pub puts-no : (c : MessageCache) (st : List ℕ) (plan : Plan) (a : Put) → plan ≡ no a → Does c st plan a c st
+puts-no c st plan a e = (rw e, (rw e, rw e))
 
-pub puts-as : (c : MessageCache) (st : List ℕ) (plan other : Plan) (a : Put) (r : MessageCache) (s : List ℕ) → plan ≡ other → Puts c st other a r s → Puts c st plan a r s
-puts-as c st plan other a r s e p = (rw e (p .0), rw e (p .1), rw e (p .2))
+pub puts-as : (c : MessageCache) (st : List ℕ) (plan other : Plan) (a : Put) (r : MessageCache) (s : List ℕ) → plan ≡ other → Does c st other a r s → Does c st plan a r s
+puts-as c st plan other a r s e p = (rw e (p .0), (rw e (p .1 .0), rw e (p .1 .1)))
+
+pub put-done : (c : MessageCache) (st body : List ℕ) (i : ℕ) (r : PutDone) (left : List ℕ) → Does c st (planned c st body i) (r .answer) (r .cache) left → Puts c st body i r left
+put-done c st body i r left p = record { answer = p .0; cache = p .1 .0; store = p .1 .1 }
 
 module _ (c : MessageCache) (p : List ℕ) where
   pub plan-unfit : (why : Unfit) → admission.Unfit why ≡ admissionOf p true → planFit c p (admissionOf p true) ≡ no (put.Unfit why)
@@ -304,18 +312,16 @@ module _ (c : MessageCache) (st : List ℕ) (h : lent.Fine ≡ lentOf c st) (g :
   pub kept-ring : InStore (ringOf c) (c .window)
   kept-ring = let k = tested .rows in record { starts = k .starts; within = k .within; size = omega (arith, k .few) }
 
-pub told-as : (c : MessageCache) (st topic : List ℕ) (windows : ℕ) {a b : Gossip} {n : ℕ} {rows : List ℕ} → (a ≡ b) × ((n ≡ 0) × (rows ≡ replicate maxMessages 0)) → Tells c st topic windows b 0 (replicate maxMessages 0)
-    → (a ≡ gossipAnswer c st topic) × ((n ≡ gossipCount c st topic windows) × (rows ≡ gossipRows c st topic windows))
-told-as c st topic windows e t = (e .0 ∙ t .0, (e .1 .0 ∙ t .1, e .1 .1 ∙ t .2))
+pub told-as : (c : MessageCache) (st topic : List ℕ) (windows : ℕ) (b : Gossip) (r : GossipIds) → (r .answer ≡ b) × ((r .count ≡ 0) × (r .rows ≡ replicate maxMessages 0))
+    → Tells c st topic windows b 0 (replicate maxMessages 0) → Gossips c st topic windows r
+told-as c st topic windows b r e t = record { answer = e .0 ∙ t .answer; count = e .1 .0 ∙ t .count; rows = e .1 .1 ∙ t .rows }
 
 -- ---- the id of a message that may be taken
 module _ (p : List ℕ) (a e b f : ℕ) (h : admissionOf p true ≡ admission.Fit a e b f) where
-  pub fit-room : (out : List ℕ) → length out ≡ messageIdSize → ((a ≤ e) × (e ≤ length p) × (b ≤ f) × (f ≤ length p)) × (length (idBytes p a e b f) ≤ length out)
-  fit-room out z =
-      let w = id-fits p a e b f (fit-parts p true a e b f h) in
-      ((w .from .0, w .from .1, w .seqno .0, w .seqno .1), omega (arith, fit-id p true a e b f h))
+  module _ (n : ℕ) (first out : List ℕ) (z : length first ≡ messageIdSize) (forms : Forms p a e b f first n out) where
+    k : (n ≡ length (idBytes p a e b f)) × (out ≡ sets first 0 (idBytes p a e b f))
+    k = form-fit p true a e b f first n out h (omega (arith, fit-id p true a e b f h)) forms
 
-  module _ (n : ℕ) (first out : List ℕ) (z : length first ≡ messageIdSize) (k : (n ≡ length (idBytes p a e b f)) × (out ≡ sets first 0 (idBytes p a e b f))) where
     pub id-whole : take n out ≡ idBytes p a e b f
     id-whole =
         let l = fit-id p true a e b f h in
@@ -336,9 +342,6 @@ module _ (p : List ℕ) (a e b f : ℕ) (h : admissionOf p true ≡ admission.Fi
         → (x ≡ answered (planFit c p (admissionOf p true))) × ((r ≡ keptIn c (planFit c p (admissionOf p true))) × (s ≡ storedIn c st (planFit c p (admissionOf p true))))
     unfolding keptUnder storedUnder
     put-under c st g = rw (h, ← id-whole) g
-
-pub nested : {A B C : Type 0} → A × B × C → A × (B × C)
-nested t = (t .0, (t .1, t .2))
 
 -- ---- a message under its id
 module _ (c : MessageCache) (st m id : List ℕ) (r : ℕ) (e : r ≡ indexIn c id) where

@@ -10,18 +10,19 @@ ghost use lib.ListN.{length, drop, take, getD, replicate};
 ghost use lib.Seq.{sets};
 ghost use Rattle.rows.specs.Rows.{placeOf};
 ghost use Rattle.rows.specs.Store.{InStore, Sound, inUse, idAt};
-ghost use Rattle.ids.specs.Ids.{idBytes};
 ghost use Rattle.admission.specs.Admission.{admissionOf};
 ghost use Rattle.mcache.specs.State.{messageSize, messageIdSize, maxMessages, ringOf, messageIn, fallsFrom, runsTo, givesIn, idsFit, rowsFit, stale, older, Laid, Usable, fresh, dropped, appended, Listed, told, spotOf, putAt, insertRow};
-ghost use Rattle.mcache.specs.Calls.{startAnswer, startCache, lentOf, indexIn, entered, enteredStore, planUnder, keptUnder, storedUnder};
-ghost use Rattle.mcache.specs.Calls.{shifted, found, gossipList, gossipArray, planFit, planned, answered};
-ghost use Rattle.mcache.specs.Calls.{keptIn, storedIn, shiftCache, getPart, lookupAnswer, gossipAnswer, gossipCount, gossipRows};
+ghost use Rattle.mcache.specs.Calls.{lentOf, indexIn, entered, enteredStore, planUnder, keptUnder, storedUnder};
+ghost use Rattle.mcache.specs.Calls.{shifted, found, gossipList, gossipArray, formable, planFit, answered};
+ghost use Rattle.mcache.specs.Calls.{keptIn, storedIn, getPart, lookupAnswer};
+ghost use Rattle.mcache.specs.Unique.{Starts, Puts, Shifts, Gossips, Forms};
 use admission::Admission;
 use admission::MAX_TOPIC_SIZE;
 use admission::Unfit;
 use admission::admit;
 use admission::carries;
 use admission::gives_id;
+use basis::has_room;
 use ids::MessageAt;
 use ids::message_at;
 use protobuf::Checked;
@@ -220,15 +221,35 @@ fn stale_rows(window: &[u8], ring: Ring, history_len: usize) -> usize
 
 // ---- putting
 
-// Writes the id of a message, from and then seqno, at the front of out.
-pub fn form_id(part: &[u8], a: usize, e: usize, b: usize, f: usize, out: &mut [u8]) -> usize
-    requires { ⌜ (a ≤ e) × (e ≤ length (now part)) × (b ≤ f) × (f ≤ length (now part)) ⌝ }
-    requires { ⌜ length (idBytes (now part) a e b f) ≤ length (now out) ⌝ }
-    ensures { λ r. ⌜ r ≡ length (idBytes (now (part .entry)) a e b f) ⌝ }
-    ensures { λ _. ⌜ now (out .exit) ≡ sets (now (out .entry)) 0 (idBytes (now (part .entry)) a e b f) ⌝ }
+// Whether from and seqno lie within n bytes, and m bytes have room for both.
+fn can_form(n: usize, a: usize, e: usize, b: usize, f: usize, m: usize) -> bool
+    ensures { λ r. ⌜ r ≡ formable n a e b f m ⌝ }
 {
-    let i = put_bytes(out, 0, &part[a..e]);
-    put_bytes(out, i, &part[b..f])
+    if e < a {
+        return false;
+    }
+    if n < e {
+        return false;
+    }
+    if f < b {
+        return false;
+    }
+    if n < f {
+        return false;
+    }
+    has_room(m, e - a, f - b)
+}
+
+// Writes the id of a message, from and then seqno, at the front of out, and answers its length; 0 and nothing, where they do not lie in the part or
+// out has no room.
+pub fn form_id(part: &[u8], a: usize, e: usize, b: usize, f: usize, out: &mut [u8]) -> usize
+    ensures { λ r. ⌜ Forms (now (part .entry)) a e b f (now (out .entry)) r (now (out .exit)) ⌝ }
+{
+    if can_form(part.len(), a, e, b, f, out.len()) {
+        let i = put_bytes(out, 0, &part[a..e]);
+        return put_bytes(out, i, &part[b..f]);
+    }
+    0
 }
 
 // ---- telling
@@ -311,8 +332,7 @@ fn tell_row(there: bool, rows: &mut [u8], n: usize, id_lens: &[u8], ids: &[u8], 
 impl MessageCache {
     // An empty cache. Settings out of range are 40: history_len 0, where the Rust can panic, or above 16, or max_messages above 64.
     pub fn new(history_len: usize, max_messages: usize) -> Started
-        ensures { λ r. ⌜ r .answer ≡ startAnswer «history_len» «max_messages» ⌝ }
-        ensures { λ r. ⌜ r .cache ≡ startCache «history_len» «max_messages» ⌝ }
+        ensures { λ r. ⌜ Starts «history_len» «max_messages» r ⌝ }
     {
         if history_len == 0 {
             return MessageCache::refused();
@@ -547,9 +567,7 @@ impl MessageCache {
 
     // Puts the message at an index of a body. A held id changes nothing.
     pub fn put(self, store: &mut [u8], body: &[u8], index: usize) -> PutDone
-        ensures { λ r. ⌜ r .answer ≡ answered (planned self (now (store .entry)) (now (body .entry)) index) ⌝ }
-        ensures { λ r. ⌜ r .cache ≡ keptIn self (planned self (now (store .entry)) (now (body .entry)) index) ⌝ }
-        ensures { λ _. ⌜ now (store .exit) ≡ storedIn self (now (store .entry)) (planned self (now (store .entry)) (now (body .entry)) index) ⌝ }
+        ensures { λ r. ⌜ Puts self (now (store .entry)) (now (body .entry)) index r (now (store .exit)) ⌝ }
     {
         let lent = self.lent(store);
         match lent {
@@ -598,8 +616,7 @@ impl MessageCache {
 
     // Opens a window; what is in windows beyond history_len goes.
     pub fn shift(self, store: &[u8]) -> Shifted
-        ensures { λ r. ⌜ r .answer ≡ lentOf self (now (store .entry)) ⌝ }
-        ensures { λ r. ⌜ r .cache ≡ shiftCache self (now (store .entry)) ⌝ }
+        ensures { λ r. ⌜ Shifts self (now (store .entry)) r ⌝ }
     {
         let lent = self.lent(store);
         match lent {
@@ -708,9 +725,7 @@ impl MessageCache {
 
     // The distinct ids of the newest windows asked for that carry the topic, in byte order, a prefix first.
     pub fn gossip_ids(self, store: &[u8], topic: &[u8], windows: usize) -> GossipIds
-        ensures { λ r. ⌜ r .answer ≡ gossipAnswer self (now (store .entry)) (now (topic .entry)) ⌝ }
-        ensures { λ r. ⌜ r .count ≡ gossipCount self (now (store .entry)) (now (topic .entry)) windows ⌝ }
-        ensures { λ r. ⌜ r .rows ≡ gossipRows self (now (store .entry)) (now (topic .entry)) windows ⌝ }
+        ensures { λ r. ⌜ Gossips self (now (store .entry)) (now (topic .entry)) windows r ⌝ }
     {
         let lent = self.lent(store);
         match lent {
