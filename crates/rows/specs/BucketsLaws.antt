@@ -3,7 +3,7 @@
 use Prim.Native.Nat.{ℕ, suc, _+_, _-_, _*_, _%_, _≤_, _<_}
 use mathlib.Core.Path.{_≡_, sym, ap, _∙_}
 use mathlib.Core.List.{List, [], _∷_}
-use mathlib.Core.Bool.{false}
+use mathlib.Core.Bool.{false, cond}
 use native.Mathlib.Omega.{arith}
 use lib.ListN.{length, drop, getD, set, drop-of-length-le}
 use lib.Seq.{drop-cons, getD-set-same, getD-set-other}
@@ -44,9 +44,13 @@ bucket-all id i x h e = let z : i ≡ 0 = omega arith in rw z at e
 abbrev pub Met : List ℕ → List (List ℕ) → Type 0
 Met flags l = (id : List ℕ) → getD flags (bucketOf id) 0 ≡ 0 → among id l ≡ false
 
-pub met-flag : (flags : List ℕ) (l : List (List ℕ)) (id : List ℕ) (b : ℕ) → Met flags l → b ≡ bucketOf id
-    → getD flags b 0 ≡ 0 → among id l ≡ false
-met-flag flags l id b m e h = m id (rw e at h)
+-- so an id is looked for only where its bucket has been met
+pub met-again : (flags : List ℕ) (l : List (List ℕ)) (id : List ℕ) (b : ℕ) → Met flags l → b ≡ bucketOf id
+    → cond (eqb (getD flags b 0) 0) false (among id l) ≡ among id l
+met-again flags l id b m e =
+    either (eqb (getD flags b 0) 0)
+    (λ t. let h : getD flags b 0 ≡ 0 = eqb-true (getD flags b 0) 0 t in rw t (sym (m id (rw e at h))))
+    (λ t. rw t)
 
 -- one id more, whose flag is set
 met-cons : (flags : List ℕ) (j : List ℕ) (l : List (List ℕ)) → bucketOf j < length flags → Met flags l

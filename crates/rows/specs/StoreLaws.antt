@@ -1,16 +1,16 @@
 -- Laws of ids in a store: where a row lies, one step of each walk over the rows, what the tests say of each row, and
 -- what a row more or some rows less leave.
-use Prim.Native.Nat.{ℕ, zero, suc, _+_, _-_, _*_, _≤_, _<_}
+use Prim.Native.Nat.{ℕ, zero, suc, _+_, _-_, _*_, _/_, _≤_, _<_, min}
 use mathlib.Core.Path.{_≡_, refl, sym, ap, _∙_}
 use mathlib.Core.List.{List, [], _∷_}
 use mathlib.Core.Bool.{true, false}
 use native.Mathlib.Omega.{arith}
-use native.Mathlib.Nat.{mul-le-mul-right, suc-mul, zero-lt-suc}
-use lib.ListN.{length, take, drop, getD, set, length-drop, length-set}
-use lib.Seq.{sets, length-sets, getD-set-same, getD-set-other}
+use native.Mathlib.Nat.{mul-le-mul, mul-le-mul-right, suc-mul, zero-lt-suc, div-lt-iff-lt-mul, le-div-iff-mul-le}
+use lib.ListN.{length, take, drop, getD, set, length-drop, length-set, drop-of-length-le}
+use lib.Seq.{sets, length-sets, getD-set-same, getD-set-other, take-all, take-nil}
 use lib.Dec.{leb, ltb}
 use borrow.Author.Count.{below-more}
-use borrow.Author.Tests.{le-leb, lt-leb, leb-true, ltb-true, ltb-false, lt-ltb, le-ltb}
+use borrow.Author.Tests.{le-leb, lt-leb, leb-true, leb-false, ltb-true, ltb-false, lt-ltb, le-ltb}
 use Rattle.basis.specs.Cases.{either, clash}
 use Rattle.rows.specs.declared.Ring.{Ring}
 use Rattle.rows.specs.Rows.{tab, placeOf, rowsIn, without, oneMore}
@@ -34,6 +34,42 @@ row-fits size cap p n m h k r =
     let a : suc p * size ≤ cap * size = mul-le-mul-right size h in
     let b : suc p * size ≡ p * size + size = suc-mul p size in
     omega arith
+
+-- where a place begins: the product of two numbers below 2^32 fits a word, and a larger one is divided for
+pub product-fits : (p size : ℕ) → p < 4294967296 → size < 4294967296 → p * size < 18446744073709551616
+product-fits p size h k =
+    let a : p ≤ 4294967295 = omega arith in
+    let b : size ≤ 4294967295 = omega arith in
+    let m : p * size ≤ 4294967295 * 4294967295 = mul-le-mul a b in
+    omega arith
+
+pub product-past : (p size end : ℕ) → (size ≡ 0 → ⊥) → end / size < p → end < p * size
+product-past p size end some h = div-lt-iff-lt-mul {k = size} {x = end} {y = p} (omega (arith, some)) .0 h
+
+pub product-within : (p size end : ℕ) → (size ≡ 0 → ⊥) → p ≤ end / size → p * size ≤ end
+product-within p size end some h = le-div-iff-mul-le {k = size} {x = p} {y = end} (omega (arith, some)) .0 h
+
+-- the id in a place, cut at the store's end
+pub id-cut : (size : ℕ) (lens st : List ℕ) (p b n m : ℕ) → b ≡ min (p * size) (length st) → n ≡ getD lens p 0
+    → m ≡ min n (length st - b)
+    → take ((b + m) - b) (drop b st) ≡ idAt size lens st p
+unfolding idAt
+id-cut size lens st p b n m eb en em =
+    let k : (b + m) - b ≡ m = omega arith in
+    rw (k, ← en)
+    (either (leb (p * size) (length st))
+    (λ t. let h = leb-true (p * size) (length st) t in
+    let e : b ≡ p * size = omega arith in
+    rw (← e)
+    (either (leb n (length st - b))
+    (λ u. let g = leb-true n (length st - b) u in
+    let f : m ≡ n = omega arith in
+    rw f)
+    (λ u. let g = leb-false n (length st - b) u in
+    let l : length (drop b st) ≡ length st - b = length-drop b st in
+    take-all m (drop b st) (omega arith) ∙ sym (take-all n (drop b st) (omega arith)))))
+    (λ t. let h = leb-false (p * size) (length st) t in
+    rw (drop-of-length-le st {i = b} (omega arith), drop-of-length-le st {i = p * size} (omega arith), take-nil m, take-nil n)))
 
 -- ---- numbers in use
 module _ (most : ℕ) (ring : Ring) (l : List ℕ) (i : ℕ) (inv : allUpTo most (drop i (inUse ring l)) ≡ allUpTo most
@@ -87,53 +123,34 @@ index-among i (j ∷ js) =
     below m n = either (ltb m n) (λ t. t ∙ sym (lt-ltb (suc m) (suc n) (let h = ltb-true m n t in omega arith)))
         (λ t. t ∙ sym (le-ltb (suc m) (suc n) (let h = ltb-false m n t in omega arith)))
 
--- the i-th row: its place has a length, and lies within the store
-pub row-within : (size : ℕ) (ring : Ring) (lens st : List ℕ) (i p : ℕ) → Sound size ring lens st → i < ring .count
-    → p ≡ placeOf ring i → (p < length lens) × (p * size + getD lens p 0 ≤ length st)
-row-within size ring lens st i p ok h e =
-    let b = place-in (ok .rows) i p (omega (arith, ok .rows .within)) e in
-    let n : getD lens p 0 ≤ size = rw e (ok .short i h) in
-    (b .1, row-fits size (ring .cap) p (getD lens p 0) (length st) (b .0) n (ok .room))
-
--- the bytes of the i-th row
-pub row-id : (size : ℕ) (ring : Ring) (lens st : List ℕ) (i p : ℕ) → p ≡ placeOf ring i
-    → take ((p * size + getD lens p 0) - p * size) (drop (p * size) st) ≡ idAt size lens st (placeOf ring i)
-unfolding idAt
-row-id size ring lens st i p e =
-    let k : (p * size + getD lens p 0) - p * size ≡ getD lens p 0 = omega arith in
-    rw (k, e)
-
 -- ---- what is found says whether an id is among those from the k-th on
-shifted : (a b r count k : ℕ) → r ≡ k + a → b ≡ count - k → k ≤ count → ltb a b ≡ ltb r count
-shifted a b r count k e f h =
+shifted : (a b r count k : ℕ) → r ≡ k + a → b ≡ count - k → ltb a b ≡ ltb r count
+shifted a b r count k e f =
     either (ltb a b) (λ t. let l = ltb-true a b t in t ∙ sym (lt-ltb r count (omega arith)))
     (λ t. let l = ltb-false a b t in t ∙ sym (le-ltb r count (omega arith)))
 
-pub find-among : (size : ℕ) (ring : Ring) (lens st id : List ℕ) (k r : ℕ) → k ≤ ring .count
+pub find-among : (size : ℕ) (ring : Ring) (lens st id : List ℕ) (k r : ℕ)
     → r ≡ k + indexOf id (drop k (idsIn size ring lens st))
     → among id (drop k (idsIn size ring lens st)) ≡ ltb r (ring .count)
 unfolding idsIn
-find-among size ring lens st id k r h e =
+find-among size ring lens st id k r e =
     let ids : List (List ℕ) = rowsIn (idAt size lens st) ring in
     let l : length (drop k ids) ≡ ring .count - k =
     length-drop k ids ∙ ap (λ (n : ℕ). n - k) (length-ring (idAt size lens st) ring) in
-    index-among id (drop k ids) ∙ shifted (indexOf id (drop k ids)) (length (drop k ids)) r (ring .count) k e l h
+    index-among id (drop k ids) ∙ shifted (indexOf id (drop k ids)) (length (drop k ids)) r (ring .count) k e l
 
 -- ---- ids that differ, from the newest to the oldest: the row before the i-th
 module _ (size : ℕ) (ring : Ring) (lens st : List ℕ) (i p : ℕ) (h : 0 < i) (k : i ≤ ring .count)
-    (e : p ≡ placeOf ring (i - 1)) where
+    (e : p ≡ placeOf ring (i - 1)) (id : List ℕ) (f : id ≡ idAt size lens st p) where
   abbrev ids : List (List ℕ)
   ids = idsIn size ring lens st
-
-  abbrev id : List ℕ
-  id = take ((p * size + getD lens p 0) - p * size) (drop (p * size) st)
 
   pub row-before : drop (i - 1) ids ≡ id ∷ drop i ids
   unfolding idsIn
   row-before =
       let n : (i - 1) + 1 ≡ i = omega arith in
       ring-from (idAt size lens st) ring (i - 1) (omega arith)
-      ∙ ap (λ (x : List ℕ). x ∷ drop ((i - 1) + 1) ids) (sym (row-id size ring lens st (i - 1) p e))
+      ∙ ap (λ (x : List ℕ). x ∷ drop ((i - 1) + 1) ids) (sym (f ∙ ap (idAt size lens st) e))
       ∙ ap (λ (m : ℕ). id ∷ drop m ids) n
 
   pub differ-more : among id (drop i ids) ≡ false → distinct (drop i ids) ≡ true → distinct (drop (i - 1) ids) ≡ true

@@ -1,12 +1,13 @@
 // Fixed rows in age order, for the caches: where a row stands in a ring of places, and comparing ids by their bytes.
 ghost use mathlib.Core.Path.{_≡_};
-ghost use mathlib.Core.Bool.{false};
-ghost use Prim.Native.Nat.{_+_, _-_, _≤_};
-ghost use lib.ListN.{drop};
+ghost use mathlib.Core.Bool.{false, cond};
+ghost use Prim.Native.Nat.{_+_, _-_, _*_, min};
+ghost use lib.ListN.{drop, getD};
+ghost use lib.Dec.{eqb};
 ghost use Rattle.rows.specs.Rows.{placeOf};
 ghost use Rattle.rows.specs.Ids.{sameBytes, precedesBytes, indexOf, among, distinct};
 ghost use Rattle.rows.specs.Buckets.{bucketOf};
-ghost use Rattle.rows.specs.Store.{InStore, Sound, inUse, idsIn, allUpTo};
+ghost use Rattle.rows.specs.Store.{inUse, idAt, idsIn, allUpTo};
 
 // A lent store has `cap` places of one size; `count` of them are in use, from `start` on and from the last place to the first, the oldest first.
 pub struct Ring {
@@ -37,6 +38,69 @@ pub fn place(ring: Ring, i: usize) -> usize
         return ring.start + i;
     }
     i - behind
+}
+
+// What stands at a place of an array; 0 past its end.
+pub fn byte_at(l: &[u8], i: usize) -> u8
+    ensures { λ r. ⌜ r ≡ getD (now (l .entry)) i 0 ⌝ }
+{
+    if i < l.len() {
+        return l[i];
+    }
+    0
+}
+
+pub fn short_at(l: &[u16], i: usize) -> u16
+    ensures { λ r. ⌜ r ≡ getD (now (l .entry)) i 0 ⌝ }
+{
+    if i < l.len() {
+        return l[i];
+    }
+    0
+}
+
+pub fn number_at(l: &[u64], i: usize) -> u64
+    ensures { λ r. ⌜ r ≡ getD (now (l .entry)) i 0 ⌝ }
+{
+    if i < l.len() {
+        return l[i];
+    }
+    0
+}
+
+// Where place p of places of one size begins; the end where that is not before it. The product of two numbers below 2^32 fits; only a larger one
+// is divided for.
+fn begin_of(p: usize, size: usize, end: usize) -> usize
+    ensures { λ r. ⌜ r ≡ min (p * size) end ⌝ }
+{
+    if p < 4294967296 {
+        if size < 4294967296 {
+            return least(p * size, end);
+        }
+    }
+    if size == 0 {
+        return 0;
+    }
+    if end / size < p {
+        return end;
+    }
+    p * size
+}
+
+fn least(a: usize, b: usize) -> usize
+    ensures { λ r. ⌜ r ≡ min a b ⌝ }
+{
+    if a < b { a } else { b }
+}
+
+// The id in a place of a store: empty past the end of the lengths, and cut at the end of the store.
+pub fn id_at<'l, 's>(lens: &'l [u8], ids: &'s [u8], size: usize, p: usize) -> &'s [u8]
+    ensures { λ r. ⌜ now r ≡ idAt size (now (lens .entry)) (now (ids .entry)) p ⌝ }
+{
+    let begin = begin_of(p, size, ids.len());
+    let n = byte_at(lens, p) as usize;
+    let end = begin + least(n, ids.len() - begin);
+    &ids[begin..end]
 }
 
 // Whether two parts hold the same bytes. Ids of one publisher differ at their ends, so the last bytes are compared first.
@@ -75,13 +139,12 @@ pub fn precedes(a: &[u8], b: &[u8]) -> bool
 
 // Whether the lengths in use are at most `most`.
 pub fn all_within(lens: &[u8], ring: Ring, most: u8) -> bool
-    requires { ⌜ InStore ring (now lens) ⌝ }
     ensures { λ r. ⌜ r ≡ allUpTo most (inUse ring (now (lens .entry))) ⌝ }
 {
     let mut i = 0;
     while i < ring.count {
         let p = place(ring, i);
-        if most < lens[p] {
+        if most < byte_at(lens, p) {
             return false;
         }
         i += 1;
@@ -91,16 +154,12 @@ pub fn all_within(lens: &[u8], ring: Ring, most: u8) -> bool
 
 // Which row from the `from`-th on holds an id first, counted from the oldest; `count` where none does.
 pub fn find_from(lens: &[u8], ids: &[u8], size: usize, ring: Ring, from: usize, id: &[u8]) -> usize
-    requires { ⌜ Sound size ring (now lens) (now ids) ⌝ }
-    requires { ⌜ from ≤ ring .count ⌝ }
     ensures { λ r. ⌜ r ≡ from + indexOf (now (id .entry)) (drop from (idsIn size ring (now (lens .entry)) (now (ids .entry)))) ⌝ }
 {
     let mut i = from;
     while i < ring.count {
         let p = place(ring, i);
-        let base = p * size;
-        let end = base + lens[p] as usize;
-        if same(&ids[base..end], id) {
+        if same(id_at(lens, ids, size, p), id) {
             return i;
         }
         i += 1;
@@ -121,12 +180,9 @@ fn bucket(id: &[u8]) -> usize
     x
 }
 
-// Whether an id stands in a row from the `from`-th on, where its bucket's flag is 0 only if it does not.
+// Whether an id's bucket has been met and the id stands in a row from the `from`-th on.
 fn again(lens: &[u8], ids: &[u8], size: usize, ring: Ring, from: usize, id: &[u8], flag: u8) -> bool
-    requires { ⌜ Sound size ring (now lens) (now ids) ⌝ }
-    requires { ⌜ from ≤ ring .count ⌝ }
-    requires { ⌜ (flag ≡ 0 → among (now id) (drop from (idsIn size ring (now lens) (now ids))) ≡ false) ⌝ }
-    ensures { λ r. ⌜ r ≡ among (now (id .entry)) (drop from (idsIn size ring (now (lens .entry)) (now (ids .entry)))) ⌝ }
+    ensures { λ r. ⌜ r ≡ cond (eqb flag 0) false (among (now (id .entry)) (drop from (idsIn size ring (now (lens .entry)) (now (ids .entry))))) ⌝ }
 {
     if flag == 0 {
         return false;
@@ -138,7 +194,6 @@ fn again(lens: &[u8], ids: &[u8], size: usize, ring: Ring, from: usize, id: &[u8
 // Whether no id stands in two rows. From the newest to the oldest: equal ids have one bucket, so an id is looked for in the later rows only where
 // its bucket has been met.
 pub fn ids_differ(lens: &[u8], ids: &[u8], size: usize, ring: Ring) -> bool
-    requires { ⌜ Sound size ring (now lens) (now ids) ⌝ }
     ensures { λ r. ⌜ r ≡ distinct (idsIn size ring (now (lens .entry)) (now (ids .entry))) ⌝ }
 {
     let mut met = [0u8; BUCKETS];
@@ -147,9 +202,7 @@ pub fn ids_differ(lens: &[u8], ids: &[u8], size: usize, ring: Ring) -> bool
         let next = i;
         i = i - 1;
         let p = place(ring, i);
-        let base = p * size;
-        let end = base + lens[p] as usize;
-        let id = &ids[base..end];
+        let id = id_at(lens, ids, size, p);
         let b = bucket(id);
         if again(lens, ids, size, ring, next, id, met[b]) {
             return false;

@@ -1,37 +1,30 @@
 use denote.Ref.{now}
-use Prim.Native.Nat.{_-_, _≤_}
-use mathlib.Core.Path.{_≡_, refl, sym}
-use lib.ListN.{drop}
-use native.Mathlib.Omega.{arith}
+use Prim.Native.Nat.{_-_}
+use mathlib.Core.Path.{_≡_, refl, sym, _∙_, ap}
+use lib.ListN.{drop, getD}
 use Rattle.rows.specs.Store.{allUpTo, inUse}
-use Rattle.rows.specs.RowsLaws.{place-lt}
 use Rattle.rows.specs.StoreLaws.{within-more, within-not, within-all}
 use borrow.Author.Needs.{needs}
 use Rattle.rows.proofs.all_within.Statement.{statement}
 use Rattle.rows.proofs.all_within.Tie as tie
 
 abbrev Inv-loop : tie.InvT-loop
-Inv-loop lens ring most i₀ i = (i ≤ ring .count) × (allUpTo most (drop i (inUse ring lens)) ≡ allUpTo most (inUse ring lens))
+Inv-loop lens ring most i₀ i = allUpTo most (drop i (inUse ring lens)) ≡ allUpTo most (inUse ring lens)
 
 abbrev μ-loop : tie.MeasureT-loop
 μ-loop lens ring most i₀ i = ring .count - i
 
 loop-holds : tie.Need-loop-holds Inv-loop μ-loop
-loop-holds c = (omega arith, refl)
+loop-holds c = refl
 
 place-requires : tie.Need-place-requires Inv-loop μ-loop
 place-requires c κs = search needs
 
-shared-slice-read-if2 : tie.Need-shared-slice-read-if2 Inv-loop μ-loop
-shared-slice-read-if2 c = let l = place-lt (c .before .before .before .before .before .before .args .ring) (c .before .before .before .before .loop .i)
-    ((c .before .before .before .before .before .before .pre .starts)) (omega (arith, (c .before .before .before .before .before .before .pre .within))) in
-    let e = (c .before .place .ensures) in omega (arith, (c .before .before .before .before .before .before .pre .size))
+byte-at-requires : tie.Need-byte-at-requires Inv-loop μ-loop
+byte-at-requires c κs = search needs
 
 returns : tie.Need-returns Inv-loop μ-loop
-returns c = within-not (c .before .before .before .before .before .before .before .args .most)
-    (c .before .before .before .before .before .before .before .args .ring) (now (c .before .before .before .before .before .before .before .args .lens))
-    (c .before .before .before .before .before .loop .i) ((c .before .before .before .before .before .loop .inv .1)) (c .before .before .before .if1 .taken)
-    (rw (sym (c .before .before .place .ensures)) (c .if2 .taken))
+returns c = within-not (c .before .before .before .before .before .before .before .args .most) (c .before .before .before .before .before .before .before .args .ring) (now (c .before .before .before .before .before .before .before .args .lens)) (c .before .before .before .before .before .loop .i) (c .before .before .before .before .before .loop .inv) (c .before .before .before .if1 .taken) (rw (← c .before .before .place .ensures, ← c .before .byte-at .ensures) (c .if2 .taken))
 
 add-i : tie.Need-add-i Inv-loop μ-loop
 add-i c = search needs
@@ -40,16 +33,10 @@ loop-less : tie.Need-loop-less Inv-loop μ-loop
 loop-less c = search needs
 
 loop-again : tie.Need-loop-again Inv-loop μ-loop
-loop-again c = (
-  omega arith,
-  within-more (c .before .before .before .before .before .before .before .args .most) (c .before .before .before .before .before .before .before .args .ring)
-      (now (c .before .before .before .before .before .before .before .args .lens)) (c .before .before .before .before .before .loop .i)
-      ((c .before .before .before .before .before .loop .inv .1)) (c .before .before .before .if1 .taken)
-      (rw (sym (c .before .before .place .ensures)) (c .if2 .left)),
-)
+loop-again c = within-more (c .before .before .before .before .before .before .before .args .most) (c .before .before .before .before .before .before .before .args .ring) (now (c .before .before .before .before .before .before .before .args .lens)) (c .before .before .before .before .before .loop .i) (c .before .before .before .before .before .loop .inv) (c .before .before .before .if1 .taken) (rw (← c .before .before .place .ensures, ← c .before .byte-at .ensures) (c .if2 .left))
 
 returns-2 : tie.Need-returns-2 Inv-loop μ-loop
-returns-2 c = within-all (c .before .before .before .before .args .most) (c .before .before .before .before .args .ring) (now (c .before .before .before .before .args .lens)) (c .before .before .loop .i) ((c .before .before .loop .inv .1)) (c .if1 .left)
+returns-2 c = within-all (c .before .before .before .before .args .most) (c .before .before .before .before .args .ring) (now (c .before .before .before .before .args .lens)) (c .before .before .loop .i) (c .before .before .loop .inv) (c .if1 .left)
 
 pub all-within-spec : {M : Type 1} → statement M
 all-within-spec =
@@ -59,7 +46,7 @@ all-within-spec =
     μ-loop
     loop-holds
     place-requires
-    shared-slice-read-if2
+    byte-at-requires
     returns
     add-i
     loop-less

@@ -1,5 +1,5 @@
 use denote.Ref.{now}
-use Prim.Native.Nat.{_-_, _≤_}
+use Prim.Native.Nat.{_≤_}
 use mathlib.Core.Path.{_≡_, refl, sym, _∙_}
 use mathlib.Core.Bool.{true}
 use lib.ListN.{length, drop, length-set}
@@ -7,9 +7,9 @@ use native.Mathlib.Omega.{arith}
 use Rattle.rows.specs.Ids.{distinct}
 use Rattle.rows.specs.IdsLaws.{among-none}
 use Rattle.rows.specs.Store.{idsIn}
-use Rattle.rows.specs.StoreLaws.{row-within, row-before, differ-more, differ-not, ids-end, differ-none, differ-all}
+use Rattle.rows.specs.StoreLaws.{row-before, differ-more, differ-not, ids-end, differ-none, differ-all}
 use Rattle.rows.specs.Buckets.{buckets}
-use Rattle.rows.specs.BucketsLaws.{Met, bucket-in, met-flag, met-more}
+use Rattle.rows.specs.BucketsLaws.{Met, bucket-in, met-again, met-more}
 use borrow.Author.Needs.{needs}
 use Rattle.rows.proofs.ids_differ.Statement.{statement}
 use Rattle.rows.proofs.ids_differ.Tie as tie
@@ -29,37 +29,8 @@ sub-i c = search needs
 place-requires : tie.Need-place-requires Inv-loop μ-loop
 place-requires c κs = search needs
 
-mul-base : tie.Need-mul-base Inv-loop μ-loop
-mul-base c = let w = row-within (c .before .before .before .before .before .args .size) (c .before .before .before .before .before .args .ring)
-    (now (c .before .before .before .before .before .args .lens)) (now (c .before .before .before .before .before .args .ids))
-    ((c .before .before .loop .i) - 1) (c .place .result) (c .before .before .before .before .before .pre) (omega arith) (c .place .ensures) in search needs
-
-shared-slice-read-end : tie.Need-shared-slice-read-end Inv-loop μ-loop
-shared-slice-read-end c = let w = row-within (c .before .before .before .before .before .before .args .size)
-    (c .before .before .before .before .before .before .args .ring) (now (c .before .before .before .before .before .before .args .lens))
-    (now (c .before .before .before .before .before .before .args .ids)) ((c .before .before .before .loop .i) - 1) (c .before .place .result)
-    (c .before .before .before .before .before .before .pre) (omega arith) (c .before .place .ensures) in omega arith
-
-cast-end : tie.Need-cast-end Inv-loop μ-loop
-cast-end c = omega (arith, (c .shared-slice-known3 .given) (c .before .place .result))
-
-add-end : tie.Need-add-end Inv-loop μ-loop
-add-end c = let w = row-within (c .before .before .before .before .before .before .args .size) (c .before .before .before .before .before .before .args .ring)
-    (now (c .before .before .before .before .before .before .args .lens)) (now (c .before .before .before .before .before .before .args .ids))
-    ((c .before .before .before .loop .i) - 1) (c .before .place .result) (c .before .before .before .before .before .before .pre) (omega arith)
-    (c .before .place .ensures) in search needs
-
-sub-id : tie.Need-sub-id Inv-loop μ-loop
-sub-id c = search needs
-
-part-id-start : tie.Need-part-id-start Inv-loop μ-loop
-part-id-start c = search needs
-
-part-id-end : tie.Need-part-id-end Inv-loop μ-loop
-part-id-end c = let w = row-within (c .before .before .before .before .before .before .args .size)
-    (c .before .before .before .before .before .before .args .ring) (now (c .before .before .before .before .before .before .args .lens))
-    (now (c .before .before .before .before .before .before .args .ids)) ((c .before .before .before .loop .i) - 1) (c .before .place .result)
-    (c .before .before .before .before .before .before .pre) (omega arith) (c .before .place .ensures) in omega arith
+id-at-requires : tie.Need-id-at-requires Inv-loop μ-loop
+id-at-requires c κs = search needs
 
 bucket-requires : tie.Need-bucket-requires Inv-loop μ-loop
 bucket-requires c κs = search needs
@@ -68,16 +39,10 @@ array-read-again : tie.Need-array-read-again Inv-loop μ-loop
 array-read-again c = bucket-in _ (c .bucket .result) (c .bucket .ensures)
 
 again-requires : tie.Need-again-requires Inv-loop μ-loop
-again-requires c κs = ((c .before .before .before .before .before .before .before .before .pre), ((c .before .before .before .before .before .loop .inv .0), met-flag (c .before .before .before .before .before .loop .met) _ _ (c .bucket .result) (c .before .before .before .before .before .loop .inv .1 .1 .1) (c .bucket .ensures)))
+again-requires c κs = search needs
 
 returns : tie.Need-returns Inv-loop μ-loop
-returns c = differ-not (c .before .before .before .before .before .before .before .before .before .before .args .size)
-    (c .before .before .before .before .before .before .before .before .before .before .args .ring)
-    (now (c .before .before .before .before .before .before .before .before .before .before .args .lens))
-    (now (c .before .before .before .before .before .before .before .before .before .before .args .ids))
-    (c .before .before .before .before .before .before .before .loop .i) (c .before .before .before .before .before .place .result)
-    (c .before .before .before .before .before .before .loop-test .taken) (c .before .before .before .before .before .before .before .loop .inv .0)
-    (c .before .before .before .before .before .place .ensures) (sym (c .before .again .ensures) ∙ (c .if1 .taken))
+returns c = differ-not (c .before .before .before .before .before .before .before .before .before .args .size) (c .before .before .before .before .before .before .before .before .before .args .ring) (now (c .before .before .before .before .before .before .before .before .before .args .lens)) (now (c .before .before .before .before .before .before .before .before .before .args .ids)) (c .before .before .before .before .before .before .loop .i) (c .before .before .before .before .place .result) (c .before .before .before .before .before .loop-test .taken) (c .before .before .before .before .before .before .loop .inv .0) (c .before .before .before .before .place .ensures) (now (c .before .before .before .id-at .result)) (c .before .before .before .id-at .ensures) (sym (met-again (c .before .before .before .before .before .before .loop .met) _ (now (c .before .before .before .id-at .result)) (c .before .before .bucket .result) (c .before .before .before .before .before .before .loop .inv .1 .1 .1) (c .before .before .bucket .ensures)) ∙ sym (c .before .again .ensures) ∙ (c .if1 .taken))
 
 array-write-met : tie.Need-array-write-met Inv-loop μ-loop
 array-write-met c = bucket-in _ (c .before .before .bucket .result) (c .before .before .bucket .ensures)
@@ -89,28 +54,10 @@ loop-again : tie.Need-loop-again Inv-loop μ-loop
 loop-again c = (
   omega arith,
   (
-    length-set (c .before .before .before .before .before .before .before .loop .met) (c .before .before .bucket .result) 1
-        ∙ (c .before .before .before .before .before .before .before .loop .inv .1 .0),
+    length-set (c .before .before .before .before .before .before .loop .met) (c .before .before .bucket .result) 1 ∙ (c .before .before .before .before .before .before .loop .inv .1 .0),
     (
-      differ-more (c .before .before .before .before .before .before .before .before .before .before .args .size)
-          (c .before .before .before .before .before .before .before .before .before .before .args .ring)
-          (now (c .before .before .before .before .before .before .before .before .before .before .args .lens))
-          (now (c .before .before .before .before .before .before .before .before .before .before .args .ids))
-          (c .before .before .before .before .before .before .before .loop .i) (c .before .before .before .before .before .place .result)
-          (c .before .before .before .before .before .before .loop-test .taken) (c .before .before .before .before .before .before .before .loop .inv .0)
-          (c .before .before .before .before .before .place .ensures) (sym (c .before .again .ensures) ∙ (c .if1 .left))
-          (c .before .before .before .before .before .before .before .loop .inv .1 .1 .0),
-      met-more
-          (c .before .before .before .before .before .before .before .loop .met) (c .before .before .bucket .result) _ _ _
-          (row-before (c .before .before .before .before .before .before .before .before .before .before .args .size)
-          (c .before .before .before .before .before .before .before .before .before .before .args .ring)
-          (now (c .before .before .before .before .before .before .before .before .before .before .args .lens))
-          (now (c .before .before .before .before .before .before .before .before .before .before .args .ids))
-          (c .before .before .before .before .before .before .before .loop .i) (c .before .before .before .before .before .place .result)
-          (c .before .before .before .before .before .before .loop-test .taken) (c .before .before .before .before .before .before .before .loop .inv .0)
-          (c .before .before .before .before .before .place .ensures)) (c .before .before .bucket .ensures)
-          (c .before .before .before .before .before .before .before .loop .inv .1 .0)
-          (c .before .before .before .before .before .before .before .loop .inv .1 .1 .1),
+      differ-more (c .before .before .before .before .before .before .before .before .before .args .size) (c .before .before .before .before .before .before .before .before .before .args .ring) (now (c .before .before .before .before .before .before .before .before .before .args .lens)) (now (c .before .before .before .before .before .before .before .before .before .args .ids)) (c .before .before .before .before .before .before .loop .i) (c .before .before .before .before .place .result) (c .before .before .before .before .before .loop-test .taken) (c .before .before .before .before .before .before .loop .inv .0) (c .before .before .before .before .place .ensures) (now (c .before .before .before .id-at .result)) (c .before .before .before .id-at .ensures) (sym (met-again (c .before .before .before .before .before .before .loop .met) _ (now (c .before .before .before .id-at .result)) (c .before .before .bucket .result) (c .before .before .before .before .before .before .loop .inv .1 .1 .1) (c .before .before .bucket .ensures)) ∙ sym (c .before .again .ensures) ∙ (c .if1 .left)) (c .before .before .before .before .before .before .loop .inv .1 .1 .0),
+      met-more (c .before .before .before .before .before .before .loop .met) (c .before .before .bucket .result) _ _ _ (row-before (c .before .before .before .before .before .before .before .before .before .args .size) (c .before .before .before .before .before .before .before .before .before .args .ring) (now (c .before .before .before .before .before .before .before .before .before .args .lens)) (now (c .before .before .before .before .before .before .before .before .before .args .ids)) (c .before .before .before .before .before .before .loop .i) (c .before .before .before .before .place .result) (c .before .before .before .before .before .loop-test .taken) (c .before .before .before .before .before .before .loop .inv .0) (c .before .before .before .before .place .ensures) (now (c .before .before .before .id-at .result)) (c .before .before .before .id-at .ensures)) (c .before .before .bucket .ensures) (c .before .before .before .before .before .before .loop .inv .1 .0) (c .before .before .before .before .before .before .loop .inv .1 .1 .1),
     ),
   ),
 )
@@ -127,13 +74,7 @@ ids-differ-spec =
     loop-holds
     sub-i
     place-requires
-    mul-base
-    shared-slice-read-end
-    cast-end
-    add-end
-    sub-id
-    part-id-start
-    part-id-end
+    id-at-requires
     bucket-requires
     array-read-again
     again-requires
