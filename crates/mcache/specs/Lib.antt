@@ -2,7 +2,7 @@
 -- contracts).
 -- Cited by contracts, and joined to these by theorems: the other definitions of State and Calls, by Laws.
 -- Theorems: Laws, GossipLaws, FineLaws, WellFormedLaws, WrapLaws, Unique, Exactly, Readers.
--- On the way to them: StateLaws, CachedLaws, GatherLaws.
+-- On the way to them: StateLaws, CachedLaws, GatherLaws, GuardLaws.
 pub mod Told
 pub mod Messages
 pub mod State
@@ -10,6 +10,7 @@ pub mod Calls
 pub mod Unique
 pub mod WellFormed
 pub mod StateLaws
+pub mod GuardLaws
 pub mod CachedLaws
 pub mod Laws
 pub mod GossipLaws
