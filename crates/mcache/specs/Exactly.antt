@@ -125,8 +125,17 @@ module _ (c : MessageCache) (st : List ℕ) where
     by-lent lent.BadStore e = store-says e
     by-lent lent.Malformed e = malformed-says e
 
+    by-fine : (l : Lent) → lentOf c st ≡ l → (lentNumber l ≡ 0) ↔ WellFormed c st
+    by-fine lent.Fine e = (λ z. fine-well-formed c st y e, λ w. refl)
+    by-fine lent.BadStore e = (λ z. absurd (omega arith), λ w. clash (let q = sym e ∙ well-formed-fine c st w in cc))
+    by-fine lent.Malformed e = (λ z. absurd (omega arith), λ w. clash (let q = sym e ∙ well-formed-fine c st w in cc))
+
     pub lent-exactly : Exactly c st (lentNumber (lentOf c st))
     lent-exactly = by-lent (lentOf c st) refl
+
+    -- a state that is lent is fine exactly where it is well formed
+    pub fine-exactly : (lentNumber (lentOf c st) ≡ 0) ↔ WellFormed c st
+    fine-exactly = by-fine (lentOf c st) refl
 
     pub shift-exactly : (r : Shifted) → Shifts c st r → Exactly c st (lentNumber (r .answer))
     shift-exactly r s = rw (s .answer) lent-exactly
