@@ -8,11 +8,14 @@ use lib.ListN.{length, take, drop, getD, replicate}
 use lib.Seq.{sets, sets-eq, length-sets, take-at}
 use lib.Dec.{leb, ltb, eqb}
 use borrow.Author.Tests.{eq-eqb, ne-eqb, eqb-true, le-leb, lt-leb, leb-true, lt-ltb, le-ltb}
+use Rattle.basis.specs.declared.Written.the-variants as written
 use Rattle.basis.specs.Cases.{either, clash}
+use Rattle.basis.specs.Writing.{setIn}
+use Rattle.basis.specs.Lists.{answer-fits, answer-short, written-fits, written-short, set-fits}
 use Rattle.rows.specs.Rows.{placeOf}
 use Rattle.rows.specs.Ids.{distinct}
 use Rattle.rows.specs.RowsLaws.{place-lt}
-use Rattle.rows.specs.Store.{inUse, idsIn, allUpTo, InStore, Sound}
+use Rattle.rows.specs.Store.{inUse, idAt, idsIn, allUpTo, InStore}
 use Rattle.rows.specs.StoreLaws.{short-in}
 use Rattle.protobuf.specs.declared.WireError.{WireError}
 use Rattle.protobuf.specs.declared.Checked.the-variants as checked
@@ -24,19 +27,22 @@ use Rattle.admission.specs.declared.Unfit.{Unfit}
 use Rattle.admission.specs.declared.Admission.{Admission}
 use Rattle.admission.specs.declared.Admission.the-variants as admission
 use Rattle.admission.specs.Admission.{admissionOf}
-use Rattle.admission.specs.AdmissionLaws.{fit-parts, fit-limits, fit-id}
-use Rattle.ids.specs.IdLaws.{id-fits}
+use Rattle.admission.specs.AdmissionLaws.{fit-limits, fit-id}
 use Rattle.mcache.specs.declared.MessageCache.{MessageCache}
 use Rattle.mcache.specs.declared.Lent.{Lent}
 use Rattle.mcache.specs.declared.Lent.the-variants as lent
 use Rattle.mcache.specs.declared.Put.{Put}
 use Rattle.mcache.specs.declared.Put.the-variants as put
+use Rattle.mcache.specs.declared.PutDone.{PutDone}
 use Rattle.mcache.specs.declared.Lookup.the-variants as lookup
 use Rattle.mcache.specs.declared.Gossip.{Gossip}
+use Rattle.mcache.specs.declared.GossipIds.{GossipIds}
 use Rattle.mcache.specs.declared.Gossip.the-variants as gossip
-use Rattle.mcache.specs.State.{messageIn, fallsFrom, runsTo, givesIn, idsFit, rowsFit, legal, wellFormed, Laid, Usable, messageSize, messageIdSize, maxMessages, maxHistory, idsSize, ringOf}
-use Rattle.mcache.specs.Calls.{lentOf, indexIn, entered, enteredStore, planUnder, keptUnder, storedUnder, shifted, found, gossipList, gossipArray, Plan, no, keep, answered, keptIn, storedIn, planFit, planned, shiftCache, getPart, lookupAnswer, gossipAnswer, gossipCount, gossipRows}
+use Rattle.mcache.specs.State.{messageIn, fallsFrom, runsTo, givesIn, idsFit, rowsFit, legal, wellFormed, Laid, Placed, Usable, messageSize, messageIdSize, maxMessages, maxHistory, idsSize, ringOf}
+use Rattle.mcache.specs.Calls.{lentOf, indexIn, entered, enteredStore, keepable, planKept, planUnder, keptUnder, storedUnder, shifted, found, gossipList, gossipArray, Plan, no, keep, answered, keptIn, storedIn, planFit, planned, shiftCache, getPart, lookupAnswer, gossipAnswer, gossipCount, gossipRows}
+use Rattle.mcache.specs.Unique.{Puts, Keeps, Shifts, Gossips, Forms, WritesId}
 use Rattle.mcache.specs.StateLaws.{lent-kept}
+use Rattle.mcache.specs.GuardLaws.{lie-rows, when-keeps, keep-usable, form-fit}
 use Rattle.mcache.proofs.Walks.{part-from}
 
 -- ---- the rows
@@ -97,14 +103,6 @@ module _ (c : MessageCache) (st : List ℕ) where
           id-room = z;
           room = r;
           id-short = short-in messageIdSize (c .«id_len») (ringOf c) s;
-        }
-
-    pub sound-of : length (c .«id_len») ≡ maxMessages → length (c .ids) ≡ idsSize → shorts ≡ true → Sound messageIdSize (ringOf c) (c .«id_len») (c .ids)
-    sound-of y z s =
-        record {
-          rows = record { starts = starts; within = within; size = omega arith };
-          room = omega arith;
-          short = short-in messageIdSize (c .«id_len») (ringOf c) s;
         }
 
 -- ---- the lent state
@@ -207,29 +205,29 @@ module _ (c : MessageCache) (st id : List ℕ) where
 
 -- ---- shift
 module _ (c : MessageCache) (st : List ℕ) where
-  pub shift-store : lent.BadStore ≡ lentOf c st → (lent.BadStore ≡ lentOf c st) × (c ≡ shiftCache c st)
+  pub shift-store : lent.BadStore ≡ lentOf c st → Shifts c st (record { answer = lent.BadStore; cache = c })
   unfolding shiftCache
-  shift-store e = (e, rw (← e))
+  shift-store e = record { answer = e; cache = rw (← e) }
 
-  pub shift-malformed : lent.Malformed ≡ lentOf c st → (lent.Malformed ≡ lentOf c st) × (c ≡ shiftCache c st)
+  pub shift-malformed : lent.Malformed ≡ lentOf c st → Shifts c st (record { answer = lent.Malformed; cache = c })
   unfolding shiftCache
-  shift-malformed e = (e, rw (← e))
+  shift-malformed e = record { answer = e; cache = rw (← e) }
 
-  pub shift-fine : lent.Fine ≡ lentOf c st → (r : MessageCache) → r ≡ shifted c → (lent.Fine ≡ lentOf c st) × (r ≡ shiftCache c st)
+  pub shift-fine : lent.Fine ≡ lentOf c st → (r : MessageCache) → r ≡ shifted c → Shifts c st (record { answer = lent.Fine; cache = r })
   unfolding shiftCache
-  shift-fine e r h = (e, rw (← e) h)
+  shift-fine e r h = record { answer = e; cache = rw (← e) h }
 
 -- ---- gossip_ids
 abbrev Tells : (c : MessageCache) (st topic : List ℕ) (windows : ℕ) → Gossip → ℕ → List ℕ → Type 0
-Tells c st topic windows a n rows = (a ≡ gossipAnswer c st topic) × (n ≡ gossipCount c st topic windows) × (rows ≡ gossipRows c st topic windows)
+Tells c st topic windows a n rows = Gossips c st topic windows (record { answer = a; count = n; rows = rows })
 
 module _ (c : MessageCache) (st topic : List ℕ) (windows : ℕ) where
   untold : (a : Gossip) → gossipAnswer c st topic ≡ a → (a ≡ gossip.Ids → ⊥) → Tells c st topic windows a 0 (replicate maxMessages 0)
   unfolding gossipCount gossipRows
   untold gossip.Ids e n = absurd (n refl)
-  untold gossip.BadStore e n = (sym e, rw e, rw e)
-  untold gossip.Malformed e n = (sym e, rw e, rw e)
-  untold (gossip.TopicTooLong m) e n = (sym e, rw e, rw e)
+  untold gossip.BadStore e n = record { answer = sym e; count = rw e; rows = rw e }
+  untold gossip.Malformed e n = record { answer = sym e; count = rw e; rows = rw e }
+  untold (gossip.TopicTooLong m) e n = record { answer = sym e; count = rw e; rows = rw e }
 
   says-store : lent.BadStore ≡ lentOf c st → gossipAnswer c st topic ≡ gossip.BadStore
   unfolding gossipAnswer
@@ -259,17 +257,21 @@ module _ (c : MessageCache) (st topic : List ℕ) (windows : ℕ) where
   pub gossip-told : lent.Fine ≡ lentOf c st → length topic ≤ 1024 → (n : ℕ) (rows : List ℕ) → n ≡ length (gossipList c st topic windows) → rows ≡ gossipArray c st topic windows
       → Tells c st topic windows gossip.Ids n rows
   unfolding gossipCount gossipRows
-  gossip-told e h n rows f g = let s = says-ids e h in (sym s, rw s f, rw s g)
+  gossip-told e h n rows f g = let s = says-ids e h in record { answer = sym s; count = rw s f; rows = rw s g }
 
 -- ---- put
-abbrev Puts : MessageCache → List ℕ → Plan → Put → MessageCache → List ℕ → Type 0
-Puts c st plan a r s = (a ≡ answered plan) × (r ≡ keptIn c plan) × (s ≡ storedIn c st plan)
+-- what a plan says of the answer, the cache and the store
+abbrev Does : MessageCache → List ℕ → Plan → Put → MessageCache → List ℕ → Type 0
+Does c st plan a r s = (a ≡ answered plan) × ((r ≡ keptIn c plan) × (s ≡ storedIn c st plan))
 
-pub puts-no : (c : MessageCache) (st : List ℕ) (plan : Plan) (a : Put) → plan ≡ no a → Puts c st plan a c st
-puts-no c st plan a e = (rw e, rw e, rw e)
+pub puts-no : (c : MessageCache) (st : List ℕ) (plan : Plan) (a : Put) → plan ≡ no a → Does c st plan a c st
+puts-no c st plan a e = (rw e, (rw e, rw e))
 
-pub puts-as : (c : MessageCache) (st : List ℕ) (plan other : Plan) (a : Put) (r : MessageCache) (s : List ℕ) → plan ≡ other → Puts c st other a r s → Puts c st plan a r s
-puts-as c st plan other a r s e p = (rw e (p .0), rw e (p .1), rw e (p .2))
+pub puts-as : (c : MessageCache) (st : List ℕ) (plan other : Plan) (a : Put) (r : MessageCache) (s : List ℕ) → plan ≡ other → Does c st other a r s → Does c st plan a r s
+puts-as c st plan other a r s e p = (rw e (p .0), (rw e (p .1 .0), rw e (p .1 .1)))
+
+pub put-done : (c : MessageCache) (st body : List ℕ) (i : ℕ) (r : PutDone) (left : List ℕ) → Does c st (planned c st body i) (r .answer) (r .cache) left → Puts c st body i r left
+put-done c st body i r left p = record { answer = p .0; cache = p .1 .0; store = p .1 .1 }
 
 module _ (c : MessageCache) (p : List ℕ) where
   pub plan-unfit : (why : Unfit) → admission.Unfit why ≡ admissionOf p true → planFit c p (admissionOf p true) ≡ no (put.Unfit why)
@@ -301,21 +303,16 @@ module _ (c : MessageCache) (st : List ℕ) (h : lent.Fine ≡ lentOf c st) (g :
   pub tested : Usable c st
   tested = lent-kept c st (sym h) (record { generations = g; windows = w; lengths = l; id-lengths = i; id-room = r })
 
-  pub kept-ring : InStore (ringOf c) (c .window)
-  kept-ring = let k = tested .rows in record { starts = k .starts; within = k .within; size = omega (arith, k .few) }
-
-pub told-as : (c : MessageCache) (st topic : List ℕ) (windows : ℕ) {a b : Gossip} {n : ℕ} {rows : List ℕ} → (a ≡ b) × ((n ≡ 0) × (rows ≡ replicate maxMessages 0)) → Tells c st topic windows b 0 (replicate maxMessages 0)
-    → (a ≡ gossipAnswer c st topic) × ((n ≡ gossipCount c st topic windows) × (rows ≡ gossipRows c st topic windows))
-told-as c st topic windows e t = (e .0 ∙ t .0, (e .1 .0 ∙ t .1, e .1 .1 ∙ t .2))
+pub told-as : (c : MessageCache) (st topic : List ℕ) (windows : ℕ) (b : Gossip) (r : GossipIds) → (r .answer ≡ b) × ((r .count ≡ 0) × (r .rows ≡ replicate maxMessages 0))
+    → Tells c st topic windows b 0 (replicate maxMessages 0) → Gossips c st topic windows r
+told-as c st topic windows b r e t = record { answer = e .0 ∙ t .answer; count = e .1 .0 ∙ t .count; rows = e .1 .1 ∙ t .rows }
 
 -- ---- the id of a message that may be taken
 module _ (p : List ℕ) (a e b f : ℕ) (h : admissionOf p true ≡ admission.Fit a e b f) where
-  pub fit-room : (out : List ℕ) → length out ≡ messageIdSize → ((a ≤ e) × (e ≤ length p) × (b ≤ f) × (f ≤ length p)) × (length (idBytes p a e b f) ≤ length out)
-  fit-room out z =
-      let w = id-fits p a e b f (fit-parts p true a e b f h) in
-      ((w .from .0, w .from .1, w .seqno .0, w .seqno .1), omega (arith, fit-id p true a e b f h))
+  module _ (n : ℕ) (first out : List ℕ) (z : length first ≡ messageIdSize) (forms : Forms p a e b f first n out) where
+    k : (n ≡ length (idBytes p a e b f)) × (out ≡ sets first 0 (idBytes p a e b f))
+    k = form-fit p true a e b f first n out h (omega (arith, fit-id p true a e b f h)) forms
 
-  module _ (n : ℕ) (first out : List ℕ) (z : length first ≡ messageIdSize) (k : (n ≡ length (idBytes p a e b f)) × (out ≡ sets first 0 (idBytes p a e b f))) where
     pub id-whole : take n out ≡ idBytes p a e b f
     id-whole =
         let l = fit-id p true a e b f h in
@@ -327,26 +324,49 @@ module _ (p : List ℕ) (a e b f : ℕ) (h : admissionOf p true ≡ admission.Fi
     pub id-counts : n ≡ length (take n out)
     id-counts = k .0 ∙ sym (ap length id-whole)
 
-    pub id-small : (length p ≤ messageSize) × (length (take n out) ≤ messageIdSize)
+    id-small : (length p ≤ messageSize) × (length (take n out) ≤ messageIdSize)
     id-small = let l = fit-id p true a e b f h in (fit-limits p true a e b f h .small, omega (arith, id-counts, k .0))
 
     -- a put under that id is a put of the message
-    pub put-under : (c : MessageCache) (st : List ℕ) {x : Put} {r : MessageCache} {s : List ℕ}
-        → (x ≡ answered (planUnder c p (take n out))) × ((r ≡ keptUnder p (take n out) c) × (s ≡ storedUnder c st p (take n out)))
-        → (x ≡ answered (planFit c p (admissionOf p true))) × ((r ≡ keptIn c (planFit c p (admissionOf p true))) × (s ≡ storedIn c st (planFit c p (admissionOf p true))))
+    pub put-under : (c : MessageCache) (st : List ℕ) → Usable c st → (r : PutDone) (s : List ℕ) → Keeps c st p (take n out) r s
+        → Does c st (planFit c p (admissionOf p true)) (r .answer) (r .cache) s
     unfolding keptUnder storedUnder
-    put-under c st g = rw (h, ← id-whole) g
-
-pub nested : {A B C : Type 0} → A × B × C → A × (B × C)
-nested t = (t .0, (t .1, t .2))
+    put-under c st u r s g = rw (h, ← id-whole) (keep-usable c st p (take n out) (id-small .0) (id-small .1) u r s g)
 
 -- ---- a message under its id
-module _ (c : MessageCache) (st m id : List ℕ) (r : ℕ) (e : r ≡ indexIn c id) where
-  pub under-held : r < c .count → (put.Held ≡ answered (planUnder c m id)) × ((c ≡ keptUnder m id c) × (st ≡ storedUnder c st m id))
-  unfolding keptUnder storedUnder
-  under-held h = let t = lt-ltb (indexIn c id) (c .count) (omega (arith, e)) in (simp t, (simp t, simp t))
+module _ (c : MessageCache) (st m id : List ℕ) where
+  pub kept-not : keepable (ringOf c) (length st) (length m) (length id) ≡ false → Keeps c st m id (record { answer = put.Malformed; cache = c }) st
+  unfolding planKept
+  kept-not h = record { answer = rw h; cache = rw h; store = rw h }
 
-  pub under-new : c .count ≤ r → (d : MessageCache) (st2 : List ℕ) → (d ≡ entered (length m) id c) × (st2 ≡ enteredStore c st m)
-      → (put.Stored ≡ answered (planUnder c m id)) × ((d ≡ keptUnder m id c) × (st2 ≡ storedUnder c st m id))
-  unfolding keptUnder storedUnder
-  under-new h d st2 w = let t = le-ltb (indexIn c id) (c .count) (omega (arith, e)) in (simp t, (simp t (w .0), simp t (w .1)))
+  module _ (g : keepable (ringOf c) (length st) (length m) (length id) ≡ true) where
+    pub kept-placed : length (c .generation) ≡ maxMessages → length (c .window) ≡ maxMessages → length (c .len) ≡ maxMessages → length (c .«id_len») ≡ maxMessages → length (c .ids) ≡ idsSize → Placed c st
+    kept-placed x w l i r =
+        let k = when-keeps (ringOf c) (length st) (length m) (length id) g in
+        let t = lie-rows (ringOf c) (k .0) in
+        record { few = t .0; starts = t .1; within = t .2; room = k .1; lengths = l; id-lengths = i; id-room = r; windows = w; generations = x }
+
+    pub kept-short : (length m ≤ messageSize) × (length id ≤ messageIdSize)
+    kept-short = let k = when-keeps (ringOf c) (length st) (length m) (length id) g in (k .2, k .3)
+
+    module _ (r : ℕ) (e : r ≡ indexIn c id) where
+      pub under-held : r < c .count → Keeps c st m id (record { answer = put.Held; cache = c }) st
+      unfolding planKept
+      under-held h = let t = lt-ltb (indexIn c id) (c .count) (omega (arith, e)) in record { answer = rw (g, t); cache = rw (g, t); store = rw (g, t) }
+
+      pub under-new : c .count ≤ r → (d : MessageCache) (st2 : List ℕ) → (d ≡ entered (length m) id c) × (st2 ≡ enteredStore c st m)
+          → Keeps c st m id (record { answer = put.Stored; cache = d }) st2
+      unfolding planKept
+      under-new h d st2 w = let t = le-ltb (indexIn c id) (c .count) (omega (arith, e)) in record { answer = rw (g, t); cache = rw (g, t) (w .0); store = rw (g, t) (w .1) }
+
+-- ---- the id in a place
+module _ (c : MessageCache) (row : ℕ) (out id : List ℕ) (e : id ≡ idAt messageIdSize (c .«id_len») (c .ids) row) where
+  pub id-room : length out < length id → WritesId c row out (written.Room (length id)) out
+  id-room h = record { answer = rw (← e) (sym (answer-short id out h)); buffer = rw (← e) (sym (written-short id out h)) }
+
+  pub id-wrote : length id ≤ length out → (left : List ℕ) → left ≡ setIn (length id) 0 id out → WritesId c row out (written.Bytes (length id)) left
+  id-wrote h left f =
+      record {
+        answer = rw (← e) (sym (answer-fits id out h));
+        buffer = f ∙ set-fits (length id) 0 id out (omega arith) ∙ rw (← e) (sym (written-fits id out h));
+      }

@@ -6,17 +6,15 @@ use mathlib.Core.Bool.{Bool, true, false, cond}
 use native.Mathlib.Omega.{arith}
 use native.Mathlib.Nat.{le-of-suc-le-suc, not-suc-le-zero}
 use native.Mathlib.Numerals.{add-one}
-use lib.ListN.{length, take, drop, getD, set, length-append, length-drop, drop-of-length-le, take-append-drop, List·getD-append}
+use lib.ListN.{length, take, drop, getD, set, length-append, length-drop, drop-of-length-le, take-append-drop}
 use lib.Seq.{drop-cons, take-suc, set-at, getD-at, length-take-le, getD-take, take-at, drop-at, drop-drop}
 use Rattle.basis.specs.Cases.{either, clash}
 use Rattle.rows.specs.declared.Ring.{Ring}
 use Rattle.rows.specs.Rows.{placeOf, rowsIn}
 use Rattle.rows.specs.RowsLaws.{ring-from, ring-end}
 use Rattle.rows.specs.Ids.{precedesBytes}
-use Rattle.rows.specs.Store.{idAt}
-use Rattle.mcache.specs.State.{spotOf, putAt, insertRow, gatherInto, Listed, messageIdSize, maxMessages}
-use Rattle.mcache.specs.GatherLaws.{each-insert, length-insert}
-use Rattle.mcache.proofs.Walks.{part-from}
+use Rattle.mcache.specs.State.{spotOf, putAt, insertRow, gatherInto}
+use Rattle.mcache.specs.GatherLaws.{length-insert}
 
 -- an insertion is a put at its spot
 pub insert-spot : (id : ℕ → List ℕ) (p : ℕ) (l : List ℕ) → putAt (spotOf id p l) p l ≡ insertRow id p l
@@ -101,33 +99,23 @@ half-done p x l out v k h g w =
     let e : take (k + 1) (putAt p x l) ≡ putAt p x (take k l) = rw (add-one k) (put-take p x k l h (omega arith)) in
     w .made ∙ ap (λ (t : List ℕ). t ++ drop (k + 1) l) e
 
--- ---- rows that have ids
-pub listed-at : (n : ℕ) (rows ilens ids : List ℕ) (i : ℕ) → Listed n rows ilens ids → i < n
-    → (getD rows i 0 < maxMessages) × (getD rows i 0 < length ilens) × (getD ilens (getD rows i 0) 0 ≤ messageIdSize) × (getD rows i 0 * messageIdSize + getD ilens (getD rows i 0) 0 ≤ length ids)
-listed-at n rows ilens ids i ok h =
-    let w = ok .places i h in
-    (w .0, omega (arith, ok .lengths), w .1, omega (arith, ok .room))
-
+-- ---- the spot of a row among the first n
 pub taken-length : (n : ℕ) (rows : List ℕ) (i : ℕ) → n ≤ length rows → n ≤ i → length (take n rows) ≤ i
 taken-length n rows i h k = rw (length-take-le n rows h) k
 
-module _ (p n : ℕ) (rows ilens ids : List ℕ) (i : ℕ) (r : Bool) (h : n ≤ length rows) (k : i < n)
-    (inv : i + spotOf (idAt messageIdSize ilens ids) p (drop i (take n rows)) ≡ spotOf (idAt messageIdSize ilens ids) p (take n rows))
-    (e : r ≡ precedesBytes (take ((getD rows i 0 * messageIdSize + getD ilens (getD rows i 0) 0) - getD rows i 0 * messageIdSize) (drop (getD rows i 0 * messageIdSize) ids)) (take ((p * messageIdSize + getD ilens p 0) - p * messageIdSize) (drop (p * messageIdSize) ids))) where
+module _ (id : ℕ → List ℕ) (p n : ℕ) (rows : List ℕ) (i : ℕ) (r : Bool) (h : n ≤ length rows) (k : i < n)
+    (inv : i + spotOf id p (drop i (take n rows)) ≡ spotOf id p (take n rows)) (e : r ≡ precedesBytes (id (getD rows i 0)) (id p)) where
   below : i < length (take n rows)
   below = rw (length-take-le n rows h) k
 
-  says : precedesBytes (idAt messageIdSize ilens ids (getD (take n rows) i 0)) (idAt messageIdSize ilens ids p) ≡ r
-  unfolding idAt
-  says =
-      rw (getD-take n rows i 0 k)
-      (sym (e ∙ ap₂ precedesBytes (part-from (getD rows i 0 * messageIdSize) (getD ilens (getD rows i 0) 0) (drop (getD rows i 0 * messageIdSize) ids)) (part-from (p * messageIdSize) (getD ilens p 0) (drop (p * messageIdSize) ids))))
+  says : precedesBytes (id (getD (take n rows) i 0)) (id p) ≡ r
+  says = rw (getD-take n rows i 0 k) (sym e)
 
-  pub spot-next : r ≡ true → (i + 1) + spotOf (idAt messageIdSize ilens ids) p (drop (i + 1) (take n rows)) ≡ spotOf (idAt messageIdSize ilens ids) p (take n rows)
-  spot-next t = spot-more (idAt messageIdSize ilens ids) p (take n rows) i inv below (says ∙ t)
+  pub spot-next : r ≡ true → (i + 1) + spotOf id p (drop (i + 1) (take n rows)) ≡ spotOf id p (take n rows)
+  spot-next t = spot-more id p (take n rows) i inv below (says ∙ t)
 
-  pub spot-now : r ≡ false → i ≡ spotOf (idAt messageIdSize ilens ids) p (take n rows)
-  spot-now t = spot-here (idAt messageIdSize ilens ids) p (take n rows) i inv below (says ∙ t)
+  pub spot-now : r ≡ false → i ≡ spotOf id p (take n rows)
+  spot-now t = spot-here id p (take n rows) i inv below (says ∙ t)
 
 -- ---- a row told of
 pub told-put : (id : ℕ → List ℕ) (p n at : ℕ) (rows out : List ℕ) → n < length rows → at ≡ spotOf id p (take n rows) → out ≡ putAt at p (take n rows) ++ drop (n + 1) rows
@@ -187,42 +175,14 @@ module _ (t : ℕ → Bool) (id : ℕ → List ℕ) (all first : List ℕ) (ring
       → Gathering t id all first (drop (i + 1) (rowsOf ring)) m out
   gather-step m out g f = either (t p) (λ y. gather-yes m out y g (simp y at (f .0)) (simp y at (f .1))) (λ y. gather-no m out y g (simp y at (f .0)) (simp y at (f .1)))
 
-  listed-step : (m : ℕ) (out ilens ids : List ℕ) → Listed n rows ilens ids → p < maxMessages → getD ilens p 0 ≤ messageIdSize
-      → (m ≡ cond (t p) (n + 1) n) × (out ≡ cond (t p) (insertRow id p (take n rows) ++ drop (n + 1) rows) rows)
-      → Listed m out ilens ids
-  listed-step m out ilens ids ok a b f =
-      either (t p)
-      (λ y. record {
-        lengths = ok .lengths;
-        room = ok .room;
-        places = λ j k.
-            let z : out ≡ ins ++ drop (n + 1) rows = simp y at (f .1) in
-            let q : m ≡ n + 1 = simp y at (f .0) in
-            let r : getD out j 0 ≡ getD ins j 0 = ap (λ (x : List ℕ). getD x j 0) z ∙ List·getD-append ins (drop (n + 1) rows) 0 j (omega (arith, ins-length)) in
-            rw r
-            (each-insert (λ (v : ℕ). (v < maxMessages) × (getD ilens v 0 ≤ messageIdSize)) id p (take n rows) (a, b)
-            (λ x w. let s : x < n = omega (arith, length-take-le n rows (omega arith)) in rw (getD-take n rows x 0 s) (ok .places x s)) j (omega (arith, ins-length)));
-      })
-      (λ y. record {
-        lengths = ok .lengths;
-        room = ok .room;
-        places = λ j k.
-            let z : out ≡ rows = simp y at (f .1) in
-            let q : m ≡ n = simp y at (f .0) in
-            rw z (ok .places j (omega arith));
-      })
-
   count-step : (m : ℕ) → n ≤ i → m ≡ cond (t p) (n + 1) n → m ≤ i + 1
   count-step m k f = either (t p) (λ y. let q : m ≡ n + 1 = simp y at f in omega arith) (λ y. let q : m ≡ n = simp y at f in omega arith)
 
   -- a turn of the loop
-  pub gather-turn : (m : ℕ) (out ilens ids : List ℕ) → n ≤ i → Listed n rows ilens ids → p < maxMessages → getD ilens p 0 ≤ messageIdSize
-      → Gathering t id all first (drop i (rowsOf ring)) n rows
+  pub gather-turn : (m : ℕ) (out : List ℕ) → n ≤ i → Gathering t id all first (drop i (rowsOf ring)) n rows
       → (m ≡ cond (t p) (n + 1) n) × (out ≡ cond (t p) (insertRow id p (take n rows) ++ drop (n + 1) rows) rows)
-      → (m ≤ i + 1) × (length out ≡ length first) × Listed m out ilens ids × Gathering t id all first (drop (i + 1) (rowsOf ring)) m out
-  gather-turn m out ilens ids k ok a b g f =
-      let r = gather-step m out g f in
-      (count-step m k (f .0), r .size, listed-step m out ilens ids ok a b f, r)
+      → (m ≤ i + 1) × (length out ≡ length first) × Gathering t id all first (drop (i + 1) (rowsOf ring)) m out
+  gather-turn m out k g f = let r = gather-step m out g f in (count-step m k (f .0), r .size, r)
 
 pub gather-done : (t : ℕ → Bool) (id : ℕ → List ℕ) (all first : List ℕ) (ring : Ring) (i n : ℕ) (rows : List ℕ) → ring .count ≤ i → n ≤ length rows
     → Gathering t id all first (drop i (rowsOf ring)) n rows → (n ≡ length all) × (rows ≡ all ++ drop n first)

@@ -13,12 +13,15 @@ use Rattle.basis.specs.Lists.{set-fits}
 use Rattle.rows.specs.declared.Ring.{Ring}
 use Rattle.rows.specs.Rows.{placeOf}
 use Rattle.rows.specs.Ids.{indexOf}
-use Rattle.rows.specs.RowsLaws.{place-lt, place-le, place-place}
-use Rattle.rows.specs.Store.{idsIn, inUse, Sound}
+use Rattle.rows.specs.RowsLaws.{place-lt, place-le}
+use Rattle.rows.specs.Store.{idsIn, inUse}
 use Rattle.mcache.specs.declared.MessageCache.{MessageCache}
 use Rattle.mcache.specs.declared.Start.the-variants as start
-use Rattle.mcache.specs.State.{Laid, Usable, legal, fresh, dropped, appended, passed, aged, older, stale, messageSize, messageIdSize, maxMessages, maxHistory, ringOf}
-use Rattle.mcache.specs.Calls.{startAnswer, startCache, indexIn, entered, enteredStore, shifted, gossipList, gossipArray}
+use Rattle.mcache.specs.declared.Gossip.the-variants as gossip
+use Rattle.mcache.specs.declared.GossipIds.{GossipIds}
+use Rattle.mcache.specs.State.{Placed, legal, fresh, dropped, appended, passed, aged, older, stale, messageSize, messageIdSize, maxMessages, maxHistory, ringOf}
+use Rattle.mcache.specs.Calls.{startAnswer, startCache, indexIn, entered, enteredStore, shifted, gossipList, gossipArray, rowsLie, tellAnswer, tellCount, tellRows}
+use Rattle.mcache.specs.Unique.{TellsRows}
 use Rattle.mcache.specs.CachedLaws.{stale-in}
 
 -- ---- start
@@ -47,22 +50,17 @@ pub dropped-is : (k p : ℕ) (c : MessageCache) → p ≡ placeOf (ringOf c) k
 unfolding dropped
 dropped-is k p c h = rw h
 
-pub kept-dropped : (k : ℕ) (c : MessageCache) (st : List ℕ) → Usable c st → k ≤ c .count → Usable (dropped k c) st
+pub kept-dropped : (k : ℕ) (c : MessageCache) (st : List ℕ) → Placed c st → k ≤ c .count → Placed (dropped k c) st
 unfolding dropped
 kept-dropped k c st ok h =
-    let r = ok .rows in
     record {
-      rows = record {
-        few = r .few;
-        starts = place-le (ringOf c) k (r .starts) (omega (arith, r .within));
-        within = omega (arith, r .within);
-        lengths = r .lengths;
-        id-lengths = r .id-lengths;
-        id-room = r .id-room;
-        room = r .room;
-        id-short = λ i j. rw (place-place (ringOf c) k i (r .starts) (omega (arith, r .within))) (r .id-short (k + i) (omega arith));
-      };
-      short = λ i j. rw (place-place (ringOf c) k i (r .starts) (omega (arith, r .within))) (ok .short (k + i) (omega arith));
+      few = ok .few;
+      starts = place-le (ringOf c) k (ok .starts) (omega (arith, ok .within));
+      within = omega (arith, ok .within);
+      room = ok .room;
+      lengths = ok .lengths;
+      id-lengths = ok .id-lengths;
+      id-room = ok .id-room;
       windows = ok .windows;
       generations = ok .generations;
     }
@@ -72,12 +70,11 @@ pub bytes-put : (at : ℕ) (bs out out2 : List ℕ) → at + length bs ≤ lengt
 bytes-put at bs out out2 h e = e ∙ set-fits (length bs) at bs out h
 
 -- the next place
-pub next-lies : (c : MessageCache) (st : List ℕ) (p : ℕ) → Usable c st → c .count < c .«max_messages» → p ≡ placeOf (ringOf c) (c .count)
+pub next-lies : (c : MessageCache) (st : List ℕ) (p : ℕ) → Placed c st → c .count < c .«max_messages» → p ≡ placeOf (ringOf c) (c .count)
     → (p < maxMessages) × (p * messageSize + messageSize ≤ length st) × (p * messageIdSize + messageIdSize ≤ length (c .ids)) × (p < length (c .len)) × (p < length (c .«id_len»)) × (p < length (c .window)) × (p < length (c .generation))
 next-lies c st p ok h e =
-    let r = ok .rows in
-    let l : p < c .«max_messages» = rw e (place-lt (ringOf c) (c .count) (r .starts) h) in
-    (omega (arith, r .few), omega (arith, r .room), omega (arith, r .few, r .id-room), omega (arith, r .few, r .lengths), omega (arith, r .few, r .id-lengths), omega (arith, r .few, ok .windows), omega (arith, r .few, ok .generations))
+    let l : p < c .«max_messages» = rw e (place-lt (ringOf c) (c .count) (ok .starts) h) in
+    (omega (arith, ok .few), omega (arith, ok .room), omega (arith, ok .few, ok .id-room), omega (arith, ok .few, ok .lengths), omega (arith, ok .few, ok .id-lengths), omega (arith, ok .few, ok .windows), omega (arith, ok .few, ok .generations))
 
 pub appended-is : (n : ℕ) (id : List ℕ) (c : MessageCache) (p g : ℕ) (ids : List ℕ) → p ≡ placeOf (ringOf c) (c .count) → g ≡ (c .«next_generation» + 1) % 2 ^ 64 → ids ≡ sets (c .ids) (p * messageIdSize) id
     → _≡_ {A = MessageCache}
@@ -110,10 +107,10 @@ module _ (c : MessageCache) (st m id : List ℕ) where
   entered-none n g h e = let z = eq-eqb (c .«max_messages») 0 h in (rw (z, e), rw z)
 
   module _ (k : ℕ) (d : MessageCache) (some : c .«max_messages» ≡ 0 → ⊥) (ek : k ≡ (c .count + 1) - c .«max_messages») (ed : d ≡ dropped k c) where
-    pub enter-room : Usable c st → Usable d st × (d .count < d .«max_messages»)
+    pub enter-room : Placed c st → Placed d st × (d .count < d .«max_messages»)
     unfolding dropped
     enter-room ok =
-        let w = ok .rows .within in
+        let w = ok .within in
         let n : d .count ≡ c .count - k = ap (λ (x : MessageCache). x .count) ed in
         let x : d .«max_messages» ≡ c .«max_messages» = ap (λ (x : MessageCache). x .«max_messages») ed in
         (rw ed (kept-dropped k c st ok (omega (arith, some))), omega (arith, some))
@@ -142,7 +139,17 @@ unfolding shifted aged
 shifted-is c k w r ek ew e = e ∙ rw (ew, ek)
 
 -- ---- telling
-pub told-rows : (c : MessageCache) (st topic : List ℕ) (windows n : ℕ) (rows : List ℕ) (l : List ℕ) → l ≡ gossipList c st topic windows → n ≡ length l → rows ≡ l ++ drop n (replicate maxMessages 0)
+told-rows : (c : MessageCache) (st topic : List ℕ) (windows n : ℕ) (rows : List ℕ) (l : List ℕ) → l ≡ gossipList c st topic windows → n ≡ length l → rows ≡ l ++ drop n (replicate maxMessages 0)
     → (n ≡ length (gossipList c st topic windows)) × (rows ≡ gossipArray c st topic windows)
 unfolding gossipArray
 told-rows c st topic windows n rows l e f g = (rw (← e) f, rw (← e) (g ∙ ap (λ (k : ℕ). l ++ drop k (replicate maxMessages 0)) f))
+
+module _ (c : MessageCache) (st topic : List ℕ) (windows : ℕ) where
+  pub tells-rows : (n : ℕ) (rows l : List ℕ) → rowsLie (ringOf c) ≡ true → l ≡ gossipList c st topic windows → n ≡ length l → rows ≡ l ++ drop n (replicate maxMessages 0)
+      → TellsRows c st topic windows (record { answer = gossip.Ids; count = n; rows = rows })
+  unfolding tellAnswer tellCount tellRows
+  tells-rows n rows l h e f g = let q = told-rows c st topic windows n rows l e f g in record { answer = rw h; count = rw h (q .0); rows = rw h (q .1) }
+
+  pub tells-none : (r : GossipIds) → rowsLie (ringOf c) ≡ false → (r .answer ≡ gossip.Malformed) × ((r .count ≡ 0) × (r .rows ≡ replicate maxMessages 0)) → TellsRows c st topic windows r
+  unfolding tellAnswer tellCount tellRows
+  tells-none r h e = record { answer = rw h (e .0); count = rw h (e .1 .0); rows = rw h (e .1 .1) }

@@ -19,6 +19,9 @@ use Rattle.ids.specs.Ids.{idBytes}
 use Rattle.rows.specs.Ids.{among}
 use Rattle.rows.specs.Store.{inUse, idAt}
 use Rattle.admission.specs.Admission.{topicsOf, givesId}
+use Rattle.mcache.specs.Calls.{formable, formCount, formLeft, rowsLie, keepable}
+use Rattle.mcache.specs.Unique.{Forms}
+use Rattle.mcache.specs.GuardLaws.{lie-rows, when-forms, id-length}
 use Rattle.mcache.specs.State.{messageIn, fallsFrom, runsTo, givesAt, allTrue, givesIn, stale, older, told, Laid, messageSize, messageIdSize, maxMessages}
 
 -- ---- windows
@@ -116,15 +119,35 @@ aging-done l out i h e = e ∙ rw (take-all i l h, drop-of-length-le l {i = i} h
 pub part-from : (b n : ℕ) (l : List ℕ) → take ((b + n) - b) l ≡ take n l
 part-from b n l = ap (λ (k : ℕ). take k l) {x = (b + n) - b} {y = n} (omega arith)
 
+take-none : (n : ℕ) → _≡_ {A = List ℕ} (take n []) []
+take-none zero = refl
+take-none (suc n) = refl
+
 -- ---- what is told
 module _ (window lens st : List ℕ) (windows : ℕ) (topic : List ℕ) (p : ℕ) where
   pub told-not : windows ≤ getD window p 0 → false ≡ told window lens st windows topic p
   unfolding told
   told-not h = sym (simp (le-ltb (getD window p 0) windows h))
 
-  pub told-is : (r : Bool) → getD window p 0 < windows → r ≡ among topic (topicsOf (take ((p * messageSize + getD lens p 0) - p * messageSize) (drop (p * messageSize) st))) → r ≡ told window lens st windows topic p
-  unfolding told messageIn
-  told-is r h e = e ∙ ap (λ (m : List ℕ). among topic (topicsOf m)) (part-from (p * messageSize) (getD lens p 0) (drop (p * messageSize) st)) ∙ sym (simp (lt-ltb (getD window p 0) windows h))
+  pub told-is : (r : Bool) (m : List ℕ) → getD window p 0 < windows → m ≡ messageIn lens st p → r ≡ among topic (topicsOf m) → r ≡ told window lens st windows topic p
+  unfolding told
+  told-is r m h f e = e ∙ ap (λ (l : List ℕ). among topic (topicsOf l)) f ∙ sym (simp (lt-ltb (getD window p 0) windows h))
+
+-- the message in a place, cut at the end of the store
+module _ (lens st : List ℕ) (p : ℕ) where
+  pub message-none : length st < p * messageSize → [] ≡ messageIn lens st p
+  unfolding messageIn
+  message-none h = rw (drop-of-length-le st {i = p * messageSize} (omega arith)) (sym (take-none (getD lens p 0)))
+
+  pub message-cut : (n : ℕ) → n ≡ getD lens p 0 → length st < p * messageSize + n → take (length st - p * messageSize) (drop (p * messageSize) st) ≡ messageIn lens st p
+  unfolding messageIn
+  message-cut n e h =
+      let l = length-drop (p * messageSize) st in
+      take-all (length st - p * messageSize) (drop (p * messageSize) st) (omega arith) ∙ sym (take-all (getD lens p 0) (drop (p * messageSize) st) (omega arith))
+
+  pub message-whole : (n : ℕ) → n ≡ getD lens p 0 → take ((p * messageSize + n) - p * messageSize) (drop (p * messageSize) st) ≡ messageIn lens st p
+  unfolding messageIn
+  message-whole n e = rw (part-from (p * messageSize) n (drop (p * messageSize) st)) (ap (λ (k : ℕ). take k (drop (p * messageSize) st)) e)
 
 -- ---- whether a row gives its id
 module _ (lens ilens ids st : List ℕ) (p : ℕ) where
@@ -148,19 +171,88 @@ row-lies ring lens ilens ids st i p ok h e =
     let n : getD ilens p 0 ≤ messageIdSize = rw e (ok .id-short i h) in
     (omega (arith, ok .few), omega (arith, ok .few, ok .lengths), omega (arith, ok .few, ok .id-lengths), omega (arith, ok .room), omega (arith, ok .few, ok .id-room), n)
 
+pub row-in : (ring : Ring) (i p : ℕ) → rowsLie ring ≡ true → i < ring .count → p ≡ placeOf ring i → (p < maxMessages) × (ring .count ≤ maxMessages)
+row-in ring i p l h e =
+    let t = lie-rows ring l in
+    let k : p < ring .cap = rw e (place-lt ring i (t .1) (omega (arith, t .2))) in
+    (omega (arith, t .0), omega (arith, t .0, t .2))
+
 -- ---- an id from its two parts
 pub formed : (part : List ℕ) (a e b f : ℕ) (out : List ℕ) (i : ℕ) (mid : List ℕ) (j : ℕ) (end : List ℕ)
-    → (a ≤ e) × (e ≤ length part) × (b ≤ f) × (f ≤ length part) → length (idBytes part a e b f) ≤ length out
+    → formable (length part) a e b f (length out) ≡ true
     → (i ≡ endIn (length (between part a e)) 0 (between part a e) out) × (mid ≡ setIn (length (between part a e)) 0 (between part a e) out)
     → (j ≡ endIn (length (between part b f)) i (between part b f) mid) × (end ≡ setIn (length (between part b f)) i (between part b f) mid)
-    → (j ≡ length (idBytes part a e b f)) × (end ≡ sets out 0 (idBytes part a e b f))
-formed part a e b f out i mid j end h k u v =
+    → Forms part a e b f out j end
+unfolding formCount formLeft
+formed part a e b f out i mid j end g u v =
+    let h = when-forms (length part) a e b f (length out) g in
+    let k = id-length part a e b f (h .1) (h .3) in
     let x : List ℕ = between part a e in
     let y : List ℕ = between part b f in
     let l : length (x ++ y) ≡ length x + length y = length-append x y in
     let i0 : i ≡ 0 + length x = u .0 ∙ end-fits (length x) 0 x out (omega arith) in
     let m0 : mid ≡ sets out 0 x = u .1 ∙ set-fits (length x) 0 x out (omega arith) in
-    let ml : length mid ≡ length out = ap length m0 ∙ length-sets out 0 x in (
-      v .0 ∙ end-fits (length y) i y mid (omega arith) ∙ omega arith,
-      v .1 ∙ set-fits (length y) i y mid (omega arith) ∙ rw (m0, i0) (sym (sets-append out 0 x y)),
-    )
+    let ml : length mid ≡ length out = ap length m0 ∙ length-sets out 0 x in
+    let n : j ≡ length (x ++ y) = v .0 ∙ end-fits (length y) i y mid (omega arith) ∙ omega arith in
+    record {
+      count = rw g n;
+      buffer = rw g (v .1 ∙ set-fits (length y) i y mid (omega arith) ∙ rw (m0, i0) (sym (sets-append out 0 x y)));
+    }
+
+pub formed-not : (part : List ℕ) (a e b f : ℕ) (out : List ℕ) → formable (length part) a e b f (length out) ≡ false → Forms part a e b f out 0 out
+unfolding formCount formLeft
+formed-not part a e b f out g = record { count = rw g; buffer = rw g }
+
+-- ---- whether an id can be formed
+module _ (n a e b f m : ℕ) where
+  pub form-back : e < a → false ≡ formable n a e b f m
+  unfolding formable
+  form-back h = sym (simp (lt-leb a e h))
+
+  pub form-past : a ≤ e → n < e → false ≡ formable n a e b f m
+  unfolding formable
+  form-past i h = sym (simp (le-leb a e i, lt-leb e n h))
+
+  pub form-back-2 : a ≤ e → e ≤ n → f < b → false ≡ formable n a e b f m
+  unfolding formable
+  form-back-2 i j h = sym (simp (le-leb a e i, le-leb e n j, lt-leb b f h))
+
+  pub form-past-2 : a ≤ e → e ≤ n → b ≤ f → n < f → false ≡ formable n a e b f m
+  unfolding formable
+  form-past-2 i j k h = sym (simp (le-leb a e i, le-leb e n j, le-leb b f k, lt-leb f n h))
+
+  pub form-room : a ≤ e → e ≤ n → b ≤ f → f ≤ n → (r : Bool) → r ≡ leb ((e - a) + (f - b)) m → r ≡ formable n a e b f m
+  unfolding formable
+  form-room i j k l r h = h ∙ sym (simp (le-leb a e i, le-leb e n j, le-leb b f k, le-leb f n l))
+
+-- ---- whether rows lie in the arrays, and a message can be kept
+module _ (ring : Ring) where
+  pub lie-many : maxMessages < ring .cap → false ≡ rowsLie ring
+  unfolding rowsLie
+  lie-many h = sym (simp (lt-leb (ring .cap) maxMessages h))
+
+  pub lie-start : ring .cap ≤ maxMessages → ring .cap < ring .start → false ≡ rowsLie ring
+  unfolding rowsLie
+  lie-start i h = sym (simp (le-leb (ring .cap) maxMessages i, lt-leb (ring .start) (ring .cap) h))
+
+  pub lie-count : ring .cap ≤ maxMessages → ring .start ≤ ring .cap → leb (ring .count) (ring .cap) ≡ rowsLie ring
+  unfolding rowsLie
+  lie-count i j = sym (simp (le-leb (ring .cap) maxMessages i, le-leb (ring .start) (ring .cap) j))
+
+  module _ (s m i : ℕ) where
+    pub keep-not : rowsLie ring ≡ false → false ≡ keepable ring s m i
+    unfolding keepable
+    keep-not h = sym (simp h)
+
+    module _ (l : rowsLie ring ≡ true) where
+      pub keep-store : (s ≡ ring .cap * messageSize → ⊥) → false ≡ keepable ring s m i
+      unfolding keepable
+      keep-store h = sym (simp (l, ne-eqb s (ring .cap * messageSize) h))
+
+      pub keep-long : s ≡ ring .cap * messageSize → messageSize < m → false ≡ keepable ring s m i
+      unfolding keepable
+      keep-long e h = sym (simp (l, eq-eqb s (ring .cap * messageSize) e, lt-leb m messageSize h))
+
+      pub keep-id : s ≡ ring .cap * messageSize → m ≤ messageSize → leb i messageIdSize ≡ keepable ring s m i
+      unfolding keepable
+      keep-id e h = sym (simp (l, eq-eqb s (ring .cap * messageSize) e, le-leb m messageSize h))

@@ -3,10 +3,11 @@
 -- cache and the store as they were.
 use Prim.Native.Nat.{ℕ, _+_, _-_, _*_}
 use mathlib.Core.List.{List, [], _∷_, _++_}
-use mathlib.Core.Bool.{true, cond}
+use mathlib.Core.Bool.{Bool, true, cond, _&&_}
 use lib.ListN.{length, drop, replicate}
 use lib.Seq.{sets}
-use lib.Dec.{ltb, eqb}
+use lib.Dec.{leb, ltb, eqb}
+use Rattle.rows.specs.declared.Ring.{Ring}
 use Rattle.rows.specs.Rows.{placeOf, rowsIn}
 use Rattle.rows.specs.Ids.{indexOf}
 use Rattle.rows.specs.Store.{idAt, idsIn, inUse}
@@ -31,7 +32,7 @@ use Rattle.mcache.specs.declared.Lookup.{Lookup}
 use Rattle.mcache.specs.declared.Lookup.the-variants as lookup
 use Rattle.mcache.specs.declared.Gossip.{Gossip}
 use Rattle.mcache.specs.declared.Gossip.the-variants as gossip
-use Rattle.mcache.specs.Told.{lentTold, putTold}
+use Rattle.mcache.specs.Told.{lentTold, startTold, putTold, lookupTold, gossipTold}
 use Rattle.mcache.specs.State.{messageIn, legal, wellFormed, fresh, dropped, appended, passed, aged, stale, told}
 use Rattle.mcache.specs.State.{gatherInto, messageSize, messageIdSize, maxMessages, ringOf}
 
@@ -39,8 +40,17 @@ use Rattle.mcache.specs.State.{gatherInto, messageSize, messageIdSize, m
 abbrev pub lentNumber : Lent → ℕ
 lentNumber r = lentTold r .number
 
+abbrev pub startNumber : Start → ℕ
+startNumber r = startTold r .number
+
 abbrev pub putNumber : Put → ℕ
 putNumber r = putTold r .number
+
+abbrev pub lookupNumber : Lookup → ℕ
+lookupNumber r = lookupTold r .number
+
+abbrev pub gossipNumber : Gossip → ℕ
+gossipNumber r = gossipTold r .number
 
 -- ---- start: 40
 unfoldable pub startAnswer : ℕ → ℕ → Start
@@ -120,6 +130,38 @@ keptUnder m id c = keptIn c (planUnder c m id)
 
 unfoldable pub storedUnder : MessageCache → List ℕ → List ℕ → List ℕ → List ℕ
 storedUnder c st m id = storedIn c st (planUnder c m id)
+
+-- ---- keep, tell and form_id test no state: each asks something of constant cost first
+-- the rows lie within the arrays
+unfoldable pub rowsLie : Ring → Bool
+rowsLie ring = leb (ring .cap) maxMessages && (leb (ring .start) (ring .cap) && leb (ring .count) (ring .cap))
+
+-- and a store of s bytes has a place for each; a message of m bytes and an id of i fit theirs
+unfoldable pub keepable : Ring → ℕ → ℕ → ℕ → Bool
+keepable ring s m i =
+    rowsLie ring && (eqb s (ring .cap * messageSize) && (leb m messageSize && leb i messageIdSize))
+
+unfoldable pub planKept : MessageCache → List ℕ → List ℕ → List ℕ → Plan
+planKept c st m id = cond (keepable (ringOf c) (length st) (length m) (length id)) (planUnder c m id) (no put.Malformed)
+
+unfoldable pub tellAnswer : MessageCache → Gossip
+tellAnswer c = cond (rowsLie (ringOf c)) gossip.Ids gossip.Malformed
+
+unfoldable pub tellCount : MessageCache → List ℕ → List ℕ → ℕ → ℕ
+tellCount c st topic windows = cond (rowsLie (ringOf c)) (length (gossipList c st topic windows)) 0
+
+unfoldable pub tellRows : MessageCache → List ℕ → List ℕ → ℕ → List ℕ
+tellRows c st topic windows = cond (rowsLie (ringOf c)) (gossipArray c st topic windows) (replicate maxMessages 0)
+
+-- from at a to e and seqno at b to f lie within n bytes, and m bytes have room for both
+unfoldable pub formable : ℕ → ℕ → ℕ → ℕ → ℕ → ℕ → Bool
+formable n a e b f m = leb a e && (leb e n && (leb b f && (leb f n && leb ((e - a) + (f - b)) m)))
+
+unfoldable pub formCount : List ℕ → ℕ → ℕ → ℕ → ℕ → List ℕ → ℕ
+formCount part a e b f out = cond (formable (length part) a e b f (length out)) (length (idBytes part a e b f)) 0
+
+unfoldable pub formLeft : List ℕ → ℕ → ℕ → ℕ → ℕ → List ℕ → List ℕ
+formLeft part a e b f out = cond (formable (length part) a e b f (length out)) (sets out 0 (idBytes part a e b f)) out
 
 -- a message p: 21 to 30 without 27
 abbrev pub planFit : MessageCache → List ℕ → Admission → Plan

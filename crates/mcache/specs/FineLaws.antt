@@ -220,14 +220,14 @@ shift-fine c st f z = rw f (tests-fine (shifted c) st (shifted-tests c st (fine-
 
 -- ---- put
 -- what a message that is kept, and its id, are
-pub record Keeps (c : MessageCache) (m id : List ℕ) : Type 0 where
+pub record Enters (c : MessageCache) (m id : List ℕ) : Type 0 where
   pub small : length m ≤ messageSize
   pub id-small : length id ≤ messageIdSize
   pub own : givesId m id ≡ true
   pub fresh : ltb (indexIn c id) (c .count) ≡ false
 
 of-fit : (c : MessageCache) (p m id : List ℕ) (n : ℕ) (r : Admission) → counted kind.RawMessage p ≡ count.Records n
-    → admissionOf p true ≡ r → planFit c p r ≡ keep m id → Keeps c m id
+    → admissionOf p true ≡ r → planFit c p r ≡ keep m id → Enters c m id
 of-fit c p m id n (admission.Unfit why) k e h = clash (cc)
 of-fit c p m id n (admission.Fit x y z w) k e h =
     either (ltb (indexIn c (idBytes p x y z w)) (c .count))
@@ -244,27 +244,27 @@ of-fit c p m id n (admission.Fit x y z w) k e h =
     })
 
 of-at : (c : MessageCache) (body m id : List ℕ) (i : ℕ) (r : MessageAt) → acceptOf body ≡ checked.Fine
-    → messageAt body i ≡ r → planAt c body r ≡ keep m id → Keeps c m id
+    → messageAt body i ≡ r → planAt c body r ≡ keep m id → Enters c m id
 of-at c body m id i (at.Count n) a e h = clash (cc)
 of-at c body m id i (at.At x y) a e h =
     let q = message-read body i x y a e in
     of-fit c (between body x y) m id (q .0) (admissionOf (between body x y) true) (q .1) refl h
 
 of-body : (c : MessageCache) (body m id : List ℕ) (i : ℕ) (r : Checked) → acceptOf body ≡ r
-    → planBody c body i r ≡ keep m id → Keeps c m id
+    → planBody c body i r ≡ keep m id → Enters c m id
 of-body c body m id i (checked.Refused why) a h = clash (cc)
 of-body c body m id i checked.Fine a h = of-at c body m id i (messageAt body i) a refl h
 
 pub planned-keeps : (c : MessageCache) (st body m id : List ℕ) (i : ℕ) → lentOf c st ≡ lent.Fine
-    → planned c st body i ≡ keep m id → Keeps c m id
+    → planned c st body i ≡ keep m id → Enters c m id
 unfolding planned
 planned-keeps c st body m id i f h = of-body c body m id i (acceptOf body) refl (rw f at h)
 
-not-held : (c : MessageCache) (m id : List ℕ) → Keeps c m id
+not-held : (c : MessageCache) (m id : List ℕ) → Enters c m id
     → among id (idsIn messageIdSize (ringOf c) (c .«id_len») (c .ids)) ≡ false
 not-held c m id k = held-rows c id ∙ k .fresh
 
-module _ (c : MessageCache) (st m id : List ℕ) (t : Tests c st) (z : Sized c) (k : Keeps c m id)
+module _ (c : MessageCache) (st m id : List ℕ) (t : Tests c st) (z : Sized c) (k : Enters c m id)
     (some : c .«max_messages» ≡ 0 → ⊥) where
   numbers-more : (l : List ℕ) (x : ℕ) → length l ≡ maxMessages
       → inUse (oneMore (rest c)) (set l (spot c) x) ≡ newest (c .«max_messages») (inUse (ringOf c) l ++ (x ∷ []))
@@ -357,7 +357,7 @@ passed-tests c st t e =
       once = t .once;
     }
 
-entered-fine : (c : MessageCache) (st m id : List ℕ) → Tests c st → Sized c → Keeps c m id
+entered-fine : (c : MessageCache) (st m id : List ℕ) → Tests c st → Sized c → Enters c m id
     → lentOf (entered (length m) id c) (enteredStore c st m) ≡ lent.Fine
 entered-fine c st m id t z k =
     either (eqb (c .«max_messages») 0)

@@ -7,11 +7,15 @@ use mathlib.Core.List.{List·Memᴰ·cases-cons}
 use mathlib.Core.Bool.{Bool, true, false, cond, _&&_, _||_, or-true, or-self-left}
 use mathlib.Core.Logic.{_↔_, ⊎-elim}
 use native.Mathlib.Omega.{arith}
-use lib.ListN.{length, take, drop, getD, replicate}
+use lib.ListN.{length, take, drop, getD, replicate, length-map, List·getD-append}
 use lib.Seq.{take-append-seam}
 use lib.Dec.{ltb}
-use borrow.Author.Tests.{ltb-true, lt-ltb, le-ltb}
+use borrow.Author.Tests.{ltb-true, ltb-false, lt-ltb, le-ltb}
+use Rattle.basis.specs.declared.Written.{Written}
 use Rattle.basis.specs.Cases.{either, clash, both}
+use Rattle.basis.specs.Refusals.{topic-too-long}
+use Rattle.basis.specs.Told.{told as tells, done}
+use Rattle.basis.specs.Writing.{answer, written}
 use Rattle.rows.specs.Rows.{rowsIn}
 use Rattle.rows.specs.RowsLaws.{map-ring}
 use Rattle.rows.specs.Ids.{sameBytes, precedesBytes, among, distinct}
@@ -21,10 +25,13 @@ use Rattle.admission.specs.Admission.{topicsOf}
 use Rattle.mcache.specs.declared.MessageCache.{MessageCache}
 use Rattle.mcache.specs.declared.Lent.the-variants as lent
 use Rattle.mcache.specs.declared.Gossip.the-variants as gossip
+use Rattle.mcache.specs.declared.GossipIds.{GossipIds}
+use Rattle.mcache.specs.Told.{gossipTold}
 use Rattle.mcache.specs.Messages.{Cached, topics, idsOf, held, carrying, enterId, inOrder, gossipIds}
 use Rattle.mcache.specs.State.{messageIn, cachedAt, cachedIn, told, insertRow, gatherInto, messageIdSize}
 use Rattle.mcache.specs.State.{maxMessages, ringOf}
 use Rattle.mcache.specs.Calls.{lentOf, gossipList, gossipArray, gossipAnswer, gossipCount, gossipRows}
+use Rattle.mcache.specs.Unique.{Gossips, WritesId}
 use Rattle.mcache.specs.StateLaws.{fine-tests}
 
 -- ---- an id among others, exactly
@@ -211,11 +218,19 @@ gossip-ids c st topic windows f =
     (map-ring (cachedAt c st) (λ (p : ℕ). p) (ringOf c))
 
 -- ---- what the call answers: of the rows that it gives, the first `count` hold those ids
+map-at : (f : ℕ → List ℕ) (l : List ℕ) (i : ℕ) → i < length l → getD (map f l) i [] ≡ f (getD l i 0)
+map-at f [] i h = absurd (omega arith)
+map-at f (x ∷ l) zero h = refl
+map-at f (x ∷ l) (suc i) h = map-at f l i (omega arith)
+
 module _ (c : MessageCache) (st topic : List ℕ) (fine : lentOf c st ≡ lent.Fine) where
-  pub gossip-says : gossipAnswer c st topic ≡ cond (ltb 1024 (length topic)) (gossip.TopicTooLong (length topic))
-      gossip.Ids
+  answer-says : gossipAnswer c st topic ≡ cond (ltb 1024 (length topic)) (gossip.TopicTooLong (length topic)) gossip.Ids
   unfolding gossipAnswer
-  gossip-says = rw fine
+  answer-says = rw fine
+
+  pub gossip-says : gossipTold (gossipAnswer c st topic) ≡ cond (ltb 1024 (length topic))
+      (tells topic-too-long (length topic ∷ [])) (done [])
+  gossip-says = rw answer-says (either (ltb 1024 (length topic)) (λ t. rw t) (λ t. rw t))
 
   pub gossip-told : (windows : ℕ) → length topic ≤ 1024
       → map (idAt messageIdSize (c .«id_len») (c .ids))
@@ -224,8 +239,59 @@ module _ (c : MessageCache) (st topic : List ℕ) (fine : lentOf c st ≡ lent.F
   unfolding gossipCount gossipRows gossipArray
   gossip-told windows h =
       let l = gossipList c st topic windows in
-      rw (gossip-says, le-ltb 1024 (length topic) h, take-append-seam l (drop (length l) (replicate maxMessages 0)))
+      rw (answer-says, le-ltb 1024 (length topic) h, take-append-seam l (drop (length l) (replicate maxMessages 0)))
       (gossip-ids c st topic windows fine)
+
+  -- ---- the i-th place holds the i-th id
+  module _ (windows : ℕ) where
+    too-long : 1024 < length topic → gossipCount c st topic windows ≡ 0
+    unfolding gossipCount
+    too-long h = rw (answer-says, lt-ltb 1024 (length topic) h)
+
+    list-counts : length topic ≤ 1024 → gossipCount c st topic windows ≡ length (gossipList c st topic windows)
+    unfolding gossipCount
+    list-counts h = rw (answer-says, le-ltb 1024 (length topic) h)
+
+    list-rows : length topic ≤ 1024 → (i : ℕ) → i < length (gossipList c st topic windows)
+        → getD (gossipRows c st topic windows) i 0 ≡ getD (gossipList c st topic windows) i 0
+    unfolding gossipRows gossipArray
+    list-rows h i k =
+        let l = gossipList c st topic windows in
+        rw (answer-says, le-ltb 1024 (length topic) h) (List·getD-append l (drop (length l) (replicate maxMessages 0)) 0 i k)
+
+    place-id : (i : ℕ) → i < gossipCount c st topic windows
+        → idAt messageIdSize (c .«id_len») (c .ids) (getD (gossipRows c st topic windows) i 0)
+        ≡ getD (gossipIds topic windows (cachedIn c st)) i []
+    place-id i k =
+        let id = idAt messageIdSize (c .«id_len») (c .ids) in
+        let l = gossipList c st topic windows in
+        either (ltb 1024 (length topic))
+        (λ t. absurd (let z = too-long (ltb-true 1024 (length topic) t) in omega arith))
+        (λ t.
+        let h = ltb-false 1024 (length topic) t in
+        let n : i < length l = omega (arith, list-counts h) in
+        ap id (list-rows h i n) ∙ sym (map-at id l i n)
+        ∙ ap (λ (m : List (List ℕ)). getD m i []) (gossip-ids c st topic windows fine))
+
+    module _ (r : GossipIds) (g : Gossips c st topic windows r) where
+      -- as many as there are ids
+      pub gossip-counts : length topic ≤ 1024 → r .count ≡ length (gossipIds topic windows (cachedIn c st))
+      gossip-counts h =
+          let l = gossipList c st topic windows in
+          g .count ∙ list-counts h ∙ sym (length-map l (idAt messageIdSize (c .«id_len») (c .ids)))
+          ∙ ap (λ (m : List (List ℕ)). length m) (gossip-ids c st topic windows fine)
+
+      -- `id_at` of the i-th place that `gossip_ids` answers writes the i-th id
+      pub gossip-id-at : (i : ℕ) → i < r .count → (out : List ℕ) (w : Written) (left : List ℕ)
+          → WritesId c (getD (r .rows) i 0) out w left
+          → (w ≡ answer (getD (gossipIds topic windows (cachedIn c st)) i []) out)
+          × (left ≡ written (getD (gossipIds topic windows (cachedIn c st)) i []) out)
+      gossip-id-at i k out w left d =
+          let e = ap (λ (l : List ℕ). idAt messageIdSize (c .«id_len») (c .ids) (getD l i 0)) (g .rows)
+          ∙ place-id i (rw (g .count) at k) in (
+            d .answer ∙ ap (λ (x : List ℕ). answer x out) e,
+            d .buffer ∙ ap (λ (x : List ℕ). written x out) e,
+          )
 
 -- ---- in byte order, each once
 -- each comes before the next, the first after `i`

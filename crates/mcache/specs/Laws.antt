@@ -4,7 +4,7 @@ use mathlib.Core.Path.{_≡_, refl, sym, ap, _∙_}
 use mathlib.Core.List.{List, [], _∷_}
 use mathlib.Core.Bool.{true, cond}
 use native.Mathlib.Omega.{arith}
-use lib.ListN.{length, getD}
+use lib.ListN.{length, getD, replicate}
 use lib.Dec.{ltb, eqb}
 use borrow.Author.Tests.{ltb-true, ltb-false}
 use Rattle.basis.specs.Cases.{either, clash}
@@ -25,13 +25,21 @@ use Rattle.mcache.specs.declared.MessageCache.{MessageCache}
 use Rattle.mcache.specs.declared.Lent.{Lent}
 use Rattle.mcache.specs.declared.Lent.the-variants as lent
 use Rattle.mcache.specs.declared.Put.the-variants as put
+use Rattle.mcache.specs.declared.Lookup.{Lookup}
 use Rattle.mcache.specs.declared.Lookup.the-variants as lookup
+use Rattle.mcache.specs.declared.Started.{Started}
+use Rattle.mcache.specs.declared.Gossip.{Gossip}
+use Rattle.mcache.specs.declared.Gossip.the-variants as gossip
+use Rattle.mcache.specs.declared.GossipIds.{GossipIds}
 use Rattle.mcache.specs.Messages.{Cached, idsOf, held, put as putIn, get, shift}
 use Rattle.mcache.specs.State.{messageIn, cachedAt, cachedIn, dropped, appended, passed, aged, messageSize}
-use Rattle.mcache.specs.State.{messageIdSize, ringOf}
+use Rattle.mcache.specs.State.{messageIdSize, maxMessages, ringOf, legal, fresh}
 use Rattle.mcache.specs.Calls.{lentNumber, lentOf, whenFine, shifted, putNumber, indexIn, entered, planUnder}
 use Rattle.mcache.specs.Calls.{keptUnder, storedUnder, found, Plan, no, keep, answered, keptIn, storedIn, planned}
-use Rattle.mcache.specs.Calls.{shiftCache, getPart, lookupAnswer}
+use Rattle.mcache.specs.Calls.{shiftCache, getPart, lookupAnswer, lookupOn, lookupNumber, startNumber, startAnswer}
+use Rattle.mcache.specs.Calls.{startCache, gossipNumber, gossipAnswer, whenTold, gossipList, gossipArray}
+use Rattle.mcache.specs.Calls.{gossipCount, gossipRows}
+use Rattle.mcache.specs.Unique.{Starts, Gossips}
 use Rattle.mcache.specs.WellFormed.{Sized}
 use Rattle.mcache.specs.StateLaws.{fine-tests}
 use Rattle.mcache.specs.CachedLaws.{length-cached, ids-cached, cached-shifted, cached-entered, new}
@@ -185,3 +193,47 @@ module _ (c : MessageCache) (st id : List ℕ) (fine : lentOf c st ≡ lent.Fine
   pub lookup-says : lookupAnswer c st id ≡ cond (held id (cachedIn c st)) lookup.Found lookup.Missing
   unfolding lookupAnswer
   lookup-says = rw (fine, held-index c st id)
+
+-- ---- the other refusals leave nothing either: no cache, no message, no ids
+start-by : (history max : ℕ) → (startNumber (startAnswer history max) ≡ 0 → ⊥) → startCache history max ≡ fresh 1 0
+unfolding startAnswer startCache
+start-by history max n =
+    either (legal history max) (λ t. absurd (n (rw t))) (λ t. rw t)
+
+-- a start that is refused hands out a cache that keeps nothing
+pub start-refused : (history max : ℕ) (r : Started) → Starts history max r → (startNumber (r .answer) ≡ 0 → ⊥)
+    → r .cache ≡ fresh 1 0
+start-refused history max r s n = s .cache ∙ start-by history max (λ z. n (ap startNumber (s .answer) ∙ z))
+
+get-by : (m : List ℕ) (r : Lookup) (l : Lent) → lookupNumber r ≡ 0 → (lookupNumber (lookupOn l r) ≡ 0 → ⊥)
+    → whenFine l m [] ≡ []
+get-by m r lent.Fine z n = absurd (n z)
+get-by m r lent.BadStore z n = refl
+get-by m r lent.Malformed z n = refl
+
+pub get-refused : (c : MessageCache) (st id : List ℕ) → (lookupNumber (lookupAnswer c st id) ≡ 0 → ⊥)
+    → getPart c st id ≡ []
+unfolding lookupAnswer getPart
+get-refused c st id n =
+    get-by (found c st id) (cond (ltb (indexIn c id) (c .count)) lookup.Found lookup.Missing) (lentOf c st)
+    (either (ltb (indexIn c id) (c .count)) (λ t. rw t) (λ t. rw t)) n
+
+gossip-by : (n : ℕ) (rows : List ℕ) (r : Gossip) → (gossipNumber r ≡ 0 → ⊥) → (whenTold r n 0 ≡ 0)
+    × (whenTold r rows (replicate maxMessages 0) ≡ replicate maxMessages 0)
+gossip-by n rows gossip.Ids k = absurd (k refl)
+gossip-by n rows gossip.BadStore k = (refl, refl)
+gossip-by n rows gossip.Malformed k = (refl, refl)
+gossip-by n rows (gossip.TopicTooLong m) k = (refl, refl)
+
+gossip-none : (c : MessageCache) (st topic : List ℕ) (windows : ℕ) → (gossipNumber (gossipAnswer c st topic) ≡ 0 → ⊥)
+    → (gossipCount c st topic windows ≡ 0) × (gossipRows c st topic windows ≡ replicate maxMessages 0)
+unfolding gossipCount gossipRows
+gossip-none c st topic windows n =
+    gossip-by (length (gossipList c st topic windows)) (gossipArray c st topic windows) (gossipAnswer c st topic) n
+
+pub gossip-refused : (c : MessageCache) (st topic : List ℕ) (windows : ℕ) (r : GossipIds)
+    → Gossips c st topic windows r → (gossipNumber (r .answer) ≡ 0 → ⊥)
+    → (r .count ≡ 0) × (r .rows ≡ replicate maxMessages 0)
+gossip-refused c st topic windows r g n =
+    let e = gossip-none c st topic windows (λ z. n (ap gossipNumber (g .answer) ∙ z)) in
+    (g .count ∙ e .0, g .rows ∙ e .1)

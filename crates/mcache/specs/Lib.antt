@@ -1,13 +1,16 @@
--- To be believed: Messages, WellFormed, Calls (the order of refusals), State (`cachedIn`, `legal`), Told.
+-- To be believed: Messages, WellFormed, Calls (the order of refusals), State (`cachedIn`, `legal`), Told, Unique (the
+-- contracts).
 -- Cited by contracts, and joined to these by theorems: the other definitions of State and Calls, by Laws.
--- Theorems: Laws, GossipLaws, FineLaws, WellFormedLaws, WrapLaws, Readers.
--- On the way to them: StateLaws, CachedLaws, GatherLaws.
+-- Theorems: Laws, GossipLaws, FineLaws, WellFormedLaws, WrapLaws, Unique, Exactly, Readers.
+-- On the way to them: StateLaws, CachedLaws, GatherLaws, GuardLaws.
 pub mod Told
 pub mod Messages
 pub mod State
 pub mod Calls
+pub mod Unique
 pub mod WellFormed
 pub mod StateLaws
+pub mod GuardLaws
 pub mod CachedLaws
 pub mod Laws
 pub mod GossipLaws
@@ -15,4 +18,5 @@ pub mod GatherLaws
 pub mod FineLaws
 pub mod WellFormedLaws
 pub mod WrapLaws
+pub mod Exactly
 pub mod Readers

@@ -107,6 +107,18 @@ pub record Laid (ring : Ring) (lens ilens ids st : List ℕ) : Type 0 where
   pub room : length st ≡ ring .cap * messageSize
   pub id-short : (i : ℕ) → i < ring .count → getD ilens (placeOf ring i) 0 ≤ messageIdSize
 
+-- what a new row needs
+pub record Placed (c : MessageCache) (st : List ℕ) : Type 0 where
+  pub few : c .«max_messages» ≤ maxMessages
+  pub starts : c .start ≤ c .«max_messages»
+  pub within : c .count ≤ c .«max_messages»
+  pub room : length st ≡ c .«max_messages» * messageSize
+  pub lengths : length (c .len) ≡ maxMessages
+  pub id-lengths : length (c .«id_len») ≡ maxMessages
+  pub id-room : length (c .ids) ≡ idsSize
+  pub windows : length (c .window) ≡ maxMessages
+  pub generations : length (c .generation) ≡ maxMessages
+
 pub record Usable (c : MessageCache) (st : List ℕ) : Type 0 where
   pub rows : Laid (ringOf c) (c .len) (c .«id_len») (c .ids) st
   pub short : (i : ℕ) → i < c .count → getD (c .len) (placeOf (ringOf c) i) 0 ≤ messageSize

@@ -9,19 +9,21 @@ ghost use Prim.Native.Nat.{ℕ, _+_, _-_, _*_, _≤_, _<_};
 ghost use lib.ListN.{length, drop, take, getD, replicate};
 ghost use lib.Seq.{sets};
 ghost use Rattle.rows.specs.Rows.{placeOf};
-ghost use Rattle.rows.specs.Store.{InStore, Sound, inUse, idAt};
-ghost use Rattle.ids.specs.Ids.{idBytes};
+ghost use Rattle.rows.specs.Store.{InStore, inUse, idAt};
 ghost use Rattle.admission.specs.Admission.{admissionOf};
-ghost use Rattle.mcache.specs.State.{messageSize, messageIdSize, maxMessages, ringOf, messageIn, fallsFrom, runsTo, givesIn, idsFit, rowsFit, stale, older, Laid, Usable, fresh, dropped, appended, Listed, told, spotOf, putAt, insertRow};
-ghost use Rattle.mcache.specs.Calls.{startAnswer, startCache, lentOf, indexIn, entered, enteredStore, planUnder, keptUnder, storedUnder};
-ghost use Rattle.mcache.specs.Calls.{shifted, found, gossipList, gossipArray, planFit, planned, answered};
-ghost use Rattle.mcache.specs.Calls.{keptIn, storedIn, shiftCache, getPart, lookupAnswer, gossipAnswer, gossipCount, gossipRows};
+ghost use Rattle.mcache.specs.State.{messageSize, messageIdSize, maxMessages, ringOf, messageIn, fallsFrom, runsTo, givesIn, idsFit, rowsFit, stale, older, Laid, Usable, Placed, fresh, dropped, appended, told, spotOf, putAt, insertRow};
+ghost use Rattle.mcache.specs.Calls.{lentOf, indexIn, entered, enteredStore};
+ghost use Rattle.mcache.specs.Calls.{shifted, found, formable, rowsLie, keepable, planFit, answered};
+ghost use Rattle.mcache.specs.Calls.{keptIn, storedIn, getPart, lookupAnswer};
+ghost use Rattle.mcache.specs.Unique.{Starts, Puts, Keeps, Shifts, Gossips, TellsRows, Forms, WritesId};
 use admission::Admission;
 use admission::MAX_TOPIC_SIZE;
 use admission::Unfit;
 use admission::admit;
 use admission::carries;
 use admission::gives_id;
+use basis::Written;
+use basis::has_room;
 use ids::MessageAt;
 use ids::message_at;
 use protobuf::Checked;
@@ -29,11 +31,14 @@ use protobuf::WireError;
 use protobuf::put_bytes;
 use rows::Ring;
 use rows::all_within;
+use rows::byte_at;
 use rows::find_from;
+use rows::id_at;
 use rows::ids_differ;
 use rows::minus;
 use rows::place;
 use rows::precedes;
+use rows::short_at;
 use schema::accept;
 
 pub const MESSAGE_SIZE: usize = 4096;
@@ -203,13 +208,12 @@ fn age_windows(window: &mut [u8])
 
 // How many of the oldest leave when a window is opened: those in front of the first that stays.
 fn stale_rows(window: &[u8], ring: Ring, history_len: usize) -> usize
-    requires { ⌜ InStore ring (now window) ⌝ }
     ensures { λ r. ⌜ r ≡ stale «history_len» (inUse ring (now (window .entry))) ⌝ }
 {
     let mut i = 0;
     while i < ring.count {
         let p = place(ring, i);
-        let w = window[p] as usize;
+        let w = byte_at(window, p) as usize;
         if w + 1 < history_len {
             return i;
         }
@@ -220,18 +224,85 @@ fn stale_rows(window: &[u8], ring: Ring, history_len: usize) -> usize
 
 // ---- putting
 
-// Writes the id of a message, from and then seqno, at the front of out.
-pub fn form_id(part: &[u8], a: usize, e: usize, b: usize, f: usize, out: &mut [u8]) -> usize
-    requires { ⌜ (a ≤ e) × (e ≤ length (now part)) × (b ≤ f) × (f ≤ length (now part)) ⌝ }
-    requires { ⌜ length (idBytes (now part) a e b f) ≤ length (now out) ⌝ }
-    ensures { λ r. ⌜ r ≡ length (idBytes (now (part .entry)) a e b f) ⌝ }
-    ensures { λ _. ⌜ now (out .exit) ≡ sets (now (out .entry)) 0 (idBytes (now (part .entry)) a e b f) ⌝ }
+// Whether from and seqno lie within n bytes, and m bytes have room for both.
+fn can_form(n: usize, a: usize, e: usize, b: usize, f: usize, m: usize) -> bool
+    ensures { λ r. ⌜ r ≡ formable n a e b f m ⌝ }
 {
-    let i = put_bytes(out, 0, &part[a..e]);
-    put_bytes(out, i, &part[b..f])
+    if e < a {
+        return false;
+    }
+    if n < e {
+        return false;
+    }
+    if f < b {
+        return false;
+    }
+    if n < f {
+        return false;
+    }
+    has_room(m, e - a, f - b)
+}
+
+// Writes the id of a message, from and then seqno, at the front of out, and answers its length; 0 and nothing, where they do not lie in the part or
+// out has no room.
+pub fn form_id(part: &[u8], a: usize, e: usize, b: usize, f: usize, out: &mut [u8]) -> usize
+    ensures { λ r. ⌜ Forms (now (part .entry)) a e b f (now (out .entry)) r (now (out .exit)) ⌝ }
+{
+    if can_form(part.len(), a, e, b, f, out.len()) {
+        let i = put_bytes(out, 0, &part[a..e]);
+        return put_bytes(out, i, &part[b..f]);
+    }
+    0
+}
+
+// ---- what keep and tell ask of the rows
+
+// Whether the rows lie within the arrays.
+fn rows_lie(ring: Ring) -> bool
+    ensures { λ r. ⌜ r ≡ rowsLie ring ⌝ }
+{
+    if MAX_MESSAGES < ring.cap {
+        return false;
+    }
+    if ring.cap < ring.start {
+        return false;
+    }
+    ring.count <= ring.cap
+}
+
+// Whether a store of s bytes has their places too, and a message of m bytes and an id of i fit theirs.
+fn can_keep(ring: Ring, s: usize, m: usize, i: usize) -> bool
+    ensures { λ r. ⌜ r ≡ keepable ring s m i ⌝ }
+{
+    if rows_lie(ring) {
+        if s != ring.cap * MESSAGE_SIZE {
+            return false;
+        }
+        if MESSAGE_SIZE < m {
+            return false;
+        }
+        return i <= MESSAGE_ID_SIZE;
+    }
+    false
 }
 
 // ---- telling
+
+// The message in place p: cut at the end of the store.
+fn message_in<'l, 's>(lens: &'l [u16], store: &'s [u8], p: usize) -> &'s [u8]
+    requires { ⌜ p < maxMessages ⌝ }
+    ensures { λ r. ⌜ now r ≡ messageIn (now (lens .entry)) (now (store .entry)) p ⌝ }
+{
+    let base = p * MESSAGE_SIZE;
+    if store.len() < base {
+        return &store[..0];
+    }
+    let end = base + short_at(lens, p) as usize;
+    if store.len() < end {
+        return &store[base..];
+    }
+    &store[base..end]
+}
 
 // Whether the message in place p is in the newest windows asked for and carries the topic.
 fn is_told(
@@ -242,33 +313,26 @@ fn is_told(
     windows: usize,
     topic: &[u8],
 ) -> bool
-    requires { ⌜ (p < maxMessages) × (length (now window) ≡ maxMessages) × (length (now lens) ≡ maxMessages) × (p * messageSize + getD (now lens) p 0 ≤ length (now store)) ⌝ }
+    requires { ⌜ p < maxMessages ⌝ }
     ensures { λ r. ⌜ r ≡ told (now (window .entry)) (now (lens .entry)) (now (store .entry)) windows (now (topic .entry)) p ⌝ }
 {
-    let w = window[p] as usize;
+    let w = byte_at(window, p) as usize;
     if windows <= w {
         return false;
     }
-    let base = p * MESSAGE_SIZE;
-    let end = base + lens[p] as usize;
-    carries(&store[base..end], topic)
+    carries(message_in(lens, store, p), topic)
 }
 
 // Where the row p goes among the first n of `rows`: before the first whose id does not come before its own.
 fn spot(rows: &[u8], n: usize, id_lens: &[u8], ids: &[u8], p: usize) -> usize
     requires { ⌜ n ≤ length (now rows) ⌝ }
-    requires { ⌜ Listed n (now rows) (now «id_lens») (now ids) ⌝ }
-    requires { ⌜ (p < maxMessages) × (getD (now «id_lens») p 0 ≤ messageIdSize) ⌝ }
     ensures { λ r. ⌜ r ≡ spotOf (idAt messageIdSize (now («id_lens» .entry)) (now (ids .entry))) p (take n (now (rows .entry))) ⌝ }
 {
-    let base = p * MESSAGE_ID_SIZE;
-    let end = base + id_lens[p] as usize;
+    let own = id_at(id_lens, ids, MESSAGE_ID_SIZE, p);
     let mut i = 0;
     while i < n {
         let q = rows[i] as usize;
-        let q_base = q * MESSAGE_ID_SIZE;
-        let q_end = q_base + id_lens[q] as usize;
-        if precedes(&ids[q_base..q_end], &ids[base..end]) {
+        if precedes(id_at(id_lens, ids, MESSAGE_ID_SIZE, q), own) {
             i += 1;
         } else {
             return i;
@@ -294,9 +358,7 @@ fn put_row(rows: &mut [u8], n: usize, at: usize, p: u8)
 
 // Puts the row p into its spot among the first n of `rows`, where it is to be there; and how many there are then.
 fn tell_row(there: bool, rows: &mut [u8], n: usize, id_lens: &[u8], ids: &[u8], p: usize) -> usize
-    requires { ⌜ n < length (now rows) ⌝ }
-    requires { ⌜ Listed n (now rows) (now «id_lens») (now ids) ⌝ }
-    requires { ⌜ (p < maxMessages) × (getD (now «id_lens») p 0 ≤ messageIdSize) ⌝ }
+    requires { ⌜ (n < length (now rows)) × (p < maxMessages) ⌝ }
     ensures { λ r. ⌜ r ≡ cond there (n + 1) n ⌝ }
     ensures { λ _. ⌜ now (rows .exit) ≡ cond there (insertRow (idAt messageIdSize (now («id_lens» .entry)) (now (ids .entry))) p (take n (now (rows .entry))) ++ drop (n + 1) (now (rows .entry))) (now (rows .entry)) ⌝ }
 {
@@ -311,8 +373,7 @@ fn tell_row(there: bool, rows: &mut [u8], n: usize, id_lens: &[u8], ids: &[u8], 
 impl MessageCache {
     // An empty cache. Settings out of range are 40: history_len 0, where the Rust can panic, or above 16, or max_messages above 64.
     pub fn new(history_len: usize, max_messages: usize) -> Started
-        ensures { λ r. ⌜ r .answer ≡ startAnswer «history_len» «max_messages» ⌝ }
-        ensures { λ r. ⌜ r .cache ≡ startCache «history_len» «max_messages» ⌝ }
+        ensures { λ r. ⌜ Starts «history_len» «max_messages» r ⌝ }
     {
         if history_len == 0 {
             return MessageCache::refused();
@@ -448,7 +509,7 @@ impl MessageCache {
 
     // With a message more, the newest.
     fn append(mut self, store: &mut [u8], part: &[u8], id: &[u8]) -> Self
-        requires { ⌜ Usable self (now store) ⌝ }
+        requires { ⌜ Placed self (now store) ⌝ }
         requires { ⌜ self .count < self .«max_messages» ⌝ }
         requires { ⌜ (length (now part) ≤ messageSize) × (length (now id) ≤ messageIdSize) ⌝ }
         ensures { λ r. ⌜ r ≡ appended (length (now (part .entry))) (now (id .entry)) self ⌝ }
@@ -469,9 +530,9 @@ impl MessageCache {
         self
     }
 
-    // With a message whose id is not held, where the state was tested: past max_messages the oldest goes.
+    // With a message whose id is not held: past max_messages the oldest goes.
     fn enter(mut self, store: &mut [u8], part: &[u8], id: &[u8]) -> Self
-        requires { ⌜ Usable self (now store) ⌝ }
+        requires { ⌜ Placed self (now store) ⌝ }
         requires { ⌜ (length (now part) ≤ messageSize) × (length (now id) ≤ messageIdSize) ⌝ }
         ensures { λ r. ⌜ r ≡ entered (length (now (part .entry))) (now (id .entry)) self ⌝ }
         ensures { λ _. ⌜ now (store .exit) ≡ enteredStore self (now (store .entry)) (now (part .entry)) ⌝ }
@@ -486,9 +547,8 @@ impl MessageCache {
         rest.append(store, part, id)
     }
 
-    // Which row holds an id, counted from the oldest, where the state was tested; the count of rows where none does.
+    // Which row holds an id, counted from the oldest; the count of rows where none does.
     fn find(self, id: &[u8]) -> usize
-        requires { ⌜ Sound messageIdSize (ringOf self) (self .«id_len») (self .ids) ⌝ }
         ensures { λ r. ⌜ r ≡ indexIn self (now (id .entry)) ⌝ }
     {
         let ring = self.ring();
@@ -497,25 +557,29 @@ impl MessageCache {
         find_from(&id_lens, &ids, MESSAGE_ID_SIZE, ring, 0, id)
     }
 
-    // Puts a message under its id, where the state was tested. A held id changes nothing.
+    // Puts a message under its id into a state that the caller tested; it tests only that the rows lie in the arrays and the store, and that both
+    // fit. A held id changes nothing.
     pub fn keep(self, store: &mut [u8], part: &[u8], id: &[u8]) -> PutDone
-        requires { ⌜ Usable self (now store) ⌝ }
-        requires { ⌜ (length (now part) ≤ messageSize) × (length (now id) ≤ messageIdSize) ⌝ }
-        ensures { λ r. ⌜ r .answer ≡ answered (planUnder self (now (part .entry)) (now (id .entry))) ⌝ }
-        ensures { λ r. ⌜ r .cache ≡ keptUnder (now (part .entry)) (now (id .entry)) self ⌝ }
-        ensures { λ _. ⌜ now (store .exit) ≡ storedUnder self (now (store .entry)) (now (part .entry)) (now (id .entry)) ⌝ }
+        ensures { λ r. ⌜ Keeps self (now (store .entry)) (now (part .entry)) (now (id .entry)) r (now (store .exit)) ⌝ }
     {
-        let row = self.find(id);
-        if row < self.count {
+        let ring = self.ring();
+        if can_keep(ring, store.len(), part.len(), id.len()) {
+            let row = self.find(id);
+            if row < self.count {
+                return PutDone {
+                    answer: Put::Held,
+                    cache: self,
+                };
+            }
+            let cache = self.enter(store, part, id);
             return PutDone {
-                answer: Put::Held,
-                cache: self,
+                answer: Put::Stored,
+                cache,
             };
         }
-        let cache = self.enter(store, part, id);
         PutDone {
-            answer: Put::Stored,
-            cache,
+            answer: Put::Malformed,
+            cache: self,
         }
     }
 
@@ -547,9 +611,7 @@ impl MessageCache {
 
     // Puts the message at an index of a body. A held id changes nothing.
     pub fn put(self, store: &mut [u8], body: &[u8], index: usize) -> PutDone
-        ensures { λ r. ⌜ r .answer ≡ answered (planned self (now (store .entry)) (now (body .entry)) index) ⌝ }
-        ensures { λ r. ⌜ r .cache ≡ keptIn self (planned self (now (store .entry)) (now (body .entry)) index) ⌝ }
-        ensures { λ _. ⌜ now (store .exit) ≡ storedIn self (now (store .entry)) (planned self (now (store .entry)) (now (body .entry)) index) ⌝ }
+        ensures { λ r. ⌜ Puts self (now (store .entry)) (now (body .entry)) index r (now (store .exit)) ⌝ }
     {
         let lent = self.lent(store);
         match lent {
@@ -583,9 +645,8 @@ impl MessageCache {
         }
     }
 
-    // A window later, where the state was tested.
+    // A window later, of a state that the caller tested.
     pub fn next_window(mut self) -> Self
-        requires { ⌜ InStore (ringOf self) (self .window) ⌝ }
         ensures { λ r. ⌜ r ≡ shifted self ⌝ }
     {
         let ring = self.ring();
@@ -598,8 +659,7 @@ impl MessageCache {
 
     // Opens a window; what is in windows beyond history_len goes.
     pub fn shift(self, store: &[u8]) -> Shifted
-        ensures { λ r. ⌜ r .answer ≡ lentOf self (now (store .entry)) ⌝ }
-        ensures { λ r. ⌜ r .cache ≡ shiftCache self (now (store .entry)) ⌝ }
+        ensures { λ r. ⌜ Shifts self (now (store .entry)) r ⌝ }
     {
         let lent = self.lent(store);
         match lent {
@@ -665,32 +725,33 @@ impl MessageCache {
         }
     }
 
-    // The messages of the newest windows asked for that carry the topic, where the state was tested.
+    // The messages of the newest windows asked for that carry the topic, of a state that the caller tested; it tests only that the rows lie in the
+    // arrays.
     pub fn tell(self, store: &[u8], topic: &[u8], windows: usize) -> GossipIds
-        requires { ⌜ Usable self (now store) ⌝ }
-        ensures { λ r. ⌜ r .answer ≡ Gossip.Ids ⌝ }
-        ensures { λ r. ⌜ r .count ≡ length (gossipList self (now (store .entry)) (now (topic .entry)) windows) ⌝ }
-        ensures { λ r. ⌜ r .rows ≡ gossipArray self (now (store .entry)) (now (topic .entry)) windows ⌝ }
+        ensures { λ r. ⌜ TellsRows self (now (store .entry)) (now (topic .entry)) windows r ⌝ }
     {
         let ring = self.ring();
-        let window = self.window;
-        let lens = self.len;
-        let id_lens = self.id_len;
-        let ids = self.ids;
-        let mut rows = [0u8; MAX_MESSAGES];
-        let mut count = 0;
-        let mut i = 0;
-        while i < ring.count {
-            let p = place(ring, i);
-            let there = is_told(&window, &lens, store, p, windows, topic);
-            count = tell_row(there, &mut rows, count, &id_lens, &ids, p);
-            i += 1;
+        if rows_lie(ring) {
+            let window = self.window;
+            let lens = self.len;
+            let id_lens = self.id_len;
+            let ids = self.ids;
+            let mut rows = [0u8; MAX_MESSAGES];
+            let mut count = 0;
+            let mut i = 0;
+            while i < ring.count {
+                let p = place(ring, i);
+                let there = is_told(&window, &lens, store, p, windows, topic);
+                count = tell_row(there, &mut rows, count, &id_lens, &ids, p);
+                i += 1;
+            }
+            return GossipIds {
+                answer: Gossip::Ids,
+                count,
+                rows,
+            };
         }
-        GossipIds {
-            answer: Gossip::Ids,
-            count,
-            rows,
-        }
+        MessageCache::untold(Gossip::Malformed)
     }
 
     // No ids.
@@ -708,9 +769,7 @@ impl MessageCache {
 
     // The distinct ids of the newest windows asked for that carry the topic, in byte order, a prefix first.
     pub fn gossip_ids(self, store: &[u8], topic: &[u8], windows: usize) -> GossipIds
-        ensures { λ r. ⌜ r .answer ≡ gossipAnswer self (now (store .entry)) (now (topic .entry)) ⌝ }
-        ensures { λ r. ⌜ r .count ≡ gossipCount self (now (store .entry)) (now (topic .entry)) windows ⌝ }
-        ensures { λ r. ⌜ r .rows ≡ gossipRows self (now (store .entry)) (now (topic .entry)) windows ⌝ }
+        ensures { λ r. ⌜ Gossips self (now (store .entry)) (now (topic .entry)) windows r ⌝ }
     {
         let lent = self.lent(store);
         match lent {
@@ -723,5 +782,19 @@ impl MessageCache {
                 self.tell(store, topic, windows)
             }
         }
+    }
+
+    // Writes the id in a place, as `gossip_ids` answers places, at the front of out; a place past the last has none.
+    pub fn id_at(self, row: usize, out: &mut [u8]) -> Written
+        ensures { λ r. ⌜ WritesId self row (now (out .entry)) r (now (out .exit)) ⌝ }
+    {
+        let id_lens = self.id_len;
+        let ids = self.ids;
+        let id = id_at(&id_lens, &ids, MESSAGE_ID_SIZE, row);
+        if out.len() < id.len() {
+            return Written::Room(id.len());
+        }
+        put_bytes(out, 0, id);
+        Written::Bytes(id.len())
     }
 }

@@ -1,10 +1,9 @@
 use denote.Ref.{now}
 use Prim.Native.Nat.{ℕ, _+_, _-_, _≤_, _<_}
-use mathlib.Core.Path.{_≡_, refl, sym, ap, _∙_}
-use lib.ListN.{length, drop, getD}
+use mathlib.Core.Path.{_≡_, ap, _∙_}
+use lib.ListN.{drop, getD}
 use native.Mathlib.Omega.{arith}
 use Rattle.rows.specs.Store.{inUse}
-use Rattle.rows.specs.RowsLaws.{place-lt}
 use Rattle.mcache.specs.State.{stale}
 use Rattle.mcache.proofs.Walks.{stale-more, stale-stays, stale-all}
 use borrow.Author.Needs.{needs}
@@ -23,23 +22,17 @@ loop-holds c = (omega arith, omega arith)
 place-requires : tie.Need-place-requires Inv-loop μ-loop
 place-requires c κs = search needs
 
-shared-slice-read-w : tie.Need-shared-slice-read-w Inv-loop μ-loop
-shared-slice-read-w c = let l = place-lt (c .before .before .before .before .before .before .args .ring) (c .before .before .before .before .loop .i)
-    (c .before .before .before .before .before .before .pre .starts) (omega (arith, (c .before .before .before .before .before .before .pre .within))) in
-    let e = (c .before .place .ensures) in omega (arith, (c .before .before .before .before .before .before .pre .size))
+byte-at-requires : tie.Need-byte-at-requires Inv-loop μ-loop
+byte-at-requires c κs = search needs
 
 cast-w : tie.Need-cast-w Inv-loop μ-loop
-cast-w c = omega (arith, (c .shared-slice-known2 .given) (c .before .place .result))
+cast-w c = search needs
 
 add-if2 : tie.Need-add-if2 Inv-loop μ-loop
-add-if2 c = omega (arith, (c .shared-slice-known2 .given) (c .before .place .result))
+add-if2 c = search needs
 
 returns : tie.Need-returns Inv-loop μ-loop
-returns c = stale-stays (c .before .before .before .before .before .before .before .args .history-len)
-    (c .before .before .before .before .before .before .before .args .ring) (now (c .before .before .before .before .before .before .before .args .window))
-    (c .before .before .before .before .before .loop .i) (c .before .before .before .before .before .loop .inv .1) _ (c .before .before .before .if1 .taken)
-    (ap (λ (p : ℕ). getD (now (c .before .before .before .before .before .before .before .args .window)) p 0) (c .before .before .place .ensures))
-    (c .if2 .taken)
+returns c = let a = c .before .before .before .before .before .before .before .args in stale-stays (a .history-len) (a .ring) (now (a .window)) (c .before .before .before .before .before .loop .i) (c .before .before .before .before .before .loop .inv .1) _ (c .before .before .before .if1 .taken) (c .before .byte-at .ensures ∙ ap (λ (p : ℕ). getD (now (a .window)) p 0) (c .before .before .place .ensures)) (c .if2 .taken)
 
 add-i : tie.Need-add-i Inv-loop μ-loop
 add-i c = search needs
@@ -48,31 +41,10 @@ loop-less : tie.Need-loop-less Inv-loop μ-loop
 loop-less c = search needs
 
 loop-again : tie.Need-loop-again Inv-loop μ-loop
-loop-again c = (
-  omega arith,
-  stale-more (c .before .before .before .before .before .before .before .args .history-len)
-      (c .before .before .before .before .before .before .before .args .ring) (now (c .before .before .before .before .before .before .before .args .window))
-      (c .before .before .before .before .before .loop .i) (c .before .before .before .before .before .loop .inv .1) _ (c .before .before .before .if1 .taken)
-      (ap (λ (p : ℕ). getD (now (c .before .before .before .before .before .before .before .args .window)) p 0) (c .before .before .place .ensures))
-      (c .if2 .left),
-)
+loop-again c = let a = c .before .before .before .before .before .before .before .args in (omega arith, stale-more (a .history-len) (a .ring) (now (a .window)) (c .before .before .before .before .before .loop .i) (c .before .before .before .before .before .loop .inv .1) _ (c .before .before .before .if1 .taken) (c .before .byte-at .ensures ∙ ap (λ (p : ℕ). getD (now (a .window)) p 0) (c .before .before .place .ensures)) (c .if2 .left))
 
 returns-2 : tie.Need-returns-2 Inv-loop μ-loop
-returns-2 c = stale-all (c .before .before .before .before .args .history-len) (c .before .before .before .before .args .ring) (now (c .before .before .before .before .args .window)) (c .before .before .loop .i) (c .before .before .loop .inv .1) (c .if1 .left)
+returns-2 c = let a = c .before .before .before .before .args in stale-all (a .history-len) (a .ring) (now (a .window)) (c .before .before .loop .i) (c .before .before .loop .inv .1) (c .if1 .left)
 
 pub stale-rows-spec : {M : Type 1} → statement M
-stale-rows-spec =
-    tie.close
-    (tie.spec
-    Inv-loop
-    μ-loop
-    loop-holds
-    place-requires
-    shared-slice-read-w
-    cast-w
-    add-if2
-    returns
-    add-i
-    loop-less
-    loop-again
-    returns-2)
+stale-rows-spec = tie.close (tie.spec Inv-loop μ-loop loop-holds place-requires byte-at-requires cast-w add-if2 returns add-i loop-less loop-again returns-2)

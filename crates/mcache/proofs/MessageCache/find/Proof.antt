@@ -1,4 +1,3 @@
-use native.Mathlib.Omega.{arith}
 use denote.Ref.{now}
 use Rattle.mcache.proofs.Steps.{index-is}
 use borrow.Author.Needs.{needs}
@@ -15,7 +14,7 @@ slice-aggregate-find-from-2 : tie.Need-slice-aggregate-find-from-2
 slice-aggregate-find-from-2 c = search needs
 
 find-from-requires : tie.Need-find-from-requires
-find-from-requires c κs = rw (c .before .before .before .before .ring .ensures) (c .before .before .before .before .before .before .pre, omega arith)
+find-from-requires c κs = search needs
 
 returns : tie.Need-returns
 returns c = index-is (c .before .before .before .before .before .before .before .args .self) (now (c .before .before .before .before .before .before .before .args .id)) (c .find-from .result) (rw (c .before .before .before .before .before .ring .ensures) at (c .find-from .ensures))

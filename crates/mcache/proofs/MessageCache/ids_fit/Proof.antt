@@ -2,7 +2,7 @@ use denote.Ref.{now}
 use mathlib.Core.Path.{_≡_, sym, _∙_}
 use lib.ListN.{length}
 use native.Mathlib.Omega.{arith}
-use Rattle.mcache.proofs.Answers.{ids-short, ids-gives, ids-differ, ring-of, rows-of, sound-of}
+use Rattle.mcache.proofs.Answers.{ids-short, ids-gives, ids-differ, rows-of}
 use borrow.Author.Needs.{needs}
 use Rattle.mcache.proofs.MessageCache.ids_fit.Statement.{statement}
 use Rattle.mcache.proofs.MessageCache.ids_fit.Tie as tie
@@ -17,9 +17,7 @@ cast-all-within : tie.Need-cast-all-within
 cast-all-within c = search needs
 
 all-within-requires : tie.Need-all-within-requires
-all-within-requires c κs = rw (c .before .before .before .before .ring .ensures) (ring-of (c .before .before .before .before .before .before .args .self)
-    (now (c .before .before .before .before .before .before .args .store)) (c .before .before .before .before .before .before .pre .0)
-    (c .before .before .before .before .before .before .pre .1) (c .before .before .before .before .before .before .pre .2) _ (search needs))
+all-within-requires c κs = search needs
 
 slice-aggregate-messages-fit : tie.Need-slice-aggregate-messages-fit
 slice-aggregate-messages-fit c = search needs
@@ -48,15 +46,7 @@ slice-aggregate-ids-differ-2 : tie.Need-slice-aggregate-ids-differ-2
 slice-aggregate-ids-differ-2 c = search needs
 
 ids-differ-requires : tie.Need-ids-differ-requires
-ids-differ-requires c κs = rw (c .before .before .before .before .before .before .before .before .before .before .before .before .before .ring .ensures)
-    (sound-of (c .before .before .before .before .before .before .before .before .before .before .before .before .before .before .before .args .self)
-    (now (c .before .before .before .before .before .before .before .before .before .before .before .before .before .before .before .args .store))
-    (c .before .before .before .before .before .before .before .before .before .before .before .before .before .before .before .pre .0)
-    (c .before .before .before .before .before .before .before .before .before .before .before .before .before .before .before .pre .1)
-    (c .before .before .before .before .before .before .before .before .before .before .before .before .before .before .before .pre .2) (search needs)
-    (search needs) (sym (rw (c .before .before .before .before .before .before .before .before .before .before .before .before .before .ring .ensures) at
-    (c .before .before .before .before .before .before .before .before .all-within .ensures))
-    ∙ (c .before .before .before .before .before .before .before .if1 .taken)))
+ids-differ-requires c κs = search needs
 
 returns : tie.Need-returns
 returns c = ids-differ

@@ -1,7 +1,6 @@
 use denote.Ref.{now}
 use mathlib.Core.Path.{_≡_, sym, _∙_}
-use Rattle.mcache.specs.StateLaws.{kept-sound}
-use Rattle.mcache.proofs.Answers.{tested, lookup-store, lookup-malformed, lookup-found, lookup-missing}
+use Rattle.mcache.proofs.Answers.{lookup-store, lookup-malformed, lookup-found, lookup-missing}
 use borrow.Author.Needs.{needs}
 use Rattle.mcache.proofs.MessageCache.lookup.Statement.{statement}
 use Rattle.mcache.proofs.MessageCache.lookup.Tie as tie
@@ -19,9 +18,7 @@ enum-told-3 : tie.Need-enum-told-3
 enum-told-3 c = search needs
 
 find-requires : tie.Need-find-requires
-find-requires c κs = kept-sound (c .before .before .before .before .before .args .self) (now (c .before .before .before .before .before .args .store))
-    (tested (c .before .before .before .before .before .args .self) (now (c .before .before .before .before .before .args .store))
-    (sym (c .enum-told3 .given .1) ∙ (c .before .before .lent .ensures)) (search needs) (search needs) (search needs) (search needs) (search needs))
+find-requires c κs = search needs
 
 returns : tie.Need-returns
 returns c = lookup-found (c .before .before .before .before .before .before .before .before .args .self)

@@ -1,14 +1,13 @@
 use denote.Ref.{now}
 use mathlib.Core.Path.{_≡_, sym, _∙_}
 use native.Mathlib.Omega.{arith}
-use Rattle.mcache.specs.StateLaws.{kept-sound}
 use Rattle.mcache.proofs.Answers.{found-none, found-at, found-lies}
 use borrow.Author.Needs.{needs}
 use Rattle.mcache.proofs.MessageCache.message_of.Statement.{statement}
 use Rattle.mcache.proofs.MessageCache.message_of.Tie as tie
 
 find-requires : tie.Need-find-requires
-find-requires c κs = kept-sound (c .before .before .args .t1) (now (c .before .before .args .store)) (c .before .before .pre)
+find-requires c κs = search needs
 
 ring-requires : tie.Need-ring-requires
 ring-requires c κs = search needs

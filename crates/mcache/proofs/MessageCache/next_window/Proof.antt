@@ -11,7 +11,7 @@ slice-aggregate-stale-rows : tie.Need-slice-aggregate-stale-rows
 slice-aggregate-stale-rows c = search needs
 
 stale-rows-requires : tie.Need-stale-rows-requires
-stale-rows-requires c κs = rw (c .before .before .ring .ensures) (c .before .before .before .pre)
+stale-rows-requires c κs = search needs
 
 slice-aggregate-age-windows : tie.Need-slice-aggregate-age-windows
 slice-aggregate-age-windows c = search needs

@@ -1,7 +1,7 @@
 use denote.Ref.{now}
 use mathlib.Core.Path.{_≡_, refl, sym, _∙_}
 use Rattle.ids.specs.IdLaws.{message-inside}
-use Rattle.mcache.proofs.Answers.{tested, puts-no, puts-as, plan-store, plan-malformed, plan-refused, plan-missing, plan-at, nested}
+use Rattle.mcache.proofs.Answers.{tested, put-done, puts-no, puts-as, plan-store, plan-malformed, plan-refused, plan-missing, plan-at}
 use borrow.Author.Needs.{needs}
 use Rattle.mcache.proofs.MessageCache.put.Statement.{statement}
 use Rattle.mcache.proofs.MessageCache.put.Tie as tie
@@ -63,7 +63,7 @@ same-length : tie.Need-same-length
 same-length c = search needs
 
 returns : tie.Need-returns
-returns c = nested (puts-no (c .before .before .before .before .before .before .args .self)
+returns c = put-done _ _ _ _ _ _ (puts-no (c .before .before .before .before .before .before .args .self)
     (now (c .before .before .before .before .before .before .args .store)) _ _ (plan-store (c .before .before .before .before .before .before .args .self)
     (now (c .before .before .before .before .before .before .args .store)) (now (c .before .before .before .before .before .before .args .body))
     (c .before .before .before .before .before .before .args .index) (sym (c .enum-told .given .1) ∙ (c .before .before .lent .ensures))))
@@ -73,7 +73,7 @@ same-length-2 c = search needs
 
 returns-2 : tie.Need-returns-2
 returns-2 c =
-    nested (puts-no (c .before .before .before .before .before .before .args .self) (now (c .before .before .before .before .before .before .args .store)) _ _
+    put-done _ _ _ _ _ _ (puts-no (c .before .before .before .before .before .before .args .self) (now (c .before .before .before .before .before .before .args .store)) _ _
     (plan-malformed (c .before .before .before .before .before .before .args .self) (now (c .before .before .before .before .before .before .args .store))
     (now (c .before .before .before .before .before .before .args .body)) (c .before .before .before .before .before .before .args .index)
     (sym (c .enum-told2 .given .1) ∙ (c .before .before .lent .ensures))))
@@ -83,7 +83,7 @@ same-length-3 c = search needs
 
 returns-3 : tie.Need-returns-3
 returns-3 c =
-    nested (puts-no (c .before .before .before .before .before .before .before .before .before .before .args .self)
+    put-done _ _ _ _ _ _ (puts-no (c .before .before .before .before .before .before .before .before .before .before .args .self)
     (now (c .before .before .before .before .before .before .before .before .before .before .args .store)) _ _
     (plan-refused (c .before .before .before .before .before .before .before .before .before .before .args .self)
     (now (c .before .before .before .before .before .before .before .before .before .before .args .store))
@@ -96,7 +96,7 @@ same-length-4 : tie.Need-same-length-4
 same-length-4 c = search needs
 
 returns-4 : tie.Need-returns-4
-returns-4 c = nested (puts-no (c .before .before .before .before .before .before .before .before .before .before .before .before .before .args .self)
+returns-4 c = put-done _ _ _ _ _ _ (puts-no (c .before .before .before .before .before .before .before .before .before .before .before .before .before .args .self)
     (now (c .before .before .before .before .before .before .before .before .before .before .before .before .before .args .store)) _ _
     (plan-missing (c .before .before .before .before .before .before .before .before .before .before .before .before .before .args .self)
     (now (c .before .before .before .before .before .before .before .before .before .before .before .before .before .args .store))
@@ -111,7 +111,7 @@ same-length-5 c = search needs
 
 returns-5 : tie.Need-returns-5
 returns-5 c =
-    nested (puts-as
+    put-done _ _ _ _ _ _ (puts-as
     (c .before .before .before .before .before .before .before .before .before .before .before .before .before .before .before .before .before .before .args
     .self) (now (c .before .before .before .before .before .before .before .before .before .before .before .before .before .before .before .before .before
     .before .args .store)) _ _ _ _ _
@@ -127,7 +127,7 @@ returns-5 c =
     ∙ (c .before .before .before .before .before .before .before .before .before .before .before .accept .ensures))
     (sym (c .before .before .before .before .before .before .m2 .given .1)
     ∙ (c .before .before .before .before .before .before .before .before .message-at .ensures)))
-    ((c .before .before .put-part .ensures .0), (c .before .before .put-part .ensures .1 .0), (c .before .before .put-part .ensures .1 .1)))
+    (c .before .before .put-part .ensures))
 
 pub put-spec : {M : Type 1} → statement M
 put-spec =

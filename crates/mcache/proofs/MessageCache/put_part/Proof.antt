@@ -1,7 +1,7 @@
 use denote.Ref.{now}
 use mathlib.Core.Path.{_≡_, refl, sym, _∙_}
 use lib.ListN.{replicate}
-use Rattle.mcache.proofs.Answers.{fit-room, id-fits-in, id-counts, id-small, put-under, puts-no, plan-unfit, nested}
+use Rattle.mcache.proofs.Answers.{id-fits-in, id-counts, put-under, puts-no, plan-unfit}
 use borrow.Author.Needs.{needs}
 use Rattle.mcache.proofs.MessageCache.put_part.Statement.{statement}
 use Rattle.mcache.proofs.MessageCache.put_part.Tie as tie
@@ -20,7 +20,7 @@ slice-aggregate-form-id : tie.Need-slice-aggregate-form-id
 slice-aggregate-form-id c = search needs
 
 form-id-requires : tie.Need-form-id-requires
-form-id-requires c κs = fit-room (now (c .before .before .before .before .before .before .before .args .part)) _ _ _ _ (sym (c .before .before .before .before .admit .ensures) ∙ (c .before .before .a2 .given .1)) (replicate messageIdSize 0) refl
+form-id-requires c κs = search needs
 
 array-share-prefix-id : tie.Need-array-share-prefix-id
 array-share-prefix-id c = id-fits-in (now (c .before .before .before .before .before .before .before .before .before .before .args .part)) _ _ _ _ (sym (c .before .before .before .before .before .before .before .admit .ensures) ∙ (c .before .before .before .before .before .a2 .given .1)) (c .before .before .form-id .result) _ _ refl (c .before .before .form-id .ensures)
@@ -32,16 +32,10 @@ slice-aggregate-keep c = id-counts (now (c .before .before .before .before .befo
     (c .before .before .before .form-id .ensures)
 
 keep-requires : tie.Need-keep-requires
-keep-requires c κs = (
-  c .before .before .before .before .before .before .before .before .before .before .before .pre,
-  id-small (now (c .before .before .before .before .before .before .before .before .before .before .before .args .part)) _ _ _ _
-      (sym (c .before .before .before .before .before .before .before .before .admit .ensures)
-      ∙ (c .before .before .before .before .before .before .a2 .given .1)) (c .before .before .before .form-id .result) _ _ refl
-      (c .before .before .before .form-id .ensures),
-)
+keep-requires c κs = search needs
 
 returns : tie.Need-returns
-returns c = nested (puts-no (c .before .before .before .before .before .before .args .self) (now (c .before .before .before .before .before .before .args .store)) _ _ (plan-unfit (c .before .before .before .before .before .before .args .self) (now (c .before .before .before .before .before .before .args .part)) _ (sym (c .before .a .given .1) ∙ (c .before .before .before .admit .ensures))))
+returns c = puts-no (c .before .before .before .before .before .before .args .self) (now (c .before .before .before .before .before .before .args .store)) _ _ (plan-unfit (c .before .before .before .before .before .before .args .self) (now (c .before .before .before .before .before .before .args .part)) _ (sym (c .before .a .given .1) ∙ (c .before .before .before .admit .ensures)))
 
 same-length : tie.Need-same-length
 same-length c = search needs
@@ -53,7 +47,7 @@ returns-2 c = put-under (now (c .before .before .before .before .before .before 
     (c .before .before .before .before .before .before .form-id .result) _ _ refl (c .before .before .before .before .before .before .form-id .ensures)
     (c .before .before .before .before .before .before .before .before .before .before .before .before .before .before .args .self)
     (now (c .before .before .before .before .before .before .before .before .before .before .before .before .before .before .args .store))
-    (c .before .before .keep .ensures)
+    (c .before .before .before .before .before .before .before .before .before .before .before .before .before .before .pre) _ _ (c .before .before .keep .ensures)
 
 pub put-part-spec : {M : Type 1} → statement M
 put-part-spec =

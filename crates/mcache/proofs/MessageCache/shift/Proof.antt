@@ -1,7 +1,7 @@
 use denote.Ref.{now}
 use mathlib.Core.Path.{_≡_, sym, _∙_}
 use native.Mathlib.Omega.{arith}
-use Rattle.mcache.proofs.Answers.{kept-ring, shift-store, shift-malformed, shift-fine}
+use Rattle.mcache.proofs.Answers.{shift-store, shift-malformed, shift-fine}
 use borrow.Author.Needs.{needs}
 use Rattle.mcache.proofs.MessageCache.shift.Statement.{statement}
 use Rattle.mcache.proofs.MessageCache.shift.Tie as tie
@@ -19,7 +19,7 @@ enum-told-3 : tie.Need-enum-told-3
 enum-told-3 c = search needs
 
 next-window-requires : tie.Need-next-window-requires
-next-window-requires c κs = kept-ring (c .before .before .before .before .args .self) (now (c .before .before .before .before .args .store)) (sym (c .enum-told3 .given .1) ∙ (c .before .before .lent .ensures)) (search needs) (search needs) (search needs) (search needs) (search needs)
+next-window-requires c κs = search needs
 
 returns : tie.Need-returns
 returns c = shift-store (c .before .before .before .before .args .self) (now (c .before .before .before .before .args .store)) (sym (c .enum-told .given .1) ∙ (c .before .before .lent .ensures))
