@@ -197,7 +197,7 @@ unfolding servedOf
 one-served = rw room one-fits
 
 reply-written : replyBytes (second ∷ []) buffer ≡ second-body
-unfolding replyBytes second-body bytesField tag uvarint bytesOf signature second
+unfolding replyBytes servedOf second-body bytesField tag uvarint bytesOf signature second
 reply-written = rw one-served
 
 pub reply-bytes : replyOf play at-a at-b ≡ second-body

@@ -7,7 +7,7 @@ use mathlib.Core.List.{List, [], _∷_}
 use native.Mathlib.Omega.{arith}
 use lib.ListN.{length, getD, take}
 use lib.Seq.{sets}
-use borrow.Author.Tests.{le-ltb, ne-eqb}
+use borrow.Author.Tests.{le-ltb}
 use Rattle.basis.specs.Cases.{either}
 use Rattle.basis.specs.Lists.{answer-fits, written-fits}
 use Rattle.rows.specs.Ids.{sameBytes, among}
@@ -28,6 +28,7 @@ use Rattle.node.specs.Gateway.{Gateway, toldOf, lacking, having}
 use Rattle.node.specs.Calls.{lentOf, advertiseAnswer, advertiseLeft, advertiseBytes, askAnswer, askLeft, askBytes}
 use Rattle.node.specs.Calls.{serveAnswer, serveLeft, cachedOf, wanted, roomOf, servedOf, replyBytes, replyTo}
 use Rattle.node.specs.Calls.{serveNumber}
+use Rattle.node.specs.ReplyLaws.{reply-some}
 use Rattle.history.specs.History.{State, gatewayOf, Settings, advertise, ask, serve, refusalAt, servedBytes}
 use Rattle.history.specs.History.{servedMessages}
 use Rattle.agreement.specs.Round.{Play, Fair, advertOf, requestOf, replyAnswer, replyOf, servedCount}
@@ -67,8 +68,8 @@ reply-answers : (ms : List (List ℕ)) (out : List ℕ) → min 15 (length ms) �
 unfolding replyBytes servedOf fitting
 reply-answers [] out h = record { done = refl; bytes = refl; count = refl }
 reply-answers (m ∷ ms) out h =
-    let n = ne-eqb (servedOf (m ∷ ms) out) 0 (λ e. omega arith) in
-    rw n (record { done = refl; bytes = front (replyBytes (m ∷ ms) out) out (reply-fits (m ∷ ms) out); count = refl })
+    rw (reply-some m ms out (λ e. omega arith))
+    (record { done = refl; bytes = front (replyBytes (m ∷ ms) out) out (reply-fits (m ∷ ms) out); count = refl })
 
 -- ---- each message that is asked for
 having-at : (g : Gateway) (is : List (List ℕ)) → ((i : List ℕ) → among i is ≡ true → held i (g .cache) ≡ true) → (j : ℕ)

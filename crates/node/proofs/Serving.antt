@@ -8,7 +8,7 @@ use native.Mathlib.Nat.{zero-add}
 use lib.ListN.{length, take, drop, getD}
 use lib.Seq.{sets}
 use lib.Dec.{ltb}
-use borrow.Author.Tests.{lt-ltb, le-ltb, ltb-true, eq-eqb, ne-eqb}
+use borrow.Author.Tests.{lt-ltb, le-ltb, ltb-true}
 use Rattle.basis.specs.Cases.{either}
 use Rattle.rows.specs.declared.Ring.{Ring}
 use Rattle.rows.specs.Rows.{placeOf}
@@ -35,6 +35,7 @@ use Rattle.node.specs.declared.Fault.{Fault}
 use Rattle.node.specs.declared.Serve.{Serve}
 use Rattle.node.specs.declared.Serve.the-variants as serve
 use Rattle.node.specs.Calls.{lentOf, wanted, rowsFor, cachedOf, roomOf, servedOf, replyBytes, replyTo, serveAnswer, serveLeft}
+use Rattle.node.specs.ReplyLaws as reply
 use Rattle.node.proofs.Asking.{put-fewer, put-within, put-goes}
 
 -- ---- the place of a message
@@ -148,13 +149,12 @@ no-reply (x ∷ l) out h = absurd (omega arith)
 
 -- the first does not fit
 first-short : (l : List (List ℕ)) (out : List ℕ) → servedOf l out ≡ 0 → (length l ≡ 0 → ⊥) → (needed : ℕ) → needed ≡ length (repeated (bytesField 2) (take 1 l)) → Replies l out (serve.Room needed) out
-unfolding replyBytes
 first-short [] out z h needed e = absurd (h refl)
-first-short (x ∷ l) out z h needed e = simp (eq-eqb (servedOf (x ∷ l) out) 0 z, z) (ap serve.Room (e ∙ ap length (append-nil (bytesField 2 x))), refl)
+first-short (x ∷ l) out z h needed e = rw (reply.reply-short x l out z, reply.reply-bytes (x ∷ l) out, z) (ap serve.Room (e ∙ ap length (append-nil (bytesField 2 x))), refl)
 
 some-fit : (l : List (List ℕ)) (out : List ℕ) → (length l ≡ 0 → ⊥) → (servedOf l out ≡ 0 → ⊥) → serve.Reply (length (replyBytes l out)) (servedOf l out) (length l - servedOf l out) ≡ replyTo l out
 some-fit [] out h n = absurd (h refl)
-some-fit (x ∷ l) out h n = simp (ne-eqb (servedOf (x ∷ l) out) 0 n)
+some-fit (x ∷ l) out h n = sym (reply.reply-some x l out n)
 
 module _ (ms : List (List ℕ)) (cs t : List ℕ) (m : ℕ) (out : List ℕ) (q : ms ≡ partsIn cs t m) where
   many : length ms ≡ m
@@ -184,9 +184,8 @@ module _ (ms : List (List ℕ)) (cs t : List ℕ) (m : ℕ) (out : List ℕ) (q 
 
       -- those that fit
       pub reply-put : (w ≡ 0 → ⊥) → w ≤ m → (after : List ℕ) (end : ℕ) → Puts out 0 (repeated (bytesField 2) (partsIn cs t w)) after end → Replies ms out (serve.Reply end w (m - w)) after
-      unfolding replyBytes
       reply-put n l after end p =
-          let b : repeated (bytesField 2) (partsIn cs t w) ≡ replyBytes ms out = rw served-is (ap (repeated (bytesField 2)) (sym (ap (take w) q ∙ parts-take cs t w m l))) in
+          let b : repeated (bytesField 2) (partsIn cs t w) ≡ replyBytes ms out = rw (reply.reply-bytes ms out, served-is) (ap (repeated (bytesField 2)) (sym (ap (take w) q ∙ parts-take cs t w m l))) in
           let f : length (repeated (bytesField 2) (partsIn cs t w)) ≤ room = rw (← (parts-take cs t w m l), ew) (fitting-room 2 room (partsIn cs t m)) in
           let e : end ≡ length (replyBytes ms out) = p .ends ∙ zero-add (length (repeated (bytesField 2) (partsIn cs t w))) ∙ ap length b in (
             rw (e, ← served-is, ← many) (some-fit ms out not-none (λ y. n (sym served-is ∙ y))),

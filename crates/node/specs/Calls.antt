@@ -1,9 +1,9 @@
 -- What each call on a node answers and leaves. Refusals come in the order of 01's table: 40, 41, 42 for the lent node
 -- and stores; then what concerns the call. A refused call leaves the node and every lent byte as they were.
-use Prim.Native.Nat.{ℕ, _-_, _*_, min}
+use Prim.Native.Nat.{ℕ, _*_}
 use mathlib.Core.List.{List, [], _∷_, map}
 use mathlib.Core.Bool.{Bool, cond, _&&_}
-use lib.ListN.{length, take}
+use lib.ListN.{length}
 use lib.Seq.{sets}
 use lib.Dec.{ltb, eqb}
 use Rattle.basis.specs.declared.Written.{Written}
@@ -18,7 +18,7 @@ use Rattle.protobuf.specs.declared.Checked.the-variants as checked
 use Rattle.protobuf.specs.Walk.{between}
 use Rattle.protobuf.specs.Encode.{bytesField}
 use Rattle.rpc.specs.Rpc.{Rpc}
-use Rattle.rpc.specs.Encode.{encodeRpc, repeated}
+use Rattle.rpc.specs.Encode.{repeated}
 use Rattle.ids.specs.declared.MessageAt.{MessageAt}
 use Rattle.ids.specs.declared.MessageAt.the-variants as found
 use Rattle.schema.specs.Accept.{acceptOf}
@@ -26,7 +26,7 @@ use Rattle.ids.specs.Ids.{messageAt, idBytes}
 use Rattle.admission.specs.declared.Admission.{Admission}
 use Rattle.admission.specs.declared.Admission.the-variants as admission
 use Rattle.admission.specs.Admission.{admissionOf}
-use Rattle.node.specs.Parts.{atPath, once, fitting}
+use Rattle.node.specs.Parts.{atPath, once}
 use Rattle.seen.specs.State.{idSize}
 use Rattle.seen.specs.declared.SeenCache.{SeenCache}
 use Rattle.seen.specs.Entries.{until}
@@ -52,7 +52,9 @@ use Rattle.node.specs.declared.Ask.the-variants as ask
 use Rattle.node.specs.declared.Serve.{Serve}
 use Rattle.node.specs.declared.Serve.the-variants as serve
 use Rattle.node.specs.Told.{admitTold, beatTold, advertiseTold, askTold, serveTold}
-use Rattle.node.specs.Gateway.{marked, advertisement, request}
+use Rattle.node.specs.Gateway.{marked, ifAny, rpcBytes, advertisementFor, requestFor, replyRoom, writtenIn, sentIn}
+use Rattle.node.specs.Gateway.{Reply, sent, short, replyFor}
+unfoldable pub use Rattle.node.specs.Gateway.{maxRpcSize}
 use Rattle.node.specs.State.{legalSettings, freshNode, wellFormed, seenRing}
 
 -- ---- 01's numbers
@@ -171,10 +173,9 @@ whenDone (beat.ClockBack clock) new old = old
 unfoldable pub beatNode : Node → List ℕ → List ℕ → ℕ → Node
 beatNode n ss cs at = whenDone (beatAnswer n ss cs at) (laterNode at (swept n at) (shifted (n .cache)) n) n
 
--- ---- writers: an RPC where there are ids to name, and else no bytes
+-- ---- writers: the bytes of an RPC where there are ids to name, and else none
 abbrev pub bytesFor : List (List ℕ) → Rpc → List ℕ
-bytesFor [] x = []
-bytesFor (i ∷ is) x = encodeRpc x
+bytesFor ids x = rpcBytes (ifAny ids x)
 
 -- ---- advertise: 40, 41, 42, 29, 12
 -- the ids that are told of, sorted
@@ -184,7 +185,7 @@ toldIn n cs topic windows =
 
 unfoldable pub advertiseBytes : Node → List ℕ → List ℕ → ℕ → List ℕ
 advertiseBytes n cs topic windows =
-    bytesFor (toldIn n cs topic windows) (advertisement topic (toldIn n cs topic windows))
+    rpcBytes (advertisementFor topic (toldIn n cs topic windows))
 
 abbrev pub advertised : Written → Advertise
 advertised (done.Bytes n) = advertise.Bytes n
@@ -214,7 +215,7 @@ unfoldable pub unseenOf : Node → List ℕ → List (List ℕ) → List (List �
 unseenOf n ss is = unseenFrom (idsIn idSize (seenRing n) (n .seen .len) ss) is
 
 unfoldable pub askBytes : Node → List ℕ → List ℕ → List ℕ
-askBytes n ss body = bytesFor (unseenOf n ss (offered body)) (request (unseenOf n ss (offered body)))
+askBytes n ss body = rpcBytes (requestFor (unseenOf n ss (offered body)))
 
 abbrev pub asked : Written → Ask
 asked (done.Bytes n) = ask.Bytes n
@@ -253,27 +254,24 @@ unfoldable pub cachedOf : MessageCache → List ℕ → List (List ℕ) → List
 cachedOf c cs is =
     map (messageIn (c .len) cs) (rowsFor (ringOf c) (idsIn messageIdSize (ringOf c) (c .«id_len») (c .ids)) is)
 
--- the most bytes of a body
-abbrev pub maxRpcSize : ℕ
-maxRpcSize = 65536
-
--- the reply room is the buffer or those, the smaller
+-- the reply room of a buffer
 unfoldable pub roomOf : List ℕ → ℕ
-roomOf out = min (length out) maxRpcSize
+roomOf out = replyRoom (length out)
 
--- how many messages are written
+-- how many messages are written, and their bytes
 unfoldable pub servedOf : List (List ℕ) → List ℕ → ℕ
-servedOf ms out = fitting 2 (roomOf out) ms
+servedOf ms out = writtenIn (roomOf out) ms
 
 unfoldable pub replyBytes : List (List ℕ) → List ℕ → List ℕ
-replyBytes ms out = repeated (bytesField 2) (take (servedOf ms out) ms)
+replyBytes ms out = repeated (bytesField 2) (sentIn (roomOf out) ms)
 
--- a first message that does not fit is 12, with the bytes of its field
+-- the bytes and the two counts of a reply
+abbrev pub replied : Reply → Serve
+replied (sent written left) = serve.Reply (length (repeated (bytesField 2) written)) (length written) (length left)
+replied (short needed) = serve.Room needed
+
 abbrev pub replyTo : List (List ℕ) → List ℕ → Serve
-replyTo [] out = serve.Reply 0 0 0
-replyTo (m ∷ ms) out =
-    cond (eqb (servedOf (m ∷ ms) out) 0) (serve.Room (length (bytesField 2 m)))
-    (serve.Reply (length (replyBytes (m ∷ ms) out)) (servedOf (m ∷ ms) out) (length (m ∷ ms) - servedOf (m ∷ ms) out))
+replyTo ms out = replied (replyFor (roomOf out) ms)
 
 abbrev pub serveOn : Serve → Checked → Serve
 serveOn r checked.Fine = r

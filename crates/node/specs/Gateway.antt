@@ -1,12 +1,17 @@
 -- A gateway as 01 has it, "The node": its settings, its clock, the ids that it has seen and the messages that it holds,
 -- the oldest first; and what each call does to it and makes of it. Nothing here speaks of bytes in a store.
-use Prim.Native.Nat.{ℕ}
+use Prim.Native.Nat.{ℕ, min}
 use mathlib.Core.Bool.{Bool, cond, not}
 use mathlib.Core.List.{List, [], _∷_}
-use mathlib.Core.Option.{some}
+use mathlib.Core.Option.{Option, none, some}
+use lib.ListN.{length, take, drop}
+use lib.Dec.{eqb}
+use Rattle.protobuf.specs.Encode.{bytesField}
 use Rattle.seen.specs.Entries.{Entry, holds, inserted, live}
 use Rattle.mcache.specs.Messages.{Cached, held, put, shift, get, gossipIds}
 use Rattle.rpc.specs.Rpc.{Rpc, ControlMessage}
+use Rattle.rpc.specs.Encode.{encodeRpc, repeated}
+use Rattle.node.specs.Parts.{once, fitting}
 
 pub record Gateway : Type 0 where
   pub ttl : ℕ
@@ -64,24 +69,24 @@ afterBeat at g =
       cache = shift (g .history-len) (g .cache);
     }
 
--- ---- what the other calls speak of
--- advertise: the ids of the newest windows that carry the topic, sorted
-abbrev pub toldOf : List ℕ → ℕ → Gateway → List (List ℕ)
-toldOf topic windows g = gossipIds topic windows (g .cache)
+-- ---- what advertise and ask write: an RPC, or nothing
+-- no ids: no RPC
+abbrev pub ifAny : List (List ℕ) → Rpc → Option Rpc
+ifAny [] x = none
+ifAny (i ∷ is) x = some x
 
--- ask: those of the ids named whose marked form is not seen
-unfoldable pub lacking : Gateway → List (List ℕ) → List (List ℕ)
-lacking g [] = []
-lacking g (i ∷ is) = cond (holds (marked i) (g .seen)) (lacking g is) (i ∷ lacking g is)
+-- and no bytes
+abbrev pub rpcBytes : Option Rpc → List ℕ
+rpcBytes none = []
+rpcBytes (some x) = encodeRpc x
 
--- serve: the messages that are cached of the ids named
-unfoldable pub having : Gateway → List (List ℕ) → List (List ℕ)
-having g [] = []
-having g (i ∷ is) = cond (held i (g .cache)) (get i (g .cache) ∷ having g is) (having g is)
-
--- ---- the RPCs that are written
 abbrev pub controlled : ControlMessage → Rpc
 controlled c = record { subscriptions = []; publish = []; control = some c }
+
+-- ---- advertise
+-- the ids of the newest windows that carry the topic, sorted
+abbrev pub toldOf : List ℕ → ℕ → Gateway → List (List ℕ)
+toldOf topic windows g = gossipIds topic windows (g .cache)
 
 -- an RPC with one control, one IHAVE, the topic, the sorted ids
 unfoldable pub advertisement : List ℕ → List (List ℕ) → Rpc
@@ -93,6 +98,72 @@ advertisement topic ids =
       prune = [];
     })
 
+abbrev pub advertisementFor : List ℕ → List (List ℕ) → Option Rpc
+advertisementFor topic ids = ifAny ids (advertisement topic ids)
+
+-- advertise topic, windows
+unfoldable pub advertiseOf : List ℕ → ℕ → Gateway → Option Rpc
+advertiseOf topic windows g = advertisementFor topic (toldOf topic windows g)
+
+-- ---- ask
+-- those of the ids whose marked form is not seen
+unfoldable pub lacking : Gateway → List (List ℕ) → List (List ℕ)
+lacking g [] = []
+lacking g (i ∷ is) = cond (holds (marked i) (g .seen)) (lacking g is) (i ∷ lacking g is)
+
 -- an RPC with one IWANT
 unfoldable pub request : List (List ℕ) → Rpc
 request ids = controlled (record { ihave = []; iwant = record { «message_ids» = ids } ∷ []; graft = []; prune = [] })
+
+abbrev pub requestFor : List (List ℕ) → Option Rpc
+requestFor ids = ifAny ids (request ids)
+
+-- ask, given a body: `named` are the ids in its IHAVEs; one named twice is asked for once, at its first mention
+unfoldable pub askOf : List (List ℕ) → Gateway → Option Rpc
+askOf named g = requestFor (lacking g (once named))
+
+-- ---- serve
+-- the messages that are cached of the ids
+unfoldable pub having : Gateway → List (List ℕ) → List (List ℕ)
+having g [] = []
+having g (i ∷ is) = cond (held i (g .cache)) (get i (g .cache) ∷ having g is) (having g is)
+
+-- the most bytes of a body
+abbrev pub maxRpcSize : ℕ
+maxRpcSize = 65536
+
+-- the reply room is the buffer or those, the smaller
+abbrev pub replyRoom : ℕ → ℕ
+replyRoom buffer = min buffer maxRpcSize
+
+-- how many messages are written, each as a field 2: stopping before the first that would pass what is left of the room
+abbrev pub writtenIn : ℕ → List (List ℕ) → ℕ
+writtenIn room ms = fitting 2 room ms
+
+-- which those are, and which are left
+abbrev pub sentIn : ℕ → List (List ℕ) → List (List ℕ)
+sentIn room ms = take (writtenIn room ms) ms
+
+abbrev pub leftIn : ℕ → List (List ℕ) → List (List ℕ)
+leftIn room ms = drop (writtenIn room ms) ms
+
+-- a reply with the messages written and those left; or 12, with the bytes of the first message's field
+pub data Reply : Type 0 where
+  sent : List (List ℕ) → List (List ℕ) → Reply
+  short : ℕ → Reply
+
+-- its bytes: none with 12
+abbrev pub sentBytes : Reply → List ℕ
+sentBytes (sent written left) = repeated (bytesField 2) written
+sentBytes (short needed) = []
+
+-- 12 where there are messages and not even the first fits
+abbrev pub replyFor : ℕ → List (List ℕ) → Reply
+replyFor room [] = sent [] []
+replyFor room (m ∷ ms) =
+    cond (eqb (writtenIn room (m ∷ ms)) 0) (short (length (bytesField 2 m)))
+    (sent (sentIn room (m ∷ ms)) (leftIn room (m ∷ ms)))
+
+-- serve, given a body: `named` are the ids in its IWANTs; each is served once, in order of first mention
+unfoldable pub serveOf : List (List ℕ) → ℕ → Gateway → Reply
+serveOf named buffer g = replyFor (replyRoom buffer) (having g (once named))

@@ -8,12 +8,13 @@ use native.Mathlib.Omega.{arith}
 use lib.ListN.{length}
 use lib.Seq.{sets}
 use lib.Dec.{leb, ltb, eqb}
-use borrow.Author.Tests.{ltb-false, le-ltb, eqb-true}
+use borrow.Author.Tests.{ltb-false, le-ltb, eqb-true, eqb-false}
 use Rattle.basis.specs.Cases.{either, clash}
 use Rattle.basis.specs.Writing.{answer, written}
 use Rattle.rows.specs.Rows.{placeOf, rowsIn}
 use Rattle.rows.specs.RowsLaws.{length-ring}
 use Rattle.rows.specs.Store.{idAt, idsIn}
+use Rattle.node.specs.Parts.{atPath}
 use Rattle.protobuf.specs.declared.Checked.{Checked}
 use Rattle.protobuf.specs.declared.Checked.the-variants as checked
 use Rattle.protobuf.specs.Walk.{between}
@@ -53,16 +54,18 @@ use Rattle.node.specs.declared.Admit.the-variants as admit
 use Rattle.node.specs.declared.Beat.{Beat}
 use Rattle.node.specs.declared.Beat.the-variants as beat
 use Rattle.node.specs.Gateway.{Gateway, started, marked, isNew, afterAdmit, afterBeat, toldOf, lacking, having}
-use Rattle.node.specs.Gateway.{advertisement, request}
+use Rattle.node.specs.Gateway.{rpcBytes, advertiseOf, askOf, serveOf, sentBytes}
 use Rattle.node.specs.State.{gatewayIn, legalSettings, freshNode}
 use Rattle.node.specs.Calls.{admitNumber, beatNumber, advertiseNumber, askNumber, serveNumber, startAnswer}
 use Rattle.node.specs.Calls.{startNode, lentOf, laterNode, Plan, no, taken, planFit, planAt, planBody, planned}
 use Rattle.node.specs.Calls.{swept, heldAt, admitAnswer, admitNode, admitSeen, admitCache, whenDone, beatAnswer}
-use Rattle.node.specs.Calls.{beatNode, bytesFor, toldIn, advertiseBytes, advertised, advertiseAnswer}
+use Rattle.node.specs.Calls.{beatNode, toldIn, advertiseBytes, advertised, advertiseAnswer}
 use Rattle.node.specs.Calls.{advertiseLeft, offered, unseenFrom, unseenOf, askBytes, asked, askAnswer, askLeft}
-use Rattle.node.specs.Calls.{wanted, rowsFor, cachedOf, servedOf, replyBytes, replyTo, serveAnswer, serveLeft}
+use Rattle.node.specs.Calls.{wanted, rowsFor, cachedOf, roomOf, servedOf, replyBytes, replied, replyTo}
+use Rattle.node.specs.Calls.{serveAnswer, serveLeft}
 use Rattle.node.specs.WellFormed.{Typed}
 use Rattle.node.specs.StateLaws.{fine-tests, room-cap}
+use Rattle.node.specs.ReplyLaws.{reply-bytes, reply-some, sent-bytes}
 
 -- ---- start
 pub fresh-gateway : (ttl max-seen history max : ℕ) (ss cs : List ℕ)
@@ -324,31 +327,30 @@ cached-gateway n ss cs is = cached-having (gatewayIn n ss cs) (n .cache) cs is r
 -- ---- what is written, where nothing is refused before
 module _ (n : Node) (ss cs out : List ℕ) (fine : lentOf n ss cs ≡ lent.Fine) where
   pub advertise-says : (topic : List ℕ) (windows : ℕ) → length topic ≤ 1024
-      → (advertiseAnswer n ss cs topic windows out ≡ advertised
-      (answer (bytesFor (toldOf topic windows (gatewayIn n ss cs))
-      (advertisement topic (toldOf topic windows (gatewayIn n ss cs)))) out))
-      × (advertiseLeft n ss cs topic windows out ≡ written
-      (bytesFor (toldOf topic windows (gatewayIn n ss cs))
-      (advertisement topic (toldOf topic windows (gatewayIn n ss cs)))) out)
-  unfolding advertiseAnswer advertiseLeft advertiseBytes
+      → (advertiseAnswer n ss cs topic windows out
+      ≡ advertised (answer (rpcBytes (advertiseOf topic windows (gatewayIn n ss cs))) out))
+      × (advertiseLeft n ss cs topic windows out
+      ≡ written (rpcBytes (advertiseOf topic windows (gatewayIn n ss cs))) out)
+  unfolding advertiseAnswer advertiseLeft advertiseBytes advertiseOf
   advertise-says topic windows h =
       rw (fine, le-ltb 1024 (length topic) h, told-gateway n ss cs topic windows fine) (refl, refl)
 
   module _ (body : List ℕ) (ok : acceptOf body ≡ checked.Fine) where
     pub ask-says : (askAnswer n ss cs body out
-        ≡ asked (answer
-        (bytesFor (lacking (gatewayIn n ss cs) (offered body)) (request (lacking (gatewayIn n ss cs) (offered body))))
-        out))
-        × (askLeft n ss cs body out ≡ written
-        (bytesFor (lacking (gatewayIn n ss cs) (offered body))
-        (request (lacking (gatewayIn n ss cs) (offered body)))) out)
-    unfolding askAnswer askLeft askBytes
+        ≡ asked (answer (rpcBytes (askOf (atPath (3 ∷ 1 ∷ 2 ∷ []) body) (gatewayIn n ss cs))) out))
+        × (askLeft n ss cs body out
+        ≡ written (rpcBytes (askOf (atPath (3 ∷ 1 ∷ 2 ∷ []) body) (gatewayIn n ss cs))) out)
+    unfolding askAnswer askLeft askBytes askOf offered
     ask-says = rw (fine, ok, unseen-gateway n ss cs (offered body)) (refl, refl)
 
-    pub serve-says : (serveAnswer n ss cs body out ≡ replyTo (having (gatewayIn n ss cs) (wanted body)) out)
-        × (serveLeft n ss cs body out ≡ sets out 0 (replyBytes (having (gatewayIn n ss cs) (wanted body)) out))
-    unfolding serveAnswer serveLeft
-    serve-says = rw (fine, ok, cached-gateway n ss cs (wanted body)) (refl, refl)
+    pub serve-says : (serveAnswer n ss cs body out
+        ≡ replied (serveOf (atPath (3 ∷ 2 ∷ 1 ∷ []) body) (length out) (gatewayIn n ss cs)))
+        × (serveLeft n ss cs body out
+        ≡ sets out 0 (sentBytes (serveOf (atPath (3 ∷ 2 ∷ 1 ∷ []) body) (length out) (gatewayIn n ss cs))))
+    unfolding serveAnswer serveLeft serveOf wanted roomOf
+    serve-says =
+        let ms = having (gatewayIn n ss cs) (wanted body) in
+        rw (fine, ok, cached-gateway n ss cs (wanted body)) (refl, ap (sets out 0) (sym (sent-bytes ms out)))
 
 -- ---- a refused call changes nothing
 plan-refused : (n : Node) (ss cs : List ℕ) (at : ℕ) (r : Plan) → (admitNumber (admitAnswer n ss at r) ≡ 0 → ⊥)
@@ -406,12 +408,11 @@ module _ (n : Node) (ss cs out : List ℕ) where
 
   -- where the first message does not fit, none is written
   reply-refused : (ms : List (List ℕ)) → (serveNumber (replyTo ms out) ≡ 0 → ⊥) → sets out 0 (replyBytes ms out) ≡ out
-  unfolding replyBytes
   reply-refused [] h = absurd (h refl)
   reply-refused (m ∷ ms) h =
       either (eqb (servedOf (m ∷ ms) out) 0)
-      (λ t. rw (eqb-true (servedOf (m ∷ ms) out) 0 t))
-      (λ t. absurd (h (rw t)))
+      (λ t. rw (reply-bytes (m ∷ ms) out, eqb-true (servedOf (m ∷ ms) out) 0 t))
+      (λ t. absurd (h (rw (reply-some m ms out (eqb-false (servedOf (m ∷ ms) out) 0 t)))))
 
   serve-by : (body : List ℕ) (l : Lent) (r : Checked) → lentOf n ss cs ≡ l → acceptOf body ≡ r
       → (serveNumber (serveAnswer n ss cs body out) ≡ 0 → ⊥) → serveLeft n ss cs body out ≡ out

@@ -1,7 +1,7 @@
--- To be believed: Gateway, State, WellFormed, Calls (the order of refusals), Told.
+-- To be believed: Parts (`once`, `fitting`), Gateway, State, WellFormed, Calls (the order of refusals), Told.
 -- Cited by contracts, and joined to these by theorems: what the calls leave, in Calls, by Laws.
 -- Theorems: Laws, WellFormedLaws, Readers, Unique.
--- On the way to them: StateLaws, WireLaws, AskLaws.
+-- On the way to them: PartsLaws, StateLaws, WireLaws, AskLaws, ReplyLaws.
 pub mod Parts
 pub mod PartsLaws
 pub mod Told
@@ -12,6 +12,7 @@ pub mod WellFormed
 pub mod StateLaws
 pub mod WireLaws
 pub mod AskLaws
+pub mod ReplyLaws
 pub mod Laws
 pub mod WellFormedLaws
 pub mod Readers

@@ -1,5 +1,5 @@
--- To be believed: Named, Replied (`Replies`, `Counts`).
--- Theorems: Offered, Replied, Requested, Advertised.
+-- To be believed: Named, Outcomes, Replied (`Replies`, `Counts`).
+-- Theorems: Exactly, Offered, Replied, Requested, Advertised.
 -- On the way to them: Bodies, Cached.
 pub mod Named
 pub mod Offered
@@ -8,3 +8,5 @@ pub mod Cached
 pub mod Replied
 pub mod Requested
 pub mod Advertised
+pub mod Outcomes
+pub mod Exactly

@@ -1,6 +1,6 @@
 -- A reply to a body is a body that publishes cached messages, byte for byte, as many as the room has, from the first
 -- on; and it is canonical. What is answered counts them, and those that are left.
-use Prim.Native.Nat.{ℕ, suc, _+_, _-_, _≤_, _<_, min}
+use Prim.Native.Nat.{ℕ, suc, _+_, _-_, _≤_, _<_}
 use mathlib.Core.Path.{_≡_, refl, sym, ap, _∙_}
 use mathlib.Core.Bool.{true}
 use mathlib.Core.List.{List, [], _∷_, _++_, map, append-nil}
@@ -9,7 +9,7 @@ use native.Mathlib.Omega.{arith}
 use lib.ListN.{length, take, length-map}
 use lib.Seq.{length-take-le}
 use lib.Dec.{ltb, eqb}
-use borrow.Author.Tests.{ltb-true, eqb-true}
+use borrow.Author.Tests.{ltb-true, eqb-true, eqb-false}
 use Rattle.basis.specs.Cases.{either, clash}
 use Rattle.basis.specs.Bytes.{Bytes}
 use Rattle.rows.specs.declared.Ring.{Ring}
@@ -33,14 +33,14 @@ use Rattle.mcache.specs.declared.MessageCache.{MessageCache}
 use Rattle.mcache.specs.State.{messageIn, ringOf, messageIdSize}
 use Rattle.mcache.specs.StateLaws.{Tests, fine-tests}
 use Rattle.node.specs.Parts.{atPath, fitting}
-use Rattle.node.specs.PartsLaws.{once-distinct, fitting-le, fitting-room, fitting-next}
+use Rattle.node.specs.PartsLaws.{once-distinct, fitting-next}
 use Rattle.node.specs.declared.Node.{Node}
 use Rattle.node.specs.declared.Lent.the-variants as lent
 use Rattle.node.specs.declared.Serve.the-variants as serve
-use Rattle.node.specs.Gateway.{having}
+use Rattle.node.specs.Gateway.{having, serveOf}
 use Rattle.node.specs.State.{gatewayIn}
 use Rattle.node.specs.Calls.{lentOf, wanted, rowsFor, cachedOf, roomOf, servedOf, replyBytes, replyTo, serveAnswer}
-use Rattle.node.specs.Calls.{maxRpcSize}
+use Rattle.node.specs.ReplyLaws.{reply-bytes, served-le, reply-within, reply-short, reply-some}
 use Rattle.node.specs.Laws.{serve-says}
 use Rattle.node.specs.StateLaws.{fine-tests as node-tests}
 use Rattle.outputs.specs.Bodies.{published, messages-mean}
@@ -94,15 +94,8 @@ pub record Replies (ms : List (List ℕ)) (out : List ℕ) : Type 0 where
   -- the messages are the first of ms, byte for byte
   pub messages : map (λ (m : RawMessage). m .raw) (rpc .publish) ≡ take (servedOf ms out) ms
   pub count : length (rpc .publish) ≡ servedOf ms out
+  pub encoded : replyBytes ms out ≡ encodeRpc rpc
   pub stays : canonBody (replyBytes ms out) ≡ replyBytes ms out
-
-served-le : (ms : List (List ℕ)) (out : List ℕ) → servedOf ms out ≤ length ms
-unfolding servedOf
-served-le ms out = fitting-le 2 (roomOf out) ms
-
-reply-small : (ms : List (List ℕ)) (out : List ℕ) → length (replyBytes ms out) ≤ maxRpcSize
-unfolding replyBytes servedOf roomOf
-reply-small ms out = omega (arith, fitting-room 2 (min (length out) maxRpcSize) ms)
 
 raw-fields : (vs : List RawMessage) → repeated (λ m. bytesField 2 (m .raw)) vs ≡ repeated (bytesField 2)
     (map (λ (m : RawMessage). m .raw) vs)
@@ -115,7 +108,7 @@ unfolding encodeRpc
 published-bytes vs = append-nil (repeated (λ m. bytesField 2 (m .raw)) vs) ∙ raw-fields vs
 
 pub replies : (ms : List (List ℕ)) (out : List ℕ) → Each Message ms → length ms ≤ 64 → Replies ms out
-unfolding replyBytes recordsIn
+unfolding replyBytes servedOf recordsIn
 replies ms out h n =
     let k = servedOf ms out in
     let l = served-le ms out in
@@ -125,11 +118,12 @@ replies ms out h n =
     let e = ap (repeated (bytesField 2)) (r .raws) in
     record {
       rpc = published (r .values);
-      within = record { means = w; small = reply-small ms out; few = omega (arith, r .few) };
+      within = record { means = w; small = omega (arith, reply-within ms out); few = omega (arith, r .few) };
       no-subscriptions = refl;
       no-control = refl;
       messages = r .raws;
       count = sym (length-map (r .values) (λ (m : RawMessage). m .raw)) ∙ ap length (r .raws) ∙ t;
+      encoded = sym (published-bytes (r .values) ∙ e);
       stays = canon-written w ∙ published-bytes (r .values) ∙ e;
     }
 
@@ -173,9 +167,10 @@ serve-counts [] out k w l h =
     record { written = a ∙ sym (n .1); served = b ∙ sym (n .0); all = omega arith; next = λ z. absurd (z c) }
 serve-counts (m ∷ ms) out k w l h =
     let s = servedOf (m ∷ ms) out in
-    either (eqb s 0) (λ t. clash (let q = simp t at h in cc))
+    either (eqb s 0) (λ t. clash (let q = reply-short m ms out (eqb-true s 0 t) in cc))
     (λ t.
-    let q : serve.Reply (length (replyBytes (m ∷ ms) out)) s (length (m ∷ ms) - s) ≡ serve.Reply k w l = simp t at h in
+    let q : serve.Reply (length (replyBytes (m ∷ ms) out)) s (length (m ∷ ms) - s) ≡ serve.Reply k w l =
+    sym (reply-some m ms out (eqb-false s 0 t)) ∙ h in
     let a : length (replyBytes (m ∷ ms) out) ≡ k = cc in let b : s ≡ w = cc in let c : length (m ∷ ms) - s ≡ l = cc in
     let g = served-le (m ∷ ms) out in
     record {
@@ -188,24 +183,24 @@ serve-counts (m ∷ ms) out k w l h =
 -- no room for the first message: its field is longer than the room, and no byte is written
 pub serve-room : (ms : List (List ℕ)) (out : List ℕ) (k : ℕ) → replyTo ms out ≡ serve.Room k → (roomOf out < k)
     × (replyBytes ms out ≡ [])
-unfolding replyBytes
 serve-room [] out k h = clash (cc)
 serve-room (m ∷ ms) out k h =
     let s = servedOf (m ∷ ms) out in
     either (eqb s 0)
     (λ t.
     let z = eqb-true s 0 t in
-    let q : serve.Room (length (bytesField 2 m)) ≡ serve.Room k = simp t at h in
+    let q : serve.Room (length (bytesField 2 m)) ≡ serve.Room k = sym (reply-short m ms out z) ∙ h in
     let a : length (bytesField 2 m) ≡ k = cc in
     let n = next-passes (m ∷ ms) out (omega arith) in
     let f : length (repeated (bytesField 2) (take (s + 1) (m ∷ ms))) ≡ length (bytesField 2 m) =
     rw z (ap length (append-nil (bytesField 2 m))) in
-    (omega arith, rw z))
-    (λ t. clash (let q = simp t at h in cc))
+    (omega arith, rw (reply-bytes (m ∷ ms) out, z)))
+    (λ t. clash (let q = reply-some m ms out (eqb-false s 0 t) in cc))
 
 -- ---- of a call: it counts the messages that are cached and named, those written and those left
 pub serve-tells : (n : Node) (ss cs body out : List ℕ) (k w l : ℕ) → lentOf n ss cs ≡ lent.Fine
     → acceptOf body ≡ checked.Fine → serveAnswer n ss cs body out ≡ serve.Reply k w l
     → Counts (having (gatewayIn n ss cs) (wanted body)) out k w l
+unfolding serveOf wanted roomOf
 serve-tells n ss cs body out k w l fine ok h =
     serve-counts (having (gatewayIn n ss cs) (wanted body)) out k w l (sym (serve-says n ss cs out fine body ok .0) ∙ h)

@@ -208,6 +208,13 @@ pub ask-none : (n : Node) (ss body : List ℕ) → unseenOf n ss (offered body) 
 unfolding askBytes
 ask-none n ss body e = let ids = unseenOf n ss (offered body) in no-bytes ids (request ids) e
 
+-- ---- the request for what is offered by a body that means an RPC
+pub request-within : (n : Node) (ss : List ℕ) {body : List ℕ} {x : Rpc} → Within body x
+    → (unseenOf n ss (offered body) ≡ [] → ⊥) → Within (askBytes n ss body) (request (unseenOf n ss (offered body)))
+unfolding askBytes
+request-within n ss {body} w there =
+    of-ids w (unseenOf n ss (offered body)) (rw (← offered-means (w .means)) (asked-less n ss body)) there
+
 -- ---- the request for what is offered by a body that is taken
 module _ (n : Node) (ss body : List ℕ) (fine : acceptOf body ≡ Fine) (bytes : Bytes body) where
   abbrev asked : List (List ℕ)
@@ -221,8 +228,7 @@ module _ (n : Node) (ss body : List ℕ) (fine : acceptOf body ≡ Fine) (bytes 
 
   pub ask-means : (unseenOf n ss (offered body) ≡ [] → ⊥)
       → Within (askBytes n ss body) (request (unseenOf n ss (offered body)))
-  unfolding askBytes
-  ask-means there = of-ids (meant .1) asked less-asked there
+  ask-means there = request-within n ss (meant .1) there
 
   pub ask-stays : (unseenOf n ss (offered body) ≡ [] → ⊥) → canonBody (askBytes n ss body) ≡ askBytes n ss body
   unfolding askBytes

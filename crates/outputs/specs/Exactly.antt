@@ -1,0 +1,235 @@
+-- Advertise, ask and serve, each in one theorem: what the call answers and what it leaves, for every lent buffer, by
+-- the gateway and the RPC that the body means.
+use Prim.Native.Nat.{ℕ, _≤_, _<_}
+use mathlib.Core.Path.{_≡_, refl, sym, ap, _∙_}
+use mathlib.Core.List.{List, [], _∷_}
+use mathlib.Core.Logic.{_⊎_, inl, inr}
+use native.Mathlib.Omega.{arith}
+use lib.ListN.{length, take}
+use lib.Seq.{sets}
+use lib.Dec.{eqb}
+use borrow.Author.Tests.{lt-ltb, eqb-true, eqb-false}
+use Rattle.basis.specs.Cases.{either, clash}
+use Rattle.basis.specs.Bytes.{Bytes}
+use Rattle.basis.specs.declared.Told.{Told}
+use Rattle.basis.specs.declared.Written.{Written}
+use Rattle.basis.specs.declared.Written.the-variants as wrote
+use Rattle.basis.specs.Told.{told, done}
+use Rattle.basis.specs.Refusals.{topic-too-long, short-room}
+use Rattle.basis.specs.Writing.{answer, written}
+use Rattle.basis.specs.Lists.{answer-fits, answer-short, written-fits, written-short}
+use Rattle.rows.specs.ListLaws.{drop-sets, put-sets}
+use Rattle.protobuf.specs.Encode.{bytesField}
+use Rattle.rpc.specs.Rpc.{Rpc}
+use Rattle.rpc.specs.Encode.{encodeRpc, repeated}
+use Rattle.canon.specs.Taken.{Within, taken}
+use Rattle.node.specs.Parts.{once}
+use Rattle.node.specs.PartsLaws.{fitting-stop}
+use Rattle.node.specs.declared.Node.{Node}
+use Rattle.node.specs.declared.Lent.the-variants as lent
+use Rattle.node.specs.declared.Serve.the-variants as serve
+use Rattle.node.specs.Told.{advertiseTold, askTold, serveTold}
+use Rattle.node.specs.Gateway.{rpcBytes, ifAny, toldOf, advertisement, advertiseOf, lacking, request, askOf}
+use Rattle.node.specs.Gateway.{having, replyRoom, Reply, sent, short, sentBytes, replyFor, serveOf}
+use Rattle.node.specs.State.{gatewayIn}
+use Rattle.node.specs.Calls.{lentOf, advertised, advertiseAnswer, advertiseLeft, offered, unseenOf, asked, askAnswer}
+use Rattle.node.specs.Calls.{askLeft, wanted, cachedOf, roomOf, servedOf, replyBytes, replied, replyTo, serveAnswer}
+use Rattle.node.specs.Calls.{serveLeft, toldIn, advertiseBytes, askBytes}
+use Rattle.node.specs.ReplyLaws.{reply-within, reply-short, reply-some, sent-bytes}
+use Rattle.node.specs.Laws.{told-gateway, unseen-gateway, cached-gateway, advertise-says, ask-says, serve-says}
+use Rattle.outputs.specs.Named.{offersOf, wantsOf}
+use Rattle.outputs.specs.Outcomes.{Writes, ReplyIs, NoRoom, ServeExactly, NamesExactly, AdvertiseExactly}
+use Rattle.outputs.specs.Offered.{offered-means, wanted-means, offered-once, wanted-once}
+use Rattle.outputs.specs.Replied.{Replies, serve-means, serve-counts, serve-room}
+use Rattle.outputs.specs.Requested.{request-within}
+use Rattle.outputs.specs.Advertised.{advertise-means, no-topic-no-bytes}
+
+-- ---- bytes at the front of a buffer
+front : (x : Rpc) (s out : List ℕ) → s ≡ encodeRpc x → Within s x → length s ≤ length out
+    → Writes x (length s) out (sets out 0 s)
+front x s out e w h =
+    let p : take (length s) (sets out 0 s) ≡ s = put-sets out 0 s (omega arith) in
+    record {
+      means = rw p w;
+      bytes = p ∙ e;
+      count = ap length e;
+      fits = h;
+      rest = drop-sets out 0 s (length s) (omega arith);
+    }
+
+-- ---- what a reply tells
+told-reply : (r : Reply) (k w l : ℕ) → serveTold (replied r) ≡ done (k ∷ w ∷ l ∷ []) → replied r ≡ serve.Reply k w l
+told-reply (sent ws ls) k w l h =
+    let a : length (repeated (bytesField 2) ws) ≡ k = ap (λ (t : Told). t .first) h in
+    let b : length ws ≡ w = ap (λ (t : Told). t .second) h in
+    let c : length ls ≡ l = ap (λ (t : Told). t .third) h in
+    rw (a, b, c)
+told-reply (short needed) k w l h = let z : _≡_ {A = ℕ} 12 0 = ap (λ (t : Told). t .number) h in absurd (omega arith)
+
+told-room : (r : Reply) (needed : ℕ) → serveTold (replied r) ≡ told short-room (needed ∷ [])
+    → replied r ≡ serve.Room needed
+told-room (sent ws ls) needed h = let z : _≡_ {A = ℕ} 0 12 = ap (λ (t : Told). t .number) h in absurd (omega arith)
+told-room (short n) needed h = let a : n ≡ needed = ap (λ (t : Told). t .first) h in rw a
+
+told-either : (r : Reply) → ((k : ℕ) × (w : ℕ) × (l : ℕ) × (serveTold (replied r) ≡ done (k ∷ w ∷ l ∷ [])))
+    ⊎ ((needed : ℕ) × (serveTold (replied r) ≡ told short-room (needed ∷ [])))
+told-either (sent ws ls) = inl (length (repeated (bytesField 2) ws), length ws, length ls, refl)
+told-either (short needed) = inr (needed, refl)
+
+-- 12 exactly where the first does not fit
+room-first : (ms : List (List ℕ)) (out : List ℕ) (needed : ℕ) → replyTo ms out ≡ serve.Room needed
+    → NoRoom ms out needed
+unfolding roomOf
+room-first [] out needed h = clash (cc)
+room-first (m ∷ ms) out needed h =
+    let s = servedOf (m ∷ ms) out in
+    let p = serve-room (m ∷ ms) out needed h in
+    either (eqb s 0)
+    (λ t.
+    let q : serve.Room (length (bytesField 2 m)) ≡ serve.Room needed =
+    sym (reply-short m ms out (eqb-true s 0 t)) ∙ h in
+    record { first = m; others = ms; cached = refl; field = cc; passes = p .0 })
+    (λ t. clash (let q = reply-some m ms out (eqb-false s 0 t) in cc))
+
+none-fits : (m : List ℕ) (ms : List (List ℕ)) (out : List ℕ) → replyRoom (length out) < length (bytesField 2 m)
+    → servedOf (m ∷ ms) out ≡ 0
+unfolding servedOf roomOf
+none-fits m ms out h = fitting-stop 2 (replyRoom (length out)) m ms h
+
+first-room : (ms : List (List ℕ)) (out : List ℕ) (needed : ℕ) → NoRoom ms out needed
+    → replyTo ms out ≡ serve.Room needed
+first-room ms out needed n =
+    let l : replyRoom (length out) < length (bytesField 2 (n .first)) = rw (n .field) at (n .passes) in
+    ap (λ (l : List (List ℕ)). replyTo l out) (n .cached)
+    ∙ reply-short (n .first) (n .others) out (none-fits (n .first) (n .others) out l) ∙ ap serve.Room (sym (n .field))
+
+-- of messages whose reply is a body
+module _ (ms : List (List ℕ)) (out : List ℕ) (r : Replies ms out) where
+  served : (k w l : ℕ) → replyTo ms out ≡ serve.Reply k w l → ReplyIs ms out (sets out 0 (replyBytes ms out)) k w l
+  unfolding roomOf
+  served k w l h =
+      let c = serve-counts ms out k w l h in
+      let i = reply-within ms out in
+      let f : Writes (r .rpc) (length (replyBytes ms out)) out (sets out 0 (replyBytes ms out)) =
+      front (r .rpc) (replyBytes ms out) out (r .encoded) (r .within) (omega arith) in
+      record {
+        reply = r .rpc;
+        writes = rw (c .written) f;
+        no-subscriptions = r .no-subscriptions;
+        no-control = r .no-control;
+        messages = rw (c .served) (r .messages);
+        written = c .served ∙ sym (r .count);
+        left-over = c .all;
+        within = omega (arith, c .written);
+        next = c .next;
+      }
+
+  reply-exactly : ServeExactly ms out (serveTold (replyTo ms out)) (sets out 0 (replyBytes ms out))
+  reply-exactly =
+      let a = replyFor (roomOf out) ms in
+      record {
+        reply = λ k w l h. served k w l (told-reply a k w l h);
+        no-room = λ needed. (
+          (λ h. room-first ms out needed (told-room a needed h)),
+          (λ p. ap serveTold (first-room ms out needed p)),
+        );
+        unchanged = λ needed h. ap (sets out 0) (serve-room ms out needed (told-room a needed h) .1);
+        no-other = told-either a;
+      }
+
+-- ---- advertise and ask: x is the RPC that names the ids
+names-exactly : (ids : List (List ℕ)) (x : Rpc) (out : List ℕ) (tells : Written → Told)
+    → ((k : ℕ) → tells (wrote.Bytes k) ≡ done (k ∷ [])) → ((k : ℕ) → tells (wrote.Room k) ≡ told short-room (k ∷ []))
+    → ((ids ≡ [] → ⊥) → Within (rpcBytes (ifAny ids x)) x)
+    → NamesExactly ids x out (tells (answer (rpcBytes (ifAny ids x)) out)) (written (rpcBytes (ifAny ids x)) out)
+names-exactly [] x out tells on-bytes on-room w =
+    record {
+      no-ids = λ e. (ap tells (answer-fits [] out (omega arith)) ∙ on-bytes 0, written-fits [] out (omega arith));
+      writes = λ there. absurd (there refl);
+      no-room = λ there. absurd (there refl);
+    }
+names-exactly (i ∷ is) x out tells on-bytes on-room w =
+    let s = encodeRpc x in
+    record {
+      no-ids = λ e. clash (cc);
+      writes = λ there h. (
+        ap tells (answer-fits s out h) ∙ on-bytes (length s),
+        rw (written-fits s out h) (front x s out refl (w there) h),
+      );
+      no-room = λ there h. (ap tells (answer-short s out h) ∙ on-room (length s), written-short s out h);
+    }
+
+-- ---- the calls, on a lent state that is fine
+module _ (n : Node) (ss cs out : List ℕ) (fine : lentOf n ss cs ≡ lent.Fine) where
+  -- serve: the gateway and the RPC that the body means fix what is answered and left
+  pub serve-fixed : (body : List ℕ) (x : Rpc) → Within body x
+      → (serveAnswer n ss cs body out ≡ replied (serveOf (wantsOf x) (length out) (gatewayIn n ss cs)))
+      × (serveLeft n ss cs body out ≡ sets out 0 (sentBytes (serveOf (wantsOf x) (length out) (gatewayIn n ss cs))))
+  serve-fixed body x w = rw (← wanted-means (w .means)) (serve-says n ss cs out fine body (taken w))
+
+  -- and so
+  pub serve-exactly : (body : List ℕ) (x : Rpc) → Bytes cs → Within body x
+      → ServeExactly (having (gatewayIn n ss cs) (once (wantsOf x))) out (serveTold (serveAnswer n ss cs body out))
+      (serveLeft n ss cs body out)
+  unfolding serveOf roomOf
+  serve-exactly body x bytes w =
+      let ms = having (gatewayIn n ss cs) (once (wantsOf x)) in
+      let e : cachedOf (n .cache) cs (wanted body) ≡ ms =
+      cached-gateway n ss cs (wanted body) ∙ ap (having (gatewayIn n ss cs)) (wanted-once (w .means)) in
+      let r : Replies ms out = rw e at (serve-means n ss cs body out fine bytes) in
+      let f = serve-fixed body x w in
+      let a : serveAnswer n ss cs body out ≡ replyTo ms out = f .0 in
+      let b : serveLeft n ss cs body out ≡ sets out 0 (replyBytes ms out) =
+      f .1 ∙ ap (sets out 0) (sent-bytes ms out) in
+      rw (a, b) (reply-exactly ms out r)
+
+  -- ask: the same
+  pub ask-fixed : (body : List ℕ) (x : Rpc) → Within body x
+      → (askAnswer n ss cs body out ≡ asked (answer (rpcBytes (askOf (offersOf x) (gatewayIn n ss cs))) out))
+      × (askLeft n ss cs body out ≡ written (rpcBytes (askOf (offersOf x) (gatewayIn n ss cs))) out)
+  ask-fixed body x w = rw (← offered-means (w .means)) (ask-says n ss cs out fine body (taken w))
+
+  pub ask-exactly : (body : List ℕ) (x : Rpc) → Within body x
+      → NamesExactly (lacking (gatewayIn n ss cs) (once (offersOf x)))
+      (request (lacking (gatewayIn n ss cs) (once (offersOf x)))) out (askTold (askAnswer n ss cs body out))
+      (askLeft n ss cs body out)
+  unfolding askOf askBytes
+  ask-exactly body x w =
+      let ids = lacking (gatewayIn n ss cs) (once (offersOf x)) in
+      let e : unseenOf n ss (offered body) ≡ ids =
+      unseen-gateway n ss cs (offered body) ∙ ap (lacking (gatewayIn n ss cs)) (offered-once (w .means)) in
+      let f = ask-fixed body x w in
+      rw (f .0, f .1)
+      (names-exactly ids (request ids) out (λ a. askTold (asked a)) (λ k. refl) (λ k. refl)
+      (λ there. rw e at (request-within n ss w (λ z. there (sym e ∙ z)))))
+
+  advertise-long : (topic : List ℕ) (windows : ℕ) → 1024 < length topic
+      → (advertiseTold (advertiseAnswer n ss cs topic windows out) ≡ told topic-too-long (length topic ∷ []))
+      × (advertiseLeft n ss cs topic windows out ≡ out)
+  unfolding advertiseAnswer advertiseLeft
+  advertise-long topic windows h = rw (fine, lt-ltb 1024 (length topic) h) (refl, refl)
+
+  advertise-names : (topic : List ℕ) (windows : ℕ) → Bytes cs → length topic ≤ 1024
+      → NamesExactly (toldOf topic windows (gatewayIn n ss cs))
+      (advertisement topic (toldOf topic windows (gatewayIn n ss cs))) out
+      (advertiseTold (advertiseAnswer n ss cs topic windows out)) (advertiseLeft n ss cs topic windows out)
+  unfolding advertiseOf advertiseBytes
+  advertise-names topic windows bytes h =
+      let ids = toldOf topic windows (gatewayIn n ss cs) in
+      let e : toldIn n cs topic windows ≡ ids = told-gateway n ss cs topic windows fine in
+      let f = advertise-says n ss cs out fine topic windows h in
+      rw (f .0, f .1)
+      (names-exactly ids (advertisement topic ids) out (λ a. advertiseTold (advertised a)) (λ k. refl) (λ k. refl)
+      (λ there. rw e at (advertise-means n ss cs topic windows fine bytes h (λ z. there (sym e ∙ z)))))
+
+  -- advertise
+  pub advertise-exactly : (topic : List ℕ) (windows : ℕ) → Bytes cs
+      → AdvertiseExactly topic (toldOf topic windows (gatewayIn n ss cs)) out
+      (advertiseTold (advertiseAnswer n ss cs topic windows out)) (advertiseLeft n ss cs topic windows out)
+  advertise-exactly topic windows bytes =
+      record {
+        too-long = advertise-long topic windows;
+        names = advertise-names topic windows bytes;
+        not-text = λ no-text. sym (told-gateway n ss cs topic windows fine)
+            ∙ no-topic-no-bytes n ss cs topic windows fine bytes no-text .0;
+      }
