@@ -18,15 +18,12 @@ use Rattle.agreement.specs.Holding.{gotNext, gotAll, pastAll, Holding, h
 use Rattle.agreement.specs.Arrive.{round-done}
 
 -- ---- calls, and then more calls
-pub got-append : (got : List (List ℕ)) (cs ds : List Call) (s : State)
-    → gotAll got (cs ++ ds) s ≡ gotAll (gotAll got cs s) ds (afterAll cs s)
-unfolding afterAll gotAll
-got-append got [] ds s = refl
-got-append got (c ∷ cs) ds s = got-append (gotNext got s c) cs ds (after c s)
+pub got-append : (got : List (List ℕ)) (cs ds : List Call) → gotAll got (cs ++ ds) ≡ gotAll (gotAll got cs) ds
+unfolding gotAll
+got-append got [] ds = refl
+got-append got (c ∷ cs) ds = got-append (gotNext got c) cs ds
 
-members-append : {set : List (List ℕ)} {cs ds : List Call} {s : State} → Members set cs s
-    → Members set ds (afterAll cs s) → Members set (cs ++ ds) s
-unfolding afterAll
+members-append : {set : List (List ℕ)} {cs ds : List Call} → Members set cs → Members set ds → Members set (cs ++ ds)
 members-append none-left n = n
 members-append (member a m) n = member a (members-append m n)
 
@@ -66,14 +63,14 @@ teller-stays p (suc r) at a b = teller-stays p r (λ k. at (suc k)) (afterAll (a
 
 -- ---- rounds, one after the other
 pub record RoundsDone (set gotA gotB : List (List ℕ)) (p : Play) (r : ℕ) (at : ℕ → ℕ → ℕ) (a b : State) : Type 0 where
-  pub asker-members : Members set (askerRounds p r at a b) a
+  pub asker-members : Members set (askerRounds p r at a b)
   pub asker-done : NoneRefused (askerRounds p r at a b) a
-  pub teller-members : Members set (tellerRounds p r at a b) b
+  pub teller-members : Members set (tellerRounds p r at a b)
   pub teller-done : NoneRefused (tellerRounds p r at a b) b
   pub missing-left : length
       (lacked (p .topic) (afterAll (askerRounds p r at a b) a) (afterAll (tellerRounds p r at a b) b)) ≤ length
       (lacked (p .topic) a b) - 15 * r
-  pub only : (m : List ℕ) → among m (gotAll gotA (askerRounds p r at a b) a) ≡ true → among m gotA ≡ false
+  pub only : (m : List ℕ) → among m (gotAll gotA (askerRounds p r at a b)) ≡ true → among m gotA ≡ false
       → among m gotB ≡ true
 
 nil-left : (p : Play) (a b : State) → length (lacked (p .topic) (afterAll [] a) (afterAll [] b)) ≤ length
@@ -115,8 +112,8 @@ rounds-done {set} ms {x} {y} {firstA} {pastA} {leftA} {gotA} {gotB} p fair (suc 
       teller-done = done-append (one .teller-done) (rest .teller-done);
       missing-left = rw (after-append c d a, after-append t u b) (omega arith);
       only = λ m v w.
-          either (among m (gotAll gotA c a)) (λ z. one .only m z w)
-          (λ z. rest .only m (ap (among m) (sym (got-append gotA c d a)) ∙ v) z);
+          either (among m (gotAll gotA c)) (λ z. one .only m z w)
+          (λ z. rest .only m (ap (among m) (sym (got-append gotA c d)) ∙ v) z);
     }
 
 -- ---- for two histories under the premises
@@ -147,8 +144,8 @@ module _ (set : List (List ℕ)) (x y : Settings) (calls-a calls-b : List Call) 
     pub asker-history : Premises set x allAsked a
     pub teller-history : Premises set y allTold b
     -- the asker got what it had before, and of the teller's
-    pub only : (m : List ℕ) → among m (gotAll [] allAsked a) ≡ true → among m (gotAll [] calls-a a) ≡ false
-        → among m (gotAll [] calls-b b) ≡ true
+    pub only : (m : List ℕ) → among m (gotAll [] allAsked) ≡ true → among m (gotAll [] calls-a) ≡ false
+        → among m (gotAll [] calls-b) ≡ true
 
 -- the premise on the asker's clock reaches over the rounds
 module _ {set : List (List ℕ)} {x y : Settings} {calls-a calls-b : List Call} {a b : State} (ms : MessageSet set)
@@ -164,7 +161,7 @@ module _ {set : List (List ℕ)} {x y : Settings} {calls-a calls-b : List Call} 
   abbrev firstly : ℕ
   firstly = getD (readings calls-a ++ (readings askers ++ [])) 0 0
 
-  before-rounds : Holding set x firstly (pastAll 0 calls-a) (readings askers ++ []) 0 (gotAll [] calls-a a)
+  before-rounds : Holding set x firstly (pastAll 0 calls-a) (readings askers ++ []) 0 (gotAll [] calls-a)
       (afterAll calls-a a)
   before-rounds =
       let e : readings (calls-a ++ askers) ≡ readings calls-a ++ (readings askers ++ []) =
@@ -176,7 +173,7 @@ module _ {set : List (List ℕ)} {x y : Settings} {calls-a calls-b : List Call} 
       (pa .set-cached) (subst (Clock x) e clock) (omega arith))
       (pa .members)
 
-  rounds : RoundsDone set (gotAll [] calls-a a) (gotAll [] calls-b b) p r at (afterAll calls-a a) (afterAll calls-b b)
+  rounds : RoundsDone set (gotAll [] calls-a) (gotAll [] calls-b) p r at (afterAll calls-a a) (afterAll calls-b b)
   rounds = rounds-done ms p fair r at [] before-rounds (holding-all ms pb)
 
   pub caught-up : CaughtUp set x y calls-a calls-b a b p r at
@@ -212,7 +209,7 @@ module _ {set : List (List ℕ)} {x y : Settings} {calls-a calls-b : List Call} 
               clock = subst (Clock y) (sym e) (pb .clock);
               few-heartbeats = omega arith;
             };
-        only = λ m t u. rounds .only m (ap (among m) (sym (got-append [] calls-a askers a)) ∙ t) u;
+        only = λ m t u. rounds .only m (ap (among m) (sym (got-append [] calls-a askers)) ∙ t) u;
       }
 
   -- so nothing is missing after as many rounds as n/15, rounded up

@@ -25,7 +25,7 @@ use Rattle.node.specs.Gateway.{toldOf, lacking, having}
 use Rattle.node.specs.State.{gatewayIn}
 use Rattle.node.specs.Calls.{lentOf, planFit, planned, advertiseBytes, askBytes, servedOf, replyBytes}
 use Rattle.outputs.specs.Replied.{Replies, serve-means}
-use Rattle.history.specs.Script.{Placed}
+use Rattle.history.specs.History.{Placed}
 use Rattle.agreement.specs.HandOver.{reply-has}
 
 -- ---- an element of a list of messages, and its bytes

@@ -112,11 +112,11 @@ b-lacks-nothing = ap₂ (λ (g h : Gateway). missing topic g (h .cache)) b-is a-
 
 -- ---- a's request, given b's advertisement, names its id
 holding-a : Holding messages settings-a (firstOf calls-a) (pastAll 0 calls-a) [] 0
-    (gotAll [] calls-a (start settings-a)) at-a
+    (gotAll [] calls-a) at-a
 holding-a = holding-all message-set premises-a
 
 holding-b : Holding messages settings-b (firstOf calls-b) (pastAll 0 calls-b) [] 0
-    (gotAll [] calls-b (start settings-b)) at-b
+    (gotAll [] calls-b) at-b
 holding-b = holding-all message-set premises-b
 
 b-tells : toldOf topic 3 gateway-b ≡ first-id ∷ second-id ∷ []
@@ -321,11 +321,11 @@ unfolding encodeRpc encodeControl encodeIWant encodeIHave bytesField tag uvarint
 advert-written = refl
 
 later-holding-a : Holding messages settings-a (firstOf all-a) (pastAll 0 all-a) [] 0
-    (gotAll [] all-a (start settings-a)) later-a
+    (gotAll [] all-a) later-a
 later-holding-a = holding-all message-set (round-done .asker-history)
 
 later-holding-b : Holding messages settings-b (firstOf all-b) (pastAll 0 all-b) [] 0
-    (gotAll [] all-b (start settings-b)) later-b
+    (gotAll [] all-b) later-b
 later-holding-b = holding-all message-set (round-done .teller-history)
 
 told-bytes : (s : State) (ids : List (List ℕ)) → toldIn (s .node) (s .messages) topic 3 ≡ ids

@@ -56,6 +56,17 @@ unfoldable pub gotAll : List (List ℕ) → List Call → List (List ℕ)
 gotAll got [] = got
 gotAll got (c ∷ cs) = gotAll (gotNext got c) cs
 
+-- ---- a call that brings nothing, and one that brings a message of the set, are members
+pub member-none : (set : List (List ℕ)) (c : Call) → brought c ≡ none → MemberAt set c
+member-none set c e m t = clash (let q = sym e ∙ brings-that m c .0 t in cc)
+
+pub member-some : (set : List (List ℕ)) (c : Call) (m : List ℕ) → brought c ≡ some m → among m set ≡ true
+    → MemberAt set c
+member-some set c m e inside k t =
+    let q = sym e ∙ brings-that k c .0 t in
+    let r : m ≡ k = cc in
+    ap (λ (o : List ℕ). among o set) (sym r) ∙ inside
+
 -- ---- what a gateway holds, after its first reading and some heartbeats
 pub record Holds (set : List (List ℕ)) (x : Settings) (first past : ℕ) (got : List (List ℕ))
     (g : Gateway) : Type 0 where

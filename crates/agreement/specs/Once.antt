@@ -14,8 +14,8 @@ use Rattle.rows.specs.IdsLaws.{same-self, same-equal, among-append}
 use Rattle.node.specs.declared.Admit.{Admit}
 use Rattle.node.specs.declared.Admit.the-variants as answer
 use Rattle.history.specs.History.{State, Settings, Call, admit, heartbeat, advertise, ask, serve, afterAll, reading}
-use Rattle.history.specs.History.{readings, firstOf, beat, beats, refusalAt, brought, isThat, brings, timesGot, answerIn, isNew}
-use Rattle.history.specs.History.{isDuplicate, countAt, times, timesNew, timesDuplicate}
+use Rattle.history.specs.History.{readings, firstOf, beat, beats, refusalAt, brought, isThat, brings, timesGot, answerIn}
+use Rattle.history.specs.History.{isNew, isDuplicate, countAt, times, timesNew, timesDuplicate}
 use Rattle.history.specs.Laws.{readings-append, beats-append, brings-that}
 use Rattle.agreement.specs.Premises.{MessageSet, MemberAt, Members, none-left, member, Premises}
 use Rattle.agreement.specs.Holding.{withGot, gotBy, gotNext, gotAll, Holding, admit-answers, admit-done}
@@ -71,9 +71,9 @@ got-exactly m calls = got-from m calls []
 
 -- ---- one call: how often the message is got, new and duplicate, and whether it was got before it and is after it
 data One (got new duplicate : ℕ) (was now : Bool) : Type 0 where
-  other : got ≡ 0 → new ≡ 0 → duplicate ≡ 0 → now ≡ was → One got new duplicate was now
-  first : got ≡ 1 → new ≡ 1 → duplicate ≡ 0 → was ≡ false → now ≡ true → One got new duplicate was now
-  again : got ≡ 1 → new ≡ 0 → duplicate ≡ 1 → was ≡ true → now ≡ true → One got new duplicate was now
+  not-this : got ≡ 0 → new ≡ 0 → duplicate ≡ 0 → now ≡ was → One got new duplicate was now
+  first-time : got ≡ 1 → new ≡ 1 → duplicate ≡ 0 → was ≡ false → now ≡ true → One got new duplicate was now
+  once-more : got ≡ 1 → new ≡ 0 → duplicate ≡ 1 → was ≡ true → now ≡ true → One got new duplicate was now
 
 -- ---- some calls
 record Some (got new duplicate : ℕ) (was : Bool) : Type 0 where
@@ -82,18 +82,18 @@ record Some (got new duplicate : ℕ) (was : Bool) : Type 0 where
   once : was ≡ false → 1 ≤ got → new ≡ 1
 
 one-more : {a b c d e f : ℕ} {was now : Bool} → One a b c was now → Some d e f now → Some (a + d) (b + e) (c + f) was
-one-more {a} {b} {c} {d} {e} {f} (other p q r t) s =
+one-more {a} {b} {c} {d} {e} {f} (not-this p q r t) s =
     let z = s .answered in
     record {
       answered = omega arith;
       never = λ u. let v = s .never (t ∙ u) in omega arith;
       once = λ u l. let v = s .once (t ∙ u) (omega arith) in omega arith;
     }
-one-more {a} {b} {c} {d} {e} {f} (first p q r t u) s =
+one-more {a} {b} {c} {d} {e} {f} (first-time p q r t u) s =
     let z = s .answered in
     let v = s .never u in
     record { answered = omega arith; never = λ w. clash (cc); once = λ w l. omega arith }
-one-more {a} {b} {c} {d} {e} {f} (again p q r t u) s =
+one-more {a} {b} {c} {d} {e} {f} (once-more p q r t u) s =
     let z = s .answered in
     let v = s .never u in
     record { answered = omega arith; never = λ w. omega arith; once = λ w l. clash (cc) }
@@ -110,19 +110,20 @@ module _ {set : List (List ℕ)} (ms : MessageSet set) (m : List ℕ) {x : Setti
         (λ t.
         let a = admit-answers body i word at h ms m (brings-that m c .0 t) (inside m t) in
         let n = next-that m got (brought c) t in
-        either (among m got) (λ u. again (rw t) (rw (t, a, u)) (rw (t, a, u)) u n)
-        (λ u. first (rw t) (rw (t, a, u)) (rw (t, a, u)) u n))
-        (λ t. other (rw t) (rw t) (rw t) (next-same m got (brought c) t))
+        either (among m got) (λ u. once-more (rw t) (rw (t, a, u)) (rw (t, a, u)) u n)
+        (λ u. first-time (rw t) (rw (t, a, u)) (rw (t, a, u)) u n))
+        (λ t. not-this (rw t) (rw t) (rw t) (next-same m got (brought c) t))
 
-    call-one : (rs : List ℕ) (left : ℕ) (c : Call) → Holding set x first past (reading c ++ rs) (beat c + left) got s → MemberAt set c
+    call-one : (rs : List ℕ) (left : ℕ) (c : Call)
+        → Holding set x first past (reading c ++ rs) (beat c + left) got s → MemberAt set c
         → One (cond (brings m c) 1 0) (countAt isNew m s c) (countAt isDuplicate m s c) (among m got)
         (among m (gotNext got c))
     unfolding brought
     call-one rs left (admit body i word at) h inside = admit-one body i word at h inside
-    call-one rs left (heartbeat at) h inside = other refl refl refl refl
-    call-one rs left (advertise topic windows out) h inside = other refl refl refl refl
-    call-one rs left (ask body out) h inside = other refl refl refl refl
-    call-one rs left (serve body out) h inside = other refl refl refl refl
+    call-one rs left (heartbeat at) h inside = not-this refl refl refl refl
+    call-one rs left (advertise topic windows out) h inside = not-this refl refl refl refl
+    call-one rs left (ask body out) h inside = not-this refl refl refl refl
+    call-one rs left (serve body out) h inside = not-this refl refl refl refl
 
   some-calls : {first past : ℕ} {got : List (List ℕ)} {s : State} (calls : List Call)
       → Holding set x first past (readings calls) (beats calls) got s → Members set calls
