@@ -11,7 +11,6 @@ use borrow.Author.Tests.{le-leb, lt-leb}
 use Rattle.basis.specs.Cases.{either, clash}
 use Rattle.rows.specs.Ids.{sameBytes, among}
 use Rattle.rows.specs.IdsLaws.{same-self, same-equal, among-append}
-use Rattle.node.specs.declared.Admit.{Admit}
 use Rattle.node.specs.declared.Admit.the-variants as answer
 use Rattle.history.specs.History.{State, Settings, Call, admit, heartbeat, advertise, ask, serve, afterAll, reading}
 use Rattle.history.specs.History.{readings, firstOf, beat, beats, refusalAt, brought, isThat, brings, timesGot, answerIn}

@@ -8,7 +8,6 @@ use mathlib.Core.Logic.{_↔_}
 use mathlib.Core.Option.{Option, none, some}
 use native.Mathlib.Omega.{arith}
 use Rattle.basis.specs.Cases.{either, clash}
-use Rattle.rows.specs.Ids.{sameBytes}
 use Rattle.rows.specs.IdsLaws.{same-self, same-equal}
 use Rattle.protobuf.specs.declared.Checked.{Checked}
 use Rattle.protobuf.specs.declared.Checked.the-variants as checked
@@ -40,7 +39,7 @@ use Rattle.history.specs.History.{State, gatewayOf, Settings, Fresh, Cal
 use Rattle.history.specs.History.{serve}
 use Rattle.history.specs.History.{planIn, after, afterAll, reading, readings, beats, refusalAt, NoneRefused}
 use Rattle.history.specs.History.{all-done, done, admits, Placed, standing, whereAccepted, brought, isThat}
-use Rattle.history.specs.History.{brings, countAt, times, timesGot, newAt, newIds}
+use Rattle.history.specs.History.{brings, times, timesGot, newAt, newIds}
 
 -- ---- calls, and then more calls
 pub after-append : (cs ds : List Call) (s : State) → afterAll (cs ++ ds) s ≡ afterAll ds (afterAll cs s)
