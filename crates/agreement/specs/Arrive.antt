@@ -132,7 +132,7 @@ module _ {set : List (List ℕ)} (ms : MessageSet set) {x y : Settings} {firstA 
   served-few : servedCount p a b ≤ length named
   unfolding servedOf
   served-few =
-      let f = fitting-le 2 (roomOf (p .reply-out)) handed in
+      let f = fitting-le 2 (roomOf (p .reply-out 0)) handed in
       let n = replies-count ha hb p fair in
       let e = served-is ha hb p fair in
       omega arith
@@ -146,7 +146,7 @@ module _ {set : List (List ℕ)} (ms : MessageSet set) {x y : Settings} {firstA 
       let e = served-is ha hb p fair in
       let d = reply-delivers ha hb p fair in
       rw (replied ha hb p fair)
-      (carried-brought (replyBytes handed (p .reply-out)) i (at i) (getD handed i []) (d .accepted)
+      (carried-brought (replyBytes handed (p .reply-out 0)) i (at i) (getD handed i []) (d .accepted)
       (d .each i (omega arith)))
 
   inside : (i : ℕ) → i < servedCount p a b → among (getD handed i []) set ≡ true
@@ -256,11 +256,11 @@ module _ {set : List (List ℕ)} (ms : MessageSet set) {x y : Settings} {firstA 
   unfolding askerRound tellerRound afterAll after gotAll brought
   round-done =
       record {
-        asker-members = member (member-none set (ask (advertOf p b) (p .request-out)) refl) (arrived .members);
+        asker-members = member (member-none set (ask (advertOf p b) (p .request-out 0)) refl) (arrived .members);
         asker-done = done (request-done ha hb p fair) (arrived .none-refused);
         teller-members =
-            member (member-none set (advertise (p .topic) (p .windows) (p .advert-out)) refl)
-            (member (member-none set (serve (requestOf p a b) (p .reply-out)) refl) none-left);
+            member (member-none set (advertise (p .topic) (p .windows) (p .advert-out 0)) refl)
+            (member (member-none set (serve (requestOf p a b) (p .reply-out 0)) refl) none-left);
         teller-done = done (advert-done ha hb p fair) (done (reply-done ha hb p fair) all-done);
         asker-holds = arrived .holding;
         teller-holds = hb;

@@ -12,8 +12,8 @@ use Rattle.rows.specs.Ids.{among}
 use Rattle.history.specs.History.{State, Settings, Call, after, afterAll, readings, beats, NoneRefused, all-done}
 use Rattle.history.specs.Laws.{after-append, readings-append, beats-append, done-append, admits-beats}
 use Rattle.agreement.specs.Premises.{MessageSet, Members, none-left, member, Clock, Premises}
-use Rattle.agreement.specs.Round.{lacked, Play, Fair, replyOf, servedCount, askerRound, tellerRound, askerRounds}
-use Rattle.agreement.specs.Round.{tellerRounds}
+use Rattle.agreement.specs.Round.{lacked, Play, onward, Fair, fair-onward, replyOf, servedCount, askerRound}
+use Rattle.agreement.specs.Round.{tellerRound, askerRounds, tellerRounds}
 use Rattle.agreement.specs.Holding.{gotNext, gotAll, pastAll, Holding, holding-fresh, holding-on, holding-all}
 use Rattle.agreement.specs.Arrive.{round-done}
 
@@ -33,10 +33,10 @@ unfolding askerRounds askerRound beats
 asker-beats p zero at a b = refl
 asker-beats p (suc r) at a b =
     let c = askerRound p (at 0) a b in
-    let d = askerRounds p r (λ k. at (suc k)) (afterAll c a) (afterAll (tellerRound p a b) b) in
+    let d = askerRounds (onward p) r (λ k. at (suc k)) (afterAll c a) (afterAll (tellerRound p a b) b) in
     let e = beats-append c d in
     let f = admits-beats (replyOf p a b) (at 0) 0 (servedCount p a b) in
-    let g = asker-beats p r (λ k. at (suc k)) (afterAll c a) (afterAll (tellerRound p a b) b) in
+    let g = asker-beats (onward p) r (λ k. at (suc k)) (afterAll c a) (afterAll (tellerRound p a b) b) in
     omega arith
 
 teller-beats : (p : Play) (r : ℕ) (at : ℕ → ℕ → ℕ) (a b : State) → beats (tellerRounds p r at a b) ≡ 0
@@ -44,22 +44,22 @@ unfolding tellerRounds tellerRound beats
 teller-beats p zero at a b = refl
 teller-beats p (suc r) at a b =
     let c = tellerRound p a b in
-    let d = tellerRounds p r (λ k. at (suc k)) (afterAll (askerRound p (at 0) a b) a) (afterAll c b) in
+    let d = tellerRounds (onward p) r (λ k. at (suc k)) (afterAll (askerRound p (at 0) a b) a) (afterAll c b) in
     let e = beats-append c d in
-    let g = teller-beats p r (λ k. at (suc k)) (afterAll (askerRound p (at 0) a b) a) (afterAll c b) in
+    let g = teller-beats (onward p) r (λ k. at (suc k)) (afterAll (askerRound p (at 0) a b) a) (afterAll c b) in
     omega arith
 
 teller-readings : (p : Play) (r : ℕ) (at : ℕ → ℕ → ℕ) (a b : State) → readings (tellerRounds p r at a b) ≡ []
 unfolding tellerRounds tellerRound readings
 teller-readings p zero at a b = refl
-teller-readings p (suc r) at a b = teller-readings p r (λ k. at (suc k)) (afterAll (askerRound p (at 0) a b) a)
+teller-readings p (suc r) at a b = teller-readings (onward p) r (λ k. at (suc k)) (afterAll (askerRound p (at 0) a b) a)
     (afterAll (tellerRound p a b) b)
 
 -- and rounds leave the teller as it was
 pub teller-stays : (p : Play) (r : ℕ) (at : ℕ → ℕ → ℕ) (a b : State) → afterAll (tellerRounds p r at a b) b ≡ b
 unfolding tellerRounds tellerRound afterAll after
 teller-stays p zero at a b = refl
-teller-stays p (suc r) at a b = teller-stays p r (λ k. at (suc k)) (afterAll (askerRound p (at 0) a b) a) b
+teller-stays p (suc r) at a b = teller-stays (onward p) r (λ k. at (suc k)) (afterAll (askerRound p (at 0) a b) a) b
 
 -- ---- rounds, one after the other
 pub record RoundsDone (set gotA gotB : List (List ℕ)) (p : Play) (r : ℕ) (at : ℕ → ℕ → ℕ) (a b : State) : Type 0 where
@@ -96,13 +96,13 @@ rounds-done ms p fair zero at rs {a} {b} ha hb =
 rounds-done {set} ms {x} {y} {firstA} {pastA} {leftA} {gotA} {gotB} p fair (suc r) at rs {a} {b} ha hb =
     let c = askerRound p (at 0) a b in
     let t = tellerRound p a b in
-    let d = askerRounds p r (λ k. at (suc k)) (afterAll c a) (afterAll t b) in
-    let u = tellerRounds p r (λ k. at (suc k)) (afterAll c a) (afterAll t b) in
+    let d = askerRounds (onward p) r (λ k. at (suc k)) (afterAll c a) (afterAll t b) in
+    let u = tellerRounds (onward p) r (λ k. at (suc k)) (afterAll c a) (afterAll t b) in
     let e : readings (c ++ d) ++ rs ≡ readings c ++ (readings d ++ rs) =
     ap (λ (l : List ℕ). l ++ rs) (readings-append c d) ∙ append-assoc (readings c) (readings d) rs in
     let one = round-done ms p fair (at 0) (readings d ++ rs)
     (subst (λ (l : List ℕ). Holding set x firstA pastA l leftA gotA a) e ha) hb in
-    let rest = rounds-done ms p fair r (λ k. at (suc k)) rs (one .asker-holds) (one .teller-holds) in
+    let rest = rounds-done ms (onward p) (fair-onward fair) r (λ k. at (suc k)) rs (one .asker-holds) (one .teller-holds) in
     let f = one .fewer in
     let g = rest .missing-left in
     record {

@@ -285,19 +285,26 @@ premises-b =
       few-heartbeats = few-b;
     }
 
--- ---- what rounds are played with: full buffers, of zeros
-unfoldable pub buffer : List ℕ
-buffer = replicate maxRpcSize 0
+-- ---- what rounds are played with: full buffers, for each call of each round one of its own length and content
+unfoldable pub buffer : ℕ → ℕ → List ℕ
+buffer more byte = replicate (maxRpcSize + more) byte
 
-zeros-long : (n : ℕ) → n ≤ length (replicate {A = ℕ} n 0)
-zeros-long n = omega (arith, length-replicate {A = ℕ} n 0)
+buffer-long : (n more byte : ℕ) → n ≤ length (replicate {A = ℕ} (n + more) byte)
+buffer-long n more byte = omega (arith, length-replicate {A = ℕ} (n + more) byte)
 
-pub buffer-full : maxRpcSize ≤ length buffer
+pub buffer-full : (more byte : ℕ) → maxRpcSize ≤ length (buffer more byte)
 unfolding buffer
-buffer-full = zeros-long maxRpcSize
+buffer-full more byte = buffer-long maxRpcSize more byte
 
 abbrev pub play : Play
-play = record { topic = topic; windows = 3; advert-out = buffer; request-out = buffer; reply-out = buffer }
+play =
+    record {
+      topic = topic;
+      windows = 3;
+      advert-out = λ k. buffer k 0;
+      request-out = λ k. buffer (k + 1) 7;
+      reply-out = λ k. buffer (k + 2) 255;
+    }
 
 pub fair : Fair play settings-a settings-b
 fair =
@@ -305,9 +312,9 @@ fair =
       topic-short = omega arith;
       windows-x = omega arith;
       windows-y = omega arith;
-      advert-room = buffer-full;
-      request-room = buffer-full;
-      reply-room = buffer-full;
+      advert-room = λ k. buffer-full k 0;
+      request-room = λ k. buffer-full (k + 1) 7;
+      reply-room = λ k. buffer-full (k + 2) 255;
     }
 
 -- ---- a message got is new once
