@@ -17,17 +17,18 @@ use Rattle.parts.specs.PartsLaws.{fitting-le}
 use Rattle.seen.specs.Entries.{holds}
 use Rattle.mcache.specs.Messages.{get}
 use Rattle.node.specs.Gateway.{marked, toldOf, lacking}
-use Rattle.node.specs.Calls.{servedOf, roomOf, replyBytes}
+use Rattle.node.specs.Calls.{servedOf, roomOf}
 use Rattle.history.specs.History.{State, gatewayOf, Settings, Call, admit, advertise, ask, serve, after, afterAll}
 use Rattle.history.specs.History.{readings, NoneRefused, all-done, done, brought, admits}
-use Rattle.history.specs.Laws.{carried-brought}
 use Rattle.agreement.specs.Premises.{MessageSet, Members, none-left, member}
-use Rattle.agreement.specs.Round.{lacked, Play, Fair, advertOf, requestOf, replyOf, servedCount, askerRound, tellerRound}
+use Rattle.agreement.specs.Round.{lacked, Play, Fair, advertOf, requestOf, replyOf, servedCount, askerRound}
+use Rattle.agreement.specs.Round.{tellerRound}
 use Rattle.agreement.specs.Rows.{rows-held}
 use Rattle.agreement.specs.Holding.{withGot, gotBy, gotNext, gotAll, member-none, member-some, Holding}
 use Rattle.agreement.specs.Holding.{admit-done, holding-admit}
 use Rattle.agreement.specs.Once.{with-again, with-this, with-other}
 use Rattle.agreement.specs.HandOver.{lacking-exactly}
+use Rattle.agreement.specs.Delivered.{brought-delivered}
 use Rattle.agreement.specs.Lacking.{Got, told-got, wants-once, wants-count}
 use Rattle.agreement.specs.Played.{advert-done, request-done, reply-done, replied, served-is, wants, replies}
 use Rattle.agreement.specs.Played.{replies-count, reply-at, reply-got, enough, reply-delivers}
@@ -141,13 +142,12 @@ module _ {set : List (List ℕ)} (ms : MessageSet set) {x y : Settings} {firstA 
   got-of i l = let f = served-few in reply-got ha hb p fair i (omega arith)
 
   -- what is served is delivered
-  reply-brings : (i : ℕ) → i < servedCount p a b → brought (admit (replyOf p a b) i true (at i)) ≡ some (getD handed i [])
+  reply-brings : (i : ℕ) → i < servedCount p a b
+      → brought (admit (replyOf p a b) i true (at i)) ≡ some (getD handed i [])
   reply-brings i l =
       let e = served-is ha hb p fair in
-      let d = reply-delivers ha hb p fair in
       rw (replied ha hb p fair)
-      (carried-brought (replyBytes handed (p .reply-out 0)) i (at i) (getD handed i []) (d .accepted)
-      (d .each i (omega arith)))
+      (brought-delivered handed (p .reply-out 0) (reply-delivers ha hb p fair) i (at i) (omega arith))
 
   inside : (i : ℕ) → i < servedCount p a b → among (getD handed i []) set ≡ true
   inside i l = hb .held .from-set (getD handed i []) (got-of i l .among-got)

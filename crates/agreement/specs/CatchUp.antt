@@ -102,7 +102,8 @@ rounds-done {set} ms {x} {y} {firstA} {pastA} {leftA} {gotA} {gotB} p fair (suc 
     ap (λ (l : List ℕ). l ++ rs) (readings-append c d) ∙ append-assoc (readings c) (readings d) rs in
     let one = round-done ms p fair (at 0) (readings d ++ rs)
     (subst (λ (l : List ℕ). Holding set x firstA pastA l leftA gotA a) e ha) hb in
-    let rest = rounds-done ms (onward p) (fair-onward fair) r (λ k. at (suc k)) rs (one .asker-holds) (one .teller-holds) in
+    let rest = rounds-done ms (onward p) (fair-onward fair) r (λ k. at (suc k)) rs (one .asker-holds)
+    (one .teller-holds) in
     let f = one .fewer in
     let g = rest .missing-left in
     record {

@@ -204,12 +204,12 @@ unfolding replyBytes second-body bytesField tag uvarint bytesOf signature second
 reply-written = rw one-served
 
 pub reply-bytes : replyOf play at-a at-b ≡ second-body
-reply-bytes = replied holding-a holding-b play fair ∙ ap (λ (ms : List (List ℕ)). replyBytes ms reply-buffer) replies-are
-    ∙ reply-written
+reply-bytes = replied holding-a holding-b play fair
+    ∙ ap (λ (ms : List (List ℕ)). replyBytes ms reply-buffer) replies-are ∙ reply-written
 
 pub reply-count : servedCount play at-a at-b ≡ 1
-reply-count = served-is holding-a holding-b play fair ∙ ap (λ (ms : List (List ℕ)). servedOf ms reply-buffer) replies-are
-    ∙ one-served
+reply-count = served-is holding-a holding-b play fair
+    ∙ ap (λ (ms : List (List ℕ)). servedOf ms reply-buffer) replies-are ∙ one-served
 
 -- ---- one round, a's admits at 20
 abbrev pub reading : ℕ → ℕ → ℕ
@@ -221,8 +221,8 @@ unfolding askerRounds askerRound admits
 round-calls p at a b body e n = rw (e, n)
 
 -- a's calls in it: it asks, and admits the message served
-pub one-round : askerRounds play 1 reading at-a at-b ≡ ask (advertOf play at-b) (buffer 1 7) ∷ admit second-body 0 true 20
-    ∷ []
+pub one-round : askerRounds play 1 reading at-a at-b
+    ≡ ask (advertOf play at-b) (buffer 1 7) ∷ admit second-body 0 true 20 ∷ []
 one-round = round-calls play reading at-a at-b second-body reply-bytes reply-count
 
 -- all calls of each, with the round

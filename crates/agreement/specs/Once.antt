@@ -13,8 +13,8 @@ use Rattle.rows.specs.Ids.{sameBytes, among}
 use Rattle.rows.specs.IdsLaws.{same-self, same-equal, among-append}
 use Rattle.node.specs.declared.Admit.the-variants as answer
 use Rattle.history.specs.History.{State, Settings, Call, admit, heartbeat, advertise, ask, serve, afterAll, reading}
-use Rattle.history.specs.History.{readings, firstOf, beat, beats, refusalAt, brought, isThat, brings, timesGot, answerIn}
-use Rattle.history.specs.History.{isNew, isDuplicate, countAt, times, timesNew, timesDuplicate}
+use Rattle.history.specs.History.{readings, firstOf, beat, beats, refusalAt, brought, isThat, brings, timesGot}
+use Rattle.history.specs.History.{answerIn, isNew, isDuplicate, countAt, times, timesNew, timesDuplicate}
 use Rattle.history.specs.Laws.{readings-append, beats-append, brings-that}
 use Rattle.agreement.specs.Premises.{MessageSet, MemberAt, Members, none-left, member, Premises}
 use Rattle.agreement.specs.Holding.{withGot, gotBy, gotNext, gotAll, Holding, admit-answers, admit-done}

@@ -268,7 +268,8 @@ module _ (s : State) (body : List ℕ) (i : ℕ) (word : Bool) (at : ℕ) where
   of-body (checked.Refused why) h = (answer.Refused why, refl)
 
   of-lent : (l : Lent) → cond word (whereAccepted (acceptOf body) (standing body (messageAt body i))) none ≡ none
-      → TakesNone (onLent (λ (why : Fault). no (answer.Faulty why)) l (planBody (s .node) at word body i (acceptOf body)))
+      → TakesNone
+      (onLent (λ (why : Fault). no (answer.Faulty why)) l (planBody (s .node) at word body i (acceptOf body)))
   of-lent lent.Fine h = of-body (acceptOf body) h
   of-lent (lent.Faulty why) h = (answer.Faulty why, refl)
 
