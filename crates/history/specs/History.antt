@@ -71,6 +71,10 @@ pub data Call : Type 0 where
 abbrev pub planIn : State → List ℕ → ℕ → Bool → ℕ → Plan
 planIn s body i word at = planned (s .node) (s .ids) (s .messages) body i word at
 
+-- and what it answers
+abbrev pub answerIn : State → List ℕ → ℕ → Bool → ℕ → Admit
+answerIn s body i word at = admitAnswer (s .node) (s .ids) at (planIn s body i word at)
+
 -- the node and stores as a call leaves them
 unfoldable pub after : Call → State → State
 after (admit body i word at) s =
@@ -118,7 +122,7 @@ beats (c ∷ cs) = beat c + beats cs
 
 -- ---- refusals: the number of the one that a call meets, 0 where it is done
 abbrev pub refusalAt : State → Call → ℕ
-refusalAt s (admit body i word at) = admitNumber (admitAnswer (s .node) (s .ids) at (planIn s body i word at))
+refusalAt s (admit body i word at) = admitNumber (answerIn s body i word at)
 refusalAt s (heartbeat at) = beatNumber (beatAnswer (s .node) (s .ids) (s .messages) at)
 refusalAt s (advertise topic windows out) =
     advertiseNumber (advertiseAnswer (s .node) (s .ids) (s .messages) topic windows out)
@@ -193,10 +197,6 @@ timesGot m [] = 0
 timesGot m (c ∷ cs) = cond (brings m c) 1 0 + timesGot m cs
 
 -- ---- and how often it is answered new, and duplicate
--- what an admit answers
-abbrev pub answerIn : State → List ℕ → ℕ → Bool → ℕ → Admit
-answerIn s body i word at = admitAnswer (s .node) (s .ids) at (planIn s body i word at)
-
 abbrev pub isNew : Admit → ℕ
 isNew answer.New = 1
 isNew answer.Duplicate = 0

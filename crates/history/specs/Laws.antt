@@ -39,7 +39,7 @@ use Rattle.history.specs.History.{State, gatewayOf, Settings, Fresh, Cal
 use Rattle.history.specs.History.{serve}
 use Rattle.history.specs.History.{planIn, after, afterAll, reading, readings, beats, refusalAt, NoneRefused}
 use Rattle.history.specs.History.{all-done, done, admits, Placed, standing, whereAccepted, brought, isThat}
-use Rattle.history.specs.History.{brings, times, timesGot, newAt, newIds}
+use Rattle.history.specs.History.{brings, times, newAt, newIds}
 
 -- ---- calls, and then more calls
 pub after-append : (cs ds : List Call) (s : State) → afterAll (cs ++ ds) s ≡ afterAll ds (afterAll cs s)
@@ -64,11 +64,6 @@ pub done-append : {cs ds : List Call} {s : State} → NoneRefused cs s → NoneR
 unfolding afterAll
 done-append all-done n = n
 done-append (done a m) n = done a (done-append m n)
-
-pub got-append : (m : List ℕ) (cs ds : List Call) → timesGot m (cs ++ ds) ≡ timesGot m cs + timesGot m ds
-unfolding timesGot
-got-append m [] ds = omega arith
-got-append m (c ∷ cs) ds = let r = got-append m cs ds in omega arith
 
 pub times-append : (f : Admit → ℕ) (m : List ℕ) (cs ds : List Call) (s : State)
     → times f m (cs ++ ds) s ≡ times f m cs s + times f m ds (afterAll cs s)
