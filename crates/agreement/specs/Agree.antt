@@ -13,6 +13,7 @@ use Rattle.seen.specs.Entries.{holds}
 use Rattle.mcache.specs.Messages.{Cached, topics}
 use Rattle.mcache.specs.GossipLaws.{among-in}
 use Rattle.node.specs.Gateway.{Gateway, marked}
+use Rattle.node.specs.Calls.{maxRpcSize}
 use Rattle.history.specs.History.{State, gatewayOf, Settings, Call, afterAll, readings}
 use Rattle.history.specs.Laws.{after-append}
 use Rattle.agreement.specs.Premises.{MessageSet, Clock, Premises}
@@ -92,8 +93,9 @@ module _ {set : List (List ℕ)} {x y : Settings} {calls-a calls-b : List Call} 
     -- neither lacks anything
     pub a-has-all : lacked (p .topic) (afterAll calls-a2 a) (afterAll calls-b2 b) ≡ []
     pub b-has-all : lacked (p .topic) (afterAll calls-b2 b) (afterAll calls-a2 a) ≡ []
-    -- both advertise in identical bytes
-    pub identical : Identical p q (afterAll calls-a2 a) (afterAll calls-b2 b)
+    -- both advertise in identical bytes, whatever buffers they are lent
+    pub identical : (out-a out-b : List ℕ) → maxRpcSize ≤ length out-a → maxRpcSize ≤ length out-b
+        → Identical (p .topic) (p .windows) (q .windows) out-a out-b (afterAll calls-a2 a) (afterAll calls-b2 b)
 
   module _ (clock-b : Clock y (readings calls-b2)) (n : ℕ)
       (few : length (lacked (p .topic) (afterAll calls-a a) (afterAll calls-b b)) ≤ n) (enough : (n + 14) / 15 ≤ r)
@@ -130,5 +132,7 @@ module _ {set : List (List ℕ)} {x y : Settings} {calls-a calls-b : List Call} 
           history-b = second .asker-history;
           a-has-all = a-done;
           b-has-all = b-done;
-          identical = identical-bytes ms (second .teller-history) (second .asker-history) p q fp fq same a-done b-done;
+          identical =
+              identical-bytes ms (second .teller-history) (second .asker-history) (p .topic) (fp .topic-short) a-done
+              b-done (p .windows) (q .windows) (fp .windows-x) (fq .windows-y);
         }

@@ -1,9 +1,10 @@
 -- One round: every call in it is done, all that is served is got, and of what the asker lacks fifteen messages arrive,
 -- or all.
 use Prim.Native.Nat.{ℕ, zero, suc, _+_, _-_, _≤_, _<_}
-use mathlib.Core.Path.{_≡_, refl, sym, ap, subst, _∙_}
+use mathlib.Core.Path.{_≡_, refl, sym, ap, _∙_}
 use mathlib.Core.Bool.{true, false, _||_}
 use mathlib.Core.List.{List, [], _∷_, _++_}
+use mathlib.Core.Option.{some}
 use native.Mathlib.Omega.{arith}
 use lib.ListN.{length, getD, take, length-append}
 use lib.Seq.{length-take-le, take-length}
@@ -15,21 +16,19 @@ use Rattle.rows.specs.IdsLaws.{same-equal, among-append, among-at, among-take, 
 use Rattle.node.specs.PartsLaws.{fitting-le}
 use Rattle.seen.specs.Entries.{holds}
 use Rattle.mcache.specs.Messages.{get}
-use Rattle.node.specs.declared.Lent.the-variants as lent
 use Rattle.node.specs.Gateway.{marked, toldOf, lacking}
-use Rattle.node.specs.Calls.{Plan, taken, lentOf, servedOf, roomOf}
-use Rattle.node.specs.Laws.{fit-plan}
-use Rattle.history.specs.History.{State, gatewayOf, Settings, Call, admit, planIn, after, afterAll, readings}
-use Rattle.history.specs.History.{NoneRefused}
-use Rattle.history.specs.History.{all-done, done, admits}
-use Rattle.history.specs.Laws.{taken-number}
-use Rattle.agreement.specs.Premises.{MessageSet, Member, Members, none-left, member}
-use Rattle.agreement.specs.Round.{lacked, Play, Fair, replyOf, servedCount, askerRound, tellerRound}
+use Rattle.node.specs.Calls.{servedOf, roomOf}
+use Rattle.history.specs.History.{State, gatewayOf, Settings, Call, admit, advertise, ask, serve, after, afterAll}
+use Rattle.history.specs.History.{readings, NoneRefused, all-done, done, brought, admits}
+use Rattle.agreement.specs.Premises.{MessageSet, Members, none-left, member}
+use Rattle.agreement.specs.Round.{lacked, Play, Fair, advertOf, requestOf, replyOf, servedCount, askerRound}
+use Rattle.agreement.specs.Round.{tellerRound}
 use Rattle.agreement.specs.Rows.{rows-held}
-use Rattle.agreement.specs.Holding.{withGot, gotBy, gotAll, Holding, admit-forward, holding-admit}
+use Rattle.agreement.specs.Holding.{withGot, gotBy, gotNext, gotAll, member-none, member-some, Holding}
+use Rattle.agreement.specs.Holding.{admit-done, holding-admit}
 use Rattle.agreement.specs.Once.{with-again, with-this, with-other}
 use Rattle.agreement.specs.HandOver.{lacking-exactly}
-use Rattle.agreement.specs.Delivered.{plan-delivered}
+use Rattle.agreement.specs.Delivered.{brought-delivered}
 use Rattle.agreement.specs.Lacking.{Got, told-got, wants-once, wants-count}
 use Rattle.agreement.specs.Played.{advert-done, request-done, reply-done, replied, served-is, wants, replies}
 use Rattle.agreement.specs.Played.{replies-count, reply-at, reply-got, enough, reply-delivers}
@@ -58,20 +57,16 @@ stands (suc k) i (j ∷ l) h =
 -- ---- admits of messages of the set, one after the other
 pub record Admitted (set : List (List ℕ)) (x : Settings) (first past : ℕ) (rs : List ℕ) (left : ℕ)
     (got served : List (List ℕ)) (i k : ℕ) (calls : List Call) (s : State) : Type 0 where
-  pub members : Members set calls s
+  pub members : Members set calls
   pub none-refused : NoneRefused calls s
-  pub holding : Holding set x first past rs left (gotAll got calls s) (afterAll calls s)
-  pub keeps : (m : List ℕ) → among m got ≡ true → among m (gotAll got calls s) ≡ true
-  pub has : (j : ℕ) → i ≤ j → j < i + k → among (getD served j []) (gotAll got calls s) ≡ true
-  pub only : (m : List ℕ) → among m (gotAll got calls s) ≡ true → among m got ≡ false → among m served ≡ true
-
-withThis : (m : List ℕ) (got : List (List ℕ)) → among m (withGot m got) ≡ true
-withThis m got = either (among m got) (λ t. with-again m m got t) (λ t. with-this m got t)
+  pub holding : Holding set x first past rs left (gotAll got calls) (afterAll calls s)
+  pub keeps : (m : List ℕ) → among m got ≡ true → among m (gotAll got calls) ≡ true
+  pub has : (j : ℕ) → i ≤ j → j < i + k → among (getD served j []) (gotAll got calls) ≡ true
+  pub only : (m : List ℕ) → among m (gotAll got calls) ≡ true → among m got ≡ false → among m served ≡ true
 
 module _ {set : List (List ℕ)} (ms : MessageSet set) {x : Settings} {first past : ℕ} (rs : List ℕ) {left : ℕ}
-    (body : List ℕ) (at : ℕ → ℕ) (served ids : List (List ℕ)) (n : ℕ)
-    (plans : (s : State) (i : ℕ) → lentOf (s .node) (s .ids) (s .messages) ≡ lent.Fine → s .node .clock ≤ at i → i < n
-    → planIn s body i true (at i) ≡ taken (getD served i []) (getD ids i []))
+    (body : List ℕ) (at : ℕ → ℕ) (served : List (List ℕ)) (n : ℕ)
+    (brings-each : (i : ℕ) → i < n → brought (admit body i true (at i)) ≡ some (getD served i []))
     (inside : (i : ℕ) → i < n → among (getD served i []) set ≡ true) (few : n ≤ length served) where
   pub all-admitted : (k i : ℕ) {got : List (List ℕ)} {s : State} → i + k ≤ n
       → Holding set x first past (readings (admits body at i k) ++ rs) left got s
@@ -88,22 +83,19 @@ module _ {set : List (List ℕ)} (ms : MessageSet set) {x : Settings} {first pas
       }
   all-admitted (suc k) i {got} {s} l h =
       let m = getD served i [] in
-      let c = admit body i true (at i) in
-      let e : planIn s body i true (at i) ≡ taken m (getD ids i []) =
-      plans s i (h .kept .fine) (admit-forward body i true (at i) h) (omega arith) in
-      let ins : Member set (planIn s body i true (at i)) =
-      subst (λ (q : Plan). Member set q) (sym e) (inside i (omega arith)) in
+      let e = brings-each i (omega arith) in
+      let ins = member-some set (admit body i true (at i)) m e (inside i (omega arith)) in
       let next = holding-admit body i true (at i) h ms ins in
       let r = all-admitted k (suc i) (omega arith) next in
-      let g : gotBy got (planIn s body i true (at i)) ≡ withGot m got = ap (gotBy got) e in
+      let g : gotNext got (admit body i true (at i)) ≡ withGot m got = ap (gotBy got) e in
       record {
         members = member ins (r .members);
-        none-refused = done (taken-number s body i true (at i) m (getD ids i []) e) (r .none-refused);
+        none-refused = done (admit-done body i true (at i) h ms m e (inside i (omega arith))) (r .none-refused);
         holding = r .holding;
         keeps = λ o t. r .keeps o (ap (among o) g ∙ with-again o m got t);
         has = λ j a b.
             either (eqb j i)
-            (λ t. rw (eqb-true j i t) (r .keeps m (ap (among m) g ∙ withThis m got)))
+            (λ t. rw (eqb-true j i t) (r .keeps m (ap (among m) g ∙ with-this m got)))
             (λ t. let z = eqb-false j i t in r .has j (omega arith) (omega arith));
         only = λ o t u.
             either (sameBytes m o)
@@ -114,17 +106,17 @@ module _ {set : List (List ℕ)} (ms : MessageSet set) {x : Settings} {first pas
 -- ---- a round
 pub record RoundDone (set : List (List ℕ)) (x y : Settings) (firstA pastA leftA firstB pastB leftB : ℕ)
     (rsA rsB : List ℕ) (gotA gotB : List (List ℕ)) (p : Play) (at : ℕ → ℕ) (a b : State) : Type 0 where
-  pub asker-members : Members set (askerRound p at a b) a
+  pub asker-members : Members set (askerRound p at a b)
   pub asker-done : NoneRefused (askerRound p at a b) a
-  pub teller-members : Members set (tellerRound p a b) b
+  pub teller-members : Members set (tellerRound p a b)
   pub teller-done : NoneRefused (tellerRound p a b) b
-  pub asker-holds : Holding set x firstA pastA rsA leftA (gotAll gotA (askerRound p at a b) a)
+  pub asker-holds : Holding set x firstA pastA rsA leftA (gotAll gotA (askerRound p at a b))
       (afterAll (askerRound p at a b) a)
   pub teller-holds : Holding set y firstB pastB rsB leftB gotB (afterAll (tellerRound p a b) b)
   -- fifteen arrive, or all
   pub fewer : length (lacked (p .topic) (afterAll (askerRound p at a b) a) (afterAll (tellerRound p a b) b)) ≤ length (lacked (p .topic) a b) - 15
   -- and nothing that the teller did not get
-  pub only : (m : List ℕ) → among m (gotAll gotA (askerRound p at a b) a) ≡ true → among m gotA ≡ false
+  pub only : (m : List ℕ) → among m (gotAll gotA (askerRound p at a b)) ≡ true → among m gotA ≡ false
       → among m gotB ≡ true
 
 module _ {set : List (List ℕ)} (ms : MessageSet set) {x y : Settings} {firstA pastA leftA firstB pastB leftB : ℕ}
@@ -141,7 +133,7 @@ module _ {set : List (List ℕ)} (ms : MessageSet set) {x y : Settings} {firstA 
   served-few : servedCount p a b ≤ length named
   unfolding servedOf
   served-few =
-      let f = fitting-le 2 (roomOf (p .reply-out)) handed in
+      let f = fitting-le 2 (roomOf (p .reply-out 0)) handed in
       let n = replies-count ha hb p fair in
       let e = served-is ha hb p fair in
       omega arith
@@ -149,15 +141,13 @@ module _ {set : List (List ℕ)} (ms : MessageSet set) {x y : Settings} {firstA 
   got-of : (i : ℕ) → i < servedCount p a b → Got (getD named i []) (getD handed i []) gotB
   got-of i l = let f = served-few in reply-got ha hb p fair i (omega arith)
 
-  plans : (s : State) (i : ℕ) → lentOf (s .node) (s .ids) (s .messages) ≡ lent.Fine → s .node .clock ≤ at i
-      → i < servedCount p a b
-      → planIn s (replyOf p a b) i true (at i) ≡ taken (getD handed i []) (getD named i [])
-  plans s i f h l =
+  -- what is served is delivered
+  reply-brings : (i : ℕ) → i < servedCount p a b
+      → brought (admit (replyOf p a b) i true (at i)) ≡ some (getD handed i [])
+  reply-brings i l =
       let e = served-is ha hb p fair in
       rw (replied ha hb p fair)
-      (plan-delivered handed (p .reply-out) (reply-delivers ha hb p fair) (s .node) (s .ids) (s .messages) i true
-      (at i) f (omega arith)
-      ∙ fit-plan (s .node) (at i) (getD handed i []) (getD named i []) (got-of i l .own) h)
+      (brought-delivered handed (p .reply-out 0) (reply-delivers ha hb p fair) i (at i) (omega arith))
 
   inside : (i : ℕ) → i < servedCount p a b → among (getD handed i []) set ≡ true
   inside i l = hb .held .from-set (getD handed i []) (got-of i l .among-got)
@@ -168,7 +158,7 @@ module _ {set : List (List ℕ)} (ms : MessageSet set) {x y : Settings} {firstA 
   arrived =
       let f = served-few in
       let n = replies-count ha hb p fair in
-      all-admitted ms rs (replyOf p a b) at handed named (servedCount p a b) plans inside (omega arith)
+      all-admitted ms rs (replyOf p a b) at handed (servedCount p a b) reply-brings inside (omega arith)
       (servedCount p a b) 0 (omega arith) ha
 
   -- ---- the asker afterwards
@@ -176,7 +166,7 @@ module _ {set : List (List ℕ)} (ms : MessageSet set) {x y : Settings} {firstA 
   later = afterAll (admits (replyOf p a b) at 0 (servedCount p a b)) a
 
   abbrev more : List (List ℕ)
-  more = gotAll gotA (admits (replyOf p a b) at 0 (servedCount p a b)) a
+  more = gotAll gotA (admits (replyOf p a b) at 0 (servedCount p a b))
 
   abbrev tells : List (List ℕ)
   tells = toldOf (p .topic) (p .windows) (gatewayOf b)
@@ -263,12 +253,14 @@ module _ {set : List (List ℕ)} (ms : MessageSet set) {x y : Settings} {firstA 
       ap (λ (o : List ℕ). among o gotB) (sym (q .there)) ∙ reply-got ha hb p fair (q .index) (omega arith) .among-got
 
   pub round-done : RoundDone set x y firstA pastA leftA firstB pastB leftB rs rsB gotA gotB p at a b
-  unfolding askerRound tellerRound afterAll after gotAll
+  unfolding askerRound tellerRound afterAll after gotAll brought
   round-done =
       record {
-        asker-members = member refl (arrived .members);
+        asker-members = member (member-none set (ask (advertOf p b) (p .request-out 0)) refl) (arrived .members);
         asker-done = done (request-done ha hb p fair) (arrived .none-refused);
-        teller-members = member refl (member refl none-left);
+        teller-members =
+            member (member-none set (advertise (p .topic) (p .windows) (p .advert-out 0)) refl)
+            (member (member-none set (serve (requestOf p a b) (p .reply-out 0)) refl) none-left);
         teller-done = done (advert-done ha hb p fair) (done (reply-done ha hb p fair) all-done);
         asker-holds = arrived .holding;
         teller-holds = hb;

@@ -12,21 +12,18 @@ use Rattle.rows.specs.Ids.{among}
 use Rattle.history.specs.History.{State, Settings, Call, after, afterAll, readings, beats, NoneRefused, all-done}
 use Rattle.history.specs.Laws.{after-append, readings-append, beats-append, done-append, admits-beats}
 use Rattle.agreement.specs.Premises.{MessageSet, Members, none-left, member, Clock, Premises}
-use Rattle.agreement.specs.Round.{lacked, Play, Fair, replyOf, servedCount, askerRound, tellerRound, askerRounds}
-use Rattle.agreement.specs.Round.{tellerRounds}
+use Rattle.agreement.specs.Round.{lacked, Play, onward, Fair, fair-onward, replyOf, servedCount, askerRound}
+use Rattle.agreement.specs.Round.{tellerRound, askerRounds, tellerRounds}
 use Rattle.agreement.specs.Holding.{gotNext, gotAll, pastAll, Holding, holding-fresh, holding-on, holding-all}
 use Rattle.agreement.specs.Arrive.{round-done}
 
 -- ---- calls, and then more calls
-pub got-append : (got : List (List ℕ)) (cs ds : List Call) (s : State)
-    → gotAll got (cs ++ ds) s ≡ gotAll (gotAll got cs s) ds (afterAll cs s)
-unfolding afterAll gotAll
-got-append got [] ds s = refl
-got-append got (c ∷ cs) ds s = got-append (gotNext got s c) cs ds (after c s)
+pub got-append : (got : List (List ℕ)) (cs ds : List Call) → gotAll got (cs ++ ds) ≡ gotAll (gotAll got cs) ds
+unfolding gotAll
+got-append got [] ds = refl
+got-append got (c ∷ cs) ds = got-append (gotNext got c) cs ds
 
-members-append : {set : List (List ℕ)} {cs ds : List Call} {s : State} → Members set cs s
-    → Members set ds (afterAll cs s) → Members set (cs ++ ds) s
-unfolding afterAll
+members-append : {set : List (List ℕ)} {cs ds : List Call} → Members set cs → Members set ds → Members set (cs ++ ds)
 members-append none-left n = n
 members-append (member a m) n = member a (members-append m n)
 
@@ -36,10 +33,10 @@ unfolding askerRounds askerRound beats
 asker-beats p zero at a b = refl
 asker-beats p (suc r) at a b =
     let c = askerRound p (at 0) a b in
-    let d = askerRounds p r (λ k. at (suc k)) (afterAll c a) (afterAll (tellerRound p a b) b) in
+    let d = askerRounds (onward p) r (λ k. at (suc k)) (afterAll c a) (afterAll (tellerRound p a b) b) in
     let e = beats-append c d in
     let f = admits-beats (replyOf p a b) (at 0) 0 (servedCount p a b) in
-    let g = asker-beats p r (λ k. at (suc k)) (afterAll c a) (afterAll (tellerRound p a b) b) in
+    let g = asker-beats (onward p) r (λ k. at (suc k)) (afterAll c a) (afterAll (tellerRound p a b) b) in
     omega arith
 
 teller-beats : (p : Play) (r : ℕ) (at : ℕ → ℕ → ℕ) (a b : State) → beats (tellerRounds p r at a b) ≡ 0
@@ -47,33 +44,33 @@ unfolding tellerRounds tellerRound beats
 teller-beats p zero at a b = refl
 teller-beats p (suc r) at a b =
     let c = tellerRound p a b in
-    let d = tellerRounds p r (λ k. at (suc k)) (afterAll (askerRound p (at 0) a b) a) (afterAll c b) in
+    let d = tellerRounds (onward p) r (λ k. at (suc k)) (afterAll (askerRound p (at 0) a b) a) (afterAll c b) in
     let e = beats-append c d in
-    let g = teller-beats p r (λ k. at (suc k)) (afterAll (askerRound p (at 0) a b) a) (afterAll c b) in
+    let g = teller-beats (onward p) r (λ k. at (suc k)) (afterAll (askerRound p (at 0) a b) a) (afterAll c b) in
     omega arith
 
 teller-readings : (p : Play) (r : ℕ) (at : ℕ → ℕ → ℕ) (a b : State) → readings (tellerRounds p r at a b) ≡ []
 unfolding tellerRounds tellerRound readings
 teller-readings p zero at a b = refl
-teller-readings p (suc r) at a b = teller-readings p r (λ k. at (suc k)) (afterAll (askerRound p (at 0) a b) a)
+teller-readings p (suc r) at a b = teller-readings (onward p) r (λ k. at (suc k)) (afterAll (askerRound p (at 0) a b) a)
     (afterAll (tellerRound p a b) b)
 
 -- and rounds leave the teller as it was
 pub teller-stays : (p : Play) (r : ℕ) (at : ℕ → ℕ → ℕ) (a b : State) → afterAll (tellerRounds p r at a b) b ≡ b
 unfolding tellerRounds tellerRound afterAll after
 teller-stays p zero at a b = refl
-teller-stays p (suc r) at a b = teller-stays p r (λ k. at (suc k)) (afterAll (askerRound p (at 0) a b) a) b
+teller-stays p (suc r) at a b = teller-stays (onward p) r (λ k. at (suc k)) (afterAll (askerRound p (at 0) a b) a) b
 
 -- ---- rounds, one after the other
 pub record RoundsDone (set gotA gotB : List (List ℕ)) (p : Play) (r : ℕ) (at : ℕ → ℕ → ℕ) (a b : State) : Type 0 where
-  pub asker-members : Members set (askerRounds p r at a b) a
+  pub asker-members : Members set (askerRounds p r at a b)
   pub asker-done : NoneRefused (askerRounds p r at a b) a
-  pub teller-members : Members set (tellerRounds p r at a b) b
+  pub teller-members : Members set (tellerRounds p r at a b)
   pub teller-done : NoneRefused (tellerRounds p r at a b) b
   pub missing-left : length
       (lacked (p .topic) (afterAll (askerRounds p r at a b) a) (afterAll (tellerRounds p r at a b) b)) ≤ length
       (lacked (p .topic) a b) - 15 * r
-  pub only : (m : List ℕ) → among m (gotAll gotA (askerRounds p r at a b) a) ≡ true → among m gotA ≡ false
+  pub only : (m : List ℕ) → among m (gotAll gotA (askerRounds p r at a b)) ≡ true → among m gotA ≡ false
       → among m gotB ≡ true
 
 nil-left : (p : Play) (a b : State) → length (lacked (p .topic) (afterAll [] a) (afterAll [] b)) ≤ length
@@ -99,13 +96,14 @@ rounds-done ms p fair zero at rs {a} {b} ha hb =
 rounds-done {set} ms {x} {y} {firstA} {pastA} {leftA} {gotA} {gotB} p fair (suc r) at rs {a} {b} ha hb =
     let c = askerRound p (at 0) a b in
     let t = tellerRound p a b in
-    let d = askerRounds p r (λ k. at (suc k)) (afterAll c a) (afterAll t b) in
-    let u = tellerRounds p r (λ k. at (suc k)) (afterAll c a) (afterAll t b) in
+    let d = askerRounds (onward p) r (λ k. at (suc k)) (afterAll c a) (afterAll t b) in
+    let u = tellerRounds (onward p) r (λ k. at (suc k)) (afterAll c a) (afterAll t b) in
     let e : readings (c ++ d) ++ rs ≡ readings c ++ (readings d ++ rs) =
     ap (λ (l : List ℕ). l ++ rs) (readings-append c d) ∙ append-assoc (readings c) (readings d) rs in
     let one = round-done ms p fair (at 0) (readings d ++ rs)
     (subst (λ (l : List ℕ). Holding set x firstA pastA l leftA gotA a) e ha) hb in
-    let rest = rounds-done ms p fair r (λ k. at (suc k)) rs (one .asker-holds) (one .teller-holds) in
+    let rest = rounds-done ms (onward p) (fair-onward fair) r (λ k. at (suc k)) rs (one .asker-holds)
+    (one .teller-holds) in
     let f = one .fewer in
     let g = rest .missing-left in
     record {
@@ -115,8 +113,8 @@ rounds-done {set} ms {x} {y} {firstA} {pastA} {leftA} {gotA} {gotB} p fair (suc 
       teller-done = done-append (one .teller-done) (rest .teller-done);
       missing-left = rw (after-append c d a, after-append t u b) (omega arith);
       only = λ m v w.
-          either (among m (gotAll gotA c a)) (λ z. one .only m z w)
-          (λ z. rest .only m (ap (among m) (sym (got-append gotA c d a)) ∙ v) z);
+          either (among m (gotAll gotA c)) (λ z. one .only m z w)
+          (λ z. rest .only m (ap (among m) (sym (got-append gotA c d)) ∙ v) z);
     }
 
 -- ---- for two histories under the premises
@@ -147,8 +145,8 @@ module _ (set : List (List ℕ)) (x y : Settings) (calls-a calls-b : List Call) 
     pub asker-history : Premises set x allAsked a
     pub teller-history : Premises set y allTold b
     -- the asker got what it had before, and of the teller's
-    pub only : (m : List ℕ) → among m (gotAll [] allAsked a) ≡ true → among m (gotAll [] calls-a a) ≡ false
-        → among m (gotAll [] calls-b b) ≡ true
+    pub only : (m : List ℕ) → among m (gotAll [] allAsked) ≡ true → among m (gotAll [] calls-a) ≡ false
+        → among m (gotAll [] calls-b) ≡ true
 
 -- the premise on the asker's clock reaches over the rounds
 module _ {set : List (List ℕ)} {x y : Settings} {calls-a calls-b : List Call} {a b : State} (ms : MessageSet set)
@@ -164,7 +162,7 @@ module _ {set : List (List ℕ)} {x y : Settings} {calls-a calls-b : List Call} 
   abbrev firstly : ℕ
   firstly = getD (readings calls-a ++ (readings askers ++ [])) 0 0
 
-  before-rounds : Holding set x firstly (pastAll 0 calls-a) (readings askers ++ []) 0 (gotAll [] calls-a a)
+  before-rounds : Holding set x firstly (pastAll 0 calls-a) (readings askers ++ []) 0 (gotAll [] calls-a)
       (afterAll calls-a a)
   before-rounds =
       let e : readings (calls-a ++ askers) ≡ readings calls-a ++ (readings askers ++ []) =
@@ -176,7 +174,7 @@ module _ {set : List (List ℕ)} {x y : Settings} {calls-a calls-b : List Call} 
       (pa .set-cached) (subst (Clock x) e clock) (omega arith))
       (pa .members)
 
-  rounds : RoundsDone set (gotAll [] calls-a a) (gotAll [] calls-b b) p r at (afterAll calls-a a) (afterAll calls-b b)
+  rounds : RoundsDone set (gotAll [] calls-a) (gotAll [] calls-b) p r at (afterAll calls-a a) (afterAll calls-b b)
   rounds = rounds-done ms p fair r at [] before-rounds (holding-all ms pb)
 
   pub caught-up : CaughtUp set x y calls-a calls-b a b p r at
@@ -212,7 +210,7 @@ module _ {set : List (List ℕ)} {x y : Settings} {calls-a calls-b : List Call} 
               clock = subst (Clock y) (sym e) (pb .clock);
               few-heartbeats = omega arith;
             };
-        only = λ m t u. rounds .only m (ap (among m) (sym (got-append [] calls-a askers a)) ∙ t) u;
+        only = λ m t u. rounds .only m (ap (among m) (sym (got-append [] calls-a askers)) ∙ t) u;
       }
 
   -- so nothing is missing after as many rounds as n/15, rounded up

@@ -2,8 +2,9 @@
 -- number served is, byte for byte, that of the messages that a lacks; at the number served there is no message more.
 use Prim.Native.Nat.{ℕ, _≤_, _<_}
 use mathlib.Core.Path.{_≡_, refl, sym, ap, subst, _∙_}
-use mathlib.Core.Bool.{Bool}
+use mathlib.Core.Bool.{true}
 use mathlib.Core.List.{List, [], map}
+use mathlib.Core.Option.{some}
 use native.Mathlib.Omega.{arith}
 use lib.ListN.{length, getD}
 use lib.Seq.{getD-take}
@@ -15,7 +16,6 @@ use Rattle.ids.specs.declared.MessageAt.{MessageAt}
 use Rattle.ids.specs.declared.MessageAt.the-variants.{At, Count}
 use Rattle.schema.specs.Accept.{acceptOf}
 use Rattle.ids.specs.Ids.{messageAt}
-use Rattle.admission.specs.Admission.{admissionOf}
 use Rattle.canon.specs.Taken.{taken}
 use Rattle.canonical.specs.Calls.{none-in}
 use Rattle.canon.specs.Messages.{Nth, here, there, raw-is, message-found, message-missing}
@@ -23,9 +23,10 @@ use Rattle.node.specs.declared.Node.{Node}
 use Rattle.node.specs.declared.Lent.the-variants as lent
 use Rattle.node.specs.Gateway.{toldOf, lacking, having}
 use Rattle.node.specs.State.{gatewayIn}
-use Rattle.node.specs.Calls.{lentOf, planFit, planned, advertiseBytes, askBytes, servedOf, replyBytes}
+use Rattle.node.specs.Calls.{lentOf, advertiseBytes, askBytes, servedOf, replyBytes}
 use Rattle.outputs.specs.Replied.{Replies, serve-means}
-use Rattle.history.specs.Script.{Placed}
+use Rattle.history.specs.History.{admit, Placed, brought}
+use Rattle.history.specs.Laws.{carried-brought}
 use Rattle.agreement.specs.HandOver.{reply-has}
 
 -- ---- an element of a list of messages, and its bytes
@@ -45,7 +46,7 @@ placed-by i (Count k) g h q = let l = message-missing i k g q in absurd (omega (
 -- ---- a reply as it is read
 pub record Delivers (ms : List (List ℕ)) (out : List ℕ) : Type 0 where
   pub accepted : acceptOf (replyBytes ms out) ≡ Fine
-  -- an admit at an index below the number served takes exactly that message
+  -- at an index below the number served stands exactly that message
   pub each : (i : ℕ) → i < servedOf ms out → Placed (replyBytes ms out) i (getD ms i [])
   pub no-more : (i : ℕ) → servedOf ms out ≤ i → messageAt (replyBytes ms out) i ≡ Count (servedOf ms out)
 
@@ -62,12 +63,10 @@ delivers ms out r =
       no-more = λ i h. none-in i (messageAt s i) (r .within .means) (omega arith) refl ∙ ap Count n;
     }
 
--- what an admit of such a message does is what it does with that message's bytes
-pub plan-delivered : (ms : List (List ℕ)) (out : List ℕ) → Delivers ms out
-    → (n : Node) (ss cs : List ℕ) (i : ℕ) (word : Bool) (at : ℕ) → lentOf n ss cs ≡ lent.Fine → i < servedOf ms out
-    → planned n ss cs (replyBytes ms out) i word at ≡ planFit n at (getD ms i []) (admissionOf (getD ms i []) word)
-unfolding planned
-plan-delivered ms out d n ss cs i word at fine h = let p = d .each i h in rw (fine, d .accepted, p .found, p .bytes)
+-- an admit of such an index, with the host's word, brings that message
+pub brought-delivered : (ms : List (List ℕ)) (out : List ℕ) → Delivers ms out → (i at : ℕ) → i < servedOf ms out
+    → brought (admit (replyBytes ms out) i true at) ≡ some (getD ms i [])
+brought-delivered ms out d i at h = carried-brought (replyBytes ms out) i at (getD ms i []) (d .accepted) (d .each i h)
 
 -- ---- the reply to the request of node a for what node b tells of
 module _ (b : Node) (bs bc topic : List ℕ) (windows : ℕ) (fine : lentOf b bs bc ≡ lent.Fine) (bytes : Bytes bc)

@@ -37,7 +37,6 @@ use Rattle.node.specs.Gateway.{started, isNew, afterAdmit, afterBeat}
 use Rattle.node.specs.State.{legalSettings, freshNode, risesFrom}
 use Rattle.history.specs.History.{State, Settings, Fresh, Call, admit, heartbeat, readings, beats as beatsIn, timesGot}
 use Rattle.history.specs.History.{timesNew, timesDuplicate}
-use Rattle.history.specs.Laws.{new-or-duplicate}
 use Rattle.history.specs.Script.{Carries, Act, gets, beats, callsOf, gotIn, newIn, Written, nothing, got, beaten}
 use Rattle.history.specs.ScriptLaws.{fresh-acted, fresh-new}
 use Rattle.agreement.specs.Premises.{MessageSet, Members, Clock, Premises}
@@ -268,8 +267,7 @@ pub premises-a : Premises messages settings-a calls-a (start settings-a)
 premises-a =
     record {
       fresh = fresh-a;
-      members = subst (λ (cs : List Call). Members messages cs (start settings-a)) calls-a-written
-          (script-members messages (fresh-acted script-a fresh-a written-a .takes) inside-a);
+      members = subst (Members messages) calls-a-written (script-members messages written-a inside-a);
       set-seen = omega (arith, two-messages);
       set-cached = omega (arith, two-messages);
       clock = clock-a;
@@ -280,27 +278,33 @@ pub premises-b : Premises messages settings-b calls-b (start settings-b)
 premises-b =
     record {
       fresh = fresh-b;
-      members = subst (λ (cs : List Call). Members messages cs (start settings-b)) calls-b-written
-          (script-members messages (fresh-acted script-b fresh-b written-b .takes) inside-b);
+      members = subst (Members messages) calls-b-written (script-members messages written-b inside-b);
       set-seen = omega (arith, two-messages);
       set-cached = omega (arith, two-messages);
       clock = clock-b;
       few-heartbeats = few-b;
     }
 
--- ---- what rounds are played with: full buffers, of zeros
-unfoldable pub buffer : List ℕ
-buffer = replicate maxRpcSize 0
+-- ---- what rounds are played with: full buffers, for each call of each round one of its own length and content
+unfoldable pub buffer : ℕ → ℕ → List ℕ
+buffer more byte = replicate (maxRpcSize + more) byte
 
-zeros-long : (n : ℕ) → n ≤ length (replicate {A = ℕ} n 0)
-zeros-long n = omega (arith, length-replicate {A = ℕ} n 0)
+buffer-long : (n more byte : ℕ) → n ≤ length (replicate {A = ℕ} (n + more) byte)
+buffer-long n more byte = omega (arith, length-replicate {A = ℕ} (n + more) byte)
 
-pub buffer-full : maxRpcSize ≤ length buffer
+pub buffer-full : (more byte : ℕ) → maxRpcSize ≤ length (buffer more byte)
 unfolding buffer
-buffer-full = zeros-long maxRpcSize
+buffer-full more byte = buffer-long maxRpcSize more byte
 
 abbrev pub play : Play
-play = record { topic = topic; windows = 3; advert-out = buffer; request-out = buffer; reply-out = buffer }
+play =
+    record {
+      topic = topic;
+      windows = 3;
+      advert-out = λ k. buffer k 0;
+      request-out = λ k. buffer (k + 1) 7;
+      reply-out = λ k. buffer (k + 2) 255;
+    }
 
 pub fair : Fair play settings-a settings-b
 fair =
@@ -308,14 +312,14 @@ fair =
       topic-short = omega arith;
       windows-x = omega arith;
       windows-y = omega arith;
-      advert-room = buffer-full;
-      request-room = buffer-full;
-      reply-room = buffer-full;
+      advert-room = λ k. buffer-full k 0;
+      request-room = λ k. buffer-full (k + 1) 7;
+      reply-room = λ k. buffer-full (k + 2) 255;
     }
 
 -- ---- a message got is new once
 pub record Counts (m : List ℕ) (calls : List Call) (s : State) (got new duplicate : ℕ) : Type 0 where
-  pub times-got : timesGot m calls s ≡ got
+  pub times-got : timesGot m calls ≡ got
   pub times-new : timesNew m calls s ≡ new
   pub times-duplicate : timesDuplicate m calls s ≡ duplicate
 
@@ -324,12 +328,14 @@ counts : {x : Settings} {s : State} (m : List ℕ) (xs : List Act) (calls : List
     → Counts m calls s (gotIn m xs) (newIn m xs (started (x .ttl) (x .max-seen) (x .history-len) (x .max-messages)))
     (gotIn m xs - newIn m xs (started (x .ttl) (x .max-seen) (x .history-len) (x .max-messages)))
 counts {x} {s} m xs calls f w e =
-    let g : timesGot m calls s ≡ gotIn m xs =
-    subst (λ (cs : List Call). timesGot m cs s ≡ gotIn m xs) e (fresh-acted xs f w .times-got m) in
+    let g : timesGot m calls ≡ gotIn m xs =
+    subst (λ (cs : List Call). timesGot m cs ≡ gotIn m xs) e (fresh-acted xs f w .times-got m) in
     let n : timesNew m calls s ≡ newIn m xs (started (x .ttl) (x .max-seen) (x .history-len) (x .max-messages)) =
     subst (λ (cs : List Call). timesNew m cs s ≡ newIn m xs
     (started (x .ttl) (x .max-seen) (x .history-len) (x .max-messages))) e (fresh-new xs f w m) in
-    let d = new-or-duplicate m calls s in
+    let d : gotIn m xs ≡ timesNew m calls s + timesDuplicate m calls s =
+    subst (λ (cs : List Call). gotIn m xs ≡ timesNew m cs s + timesDuplicate m cs s) e
+    (fresh-acted xs f w .answered m) in
     record { times-got = g; times-new = n; times-duplicate = omega arith }
 
 -- the first message came to a twice

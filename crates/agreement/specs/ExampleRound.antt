@@ -29,12 +29,12 @@ use Rattle.history.specs.History.{State, gatewayOf, Call, admit, ask, after, af
 use Rattle.history.specs.Script.{Act, gets, asks, callsOf, gatewayAfter, Written, nothing, got, asked}
 use Rattle.history.specs.ScriptLaws.{fresh-leaves}
 use Rattle.agreement.specs.Premises.{Clock}
-use Rattle.agreement.specs.Round.{missing, lacked, Play, turned, advertOf, requestOf, replyOf, servedCount}
-use Rattle.agreement.specs.Round.{askerRound, tellerRound, askerRounds, tellerRounds}
+use Rattle.agreement.specs.Round.{missing, lacked, Play, turned, advertBy, advertOf, requestOf, replyOf}
+use Rattle.agreement.specs.Round.{servedCount, askerRound, tellerRound, askerRounds, tellerRounds}
 use Rattle.agreement.specs.Holding.{Holding, holding-all, gotAll, pastAll}
 use Rattle.agreement.specs.HandOver.{request-is}
 use Rattle.agreement.specs.Lacking.{fine}
-use Rattle.agreement.specs.Played.{advert-is, requested, wants, replies, replied, served-is}
+use Rattle.agreement.specs.Played.{advertise-is, requested, wants, replies, replied, served-is}
 use Rattle.agreement.specs.Request.{request-is-exact}
 use Rattle.agreement.specs.CatchUp.{allAsked, allTold, CaughtUp, caught-up, all-arrived}
 use Rattle.agreement.specs.Identical.{Identical, identical-bytes}
@@ -112,11 +112,11 @@ b-lacks-nothing = ap₂ (λ (g h : Gateway). missing topic g (h .cache)) b-is a-
 
 -- ---- a's request, given b's advertisement, names its id
 holding-a : Holding messages settings-a (firstOf calls-a) (pastAll 0 calls-a) [] 0
-    (gotAll [] calls-a (start settings-a)) at-a
+    (gotAll [] calls-a) at-a
 holding-a = holding-all message-set premises-a
 
 holding-b : Holding messages settings-b (firstOf calls-b) (pastAll 0 calls-b) [] 0
-    (gotAll [] calls-b (start settings-b)) at-b
+    (gotAll [] calls-b) at-b
 holding-b = holding-all message-set premises-b
 
 b-tells : toldOf topic 3 gateway-b ≡ first-id ∷ second-id ∷ []
@@ -176,9 +176,12 @@ no-request-bytes =
     ∙ ap (λ (l : List (List ℕ)). bytesFor l (request l)) b-wants
 
 -- ---- b's reply is the body with the second message
-room : roomOf buffer ≡ 65536
+abbrev reply-buffer : List ℕ
+reply-buffer = buffer 2 255
+
+room : roomOf reply-buffer ≡ 65536
 unfolding roomOf
-room = let h = buffer-full in omega arith
+room = let h = buffer-full 2 255 in omega arith
 
 b-has : having gateway-b (second-id ∷ []) ≡ second ∷ []
 unfolding gateway-b having held get among sameBytes
@@ -192,34 +195,34 @@ one-fits : fitting 2 65536 (second ∷ []) ≡ 1
 unfolding fitting bytesField tag uvarint bytesOf signature second
 one-fits = refl
 
-one-served : servedOf (second ∷ []) buffer ≡ 1
+one-served : servedOf (second ∷ []) reply-buffer ≡ 1
 unfolding servedOf
 one-served = rw room one-fits
 
-reply-written : replyBytes (second ∷ []) buffer ≡ second-body
+reply-written : replyBytes (second ∷ []) reply-buffer ≡ second-body
 unfolding replyBytes servedOf second-body bytesField tag uvarint bytesOf signature second
 reply-written = rw one-served
 
 pub reply-bytes : replyOf play at-a at-b ≡ second-body
-reply-bytes = replied holding-a holding-b play fair ∙ ap (λ (ms : List (List ℕ)). replyBytes ms buffer) replies-are
-    ∙ reply-written
+reply-bytes = replied holding-a holding-b play fair
+    ∙ ap (λ (ms : List (List ℕ)). replyBytes ms reply-buffer) replies-are ∙ reply-written
 
 pub reply-count : servedCount play at-a at-b ≡ 1
-reply-count = served-is holding-a holding-b play fair ∙ ap (λ (ms : List (List ℕ)). servedOf ms buffer) replies-are
-    ∙ one-served
+reply-count = served-is holding-a holding-b play fair
+    ∙ ap (λ (ms : List (List ℕ)). servedOf ms reply-buffer) replies-are ∙ one-served
 
 -- ---- one round, a's admits at 20
 abbrev pub reading : ℕ → ℕ → ℕ
 reading k i = 20
 
 round-calls : (p : Play) (at : ℕ → ℕ → ℕ) (a b : State) (body : List ℕ) → replyOf p a b ≡ body → servedCount p a b ≡ 1
-    → askerRounds p 1 at a b ≡ ask (advertOf p b) (p .request-out) ∷ admit body 0 true (at 0 0) ∷ []
+    → askerRounds p 1 at a b ≡ ask (advertOf p b) (p .request-out 0) ∷ admit body 0 true (at 0 0) ∷ []
 unfolding askerRounds askerRound admits
 round-calls p at a b body e n = rw (e, n)
 
 -- a's calls in it: it asks, and admits the message served
-pub one-round : askerRounds play 1 reading at-a at-b ≡ ask (advertOf play at-b) buffer ∷ admit second-body 0 true 20
-    ∷ []
+pub one-round : askerRounds play 1 reading at-a at-b
+    ≡ ask (advertOf play at-b) (buffer 1 7) ∷ admit second-body 0 true 20 ∷ []
 one-round = round-calls play reading at-a at-b second-body reply-bytes reply-count
 
 -- all calls of each, with the round
@@ -233,7 +236,7 @@ abbrev advert : List ℕ
 advert = advertOf play at-b
 
 abbrev script-all : List Act
-script-all = gets first-body first first-id 10 ∷ gets first-body first first-id 12 ∷ asks advert buffer ∷ gets
+script-all = gets first-body first first-id 10 ∷ gets first-body first first-id 12 ∷ asks advert (buffer 1 7) ∷ gets
     second-body second second-id 20 ∷ []
 
 all-a-written : callsOf script-all ≡ all-a
@@ -308,11 +311,12 @@ b-misses-then = refl
 pub b-lacks-nothing-then : lacked topic later-b later-a ≡ []
 b-lacks-nothing-then = ap₂ (λ (g h : Gateway). missing topic g (h .cache)) b-is-then a-is-then ∙ b-misses-then
 
--- ---- and both advertise in the same bytes
-pub same-bytes : Identical play play later-a later-b
+-- ---- and both advertise in the same bytes, each with another buffer
+pub same-bytes : Identical topic 2 3 (buffer 5 1) (buffer 0 2) later-a later-b
 same-bytes =
-    identical-bytes message-set (round-done .asker-history) (round-done .teller-history) play play fair fair refl
-    a-lacks-nothing-then b-lacks-nothing-then
+    identical-bytes message-set (round-done .asker-history) (round-done .teller-history) topic (fair .topic-short)
+    a-lacks-nothing-then b-lacks-nothing-then 2 3 (omega arith) (omega arith) (buffer 5 1) (buffer 0 2)
+    (buffer-full 5 1) (buffer-full 0 2)
 
 -- 26 and 13: the control. 10 and 11: the IHAVE. 10 and 1: the topic `t`. 18 and 2: each id, `A` and 1, `B` and 2
 advert-written : bytesFor (first-id ∷ second-id ∷ []) (advertisement topic (first-id ∷ second-id ∷ []))
@@ -320,12 +324,8 @@ advert-written : bytesFor (first-id ∷ second-id ∷ []) (advertisement topic (
 unfolding encodeRpc encodeControl encodeIWant encodeIHave bytesField tag uvarint bytesOf request advertisement
 advert-written = refl
 
-later-holding-a : Holding messages settings-a (firstOf all-a) (pastAll 0 all-a) [] 0
-    (gotAll [] all-a (start settings-a)) later-a
-later-holding-a = holding-all message-set (round-done .asker-history)
-
 later-holding-b : Holding messages settings-b (firstOf all-b) (pastAll 0 all-b) [] 0
-    (gotAll [] all-b (start settings-b)) later-b
+    (gotAll [] all-b) later-b
 later-holding-b = holding-all message-set (round-done .teller-history)
 
 told-bytes : (s : State) (ids : List (List ℕ)) → toldIn (s .node) (s .messages) topic 3 ≡ ids
@@ -333,13 +333,15 @@ told-bytes : (s : State) (ids : List (List ℕ)) → toldIn (s .node) (s .messag
 unfolding advertiseBytes
 told-bytes s ids e = ap (λ (l : List (List ℕ)). bytesFor l (advertisement topic l)) e
 
-pub advert-bytes-b : advertOf play later-b ≡ 26 ∷ 13 ∷ 10 ∷ 11 ∷ 10 ∷ 1 ∷ 116 ∷ 18 ∷ 2 ∷ 65 ∷ 1 ∷ 18 ∷ 2 ∷ 66 ∷ 2 ∷ []
+pub advert-bytes-b : advertBy topic 3 (buffer 0 2) later-b
+    ≡ 26 ∷ 13 ∷ 10 ∷ 11 ∷ 10 ∷ 1 ∷ 116 ∷ 18 ∷ 2 ∷ 65 ∷ 1 ∷ 18 ∷ 2 ∷ 66 ∷ 2 ∷ []
 advert-bytes-b =
-    advert-is later-holding-a later-holding-b play fair
+    advertise-is later-holding-b topic (fair .topic-short) 3 (buffer 0 2) (buffer-full 0 2)
     ∙ told-bytes later-b (first-id ∷ second-id ∷ [])
     (told-gateway (later-b .node) (later-b .ids) (later-b .messages) topic 3
     (fine later-holding-b topic 3 (fair .windows-y)) ∙ ap (toldOf topic 3) b-is-then ∙ b-tells)
     ∙ advert-written
 
-pub advert-bytes-a : advertOf play later-a ≡ 26 ∷ 13 ∷ 10 ∷ 11 ∷ 10 ∷ 1 ∷ 116 ∷ 18 ∷ 2 ∷ 65 ∷ 1 ∷ 18 ∷ 2 ∷ 66 ∷ 2 ∷ []
+pub advert-bytes-a : advertBy topic 2 (buffer 5 1) later-a
+    ≡ 26 ∷ 13 ∷ 10 ∷ 11 ∷ 10 ∷ 1 ∷ 116 ∷ 18 ∷ 2 ∷ 65 ∷ 1 ∷ 18 ∷ 2 ∷ 66 ∷ 2 ∷ []
 advert-bytes-a = same-bytes .same ∙ advert-bytes-b

@@ -4,6 +4,7 @@ use Prim.Native.Nat.{ℕ, suc, _+_, _-_, _*_, _≤_, _<_}
 use mathlib.Core.Path.{_≡_, refl, sym, ap, subst, _∙_}
 use mathlib.Core.Bool.{Bool, true, false, cond, not, _||_, Bool·not-not}
 use mathlib.Core.List.{List, [], _∷_, _++_, append-nil, append-assoc}
+use mathlib.Core.Option.{Option, none, some}
 use native.Mathlib.Omega.{arith}
 use native.Mathlib.Nat.{zero-lt-suc}
 use lib.ListN.{length, getD, length-append}
@@ -24,37 +25,47 @@ use Rattle.mcache.specs.State.{dropped, messageSize, ringOf}
 use Rattle.mcache.specs.Calls.{indexIn, enteredStore, storedUnder}
 use Rattle.mcache.specs.Readers.{room-keeps-all}
 use Rattle.node.specs.declared.Node.{Node}
+use Rattle.node.specs.declared.Admit.the-variants as answer
 use Rattle.node.specs.declared.Beat.the-variants as beat
 use Rattle.node.specs.Gateway.{Gateway, started, marked, isNew, afterAdmit, afterBeat}
 use Rattle.node.specs.State.{risesFrom}
-use Rattle.node.specs.Calls.{Plan, no, taken, heldAt, admitCache, beatAnswer}
-use Rattle.node.specs.Laws.{plan-takes, is-new, beat-says}
+use Rattle.node.specs.Calls.{taken, heldAt, admitCache, beatAnswer}
+use Rattle.node.specs.Laws.{is-new, beat-says}
 use Rattle.node.specs.WellFormedLaws.{rises-less, first-least}
 use Rattle.history.specs.History.{State, gatewayOf, Settings, Fresh, Call, admit, heartbeat, advertise, ask, serve}
-use Rattle.history.specs.History.{planIn, after, afterAll, reading, readings, firstOf, beat, beats}
+use Rattle.history.specs.History.{planIn, after, afterAll, reading, readings, firstOf, beat, beats, refusalAt}
+use Rattle.history.specs.History.{brought, answerIn}
 use Rattle.history.specs.Laws.{node-clock, Kept, after-keeps, fresh-keeps, fresh-starts, fresh-clock, admit-none}
-use Rattle.history.specs.Laws.{admit-leaves, admit-clock, beat-leaves, beat-clock}
-use Rattle.agreement.specs.Premises.{MessageSet, Member, MemberAt, Members, member, Clock, Premises}
-use Rattle.agreement.specs.Rows.{Rows, none, rows-snoc, rows-lengths, rows-live, rows-shift, rows-held}
+use Rattle.history.specs.Laws.{taken-number, admit-leaves, admit-clock, beat-leaves, beat-clock, brings-that}
+use Rattle.history.specs.Laws.{brought-plan, unbrought-plan}
+use Rattle.agreement.specs.Premises.{MessageSet, MemberAt, Members, member, Clock, Premises}
+use Rattle.agreement.specs.Rows.{Rows, none as no-rows, rows-snoc, rows-lengths, rows-live, rows-shift, rows-held}
 
 -- ---- the messages got, each once, the oldest first
 abbrev pub withGot : List ℕ → List (List ℕ) → List (List ℕ)
 withGot m got = cond (among m got) got (got ++ (m ∷ []))
 
-abbrev pub gotBy : List (List ℕ) → Plan → List (List ℕ)
-gotBy got (no r) = got
-gotBy got (taken m id) = withGot m got
+abbrev pub gotBy : List (List ℕ) → Option (List ℕ) → List (List ℕ)
+gotBy got none = got
+gotBy got (some m) = withGot m got
 
-abbrev pub gotNext : List (List ℕ) → State → Call → List (List ℕ)
-gotNext got s (admit body i word at) = gotBy got (planIn s body i word at)
-gotNext got s (heartbeat at) = got
-gotNext got s (advertise topic windows out) = got
-gotNext got s (ask body out) = got
-gotNext got s (serve body out) = got
+abbrev pub gotNext : List (List ℕ) → Call → List (List ℕ)
+gotNext got c = gotBy got (brought c)
 
-unfoldable pub gotAll : List (List ℕ) → List Call → State → List (List ℕ)
-gotAll got [] s = got
-gotAll got (c ∷ cs) s = gotAll (gotNext got s c) cs (after c s)
+unfoldable pub gotAll : List (List ℕ) → List Call → List (List ℕ)
+gotAll got [] = got
+gotAll got (c ∷ cs) = gotAll (gotNext got c) cs
+
+-- ---- a call that brings nothing, and one that brings a message of the set, are members
+pub member-none : (set : List (List ℕ)) (c : Call) → brought c ≡ none → MemberAt set c
+member-none set c e m t = clash (let q = sym e ∙ brings-that m c .0 t in cc)
+
+pub member-some : (set : List (List ℕ)) (c : Call) (m : List ℕ) → brought c ≡ some m → among m set ≡ true
+    → MemberAt set c
+member-some set c m e inside k t =
+    let q = sym e ∙ brings-that k c .0 t in
+    let r : m ≡ k = cc in
+    ap (λ (o : List ℕ). among o set) (sym r) ∙ inside
 
 -- ---- what a gateway holds, after its first reading and some heartbeats
 pub record Holds (set : List (List ℕ)) (x : Settings) (first past : ℕ) (got : List (List ℕ))
@@ -244,7 +255,7 @@ started-holds first a b =
       set-cached = b;
       each-once = refl;
       from-set = λ m h. clash (cc);
-      rows = none;
+      rows = no-rows;
     }
 
 pub holding-fresh : {set : List (List ℕ)} {x : Settings} {s : State} (rs : List ℕ) (left : ℕ) → Fresh x s
@@ -272,8 +283,8 @@ pub holding-start : {set : List (List ℕ)} {x : Settings} {calls : List Call} {
 holding-start {set} {x} {calls} {s} p = holding-fresh (readings calls) (beats calls) (p .fresh) (p .set-seen)
     (p .set-cached) (p .clock) (p .few-heartbeats)
 
--- ---- an admit: a refused one changes nothing; one that takes a message of the set
--- its message is bytes, and so is the store then
+-- ---- an admit: one that brings nothing changes nothing; one that brings a message of the set
+-- the message is bytes, and so is the store then
 entered-bytes : (c : MessageCache) (st m : List ℕ) → Bytes st → Bytes m → Bytes (enteredStore c st m)
 unfolding enteredStore
 entered-bytes c st m h g =
@@ -302,42 +313,63 @@ module _ {set : List (List ℕ)} {x : Settings} {first past : ℕ} {got : List (
   pub admit-forward : s .node .clock ≤ at
   admit-forward = rw (← node-clock s) (admit-reads .forward)
 
-  some-stored : (m id : List ℕ) → planIn s body i word at ≡ taken m id → Bytes m
-      → Bytes (after (admit body i word at) s .messages)
-  unfolding after
-  some-stored m id e b = rw e (admit-bytes (s .node) (s .ids) (s .messages) at m id (h .bytes) b)
+  module _ (ms : MessageSet set) (m : List ℕ) (e : brought (admit body i word at) ≡ some m)
+      (inside : among m set ≡ true) where
+    -- the message passes admission
+    abbrev id : List ℕ
+    id = ms .admissible m inside .0
 
-  module _ (ms : MessageSet set) where
-    -- a message of the set is new exactly where it is not among those got
-    pub admit-held : (m id : List ℕ) → planIn s body i word at ≡ taken m id → among m set ≡ true
-        → heldAt (s .node) (s .ids) at id ≡ among m got
-    admit-held m id e inside =
-        let t = plan-takes (s .node) (s .ids) (s .messages) body i word at m id e in
-        let a = holds-new (h .held) at (admit-reads .lasting) ms (admit-reads .later) m id inside (t .own) in
-        let b = is-new (s .node) (s .ids) (s .messages) (t .fine) at id in
+    abbrev own : givesId m id ≡ true
+    own = ms .admissible m inside .1
+
+    -- so it is taken
+    pub admit-takes : planIn s body i word at ≡ taken m (ms .admissible m inside .0)
+    admit-takes = brought-plan s body i word at m id e own (h .kept .fine) admit-forward
+
+    -- and is seen exactly where it is among those got
+    admit-held : heldAt (s .node) (s .ids) at id ≡ among m got
+    admit-held =
+        let a = holds-new (h .held) at (admit-reads .lasting) ms (admit-reads .later) m id inside own in
+        let b = is-new (s .node) (s .ids) (s .messages) (h .kept .fine) at id in
         sym (Bool·not-not (heldAt (s .node) (s .ids) at id)) ∙ ap not (sym b ∙ a) ∙ Bool·not-not (among m got)
 
-    by-plan : (p : Plan) → planIn s body i word at ≡ p → Member set p
-        → Holding set x first past rs left (gotBy got p) (after (admit body i word at) s)
-    by-plan (no r) e inside =
-        subst (λ (t : State). Holding set x first past rs left got t) (sym (admit-none s body i word at r e))
-        (record { kept = h .kept; held = h .held; bytes = h .bytes; ahead = reads-kept admit-reads })
-    by-plan (taken m id) e inside =
-        let g = sym (admit-leaves s body i word at m id e (h .kept .typed)) in
-        let t = plan-takes (s .node) (s .ids) (s .messages) body i word at m id e in
-        let c = admit-clock s body i word at m id e (h .kept .typed) in
+    -- ---- a message of the set that comes in is answered duplicate where it was got before, and else new
+    pub admit-answers : answerIn s body i word at ≡ cond (among m got) answer.Duplicate answer.New
+    admit-answers = rw (admit-takes, admit-held)
+
+    pub admit-done : refusalAt s (admit body i word at) ≡ 0
+    admit-done = taken-number s body i word at m id admit-takes
+
+    some-stored : Bytes (after (admit body i word at) s .messages)
+    unfolding after
+    some-stored = rw admit-takes
+        (admit-bytes (s .node) (s .ids) (s .messages) at m id (h .bytes) (ms .bytes m inside))
+
+    admit-holding : Holding set x first past rs left (withGot m got) (after (admit body i word at) s)
+    admit-holding =
+        let g = sym (admit-leaves s body i word at m id admit-takes (h .kept .typed)) in
+        let c = admit-clock s body i word at m id admit-takes (h .kept .typed) in
         record {
           kept = after-keeps (admit body i word at) s (h .kept);
           held =
               subst (λ (k : Gateway). Holds set x first past (withGot m got) k) g
-              (holds-admit (h .held) at (admit-reads .lasting) ms (admit-reads .later) m id inside (t .own));
-          bytes = some-stored m id e (ms .bytes m inside);
+              (holds-admit (h .held) at (admit-reads .lasting) ms (admit-reads .later) m id inside own);
+          bytes = some-stored;
           ahead = subst (λ (k : ℕ). Ahead x first past k rs left) (sym c) (admit-reads .rest);
         }
 
-    pub holding-admit : Member set (planIn s body i word at)
-        → Holding set x first past rs left (gotNext got s (admit body i word at)) (after (admit body i word at) s)
-    holding-admit inside = by-plan (planIn s body i word at) refl inside
+  module _ (ms : MessageSet set) (inside : MemberAt set (admit body i word at)) where
+    by-brought : (o : Option (List ℕ)) → brought (admit body i word at) ≡ o
+        → Holding set x first past rs left (gotBy got o) (after (admit body i word at) s)
+    by-brought none e =
+        let p = unbrought-plan s body i word at e in
+        subst (λ (t : State). Holding set x first past rs left got t) (sym (admit-none s body i word at (p .0) (p .1)))
+        (record { kept = h .kept; held = h .held; bytes = h .bytes; ahead = reads-kept admit-reads })
+    by-brought (some m) e = admit-holding ms m e (inside m (brings-that m (admit body i word at) .1 e))
+
+    pub holding-admit : Holding set x first past rs left (gotNext got (admit body i word at))
+        (after (admit body i word at) s)
+    holding-admit = by-brought (brought (admit body i word at)) refl
 
 -- ---- a heartbeat
 module _ {set : List (List ℕ)} {x : Settings} {first past : ℕ} {got : List (List ℕ)} {s : State} (at : ℕ) {rs : List ℕ}
@@ -397,9 +429,9 @@ pastAll past (c ∷ cs) = pastAll (pastNext past c) cs
 module _ {set : List (List ℕ)} {x : Settings} {first past : ℕ} {got : List (List ℕ)} {s : State} (ms : MessageSet set)
     (rs : List ℕ) (left : ℕ) where
   -- with readings and heartbeats that come after it
-  pub holding-next : (c : Call) → Holding set x first past (reading c ++ rs) (beat c + left) got s → MemberAt set s c
-      → Holding set x first (pastNext past c) rs left (gotNext got s c) (after c s)
-  unfolding after
+  pub holding-next : (c : Call) → Holding set x first past (reading c ++ rs) (beat c + left) got s → MemberAt set c
+      → Holding set x first (pastNext past c) rs left (gotNext got c) (after c s)
+  unfolding after brought
   holding-next (admit body i word at) h inside =
       holding-admit body i word at (left-same (0 + left) left (omega arith) h) ms inside
   holding-next (heartbeat at) h inside = holding-beat at left (left-same (1 + left) (suc left) (omega arith) h)
@@ -408,18 +440,16 @@ module _ {set : List (List ℕ)} {x : Settings} {first past : ℕ} {got : List (
   holding-next (serve body out) h inside = left-same (0 + left) left (omega arith) h
 
 -- ---- after some calls, with readings and heartbeats that come after them
-pub members-here : {set : List (List ℕ)} {c : Call} {cs : List Call} {s : State} → Members set (c ∷ cs) s
-    → MemberAt set s c
+pub members-here : {set : List (List ℕ)} {c : Call} {cs : List Call} → Members set (c ∷ cs) → MemberAt set c
 members-here (member a rest) = a
 
-pub members-rest : {set : List (List ℕ)} {c : Call} {cs : List Call} {s : State} → Members set (c ∷ cs) s
-    → Members set cs (after c s)
+pub members-rest : {set : List (List ℕ)} {c : Call} {cs : List Call} → Members set (c ∷ cs) → Members set cs
 members-rest (member a rest) = rest
 
 pub holding-on : {set : List (List ℕ)} {x : Settings} {first past : ℕ} {got : List (List ℕ)} {s : State}
     → MessageSet set → (calls : List Call) (rs : List ℕ) (left : ℕ)
-    → Holding set x first past (readings calls ++ rs) (beats calls + left) got s → Members set calls s
-    → Holding set x first (pastAll past calls) rs left (gotAll got calls s) (afterAll calls s)
+    → Holding set x first past (readings calls ++ rs) (beats calls + left) got s → Members set calls
+    → Holding set x first (pastAll past calls) rs left (gotAll got calls) (afterAll calls s)
 unfolding gotAll afterAll readings beats pastAll
 holding-on ms [] rs left h ins = left-same (0 + left) left (omega arith) h
 holding-on {set} {x} {first} {past} {got} {s} ms (c ∷ cs) rs left h ins =
@@ -433,7 +463,7 @@ holding-on {set} {x} {first} {past} {got} {s} ms (c ∷ cs) rs left h ins =
 
 pub holding-all : {set : List (List ℕ)} {x : Settings} {calls : List Call} {s : State} → MessageSet set
     → Premises set x calls s
-    → Holding set x (firstOf calls) (pastAll 0 calls) [] 0 (gotAll [] calls s) (afterAll calls s)
+    → Holding set x (firstOf calls) (pastAll 0 calls) [] 0 (gotAll [] calls) (afterAll calls s)
 holding-all {set} {x} {calls} {s} ms p =
     holding-on ms calls [] 0
     (left-same (beats calls) (beats calls + 0) (omega arith)

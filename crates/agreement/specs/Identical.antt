@@ -5,6 +5,7 @@ use mathlib.Core.Bool.{true, not, _&&_, or-true}
 use mathlib.Core.List.{List, [], _∷_, List·Memᴰ, List·Memᴰ·not-nil, List·Memᴰ·cases-cons, List·Memᴰ·head}
 use mathlib.Core.List.{List·Memᴰ·tail}
 use mathlib.Core.Logic.{⊎-elim}
+use lib.ListN.{length}
 use Rattle.basis.specs.Cases.{either, clash}
 use Rattle.rows.specs.Ids.{sameBytes, among}
 use Rattle.rows.specs.IdsLaws.{same-self, same-equal}
@@ -14,16 +15,16 @@ use Rattle.seen.specs.Entries.{Entry, holds}
 use Rattle.mcache.specs.Messages.{Cached, topics, held}
 use Rattle.mcache.specs.GossipLaws.{in-among}
 use Rattle.node.specs.Gateway.{Gateway, marked, advertisement}
-use Rattle.node.specs.Calls.{toldIn, bytesFor, advertiseBytes}
+use Rattle.node.specs.Calls.{toldIn, bytesFor, advertiseBytes, maxRpcSize}
 use Rattle.node.specs.Laws.{told-gateway}
 use Rattle.history.specs.History.{State, gatewayOf, Settings, Call, advertise, afterAll, refusalAt}
 use Rattle.agreement.specs.Premises.{MessageSet, Premises}
-use Rattle.agreement.specs.Round.{missing, lacked, Play, Fair, turned, advertOf}
+use Rattle.agreement.specs.Round.{missing, lacked, advertBy}
 use Rattle.agreement.specs.Rows.{Rows, none, row, rows-held}
 use Rattle.agreement.specs.Holding.{Holding, holding-all}
 use Rattle.agreement.specs.Sorted.{Carried, told-carried}
 use Rattle.agreement.specs.Lacking.{fine, all-recent}
-use Rattle.agreement.specs.Played.{advert-done, advert-is}
+use Rattle.agreement.specs.Played.{advertise-done, advertise-is}
 
 -- ---- the rows, by message and by entry
 pub record Kept (c : Cached) (got : List (List ℕ)) : Type 0 where
@@ -118,30 +119,29 @@ module _ {set : List (List ℕ)} (ms : MessageSet set) where
     unfolding advertiseBytes
     same-bytes = ap (λ (l : List (List ℕ)). bytesFor l (advertisement topic l)) same-told
 
--- ---- for two histories under the premises; each gateway advertises with its own windows and buffers
-pub record Identical (p q : Play) (a b : State) : Type 0 where
+-- ---- for two histories under the premises; each gateway advertises with its own windows and its own buffer
+pub record Identical (topic : List ℕ) (windows-a windows-b : ℕ) (out-a out-b : List ℕ) (a b : State) : Type 0 where
   -- neither advertise is refused
-  pub taken-a : refusalAt a (advertise (p .topic) (p .windows) (p .advert-out)) ≡ 0
-  pub taken-b : refusalAt b (advertise (q .topic) (q .windows) (q .advert-out)) ≡ 0
-  pub same : advertOf p a ≡ advertOf q b
+  pub taken-a : refusalAt a (advertise topic windows-a out-a) ≡ 0
+  pub taken-b : refusalAt b (advertise topic windows-b out-b) ≡ 0
+  -- and the bytes that they say they wrote are the same
+  pub same : advertBy topic windows-a out-a a ≡ advertBy topic windows-b out-b b
 
 pub identical-bytes : {set : List (List ℕ)} {x y : Settings} {calls-a calls-b : List Call} {a b : State}
-    → MessageSet set → Premises set x calls-a a → Premises set y calls-b b
-    → (p q : Play) → Fair p x y → Fair q x y → p .topic ≡ q .topic
-    → lacked (p .topic) (afterAll calls-a a) (afterAll calls-b b) ≡ []
-    → lacked (p .topic) (afterAll calls-b b) (afterAll calls-a a) ≡ []
-    → Identical p q (afterAll calls-a a) (afterAll calls-b b)
-identical-bytes {calls-a} {calls-b} {a} {b} ms pa pb p q fp fq e done-a done-b =
+    → MessageSet set → Premises set x calls-a a → Premises set y calls-b b → (topic : List ℕ) → length topic ≤ 1024
+    → lacked topic (afterAll calls-a a) (afterAll calls-b b) ≡ []
+    → lacked topic (afterAll calls-b b) (afterAll calls-a a) ≡ []
+    → (windows-a windows-b : ℕ) → x .history-len ≤ windows-a → y .history-len ≤ windows-b
+    → (out-a out-b : List ℕ) → maxRpcSize ≤ length out-a → maxRpcSize ≤ length out-b
+    → Identical topic windows-a windows-b out-a out-b (afterAll calls-a a) (afterAll calls-b b)
+identical-bytes ms pa pb topic short done-a done-b windows-a windows-b wide-a wide-b out-a out-b room-a room-b =
     let ha = holding-all ms pa in
     let hb = holding-all ms pb in
-    let fp2 = turned fp in
     record {
-      taken-a = advert-done hb ha p fp2;
-      taken-b = advert-done ha hb q fq;
+      taken-a = advertise-done ha topic short windows-a out-a room-a;
+      taken-b = advertise-done hb topic short windows-b out-b room-b;
       same =
-          advert-is hb ha p fp2
-          ∙ same-bytes ms ha hb (p .topic) (p .windows) (q .windows) (fp .windows-x) (fq .windows-y) done-a done-b
-          ∙ ap (λ (t : List ℕ). advertiseBytes (afterAll calls-b b .node) (afterAll calls-b b .messages) t (q .windows))
-          e
-          ∙ sym (advert-is ha hb q fq);
+          advertise-is ha topic short windows-a out-a room-a
+          ∙ same-bytes ms ha hb topic windows-a windows-b wide-a wide-b done-a done-b
+          ∙ sym (advertise-is hb topic short windows-b out-b room-b);
     }

@@ -1,16 +1,15 @@
 -- The premises of demand 3 are needed: for each, gateways for which that one does not hold, and what then goes wrong.
--- The theorem is named after the premise. The messages pass admission; that the other premises hold is to be seen from
--- the figures, and is not stated.
---
--- One clause of MessageSet is not here, since no theorem cites it: `admissible` (a message that does not pass is never
--- got). And 65,536 bytes are more than a reply needs: 61,485 are enough for fifteen messages.
+-- The theorem is named after the premise. The messages pass admission, but for the one of that premise; that the other
+-- premises hold is to be seen from the figures, and is not stated. 65,536 bytes are more than a reply needs: 61,485 are
+-- enough for fifteen messages.
 use Prim.Native.Nat.{ℕ, _-_, _^_, _≤_, _<_, min}
 use mathlib.Core.Path.{_≡_, refl, ap, _∙_}
-use mathlib.Core.Bool.{true, false}
+use mathlib.Core.Bool.{Bool, true, false}
 use mathlib.Core.List.{List, [], _∷_}
 use native.Mathlib.Omega.{arith}
 use lib.ListN.{length, getD, replicate, length-replicate, getD-replicate}
 use borrow.Author.Tests.{lt-ltb, le-ltb, lt-leb}
+use Rattle.basis.specs.Cases.{either}
 use Rattle.basis.specs.Writing.{answer}
 use Rattle.peer_id.specs.Uvarint.{readUvarint, readFrom, groupOf}
 use Rattle.protobuf.specs.Field.{readTag, readLen, readVarint, skipFixed, skipField, readValue, readField}
@@ -22,8 +21,10 @@ use Rattle.schema.specs.Kinds.{toDepth, overKinds}
 use Rattle.schema.specs.Count.{textCount, counted}
 use Rattle.schema.specs.Slots.{setPlace, withField, slotsOf}
 use Rattle.ids.specs.declared.MessageAt.the-variants as found
-use Rattle.schema.specs.Accept.{acceptOf}
+use Rattle.schema.specs.Accept.{bodyRecords, acceptOf}
 use Rattle.ids.specs.Ids.{messageAt, idParts}
+use Rattle.admission.specs.declared.Unfit.{Unfit}
+use Rattle.admission.specs.declared.Unfit.the-variants.{MissingSignature}
 use Rattle.admission.specs.declared.Admission.the-variants as admission
 use Rattle.admission.specs.Admission.{topicsOf, firstLong, onLimits, admissionOf, givesId}
 use Rattle.rows.specs.Ids.{sameBytes, among}
@@ -33,15 +34,21 @@ use Rattle.node.specs.PartsLaws.{fitting-stop}
 use Rattle.seen.specs.Entries.{holds, until, inserted, live}
 use Rattle.mcache.specs.Messages.{held, put, shift, get, carrying, enterId, inOrder, gossipIds}
 use Rattle.node.specs.declared.Node.{Node}
+use Rattle.node.specs.declared.Fault.{Fault}
+use Rattle.node.specs.declared.Lent.{Lent}
 use Rattle.node.specs.declared.Lent.the-variants as lent
-use Rattle.node.specs.declared.Admit.the-variants as admit
+use Rattle.node.specs.declared.Admit.the-variants as answered
 use Rattle.node.specs.declared.Beat.the-variants as beat
 use Rattle.node.specs.declared.Advertise.the-variants as told
 use Rattle.node.specs.declared.Ask.the-variants as asked
-use Rattle.node.specs.declared.Serve.the-variants as serve
+use Rattle.node.specs.declared.Serve.the-variants as served
 use Rattle.node.specs.Gateway.{Gateway, started, marked, isNew, afterAdmit, afterBeat, toldOf, lacking, having}
-use Rattle.node.specs.Calls.{lentOf, planned, no, beatAnswer, advertiseBytes, advertiseAnswer, askBytes, askAnswer}
+use Rattle.node.specs.Calls.{onLent, lentOf, planned, no, admitAnswer, beatAnswer, advertiseBytes, advertiseAnswer}
+use Rattle.node.specs.Calls.{askBytes, askAnswer}
 use Rattle.node.specs.Calls.{roomOf, servedOf, replyTo, serveNumber}
+use Rattle.history.specs.History.{State, Settings, Fresh, Call, admit, heartbeat, advertise, ask, serve, planIn}
+use Rattle.history.specs.History.{after, afterAll, refusalAt, brought, brings, isNew as newAnswer, times, timesNew}
+use Rattle.history.specs.Laws.{history-keeps, brings-exactly}
 use Rattle.agreement.specs.Round.{missing}
 use Rattle.agreement.specs.Fifteen.{longest-field, some-fit, longest-fit}
 use Rattle.agreement.specs.Example.{signature}
@@ -134,6 +141,71 @@ unfolding signature started isNew afterAdmit holds among live inserted newest un
     slotsOf withField setPlace sameBytes
 needs-ids-differ = record { differ = refl; one-id = refl; same-id = refl; not-new = refl; not-kept = refl }
 
+-- ---- every one passes admission
+-- from `A`, seqno 1, topic `t`, and no signature; and a body with it
+abbrev pub unsigned : List ℕ
+unsigned = 10 ∷ 1 ∷ 65 ∷ 26 ∷ 1 ∷ 1 ∷ 34 ∷ 1 ∷ 116 ∷ []
+
+abbrev pub unsignedBody : List ℕ
+unsignedBody = 18 ∷ 9 ∷ unsigned
+
+unsigned-unfit : admissionOf unsigned true ≡ admission.Unfit MissingSignature
+unfolding admissionOf idParts slotsOf withField setPlace walkAt walkFrom readField readValue skipField skipFixed
+    readVarint readLen readTag readUvarint readFrom groupOf roleOf
+unsigned-unfit = refl
+
+-- a message that does not pass is answered new in no state
+module _ (m : List ℕ) (why : Unfit) (u : admissionOf m true ≡ admission.Unfit why) where
+  unfit-plan : (s : State) (body : List ℕ) (i : ℕ) (word : Bool) (at : ℕ) → brings m (admit body i word at) ≡ true
+      → planIn s body i word at ≡ onLent (λ (f : Fault). no (answered.Faulty f))
+      (lentOf (s .node) (s .ids) (s .messages)) (no (answered.Unfit why))
+  unfolding planned
+  unfit-plan s body i word at t =
+      let p = brings-exactly m body i word at .0 t in
+      let q = p .2 in
+      rw (p .0, p .1, q .found, q .bytes, u)
+
+  not-new : (s : State) (at : ℕ) (l : Lent) → newAnswer (admitAnswer (s .node) (s .ids) at
+      (onLent (λ (f : Fault). no (answered.Faulty f)) l (no (answered.Unfit why)))) ≡ 0
+  not-new s at lent.Fine = refl
+  not-new s at (lent.Faulty f) = refl
+
+  never-new : (calls : List Call) (s : State) → timesNew m calls s ≡ 0
+  unfolding times
+  never-new [] s = refl
+  never-new (admit body i word at ∷ cs) s =
+      let r = never-new cs (after (admit body i word at) s) in
+      either (brings m (admit body i word at))
+      (λ t. rw (t, unfit-plan s body i word at t, not-new s at (lentOf (s .node) (s .ids) (s .messages)), r))
+      (λ t. rw (t, r))
+  never-new (heartbeat at ∷ cs) s = rw (never-new cs (after (heartbeat at) s))
+  never-new (advertise name windows out ∷ cs) s = rw (never-new cs (after (advertise name windows out) s))
+  never-new (ask body out ∷ cs) s = rw (never-new cs (after (ask body out) s))
+  never-new (serve body out ∷ cs) s = rw (never-new cs (after (serve body out) s))
+
+-- it comes in, is called new in no history, and is refused by 25 each time
+pub record Unanswered (m body : List ℕ) : Type 0 where
+  pub comes-in : (at : ℕ) → brings m (admit body 0 true at) ≡ true
+  pub never-new : (calls : List Call) (s : State) → timesNew m calls s ≡ 0
+  pub refused : {x : Settings} {s : State} → Fresh x s → (before : List Call) (at : ℕ)
+      → refusalAt (afterAll before s) (admit body 0 true at) ≡ 25
+
+unsigned-brought : (at : ℕ) → brings unsigned (admit unsignedBody 0 true at) ≡ true
+unfolding brought acceptOf bodyRecords counted overKinds toDepth textCount roleOf rank ownOf isUtf8 run walkAt walkFrom
+    readField readValue skipField skipFixed readVarint readLen readTag readUvarint readFrom groupOf messageAt sameBytes
+unsigned-brought at = refl
+
+pub needs-admissible : Unanswered unsigned unsignedBody
+needs-admissible =
+    record {
+      comes-in = unsigned-brought;
+      never-new = never-new unsigned MissingSignature unsigned-unfit;
+      refused = λ {x} {s} f before at.
+          let e = unfit-plan unsigned MissingSignature unsigned-unfit (afterAll before s) unsignedBody 0 true at
+          (unsigned-brought at) in
+          rw (e, history-keeps before f .fine);
+    }
+
 -- ---- two gateways that lack nothing of each other, and tell of different ids
 pub record Apart (windows : ℕ) (a b : Gateway) (tells-a tells-b : List (List ℕ)) : Type 0 where
   pub a-lacks : missing topic a (b .cache) ≡ []
@@ -186,7 +258,7 @@ needs-undisturbed = record { lacks = refl; asks = refl }
 pub needs-rises : (n : Node) (ss cs body : List ℕ) (i at a e x y z w : ℕ) → lentOf n ss cs ≡ lent.Fine
     → acceptOf body ≡ checked.Fine → messageAt body i ≡ found.At a e
     → admissionOf (between body a e) true ≡ admission.Fit x y z w → at < n .clock
-    → (planned n ss cs body i true at ≡ no (admit.ClockBack (n .clock)))
+    → (planned n ss cs body i true at ≡ no (answered.ClockBack (n .clock)))
     × (beatAnswer n ss cs at ≡ beat.ClockBack (n .clock))
 unfolding planned beatAnswer
 needs-rises n ss cs body i at a e x y z w fine ok there fit h = let t = lt-ltb at (n .clock) h in
@@ -233,7 +305,7 @@ needs-reply-room = fourteen-zeros 15 4096 refl refl
 
 -- with 4,098 bytes the first of the longest does not fit, and the serve is refused by 12
 pub needs-reply-room-first : (m : List ℕ) (ms : List (List ℕ)) (out : List ℕ) → length m ≡ 4096 → length out ≡ 4098
-    → (replyTo (m ∷ ms) out ≡ serve.Room 4099) × (serveNumber (replyTo (m ∷ ms) out) ≡ 12)
+    → (replyTo (m ∷ ms) out ≡ served.Room 4099) × (serveNumber (replyTo (m ∷ ms) out) ≡ 12)
 unfolding servedOf roomOf
 needs-reply-room-first m ms out h k =
     let r : min (length out) 65536 ≡ 4098 = omega arith in

@@ -1,165 +1,197 @@
--- Under the premises a message that is got is answered new once, the first time.
+-- Under the premises a message that is delivered is got: it is answered new the first time that it comes in, duplicate
+-- every other time, and never refused.
 use Prim.Native.Nat.{ℕ, _+_, _≤_}
 use mathlib.Core.Path.{_≡_, refl, sym, ap, subst, _∙_}
-use mathlib.Core.Bool.{Bool, true, false}
+use mathlib.Core.Bool.{Bool, true, false, cond, _||_, or-true, or-false}
 use mathlib.Core.List.{List, [], _∷_, _++_}
+use mathlib.Core.Option.{Option, none, some}
 use native.Mathlib.Omega.{arith}
 use lib.Dec.{leb}
 use borrow.Author.Tests.{le-leb, lt-leb}
-use Rattle.basis.specs.Cases.{either}
+use Rattle.basis.specs.Cases.{either, clash}
 use Rattle.rows.specs.Ids.{sameBytes, among}
 use Rattle.rows.specs.IdsLaws.{same-self, same-equal, among-append}
-use Rattle.node.specs.Calls.{Plan, no, taken, heldAt}
-use Rattle.history.specs.History.{State, Settings, Call, admit, heartbeat, advertise, ask, serve, planIn, reading}
-use Rattle.history.specs.History.{readings, beat, beats, isNew, countPlan, countAt, times, timesGot, timesNew}
-use Rattle.history.specs.History.{timesDuplicate}
-use Rattle.history.specs.Laws.{new-or-duplicate}
-use Rattle.agreement.specs.Premises.{MessageSet, Member, MemberAt, Members, Premises}
-use Rattle.agreement.specs.Holding.{withGot, gotBy, gotNext, gotAll, Holding, admit-held, holding-start}
-use Rattle.agreement.specs.Holding.{holding-next, members-here, members-rest}
+use Rattle.node.specs.declared.Admit.the-variants as answer
+use Rattle.history.specs.History.{State, Settings, Call, admit, heartbeat, advertise, ask, serve, afterAll, reading}
+use Rattle.history.specs.History.{readings, firstOf, beat, beats, refusalAt, brought, isThat, brings, timesGot}
+use Rattle.history.specs.History.{answerIn, isNew, isDuplicate, countAt, times, timesNew, timesDuplicate}
+use Rattle.history.specs.Laws.{readings-append, beats-append, brings-that}
+use Rattle.agreement.specs.Premises.{MessageSet, MemberAt, Members, none-left, member, Premises}
+use Rattle.agreement.specs.Holding.{withGot, gotBy, gotNext, gotAll, Holding, admit-answers, admit-done}
+use Rattle.agreement.specs.Holding.{holding-start, holding-next, members-here, members-rest, pastAll, holding-on}
 
 -- ---- a message among those got, and one more got
 pub with-again : (m p : List ℕ) (got : List (List ℕ)) → among m got ≡ true → among m (withGot p got) ≡ true
 with-again m p got h = either (among p got) (λ t. rw t h) (λ t. rw (t, among-append m got (p ∷ []), h))
 
-pub with-this : (m : List ℕ) (got : List (List ℕ)) → among m got ≡ false → among m (withGot m got) ≡ true
+pub with-this : (m : List ℕ) (got : List (List ℕ)) → among m (withGot m got) ≡ true
 unfolding among
-with-this m got h = rw (h, among-append m got (m ∷ []), h, same-self m)
+with-this m got =
+    either (among m got) (λ t. with-again m m got t) (λ t. rw (t, among-append m got (m ∷ []), t, same-self m))
 
 pub with-other : (m p : List ℕ) (got : List (List ℕ)) → among m got ≡ false → sameBytes p m ≡ false
     → among m (withGot p got) ≡ false
 unfolding among
 with-other m p got h d = either (among p got) (λ t. rw t h) (λ t. rw (t, among-append m got (p ∷ []), h, d))
 
--- ---- one call: how often the message is got and new, and whether it is among those got after it
--- where it was got before
-record Again (new : ℕ) (held : Bool) : Type 0 where
-  not-new : new ≡ 0
-  still : held ≡ true
+module _ (m : List ℕ) (got : List (List ℕ)) where
+  -- what comes in is among those got
+  next-that : (o : Option (List ℕ)) → isThat m o ≡ true → among m (gotBy got o) ≡ true
+  next-that none h = clash (cc)
+  next-that (some k) h = rw (same-equal k m h) (with-this m got)
 
--- where it was not
-data First (got new : ℕ) (held : Bool) : Type 0 where
-  not-yet : got ≡ 0 → new ≡ 0 → held ≡ false → First got new held
-  now-new : got ≡ 1 → new ≡ 1 → held ≡ true → First got new held
+  -- and nothing else changes
+  next-same : (o : Option (List ℕ)) → isThat m o ≡ false → among m (gotBy got o) ≡ among m got
+  next-same none h = refl
+  next-same (some k) h =
+      either (among m got) (λ t. with-again m k got t ∙ sym t) (λ t. with-other m k got t h ∙ sym t)
 
-module _ (m : List ℕ) (s : State) (at : ℕ) (got : List (List ℕ)) where
-  plan-again : (p : Plan) → ((k id : List ℕ) → p ≡ taken k id → heldAt (s .node) (s .ids) at id ≡ among k got)
-      → among m got ≡ true
-      → Again (countPlan isNew m s at p) (among m (gotBy got p))
-  plan-again (no r) f h = record { not-new = refl; still = h }
-  plan-again (taken k id) f h =
-      let e = f k id refl in
-      record {
-        not-new =
-            either (sameBytes k m)
-            (λ t. let w = same-equal k m t in let q : heldAt (s .node) (s .ids) at id ≡ true = e
-            ∙ ap (λ (j : List ℕ). among j got) w ∙ h in rw (t, q))
-            (λ t. rw t);
-        still = with-again m k got h;
-      }
+-- the messages got are those that some call brings
+got-from : (m : List ℕ) (calls : List Call) (got : List (List ℕ))
+    → among m (gotAll got calls) ≡ (among m got || leb 1 (timesGot m calls))
+unfolding gotAll timesGot
+got-from m [] got = rw (lt-leb 1 0 (omega arith)) (sym (or-false (among m got)))
+got-from m (c ∷ cs) got =
+    either (brings m c)
+    (λ t.
+    let r = got-from m cs (gotNext got c) in
+    let n = next-that m got (brought c) t in
+    let k : leb 1 (1 + timesGot m cs) ≡ true = le-leb 1 (1 + timesGot m cs) (omega arith) in
+    rw (t, k) (r ∙ rw n (sym (or-true (among m got)))))
+    (λ t.
+    let r = got-from m cs (gotNext got c) in
+    let n = next-same m got (brought c) t in
+    let k : 0 + timesGot m cs ≡ timesGot m cs = omega arith in
+    rw (t, k) (r ∙ rw n))
 
-  plan-first : (p : Plan) → ((k id : List ℕ) → p ≡ taken k id → heldAt (s .node) (s .ids) at id ≡ among k got)
-      → among m got ≡ false
-      → First (countPlan (λ r. 1) m s at p) (countPlan isNew m s at p) (among m (gotBy got p))
-  plan-first (no r) f h = not-yet refl refl h
-  plan-first (taken k id) f h =
-      let e = f k id refl in
-      either (sameBytes k m)
-      (λ t.
-      let w = same-equal k m t in
-      let q : heldAt (s .node) (s .ids) at id ≡ false = e ∙ ap (λ (j : List ℕ). among j got) w ∙ h in
-      now-new (rw t) (rw (t, q)) (rw w (with-this m got h)))
-      (λ t. not-yet (rw t) (rw t) (with-other m k got h t))
+pub got-exactly : (m : List ℕ) (calls : List Call) → among m (gotAll [] calls) ≡ leb 1 (timesGot m calls)
+unfolding among
+got-exactly m calls = got-from m calls []
 
--- ---- some calls, where it was not got before them
-pub record Later (got new : ℕ) (held : Bool) : Type 0 where
-  pub once : 1 ≤ got → new ≡ 1
-  pub never : got ≡ 0 → new ≡ 0
-  pub exactly : held ≡ leb 1 got
+-- ---- one call: how often the message is got, new and duplicate, and whether it was got before it and is after it
+data One (got new duplicate : ℕ) (was now : Bool) : Type 0 where
+  not-this : got ≡ 0 → new ≡ 0 → duplicate ≡ 0 → now ≡ was → One got new duplicate was now
+  first-time : got ≡ 1 → new ≡ 1 → duplicate ≡ 0 → was ≡ false → now ≡ true → One got new duplicate was now
+  once-more : got ≡ 1 → new ≡ 0 → duplicate ≡ 1 → was ≡ true → now ≡ true → One got new duplicate was now
 
-later-call : {a b d e : ℕ} {k h : Bool} → First a b k → (k ≡ false → Later d e h) → (k ≡ true → (e ≡ 0) × (h ≡ true))
-    → Later (a + d) (b + e) h
-later-call {a} {b} {d} {e} {k} {h} (not-yet p q r) f g =
-    let u : a + d ≡ d = omega arith in
-    let v : b + e ≡ e = omega arith in
-    rw (u, v) (f r)
-later-call {a} {b} {d} {e} {k} {h} (now-new p q r) f g =
-    let z = g r in
-    let w = z .0 in
+-- ---- some calls
+record Some (got new duplicate : ℕ) (was : Bool) : Type 0 where
+  answered : got ≡ new + duplicate
+  never : was ≡ true → new ≡ 0
+  once : was ≡ false → 1 ≤ got → new ≡ 1
+
+one-more : {a b c d e f : ℕ} {was now : Bool} → One a b c was now → Some d e f now → Some (a + d) (b + e) (c + f) was
+one-more {a} {b} {c} {d} {e} {f} (not-this p q r t) s =
+    let z = s .answered in
     record {
-      once = λ y. omega arith;
-      never = λ y. absurd (omega arith);
-      exactly = z .1 ∙ sym (le-leb 1 (a + d) (omega arith));
+      answered = omega arith;
+      never = λ u. let v = s .never (t ∙ u) in omega arith;
+      once = λ u l. let v = s .once (t ∙ u) (omega arith) in omega arith;
     }
+one-more {a} {b} {c} {d} {e} {f} (first-time p q r t u) s =
+    let z = s .answered in
+    let v = s .never u in
+    record { answered = omega arith; never = λ w. clash (cc); once = λ w l. omega arith }
+one-more {a} {b} {c} {d} {e} {f} (once-more p q r t u) s =
+    let z = s .answered in
+    let v = s .never u in
+    record { answered = omega arith; never = λ w. omega arith; once = λ w l. clash (cc) }
 
 module _ {set : List (List ℕ)} (ms : MessageSet set) (m : List ℕ) {x : Settings} where
-  -- what an admit takes is seen exactly where it was got
-  admit-got : {first past : ℕ} {got : List (List ℕ)} {s : State} {rs : List ℕ} {left : ℕ} (body : List ℕ) (i : ℕ)
-      (word : Bool) (at : ℕ) → Holding set x first past (at ∷ rs) left got s
-      → Member set (planIn s body i word at) → (k id : List ℕ) → planIn s body i word at ≡ taken k id
-      → heldAt (s .node) (s .ids) at id ≡ among k got
-  admit-got body i word at h inside k id e =
-      admit-held body i word at h ms k id e (subst (λ (p : Plan). Member set p) e inside)
+  module _ {first past : ℕ} {got : List (List ℕ)} {s : State} where
+    admit-one : {rs : List ℕ} {left : ℕ} (body : List ℕ) (i : ℕ) (word : Bool) (at : ℕ)
+        → Holding set x first past (at ∷ rs) left got s → MemberAt set (admit body i word at)
+        → One (cond (brings m (admit body i word at)) 1 0) (countAt isNew m s (admit body i word at))
+        (countAt isDuplicate m s (admit body i word at)) (among m got) (among m (gotNext got (admit body i word at)))
+    admit-one body i word at h inside =
+        let c = admit body i word at in
+        either (brings m c)
+        (λ t.
+        let a = admit-answers body i word at h ms m (brings-that m c .0 t) (inside m t) in
+        let n = next-that m got (brought c) t in
+        either (among m got) (λ u. once-more (rw t) (rw (t, a, u)) (rw (t, a, u)) u n)
+        (λ u. first-time (rw t) (rw (t, a, u)) (rw (t, a, u)) u n))
+        (λ t. not-this (rw t) (rw t) (rw t) (next-same m got (brought c) t))
 
-  module _ {first past : ℕ} {got : List (List ℕ)} {s : State} (rs : List ℕ) (left : ℕ) where
-    call-again : (c : Call) → Holding set x first past (reading c ++ rs) (beat c + left) got s → MemberAt set s c
-        → among m got ≡ true
-        → Again (countAt isNew m s c) (among m (gotNext got s c))
-    call-again (admit body i word at) h inside g =
-        plan-again m s at got (planIn s body i word at) (admit-got body i word at h inside) g
-    call-again (heartbeat at) h inside g = record { not-new = refl; still = g }
-    call-again (advertise topic windows out) h inside g = record { not-new = refl; still = g }
-    call-again (ask body out) h inside g = record { not-new = refl; still = g }
-    call-again (serve body out) h inside g = record { not-new = refl; still = g }
+    call-one : (rs : List ℕ) (left : ℕ) (c : Call)
+        → Holding set x first past (reading c ++ rs) (beat c + left) got s → MemberAt set c
+        → One (cond (brings m c) 1 0) (countAt isNew m s c) (countAt isDuplicate m s c) (among m got)
+        (among m (gotNext got c))
+    unfolding brought
+    call-one rs left (admit body i word at) h inside = admit-one body i word at h inside
+    call-one rs left (heartbeat at) h inside = not-this refl refl refl refl
+    call-one rs left (advertise topic windows out) h inside = not-this refl refl refl refl
+    call-one rs left (ask body out) h inside = not-this refl refl refl refl
+    call-one rs left (serve body out) h inside = not-this refl refl refl refl
 
-    call-first : (c : Call) → Holding set x first past (reading c ++ rs) (beat c + left) got s → MemberAt set s c
-        → among m got ≡ false
-        → First (countAt (λ r. 1) m s c) (countAt isNew m s c) (among m (gotNext got s c))
-    call-first (admit body i word at) h inside g =
-        plan-first m s at got (planIn s body i word at) (admit-got body i word at h inside) g
-    call-first (heartbeat at) h inside g = not-yet refl refl g
-    call-first (advertise topic windows out) h inside g = not-yet refl refl g
-    call-first (ask body out) h inside g = not-yet refl refl g
-    call-first (serve body out) h inside g = not-yet refl refl g
+  some-calls : {first past : ℕ} {got : List (List ℕ)} {s : State} (calls : List Call)
+      → Holding set x first past (readings calls) (beats calls) got s → Members set calls
+      → Some (timesGot m calls) (timesNew m calls s) (timesDuplicate m calls s) (among m got)
+  unfolding timesGot times readings beats
+  some-calls [] h ins =
+      record { answered = refl; never = λ t. refl; once = λ t l. absurd (omega arith) }
+  some-calls (c ∷ cs) h ins =
+      one-more (call-one (readings cs) (beats cs) c h (members-here ins))
+      (some-calls cs (holding-next ms (readings cs) (beats cs) c h (members-here ins)) (members-rest ins))
 
-  -- ---- a message got before is not new again, and stays
-  pub times-again : {first past : ℕ} {got : List (List ℕ)} {s : State} (calls : List Call)
-      → Holding set x first past (readings calls) (beats calls) got s → Members set calls s → among m got ≡ true
-      → (timesNew m calls s ≡ 0) × (among m (gotAll got calls s) ≡ true)
-  unfolding times gotAll readings beats
-  times-again [] h ins g = (refl, g)
-  times-again (c ∷ cs) h ins g =
-      let a = call-again (readings cs) (beats cs) c h (members-here ins) g in
-      let r = times-again cs (holding-next ms (readings cs) (beats cs) c h (members-here ins)) (members-rest ins)
-      (a .still) in
-      let n = a .not-new in
-      (rw (n, r .0), r .1)
+-- ---- for a history under the premises
+module _ {set : List (List ℕ)} {x : Settings} {calls : List Call} {s : State} (ms : MessageSet set)
+    (p : Premises set x calls s) (m : List ℕ) where
+  -- a message got is answered new or duplicate, each time
+  pub new-or-duplicate : timesGot m calls ≡ timesNew m calls s + timesDuplicate m calls s
+  new-or-duplicate = some-calls ms m calls (holding-start p) (p .members) .answered
 
-  -- ---- one that was not is new once if it is got, and is then among those got
-  pub times-first : {first past : ℕ} {got : List (List ℕ)} {s : State} (calls : List Call)
-      → Holding set x first past (readings calls) (beats calls) got s → Members set calls s → among m got ≡ false
-      → Later (timesGot m calls s) (timesNew m calls s) (among m (gotAll got calls s))
-  unfolding times gotAll readings beats
-  times-first [] h ins g =
-      record { once = λ z. absurd (omega arith); never = λ z. refl; exactly = g ∙ sym (lt-leb 1 0 (omega arith)) }
-  times-first (c ∷ cs) h ins g =
-      let n = holding-next ms (readings cs) (beats cs) c h (members-here ins) in
-      later-call (call-first (readings cs) (beats cs) c h (members-here ins) g)
-      (λ t. times-first cs n (members-rest ins) t) (λ t. times-again cs n (members-rest ins) t)
+  -- one that is got at least once is answered new exactly once, and duplicate the other times
+  pub new-exactly-once : 1 ≤ timesGot m calls → (timesNew m calls s ≡ 1)
+      × (timesGot m calls ≡ 1 + timesDuplicate m calls s)
+  unfolding among
+  new-exactly-once h =
+      let n = some-calls ms m calls (holding-start p) (p .members) .once refl h in
+      (n, new-or-duplicate ∙ ap (λ (k : ℕ). k + timesDuplicate m calls s) n)
 
--- ---- a message of the set that is got at least once is answered new exactly once, and duplicate the other times
-pub new-exactly-once : {set : List (List ℕ)} {x : Settings} {calls : List Call} {s : State} → MessageSet set
-    → Premises set x calls s
-    → (m : List ℕ) → among m set ≡ true → 1 ≤ timesGot m calls s → (timesNew m calls s ≡ 1)
-    × (timesGot m calls s ≡ 1 + timesDuplicate m calls s)
-unfolding among
-new-exactly-once {set} {x} {calls} {s} ms p m inside h =
-    let n = times-first ms m calls (holding-start p) (p .members) refl .once h in
-    (n, new-or-duplicate m calls s ∙ ap (λ (k : ℕ). k + timesDuplicate m calls s) n)
+-- ---- an admit of a history that brings a message: how it is answered, after the calls before it
+pub record Delivered (m : List ℕ) (before : List Call) (body : List ℕ) (i : ℕ) (word : Bool) (at : ℕ)
+    (s : State) : Type 0 where
+  -- new where no call before it brought the message
+  pub first-time : timesGot m before ≡ 0 → answerIn (afterAll before s) body i word at ≡ answer.New
+  -- duplicate where one did
+  pub other-times : 1 ≤ timesGot m before → answerIn (afterAll before s) body i word at ≡ answer.Duplicate
+  -- and never refused
+  pub not-refused : refusalAt (afterAll before s) (admit body i word at) ≡ 0
 
--- the messages got are those that some call got
-pub got-exactly : {set : List (List ℕ)} {x : Settings} {calls : List Call} {s : State} → MessageSet set
-    → Premises set x calls s
-    → (m : List ℕ) → among m (gotAll [] calls s) ≡ leb 1 (timesGot m calls s)
-unfolding among
-got-exactly {set} {x} {calls} {s} ms p m = times-first ms m calls (holding-start p) (p .members) refl .exactly
+members-split : {set : List (List ℕ)} (cs ds : List Call) → Members set (cs ++ ds) → Members set cs × Members set ds
+members-split [] ds h = (none-left, h)
+members-split (c ∷ cs) ds h =
+    let r = members-split cs ds (members-rest h) in
+    (member (members-here h) (r .0), r .1)
+
+module _ {set : List (List ℕ)} {x : Settings} {s : State} (ms : MessageSet set) (before rest : List Call)
+    (body : List ℕ) (i : ℕ) (word : Bool) (at : ℕ)
+    (p : Premises set x (before ++ (admit body i word at ∷ rest)) s) where
+  abbrev calls : List Call
+  calls = before ++ (admit body i word at ∷ rest)
+
+  at-admit : Holding set x (firstOf calls) (pastAll 0 before) (at ∷ readings rest) (beats rest) (gotAll [] before)
+      (afterAll before s)
+  unfolding readings beats
+  at-admit =
+      let e = readings-append before (admit body i word at ∷ rest) in
+      let f : beats calls ≡ beats before + beats rest =
+      beats-append before (admit body i word at ∷ rest) ∙ omega arith in
+      holding-on ms before (at ∷ readings rest) (beats rest)
+      (subst (λ (n : ℕ). Holding set x (firstOf calls) 0 (readings before ++ (at ∷ readings rest)) n [] s) f
+      (subst (λ (l : List ℕ). Holding set x (firstOf calls) 0 l (beats calls) [] s) e (holding-start p)))
+      (members-split before (admit body i word at ∷ rest) (p .members) .0)
+
+  pub delivered-is-got : (m : List ℕ) → brings m (admit body i word at) ≡ true → Delivered m before body i word at s
+  delivered-is-got m t =
+      let c = admit body i word at in
+      let inside = members-here (members-split before (c ∷ rest) (p .members) .1) m t in
+      let e = brings-that m c .0 t in
+      let a = admit-answers body i word at at-admit ms m e inside in
+      let g = got-exactly m before in
+      record {
+        first-time = λ z. rw (a, g, lt-leb 1 (timesGot m before) (omega arith));
+        other-times = λ l. rw (a, g, le-leb 1 (timesGot m before) l);
+        not-refused = admit-done body i word at at-admit ms m e inside;
+      }

@@ -24,14 +24,14 @@ use Rattle.node.specs.declared.Lent.the-variants as lent
 use Rattle.node.specs.declared.Advertise.the-variants as told
 use Rattle.node.specs.declared.Ask.the-variants as asked
 use Rattle.node.specs.declared.Serve.{Serve}
-use Rattle.node.specs.Gateway.{Gateway, toldOf, lacking, having}
+use Rattle.node.specs.Gateway.{Gateway, toldOf, lacking, having, maxRpcSize}
 use Rattle.node.specs.Calls.{lentOf, advertiseAnswer, advertiseLeft, advertiseBytes, askAnswer, askLeft, askBytes}
 use Rattle.node.specs.Calls.{serveAnswer, serveLeft, cachedOf, wanted, roomOf, servedOf, replyBytes, replyTo}
 use Rattle.node.specs.Calls.{serveNumber}
 use Rattle.node.specs.ReplyLaws.{reply-some}
 use Rattle.history.specs.History.{State, gatewayOf, Settings, advertise, ask, serve, refusalAt, servedBytes}
 use Rattle.history.specs.History.{servedMessages}
-use Rattle.agreement.specs.Round.{Play, Fair, advertOf, requestOf, replyAnswer, replyOf, servedCount}
+use Rattle.agreement.specs.Round.{Play, Fair, advertBy, advertOf, requestOf, replyAnswer, replyOf, servedCount}
 use Rattle.agreement.specs.Holding.{Holding}
 use Rattle.agreement.specs.HandOver.{advert-rpc, advert-taken, request-rpc, request-taken, reply-has, reply-all}
 use Rattle.agreement.specs.HandOver.{lacks-exactly}
@@ -81,6 +81,33 @@ having-at g (i ∷ is) h (suc j) l =
     let k : held i (g .cache) ≡ true = h i (rw (same-self i)) in
     simp k (having-at g is (λ x m. h x (either (sameBytes i x) (λ t. simp t) (λ t. simp t m))) j (omega arith))
 
+-- ---- an advertise
+module _ {set : List (List ℕ)} {y : Settings} {firstB pastB leftB : ℕ} {rsB : List ℕ} {gotB : List (List ℕ)} {b : State}
+    (hb : Holding set y firstB pastB rsB leftB gotB b) (topic : List ℕ) (short : length topic ≤ 1024) (windows : ℕ)
+    (out : List ℕ) (room : maxRpcSize ≤ length out) where
+  abbrev adverted : List ℕ
+  adverted = advertiseBytes (b .node) (b .messages) topic windows
+
+  adverted-small : length adverted ≤ length out
+  adverted-small =
+      let w = advert-rpc (b .node) (b .ids) (b .messages) topic windows (hb .kept .fine) (hb .bytes) short .1 .small in
+      omega arith
+
+  advertise-answer : advertiseAnswer (b .node) (b .ids) (b .messages) topic windows out ≡ told.Bytes (length adverted)
+  unfolding advertiseAnswer
+  advertise-answer = rw (hb .kept .fine, le-ltb 1024 (length topic) short, answer-fits adverted out adverted-small)
+
+  advertise-left : advertiseLeft (b .node) (b .ids) (b .messages) topic windows out ≡ sets out 0 adverted
+  unfolding advertiseLeft
+  advertise-left = rw (hb .kept .fine, le-ltb 1024 (length topic) short) (written-fits adverted out adverted-small)
+
+  pub advertise-done : refusalAt b (advertise topic windows out) ≡ 0
+  advertise-done = rw advertise-answer
+
+  pub advertise-is : advertBy topic windows out b ≡ advertiseBytes (b .node) (b .messages) topic windows
+  unfolding advertBy
+  advertise-is = rw (advertise-answer, advertise-left) (front adverted out adverted-small)
+
 module _ {set : List (List ℕ)} {x y : Settings} {firstA pastA leftA firstB pastB leftB : ℕ} {rsA rsB : List ℕ}
     {gotA gotB : List (List ℕ)} {a b : State}
     (ha : Holding set x firstA pastA rsA leftA gotA a) (hb : Holding set y firstB pastB rsB leftB gotB b) (p : Play)
@@ -95,62 +122,43 @@ module _ {set : List (List ℕ)} {x y : Settings} {firstA pastA leftA firstB pas
   abbrev advert : List ℕ
   advert = advertiseBytes (b .node) (b .messages) (p .topic) (p .windows)
 
-  advert-small : length advert ≤ length (p .advert-out)
-  advert-small =
-      let w = advert-rpc (b .node) (b .ids) (b .messages) (p .topic) (p .windows) fineB (hb .bytes)
-      (fair .topic-short) .1 .small in
-      let r = fair .advert-room in
-      omega arith
-
-  advert-answer : advertiseAnswer (b .node) (b .ids) (b .messages) (p .topic) (p .windows) (p .advert-out) ≡ told.Bytes
-      (length advert)
-  unfolding advertiseAnswer
-  advert-answer =
-      rw (fineB, le-ltb 1024 (length (p .topic)) (fair .topic-short), answer-fits advert (p .advert-out) advert-small)
-
-  advert-left : advertiseLeft (b .node) (b .ids) (b .messages) (p .topic) (p .windows) (p .advert-out)
-      ≡ sets (p .advert-out) 0 advert
-  unfolding advertiseLeft
-  advert-left =
-      rw (fineB, le-ltb 1024 (length (p .topic)) (fair .topic-short)) (written-fits advert (p .advert-out) advert-small)
-
-  pub advert-done : refusalAt b (advertise (p .topic) (p .windows) (p .advert-out)) ≡ 0
-  advert-done = rw advert-answer
+  pub advert-done : refusalAt b (advertise (p .topic) (p .windows) (p .advert-out 0)) ≡ 0
+  advert-done = advertise-done hb (p .topic) (fair .topic-short) (p .windows) (p .advert-out 0) (fair .advert-room 0)
 
   pub advert-is : advertOf p b ≡ advertiseBytes (b .node) (b .messages) (p .topic) (p .windows)
   unfolding advertOf
-  advert-is = rw (advert-answer, advert-left) (front advert (p .advert-out) advert-small)
+  advert-is = advertise-is hb (p .topic) (fair .topic-short) (p .windows) (p .advert-out 0) (fair .advert-room 0)
 
   -- ---- the request
   abbrev asking : List ℕ
   asking = askBytes (a .node) (a .ids) advert
 
-  asking-small : length asking ≤ length (p .request-out)
+  asking-small : length asking ≤ length (p .request-out 0)
   asking-small =
       let w = request-rpc (b .node) (b .ids) (b .messages) (p .topic) (p .windows) fineB (hb .bytes) (fair .topic-short)
       (a .node) (a .ids) (a .messages) .1 .small in
-      let r = fair .request-room in
+      let r = fair .request-room 0 in
       omega arith
 
   advert-accepted : acceptOf advert ≡ checked.Fine
   advert-accepted = advert-taken (b .node) (b .ids) (b .messages) (p .topic) (p .windows) fineB (hb .bytes)
       (fair .topic-short)
 
-  request-answer : askAnswer (a .node) (a .ids) (a .messages) advert (p .request-out) ≡ asked.Bytes (length asking)
+  request-answer : askAnswer (a .node) (a .ids) (a .messages) advert (p .request-out 0) ≡ asked.Bytes (length asking)
   unfolding askAnswer
-  request-answer = rw (fineA, advert-accepted, answer-fits asking (p .request-out) asking-small)
+  request-answer = rw (fineA, advert-accepted, answer-fits asking (p .request-out 0) asking-small)
 
-  request-left : askLeft (a .node) (a .ids) (a .messages) advert (p .request-out) ≡ sets (p .request-out) 0 asking
+  request-left : askLeft (a .node) (a .ids) (a .messages) advert (p .request-out 0) ≡ sets (p .request-out 0) 0 asking
   unfolding askLeft
-  request-left = rw (fineA, advert-accepted) (written-fits asking (p .request-out) asking-small)
+  request-left = rw (fineA, advert-accepted) (written-fits asking (p .request-out 0) asking-small)
 
-  pub request-done : refusalAt a (ask (advertOf p b) (p .request-out)) ≡ 0
+  pub request-done : refusalAt a (ask (advertOf p b) (p .request-out 0)) ≡ 0
   request-done = rw (advert-is, request-answer)
 
   pub requested : requestOf p a b ≡ askBytes (a .node) (a .ids)
       (advertiseBytes (b .node) (b .messages) (p .topic) (p .windows))
   unfolding requestOf
-  requested = rw (advert-is, request-answer, request-left) (front asking (p .request-out) asking-small)
+  requested = rw (advert-is, request-answer, request-left) (front asking (p .request-out 0) asking-small)
 
   -- ---- the reply
   unfoldable pub wants : List (List ℕ)
@@ -190,12 +198,12 @@ module _ {set : List (List ℕ)} {x y : Settings} {firstA pastA leftA firstB pas
       (g .taken) .small
 
   -- fifteen of them, or all
-  pub enough : min 15 (length wants) ≤ servedOf replies (p .reply-out)
-  enough = let n = replies-count in let s = served-enough replies (p .reply-out) (fair .reply-room) reply-short in
+  pub enough : min 15 (length wants) ≤ servedOf replies (p .reply-out 0)
+  enough = let n = replies-count in let s = served-enough replies (p .reply-out 0) (fair .reply-room 0) reply-short in
       omega arith
 
-  enough-replies : min 15 (length replies) ≤ servedOf replies (p .reply-out)
-  enough-replies = served-enough replies (p .reply-out) (fair .reply-room) reply-short
+  enough-replies : min 15 (length replies) ≤ servedOf replies (p .reply-out 0)
+  enough-replies = served-enough replies (p .reply-out 0) (fair .reply-room 0) reply-short
 
   reply-cached : cachedOf (b .node .cache) (b .messages) (wanted asking) ≡ replies
   unfolding replies wants
@@ -206,30 +214,30 @@ module _ {set : List (List ℕ)} {x y : Settings} {firstA pastA leftA firstB pas
   request-accepted = request-taken (b .node) (b .ids) (b .messages) (p .topic) (p .windows) fineB (hb .bytes)
       (fair .topic-short) (a .node) (a .ids) (a .messages) .0
 
-  reply-answer : replyAnswer p a b ≡ replyTo replies (p .reply-out)
+  reply-answer : replyAnswer p a b ≡ replyTo replies (p .reply-out 0)
   unfolding serveAnswer
   reply-answer = rw (requested, fineB, request-accepted, reply-cached)
 
-  reply-left : serveLeft (b .node) (b .ids) (b .messages) (requestOf p a b) (p .reply-out) ≡ sets (p .reply-out) 0
-      (replyBytes replies (p .reply-out))
+  reply-left : serveLeft (b .node) (b .ids) (b .messages) (requestOf p a b) (p .reply-out 0) ≡ sets (p .reply-out 0) 0
+      (replyBytes replies (p .reply-out 0))
   unfolding serveLeft
   reply-left = rw (requested, fineB, request-accepted, reply-cached)
 
-  abbrev answers : Answers replies (p .reply-out) (replyTo replies (p .reply-out))
-  answers = reply-answers replies (p .reply-out) enough-replies
+  abbrev answers : Answers replies (p .reply-out 0) (replyTo replies (p .reply-out 0))
+  answers = reply-answers replies (p .reply-out 0) enough-replies
 
-  pub reply-done : refusalAt b (serve (requestOf p a b) (p .reply-out)) ≡ 0
+  pub reply-done : refusalAt b (serve (requestOf p a b) (p .reply-out 0)) ≡ 0
   reply-done = rw reply-answer (answers .done)
 
-  pub replied : replyOf p a b ≡ replyBytes replies (p .reply-out)
+  pub replied : replyOf p a b ≡ replyBytes replies (p .reply-out 0)
   unfolding replyOf
   replied = rw (reply-answer, reply-left) (answers .bytes)
 
-  pub served-is : servedCount p a b ≡ servedOf replies (p .reply-out)
+  pub served-is : servedCount p a b ≡ servedOf replies (p .reply-out 0)
   unfolding servedCount
   served-is = rw reply-answer (answers .count)
 
-  pub reply-delivers : Delivers replies (p .reply-out)
+  pub reply-delivers : Delivers replies (p .reply-out 0)
   unfolding replies wants
   reply-delivers = reply-taken (b .node) (b .ids) (b .messages) (p .topic) (p .windows) fineB (hb .bytes)
-      (fair .topic-short) (a .node) (a .ids) (a .messages) (p .reply-out)
+      (fair .topic-short) (a .node) (a .ids) (a .messages) (p .reply-out 0)

@@ -8,9 +8,7 @@ use Rattle.basis.specs.Bytes.{Bytes}
 use Rattle.rows.specs.Ids.{among}
 use Rattle.admission.specs.Admission.{givesId}
 use Rattle.node.specs.State.{risesFrom}
-use Rattle.node.specs.Calls.{Plan, no, taken}
-use Rattle.history.specs.History.{State, Settings, Fresh, Call, admit, heartbeat, advertise, ask, serve, planIn, after}
-use Rattle.history.specs.History.{readings, beats}
+use Rattle.history.specs.History.{State, Settings, Fresh, Call, readings, beats, brings}
 
 -- ---- the set of messages; a message is the bytes of the submessage
 pub record MessageSet (set : List (List ℕ)) : Type 0 where
@@ -22,21 +20,12 @@ pub record MessageSet (set : List (List ℕ)) : Type 0 where
       → givesId k id ≡ true → m ≡ k
 
 -- ---- admitting set members only; where the body is refused or the host's word withheld, the node gets nothing
-abbrev pub Member : List (List ℕ) → Plan → Type 0
-Member set (no r) = _≡_ {A = ℕ} 0 0
-Member set (taken m id) = among m set ≡ true
+abbrev pub MemberAt : List (List ℕ) → Call → Type 0
+MemberAt set c = (m : List ℕ) → brings m c ≡ true → among m set ≡ true
 
-abbrev pub MemberAt : List (List ℕ) → State → Call → Type 0
-MemberAt set s (admit body i word at) = Member set (planIn s body i word at)
-MemberAt set s (heartbeat at) = _≡_ {A = ℕ} 0 0
-MemberAt set s (advertise topic windows out) = _≡_ {A = ℕ} 0 0
-MemberAt set s (ask body out) = _≡_ {A = ℕ} 0 0
-MemberAt set s (serve body out) = _≡_ {A = ℕ} 0 0
-
-pub data Members (set : List (List ℕ)) : List Call → State → Type 0 where
-  none-left : {s : State} → Members set [] s
-  member : {c : Call} {cs : List Call} {s : State} → MemberAt set s c → Members set cs (after c s)
-      → Members set (c ∷ cs) s
+pub data Members (set : List (List ℕ)) : List Call → Type 0 where
+  none-left : Members set []
+  member : {c : Call} {cs : List Call} → MemberAt set c → Members set cs → Members set (c ∷ cs)
 
 -- ---- the clock
 pub record Clock (x : Settings) (rs : List ℕ) : Type 0 where
@@ -50,7 +39,7 @@ pub record Clock (x : Settings) (rs : List ℕ) : Type 0 where
 -- ---- a history under the premises
 pub record Premises (set : List (List ℕ)) (x : Settings) (calls : List Call) (s : State) : Type 0 where
   pub fresh : Fresh x s
-  pub members : Members set calls s
+  pub members : Members set calls
   -- the set is no larger than max_seen or max_messages
   pub set-seen : length set ≤ x .max-seen
   pub set-cached : length set ≤ x .max-messages

@@ -21,8 +21,8 @@ use Rattle.agreement.specs.Played.{advert-done, request-done, requested}
 
 pub record ExactRequest (p : Play) (a b : State) : Type 0 where
   -- neither call is refused
-  pub advert-taken : refusalAt b (advertise (p .topic) (p .windows) (p .advert-out)) ≡ 0
-  pub ask-taken : refusalAt a (ask (advertOf p b) (p .request-out)) ≡ 0
+  pub advert-taken : refusalAt b (advertise (p .topic) (p .windows) (p .advert-out 0)) ≡ 0
+  pub ask-taken : refusalAt a (ask (advertOf p b) (p .request-out 0)) ≡ 0
   -- no bytes are written exactly where nothing is lacking
   pub quiet : (requestOf p a b ≡ []) ↔ (lacked (p .topic) a b ≡ [])
   -- and else they are a body with one IWANT of these ids

@@ -23,13 +23,25 @@ missing topic asker (c ∷ cs) =
 abbrev pub lacked : List ℕ → State → State → List Cached
 lacked topic a b = missing topic (gatewayOf a) (gatewayOf b .cache)
 
--- ---- what rounds are played with: the topic, the windows told of, and the buffers
+-- ---- what rounds are played with: the topic, the windows told of, and the buffers, which are others for each call of
+-- each round; `advert-out k` is lent to the advertise of the k-th round
 pub record Play : Type 0 where
   pub topic : List ℕ
   pub windows : ℕ
-  pub advert-out : List ℕ
-  pub request-out : List ℕ
-  pub reply-out : List ℕ
+  pub advert-out : ℕ → List ℕ
+  pub request-out : ℕ → List ℕ
+  pub reply-out : ℕ → List ℕ
+
+-- the same from the second round on
+abbrev pub onward : Play → Play
+onward p =
+    record {
+      topic = p .topic;
+      windows = p .windows;
+      advert-out = λ k. p .advert-out (suc k);
+      request-out = λ k. p .request-out (suc k);
+      reply-out = λ k. p .reply-out (suc k);
+    }
 
 -- 01's premises on these, for gateways with these settings
 pub record Fair (p : Play) (x y : Settings) : Type 0 where
@@ -38,9 +50,9 @@ pub record Fair (p : Play) (x y : Settings) : Type 0 where
   pub windows-x : x .history-len ≤ p .windows
   pub windows-y : y .history-len ≤ p .windows
   -- output buffers hold 65,536 bytes
-  pub advert-room : maxRpcSize ≤ length (p .advert-out)
-  pub request-room : maxRpcSize ≤ length (p .request-out)
-  pub reply-room : maxRpcSize ≤ length (p .reply-out)
+  pub advert-room : (k : ℕ) → maxRpcSize ≤ length (p .advert-out k)
+  pub request-room : (k : ℕ) → maxRpcSize ≤ length (p .request-out k)
+  pub reply-room : (k : ℕ) → maxRpcSize ≤ length (p .reply-out k)
 
 -- they are the same for the other way round
 pub turned : {p : Play} {x y : Settings} → Fair p x y → Fair p y x
@@ -54,47 +66,65 @@ turned f =
       reply-room = f .reply-room;
     }
 
+-- and from the second round on
+pub fair-onward : {p : Play} {x y : Settings} → Fair p x y → Fair (onward p) x y
+fair-onward f =
+    record {
+      topic-short = f .topic-short;
+      windows-x = f .windows-x;
+      windows-y = f .windows-y;
+      advert-room = λ k. f .advert-room (suc k);
+      request-room = λ k. f .request-room (suc k);
+      reply-room = λ k. f .reply-room (suc k);
+    }
+
+-- ---- what an advertise of topic and windows says that it wrote, with this buffer
+unfoldable pub advertBy : List ℕ → ℕ → List ℕ → State → List ℕ
+advertBy topic windows out b =
+    toldBytes (advertiseAnswer (b .node) (b .ids) (b .messages) topic windows out)
+    (advertiseLeft (b .node) (b .ids) (b .messages) topic windows out)
+
+-- ---- the first round
 module _ (p : Play) where
   -- b's advertisement
   unfoldable pub advertOf : State → List ℕ
-  advertOf b =
-      toldBytes (advertiseAnswer (b .node) (b .ids) (b .messages) (p .topic) (p .windows) (p .advert-out))
-      (advertiseLeft (b .node) (b .ids) (b .messages) (p .topic) (p .windows) (p .advert-out))
+  advertOf b = advertBy (p .topic) (p .windows) (p .advert-out 0) b
 
   -- a's request, given b's advertisement
   unfoldable pub requestOf : State → State → List ℕ
   requestOf a b =
-      askedBytes (askAnswer (a .node) (a .ids) (a .messages) (advertOf b) (p .request-out))
-      (askLeft (a .node) (a .ids) (a .messages) (advertOf b) (p .request-out))
+      askedBytes (askAnswer (a .node) (a .ids) (a .messages) (advertOf b) (p .request-out 0))
+      (askLeft (a .node) (a .ids) (a .messages) (advertOf b) (p .request-out 0))
 
   -- b's reply, given a's request
   abbrev pub replyAnswer : State → State → Serve
-  replyAnswer a b = serveAnswer (b .node) (b .ids) (b .messages) (requestOf a b) (p .reply-out)
+  replyAnswer a b = serveAnswer (b .node) (b .ids) (b .messages) (requestOf a b) (p .reply-out 0)
 
   unfoldable pub replyOf : State → State → List ℕ
   replyOf a b =
-      servedBytes (replyAnswer a b) (serveLeft (b .node) (b .ids) (b .messages) (requestOf a b) (p .reply-out))
+      servedBytes (replyAnswer a b) (serveLeft (b .node) (b .ids) (b .messages) (requestOf a b) (p .reply-out 0))
 
   unfoldable pub servedCount : State → State → ℕ
   servedCount a b = servedMessages (replyAnswer a b)
 
--- ---- a round, as the calls of each gateway
+-- as the calls of each gateway
 module _ (p : Play) where
   unfoldable pub askerRound : (ℕ → ℕ) → State → State → List Call
-  askerRound at a b = ask (advertOf p b) (p .request-out) ∷ admits (replyOf p a b) at 0 (servedCount p a b)
+  askerRound at a b = ask (advertOf p b) (p .request-out 0) ∷ admits (replyOf p a b) at 0 (servedCount p a b)
 
   unfoldable pub tellerRound : State → State → List Call
-  tellerRound a b = advertise (p .topic) (p .windows) (p .advert-out) ∷ serve (requestOf p a b) (p .reply-out) ∷ []
+  tellerRound a b = advertise (p .topic) (p .windows) (p .advert-out 0) ∷ serve (requestOf p a b) (p .reply-out 0) ∷ []
 
-  -- so many rounds, one after the other, and no other call of either; `at k i` is the reading at the i-th admit of the
-  -- k-th round
-  unfoldable pub askerRounds : ℕ → (ℕ → ℕ → ℕ) → State → State → List Call
-  askerRounds zero at a b = []
-  askerRounds (suc r) at a b =
-      askerRound (at 0) a b ++ askerRounds r (λ k. at (suc k)) (afterAll (askerRound (at 0) a b) a)
-      (afterAll (tellerRound a b) b)
+-- ---- so many rounds, one after the other, and no other call of either; `at k i` is the reading at the i-th admit of
+-- the k-th round
+unfoldable pub askerRounds : Play → ℕ → (ℕ → ℕ → ℕ) → State → State → List Call
+askerRounds p zero at a b = []
+askerRounds p (suc r) at a b =
+    askerRound p (at 0) a b ++ askerRounds (onward p) r (λ k. at (suc k)) (afterAll (askerRound p (at 0) a b) a)
+    (afterAll (tellerRound p a b) b)
 
-  unfoldable pub tellerRounds : ℕ → (ℕ → ℕ → ℕ) → State → State → List Call
-  tellerRounds zero at a b = []
-  tellerRounds (suc r) at a b = tellerRound a b ++ tellerRounds r (λ k. at (suc k)) (afterAll (askerRound (at 0) a b) a)
-      (afterAll (tellerRound a b) b)
+unfoldable pub tellerRounds : Play → ℕ → (ℕ → ℕ → ℕ) → State → State → List Call
+tellerRounds p zero at a b = []
+tellerRounds p (suc r) at a b =
+    tellerRound p a b ++ tellerRounds (onward p) r (λ k. at (suc k)) (afterAll (askerRound p (at 0) a b) a)
+    (afterAll (tellerRound p a b) b)

@@ -3,11 +3,19 @@
 -- contract cites.
 use Prim.Native.Nat.{ℕ, zero, suc, _+_, _*_, _^_, _<_}
 use mathlib.Core.Path.{_≡_}
-use mathlib.Core.Bool.{Bool, true, cond}
+use mathlib.Core.Bool.{Bool, true, false, cond}
 use mathlib.Core.List.{List, [], _∷_, _++_}
+use mathlib.Core.Option.{Option, none, some}
 use lib.ListN.{length, getD, take, replicate}
 use Rattle.basis.specs.Bytes.{Bytes}
 use Rattle.rows.specs.Ids.{sameBytes}
+use Rattle.protobuf.specs.declared.Checked.{Checked}
+use Rattle.protobuf.specs.declared.Checked.the-variants as checked
+use Rattle.protobuf.specs.Walk.{between}
+use Rattle.schema.specs.Accept.{acceptOf}
+use Rattle.ids.specs.declared.MessageAt.{MessageAt}
+use Rattle.ids.specs.declared.MessageAt.the-variants.{At, Count}
+use Rattle.ids.specs.Ids.{messageAt}
 use Rattle.node.specs.declared.Node.{Node}
 use Rattle.node.specs.declared.Admit.{Admit}
 use Rattle.node.specs.declared.Admit.the-variants as answer
@@ -63,6 +71,10 @@ pub data Call : Type 0 where
 abbrev pub planIn : State → List ℕ → ℕ → Bool → ℕ → Plan
 planIn s body i word at = planned (s .node) (s .ids) (s .messages) body i word at
 
+-- and what it answers
+abbrev pub answerIn : State → List ℕ → ℕ → Bool → ℕ → Admit
+answerIn s body i word at = admitAnswer (s .node) (s .ids) at (planIn s body i word at)
+
 -- the node and stores as a call leaves them
 unfoldable pub after : Call → State → State
 after (admit body i word at) s =
@@ -110,7 +122,7 @@ beats (c ∷ cs) = beat c + beats cs
 
 -- ---- refusals: the number of the one that a call meets, 0 where it is done
 abbrev pub refusalAt : State → Call → ℕ
-refusalAt s (admit body i word at) = admitNumber (admitAnswer (s .node) (s .ids) at (planIn s body i word at))
+refusalAt s (admit body i word at) = admitNumber (answerIn s body i word at)
 refusalAt s (heartbeat at) = beatNumber (beatAnswer (s .node) (s .ids) (s .messages) at)
 refusalAt s (advertise topic windows out) =
     advertiseNumber (advertiseAnswer (s .node) (s .ids) (s .messages) topic windows out)
@@ -147,7 +159,44 @@ servedMessages (served.Faulty why) = 0
 servedMessages (served.Refused why) = 0
 servedMessages (served.Room n) = 0
 
--- ---- how often a message is got, and how often it is answered new, and duplicate
+-- ---- the message at an index of a body, byte for byte
+pub record Placed (s : List ℕ) (i : ℕ) (m : List ℕ) : Type 0 where
+  pub start : ℕ
+  pub next : ℕ
+  pub found : messageAt s i ≡ At start next
+  pub bytes : between s start next ≡ m
+
+-- ---- what comes in, by the call alone and whatever the node does with it: an admit brings the message at its index.
+-- "Where the body is refused or the host's word withheld, the node gets nothing"
+abbrev pub standing : List ℕ → MessageAt → Option (List ℕ)
+standing body (At a e) = some (between body a e)
+standing body (Count n) = none
+
+abbrev pub whereAccepted : Checked → Option (List ℕ) → Option (List ℕ)
+whereAccepted checked.Fine m = m
+whereAccepted (checked.Refused why) m = none
+
+unfoldable pub brought : Call → Option (List ℕ)
+brought (admit body i word at) = cond word (whereAccepted (acceptOf body) (standing body (messageAt body i))) none
+brought (heartbeat at) = none
+brought (advertise topic windows out) = none
+brought (ask body out) = none
+brought (serve body out) = none
+
+abbrev pub isThat : List ℕ → Option (List ℕ) → Bool
+isThat m none = false
+isThat m (some k) = sameBytes k m
+
+-- a call brings the message m, byte for byte
+abbrev pub brings : List ℕ → Call → Bool
+brings m c = isThat m (brought c)
+
+-- ---- how often a message is got
+unfoldable pub timesGot : List ℕ → List Call → ℕ
+timesGot m [] = 0
+timesGot m (c ∷ cs) = cond (brings m c) 1 0 + timesGot m cs
+
+-- ---- and how often it is answered new, and duplicate
 abbrev pub isNew : Admit → ℕ
 isNew answer.New = 1
 isNew answer.Duplicate = 0
@@ -166,13 +215,9 @@ isDuplicate (answer.NoMessage n) = 0
 isDuplicate (answer.Unfit why) = 0
 isDuplicate (answer.ClockBack clock) = 0
 
--- an admit that takes the message counts as its answer counts, and no other call does
-abbrev pub countPlan : (Admit → ℕ) → List ℕ → State → ℕ → Plan → ℕ
-countPlan f m s at (no r) = 0
-countPlan f m s at (taken p id) = cond (sameBytes p m) (f (admitAnswer (s .node) (s .ids) at (taken p id))) 0
-
+-- an admit that brings the message counts as its answer counts, and no other call does
 abbrev pub countAt : (Admit → ℕ) → List ℕ → State → Call → ℕ
-countAt f m s (admit body i word at) = countPlan f m s at (planIn s body i word at)
+countAt f m s (admit body i word at) = cond (brings m (admit body i word at)) (f (answerIn s body i word at)) 0
 countAt f m s (heartbeat at) = 0
 countAt f m s (advertise topic windows out) = 0
 countAt f m s (ask body out) = 0
@@ -181,9 +226,6 @@ countAt f m s (serve body out) = 0
 unfoldable pub times : (Admit → ℕ) → List ℕ → List Call → State → ℕ
 times f m [] s = 0
 times f m (c ∷ cs) s = countAt f m s c + times f m cs (after c s)
-
-abbrev pub timesGot : List ℕ → List Call → State → ℕ
-timesGot m calls s = times (λ r. 1) m calls s
 
 abbrev pub timesNew : List ℕ → List Call → State → ℕ
 timesNew m calls s = times isNew m calls s

@@ -2,27 +2,44 @@
 -- state that calls leave from a fresh one is well formed.
 use Prim.Native.Nat.{ℕ, zero, suc, _+_, _≤_}
 use mathlib.Core.Path.{_≡_, refl, sym, ap, subst, _∙_}
-use mathlib.Core.Bool.{Bool}
+use mathlib.Core.Bool.{Bool, true, false, cond}
 use mathlib.Core.List.{List, [], _∷_, _++_, append-assoc}
+use mathlib.Core.Logic.{_↔_}
+use mathlib.Core.Option.{Option, none, some}
 use native.Mathlib.Omega.{arith}
-use Rattle.basis.specs.Cases.{either}
-use Rattle.rows.specs.Ids.{sameBytes}
+use Rattle.basis.specs.Cases.{either, clash}
+use Rattle.rows.specs.IdsLaws.{same-self, same-equal}
+use Rattle.protobuf.specs.declared.Checked.{Checked}
+use Rattle.protobuf.specs.declared.Checked.the-variants as checked
+use Rattle.protobuf.specs.Walk.{between}
+use Rattle.schema.specs.Accept.{acceptOf}
+use Rattle.ids.specs.declared.MessageAt.{MessageAt}
+use Rattle.ids.specs.declared.MessageAt.the-variants.{At, Count}
+use Rattle.ids.specs.Ids.{messageAt}
+use Rattle.admission.specs.declared.Admission.{Admission}
+use Rattle.admission.specs.declared.Admission.the-variants as admission
+use Rattle.admission.specs.Admission.{admissionOf, givesId}
+use Rattle.admission.specs.AdmissionLaws.{fit-word}
+use Rattle.node.specs.declared.Lent.{Lent}
+use Rattle.node.specs.declared.Lent.the-variants as lent
+use Rattle.node.specs.declared.Fault.{Fault}
 use Rattle.node.specs.declared.Node.{Node}
 use Rattle.node.specs.declared.Admit.{Admit}
+use Rattle.node.specs.declared.Admit.the-variants as answer
 use Rattle.node.specs.declared.Beat.{Beat}
 use Rattle.node.specs.declared.Beat.the-variants as beaten
 use Rattle.node.specs.Gateway.{Gateway, started, afterAdmit, afterBeat}
 use Rattle.node.specs.State.{gatewayIn}
 use Rattle.node.specs.Calls.{Plan, no, taken, heldAt, admitNumber, admitAnswer, admitNode, admitSeen, admitCache}
-use Rattle.node.specs.Calls.{beatNumber, beatAnswer, beatNode}
+use Rattle.node.specs.Calls.{beatNumber, beatAnswer, beatNode, onLent, lentOf, planFit, planAt, planBody, planned}
 use Rattle.node.specs.WellFormed.{Typed}
-use Rattle.node.specs.Laws.{fresh-gateway, admit-gateway, beat-says, beat-gateway}
+use Rattle.node.specs.Laws.{fresh-gateway, fit-plan, admit-gateway, beat-says, beat-gateway}
 use Rattle.node.specs.WellFormedLaws.{Keeps, begun-keeps, admitted-keeps, beaten-keeps}
 use Rattle.history.specs.History.{State, gatewayOf, Settings, Fresh, Call, admit, heartbeat, advertise, ask}
 use Rattle.history.specs.History.{serve}
 use Rattle.history.specs.History.{planIn, after, afterAll, reading, readings, beats, refusalAt, NoneRefused}
-use Rattle.history.specs.History.{all-done, done, admits, isNew, isDuplicate, countPlan, countAt, times, timesGot}
-use Rattle.history.specs.History.{timesNew, timesDuplicate, newAt, newIds}
+use Rattle.history.specs.History.{all-done, done, admits, Placed, standing, whereAccepted, brought, isThat}
+use Rattle.history.specs.History.{brings, times, newAt, newIds}
 
 -- ---- calls, and then more calls
 pub after-append : (cs ds : List Call) (s : State) → afterAll (cs ++ ds) s ≡ afterAll ds (afterAll cs s)
@@ -178,23 +195,80 @@ refused-stays (advertise topic windows out) s h = refl
 refused-stays (ask body out) s h = refl
 refused-stays (serve body out) s h = refl
 
--- ---- a message that is got is answered new or duplicate, each time
-answered-plan : (m : List ℕ) (s : State) (at : ℕ) (p : Plan)
-    → countPlan (λ r. 1) m s at p ≡ countPlan isNew m s at p + countPlan isDuplicate m s at p
-answered-plan m s at (no r) = refl
-answered-plan m s at (taken k id) =
-    either (sameBytes k m) (λ t. either (heldAt (s .node) (s .ids) at id) (λ u. rw (t, u)) (λ u. rw (t, u))) (λ t. rw t)
+-- ---- what a call brings
+-- an admit brings m exactly where the host gives its word, the body is accepted, and m stands at the index
+module _ (body : List ℕ) (i : ℕ) (at : ℕ) where
+  pub carried-brought : (m : List ℕ) → acceptOf body ≡ checked.Fine → Placed body i m
+      → brought (admit body i true at) ≡ some m
+  unfolding brought
+  carried-brought m ok p = rw (ok, p .found, p .bytes)
 
-answered-at : (m : List ℕ) (s : State) (c : Call)
-    → countAt (λ r. 1) m s c ≡ countAt isNew m s c + countAt isDuplicate m s c
-answered-at m s (admit body i word at) = answered-plan m s at (planIn s body i word at)
-answered-at m s (heartbeat at) = refl
-answered-at m s (advertise topic windows out) = refl
-answered-at m s (ask body out) = refl
-answered-at m s (serve body out) = refl
+  brought-at : (m : List ℕ) (r : MessageAt) → messageAt body i ≡ r → standing body r ≡ some m → Placed body i m
+  brought-at m (At a e) q h = record { start = a; next = e; found = q; bytes = cc }
+  brought-at m (Count n) q h = clash (cc)
 
-pub new-or-duplicate : (m : List ℕ) (calls : List Call) (s : State)
-    → timesGot m calls s ≡ timesNew m calls s + timesDuplicate m calls s
-unfolding times
-new-or-duplicate m [] s = refl
-new-or-duplicate m (c ∷ cs) s = let a = answered-at m s c in let r = new-or-duplicate m cs (after c s) in omega arith
+  brought-accepted : (m : List ℕ) (r : Checked) → acceptOf body ≡ r
+      → whereAccepted r (standing body (messageAt body i)) ≡ some m → (acceptOf body ≡ checked.Fine) × Placed body i m
+  brought-accepted m checked.Fine e h = (e, brought-at m (messageAt body i) refl h)
+  brought-accepted m (checked.Refused why) e h = clash (cc)
+
+  pub brought-carried : (word : Bool) (m : List ℕ) → brought (admit body i word at) ≡ some m
+      → (word ≡ true) × (acceptOf body ≡ checked.Fine) × Placed body i m
+  unfolding brought
+  brought-carried true m h = let p = brought-accepted m (acceptOf body) refl h in (refl, p .0, p .1)
+  brought-carried false m h = clash (cc)
+
+brings-brought : (m : List ℕ) (o : Option (List ℕ)) → isThat m o ≡ true → o ≡ some m
+brings-brought m none h = clash (cc)
+brings-brought m (some k) h = ap some (same-equal k m h)
+
+-- a call brings m exactly where that is what it brings
+pub brings-that : (m : List ℕ) (c : Call) → (brings m c ≡ true) ↔ (brought c ≡ some m)
+brings-that m c = (brings-brought m (brought c), λ e. rw e (same-self m))
+
+pub brings-exactly : (m body : List ℕ) (i : ℕ) (word : Bool) (at : ℕ) → (brings m (admit body i word at) ≡ true)
+    ↔ ((word ≡ true) × (acceptOf body ≡ checked.Fine) × Placed body i m)
+brings-exactly m body i word at = (
+  λ h. brought-carried body i at word m (brings-that m (admit body i word at) .0 h),
+  λ p. brings-that m (admit body i word at) .1 (rw (p .0) (carried-brought body i at m (p .1) (p .2))),
+)
+
+-- ---- an admit takes what it brings, and nothing else
+abbrev TakesNone : Plan → Type 0
+TakesNone p = (r : Admit) × (p ≡ no r)
+
+module _ (s : State) (body : List ℕ) (i : ℕ) (word : Bool) (at : ℕ) where
+  -- a message that passes admission, where the state is well formed and the clock does not go back
+  pub brought-plan : (m id : List ℕ) → brought (admit body i word at) ≡ some m → givesId m id ≡ true
+      → lentOf (s .node) (s .ids) (s .messages) ≡ lent.Fine → s .node .clock ≤ at → planIn s body i word at ≡ taken m id
+  unfolding planned
+  brought-plan m id e own fine h =
+      let c = brought-carried body i at word m e in
+      let p = c .2 in
+      rw (c .0, fine, c .1, p .found, p .bytes) (fit-plan (s .node) at m id own h)
+
+  of-fit : (p : List ℕ) (r : Admission) → admissionOf p word ≡ r → word ≡ false → TakesNone (planFit (s .node) at p r)
+  of-fit p (admission.Unfit why) e h = (answer.Unfit why, refl)
+  of-fit p (admission.Fit a b c d) e h = let t = fit-word p word a b c d e in clash (cc)
+
+  of-at : (r : MessageAt) → cond word (standing body r) none ≡ none → TakesNone (planAt (s .node) at word body r)
+  of-at (At a e) h =
+      either word (λ t. clash (let q = rw t at h in cc))
+      (λ t. of-fit (between body a e) (admissionOf (between body a e) word) refl t)
+  of-at (Count n) h = (answer.NoMessage n, refl)
+
+  of-body : (r : Checked) → cond word (whereAccepted r (standing body (messageAt body i))) none ≡ none
+      → TakesNone (planBody (s .node) at word body i r)
+  of-body checked.Fine h = of-at (messageAt body i) h
+  of-body (checked.Refused why) h = (answer.Refused why, refl)
+
+  of-lent : (l : Lent) → cond word (whereAccepted (acceptOf body) (standing body (messageAt body i))) none ≡ none
+      → TakesNone
+      (onLent (λ (why : Fault). no (answer.Faulty why)) l (planBody (s .node) at word body i (acceptOf body)))
+  of-lent lent.Fine h = of-body (acceptOf body) h
+  of-lent (lent.Faulty why) h = (answer.Faulty why, refl)
+
+  -- where it brings nothing, it takes nothing
+  pub unbrought-plan : brought (admit body i word at) ≡ none → (r : Admit) × (planIn s body i word at ≡ no r)
+  unfolding planned brought
+  unbrought-plan h = of-lent (lentOf (s .node) (s .ids) (s .messages)) h

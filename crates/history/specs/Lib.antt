@@ -1,5 +1,5 @@
--- To be believed: History (calls, the states that they leave, readings, refusals, what was written, what is new),
--- Script (calls written out beside the messages that they carry). Theorems: Laws, ScriptLaws.
+-- To be believed: History (calls, the states that they leave, readings, refusals, what was written, what comes in, what
+-- is new), Script (calls written out beside the messages that they carry). Theorems: Laws, ScriptLaws.
 pub mod History
 pub mod Laws
 pub mod Script

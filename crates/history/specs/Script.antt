@@ -6,20 +6,10 @@ use mathlib.Core.Bool.{true, cond}
 use mathlib.Core.List.{List, [], _∷_}
 use Rattle.rows.specs.Ids.{sameBytes}
 use Rattle.protobuf.specs.declared.Checked.the-variants as checked
-use Rattle.protobuf.specs.Walk.{between}
-use Rattle.ids.specs.declared.MessageAt.the-variants.{At}
 use Rattle.schema.specs.Accept.{acceptOf}
-use Rattle.ids.specs.Ids.{messageAt}
 use Rattle.admission.specs.Admission.{givesId}
 use Rattle.node.specs.Gateway.{Gateway, isNew, afterAdmit, afterBeat}
-use Rattle.history.specs.History.{Call, admit, heartbeat, ask}
-
--- the message at an index of a body, byte for byte
-pub record Placed (s : List ℕ) (i : ℕ) (m : List ℕ) : Type 0 where
-  pub start : ℕ
-  pub next : ℕ
-  pub found : messageAt s i ≡ At start next
-  pub bytes : between s start next ≡ m
+use Rattle.history.specs.History.{Call, admit, heartbeat, ask, Placed}
 
 -- a body that is taken, and whose first message is m, which gives that id
 pub record Carries (body m id : List ℕ) : Type 0 where

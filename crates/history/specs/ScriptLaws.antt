@@ -1,81 +1,80 @@
--- Calls that are written out: each admit takes its message, they leave the gateway that is computed, and a message is
--- got and new in them as often as is computed.
+-- Calls that are written out: they leave the gateway that is computed, and a message is got and new in them as often
+-- as is computed.
 use Prim.Native.Nat.{ℕ, _+_, _≤_}
 use mathlib.Core.Path.{_≡_, refl, sym, ap, ap₂, subst, _∙_}
-use mathlib.Core.Bool.{true}
+use mathlib.Core.Bool.{true, cond}
 use mathlib.Core.List.{List, [], _∷_}
+use mathlib.Core.Option.{some}
+use native.Mathlib.Omega.{arith}
 use Rattle.basis.specs.Cases.{either}
-use Rattle.node.specs.declared.Lent.the-variants as lent
+use Rattle.rows.specs.Ids.{sameBytes}
 use Rattle.node.specs.Gateway.{started}
-use Rattle.node.specs.Calls.{taken, lentOf, planned, heldAt}
-use Rattle.node.specs.Laws.{fit-plan, is-new}
+use Rattle.node.specs.Calls.{taken, heldAt}
+use Rattle.node.specs.Laws.{is-new}
 use Rattle.history.specs.History.{State, gatewayOf, Settings, Fresh, admit, heartbeat, planIn, after, afterAll}
-use Rattle.history.specs.History.{countAt, times, timesGot, timesNew, isNew as newAnswer}
+use Rattle.history.specs.History.{brought, brings, timesGot, countAt, times, timesNew, timesDuplicate}
+use Rattle.history.specs.History.{isNew as newAnswer, isDuplicate}
 use Rattle.history.specs.Laws.{node-clock, Kept, after-keeps, fresh-keeps, fresh-starts, fresh-clock}
 use Rattle.history.specs.Laws.{admit-leaves}
-use Rattle.history.specs.Laws.{admit-clock, beat-leaves, beat-clock}
-use Rattle.history.specs.Script.{Carries, Act, gets, beats, asks, callsOf, gatewayAfter, gotBy, gotIn, newBy}
+use Rattle.history.specs.Laws.{admit-clock, beat-leaves, beat-clock, carried-brought, brought-plan}
+use Rattle.history.specs.Script.{Act, gets, beats, asks, callsOf, gatewayAfter, gotBy, gotIn, newBy}
 use Rattle.history.specs.Script.{newIn}
 use Rattle.history.specs.Script.{Written, nothing, got, beaten, asked}
 
--- ---- each admit takes the message that it is written with
-pub data Takes : List Act → State → Type 0 where
-  takes-none : {s : State} → Takes [] s
-  takes-got : {body m id : List ℕ} {at : ℕ} {xs : List Act} {s : State} → planIn s body 0 true at ≡ taken m id
-      → Takes xs (after (admit body 0 true at) s) → Takes (gets body m id at ∷ xs) s
-  takes-beat : {at : ℕ} {xs : List Act} {s : State} → Takes xs (after (heartbeat at) s) → Takes (beats at ∷ xs) s
-  takes-ask : {body out : List ℕ} {xs : List Act} {s : State} → Takes xs s → Takes (asks body out ∷ xs) s
-
 -- ---- what follows for a state that calls leave from a fresh one
 pub record Acted (xs : List Act) (s : State) : Type 0 where
-  pub takes : Takes xs s
   pub gateway : gatewayOf (afterAll (callsOf xs) s) ≡ gatewayAfter xs (gatewayOf s)
-  pub times-got : (m : List ℕ) → timesGot m (callsOf xs) s ≡ gotIn m xs
+  pub times-got : (m : List ℕ) → timesGot m (callsOf xs) ≡ gotIn m xs
   pub times-new : (m : List ℕ) → timesNew m (callsOf xs) s ≡ newIn m xs (gatewayOf s)
+  -- each time new or duplicate
+  pub answered : (m : List ℕ) → gotIn m xs ≡ timesNew m (callsOf xs) s + timesDuplicate m (callsOf xs) s
 
-carried-plan : (s : State) (body m id : List ℕ) (at : ℕ) → Carries body m id
-    → lentOf (s .node) (s .ids) (s .messages) ≡ lent.Fine → s .node .clock ≤ at → planIn s body 0 true at ≡ taken m id
-unfolding planned
-carried-plan s body m id at c fine h =
-    let p = c .placed in
-    rw (fine, c .accepted, p .found, p .bytes) (fit-plan (s .node) at m id (c .own) h)
+-- the counts of one admit
+module _ (s : State) (kept : Kept s) (body m id : List ℕ) (at : ℕ) (b : brought (admit body 0 true at) ≡ some m)
+    (e : planIn s body 0 true at ≡ taken m id) (k : List ℕ) where
+  admit-got : cond (brings k (admit body 0 true at)) 1 0 ≡ gotBy k (gets body m id at)
+  admit-got = rw b
 
--- the count of one admit
-module _ (s : State) (kept : Kept s) (body m id : List ℕ) (at : ℕ) (e : planIn s body 0 true at ≡ taken m id) where
-  admit-got : (k : List ℕ) → countAt (λ a. 1) k s (admit body 0 true at) ≡ gotBy k (gets body m id at)
-  admit-got k = rw e
-
-  admit-new : (k : List ℕ) → countAt newAnswer k s (admit body 0 true at) ≡ newBy k (gets body m id at) (gatewayOf s)
-  admit-new k =
+  admit-new : countAt newAnswer k s (admit body 0 true at) ≡ newBy k (gets body m id at) (gatewayOf s)
+  admit-new =
       let n = is-new (s .node) (s .ids) (s .messages) (kept .fine) at id in
-      rw (e, n) (either (heldAt (s .node) (s .ids) at id) (λ t. rw t) (λ t. rw t))
+      rw (b, e, n) (either (heldAt (s .node) (s .ids) at id) (λ t. rw t) (λ t. rw t))
+
+  admit-answered : gotBy k (gets body m id at) ≡ countAt newAnswer k s (admit body 0 true at)
+      + countAt isDuplicate k s (admit body 0 true at)
+  admit-answered =
+      rw (b, e)
+      (either (sameBytes m k) (λ t. either (heldAt (s .node) (s .ids) at id) (λ u. rw (t, u)) (λ u. rw (t, u)))
+      (λ t. rw t))
 
 -- an ask
 ask-kept : (xs : List Act) (s : State) (body out : List ℕ) → Acted xs s → Acted (asks body out ∷ xs) s
-unfolding callsOf gatewayAfter gotIn newIn afterAll times after
+unfolding callsOf gatewayAfter gotIn newIn afterAll times timesGot brought after
 ask-kept xs s body out rest =
     record {
-      takes = takes-ask (rest .takes);
       gateway = rest .gateway;
       times-got = λ k. ap (λ (n : ℕ). 0 + n) (rest .times-got k);
       times-new = λ k. ap (λ (n : ℕ). 0 + n) (rest .times-new k);
+      answered = λ k. let r = rest .answered k in omega arith;
     }
 
 pub acted : (xs : List Act) (s : State) → Kept s → Written (gatewayOf s .clock) xs → Acted xs s
-unfolding callsOf gatewayAfter gotIn newIn afterAll times
-acted [] s kept nothing = record { takes = takes-none; gateway = refl; times-got = λ m. refl; times-new = λ m. refl }
+unfolding callsOf gatewayAfter gotIn newIn afterAll times timesGot brought
+acted [] s kept nothing = record { gateway = refl; times-got = λ m. refl; times-new = λ m. refl; answered = λ m. refl }
 acted (gets body m id at ∷ xs) s kept (got clock now c forward w) =
-    let e = carried-plan s body m id at c (kept .fine) (subst (λ (k : ℕ). k ≤ at) (node-clock s) forward) in
+    let b = carried-brought body 0 at m (c .accepted) (c .placed) in
+    let e = brought-plan s body 0 true at m id b (c .own) (kept .fine)
+    (subst (λ (k : ℕ). k ≤ at) (node-clock s) forward) in
     let a = admit body 0 true at in
     let g = admit-leaves s body 0 true at m id e (kept .typed) in
     let later = sym (admit-clock s body 0 true at m id e (kept .typed)) in
     let rest = acted xs (after a s) (after-keeps a s kept) (subst (λ (k : ℕ). Written k xs) later w) in
     record {
-      takes = takes-got e (rest .takes);
       gateway = rest .gateway ∙ ap (gatewayAfter xs) g;
-      times-got = λ k. ap₂ (λ (a b : ℕ). a + b) (admit-got s kept body m id at e k) (rest .times-got k);
-      times-new = λ k. ap₂ (λ (a b : ℕ). a + b) (admit-new s kept body m id at e k) (rest .times-new k
+      times-got = λ k. ap₂ (λ (a b : ℕ). a + b) (admit-got s kept body m id at b e k) (rest .times-got k);
+      times-new = λ k. ap₂ (λ (a b : ℕ). a + b) (admit-new s kept body m id at b e k) (rest .times-new k
           ∙ ap (newIn k xs) g);
+      answered = λ k. let r = rest .answered k in let o = admit-answered s kept body m id at b e k in omega arith;
     }
 acted (beats at ∷ xs) s kept (beaten clock now forward w) =
     let f = subst (λ (k : ℕ). k ≤ at) (node-clock s) forward in
@@ -84,10 +83,10 @@ acted (beats at ∷ xs) s kept (beaten clock now forward w) =
     let rest = acted xs (after (heartbeat at) s) (after-keeps (heartbeat at) s kept)
     (subst (λ (k : ℕ). Written k xs) later w) in
     record {
-      takes = takes-beat (rest .takes);
       gateway = rest .gateway ∙ ap (gatewayAfter xs) g;
       times-got = λ k. ap (λ (n : ℕ). 0 + n) (rest .times-got k);
       times-new = λ k. ap (λ (n : ℕ). 0 + n) (rest .times-new k ∙ ap (newIn k xs) g);
+      answered = λ k. let r = rest .answered k in omega arith;
     }
 acted (asks body out ∷ xs) s kept (asked w) = ask-kept xs s body out (acted xs s kept w)
 
