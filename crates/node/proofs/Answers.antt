@@ -18,12 +18,15 @@ use Rattle.seen.specs.Entries.{until}
 use Rattle.seen.specs.State.{wellFormed as seenWellFormed, fresh as noIds, spent, ringOf as seenRingOf}
 use Rattle.seen.specs.StateLaws.{spent-in, sound-dropped}
 use Rattle.seen.specs.Calls.{capOf, wholeRows, lentOf as seenLentOf, heldIn, cleaned, entered, enteredStore}
-use Rattle.seen.specs.Laws.{lent-sound}
+use Rattle.seen.specs.Unique.{Enters}
+use Rattle.seen.specs.Laws.{lent-sound, sound-enters, enters-can}
 use Rattle.mcache.specs.declared.MessageCache.{MessageCache}
 use Rattle.mcache.specs.declared.Lent.the-variants as cacheLent
+use Rattle.mcache.specs.declared.PutDone.{PutDone}
 use Rattle.mcache.specs.declared.Start.the-variants as cacheStart
-use Rattle.mcache.specs.State.{legal, wellFormed as cacheWellFormed, fresh as noMessages, ringOf}
-use Rattle.mcache.specs.StateLaws.{fine-tests as cache-tests}
+use Rattle.mcache.specs.State.{legal, wellFormed as cacheWellFormed, fresh as noMessages, Usable}
+use Rattle.mcache.specs.Unique.{Keeps, Forms}
+use Rattle.mcache.specs.GuardLaws.{keep-usable, form-fit}
 use Rattle.mcache.specs.Calls.{startAnswer as cacheStartAnswer, startCache, lentOf as cacheLentOf, keptUnder, storedUnder, shifted}
 use Rattle.protobuf.specs.declared.WireError.{WireError}
 use Rattle.protobuf.specs.declared.Checked.the-variants as checked
@@ -31,24 +34,25 @@ use Rattle.protobuf.specs.Walk.{between}
 use Rattle.ids.specs.declared.MessageAt.the-variants as found
 use Rattle.schema.specs.Accept.{acceptOf}
 use Rattle.ids.specs.Ids.{messageAt, idBytes}
-use Rattle.ids.specs.IdLaws.{id-fits}
 use Rattle.admission.specs.declared.Unfit.{Unfit}
 use Rattle.admission.specs.declared.Admission.the-variants as admission
 use Rattle.admission.specs.Admission.{admissionOf}
-use Rattle.admission.specs.AdmissionLaws.{fit-parts, fit-limits, fit-id}
+use Rattle.admission.specs.AdmissionLaws.{fit-limits, fit-id}
 use Rattle.node.specs.declared.Node.{Node}
-use Rattle.node.specs.declared.Start.{Start}
+use Rattle.node.specs.declared.Started.{Started}
 use Rattle.node.specs.declared.Start.the-variants as start
 use Rattle.node.specs.declared.Lent.the-variants as lent
 use Rattle.node.specs.declared.Fault.{Fault}
 use Rattle.node.specs.declared.Fault.the-variants as fault
 use Rattle.node.specs.State.{legalSettings, freshNode, risesFrom, seenFits, wellFormed, Ready, seenRing}
 use Rattle.node.specs.declared.Admit.{Admit}
+use Rattle.node.specs.declared.Admitted.{Admitted}
 use Rattle.node.specs.declared.Admit.the-variants as admit
 use Rattle.node.specs.declared.Beat.the-variants as beat
 use Rattle.node.specs.declared.Advertise.{Advertise}
 use Rattle.node.specs.declared.Advertise.the-variants as advertise
 use Rattle.node.specs.Gateway.{marked}
+use Rattle.node.specs.Unique.{Starts, Admits, Beats, Advertises}
 use Rattle.node.specs.Calls.{startAnswer, startNode, rightSizes, lentOf, laterNode, Plan, no, taken, planFit, planned, swept, heldAt, admitAnswer, admitNode, admitSeen, admitCache, beatAnswer, beatNode, advertiseBytes, advertised, advertiseAnswer, advertiseLeft}
 use Rattle.node.specs.StateLaws.{room-cap, room-whole, fine-tests, lent-ready}
 
@@ -71,26 +75,26 @@ module _ (ttl m h x : ℕ) where
   unfolding cacheStartAnswer
   cache-legal e = either (legal h x) (λ t. t) (λ t. clash (let z = simp t at e in cc))
 
-  refused-as : legalSettings m h x ≡ false → {a : Start} {n : Node} → (a ≡ start.BadSetting) × (n ≡ freshNode 0 0 1 0) → (a ≡ startAnswer m h x) × (n ≡ startNode ttl m h x)
+  refused-as : legalSettings m h x ≡ false → {r : Started} → (r .answer ≡ start.BadSetting) × (r .node ≡ freshNode 0 0 1 0) → Starts ttl m h x r
   unfolding startAnswer startNode
-  refused-as e w = (rw e (w .0), rw e (w .1))
+  refused-as e w = record { answer = rw e (w .0); node = rw e (w .1) }
 
-  pub start-refused : cacheStart.BadSetting ≡ cacheStartAnswer h x → {a : Start} {n : Node} → (a ≡ start.BadSetting) × (n ≡ freshNode 0 0 1 0) → (a ≡ startAnswer m h x) × (n ≡ startNode ttl m h x)
+  pub start-refused : cacheStart.BadSetting ≡ cacheStartAnswer h x → {r : Started} → (r .answer ≡ start.BadSetting) × (r .node ≡ freshNode 0 0 1 0) → Starts ttl m h x r
   unfolding legalSettings
   start-refused e w = refused-as (either (leb m 256) (λ t. simp (t, cache-illegal e)) (λ t. simp t)) w
 
-  pub start-many : 256 < m → {a : Start} {n : Node} → (a ≡ start.BadSetting) × (n ≡ freshNode 0 0 1 0) → (a ≡ startAnswer m h x) × (n ≡ startNode ttl m h x)
+  pub start-many : 256 < m → {r : Started} → (r .answer ≡ start.BadSetting) × (r .node ≡ freshNode 0 0 1 0) → Starts ttl m h x r
   unfolding legalSettings
   start-many k w = refused-as (simp (lt-leb m 256 k)) w
 
   pub start-fits : cacheStart.Started ≡ cacheStartAnswer h x → m ≤ 256 → (s : SeenCache) (c : MessageCache) → s ≡ noIds → c ≡ startCache h x
-      → (start.Started ≡ startAnswer m h x) × (_≡_ {A = Node} (record { ttl = ttl; «max_seen» = m; clock = 0; seen = s; cache = c }) (startNode ttl m h x))
+      → Starts ttl m h x (record { answer = start.Started; node = record { ttl = ttl; «max_seen» = m; clock = 0; seen = s; cache = c } })
   unfolding startAnswer startNode legalSettings startCache
   start-fits e k s c p q =
       let g = cache-legal e in
       let l = le-leb m 256 k in
       let r : c ≡ noMessages h x = simp g at q in
-      (simp (l, g), simp (l, g) (fresh-is ttl m h x s c p r))
+      record { answer = simp (l, g); node = simp (l, g) (fresh-is ttl m h x s c p r) }
 
 -- ---- whether the ids seen are well formed
 module _ (n : Node) (ss : List ℕ) (room : length ss ≡ n .«max_seen» * 129) where
@@ -201,15 +205,7 @@ module _ (n : Node) (ss cs : List ℕ) where
       unfolding lentOf capOf rightSizes wellFormed
       lent-fine e h = let f = cache-fine e in simp (le-ltb (length ss / 129) (n .«max_seen») a, same, f .0, f .1, h)
 
--- ---- a node that was tested: its expiries and its windows can be walked over
-module _ (n : Node) (ss cs : List ℕ) (h : lent.Fine ≡ lentOf n ss cs) where
-  pub fine-expiries : length (n .seen .expiry) ≡ 256 → length (n .seen .len) ≡ 256 → InStore (seenRing n) (n .seen .expiry)
-  fine-expiries y z = let t = fine-tests n ss cs (sym h) in fits-ring n ss (t .room) (sym (t .ids)) y z
-
-  pub fine-windows : length (n .cache .window) ≡ 64 → InStore (ringOf (n .cache)) (n .cache .window)
-  fine-windows w = let t = cache-tests (n .cache) cs (fine-tests n ss cs (sym h) .messages) in record { starts = t .starts; within = t .within; size = omega (arith, t .few) }
-
--- and it is ready for every step
+-- ---- a node that was tested is ready for every step
 module _ (n : Node) (ss cs : List ℕ) (h : lent.Fine ≡ lentOf n ss cs)
     (e : length (n .seen .expiry) ≡ 256) (l : length (n .seen .len) ≡ 256)
     (g : length (n .cache .generation) ≡ 64) (w : length (n .cache .window) ≡ 64) (m : length (n .cache .len) ≡ 64) (i : length (n .cache .«id_len») ≡ 64) (r : length (n .cache .ids) ≡ 8192) where
@@ -217,15 +213,20 @@ module _ (n : Node) (ss cs : List ℕ) (h : lent.Fine ≡ lentOf n ss cs)
   tested = lent-ready n ss cs (sym h) (e, l) (record { generations = g; windows = w; lengths = m; id-lengths = i; id-room = r })
 
 -- ---- admit
-abbrev Admits : Node → List ℕ → List ℕ → ℕ → Plan → Admit → Node → List ℕ → List ℕ → Type 0
-Admits n ss cs at plan a r s t = (a ≡ admitAnswer n ss at plan) × ((r ≡ admitNode n ss at plan) × ((s ≡ admitSeen n ss at plan) × (t ≡ admitCache n ss cs at plan)))
+abbrev AdmitsBy : Node → List ℕ → List ℕ → ℕ → Plan → Admit → Node → List ℕ → List ℕ → Type 0
+AdmitsBy n ss cs at plan a r s t = (a ≡ admitAnswer n ss at plan) × ((r ≡ admitNode n ss at plan) × ((s ≡ admitSeen n ss at plan) × (t ≡ admitCache n ss cs at plan)))
 
 module _ (n : Node) (ss cs : List ℕ) (at : ℕ) where
-  pub admits-no : (plan : Plan) (a : Admit) → plan ≡ no a → Admits n ss cs at plan a n ss cs
+  pub admits-no : (plan : Plan) (a : Admit) → plan ≡ no a → AdmitsBy n ss cs at plan a n ss cs
   admits-no plan a e = (rw e, (rw e, (rw e, rw e)))
 
-  pub admits-as : (plan other : Plan) {a : Admit} {r : Node} {s t : List ℕ} → plan ≡ other → Admits n ss cs at other a r s t → Admits n ss cs at plan a r s t
+  pub admits-as : (plan other : Plan) {a : Admit} {r : Node} {s t : List ℕ} → plan ≡ other → AdmitsBy n ss cs at other a r s t → AdmitsBy n ss cs at plan a r s t
   admits-as plan other e p = (rw e (p .0), (rw e (p .1 .0), (rw e (p .1 .1 .0), rw e (p .1 .1 .1))))
+
+  -- as the contract has it
+  pub admits-all : (body : List ℕ) (i : ℕ) (word : Bool) (r : Admitted) {s t : List ℕ}
+      → AdmitsBy n ss cs at (planned n ss cs body i word at) (r .answer) (r .node) s t → Admits n ss cs body i word at r s t
+  admits-all body i word r p = record { answer = p .0; node = p .1 .0; seen = p .1 .1 .0; cache = p .1 .1 .1 }
 
   -- the ids that are seen after the clean-up, and a key in its marked form
   module _ (d : SeenCache) (ed : d ≡ cleaned (n .«max_seen») at (n .seen)) where
@@ -236,13 +237,21 @@ module _ (n : Node) (ss cs : List ℕ) (at : ℕ) where
         (sound-dropped (n .«max_seen») (spent at (inUse (seenRing n) (n .seen .expiry))) (n .seen) ss s
         (spent-in at (seenRing n) (n .seen .expiry)))
 
+    -- an id enters
+    pub swept-enters : Ready n ss cs → (key : List ℕ) → length key ≤ 129 → (x : ℕ) (s : SeenCache) (left : List ℕ)
+        → Enters (n .«max_seen») (n .«max_seen») x d ss key s left
+        → (s ≡ entered (n .«max_seen») (n .«max_seen») (length key) x d) × (left ≡ enteredStore (n .«max_seen») (n .«max_seen») d ss key)
+    swept-enters y key k x s left e =
+        let m = n .«max_seen» in
+        enters-can m m x d ss key s left (sound-enters m m d ss key (omega arith) k (swept-sound (y .rows)) (y .few)) e
+
     module _ (key : List ℕ) (ek : key ≡ marked (drop 1 key)) where
       held-is : heldIn (n .«max_seen») d ss key ≡ heldAt n ss at (drop 1 key)
       unfolding heldAt swept
       held-is = ap (λ (x : SeenCache). heldIn (n .«max_seen») x ss key) ed ∙ ap (λ (k : List ℕ). heldIn (n .«max_seen») (cleaned (n .«max_seen») at (n .seen)) ss k) ek
 
       pub admits-held : (part : List ℕ) (h : Bool) → h ≡ heldIn (n .«max_seen») d ss key → h ≡ true → (r : Node) → r ≡ laterNode at d (n .cache) n
-          → Admits n ss cs at (taken part (drop 1 key)) admit.Duplicate r ss cs
+          → AdmitsBy n ss cs at (taken part (drop 1 key)) admit.Duplicate r ss cs
       unfolding swept
       admits-held part h e t r f =
           let k : heldAt n ss at (drop 1 key) ≡ true = sym held-is ∙ sym e ∙ t in
@@ -255,7 +264,7 @@ module _ (n : Node) (ss cs : List ℕ) (at : ℕ) where
       pub admits-new : (part : List ℕ) (h : Bool) → h ≡ heldIn (n .«max_seen») d ss key → h ≡ false → (x : ℕ) → x ≡ until at (n .ttl)
           → (s : SeenCache) (ss2 : List ℕ) → (s ≡ entered (n .«max_seen») (n .«max_seen») (length key) x d) × (ss2 ≡ enteredStore (n .«max_seen») (n .«max_seen») d ss key)
           → (c : MessageCache) (cs2 : List ℕ) → (c ≡ keptUnder part (take (length key - 1) (drop 1 key)) (n .cache)) × (cs2 ≡ storedUnder (n .cache) cs part (take (length key - 1) (drop 1 key)))
-          → (r : Node) → r ≡ laterNode at s c n → Admits n ss cs at (taken part (drop 1 key)) admit.New r ss2 cs2
+          → (r : Node) → r ≡ laterNode at s c n → AdmitsBy n ss cs at (taken part (drop 1 key)) admit.New r ss2 cs2
       unfolding swept
       admits-new part h e t x ex s ss2 ws c cs2 wc r f =
           let m = n .«max_seen» in
@@ -282,6 +291,13 @@ key-long key e = let l = ap length e in omega arith
 pub key-small : (key : List ℕ) → key ≡ marked (drop 1 key) → length key ≤ 129 → length (take (length key - 1) (drop 1 key)) ≤ 128
 key-small key e h = let l = ap length e in rw (take-all (length key - 1) (drop 1 key) (rw (length-drop 1 key) (omega arith))) (omega arith)
 
+-- what is behind the mark is the id under which a message is kept
+pub keeps-under : (c : MessageCache) (cs part key : List ℕ) → Usable c cs → length part ≤ 4096 → key ≡ marked (drop 1 key)
+    → length key ≤ 129 → (r : PutDone) (left : List ℕ) → Keeps c cs part (take (length key - 1) (drop 1 key)) r left
+    → (r .cache ≡ keptUnder part (take (length key - 1) (drop 1 key)) c) × (left ≡ storedUnder c cs part (take (length key - 1) (drop 1 key)))
+keeps-under c cs part key u p e k r left w =
+    keep-usable c cs part (take (length key - 1) (drop 1 key)) p (key-small key e k) u r left w .1
+
 -- ---- the message in a part
 pub plan-unfit : (g : Node) (at : ℕ) (p : List ℕ) (word : Bool) (why : Unfit) → admission.Unfit why ≡ admissionOf p word → planFit g at p (admissionOf p word) ≡ no (admit.Unfit why)
 plan-unfit g at p word why e = rw (← e)
@@ -293,27 +309,25 @@ module _ (p : List ℕ) (word : Bool) (a e b f : ℕ) (h : admissionOf p word �
   plan-taken : (g : Node) (at : ℕ) → g .clock ≤ at → planFit g at p (admissionOf p word) ≡ taken p (idBytes p a e b f)
   plan-taken g at k = rw (h, le-ltb at (g .clock) k)
 
-  pub form-room : ((a ≤ e) × (e ≤ length p) × (b ≤ f) × (f ≤ length p)) × (length (idBytes p a e b f) ≤ 128)
-  form-room =
-      let w = id-fits p a e b f (fit-parts p word a e b f h) in
-      ((w .from .0, w .from .1, w .seqno .0, w .seqno .1), fit-id p word a e b f h .1)
-
   -- the id was formed behind the mark
-  module _ (n : ℕ) (first y : List ℕ) (z : length first ≡ 128) (k : (n ≡ length (idBytes p a e b f)) × (y ≡ sets first 0 (idBytes p a e b f))) where
+  module _ (n : ℕ) (first y : List ℕ) (z : length first ≡ 128) (k : Forms p a e b f first n y) where
+    counted : (n ≡ length (idBytes p a e b f)) × (y ≡ sets first 0 (idBytes p a e b f))
+    counted = form-fit p word a e b f first n y h (let l = fit-id p word a e b f h in omega (arith, l .1)) k
+
     abbrev key : List ℕ
     key = take (n + 1) (1 ∷ (y ++ []))
 
     formed : take n y ≡ idBytes p a e b f
     formed =
         let l = fit-id p word a e b f h in
-        rw (k .1, sets-eq (idBytes p a e b f) first 0 (omega arith)) (take-at (idBytes p a e b f) (drop (0 + length (idBytes p a e b f)) first) n (sym (k .0)))
+        rw (counted .1, sets-eq (idBytes p a e b f) first 0 (omega arith)) (take-at (idBytes p a e b f) (drop (0 + length (idBytes p a e b f)) first) n (sym (counted .0)))
 
     pub formed-small : n ≤ 128
-    formed-small = let l = fit-id p word a e b f h in omega (arith, k .0)
+    formed-small = let l = fit-id p word a e b f h in omega (arith, counted .0)
 
     pub formed-room : n + 1 ≤ suc (length (y ++ []))
     formed-room =
-        let l : length y ≡ length first = ap length (k .1) ∙ length-sets first 0 (idBytes p a e b f) in
+        let l : length y ≡ length first = ap length (counted .1) ∙ length-sets first 0 (idBytes p a e b f) in
         let s = formed-small in
         rw (append-nil y) (omega arith)
 
@@ -321,13 +335,13 @@ module _ (p : List ℕ) (word : Bool) (a e b f : ℕ) (h : admissionOf p word �
     formed-key = rw (append-nil y, add-one n) (ap (λ (x : List ℕ). 1 ∷ x) formed)
 
     pub formed-counts : n + 1 ≡ length key
-    formed-counts = let l = ap length formed-key in omega (arith, k .0)
+    formed-counts = let l = ap length formed-key in omega (arith, counted .0)
 
     pub formed-fits : (length p ≤ 4096) × (length key ≤ 129) × (key ≡ marked (drop 1 key))
     formed-fits = (fit-limits p word a e b f h .small, omega (arith, formed-counts, formed-small), formed-key ∙ ap (λ (x : List ℕ). marked (drop 1 x)) (sym formed-key))
 
     pub admits-formed : (g : Node) (ss cs : List ℕ) (at : ℕ) → g .clock ≤ at → {r : Admit} {g2 : Node} {s t : List ℕ}
-        → Admits g ss cs at (taken p (drop 1 key)) r g2 s t → Admits g ss cs at (planFit g at p (admissionOf p word)) r g2 s t
+        → AdmitsBy g ss cs at (taken p (drop 1 key)) r g2 s t → AdmitsBy g ss cs at (planFit g at p (admissionOf p word)) r g2 s t
     admits-formed g ss cs at c w =
         admits-as g ss cs at (planFit g at p (admissionOf p word)) (taken p (drop 1 key)) (plan-taken g at c ∙ ap (λ (x : List ℕ). taken p (drop 1 x)) (sym formed-key)) w
 
@@ -352,35 +366,38 @@ module _ (n : Node) (ss cs body : List ℕ) (i : ℕ) (word : Bool) (at : ℕ) w
 
 -- ---- heartbeat
 module _ (n : Node) (ss cs : List ℕ) (at : ℕ) where
-  pub beat-faulty : (why : Fault) → lent.Faulty why ≡ lentOf n ss cs → (beat.Faulty why ≡ beatAnswer n ss cs at) × (n ≡ beatNode n ss cs at)
+  pub beat-faulty : (why : Fault) → lent.Faulty why ≡ lentOf n ss cs → Beats n ss cs at (record { answer = beat.Faulty why; node = n })
   unfolding beatAnswer beatNode
-  beat-faulty why e = (rw (← e), rw (← e))
+  beat-faulty why e = record { answer = rw (← e); node = rw (← e) }
 
-  pub beat-back : lent.Fine ≡ lentOf n ss cs → at < n .clock → (beat.ClockBack (n .clock) ≡ beatAnswer n ss cs at) × (n ≡ beatNode n ss cs at)
+  pub beat-back : lent.Fine ≡ lentOf n ss cs → at < n .clock → Beats n ss cs at (record { answer = beat.ClockBack (n .clock); node = n })
   unfolding beatAnswer beatNode
-  beat-back e k = let t = lt-ltb at (n .clock) k in (rw (← e, t), rw (← e, t))
+  beat-back e k = let t = lt-ltb at (n .clock) k in record { answer = rw (← e, t); node = rw (← e, t) }
 
   pub beat-done : lent.Fine ≡ lentOf n ss cs → n .clock ≤ at → (s : SeenCache) → s ≡ cleaned (n .«max_seen») at (n .seen) → (c : MessageCache) → c ≡ shifted (n .cache)
-      → (r : Node) → r ≡ laterNode at s c n → (beat.Done ≡ beatAnswer n ss cs at) × (r ≡ beatNode n ss cs at)
+      → (r : Node) → r ≡ laterNode at s c n → Beats n ss cs at (record { answer = beat.Done; node = r })
   unfolding beatAnswer beatNode swept
   beat-done e k s es c ec r f =
       let t = le-ltb at (n .clock) k in
-      (rw (← e, t), rw (← e, t) (f ∙ ap (λ (x : SeenCache). laterNode at x c n) es ∙ ap (λ (x : MessageCache). laterNode at (cleaned (n .«max_seen») at (n .seen)) x n) ec))
+      record {
+        answer = rw (← e, t);
+        node = rw (← e, t) (f ∙ ap (λ (x : SeenCache). laterNode at x c n) es ∙ ap (λ (x : MessageCache). laterNode at (cleaned (n .«max_seen») at (n .seen)) x n) ec);
+      }
 
 -- ---- advertise
 module _ (n : Node) (ss cs topic : List ℕ) (windows : ℕ) (out : List ℕ) where
-  abbrev Advertises : Advertise → List ℕ → Type 0
-  Advertises a o = (a ≡ advertiseAnswer n ss cs topic windows out) × ((n ≡ n) × (o ≡ advertiseLeft n ss cs topic windows out))
+  abbrev Advertising : Advertise → List ℕ → Type 0
+  Advertising a o = Advertises n ss cs topic windows out (record { answer = a; node = n }) o
 
-  pub advertise-faulty : (why : Fault) → lent.Faulty why ≡ lentOf n ss cs → Advertises (advertise.Faulty why) out
+  pub advertise-faulty : (why : Fault) → lent.Faulty why ≡ lentOf n ss cs → Advertising (advertise.Faulty why) out
   unfolding advertiseAnswer advertiseLeft
-  advertise-faulty why e = (rw (← e), (refl, rw (← e)))
+  advertise-faulty why e = record { answer = rw (← e); node = refl; buffer = rw (← e) }
 
-  pub advertise-long : lent.Fine ≡ lentOf n ss cs → 1024 < length topic → Advertises (advertise.TopicTooLong (length topic)) out
+  pub advertise-long : lent.Fine ≡ lentOf n ss cs → 1024 < length topic → Advertising (advertise.TopicTooLong (length topic)) out
   unfolding advertiseAnswer advertiseLeft
-  advertise-long e k = let t = lt-ltb 1024 (length topic) k in (rw (← e, t), (refl, rw (← e, t)))
+  advertise-long e k = let t = lt-ltb 1024 (length topic) k in record { answer = rw (← e, t); node = refl; buffer = rw (← e, t) }
 
   pub advertise-told : lent.Fine ≡ lentOf n ss cs → length topic ≤ 1024 → (r : Advertise) (o : List ℕ)
-      → (r ≡ advertised (answer (advertiseBytes n cs topic windows) out)) × (o ≡ written (advertiseBytes n cs topic windows) out) → Advertises r o
+      → (r ≡ advertised (answer (advertiseBytes n cs topic windows) out)) × (o ≡ written (advertiseBytes n cs topic windows) out) → Advertising r o
   unfolding advertiseAnswer advertiseLeft
-  advertise-told e k r o w = let t = le-ltb 1024 (length topic) k in (rw (← e, t) (w .0), (refl, rw (← e, t) (w .1)))
+  advertise-told e k r o w = let t = le-ltb 1024 (length topic) k in record { answer = rw (← e, t) (w .0); node = refl; buffer = rw (← e, t) (w .1) }

@@ -66,5 +66,5 @@ pub seen-or-not : (ring : Ring) (lens st id key : List ℕ) (r : ℕ) → key �
     → leb (ring .count) r ≡ cond (among (marked id) (idsIn 129 ring lens st)) false true
 seen-or-not ring lens st id key r k e =
     let w : among (marked id) (idsIn 129 ring lens st) ≡ ltb r (ring .count) =
-    sym (ap (λ (x : List ℕ). among x (idsIn 129 ring lens st)) k) ∙ find-among 129 ring lens st key 0 r (omega arith) e in
+    sym (ap (λ (x : List ℕ). among x (idsIn 129 ring lens st)) k) ∙ find-among 129 ring lens st key 0 r e in
     either (ltb r (ring .count)) (λ t. rw (w, t) (lt-leb (ring .count) r (ltb-true r (ring .count) t))) (λ t. rw (w, t) (le-leb (ring .count) r (ltb-false r (ring .count) t)))

@@ -1,5 +1,5 @@
 -- What a node and its two stores hold, and when they are well formed.
-use Prim.Native.Nat.{ℕ, _*_}
+use Prim.Native.Nat.{ℕ, _*_, _≤_}
 use mathlib.Core.Path.{_≡_}
 use mathlib.Core.List.{List, [], _∷_}
 use mathlib.Core.Bool.{Bool, true, _&&_}
@@ -55,6 +55,7 @@ wellFormed n ss cs = cacheWellFormed (n .cache) cs && seenFits n ss
 -- ---- what the steps need of a node that was tested
 pub record Ready (n : Node) (ss cs : List ℕ) : Type 0 where
   pub seen-room : length ss ≡ n .«max_seen» * idSize
+  pub few : n .«max_seen» ≤ maxIds
   pub rows : Sound idSize (seenRing n) (n .seen .len) ss
   pub expiries : InStore (seenRing n) (n .seen .expiry)
   pub kept : Usable (n .cache) cs

@@ -81,6 +81,7 @@ module _ (n : Node) (ss cs : List ℕ) where
       let r = s .rows in
       record {
         seen-room = t .room;
+        few = t .few;
         rows = s;
         expiries = record { starts = r .starts; within = r .within; size = omega (arith, z .0, t .few) };
         kept = lent-kept (n .cache) cs (t .messages) y;

@@ -25,11 +25,12 @@ ghost use Rattle.node.specs.Parts.{partsIn, Parts};
 ghost use Rattle.seen.specs.State.{idSize};
 ghost use Rattle.mcache.specs.State.{messageSize, messageIdSize, maxMessages, messageIn, Listed, Usable};
 ghost use Rattle.node.specs.Gateway.{marked, advertisement, request};
+ghost use Rattle.node.specs.Unique.{Starts, Admits, Beats, Advertises, Asks, Serves};
 ghost use Rattle.node.specs.State.{seenRing, Ready, risesFrom, seenFits, freshNode};
-ghost use Rattle.node.specs.Calls.{startAnswer, startNode, lentOf, laterNode, taken, planFit, planned, swept, heldAt};
-ghost use Rattle.node.specs.Calls.{admitAnswer, admitNode, admitSeen, admitCache, beatAnswer, beatNode, toldIn};
-ghost use Rattle.node.specs.Calls.{advertiseBytes, advertised, advertiseAnswer, advertiseLeft, unseenFrom, unseenOf, offered, askBytes, asked, askAnswer, askLeft};
-ghost use Rattle.node.specs.Calls.{rowsFor, cachedOf, maxRpcSize, wanted, replyTo, replyBytes, serveAnswer, serveLeft};
+ghost use Rattle.node.specs.Calls.{lentOf, laterNode, taken, planFit, swept, heldAt};
+ghost use Rattle.node.specs.Calls.{admitAnswer, admitNode, admitSeen, admitCache, toldIn};
+ghost use Rattle.node.specs.Calls.{advertiseBytes, advertised, unseenFrom, unseenOf, offered, askBytes, asked};
+ghost use Rattle.node.specs.Calls.{rowsFor, cachedOf, maxRpcSize, wanted, replyTo, replyBytes};
 use admission::Admission;
 use admission::MAX_TOPIC_SIZE;
 use admission::Unfit;
@@ -359,8 +360,7 @@ fn emit_advertisement(
 impl Node {
     // A node that holds nothing. Settings out of range are 40.
     pub fn start(ttl: u64, max_seen: usize, history_len: usize, max_messages: usize) -> Started
-        ensures { λ r. ⌜ r .answer ≡ startAnswer «max_seen» «history_len» «max_messages» ⌝ }
-        ensures { λ r. ⌜ r .node ≡ startNode ttl «max_seen» «history_len» «max_messages» ⌝ }
+        ensures { λ r. ⌜ Starts ttl «max_seen» «history_len» «max_messages» r ⌝ }
     {
         let c = MessageCache::new(history_len, max_messages);
         let cache = c.cache;
@@ -555,10 +555,7 @@ impl Node {
         verified: bool,
         at: u64,
     ) -> Admitted
-        ensures { λ r. ⌜ r .answer ≡ admitAnswer self (now («seen_store» .entry)) at (planned self (now («seen_store» .entry)) (now («cache_store» .entry)) (now (body .entry)) index verified at) ⌝ }
-        ensures { λ r. ⌜ r .node ≡ admitNode self (now («seen_store» .entry)) at (planned self (now («seen_store» .entry)) (now («cache_store» .entry)) (now (body .entry)) index verified at) ⌝ }
-        ensures { λ _. ⌜ now («seen_store» .exit) ≡ admitSeen self (now («seen_store» .entry)) at (planned self (now («seen_store» .entry)) (now («cache_store» .entry)) (now (body .entry)) index verified at) ⌝ }
-        ensures { λ _. ⌜ now («cache_store» .exit) ≡ admitCache self (now («seen_store» .entry)) (now («cache_store» .entry)) at (planned self (now («seen_store» .entry)) (now («cache_store» .entry)) (now (body .entry)) index verified at) ⌝ }
+        ensures { λ r. ⌜ Admits self (now («seen_store» .entry)) (now («cache_store» .entry)) (now (body .entry)) index verified at r (now («seen_store» .exit)) (now («cache_store» .exit)) ⌝ }
     {
         let lent = self.lent(seen_store, cache_store);
         match lent {
@@ -596,8 +593,7 @@ impl Node {
 
     // Cleans up, opens a window and sets the clock.
     pub fn heartbeat(self, seen_store: &[u8], cache_store: &[u8], at: u64) -> Beaten
-        ensures { λ r. ⌜ r .answer ≡ beatAnswer self (now («seen_store» .entry)) (now («cache_store» .entry)) at ⌝ }
-        ensures { λ r. ⌜ r .node ≡ beatNode self (now («seen_store» .entry)) (now («cache_store» .entry)) at ⌝ }
+        ensures { λ r. ⌜ Beats self (now («seen_store» .entry)) (now («cache_store» .entry)) at r ⌝ }
     {
         let lent = self.lent(seen_store, cache_store);
         match lent {
@@ -657,9 +653,7 @@ impl Node {
         windows: usize,
         out: &mut [u8],
     ) -> Advertised
-        ensures { λ r. ⌜ r .answer ≡ advertiseAnswer self (now («seen_store» .entry)) (now («cache_store» .entry)) (now (topic .entry)) windows (now (out .entry)) ⌝ }
-        ensures { λ r. ⌜ r .node ≡ self ⌝ }
-        ensures { λ _. ⌜ now (out .exit) ≡ advertiseLeft self (now («seen_store» .entry)) (now («cache_store» .entry)) (now (topic .entry)) windows (now (out .entry)) ⌝ }
+        ensures { λ r. ⌜ Advertises self (now («seen_store» .entry)) (now («cache_store» .entry)) (now (topic .entry)) windows (now (out .entry)) r (now (out .exit)) ⌝ }
     {
         let lent = self.lent(seen_store, cache_store);
         match lent {
@@ -710,9 +704,7 @@ impl Node {
 
     // Writes an RPC with one IWANT that holds every id in the IHAVEs of a body whose marked form is not seen, each once. Without such ids, no bytes.
     pub fn ask(self, seen_store: &[u8], cache_store: &[u8], body: &[u8], out: &mut [u8]) -> Asked
-        ensures { λ r. ⌜ r .answer ≡ askAnswer self (now («seen_store» .entry)) (now («cache_store» .entry)) (now (body .entry)) (now (out .entry)) ⌝ }
-        ensures { λ r. ⌜ r .node ≡ self ⌝ }
-        ensures { λ _. ⌜ now (out .exit) ≡ askLeft self (now («seen_store» .entry)) (now («cache_store» .entry)) (now (body .entry)) (now (out .entry)) ⌝ }
+        ensures { λ r. ⌜ Asks self (now («seen_store» .entry)) (now («cache_store» .entry)) (now (body .entry)) (now (out .entry)) r (now (out .exit)) ⌝ }
     {
         let lent = self.lent(seen_store, cache_store);
         match lent {
@@ -778,9 +770,7 @@ impl Node {
 
     // Writes the cached messages that the IWANTs of a body name, each once, and stops before the first that would pass the reply room.
     pub fn serve(self, seen_store: &[u8], cache_store: &[u8], body: &[u8], out: &mut [u8]) -> Served
-        ensures { λ r. ⌜ r .answer ≡ serveAnswer self (now («seen_store» .entry)) (now («cache_store» .entry)) (now (body .entry)) (now (out .entry)) ⌝ }
-        ensures { λ r. ⌜ r .node ≡ self ⌝ }
-        ensures { λ _. ⌜ now (out .exit) ≡ serveLeft self (now («seen_store» .entry)) (now («cache_store» .entry)) (now (body .entry)) (now (out .entry)) ⌝ }
+        ensures { λ r. ⌜ Serves self (now («seen_store» .entry)) (now («cache_store» .entry)) (now (body .entry)) (now (out .entry)) r (now (out .exit)) ⌝ }
     {
         let lent = self.lent(seen_store, cache_store);
         match lent {

@@ -49,7 +49,7 @@ part-find-from-end : tie.Need-part-find-from-end Inv-loop μ-loop
 part-find-from-end c = let w = (c .before .before .before .before .before .before .before .before .before .before .pre .1 .1 .0 .within) (c .before .before .before .loop .i) (c .before .before .loop-test .taken) in w .1
 
 find-from-requires : tie.Need-find-from-requires Inv-loop μ-loop
-find-from-requires c κs = ((c .before .before .before .before .before .before .before .before .before .before .before .pre .0), omega arith)
+find-from-requires c κs = search needs
 
 add-message-requires : tie.Need-add-message-requires Inv-loop μ-loop
 add-message-requires c κs = let m = (c .before .before .before .before .before .before .loop) in let s =

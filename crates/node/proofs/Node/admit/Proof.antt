@@ -2,7 +2,7 @@
 use denote.Ref.{now}
 use mathlib.Core.Path.{sym, _∙_}
 use Rattle.ids.specs.IdLaws.{message-inside}
-use Rattle.node.proofs.Answers.{tested, admits-no, admits-as, plan-faulty, plan-refused, plan-missing, plan-at}
+use Rattle.node.proofs.Answers.{tested, admits-all, admits-no, admits-as, plan-faulty, plan-refused, plan-missing, plan-at}
 use borrow.Author.Needs.{needs}
 use Rattle.node.proofs.Node.admit.Statement.{statement}
 use Rattle.node.proofs.Node.admit.Tie as tie
@@ -62,7 +62,8 @@ same-length-2 : tie.Need-same-length-2
 same-length-2 c = search needs
 
 returns : tie.Need-returns
-returns c = let a = c .before .before .before .before .before .before .before .before .before .args in admits-no (a .self) (now (a .seen-store)) (now (a .cache-store)) (a .at) _ _ (plan-faulty (a .self) (now (a .seen-store)) (now (a .cache-store)) (now (a .body)) (a .index) (a .verified) (a .at) _ (sym (c .before .lent2 .given .1) ∙ (c .before .before .before .lent .ensures)))
+returns c = let a = c .before .before .before .before .before .before .before .before .before .args in admits-all (a .self) (now (a .seen-store)) (now (a .cache-store)) (a .at) (now (a .body)) (a .index) (a .verified) _
+    (admits-no (a .self) (now (a .seen-store)) (now (a .cache-store)) (a .at) _ _ (plan-faulty (a .self) (now (a .seen-store)) (now (a .cache-store)) (now (a .body)) (a .index) (a .verified) (a .at) _ (sym (c .before .lent2 .given .1) ∙ (c .before .before .before .lent .ensures))))
 
 same-length-3 : tie.Need-same-length-3
 same-length-3 c = search needs
@@ -72,9 +73,10 @@ same-length-4 c = search needs
 
 returns-2 : tie.Need-returns-2
 returns-2 c = let a = c .before .before .before .before .before .before .before .before .before .before .before .before .args in
-    admits-no (a .self) (now (a .seen-store)) (now (a .cache-store)) (a .at) _ _ (plan-refused (a .self) (now (a .seen-store)) (now (a .cache-store))
+    admits-all (a .self) (now (a .seen-store)) (now (a .cache-store)) (a .at) (now (a .body)) (a .index) (a .verified) _
+    (admits-no (a .self) (now (a .seen-store)) (now (a .cache-store)) (a .at) _ _ (plan-refused (a .self) (now (a .seen-store)) (now (a .cache-store))
     (now (a .body)) (a .index) (a .verified) (a .at) _ (sym (c .before .before .before .before .enum-told .given .1)
-    ∙ (c .before .before .before .before .before .before .lent .ensures)) (sym (c .before .c .given .1) ∙ (c .before .before .before .accept .ensures)))
+    ∙ (c .before .before .before .before .before .before .lent .ensures)) (sym (c .before .c .given .1) ∙ (c .before .before .before .accept .ensures))))
 
 same-length-5 : tie.Need-same-length-5
 same-length-5 c = search needs
@@ -84,10 +86,11 @@ same-length-6 c = search needs
 
 returns-3 : tie.Need-returns-3
 returns-3 c = let a = c .before .before .before .before .before .before .before .before .before .before .before .before .before .before .before .args in
-    admits-no (a .self) (now (a .seen-store)) (now (a .cache-store)) (a .at) _ _ (plan-missing (a .self) (now (a .seen-store)) (now (a .cache-store))
+    admits-all (a .self) (now (a .seen-store)) (now (a .cache-store)) (a .at) (now (a .body)) (a .index) (a .verified) _
+    (admits-no (a .self) (now (a .seen-store)) (now (a .cache-store)) (a .at) _ _ (plan-missing (a .self) (now (a .seen-store)) (now (a .cache-store))
     (now (a .body)) (a .index) (a .verified) (a .at) _ (sym (c .before .before .before .before .before .before .before .enum-told .given .1)
     ∙ (c .before .before .before .before .before .before .before .before .before .lent .ensures)) (sym (c .before .before .before .before .enum-told2 .given .1)
-    ∙ (c .before .before .before .before .before .before .accept .ensures)) (sym (c .before .m .given .1) ∙ (c .before .before .before .message-at .ensures)))
+    ∙ (c .before .before .before .before .before .before .accept .ensures)) (sym (c .before .m .given .1) ∙ (c .before .before .before .message-at .ensures))))
 
 same-length-7 : tie.Need-same-length-7
 same-length-7 c = search needs
@@ -99,7 +102,8 @@ returns-4 : tie.Need-returns-4
 returns-4 c = let a =
     c .before .before .before .before .before .before .before .before .before .before .before .before .before .before .before .before .before .before .before
     .before .before .before .before .args in
-    admits-as (a .self) (now (a .seen-store)) (now (a .cache-store)) (a .at) _ _ (plan-at (a .self) (now (a .seen-store)) (now (a .cache-store)) (now (a .body))
+    admits-all (a .self) (now (a .seen-store)) (now (a .cache-store)) (a .at) (now (a .body)) (a .index) (a .verified) _
+    (admits-as (a .self) (now (a .seen-store)) (now (a .cache-store)) (a .at) _ _ (plan-at (a .self) (now (a .seen-store)) (now (a .cache-store)) (now (a .body))
     (a .index) (a .verified) (a .at) _ _
     (sym (c .before .before .before .before .before .before .before .before .before .before .before .before .before .before .before .enum-told .given .1)
     ∙ (c .before .before .before .before .before .before .before .before .before .before .before .before .before .before .before .before .before .lent
@@ -107,7 +111,7 @@ returns-4 c = let a =
     ∙ (c .before .before .before .before .before .before .before .before .before .before .before .before .before .before .accept .ensures))
     (sym (c .before .before .before .before .before .before .before .before .before .m2 .given .1)
     ∙ (c .before .before .before .before .before .before .before .before .before .before .before .message-at .ensures)))
-    (c .before .before .before .before .admit-part .ensures)
+    (c .before .before .before .before .admit-part .ensures))
 
 pub admit-spec : {M : Type 1} → statement M
 admit-spec =

@@ -2,7 +2,7 @@
 use denote.Ref.{now}
 use mathlib.Core.Path.{refl, sym, _∙_}
 use native.Mathlib.Omega.{arith}
-use Rattle.node.proofs.Answers.{admits-no, plan-unfit, plan-back, form-room, formed-small, formed-room, formed-counts, formed-fits, admits-formed}
+use Rattle.node.proofs.Answers.{admits-no, plan-unfit, plan-back, formed-small, formed-room, formed-counts, formed-fits, admits-formed}
 use borrow.Author.Needs.{needs}
 use Rattle.node.proofs.Node.admit_part.Statement.{statement}
 use Rattle.node.proofs.Node.admit_part.Tie as tie
@@ -32,7 +32,7 @@ part-key-end : tie.Need-part-key-end
 part-key-end c = search needs
 
 form-id-requires : tie.Need-form-id-requires
-form-id-requires c κs = let a = c .before .before .before .before .before .before .before .before .before .before .args in form-room (now (a .part)) (a .verified) _ _ _ _ (sym (c .before .before .before .before .before .before .admit .ensures) ∙ (c .before .before .before .before .a2 .given .1))
+form-id-requires c κs = search needs
 
 add-key : tie.Need-add-key
 add-key c = let a = c .before .before .before .before .before .before .before .before .before .before .before .before .before .before .args in

@@ -1,15 +1,16 @@
--- `node::Node::tell` meets its contract: the rows are gathered, measured, and then written where there is room.
+-- `node::Node::announce` meets its contract: the rows are gathered, measured, and then written where there is room.
 use denote.Ref.{now}
+use Rattle.mcache.specs.GuardLaws.{tell-usable}
 use Rattle.node.proofs.Telling.{told-room, told-listed, told-fits, tell-none, tell-short, tell-put}
 use borrow.Author.Needs.{needs}
 use Rattle.node.proofs.Node.announce.Statement.{statement}
 use Rattle.node.proofs.Node.announce.Tie as tie
 
 tell-requires : tie.Need-tell-requires
-tell-requires c κs = (c .before .before .before .before .pre .0)
+tell-requires c κs = search needs
 
 returns : tie.Need-returns
-returns c = let b = c .before .before .before .before .before .before in let a = b .args in tell-none (a .self) (now (a .cache-store)) (now (a .topic)) (a .windows) (b .pre .0) (c .before .tell .result .count) (c .before .tell .result .rows) (c .before .tell .ensures .1 .0) (c .before .tell .ensures .1 .1) (now (a .out)) (c .if1 .taken)
+returns c = let b = c .before .before .before .before .before .before in let a = b .args in tell-none (a .self) (now (a .cache-store)) (now (a .topic)) (a .windows) (b .pre .0) (c .before .tell .result .count) (c .before .tell .result .rows) (tell-usable (a .self .cache) (now (a .cache-store)) (now (a .topic)) (a .windows) (b .pre .0) _ (c .before .tell .ensures) .1 .0) (tell-usable (a .self .cache) (now (a .cache-store)) (now (a .topic)) (a .windows) (b .pre .0) _ (c .before .tell .ensures) .1 .1) (now (a .out)) (c .if1 .taken)
 
 slice-aggregate-emit-advertisement : tie.Need-slice-aggregate-emit-advertisement
 slice-aggregate-emit-advertisement c = search needs
@@ -29,19 +30,19 @@ emit-advertisement-requires c κs = let b = c .before .before .before .before .b
       told-room (a .self .cache) (now (a .cache-store)) (now (a .topic)) (a .windows) (b .pre .0)
           (c .before .before .before .before .before .before .before .before .tell .result .count)
           (c .before .before .before .before .before .before .before .before .tell .result .rows)
-          (c .before .before .before .before .before .before .before .before .tell .ensures .1 .0)
-          (c .before .before .before .before .before .before .before .before .tell .ensures .1 .1),
+          (tell-usable (a .self .cache) (now (a .cache-store)) (now (a .topic)) (a .windows) (b .pre .0) _ (c .before .before .before .before .before .before .before .before .tell .ensures) .1 .0)
+          (tell-usable (a .self .cache) (now (a .cache-store)) (now (a .topic)) (a .windows) (b .pre .0) _ (c .before .before .before .before .before .before .before .before .tell .ensures) .1 .1),
       (
         told-listed (a .self .cache) (now (a .cache-store)) (now (a .topic)) (a .windows) (b .pre .0)
             (c .before .before .before .before .before .before .before .before .tell .result .count)
             (c .before .before .before .before .before .before .before .before .tell .result .rows)
-            (c .before .before .before .before .before .before .before .before .tell .ensures .1 .0)
-            (c .before .before .before .before .before .before .before .before .tell .ensures .1 .1),
+            (tell-usable (a .self .cache) (now (a .cache-store)) (now (a .topic)) (a .windows) (b .pre .0) _ (c .before .before .before .before .before .before .before .before .tell .ensures) .1 .0)
+            (tell-usable (a .self .cache) (now (a .cache-store)) (now (a .topic)) (a .windows) (b .pre .0) _ (c .before .before .before .before .before .before .before .before .tell .ensures) .1 .1),
         told-fits (a .self .cache) (now (a .cache-store)) (now (a .topic))
             (a .windows) (b .pre .0) (c .before .before .before .before .before .before .before .before .tell .result .count)
             (c .before .before .before .before .before .before .before .before .tell .result .rows)
-            (c .before .before .before .before .before .before .before .before .tell .ensures .1 .0)
-            (c .before .before .before .before .before .before .before .before .tell .ensures .1 .1) (b .pre .1),
+            (tell-usable (a .self .cache) (now (a .cache-store)) (now (a .topic)) (a .windows) (b .pre .0) _ (c .before .before .before .before .before .before .before .before .tell .ensures) .1 .0)
+            (tell-usable (a .self .cache) (now (a .cache-store)) (now (a .topic)) (a .windows) (b .pre .0) _ (c .before .before .before .before .before .before .before .before .tell .ensures) .1 .1) (b .pre .1),
       ),
     )
 
@@ -50,8 +51,8 @@ returns-2 c = let b = c .before .before .before .before .before .before .before 
     let a = b .args in tell-short (a .self) (now (a .cache-store)) (now (a .topic)) (a .windows) (b .pre .0)
     (c .before .before .before .before .before .before .before .before .before .before .before .tell .result .count)
     (c .before .before .before .before .before .before .before .before .before .before .before .tell .result .rows)
-    (c .before .before .before .before .before .before .before .before .before .before .before .tell .ensures .1 .0)
-    (c .before .before .before .before .before .before .before .before .before .before .before .tell .ensures .1 .1) (now (a .out))
+    (tell-usable (a .self .cache) (now (a .cache-store)) (now (a .topic)) (a .windows) (b .pre .0) _ (c .before .before .before .before .before .before .before .before .before .before .before .tell .ensures) .1 .0)
+    (tell-usable (a .self .cache) (now (a .cache-store)) (now (a .topic)) (a .windows) (b .pre .0) _ (c .before .before .before .before .before .before .before .before .before .before .before .tell .ensures) .1 .1) (now (a .out))
     (c .before .before .before .before .before .before .before .before .before .before .if1 .left) _ _ (c .before .before .emit-advertisement .result)
     (c .before .before .emit-advertisement .ensures) (c .if2 .taken)
 
@@ -71,20 +72,20 @@ emit-advertisement-requires-2 c κs = let b =
       told-room (a .self .cache) (now (a .cache-store)) (now (a .topic)) (a .windows) (b .pre .0)
           (c .before .before .before .before .before .before .before .before .before .before .before .before .before .before .before .tell .result .count)
           (c .before .before .before .before .before .before .before .before .before .before .before .before .before .before .before .tell .result .rows)
-          (c .before .before .before .before .before .before .before .before .before .before .before .before .before .before .before .tell .ensures .1 .0)
-          (c .before .before .before .before .before .before .before .before .before .before .before .before .before .before .before .tell .ensures .1 .1),
+          (tell-usable (a .self .cache) (now (a .cache-store)) (now (a .topic)) (a .windows) (b .pre .0) _ (c .before .before .before .before .before .before .before .before .before .before .before .before .before .before .before .tell .ensures) .1 .0)
+          (tell-usable (a .self .cache) (now (a .cache-store)) (now (a .topic)) (a .windows) (b .pre .0) _ (c .before .before .before .before .before .before .before .before .before .before .before .before .before .before .before .tell .ensures) .1 .1),
       (
         told-listed (a .self .cache) (now (a .cache-store)) (now (a .topic)) (a .windows) (b .pre .0)
             (c .before .before .before .before .before .before .before .before .before .before .before .before .before .before .before .tell .result .count)
             (c .before .before .before .before .before .before .before .before .before .before .before .before .before .before .before .tell .result .rows)
-            (c .before .before .before .before .before .before .before .before .before .before .before .before .before .before .before .tell .ensures .1 .0)
-            (c .before .before .before .before .before .before .before .before .before .before .before .before .before .before .before .tell .ensures .1 .1),
+            (tell-usable (a .self .cache) (now (a .cache-store)) (now (a .topic)) (a .windows) (b .pre .0) _ (c .before .before .before .before .before .before .before .before .before .before .before .before .before .before .before .tell .ensures) .1 .0)
+            (tell-usable (a .self .cache) (now (a .cache-store)) (now (a .topic)) (a .windows) (b .pre .0) _ (c .before .before .before .before .before .before .before .before .before .before .before .before .before .before .before .tell .ensures) .1 .1),
         told-fits
             (a .self .cache) (now (a .cache-store)) (now (a .topic)) (a .windows) (b .pre .0)
             (c .before .before .before .before .before .before .before .before .before .before .before .before .before .before .before .tell .result .count)
             (c .before .before .before .before .before .before .before .before .before .before .before .before .before .before .before .tell .result .rows)
-            (c .before .before .before .before .before .before .before .before .before .before .before .before .before .before .before .tell .ensures .1 .0)
-            (c .before .before .before .before .before .before .before .before .before .before .before .before .before .before .before .tell .ensures .1 .1)
+            (tell-usable (a .self .cache) (now (a .cache-store)) (now (a .topic)) (a .windows) (b .pre .0) _ (c .before .before .before .before .before .before .before .before .before .before .before .before .before .before .before .tell .ensures) .1 .0)
+            (tell-usable (a .self .cache) (now (a .cache-store)) (now (a .topic)) (a .windows) (b .pre .0) _ (c .before .before .before .before .before .before .before .before .before .before .before .before .before .before .before .tell .ensures) .1 .1)
             (b .pre .1),
       ),
     )
@@ -101,10 +102,8 @@ returns-3 c = let b =
     .result .count)
     (c .before .before .before .before .before .before .before .before .before .before .before .before .before .before .before .before .before .before .tell
     .result .rows)
-    (c .before .before .before .before .before .before .before .before .before .before .before .before .before .before .before .before .before .before .tell
-    .ensures .1 .0)
-    (c .before .before .before .before .before .before .before .before .before .before .before .before .before .before .before .before .before .before .tell
-    .ensures .1 .1) (now (a .out))
+    (tell-usable (a .self .cache) (now (a .cache-store)) (now (a .topic)) (a .windows) (b .pre .0) _ (c .before .before .before .before .before .before .before .before .before .before .before .before .before .before .before .before .before .before .tell .ensures) .1 .0)
+    (tell-usable (a .self .cache) (now (a .cache-store)) (now (a .topic)) (a .windows) (b .pre .0) _ (c .before .before .before .before .before .before .before .before .before .before .before .before .before .before .before .before .before .before .tell .ensures) .1 .1) (now (a .out))
     (c .before .before .before .before .before .before .before .before .before .before .before .before .before .before .before .before .before .if1 .left) _ _
     (c .before .before .before .before .before .before .before .before .before .emit-advertisement .result)
     (c .before .before .before .before .before .before .before .before .before .emit-advertisement .ensures)

@@ -1,7 +1,7 @@
 -- `node::Node::heartbeat` meets its contract: the node is tested, and then cleaned and shifted at a later reading.
 use denote.Ref.{now}
 use mathlib.Core.Path.{sym, _∙_}
-use Rattle.node.proofs.Answers.{fine-expiries, fine-windows, beat-faulty, beat-back, beat-done}
+use Rattle.node.proofs.Answers.{beat-faulty, beat-back, beat-done}
 use borrow.Author.Needs.{needs}
 use Rattle.node.proofs.Node.heartbeat.Statement.{statement}
 use Rattle.node.proofs.Node.heartbeat.Tie as tie
@@ -19,17 +19,10 @@ returns : tie.Need-returns
 returns c = let a = c .before .before .before .before .before .before .before .args in beat-back (a .self) (now (a .seen-store)) (now (a .cache-store)) (a .at) (sym (c .before .before .enum-told .given .1) ∙ (c .before .before .before .before .lent .ensures)) (c .if1 .taken)
 
 clean-requires : tie.Need-clean-requires
-clean-requires c κs = let a = c .before .before .before .before .before .before .before .before .args in
-    let g = c .before .before .before .before .before .before .before .before .good .0 in
-    fine-expiries (a .self) (now (a .seen-store)) (now (a .cache-store)) (sym (c .before .before .before .enum-told .given .1)
-    ∙ (c .before .before .before .before .before .lent .ensures)) (let q = g .1 .1 .1 .1 .1 .0 .1 .1 .1 .1 .0 in search needs)
-    (let q = g .1 .1 .1 .1 .1 .0 .1 .1 .1 .1 .1 .0 in search needs)
+clean-requires c κs = search needs
 
 next-window-requires : tie.Need-next-window-requires
-next-window-requires c κs = let a = c .before .before .before .before .before .before .before .before .before .before .args in
-    let g = c .before .before .before .before .before .before .before .before .before .before .good .0 in
-    fine-windows (a .self) (now (a .seen-store)) (now (a .cache-store)) (sym (c .before .before .before .before .before .enum-told .given .1)
-    ∙ (c .before .before .before .before .before .before .before .lent .ensures)) (let q = g .1 .1 .1 .1 .1 .1 .0 .1 .1 .1 .1 .1 .1 .1 .1 .0 in search needs)
+next-window-requires c κs = search needs
 
 later-requires : tie.Need-later-requires
 later-requires c κs = search needs

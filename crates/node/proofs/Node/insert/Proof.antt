@@ -1,16 +1,16 @@
 -- `node::Node::insert` meets its contract: after the clean-up the id is held, or it and its message are kept.
 use denote.Ref.{now}
 use native.Mathlib.Omega.{arith}
-use Rattle.node.proofs.Answers.{swept-sound, admits-held, admits-new, key-long, key-small}
+use Rattle.node.proofs.Answers.{swept-enters, admits-held, admits-new, key-long, keeps-under}
 use borrow.Author.Needs.{needs}
 use Rattle.node.proofs.Node.insert.Statement.{statement}
 use Rattle.node.proofs.Node.insert.Tie as tie
 
 clean-requires : tie.Need-clean-requires
-clean-requires c κs = (c .before .before .before .before .before .before .pre .0 .expiries)
+clean-requires c κs = search needs
 
 holds-requires : tie.Need-holds-requires
-holds-requires c κs = let a = c .before .before .before .before .before .before .before .before .args in swept-sound (a .self) (now (a .seen-store)) (now (a .cache-store)) (a .at) (c .before .clean .result) (c .before .clean .ensures) (c .before .before .before .before .before .before .before .before .pre .0 .rows)
+holds-requires c κs = search needs
 
 later-requires : tie.Need-later-requires
 later-requires c κs = search needs
@@ -29,12 +29,7 @@ expiry-of-requires : tie.Need-expiry-of-requires
 expiry-of-requires c κs = search needs
 
 enter-requires : tie.Need-enter-requires
-enter-requires c κs = let a = c .before .before .before .before .before .before .before .before .before .before .before .before .args in (
-  swept-sound (a .self) (now (a .seen-store)) (now (a .cache-store)) (a .at) (c .before .before .before .before .before .clean .result)
-      (c .before .before .before .before .before .clean .ensures)
-      (c .before .before .before .before .before .before .before .before .before .before .before .before .pre .0 .rows),
-  (omega arith, (c .before .before .before .before .before .before .before .before .before .before .before .before .pre .1 .1)),
-)
+enter-requires c κs = search needs
 
 sub-keep : tie.Need-sub-keep
 sub-keep c = key-long (now (c .before .before .before .before .before .before .before .before .before .before .before .before .before .before .before .before .args .key)) (c .before .before .before .before .before .before .before .before .before .before .before .before .before .before .before .before .pre .1 .2)
@@ -46,16 +41,7 @@ part-keep-end : tie.Need-part-keep-end
 part-keep-end c = search needs
 
 keep-requires : tie.Need-keep-requires
-keep-requires c κs = (
-  (c .before .before .before .before .before .before .before .before .before .before .before .before .before .before .before .before .before .pre .0 .kept),
-  (
-    (c .before .before .before .before .before .before .before .before .before .before .before .before .before .before .before .before .before .pre .1 .0),
-    key-small (now
-        (c .before .before .before .before .before .before .before .before .before .before .before .before .before .before .before .before .before .args .key))
-        (c .before .before .before .before .before .before .before .before .before .before .before .before .before .before .before .before .before .pre .1 .2)
-        (c .before .before .before .before .before .before .before .before .before .before .before .before .before .before .before .before .before .pre .1 .1),
-  ),
-)
+keep-requires c κs = search needs
 
 later-requires-2 : tie.Need-later-requires-2
 later-requires-2 c κs = search needs
@@ -81,8 +67,8 @@ returns-2 c = let a =
     (c .before .before .before .before .before .before .before .before .before .before .before .expiry-of .result)
     (c .before .before .before .before .before .before .before .before .before .before .before .expiry-of .ensures)
     (c .before .before .before .before .before .before .before .before .before .enter .result) _
-    (c .before .before .before .before .before .before .before .before .before .enter .ensures) (c .before .before .before .before .keep .result .cache) _
-    (c .before .before .before .before .keep .ensures .1) (c .later2 .result) (c .later2 .ensures)
+    (swept-enters (a .self) (now (a .seen-store)) (now (a .cache-store)) (a .at) (c .before .before .before .before .before .before .before .before .before .before .before .before .before .before .before .clean .result) (c .before .before .before .before .before .before .before .before .before .before .before .before .before .before .before .clean .ensures) (c .before .before .before .before .before .before .before .before .before .before .before .before .before .before .before .before .before .before .before .before .before .before .pre .0) (now (a .key)) (c .before .before .before .before .before .before .before .before .before .before .before .before .before .before .before .before .before .before .before .before .before .before .pre .1 .1) _ _ _ (c .before .before .before .before .before .before .before .before .before .enter .ensures)) (c .before .before .before .before .keep .result .cache) _
+    (keeps-under (a .self .cache) (now (a .cache-store)) (now (a .part)) (now (a .key)) (c .before .before .before .before .before .before .before .before .before .before .before .before .before .before .before .before .before .before .before .before .before .before .pre .0 .kept) (c .before .before .before .before .before .before .before .before .before .before .before .before .before .before .before .before .before .before .before .before .before .before .pre .1 .0) (c .before .before .before .before .before .before .before .before .before .before .before .before .before .before .before .before .before .before .before .before .before .before .pre .1 .2) (c .before .before .before .before .before .before .before .before .before .before .before .before .before .before .before .before .before .before .before .before .before .before .pre .1 .1) _ _ (c .before .before .before .before .keep .ensures)) (c .later2 .result) (c .later2 .ensures)
 
 pub insert-spec : {M : Type 1} → statement M
 insert-spec =

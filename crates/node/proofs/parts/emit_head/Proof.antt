@@ -13,8 +13,8 @@ same-length c = search needs
 
 returns : tie.Need-returns
 returns c =
-    let a = @args in
-    puts-head (a .out .now) (a .n) (a .len) (a .at) _ _ (omega arith) (@pre .1) (@put-head .ensures .0) (@put-head .ensures .1)
+    let a = c .before .before .before .before .before .args in
+    puts-head (a .out .now) (a .n) (a .len) (a .at) _ _ (omega arith) (c .before .before .before .before .before .pre .1) (c .before .before .put-head .ensures .0) (c .before .before .put-head .ensures .1)
 
 pub emit-head-spec : {M : Type 1} → statement M
 emit-head-spec = tie.close (tie.spec put-head-requires same-length returns)
