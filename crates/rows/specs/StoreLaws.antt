@@ -69,7 +69,9 @@ id-cut size lens st p b n m eb en em =
     let l : length (drop b st) ≡ length st - b = length-drop b st in
     take-all m (drop b st) (omega arith) ∙ sym (take-all n (drop b st) (omega arith)))))
     (λ t. let h = leb-false (p * size) (length st) t in
-    rw (drop-of-length-le st {i = b} (omega arith), drop-of-length-le st {i = p * size} (omega arith), take-nil m, take-nil n)))
+    let x : drop b st ≡ [] = drop-of-length-le st {i = b} (omega arith) in
+    let y : drop (p * size) st ≡ [] = drop-of-length-le st {i = p * size} (omega arith) in
+    rw (x, y, take-nil m, take-nil n)))
 
 -- ---- numbers in use
 module _ (most : ℕ) (ring : Ring) (l : List ℕ) (i : ℕ) (inv : allUpTo most (drop i (inUse ring l)) ≡ allUpTo most

@@ -1,6 +1,6 @@
 -- The answers, case by case as the code comes to them.
 use Prim.Native.Nat.{ℕ, _/_, _%_, _≤_, _<_}
-use mathlib.Core.Path.{_≡_, sym, ap, _∙_}
+use mathlib.Core.Path.{_≡_, refl, sym, ap, _∙_}
 use mathlib.Core.List.{List}
 use mathlib.Core.Bool.{true, false}
 use native.Mathlib.Omega.{arith}
@@ -10,7 +10,6 @@ use Rattle.basis.specs.Cases.{clash}
 use Rattle.rows.specs.Rows.{placeOf}
 use Rattle.rows.specs.Ids.{distinct}
 use Rattle.rows.specs.Store.{InStore, Sound, idsIn, inUse, allUpTo}
-use Rattle.rows.specs.StoreLaws.{short-in}
 use Rattle.seen.specs.declared.SeenCache.{SeenCache}
 use Rattle.seen.specs.declared.Lent.the-variants as lent
 use Rattle.seen.specs.declared.Insert.{Insert}
@@ -20,8 +19,9 @@ use Rattle.seen.specs.declared.Gc.the-variants as gc
 use Rattle.seen.specs.declared.NextExpiry.the-variants as next
 use Rattle.seen.specs.Entries.{until}
 use Rattle.seen.specs.State.{wellFormed, idSize, maxIds, ringOf}
-use Rattle.seen.specs.Calls.{capOf, wholeRows, lentOf, heldIn, cleaned, entered, enteredStore, insertAnswer, insertCache, insertStore, containsAnswer, gcAnswer, gcCache, nextAnswer}
-use Rattle.seen.specs.Laws.{lent-sound, not-fresh-stays}
+use Rattle.seen.specs.Calls.{capOf, wholeRows, lentOf, heldIn, cleaned, entered, insertAnswer, insertCache, insertStore, containsAnswer, gcAnswer, gcCache, nextAnswer}
+use Rattle.seen.specs.Laws.{lent-sound, lent-enters, enters-can, not-fresh-stays}
+use Rattle.seen.specs.Unique.{Inserts, Cleans, Enters}
 
 -- ---- the lent state
 module _ (c : SeenCache) (st : List ℕ) where
@@ -48,22 +48,11 @@ module _ (c : SeenCache) (st : List ℕ) where
       lent-count h = simp (whole, le-leb (c .start) (length st / idSize) a, lt-leb (c .count) (length st / idSize) h)
 
       module _ (b : c .count ≤ length st / idSize) where
-        pub lent-ring : length (c .len) ≡ maxIds → InStore (ringOf (length st / idSize) c) (c .len)
-        lent-ring z = record { starts = a; within = b; size = omega arith }
-
         pub lent-long : allUpTo idSize (inUse (ringOf (length st / idSize) c) (c .len)) ≡ false → lent.Malformed ≡ lentOf c st
         unfolding lentOf wellFormed capOf
         lent-long h = simp (whole, le-leb (c .start) (length st / idSize) a, le-leb (c .count) (length st / idSize) b, h)
 
         module _ (s : allUpTo idSize (inUse (ringOf (length st / idSize) c) (c .len)) ≡ true) where
-          pub lent-rows : length (c .len) ≡ maxIds → Sound idSize (ringOf (length st / idSize) c) (c .len) st
-          lent-rows z =
-              record {
-                rows = lent-ring z;
-                room = omega arith;
-                short = short-in idSize (c .len) (ringOf (length st / idSize) c) s;
-              }
-
           pub lent-twice : distinct (idsIn idSize (ringOf (length st / idSize) c) (c .len) st) ≡ false → lent.Malformed ≡ lentOf c st
           unfolding lentOf wellFormed capOf
           lent-twice h = simp (whole, le-leb (c .start) (length st / idSize) a, le-leb (c .count) (length st / idSize) b, s, h)
@@ -107,17 +96,17 @@ module _ (c : SeenCache) (st id : List ℕ) where
 
 -- ---- clean-up
 module _ (at : ℕ) (c : SeenCache) (st : List ℕ) where
-  pub gc-store : lent.BadStore ≡ lentOf c st → (gc.BadStore ≡ gcAnswer at c st) × (c ≡ gcCache at c st)
+  pub gc-store : lent.BadStore ≡ lentOf c st → Cleans at c st (record { answer = gc.BadStore; cache = c })
   unfolding gcAnswer gcCache
-  gc-store e = (rw (← e), rw (← e))
+  gc-store e = record { answer = rw (← e); cache = rw (← e) }
 
-  pub gc-malformed : lent.Malformed ≡ lentOf c st → (gc.Malformed ≡ gcAnswer at c st) × (c ≡ gcCache at c st)
+  pub gc-malformed : lent.Malformed ≡ lentOf c st → Cleans at c st (record { answer = gc.Malformed; cache = c })
   unfolding gcAnswer gcCache
-  gc-malformed e = (rw (← e), rw (← e))
+  gc-malformed e = record { answer = rw (← e); cache = rw (← e) }
 
-  pub gc-left : lent.Fine ≡ lentOf c st → (r : SeenCache) → r ≡ cleaned (length st / idSize) at c → (gc.Left (r .count) ≡ gcAnswer at c st) × (r ≡ gcCache at c st)
+  pub gc-left : lent.Fine ≡ lentOf c st → (r : SeenCache) → r ≡ cleaned (length st / idSize) at c → Cleans at c st (record { answer = gc.Left (r .count); cache = r })
   unfolding gcAnswer gcCache capOf
-  gc-left e r h = (rw (← e) (ap (λ (x : SeenCache). gc.Left (x .count)) h), rw (← e) h)
+  gc-left e r h = record { answer = rw (← e) (ap (λ (x : SeenCache). gc.Left (x .count)) h); cache = rw (← e) h }
 
 -- ---- the next expiry
 module _ (c : SeenCache) (st : List ℕ) where
@@ -167,11 +156,11 @@ module _ (max : ℕ) (c : SeenCache) (st id : List ℕ) where
 
 -- the answer, the cache and the store that an insert leaves
 abbrev Leaves : (max at ttl : ℕ) (c : SeenCache) (st id : List ℕ) → Insert → SeenCache → List ℕ → Type 0
-Leaves max at ttl c st id a r s = (a ≡ insertAnswer max c st id) × (r ≡ insertCache max at ttl c st id) × (s ≡ insertStore max c st id)
+Leaves max at ttl c st id a r s = Inserts max at ttl c st id (record { answer = a; cache = r }) s
 
 module _ (max at ttl : ℕ) (c : SeenCache) (st id : List ℕ) where
   leaves : (a : Insert) → insertAnswer max c st id ≡ a → (a ≡ insert.Fresh → ⊥) → Leaves max at ttl c st id a c st
-  leaves a e n = let k = not-fresh-stays max at ttl c st id a e n in (sym e, sym (k .0), sym (k .1))
+  leaves a e n = let k = not-fresh-stays max at ttl c st id a e n in record { answer = sym e; cache = sym (k .0); store = sym (k .1) }
 
   pub insert-setting : length st / idSize < max → Leaves max at ttl c st id insert.BadSetting c st
   insert-setting h = leaves insert.BadSetting (says-setting max c st id h) (λ e. clash (cc))
@@ -191,8 +180,13 @@ module _ (max at ttl : ℕ) (c : SeenCache) (st id : List ℕ) where
       insert-held h k = leaves insert.Held (says-held max c st id m f h k) (λ e. clash (cc))
 
       pub insert-fresh : length id ≤ idSize → heldIn (length st / idSize) c st id ≡ false → (u : ℕ) → u ≡ until at ttl → (r : SeenCache) (st2 : List ℕ)
-          → r ≡ entered (length st / idSize) max (length id) u c → st2 ≡ enteredStore (length st / idSize) max c st id → Leaves max at ttl c st id insert.Fresh r st2
+          → Enters (length st / idSize) max u c st id r st2 → Leaves max at ttl c st id insert.Fresh r st2
       unfolding insertCache insertStore capOf
-      insert-fresh h k u eu r st2 er es =
+      insert-fresh h k u eu r st2 en =
           let e = says-fresh max c st id m f h k in
-          (sym e, rw e (er ∙ ap (λ (x : ℕ). entered (length st / idSize) max (length id) x c) eu), rw e es)
+          let t = enters-can (length st / idSize) max u c st id r st2 (lent-enters (length st / idSize) max c st id m h (sym f) refl) en in
+          record {
+            answer = sym e;
+            cache = rw e (t .0 ∙ ap (λ (x : ℕ). entered (length st / idSize) max (length id) x c) eu);
+            store = rw e (t .1);
+          }

@@ -6,6 +6,7 @@ use mathlib.Core.Bool.{Bool, cond, _&&_}
 use lib.ListN.{length, getD}
 use lib.Seq.{sets}
 use lib.Dec.{leb, ltb, eqb}
+use Rattle.rows.specs.declared.Ring.{Ring}
 use Rattle.rows.specs.Rows.{placeOf}
 use Rattle.rows.specs.Ids.{among}
 use Rattle.rows.specs.Store.{idsIn, inUse}
@@ -20,16 +21,25 @@ use Rattle.seen.specs.declared.Gc.{Gc}
 use Rattle.seen.specs.declared.Gc.the-variants as gc
 use Rattle.seen.specs.declared.NextExpiry.{NextExpiry}
 use Rattle.seen.specs.declared.NextExpiry.the-variants as next
-use Rattle.seen.specs.Told.{insertTold, gcTold}
+use Rattle.seen.specs.Told.{lentTold, insertTold, containsTold, gcTold, nextTold}
 use Rattle.seen.specs.Entries.{until}
 use Rattle.seen.specs.State.{wellFormed, spent, dropped, appended, idSize, maxIds, ringOf}
 
 -- ---- 01's numbers
+abbrev pub lentNumber : Lent → ℕ
+lentNumber r = lentTold r .number
+
 abbrev pub insertNumber : Insert → ℕ
 insertNumber r = insertTold r .number
 
+abbrev pub containsNumber : Contains → ℕ
+containsNumber r = containsTold r .number
+
 abbrev pub gcNumber : Gc → ℕ
 gcNumber r = gcTold r .number
+
+abbrev pub nextNumber : NextExpiry → ℕ
+nextNumber r = nextTold r .number
 
 -- ---- the lent state: 41, 42
 -- how many places a store has
@@ -61,6 +71,14 @@ unfoldable pub enteredStore : ℕ → ℕ → SeenCache → List ℕ → List �
 enteredStore cap max c st id =
     cond (eqb max 0) st
     (let d = dropped cap ((c .count + 1) - max) c in sets st (placeOf (ringOf cap d) (d .count) * idSize) id)
+
+-- whether that can be: the rows in use lie in the arrays and in a store of `room` bytes, max is at most their number,
+-- and an id of n bytes fits a row. A state that was tested passes (`lent-enters` of Laws).
+unfoldable pub canEnter : ℕ → Ring → ℕ → ℕ → Bool
+canEnter max ring room n =
+    leb (ring .start) (ring .cap)
+    && (leb (ring .count) (ring .cap)
+    && (leb (ring .cap) maxIds && (leb (ring .cap * idSize) room && (leb max (ring .cap) && leb n idSize))))
 
 -- ---- insert: 40, 41, 42, 33
 abbrev pub insertOn : Lent → Insert → Insert

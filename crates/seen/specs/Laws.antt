@@ -34,7 +34,8 @@ use Rattle.seen.specs.EntriesLaws.{length-entries, ids-entries, holds-en
 use Rattle.seen.specs.EntriesLaws.{sound-entered, sized-entered, entries-cleaned}
 use Rattle.seen.specs.Calls.{capOf, wholeRows, lentOf, heldIn, cleaned, entered, enteredStore, insertNumber}
 use Rattle.seen.specs.Calls.{insertAnswer, insertCache, insertStore, containsAnswer, gcNumber, gcAnswer, gcCache}
-use Rattle.seen.specs.Calls.{nextAnswer}
+use Rattle.seen.specs.Calls.{canEnter, lentNumber, nextAnswer}
+use Rattle.seen.specs.Unique.{Enters}
 use Rattle.seen.specs.WellFormed.{Sized, WellFormed, Reached, begun, recorded, swept}
 
 -- ---- the tests
@@ -95,6 +96,39 @@ fine-of : (c : SeenCache) (st : List ℕ) → wholeRows st ≡ true → c .start
     → distinct (idsIn idSize (ringOf (capOf st) c) (c .len) st) ≡ true → lentOf c st ≡ lent.Fine
 unfolding lentOf wellFormed
 fine-of c st w a b s d = simp (w, le-leb (c .start) (capOf st) a, le-leb (c .count) (capOf st) b, s, d)
+
+-- ---- a state that was tested can take an id
+module _ (cap max : ℕ) (c : SeenCache) (st id : List ℕ) (m : max ≤ cap) (k : length id ≤ idSize) where
+  rows-enter : c .start ≤ cap → c .count ≤ cap → cap ≤ maxIds → cap * idSize ≤ length st
+      → canEnter max (ringOf cap c) (length st) (length id) ≡ true
+  unfolding canEnter
+  rows-enter a b f r =
+      simp (
+        le-leb (c .start) cap a,
+        le-leb (c .count) cap b,
+        le-leb cap maxIds f,
+        le-leb (cap * idSize) (length st) r,
+        le-leb max cap m,
+        le-leb (length id) idSize k,
+      )
+
+  pub sound-enters : Sound idSize (ringOf cap c) (c .len) st → cap ≤ maxIds
+      → canEnter max (ringOf cap c) (length st) (length id) ≡ true
+  sound-enters s f = rows-enter (s .rows .starts) (s .rows .within) f (s .room)
+
+  pub lent-enters : lentOf c st ≡ lent.Fine → cap ≡ capOf st
+      → canEnter max (ringOf cap c) (length st) (length id) ≡ true
+  lent-enters h e =
+      let f = fine-tests c st h in
+      let w = whole-room st (f .0) in
+      let t = tests (capOf st) c st (f .1) in
+      rows-enter (rw e (t .starts)) (rw e (t .within)) (omega arith) (omega arith)
+
+-- and what enters is `entered`
+pub enters-can : (cap max e : ℕ) (c : SeenCache) (st id : List ℕ) (r : SeenCache) (left : List ℕ)
+    → canEnter max (ringOf cap c) (length st) (length id) ≡ true → Enters cap max e c st id r left
+    → (r ≡ entered cap max (length id) e c) × (left ≡ enteredStore cap max c st id)
+enters-can cap max e c st id r left y h = (rw y at (h .cache), rw y at (h .store))
 
 -- ---- only a fresh id changes anything
 pub not-fresh-stays : (max at ttl : ℕ) (c : SeenCache) (st id : List ℕ) (a : Insert) → insertAnswer max c st id ≡ a
@@ -341,8 +375,8 @@ reached-both (recorded {c} {st} r max at ttl id) = let b = reached-both r in
 reached-both (swept {c} {st} r at) = let b = reached-both r in
     (gc-fine c st (b .0) (b .1) at, gc-sized c st (b .0) (b .1) at)
 
-pub reached-fine : {c : SeenCache} {st : List ℕ} → Reached c st → lentOf c st ≡ lent.Fine
-reached-fine r = reached-both r .0
+pub reached-fine : {c : SeenCache} {st : List ℕ} → Reached c st → lentNumber (lentOf c st) ≡ 0
+reached-fine r = ap lentNumber (reached-both r .0)
 
 -- ---- for readers
 -- an entry whose expiry equals now is not kept

@@ -7,15 +7,17 @@ ghost use Prim.Native.Nat.{_+_, _*_, _≤_, _<_};
 ghost use lib.ListN.{length};
 ghost use lib.Seq.{sets};
 ghost use Rattle.rows.specs.Rows.{placeOf};
-ghost use Rattle.rows.specs.Store.{InStore, Sound, inUse};
+ghost use Rattle.rows.specs.Store.{InStore, inUse};
 ghost use Rattle.seen.specs.Entries.{until};
 ghost use Rattle.seen.specs.State.{idSize, ringOf, spent, fresh, dropped, appended};
-ghost use Rattle.seen.specs.Calls.{lentOf, heldIn, cleaned, entered, enteredStore, insertAnswer, insertCache, insertStore, containsAnswer, gcAnswer, gcCache, nextAnswer};
+ghost use Rattle.seen.specs.Calls.{lentOf, heldIn, cleaned, canEnter, containsAnswer, nextAnswer};
+ghost use Rattle.seen.specs.Unique.{Enters, Inserts, Cleans};
 use rows::Ring;
 use rows::all_within;
 use rows::find_from;
 use rows::ids_differ;
 use rows::minus;
+use rows::number_at;
 use rows::place;
 
 pub const ID_SIZE: usize = 129;
@@ -89,18 +91,40 @@ pub fn expiry_of(at: u64, ttl: u64) -> u64
 
 // How many of the oldest have expired: those in front of the first that has not.
 fn expired(expiry: &[u64], ring: Ring, at: u64) -> usize
-    requires { ⌜ InStore ring (now expiry) ⌝ }
     ensures { λ r. ⌜ r ≡ spent at (inUse ring (now (expiry .entry))) ⌝ }
 {
     let mut i = 0;
     while i < ring.count {
         let p = place(ring, i);
-        if at < expiry[p] {
+        if at < number_at(expiry, p) {
             return i;
         }
         i += 1;
     }
     i
+}
+
+// Whether a row can be put: the rows in use lie in the arrays and in a store of `room` bytes, at most `max` of them are to be, and an id of n bytes
+// fits a row.
+fn can_enter(ring: Ring, max: usize, room: usize, n: usize) -> bool
+    ensures { λ r. ⌜ r ≡ canEnter max ring room n ⌝ }
+{
+    if ring.cap < ring.start {
+        return false;
+    }
+    if ring.cap < ring.count {
+        return false;
+    }
+    if MAX_IDS < ring.cap {
+        return false;
+    }
+    if room < ring.cap * ID_SIZE {
+        return false;
+    }
+    if ring.cap < max {
+        return false;
+    }
+    n <= ID_SIZE
 }
 
 // Writes an id into the store from `at` on.
@@ -175,8 +199,9 @@ impl SeenCache {
 
     // With a row more, the newest.
     fn append(mut self, store: &mut [u8], cap: usize, id: &[u8], expires: u64) -> Self
-        requires { ⌜ Sound idSize (ringOf cap self) (self .len) (now store) ⌝ }
+        requires { ⌜ InStore (ringOf cap self) (self .len) ⌝ }
         requires { ⌜ self .count < cap ⌝ }
+        requires { ⌜ cap * idSize ≤ length (now store) ⌝ }
         requires { ⌜ length (now id) ≤ idSize ⌝ }
         ensures { λ r. ⌜ r ≡ appended cap (length (now (id .entry))) expires self ⌝ }
         ensures { λ _. ⌜ now (store .exit) ≡ sets (now (store .entry)) (placeOf (ringOf cap self) (self .count) * idSize) (now (id .entry)) ⌝ }
@@ -190,9 +215,8 @@ impl SeenCache {
         self
     }
 
-    // Whether an id is held, where the state was tested.
+    // Whether an id is held, in a state that need not be tested.
     pub fn holds(self, store: &[u8], cap: usize, id: &[u8]) -> bool
-        requires { ⌜ Sound idSize (ringOf cap self) (self .len) (now store) ⌝ }
         ensures { λ r. ⌜ r ≡ heldIn cap self (now (store .entry)) (now (id .entry)) ⌝ }
     {
         let ring = self.ring(cap);
@@ -200,9 +224,8 @@ impl SeenCache {
         find_from(&lens, store, ID_SIZE, ring, 0, id) < ring.count
     }
 
-    // Without what has expired, where the state was tested.
+    // Without what has expired, in a state that need not be tested.
     pub fn clean(self, cap: usize, at: u64) -> Self
-        requires { ⌜ InStore (ringOf cap self) (self .expiry) ⌝ }
         ensures { λ r. ⌜ r ≡ cleaned cap at self ⌝ }
     {
         let ring = self.ring(cap);
@@ -211,21 +234,20 @@ impl SeenCache {
         self.without(cap, k)
     }
 
-    // With an id that is not held, where the state was tested: the oldest leave until at most `max` remain.
+    // With an id that is not held: the oldest leave until at most `max` remain. A state that was tested can take it; where one cannot, nothing changes.
     pub fn enter(self, store: &mut [u8], cap: usize, id: &[u8], expires: u64, max: usize) -> Self
-        requires { ⌜ Sound idSize (ringOf cap self) (self .len) (now store) ⌝ }
-        requires { ⌜ max ≤ cap ⌝ }
-        requires { ⌜ length (now id) ≤ idSize ⌝ }
-        ensures { λ r. ⌜ r ≡ entered cap max (length (now (id .entry))) expires self ⌝ }
-        ensures { λ _. ⌜ now (store .exit) ≡ enteredStore cap max self (now (store .entry)) (now (id .entry)) ⌝ }
+        ensures { λ r. ⌜ Enters cap max expires self (now (store .entry)) (now (id .entry)) r (now (store .exit)) ⌝ }
     {
-        let count = self.count;
-        if max == 0 {
-            return self.without(cap, count);
+        if can_enter(self.ring(cap), max, store.len(), id.len()) {
+            let count = self.count;
+            if max == 0 {
+                return self.without(cap, count);
+            }
+            let k = minus(count + 1, max);
+            let rest = self.without(cap, k);
+            return rest.append(store, cap, id, expires);
         }
-        let k = minus(count + 1, max);
-        let rest = self.without(cap, k);
-        rest.append(store, cap, id, expires)
+        self
     }
 
     // Records an id; the oldest leave until at most `max_entries` remain.
@@ -237,9 +259,7 @@ impl SeenCache {
         ttl: u64,
         max_entries: usize,
     ) -> Inserted
-        ensures { λ r. ⌜ r .answer ≡ insertAnswer «max_entries» self (now (store .entry)) (now (id .entry)) ⌝ }
-        ensures { λ r. ⌜ r .cache ≡ insertCache «max_entries» at ttl self (now (store .entry)) (now (id .entry)) ⌝ }
-        ensures { λ _. ⌜ now (store .exit) ≡ insertStore «max_entries» self (now (store .entry)) (now (id .entry)) ⌝ }
+        ensures { λ r. ⌜ Inserts «max_entries» at ttl self (now (store .entry)) (now (id .entry)) r (now (store .exit)) ⌝ }
     {
         let cap = store.len() / ID_SIZE;
         if cap < max_entries {
@@ -303,8 +323,7 @@ impl SeenCache {
 
     // Drops from the front while the expiry is at most `at`.
     pub fn gc(self, store: &[u8], at: u64) -> Cleaned
-        ensures { λ r. ⌜ r .answer ≡ gcAnswer at self (now (store .entry)) ⌝ }
-        ensures { λ r. ⌜ r .cache ≡ gcCache at self (now (store .entry)) ⌝ }
+        ensures { λ r. ⌜ Cleans at self (now (store .entry)) r ⌝ }
     {
         let lent = self.lent(store);
         match lent {

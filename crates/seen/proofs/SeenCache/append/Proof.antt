@@ -17,20 +17,20 @@ place-requires : tie.Need-place-requires
 place-requires c κs = search needs
 
 mul-write-id : tie.Need-mul-write-id
-mul-write-id c = let r = place-in (c .before .before .before .before .before .pre .0 .rows) (c .before .before .before .before .before .args .t1 .count) (c .before .place .result) (c .before .before .before .before .before .pre .1 .0) (rw (c .before .before .ring .ensures) at (c .before .place .ensures)) in omega arith
+mul-write-id c = let r = place-in (c .before .before .before .before .before .pre .0) (c .before .before .before .before .before .args .t1 .count) (c .before .place .result) (c .before .before .before .before .before .pre .1 .0) (rw (c .before .before .ring .ensures) at (c .before .place .ensures)) in omega arith
 
 write-id-requires : tie.Need-write-id-requires
-write-id-requires c κs = let r = place-in (c .before .before .before .before .before .pre .0 .rows) (c .before .before .before .before .before .args .t1 .count) (c .before .place .result) (c .before .before .before .before .before .pre .1 .0) (rw (c .before .before .ring .ensures) at (c .before .place .ensures)) in omega (arith, (c .before .before .before .before .before .pre))
+write-id-requires c κs = let r = place-in (c .before .before .before .before .before .pre .0) (c .before .before .before .before .before .args .t1 .count) (c .before .place .result) (c .before .before .before .before .before .pre .1 .0) (rw (c .before .before .ring .ensures) at (c .before .place .ensures)) in omega (arith, (c .before .before .before .before .before .pre))
 
 mul-self : tie.Need-mul-self
-mul-self c = let r = place-in (c .before .before .before .before .before .before .before .before .pre .0 .rows)
+mul-self c = let r = place-in (c .before .before .before .before .before .before .before .before .pre .0)
     (c .before .before .before .before .before .before .before .before .args .t1 .count) (c .before .before .before .before .place .result)
     (c .before .before .before .before .before .before .before .before .pre .1 .0) (rw (c .before .before .before .before .before .ring .ensures) at
     (c .before .before .before .before .place .ensures)) in omega arith
 
 element-write-self : tie.Need-element-write-self
 element-write-self c =
-    let r = place-in (c .before .before .before .before .before .before .before .before .pre .0 .rows)
+    let r = place-in (c .before .before .before .before .before .before .before .before .pre .0)
     (c .before .before .before .before .before .before .before .before .args .t1 .count) (c .before .before .before .before .place .result)
     (c .before .before .before .before .before .before .before .before .pre .1 .0) (rw (c .before .before .before .before .before .ring .ensures) at
     (c .before .before .before .before .place .ensures)) in
@@ -42,7 +42,7 @@ cast-self c = search needs
 
 element-write-self-2 : tie.Need-element-write-self-2
 element-write-self-2 c =
-    let r = place-in (c .before .before .before .before .before .before .before .before .pre .0 .rows)
+    let r = place-in (c .before .before .before .before .before .before .before .before .pre .0)
     (c .before .before .before .before .before .before .before .before .args .t1 .count) (c .before .before .before .before .place .result)
     (c .before .before .before .before .before .before .before .before .pre .1 .0) (rw (c .before .before .before .before .before .ring .ensures) at
     (c .before .before .before .before .place .ensures)) in

@@ -13,7 +13,7 @@ slice-aggregate-expired : tie.Need-slice-aggregate-expired
 slice-aggregate-expired c = search needs
 
 expired-requires : tie.Need-expired-requires
-expired-requires c κs = rw (c .before .before .ring .ensures) (c .before .before .before .pre)
+expired-requires c κs = search needs
 
 without-requires : tie.Need-without-requires
 without-requires c κs =

@@ -2,7 +2,7 @@
 use denote.Ref.{now}
 use mathlib.Core.Path.{sym, _∙_}
 use native.Mathlib.Omega.{arith}
-use Rattle.seen.proofs.Answers.{tested, contains-store, contains-malformed, contains-long, contains-yes, contains-no}
+use Rattle.seen.proofs.Answers.{contains-store, contains-malformed, contains-long, contains-yes, contains-no}
 use borrow.Author.Needs.{needs}
 use Rattle.seen.proofs.SeenCache.contains.Statement.{statement}
 use Rattle.seen.proofs.SeenCache.contains.Tie as tie
@@ -25,7 +25,7 @@ returns c =
     contains-long (a .self) (now (a .store)) (now (a .id)) (sym (c .before .enum-told3 .given .1) ∙ (c .before .before .before .lent .ensures)) (omega arith)
 
 holds-requires : tie.Need-holds-requires
-holds-requires c κs = tested (c .before .before .before .before .before .before .args .self) (now (c .before .before .before .before .before .before .args .store)) (sym (c .before .enum-told3 .given .1) ∙ (c .before .before .before .lent .ensures)) (search needs) (search needs)
+holds-requires c κs = search needs
 
 returns-2 : tie.Need-returns-2
 returns-2 c =

@@ -1,7 +1,7 @@
 -- `seen::SeenCache::gc` meets its contract: each refusal and a state that passes is a case of the answer.
 use denote.Ref.{now}
 use mathlib.Core.Path.{sym, _∙_}
-use Rattle.seen.proofs.Answers.{tested-ring, gc-store, gc-malformed, gc-left}
+use Rattle.seen.proofs.Answers.{gc-store, gc-malformed, gc-left}
 use borrow.Author.Needs.{needs}
 use Rattle.seen.proofs.SeenCache.gc.Statement.{statement}
 use Rattle.seen.proofs.SeenCache.gc.Tie as tie
@@ -19,7 +19,7 @@ enum-told-3 : tie.Need-enum-told-3
 enum-told-3 c = search needs
 
 clean-requires : tie.Need-clean-requires
-clean-requires c κs = tested-ring (c .before .before .before .before .args .self) (now (c .before .before .before .before .args .store)) (sym (c .enum-told3 .given .1) ∙ (c .before .before .lent .ensures)) (search needs) (search needs)
+clean-requires c κs = search needs
 
 returns : tie.Need-returns
 returns c =

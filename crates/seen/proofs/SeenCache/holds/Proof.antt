@@ -15,7 +15,7 @@ slice-aggregate-find-from : tie.Need-slice-aggregate-find-from
 slice-aggregate-find-from c = search needs
 
 find-from-requires : tie.Need-find-from-requires
-find-from-requires c κs = (rw (c .before .before .ring .ensures) (c .before .before .before .before .before .pre), omega arith)
+find-from-requires c κs = search needs
 
 returns : tie.Need-returns
 returns c =

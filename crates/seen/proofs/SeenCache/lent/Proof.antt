@@ -2,7 +2,7 @@
 use denote.Ref.{now}
 use mathlib.Core.Path.{sym, _∙_}
 use native.Mathlib.Omega.{arith}
-use Rattle.seen.proofs.Answers.{lent-part, lent-many, lent-start, lent-count, lent-ring, lent-long, lent-rows, lent-twice, lent-fine}
+use Rattle.seen.proofs.Answers.{lent-part, lent-many, lent-start, lent-count, lent-long, lent-twice, lent-fine}
 use borrow.Author.Needs.{needs}
 use Rattle.seen.proofs.SeenCache.lent.Statement.{statement}
 use Rattle.seen.proofs.SeenCache.lent.Tie as tie
@@ -29,20 +29,13 @@ cast-all-within : tie.Need-cast-all-within
 cast-all-within c = search needs
 
 all-within-requires : tie.Need-all-within-requires
-all-within-requires c κs =
-    let a = c .before .before .before .before .before .before .before .before .before .before .args in
-    rw (c .before .before .ring .ensures) (lent-ring (a .self) (now (a .store)) (c .before .before .before .before .before .before .before .before .if1 .left) (omega arith) (omega arith) (omega arith) (search needs))
+all-within-requires c κs = search needs
 
 slice-aggregate-ids-differ : tie.Need-slice-aggregate-ids-differ
 slice-aggregate-ids-differ c = search needs
 
 ids-differ-requires : tie.Need-ids-differ-requires
-ids-differ-requires c κs =
-    rw (c .before .before .before .before .before .ring .ensures)
-    (lent-rows (c .before .before .before .before .before .before .before .before .before .before .before .before .before .args .self)
-    (now (c .before .before .before .before .before .before .before .before .before .before .before .before .before .args .store))
-    (c .before .before .before .before .before .before .before .before .before .before .before .if1 .left) (omega arith) (omega arith) (omega arith)
-    (sym (rw (c .before .before .before .before .before .ring .ensures) at (c .before .before .all-within .ensures)) ∙ (c .before .if5 .taken)) (search needs))
+ids-differ-requires c κs = search needs
 
 returns-5 : tie.Need-returns-5
 returns-5 c = lent-fine (c .before .before .before .before .before .before .before .before .before .before .before .before .before .before .before .args .self)
