@@ -7,7 +7,9 @@ use native.Mathlib.Omega.{arith}
 use lib.ListN.{length, getD, replicate}
 use lib.Dec.{ltb, eqb}
 use borrow.Author.Tests.{ltb-true, ltb-false}
-use Rattle.basis.specs.Cases.{either, clash}
+use Rattle.basis.specs.declared.Told.{Told}
+use Rattle.basis.specs.Cases.{either}
+use Rattle.basis.specs.Told.{done}
 use Rattle.rows.specs.Rows.{placeOf, rowsIn}
 use Rattle.rows.specs.RowsLaws.{getD-tab, length-ring}
 use Rattle.rows.specs.Ids.{sameBytes, among, indexOf}
@@ -31,6 +33,7 @@ use Rattle.mcache.specs.declared.Started.{Started}
 use Rattle.mcache.specs.declared.Gossip.{Gossip}
 use Rattle.mcache.specs.declared.Gossip.the-variants as gossip
 use Rattle.mcache.specs.declared.GossipIds.{GossipIds}
+use Rattle.mcache.specs.Told.{putTold, lookupTold}
 use Rattle.mcache.specs.Messages.{Cached, idsOf, held, put as putIn, get, shift}
 use Rattle.mcache.specs.State.{messageIn, cachedAt, cachedIn, dropped, appended, passed, aged, messageSize}
 use Rattle.mcache.specs.State.{messageIdSize, maxMessages, ringOf, legal, fresh}
@@ -118,7 +121,8 @@ module _
     pub put-plan : planned c st body i ≡ cond (held id (cachedIn c st)) (no put.Held) (keep p id)
     put-plan = rw (plan-under, held-index c st id)
 
-    pub put-says : answered (planned c st body i) ≡ cond (held id (cachedIn c st)) put.Held put.Stored
+    pub put-says : putTold (answered (planned c st body i)) ≡ cond (held id (cachedIn c st)) (done (0 ∷ []))
+        (done (1 ∷ []))
     put-says = rw put-plan (either (held id (cachedIn c st)) (λ t. rw t) (λ t. rw t))
 
     pub put-cached : Sized c → cachedIn (keptIn c (planned c st body i)) (storedIn c st (planned c st body i))
@@ -138,9 +142,12 @@ pub put-refused : (c : MessageCache) (st body : List ℕ) (i : ℕ) → (putNumb
     → (keptIn c (planned c st body i) ≡ c) × (storedIn c st (planned c st body i) ≡ st)
 put-refused c st body i n = not-stored c st (planned c st body i) (λ e. n (ap putNumber e))
 
-pub put-held : (c : MessageCache) (st body : List ℕ) (i : ℕ) → answered (planned c st body i) ≡ put.Held
+pub put-held : (c : MessageCache) (st body : List ℕ) (i : ℕ)
+    → putTold (answered (planned c st body i)) ≡ done (0 ∷ [])
     → (keptIn c (planned c st body i) ≡ c) × (storedIn c st (planned c st body i) ≡ st)
-put-held c st body i h = not-stored c st (planned c st body i) (λ e. clash (let q = sym h ∙ e in cc))
+put-held c st body i h =
+    not-stored c st (planned c st body i)
+    (λ e. let q : 0 ≡ 1 = ap (λ (t : Told). t .first) (sym h ∙ ap putTold e) in omega arith)
 
 -- ---- get
 get-here : (id : List ℕ) (ms : List Cached) (d : Cached) → indexOf id (idsOf ms) < length ms
@@ -190,9 +197,10 @@ module _ (c : MessageCache) (st id : List ℕ) (fine : lentOf c st ≡ lent.Fine
   unfolding getPart
   get-cached = rw fine (found-cached c st id)
 
-  pub lookup-says : lookupAnswer c st id ≡ cond (held id (cachedIn c st)) lookup.Found lookup.Missing
+  pub lookup-says : lookupTold (lookupAnswer c st id) ≡ cond (held id (cachedIn c st)) (done (1 ∷ [])) (done (0 ∷ []))
   unfolding lookupAnswer
-  lookup-says = rw (fine, held-index c st id)
+  lookup-says =
+      rw (fine, held-index c st id) (either (ltb (indexIn c id) (c .count)) (λ t. rw t) (λ t. rw t))
 
 -- ---- the other refusals leave nothing either: no cache, no message, no ids
 start-by : (history max : ℕ) → (startNumber (startAnswer history max) ≡ 0 → ⊥) → startCache history max ≡ fresh 1 0

@@ -7,6 +7,7 @@ use mathlib.Core.Logic.{⊎-elim}
 use native.Mathlib.Omega.{arith}
 use lib.ListN.{length, drop}
 use lib.Seq.{sets}
+use Rattle.basis.specs.Told.{done}
 use Rattle.rows.specs.declared.Ring.{Ring}
 use Rattle.rows.specs.Rows.{placeOf, without, oneMore}
 use Rattle.rows.specs.RowsLaws.{place-is, place-le, newest-more}
@@ -20,9 +21,10 @@ use Rattle.admission.specs.Admission.{admissionOf}
 use Rattle.mcache.specs.declared.MessageCache.{MessageCache}
 use Rattle.mcache.specs.declared.Lent.the-variants as lent
 use Rattle.mcache.specs.declared.Put.the-variants as put
+use Rattle.mcache.specs.Told.{putTold}
 use Rattle.mcache.specs.Messages.{Cached, held, put as putIn}
 use Rattle.mcache.specs.State.{cachedIn, messageSize, ringOf}
-use Rattle.mcache.specs.Calls.{lentOf, no, keep, answered, keptIn, storedIn, planned}
+use Rattle.mcache.specs.Calls.{lentOf, Plan, no, keep, answered, keptIn, storedIn, planned}
 use Rattle.mcache.specs.WellFormed.{Sized, rowOf}
 use Rattle.mcache.specs.StateLaws.{fine-tests}
 use Rattle.mcache.specs.CachedLaws.{new, leaving, spot, stays, spot-in, spot-free, grown, entered-some}
@@ -63,11 +65,11 @@ module _
   where
     -- a put of a held id answers so and changes nothing, also where the message is another one with that id
     pub held-not-replaced : held (idBytes (between body a e) x y z w) (cachedIn c st) ≡ true
-        → (answered (planned c st body i) ≡ put.Held) × (keptIn c (planned c st body i) ≡ c)
+        → (putTold (answered (planned c st body i)) ≡ done (0 ∷ [])) × (keptIn c (planned c st body i) ≡ c)
         × (storedIn c st (planned c st body i) ≡ st)
     held-not-replaced h =
         let p : planned c st body i ≡ no put.Held = rw h at (put-plan c st body i a e x y z w fine ok there fit) in
-        (ap answered p, ap (keptIn c) p, ap (storedIn c st) p)
+        (ap (λ (r : Plan). putTold (answered r)) p, ap (keptIn c) p, ap (storedIn c st) p)
 
     -- a put into a full cache: the oldest goes, the others stay, and the message is the newest
     pub oldest-leaves-put : Sized c → (oldest : Cached) (ms : List Cached) → cachedIn c st ≡ oldest ∷ ms
