@@ -28,7 +28,7 @@ use Rattle.node.specs.declared.Beat.the-variants as beat
 use Rattle.node.specs.Gateway.{Gateway, started, marked, isNew, afterAdmit, afterBeat}
 use Rattle.node.specs.State.{risesFrom}
 use Rattle.node.specs.Calls.{Plan, no, taken, heldAt, admitCache, beatAnswer}
-use Rattle.node.specs.Laws.{plan-takes, is-new, beat-says}
+use Rattle.node.specs.Laws.{plan-takes, takes-own, is-new, beat-says}
 use Rattle.node.specs.WellFormedLaws.{rises-less, first-least}
 use Rattle.history.specs.History.{State, gatewayOf, Settings, Fresh, Call, admit, heartbeat, advertise, ask, serve}
 use Rattle.history.specs.History.{planIn, after, afterAll, reading, readings, firstOf, beat, beats}
@@ -312,8 +312,8 @@ module _ {set : List (List ℕ)} {x : Settings} {first past : ℕ} {got : List (
     pub admit-held : (m id : List ℕ) → planIn s body i word at ≡ taken m id → among m set ≡ true
         → heldAt (s .node) (s .ids) at id ≡ among m got
     admit-held m id e inside =
-        let t = plan-takes (s .node) (s .ids) (s .messages) body i word at m id e in
-        let a = holds-new (h .held) at (admit-reads .lasting) ms (admit-reads .later) m id inside (t .own) in
+        let t = plan-takes (s .node) (s .ids) (s .messages) body i word at m id .0 e in
+        let a = holds-new (h .held) at (admit-reads .lasting) ms (admit-reads .later) m id inside (takes-own t) in
         let b = is-new (s .node) (s .ids) (s .messages) (t .fine) at id in
         sym (Bool·not-not (heldAt (s .node) (s .ids) at id)) ∙ ap not (sym b ∙ a) ∙ Bool·not-not (among m got)
 
@@ -324,13 +324,13 @@ module _ {set : List (List ℕ)} {x : Settings} {first past : ℕ} {got : List (
         (record { kept = h .kept; held = h .held; bytes = h .bytes; ahead = reads-kept admit-reads })
     by-plan (taken m id) e inside =
         let g = sym (admit-leaves s body i word at m id e (h .kept .typed)) in
-        let t = plan-takes (s .node) (s .ids) (s .messages) body i word at m id e in
+        let t = plan-takes (s .node) (s .ids) (s .messages) body i word at m id .0 e in
         let c = admit-clock s body i word at m id e (h .kept .typed) in
         record {
           kept = after-keeps (admit body i word at) s (h .kept);
           held =
               subst (λ (k : Gateway). Holds set x first past (withGot m got) k) g
-              (holds-admit (h .held) at (admit-reads .lasting) ms (admit-reads .later) m id inside (t .own));
+              (holds-admit (h .held) at (admit-reads .lasting) ms (admit-reads .later) m id inside (takes-own t));
           bytes = some-stored m id e (ms .bytes m inside);
           ahead = subst (λ (k : ℕ). Ahead x first past k rs left) (sym c) (admit-reads .rest);
         }
