@@ -1,6 +1,6 @@
 -- To be believed: Gateway, State, WellFormed, Calls (the order of refusals), Told.
 -- Cited by contracts, and joined to these by theorems: what the calls leave, in Calls, by Laws.
--- Theorems: Laws, WellFormedLaws, Exactly, Readers, Unique.
+-- Theorems: Laws, WellFormedLaws, Exactly, Freed, WrapLaws, Readers, Unique.
 -- On the way to them: StateLaws, WireLaws, AskLaws.
 pub mod Told
 pub mod Gateway
@@ -13,5 +13,7 @@ pub mod AskLaws
 pub mod Laws
 pub mod WellFormedLaws
 pub mod Exactly
+pub mod Freed
+pub mod WrapLaws
 pub mod Readers
 pub mod Unique
