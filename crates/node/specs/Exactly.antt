@@ -1,20 +1,17 @@
 -- 40, 41 and 42, each exactly: of a lent node and its stores, and of every call that is given them; and 40 of a start.
 use Prim.Native.Nat.{ℕ, _*_, _/_, _≤_, _<_}
-use mathlib.Core.Path.{_≡_, refl, ap, _∙_}
+use mathlib.Core.Path.{_≡_, refl, ap}
 use mathlib.Core.List.{List, [], _∷_}
 use mathlib.Core.Bool.{Bool, true, false, _&&_}
-use mathlib.Core.Logic.{_↔_, _⊎_, inl, inr, ⊎-elim}
+use mathlib.Core.Logic.{_↔_, _⊎_, inl, inr}
 use native.Mathlib.Omega.{arith}
 use lib.ListN.{length}
 use lib.Dec.{leb, ltb, eqb}
-use borrow.Author.Tests.{leb-true, leb-false, ltb-true, ltb-false, lt-ltb, le-ltb, eqb-true, eqb-false, eq-eqb, ne-eqb}
-use borrow.Author.Tests.{le-leb, lt-leb}
+use borrow.Author.Tests.{leb-false, lt-leb, ltb-true, ltb-false, lt-ltb, eqb-true, eqb-false, eq-eqb, ne-eqb}
 use Rattle.basis.specs.Cases.{either, clash}
 use Rattle.basis.specs.Refusals.{bad-setting, bad-store, malformed}
 use Rattle.basis.specs.Writing.{answer}
-use Rattle.peer_id.specs.declared.VarintError.{VarintError}
 use Rattle.peer_id.specs.declared.VarintError.the-variants as varint
-use Rattle.peer_id.specs.Told.{varintTold}
 use Rattle.protobuf.specs.declared.Checked.{Checked}
 use Rattle.protobuf.specs.declared.Checked.the-variants as checked
 use Rattle.protobuf.specs.declared.WireError.{WireError}
@@ -38,7 +35,8 @@ use Rattle.node.specs.declared.Node.{Node}
 use Rattle.node.specs.declared.Fault.{Fault}
 use Rattle.node.specs.declared.Lent.{Lent}
 use Rattle.node.specs.declared.Lent.the-variants as lent
-use Rattle.node.specs.Told.{faultTold, lentTold, startTold, admitTold, beatTold, advertiseTold, askTold, serveTold}
+use Rattle.node.specs.Told.{faultTold, lentTold, startTold, admitTold, beatTold, advertiseTold, askTold}
+use Rattle.node.specs.Told.{serveTold}
 use Rattle.node.specs.State.{legalSettings, wellFormed}
 use Rattle.node.specs.Calls.{startAnswer, rightSizes, lentOf, planFit, planAt, planBody, planned, heldAt}
 use Rattle.node.specs.Calls.{admitAnswer, beatAnswer, advertiseBytes, advertiseAnswer, askBytes, askAnswer}
@@ -107,8 +105,10 @@ module _ (n : Node) (ss cs : List ℕ) where
   right-sizes h =
       either (eqb (length ss) (n .«max_seen» * idSize))
       (λ t. either (eqb (length cs) (n .cache .«max_messages» * messageSize))
-      (λ u. (eqb-true (length ss) (n .«max_seen» * idSize) t,
-      eqb-true (length cs) (n .cache .«max_messages» * messageSize) u))
+      (λ u. (
+        eqb-true (length ss) (n .«max_seen» * idSize) t,
+        eqb-true (length cs) (n .cache .«max_messages» * messageSize) u,
+      ))
       (λ u. clash (let z = rw (t, u) at h in cc)))
       (λ t. clash (let z = rw t at h in cc))
 
@@ -142,8 +142,12 @@ module _ (n : Node) (ss cs : List ℕ) where
   malformed-exactly y = (
     λ h. either (ltb (capOf ss) (n .«max_seen»)) (λ t. let e = by-setting t in absurd (omega arith))
         (λ t. either (rightSizes n ss cs)
-        (λ u. let s = right-sizes u in
-        (s .0, s .1, λ w. let e = ap (λ (l : Lent). lentTold l .number) (well-formed-node-fine n ss cs w) in omega arith))
+        (λ u. let s = right-sizes u in (
+          s .0,
+          s .1,
+          λ w.
+              let e = ap (λ (l : Lent). lentTold l .number) (well-formed-node-fine n ss cs w) in omega arith,
+        ))
         (λ u. let e = by-store t u in absurd (omega arith))),
     λ h. either (ltb (capOf ss) (n .«max_seen»))
         (λ t. let l = ltb-true (capOf ss) (n .«max_seen») t in absurd (omega arith))

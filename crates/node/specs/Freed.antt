@@ -1,11 +1,10 @@
 -- Freed places are used again, on the node's own path: where an admit that is answered new writes the id and the
 -- message, after its clean-up.
-use Prim.Native.Nat.{ℕ, _≤_}
-use mathlib.Core.Path.{_≡_, refl, sym, ap, _∙_}
+use Prim.Native.Nat.{ℕ}
+use mathlib.Core.Path.{_≡_, sym, _∙_}
 use mathlib.Core.List.{List}
-use mathlib.Core.Bool.{Bool, true, false, cond}
+use mathlib.Core.Bool.{Bool, true, false}
 use native.Mathlib.Omega.{arith}
-use lib.ListN.{length}
 use lib.Dec.{ltb}
 use borrow.Author.Tests.{eq-eqb}
 use Rattle.basis.specs.Cases.{either, clash}
@@ -15,15 +14,14 @@ use Rattle.seen.specs.Laws.{well-formed-exactly as seen-exactly}
 use Rattle.seen.specs.Freed as seen
 use Rattle.mcache.specs.Messages.{held}
 use Rattle.mcache.specs.State.{cachedIn}
-use Rattle.mcache.specs.Calls.{indexIn, planUnder, keep, keptIn, storedIn, keptUnder, storedUnder, enteredStore as storedAt}
+use Rattle.mcache.specs.Calls.{indexIn, planUnder, keep, keptUnder, storedUnder, enteredStore as storedAt}
 use Rattle.mcache.specs.Calls.{planned as putPlanned}
 use Rattle.mcache.specs.Laws.{held-index, put-plan}
 use Rattle.mcache.specs.Readers as mcache
 use Rattle.node.specs.declared.Node.{Node}
-use Rattle.node.specs.declared.Admit.{Admit}
 use Rattle.node.specs.declared.Admit.the-variants as admit
 use Rattle.node.specs.Gateway.{marked}
-use Rattle.node.specs.Calls.{Plan, no, taken, planned, swept, heldAt, admitAnswer, admitNode, admitSeen}
+use Rattle.node.specs.Calls.{taken, planned, swept, heldAt, admitAnswer, admitNode, admitSeen}
 use Rattle.node.specs.Calls.{admitCache, laterNode}
 use Rattle.node.specs.WellFormed.{Typed}
 use Rattle.node.specs.StateLaws.{fine-tests, room-cap}

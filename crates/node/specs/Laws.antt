@@ -288,7 +288,8 @@ module _ (n : Node) (ss cs body : List ℕ) (i : ℕ) (word : Bool) (at : ℕ) (
       let b = store-inserted n ss cs (t .fine) at (typed .ids) id (takes-id-small t) in
       let e = entries-inserted n ss cs (t .fine) at (typed .ids) id (takes-id-small t) in
       let s = under-settings m id (n .cache) in
-      let c = under-cached (n .cache) cs m id (f .messages) (typed .messages .sized) (takes-id-small t) (takes-small t) in
+      let c = under-cached (n .cache) cs m id (f .messages) (typed .messages .sized) (takes-id-small t)
+      (takes-small t) in
       rw (plan, is-new n ss cs (t .fine) at id, ← e, ← a, ← b)
       (either (heldAt n ss at id) (λ u. rw u) (λ u. rw (u, c, s .0, s .1)))
 

@@ -170,26 +170,6 @@ module _ (k : ℕ) (n : Node) (ss cs : List ℕ) (typed : Typed n) where
         ≡ admitCache n ss cs at (planned n ss cs body i word at))
     admit-moved = rw plan-moved (admit-by (planned n ss cs body i word at) refl)
 
-    -- what it leaves has the types of a node
-    typed-by : (r : Plan) → planned n ss cs body i word at ≡ r → Typed (admitNode n ss at r)
-    unfolding laterNode
-    typed-by (no r) e = typed
-    typed-by (taken m id) e =
-        let t = plan-takes n ss cs body i word at m id .0 e in
-        let z = swept-sized n ss cs (t .fine) at (typed .ids) in
-        let f = swept-fine n ss cs (t .fine) at (typed .ids) in
-        let s = seen-inserted n ss cs (t .fine) at (typed .ids) id (takes-id-small t) in
-        either (heldAt n ss at id)
-        (λ u. rw u (record { ids = z; messages = typed .messages }))
-        (λ u. rw u
-        (record {
-          ids = rw (rw u at s) (insert-sized (swept n at) ss f z (n .«max_seen») at (n .ttl) (marked id));
-          messages = under-typed m id (n .cache) (typed .messages);
-        }))
-
-    pub admit-typed : Typed (admitNode n ss at (planned n ss cs body i word at))
-    admit-typed = typed-by (planned n ss cs body i word at) refl
-
   -- ---- heartbeat
   module _ (at : ℕ) where
     pub beat-answer-moved : beatAnswer (movedNode k n) ss cs at ≡ beatAnswer n ss cs at
@@ -216,15 +196,6 @@ module _ (k : ℕ) (n : Node) (ss cs : List ℕ) (typed : Typed n) where
     unfolding beatNode movedNode
     beat-moved = (beat-answer-moved, rw beat-answer-moved (beat-by (beatAnswer n ss cs at) refl))
 
-    beat-typed-by : (r : Beat) → beatAnswer n ss cs at ≡ r → Typed (beatNode n ss cs at)
-    unfolding beatNode
-    beat-typed-by (beat.Faulty why) e = rw e typed
-    beat-typed-by (beat.ClockBack clock) e = rw e typed
-    beat-typed-by beat.Done e = beat-typed n ss cs at typed e
-
-    pub beaten-typed : Typed (beatNode n ss cs at)
-    beaten-typed = beat-typed-by (beatAnswer n ss cs at) refl
-
   -- ---- the writers, which leave the node as it is
   told-moved : (topic : List ℕ) (windows : ℕ) → advertiseBytes (movedNode k n) cs topic windows ≡ advertiseBytes n cs
       topic windows
@@ -235,8 +206,9 @@ module _ (k : ℕ) (n : Node) (ss cs : List ℕ) (typed : Typed n) where
       → (advertiseAnswer (movedNode k n) ss cs topic windows out ≡ advertiseAnswer n ss cs topic windows out)
       × (advertiseLeft (movedNode k n) ss cs topic windows out ≡ advertiseLeft n ss cs topic windows out)
   unfolding advertiseAnswer advertiseLeft
-  advertise-moved topic windows out = (rw (lent-moved, told-moved topic windows), rw (lent-moved, told-moved topic
-      windows))
+  advertise-moved topic windows out =
+      let t = told-moved topic windows in
+      (rw (lent-moved, t), rw (lent-moved, t))
 
   asked-moved : (body : List ℕ) → askBytes (movedNode k n) ss body ≡ askBytes n ss body
   unfolding askBytes unseenOf movedNode
@@ -254,4 +226,38 @@ module _ (k : ℕ) (n : Node) (ss cs : List ℕ) (typed : Typed n) where
   pub serve-moved : (body out : List ℕ) → (serveAnswer (movedNode k n) ss cs body out ≡ serveAnswer n ss cs body out)
       × (serveLeft (movedNode k n) ss cs body out ≡ serveLeft n ss cs body out)
   unfolding serveAnswer serveLeft movedNode
-  serve-moved body out = (rw (lent-moved, served-moved (wanted body)), rw (lent-moved, served-moved (wanted body)))
+  serve-moved body out =
+      let s = served-moved (wanted body) in
+      (rw (lent-moved, s), rw (lent-moved, s))
+
+-- ---- what a call leaves has the types of a node, so that the same holds for the calls after it
+module _ (n : Node) (ss cs : List ℕ) (typed : Typed n) where
+  admit-by-plan : (body : List ℕ) (i : ℕ) (word : Bool) (at : ℕ) (r : Plan) → planned n ss cs body i word at ≡ r
+      → Typed (admitNode n ss at r)
+  unfolding laterNode
+  admit-by-plan body i word at (no r) e = typed
+  admit-by-plan body i word at (taken m id) e =
+      let t = plan-takes n ss cs body i word at m id .0 e in
+      let z = swept-sized n ss cs (t .fine) at (typed .ids) in
+      let f = swept-fine n ss cs (t .fine) at (typed .ids) in
+      let s = seen-inserted n ss cs (t .fine) at (typed .ids) id (takes-id-small t) in
+      either (heldAt n ss at id)
+      (λ u. rw u (record { ids = z; messages = typed .messages }))
+      (λ u. rw u
+      (record {
+        ids = rw (rw u at s) (insert-sized (swept n at) ss f z (n .«max_seen») at (n .ttl) (marked id));
+        messages = under-typed m id (n .cache) (typed .messages);
+      }))
+
+  pub admit-typed : (body : List ℕ) (i : ℕ) (word : Bool) (at : ℕ)
+      → Typed (admitNode n ss at (planned n ss cs body i word at))
+  admit-typed body i word at = admit-by-plan body i word at (planned n ss cs body i word at) refl
+
+  beat-by-answer : (at : ℕ) (r : Beat) → beatAnswer n ss cs at ≡ r → Typed (beatNode n ss cs at)
+  unfolding beatNode
+  beat-by-answer at (beat.Faulty why) e = rw e typed
+  beat-by-answer at (beat.ClockBack clock) e = rw e typed
+  beat-by-answer at beat.Done e = beat-typed n ss cs at typed e
+
+  pub beaten-typed : (at : ℕ) → Typed (beatNode n ss cs at)
+  beaten-typed at = beat-by-answer at (beatAnswer n ss cs at) refl
