@@ -1,5 +1,5 @@
--- To be believed: Named, Replied (`Replies`, `Counts`).
--- Theorems: Offered, Replied, Requested, Advertised.
+-- To be believed: Named, Replied (`Replies`, `Counts`), Admitted (`AdmitTakes`).
+-- Theorems: Offered, Replied, Requested, Advertised, Admitted.
 -- On the way to them: Bodies, Cached.
 pub mod Named
 pub mod Offered
@@ -8,3 +8,4 @@ pub mod Cached
 pub mod Replied
 pub mod Requested
 pub mod Advertised
+pub mod Admitted
