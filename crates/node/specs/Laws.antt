@@ -4,6 +4,7 @@ use Prim.Native.Nat.{ℕ, _≤_}
 use mathlib.Core.Path.{_≡_, refl, sym, ap, _∙_}
 use mathlib.Core.List.{List, [], _∷_}
 use mathlib.Core.Bool.{Bool, true, cond, not}
+use mathlib.Core.Logic.{_↔_}
 use native.Mathlib.Omega.{arith}
 use lib.ListN.{length}
 use lib.Seq.{sets}
@@ -18,9 +19,6 @@ use Rattle.node.specs.Parts.{atPath}
 use Rattle.protobuf.specs.declared.Checked.{Checked}
 use Rattle.protobuf.specs.declared.Checked.the-variants as checked
 use Rattle.protobuf.specs.Walk.{between}
-use Rattle.schema.specs.declared.Kind.the-variants as kind
-use Rattle.schema.specs.declared.Counted.the-variants as count
-use Rattle.schema.specs.Count.{counted}
 use Rattle.ids.specs.declared.MessageAt.{MessageAt}
 use Rattle.ids.specs.declared.MessageAt.the-variants as found
 use Rattle.schema.specs.Accept.{acceptOf}
@@ -84,58 +82,118 @@ unfolding startAnswer
 start-says max-seen history max h = rw h
 
 -- ---- what an admit takes
--- the message and its id, and that the node passed, the host gave its word and the clock did not go back
-pub record Takes (n : Node) (ss cs : List ℕ) (word : Bool) (at : ℕ) (m id : List ℕ) : Type 0 where
+-- a message and its id: the state is fine, the body accepted, m the message at the index, fit with the host's word; its
+-- id is from + seqno; and the clock is not ahead
+pub record Takes (n : Node) (ss cs body : List ℕ) (i : ℕ) (word : Bool) (at : ℕ) (m id : List ℕ) : Type 0 where
   pub fine : lentOf n ss cs ≡ lent.Fine
-  pub word-given : word ≡ true
+  pub accepted : acceptOf body ≡ checked.Fine
+  pub start : ℕ
+  pub next : ℕ
+  pub there : messageAt body i ≡ found.At start next
+  pub bytes : m ≡ between body start next
+  pub from-start : ℕ
+  pub from-end : ℕ
+  pub seqno-start : ℕ
+  pub seqno-end : ℕ
+  pub fit : admissionOf m word ≡ admission.Fit from-start from-end seqno-start seqno-end
+  pub named : id ≡ idBytes m from-start from-end seqno-start seqno-end
   pub forward : n .clock ≤ at
-  pub small : length m ≤ messageSize
-  pub id-small : length id ≤ messageIdSize
-  pub own : givesId m id ≡ true
 
-module _ (n : Node) (ss cs : List ℕ) (word : Bool) (at : ℕ) (m id : List ℕ) (fine : lentOf n ss cs ≡ lent.Fine) where
-  of-fit : (p : List ℕ) (k : ℕ) (r : Admission) → counted kind.RawMessage p ≡ count.Records k → admissionOf p word ≡ r
-      → planFit n at p r ≡ taken m id → Takes n ss cs word at m id
-  of-fit p k (admission.Unfit why) c e h = clash (cc)
-  of-fit p k (admission.Fit x y z w) c e h =
-      either (ltb at (n .clock))
-      (λ t. clash (let q = rw t at h in cc))
-      (λ t.
-      let q : taken p (idBytes p x y z w) ≡ taken m id = rw t at h in
-      let a : p ≡ m = cc in
-      let b : idBytes p x y z w ≡ id = cc in
-      let v : word ≡ true = fit-word p word x y z w e in
-      record {
-        fine = fine;
-        word-given = v;
-        forward = ltb-false at (n .clock) t;
-        small = rw (← a) (fit-limits p word x y z w e .small);
-        id-small = rw (← b) (fit-id p word x y z w e .1);
-        own = rw (← a, ← b) (gives-own p k x y z w c (rw v at e));
-      })
+module _ (n : Node) (ss cs body : List ℕ) (i : ℕ) (word : Bool) (at : ℕ) (m id : List ℕ) where
+  module _ (fine : lentOf n ss cs ≡ lent.Fine) (ok : acceptOf body ≡ checked.Fine) where
+    of-fit : (a e : ℕ) (r : Admission) → messageAt body i ≡ found.At a e → admissionOf (between body a e) word ≡ r
+        → planFit n at (between body a e) r ≡ taken m id → Takes n ss cs body i word at m id
+    of-fit a e (admission.Unfit why) there f h = clash (cc)
+    of-fit a e (admission.Fit x y z w) there f h =
+        let p = between body a e in
+        either (ltb at (n .clock))
+        (λ t. clash (let q = rw t at h in cc))
+        (λ t.
+        let q : taken p (idBytes p x y z w) ≡ taken m id = rw t at h in
+        let b : m ≡ p = cc in
+        let c : idBytes p x y z w ≡ id = cc in
+        record {
+          fine = fine;
+          accepted = ok;
+          start = a;
+          next = e;
+          there = there;
+          bytes = b;
+          from-start = x;
+          from-end = y;
+          seqno-start = z;
+          seqno-end = w;
+          fit = rw b f;
+          named = rw b (sym c);
+          forward = ltb-false at (n .clock) t;
+        })
 
-  of-at : (body : List ℕ) (i : ℕ) (r : MessageAt) → acceptOf body ≡ checked.Fine → messageAt body i ≡ r
-      → planAt n at word body r ≡ taken m id → Takes n ss cs word at m id
-  of-at body i (found.Count k) a e h = clash (cc)
-  of-at body i (found.At x y) a e h =
-      let q = message-read body i x y a e in
-      of-fit (between body x y) (q .0) (admissionOf (between body x y) word) (q .1) refl h
+    of-at : (r : MessageAt) → messageAt body i ≡ r → planAt n at word body r ≡ taken m id
+        → Takes n ss cs body i word at m id
+    of-at (found.Count k) there h = clash (cc)
+    of-at (found.At a e) there h = of-fit a e (admissionOf (between body a e) word) there refl h
 
-  of-body : (body : List ℕ) (i : ℕ) (r : Checked) → acceptOf body ≡ r → planBody n at word body i r ≡ taken m id
-      → Takes n ss cs word at m id
-  of-body body i (checked.Refused why) a h = clash (cc)
-  of-body body i checked.Fine a h = of-at body i (messageAt body i) a refl h
+  of-body : lentOf n ss cs ≡ lent.Fine → (r : Checked) → acceptOf body ≡ r → planBody n at word body i r ≡ taken m id
+      → Takes n ss cs body i word at m id
+  of-body fine (checked.Refused why) ok h = clash (cc)
+  of-body fine checked.Fine ok h = of-at fine ok (messageAt body i) refl h
 
-of-lent : (n : Node) (ss cs body : List ℕ) (i : ℕ) (word : Bool) (at : ℕ) (m id : List ℕ) (l : Lent)
-    → lentOf n ss cs ≡ l → planned n ss cs body i word at ≡ taken m id → Takes n ss cs word at m id
-unfolding planned
-of-lent n ss cs body i word at m id (lent.Faulty why) e h = clash (let q = rw e at h in cc)
-of-lent n ss cs body i word at m id lent.Fine e h =
-    of-body n ss cs word at m id e body i (acceptOf body) refl (rw e at h)
+  of-lent : (l : Lent) → lentOf n ss cs ≡ l → planned n ss cs body i word at ≡ taken m id
+      → Takes n ss cs body i word at m id
+  unfolding planned
+  of-lent (lent.Faulty why) e h = clash (let q = rw e at h in cc)
+  of-lent lent.Fine e h = of-body e (acceptOf body) refl (rw e at h)
 
-pub plan-takes : (n : Node) (ss cs body : List ℕ) (i : ℕ) (word : Bool) (at : ℕ) (m id : List ℕ)
-    → planned n ss cs body i word at ≡ taken m id → Takes n ss cs word at m id
-plan-takes n ss cs body i word at m id h = of-lent n ss cs body i word at m id (lentOf n ss cs) refl h
+  takes-plan : Takes n ss cs body i word at m id → planned n ss cs body i word at ≡ taken m id
+  unfolding planned
+  takes-plan t =
+      rw (t .fine, t .accepted, t .there, ← t .bytes, t .fit, le-ltb at (n .clock) (t .forward))
+      (ap (λ (j : List ℕ). taken m j) (sym (t .named)))
+
+  -- exactly then
+  pub plan-takes : (planned n ss cs body i word at ≡ taken m id) ↔ Takes n ss cs body i word at m id
+  plan-takes = (of-lent (lentOf n ss cs) refl, takes-plan)
+
+-- what follows for the message and its id
+module _ {n : Node} {ss cs body : List ℕ} {i : ℕ} {word : Bool} {at : ℕ} {m id : List ℕ}
+    (t : Takes n ss cs body i word at m id) where
+  pub takes-word : word ≡ true
+  takes-word = fit-word m word (t .from-start) (t .from-end) (t .seqno-start) (t .seqno-end) (t .fit)
+
+  pub takes-small : length m ≤ messageSize
+  takes-small = fit-limits m word (t .from-start) (t .from-end) (t .seqno-start) (t .seqno-end) (t .fit) .small
+
+  pub takes-id-small : length id ≤ messageIdSize
+  takes-id-small = rw (t .named) (fit-id m word (t .from-start) (t .from-end) (t .seqno-start) (t .seqno-end)
+      (t .fit) .1)
+
+  pub takes-own : givesId m id ≡ true
+  takes-own =
+      let r = message-read body i (t .start) (t .next) (t .accepted) (t .there) in
+      rw (t .named) (gives-own m (r .0) (t .from-start) (t .from-end) (t .seqno-start) (t .seqno-end)
+      (rw (t .bytes) (r .1)) (rw takes-word at (t .fit)))
+
+-- and with the word given, a message that gives the id is fit, and named by it
+pub own-takes : (n : Node) (ss cs body : List ℕ) (i at a e : ℕ) (m id : List ℕ) → lentOf n ss cs ≡ lent.Fine
+    → acceptOf body ≡ checked.Fine → messageAt body i ≡ found.At a e → m ≡ between body a e → givesId m id ≡ true
+    → n .clock ≤ at → Takes n ss cs body i true at m id
+own-takes n ss cs body i at a e m id fine ok there bytes own h =
+    let g = gives-only m id own in
+    record {
+      fine = fine;
+      accepted = ok;
+      start = a;
+      next = e;
+      there = there;
+      bytes = bytes;
+      from-start = g .from-start;
+      from-end = g .from-end;
+      seqno-start = g .seqno-start;
+      seqno-end = g .seqno-end;
+      fit = g .taken;
+      named = g .named;
+      forward = h;
+    }
 
 -- where nothing is refused, the message at the index is taken, under its id
 pub plan-taken : (n : Node) (ss cs body : List ℕ) (i at a e x y z w : ℕ) → lentOf n ss cs ≡ lent.Fine
@@ -219,7 +277,7 @@ module _ (n : Node) (ss cs body : List ℕ) (i : ℕ) (word : Bool) (at : ℕ) (
   pub admit-says : admitAnswer n ss at (planned n ss cs body i word at) ≡ cond (isNew at id (gatewayIn n ss cs))
       admit.New admit.Duplicate
   admit-says =
-      let t = plan-takes n ss cs body i word at m id plan in
+      let t = plan-takes n ss cs body i word at m id .0 plan in
       rw (plan, is-new n ss cs (t .fine) at id) (either (heldAt n ss at id) (λ u. rw u) (λ u. rw u))
 
   pub admit-gateway : gatewayIn (admitNode n ss at (planned n ss cs body i word at))
@@ -227,13 +285,14 @@ module _ (n : Node) (ss cs body : List ℕ) (i : ℕ) (word : Bool) (at : ℕ) (
       ≡ afterAdmit at m id (gatewayIn n ss cs)
   unfolding gatewayIn afterAdmit laterNode
   admit-gateway =
-      let t = plan-takes n ss cs body i word at m id plan in
+      let t = plan-takes n ss cs body i word at m id .0 plan in
       let f = fine-tests n ss cs (t .fine) in
-      let a = seen-inserted n ss cs (t .fine) at (typed .ids) id (t .id-small) in
-      let b = store-inserted n ss cs (t .fine) at (typed .ids) id (t .id-small) in
-      let e = entries-inserted n ss cs (t .fine) at (typed .ids) id (t .id-small) in
+      let a = seen-inserted n ss cs (t .fine) at (typed .ids) id (takes-id-small t) in
+      let b = store-inserted n ss cs (t .fine) at (typed .ids) id (takes-id-small t) in
+      let e = entries-inserted n ss cs (t .fine) at (typed .ids) id (takes-id-small t) in
       let s = under-settings m id (n .cache) in
-      let c = under-cached (n .cache) cs m id (f .messages) (typed .messages .sized) (t .id-small) (t .small) in
+      let c = under-cached (n .cache) cs m id (f .messages) (typed .messages .sized) (takes-id-small t)
+      (takes-small t) in
       rw (plan, is-new n ss cs (t .fine) at id, ← e, ← a, ← b)
       (either (heldAt n ss at id) (λ u. rw u) (λ u. rw (u, c, s .0, s .1)))
 

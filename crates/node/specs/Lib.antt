@@ -1,6 +1,7 @@
--- To be believed: Parts (`once`, `fitting`), Gateway, State, WellFormed, Calls (the order of refusals), Told.
+-- To be believed: Parts (`once`, `fitting`), Gateway, State, WellFormed, Calls (the order of refusals), Told; and what
+-- theorems state: Laws (`Takes`), Freed (`Freed`), WrapLaws (`movedNode`).
 -- Cited by contracts, and joined to these by theorems: what the calls leave, in Calls, by Laws.
--- Theorems: Laws, WellFormedLaws, Readers, Unique.
+-- Theorems: Laws, WellFormedLaws, Exactly, Freed, WrapLaws, Readers, Unique.
 -- On the way to them: PartsLaws, StateLaws, WireLaws, AskLaws, ReplyLaws.
 pub mod Parts
 pub mod PartsLaws
@@ -15,5 +16,8 @@ pub mod AskLaws
 pub mod ReplyLaws
 pub mod Laws
 pub mod WellFormedLaws
+pub mod Exactly
+pub mod Freed
+pub mod WrapLaws
 pub mod Readers
 pub mod Unique

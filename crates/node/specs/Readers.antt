@@ -302,7 +302,7 @@ pub no-room-admit : (n : Node) (ss cs body : List ℕ) (i : ℕ) (word : Bool) (
     (admitCache n ss cs at (planned n ss cs body i word at)) .seen ≡ [])
 unfolding gatewayIn
 no-room-admit n ss cs body i word at m id typed plan z =
-    let t = plan-takes n ss cs body i word at m id plan in
+    let t = plan-takes n ss cs body i word at m id .0 plan in
     let e = no-room-none-seen n ss cs (t .fine) z in
     let b = none-seen at m id (gatewayIn n ss cs) z e in (
       admit-says n ss cs body i word at m id typed plan ∙ rw (b .0),

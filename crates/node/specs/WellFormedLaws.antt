@@ -45,7 +45,8 @@ use Rattle.node.specs.Calls.{admitCache, beatAnswer, beatNode}
 use Rattle.node.specs.WellFormed.{Typed, WellFormed, Reached, begun, admitted, beaten}
 use Rattle.node.specs.StateLaws.{Tests, fine-tests, tests-fine, room-whole}
 use Rattle.node.specs.Laws.{fresh-gateway, plan-takes, entries-swept, swept-fine, swept-sized, seen-inserted}
-use Rattle.node.specs.Laws.{store-inserted, admit-gateway, beat-done, beat-gateway}
+use Rattle.node.specs.Laws.{store-inserted, admit-gateway, beat-done, beat-gateway, takes-small, takes-id-small}
+use Rattle.node.specs.Laws.{takes-own}
 
 -- ---- expiries that never fall
 rises-next : (least : ℕ) (l : List ℕ) (i : ℕ) → risesFrom least l ≡ true → suc i < length l
@@ -349,11 +350,11 @@ pub admitted-keeps : (n : Node) (ss cs body : List ℕ) (i : ℕ) (word : Bool) 
     → Keeps (admitNode n ss at r) (admitSeen n ss at r) (admitCache n ss cs at r)
 admitted-keeps n ss cs body i word at k (no r) e = k
 admitted-keeps n ss cs body i word at k (taken m id) e =
-    let t = plan-takes n ss cs body i word at m id e in
+    let t = plan-takes n ss cs body i word at m id .0 e in
     let g = rw e at (admit-gateway n ss cs body i word at m id (k .typed) e) in
     let o = rw (← g) at (admit-ordered at (gatewayIn n ss cs) (gateway-forward n ss cs at (t .forward))
     (k .ordered) m id) in
-    taken-keeps n ss cs at m id (k .typed) (t .fine) (t .id-small) (t .small) (t .own) o
+    taken-keeps n ss cs at m id (k .typed) (t .fine) (takes-id-small t) (takes-small t) (takes-own t) o
 
 -- a heartbeat that is done leaves a node that passes, whatever node it was given
 rises-live : (at : ℕ) (es : List Entry) → risesFrom 0 (expiriesOf es) ≡ true

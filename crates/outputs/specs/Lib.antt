@@ -1,5 +1,5 @@
--- To be believed: Named, Outcomes, Replied (`Replies`, `Counts`).
--- Theorems: Exactly, Offered, Replied, Requested, Advertised.
+-- To be believed: Named, Outcomes, Replied (`Replies`, `Counts`), Admitted (`AdmitTakes`).
+-- Theorems: Exactly, Offered, Replied, Requested, Advertised, Admitted.
 -- On the way to them: Bodies, Cached.
 pub mod Named
 pub mod Offered
@@ -10,3 +10,4 @@ pub mod Requested
 pub mod Advertised
 pub mod Outcomes
 pub mod Exactly
+pub mod Admitted

@@ -253,7 +253,7 @@ unfolding fresh
 fresh-sized = (length-replicate {A = ℕ} maxIds 0, length-replicate {A = ℕ} maxIds 0)
 
 -- what a fresh answer tells
-fresh-tests : (max : ℕ) (c : SeenCache) (st id : List ℕ) → lentOf c st ≡ lent.Fine
+pub fresh-tests : (max : ℕ) (c : SeenCache) (st id : List ℕ) → lentOf c st ≡ lent.Fine
     → insertAnswer max c st id ≡ insert.Fresh → (max ≤ capOf st) × (length id ≤ idSize)
     × (heldIn (capOf st) c st id ≡ false)
 unfolding insertAnswer

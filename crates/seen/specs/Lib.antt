@@ -1,7 +1,7 @@
 -- To be believed: Entries, WellFormed, Calls (the order of refusals), State (`entriesIn`), Told, the conditions
 -- of Exactly.
 -- Cited by contracts, and joined to these by theorems: the other definitions of State and Calls, by Laws.
--- Theorems: Laws, Unique, Exactly.
+-- Theorems: Laws, Unique, Exactly, Freed.
 -- On the way to them: StateLaws, EntriesLaws.
 pub mod Told
 pub mod Entries
@@ -13,3 +13,4 @@ pub mod WellFormed
 pub mod EntriesLaws
 pub mod Laws
 pub mod Exactly
+pub mod Freed

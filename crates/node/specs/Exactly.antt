@@ -1,0 +1,323 @@
+-- 40, 41 and 42, each exactly: of a lent node and its stores, and of every call that is given them; and 40 of a start.
+use Prim.Native.Nat.{ℕ, _*_, _/_, _≤_, _<_}
+use mathlib.Core.Path.{_≡_, refl, ap}
+use mathlib.Core.List.{List, [], _∷_}
+use mathlib.Core.Bool.{Bool, true, false, _&&_}
+use mathlib.Core.Logic.{_↔_, _⊎_, inl, inr}
+use native.Mathlib.Omega.{arith}
+use lib.ListN.{length}
+use lib.Dec.{leb, ltb, eqb}
+use borrow.Author.Tests.{leb-false, lt-leb, ltb-true, ltb-false, lt-ltb, eqb-true, eqb-false, eq-eqb, ne-eqb}
+use Rattle.basis.specs.Cases.{either, clash}
+use Rattle.basis.specs.Refusals.{bad-setting, bad-store, malformed}
+use Rattle.basis.specs.Writing.{answer}
+use Rattle.peer_id.specs.declared.VarintError.the-variants as varint
+use Rattle.protobuf.specs.declared.Checked.{Checked}
+use Rattle.protobuf.specs.declared.Checked.the-variants as checked
+use Rattle.protobuf.specs.declared.WireError.{WireError}
+use Rattle.protobuf.specs.declared.WireError.the-variants as wire
+use Rattle.protobuf.specs.Told.{wireTold}
+use Rattle.protobuf.specs.Walk.{between}
+use Rattle.schema.specs.Accept.{acceptOf}
+use Rattle.ids.specs.declared.MessageAt.{MessageAt}
+use Rattle.ids.specs.declared.MessageAt.the-variants as found
+use Rattle.ids.specs.Ids.{messageAt, idBytes}
+use Rattle.admission.specs.declared.Admission.{Admission}
+use Rattle.admission.specs.declared.Admission.the-variants as admission
+use Rattle.admission.specs.declared.Unfit.{Unfit}
+use Rattle.admission.specs.declared.Unfit.the-variants as unfit
+use Rattle.admission.specs.Admission.{admissionOf}
+use Rattle.admission.specs.Told.{unfitTold}
+use Rattle.seen.specs.State.{idSize, maxIds}
+use Rattle.seen.specs.Calls.{capOf}
+use Rattle.mcache.specs.State.{legal, messageSize, maxHistory, maxMessages}
+use Rattle.node.specs.declared.Node.{Node}
+use Rattle.node.specs.declared.Fault.{Fault}
+use Rattle.node.specs.declared.Lent.{Lent}
+use Rattle.node.specs.declared.Lent.the-variants as lent
+use Rattle.node.specs.Told.{faultTold, lentTold, startTold, admitTold, beatTold, advertiseTold, askTold}
+use Rattle.node.specs.Told.{serveTold}
+use Rattle.node.specs.State.{legalSettings, wellFormed}
+use Rattle.node.specs.Calls.{startAnswer, rightSizes, lentOf, planFit, planAt, planBody, planned, heldAt}
+use Rattle.node.specs.Calls.{admitAnswer, beatAnswer, advertiseBytes, advertiseAnswer, askBytes, askAnswer}
+use Rattle.node.specs.Calls.{wanted, cachedOf, servedOf, replyTo, serveAnswer}
+use Rattle.node.specs.WellFormed.{Typed, WellFormed}
+use Rattle.node.specs.WellFormedLaws.{fine-well-formed-node, well-formed-node-fine}
+
+and-false : (t : Bool) → (t && false) ≡ false
+and-false true = refl
+and-false false = refl
+
+-- ---- the lent node and its stores
+module _ (n : Node) (ss cs : List ℕ) where
+  -- the number, by the tests
+  by-setting : ltb (capOf ss) (n .«max_seen») ≡ true → lentTold (lentOf n ss cs) .number ≡ bad-setting
+  unfolding lentOf
+  by-setting t = rw t
+
+  module _ (t : ltb (capOf ss) (n .«max_seen») ≡ false) where
+    by-store : rightSizes n ss cs ≡ false → lentTold (lentOf n ss cs) .number ≡ bad-store
+    unfolding lentOf
+    by-store u = rw (t, u)
+
+    by-form : rightSizes n ss cs ≡ true → wellFormed n ss cs ≡ false → lentTold (lentOf n ss cs) .number ≡ malformed
+    unfolding lentOf
+    by-form u v = rw (t, u, v)
+
+    by-none : rightSizes n ss cs ≡ true → wellFormed n ss cs ≡ true → lentOf n ss cs ≡ lent.Fine
+    unfolding lentOf
+    by-none u v = rw (t, u, v)
+
+  -- a seen max above the store's length / 129, rounded down
+  pub setting-exactly : (lentTold (lentOf n ss cs) .number ≡ bad-setting) ↔ (length ss / idSize < n .«max_seen»)
+  unfolding capOf
+  setting-exactly = (
+    λ h. either (ltb (capOf ss) (n .«max_seen»)) (λ t. ltb-true (capOf ss) (n .«max_seen») t)
+        (λ t. either (rightSizes n ss cs)
+        (λ u. either (wellFormed n ss cs)
+        (λ v. let e = ap (λ (l : Lent). lentTold l .number) (by-none t u v) in absurd (omega arith))
+        (λ v. let e = by-form t u v in absurd (omega arith)))
+        (λ u. let e = by-store t u in absurd (omega arith))),
+    λ h. by-setting (lt-ltb (capOf ss) (n .«max_seen») h),
+  )
+
+  wrong-sizes : rightSizes n ss cs ≡ false → (length ss ≡ n .«max_seen» * idSize → ⊥)
+      ⊎ (length cs ≡ n .cache .«max_messages» * messageSize → ⊥)
+  unfolding rightSizes
+  wrong-sizes h =
+      either (eqb (length ss) (n .«max_seen» * idSize))
+      (λ t. either (eqb (length cs) (n .cache .«max_messages» * messageSize))
+      (λ u. clash (let z = rw (t, u) at h in cc))
+      (λ u. inr (eqb-false (length cs) (n .cache .«max_messages» * messageSize) u)))
+      (λ t. inl (eqb-false (length ss) (n .«max_seen» * idSize) t))
+
+  sizes-wrong : (length ss ≡ n .«max_seen» * idSize → ⊥) ⊎ (length cs ≡ n .cache .«max_messages» * messageSize → ⊥)
+      → rightSizes n ss cs ≡ false
+  unfolding rightSizes
+  sizes-wrong (inl h) = rw (ne-eqb (length ss) (n .«max_seen» * idSize) h)
+  sizes-wrong (inr h) =
+      rw (ne-eqb (length cs) (n .cache .«max_messages» * messageSize) h)
+      (either (eqb (length ss) (n .«max_seen» * idSize)) (λ t. rw t) (λ t. rw t))
+
+  right-sizes : rightSizes n ss cs ≡ true → (length ss ≡ n .«max_seen» * idSize)
+      × (length cs ≡ n .cache .«max_messages» * messageSize)
+  unfolding rightSizes
+  right-sizes h =
+      either (eqb (length ss) (n .«max_seen» * idSize))
+      (λ t. either (eqb (length cs) (n .cache .«max_messages» * messageSize))
+      (λ u. (
+        eqb-true (length ss) (n .«max_seen» * idSize) t,
+        eqb-true (length cs) (n .cache .«max_messages» * messageSize) u,
+      ))
+      (λ u. clash (let z = rw (t, u) at h in cc)))
+      (λ t. clash (let z = rw t at h in cc))
+
+  sizes-right : length ss ≡ n .«max_seen» * idSize → length cs ≡ n .cache .«max_messages» * messageSize
+      → rightSizes n ss cs ≡ true
+  unfolding rightSizes
+  sizes-right a b =
+      rw (eq-eqb (length ss) (n .«max_seen» * idSize) a, eq-eqb (length cs) (n .cache .«max_messages» * messageSize) b)
+
+  -- a store of the wrong length, where it is not that
+  pub store-exactly : (lentTold (lentOf n ss cs) .number ≡ bad-store)
+      ↔ ((length ss / idSize < n .«max_seen» → ⊥)
+      × ((length ss ≡ n .«max_seen» * idSize → ⊥) ⊎ (length cs ≡ n .cache .«max_messages» * messageSize → ⊥)))
+  unfolding capOf
+  store-exactly = (
+    λ h. either (ltb (capOf ss) (n .«max_seen»)) (λ t. let e = by-setting t in absurd (omega arith))
+        (λ t. either (rightSizes n ss cs)
+        (λ u. either (wellFormed n ss cs)
+        (λ v. let e = ap (λ (l : Lent). lentTold l .number) (by-none t u v) in absurd (omega arith))
+        (λ v. let e = by-form t u v in absurd (omega arith)))
+        (λ u. (λ q. let l = ltb-false (capOf ss) (n .«max_seen») t in omega arith, wrong-sizes u))),
+    λ h. either (ltb (capOf ss) (n .«max_seen»)) (λ t. absurd (h .0 (ltb-true (capOf ss) (n .«max_seen») t)))
+        (λ t. by-store t (sizes-wrong (h .1))),
+  )
+
+  -- both stores have their lengths, and node and stores are not well formed
+  pub malformed-exactly : Typed n → (lentTold (lentOf n ss cs) .number ≡ malformed)
+      ↔ ((length ss ≡ n .«max_seen» * idSize) × (length cs ≡ n .cache .«max_messages» * messageSize)
+      × (WellFormed n ss cs → ⊥))
+  unfolding capOf
+  malformed-exactly y = (
+    λ h. either (ltb (capOf ss) (n .«max_seen»)) (λ t. let e = by-setting t in absurd (omega arith))
+        (λ t. either (rightSizes n ss cs)
+        (λ u. let s = right-sizes u in (
+          s .0,
+          s .1,
+          λ w.
+              let e = ap (λ (l : Lent). lentTold l .number) (well-formed-node-fine n ss cs w) in omega arith,
+        ))
+        (λ u. let e = by-store t u in absurd (omega arith))),
+    λ h. either (ltb (capOf ss) (n .«max_seen»))
+        (λ t. let l = ltb-true (capOf ss) (n .«max_seen») t in absurd (omega arith))
+        (λ t. let u = sizes-right (h .0) (h .1) in
+        either (wellFormed n ss cs) (λ v. absurd (h .2 (fine-well-formed-node n ss cs y (by-none t u v))))
+        (λ v. by-form t u v)),
+  )
+
+-- ---- the calls that are given them: 40, 41 and 42 are their numbers exactly where they are that of the lent state
+wire-below : (why : WireError) → wireTold why .number < bad-setting
+wire-below (wire.Varint varint.BufferTooShort) = omega arith
+wire-below (wire.Varint varint.Overflow) = omega arith
+wire-below (wire.Varint varint.NonCanonical) = omega arith
+wire-below (wire.FieldOverflow offset size remaining) = omega arith
+wire-below (wire.UnsupportedWireType type offset) = omega arith
+wire-below (wire.InvalidFieldNumber field offset) = omega arith
+wire-below (wire.InvalidUtf8 offset) = omega arith
+wire-below (wire.TooLarge len) = omega arith
+wire-below (wire.TooManyRecords records) = omega arith
+
+unfit-below : (why : Unfit) → unfitTold why .number < bad-setting
+unfit-below unfit.MissingFrom = omega arith
+unfit-below (unfit.InvalidFrom len) = omega arith
+unfit-below unfit.InvalidSeqno = omega arith
+unfit-below unfit.KeyWithoutSignature = omega arith
+unfit-below unfit.MissingSignature = omega arith
+unfit-below (unfit.InvalidSignatureLength len) = omega arith
+unfit-below unfit.SignatureInvalid = omega arith
+unfit-below (unfit.TopicCount count) = omega arith
+unfit-below (unfit.TopicTooLong len) = omega arith
+unfit-below (unfit.MessageTooLong len) = omega arith
+
+-- a number that is the fault's where there is one, and else below 40
+as-lent : (l : Lent) (x k : ℕ) → ((why : Fault) → l ≡ lent.Faulty why → x ≡ faultTold why .number)
+    → (l ≡ lent.Fine → x < bad-setting) → bad-setting ≤ k → (x ≡ k) ↔ (lentTold l .number ≡ k)
+as-lent (lent.Faulty why) x k f g h = let e = f why refl in (λ p. omega arith, λ p. omega arith)
+as-lent lent.Fine x k f g h = let b = g refl in (λ p. absurd (omega arith), λ p. absurd (omega arith))
+
+module _ (n : Node) (ss cs : List ℕ) where
+  module _ (body : List ℕ) (i : ℕ) (word : Bool) (at : ℕ) where
+    fit-below : (p : List ℕ) (r : Admission) → admitTold (admitAnswer n ss at (planFit n at p r)) .number < bad-setting
+    fit-below p (admission.Unfit why) = unfit-below why
+    fit-below p (admission.Fit a e b f) =
+        either (ltb at (n .clock)) (λ t. rw t (omega arith))
+        (λ t. rw t (either (heldAt n ss at (idBytes p a e b f)) (λ u. rw u (omega arith)) (λ u. rw u (omega arith))))
+
+    at-below : (r : MessageAt) → admitTold (admitAnswer n ss at (planAt n at word body r)) .number < bad-setting
+    at-below (found.Count k) = omega arith
+    at-below (found.At a e) = fit-below (between body a e) (admissionOf (between body a e) word)
+
+    body-below : (r : Checked) → admitTold (admitAnswer n ss at (planBody n at word body i r)) .number < bad-setting
+    body-below (checked.Refused why) = wire-below why
+    body-below checked.Fine = at-below (messageAt body i)
+
+    admit-faulty : (why : Fault) → lentOf n ss cs ≡ lent.Faulty why
+        → admitTold (admitAnswer n ss at (planned n ss cs body i word at)) .number ≡ faultTold why .number
+    unfolding planned
+    admit-faulty why e = rw e
+
+    admit-below : lentOf n ss cs ≡ lent.Fine
+        → admitTold (admitAnswer n ss at (planned n ss cs body i word at)) .number < bad-setting
+    unfolding planned
+    admit-below e = rw e (body-below (acceptOf body))
+
+    pub admit-faults : (k : ℕ) → bad-setting ≤ k
+        → (admitTold (admitAnswer n ss at (planned n ss cs body i word at)) .number ≡ k)
+        ↔ (lentTold (lentOf n ss cs) .number ≡ k)
+    admit-faults k h = as-lent (lentOf n ss cs) _ k admit-faulty admit-below h
+
+  module _ (at : ℕ) where
+    beat-faulty : (why : Fault) → lentOf n ss cs ≡ lent.Faulty why
+        → beatTold (beatAnswer n ss cs at) .number ≡ faultTold why .number
+    unfolding beatAnswer
+    beat-faulty why e = rw e
+
+    beat-below : lentOf n ss cs ≡ lent.Fine → beatTold (beatAnswer n ss cs at) .number < bad-setting
+    unfolding beatAnswer
+    beat-below e = rw e (either (ltb at (n .clock)) (λ t. rw t (omega arith)) (λ t. rw t (omega arith)))
+
+    pub beat-faults : (k : ℕ) → bad-setting ≤ k
+        → (beatTold (beatAnswer n ss cs at) .number ≡ k) ↔ (lentTold (lentOf n ss cs) .number ≡ k)
+    beat-faults k h = as-lent (lentOf n ss cs) _ k beat-faulty beat-below h
+
+  module _ (topic : List ℕ) (windows : ℕ) (out : List ℕ) where
+    advertise-faulty : (why : Fault) → lentOf n ss cs ≡ lent.Faulty why
+        → advertiseTold (advertiseAnswer n ss cs topic windows out) .number ≡ faultTold why .number
+    unfolding advertiseAnswer
+    advertise-faulty why e = rw e
+
+    advertise-below : lentOf n ss cs ≡ lent.Fine
+        → advertiseTold (advertiseAnswer n ss cs topic windows out) .number < bad-setting
+    unfolding advertiseAnswer answer
+    advertise-below e =
+        rw e
+        (either (ltb 1024 (length topic)) (λ t. rw t (omega arith))
+        (λ t. rw t (either (leb (length (advertiseBytes n cs topic windows)) (length out)) (λ u. rw u (omega arith))
+        (λ u. rw u (omega arith)))))
+
+    pub advertise-faults : (k : ℕ) → bad-setting ≤ k
+        → (advertiseTold (advertiseAnswer n ss cs topic windows out) .number ≡ k)
+        ↔ (lentTold (lentOf n ss cs) .number ≡ k)
+    advertise-faults k h = as-lent (lentOf n ss cs) _ k advertise-faulty advertise-below h
+
+  module _ (body out : List ℕ) where
+    ask-faulty : (why : Fault) → lentOf n ss cs ≡ lent.Faulty why
+        → askTold (askAnswer n ss cs body out) .number ≡ faultTold why .number
+    unfolding askAnswer
+    ask-faulty why e = rw e
+
+    ask-on : (r : Checked) → lentOf n ss cs ≡ lent.Fine → acceptOf body ≡ r
+        → askTold (askAnswer n ss cs body out) .number < bad-setting
+    unfolding askAnswer answer
+    ask-on (checked.Refused why) e a = rw (e, a) (wire-below why)
+    ask-on checked.Fine e a =
+        rw (e, a) (either (leb (length (askBytes n ss body)) (length out)) (λ u. rw u (omega arith))
+        (λ u. rw u (omega arith)))
+
+    pub ask-faults : (k : ℕ) → bad-setting ≤ k
+        → (askTold (askAnswer n ss cs body out) .number ≡ k) ↔ (lentTold (lentOf n ss cs) .number ≡ k)
+    ask-faults k h = as-lent (lentOf n ss cs) _ k ask-faulty (λ e. ask-on (acceptOf body) e refl) h
+
+    serve-faulty : (why : Fault) → lentOf n ss cs ≡ lent.Faulty why
+        → serveTold (serveAnswer n ss cs body out) .number ≡ faultTold why .number
+    unfolding serveAnswer
+    serve-faulty why e = rw e
+
+    reply-below : (ms : List (List ℕ)) → serveTold (replyTo ms out) .number < bad-setting
+    reply-below [] = omega arith
+    reply-below (m ∷ ms) =
+        either (eqb (servedOf (m ∷ ms) out) 0) (λ t. rw t (omega arith)) (λ t. rw t (omega arith))
+
+    serve-on : (r : Checked) → lentOf n ss cs ≡ lent.Fine → acceptOf body ≡ r
+        → serveTold (serveAnswer n ss cs body out) .number < bad-setting
+    unfolding serveAnswer
+    serve-on (checked.Refused why) e a = rw (e, a) (wire-below why)
+    serve-on checked.Fine e a = rw (e, a) (reply-below (cachedOf (n .cache) cs (wanted body)))
+
+    pub serve-faults : (k : ℕ) → bad-setting ≤ k
+        → (serveTold (serveAnswer n ss cs body out) .number ≡ k) ↔ (lentTold (lentOf n ss cs) .number ≡ k)
+    serve-faults k h = as-lent (lentOf n ss cs) _ k serve-faulty (λ e. serve-on (acceptOf body) e refl) h
+
+-- ---- a start: max_seen above 256, history_len 0 or above 16, max_messages above 64
+module _ (max-seen history max : ℕ) where
+  abbrev Illegal : Type 0
+  Illegal = (maxIds < max-seen) ⊎ ((history ≡ 0) ⊎ ((maxHistory < history) ⊎ (maxMessages < max)))
+
+  start-illegal : startTold (startAnswer max-seen history max) .number ≡ bad-setting → Illegal
+  unfolding startAnswer legalSettings legal
+  start-illegal h =
+      either (leb max-seen maxIds)
+      (λ a. either (leb 1 history)
+      (λ b. either (leb history maxHistory)
+      (λ d. either (leb max maxMessages)
+      (λ f. clash (let z : 0 ≡ bad-setting = rw (a, b, d, f) at h in omega arith))
+      (λ f. inr (inr (inr (leb-false max maxMessages f)))))
+      (λ d. inr (inr (inl (leb-false history maxHistory d)))))
+      (λ b. inr (inl (let l = leb-false 1 history b in omega arith))))
+      (λ a. inl (leb-false max-seen maxIds a))
+
+  illegal-start : Illegal → legalSettings max-seen history max ≡ false
+  unfolding legalSettings legal
+  illegal-start (inl a) = rw (lt-leb max-seen maxIds a)
+  illegal-start (inr (inl b)) = rw (lt-leb 1 history (omega arith)) (and-false (leb max-seen maxIds))
+  illegal-start (inr (inr (inl d))) =
+      rw (lt-leb history maxHistory d) (rw (and-false (leb 1 history)) (and-false (leb max-seen maxIds)))
+  illegal-start (inr (inr (inr f))) =
+      rw (lt-leb max maxMessages f, and-false (leb history maxHistory), and-false (leb 1 history))
+      (and-false (leb max-seen maxIds))
+
+  pub start-exactly : (startTold (startAnswer max-seen history max) .number ≡ bad-setting)
+      ↔ ((maxIds < max-seen) ⊎ ((history ≡ 0) ⊎ ((maxHistory < history) ⊎ (maxMessages < max))))
+  unfolding startAnswer
+  start-exactly = (start-illegal, λ h. rw (illegal-start h))
