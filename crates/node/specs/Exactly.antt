@@ -40,7 +40,8 @@ use Rattle.node.specs.Told.{serveTold}
 use Rattle.node.specs.State.{legalSettings, wellFormed}
 use Rattle.node.specs.Calls.{startAnswer, rightSizes, lentOf, planFit, planAt, planBody, planned, heldAt}
 use Rattle.node.specs.Calls.{admitAnswer, beatAnswer, advertiseBytes, advertiseAnswer, askBytes, askAnswer}
-use Rattle.node.specs.Calls.{wanted, cachedOf, servedOf, replyTo, serveAnswer}
+use Rattle.node.specs.Gateway.{Reply, sent, short, replyFor}
+use Rattle.node.specs.Calls.{wanted, cachedOf, roomOf, replied, serveAnswer}
 use Rattle.node.specs.WellFormed.{Typed, WellFormed}
 use Rattle.node.specs.WellFormedLaws.{fine-well-formed-node, well-formed-node-fine}
 
@@ -274,16 +275,15 @@ module _ (n : Node) (ss cs : List ℕ) where
     unfolding serveAnswer
     serve-faulty why e = rw e
 
-    reply-below : (ms : List (List ℕ)) → serveTold (replyTo ms out) .number < bad-setting
-    reply-below [] = omega arith
-    reply-below (m ∷ ms) =
-        either (eqb (servedOf (m ∷ ms) out) 0) (λ t. rw t (omega arith)) (λ t. rw t (omega arith))
+    reply-below : (r : Reply) → serveTold (replied r) .number < bad-setting
+    reply-below (sent ws ls) = omega arith
+    reply-below (short needed) = omega arith
 
     serve-on : (r : Checked) → lentOf n ss cs ≡ lent.Fine → acceptOf body ≡ r
         → serveTold (serveAnswer n ss cs body out) .number < bad-setting
     unfolding serveAnswer
     serve-on (checked.Refused why) e a = rw (e, a) (wire-below why)
-    serve-on checked.Fine e a = rw (e, a) (reply-below (cachedOf (n .cache) cs (wanted body)))
+    serve-on checked.Fine e a = rw (e, a) (reply-below (replyFor (roomOf out) (cachedOf (n .cache) cs (wanted body))))
 
     pub serve-faults : (k : ℕ) → bad-setting ≤ k
         → (serveTold (serveAnswer n ss cs body out) .number ≡ k) ↔ (lentTold (lentOf n ss cs) .number ≡ k)
