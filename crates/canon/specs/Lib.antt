@@ -1,4 +1,4 @@
--- To be believed: Taken (`Within`), Messages (`Nth`).
+-- To be believed: Messages (`Nth`).
 -- Cited by contracts, and joined to these by theorems: Canon (by Written).
 -- Theorems: Written, Shorter, Messages, Taken.
 -- On the way to them: CanonLaws, Lengths.

@@ -1,34 +1,33 @@
 -- A body is taken exactly when it means an RPC within capacity; and then its canonical bytes are never longer than it,
 -- nor those of a message in it.
 use Prim.Native.Nat.{ℕ, _≤_}
-use mathlib.Core.Path.{_≡_, sym, subst}
+use mathlib.Core.Path.{_≡_, sym, ap, subst}
 use mathlib.Core.List.{List}
 use mathlib.Core.Logic.{_↔_}
 use native.Mathlib.Omega.{arith}
 use lib.ListN.{length}
+use Rattle.basis.specs.declared.Told.{Told}
 use Rattle.basis.specs.Bytes.{Bytes}
-use Rattle.protobuf.specs.declared.Checked.the-variants.{Fine}
+use Rattle.basis.specs.Cases.{clash}
+use Rattle.protobuf.specs.declared.WireError.{WireError}
+use Rattle.protobuf.specs.declared.Checked.the-variants.{Fine, Refused as Wrong}
+use Rattle.protobuf.specs.Told.{wireTold}
 use Rattle.protobuf.specs.Walk.{between}
 use Rattle.schema.specs.declared.Kind.the-variants as kind
-use Rattle.schema.specs.Accept.{acceptOf}
-use Rattle.schema.specs.AcceptLaws.{is-taken, taken-fine}
+use Rattle.schema.specs.declared.Counted.{Counted}
+use Rattle.schema.specs.declared.Counted.the-variants as count
+use Rattle.schema.specs.Accept.{bodyRecords, checked, acceptOf}
+use Rattle.schema.specs.AcceptLaws.{gate, is-taken, taken-fine}
 use Rattle.rpc.specs.Rpc.{Rpc}
-use Rattle.rpc.specs.Grammar.{IsRpc}
 use Rattle.meaning.specs.Accepted.{rpc-means, rpc-accepted}
-use Rattle.meaning.specs.Size.{recordsIn}
-use Rattle.meaning.specs.Decoded.{counted-records}
+use Rattle.meaning.specs.Decoded.{Refusal, counted-records, refusal-of, of-refusal}
+pub use Rattle.meaning.specs.Decoded.{Within}
 use Rattle.ids.specs.declared.MessageAt.the-variants.{At}
 use Rattle.ids.specs.Ids.{messageAt}
 use Rattle.canon.specs.Canon.{canon, canonBody}
 use Rattle.canon.specs.Shorter.{never-longer}
 use Rattle.canon.specs.Messages.{message-found}
 use Rattle.canon.specs.Written.{canon-written, message-shorter}
-
--- a body within capacity that means an RPC
-pub record Within (s : List ℕ) (x : Rpc) : Type 0 where
-  pub means : IsRpc s x
-  pub small : length s ≤ 65536
-  pub few : recordsIn x ≤ 512
 
 pub taken : {s : List ℕ} {x : Rpc} → Within s x → acceptOf s ≡ Fine
 taken {s} {x} w =
@@ -46,6 +45,23 @@ only-taken s b h =
 -- the calls take a body exactly when it means an RPC within capacity
 pub taken-exactly : (s : List ℕ) → Bytes s → (acceptOf s ≡ Fine) ↔ ((x : Rpc) × Within s x)
 taken-exactly s b = (only-taken s b, λ p. taken (p .1))
+
+-- and refuse it exactly where 01 does, with what it tells
+wrong-counted : (r : Counted) (why : WireError) → checked r ≡ Wrong why → r ≡ count.Refused why
+wrong-counted (count.Records n) why h = clash (cc)
+wrong-counted (count.Refused w) why h = cc
+
+refused-only : (s : List ℕ) (why : WireError) → Bytes s → acceptOf s ≡ Wrong why → Refusal s (wireTold why)
+unfolding acceptOf
+refused-only s why b h = refusal-of s (bodyRecords s) why b (gate s) (wrong-counted (bodyRecords s) why h)
+
+refused-by : {s : List ℕ} {a : Told} → Refusal s a → (why : WireError) × (acceptOf s ≡ Wrong why) × (wireTold why ≡ a)
+unfolding acceptOf
+refused-by r = let g = of-refusal r in (g .0, ap checked (g .1), g .2)
+
+pub refused-exactly : (s : List ℕ) (a : Told) → Bytes s
+    → ((why : WireError) × (acceptOf s ≡ Wrong why) × (wireTold why ≡ a)) ↔ Refusal s a
+refused-exactly s a b = (λ p. subst (Refusal s) (p .2) (refused-only s (p .0) b (p .1)), refused-by)
 
 -- ---- never longer
 pub output-shorter : {s : List ℕ} {x : Rpc} → Within s x → length (canonBody s) ≤ length s

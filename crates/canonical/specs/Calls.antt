@@ -1,37 +1,40 @@
--- What the calls that write do with a body within capacity, said of the RPC that it means and of nothing else: `encode`
--- writes the RPC, `sign_bytes` what is signed of its message i, `message_id` that message's id; and where there is no
--- such message, 20 carries the number of messages. Bodies that are refused before that are those that mean no RPC
--- within capacity.
-use Prim.Native.Nat.{ℕ, _+_, _-_, _≤_}
+-- What the calls that write tell and leave, by 01's numbers and the values beside them, said of the RPC that the body
+-- means and of nothing else, one exact theorem for each call. A body is refused by 10, 1 to 7 or 11 and nothing is
+-- changed, or it means an RPC within capacity. Then `encode` writes that RPC, `sign_bytes` what is signed of its
+-- message i, `message_id` and `seen_message_id` that message's id; 20 where there is no message i; 12 where there is no
+-- room.
+use Prim.Native.Nat.{ℕ, _+_, _-_, _≤_, _<_}
 use mathlib.Core.Path.{_≡_, refl, sym, ap, ap₂, subst, _∙_}
 use mathlib.Core.Bool.{_||_}
-use mathlib.Core.List.{List, _++_}
+use mathlib.Core.List.{List, [], _∷_, _++_}
 use mathlib.Core.Option.{Option, some}
 use mathlib.Core.Logic.{_↔_}
 use native.Mathlib.Omega.{arith}
 use native.Mathlib.Nat.{zero-add}
-use lib.ListN.{length}
-use lib.Dec.{ltb, eqb}
-use borrow.Author.Tests.{le-ltb, ltb-false}
-use Rattle.basis.specs.Cases.{either, clash}
+use lib.ListN.{length, drop}
+use lib.Dec.{ltb, leb, eqb}
+use borrow.Author.Tests.{leb-true, leb-false, le-leb, lt-leb}
+use Rattle.basis.specs.Cases.{either}
 use Rattle.basis.specs.Bytes.{Bytes}
+use Rattle.basis.specs.Lists.{answer-fits, answer-short}
 use Rattle.basis.specs.Writing.{answer, written}
+use Rattle.basis.specs.declared.Told.{Told}
+use Rattle.basis.specs.Refusals.{no-message, missing-from, invalid-from, invalid-seqno, short-room}
+use Rattle.basis.specs.Told.{told, done}
 use Rattle.basis.specs.declared.Written.{Written}
-use Rattle.basis.specs.declared.Written.the-variants as done
+use Rattle.basis.specs.declared.Written.the-variants as wrote
 use Rattle.protobuf.specs.declared.WireError.{WireError}
-use Rattle.protobuf.specs.declared.Encoded.the-variants.{Refused}
 use Rattle.protobuf.specs.declared.Checked.{Checked}
 use Rattle.protobuf.specs.declared.Checked.the-variants.{Fine, Refused as Wrong}
+use Rattle.protobuf.specs.Told.{wireTold, encodedTold}
 use Rattle.protobuf.specs.Encode.{ofWritten}
 use Rattle.protobuf.specs.Walk.{between}
 use Rattle.protobuf.specs.WalkLaws.{between-length}
 use Rattle.protobuf.specs.Exactly.{body-walks}
 use Rattle.schema.specs.declared.Kind.the-variants as kind
-use Rattle.schema.specs.declared.Counted.{Counted}
-use Rattle.schema.specs.declared.Counted.the-variants as count
 use Rattle.schema.specs.declared.Place.{Place}
 use Rattle.schema.specs.declared.Place.the-variants as place
-use Rattle.schema.specs.Count.{counted}
+use Rattle.schema.specs.Accept.{acceptOf}
 use Rattle.schema.specs.Slots.{slotsOf}
 use Rattle.schema.specs.SlotsLaws.{PlaceInside, slots-inside}
 use Rattle.rpc.specs.Rpc.{RawMessage, Rpc}
@@ -39,52 +42,150 @@ use Rattle.rpc.specs.Grammar.{IsMessage, is-message, IsRpc}
 use Rattle.rpc.specs.Encode.{encodeRpc, signBytes}
 use Rattle.rpc.specs.Id.{Id, no-from, bad-from, bad-seqno, id, withSeqno, withFrom, messageId}
 use Rattle.meaning.specs.ReadBack.{bytesAt}
-use Rattle.meaning.specs.Accepted.{rpc-means, rpc-accepted}
 use Rattle.meaning.specs.Back.{message-from, message-seqno, slot-value, whole-part}
-use Rattle.meaning.specs.Decoded.{counted-records}
+use Rattle.meaning.specs.Decoded.{Within, Refusal, Gated, refusal-gated, gated-bound, refusal-within}
 use Rattle.ids.specs.declared.MessageAt.{MessageAt}
 use Rattle.ids.specs.declared.MessageAt.the-variants.{At, Count}
 use Rattle.ids.specs.declared.MessageId.{MessageId}
 use Rattle.ids.specs.declared.MessageId.the-variants as parts
-use Rattle.ids.specs.declared.MessageBytes.{MessageBytes}
-use Rattle.ids.specs.declared.MessageBytes.the-variants.{NoMessage, MissingFrom, InvalidFrom, InvalidSeqno}
-use Rattle.schema.specs.Accept.{acceptOf}
+use Rattle.ids.specs.Told.{messageTold}
 use Rattle.ids.specs.Ids.{messageAt, onSeqno, onFrom, idParts, ofWritten as message, answerId, leftId, answerAt, leftAt}
 use Rattle.ids.specs.Ids.{answerChecked, leftChecked, idAnswer, idLeft}
 use Rattle.encode.specs.Encode.{encodeChecked, encodeAnswer, encodedChecked, encodeLeft}
 use Rattle.encode.specs.Sign.{signAt, signChecked, signAnswer, signedAt, signedChecked, signLeft}
 use Rattle.canon.specs.Canon.{canonBody}
-use Rattle.canon.specs.Taken.{Within, taken, taken-exactly}
+use Rattle.canon.specs.Taken.{taken, taken-exactly, refused-exactly}
 use Rattle.canon.specs.Written.{canon-written, sign-written}
 use Rattle.canon.specs.Messages.{Nth, here, there, nth-bound, message-found, message-missing}
 
+-- ---- what 01 has the calls tell and leave
+-- a writer of the bytes xs: their number, and they stand at the front of what was lent; or 12, the room needed, and
+-- nothing changes
+pub data Writes (xs out : List ℕ) : Told → List ℕ → Type 0 where
+  fits : length xs ≤ length out → Writes xs out (done (length xs ∷ [])) (xs ++ drop (length xs) out)
+  short : length out < length xs → Writes xs out (told short-room (length xs ∷ [])) out
+
+-- a call that is given a body: the body is refused, and nothing changes; or it means an RPC within capacity, and the
+-- rule R says the rest
+pub data Given (s out : List ℕ) (R : Rpc → Told → List ℕ → Type 0) : Told → List ℕ → Type 0 where
+  refuses : {a : Told} → Refusal s a → Given s out R a out
+  takes : {x : Rpc} {a : Told} {left : List ℕ} → Within s x → R x a left → Given s out R a left
+
+-- of message i of these: 20, how many there are, and nothing changes; or the rule R says the rest
+pub data OfMessage (i : ℕ) (ms : List RawMessage) (out : List ℕ) (R : RawMessage → Told → List ℕ → Type 0)
+    : Told → List ℕ → Type 0 where
+  no-such : length ms ≤ i → OfMessage i ms out R (told no-message (length ms ∷ [])) out
+  such : {m : RawMessage} {a : Told} {left : List ℕ} → Nth i ms m → R m a left → OfMessage i ms out R a left
+
+-- an id, after what stands before it: 21, 22 or 23, and nothing changes; or its bytes
+pub data WritesId (pre out : List ℕ) : Id → Told → List ℕ → Type 0 where
+  from-missing : WritesId pre out no-from (told missing-from []) out
+  from-invalid : {n : ℕ} → WritesId pre out (bad-from n) (told invalid-from (n ∷ [])) out
+  seqno-invalid : WritesId pre out bad-seqno (told invalid-seqno []) out
+  writes-id : {bs : List ℕ} {a : Told} {left : List ℕ} → Writes (pre ++ bs) out a left → WritesId pre out (id bs) a left
+
+-- encode
+abbrev pub Encodes : List ℕ → List ℕ → Told → List ℕ → Type 0
+Encodes s out = Given s out (λ x. Writes (encodeRpc x) out)
+
+-- sign_bytes, of message i
+abbrev pub Signs : List ℕ → ℕ → List ℕ → Told → List ℕ → Type 0
+Signs s i out = Given s out (λ x. OfMessage i (x .publish) out (λ m. Writes (signBytes m) out))
+
+-- message_id and seen_message_id, of message i, with what stands before the id
+abbrev pub Identifies : List ℕ → List ℕ → ℕ → List ℕ → Told → List ℕ → Type 0
+Identifies pre s i out = Given s out (λ x. OfMessage i (x .publish) out (λ m. WritesId pre out (messageId m)))
+
+-- ---- a writer
+module _ (tell : Written → Told) (tell-bytes : (n : ℕ) → tell (wrote.Bytes n) ≡ done (n ∷ []))
+    (tell-room : (n : ℕ) → tell (wrote.Room n) ≡ told short-room (n ∷ [])) (xs out : List ℕ) where
+  pub writes : Writes xs out (tell (answer xs out)) (written xs out)
+  unfolding answer written
+  writes =
+      either (leb (length xs) (length out))
+      (λ t. simp t (subst (λ (a : Told). Writes xs out a (xs ++ drop (length xs) out)) (sym (tell-bytes (length xs)))
+      (fits (leb-true _ _ t))))
+      (λ t. simp t (subst (λ (a : Told). Writes xs out a out) (sym (tell-room (length xs))) (short (leb-false _ _ t))))
+
+  writes-only : {a : Told} {left : List ℕ} → Writes xs out a left → (tell (answer xs out) ≡ a) × (written xs out ≡ left)
+  unfolding written
+  writes-only (fits h) = (ap tell (answer-fits xs out h) ∙ tell-bytes (length xs), simp (le-leb _ _ h))
+  writes-only (short h) = (ap tell (answer-short xs out h) ∙ tell-room (length xs), simp (lt-leb _ _ h))
+
+-- ---- a call that is given a body, by what it tells and leaves for each outcome of the one test
+module _ (s out : List ℕ) (b : Bytes s) (R : Rpc → Told → List ℕ → Type 0) (tell : Checked → Told)
+    (left : Checked → List ℕ) (tell-wrong : (why : WireError) → tell (Wrong why) ≡ wireTold why)
+    (left-wrong : (why : WireError) → left (Wrong why) ≡ out)
+    (fine : (x : Rpc) → Within s x → R x (tell Fine) (left Fine)) where
+  given : (c : Checked) → acceptOf s ≡ c → Given s out R (tell c) (left c)
+  given (Wrong why) e =
+      subst (λ (a : Told). Given s out R a (left (Wrong why))) (sym (tell-wrong why))
+      (subst (λ (l : List ℕ). Given s out R (wireTold why) l) (sym (left-wrong why))
+      (refuses (refused-exactly s (wireTold why) b .0 (why, e, refl))))
+  given Fine e = let w = taken-exactly s b .0 e in takes (w .1) (fine (w .0) (w .1))
+
+  -- it is 0, 12 or more exactly where the body means an RPC within capacity
+  given-takes : ((x : Rpc) (a : Told) (l : List ℕ) → R x a l → Gated (a .number) → ⊥)
+      → (Gated (tell (acceptOf s) .number) → ⊥) ↔ ((x : Rpc) × Within s x)
+  given-takes other = (λ h. forth h (given (acceptOf s) refl), λ w g. back (w .1) g (given (acceptOf s) refl))
+    where
+      forth : {a : Told} {l : List ℕ} → (Gated (a .number) → ⊥) → Given s out R a l → (x : Rpc) × Within s x
+      forth h (refuses r) = absurd (h (refusal-gated r))
+      forth h (takes {x} w r) = (x, w)
+
+      back : {x : Rpc} {a : Told} {l : List ℕ} → Within s x → Gated (a .number) → Given s out R a l → ⊥
+      back w g (refuses r) = refusal-within r w
+      back {a = a} {l = l} w g (takes {x} v r) = other x a l r g
+
+  given-exactly : ((x : Rpc) (a : Told) (l : List ℕ) → Within s x → R x a l → (tell Fine ≡ a) × (left Fine ≡ l))
+      → (a : Told) (l : List ℕ) → ((tell (acceptOf s) ≡ a) × (left (acceptOf s) ≡ l)) ↔ Given s out R a l
+  given-exactly only a l = (
+    λ p. subst (λ (z : Told). Given s out R z l) (p .0)
+        (subst (λ (z : List ℕ). Given s out R (tell (acceptOf s)) z) (p .1) (given (acceptOf s) refl)),
+    back,
+  )
+    where
+      back : {a : Told} {l : List ℕ} → Given s out R a l → (tell (acceptOf s) ≡ a) × (left (acceptOf s) ≡ l)
+      back {a} (refuses r) =
+          let g = refused-exactly s a b .1 r in
+          (ap tell (g .1) ∙ tell-wrong (g .0) ∙ g .2, ap left (g .1) ∙ left-wrong (g .0))
+      back {a} {l} (takes {x} w r) = let f = only x a l w r in (ap tell (taken w) ∙ f .0, ap left (taken w) ∙ f .1)
+
 -- ---- encode
--- it takes a body exactly when the body means an RPC within capacity
-encode-refuses : (s out : List ℕ) (c : Checked) → acceptOf s ≡ c
-    → ((why : WireError) → encodeChecked s out c ≡ Refused why → ⊥) → acceptOf s ≡ Fine
-encode-refuses s out Fine e h = e
-encode-refuses s out (Wrong why) e h = absurd (h why refl)
+encode-fine : {s : List ℕ} {x : Rpc} (out : List ℕ) → Within s x
+    → Writes (encodeRpc x) out (encodedTold (ofWritten (answer (canonBody s) out))) (written (canonBody s) out)
+encode-fine {s} {x} out w =
+    subst (λ (bs : List ℕ). Writes (encodeRpc x) out (encodedTold (ofWritten (answer bs out))) (written bs out))
+    (sym (canon-written (w .means)))
+    (writes (λ z. encodedTold (ofWritten z)) (λ n. refl) (λ n. refl) (encodeRpc x) out)
 
-fine-kept : (w : Written) (why : WireError) → ofWritten w ≡ Refused why → ⊥
-fine-kept (done.Bytes n) why h = clash (cc)
-fine-kept (done.Room n) why h = clash (cc)
+encode-only : {s : List ℕ} {x : Rpc} {a : Told} {l : List ℕ} (out : List ℕ) → Within s x → Writes (encodeRpc x) out a l
+    → (encodedTold (ofWritten (answer (canonBody s) out)) ≡ a) × (written (canonBody s) out ≡ l)
+encode-only {s} {x} {a} {l} out w r =
+    subst (λ (bs : List ℕ). (encodedTold (ofWritten (answer bs out)) ≡ a) × (written bs out ≡ l))
+    (sym (canon-written (w .means)))
+    (writes-only (λ z. encodedTold (ofWritten z)) (λ n. refl) (λ n. refl) (encodeRpc x) out r)
 
-pub encode-takes : (s out : List ℕ) → Bytes s → ((why : WireError) → encodeAnswer s out ≡ Refused why → ⊥)
+writes-other : {xs out : List ℕ} {a : Told} {l : List ℕ} → Writes xs out a l → Gated (a .number) → ⊥
+writes-other (fits h) g = let z = gated-bound g in omega (arith, z .0)
+writes-other (short h) g = let z = gated-bound g in omega (arith, z .1)
+
+-- encode tells a and leaves l exactly where 01 has it do so
+pub encode-exactly : (s out : List ℕ) (a : Told) (l : List ℕ) → Bytes s
+    → ((encodedTold (encodeAnswer s out) ≡ a) × (encodeLeft s out ≡ l)) ↔ Encodes s out a l
+unfolding encodeAnswer encodeLeft
+encode-exactly s out a l b =
+    given-exactly s out b (λ x. Writes (encodeRpc x) out) (λ c. encodedTold (encodeChecked s out c))
+    (encodedChecked s out) (λ why. refl) (λ why. refl) (λ x. encode-fine out) (λ x z k. encode-only out) a l
+
+-- it tells none of 10, 1 to 7 and 11 exactly where the body means an RPC within capacity
+pub encode-takes : (s out : List ℕ) → Bytes s → (Gated (encodedTold (encodeAnswer s out) .number) → ⊥)
     ↔ ((x : Rpc) × Within s x)
 unfolding encodeAnswer
-encode-takes s out b = (
-  λ h. taken-exactly s b .0 (encode-refuses s out (acceptOf s) refl h),
-  λ w why h. fine-kept (answer (canonBody s) out) why (ap (encodeChecked s out) (sym (taken (w .1))) ∙ h),
-)
-
-pub encode-writes : {s : List ℕ} {x : Rpc} → Within s x → (out : List ℕ)
-    → (encodeAnswer s out ≡ ofWritten (answer (encodeRpc x) out)) × (encodeLeft s out ≡ written (encodeRpc x) out)
-unfolding encodeAnswer encodeLeft
-encode-writes {s} {x} w out =
-    let e = canon-written (w .means) in (
-      ap (encodeChecked s out) (taken w) ∙ ap (λ (b : List ℕ). ofWritten (answer b out)) e,
-      ap (encodedChecked s out) (taken w) ∙ ap (λ (b : List ℕ). written b out) e,
-    )
+encode-takes s out b =
+    given-takes s out b (λ x. Writes (encodeRpc x) out) (λ c. encodedTold (encodeChecked s out c))
+    (encodedChecked s out) (λ why. refl) (λ why. refl) (λ x. encode-fine out)
+    (λ x z k. writes-other)
 
 -- ---- the message at an index
 nth-same : {A : Type 0} {i : ℕ} {xs : List A} {x y : A} → Nth i xs x → Nth i xs y → x ≡ y
@@ -104,57 +205,97 @@ pub none-in : {s : List ℕ} {x : Rpc} (i : ℕ) (r : MessageAt) → IsRpc s x �
 none-in i (At a e) g l q = let f = message-found i a e g q in let b = nth-bound (f .1) in absurd (omega arith)
 none-in i (Count k) g l q = let m = message-missing i k g q in q ∙ ap Count (m .0)
 
--- ---- sign_bytes
-pub sign-writes : {s : List ℕ} {x : Rpc} {m : RawMessage} → Within s x → (i : ℕ) → Nth i (x .publish) m → (out : List ℕ)
-    → (signAnswer s i out ≡ message (answer (signBytes m) out)) × (signLeft s i out ≡ written (signBytes m) out)
-unfolding signAnswer signLeft
-sign-writes {s} w i n out =
-    let f = found-in i (messageAt s i) (w .means) n refl in
-    let e = sign-written (f .3) in (
-      ap (signChecked s i out) (taken w) ∙ ap (signAt s out) (f .2) ∙ ap (λ (b : List ℕ). message (answer b out)) e,
-      ap (signedChecked s i out) (taken w) ∙ ap (signedAt s out) (f .2) ∙ ap (λ (b : List ℕ). written b out) e,
-    )
+-- by what is told and left for each outcome of the search for message i
+module _ {s : List ℕ} {x : Rpc} (w : Within s x) (i : ℕ) (out : List ℕ) (R : RawMessage → Told → List ℕ → Type 0)
+    (tell : MessageAt → Told) (left : MessageAt → List ℕ)
+    (tell-none : (n : ℕ) → tell (Count n) ≡ told no-message (n ∷ [])) (left-none : (n : ℕ) → left (Count n) ≡ out) where
+  of-message : ((a e : ℕ) (m : RawMessage) → IsMessage (between s a e) m → R m (tell (At a e)) (left (At a e)))
+      → (r : MessageAt) → messageAt s i ≡ r → OfMessage i (x .publish) out R (tell r) (left r)
+  of-message fine (At a e) q = let f = message-found i a e (w .means) q in such (f .1) (fine a e (f .0) (f .2))
+  of-message fine (Count n) q =
+      let m = message-missing i n (w .means) q in
+      subst (λ (z : Told). OfMessage i (x .publish) out R z (left (Count n)))
+      (sym (tell-none n ∙ ap (λ (k : ℕ). told no-message (k ∷ [])) (m .0)))
+      (subst (λ (l : List ℕ). OfMessage i (x .publish) out R (told no-message (length (x .publish) ∷ [])) l)
+      (sym (left-none n)) (no-such (m .1)))
 
-pub sign-none : {s : List ℕ} {x : Rpc} → Within s x → (i : ℕ) → length (x .publish) ≤ i → (out : List ℕ)
-    → (signAnswer s i out ≡ NoMessage (length (x .publish))) × (signLeft s i out ≡ out)
+  of-message-only : {z : Told} {l : List ℕ} → ((a e : ℕ) (m : RawMessage) → IsMessage (between s a e) m → R m z l
+      → (tell (At a e) ≡ z) × (left (At a e) ≡ l)) → OfMessage i (x .publish) out R z l
+      → (tell (messageAt s i) ≡ z) × (left (messageAt s i) ≡ l)
+  of-message-only only (no-such h) =
+      let f = none-in i (messageAt s i) (w .means) h refl in
+      (ap tell f ∙ tell-none (length (x .publish)), ap left f ∙ left-none (length (x .publish)))
+  of-message-only only (such {m} n r) =
+      let f = found-in i (messageAt s i) (w .means) n refl in
+      let g = only (f .0) (f .1) m (f .3) r in
+      (ap tell (f .2) ∙ g .0, ap left (f .2) ∙ g .1)
+
+-- ---- sign_bytes
+module _ {s : List ℕ} {x : Rpc} (i : ℕ) (out : List ℕ) (w : Within s x) where
+  sign-fine : OfMessage i (x .publish) out (λ m. Writes (signBytes m) out) (messageTold (signAt s out (messageAt s i)))
+      (signedAt s out (messageAt s i))
+  sign-fine =
+      of-message w i out (λ m. Writes (signBytes m) out) (λ r. messageTold (signAt s out r)) (signedAt s out)
+      (λ n. refl) (λ n. refl)
+      (λ a e m g. subst (λ (bs : List ℕ). Writes (signBytes m) out (messageTold (message (answer bs out)))
+      (written bs out)) (sym (sign-written g))
+      (writes (λ z. messageTold (message z)) (λ n. refl) (λ n. refl) (signBytes m) out)) (messageAt s i) refl
+
+  sign-only : {t : Told} {l : List ℕ} → OfMessage i (x .publish) out (λ m. Writes (signBytes m) out) t l
+      → (messageTold (signAt s out (messageAt s i)) ≡ t) × (signedAt s out (messageAt s i) ≡ l)
+  sign-only {t} {l} =
+      of-message-only w i out (λ m. Writes (signBytes m) out) (λ r. messageTold (signAt s out r)) (signedAt s out)
+      (λ n. refl) (λ n. refl)
+      (λ a e m g r. subst (λ (bs : List ℕ). (messageTold (message (answer bs out)) ≡ t) × (written bs out ≡ l))
+      (sym (sign-written g))
+      (writes-only (λ z. messageTold (message z)) (λ n. refl) (λ n. refl) (signBytes m) out r))
+
+of-message-other : {i : ℕ} {ms : List RawMessage} {out : List ℕ} {R : RawMessage → Told → List ℕ → Type 0} {a : Told}
+    {l : List ℕ} → ((m : RawMessage) (z : Told) (k : List ℕ) → R m z k → Gated (z .number) → ⊥)
+    → OfMessage i ms out R a l → Gated (a .number) → ⊥
+of-message-other other (no-such h) g = let z = gated-bound g in omega (arith, z .1)
+of-message-other {a = a} {l = l} other (such {m} n r) g = other m a l r g
+
+-- sign_bytes tells a and leaves l exactly where 01 has it do so
+pub sign-exactly : (s : List ℕ) (i : ℕ) (out : List ℕ) (a : Told) (l : List ℕ) → Bytes s
+    → ((messageTold (signAnswer s i out) ≡ a) × (signLeft s i out ≡ l)) ↔ Signs s i out a l
 unfolding signAnswer signLeft
-sign-none {s} w i l out =
-    let f = none-in i (messageAt s i) (w .means) l refl in (
-      ap (signChecked s i out) (taken w) ∙ ap (signAt s out) f,
-      ap (signedChecked s i out) (taken w) ∙ ap (signedAt s out) f,
-    )
+sign-exactly s i out a l b =
+    given-exactly s out b (λ x. OfMessage i (x .publish) out (λ m. Writes (signBytes m) out))
+    (λ c. messageTold (signChecked s i out c)) (signedChecked s i out) (λ why. refl) (λ why. refl)
+    (λ x. sign-fine i out) (λ x z k w q. sign-only i out w q) a l
+
+pub sign-takes : (s : List ℕ) (i : ℕ) (out : List ℕ) → Bytes s
+    → (Gated (messageTold (signAnswer s i out) .number) → ⊥) ↔ ((x : Rpc) × Within s x)
+unfolding signAnswer
+sign-takes s i out b =
+    given-takes s out b (λ x. OfMessage i (x .publish) out (λ m. Writes (signBytes m) out))
+    (λ c. messageTold (signChecked s i out c)) (signedChecked s i out) (λ why. refl) (λ why. refl)
+    (λ x. sign-fine i out) (λ x z k. of-message-other (λ m y j. writes-other))
 
 -- ---- message_id and seen_message_id, with what stands before the id
--- what is answered and left, by the id
-abbrev pub idSaid : List ℕ → List ℕ → Id → MessageBytes
-idSaid pre out no-from = MissingFrom
-idSaid pre out (bad-from n) = InvalidFrom n
-idSaid pre out bad-seqno = InvalidSeqno
-idSaid pre out (id bs) = message (answer (pre ++ bs) out)
-
-abbrev pub idStays : List ℕ → List ℕ → Id → List ℕ
-idStays pre out no-from = out
-idStays pre out (bad-from n) = out
-idStays pre out bad-seqno = out
-idStays pre out (id bs) = written (pre ++ bs) out
-
 abbrev toId : List ℕ → MessageId → Id
 toId p parts.MissingFrom = no-from
 toId p (parts.InvalidFrom n) = bad-from n
 toId p parts.InvalidSeqno = bad-seqno
 toId p (parts.Parts a e b f) = id (between p a e ++ between p b f)
 
-said : (pre p out : List ℕ) (r : MessageId) → answerId pre p out r ≡ idSaid pre out (toId p r)
-said pre p out parts.MissingFrom = refl
-said pre p out (parts.InvalidFrom n) = refl
-said pre p out parts.InvalidSeqno = refl
-said pre p out (parts.Parts a e b f) = refl
+id-gives : (pre p out : List ℕ) (r : MessageId)
+    → WritesId pre out (toId p r) (messageTold (answerId pre p out r)) (leftId pre p out r)
+id-gives pre p out parts.MissingFrom = from-missing
+id-gives pre p out (parts.InvalidFrom n) = from-invalid
+id-gives pre p out parts.InvalidSeqno = seqno-invalid
+id-gives pre p out (parts.Parts a e b f) =
+    writes-id (writes (λ z. messageTold (message z)) (λ n. refl) (λ n. refl)
+    (pre ++ (between p a e ++ between p b f)) out)
 
-stays : (pre p out : List ℕ) (r : MessageId) → leftId pre p out r ≡ idStays pre out (toId p r)
-stays pre p out parts.MissingFrom = refl
-stays pre p out (parts.InvalidFrom n) = refl
-stays pre p out parts.InvalidSeqno = refl
-stays pre p out (parts.Parts a e b f) = refl
+id-only : (pre p out : List ℕ) (r : MessageId) {t : Told} {l : List ℕ} → WritesId pre out (toId p r) t l
+    → (messageTold (answerId pre p out r) ≡ t) × (leftId pre p out r ≡ l)
+id-only pre p out parts.MissingFrom from-missing = (refl, refl)
+id-only pre p out (parts.InvalidFrom n) from-invalid = (refl, refl)
+id-only pre p out parts.InvalidSeqno seqno-invalid = (refl, refl)
+id-only pre p out (parts.Parts a e b f) (writes-id r) =
+    writes-only (λ z. messageTold (message z)) (λ n. refl) (λ n. refl) (pre ++ (between p a e ++ between p b f)) out r
 
 bytes-there : (p : List ℕ) (a e : ℕ) → bytesAt p 0 (place.Present a e) ≡ some (between p a e)
 bytes-there p a e = ap₂ (λ (x y : ℕ). some (between p x y)) (zero-add a) (zero-add e)
@@ -188,25 +329,44 @@ id-same (is-message {s = p} {es = es} g u) =
     (slot-value p 0 p kind.RawMessage (λ t. t .third) 3 (w .fields) es (whole-part p) message-seqno (w .walked)
     (w .entries) refl)
 
-pub id-writes : {s : List ℕ} {x : Rpc} {m : RawMessage} → Within s x → (pre : List ℕ) (i : ℕ) → Nth i (x .publish) m
-    → (out : List ℕ) → (idAnswer pre s i out ≡ idSaid pre out (messageId m))
-    × (idLeft pre s i out ≡ idStays pre out (messageId m))
-unfolding idAnswer idLeft
-id-writes {s} w pre i n out =
-    let f = found-in i (messageAt s i) (w .means) n refl in
-    let p = between s (f .0) (f .1) in
-    let e = id-same (f .3) in (
-      ap (answerChecked pre s i out) (taken w) ∙ ap (answerAt pre s out) (f .2) ∙ said pre p out (idParts p)
-          ∙ ap (idSaid pre out) e,
-      ap (leftChecked pre s i out) (taken w) ∙ ap (leftAt pre s out) (f .2) ∙ stays pre p out (idParts p)
-          ∙ ap (idStays pre out) e,
-    )
+module _ {s : List ℕ} {x : Rpc} (pre : List ℕ) (i : ℕ) (out : List ℕ) (w : Within s x) where
+  id-fine : OfMessage i (x .publish) out (λ m. WritesId pre out (messageId m))
+      (messageTold (answerAt pre s out (messageAt s i))) (leftAt pre s out (messageAt s i))
+  id-fine =
+      of-message w i out (λ m. WritesId pre out (messageId m)) (λ r. messageTold (answerAt pre s out r))
+      (leftAt pre s out) (λ n. refl) (λ n. refl)
+      (λ a e m g. subst (λ (d : Id). WritesId pre out d
+      (messageTold (answerId pre (between s a e) out (idParts (between s a e))))
+      (leftId pre (between s a e) out (idParts (between s a e)))) (id-same g)
+      (id-gives pre (between s a e) out (idParts (between s a e)))) (messageAt s i) refl
 
-pub id-none : {s : List ℕ} {x : Rpc} → Within s x → (pre : List ℕ) (i : ℕ) → length (x .publish) ≤ i → (out : List ℕ)
-    → (idAnswer pre s i out ≡ NoMessage (length (x .publish))) × (idLeft pre s i out ≡ out)
+  id-told : {t : Told} {l : List ℕ} → OfMessage i (x .publish) out (λ m. WritesId pre out (messageId m)) t l
+      → (messageTold (answerAt pre s out (messageAt s i)) ≡ t) × (leftAt pre s out (messageAt s i) ≡ l)
+  id-told {t} {l} =
+      of-message-only w i out (λ m. WritesId pre out (messageId m)) (λ r. messageTold (answerAt pre s out r))
+      (leftAt pre s out) (λ n. refl) (λ n. refl)
+      (λ a e m g r. id-only pre (between s a e) out (idParts (between s a e))
+      (subst (λ (d : Id). WritesId pre out d t l) (sym (id-same g)) r))
+
+id-other : {pre out : List ℕ} {d : Id} {a : Told} {l : List ℕ} → WritesId pre out d a l → Gated (a .number) → ⊥
+id-other from-missing g = let z = gated-bound g in omega (arith, z .1)
+id-other from-invalid g = let z = gated-bound g in omega (arith, z .1)
+id-other seqno-invalid g = let z = gated-bound g in omega (arith, z .1)
+id-other (writes-id r) g = writes-other r g
+
+-- message_id and seen_message_id tell a and leave l exactly where 01 has them do so
+pub id-exactly : (pre s : List ℕ) (i : ℕ) (out : List ℕ) (a : Told) (l : List ℕ) → Bytes s
+    → ((messageTold (idAnswer pre s i out) ≡ a) × (idLeft pre s i out ≡ l)) ↔ Identifies pre s i out a l
 unfolding idAnswer idLeft
-id-none {s} w pre i l out =
-    let f = none-in i (messageAt s i) (w .means) l refl in (
-      ap (answerChecked pre s i out) (taken w) ∙ ap (answerAt pre s out) f,
-      ap (leftChecked pre s i out) (taken w) ∙ ap (leftAt pre s out) f,
-    )
+id-exactly pre s i out a l b =
+    given-exactly s out b (λ x. OfMessage i (x .publish) out (λ m. WritesId pre out (messageId m)))
+    (λ c. messageTold (answerChecked pre s i out c)) (leftChecked pre s i out) (λ why. refl) (λ why. refl)
+    (λ x. id-fine pre i out) (λ x z k w q. id-told pre i out w q) a l
+
+pub id-takes : (pre s : List ℕ) (i : ℕ) (out : List ℕ) → Bytes s
+    → (Gated (messageTold (idAnswer pre s i out) .number) → ⊥) ↔ ((x : Rpc) × Within s x)
+unfolding idAnswer
+id-takes pre s i out b =
+    given-takes s out b (λ x. OfMessage i (x .publish) out (λ m. WritesId pre out (messageId m)))
+    (λ c. messageTold (answerChecked pre s i out c)) (leftChecked pre s i out) (λ why. refl) (λ why. refl)
+    (λ x. id-fine pre i out) (λ x z k. of-message-other (λ m y j. id-other))

@@ -3,20 +3,21 @@
 -- and given room it always succeeds.
 use Prim.Native.Nat.{ℕ, _≤_}
 use mathlib.Core.Path.{_≡_, sym, ap, subst, _∙_}
-use mathlib.Core.List.{List}
+use mathlib.Core.List.{List, [], _∷_, _++_}
 use native.Mathlib.Omega.{arith}
-use lib.ListN.{length}
-use borrow.Author.Tests.{le-ltb}
+use lib.ListN.{length, drop}
+use borrow.Author.Tests.{le-leb}
 use Rattle.basis.specs.Lists.{answer-fits}
+use Rattle.basis.specs.Told.{done}
+use Rattle.basis.specs.Writing.{written}
+use Rattle.basis.specs.declared.Written.{Written}
+use Rattle.protobuf.specs.declared.Checked.{Checked}
+use Rattle.protobuf.specs.Told.{encodedTold}
 use Rattle.protobuf.specs.Encode.{ofWritten}
-use Rattle.protobuf.specs.declared.Encoded.the-variants.{Bytes}
 use Rattle.rpc.specs.Rpc.{Rpc}
 use Rattle.rpc.specs.Grammar.{IsRpc}
-use Rattle.meaning.specs.Accepted.{rpc-accepted}
-use Rattle.meaning.specs.Size.{recordsIn}
-use Rattle.meaning.specs.Decoded.{counted-records}
 use Rattle.canon.specs.Canon.{canonBody}
-use Rattle.encode.specs.Encode.{encodeChecked, encodeAnswer}
+use Rattle.encode.specs.Encode.{encodeChecked, encodeAnswer, encodedChecked, encodeLeft}
 use Rattle.canonical.specs.Means.{canonical-means}
 use Rattle.canon.specs.Written.{canon-written}
 use Rattle.canon.specs.Taken.{Within, taken, output-shorter}
@@ -39,9 +40,14 @@ module _ {s : List ℕ} {x : Rpc} (w : Within s x) where
 
   -- given room, re-encoding succeeds: as much room as the body takes is always enough
   pub output-succeeds : (out : List ℕ) → length (canonBody s) ≤ length out
-      → encodeAnswer s out ≡ Bytes (length (canonBody s))
-  unfolding encodeAnswer
-  output-succeeds out r = ap (encodeChecked s out) (taken w) ∙ ap ofWritten (answer-fits (canonBody s) out r)
+      → (encodedTold (encodeAnswer s out) ≡ done (length (canonBody s) ∷ []))
+      × (encodeLeft s out ≡ canonBody s ++ drop (length (canonBody s)) out)
+  unfolding encodeAnswer encodeLeft written
+  output-succeeds out r = (
+    ap (λ (c : Checked). encodedTold (encodeChecked s out c)) (taken w)
+        ∙ ap (λ (z : Written). encodedTold (ofWritten z)) (answer-fits (canonBody s) out r),
+    ap (encodedChecked s out) (taken w) ∙ simp (le-leb (length (canonBody s)) (length out) r),
+  )
 
 -- two bodies that mean the same RPC re-encode to the same bytes
 pub output-same : {s t : List ℕ} {x : Rpc} → IsRpc s x → IsRpc t x → canonBody s ≡ canonBody t

@@ -1,6 +1,7 @@
--- To be believed: Calls (`idSaid`, `idStays`).
--- Theorems: Means, Canonical, Rows, Calls.
+-- To be believed: Calls (`Writes`, `Given`, `OfMessage`, `WritesId`; `Encodes`, `Signs`, `Identifies`), Rows (`PRows`,
+-- and the records in which it is said).
+-- Theorems: Means, Canonical, Calls, Rows.
 pub mod Means
 pub mod Canonical
-pub mod Rows
 pub mod Calls
+pub mod Rows

@@ -1,22 +1,29 @@
--- Reading a body, as theorems about what `decode` answers and leaves: accepted exactly where the body is well formed
--- and within capacity; the table then says the RPC that the body means; and each refusal exactly where 01 gives it.
-use Prim.Native.Nat.{ℕ, _*_, _/_, _≤_, _<_}
-use mathlib.Core.Path.{_≡_, refl, sym, ap, ap₂, _∙_}
-use mathlib.Core.Bool.{Bool}
-use mathlib.Core.List.{List}
+-- Reading a body, as theorems about what `decode` tells and leaves, by 01's numbers and the values beside them:
+-- accepted exactly where the body means an RPC within capacity and the table has room; the table then says that RPC;
+-- and each refusal exactly where 01 gives it.
+use Prim.Native.Nat.{ℕ, _+_, _*_, _/_, _≤_, _<_}
+use mathlib.Core.Path.{_≡_, refl, sym, ap, ap₂, subst, _∙_}
+use mathlib.Core.Bool.{Bool, true, false, cond}
+use mathlib.Core.List.{List, [], _∷_}
+use mathlib.Core.Option.{Option, none, some}
 use mathlib.Core.Logic.{_↔_}
 use native.Mathlib.Omega.{arith}
-use lib.ListN.{length}
-use lib.Seq.{sets}
-use lib.Dec.{ltb}
+use lib.ListN.{length, drop}
+use lib.Seq.{sets, sets-eq, length-sets, drop-at}
+use lib.Dec.{ltb, eqb}
 use borrow.Author.Tests.{ltb-true, ltb-false, lt-ltb, le-ltb}
+use Rattle.basis.specs.declared.Told.{Told}
+use Rattle.basis.specs.Refusals.{too-large, too-many-records, short-room}
+use Rattle.basis.specs.Told.{told, done}
 use Rattle.basis.specs.Cases.{either, clash}
 use Rattle.basis.specs.Bytes.{Bytes}
 use Rattle.utf8.specs.Utf8.{isUtf8}
+use Rattle.peer_id.specs.declared.VarintError.the-variants.{BufferTooShort, Overflow, NonCanonical}
 use Rattle.protobuf.specs.declared.Field.{Field}
 use Rattle.protobuf.specs.declared.WireError.{WireError}
-use Rattle.protobuf.specs.declared.WireError.the-variants.{InvalidUtf8, TooLarge, TooManyRecords}
-use Rattle.protobuf.specs.Told.{refusalNumber}
+use Rattle.protobuf.specs.declared.WireError.the-variants.{Varint, FieldOverflow, UnsupportedWireType}
+use Rattle.protobuf.specs.declared.WireError.the-variants.{InvalidFieldNumber, InvalidUtf8, TooLarge, TooManyRecords}
+use Rattle.protobuf.specs.Told.{wireTold, refusalNumber}
 use Rattle.protobuf.specs.RefusalLaws.{field-early}
 use Rattle.protobuf.specs.Walk.{Fields, end, refused, _then_, fieldsOf, between}
 use Rattle.protobuf.specs.WalkLaws.{along}
@@ -38,43 +45,46 @@ use Rattle.schema.specs.AcceptLaws.{Gate, large, bad, many, passes, gate, recor
 use Rattle.message.specs.declared.Decoded.{Decoded}
 use Rattle.message.specs.declared.Decoded.the-variants.{Records, Refused, Room}
 use Rattle.message.specs.Rows.{rowsOf, wordsOfAll}
-use Rattle.message.specs.RowsLaws.{rows-length}
+use Rattle.message.specs.RowsLaws.{rows-length, all-length}
 use Rattle.message.specs.Decode.{hasControl, onCount, decodeAnswer, leaves, decodeTable}
+use Rattle.message.specs.Told.{decodedTold}
 use Rattle.rpc.specs.Rpc.{Rpc}
 use Rattle.rpc.specs.Grammar.{IsRpc}
-use Rattle.meaning.specs.ReadBack.{readBack}
+use Rattle.meaning.specs.ReadBack.{nothing, gather, readBack}
 use Rattle.meaning.specs.Accepted.{rpc-means, rpc-accepted}
-use Rattle.meaning.specs.Back.{read-back}
+use Rattle.meaning.specs.Back.{read-back, one-rpc}
 use Rattle.meaning.specs.Table.{rowsIn, table-back}
 use Rattle.meaning.specs.Size.{recordsIn, rpc-records}
 
--- ---- what decode's answers come from: the test of the body, and the room
-data Answers (s : List ℕ) (room : ℕ) : Decoded → Type 0 where
-  refuses : (why : WireError) → Gate s (count.Refused why) → Answers s room (Refused why)
-  short : length s ≤ 65536 → (n : ℕ) → counted kind.Rpc s ≡ count.Records n → n ≤ 512 → room < n
-      → Answers s room (Room n)
-  takes : length s ≤ 65536 → (n : ℕ) → counted kind.Rpc s ≡ count.Records n → n ≤ 512 → n ≤ room
-      → Answers s room (Records n (hasControl s))
+-- ---- what 01 says of a body
+-- it means an RPC and is within capacity
+pub record Within (s : List ℕ) (x : Rpc) : Type 0 where
+  pub means : IsRpc s x
+  pub small : length s ≤ 65536
+  pub few : recordsIn x ≤ 512
 
-of-gate : (s : List ℕ) (room : ℕ) (r : Counted) → Gate s r → Answers s room (onCount room (hasControl s) r)
-of-gate s room _ (large h) = refuses _ (large h)
-of-gate s room _ (bad h why e) = refuses why (bad h why e)
-of-gate s room _ (many h n e l) = refuses _ (many h n e l)
-of-gate s room _ (passes h n e l) =
-    either (ltb room n) (λ u. simp u (short h n e l (ltb-true room n u)))
-    (λ u. simp u (takes h n e l (ltb-false room n u)))
+-- what a body is refused with: 10 above 65,536 bytes, its length; 1 to 7, the first in reading order; 11 above 512
+-- records, their number
+pub data Refusal (s : List ℕ) : Told → Type 0 where
+  is-large : 65536 < length s → Refusal s (told too-large (length s ∷ []))
+  is-wrong : {why : WireError} → length s ≤ 65536 → counted kind.Rpc s ≡ count.Refused why → Refusal s (wireTold why)
+  has-many : {x : Rpc} → length s ≤ 65536 → IsRpc s x → 512 < recordsIn x
+      → Refusal s (told too-many-records (recordsIn x ∷ []))
 
-answers : (s : List ℕ) (words : ℕ) → Answers s (words / 20) (decodeAnswer s words)
-unfolding decodeAnswer
-answers s words = of-gate s (words / 20) (bodyRecords s) (gate s)
+-- 1 where it is there, and 0 where it is not
+abbrev pub present : {A : Type 0} → Option A → ℕ
+present none = 0
+present (some x) = 1
 
--- and back: one answer for each
-answer-of : (s : List ℕ) (words n : ℕ) → length s ≤ 65536 → counted kind.Rpc s ≡ count.Records n → n ≤ 512
-    → n ≤ words / 20 → decodeAnswer s words ≡ Records n (hasControl s)
-unfolding decodeAnswer
-answer-of s words n h e l r = simp (records-taken s n h e l, le-ltb (words / 20) n r)
+-- what `decode` tells, lent a table of so many words: a refusal of the body; 12 where the table has too few rows, with
+-- the number of records; else that number, and 1 where the RPC has a control
+pub data Decodes (s : List ℕ) (words : ℕ) : Told → Type 0 where
+  refuses : {a : Told} → Refusal s a → Decodes s words a
+  short : {x : Rpc} → Within s x → words / 20 < recordsIn x → Decodes s words (told short-room (recordsIn x ∷ []))
+  reads : {x : Rpc} → Within s x → recordsIn x ≤ words / 20
+      → Decodes s words (done (recordsIn x ∷ present (x .control) ∷ []))
 
--- ---- accepted exactly where well formed and within capacity
+-- ---- the RPC that a body means, and what was counted
 -- a body's records are those of the RPC that it means
 own-rpc : ownOf kind.Rpc ≡ 0
 unfolding ownOf
@@ -84,70 +94,100 @@ pub counted-records : (s : List ℕ) (n : ℕ) (x : Rpc) → counted kind.Rpc s 
     → n ≡ recordsIn x
 counted-records s n x e i = let a = rows-length kind.Rpc 0 s n e in let b = rpc-records i in omega (arith, own-rpc)
 
-pub record Taken (s : List ℕ) (words : ℕ) : Type 0 where
-  pub count : ℕ
-  pub control : Bool
-  pub answer : decodeAnswer s words ≡ Records count control
+-- where records are counted the body means an RPC with that number of records
+record Counts (s : List ℕ) (n : ℕ) : Type 0 where
+  rpc : Rpc
+  means : IsRpc s rpc
+  all : recordsIn rpc ≡ n
 
-pub record WellFormed (s : List ℕ) (words : ℕ) : Type 0 where
-  pub rpc : Rpc
-  pub means : IsRpc s rpc
-  pub small : length s ≤ 65536
-  pub few : recordsIn rpc ≤ 512
-  pub room : recordsIn rpc ≤ words / 20
+counts : (s : List ℕ) (n : ℕ) → Bytes s → counted kind.Rpc s ≡ count.Records n → Counts s n
+counts s n b e =
+    let x = rpc-means s b (record { records = n; counts = e }) in
+    record { rpc = x .value; means = x .means; all = sym (counted-records s n (x .value) e (x .means)) }
 
-taken-means : (s : List ℕ) (words : ℕ) (d : Decoded) → Bytes s → Answers s (words / 20) d → (n : ℕ) (c : Bool)
-    → d ≡ Records n c → WellFormed s words
-taken-means s words _ b (refuses why g) n c e = clash (cc)
-taken-means s words _ b (short h m q l r) n c e = clash (cc)
-taken-means s words _ b (takes h m q l r) n c e =
-    let x = rpc-means s b (record { records = m; counts = q }) in
-    let z = counted-records s m (x .value) q (x .means) in
-    record { rpc = x .value; means = x .means; small = h; few = omega arith; room = omega arith }
+-- and back
+meant-count : {s : List ℕ} {x : Rpc} → IsRpc s x → counted kind.Rpc s ≡ count.Records (recordsIn x)
+meant-count {s} {x} i =
+    let a = rpc-accepted s (record { value = x; means = i }) in
+    a .counts ∙ ap count.Records (counted-records s (a .records) x (a .counts) i)
 
-pub accepted-exactly : (s : List ℕ) (words : ℕ) → Bytes s → Taken s words ↔ WellFormed s words
-accepted-exactly s words b = (
-  λ t. taken-means s words (decodeAnswer s words) b (answers s words) (t .count) (t .control) (t .answer),
-  λ w. let a = rpc-accepted s (record { value = w .rpc; means = w .means }) in
-      let z = counted-records s (a .records) (w .rpc) (a .counts) (w .means) in
-      record {
-        count = a .records;
-        control = hasControl s;
-        answer = answer-of s words (a .records) (w .small) (a .counts) (omega arith) (omega arith);
-      },
-)
+-- decode says that a control is there exactly where the RPC has one
+present-cond : {A : Type 0} (c : Bool) (x : A) → present (cond c (some x) none) ≡ cond c 1 0
+present-cond true x = refl
+present-cond false x = refl
 
--- ---- the table then says the RPC
-taken-table : (s t : List ℕ) (d : Decoded) → Answers s (length t / 20) d → (n : ℕ) (c : Bool) (x : Rpc)
-    → d ≡ Records n c → IsRpc s x → readBack s (rowsIn (leaves s t d) 0 n) c ≡ x
-taken-table s t _ (refuses why g) n c x e i = clash (cc)
-taken-table s t _ (short h m q l r) n c x e i = clash (cc)
-taken-table s t _ (takes h m q l r) n c x e i =
-    let en : n ≡ m = cc in let ec : c ≡ hasControl s = cc in
-    let k : length (rowsOf kind.Rpc 0 s) ≡ m = rows-length kind.Rpc 0 s m q ∙ omega (arith, own-rpc) in
-    let room : length (rowsOf kind.Rpc 0 s) * 20 ≤ length t = omega arith in
-    let rows : rowsIn (sets t 0 (wordsOfAll (rowsOf kind.Rpc 0 s))) 0 n ≡ rowsOf kind.Rpc 0 s =
-    ap (rowsIn (sets t 0 (wordsOfAll (rowsOf kind.Rpc 0 s))) 0) (en ∙ sym k)
-    ∙ table-back t (rowsOf kind.Rpc 0 s) room in
-    ap₂ (readBack s) rows ec ∙ read-back i
+control-told : {s : List ℕ} {x : Rpc} → IsRpc s x → cond (hasControl s) 1 0 ≡ present (x .control)
+unfolding readBack
+control-told {s} {x} i =
+    sym (present-cond (hasControl s) (gather s (rowsOf kind.Rpc 0 s) nothing .control))
+    ∙ ap (λ (y : Rpc). present (y .control)) (read-back i)
 
--- the records that were written, read back from the table, are the RPC that the body means
-pub table-means : (s t : List ℕ) (n : ℕ) (c : Bool) (x : Rpc) → decodeAnswer s (length t) ≡ Records n c → IsRpc s x
-    → readBack s (rowsIn (decodeTable s t) 0 n) c ≡ x
-unfolding decodeTable
-table-means s t n c x e i = taken-table s t (decodeAnswer s (length t)) (answers s (length t)) n c x e i
+-- ---- a body is refused exactly where 01 refuses it
+-- the gate's refusal
+pub refusal-of : (s : List ℕ) (r : Counted) (why : WireError) → Bytes s → Gate s r → r ≡ count.Refused why
+    → Refusal s (wireTold why)
+refusal-of s _ why b (large h) e =
+    let q : TooLarge (length s) ≡ why = cc in subst (λ (w : WireError). Refusal s (wireTold w)) q (is-large h)
+refusal-of s _ why b (bad h w q) e =
+    let z : w ≡ why = cc in is-wrong h (q ∙ ap count.Refused z)
+refusal-of s _ why b (many h n q l) e =
+    let c = counts s n b q in
+    let z : TooManyRecords n ≡ why = cc in
+    subst (λ (w : WireError). Refusal s (wireTold w)) (ap TooManyRecords (c .all) ∙ z)
+    (has-many h (c .means) (omega (arith, c .all)))
+refusal-of s _ why b (passes h n q l) e = clash (cc)
 
--- ---- refusals
-refused-leaves : (s t : List ℕ) (d : Decoded) → ((n : ℕ) (c : Bool) → d ≡ Records n c → ⊥) → leaves s t d ≡ t
-refused-leaves s t (Records n c) h = absurd (h n c refl)
-refused-leaves s t (Refused why) h = refl
-refused-leaves s t (Room n) h = refl
+records-wrong : (s : List ℕ) (why : WireError) → length s ≤ 65536 → counted kind.Rpc s ≡ count.Refused why
+    → bodyRecords s ≡ count.Refused why
+unfolding bodyRecords
+records-wrong s why h e = simp (le-ltb 65536 (length s) h, e)
 
--- a refusal leaves the table as it was
-pub refused-unchanged : (s t : List ℕ) → ((n : ℕ) (c : Bool) → decodeAnswer s (length t) ≡ Records n c → ⊥)
-    → decodeTable s t ≡ t
-unfolding decodeTable
-refused-unchanged s t h = refused-leaves s t (decodeAnswer s (length t)) h
+-- and back: by which case of the answer it is told
+pub of-refusal : {s : List ℕ} {a : Told} → Refusal s a
+    → (why : WireError) × (bodyRecords s ≡ count.Refused why) × (wireTold why ≡ a)
+of-refusal {s} (is-large h) = (TooLarge (length s), records-large s h, refl)
+of-refusal {s} (is-wrong {why} h e) = (why, records-wrong s why h e, refl)
+of-refusal {s} (has-many {x} h i l) =
+    (TooManyRecords (recordsIn x), records-many s (recordsIn x) h (meant-count i) l, refl)
+
+-- ---- what decode tells, exactly
+of-gate : (s : List ℕ) (words : ℕ) (r : Counted) → Bytes s → Gate s r
+    → Decodes s words (decodedTold (onCount (words / 20) (hasControl s) r))
+of-gate s words _ b (large h) = refuses (is-large h)
+of-gate s words _ b (bad h why e) = refuses (is-wrong h e)
+of-gate s words _ b (many h n e l) = refuses (refusal-of s _ (TooManyRecords n) b (many h n e l) refl)
+of-gate s words _ b (passes h n e l) =
+    let c = counts s n b e in
+    let w : Within s (c .rpc) = record { means = c .means; small = h; few = omega (arith, c .all) } in
+    either (ltb (words / 20) n)
+    (λ u. simp u (subst (λ (k : ℕ). Decodes s words (told short-room (k ∷ []))) (c .all)
+    (short w (omega (arith, c .all, ltb-true (words / 20) n u)))))
+    (λ u. simp u (subst (λ (k : ℕ). Decodes s words (done (k ∷ cond (hasControl s) 1 0 ∷ []))) (c .all)
+    (subst (λ (k : ℕ). Decodes s words (done (recordsIn (c .rpc) ∷ k ∷ []))) (sym (control-told (c .means)))
+    (reads w (omega (arith, c .all, ltb-false (words / 20) n u))))))
+
+records-within : {s : List ℕ} {x : Rpc} → Within s x → bodyRecords s ≡ count.Records (recordsIn x)
+records-within {s} {x} w = records-taken s (recordsIn x) (w .small) (meant-count (w .means)) (w .few)
+
+told-of : {s : List ℕ} {words : ℕ} {a : Told} → Decodes s words a → decodedTold (decodeAnswer s words) ≡ a
+unfolding decodeAnswer
+told-of {s} {words} (refuses r) =
+    let g = of-refusal r in
+    ap (λ (c : Counted). decodedTold (onCount (words / 20) (hasControl s) c)) (g .1) ∙ g .2
+told-of {s} {words} (short {x} w l) =
+    ap (λ (c : Counted). decodedTold (onCount (words / 20) (hasControl s) c)) (records-within w)
+    ∙ simp (lt-ltb (words / 20) (recordsIn x) l)
+told-of {s} {words} (reads {x} w l) =
+    ap (λ (c : Counted). decodedTold (onCount (words / 20) (hasControl s) c)) (records-within w)
+    ∙ simp (le-ltb (words / 20) (recordsIn x) l) (ap (λ (k : ℕ). done (recordsIn x ∷ k ∷ [])) (control-told (w .means)))
+
+decodes : (s : List ℕ) (words : ℕ) → Bytes s → Decodes s words (decodedTold (decodeAnswer s words))
+unfolding decodeAnswer
+decodes s words b = of-gate s words (bodyRecords s) b (gate s)
+
+pub decode-exactly : (s : List ℕ) (words : ℕ) (a : Told) → Bytes s → (decodedTold (decodeAnswer s words) ≡ a)
+    ↔ Decodes s words a
+decode-exactly s words a b = (λ e. subst (Decodes s words) e (decodes s words b), told-of)
 
 -- counting refuses by one of 1 to 7
 text-early : (s : List ℕ) (f : Field) (n : ℕ) (why : WireError) → textCount s f n ≡ count.Refused why
@@ -215,29 +255,214 @@ early-all =
 pub counted-early : (s : List ℕ) (why : WireError) → counted kind.Rpc s ≡ count.Refused why → refusalNumber why ≤ 7
 counted-early s why h = early-all kind.Rpc s why h
 
--- 10 is given exactly to a body above 65,536 bytes, with its length
-large-gate : (s : List ℕ) (n : ℕ) (r : Counted) → Gate s r → r ≡ count.Refused (TooLarge n) → (n ≡ length s)
-    × (65536 < length s)
-large-gate s n _ (large h) e = (cc, h)
-large-gate s n _ (bad h why q) e = let w : why ≡ TooLarge n = cc in
-    let l = counted-early s (TooLarge n) (q ∙ ap count.Refused w) in absurd (omega arith)
-large-gate s n _ (many h m q l) e = clash (cc)
-large-gate s n _ (passes h m q l) e = clash (cc)
+-- a refusal's number is not 0
+wire-number : (why : WireError) → 0 < refusalNumber why
+wire-number (Varint BufferTooShort) = omega arith
+wire-number (Varint Overflow) = omega arith
+wire-number (Varint NonCanonical) = omega arith
+wire-number (FieldOverflow offset size remaining) = omega arith
+wire-number (UnsupportedWireType type offset) = omega arith
+wire-number (InvalidFieldNumber field offset) = omega arith
+wire-number (InvalidUtf8 offset) = omega arith
+wire-number (TooLarge len) = omega arith
+wire-number (TooManyRecords records) = omega arith
 
-of-large : (s : List ℕ) (room : ℕ) (d : Decoded) (n : ℕ) → Answers s room d → d ≡ Refused (TooLarge n) → (n ≡ length s)
-    × (65536 < length s)
-of-large s room _ n (refuses why g) e = large-gate s n (count.Refused why) g (cc)
-of-large s room _ n (short h m q l r) e = clash (cc)
-of-large s room _ n (takes h m q l r) e = clash (cc)
+-- a body's refusals are 10, 1 to 7 and 11
+pub data Gated : ℕ → Type 0 where
+  large-number : Gated too-large
+  early-number : {n : ℕ} → 0 < n → n ≤ 7 → Gated n
+  many-number : Gated too-many-records
 
-to-large : (s : List ℕ) (words n : ℕ) → (n ≡ length s) × (65536 < length s)
-    → decodeAnswer s words ≡ Refused (TooLarge n)
+pub refusal-gated : {s : List ℕ} {a : Told} → Refusal s a → Gated (a .number)
+refusal-gated (is-large h) = large-number
+refusal-gated {s} (is-wrong {why} h e) = early-number (wire-number why) (counted-early s why e)
+refusal-gated (has-many h i l) = many-number
+
+-- so 0, 12 and all above are none of them
+pub gated-bound : {n : ℕ} → Gated n → (0 < n) × (n ≤ 11)
+gated-bound large-number = (omega arith, omega arith)
+gated-bound (early-number p q) = (p, omega arith)
+gated-bound many-number = (omega arith, omega arith)
+
+-- a body that is within capacity is not refused
+pub refusal-within : {s : List ℕ} {a : Told} {x : Rpc} → Refusal s a → Within s x → ⊥
+refusal-within (is-large h) w = omega (arith, w .small)
+refusal-within (is-wrong h e) w = clash (let z = meant-count (w .means) in cc)
+refusal-within {x = x} (has-many {x = y} h i l) w =
+    let e : recordsIn y ≡ recordsIn x = ap recordsIn (one-rpc i (w .means)) in omega (arith, w .few)
+
+-- ---- accepted exactly where the body means an RPC within capacity and the table has a row for each of its records:
+-- with the number of records, and 1 or 0 as the RPC has a control or not
+pub record Accepts (s : List ℕ) (words n c : ℕ) : Type 0 where
+  pub rpc : Rpc
+  pub within : Within s rpc
+  pub room : recordsIn rpc ≤ words / 20
+  pub count : n ≡ recordsIn rpc
+  pub control : c ≡ present (rpc .control)
+
+refusal-nonzero : {s : List ℕ} {a : Told} → Refusal s a → 0 < a .number
+refusal-nonzero (is-large h) = omega arith
+refusal-nonzero (is-wrong {why} h e) = wire-number why
+refusal-nonzero (has-many h i l) = omega arith
+
+accepts-of : {s : List ℕ} {words : ℕ} {a : Told} (n c : ℕ) → Decodes s words a → a ≡ done (n ∷ c ∷ [])
+    → Accepts s words n c
+accepts-of n c (refuses r) e = let z = refusal-nonzero r in
+    absurd (omega (arith, ap (λ (t : Told). t .number) e))
+accepts-of n c (short w l) e = absurd (omega (arith, ap (λ (t : Told). t .number) e))
+accepts-of n c (reads {x} w l) e =
+    record {
+      rpc = x;
+      within = w;
+      room = l;
+      count = sym (ap (λ (t : Told). t .first) e);
+      control = sym (ap (λ (t : Told). t .second) e);
+    }
+
+pub accepted-exactly : (s : List ℕ) (words n c : ℕ) → Bytes s
+    → (decodedTold (decodeAnswer s words) ≡ done (n ∷ c ∷ [])) ↔ Accepts s words n c
+accepted-exactly s words n c b = (
+  λ e. accepts-of n c (decodes s words b) e,
+  λ x. told-of (reads (x .within) (x .room))
+      ∙ ap₂ (λ (i j : ℕ). done (i ∷ j ∷ [])) (sym (x .count)) (sym (x .control)),
+)
+
+-- and 0 is told only so
+pub accepted-number : (s : List ℕ) (words : ℕ) → Bytes s → (decodedTold (decodeAnswer s words) .number ≡ 0)
+    ↔ ((x : Rpc) × (Within s x) × (recordsIn x ≤ words / 20))
+accepted-number s words b = (
+  λ e. forth (decodes s words b) e,
+  λ x. ap (λ (t : Told). t .number) (told-of (reads (x .1) (x .2))),
+)
+  where
+    forth : {a : Told} → Decodes s words a → a .number ≡ 0 → (x : Rpc) × (Within s x) × (recordsIn x ≤ words / 20)
+    forth (refuses r) e = let z = refusal-nonzero r in absurd (omega arith)
+    forth (short w l) e = absurd (omega arith)
+    forth (reads {x} w l) e = (x, w, l)
+
+-- ---- the table then says the RPC
+-- what the numbers say of the answer
+told-records : (d : Decoded) (n c : ℕ) → decodedTold d ≡ done (n ∷ c ∷ []) → (b : Bool) × (d ≡ Records n b)
+    × (cond b 1 0 ≡ c)
+told-records (Records m b) n c e = (
+  b,
+  ap (λ (k : ℕ). Records k b) (ap (λ (t : Told). t .first) e),
+  ap (λ (t : Told). t .second) e,
+)
+told-records (Refused why) n c e = let z = wire-number why in absurd (omega (arith, ap (λ (t : Told). t .number) e))
+told-records (Room m) n c e = absurd (omega (arith, ap (λ (t : Told). t .number) e))
+
+gate-reads : (s : List ℕ) (room : ℕ) (r : Counted) (n : ℕ) (b : Bool) → Gate s r
+    → onCount room (hasControl s) r ≡ Records n b → (counted kind.Rpc s ≡ count.Records n) × (n ≤ room)
+    × (b ≡ hasControl s)
+gate-reads s room _ n b (large h) e = clash (cc)
+gate-reads s room _ n b (bad h why q) e = clash (cc)
+gate-reads s room _ n b (many h m q l) e = clash (cc)
+gate-reads s room _ n b (passes h m q l) e =
+    either (ltb room m) (λ u. clash (let z = simp u at e in cc))
+    (λ u. let z = simp u at e in let y : m ≡ n = cc in
+    (q ∙ ap count.Records y, omega (arith, ltb-false room m u), cc))
+
+answer-reads : (s : List ℕ) (words n : ℕ) (b : Bool) → decodeAnswer s words ≡ Records n b
+    → (counted kind.Rpc s ≡ count.Records n) × (n ≤ words / 20) × (b ≡ hasControl s)
 unfolding decodeAnswer
-to-large s words n (e, h) = rw e (simp (records-large s h))
+answer-reads s words n b e = gate-reads s (words / 20) (bodyRecords s) n b (gate s) e
 
-pub too-large-exactly : (s : List ℕ) (words n : ℕ) → (decodeAnswer s words ≡ Refused (TooLarge n))
-    ↔ ((n ≡ length s) × (65536 < length s))
-too-large-exactly s words n = (of-large s (words / 20) (decodeAnswer s words) n (answers s words), to-large s words n)
+control-read : (b : Bool) → eqb (cond b 1 0) 1 ≡ b
+control-read true = refl
+control-read false = refl
+
+-- the records that were written, read back from the table, are the RPC that the body means
+pub table-means : (s t : List ℕ) (n c : ℕ) (x : Rpc) → decodedTold (decodeAnswer s (length t)) ≡ done (n ∷ c ∷ [])
+    → IsRpc s x → readBack s (rowsIn (decodeTable s t) 0 n) (eqb c 1) ≡ x
+unfolding decodeTable
+table-means s t n c x e i =
+    let k = told-records (decodeAnswer s (length t)) n c e in
+    let g = answer-reads s (length t) n (k .0) (k .1) in
+    let l : length (rowsOf kind.Rpc 0 s) ≡ n = rows-length kind.Rpc 0 s n (g .0) ∙ omega (arith, own-rpc) in
+    let room : length (rowsOf kind.Rpc 0 s) * 20 ≤ length t = omega (arith, g .1) in
+    let rows : rowsIn (leaves s t (decodeAnswer s (length t))) 0 n ≡ rowsOf kind.Rpc 0 s =
+    ap (λ (d : Decoded). rowsIn (leaves s t d) 0 n) (k .1)
+    ∙ ap (rowsIn (sets t 0 (wordsOfAll (rowsOf kind.Rpc 0 s))) 0) (sym l)
+    ∙ table-back t (rowsOf kind.Rpc 0 s) room in
+    let control : eqb c 1 ≡ hasControl s = ap (λ (j : ℕ). eqb j 1) (sym (k .2)) ∙ control-read (k .0) ∙ g .2 in
+    ap₂ (readBack s) rows control ∙ read-back i
+
+-- and only those records were written: the words after them are as they were
+pub table-rest : (s t : List ℕ) (n c : ℕ) → decodedTold (decodeAnswer s (length t)) ≡ done (n ∷ c ∷ [])
+    → (length (decodeTable s t) ≡ length t) × (drop (n * 20) (decodeTable s t) ≡ drop (n * 20) t)
+unfolding decodeTable
+table-rest s t n c e =
+    let k = told-records (decodeAnswer s (length t)) n c e in
+    let g = answer-reads s (length t) n (k .0) (k .1) in
+    let ws = wordsOfAll (rowsOf kind.Rpc 0 s) in
+    let l : length ws ≡ n * 20 =
+    all-length (rowsOf kind.Rpc 0 s) ∙ omega (arith, own-rpc, rows-length kind.Rpc 0 s n (g .0)) in
+    let z : 0 + length ws ≡ n * 20 = omega arith in
+    let left : leaves s t (decodeAnswer s (length t)) ≡ sets t 0 ws = ap (leaves s t) (k .1) in (
+      ap length left ∙ length-sets t 0 ws,
+      ap (drop (n * 20)) (left ∙ sets-eq ws t 0 (omega (arith, g .1))) ∙ drop-at ws (drop (0 + length ws) t) (n * 20) l
+          ∙ ap (λ (j : ℕ). drop j t) z,
+    )
+
+-- ---- refusals
+refused-leaves : (s t : List ℕ) (d : Decoded) → (decodedTold d .number ≡ 0 → ⊥) → leaves s t d ≡ t
+refused-leaves s t (Records n c) h = absurd (h refl)
+refused-leaves s t (Refused why) h = refl
+refused-leaves s t (Room n) h = refl
+
+-- a refusal leaves the table as it was
+pub refused-unchanged : (s t : List ℕ) → (decodedTold (decodeAnswer s (length t)) .number ≡ 0 → ⊥)
+    → decodeTable s t ≡ t
+unfolding decodeTable
+refused-unchanged s t h = refused-leaves s t (decodeAnswer s (length t)) h
+
+-- 10 is given exactly to a body above 65,536 bytes, with its length
+large-gate : (s : List ℕ) (room n : ℕ) (r : Counted) → Gate s r
+    → decodedTold (onCount room (hasControl s) r) ≡ told too-large (n ∷ []) → (n ≡ length s) × (65536 < length s)
+large-gate s room n _ (large h) e = (sym (ap (λ (t : Told). t .first) e), h)
+large-gate s room n _ (bad h why q) e = let l = counted-early s why q in
+    absurd (omega (arith, ap (λ (t : Told). t .number) e))
+large-gate s room n _ (many h m q l) e = absurd (omega (arith, ap (λ (t : Told). t .number) e))
+large-gate s room n _ (passes h m q l) e =
+    either (ltb room m) (λ u. absurd (omega (arith, ap (λ (t : Told). t .number) (simp u at e))))
+    (λ u. absurd (omega (arith, ap (λ (t : Told). t .number) (simp u at e))))
+
+of-large : (s : List ℕ) (words n : ℕ) → decodedTold (decodeAnswer s words) ≡ told too-large (n ∷ [])
+    → (n ≡ length s) × (65536 < length s)
+unfolding decodeAnswer
+of-large s words n e = large-gate s (words / 20) n (bodyRecords s) (gate s) e
+
+pub too-large-exactly : (s : List ℕ) (words n : ℕ)
+    → (decodedTold (decodeAnswer s words) ≡ told too-large (n ∷ [])) ↔ ((n ≡ length s) × (65536 < length s))
+too-large-exactly s words n = (
+  of-large s words n,
+  λ p. told-of (refuses (is-large (p .1))) ∙ ap (λ (k : ℕ). told too-large (k ∷ [])) (sym (p .0)),
+)
+
+-- 1 to 7 are given exactly to a body of at most 65,536 bytes that means no RPC
+pub record Wrong (s : List ℕ) : Type 0 where
+  pub small : length s ≤ 65536
+  pub meaningless : (x : Rpc) → IsRpc s x → ⊥
+
+pub wrong-exactly : (s : List ℕ) (words : ℕ) → Bytes s
+    → ((0 < decodedTold (decodeAnswer s words) .number) × (decodedTold (decodeAnswer s words) .number ≤ 7)) ↔ Wrong s
+wrong-exactly s words b = (λ p. forth (decodes s words b) (p .0) (p .1), λ w. back w (decodes s words b))
+  where
+    forth : {a : Told} → Decodes s words a → 0 < a .number → a .number ≤ 7 → Wrong s
+    forth (refuses (is-large h)) p q = absurd (omega arith)
+    forth (refuses (is-wrong h e)) p q =
+        record { small = h; meaningless = λ x i. clash (let z = meant-count i in cc) }
+    forth (refuses (has-many h i l)) p q = absurd (omega arith)
+    forth (short w l) p q = absurd (omega arith)
+    forth (reads w l) p q = absurd (omega arith)
+
+    back : {a : Told} → Wrong s → Decodes s words a → (0 < a .number) × (a .number ≤ 7)
+    back w (refuses (is-large h)) = absurd (omega (arith, w .small))
+    back w (refuses (is-wrong {why} h e)) = (wire-number why, counted-early s why e)
+    back w (refuses (has-many {x} h i l)) = absurd (w .meaningless x i)
+    back w (short {x} v l) = absurd (w .meaningless x (v .means))
+    back w (reads {x} v l) = absurd (w .meaningless x (v .means))
 
 -- 11 is given exactly to a body that is otherwise well formed and has more than 512 records, with the number of all of
 -- them
@@ -248,68 +473,48 @@ pub record TooMany (s : List ℕ) (n : ℕ) : Type 0 where
   pub all : n ≡ recordsIn rpc
   pub many : 512 < n
 
-many-gate : (s : List ℕ) (n : ℕ) (r : Counted) → Bytes s → Gate s r → r ≡ count.Refused (TooManyRecords n) → TooMany s n
-many-gate s n _ b (large h) e = clash (cc)
-many-gate s n _ b (bad h why q) e = let w : why ≡ TooManyRecords n = cc in
-    let l = counted-early s (TooManyRecords n) (q ∙ ap count.Refused w) in absurd (omega arith)
-many-gate s n _ b (many h m q l) e =
-    let x = rpc-means s b (record { records = m; counts = q }) in
-    let z = counted-records s m (x .value) q (x .means) in
-    let y : m ≡ n = cc in
-    record { rpc = x .value; means = x .means; small = h; all = sym y ∙ z; many = omega arith }
-many-gate s n _ b (passes h m q l) e = clash (cc)
-
-of-many : (s : List ℕ) (room : ℕ) (d : Decoded) (n : ℕ) → Bytes s → Answers s room d → d ≡ Refused (TooManyRecords n)
+many-of : {s : List ℕ} {words : ℕ} {a : Told} (n : ℕ) → Decodes s words a → a ≡ told too-many-records (n ∷ [])
     → TooMany s n
-of-many s room _ n b (refuses why g) e = many-gate s n (count.Refused why) b g (cc)
-of-many s room _ n b (short h m q l r) e = clash (cc)
-of-many s room _ n b (takes h m q l r) e = clash (cc)
+many-of n (refuses (is-large h)) e = absurd (omega (arith, ap (λ (t : Told). t .number) e))
+many-of {s} n (refuses (is-wrong {why} h q)) e = let l = counted-early s why q in
+    absurd (omega (arith, ap (λ (t : Told). t .number) e))
+many-of n (refuses (has-many {x} h i l)) e =
+    let z : n ≡ recordsIn x = sym (ap (λ (t : Told). t .first) e) in
+    record { rpc = x; means = i; small = h; all = z; many = omega arith }
+many-of n (short w l) e = absurd (omega (arith, ap (λ (t : Told). t .number) e))
+many-of n (reads w l) e = absurd (omega (arith, ap (λ (t : Told). t .number) e))
 
-many-of : (s : List ℕ) (words n : ℕ) → length s ≤ 65536 → counted kind.Rpc s ≡ count.Records n → 512 < n
-    → decodeAnswer s words ≡ Refused (TooManyRecords n)
-unfolding decodeAnswer
-many-of s words n h e l = simp (records-many s n h e l)
-
-pub too-many-exactly : (s : List ℕ) (words n : ℕ) → Bytes s → (decodeAnswer s words ≡ Refused (TooManyRecords n))
-    ↔ TooMany s n
+pub too-many-exactly : (s : List ℕ) (words n : ℕ) → Bytes s
+    → (decodedTold (decodeAnswer s words) ≡ told too-many-records (n ∷ [])) ↔ TooMany s n
 too-many-exactly s words n b = (
-  of-many s (words / 20) (decodeAnswer s words) n b (answers s words),
-  λ t. let a = rpc-accepted s (record { value = t .rpc; means = t .means }) in
-      let z = counted-records s (a .records) (t .rpc) (a .counts) (t .means) in
-      let e : a .records ≡ n = z ∙ sym (t .all) in
-      many-of s words n (t .small) (a .counts ∙ ap count.Records e) (t .many),
+  λ e. many-of n (decodes s words b) e,
+  λ t. told-of (refuses (has-many (t .small) (t .means) (omega (arith, t .all, t .many))))
+      ∙ ap (λ (k : ℕ). told too-many-records (k ∷ [])) (sym (t .all)),
 )
 
--- 12 is given exactly to a body that is well formed and within capacity, and has more records than the table has rows,
--- with their number
+-- 12 is given exactly to a body that means an RPC within capacity, and has more records than the table has rows, with
+-- their number
 pub record TooFewRows (s : List ℕ) (words n : ℕ) : Type 0 where
   pub rpc : Rpc
-  pub means : IsRpc s rpc
-  pub small : length s ≤ 65536
+  pub within : Within s rpc
   pub needed : n ≡ recordsIn rpc
-  pub few : n ≤ 512
   pub short : words / 20 < n
 
-of-short : (s : List ℕ) (words : ℕ) (d : Decoded) (n : ℕ) → Bytes s → Answers s (words / 20) d → d ≡ Room n
+short-of : {s : List ℕ} {words : ℕ} {a : Told} (n : ℕ) → Decodes s words a → a ≡ told short-room (n ∷ [])
     → TooFewRows s words n
-of-short s words _ n b (refuses why g) e = clash (cc)
-of-short s words _ n b (short h m q l r) e =
-    let x = rpc-means s b (record { records = m; counts = q }) in
-    let z = counted-records s m (x .value) q (x .means) in
-    let y : m ≡ n = cc in
-    record { rpc = x .value; means = x .means; small = h; needed = sym y ∙ z; few = omega arith; short = omega arith }
-of-short s words _ n b (takes h m q l r) e = clash (cc)
+short-of n (refuses (is-large h)) e = absurd (omega (arith, ap (λ (t : Told). t .number) e))
+short-of {s} n (refuses (is-wrong {why} h q)) e = let l = counted-early s why q in
+    absurd (omega (arith, ap (λ (t : Told). t .number) e))
+short-of n (refuses (has-many h i l)) e = absurd (omega (arith, ap (λ (t : Told). t .number) e))
+short-of n (short {x} w l) e =
+    let z : n ≡ recordsIn x = sym (ap (λ (t : Told). t .first) e) in
+    record { rpc = x; within = w; needed = z; short = omega arith }
+short-of n (reads w l) e = absurd (omega (arith, ap (λ (t : Told). t .number) e))
 
-short-of : (s : List ℕ) (words n : ℕ) → length s ≤ 65536 → counted kind.Rpc s ≡ count.Records n → n ≤ 512
-    → words / 20 < n → decodeAnswer s words ≡ Room n
-unfolding decodeAnswer
-short-of s words n h e l r = simp (records-taken s n h e l, lt-ltb (words / 20) n r)
-
-pub room-exactly : (s : List ℕ) (words n : ℕ) → Bytes s → (decodeAnswer s words ≡ Room n) ↔ TooFewRows s words n
+pub room-exactly : (s : List ℕ) (words n : ℕ) → Bytes s
+    → (decodedTold (decodeAnswer s words) ≡ told short-room (n ∷ [])) ↔ TooFewRows s words n
 room-exactly s words n b = (
-  of-short s words (decodeAnswer s words) n b (answers s words),
-  λ t. let a = rpc-accepted s (record { value = t .rpc; means = t .means }) in
-      let z = counted-records s (a .records) (t .rpc) (a .counts) (t .means) in
-      let e : a .records ≡ n = z ∙ sym (t .needed) in
-      short-of s words n (t .small) (a .counts ∙ ap count.Records e) (t .few) (t .short),
+  λ e. short-of n (decodes s words b) e,
+  λ t. told-of (short (t .within) (omega (arith, t .needed, t .short)))
+      ∙ ap (λ (k : ℕ). told short-room (k ∷ [])) (sym (t .needed)),
 )

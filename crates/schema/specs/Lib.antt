@@ -1,5 +1,6 @@
 -- To be believed: Count, Accept. Cited by contracts, and joined to these by theorems: Schema (the table; by Decoded of
--- meaning), Slots (by Back of meaning), Kinds, Made. On the way to them: SchemaLaws, CountLaws, AcceptLaws, SlotsLaws.
+-- meaning), Slots (by Back of meaning), Kinds, Made. Theorems: TextLaws. On the way to them: SchemaLaws, CountLaws,
+-- AcceptLaws, SlotsLaws.
 pub mod Schema
 pub mod Kinds
 pub mod Count
@@ -9,4 +10,5 @@ pub mod Made
 pub mod SchemaLaws
 pub mod CountLaws
 pub mod AcceptLaws
+pub mod TextLaws
 pub mod SlotsLaws
