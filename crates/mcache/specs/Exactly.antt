@@ -1,15 +1,15 @@
 -- 40, 41 and 42 of the message cache, each exactly where 01's table has it, and 29 of `gossip_ids`: by their numbers,
--- over the answer of the call itself.
-use Prim.Native.Nat.{ℕ, _*_, _≤_, _<_}
-use mathlib.Core.Path.{_≡_, refl, sym, ap, _∙_}
+-- over the answer of the call itself. `lookup` says why `get` gave what it gave.
+use Prim.Native.Nat.{ℕ, _*_, _<_}
+use mathlib.Core.Path.{_≡_, refl, sym, _∙_}
 use mathlib.Core.List.{List, [], _∷_}
 use mathlib.Core.Bool.{true, cond}
 use mathlib.Core.Logic.{_↔_, _⊎_, inl, inr, ⊎-elim}
 use native.Mathlib.Omega.{arith}
 use lib.ListN.{length}
 use lib.Dec.{leb, ltb, eqb}
-use borrow.Author.Tests.{leb-true, leb-false, ltb-true, ltb-false, eqb-true, eqb-false, le-leb, lt-leb, lt-ltb, ne-eqb, eq-eqb}
-use Rattle.basis.specs.Cases.{either, clash, both}
+use borrow.Author.Tests.{leb-true, leb-false, ltb-true, ltb-false, eqb-true, eq-eqb}
+use Rattle.basis.specs.Cases.{either, clash}
 use Rattle.basis.specs.Refusals.{bad-setting, bad-store, malformed, topic-too-long}
 use Rattle.basis.specs.Told.{told}
 use Rattle.peer_id.specs.declared.VarintError.{VarintError}
@@ -38,16 +38,15 @@ use Rattle.mcache.specs.declared.Shifted.{Shifted}
 use Rattle.mcache.specs.declared.GossipIds.{GossipIds}
 use Rattle.mcache.specs.declared.Lent.{Lent}
 use Rattle.mcache.specs.declared.Lent.the-variants as lent
-use Rattle.mcache.specs.declared.Start.the-variants as start
 use Rattle.mcache.specs.declared.Lookup.{Lookup}
 use Rattle.mcache.specs.declared.Lookup.the-variants as lookup
 use Rattle.mcache.specs.declared.Gossip.{Gossip}
 use Rattle.mcache.specs.declared.Gossip.the-variants as gossip
 use Rattle.mcache.specs.Told.{gossipTold}
 use Rattle.mcache.specs.State.{legal, wellFormed, messageSize, maxMessages, maxHistory}
-use Rattle.mcache.specs.Calls.{startNumber, lentNumber, putNumber, lookupNumber, gossipNumber, startAnswer, lentOf}
-use Rattle.mcache.specs.Calls.{indexIn, Plan, answered, planUnder, planFit, planAt, planBody, planLent, planned}
-use Rattle.mcache.specs.Calls.{lookupOn, lookupAnswer, gossipOn, gossipAnswer}
+use Rattle.mcache.specs.Calls.{startNumber, lentNumber, putNumber, lookupNumber, gossipNumber, startAnswer}
+use Rattle.mcache.specs.Calls.{lentOf, indexIn, Plan, answered, planUnder, planFit, planAt, planBody}
+use Rattle.mcache.specs.Calls.{planLent, planned, lookupOn, lookupAnswer, gossipOn, gossipAnswer}
 use Rattle.mcache.specs.WellFormed.{Typed, WellFormed}
 use Rattle.mcache.specs.WellFormedLaws.{fine-well-formed, well-formed-fine}
 use Rattle.mcache.specs.Unique.{Starts, Puts, Shifts, Gossips}
@@ -63,9 +62,12 @@ start-exactly history max =
     either (leb 1 history)
     (λ a. either (leb history maxHistory)
     (λ b. either (leb max maxMessages)
-    (λ d. (λ e. clash (let z = simp (a, b, d) at e in omega arith),
-    λ i. absurd (⊎-elim (λ u. let l = leb-true 1 history a in omega arith)
-    (⊎-elim (λ u. let l = leb-true history maxHistory b in omega arith) (λ u. let l = leb-true max maxMessages d in omega arith)) i)))
+    (λ d. (
+      λ e. clash (let z = simp (a, b, d) at e in omega arith),
+      λ i. absurd (⊎-elim (λ u. let l = leb-true 1 history a in omega arith)
+          (⊎-elim (λ u. let l = leb-true history maxHistory b in omega arith)
+          (λ u. let l = leb-true max maxMessages d in omega arith)) i),
+    ))
     (λ d. (λ e. inr (inr (leb-false max maxMessages d)), λ i. simp (a, b, d))))
     (λ b. (λ e. inr (inl (leb-false history maxHistory b)), λ i. simp (a, b))))
     (λ a. (λ e. inl (let l = leb-false 1 history a in omega arith), λ i. simp a))
@@ -73,6 +75,10 @@ start-exactly history max =
 pub bad-setting-exactly : (history max : ℕ) (r : Started) → Starts history max r
     → (startNumber (r .answer) ≡ bad-setting) ↔ Illegal history max
 bad-setting-exactly history max r s = rw (s .answer) (start-exactly history max)
+
+-- what a tested state answers of a topic
+abbrev byTopic : List ℕ → Gossip
+byTopic topic = cond (ltb 1024 (length topic)) (gossip.TopicTooLong (length topic)) gossip.Ids
 
 -- ---- 41 and 42: what the number of an answer says of the lent cache and store
 pub record Exactly (c : MessageCache) (st : List ℕ) (n : ℕ) : Type 0 where
@@ -137,18 +143,19 @@ module _ (c : MessageCache) (st : List ℕ) where
     pub fine-exactly : (lentNumber (lentOf c st) ≡ 0) ↔ WellFormed c st
     fine-exactly = by-fine (lentOf c st) refl
 
-    pub shift-exactly : (r : Shifted) → Shifts c st r → Exactly c st (lentNumber (r .answer))
-    shift-exactly r s = rw (s .answer) lent-exactly
+    pub shift-lent-exactly : (r : Shifted) → Shifts c st r → Exactly c st (lentNumber (r .answer))
+    shift-lent-exactly r s = rw (s .answer) lent-exactly
 
     -- ---- get, and why
-    by-lookup : (l : Lent) (r : Lookup) → lookupNumber r ≡ 0 → lentOf c st ≡ l → Exactly c st (lookupNumber (lookupOn l r))
+    by-lookup : (l : Lent) (r : Lookup) → lookupNumber r ≡ 0 → lentOf c st ≡ l
+        → Exactly c st (lookupNumber (lookupOn l r))
     by-lookup lent.Fine r z e = fine-says (lookupNumber r) e (omega arith)
     by-lookup lent.BadStore r z e = store-says e
     by-lookup lent.Malformed r z e = malformed-says e
 
-    pub lookup-exactly : (id : List ℕ) → Exactly c st (lookupNumber (lookupAnswer c st id))
+    pub lookup-lent-exactly : (id : List ℕ) → Exactly c st (lookupNumber (lookupAnswer c st id))
     unfolding lookupAnswer
-    lookup-exactly id =
+    lookup-lent-exactly id =
         by-lookup (lentOf c st) (cond (ltb (indexIn c id) (c .count)) lookup.Found lookup.Missing)
         (either (ltb (indexIn c id) (c .count)) (λ t. simp t) (λ t. simp t)) refl
 
@@ -162,12 +169,12 @@ module _ (c : MessageCache) (st : List ℕ) where
     answer-exactly : (topic : List ℕ) → Exactly c st (gossipNumber (gossipAnswer c st topic))
     unfolding gossipAnswer
     answer-exactly topic =
-        by-gossip (lentOf c st) (cond (ltb 1024 (length topic)) (gossip.TopicTooLong (length topic)) gossip.Ids)
+        by-gossip (lentOf c st) (byTopic topic)
         (either (ltb 1024 (length topic)) (λ t. simp t (omega arith)) (λ t. simp t (omega arith))) refl
 
-    pub gossip-exactly : (topic : List ℕ) (windows : ℕ) (r : GossipIds) → Gossips c st topic windows r
+    pub gossip-lent-exactly : (topic : List ℕ) (windows : ℕ) (r : GossipIds) → Gossips c st topic windows r
         → Exactly c st (gossipNumber (r .answer))
-    gossip-exactly topic windows r s = rw (s .answer) (answer-exactly topic)
+    gossip-lent-exactly topic windows r s = rw (s .answer) (answer-exactly topic)
 
 -- ---- put: what comes after the test of the state has other numbers
 varint-low : (why : VarintError) → varintTold why .number < bad-setting
@@ -225,20 +232,29 @@ module _ (c : MessageCache) (st : List ℕ) (y : Typed c) where
   plan-exactly body i =
       by-put (lentOf c st) (planBody c body i (acceptOf body)) (body-low c body i (acceptOf body)) refl
 
-  pub put-exactly : (body : List ℕ) (i : ℕ) (r : PutDone) (left : List ℕ) → Puts c st body i r left
+  pub put-lent-exactly : (body : List ℕ) (i : ℕ) (r : PutDone) (left : List ℕ) → Puts c st body i r left
       → Exactly c st (putNumber (r .answer))
-  put-exactly body i r left p = rw (p .answer) (plan-exactly body i)
+  put-lent-exactly body i r left p = rw (p .answer) (plan-exactly body i)
 
   -- ---- 29: the state is well formed and the topic has more than 1,024 bytes; its length stands beside it
   by-topic : (topic : List ℕ) (l : Lent) → lentOf c st ≡ l
-      → (gossipNumber (gossipOn l (cond (ltb 1024 (length topic)) (gossip.TopicTooLong (length topic)) gossip.Ids)) ≡ topic-too-long)
+      → (gossipNumber (gossipOn l (byTopic topic)) ≡ topic-too-long)
       ↔ (WellFormed c st × (1024 < length topic))
   by-topic topic lent.Fine e =
       either (ltb 1024 (length topic))
       (λ t. (λ n. (fine-well-formed c st y e, ltb-true 1024 (length topic) t), λ w. simp t))
-      (λ t. (λ n. absurd (let z = simp t at n in omega arith), λ w. absurd (let z = ltb-false 1024 (length topic) t in omega (arith, w .1))))
-  by-topic topic lent.BadStore e = (λ n. absurd (omega arith), λ w. clash (let z = sym e ∙ well-formed-fine c st (w .0) in cc))
-  by-topic topic lent.Malformed e = (λ n. absurd (omega arith), λ w. clash (let z = sym e ∙ well-formed-fine c st (w .0) in cc))
+      (λ t. (
+        λ n. absurd (let z = simp t at n in omega arith),
+        λ w. absurd (let z = ltb-false 1024 (length topic) t in omega (arith, w .1)),
+      ))
+  by-topic topic lent.BadStore e = (
+    λ n. absurd (omega arith),
+    λ w. clash (let z = sym e ∙ well-formed-fine c st (w .0) in cc),
+  )
+  by-topic topic lent.Malformed e = (
+    λ n. absurd (omega arith),
+    λ w. clash (let z = sym e ∙ well-formed-fine c st (w .0) in cc),
+  )
 
   topic-exactly : (topic : List ℕ) → (gossipNumber (gossipAnswer c st topic) ≡ topic-too-long)
       ↔ (WellFormed c st × (1024 < length topic))
@@ -250,8 +266,8 @@ module _ (c : MessageCache) (st : List ℕ) (y : Typed c) where
   topic-too-long-exactly topic windows r s = rw (s .answer) (topic-exactly topic)
 
 by-length : (topic : List ℕ) (l : Lent)
-    → gossipNumber (gossipOn l (cond (ltb 1024 (length topic)) (gossip.TopicTooLong (length topic)) gossip.Ids)) ≡ topic-too-long
-    → gossipTold (gossipOn l (cond (ltb 1024 (length topic)) (gossip.TopicTooLong (length topic)) gossip.Ids))
+    → gossipNumber (gossipOn l (byTopic topic)) ≡ topic-too-long
+    → gossipTold (gossipOn l (byTopic topic))
     ≡ told topic-too-long (length topic ∷ [])
 by-length topic lent.Fine n =
     either (ltb 1024 (length topic)) (λ t. simp t) (λ t. absurd (let z = simp t at n in omega arith))

@@ -257,7 +257,8 @@ module _ (c : MessageCache) (st topic : List ℕ) (fine : lentOf c st ≡ lent.F
     unfolding gossipRows gossipArray
     list-rows h i k =
         let l = gossipList c st topic windows in
-        rw (answer-says, le-ltb 1024 (length topic) h) (List·getD-append l (drop (length l) (replicate maxMessages 0)) 0 i k)
+        rw (answer-says, le-ltb 1024 (length topic) h)
+        (List·getD-append l (drop (length l) (replicate maxMessages 0)) 0 i k)
 
     place-id : (i : ℕ) → i < gossipCount c st topic windows
         → idAt messageIdSize (c .«id_len») (c .ids) (getD (gossipRows c st topic windows) i 0)

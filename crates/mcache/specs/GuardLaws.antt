@@ -1,13 +1,12 @@
 -- What `keep`, `tell` and `form_id` ask first: a tested state and a message that may be taken meet it, so that callers
 -- which tested are led back to the definitions without it.
 use Prim.Native.Nat.{ℕ, _+_, _-_, _*_, _≤_}
-use mathlib.Core.Path.{_≡_, _∙_}
-use mathlib.Core.List.{List, _++_}
-use mathlib.Core.Bool.{Bool, true, false, _&&_}
+use mathlib.Core.Path.{_≡_}
+use mathlib.Core.List.{List}
+use mathlib.Core.Bool.{Bool, true}
 use native.Mathlib.Omega.{arith}
 use lib.ListN.{length, length-append}
 use lib.Seq.{sets}
-use lib.Dec.{leb, eqb}
 use borrow.Author.Tests.{leb-true, le-leb, eqb-true, eq-eqb}
 use Rattle.basis.specs.Cases.{both}
 use Rattle.rows.specs.declared.Ring.{Ring}
@@ -24,9 +23,9 @@ use Rattle.mcache.specs.declared.PutDone.{PutDone}
 use Rattle.mcache.specs.declared.Gossip.the-variants as gossip
 use Rattle.mcache.specs.declared.GossipIds.{GossipIds}
 use Rattle.mcache.specs.State.{Usable, messageSize, messageIdSize, maxMessages, ringOf}
-use Rattle.mcache.specs.Calls.{lentOf, gossipList, gossipArray, answered, keptIn, storedIn, planUnder, keptUnder}
-use Rattle.mcache.specs.Calls.{storedUnder, rowsLie, keepable, planKept, tellAnswer, tellCount, tellRows, formable}
-use Rattle.mcache.specs.Calls.{formCount, formLeft}
+use Rattle.mcache.specs.Calls.{lentOf, gossipList, gossipArray, answered, planUnder, keptUnder}
+use Rattle.mcache.specs.Calls.{storedUnder, rowsLie, keepable, planKept, tellAnswer, tellCount, tellRows}
+use Rattle.mcache.specs.Calls.{formable, formCount, formLeft}
 use Rattle.mcache.specs.Unique.{Keeps, TellsRows, Forms}
 use Rattle.mcache.specs.StateLaws.{fine-tests}
 
@@ -42,9 +41,11 @@ pub lie-rows : (ring : Ring) → rowsLie ring ≡ true → (ring .cap ≤ maxMes
 unfolding rowsLie
 lie-rows ring h =
     let a = both _ _ h in
-    let b = both _ _ (a .1) in
-    (leb-true (ring .cap) maxMessages (a .0), leb-true (ring .start) (ring .cap) (b .0),
-    leb-true (ring .count) (ring .cap) (b .1))
+    let b = both _ _ (a .1) in (
+      leb-true (ring .cap) maxMessages (a .0),
+      leb-true (ring .start) (ring .cap) (b .0),
+      leb-true (ring .count) (ring .cap) (b .1),
+    )
 
 pub usable-lies : (c : MessageCache) (st : List ℕ) → Usable c st → rowsLie (ringOf c) ≡ true
 usable-lies c st u = rows-lie (ringOf c) (u .rows .few) (u .rows .starts) (u .rows .within)
@@ -68,7 +69,8 @@ when-keeps ring s m i h =
     let d = both _ _ (b .1) in
     (a .0, eqb-true s (ring .cap * messageSize) (b .0), leb-true m messageSize (d .0), leb-true i messageIdSize (d .1))
 
-module _ (c : MessageCache) (st m id : List ℕ) (small : length m ≤ messageSize) (short : length id ≤ messageIdSize) where
+module _ (c : MessageCache) (st m id : List ℕ) (small : length m ≤ messageSize)
+    (short : length id ≤ messageIdSize) where
   kept-plan : rowsLie (ringOf c) ≡ true → length st ≡ c .«max_messages» * messageSize
       → planKept c st m id ≡ planUnder c m id
   unfolding planKept
@@ -124,9 +126,13 @@ when-forms n a e b f m h =
     let p = both _ _ h in
     let q = both _ _ (p .1) in
     let r = both _ _ (q .1) in
-    let s = both _ _ (r .1) in
-    (leb-true a e (p .0), leb-true e n (q .0), leb-true b f (r .0), leb-true f n (s .0),
-    leb-true ((e - a) + (f - b)) m (s .1))
+    let s = both _ _ (r .1) in (
+      leb-true a e (p .0),
+      leb-true e n (q .0),
+      leb-true b f (r .0),
+      leb-true f n (s .0),
+      leb-true ((e - a) + (f - b)) m (s .1),
+    )
 
 pub id-length : (p : List ℕ) (a e b f : ℕ) → e ≤ length p → f ≤ length p
     → length (idBytes p a e b f) ≡ (e - a) + (f - b)

@@ -39,9 +39,9 @@ use Rattle.mcache.specs.State.{messageIn, cachedAt, cachedIn, dropped, a
 use Rattle.mcache.specs.State.{messageIdSize, maxMessages, ringOf, legal, fresh}
 use Rattle.mcache.specs.Calls.{lentNumber, lentOf, whenFine, shifted, putNumber, indexIn, entered, planUnder}
 use Rattle.mcache.specs.Calls.{keptUnder, storedUnder, found, Plan, no, keep, answered, keptIn, storedIn, planned}
-use Rattle.mcache.specs.Calls.{shiftCache, getPart, lookupAnswer, lookupOn, lookupNumber, startNumber, startAnswer}
-use Rattle.mcache.specs.Calls.{startCache, gossipNumber, gossipAnswer, whenTold, gossipList, gossipArray}
-use Rattle.mcache.specs.Calls.{gossipCount, gossipRows}
+use Rattle.mcache.specs.Calls.{shiftCache, getPart, lookupAnswer, lookupOn, lookupNumber, startNumber}
+use Rattle.mcache.specs.Calls.{startAnswer, startCache, gossipNumber, gossipAnswer, whenTold}
+use Rattle.mcache.specs.Calls.{gossipList, gossipArray, gossipCount, gossipRows}
 use Rattle.mcache.specs.Unique.{Starts, Gossips}
 use Rattle.mcache.specs.WellFormed.{Sized}
 use Rattle.mcache.specs.StateLaws.{fine-tests}

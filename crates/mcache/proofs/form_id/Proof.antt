@@ -12,19 +12,19 @@ can-form-requires : tie.Need-can-form-requires
 can-form-requires c κs = search needs
 
 sub-put-bytes : tie.Need-sub-put-bytes
-sub-put-bytes c = 
+sub-put-bytes c =
     let a = c .before .before .before .before .before .args in
     let h = when-forms (length (now (a .part))) (a .a) (a .e) (a .b) (a .f) (length (now (a .out))) (sym (c .before .before .can-form .ensures) ∙ c .before .if1 .taken) in
     h .0
 
 part-put-bytes-start : tie.Need-part-put-bytes-start
-part-put-bytes-start c = 
+part-put-bytes-start c =
     let a = c .before .before .before .before .before .args in
     let h = when-forms (length (now (a .part))) (a .a) (a .e) (a .b) (a .f) (length (now (a .out))) (sym (c .before .before .can-form .ensures) ∙ c .before .if1 .taken) in
     h .0
 
 part-put-bytes-end : tie.Need-part-put-bytes-end
-part-put-bytes-end c = 
+part-put-bytes-end c =
     let a = c .before .before .before .before .before .args in
     let h = when-forms (length (now (a .part))) (a .a) (a .e) (a .b) (a .f) (length (now (a .out))) (sym (c .before .before .can-form .ensures) ∙ c .before .if1 .taken) in
     h .1
@@ -33,19 +33,19 @@ put-bytes-requires : tie.Need-put-bytes-requires
 put-bytes-requires c κs = search needs
 
 sub-put-bytes-2 : tie.Need-sub-put-bytes-2
-sub-put-bytes-2 c = 
+sub-put-bytes-2 c =
     let a = c .before .before .before .before .before .before .before .before .before .before .args in
     let h = when-forms (length (now (a .part))) (a .a) (a .e) (a .b) (a .f) (length (now (a .out))) (sym (c .before .before .before .before .before .before .before .can-form .ensures) ∙ c .before .before .before .before .before .before .if1 .taken) in
     h .2
 
 part-put-bytes-start-2 : tie.Need-part-put-bytes-start-2
-part-put-bytes-start-2 c = 
+part-put-bytes-start-2 c =
     let a = c .before .before .before .before .before .before .before .before .before .before .args in
     let h = when-forms (length (now (a .part))) (a .a) (a .e) (a .b) (a .f) (length (now (a .out))) (sym (c .before .before .before .before .before .before .before .can-form .ensures) ∙ c .before .before .before .before .before .before .if1 .taken) in
     h .2
 
 part-put-bytes-end-2 : tie.Need-part-put-bytes-end-2
-part-put-bytes-end-2 c = 
+part-put-bytes-end-2 c =
     let a = c .before .before .before .before .before .before .before .before .before .before .args in
     let h = when-forms (length (now (a .part))) (a .a) (a .e) (a .b) (a .f) (length (now (a .out))) (sym (c .before .before .before .before .before .before .before .can-form .ensures) ∙ c .before .before .before .before .before .before .if1 .taken) in
     h .3

@@ -19,17 +19,18 @@ returns : tie.Need-returns
 returns c = let a = c .before .before .before .before .before .before .before .before .before .args in under-held (a .self) (now (a .store)) (now (a .part)) (now (a .id)) (rw (c .before .before .before .before .before .ring .ensures) at (sym (c .before .before .before .before .can-keep .ensures) ∙ c .before .before .before .if1 .taken)) (c .before .before .find .result) (c .before .before .find .ensures) (c .if2 .taken)
 
 enter-requires : tie.Need-enter-requires
-enter-requires c κs = 
+enter-requires c κs =
     let a = c .before .before .before .before .before .before .before .before .before .before .args in
     let g = c .before .before .before .before .before .before .before .before .before .before .good .0 in
-    let k = (rw (c .before .before .before .before .before .before .ring .ensures) at (sym (c .before .before .before .before .before .can-keep .ensures) ∙ c .before .before .before .before .if1 .taken)) in
-    (kept-placed (a .self) (now (a .store)) (now (a .part)) (now (a .id)) k
-    (length-unmapped ℕ (a .self .generation) 64 (g .1 .1 .1 .1 .1 .1 .1 .0 .1 .0 .1))
-    (length-unmapped ℕ (a .self .window) 64 (g .1 .1 .1 .1 .1 .1 .1 .1 .0 .1 .0 .1))
-    (length-unmapped ℕ (a .self .len) 64 (g .1 .1 .1 .1 .1 .1 .1 .1 .1 .0 .1 .0 .1))
-    (length-unmapped ℕ (a .self .«id_len») 64 (g .1 .1 .1 .1 .1 .1 .1 .1 .1 .1 .0 .1 .0 .1))
-    (length-unmapped ℕ (a .self .ids) 8192 (g .1 .1 .1 .1 .1 .1 .1 .1 .1 .1 .1 .0 .1 .0 .1)),
-    kept-short (a .self) (now (a .store)) (now (a .part)) (now (a .id)) k)
+    let k = (rw (c .before .before .before .before .before .before .ring .ensures) at (sym (c .before .before .before .before .before .can-keep .ensures) ∙ c .before .before .before .before .if1 .taken)) in (
+      kept-placed (a .self) (now (a .store)) (now (a .part)) (now (a .id)) k
+          (length-unmapped ℕ (a .self .generation) 64 (g .1 .1 .1 .1 .1 .1 .1 .0 .1 .0 .1))
+          (length-unmapped ℕ (a .self .window) 64 (g .1 .1 .1 .1 .1 .1 .1 .1 .0 .1 .0 .1))
+          (length-unmapped ℕ (a .self .len) 64 (g .1 .1 .1 .1 .1 .1 .1 .1 .1 .0 .1 .0 .1))
+          (length-unmapped ℕ (a .self .«id_len») 64 (g .1 .1 .1 .1 .1 .1 .1 .1 .1 .1 .0 .1 .0 .1))
+          (length-unmapped ℕ (a .self .ids) 8192 (g .1 .1 .1 .1 .1 .1 .1 .1 .1 .1 .1 .0 .1 .0 .1)),
+      kept-short (a .self) (now (a .store)) (now (a .part)) (now (a .id)) k,
+    )
 
 same-length : tie.Need-same-length
 same-length c = search needs

@@ -58,7 +58,7 @@ slice-aggregate-tell-row-3 : tie.Need-slice-aggregate-tell-row-3 Inv-loop μ-loo
 slice-aggregate-tell-row-3 c = let g = c .before .before .before .before .before .before .before .before .before .before .before .before .before .before .before .before .before .before .before .good .0 in sym (length-unmapped ℕ (c .before .before .before .before .before .before .before .before .before .before .before .before .before .before .before .before .before .before .before .args .self .ids) 8192 (g .1 .1 .1 .1 .1 .1 .1 .1 .1 .1 .1 .0 .1 .0 .1))
 
 tell-row-requires : tie.Need-tell-row-requires Inv-loop μ-loop
-tell-row-requires c κs = 
+tell-row-requires c κs =
     let w = row-in (c .before .before .before .before .before .before .before .before .before .before .before .before .before .before .before .before .ring .result) (c .before .before .before .before .before .before .before .before .before .loop .i) (c .before .before .before .before .before .before .place .result) (sym (c .before .before .before .before .before .before .before .before .before .before .before .before .before .before .before .rows-lie .ensures) ∙ c .before .before .before .before .before .before .before .before .before .before .before .before .before .before .if1 .taken) (c .before .before .before .before .before .before .before .if2 .taken) (c .before .before .before .before .before .before .place .ensures) in
     (omega (arith, c .before .before .before .before .before .before .before .before .before .loop .inv .1, c .before .before .before .before .before .before .before .before .before .loop .inv .2, c .before .before .before .before .before .before .before .if2 .taken, w .1), w .0)
 
@@ -69,7 +69,7 @@ loop-less : tie.Need-loop-less Inv-loop μ-loop
 loop-less c = search needs
 
 loop-again : tie.Need-loop-again Inv-loop μ-loop
-loop-again c = 
+loop-again c =
     let w = row-in (c .before .before .before .before .before .before .before .before .before .before .before .before .before .before .before .before .before .before .ring .result) (c .before .before .before .before .before .before .before .before .before .before .before .loop .i) (c .before .before .before .before .before .before .before .before .place .result) (sym (c .before .before .before .before .before .before .before .before .before .before .before .before .before .before .before .before .before .rows-lie .ensures) ∙ c .before .before .before .before .before .before .before .before .before .before .before .before .before .before .before .before .if1 .taken) (c .before .before .before .before .before .before .before .before .before .if2 .taken) (c .before .before .before .before .before .before .before .before .place .ensures) in
     let few : c .before .before .before .before .before .before .before .before .before .before .before .loop .count < length (c .before .before .before .before .before .before .before .before .before .before .before .loop .rows) = omega (arith, c .before .before .before .before .before .before .before .before .before .before .before .loop .inv .1, c .before .before .before .before .before .before .before .before .before .before .before .loop .inv .2, c .before .before .before .before .before .before .before .before .before .if2 .taken, w .1) in
     let r = gather-turn _ _ _ _ (c .before .before .before .before .before .before .before .before .before .before .before .before .before .before .before .before .before .before .ring .result) (c .before .before .before .before .before .before .before .before .before .before .before .loop .i) (c .before .before .before .before .before .before .before .before .place .result) (c .before .before .before .before .before .before .before .before .before .before .before .loop .count) (c .before .before .before .before .before .before .before .before .before .before .before .loop .rows) (c .before .before .before .before .before .before .before .before .before .if2 .taken) (c .before .before .before .before .before .before .before .before .place .ensures) few
@@ -78,7 +78,7 @@ loop-again c =
 
 returns : tie.Need-returns Inv-loop μ-loop
 unfolding gossipList
-returns c = 
+returns c =
     let a = c .before .before .before .before .before .before .before .before .before .before .before .before .args in
     let l = sym (c .before .before .before .before .before .before .before .before .rows-lie .ensures) ∙ c .before .before .before .before .before .before .before .if1 .taken in
     let t = lie-rows (c .before .before .before .before .before .before .before .before .before .ring .result) l in
