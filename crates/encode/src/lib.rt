@@ -6,6 +6,7 @@ ghost use mathlib.Core.Bool.{cond};
 ghost use Prim.Native.Nat.{_+_, _≤_};
 ghost use lib.ListN.{length};
 ghost use Rattle.basis.specs.Writing.{answer, written};
+ghost use Rattle.basis.specs.Unique.{Leaves};
 ghost use Rattle.peer_id.specs.Uvarint.{uvarint};
 ghost use Rattle.protobuf.specs.Walk.{fieldsOf, isBytes, valueIn};
 ghost use Rattle.protobuf.specs.Encode.{tag, bytesField, ofWritten as encoded};
@@ -411,8 +412,7 @@ fn encode_taken(body: &[u8], out: &mut [u8]) -> Encoded
 
 // Writes a body anew at the front of the lent bytes: what it means, in its canonical bytes. A refusal, and a lack of room, leave them as they were.
 pub fn encode(body: &[u8], out: &mut [u8]) -> Encoded
-    ensures { λ r. ⌜ r ≡ encodeAnswer (now (body .entry)) (now (out .entry)) ⌝ }
-    ensures { λ _. ⌜ now (out .exit) ≡ encodeLeft (now (body .entry)) (now (out .entry)) ⌝ }
+    ensures { λ r. ⌜ Leaves (encodeAnswer (now (body .entry)) (now (out .entry))) (encodeLeft (now (body .entry)) (now (out .entry))) r (now (out .exit)) ⌝ }
 {
     let c = accept(body);
     match c {
@@ -452,8 +452,7 @@ fn sign_part(part: &[u8], out: &mut [u8]) -> MessageBytes
 
 // Writes the bytes that are signed of the message at an index: the prefix, then from, data, seqno and every topic.
 pub fn sign_bytes(body: &[u8], index: usize, out: &mut [u8]) -> MessageBytes
-    ensures { λ r. ⌜ r ≡ signAnswer (now (body .entry)) index (now (out .entry)) ⌝ }
-    ensures { λ _. ⌜ now (out .exit) ≡ signLeft (now (body .entry)) index (now (out .entry)) ⌝ }
+    ensures { λ r. ⌜ Leaves (signAnswer (now (body .entry)) index (now (out .entry))) (signLeft (now (body .entry)) index (now (out .entry))) r (now (out .exit)) ⌝ }
 {
     let c = accept(body);
     match c {
