@@ -155,7 +155,8 @@ fn spell_little(out: &mut [u8], at: usize, n: usize, value: u64)
 
 // The low n bytes of a number at `at`, the low byte first, and the place after them; nothing, and the place as it was, where they do not fit.
 pub fn put_little(out: &mut [u8], at: usize, n: usize, value: u64) -> usize
-    ensures { λ r. ⌜ Leaves (endIn n at (bytesOf n value) (now (out .entry))) (setIn n at (bytesOf n value) (now (out .entry))) r (now (out .exit)) ⌝ }
+    ensures { λ r. ⌜ Leaves (endIn n at (bytesOf n value) (now (out .entry)))
+        (setIn n at (bytesOf n value) (now (out .entry))) r (now (out .exit)) ⌝ }
 {
     if has_room(out.len(), at, n) {
         let end = at + n;

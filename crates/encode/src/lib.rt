@@ -412,7 +412,8 @@ fn encode_taken(body: &[u8], out: &mut [u8]) -> Encoded
 
 // Writes a body anew at the front of the lent bytes: what it means, in its canonical bytes. A refusal, and a lack of room, leave them as they were.
 pub fn encode(body: &[u8], out: &mut [u8]) -> Encoded
-    ensures { λ r. ⌜ Leaves (encodeAnswer (now (body .entry)) (now (out .entry))) (encodeLeft (now (body .entry)) (now (out .entry))) r (now (out .exit)) ⌝ }
+    ensures { λ r. ⌜ Leaves (encodeAnswer (now (body .entry)) (now (out .entry)))
+        (encodeLeft (now (body .entry)) (now (out .entry))) r (now (out .exit)) ⌝ }
 {
     let c = accept(body);
     match c {
@@ -452,7 +453,8 @@ fn sign_part(part: &[u8], out: &mut [u8]) -> MessageBytes
 
 // Writes the bytes that are signed of the message at an index: the prefix, then from, data, seqno and every topic.
 pub fn sign_bytes(body: &[u8], index: usize, out: &mut [u8]) -> MessageBytes
-    ensures { λ r. ⌜ Leaves (signAnswer (now (body .entry)) index (now (out .entry))) (signLeft (now (body .entry)) index (now (out .entry))) r (now (out .exit)) ⌝ }
+    ensures { λ r. ⌜ Leaves (signAnswer (now (body .entry)) index (now (out .entry)))
+        (signLeft (now (body .entry)) index (now (out .entry))) r (now (out .exit)) ⌝ }
 {
     let c = accept(body);
     match c {

@@ -266,7 +266,8 @@ pub fn has_control(body: &[u8]) -> bool
 
 // Reads a body: its records go to the lent table, from its first row on. A refusal leaves the table as it was.
 pub fn decode(body: &[u8], table: &mut [u64]) -> Decoded
-    ensures { λ r. ⌜ Leaves (decodeAnswer (now (body .entry)) (length (now (table .entry)))) (decodeTable (now (body .entry)) (now (table .entry))) r (now (table .exit)) ⌝ }
+    ensures { λ r. ⌜ Leaves (decodeAnswer (now (body .entry)) (length (now (table .entry))))
+        (decodeTable (now (body .entry)) (now (table .entry))) r (now (table .exit)) ⌝ }
 {
     let c = body_records(body);
     match c {

@@ -118,7 +118,8 @@ fn spell_uvarint(value: u64, out: &mut [u8], at: usize) -> usize
 
 // Writes a value at `at` and says where it ends; where it does not fit, it writes nothing and says `at`.
 pub fn put_uvarint(value: u64, out: &mut [u8], at: usize) -> usize
-    ensures { λ r. ⌜ Leaves (endIn (length (uvarint value)) at (uvarint value) (now (out .entry))) (setIn (length (uvarint value)) at (uvarint value) (now (out .entry))) r (now (out .exit)) ⌝ }
+    ensures { λ r. ⌜ Leaves (endIn (length (uvarint value)) at (uvarint value) (now (out .entry)))
+        (setIn (length (uvarint value)) at (uvarint value) (now (out .entry))) r (now (out .exit)) ⌝ }
 {
     let len = uvarint_len(value);
     if has_room(out.len(), at, len) {
@@ -129,7 +130,8 @@ pub fn put_uvarint(value: u64, out: &mut [u8], at: usize) -> usize
 
 // Writes a value at the front of out; where it does not fit, nothing.
 pub fn write_uvarint(value: u64, out: &mut [u8]) -> Written
-    ensures { λ r. ⌜ Leaves (answer (uvarint value) (now (out .entry))) (written (uvarint value) (now (out .entry))) r (now (out .exit)) ⌝ }
+    ensures { λ r. ⌜ Leaves (answer (uvarint value) (now (out .entry))) (written (uvarint value) (now (out .entry))) r
+        (now (out .exit)) ⌝ }
 {
     let len = uvarint_len(value);
     if out.len() < len {
