@@ -73,8 +73,8 @@ one-beat a b = (a .number ∙ sym (b .number), a .values ∙ sym (b .values), a 
 abbrev pub advertiseTells : List ℕ → List ℕ → List ℕ → List ℕ → ℕ → List ℕ → Told
 advertiseTells s ss cs topic windows out = advertiseTold (advertiseAnswer (nodeIn s) ss cs topic windows out)
 
-pub record Advertises (s ss cs topic : List ℕ) (windows : ℕ) (out vs : List ℕ) (r : ℕ) (ws left : List ℕ) : Type 0
-    where
+pub record Advertises (s ss cs topic : List ℕ) (windows : ℕ) (out vs : List ℕ) (r : ℕ)
+    (ws left : List ℕ) : Type 0 where
   pub number : r ≡ advertiseTells s ss cs topic windows out .number
   pub values : ws ≡ sets vs 0 (valuesOf (advertiseTells s ss cs topic windows out))
   pub buffer : left ≡ advertiseLeft (nodeIn s) ss cs topic windows out
