@@ -1,6 +1,6 @@
 -- A turn of the walk over a message's topics, and which case it is.
 use Prim.Native.Nat.{ℕ, _+_, _-_, _≤_, _<_}
-use mathlib.Core.Path.{_≡_, refl, sym, ap, _∙_}
+use mathlib.Core.Path.{_≡_, refl, sym, ap, ap₂, _∙_}
 use mathlib.Core.Bool.{Bool, true, false, cond, not, _&&_}
 use mathlib.Core.List.{List, [], _∷_}
 use native.Mathlib.Omega.{arith}
@@ -25,9 +25,10 @@ use Rattle.ids.specs.declared.MessageId.{MessageId}
 use Rattle.ids.specs.Ids.{onFrom, idParts, idBytes}
 use Rattle.protobuf.specs.WalkLaws.{between-length}
 use Rattle.admission.specs.declared.Unfit.the-variants.{TopicCount, TopicTooLong, MessageTooLong}
+use Rattle.admission.specs.declared.Topics.{Topics}
 use Rattle.admission.specs.declared.Admission.{Admission}
 use Rattle.admission.specs.declared.Admission.the-variants as admission
-use Rattle.admission.specs.Admission.{topicsAlong, topicsOf, firstLong, longAfter, onLimits, onId, admissionOf}
+use Rattle.admission.specs.Admission.{topicsAlong, topicsOf, firstLong, topicsIn, longAfter, onLimits, onId, admissionOf}
 
 -- ---- the topics from a place on
 pub topics-on : (p : List ℕ) (at : ℕ) (f : Field) → step.At f ≡ readField p at → topicsAlong p (walkAt p at) ≡ cond (isBytes 4 f) (valueIn p f ∷ topicsAlong p (walkAt p (f .next))) (topicsAlong p (walkAt p (f .next)))
@@ -78,8 +79,21 @@ unfolding firstLong
 long-none long = either (eqb long 0) (λ t. simp t (sym (eqb-true long 0 t))) (λ t. simp t)
 
 -- no topic is left
-pub topics-done : (p : List ℕ) (n long : ℕ) (l : List (List ℕ)) → l ≡ [] → length (topicsOf p) ≡ n + length l → firstLong (topicsOf p) ≡ longFrom long l → (n ≡ length (topicsOf p)) × (long ≡ firstLong (topicsOf p))
-topics-done p n long l e h k = let z = ap length e in (omega arith, sym (k ∙ ap (longFrom long) e ∙ long-none long))
+abbrev topicsMade : ℕ → ℕ → Topics
+topicsMade n long = record { count = n; long = long }
+
+pub topics-done : (p : List ℕ) (n long : ℕ) (l : List (List ℕ)) → l ≡ [] → length (topicsOf p) ≡ n + length l → firstLong (topicsOf p) ≡ longFrom long l → topicsMade n long ≡ topicsIn p
+topics-done p n long l e h k =
+    let z = ap length e in
+    ap₂ topicsMade (omega arith) (sym (k ∙ ap (longFrom long) e ∙ long-none long))
+
+-- each of both
+module _ {t : Topics} (p : List ℕ) (e : t ≡ topicsIn p) where
+  pub counts : t .count ≡ length (topicsOf p)
+  counts = ap (λ (x : Topics). x .count) e
+
+  pub longs : t .long ≡ firstLong (topicsOf p)
+  longs = ap (λ (x : Topics). x .long) e
 
 -- ---- a topic is looked for
 pub carries-here : (p t : List ℕ) (at : ℕ) (f : Field) (w : Bool) → step.At f ≡ readField p at → isBytes 4 f ≡ true → among t (topicsAlong p (walkAt p at)) ≡ w → sameBytes (valueIn p f) t ≡ true → true ≡ w

@@ -17,6 +17,7 @@ use Rattle.schema.specs.Slots.{slotsOf}
 use Rattle.ids.specs.declared.MessageId.{MessageId}
 use Rattle.ids.specs.declared.MessageId.the-variants as id
 use Rattle.ids.specs.Ids.{idParts, idBytes}
+use Rattle.admission.specs.declared.Topics.{Topics}
 use Rattle.admission.specs.declared.Unfit.{Unfit}
 use Rattle.admission.specs.declared.Unfit.the-variants.{MissingFrom, InvalidFrom, InvalidSeqno}
 use Rattle.admission.specs.declared.Unfit.the-variants.{KeyWithoutSignature, MissingSignature}
@@ -39,7 +40,11 @@ unfoldable pub firstLong : List (List ℕ) → ℕ
 firstLong [] = 0
 firstLong (t ∷ ts) = cond (ltb 1024 (length t)) (length t) (firstLong ts)
 
--- the same, a field of n bytes further
+-- both
+abbrev pub topicsIn : List ℕ → Topics
+topicsIn p = record { count = length (topicsOf p); long = firstLong (topicsOf p) }
+
+-- the length of the first topic that is too long, a field of n bytes further
 unfoldable pub longAfter : Field → ℕ → ℕ → ℕ
 longAfter f n long = cond (isBytes 4 f && (eqb long 0 && ltb 1024 n)) n long
 

@@ -9,7 +9,7 @@ ghost use lib.ListN.{length};
 ghost use Rattle.protobuf.specs.Walk.{isBytes};
 ghost use Rattle.rows.specs.Ids.{among, sameBytes};
 ghost use Rattle.ids.specs.Ids.{idBytes};
-ghost use Rattle.admission.specs.Admission.{topicsOf, firstLong, longAfter, onSignature, onWord, onLimits, admissionOf, givesId};
+ghost use Rattle.admission.specs.Admission.{topicsOf, topicsIn, longAfter, onSignature, onWord, onLimits, admissionOf, givesId};
 use ids::MessageId;
 use ids::id_of;
 use protobuf::Field;
@@ -98,8 +98,7 @@ fn long_after(f: Field, len: usize, long: usize) -> usize
 }
 
 pub fn topics_of(part: &[u8]) -> Topics
-    ensures { λ r. ⌜ r .count ≡ length (topicsOf (now (part .entry))) ⌝ }
-    ensures { λ r. ⌜ r .long ≡ firstLong (topicsOf (now (part .entry))) ⌝ }
+    ensures { λ r. ⌜ r ≡ topicsIn (now (part .entry)) ⌝ }
 {
     let mut at: usize = 0;
     let mut n: usize = 0;

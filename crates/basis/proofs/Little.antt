@@ -13,6 +13,7 @@ use Rattle.basis.specs.Cases.{either}
 use Rattle.basis.specs.Writing.{endIn, setIn}
 use Rattle.basis.specs.Lists.{end-fits, set-fits}
 use Rattle.basis.specs.Little.{little, bytesOf, bytes-length}
+use Rattle.basis.specs.Unique.{Leaves}
 
 below : (s : List ℕ) (j e v : ℕ) → suc j ≤ e → e ≤ length s → v ≡ little (take (e - suc j) (drop (suc j) s)) → v * 256 + getD s j 0 ≡ little (take (e - j) (drop j s))
 unfolding little
@@ -69,7 +70,10 @@ all-written l k n i v h =
 
 -- where there is room
 pub little-put : (n at v : ℕ) (b a : List ℕ) → leb (at + n) (length b) ≡ true → a ≡ sets b at (bytesOf n v)
-    → (at + n ≡ endIn n at (bytesOf n v) b) × (a ≡ setIn n at (bytesOf n v) b)
+    → Leaves (endIn n at (bytesOf n v) b) (setIn n at (bytesOf n v) b) (at + n) a
 little-put n at v b a t e =
     let h = leb-true (at + n) (length b) t in
-    (ap (λ (k : ℕ). at + k) (sym (bytes-length n v)) ∙ sym (end-fits n at (bytesOf n v) b h), e ∙ sym (set-fits n at (bytesOf n v) b h))
+    record {
+      answer = ap (λ (k : ℕ). at + k) (sym (bytes-length n v)) ∙ sym (end-fits n at (bytesOf n v) b h);
+      lent = e ∙ sym (set-fits n at (bytesOf n v) b h);
+    }

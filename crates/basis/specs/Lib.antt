@@ -1,4 +1,4 @@
--- To be believed: Bytes, Writing, Refusals (01's table), Told, Little.
+-- To be believed: Bytes, Writing, Refusals (01's table), Told, Little, Unique (the contract of a call with one lent part).
 -- On the way to them: Cases, Lists.
 pub mod Cases
 pub mod Bytes
@@ -7,3 +7,4 @@ pub mod Lists
 pub mod Little
 pub mod Refusals
 pub mod Told
+pub mod Unique

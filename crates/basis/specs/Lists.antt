@@ -9,6 +9,7 @@ use lib.Seq.{sets, sets-eq, getD-drop, getD-take, take-nil}
 use mathlib.Core.Bool.{false}
 use lib.Dec.{ltb, leb}
 use borrow.Author.Tests.{le-leb, lt-leb, ltb-true, ltb-false}
+use Rattle.basis.specs.declared.Written.{Written}
 use Rattle.basis.specs.declared.Written.the-variants.{Bytes as Wrote, Room}
 use Rattle.basis.specs.Cases.{either}
 use Rattle.basis.specs.Bytes.{Bytes}
@@ -39,6 +40,13 @@ answer-short xs out h = simp (lt-leb _ _ h)
 pub written-short : (xs out : List ℕ) → length out < length xs → written xs out ≡ out
 unfolding written
 written-short xs out h = simp (lt-leb _ _ h)
+
+-- by a number that is 0 where bytes were written: where it is not 0, nothing was
+pub refused-write : (xs out : List ℕ) (number : Written → ℕ) → ((n : ℕ) → number (Wrote n) ≡ 0)
+    → (number (answer xs out) ≡ 0 → ⊥) → written xs out ≡ out
+unfolding answer written
+refused-write xs out number z h =
+    either (leb (length xs) (length out)) (λ t. absurd (h (simp t (z (length xs))))) (λ t. simp t)
 
 -- the same within a line or a body
 pub end-fits : (room at : ℕ) (xs out : List ℕ) → at + room ≤ length out → endIn room at xs out ≡ at + length xs

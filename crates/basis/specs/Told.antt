@@ -1,9 +1,12 @@
 -- What a call tells: 01's number, 0 where it is done, and the values beside it, at most four: what was done, or what
--- 01's table returns.
+-- 01's table returns. And what a writer tells.
 use Prim.Native.Nat.{ℕ}
 use mathlib.Core.List.{List, [], _∷_}
 use lib.ListN.{length, getD, take}
 use Rattle.basis.specs.declared.Told.{Told}
+use Rattle.basis.specs.declared.Written.{Written}
+use Rattle.basis.specs.declared.Written.the-variants as written
+use Rattle.basis.specs.Refusals.{short-room}
 
 abbrev pub told : ℕ → List ℕ → Told
 told number values =
@@ -21,3 +24,8 @@ done values = told 0 values
 
 abbrev pub valuesOf : Told → List ℕ
 valuesOf t = take (t .count) (t .first ∷ t .second ∷ t .third ∷ t .fourth ∷ [])
+
+-- how many bytes were written
+abbrev pub writtenTold : Written → Told
+writtenTold (written.Bytes count) = done (count ∷ [])
+writtenTold (written.Room needed) = told short-room (needed ∷ [])

@@ -11,6 +11,7 @@ ghost use lib.Dec.{leb};
 ghost use Rattle.basis.specs.Writing.{endIn, setIn};
 ghost use Rattle.basis.specs.Little.{little, bytesOf};
 ghost use Rattle.basis.specs.Told.{told};
+ghost use Rattle.basis.specs.Unique.{Leaves};
 
 // What a call tells: 01's number, 0 where it is done, and how many values stand beside it; the others are 0.
 pub struct Told {
@@ -154,8 +155,8 @@ fn spell_little(out: &mut [u8], at: usize, n: usize, value: u64)
 
 // The low n bytes of a number at `at`, the low byte first, and the place after them; nothing, and the place as it was, where they do not fit.
 pub fn put_little(out: &mut [u8], at: usize, n: usize, value: u64) -> usize
-    ensures { λ r. ⌜ r ≡ endIn n at (bytesOf n value) (now (out .entry)) ⌝ }
-    ensures { λ _. ⌜ now (out .exit) ≡ setIn n at (bytesOf n value) (now (out .entry)) ⌝ }
+    ensures { λ r. ⌜ Leaves (endIn n at (bytesOf n value) (now (out .entry)))
+        (setIn n at (bytesOf n value) (now (out .entry))) r (now (out .exit)) ⌝ }
 {
     if has_room(out.len(), at, n) {
         let end = at + n;

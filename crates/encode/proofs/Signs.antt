@@ -5,6 +5,7 @@ use mathlib.Core.List.{List}
 use native.Mathlib.Omega.{arith}
 use lib.ListN.{length, drop, length-append, length-take, length-drop}
 use Rattle.basis.specs.Writing.{answer, written}
+use Rattle.basis.specs.Unique.{Leaves}
 use Rattle.protobuf.specs.declared.WireError.{WireError}
 use Rattle.protobuf.specs.declared.Checked.the-variants.{Fine, Refused as Wrong}
 use Rattle.protobuf.specs.Walk.{between}
@@ -31,15 +32,22 @@ pub part-small : (s : List ℕ) (a e : ℕ) → length s ≤ 65536 → length (b
 part-small s a e h = rw (length-take (e - a) (drop a s), length-drop a s) (omega arith)
 
 -- ---- which case it is
-pub sign-refused : (s : List ℕ) (i : ℕ) (out : List ℕ) (why : WireError) → acceptOf s ≡ Wrong why → (Refused why ≡ signAnswer s i out) × (out ≡ signLeft s i out)
+pub sign-refused : (s : List ℕ) (i : ℕ) (out : List ℕ) (why : WireError) → acceptOf s ≡ Wrong why → Leaves (signAnswer s i out) (signLeft s i out) (Refused why) out
 unfolding signAnswer signLeft
-sign-refused s i out why e = (ap (signChecked s i out) (sym e), ap (signedChecked s i out) (sym e))
+sign-refused s i out why e = record { answer = ap (signChecked s i out) (sym e); lent = ap (signedChecked s i out) (sym e) }
 
-pub sign-missing : (s : List ℕ) (i : ℕ) (out : List ℕ) (n : ℕ) → acceptOf s ≡ Fine → messageAt s i ≡ Count n → (NoMessage n ≡ signAnswer s i out) × (out ≡ signLeft s i out)
+pub sign-missing : (s : List ℕ) (i : ℕ) (out : List ℕ) (n : ℕ) → acceptOf s ≡ Fine → messageAt s i ≡ Count n → Leaves (signAnswer s i out) (signLeft s i out) (NoMessage n) out
 unfolding signAnswer signLeft
-sign-missing s i out n e f = (ap (signAt s out) (sym f) ∙ ap (signChecked s i out) (sym e), ap (signedAt s out) (sym f) ∙ ap (signedChecked s i out) (sym e))
+sign-missing s i out n e f =
+    record {
+      answer = ap (signAt s out) (sym f) ∙ ap (signChecked s i out) (sym e);
+      lent = ap (signedAt s out) (sym f) ∙ ap (signedChecked s i out) (sym e);
+    }
 
-pub sign-found : (s : List ℕ) (i : ℕ) (out : List ℕ) (a e : ℕ) (r : MessageBytes) (left : List ℕ) → acceptOf s ≡ Fine → messageAt s i ≡ At a e → (r ≡ ofWritten (answer (signOf (between s a e)) out)) × (left ≡ written (signOf (between s a e)) out) → (r ≡ signAnswer s i out) × (left ≡ signLeft s i out)
+pub sign-found : (s : List ℕ) (i : ℕ) (out : List ℕ) (a e : ℕ) (r : MessageBytes) (left : List ℕ) → acceptOf s ≡ Fine → messageAt s i ≡ At a e → (r ≡ ofWritten (answer (signOf (between s a e)) out)) × (left ≡ written (signOf (between s a e)) out) → Leaves (signAnswer s i out) (signLeft s i out) r left
 unfolding signAnswer signLeft
 sign-found s i out a e r left x f h =
-    (h .0 ∙ ap (signAt s out) (sym f) ∙ ap (signChecked s i out) (sym x), h .1 ∙ ap (signedAt s out) (sym f) ∙ ap (signedChecked s i out) (sym x))
+    record {
+      answer = h .0 ∙ ap (signAt s out) (sym f) ∙ ap (signChecked s i out) (sym x);
+      lent = h .1 ∙ ap (signedAt s out) (sym f) ∙ ap (signedChecked s i out) (sym x);
+    }

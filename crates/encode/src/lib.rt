@@ -6,6 +6,7 @@ ghost use mathlib.Core.Bool.{cond};
 ghost use Prim.Native.Nat.{_+_, _≤_};
 ghost use lib.ListN.{length};
 ghost use Rattle.basis.specs.Writing.{answer, written, setIn};
+ghost use Rattle.basis.specs.Unique.{Leaves};
 ghost use Rattle.peer_id.specs.Uvarint.{uvarint};
 ghost use Rattle.protobuf.specs.Walk.{fieldsOf, isBytes, valueIn};
 ghost use Rattle.protobuf.specs.Encode.{tag, bytesField, ofWritten as encoded};
@@ -118,8 +119,7 @@ fn emit_head(n: u64, len: usize, out: &mut [u8], at: usize) -> usize
 // The tag of a length-delimited field n and its length, for those who write fields of their own: it says where they end, and writes them
 // there where there is room. A number that no field has, or a place above 2^62, gives nothing to write.
 pub fn put_head(n: u64, len: usize, out: &mut [u8], at: usize) -> usize
-    ensures { λ r. ⌜ r ≡ at + length (headAt n len at) ⌝ }
-    ensures { λ _. ⌜ now (out .exit) ≡ setIn (length (headAt n len at)) at (headAt n len at) (now (out .entry)) ⌝ }
+    ensures { λ r. ⌜ Leaves (at + length (headAt n len at)) (setIn (length (headAt n len at)) at (headAt n len at) (now (out .entry))) r (now (out .exit)) ⌝ }
 {
     if MAX_FIELD_NUMBER < n {
         return at;
@@ -439,8 +439,8 @@ fn encode_taken(body: &[u8], out: &mut [u8]) -> Encoded
 
 // Writes a body anew at the front of the lent bytes: what it means, in its canonical bytes. A refusal, and a lack of room, leave them as they were.
 pub fn encode(body: &[u8], out: &mut [u8]) -> Encoded
-    ensures { λ r. ⌜ r ≡ encodeAnswer (now (body .entry)) (now (out .entry)) ⌝ }
-    ensures { λ _. ⌜ now (out .exit) ≡ encodeLeft (now (body .entry)) (now (out .entry)) ⌝ }
+    ensures { λ r. ⌜ Leaves (encodeAnswer (now (body .entry)) (now (out .entry)))
+        (encodeLeft (now (body .entry)) (now (out .entry))) r (now (out .exit)) ⌝ }
 {
     let c = accept(body);
     match c {
@@ -480,8 +480,8 @@ fn sign_part(part: &[u8], out: &mut [u8]) -> MessageBytes
 
 // Writes the bytes that are signed of the message at an index: the prefix, then from, data, seqno and every topic.
 pub fn sign_bytes(body: &[u8], index: usize, out: &mut [u8]) -> MessageBytes
-    ensures { λ r. ⌜ r ≡ signAnswer (now (body .entry)) index (now (out .entry)) ⌝ }
-    ensures { λ _. ⌜ now (out .exit) ≡ signLeft (now (body .entry)) index (now (out .entry)) ⌝ }
+    ensures { λ r. ⌜ Leaves (signAnswer (now (body .entry)) index (now (out .entry)))
+        (signLeft (now (body .entry)) index (now (out .entry))) r (now (out .exit)) ⌝ }
 {
     let c = accept(body);
     match c {

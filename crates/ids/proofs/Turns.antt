@@ -16,6 +16,7 @@ use Rattle.protobuf.specs.Field.{readField}
 use Rattle.protobuf.specs.Walk.{Fields, end, refused, _then_, walkAt, isBytes, between}
 use Rattle.protobuf.specs.EncodeLaws.{put-fits, put-append}
 use Rattle.basis.specs.Writing.{answer, written, endIn, setIn}
+use Rattle.basis.specs.Unique.{Leaves}
 use Rattle.basis.specs.Lists.{answer-fits, answer-short, written-fits, written-short}
 use Rattle.protobuf.specs.WalkLaws.{walk-on, walk-end}
 use Rattle.ids.specs.declared.MessageAt.{MessageAt}
@@ -69,9 +70,9 @@ id-short pre p out a e b f h l =
     (ap Room (sym n) ∙ sym (ap ofWritten (answer-short (pre ++ idBytes p a e b f) out k)), sym (written-short (pre ++ idBytes p a e b f) out k))
 
 pub id-put : (pre p out : List ℕ) (a e b f : ℕ) (o₁ o₂ o₃ : List ℕ) (i j k : ℕ) → Fits p a e b f → length pre + (e - a) + (f - b) ≤ length out
-    → (i ≡ endIn (length pre) 0 pre out) × (o₁ ≡ setIn (length pre) 0 pre out)
-    → (j ≡ endIn (length (between p a e)) i (between p a e) o₁) × (o₂ ≡ setIn (length (between p a e)) i (between p a e) o₁)
-    → (k ≡ endIn (length (between p b f)) j (between p b f) o₂) × (o₃ ≡ setIn (length (between p b f)) j (between p b f) o₂)
+    → Leaves (endIn (length pre) 0 pre out) (setIn (length pre) 0 pre out) i o₁
+    → Leaves (endIn (length (between p a e)) i (between p a e) o₁) (setIn (length (between p a e)) i (between p a e) o₁) j o₂
+    → Leaves (endIn (length (between p b f)) j (between p b f) o₂) (setIn (length (between p b f)) j (between p b f) o₂) k o₃
     → (Bytes (length pre + (e - a) + (f - b)) ≡ ofWritten (answer (pre ++ idBytes p a e b f) out)) × (o₃ ≡ written (pre ++ idBytes p a e b f) out)
 id-put pre p out a e b f o₁ o₂ o₃ i j k h l p₁ p₂ p₃ =
     let n = id-length pre p a e b f h in

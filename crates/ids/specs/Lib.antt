@@ -1,5 +1,6 @@
 -- To be believed: Ids, Told.
--- On the way to them: IdLaws.
+-- Theorems: Refused. On the way to them: IdLaws.
 pub mod Told
 pub mod Ids
 pub mod IdLaws
+pub mod Refused

@@ -7,6 +7,7 @@ ghost use mathlib.Core.List.{[], _∷_};
 ghost use Prim.Native.Nat.{_+_, _-_, _≤_, _<_};
 ghost use lib.Dec.{eqb, ltb};
 ghost use lib.ListN.{length};
+ghost use Rattle.basis.specs.Unique.{Leaves};
 ghost use Rattle.protobuf.specs.Walk.{isBytes};
 ghost use Rattle.ids.specs.Ids.{messageAt, onFrom, idParts, answerId, leftId, idAnswer, idLeft, mark};
 use protobuf::Checked;
@@ -208,16 +209,16 @@ fn put_id_at(before: &[u8], body: &[u8], index: usize, out: &mut [u8]) -> Messag
 
 // Writes the id of the message at an index: from and then seqno.
 pub fn message_id(body: &[u8], index: usize, out: &mut [u8]) -> MessageBytes
-    ensures { λ r. ⌜ r ≡ idAnswer [] (now (body .entry)) index (now (out .entry)) ⌝ }
-    ensures { λ _. ⌜ now (out .exit) ≡ idLeft [] (now (body .entry)) index (now (out .entry)) ⌝ }
+    ensures { λ r. ⌜ Leaves (idAnswer [] (now (body .entry)) index (now (out .entry)))
+        (idLeft [] (now (body .entry)) index (now (out .entry))) r (now (out .exit)) ⌝ }
 {
     put_id_at(b"", body, index, out)
 }
 
 // Writes the id under which the message at an index is seen: the mark byte, and then its id.
 pub fn seen_message_id(body: &[u8], index: usize, signed: bool, out: &mut [u8]) -> MessageBytes
-    ensures { λ r. ⌜ r ≡ idAnswer (mark signed ∷ []) (now (body .entry)) index (now (out .entry)) ⌝ }
-    ensures { λ _. ⌜ now (out .exit) ≡ idLeft (mark signed ∷ []) (now (body .entry)) index (now (out .entry)) ⌝ }
+    ensures { λ r. ⌜ Leaves (idAnswer (mark signed ∷ []) (now (body .entry)) index (now (out .entry)))
+        (idLeft (mark signed ∷ []) (now (body .entry)) index (now (out .entry))) r (now (out .exit)) ⌝ }
 {
     if signed {
         return put_id_at(b"\x01", body, index, out);

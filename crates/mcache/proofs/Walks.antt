@@ -13,6 +13,7 @@ use Rattle.rows.specs.declared.Ring.{Ring}
 use Rattle.rows.specs.Rows.{placeOf, rowsIn}
 use Rattle.rows.specs.RowsLaws.{length-ring, ring-from, ring-end, place-lt}
 use Rattle.basis.specs.Writing.{endIn, setIn}
+use Rattle.basis.specs.Unique.{Leaves}
 use Rattle.basis.specs.Lists.{sets-append, end-fits, set-fits}
 use Rattle.protobuf.specs.Walk.{between}
 use Rattle.ids.specs.Ids.{idBytes}
@@ -180,8 +181,8 @@ row-in ring i p l h e =
 -- ---- an id from its two parts
 pub formed : (part : List ℕ) (a e b f : ℕ) (out : List ℕ) (i : ℕ) (mid : List ℕ) (j : ℕ) (end : List ℕ)
     → formable (length part) a e b f (length out) ≡ true
-    → (i ≡ endIn (length (between part a e)) 0 (between part a e) out) × (mid ≡ setIn (length (between part a e)) 0 (between part a e) out)
-    → (j ≡ endIn (length (between part b f)) i (between part b f) mid) × (end ≡ setIn (length (between part b f)) i (between part b f) mid)
+    → Leaves (endIn (length (between part a e)) 0 (between part a e) out) (setIn (length (between part a e)) 0 (between part a e) out) i mid
+    → Leaves (endIn (length (between part b f)) i (between part b f) mid) (setIn (length (between part b f)) i (between part b f) mid) j end
     → Forms part a e b f out j end
 unfolding formCount formLeft
 formed part a e b f out i mid j end g u v =
@@ -190,13 +191,13 @@ formed part a e b f out i mid j end g u v =
     let x : List ℕ = between part a e in
     let y : List ℕ = between part b f in
     let l : length (x ++ y) ≡ length x + length y = length-append x y in
-    let i0 : i ≡ 0 + length x = u .0 ∙ end-fits (length x) 0 x out (omega arith) in
-    let m0 : mid ≡ sets out 0 x = u .1 ∙ set-fits (length x) 0 x out (omega arith) in
+    let i0 : i ≡ 0 + length x = u .answer ∙ end-fits (length x) 0 x out (omega arith) in
+    let m0 : mid ≡ sets out 0 x = u .lent ∙ set-fits (length x) 0 x out (omega arith) in
     let ml : length mid ≡ length out = ap length m0 ∙ length-sets out 0 x in
-    let n : j ≡ length (x ++ y) = v .0 ∙ end-fits (length y) i y mid (omega arith) ∙ omega arith in
+    let n : j ≡ length (x ++ y) = v .answer ∙ end-fits (length y) i y mid (omega arith) ∙ omega arith in
     record {
       count = rw g n;
-      buffer = rw g (v .1 ∙ set-fits (length y) i y mid (omega arith) ∙ rw (m0, i0) (sym (sets-append out 0 x y)));
+      buffer = rw g (v .lent ∙ set-fits (length y) i y mid (omega arith) ∙ rw (m0, i0) (sym (sets-append out 0 x y)));
     }
 
 pub formed-not : (part : List ℕ) (a e b f : ℕ) (out : List ℕ) → formable (length part) a e b f (length out) ≡ false → Forms part a e b f out 0 out

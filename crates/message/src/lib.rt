@@ -6,6 +6,7 @@ ghost use mathlib.Core.List.{[], _∷_, _++_};
 ghost use Prim.Native.Nat.{_+_, _*_, _≤_};
 ghost use lib.ListN.{length};
 ghost use lib.Seq.{sets};
+ghost use Rattle.basis.specs.Unique.{Leaves};
 ghost use Rattle.schema.specs.Schema.{ownOf};
 ghost use Rattle.schema.specs.Slots.{noSlots};
 ghost use Rattle.schema.specs.Count.{FieldWithin};
@@ -265,8 +266,8 @@ pub fn has_control(body: &[u8]) -> bool
 
 // Reads a body: its records go to the lent table, from its first row on. A refusal leaves the table as it was.
 pub fn decode(body: &[u8], table: &mut [u64]) -> Decoded
-    ensures { λ r. ⌜ r ≡ decodeAnswer (now (body .entry)) (length (now (table .entry))) ⌝ }
-    ensures { λ _. ⌜ now (table .exit) ≡ decodeTable (now (body .entry)) (now (table .entry)) ⌝ }
+    ensures { λ r. ⌜ Leaves (decodeAnswer (now (body .entry)) (length (now (table .entry))))
+        (decodeTable (now (body .entry)) (now (table .entry))) r (now (table .exit)) ⌝ }
 {
     let c = body_records(body);
     match c {

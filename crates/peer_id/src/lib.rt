@@ -6,6 +6,7 @@ ghost use Prim.Native.Nat.{_+_, _≤_};
 ghost use lib.ListN.{length};
 ghost use lib.Seq.{sets};
 ghost use Rattle.basis.specs.Writing.{answer, written, endIn, setIn};
+ghost use Rattle.basis.specs.Unique.{Leaves};
 ghost use Rattle.peer_id.specs.Uvarint.{uvarint, groupOf, readUvarint};
 use basis::Written;
 use basis::has_room;
@@ -117,8 +118,8 @@ fn spell_uvarint(value: u64, out: &mut [u8], at: usize) -> usize
 
 // Writes a value at `at` and says where it ends; where it does not fit, it writes nothing and says `at`.
 pub fn put_uvarint(value: u64, out: &mut [u8], at: usize) -> usize
-    ensures { λ r. ⌜ r ≡ endIn (length (uvarint value)) at (uvarint value) (now (out .entry)) ⌝ }
-    ensures { λ _. ⌜ now (out .exit) ≡ setIn (length (uvarint value)) at (uvarint value) (now (out .entry)) ⌝ }
+    ensures { λ r. ⌜ Leaves (endIn (length (uvarint value)) at (uvarint value) (now (out .entry)))
+        (setIn (length (uvarint value)) at (uvarint value) (now (out .entry))) r (now (out .exit)) ⌝ }
 {
     let len = uvarint_len(value);
     if has_room(out.len(), at, len) {
@@ -129,8 +130,8 @@ pub fn put_uvarint(value: u64, out: &mut [u8], at: usize) -> usize
 
 // Writes a value at the front of out; where it does not fit, nothing.
 pub fn write_uvarint(value: u64, out: &mut [u8]) -> Written
-    ensures { λ r. ⌜ r ≡ answer (uvarint value) (now (out .entry)) ⌝ }
-    ensures { λ _. ⌜ now (out .exit) ≡ written (uvarint value) (now (out .entry)) ⌝ }
+    ensures { λ r. ⌜ Leaves (answer (uvarint value) (now (out .entry))) (written (uvarint value) (now (out .entry))) r
+        (now (out .exit)) ⌝ }
 {
     let len = uvarint_len(value);
     if out.len() < len {

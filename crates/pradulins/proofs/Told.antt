@@ -15,6 +15,8 @@ use Rattle.node.specs.Told.{startTold}
 use Rattle.node.specs.Calls.{startAnswer, startNode}
 use Rattle.node.specs.State.{legalSettings, freshNode}
 use Rattle.stored.specs.Layout.{nodeBytes}
+use Rattle.pradulins.specs.Unique.{Starts}
+use Rattle.pradulins.specs.Refused.{not-started}
 
 -- ---- the first n of four values, stored one after the other
 module _ (n a b d e : ℕ) (vs : List ℕ) where
@@ -42,15 +44,7 @@ told-as told vs {a} {b} {t} e q h =
     let s : t ≡ told a = q ∙ ap told e in
     (h .0 ∙ ap (λ (x : Told). x .number) s, h .1 ∙ ap (λ (x : Told). sets vs 0 (valuesOf x)) s)
 
--- beside what else a call ensures
-pub with-rest : {A B C : Type 0} → A × B → C → A × (B × C)
-with-rest h rest = (h .0, (h .1, rest))
-
 -- ---- a start
-not-started : (b : Bool) (new old : List ℕ) → (startTold (cond b start.Started start.BadSetting) .number ≡ 0 → ⊥) → old ≡ cond b new old
-not-started true new old h = absurd (h refl)
-not-started false new old h = refl
-
 started : (b : Bool) (n m : Node) (old : List ℕ) → startTold (cond b start.Started start.BadSetting) .number ≡ 0
     → (_≡_ {A = ℕ} 0 (startTold (cond b start.Started start.BadSetting) .number)) × (nodeBytes (cond b n m) ≡ cond b (nodeBytes n) old)
 started true n m old e = (refl, refl)
@@ -58,16 +52,16 @@ started false n m old e = absurd (omega arith)
 
 module _ (t m h k : ℕ) (a : Start) (r : Told) (old : List ℕ) (e : a ≡ startAnswer m h k) (q : r ≡ startTold a) where
   pub start-refused : (r .number ≡ 0 → ⊥)
-      → (r .number ≡ startTold (startAnswer m h k) .number) × (old ≡ cond (legalSettings m h k) (nodeBytes (freshNode t m h k)) old)
+      → Starts old t m h k (r .number) old
   unfolding startAnswer
   start-refused z =
       let s : r .number ≡ startTold (startAnswer m h k) .number = ap (λ (x : Told). x .number) (q ∙ ap startTold e) in
-      (s, not-started (legalSettings m h k) (nodeBytes (freshNode t m h k)) old (λ w. z (s ∙ w)))
+      record { number = s; node = sym (not-started (legalSettings m h k) (nodeBytes (freshNode t m h k)) old (λ w. z (s ∙ w))) }
 
   pub start-made : (n : Node) (bytes : List ℕ) → n ≡ startNode t m h k → r .number ≡ 0 → bytes ≡ nodeBytes n
-      → (_≡_ {A = ℕ} 0 (startTold (startAnswer m h k) .number)) × (bytes ≡ cond (legalSettings m h k) (nodeBytes (freshNode t m h k)) old)
+      → Starts old t m h k 0 bytes
   unfolding startAnswer startNode
   start-made n bytes p z w =
       let s : r .number ≡ startTold (startAnswer m h k) .number = ap (λ (x : Told). x .number) (q ∙ ap startTold e) in
       let made = started (legalSettings m h k) (freshNode t m h k) (freshNode 0 0 1 0) old (sym s ∙ z) in
-      (made .0, w ∙ ap nodeBytes p ∙ made .1)
+      record { number = made .0; node = w ∙ ap nodeBytes p ∙ made .1 }

@@ -1,2 +1,4 @@
--- Theorems: Refused; what the contracts cite stands in the crates below.
+-- To be believed: Unique (the contract of each function); what it cites stands in the crates below.
+-- Theorems: Unique, Refused.
+pub mod Unique
 pub mod Refused

@@ -1,26 +1,75 @@
--- A refused call of the C interface leaves the node's bytes, and the stores, as they were.
+-- A refused call of the C interface, one whose number is not 0, leaves what it was lent to write as it was: the node's
+-- bytes, the stores, the buffer or the table. The values get what 01's table returns beside the number. A walk is lent
+-- nothing else.
 use Prim.Native.Nat.{ℕ}
-use mathlib.Core.Path.{_≡_, ap, _∙_}
-use mathlib.Core.Bool.{Bool}
+use mathlib.Core.Path.{_≡_, refl, sym, ap, _∙_}
+use mathlib.Core.Bool.{Bool, true, false, cond}
 use mathlib.Core.List.{List}
 use lib.ListN.{length}
 use Rattle.basis.specs.Bytes.{Bytes}
-use Rattle.node.specs.Calls.{planned, admitNumber, admitAnswer, admitNode, admitSeen, admitCache, beatNumber}
-use Rattle.node.specs.Calls.{beatAnswer, beatNode}
-use Rattle.node.specs.Laws.{admit-refused, beat-refused}
+use Rattle.message.specs.Refused.{refused-decode as decode-refused}
+use Rattle.ids.specs.Refused.{refused-id as id-refused}
+use Rattle.encode.specs.Refused.{refused-encode as encode-refused, refused-sign as sign-refused}
+use Rattle.node.specs.declared.Start.the-variants as start
+use Rattle.node.specs.Told.{startTold}
+use Rattle.node.specs.State.{legalSettings, freshNode}
+use Rattle.node.specs.Calls.{startAnswer}
+use Rattle.node.specs.Laws.{admit-refused, beat-refused, advertise-refused, ask-refused, serve-refused}
 use Rattle.stored.specs.Layout.{nodeIn, nodeBytes}
 use Rattle.stored.specs.LayoutLaws.{loaded-stored}
+use Rattle.pradulins.specs.Unique.{Starts, Admits, Beats, Advertises, Asks, Serves, Encodes, Signs, Identifies}
+use Rattle.pradulins.specs.Unique.{Decodes}
 
-module _ (s : List ℕ) (size : length s ≡ 11344) (bytes : Bytes s) (ss cs : List ℕ) where
-  pub refused-admit : (body : List ℕ) (i : ℕ) (word : Bool) (at : ℕ)
-      → (admitNumber (admitAnswer (nodeIn s) ss at (planned (nodeIn s) ss cs body i word at)) ≡ 0 → ⊥)
-      → (nodeBytes (admitNode (nodeIn s) ss at (planned (nodeIn s) ss cs body i word at)) ≡ s)
-      × (admitSeen (nodeIn s) ss at (planned (nodeIn s) ss cs body i word at) ≡ ss)
-      × (admitCache (nodeIn s) ss cs at (planned (nodeIn s) ss cs body i word at) ≡ cs)
-  refused-admit body i word at h =
-      let r = admit-refused (nodeIn s) ss cs body i word at h in
-      (ap nodeBytes (r .0) ∙ loaded-stored s size bytes, r .1, r .2)
+-- ---- the node
+pub not-started : (legal : Bool) (new old : List ℕ)
+    → (startTold (cond legal start.Started start.BadSetting) .number ≡ 0 → ⊥) → cond legal new old ≡ old
+not-started true new old h = absurd (h refl)
+not-started false new old h = refl
 
-  pub refused-beat : (at : ℕ) → (beatNumber (beatAnswer (nodeIn s) ss cs at) ≡ 0 → ⊥)
-      → nodeBytes (beatNode (nodeIn s) ss cs at) ≡ s
-  refused-beat at h = ap nodeBytes (beat-refused (nodeIn s) ss cs at h) ∙ loaded-stored s size bytes
+pub refused-start : {s : List ℕ} {ttl max-seen history max r : ℕ} {made : List ℕ}
+    → Starts s ttl max-seen history max r made → (r ≡ 0 → ⊥) → made ≡ s
+unfolding startAnswer
+refused-start {s} {ttl} {max-seen} {history} {max} a h =
+    a .node
+    ∙ not-started (legalSettings max-seen history max) (nodeBytes (freshNode ttl max-seen history max)) s
+    (λ z. h (a .number ∙ z))
+
+module _ {s : List ℕ} (size : length s ≡ 11344) (bytes : Bytes s) {ss cs : List ℕ} where
+  pub refused-admit : {body : List ℕ} {i : ℕ} {word : Bool} {at : ℕ} {vs : List ℕ} {r : ℕ}
+      {ws made ids messages : List ℕ}
+      → Admits s ss cs body i word at vs r ws made ids messages → (r ≡ 0 → ⊥)
+      → (made ≡ s) × (ids ≡ ss) × (messages ≡ cs)
+  refused-admit {body} {i} {word} {at} a h =
+      let k = admit-refused (nodeIn s) ss cs body i word at (λ z. h (a .number ∙ z)) in
+      (a .node ∙ ap nodeBytes (k .0) ∙ loaded-stored s size bytes, a .seen ∙ k .1, a .cache ∙ k .2)
+
+  pub refused-beat : {at : ℕ} {vs : List ℕ} {r : ℕ} {ws made : List ℕ} → Beats s ss cs at vs r ws made → (r ≡ 0 → ⊥)
+      → made ≡ s
+  refused-beat {at} a h =
+      a .node ∙ ap nodeBytes (beat-refused (nodeIn s) ss cs at (λ z. h (a .number ∙ z))) ∙ loaded-stored s size bytes
+
+module _ {s ss cs out vs : List ℕ} {r : ℕ} {ws left : List ℕ} where
+  pub refused-advertise : {topic : List ℕ} {windows : ℕ} → Advertises s ss cs topic windows out vs r ws left
+      → (r ≡ 0 → ⊥) → left ≡ out
+  refused-advertise {topic} {windows} a h =
+      a .buffer ∙ advertise-refused (nodeIn s) ss cs out topic windows (λ z. h (a .number ∙ z))
+
+  pub refused-ask : {body : List ℕ} → Asks s ss cs body out vs r ws left → (r ≡ 0 → ⊥) → left ≡ out
+  refused-ask {body} a h = a .buffer ∙ ask-refused (nodeIn s) ss cs out body (λ z. h (a .number ∙ z))
+
+  pub refused-serve : {body : List ℕ} → Serves s ss cs body out vs r ws left → (r ≡ 0 → ⊥) → left ≡ out
+  refused-serve {body} a h = a .buffer ∙ serve-refused (nodeIn s) ss cs out body (λ z. h (a .number ∙ z))
+
+-- ---- bodies
+module _ {body vs : List ℕ} {r : ℕ} {ws : List ℕ} where
+  pub refused-encode : {out left : List ℕ} → Encodes body out vs r ws left → (r ≡ 0 → ⊥) → left ≡ out
+  refused-encode {out} a h = a .buffer ∙ encode-refused body out (λ z. h (a .number ∙ z))
+
+  pub refused-sign : {i : ℕ} {out left : List ℕ} → Signs body i out vs r ws left → (r ≡ 0 → ⊥) → left ≡ out
+  refused-sign {i} {out} a h = a .buffer ∙ sign-refused body i out (λ z. h (a .number ∙ z))
+
+  pub refused-id : {i : ℕ} {out left : List ℕ} → Identifies body i out vs r ws left → (r ≡ 0 → ⊥) → left ≡ out
+  refused-id {i} {out} a h = a .buffer ∙ id-refused body i out (λ z. h (a .number ∙ z))
+
+  pub refused-decode : {t rows : List ℕ} → Decodes body t vs r ws rows → (r ≡ 0 → ⊥) → rows ≡ t
+  refused-decode {t} a h = a .table ∙ decode-refused body t (λ z. h (a .number ∙ z))

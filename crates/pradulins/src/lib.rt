@@ -1,23 +1,9 @@
 // The library as C and Rust programs link it. Each call answers a number, 0 or the refusal's in the table of refusals; `values` gets what stands beside it. The
 // node lives in 11,344 bytes that the host lends, its two stores in slices. A refused call changes no buffer and no node.
 ghost use mathlib.Core.Path.{_≡_};
-ghost use mathlib.Core.Bool.{cond};
-ghost use mathlib.Core.List.{[]};
-ghost use lib.ListN.{length};
 ghost use lib.Seq.{sets};
 ghost use Rattle.basis.specs.Told.{valuesOf};
-ghost use Rattle.protobuf.specs.Told.{encodedTold, walkTold};
-ghost use Rattle.protobuf.specs.Field.{walkStep};
-ghost use Rattle.message.specs.Told.{decodedTold};
-ghost use Rattle.message.specs.Decode.{decodeAnswer, decodeTable};
-ghost use Rattle.ids.specs.Told.{messageTold};
-ghost use Rattle.ids.specs.Ids.{idAnswer, idLeft};
-ghost use Rattle.encode.specs.Encode.{encodeAnswer, encodeLeft};
-ghost use Rattle.encode.specs.Sign.{signAnswer, signLeft};
-ghost use Rattle.node.specs.State.{legalSettings, freshNode};
-ghost use Rattle.node.specs.Told.{startTold, admitTold, beatTold, advertiseTold, askTold, serveTold};
-ghost use Rattle.node.specs.Calls.{startAnswer, planned, admitAnswer, admitNode, admitSeen, admitCache, beatAnswer, beatNode, advertiseAnswer, advertiseLeft, askAnswer, askLeft, serveAnswer, serveLeft};
-ghost use Rattle.stored.specs.Layout.{nodeIn, nodeBytes};
+ghost use Rattle.pradulins.specs.Unique.{Starts, Admits, Beats, Advertises, Asks, Serves, Encodes, Signs, Identifies, Decodes, Walks};
 use basis::Told;
 use encode::encode;
 use encode::sign_bytes;
@@ -74,8 +60,7 @@ pub extern "C" fn pradulins_start(
     history_len: usize,
     max_messages: usize,
 ) -> u32
-    ensures { λ r. ⌜ r ≡ startTold (startAnswer «max_seen» «history_len» «max_messages») .number ⌝ }
-    ensures { λ _. ⌜ now (node .exit) ≡ cond (legalSettings «max_seen» «history_len» «max_messages») (nodeBytes (freshNode ttl «max_seen» «history_len» «max_messages»)) (now (node .entry)) ⌝ }
+    ensures { λ r. ⌜ Starts (now (node .entry)) ttl «max_seen» «history_len» «max_messages» r (now (node .exit)) ⌝ }
 {
     let s = Node::start(ttl, max_seen, history_len, max_messages);
     let answer = s.answer;
@@ -100,11 +85,9 @@ pub extern "C" fn pradulins_admit(
     at: u64,
     values: &mut [u64; 4],
 ) -> u32
-    ensures { λ r. ⌜ r ≡ admitTold (admitAnswer (nodeIn (now (node .entry))) (now («seen_store» .entry)) at (planned (nodeIn (now (node .entry))) (now («seen_store» .entry)) (now («cache_store» .entry)) (now (body .entry)) index verified at)) .number ⌝ }
-    ensures { λ _. ⌜ now (values .exit) ≡ sets (now (values .entry)) 0 (valuesOf (admitTold (admitAnswer (nodeIn (now (node .entry))) (now («seen_store» .entry)) at (planned (nodeIn (now (node .entry))) (now («seen_store» .entry)) (now («cache_store» .entry)) (now (body .entry)) index verified at)))) ⌝ }
-    ensures { λ _. ⌜ now (node .exit) ≡ nodeBytes (admitNode (nodeIn (now (node .entry))) (now («seen_store» .entry)) at (planned (nodeIn (now (node .entry))) (now («seen_store» .entry)) (now («cache_store» .entry)) (now (body .entry)) index verified at)) ⌝ }
-    ensures { λ _. ⌜ now («seen_store» .exit) ≡ admitSeen (nodeIn (now (node .entry))) (now («seen_store» .entry)) at (planned (nodeIn (now (node .entry))) (now («seen_store» .entry)) (now («cache_store» .entry)) (now (body .entry)) index verified at) ⌝ }
-    ensures { λ _. ⌜ now («cache_store» .exit) ≡ admitCache (nodeIn (now (node .entry))) (now («seen_store» .entry)) (now («cache_store» .entry)) at (planned (nodeIn (now (node .entry))) (now («seen_store» .entry)) (now («cache_store» .entry)) (now (body .entry)) index verified at) ⌝ }
+    ensures { λ r. ⌜ Admits (now (node .entry)) (now («seen_store» .entry)) (now («cache_store» .entry))
+        (now (body .entry)) index verified at (now (values .entry)) r (now (values .exit)) (now (node .exit))
+        (now («seen_store» .exit)) (now («cache_store» .exit)) ⌝ }
 {
     let n = load(node);
     let r = n.admit(seen_store, cache_store, body, index, verified, at);
@@ -123,9 +106,8 @@ pub extern "C" fn pradulins_heartbeat(
     at: u64,
     values: &mut [u64; 4],
 ) -> u32
-    ensures { λ r. ⌜ r ≡ beatTold (beatAnswer (nodeIn (now (node .entry))) (now («seen_store» .entry)) (now («cache_store» .entry)) at) .number ⌝ }
-    ensures { λ _. ⌜ now (values .exit) ≡ sets (now (values .entry)) 0 (valuesOf (beatTold (beatAnswer (nodeIn (now (node .entry))) (now («seen_store» .entry)) (now («cache_store» .entry)) at))) ⌝ }
-    ensures { λ _. ⌜ now (node .exit) ≡ nodeBytes (beatNode (nodeIn (now (node .entry))) (now («seen_store» .entry)) (now («cache_store» .entry)) at) ⌝ }
+    ensures { λ r. ⌜ Beats (now (node .entry)) (now («seen_store» .entry)) (now («cache_store» .entry)) at
+        (now (values .entry)) r (now (values .exit)) (now (node .exit)) ⌝ }
 {
     let n = load(node);
     let r = n.heartbeat(seen_store, cache_store, at);
@@ -146,9 +128,9 @@ pub extern "C" fn pradulins_advertise(
     out: &mut [u8],
     values: &mut [u64; 4],
 ) -> u32
-    ensures { λ r. ⌜ r ≡ advertiseTold (advertiseAnswer (nodeIn (now (node .entry))) (now («seen_store» .entry)) (now («cache_store» .entry)) (now (topic .entry)) windows (now (out .entry))) .number ⌝ }
-    ensures { λ _. ⌜ now (values .exit) ≡ sets (now (values .entry)) 0 (valuesOf (advertiseTold (advertiseAnswer (nodeIn (now (node .entry))) (now («seen_store» .entry)) (now («cache_store» .entry)) (now (topic .entry)) windows (now (out .entry))))) ⌝ }
-    ensures { λ _. ⌜ now (out .exit) ≡ advertiseLeft (nodeIn (now (node .entry))) (now («seen_store» .entry)) (now («cache_store» .entry)) (now (topic .entry)) windows (now (out .entry)) ⌝ }
+    ensures { λ r. ⌜ Advertises (now (node .entry)) (now («seen_store» .entry)) (now («cache_store» .entry))
+        (now (topic .entry)) windows (now (out .entry)) (now (values .entry)) r (now (values .exit))
+        (now (out .exit)) ⌝ }
 {
     let n = load(node);
     let r = n.advertise(seen_store, cache_store, topic, windows, out);
@@ -166,9 +148,8 @@ pub extern "C" fn pradulins_ask(
     out: &mut [u8],
     values: &mut [u64; 4],
 ) -> u32
-    ensures { λ r. ⌜ r ≡ askTold (askAnswer (nodeIn (now (node .entry))) (now («seen_store» .entry)) (now («cache_store» .entry)) (now (body .entry)) (now (out .entry))) .number ⌝ }
-    ensures { λ _. ⌜ now (values .exit) ≡ sets (now (values .entry)) 0 (valuesOf (askTold (askAnswer (nodeIn (now (node .entry))) (now («seen_store» .entry)) (now («cache_store» .entry)) (now (body .entry)) (now (out .entry))))) ⌝ }
-    ensures { λ _. ⌜ now (out .exit) ≡ askLeft (nodeIn (now (node .entry))) (now («seen_store» .entry)) (now («cache_store» .entry)) (now (body .entry)) (now (out .entry)) ⌝ }
+    ensures { λ r. ⌜ Asks (now (node .entry)) (now («seen_store» .entry)) (now («cache_store» .entry))
+        (now (body .entry)) (now (out .entry)) (now (values .entry)) r (now (values .exit)) (now (out .exit)) ⌝ }
 {
     let n = load(node);
     let r = n.ask(seen_store, cache_store, body, out);
@@ -186,9 +167,8 @@ pub extern "C" fn pradulins_serve(
     out: &mut [u8],
     values: &mut [u64; 4],
 ) -> u32
-    ensures { λ r. ⌜ r ≡ serveTold (serveAnswer (nodeIn (now (node .entry))) (now («seen_store» .entry)) (now («cache_store» .entry)) (now (body .entry)) (now (out .entry))) .number ⌝ }
-    ensures { λ _. ⌜ now (values .exit) ≡ sets (now (values .entry)) 0 (valuesOf (serveTold (serveAnswer (nodeIn (now (node .entry))) (now («seen_store» .entry)) (now («cache_store» .entry)) (now (body .entry)) (now (out .entry))))) ⌝ }
-    ensures { λ _. ⌜ now (out .exit) ≡ serveLeft (nodeIn (now (node .entry))) (now («seen_store» .entry)) (now («cache_store» .entry)) (now (body .entry)) (now (out .entry)) ⌝ }
+    ensures { λ r. ⌜ Serves (now (node .entry)) (now («seen_store» .entry)) (now («cache_store» .entry))
+        (now (body .entry)) (now (out .entry)) (now (values .entry)) r (now (values .exit)) (now (out .exit)) ⌝ }
 {
     let n = load(node);
     let r = n.serve(seen_store, cache_store, body, out);
@@ -201,9 +181,8 @@ pub extern "C" fn pradulins_serve(
 // Writes a body anew in canonical bytes.
 #[no_mangle]
 pub extern "C" fn pradulins_encode(body: &[u8], out: &mut [u8], values: &mut [u64; 4]) -> u32
-    ensures { λ r. ⌜ r ≡ encodedTold (encodeAnswer (now (body .entry)) (now (out .entry))) .number ⌝ }
-    ensures { λ _. ⌜ now (values .exit) ≡ sets (now (values .entry)) 0 (valuesOf (encodedTold (encodeAnswer (now (body .entry)) (now (out .entry))))) ⌝ }
-    ensures { λ _. ⌜ now (out .exit) ≡ encodeLeft (now (body .entry)) (now (out .entry)) ⌝ }
+    ensures { λ r. ⌜ Encodes (now (body .entry)) (now (out .entry)) (now (values .entry)) r (now (values .exit))
+        (now (out .exit)) ⌝ }
 {
     let answer = encode(body, out);
     tell(told_encoded(answer), values)
@@ -217,9 +196,8 @@ pub extern "C" fn pradulins_sign_bytes(
     out: &mut [u8],
     values: &mut [u64; 4],
 ) -> u32
-    ensures { λ r. ⌜ r ≡ messageTold (signAnswer (now (body .entry)) index (now (out .entry))) .number ⌝ }
-    ensures { λ _. ⌜ now (values .exit) ≡ sets (now (values .entry)) 0 (valuesOf (messageTold (signAnswer (now (body .entry)) index (now (out .entry))))) ⌝ }
-    ensures { λ _. ⌜ now (out .exit) ≡ signLeft (now (body .entry)) index (now (out .entry)) ⌝ }
+    ensures { λ r. ⌜ Signs (now (body .entry)) index (now (out .entry)) (now (values .entry)) r (now (values .exit))
+        (now (out .exit)) ⌝ }
 {
     let answer = sign_bytes(body, index, out);
     tell(told_message(answer), values)
@@ -233,9 +211,8 @@ pub extern "C" fn pradulins_message_id(
     out: &mut [u8],
     values: &mut [u64; 4],
 ) -> u32
-    ensures { λ r. ⌜ r ≡ messageTold (idAnswer [] (now (body .entry)) index (now (out .entry))) .number ⌝ }
-    ensures { λ _. ⌜ now (values .exit) ≡ sets (now (values .entry)) 0 (valuesOf (messageTold (idAnswer [] (now (body .entry)) index (now (out .entry))))) ⌝ }
-    ensures { λ _. ⌜ now (out .exit) ≡ idLeft [] (now (body .entry)) index (now (out .entry)) ⌝ }
+    ensures { λ r. ⌜ Identifies (now (body .entry)) index (now (out .entry)) (now (values .entry)) r
+        (now (values .exit)) (now (out .exit)) ⌝ }
 {
     let answer = message_id(body, index, out);
     tell(told_message(answer), values)
@@ -244,9 +221,8 @@ pub extern "C" fn pradulins_message_id(
 // Decodes a body into a table of records, 20 numbers each.
 #[no_mangle]
 pub extern "C" fn pradulins_decode(body: &[u8], table: &mut [u64], values: &mut [u64; 4]) -> u32
-    ensures { λ r. ⌜ r ≡ decodedTold (decodeAnswer (now (body .entry)) (length (now (table .entry)))) .number ⌝ }
-    ensures { λ _. ⌜ now (values .exit) ≡ sets (now (values .entry)) 0 (valuesOf (decodedTold (decodeAnswer (now (body .entry)) (length (now (table .entry)))))) ⌝ }
-    ensures { λ _. ⌜ now (table .exit) ≡ decodeTable (now (body .entry)) (now (table .entry)) ⌝ }
+    ensures { λ r. ⌜ Decodes (now (body .entry)) (now (table .entry)) (now (values .entry)) r (now (values .exit))
+        (now (table .exit)) ⌝ }
 {
     let answer = decode(body, table);
     tell(told_decoded(answer), values)
@@ -255,8 +231,7 @@ pub extern "C" fn pradulins_decode(body: &[u8], table: &mut [u64], values: &mut 
 // The top-level field at a place of a body.
 #[no_mangle]
 pub extern "C" fn pradulins_walk(body: &[u8], at: usize, values: &mut [u64; 4]) -> u32
-    ensures { λ r. ⌜ r ≡ walkTold (walkStep (now (body .entry)) at) .number ⌝ }
-    ensures { λ _. ⌜ now (values .exit) ≡ sets (now (values .entry)) 0 (valuesOf (walkTold (walkStep (now (body .entry)) at))) ⌝ }
+    ensures { λ r. ⌜ Walks (now (body .entry)) at (now (values .entry)) r (now (values .exit)) ⌝ }
 {
     let c = Cursor { at: at };
     let answer = c.step(body);

@@ -11,6 +11,7 @@ use lib.Dec.{ltb, eqb}
 use borrow.Author.Tests.{ne-eqb, le-ltb, ltb-false, eqb-false}
 use Rattle.basis.specs.Cases.{either, clash}
 use Rattle.basis.specs.Writing.{endIn, setIn}
+use Rattle.basis.specs.Unique.{Leaves}
 use Rattle.basis.specs.Lists.{sets-append, end-fits, set-fits, answer-fits, answer-short, written-fits, written-short}
 use Rattle.peer_id.specs.Uvarint.{uvarint}
 use Rattle.peer_id.specs.Laws.{uvarint-some, uvarint-small, at-most-ten}
@@ -109,8 +110,9 @@ Put out at xs after end = (end ≡ at + length xs) × (after ≡ sets out at xs)
 
 -- what put_uvarint and put_bytes ensure, where there is room
 pub put-fits : (out : List ℕ) (at : ℕ) (xs after : List ℕ) (end : ℕ) → at + length xs ≤ length out
-    → (end ≡ endIn (length xs) at xs out) × (after ≡ setIn (length xs) at xs out) → Put out at xs after end
-put-fits out at xs after end h e = (e .0 ∙ end-fits (length xs) at xs out h, e .1 ∙ set-fits (length xs) at xs out h)
+    → Leaves (endIn (length xs) at xs out) (setIn (length xs) at xs out) end after → Put out at xs after end
+put-fits out at xs after end h e =
+    (e .answer ∙ end-fits (length xs) at xs out h, e .lent ∙ set-fits (length xs) at xs out h)
 
 -- xs, and ys where they end, are xs ++ ys
 pub put-append : (out mid after : List ℕ) (at i end : ℕ) (xs ys : List ℕ) → Put out at xs mid i → Put mid i ys after end

@@ -1,5 +1,5 @@
 -- To be believed: Told, Field, Grammar, Walk, Encode.
--- Theorems: Laws, RefusalLaws, WalkLaws, Exactly, Rows.
+-- Theorems: Laws, RefusalLaws, WalkLaws, Exactly, Rows, Refused.
 -- On the way to them: EncodeLaws.
 pub mod Told
 pub mod Field
@@ -12,3 +12,4 @@ pub mod Exactly
 pub mod Encode
 pub mod EncodeLaws
 pub mod Rows
+pub mod Refused

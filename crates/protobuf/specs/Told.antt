@@ -1,4 +1,5 @@
--- What a refusal of a body, a writer of fields and the host's walk tell: 01's number and the values beside it.
+-- What a refusal of a body, the readers and writers of fields and the host's walk tell: 01's number and the values
+-- beside it.
 use Prim.Native.Nat.{ℕ}
 use mathlib.Core.List.{[], _∷_}
 use Rattle.basis.specs.declared.Told.{Told}
@@ -9,6 +10,18 @@ use Rattle.peer_id.specs.Told.{varintTold}
 use Rattle.protobuf.specs.declared.Cursor.{Cursor}
 use Rattle.protobuf.specs.declared.WireError.{WireError}
 use Rattle.protobuf.specs.declared.WireError.the-variants as wire
+use Rattle.protobuf.specs.declared.Checked.{Checked}
+use Rattle.protobuf.specs.declared.Checked.the-variants as checked
+use Rattle.protobuf.specs.declared.Tag.{Tag}
+use Rattle.protobuf.specs.declared.Tag.the-variants as tag
+use Rattle.protobuf.specs.declared.Part.{Part}
+use Rattle.protobuf.specs.declared.Part.the-variants as part
+use Rattle.protobuf.specs.declared.VarintValue.{VarintValue}
+use Rattle.protobuf.specs.declared.VarintValue.the-variants as value
+use Rattle.protobuf.specs.declared.Skip.{Skip}
+use Rattle.protobuf.specs.declared.Skip.the-variants as skip
+use Rattle.protobuf.specs.declared.Step.{Step}
+use Rattle.protobuf.specs.declared.Step.the-variants as step
 use Rattle.protobuf.specs.declared.Encoded.{Encoded}
 use Rattle.protobuf.specs.declared.Encoded.the-variants as encoded
 use Rattle.protobuf.specs.declared.Walk.{Walk}
@@ -26,6 +39,10 @@ wireTold (wire.TooManyRecords records) = told too-many-records (records ∷ [])
 abbrev pub refusalNumber : WireError → ℕ
 refusalNumber why = wireTold why .number
 
+abbrev pub checkedTold : Checked → Told
+checkedTold checked.Fine = done []
+checkedTold (checked.Refused why) = wireTold why
+
 -- how many bytes were written
 abbrev pub encodedTold : Encoded → Told
 encodedTold (encoded.Bytes count) = done (count ∷ [])
@@ -36,5 +53,32 @@ encodedTold (encoded.Refused why) = wireTold why
 -- field has the number 0
 abbrev pub walkTold : Walk → Told
 walkTold walk.End = done (0 ∷ [])
-walkTold (walk.Field field type tag next) = done (field ∷ type ∷ tag ∷ next .at ∷ [])
+walkTold (walk.Field field type after next) = done (field ∷ type ∷ after ∷ next .at ∷ [])
 walkTold (walk.Refused why) = wireTold why
+
+-- the number, the wire type and the place after the tag; 0 alone at the end
+abbrev pub tagTold : Tag → Told
+tagTold tag.End = done (0 ∷ [])
+tagTold (tag.Field field type next) = done (field ∷ type ∷ next ∷ [])
+tagTold (tag.Refused why) = wireTold why
+
+-- where the bytes start and end
+abbrev pub partTold : Part → Told
+partTold (part.Bytes start end) = done (start ∷ end ∷ [])
+partTold (part.Refused why) = wireTold why
+
+-- the value, and the place after it
+abbrev pub valueTold : VarintValue → Told
+valueTold (value.Value number next) = done (number ∷ next ∷ [])
+valueTold (value.Refused why) = wireTold why
+
+-- the place after the value
+abbrev pub skipTold : Skip → Told
+skipTold (skip.Next next) = done (next ∷ [])
+skipTold (skip.Refused why) = wireTold why
+
+-- as the walk: what else a field holds, its value and where that starts, is not told
+abbrev pub stepTold : Step → Told
+stepTold step.End = done (0 ∷ [])
+stepTold (step.At f) = done (f .field ∷ f .«wire_type» ∷ f .«tag_end» ∷ f .next ∷ [])
+stepTold (step.Refused why) = wireTold why

@@ -8,6 +8,7 @@ ghost use lib.ListN.{length, drop, getD};
 ghost use lib.Seq.{sets};
 ghost use mathlib.Core.Bool.{true};
 ghost use Rattle.basis.specs.Writing.{endIn, setIn};
+ghost use Rattle.basis.specs.Unique.{Leaves};
 ghost use Rattle.peer_id.specs.Uvarint.{readUvarint};
 ghost use Rattle.protobuf.specs.Field.{readTag, readLen, readString, readVarint, skipFixed, skipField, readValue, readField, walkStep};
 ghost use Rattle.protobuf.specs.Encode.{tag, varintField, bytesField, tagRefused, encoded, left};
@@ -514,8 +515,8 @@ fn check_tag(field: u64, wire_type: u8) -> Checked
 
 // Writes a tag at the front of out.
 pub fn write_tag(out: &mut [u8], field: u64, wire_type: u8) -> Encoded
-    ensures { λ r. ⌜ r ≡ encoded field «wire_type» (tag field «wire_type») (now (out .entry)) ⌝ }
-    ensures { λ _. ⌜ now (out .exit) ≡ left field «wire_type» (tag field «wire_type») (now (out .entry)) ⌝ }
+    ensures { λ r. ⌜ Leaves (encoded field «wire_type» (tag field «wire_type») (now (out .entry)))
+        (left field «wire_type» (tag field «wire_type») (now (out .entry))) r (now (out .exit)) ⌝ }
 {
     let checked = check_tag(field, wire_type);
     match checked {
@@ -534,8 +535,8 @@ pub fn write_tag(out: &mut [u8], field: u64, wire_type: u8) -> Encoded
 
 // Writes a field that holds a varint at the front of out.
 pub fn encode_varint_field(out: &mut [u8], field: u64, value: u64) -> Encoded
-    ensures { λ r. ⌜ r ≡ encoded field 0 (varintField field value) (now (out .entry)) ⌝ }
-    ensures { λ _. ⌜ now (out .exit) ≡ left field 0 (varintField field value) (now (out .entry)) ⌝ }
+    ensures { λ r. ⌜ Leaves (encoded field 0 (varintField field value) (now (out .entry)))
+        (left field 0 (varintField field value) (now (out .entry))) r (now (out .exit)) ⌝ }
 {
     let checked = check_tag(field, WIRE_VARINT);
     match checked {
@@ -568,8 +569,8 @@ fn copy_to(out: &mut [u8], at: usize, data: &[u8]) -> usize
 
 // Writes bytes at `at` and says where they end; where they do not fit, it writes nothing and says `at`.
 pub fn put_bytes(out: &mut [u8], at: usize, data: &[u8]) -> usize
-    ensures { λ r. ⌜ r ≡ endIn (length (now («data» .entry))) at (now («data» .entry)) (now (out .entry)) ⌝ }
-    ensures { λ _. ⌜ now (out .exit) ≡ setIn (length (now («data» .entry))) at (now («data» .entry)) (now (out .entry)) ⌝ }
+    ensures { λ r. ⌜ Leaves (endIn (length (now («data» .entry))) at (now («data» .entry)) (now (out .entry)))
+        (setIn (length (now («data» .entry))) at (now («data» .entry)) (now (out .entry))) r (now (out .exit)) ⌝ }
 {
     if has_room(out.len(), at, data.len()) {
         return copy_to(out, at, data);
@@ -579,8 +580,8 @@ pub fn put_bytes(out: &mut [u8], at: usize, data: &[u8]) -> usize
 
 // Writes a field that holds bytes at the front of out: a string, or a submessage that is written already.
 pub fn encode_bytes_field(out: &mut [u8], field: u64, data: &[u8]) -> Encoded
-    ensures { λ r. ⌜ r ≡ encoded field 2 (bytesField field (now («data» .entry))) (now (out .entry)) ⌝ }
-    ensures { λ _. ⌜ now (out .exit) ≡ left field 2 (bytesField field (now («data» .entry))) (now (out .entry)) ⌝ }
+    ensures { λ r. ⌜ Leaves (encoded field 2 (bytesField field (now («data» .entry))) (now (out .entry)))
+        (left field 2 (bytesField field (now («data» .entry))) (now (out .entry))) r (now (out .exit)) ⌝ }
 {
     let checked = check_tag(field, WIRE_LEN);
     match checked {

@@ -1,6 +1,7 @@
--- To be believed: Count, Accept. Cited by contracts, and joined to these by theorems: Schema (the table; by Decoded of
--- meaning), Slots (by Back of meaning), Kinds, Made. Theorems: TextLaws. On the way to them: SchemaLaws, CountLaws,
--- AcceptLaws, SlotsLaws.
+-- To be believed: Count, Accept, Told. Cited by contracts, and joined to these by theorems: Schema (the table; by
+-- Decoded of meaning), Slots (by Back of meaning), Kinds, Made. Theorems: TextLaws. On the way to them: SchemaLaws,
+-- CountLaws, AcceptLaws, SlotsLaws.
+pub mod Told
 pub mod Schema
 pub mod Kinds
 pub mod Count

@@ -19,4 +19,4 @@ put-little-spec =
     (λ c κs. leb-true _ _ (sym (c .before .before .has-room .ensures) ∙ c .before .if1 .taken))
     (λ c. search needs)
     (λ c. little-put _ _ _ _ _ (sym (c .before .before .before .before .before .has-room .ensures) ∙ c .before .before .before .before .if1 .taken) (c .before .before .spell-little .ensures))
-    (λ c. let t = sym (c .before .has-room .ensures) ∙ c .if1 .left in (sym (end-short _ _ _ _ t), sym (set-short _ _ _ _ t))))
+    (λ c. let t = sym (c .before .has-room .ensures) ∙ c .if1 .left in record { answer = sym (end-short _ _ _ _ t); lent = sym (set-short _ _ _ _ t) }))

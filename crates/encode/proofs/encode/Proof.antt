@@ -27,7 +27,10 @@ unfolding encodeAnswer encodeLeft
 returns c =
     let a = c .before .before .before .before .before .before .args in
     let e = sym (c .before .c .given .1) ∙ c .before .before .before .accept .ensures in
-    (ap (encodeChecked (a .body .now) (a .out .now)) e, ap (encodedChecked (a .body .now) (a .out .now)) e)
+    record {
+      answer = ap (encodeChecked (a .body .now) (a .out .now)) e;
+      lent = ap (encodedChecked (a .body .now) (a .out .now)) e;
+    }
 
 same-length : tie.Need-same-length
 same-length c = search needs
@@ -37,7 +40,11 @@ unfolding encodeAnswer encodeLeft
 returns-2 c =
     let a = c .before .before .before .before .before .before .before .before .before .args in
     let e = sym (c .before .before .before .before .enum-told .given .1) ∙ c .before .before .before .before .before .before .accept .ensures in
-    (c .before .before .encode-taken .ensures .0 ∙ ap (encodeChecked (a .body .now) (a .out .now)) e, c .before .before .encode-taken .ensures .1 ∙ ap (encodedChecked (a .body .now) (a .out .now)) e)
+    let r = c .before .before .encode-taken .ensures in
+    record {
+      answer = r .0 ∙ ap (encodeChecked (a .body .now) (a .out .now)) e;
+      lent = r .1 ∙ ap (encodedChecked (a .body .now) (a .out .now)) e;
+    }
 
 pub encode-spec : {M : Type 1} → statement M
 encode-spec =

@@ -61,7 +61,7 @@ same-length c = search needs
 returns-4 : tie.Need-returns-4
 returns-4 c =
     let a = c .before .before .before .before .before .before .before .before .before .before .before .before .before .before .args in
-    head-put (a .n) (a .len) (a .at) (a .out .now) (omega arith) (omega arith) _ _ (ap (λ (k : ℕ). a .at + k) (c .before .before .before .before .before .before .before .before .before .before .uvarint-len .ensures)) (ap (λ (k : ℕ). (a .at + c .before .before .before .before .before .before .before .before .before .before .uvarint-len .result) + k) (c .before .before .before .before .before .before .before .before .before .uvarint-len2 .ensures)) _ _ (omega arith) (c .before .before .before .before .before .before .put-uvarint .ensures .1) (c .before .before .put-uvarint2 .ensures .1)
+    head-put (a .n) (a .len) (a .at) (a .out .now) (omega arith) (omega arith) _ _ (ap (λ (k : ℕ). a .at + k) (c .before .before .before .before .before .before .before .before .before .before .uvarint-len .ensures)) (ap (λ (k : ℕ). (a .at + c .before .before .before .before .before .before .before .before .before .before .uvarint-len .result) + k) (c .before .before .before .before .before .before .before .before .before .uvarint-len2 .ensures)) _ _ (omega arith) (c .before .before .before .before .before .before .put-uvarint .ensures .lent) (c .before .before .put-uvarint2 .ensures .lent)
 
 pub put-head-spec : {M : Type 1} → statement M
 put-head-spec =

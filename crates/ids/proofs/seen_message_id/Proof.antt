@@ -17,7 +17,10 @@ same-length : tie.Need-same-length
 same-length c = search needs
 
 returns : tie.Need-returns
-returns c = simp (c .before .before .before .before .before .if1 .taken) (c .before .before .put-id-at .ensures)
+returns c =
+    let t = c .before .before .before .before .before .if1 .taken in
+    let e = c .before .before .put-id-at .ensures in
+    record { answer = simp t (e .0); lent = simp t (e .1) }
 
 slice-aggregate-put-id-at-2 : tie.Need-slice-aggregate-put-id-at-2
 slice-aggregate-put-id-at-2 c = search needs
@@ -29,7 +32,10 @@ same-length-2 : tie.Need-same-length-2
 same-length-2 c = search needs
 
 returns-2 : tie.Need-returns-2
-returns-2 c = simp (c .before .before .before .before .before .if1 .left) (c .before .before .put-id-at2 .ensures)
+returns-2 c =
+    let t = c .before .before .before .before .before .if1 .left in
+    let e = c .before .before .put-id-at2 .ensures in
+    record { answer = simp t (e .0); lent = simp t (e .1) }
 
 pub seen-message-id-spec : {M : Type 1} → statement M
 seen-message-id-spec =

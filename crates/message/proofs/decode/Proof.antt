@@ -7,6 +7,7 @@ use native.Mathlib.Omega.{arith}
 use lib.ListN.{length}
 use borrow.Author.Tests.{lt-ltb, le-ltb}
 use Rattle.basis.specs.Cases.{clash}
+use Rattle.basis.specs.Unique.{Leaves}
 use Rattle.schema.specs.declared.Kind.the-variants as kind
 use Rattle.schema.specs.declared.Counted.{Counted}
 use Rattle.schema.specs.declared.Counted.the-variants as counted
@@ -23,9 +24,9 @@ use Rattle.message.proofs.decode.Statement.{statement}
 use Rattle.message.proofs.decode.Tie as tie
 
 -- the table goes by the answer
-decided : (s t : List ℕ) (r : Decoded) → r ≡ decodeAnswer s (length t) → (r ≡ decodeAnswer s (length t)) × (leaves s t r ≡ decodeTable s t)
+decided : (s t : List ℕ) (r : Decoded) → r ≡ decodeAnswer s (length t) → Leaves (decodeAnswer s (length t)) (decodeTable s t) r (leaves s t r)
 unfolding decodeTable
-decided s t r e = (e, ap (leaves s t) e)
+decided s t r e = record { answer = e; lent = ap (leaves s t) e }
 
 module _ (s : List ℕ) (words : ℕ) where
   answered : (c : Counted) → c ≡ bodyRecords s → onCount (words / 20) (hasControl s) c ≡ decodeAnswer s words
@@ -89,7 +90,7 @@ returns-3 c =
     let e = sym (c .before .before .before .before .before .before .before .c2 .given .1) ∙ c .before .before .before .before .before .before .before .before .before .body-records .ensures in
     let f = fits (a .body .now) _ _ e _ (c .before .before .before .before .has-control .ensures) (c .before .before .before .before .before .if1 .left) in
     let d = decided (a .body .now) (a .table .now) _ f in
-    (d .0, c .before .before .write-message .ensures .1 ∙ d .1)
+    record { answer = d .answer; lent = c .before .before .write-message .ensures .1 ∙ d .lent }
 
 pub decode-spec : {M : Type 1} → statement M
 decode-spec =

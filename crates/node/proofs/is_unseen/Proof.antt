@@ -28,7 +28,7 @@ array-share-prefix-key : tie.Need-array-share-prefix-key
 array-share-prefix-key c = search needs
 
 slice-aggregate-find-from : tie.Need-slice-aggregate-find-from
-slice-aggregate-find-from c = let a = c .before .before .before .before .before .before .before .before .args in key-counts (replicate 129 0) (now (a .id)) _ (length (now (a .id))) refl refl (c .before .before .before .before .if1 .left) ((c .before .before .put-bytes .ensures .1) ∙ set-fits _ _ _ _ (omega (arith, (c .before .before .before .before .if1 .left))))
+slice-aggregate-find-from c = let a = c .before .before .before .before .before .before .before .before .args in key-counts (replicate 129 0) (now (a .id)) _ (length (now (a .id))) refl refl (c .before .before .before .before .if1 .left) ((c .before .before .put-bytes .ensures .lent) ∙ set-fits _ _ _ _ (omega (arith, (c .before .before .before .before .if1 .left))))
 
 find-from-requires : tie.Need-find-from-requires
 find-from-requires c κs = search needs
@@ -37,7 +37,7 @@ returns-2 : tie.Need-returns-2
 returns-2 c = let a = c .before .before .before .before .before .before .before .before .before .before .args in
     seen-or-not (a .ring) (now (a .lens)) (now (a .store)) (now (a .id)) _ (c .before .find-from .result)
     (key-holds (replicate 129 0) (now (a .id)) _ (length (now (a .id))) refl refl (c .before .before .before .before .before .before .if1 .left)
-    ((c .before .before .before .before .put-bytes .ensures .1)
+    ((c .before .before .before .before .put-bytes .ensures .lent)
     ∙ set-fits _ _ _ _ (omega (arith, (c .before .before .before .before .before .before .if1 .left))))) (c .before .find-from .ensures)
 
 pub is-unseen-spec : {M : Type 1} → statement M

@@ -33,13 +33,13 @@ returns c =
     let a = c .before .before .before .before .before .before .before .before .args in
     let h : a .at + length (uvarint (a .value)) ≤ length (a .out .now) = leb-true _ _ (ap (λ (n : ℕ). leb (a .at + n) (length (a .out .now))) (sym (c .before .before .before .before .before .before .uvarint-len .ensures)) ∙ sym (c .before .before .before .before .before .has-room .ensures) ∙ c .before .before .before .before .if1 .taken) in
     let e = c .before .before .spell-uvarint .ensures in
-    (e .0 ∙ sym (end-fits _ _ _ _ h), e .1 ∙ sym (set-fits _ _ _ _ h))
+    record { answer = e .0 ∙ sym (end-fits _ _ _ _ h); lent = e .1 ∙ sym (set-fits _ _ _ _ h) }
 
 returns-2 : tie.Need-returns-2
 returns-2 c =
     let a = c .before .before .before .before .args in
     let h : leb (a .at + length (uvarint (a .value))) (length (a .out .now)) ≡ false = ap (λ (n : ℕ). leb (a .at + n) (length (a .out .now))) (sym (c .before .before .uvarint-len .ensures)) ∙ sym (c .before .has-room .ensures) ∙ c .if1 .left in
-    (sym (end-short _ _ _ _ h), sym (set-short _ _ _ _ h))
+    record { answer = sym (end-short _ _ _ _ h); lent = sym (set-short _ _ _ _ h) }
 
 pub put-uvarint-spec : {M : Type 1} → statement M
 put-uvarint-spec =

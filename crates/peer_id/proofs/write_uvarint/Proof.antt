@@ -21,7 +21,7 @@ returns : tie.Need-returns
 returns c =
     let a = c .before .before .before .args in
     let h : length (a .out .now) < length (uvarint (a .value)) = omega (arith, c .before .uvarint-len .ensures) in
-    (ap Room (c .before .uvarint-len .ensures) ∙ sym (answer-short _ _ h), sym (written-short _ _ h))
+    record { answer = ap Room (c .before .uvarint-len .ensures) ∙ sym (answer-short _ _ h); lent = sym (written-short _ _ h) }
 
 spell-uvarint-requires : tie.Need-spell-uvarint-requires
 spell-uvarint-requires c κs = search needs
@@ -34,7 +34,7 @@ returns-2 c =
     let a = c .before .before .before .before .before .before .before .args in
     let h : length (uvarint (a .value)) ≤ length (a .out .now) = omega (arith, c .before .before .before .before .before .uvarint-len .ensures) in
     let e = c .before .before .spell-uvarint .ensures in
-    (ap Bytes (omega (arith, e .0)) ∙ sym (answer-fits _ _ h), e .1 ∙ sym (written-fits _ _ h))
+    record { answer = ap Bytes (omega (arith, e .0)) ∙ sym (answer-fits _ _ h); lent = e .1 ∙ sym (written-fits _ _ h) }
 
 pub write-uvarint-spec : {M : Type 1} → statement M
 write-uvarint-spec =

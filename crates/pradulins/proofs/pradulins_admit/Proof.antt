@@ -3,7 +3,7 @@ use denote.Ref.{now}
 use mathlib.Core.Path.{ap, _∙_}
 use Rattle.node.specs.Told.{admitTold}
 use Rattle.stored.specs.Layout.{nodeBytes}
-use Rattle.pradulins.proofs.Told.{told-as, with-rest}
+use Rattle.pradulins.proofs.Told.{told-as}
 use borrow.Author.Needs.{needs}
 use Rattle.pradulins.proofs.pradulins_admit.Statement.{statement}
 use Rattle.pradulins.proofs.pradulins_admit.Tie as tie
@@ -21,7 +21,13 @@ pradulins-admit-spec =
     (λ c. search needs)
     (λ c. let node = c .before .before .before .before .before .before .before .before .before .before .before .before .before .load .ensures in
     let did = c .before .before .before .before .before .before .before .before .before .before .admit .ensures in
-    with-rest (told-as admitTold
+    let t = told-as admitTold
     (now (c .before .before .before .before .before .before .before .before .before .before .before .before .before .before .before .before .before .before
-    .args .values)) (rw node at (did .0)) (c .before .before .told-admit .ensures) (c .tell .ensures))
-    ((c .before .before .before .store .ensures) ∙ ap nodeBytes (rw node at (did .1 .0)), (rw node at (did .1 .1 .0), rw node at (did .1 .1 .1)))))
+    .args .values)) (rw node at (did .0)) (c .before .before .told-admit .ensures) (c .tell .ensures) in
+    record {
+      number = t .0;
+      values = t .1;
+      node = (c .before .before .before .store .ensures) ∙ ap nodeBytes (rw node at (did .1 .0));
+      seen = rw node at (did .1 .1 .0);
+      cache = rw node at (did .1 .1 .1);
+    }))

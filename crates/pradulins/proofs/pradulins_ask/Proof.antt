@@ -1,7 +1,7 @@
 -- `pradulins::pradulins_ask` meets its contract: what the stored node answers is told.
 use denote.Ref.{now}
 use Rattle.node.specs.Told.{askTold}
-use Rattle.pradulins.proofs.Told.{told-as, with-rest}
+use Rattle.pradulins.proofs.Told.{told-as}
 use borrow.Author.Needs.{needs}
 use Rattle.pradulins.proofs.pradulins_ask.Statement.{statement}
 use Rattle.pradulins.proofs.pradulins_ask.Tie as tie
@@ -17,5 +17,6 @@ pradulins-ask-spec =
     (λ c. search needs)
     (λ c. let node = c .before .before .before .before .before .before .before .load .ensures in
     let did = c .before .before .before .before .before .ask .ensures in
-    with-rest (told-as askTold (now (c .before .before .before .before .before .before .before .before .before .before .before .before .args .values))
-    (rw node at (did .0)) (c .before .before .told-ask .ensures) (c .tell .ensures)) (rw node at (did .1 .1))))
+    let t = told-as askTold (now (c .before .before .before .before .before .before .before .before .before .before .before .before .args .values))
+    (rw node at (did .0)) (c .before .before .told-ask .ensures) (c .tell .ensures) in
+    record { number = t .0; values = t .1; buffer = rw node at (did .1 .1) }))

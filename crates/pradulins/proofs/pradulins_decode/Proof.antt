@@ -1,7 +1,7 @@
 -- `pradulins::pradulins_decode` meets its contract: the answer is told.
 use denote.Ref.{now}
 use Rattle.message.specs.Told.{decodedTold}
-use Rattle.pradulins.proofs.Told.{told-as, with-rest}
+use Rattle.pradulins.proofs.Told.{told-as}
 use borrow.Author.Needs.{needs}
 use Rattle.pradulins.proofs.pradulins_decode.Statement.{statement}
 use Rattle.pradulins.proofs.pradulins_decode.Tie as tie
@@ -14,4 +14,6 @@ pradulins-decode-spec =
     (λ c κs. search needs)
     (λ c κs. search needs)
     (λ c. search needs)
-    (λ c. with-rest (told-as decodedTold (now (c .before .before .before .before .before .before .before .before .before .args .values)) (c .before .before .before .before .before .decode .ensures .0) (c .before .before .told-decoded .ensures) (c .tell .ensures)) (c .before .before .before .before .before .decode .ensures .1)))
+    (λ c. let did = c .before .before .before .before .before .decode .ensures in
+    let t = told-as decodedTold (now (c .before .before .before .before .before .before .before .before .before .args .values)) (did .answer) (c .before .before .told-decoded .ensures) (c .tell .ensures) in
+    record { number = t .0; values = t .1; table = did .lent }))

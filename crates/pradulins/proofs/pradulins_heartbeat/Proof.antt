@@ -3,7 +3,7 @@ use denote.Ref.{now}
 use mathlib.Core.Path.{ap, _∙_}
 use Rattle.node.specs.Told.{beatTold}
 use Rattle.stored.specs.Layout.{nodeBytes}
-use Rattle.pradulins.proofs.Told.{told-as, with-rest}
+use Rattle.pradulins.proofs.Told.{told-as}
 use borrow.Author.Needs.{needs}
 use Rattle.pradulins.proofs.pradulins_heartbeat.Statement.{statement}
 use Rattle.pradulins.proofs.pradulins_heartbeat.Tie as tie
@@ -19,6 +19,10 @@ pradulins-heartbeat-spec =
     (λ c κs. search needs)
     (λ c. let node = c .before .before .before .before .before .before .before .load .ensures in
     let did = c .before .before .before .before .before .before .heartbeat .ensures in
-    with-rest (told-as beatTold (now (c .before .before .before .before .before .before .before .before .before .before .before .args .values))
-    (rw node at (did .0)) (c .before .before .told-beat .ensures) (c .tell .ensures)) ((c .before .before .before .store .ensures)
-    ∙ ap nodeBytes (rw node at (did .1)))))
+    let t = told-as beatTold (now (c .before .before .before .before .before .before .before .before .before .before .before .args .values))
+    (rw node at (did .0)) (c .before .before .told-beat .ensures) (c .tell .ensures) in
+    record {
+      number = t .0;
+      values = t .1;
+      node = (c .before .before .before .store .ensures) ∙ ap nodeBytes (rw node at (did .1));
+    }))

@@ -13,4 +13,5 @@ pradulins-walk-spec =
     (λ c κs. search needs)
     (λ c κs. search needs)
     (λ c κs. search needs)
-    (λ c. told-as walkTold (now (c .before .before .before .before .before .args .values)) (c .before .before .before .step .ensures) (c .before .before .told-walk .ensures) (c .tell .ensures)))
+    (λ c. let t = told-as walkTold (now (c .before .before .before .before .before .args .values)) (c .before .before .before .step .ensures) (c .before .before .told-walk .ensures) (c .tell .ensures) in
+    record { number = t .0; values = t .1 }))

@@ -60,7 +60,7 @@ returns c =
     let f : tagRefused (a .field) 2 ≡ Fine = sym (c .before .before .before .before .before .check-tag .ensures) ∙ c .before .before .before .enum-told .given .1 in
     let e = bytes-field-length (a .field) (a .«data» .now) in
     let h : length (a .out .now) < length (bytesField (a .field) (a .«data» .now)) = omega arith in
-    (ap Room (omega arith) ∙ sym (encoded-short _ _ _ _ f h), sym (left-short _ _ _ _ f h))
+    record { answer = ap Room (omega arith) ∙ sym (encoded-short _ _ _ _ f h); lent = sym (left-short _ _ _ _ f h) }
 
 mul-put-uvarint : tie.Need-mul-put-uvarint
 mul-put-uvarint c = let a = c .before .before .before .before .before .before .before .before .args in let t = fine-tag (a .field) 2 (sym (c .before .before .before .before .before .check-tag .ensures) ∙ c .before .before .before .enum-told .given .1) in omega arith
@@ -79,7 +79,7 @@ put-bytes-requires c κs = search needs
 
 returns-2 : tie.Need-returns-2
 returns-2 c =
-    let e = sym (c .before .before .before .check-tag .ensures) ∙ c .before .checked .given .1 in (sym (encoded-refused _ _ _ _ _ e), sym (left-refused _ _ _ _ _ e))
+    let e = sym (c .before .before .before .check-tag .ensures) ∙ c .before .checked .given .1 in record { answer = sym (encoded-refused _ _ _ _ _ e); lent = sym (left-refused _ _ _ _ _ e) }
 
 same-length : tie.Need-same-length
 same-length c = search needs
@@ -99,7 +99,7 @@ returns-3 c =
     let l₂ = ap length (p₂ .1) ∙ length-sets _ _ y in
     let p₃ = put-fits _ _ (a .«data» .now) _ _ (omega (arith, l₁, l₂, p₁ .0, p₂ .0)) (c .before .before .put-bytes .ensures) in
     let p = put-bytes-field (a .out .now) _ _ _ 0 _ _ _ (a .field) (a .«data» .now) p₁ p₂ p₃ in
-    (ap Bytes (omega (arith, p .0)) ∙ sym (encoded-fits _ _ _ _ f h), p .1 ∙ sym (left-fits _ _ _ _ f h))
+    record { answer = ap Bytes (omega (arith, p .0)) ∙ sym (encoded-fits _ _ _ _ f h); lent = p .1 ∙ sym (left-fits _ _ _ _ f h) }
 
 pub encode-bytes-field-spec : {M : Type 1} → statement M
 encode-bytes-field-spec =

@@ -47,7 +47,7 @@ returns c =
     let e = varint-field-length (a .field) (a .value) in
     let z = ap length (tag-varint (a .field)) in
     let h : length (a .out .now) < length (varintField (a .field) (a .value)) = omega arith in
-    (ap Room (omega arith) ∙ sym (encoded-short _ _ _ _ f h), sym (left-short _ _ _ _ f h))
+    record { answer = ap Room (omega arith) ∙ sym (encoded-short _ _ _ _ f h); lent = sym (left-short _ _ _ _ f h) }
 
 mul-put-uvarint : tie.Need-mul-put-uvarint
 mul-put-uvarint c = let a = c .before .before .before .before .before .before .before .args in let t = fine-tag (a .field) 0 (sym (c .before .before .before .before .before .check-tag .ensures) ∙ c .before .before .before .enum-told .given .1) in omega arith
@@ -60,7 +60,7 @@ put-uvarint-requires-2 c κs = search needs
 
 returns-2 : tie.Need-returns-2
 returns-2 c =
-    let e = sym (c .before .before .before .check-tag .ensures) ∙ c .before .checked .given .1 in (sym (encoded-refused _ _ _ _ _ e), sym (left-refused _ _ _ _ _ e))
+    let e = sym (c .before .before .before .check-tag .ensures) ∙ c .before .checked .given .1 in record { answer = sym (encoded-refused _ _ _ _ _ e); lent = sym (left-refused _ _ _ _ _ e) }
 
 same-length : tie.Need-same-length
 same-length c = search needs
@@ -76,7 +76,7 @@ returns-3 c =
     let l₁ = ap length (p₁ .1) ∙ length-sets (a .out .now) 0 (uvarint (a .field * 8)) in
     let p₂ = put-fits _ _ (uvarint (a .value)) _ _ (omega (arith, l₁, p₁ .0)) (c .before .before .put-uvarint2 .ensures) in
     let p = put-varint-field (a .out .now) _ _ 0 _ _ (a .field) (a .value) (rw (tag-varint (a .field)) p₁) p₂ in
-    (ap Bytes (omega (arith, p .0)) ∙ sym (encoded-fits _ _ _ _ f h), p .1 ∙ sym (left-fits _ _ _ _ f h))
+    record { answer = ap Bytes (omega (arith, p .0)) ∙ sym (encoded-fits _ _ _ _ f h); lent = p .1 ∙ sym (left-fits _ _ _ _ f h) }
 
 pub encode-varint-field-spec : {M : Type 1} → statement M
 encode-varint-field-spec =

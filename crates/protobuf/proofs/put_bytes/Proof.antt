@@ -28,12 +28,12 @@ returns c =
     let a = c .before .before .before .before .before .before .before .before .args in
     let h : a .at + length (a .«data» .now) ≤ length (a .out .now) = leb-true _ _ (sym (c .before .before .before .before .before .has-room .ensures) ∙ c .before .before .before .before .if1 .taken) in
     let e = c .before .before .copy-to .ensures in
-    (e .0 ∙ sym (end-fits _ _ _ _ h), e .1 ∙ sym (set-fits _ _ _ _ h))
+    record { answer = e .0 ∙ sym (end-fits _ _ _ _ h); lent = e .1 ∙ sym (set-fits _ _ _ _ h) }
 
 returns-2 : tie.Need-returns-2
 returns-2 c =
     let h = sym (c .before .has-room .ensures) ∙ c .if1 .left in
-    (sym (end-short _ _ _ _ h), sym (set-short _ _ _ _ h))
+    record { answer = sym (end-short _ _ _ _ h); lent = sym (set-short _ _ _ _ h) }
 
 pub put-bytes-spec : {M : Type 1} → statement M
 put-bytes-spec =

@@ -36,14 +36,14 @@ returns c =
     let u = c .before .uvarint-len .ensures in
     let f : tagRefused (a .field) (a .wire-type) ≡ Fine = sym (c .before .before .before .before .check-tag .ensures) ∙ c .before .before .enum-told .given .1 in
     let h : length (a .out .now) < length (tag (a .field) (a .wire-type)) = omega arith in
-    (ap Room u ∙ sym (encoded-short _ _ _ _ f h), sym (left-short _ _ _ _ f h))
+    record { answer = ap Room u ∙ sym (encoded-short _ _ _ _ f h); lent = sym (left-short _ _ _ _ f h) }
 
 put-uvarint-requires : tie.Need-put-uvarint-requires
 put-uvarint-requires c κs = search needs
 
 returns-2 : tie.Need-returns-2
 returns-2 c =
-    let e = sym (c .before .before .before .check-tag .ensures) ∙ c .before .checked .given .1 in (sym (encoded-refused _ _ _ _ _ e), sym (left-refused _ _ _ _ _ e))
+    let e = sym (c .before .before .before .check-tag .ensures) ∙ c .before .checked .given .1 in record { answer = sym (encoded-refused _ _ _ _ _ e); lent = sym (left-refused _ _ _ _ _ e) }
 
 same-length : tie.Need-same-length
 same-length c = search needs
@@ -56,7 +56,7 @@ returns-3 c =
     let f : tagRefused (a .field) (a .wire-type) ≡ Fine = sym (c .before .before .before .before .before .before .before .before .check-tag .ensures) ∙ c .before .before .before .before .before .before .enum-told .given .1 in
     let h : length (tag (a .field) (a .wire-type)) ≤ length (a .out .now) = omega arith in
     let p = put-fits (a .out .now) 0 (tag (a .field) (a .wire-type)) _ _ (omega arith) (c .before .before .put-uvarint .ensures) in
-    (ap Bytes (omega (arith, p .0)) ∙ sym (encoded-fits _ _ _ _ f h), p .1 ∙ sym (left-fits _ _ _ _ f h))
+    record { answer = ap Bytes (omega (arith, p .0)) ∙ sym (encoded-fits _ _ _ _ f h); lent = p .1 ∙ sym (left-fits _ _ _ _ f h) }
 
 pub write-tag-spec : {M : Type 1} → statement M
 write-tag-spec =

@@ -95,11 +95,11 @@ returns c =
     (r .read-words .ensures)
     (h .read-halves .ensures)
     refl
-    (p₁ .put-bytes .ensures .1)
+    (p₁ .put-bytes .ensures .lent)
     refl
-    (p₂ .put-bytes2 .ensures .1)
+    (p₂ .put-bytes2 .ensures .lent)
     refl
-    (p₃ .put-bytes3 .ensures .1)
+    (p₃ .put-bytes3 .ensures .lent)
 
 pub cache-in-spec : {M : Type 1} → statement M
 cache-in-spec =

@@ -37,7 +37,7 @@ returns c =
     let p = c .before .before .before in
     let r = p .before .before .before .before in
     let start = r .before .before .before in
-    seen-read (start .args .s .now) _ _ _ _ _ (start .pre) (c .before .read-word .ensures) (c .read-word2 .ensures) (r .read-words .ensures) refl (p .put-bytes .ensures .1)
+    seen-read (start .args .s .now) _ _ _ _ _ (start .pre) (c .before .read-word .ensures) (c .read-word2 .ensures) (r .read-words .ensures) refl (p .put-bytes .ensures .lent)
 
 pub seen-in-spec : {M : Type 1} → statement M
 seen-in-spec =

@@ -59,10 +59,10 @@ returns c =
     (c₂ .write-words2 .ensures)
     (c₃ .write-words3 .ensures)
     (c₄ .write-halves .ensures)
-    (c₅ .put-bytes .ensures .1)
-    (c₆ .put-bytes2 .ensures .1)
-    (c₇ .put-bytes3 .ensures .1)
-    (c .put-bytes4 .ensures .1)
+    (c₅ .put-bytes .ensures .lent)
+    (c₆ .put-bytes2 .ensures .lent)
+    (c₇ .put-bytes3 .ensures .lent)
+    (c .put-bytes4 .ensures .lent)
 
 pub store-spec : {M : Type 1} → statement M
 store-spec =

@@ -38,11 +38,11 @@ write-halves-spec =
       search needs,
       (
         put-length 2 (c .before .before .before .before .before .before .before .before .before .args .at + l .i * 2) _ _ _ room
-            (c .before .before .put-little .ensures .1) ∙ (l .inv .1 .0),
+            (c .before .before .put-little .ensures .lent) ∙ (l .inv .1 .0),
         spread-turn 2 _ (l .out) (c .before .before .put-little .last .0)
             (c .before .before .before .before .before .before .before .before .before .args .values .now)
             (c .before .before .before .before .before .before .before .before .before .args .at) (l .i) (search needs) (l .inv .1 .1) room
-            (c .before .before .put-little .ensures .1),
+            (c .before .before .put-little .ensures .lent),
       ),
     ))
     (λ c. search needs)

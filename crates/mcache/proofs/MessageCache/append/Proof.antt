@@ -122,7 +122,7 @@ returns c = let w = next-lies (c .before .before .before .before .before .before
           (bytes-put _ (now (c .before .before .before .before .before .before .before .before .before .before .before .before .before .before .args .id))
           (c .before .before .before .before .before .before .before .before .before .before .before .before .before .before .args .t1 .ids) _
           (omega (arith, (c .before .before .before .before .before .before .before .before .before .before .before .before .before .before .pre .1 .1)))
-          (c .before .before .put-bytes2 .ensures .1)),
+          (c .before .before .put-bytes2 .ensures .lent)),
       appended-store
           (c .before .before .before .before .before .before .before .before .before .before .before .before .before .before .args .t1)
           (c .before .before .before .before .before .before .before .before .before .place .result)
@@ -133,7 +133,7 @@ returns c = let w = next-lies (c .before .before .before .before .before .before
           (bytes-put _ (now (c .before .before .before .before .before .before .before .before .before .before .before .before .before .before .args .part))
           (now (c .before .before .before .before .before .before .before .before .before .before .before .before .before .before .args .store)) _
           (omega (arith, (c .before .before .before .before .before .before .before .before .before .before .before .before .before .before .pre .1 .1)))
-          (c .before .before .before .before .before .before .before .put-bytes .ensures .1)),
+          (c .before .before .before .before .before .before .before .put-bytes .ensures .lent)),
     )
 
 pub append-spec : {M : Type 1} → statement M

@@ -15,7 +15,7 @@ same-length : tie.Need-same-length
 same-length c = search needs
 
 returns : tie.Need-returns
-returns c = let a = c .before .before .before .before .before .before .args in puts-set (a .out .now) (a .at) (a .part .now) _ _ refl (c .before .before .put-bytes .ensures .1)
+returns c = let a = c .before .before .before .before .before .before .args in puts-set (a .out .now) (a .at) (a .part .now) _ _ refl (c .before .before .put-bytes .ensures .lent)
 
 pub emit-bytes-spec : {M : Type 1} → statement M
 emit-bytes-spec = tie.close (tie.spec put-bytes-requires add-result same-length returns)

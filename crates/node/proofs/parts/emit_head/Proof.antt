@@ -14,7 +14,7 @@ same-length c = search needs
 returns : tie.Need-returns
 returns c =
     let a = c .before .before .before .before .before .args in
-    puts-head (a .out .now) (a .n) (a .len) (a .at) _ _ (omega arith) (c .before .before .before .before .before .pre .1) (c .before .before .put-head .ensures .0) (c .before .before .put-head .ensures .1)
+    puts-head (a .out .now) (a .n) (a .len) (a .at) _ _ (omega arith) (c .before .before .before .before .before .pre .1) (c .before .before .put-head .ensures .answer) (c .before .before .put-head .ensures .lent)
 
 pub emit-head-spec : {M : Type 1} → statement M
 emit-head-spec = tie.close (tie.spec put-head-requires same-length returns)

@@ -1,0 +1,151 @@
+-- The contract of each function of the C interface, as a record of what it says of the number that is returned, the
+-- values that are handed out, and every other lent byte; and that it leaves no choice: two results that meet it are the
+-- same. Number and values are those of the answer, as Told of its crate has them, and the other values stay.
+use Prim.Native.Nat.{ℕ}
+use mathlib.Core.Path.{_≡_, sym, _∙_}
+use mathlib.Core.Bool.{Bool, cond}
+use mathlib.Core.List.{List, []}
+use lib.ListN.{length}
+use lib.Seq.{sets}
+use Rattle.basis.specs.declared.Told.{Told}
+use Rattle.basis.specs.Told.{valuesOf}
+use Rattle.protobuf.specs.Told.{encodedTold, walkTold}
+use Rattle.protobuf.specs.Field.{walkStep}
+use Rattle.message.specs.Told.{decodedTold}
+use Rattle.message.specs.Decode.{decodeAnswer, decodeTable}
+use Rattle.ids.specs.Told.{messageTold}
+use Rattle.ids.specs.Ids.{idAnswer, idLeft}
+use Rattle.encode.specs.Encode.{encodeAnswer, encodeLeft}
+use Rattle.encode.specs.Sign.{signAnswer, signLeft}
+use Rattle.node.specs.State.{legalSettings, freshNode}
+use Rattle.node.specs.Told.{startTold, admitTold, beatTold, advertiseTold, askTold, serveTold}
+use Rattle.node.specs.Calls.{startAnswer, planned, admitAnswer, admitNode, admitSeen, admitCache, beatAnswer, beatNode}
+use Rattle.node.specs.Calls.{advertiseAnswer, advertiseLeft, askAnswer, askLeft, serveAnswer, serveLeft}
+use Rattle.stored.specs.Layout.{nodeIn, nodeBytes}
+
+-- ---- the node: its bytes s, the stores ss and cs, and the values vs, as they are lent; then what is returned and left
+pub record Starts (s : List ℕ) (ttl max-seen history max : ℕ) (r : ℕ) (made : List ℕ) : Type 0 where
+  pub number : r ≡ startTold (startAnswer max-seen history max) .number
+  pub node : made
+      ≡ cond (legalSettings max-seen history max) (nodeBytes (freshNode ttl max-seen history max)) s
+
+pub one-start : {s : List ℕ} {ttl max-seen history max r r₂ : ℕ} {made made₂ : List ℕ}
+    → Starts s ttl max-seen history max r made → Starts s ttl max-seen history max r₂ made₂ → (r ≡ r₂)
+    × (made ≡ made₂)
+one-start a b = (a .number ∙ sym (b .number), a .node ∙ sym (b .node))
+
+-- what an admit tells
+abbrev pub admitTells : List ℕ → List ℕ → List ℕ → List ℕ → ℕ → Bool → ℕ → Told
+admitTells s ss cs body i word at =
+    admitTold (admitAnswer (nodeIn s) ss at (planned (nodeIn s) ss cs body i word at))
+
+pub record Admits (s ss cs body : List ℕ) (i : ℕ) (word : Bool) (at : ℕ) (vs : List ℕ) (r : ℕ)
+    (ws made ids messages : List ℕ) : Type 0 where
+  pub number : r ≡ admitTells s ss cs body i word at .number
+  pub values : ws ≡ sets vs 0 (valuesOf (admitTells s ss cs body i word at))
+  pub node : made ≡ nodeBytes (admitNode (nodeIn s) ss at (planned (nodeIn s) ss cs body i word at))
+  pub seen : ids ≡ admitSeen (nodeIn s) ss at (planned (nodeIn s) ss cs body i word at)
+  pub cache : messages ≡ admitCache (nodeIn s) ss cs at (planned (nodeIn s) ss cs body i word at)
+
+pub one-admit : {s ss cs body : List ℕ} {i : ℕ} {word : Bool} {at : ℕ} {vs : List ℕ} {r r₂ : ℕ}
+    {ws ws₂ made made₂ ids ids₂ messages messages₂ : List ℕ}
+    → Admits s ss cs body i word at vs r ws made ids messages
+    → Admits s ss cs body i word at vs r₂ ws₂ made₂ ids₂ messages₂
+    → (r ≡ r₂) × (ws ≡ ws₂) × (made ≡ made₂) × (ids ≡ ids₂) × (messages ≡ messages₂)
+one-admit a b = (
+  a .number ∙ sym (b .number),
+  a .values ∙ sym (b .values),
+  a .node ∙ sym (b .node),
+  a .seen ∙ sym (b .seen),
+  a .cache ∙ sym (b .cache),
+)
+
+pub record Beats (s ss cs : List ℕ) (at : ℕ) (vs : List ℕ) (r : ℕ) (ws made : List ℕ) : Type 0 where
+  pub number : r ≡ beatTold (beatAnswer (nodeIn s) ss cs at) .number
+  pub values : ws ≡ sets vs 0 (valuesOf (beatTold (beatAnswer (nodeIn s) ss cs at)))
+  pub node : made ≡ nodeBytes (beatNode (nodeIn s) ss cs at)
+
+pub one-beat : {s ss cs : List ℕ} {at : ℕ} {vs : List ℕ} {r r₂ : ℕ} {ws ws₂ made made₂ : List ℕ}
+    → Beats s ss cs at vs r ws made → Beats s ss cs at vs r₂ ws₂ made₂ → (r ≡ r₂) × (ws ≡ ws₂) × (made ≡ made₂)
+one-beat a b = (a .number ∙ sym (b .number), a .values ∙ sym (b .values), a .node ∙ sym (b .node))
+
+-- what an advertise, an ask and a serve tell; they are given no node and no store to write
+abbrev pub advertiseTells : List ℕ → List ℕ → List ℕ → List ℕ → ℕ → List ℕ → Told
+advertiseTells s ss cs topic windows out = advertiseTold (advertiseAnswer (nodeIn s) ss cs topic windows out)
+
+pub record Advertises (s ss cs topic : List ℕ) (windows : ℕ) (out vs : List ℕ) (r : ℕ)
+    (ws left : List ℕ) : Type 0 where
+  pub number : r ≡ advertiseTells s ss cs topic windows out .number
+  pub values : ws ≡ sets vs 0 (valuesOf (advertiseTells s ss cs topic windows out))
+  pub buffer : left ≡ advertiseLeft (nodeIn s) ss cs topic windows out
+
+pub one-advertise : {s ss cs topic : List ℕ} {windows : ℕ} {out vs : List ℕ} {r r₂ : ℕ} {ws ws₂ left left₂ : List ℕ}
+    → Advertises s ss cs topic windows out vs r ws left → Advertises s ss cs topic windows out vs r₂ ws₂ left₂
+    → (r ≡ r₂) × (ws ≡ ws₂) × (left ≡ left₂)
+one-advertise a b = (a .number ∙ sym (b .number), a .values ∙ sym (b .values), a .buffer ∙ sym (b .buffer))
+
+pub record Asks (s ss cs body out vs : List ℕ) (r : ℕ) (ws left : List ℕ) : Type 0 where
+  pub number : r ≡ askTold (askAnswer (nodeIn s) ss cs body out) .number
+  pub values : ws ≡ sets vs 0 (valuesOf (askTold (askAnswer (nodeIn s) ss cs body out)))
+  pub buffer : left ≡ askLeft (nodeIn s) ss cs body out
+
+pub one-ask : {s ss cs body out vs : List ℕ} {r r₂ : ℕ} {ws ws₂ left left₂ : List ℕ}
+    → Asks s ss cs body out vs r ws left → Asks s ss cs body out vs r₂ ws₂ left₂
+    → (r ≡ r₂) × (ws ≡ ws₂) × (left ≡ left₂)
+one-ask a b = (a .number ∙ sym (b .number), a .values ∙ sym (b .values), a .buffer ∙ sym (b .buffer))
+
+pub record Serves (s ss cs body out vs : List ℕ) (r : ℕ) (ws left : List ℕ) : Type 0 where
+  pub number : r ≡ serveTold (serveAnswer (nodeIn s) ss cs body out) .number
+  pub values : ws ≡ sets vs 0 (valuesOf (serveTold (serveAnswer (nodeIn s) ss cs body out)))
+  pub buffer : left ≡ serveLeft (nodeIn s) ss cs body out
+
+pub one-serve : {s ss cs body out vs : List ℕ} {r r₂ : ℕ} {ws ws₂ left left₂ : List ℕ}
+    → Serves s ss cs body out vs r ws left → Serves s ss cs body out vs r₂ ws₂ left₂
+    → (r ≡ r₂) × (ws ≡ ws₂) × (left ≡ left₂)
+one-serve a b = (a .number ∙ sym (b .number), a .values ∙ sym (b .values), a .buffer ∙ sym (b .buffer))
+
+-- ---- bodies
+pub record Encodes (body out vs : List ℕ) (r : ℕ) (ws left : List ℕ) : Type 0 where
+  pub number : r ≡ encodedTold (encodeAnswer body out) .number
+  pub values : ws ≡ sets vs 0 (valuesOf (encodedTold (encodeAnswer body out)))
+  pub buffer : left ≡ encodeLeft body out
+
+pub one-encode : {body out vs : List ℕ} {r r₂ : ℕ} {ws ws₂ left left₂ : List ℕ} → Encodes body out vs r ws left
+    → Encodes body out vs r₂ ws₂ left₂ → (r ≡ r₂) × (ws ≡ ws₂) × (left ≡ left₂)
+one-encode a b = (a .number ∙ sym (b .number), a .values ∙ sym (b .values), a .buffer ∙ sym (b .buffer))
+
+pub record Signs (body : List ℕ) (i : ℕ) (out vs : List ℕ) (r : ℕ) (ws left : List ℕ) : Type 0 where
+  pub number : r ≡ messageTold (signAnswer body i out) .number
+  pub values : ws ≡ sets vs 0 (valuesOf (messageTold (signAnswer body i out)))
+  pub buffer : left ≡ signLeft body i out
+
+pub one-sign : {body : List ℕ} {i : ℕ} {out vs : List ℕ} {r r₂ : ℕ} {ws ws₂ left left₂ : List ℕ}
+    → Signs body i out vs r ws left → Signs body i out vs r₂ ws₂ left₂ → (r ≡ r₂) × (ws ≡ ws₂) × (left ≡ left₂)
+one-sign a b = (a .number ∙ sym (b .number), a .values ∙ sym (b .values), a .buffer ∙ sym (b .buffer))
+
+pub record Identifies (body : List ℕ) (i : ℕ) (out vs : List ℕ) (r : ℕ) (ws left : List ℕ) : Type 0 where
+  pub number : r ≡ messageTold (idAnswer [] body i out) .number
+  pub values : ws ≡ sets vs 0 (valuesOf (messageTold (idAnswer [] body i out)))
+  pub buffer : left ≡ idLeft [] body i out
+
+pub one-id : {body : List ℕ} {i : ℕ} {out vs : List ℕ} {r r₂ : ℕ} {ws ws₂ left left₂ : List ℕ}
+    → Identifies body i out vs r ws left → Identifies body i out vs r₂ ws₂ left₂
+    → (r ≡ r₂) × (ws ≡ ws₂) × (left ≡ left₂)
+one-id a b = (a .number ∙ sym (b .number), a .values ∙ sym (b .values), a .buffer ∙ sym (b .buffer))
+
+pub record Decodes (body t vs : List ℕ) (r : ℕ) (ws rows : List ℕ) : Type 0 where
+  pub number : r ≡ decodedTold (decodeAnswer body (length t)) .number
+  pub values : ws ≡ sets vs 0 (valuesOf (decodedTold (decodeAnswer body (length t))))
+  pub table : rows ≡ decodeTable body t
+
+pub one-decode : {body t vs : List ℕ} {r r₂ : ℕ} {ws ws₂ rows rows₂ : List ℕ} → Decodes body t vs r ws rows
+    → Decodes body t vs r₂ ws₂ rows₂ → (r ≡ r₂) × (ws ≡ ws₂) × (rows ≡ rows₂)
+one-decode a b = (a .number ∙ sym (b .number), a .values ∙ sym (b .values), a .table ∙ sym (b .table))
+
+pub record Walks (body : List ℕ) (at : ℕ) (vs : List ℕ) (r : ℕ) (ws : List ℕ) : Type 0 where
+  pub number : r ≡ walkTold (walkStep body at) .number
+  pub values : ws ≡ sets vs 0 (valuesOf (walkTold (walkStep body at)))
+
+pub one-walk : {body : List ℕ} {at : ℕ} {vs : List ℕ} {r r₂ : ℕ} {ws ws₂ : List ℕ} → Walks body at vs r ws
+    → Walks body at vs r₂ ws₂ → (r ≡ r₂) × (ws ≡ ws₂)
+one-walk a b = (a .number ∙ sym (b .number), a .values ∙ sym (b .values))
