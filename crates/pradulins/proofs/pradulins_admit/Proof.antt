@@ -23,11 +23,11 @@ pradulins-admit-spec =
     let did = c .before .before .before .before .before .before .before .before .before .before .admit .ensures in
     let t = told-as admitTold
     (now (c .before .before .before .before .before .before .before .before .before .before .before .before .before .before .before .before .before .before
-    .args .values)) (rw node at (did .0)) (c .before .before .told-admit .ensures) (c .tell .ensures) in
+    .args .values)) (rw node at (did .answer)) (c .before .before .told-admit .ensures) (c .tell .ensures) in
     record {
       number = t .0;
       values = t .1;
-      node = (c .before .before .before .store .ensures) ∙ ap nodeBytes (rw node at (did .1 .0));
-      seen = rw node at (did .1 .1 .0);
-      cache = rw node at (did .1 .1 .1);
+      node = (c .before .before .before .store .ensures) ∙ ap nodeBytes (rw node at (did .node));
+      seen = rw node at (did .seen);
+      cache = rw node at (did .cache);
     }))

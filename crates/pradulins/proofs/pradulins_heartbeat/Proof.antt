@@ -20,9 +20,9 @@ pradulins-heartbeat-spec =
     (λ c. let node = c .before .before .before .before .before .before .before .load .ensures in
     let did = c .before .before .before .before .before .before .heartbeat .ensures in
     let t = told-as beatTold (now (c .before .before .before .before .before .before .before .before .before .before .before .args .values))
-    (rw node at (did .0)) (c .before .before .told-beat .ensures) (c .tell .ensures) in
+    (rw node at (did .answer)) (c .before .before .told-beat .ensures) (c .tell .ensures) in
     record {
       number = t .0;
       values = t .1;
-      node = (c .before .before .before .store .ensures) ∙ ap nodeBytes (rw node at (did .1));
+      node = (c .before .before .before .store .ensures) ∙ ap nodeBytes (rw node at (did .node));
     }))
