@@ -1,7 +1,5 @@
 // The lines of the answers whose text is fixed by what the call tells.
-ghost use Prim.Native.Nat.{_≤_};
-ghost use lib.ListN.{length};
-ghost use Rattle.lines.specs.Lines.{Holds};
+ghost use Rattle.lines.specs.Lines.{Wrote};
 ghost use Rattle.caches.specs.Lines.{insertLine, containsLine, cleanLine, nextLine, putLine, shiftLine};
 use basis::Told;
 use lines::either_line;
@@ -10,8 +8,7 @@ use lines::refusal_line;
 use lines::told_line;
 
 pub(crate) fn insert_line(n: u64, t: Told, out: &mut [u8]) -> usize
-    requires { ⌜ 192 ≤ length (now out) ⌝ }
-    ensures { λ r. ⌜ Holds (insertLine n t) (now (out .exit)) r ⌝ }
+    ensures { λ r. ⌜ Wrote 192 (insertLine n t) (now (out .entry)) 0 (now (out .exit)) r ⌝ }
 {
     either_line(
         n,
@@ -25,8 +22,7 @@ pub(crate) fn insert_line(n: u64, t: Told, out: &mut [u8]) -> usize
 }
 
 pub(crate) fn contains_line(n: u64, t: Told, out: &mut [u8]) -> usize
-    requires { ⌜ 192 ≤ length (now out) ⌝ }
-    ensures { λ r. ⌜ Holds (containsLine n t) (now (out .exit)) r ⌝ }
+    ensures { λ r. ⌜ Wrote 192 (containsLine n t) (now (out .entry)) 0 (now (out .exit)) r ⌝ }
 {
     either_line(
         n,
@@ -40,8 +36,7 @@ pub(crate) fn contains_line(n: u64, t: Told, out: &mut [u8]) -> usize
 }
 
 pub(crate) fn clean_line(n: u64, t: Told, out: &mut [u8]) -> usize
-    requires { ⌜ 192 ≤ length (now out) ⌝ }
-    ensures { λ r. ⌜ Holds (cleanLine n t) (now (out .exit)) r ⌝ }
+    ensures { λ r. ⌜ Wrote 192 (cleanLine n t) (now (out .entry)) 0 (now (out .exit)) r ⌝ }
 {
     if t.number == 0 {
         return number_line(n, b" clean", t.first, out);
@@ -50,8 +45,7 @@ pub(crate) fn clean_line(n: u64, t: Told, out: &mut [u8]) -> usize
 }
 
 pub(crate) fn next_line(n: u64, t: Told, out: &mut [u8]) -> usize
-    requires { ⌜ 192 ≤ length (now out) ⌝ }
-    ensures { λ r. ⌜ Holds (nextLine n t) (now (out .exit)) r ⌝ }
+    ensures { λ r. ⌜ Wrote 192 (nextLine n t) (now (out .entry)) 0 (now (out .exit)) r ⌝ }
 {
     if t.count == 1 {
         return number_line(n, b" next", t.first, out);
@@ -60,15 +54,13 @@ pub(crate) fn next_line(n: u64, t: Told, out: &mut [u8]) -> usize
 }
 
 pub(crate) fn put_line(n: u64, t: Told, out: &mut [u8]) -> usize
-    requires { ⌜ 192 ≤ length (now out) ⌝ }
-    ensures { λ r. ⌜ Holds (putLine n t) (now (out .exit)) r ⌝ }
+    ensures { λ r. ⌜ Wrote 192 (putLine n t) (now (out .entry)) 0 (now (out .exit)) r ⌝ }
 {
     either_line(n, b" put stored", b" put held", b" put", true, t, out)
 }
 
 pub(crate) fn shift_line(n: u64, t: Told, out: &mut [u8]) -> usize
-    requires { ⌜ 192 ≤ length (now out) ⌝ }
-    ensures { λ r. ⌜ Holds (shiftLine n t) (now (out .exit)) r ⌝ }
+    ensures { λ r. ⌜ Wrote 192 (shiftLine n t) (now (out .entry)) 0 (now (out .exit)) r ⌝ }
 {
     told_line(n, b" shift ok", b" shift", true, t, out)
 }

@@ -5,6 +5,7 @@ use super::answers::put_line;
 use super::answers::shift_line;
 use super::say::last;
 use super::say::print;
+use super::say::print_line;
 use super::say::start;
 use lines::refusal_line;
 use lines::told_line;
@@ -63,7 +64,7 @@ fn begin(n: u64, content: &[u8], part: CachePart, out: &mut [u8]) -> CachePart
     let s = MessageCache::new(history_len, max_messages);
     let answer = s.answer;
     let k = told_line(n, b" cache ok", b" cache", true, told_start(answer), out);
-    let go = io::write_all(1, &out[..k]);
+    let go = print_line(out, k);
     match answer {
         Start::BadSetting => with_go(part, go),
         Start::Started => CachePart {
@@ -87,7 +88,7 @@ fn put(n: u64, content: &[u8], part: CachePart, store: &mut [u8], out: &mut [u8]
     let answer = r.answer;
     let left = r.cache;
     let k = put_line(n, told_put(answer), out);
-    let go = io::write_all(1, &out[..k]);
+    let go = print_line(out, k);
     CachePart {
         go,
         started: true,
@@ -107,7 +108,7 @@ fn shift(n: u64, content: &[u8], part: CachePart, store: &[u8], out: &mut [u8]) 
     let answer = r.answer;
     let left = r.cache;
     let k = shift_line(n, told_lent(answer), out);
-    let go = io::write_all(1, &out[..k]);
+    let go = print_line(out, k);
     CachePart {
         go,
         started: true,
@@ -156,7 +157,7 @@ fn say_gossip(n: u64, cache: MessageCache, g: GossipIds, out: &mut [u8]) -> bool
         return say_ids(n, &id_lens, &ids, &rows, g.count, out);
     }
     let k = refusal_line(n, b" gossip", true, t, out);
-    io::write_all(1, &out[..k])
+    print_line(out, k)
 }
 
 // Kind 9.
@@ -192,8 +193,15 @@ fn get(n: u64, content: &[u8], part: CachePart, store: &[u8], out: &mut [u8]) ->
         return with_go(part, found);
     }
     let k = told_line(n, b" get -", b" get", true, told_lookup(answer), out);
-    let go = io::write_all(1, &out[..k]);
+    let go = print_line(out, k);
     with_go(part, go)
+}
+
+// How long the store is for such a setting.
+fn places_len(max_messages: usize) -> usize
+    ensures { λ r. ⌜ r ≤ 262144 ⌝ }
+{
+    if max_messages <= 64 { max_messages * 4096 } else { 0 }
 }
 
 // A call on a part that was started, with its places of the store.
@@ -224,20 +232,16 @@ pub(crate) fn cache_turn(
     store: &mut [u8],
     out: &mut [u8],
 ) -> CachePart
+    requires { ⌜ 262144 ≤ length (now store) ⌝ }
     requires { ⌜ 192 ≤ length (now out) ⌝ }
 {
     if kind == 6 {
         return begin(n, content, part, out);
     }
-    let cache = part.cache;
-    let max = cache.max_messages;
     if part.started {
-        if max <= 64 {
-            let end = max * 4096;
-            if end <= store.len() {
-                return call(n, kind, content, part, &mut store[..end], out);
-            }
-        }
+        let cache = part.cache;
+        let end = places_len(cache.max_messages);
+        return call(n, kind, content, part, &mut store[..end], out);
     }
     bad(part)
 }

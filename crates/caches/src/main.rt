@@ -36,6 +36,8 @@ fn play(
     cache_store: &mut [u8],
     out: &mut [u8],
 ) -> Run
+    requires { ⌜ 33024 ≤ length (now «seen_store») ⌝ }
+    requires { ⌜ 262144 ≤ length (now «cache_store») ⌝ }
     requires { ⌜ 192 ≤ length (now out) ⌝ }
 {
     let seen = run.seen;
@@ -76,8 +78,10 @@ fn turn(
     cache_store: &mut [u8],
     out: &mut [u8],
 ) -> Run
-    requires { ⌜ 192 ≤ length (now out) ⌝ }
     requires { ⌜ 65600 ≤ length (now content) ⌝ }
+    requires { ⌜ 33024 ≤ length (now «seen_store») ⌝ }
+    requires { ⌜ 262144 ≤ length (now «cache_store») ⌝ }
+    requires { ⌜ 192 ≤ length (now out) ⌝ }
 {
     let h = next_record(content, 65600);
     match h {

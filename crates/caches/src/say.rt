@@ -1,9 +1,18 @@
 // Lines of answers. A line that does not fit is cut; none of the program's is so long.
+ghost use Prim.Native.Nat.{_≤_};
+ghost use lib.ListN.{length};
 
 // Prints the word that ends the run.
 pub(crate) fn last(word: &[u8]) -> bool {
     io::write_all(1, word);
     false
+}
+
+// Prints a line of k bytes. Answers whether it was printed.
+pub(crate) fn print_line(out: &[u8], k: usize) -> bool
+    requires { ⌜ k ≤ length (now out) ⌝ }
+{
+    io::write_all(1, &out[..k])
 }
 
 // Prints the first k bytes and a newline. Answers whether they were printed.

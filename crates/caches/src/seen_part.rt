@@ -6,6 +6,7 @@ use super::answers::contains_line;
 use super::answers::insert_line;
 use super::answers::next_line;
 use super::say::last;
+use super::say::print_line;
 use super::say::say;
 use seen::SeenCache;
 use seen::told::told_contains;
@@ -88,7 +89,7 @@ fn insert(n: u64, content: &[u8], part: SeenPart, store: &mut [u8], out: &mut [u
     let r = cache.insert(store, &content[18..], now, ttl, max);
     let answer = r.answer;
     let k = insert_line(n, told_insert(answer), out);
-    let go = io::write_all(1, &out[..k]);
+    let go = print_line(out, k);
     with_cache(part, r.cache, go)
 }
 
@@ -104,7 +105,7 @@ fn clean(n: u64, content: &[u8], part: SeenPart, store: &[u8], out: &mut [u8]) -
     let r = cache.gc(store, now);
     let answer = r.answer;
     let k = clean_line(n, told_gc(answer), out);
-    let go = io::write_all(1, &out[..k]);
+    let go = print_line(out, k);
     with_cache(part, r.cache, go)
 }
 
@@ -118,7 +119,7 @@ fn next(n: u64, content: &[u8], part: SeenPart, store: &[u8], out: &mut [u8]) ->
     let cache = part.cache;
     let answer = cache.next_expiry(store);
     let k = next_line(n, told_next(answer), out);
-    let go = io::write_all(1, &out[..k]);
+    let go = print_line(out, k);
     with_go(part, go)
 }
 
@@ -129,8 +130,15 @@ fn contains(n: u64, content: &[u8], part: SeenPart, store: &[u8], out: &mut [u8]
     let cache = part.cache;
     let answer = cache.contains(store, content);
     let k = contains_line(n, told_contains(answer), out);
-    let go = io::write_all(1, &out[..k]);
+    let go = print_line(out, k);
     with_go(part, go)
+}
+
+// How long the store is for so many rows.
+fn rows_len(rows: usize) -> usize
+    ensures { λ r. ⌜ r ≤ 33024 ⌝ }
+{
+    if rows <= 256 { rows * 129 } else { 0 }
 }
 
 // A call on a part that was started, with its rows of the store.
@@ -161,19 +169,15 @@ pub(crate) fn seen_turn(
     store: &mut [u8],
     out: &mut [u8],
 ) -> SeenPart
+    requires { ⌜ 33024 ≤ length (now store) ⌝ }
     requires { ⌜ 192 ≤ length (now out) ⌝ }
 {
     if kind == 1 {
         return begin(n, content, part, out);
     }
-    let rows = part.rows;
     if part.started {
-        if rows <= 256 {
-            let end = rows * 129;
-            if end <= store.len() {
-                return call(n, kind, content, part, &mut store[..end], out);
-            }
-        }
+        let end = rows_len(part.rows);
+        return call(n, kind, content, part, &mut store[..end], out);
     }
     bad(part)
 }

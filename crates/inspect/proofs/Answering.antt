@@ -1,23 +1,25 @@
 -- What the pieces of a line make together.
-use Prim.Native.Nat.{ℕ, _-_, _≤_, _<_}
-use mathlib.Core.Path.{_≡_, refl, sym}
+use Prim.Native.Nat.{ℕ, _+_, _-_, _≤_, _<_}
+use mathlib.Core.Path.{_≡_, refl, sym, _∙_}
 use mathlib.Core.List.{List, [], _∷_, _++_}
 use mathlib.Core.Logic.{_≢_}
 use mathlib.Core.Bool.{true, false}
 use native.Mathlib.Omega.{arith}
 use lib.ListN.{length, take, drop, length-drop, length-take}
 use lib.Seq.{take-all}
-use borrow.Author.Tests.{lt-ltb, le-ltb, ne-eqb}
+use lib.Dec.{leb, ltb}
+use borrow.Author.Tests.{ltb-true, ltb-false, lt-ltb, le-ltb, le-leb, lt-leb, ne-eqb}
+use Rattle.basis.specs.Cases.{either}
 use Rattle.basis.specs.Little.{little}
 use Rattle.text.specs.Line.{Puts, decimal}
-use Rattle.text.specs.Laws.{puts-then}
+use Rattle.text.specs.Laws.{puts-then, puts-as}
 use Rattle.peer_id.specs.declared.Uvarint.{Uvarint}
 use Rattle.peer_id.specs.Uvarint.{readUvarint}
 use Rattle.utf8.specs.Utf8.{isUtf8}
 use Rattle.protobuf.specs.declared.Walk.{Walk}
 use Rattle.protobuf.specs.Field.{walkStep}
-use Rattle.lines.specs.Lines.{Holds}
-use Rattle.lines.specs.Laws.{holds-none, holds-as, puts-holds}
+use Rattle.lines.specs.Lines.{Wrote}
+use Rattle.lines.specs.Laws.{wrote-as, puts-wrote}
 use Rattle.inspect.specs.Answers.{walk, varint, walkAnswer, varintAnswer, utf8Answer, answerTo, closed, lineOf}
 
 -- ---- an answer
@@ -60,27 +62,43 @@ pub kind-unknown : (kind : ℕ) (s : List ℕ) → kind ≢ 5 → kind ≢ 6 →
 unfolding answerTo
 kind-unknown kind s a b c = simp (ne-eqb _ _ a, ne-eqb _ _ b, ne-eqb _ _ c)
 
--- ---- a line
-closed-none : (n : ℕ) (xs : List ℕ) → length xs ≡ 0 → [] ≡ closed n xs
-unfolding closed
-closed-none n [] h = refl
-closed-none n (x ∷ xs) h = absurd (omega arith)
+-- ---- whether there is an answer
+walk-some : (s : List ℕ) → 8 ≤ length s → 0 < length (walkAnswer s)
+unfolding walkAnswer
+walk-some s h = simp (le-ltb _ _ h) (omega arith)
 
+walk-there : (s : List ℕ) → leb 8 (length s) ≡ ltb 0 (length (walkAnswer s))
+walk-there s =
+    either (ltb (length s) 8)
+    (λ e. let h = ltb-true (length s) 8 e in lt-leb 8 (length s) h ∙ rw (← walk-short s h))
+    (λ e. let h = ltb-false (length s) 8 e in le-leb 8 (length s) h ∙ sym (lt-ltb 0 (length (walkAnswer s)) (walk-some s h)))
+
+pub has-walk : (kind : ℕ) (s : List ℕ) → kind ≡ 5 → leb 8 (length s) ≡ ltb 0 (length (answerTo kind s))
+has-walk kind s e = rw (← kind-walk kind s e) (walk-there s)
+
+pub has-varint : (kind : ℕ) (s : List ℕ) → kind ≡ 6 → true ≡ ltb 0 (length (answerTo kind s))
+unfolding varintAnswer
+has-varint kind s e = rw (← kind-varint kind s e) (sym (lt-ltb 0 (length (varintAnswer s)) (omega arith)))
+
+pub has-utf8 : (kind : ℕ) (s : List ℕ) → kind ≡ 7 → true ≡ ltb 0 (length (answerTo kind s))
+unfolding utf8Answer
+has-utf8 kind s e = rw (← kind-utf8 kind s e) (sym (lt-ltb 0 (length (utf8Answer s)) (omega arith)))
+
+pub has-none : (kind : ℕ) (s : List ℕ) → kind ≢ 5 → kind ≢ 6 → kind ≢ 7 → false ≡ ltb 0 (length (answerTo kind s))
+has-none kind s a b c = rw (← kind-unknown kind s a b c)
+
+-- ---- a line
 closed-some : (n : ℕ) (xs : List ℕ) → 0 < length xs → decimal n ++ (xs ++ (10 ∷ [])) ≡ closed n xs
 unfolding closed
 closed-some n [] h = absurd (omega arith)
 closed-some n (x ∷ xs) h = refl
 
--- no answer, no line
-pub line-none : (n kind : ℕ) (s out : List ℕ) {p i j : ℕ} {b a : List ℕ} → Puts p (answerTo kind s) b i a j → j ≡ i → Holds (lineOf n kind s) out 0
+pub line-put : (n kind : ℕ) (s : List ℕ) {p q o i j r : ℕ} {b m a z : List ℕ} → 0 < length (answerTo kind s)
+    → Puts p (decimal n) b 0 m i → Puts q (answerTo kind s) m i a j → Puts o (10 ∷ []) a j z r → p + (q + o) ≤ 131328
+    → 131328 ≤ length b → Wrote 131328 (lineOf n kind s) b 0 z r
 unfolding lineOf
-line-none n kind s out f e = holds-none out (closed-none n (answerTo kind s) (omega arith))
-
-pub line-some : (n kind : ℕ) (s : List ℕ) {p q o i j r : ℕ} {b m a z : List ℕ} → Puts p (decimal n) b 0 m i → Puts q (answerTo kind s) m i a j → Puts o (10 ∷ []) a j z r → j ≢ i → r ≤ length b → Holds (lineOf n kind s) z r
-unfolding lineOf
-line-some n kind s f g e h l =
-    let k : 0 < length (answerTo kind s) = omega arith in
-    holds-as (closed-some n (answerTo kind s) k) (puts-holds (puts-then f (puts-then g e)) l)
+line-put n kind s k f g e h l =
+    wrote-as (closed-some n (answerTo kind s) k) (puts-wrote l (puts-as refl h (puts-then f (puts-then g e))))
 
 -- a part of a slice is no longer
 pub front-small : (k m : ℕ) (l : List ℕ) → k ≤ m → length (take k l) ≤ m

@@ -4,10 +4,12 @@
 mod made;
 mod records;
 
-ghost use Prim.Native.Nat.{_+_, _≤_};
+ghost use Prim.Native.Nat.{_+_, _≤_, _<_};
+ghost use mathlib.Core.Path.{_≡_};
 ghost use lib.ListN.{length};
+ghost use lib.Dec.{ltb};
 ghost use Rattle.text.specs.Line.{Puts};
-ghost use Rattle.lines.specs.Lines.{Holds};
+ghost use Rattle.lines.specs.Lines.{Wrote};
 ghost use Rattle.inspect.specs.Answers.{walk, varint, walkAnswer, varintAnswer, utf8Answer, answerTo, lineOf};
 use ids::told::told_message;
 use lines::end_line;
@@ -116,17 +118,34 @@ fn answer(kind: u64, content: &[u8], out: &mut [u8], at: usize) -> usize
     }
 }
 
-// Puts the line of record n at the front of out and says how long it is: 0 where the record is bad.
+// Whether there is an answer. The record is bad where there is none.
+fn has_answer(kind: u64, content: &[u8]) -> bool
+    ensures { λ r. ⌜ r ≡ ltb 0 (length (answerTo kind (now (content .entry)))) ⌝ }
+{
+    match kind {
+        5 => 8 <= content.len(),
+        6 => true,
+        7 => true,
+        _ => false,
+    }
+}
+
+// Puts the line of record n at the front of out and says how long it is.
 fn line(n: u64, kind: u64, content: &[u8], out: &mut [u8]) -> usize
+    requires { ⌜ 0 < length (answerTo kind (now content)) ⌝ }
     requires { ⌜ 131328 ≤ length (now out) ⌝ }
-    ensures { λ r. ⌜ Holds (lineOf n kind (now (content .entry))) (now (out .exit)) r ⌝ }
+    ensures { λ r. ⌜ Wrote 131328 (lineOf n kind (now (content .entry))) (now (out .entry)) 0 (now (out .exit)) r ⌝ }
 {
     let i = start_line(out, n);
     let j = answer(kind, content, out, i);
-    if j == i {
-        return 0;
-    }
     end_line(out, j)
+}
+
+// Prints a line of k bytes. Answers whether it was printed.
+fn print(out: &[u8], k: usize) -> bool
+    requires { ⌜ k ≤ length (now out) ⌝ }
+{
+    io::write_all(1, &out[..k])
 }
 
 // Prints the word that ends the run.
@@ -143,7 +162,7 @@ fn print_rows(body: &[u8], table: &[u64], count: usize, out: &mut [u8]) -> bool
     let mut row = 0;
     while row < count {
         let k = row_line(body, table, row, out);
-        if !io::write_all(1, &out[..k]) {
+        if !print(out, k) {
             return false;
         }
         row += 1;
@@ -159,7 +178,7 @@ fn reply_decode(n: u64, body: &[u8], table: &mut [u64], out: &mut [u8]) -> bool
     let d = message::decode(body, table);
     let t = told_decoded(d);
     let k = decode_line(n, t, out);
-    if !io::write_all(1, &out[..k]) {
+    if !print(out, k) {
         return false;
     }
     let count = records_in(t);
@@ -173,7 +192,7 @@ fn reply_encode(n: u64, body: &[u8], made: &mut [u8], out: &mut [u8]) -> bool
 {
     let e = encode::encode(body, made);
     let k = encode_line(n, made, told_encoded(e), out);
-    io::write_all(1, &out[..k])
+    print(out, k)
 }
 
 // Kind 3: the index, and then the body.
@@ -187,7 +206,7 @@ fn reply_sign(n: u64, content: &[u8], made: &mut [u8], out: &mut [u8]) -> bool
     let index = basis::little_at(content, 0, 2);
     let r = encode::sign_bytes(&content[2..], index as usize, made);
     let k = sign_line(n, made, told_message(r), out);
-    io::write_all(1, &out[..k])
+    print(out, k)
 }
 
 // Kind 4: the index, and then the body.
@@ -201,7 +220,7 @@ fn reply_id(n: u64, content: &[u8], made: &mut [u8], out: &mut [u8]) -> bool
     let index = basis::little_at(content, 0, 2);
     let r = ids::message_id(&content[2..], index as usize, made);
     let k = id_line(n, made, told_message(r), out);
-    io::write_all(1, &out[..k])
+    print(out, k)
 }
 
 // The kinds that write bytes, each with its buffer, and then the others.
@@ -218,11 +237,11 @@ fn reply_line(n: u64, kind: u64, content: &[u8], made: &mut [u8], out: &mut [u8]
     if kind == 4 {
         return reply_id(n, content, &mut made[..65536], out);
     }
-    let k = line(n, kind, content, out);
-    if k == 0 {
-        return last(b"bad\n");
+    if has_answer(kind, content) {
+        let k = line(n, kind, content, out);
+        return print(out, k);
     }
-    io::write_all(1, &out[..k])
+    last(b"bad\n")
 }
 
 // Reads the content of record n and prints its line. Answers whether to go on.

@@ -6,7 +6,7 @@ ghost use mathlib.Core.List.{[], _∷_, _++_};
 ghost use lib.ListN.{length};
 ghost use Rattle.text.specs.Line.{Puts};
 ghost use Rattle.message.specs.Rows.{recordAt};
-ghost use Rattle.lines.specs.Lines.{Holds};
+ghost use Rattle.lines.specs.Lines.{Wrote};
 ghost use Rattle.inspect.specs.Records.{bytesText, placeText, countText, flagText, subText, messageText, pruneText, peerText, recordText, recordLine, rowLine, decodedText, decodeLine, recordsIn};
 use basis::Told;
 use lines::end_line;
@@ -173,7 +173,7 @@ fn put_record(out: &mut [u8], s: &[u8], kind: Kind, slots: Slots) -> usize
 fn record_line(body: &[u8], found: Record, out: &mut [u8]) -> usize
     requires { ⌜ length (now body) ≤ 65600 ⌝ }
     requires { ⌜ 787456 ≤ length (now out) ⌝ }
-    ensures { λ r. ⌜ Holds (recordLine (now (body .entry)) found) (now (out .exit)) r ⌝ }
+    ensures { λ r. ⌜ Wrote 787456 (recordLine (now (body .entry)) found) (now (out .entry)) 0 (now (out .exit)) r ⌝ }
 {
     let start = found.start;
     let end = found.end;
@@ -192,7 +192,7 @@ fn record_line(body: &[u8], found: Record, out: &mut [u8]) -> usize
 pub(crate) fn row_line(body: &[u8], table: &[u64], row: usize, out: &mut [u8]) -> usize
     requires { ⌜ length (now body) ≤ 65600 ⌝ }
     requires { ⌜ 787456 ≤ length (now out) ⌝ }
-    ensures { λ r. ⌜ Holds (rowLine (now (body .entry)) (recordAt (now (table .entry)) row)) (now (out .exit)) r ⌝ }
+    ensures { λ r. ⌜ Wrote 787456 (rowLine (now (body .entry)) (recordAt (now (table .entry)) row)) (now (out .entry)) 0 (now (out .exit)) r ⌝ }
 {
     let at = message::record_at(table, row);
     match at {
@@ -217,7 +217,7 @@ fn put_decoded(out: &mut [u8], at: usize, t: Told) -> usize
 // Puts the line of record n at the front of out and says how long it is.
 pub(crate) fn decode_line(n: u64, t: Told, out: &mut [u8]) -> usize
     requires { ⌜ 192 ≤ length (now out) ⌝ }
-    ensures { λ r. ⌜ Holds (decodeLine n t) (now (out .exit)) r ⌝ }
+    ensures { λ r. ⌜ Wrote 192 (decodeLine n t) (now (out .entry)) 0 (now (out .exit)) r ⌝ }
 {
     if t.number == 0 {
         let i = start_line(out, n);

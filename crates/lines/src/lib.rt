@@ -1,32 +1,31 @@
-// Lines and their pieces, for the programs that answer records: callers see to the room.
+// Lines and their pieces, for the programs that answer records. A writer wants a number of bytes, the same for each of its texts; where they are
+// not there, nothing is written, and the place comes back as it was.
 ghost use mathlib.Core.Path.{_≡_};
-ghost use Prim.Native.Nat.{_+_, _-_, _≤_, _<_};
+ghost use Prim.Native.Nat.{_+_, _-_, _≤_};
 ghost use mathlib.Core.Bool.{cond};
 ghost use mathlib.Core.List.{[], _∷_, _++_};
 ghost use lib.ListN.{length, take};
 ghost use Rattle.text.specs.Line.{Puts, decimal, number, numbers, refused};
-ghost use Rattle.lines.specs.Lines.{Holds, refusal, shownText, wordsLine, numberLine, refusalLine, toldLine, eitherLine, bytesLine, madeLine};
+ghost use Rattle.lines.specs.Lines.{Wrote, refusal, shownText, wordsLine, numberLine, refusalLine};
+ghost use Rattle.lines.specs.Lines.{toldLine, eitherLine, bytesLine, madeLine};
 use basis::Told;
 
 pub fn put_word(out: &mut [u8], at: usize, word: &[u8]) -> usize
-    requires { ⌜ at + length (now word) ≤ length (now out) ⌝ }
-    ensures { λ r. ⌜ Puts (length (now (word .entry))) (now (word .entry)) (now (out .entry)) at (now (out .exit)) r ⌝ }
+    ensures { λ r. ⌜ Wrote (length (now (word .entry))) (now (word .entry)) (now (out .entry)) at (now (out .exit)) r ⌝ }
 {
     text::put_text(out, at, word)
 }
 
 // A record's number, at the front of its line.
 pub fn start_line(out: &mut [u8], n: u64) -> usize
-    requires { ⌜ 20 ≤ length (now out) ⌝ }
-    ensures { λ r. ⌜ Puts 20 (decimal n) (now (out .entry)) 0 (now (out .exit)) r ⌝ }
+    ensures { λ r. ⌜ Wrote 20 (decimal n) (now (out .entry)) 0 (now (out .exit)) r ⌝ }
 {
     text::put_decimal(out, 0, n)
 }
 
 // A blank and a number.
 pub fn put_value(out: &mut [u8], at: usize, n: u64) -> usize
-    requires { ⌜ at + 21 ≤ length (now out) ⌝ }
-    ensures { λ r. ⌜ Puts 21 (number n) (now (out .entry)) at (now (out .exit)) r ⌝ }
+    ensures { λ r. ⌜ Wrote 21 (number n) (now (out .entry)) at (now (out .exit)) r ⌝ }
 {
     text::put_number(out, at, n)
 }
@@ -49,16 +48,14 @@ fn put_refused(
     second: u64,
     third: u64,
 ) -> usize
-    requires { ⌜ at + 92 ≤ length (now out) ⌝ }
-    ensures { λ r. ⌜ Puts 92 (refused refusal (take count (first ∷ second ∷ third ∷ []))) (now (out .entry)) at (now (out .exit)) r ⌝ }
+    ensures { λ r. ⌜ Wrote 92 (refused refusal (take count (first ∷ second ∷ third ∷ []))) (now (out .entry)) at (now (out .exit)) r ⌝ }
 {
     text::put_refused(out, at, refusal, count, first, second, third)
 }
 
 // A refusal of 01's table, with its values.
 pub fn put_refusal(out: &mut [u8], at: usize, t: Told) -> usize
-    requires { ⌜ at + 92 ≤ length (now out) ⌝ }
-    ensures { λ r. ⌜ Puts 92 (refusal t) (now (out .entry)) at (now (out .exit)) r ⌝ }
+    ensures { λ r. ⌜ Wrote 92 (refusal t) (now (out .entry)) at (now (out .exit)) r ⌝ }
 {
     put_refused(
         out,
@@ -88,7 +85,7 @@ fn put_hex_of(out: &mut [u8], at: usize, made: &[u8], count: usize) -> usize
 }
 
 // How many bytes were made and, above 0, their hex.
-pub fn put_shown(out: &mut [u8], at: usize, made: &[u8], count: usize) -> usize
+fn put_shown(out: &mut [u8], at: usize, made: &[u8], count: usize) -> usize
     requires { ⌜ length (now made) ≤ 65600 ⌝ }
     requires { ⌜ at + 131222 ≤ length (now out) ⌝ }
     ensures { λ r. ⌜ Puts 131222 (number count ++ shownText (now (made .entry)) count) (now (out .entry)) at (now (out .exit)) r ⌝ }
@@ -99,19 +96,21 @@ pub fn put_shown(out: &mut [u8], at: usize, made: &[u8], count: usize) -> usize
 
 // A newline.
 pub fn end_line(out: &mut [u8], at: usize) -> usize
-    requires { ⌜ at < length (now out) ⌝ }
-    ensures { λ r. ⌜ Puts 1 (10 ∷ []) (now (out .entry)) at (now (out .exit)) r ⌝ }
+    ensures { λ r. ⌜ Wrote 1 (10 ∷ []) (now (out .entry)) at (now (out .exit)) r ⌝ }
 {
-    out[at] = b'\n';
-    at + 1
+    put_word(out, at, b"\n")
 }
 
-// Puts the line of record n at the front of out and says how long it is: the words.
+// Puts the line of record n at the front of out and says how long it is: the words. 192 bytes hold each line that shows no bytes.
 pub fn words_line(n: u64, words: &[u8], out: &mut [u8]) -> usize
-    requires { ⌜ length (now words) ≤ 32 ⌝ }
-    requires { ⌜ 92 ≤ length (now out) ⌝ }
-    ensures { λ r. ⌜ Holds (wordsLine n (now (words .entry))) (now (out .exit)) r ⌝ }
+    ensures { λ r. ⌜ Wrote 192 (wordsLine n (now (words .entry))) (now (out .entry)) 0 (now (out .exit)) r ⌝ }
 {
+    if 32 < words.len() {
+        return 0;
+    }
+    if out.len() < 192 {
+        return 0;
+    }
     let i = start_line(out, n);
     let j = put_word(out, i, words);
     end_line(out, j)
@@ -119,10 +118,14 @@ pub fn words_line(n: u64, words: &[u8], out: &mut [u8]) -> usize
 
 // The words and a number.
 pub fn number_line(n: u64, words: &[u8], value: u64, out: &mut [u8]) -> usize
-    requires { ⌜ length (now words) ≤ 32 ⌝ }
-    requires { ⌜ 128 ≤ length (now out) ⌝ }
-    ensures { λ r. ⌜ Holds (numberLine n (now (words .entry)) value) (now (out .exit)) r ⌝ }
+    ensures { λ r. ⌜ Wrote 192 (numberLine n (now (words .entry)) value) (now (out .entry)) 0 (now (out .exit)) r ⌝ }
 {
+    if 32 < words.len() {
+        return 0;
+    }
+    if out.len() < 192 {
+        return 0;
+    }
     let i = start_line(out, n);
     let j = put_word(out, i, words);
     let k = put_value(out, j, value);
@@ -138,10 +141,14 @@ fn printed(full: bool, count: u8) -> u64
 
 // The words and a refusal, with its values where `full`.
 pub fn refusal_line(n: u64, words: &[u8], full: bool, t: Told, out: &mut [u8]) -> usize
-    requires { ⌜ length (now words) ≤ 32 ⌝ }
-    requires { ⌜ 192 ≤ length (now out) ⌝ }
-    ensures { λ r. ⌜ Holds (refusalLine n (now (words .entry)) full t) (now (out .exit)) r ⌝ }
+    ensures { λ r. ⌜ Wrote 192 (refusalLine n (now (words .entry)) full t) (now (out .entry)) 0 (now (out .exit)) r ⌝ }
 {
+    if 32 < words.len() {
+        return 0;
+    }
+    if out.len() < 192 {
+        return 0;
+    }
     let count = printed(full, t.count);
     let i = start_line(out, n);
     let j = put_word(out, i, words);
@@ -151,10 +158,7 @@ pub fn refusal_line(n: u64, words: &[u8], full: bool, t: Told, out: &mut [u8]) -
 
 // The words for what was done; or those of the call, and its refusal.
 pub fn told_line(n: u64, done: &[u8], words: &[u8], full: bool, t: Told, out: &mut [u8]) -> usize
-    requires { ⌜ length (now done) ≤ 32 ⌝ }
-    requires { ⌜ length (now words) ≤ 32 ⌝ }
-    requires { ⌜ 192 ≤ length (now out) ⌝ }
-    ensures { λ r. ⌜ Holds (toldLine n (now (done .entry)) (now (words .entry)) full t) (now (out .exit)) r ⌝ }
+    ensures { λ r. ⌜ Wrote 192 (toldLine n (now (done .entry)) (now (words .entry)) full t) (now (out .entry)) 0 (now (out .exit)) r ⌝ }
 {
     if t.number == 0 {
         return words_line(n, done, out);
@@ -172,11 +176,7 @@ pub fn either_line(
     t: Told,
     out: &mut [u8],
 ) -> usize
-    requires { ⌜ length (now one) ≤ 32 ⌝ }
-    requires { ⌜ length (now other) ≤ 32 ⌝ }
-    requires { ⌜ length (now words) ≤ 32 ⌝ }
-    requires { ⌜ 192 ≤ length (now out) ⌝ }
-    ensures { λ r. ⌜ Holds (eitherLine n (now (one .entry)) (now (other .entry)) (now (words .entry)) full t) (now (out .exit)) r ⌝ }
+    ensures { λ r. ⌜ Wrote 192 (eitherLine n (now (one .entry)) (now (other .entry)) (now (words .entry)) full t) (now (out .entry)) 0 (now (out .exit)) r ⌝ }
 {
     if t.first == 1 {
         return told_line(n, one, words, full, t, out);
@@ -193,11 +193,15 @@ fn further(count: u8) -> u64
 
 // The call, the bytes that it made, and what it tells further.
 fn bytes_line(n: u64, words: &[u8], made: &[u8], t: Told, out: &mut [u8]) -> usize
-    requires { ⌜ length (now words) ≤ 32 ⌝ }
-    requires { ⌜ length (now made) ≤ 65600 ⌝ }
     requires { ⌜ 131350 ≤ length (now out) ⌝ }
-    ensures { λ r. ⌜ Holds (bytesLine n (now (words .entry)) (now (made .entry)) t) (now (out .exit)) r ⌝ }
+    ensures { λ r. ⌜ Wrote 131350 (bytesLine n (now (words .entry)) (now (made .entry)) t) (now (out .entry)) 0 (now (out .exit)) r ⌝ }
 {
+    if 32 < words.len() {
+        return 0;
+    }
+    if 65600 < made.len() {
+        return 0;
+    }
     let count = further(t.count);
     let i = start_line(out, n);
     let j = put_word(out, i, words);
@@ -209,11 +213,11 @@ fn bytes_line(n: u64, words: &[u8], made: &[u8], t: Told, out: &mut [u8]) -> usi
 // The line of a call that writes bytes: how many and, above 0, their hex, and what it tells further; or its refusal. 131,350 bytes hold each, the
 // hex of 65,600 bytes and some numbers and words.
 pub fn made_line(n: u64, words: &[u8], full: bool, made: &[u8], t: Told, out: &mut [u8]) -> usize
-    requires { ⌜ length (now words) ≤ 32 ⌝ }
-    requires { ⌜ length (now made) ≤ 65600 ⌝ }
-    requires { ⌜ 131350 ≤ length (now out) ⌝ }
-    ensures { λ r. ⌜ Holds (madeLine n (now (words .entry)) full (now (made .entry)) t) (now (out .exit)) r ⌝ }
+    ensures { λ r. ⌜ Wrote 131350 (madeLine n (now (words .entry)) full (now (made .entry)) t) (now (out .entry)) 0 (now (out .exit)) r ⌝ }
 {
+    if out.len() < 131350 {
+        return 0;
+    }
     if t.number == 0 {
         return bytes_line(n, words, made, t, out);
     }

@@ -1,6 +1,8 @@
 // The calls of a run on a node and their lines: what the programs share that play records. `full` says whether the values beside a refusal are printed.
-ghost use Prim.Native.Nat.{_≤_};
-ghost use lib.ListN.{length};
+// A record's content is tested once, by `misfit`: a call takes what is there, a number that is not is 0.
+ghost use mathlib.Core.Path.{_≡_};
+ghost use Prim.Native.Nat.{min};
+ghost use Rattle.play.specs.Ends.{misfits};
 use answers::admit_line;
 use answers::advertise_line;
 use answers::ask_line;
@@ -46,12 +48,32 @@ pub fn stop(mut run: Run, word: &[u8]) -> Run {
     run
 }
 
+// Whether the kind is unknown, or content of such a length is not one of its kind.
+pub fn misfit(kind: u64, len: usize) -> bool
+    ensures { λ r. ⌜ r ≡ misfits kind len ⌝ }
+{
+    match kind {
+        1 => len != 14,
+        2 => len < 11,
+        3 => len != 8,
+        4 => len < 2,
+        5 => false,
+        6 => false,
+        _ => true,
+    }
+}
+
+// The lesser: of a length, what is there.
+pub fn within(len: usize, most: usize) -> usize
+    ensures { λ r. ⌜ r ≡ min len most ⌝ }
+{
+    if len < most { len } else { most }
+}
+
 // Prints the first k bytes; the run goes on with this node.
 pub fn print(out: &[u8], k: usize, node: Node, mut run: Run) -> Run {
-    run.go = false;
-    if k <= out.len() {
-        run.go = io::write_all(1, &out[..k]);
-    }
+    let end = within(k, out.len());
+    run.go = io::write_all(1, &out[..end]);
     run.node = node;
     run
 }
@@ -72,21 +94,14 @@ fn places_len(max_messages: usize) -> usize {
 }
 
 // Refused settings change nothing.
-fn keep_on(n: u64, run: Run, out: &mut [u8]) -> Run
-    requires { ⌜ 131350 ≤ length (now out) ⌝ }
-{
+fn keep_on(n: u64, run: Run, out: &mut [u8]) -> Run {
     let k = set_line(n, told_start(Start::BadSetting), out);
     let node = run.node;
     print(out, k, node, run)
 }
 
 // Kind 1. The last setting above `most` meets 40 too.
-pub fn set(n: u64, most: usize, content: &[u8], mut run: Run, out: &mut [u8]) -> Run
-    requires { ⌜ 131350 ≤ length (now out) ⌝ }
-{
-    if content.len() != 14 {
-        return stop(run, b"bad\n");
-    }
+fn set(n: u64, most: usize, content: &[u8], mut run: Run, out: &mut [u8]) -> Run {
     let ttl = little_at(content, 0, 8);
     let max_seen = little_at(content, 8, 2) as usize;
     let history_len = little_at(content, 10, 2) as usize;
@@ -117,20 +132,16 @@ fn admit(
     seen_store: &mut [u8],
     cache_store: &mut [u8],
     out: &mut [u8],
-) -> Run
-    requires { ⌜ 131350 ≤ length (now out) ⌝ }
-{
-    if content.len() < 11 {
-        return stop(run, b"bad\n");
-    }
+) -> Run {
     let now = little_at(content, 0, 8);
     let index = little_at(content, 8, 2) as usize;
-    let verified = content[10] == 1;
+    let verified = little_at(content, 10, 1) == 1;
+    let body = within(11, content.len());
     let node = run.node;
     let r = node.admit(
         seen_store,
         cache_store,
-        &content[11..],
+        &content[body..],
         index,
         verified,
         now,
@@ -149,12 +160,7 @@ fn beat(
     seen_store: &[u8],
     cache_store: &[u8],
     out: &mut [u8],
-) -> Run
-    requires { ⌜ 131350 ≤ length (now out) ⌝ }
-{
-    if content.len() != 8 {
-        return stop(run, b"bad\n");
-    }
+) -> Run {
     let now = little_at(content, 0, 8);
     let node = run.node;
     let r = node.heartbeat(seen_store, cache_store, now);
@@ -173,16 +179,11 @@ fn advertise(
     cache_store: &[u8],
     made: &mut [u8],
     out: &mut [u8],
-) -> Run
-    requires { ⌜ length (now made) ≤ 65600 ⌝ }
-    requires { ⌜ 131350 ≤ length (now out) ⌝ }
-{
-    if content.len() < 2 {
-        return stop(run, b"bad\n");
-    }
+) -> Run {
     let windows = little_at(content, 0, 2) as usize;
+    let topic = within(2, content.len());
     let node = run.node;
-    let r = node.advertise(seen_store, cache_store, &content[2..], windows, made);
+    let r = node.advertise(seen_store, cache_store, &content[topic..], windows, made);
     let answer = r.answer;
     let k = advertise_line(n, full, made, told_advertise(answer), out);
     print(out, k, r.node, run)
@@ -198,10 +199,7 @@ fn ask(
     cache_store: &[u8],
     made: &mut [u8],
     out: &mut [u8],
-) -> Run
-    requires { ⌜ length (now made) ≤ 65600 ⌝ }
-    requires { ⌜ 131350 ≤ length (now out) ⌝ }
-{
+) -> Run {
     let node = run.node;
     let r = node.ask(seen_store, cache_store, content, made);
     let answer = r.answer;
@@ -219,10 +217,7 @@ fn serve(
     cache_store: &[u8],
     made: &mut [u8],
     out: &mut [u8],
-) -> Run
-    requires { ⌜ length (now made) ≤ 65600 ⌝ }
-    requires { ⌜ 131350 ≤ length (now out) ⌝ }
-{
+) -> Run {
     let node = run.node;
     let r = node.serve(seen_store, cache_store, content, made);
     let answer = r.answer;
@@ -230,9 +225,10 @@ fn serve(
     print(out, k, r.node, run)
 }
 
-// Kinds 2 to 6, with the parts of the stores that are lent.
+// A record that fits its kind, with the parts of the stores that are lent. `most` bounds the last setting.
 pub fn call_node(
     n: u64,
+    most: usize,
     full: bool,
     kind: u64,
     content: &[u8],
@@ -241,16 +237,13 @@ pub fn call_node(
     cache_store: &mut [u8],
     made: &mut [u8],
     out: &mut [u8],
-) -> Run
-    requires { ⌜ length (now made) ≤ 65600 ⌝ }
-    requires { ⌜ 131350 ≤ length (now out) ⌝ }
-{
+) -> Run {
     match kind {
+        1 => set(n, most, content, run, out),
         2 => admit(n, full, content, run, seen_store, cache_store, out),
         3 => beat(n, full, content, run, seen_store, cache_store, out),
         4 => advertise(n, full, content, run, seen_store, cache_store, made, out),
         5 => ask(n, full, content, run, seen_store, cache_store, made, out),
-        6 => serve(n, full, content, run, seen_store, cache_store, made, out),
-        _ => stop(run, b"bad\n"),
+        _ => serve(n, full, content, run, seen_store, cache_store, made, out),
     }
 }

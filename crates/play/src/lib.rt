@@ -3,27 +3,48 @@
 // u16, verified u8, body), 3 heartbeat (now u64), 4 advertise (windows u16, topic), 5 ask (body), 6 serve (body).
 pub mod calls;
 
+ghost use mathlib.Core.Path.{_≡_};
 ghost use Prim.Native.Nat.{_≤_};
 ghost use lib.ListN.{length};
+ghost use Rattle.play.specs.Ends.{noWord, isBad};
+use basis::little_at;
 use calls::Run;
 use calls::call_node;
+use calls::misfit;
 use calls::nothing;
-use calls::set;
 use calls::stop;
+use calls::within;
 use text::Header;
 use text::next_record;
 
 // Whether an admit has another word than 0 or 1 on the signature.
-fn no_word(kind: u64, content: &[u8]) -> bool {
+fn no_word(kind: u64, content: &[u8]) -> bool
+    ensures { λ r. ⌜ r ≡ noWord kind (now (content .entry)) ⌝ }
+{
     if kind == 2 {
-        if 10 < content.len() {
-            return 1 < content[10];
-        }
+        let word = little_at(content, 10, 1);
+        return 1 < word;
     }
     false
 }
 
-// Answers a record. A call before accepted settings ends the run; the stores are lent as long as the settings say.
+// Whether the record ends the run: it is none, or a call before accepted settings.
+fn is_bad(started: bool, kind: u64, content: &[u8]) -> bool
+    ensures { λ r. ⌜ r ≡ isBad started kind (now (content .entry)) ⌝ }
+{
+    if misfit(kind, content.len()) {
+        return true;
+    }
+    if kind == 1 {
+        return false;
+    }
+    if started {
+        return no_word(kind, content);
+    }
+    true
+}
+
+// Answers a record. The stores are lent as long as the settings say.
 fn answer(
     n: u64,
     kind: u64,
@@ -33,36 +54,24 @@ fn answer(
     cache_store: &mut [u8],
     made: &mut [u8],
     out: &mut [u8],
-) -> Run
-    requires { ⌜ length (now made) ≤ 65600 ⌝ }
-    requires { ⌜ 131350 ≤ length (now out) ⌝ }
-{
-    if kind == 1 {
-        return set(n, 8, content, run, out);
-    }
-    if no_word(kind, content) {
+) -> Run {
+    if is_bad(run.started, kind, content) {
         return stop(run, b"bad\n");
     }
-    let seen_len = run.seen_len;
-    let cache_len = run.cache_len;
-    if run.started {
-        if seen_len <= seen_store.len() {
-            if cache_len <= cache_store.len() {
-                return call_node(
-                    n,
-                    false,
-                    kind,
-                    content,
-                    run,
-                    &mut seen_store[..seen_len],
-                    &mut cache_store[..cache_len],
-                    made,
-                    out,
-                );
-            }
-        }
-    }
-    stop(run, b"bad\n")
+    let seen_len = within(run.seen_len, seen_store.len());
+    let cache_len = within(run.cache_len, cache_store.len());
+    call_node(
+        n,
+        8,
+        false,
+        kind,
+        content,
+        run,
+        &mut seen_store[..seen_len],
+        &mut cache_store[..cache_len],
+        made,
+        out,
+    )
 }
 
 // Reads a record and answers it.
@@ -76,8 +85,6 @@ fn turn(
     out: &mut [u8],
 ) -> Run
     requires { ⌜ 32768 ≤ length (now content) ⌝ }
-    requires { ⌜ length (now made) ≤ 65600 ⌝ }
-    requires { ⌜ 131350 ≤ length (now out) ⌝ }
 {
     let h = next_record(content, 32768);
     match h {

@@ -1,4 +1,5 @@
 -- `inspect::answer_utf8` meets its contract: the test says what is put.
+use Rattle.lines.specs.Laws.{wrote-puts}
 use borrow.Author.Needs.{needs}
 use mathlib.Core.Path.{sym, _∙_}
 use native.Mathlib.Omega.{arith}
@@ -20,7 +21,7 @@ same-length : tie.Need-same-length
 same-length c = search needs
 
 returns : tie.Need-returns
-returns c = puts-as (utf8-yes _ (sym (c .before .before .before .before .before .before .is-utf8 .ensures) ∙ c .before .before .before .before .before .if1 .taken)) (omega arith) (c .before .before .put-word .ensures)
+returns c = puts-as (utf8-yes _ (sym (c .before .before .before .before .before .before .is-utf8 .ensures) ∙ c .before .before .before .before .before .if1 .taken)) (omega arith) (wrote-puts (omega arith) (c .before .before .put-word .ensures))
 
 slice-aggregate-put-word-2 : tie.Need-slice-aggregate-put-word-2
 slice-aggregate-put-word-2 c = search needs
@@ -32,7 +33,7 @@ same-length-2 : tie.Need-same-length-2
 same-length-2 c = search needs
 
 returns-2 : tie.Need-returns-2
-returns-2 c = puts-as (utf8-no _ (sym (c .before .before .before .before .before .before .is-utf8 .ensures) ∙ c .before .before .before .before .before .if1 .left)) (omega arith) (c .before .before .put-word2 .ensures)
+returns-2 c = puts-as (utf8-no _ (sym (c .before .before .before .before .before .before .is-utf8 .ensures) ∙ c .before .before .before .before .before .if1 .left)) (omega arith) (wrote-puts (omega arith) (c .before .before .put-word2 .ensures))
 
 pub answer-utf8-spec : {M : Type 1} → statement M
 answer-utf8-spec =

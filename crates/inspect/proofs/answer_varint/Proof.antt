@@ -1,4 +1,5 @@
 -- `inspect::answer_varint` meets its contract: the varint is read and put.
+use Rattle.lines.specs.Laws.{wrote-puts}
 use borrow.Author.Needs.{needs}
 use native.Mathlib.Omega.{arith}
 use Rattle.text.specs.Laws.{puts-then, puts-as}
@@ -22,7 +23,7 @@ same-length : tie.Need-same-length
 same-length c = search needs
 
 returns : tie.Need-returns
-returns c = puts-as (varint-answer _ _ (c .before .before .before .before .before .before .before .before .before .read-uvarint .ensures)) (omega arith) (puts-then (c .before .before .before .before .before .before .put-word .ensures) (c .before .before .put-varint .ensures))
+returns c = puts-as (varint-answer _ _ (c .before .before .before .before .before .before .before .before .before .read-uvarint .ensures)) (omega arith) (puts-then (wrote-puts (omega arith) (c .before .before .before .before .before .before .put-word .ensures)) (c .before .before .put-varint .ensures))
 
 pub answer-varint-spec : {M : Type 1} → statement M
 answer-varint-spec =

@@ -1,4 +1,5 @@
 -- `inspect::answer_walk` meets its contract: the place is read, then the step is taken and put.
+use Rattle.lines.specs.Laws.{wrote-puts}
 use borrow.Author.Needs.{needs}
 use native.Mathlib.Omega.{arith}
 use Rattle.text.specs.Laws.{puts-none, puts-then, puts-as}
@@ -40,7 +41,7 @@ returns-2 : tie.Need-returns-2
 returns-2 c = puts-as (walk-answer _ _ _ (c .before .before .before .before .before .before .before .before .before .before .before .before .if1 .left)
     (c .before .before .before .before .before .before .before .before .before .before .before .little-at .ensures)
     (c .before .before .before .before .before .before .before .before .before .step .ensures)) (omega arith)
-    (puts-then (c .before .before .before .before .before .before .put-word .ensures) (c .before .before .put-walk .ensures))
+    (puts-then (wrote-puts (omega arith) (c .before .before .before .before .before .before .put-word .ensures)) (c .before .before .put-walk .ensures))
 
 pub answer-walk-spec : {M : Type 1} → statement M
 answer-walk-spec =

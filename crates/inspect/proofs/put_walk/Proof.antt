@@ -3,6 +3,7 @@ use mathlib.Core.Path.{sym, ap}
 use native.Mathlib.Omega.{arith}
 use Rattle.text.specs.Laws.{puts-then, puts-as}
 use Rattle.inspect.specs.Answers.{walk}
+use Rattle.lines.specs.Laws.{wrote-puts}
 use borrow.Author.Needs.{needs}
 use Rattle.inspect.proofs.put_walk.Statement.{statement}
 use Rattle.inspect.proofs.put_walk.Tie as tie
@@ -25,14 +26,14 @@ put-walk-spec =
     (λ c κs. search needs)
     (λ c κs. search needs)
     (λ c. search needs)
-    (λ c. puts-as (ap walk (sym (c .before .before .before .before .before .enum-told .given .1))) (omega arith) (c .before .before .put-word .ensures))
+    (λ c. puts-as (ap walk (sym (c .before .before .before .before .before .enum-told .given .1))) (omega arith) (wrote-puts (omega arith) (c .before .before .put-word .ensures)))
     (λ c. search needs)
-    (λ c. puts-as (ap walk (sym (c .before .before .before .before .before .before .w .given .1))) (omega arith) (rw (c .before .before .before .told-wire .ensures) at (c .before .before .put-refusal .ensures)))
+    (λ c. puts-as (ap walk (sym (c .before .before .before .before .before .before .w .given .1))) (omega arith) (rw (c .before .before .before .told-wire .ensures) at (wrote-puts (omega arith) (c .before .before .put-refusal .ensures))))
     (λ c. search needs)
     (λ c. puts-as
     (ap walk (sym
     (c .before .before .before .before .before .before .before .before .before .before .before .before .before .before .before .before .before .w2 .given
     .1))) (omega arith)
-    (puts-then (c .before .before .before .before .before .before .before .before .before .before .before .before .before .before .put-value .ensures)
-    (puts-then (c .before .before .before .before .before .before .before .before .before .before .put-value2 .ensures)
-    (puts-then (c .before .before .before .before .before .before .put-value3 .ensures) (c .before .before .put-value4 .ensures))))))
+    (puts-then (wrote-puts (omega arith) (c .before .before .before .before .before .before .before .before .before .before .before .before .before .before .put-value .ensures))
+    (puts-then (wrote-puts (omega arith) (c .before .before .before .before .before .before .before .before .before .before .put-value2 .ensures))
+    (puts-then (wrote-puts (omega arith) (c .before .before .before .before .before .before .put-value3 .ensures)) (wrote-puts (omega arith) (c .before .before .put-value4 .ensures)))))))

@@ -1,18 +1,12 @@
 -- `inspect::reply_line` is safe: each buffer is a part of what is lent.
+use mathlib.Core.Path.{sym, _∙_}
 use native.Mathlib.Omega.{arith}
+use borrow.Author.Tests.{ltb-true}
 use Rattle.lines.specs.Laws.{prefix}
 use Rattle.inspect.proofs.Answering.{front-small}
 use borrow.Author.Needs.{needs}
 use Rattle.inspect.proofs.reply_line.Statement.{statement}
 use Rattle.inspect.proofs.reply_line.Tie as tie
-use Rattle.inspect.proofs.reply_line.Reads as reads
-use Rattle.inspect.proofs.reply_line.Lts as lts
-use Rattle.inspect.proofs.last.Reads as last-reads
-use Rattle.inspect.proofs.line.Reads as line-reads
-use Rattle.inspect.proofs.reply_encode.Reads as reply-encode-reads
-use Rattle.inspect.proofs.reply_id.Reads as reply-id-reads
-use Rattle.inspect.proofs.reply_sign.Reads as reply-sign-reads
-use Rattle.io.proofs.write_all.Reads as write-all-reads
 
 slice-relend-prefix-reply-encode : tie.Need-slice-relend-prefix-reply-encode
 slice-relend-prefix-reply-encode c = search needs
@@ -68,14 +62,14 @@ same-length-6 c = search needs
 returns-3 : tie.Need-returns-3
 returns-3 c = search needs
 
+has-answer-requires : tie.Need-has-answer-requires
+has-answer-requires c κs = search needs
+
 line-requires : tie.Need-line-requires
-line-requires c κs = search needs
+line-requires c κs = (ltb-true _ _ (sym (c .before .before .has-answer .ensures) ∙ c .before .if4 .taken), omega arith)
 
-slice-aggregate-last : tie.Need-slice-aggregate-last
-slice-aggregate-last c = search needs
-
-last-requires : tie.Need-last-requires
-last-requires c κs = search needs
+print-requires : tie.Need-print-requires
+print-requires c κs = search needs
 
 same-length-7 : tie.Need-same-length-7
 same-length-7 c = search needs
@@ -83,17 +77,11 @@ same-length-7 c = search needs
 returns-4 : tie.Need-returns-4
 returns-4 c = search needs
 
-slice-reshare-prefix-write-all : tie.Need-slice-reshare-prefix-write-all
-slice-reshare-prefix-write-all c = search needs
+slice-aggregate-last : tie.Need-slice-aggregate-last
+slice-aggregate-last c = search needs
 
-slice-aggregate-write-all : tie.Need-slice-aggregate-write-all
-slice-aggregate-write-all c = search needs
-
-write-all-requires : tie.Need-write-all-requires
-write-all-requires c κs = search needs
-
-same-length-8 : tie.Need-same-length-8
-same-length-8 c = search needs
+last-requires : tie.Need-last-requires
+last-requires c κs = search needs
 
 returns-5 : tie.Need-returns-5
 returns-5 c = search needs
@@ -120,13 +108,11 @@ reply-line-spec =
     same-length-5
     same-length-6
     returns-3
+    has-answer-requires
     line-requires
-    slice-aggregate-last
-    last-requires
+    print-requires
     same-length-7
     returns-4
-    slice-reshare-prefix-write-all
-    slice-aggregate-write-all
-    write-all-requires
-    same-length-8
+    slice-aggregate-last
+    last-requires
     returns-5)

@@ -1,19 +1,48 @@
--- `lines::made_line` meets its contract: the test says which line it is.
+-- `lines::made_line` meets its contract: the tests say which line it is.
+use native.Mathlib.Omega.{arith}
 use borrow.Author.Tests.{eq-eqb, ne-eqb}
+use Rattle.lines.specs.Laws.{wrote-short, wrote-yes, wrote-no, wrote-more}
 use Rattle.lines.specs.Lines.{madeLine}
-use Rattle.lines.specs.Laws.{holds-yes, holds-no}
 use borrow.Author.Needs.{needs}
 use Rattle.lines.proofs.made_line.Statement.{statement}
 use Rattle.lines.proofs.made_line.Tie as tie
+use Rattle.lines.proofs.made_line.Reads as reads
+use Rattle.lines.proofs.made_line.Lts as lts
+use Rattle.lines.proofs.bytes_line.Reads as bytes-line-reads
+use Rattle.lines.proofs.refusal_line.Reads as refusal-line-reads
+
+returns : tie.Need-returns
+unfolding madeLine
+returns c = wrote-short 131350 0 _ _ (c .if1 .taken)
+
+bytes-line-requires : tie.Need-bytes-line-requires
+bytes-line-requires c κs = search needs
+
+same-length : tie.Need-same-length
+same-length c = search needs
+
+returns-2 : tie.Need-returns-2
+unfolding madeLine
+returns-2 c = wrote-yes _ _ (eq-eqb _ _ (c .before .before .before .before .if2 .taken)) (c .before .before .bytes-line .ensures)
+
+refusal-line-requires : tie.Need-refusal-line-requires
+refusal-line-requires c κs = search needs
+
+same-length-2 : tie.Need-same-length-2
+same-length-2 c = search needs
+
+returns-3 : tie.Need-returns-3
+unfolding madeLine
+returns-3 c = wrote-no _ _ (ne-eqb _ _ (c .before .before .before .before .if2 .left)) (wrote-more (omega arith) (omega arith) (c .before .before .refusal-line .ensures))
 
 pub made-line-spec : {M : Type 1} → statement M
-unfolding madeLine
 made-line-spec =
     tie.close
     (tie.spec
-    (λ c κs. search needs)
-    (λ c. search needs)
-    (λ c. holds-yes _ _ (eq-eqb _ _ (c .before .before .before .before .if1 .taken)) (c .before .before .bytes-line .ensures))
-    (λ c κs. search needs)
-    (λ c. search needs)
-    (λ c. holds-no _ _ (ne-eqb _ _ (c .before .before .before .before .if1 .left)) (c .before .before .refusal-line .ensures)))
+    returns
+    bytes-line-requires
+    same-length
+    returns-2
+    refusal-line-requires
+    same-length-2
+    returns-3)

@@ -1,8 +1,10 @@
 -- `lines::number_line` meets its contract: the number, the words, the value and a newline, at the front.
 use native.Mathlib.Omega.{arith}
-use Rattle.text.specs.Laws.{puts-then}
+use mathlib.Core.Path.{refl}
+use borrow.Author.Tests.{le-leb, lt-leb}
+use Rattle.text.specs.Laws.{puts-then, puts-as}
+use Rattle.lines.specs.Laws.{wrote-puts, puts-wrote, wrote-short, wrote-nothing, wrote-yes, wrote-no}
 use Rattle.lines.specs.Lines.{numberLine}
-use Rattle.lines.specs.Laws.{puts-holds}
 use borrow.Author.Needs.{needs}
 use Rattle.lines.proofs.number_line.Statement.{statement}
 use Rattle.lines.proofs.number_line.Tie as tie
@@ -12,6 +14,14 @@ use Rattle.lines.proofs.end_line.Reads as end-line-reads
 use Rattle.lines.proofs.put_value.Reads as put-value-reads
 use Rattle.lines.proofs.put_word.Reads as put-word-reads
 use Rattle.lines.proofs.start_line.Reads as start-line-reads
+
+returns : tie.Need-returns
+unfolding numberLine
+returns c = wrote-no _ _ (lt-leb _ _ (c .if1 .taken)) (wrote-nothing _ _ _)
+
+returns-2 : tie.Need-returns-2
+unfolding numberLine
+returns-2 c = wrote-short 192 0 _ _ (c .if2 .taken)
 
 start-line-requires : tie.Need-start-line-requires
 start-line-requires c κs = search needs
@@ -28,20 +38,23 @@ end-line-requires c κs = search needs
 same-length : tie.Need-same-length
 same-length c = search needs
 
-returns : tie.Need-returns
+returns-3 : tie.Need-returns-3
 unfolding numberLine
-returns c = puts-holds
-    (puts-then ((c .before .before .before .before .before .before .before .before .before .before .before .before .before .before .start-line .ensures))
-    (puts-then (puts-then ((c .before .before .before .before .before .before .before .before .before .before .put-word .ensures))
-    ((c .before .before .before .before .before .before .put-value .ensures))) ((c .before .before .end-line .ensures)))) (omega arith)
+returns-3 c = wrote-yes _ _ (le-leb _ _ (c .before .before .before .before .before .before .before .before .before .before .before .before .before .before .before .before .before .if1 .left)) (puts-wrote (omega arith) (puts-as refl (omega arith)
+    (puts-then (wrote-puts (omega arith) (c .before .before .before .before .before .before .before .before .before .before .before .before .before .before .start-line .ensures))
+    (puts-then (puts-then (wrote-puts (omega arith) (c .before .before .before .before .before .before .before .before .before .before .put-word .ensures))
+    (wrote-puts (omega arith) (c .before .before .before .before .before .before .put-value .ensures)))
+    (wrote-puts (omega arith) (c .before .before .end-line .ensures))))))
 
 pub number-line-spec : {M : Type 1} → statement M
 number-line-spec =
     tie.close
     (tie.spec
+    returns
+    returns-2
     start-line-requires
     put-word-requires
     put-value-requires
     end-line-requires
     same-length
-    returns)
+    returns-3)

@@ -2,7 +2,7 @@
 use native.Mathlib.Omega.{arith}
 use lib.Seq.{length-take-le}
 use Rattle.text.specs.Laws.{puts-none, puts-then, puts-as, hex-puts}
-use Rattle.lines.specs.Laws.{prefix}
+use Rattle.lines.specs.Laws.{prefix, wrote-puts}
 use Rattle.lines.proofs.Shown.{shown-none, shown-past, shown-there}
 use borrow.Author.Needs.{needs}
 use Rattle.lines.proofs.put_hex_of.Statement.{statement}
@@ -34,13 +34,9 @@ same-length : tie.Need-same-length
 same-length c = search needs
 
 returns-3 : tie.Need-returns-3
-returns-3 c = let l =
-    length-take-le (c .before .before .before .before .before .before .before .before .before .before .before .before .before .before .args .count)
-    (c .before .before .before .before .before .before .before .before .before .before .before .before .before .before .args .made .now)
-    (c .before .before .before .before .before .before .before .before .before .before .if2 .left) in
-    puts-as (shown-there _ _ (c .before .before .before .before .before .before .before .before .before .before .before .if1 .left)
-    (c .before .before .before .before .before .before .before .before .before .before .if2 .left)) (omega arith)
-    (puts-then (c .before .before .before .before .before .before .before .put-word .ensures) (hex-puts _ (omega arith) (c .before .before .put-hex .ensures)))
+returns-3 c = let l = length-take-le (c .before .before .before .before .before .before .before .before .before .before .before .before .before .before .args .count) (c .before .before .before .before .before .before .before .before .before .before .before .before .before .before .args .made .now) (c .before .before .before .before .before .before .before .before .before .before .if2 .left) in
+    puts-as (shown-there _ _ (c .before .before .before .before .before .before .before .before .before .before .before .if1 .left) (c .before .before .before .before .before .before .before .before .before .before .if2 .left)) (omega arith)
+    (puts-then (wrote-puts (omega arith) (c .before .before .before .before .before .before .before .put-word .ensures)) (hex-puts _ (omega arith) (c .before .before .put-hex .ensures)))
 
 pub put-hex-of-spec : {M : Type 1} → statement M
 put-hex-of-spec =

@@ -1,9 +1,13 @@
--- `lines::put_refused` meets its contract: there is room.
+-- `lines::put_refused` meets its contract: the refusal is short enough.
 use native.Mathlib.Omega.{arith}
-use Rattle.text.specs.Laws.{refused-puts}
+use Rattle.text.specs.Laws.{length-refused}
+use Rattle.lines.specs.Laws.{wrote-in}
 use borrow.Author.Needs.{needs}
 use Rattle.lines.proofs.put_refused.Statement.{statement}
 use Rattle.lines.proofs.put_refused.Tie as tie
+use Rattle.lines.proofs.put_refused.Reads as reads
+use Rattle.lines.proofs.put_refused.Lts as lts
+use Rattle.text.proofs.put_refused.Reads as put-refused-reads
 
 put-refused-requires : tie.Need-put-refused-requires
 put-refused-requires c κs = search needs
@@ -12,7 +16,8 @@ same-length : tie.Need-same-length
 same-length c = search needs
 
 returns : tie.Need-returns
-returns c = refused-puts (c .before .before .before .before .before .args .count) (c .before .before .before .before .before .args .first) (c .before .before .before .before .before .args .second) (c .before .before .before .before .before .args .third) (omega arith) (omega arith) (omega arith) (omega arith) (c .before .before .before .before .before .pre) (c .before .before .put-refused .ensures)
+returns c = let a = c .before .before .before .before .before .args in
+    wrote-in (length-refused (a .refusal) (a .count) (a .first) (a .second) (a .third) (omega arith) (omega arith) (omega arith) (omega arith)) (c .before .before .put-refused .ensures)
 
 pub put-refused-spec : {M : Type 1} → statement M
 put-refused-spec = tie.close (tie.spec put-refused-requires same-length returns)

@@ -1,26 +1,69 @@
 -- `lines::refusal_line` meets its contract: the number, the words, the refusal and a newline, at the front.
 use native.Mathlib.Omega.{arith}
-use Rattle.text.specs.Laws.{puts-then}
+use mathlib.Core.Path.{refl}
+use borrow.Author.Tests.{le-leb, lt-leb}
+use Rattle.text.specs.Laws.{puts-then, puts-as}
+use Rattle.lines.specs.Laws.{wrote-puts, puts-wrote, wrote-short, wrote-nothing, wrote-yes, wrote-no}
 use Rattle.lines.specs.Lines.{refusalLine}
-use Rattle.lines.specs.Laws.{puts-holds}
 use borrow.Author.Needs.{needs}
 use Rattle.lines.proofs.refusal_line.Statement.{statement}
 use Rattle.lines.proofs.refusal_line.Tie as tie
+use Rattle.lines.proofs.refusal_line.Reads as reads
+use Rattle.lines.proofs.refusal_line.Lts as lts
+use Rattle.lines.proofs.end_line.Reads as end-line-reads
+use Rattle.lines.proofs.printed.Reads as printed-reads
+use Rattle.lines.proofs.put_refused.Reads as put-refused-reads
+use Rattle.lines.proofs.put_word.Reads as put-word-reads
+use Rattle.lines.proofs.start_line.Reads as start-line-reads
+
+returns : tie.Need-returns
+unfolding refusalLine
+returns c = wrote-no _ _ (lt-leb _ _ (c .if1 .taken)) (wrote-nothing _ _ _)
+
+returns-2 : tie.Need-returns-2
+unfolding refusalLine
+returns-2 c = wrote-short 192 0 _ _ (c .if2 .taken)
+
+printed-requires : tie.Need-printed-requires
+printed-requires c κs = search needs
+
+start-line-requires : tie.Need-start-line-requires
+start-line-requires c κs = search needs
+
+put-word-requires : tie.Need-put-word-requires
+put-word-requires c κs = search needs
+
+cast-put-refused : tie.Need-cast-put-refused
+cast-put-refused c = search needs
+
+put-refused-requires : tie.Need-put-refused-requires
+put-refused-requires c κs = search needs
+
+end-line-requires : tie.Need-end-line-requires
+end-line-requires c κs = search needs
+
+same-length : tie.Need-same-length
+same-length c = search needs
+
+returns-3 : tie.Need-returns-3
+unfolding refusalLine
+returns-3 c = wrote-yes _ _ (le-leb _ _ (c .before .before .before .before .before .before .before .before .before .before .before .before .before .before .before .before .before .before .before .if1 .left)) (puts-wrote (omega arith) (puts-as refl (omega arith)
+    (puts-then (wrote-puts (omega arith) (c .before .before .before .before .before .before .before .before .before .before .before .before .before .before .before .start-line .ensures))
+    (puts-then (puts-then (wrote-puts (omega arith) (c .before .before .before .before .before .before .before .before .before .before .before .put-word .ensures))
+    (wrote-puts (omega arith) (rw (c .before .before .before .before .before .before .before .before .before .before .before .before .before .before .before .before .before .printed .ensures) at (c .before .before .before .before .before .before .put-refused .ensures))))
+    (wrote-puts (omega arith) (c .before .before .end-line .ensures))))))
 
 pub refusal-line-spec : {M : Type 1} → statement M
-unfolding refusalLine
 refusal-line-spec =
     tie.close
     (tie.spec
-    (λ c κs. search needs)
-    (λ c κs. search needs)
-    (λ c κs. search needs)
-    (λ c. search needs)
-    (λ c κs. search needs)
-    (λ c κs. search needs)
-    (λ c. search needs)
-    (λ c. puts-holds
-    (puts-then (c .before .before .before .before .before .before .before .before .before .before .before .before .before .before .before .start-line
-    .ensures) (puts-then (puts-then (c .before .before .before .before .before .before .before .before .before .before .before .put-word .ensures)
-    (rw (c .before .before .before .before .before .before .before .before .before .before .before .before .before .before .before .before .before .printed
-    .ensures) at (c .before .before .before .before .before .before .put-refused .ensures))) (c .before .before .end-line .ensures))) (omega arith)))
+    returns
+    returns-2
+    printed-requires
+    start-line-requires
+    put-word-requires
+    cast-put-refused
+    put-refused-requires
+    end-line-requires
+    same-length
+    returns-3)

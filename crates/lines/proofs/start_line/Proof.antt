@@ -1,9 +1,13 @@
--- `lines::start_line` meets its contract: there is room.
+-- `lines::start_line` meets its contract: the number is short enough.
 use native.Mathlib.Omega.{arith}
-use Rattle.text.specs.Laws.{decimal-puts}
+use Rattle.text.specs.Laws.{decimal-twenty}
+use Rattle.lines.specs.Laws.{wrote-in}
 use borrow.Author.Needs.{needs}
 use Rattle.lines.proofs.start_line.Statement.{statement}
 use Rattle.lines.proofs.start_line.Tie as tie
+use Rattle.lines.proofs.start_line.Reads as reads
+use Rattle.lines.proofs.start_line.Lts as lts
+use Rattle.text.proofs.put_decimal.Reads as put-decimal-reads
 
 put-decimal-requires : tie.Need-put-decimal-requires
 put-decimal-requires c κs = search needs
@@ -12,7 +16,7 @@ same-length : tie.Need-same-length
 same-length c = search needs
 
 returns : tie.Need-returns
-returns c = decimal-puts (omega arith) (omega arith) (c .before .before .put-decimal .ensures)
+returns c = wrote-in (decimal-twenty _ (omega arith)) (c .before .before .put-decimal .ensures)
 
 pub start-line-spec : {M : Type 1} → statement M
 start-line-spec = tie.close (tie.spec put-decimal-requires same-length returns)

@@ -2,6 +2,7 @@
 use native.Mathlib.Omega.{arith}
 use Rattle.text.specs.Laws.{puts-then, hex-puts}
 use Rattle.inspect.specs.Records.{bytesText}
+use Rattle.lines.specs.Laws.{wrote-puts}
 use borrow.Author.Needs.{needs}
 use Rattle.inspect.proofs.records.put_bytes.Statement.{statement}
 use Rattle.inspect.proofs.records.put_bytes.Tie as tie
@@ -20,7 +21,7 @@ same-length c = search needs
 
 returns : tie.Need-returns
 unfolding bytesText
-returns c = puts-then (c .before .before .before .before .before .before .put-word .ensures) (hex-puts (c .before .before .before .before .before .before .before .before .before .before .before .args .s .now) (omega arith) (c .before .before .put-hex .ensures))
+returns c = puts-then (wrote-puts (omega arith) (c .before .before .before .before .before .before .put-word .ensures)) (hex-puts (c .before .before .before .before .before .before .before .before .before .before .before .args .s .now) (omega arith) (c .before .before .put-hex .ensures))
 
 pub put-bytes-spec : {M : Type 1} → statement M
 put-bytes-spec =

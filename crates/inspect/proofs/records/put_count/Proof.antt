@@ -3,6 +3,7 @@ use mathlib.Core.Path.{sym, ap}
 use native.Mathlib.Omega.{arith}
 use Rattle.text.specs.Laws.{puts-as}
 use Rattle.inspect.specs.Records.{countText}
+use Rattle.lines.specs.Laws.{wrote-puts}
 use borrow.Author.Needs.{needs}
 use Rattle.inspect.proofs.records.put_count.Statement.{statement}
 use Rattle.inspect.proofs.records.put_count.Tie as tie
@@ -27,14 +28,14 @@ same-length c = search needs
 
 returns : tie.Need-returns
 unfolding countText
-returns c = puts-as (ap countText (sym (c .before .before .before .before .before .enum-told .given .1))) (omega arith) (c .before .before .put-word .ensures)
+returns c = puts-as (ap countText (sym (c .before .before .before .before .before .enum-told .given .1))) (omega arith) (wrote-puts (omega arith) (c .before .before .put-word .ensures))
 
 same-length-2 : tie.Need-same-length-2
 same-length-2 c = search needs
 
 returns-2 : tie.Need-returns-2
 unfolding countText
-returns-2 c = puts-as (ap countText (sym (c .before .before .before .before .before .number .given .1))) (omega arith) (c .before .before .put-value .ensures)
+returns-2 c = puts-as (ap countText (sym (c .before .before .before .before .before .number .given .1))) (omega arith) (wrote-puts (omega arith) (c .before .before .put-value .ensures))
 
 pub put-count-spec : {M : Type 1} → statement M
 put-count-spec =

@@ -1,5 +1,7 @@
 -- `inspect::records::put_first` meets its contract: the word, and then the field.
 use Rattle.text.specs.Laws.{puts-then}
+use Rattle.lines.specs.Laws.{wrote-puts}
+use native.Mathlib.Omega.{arith}
 use borrow.Author.Needs.{needs}
 use Rattle.inspect.proofs.records.put_first.Statement.{statement}
 use Rattle.inspect.proofs.records.put_first.Tie as tie
@@ -14,7 +16,7 @@ same-length : tie.Need-same-length
 same-length c = search needs
 
 returns : tie.Need-returns
-returns c = puts-then (c .before .before .before .before .before .before .put-word .ensures) (c .before .before .put-place .ensures)
+returns c = puts-then (wrote-puts (omega arith) (c .before .before .before .before .before .before .put-word .ensures)) (c .before .before .put-place .ensures)
 
 pub put-first-spec : {M : Type 1} → statement M
 put-first-spec = tie.close (tie.spec put-word-requires put-place-requires same-length returns)

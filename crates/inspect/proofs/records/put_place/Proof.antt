@@ -4,6 +4,7 @@ use native.Mathlib.Omega.{arith}
 use Rattle.text.specs.Laws.{puts-as}
 use Rattle.inspect.specs.Records.{placeText}
 use Rattle.inspect.proofs.Lines.{place-turned, place-past, place-there}
+use Rattle.lines.specs.Laws.{wrote-puts}
 use borrow.Author.Needs.{needs}
 use Rattle.inspect.proofs.records.put_place.Statement.{statement}
 use Rattle.inspect.proofs.records.put_place.Tie as tie
@@ -30,7 +31,7 @@ same-length : tie.Need-same-length
 same-length c = search needs
 
 returns : tie.Need-returns
-returns c = puts-as (place-turned _ _ _ _ (c .before .before .before .before .before .before .before .place .given .1) (c .before .before .before .before .before .if1 .taken)) (omega arith) (c .before .before .put-word2 .ensures)
+returns c = puts-as (place-turned _ _ _ _ (c .before .before .before .before .before .before .before .place .given .1) (c .before .before .before .before .before .if1 .taken)) (omega arith) (wrote-puts (omega arith) (c .before .before .put-word2 .ensures))
 
 slice-aggregate-put-word-3 : tie.Need-slice-aggregate-put-word-3
 slice-aggregate-put-word-3 c = search needs
@@ -42,7 +43,7 @@ same-length-2 : tie.Need-same-length-2
 same-length-2 c = search needs
 
 returns-2 : tie.Need-returns-2
-returns-2 c = puts-as (place-past _ _ _ _ (c .before .before .before .before .before .before .before .before .place .given .1) (c .before .before .before .before .before .before .if1 .left) (c .before .before .before .before .before .if2 .taken)) (omega arith) (c .before .before .put-word3 .ensures)
+returns-2 c = puts-as (place-past _ _ _ _ (c .before .before .before .before .before .before .before .before .place .given .1) (c .before .before .before .before .before .before .if1 .left) (c .before .before .before .before .before .if2 .taken)) (omega arith) (wrote-puts (omega arith) (c .before .before .put-word3 .ensures))
 
 part-put-bytes-start : tie.Need-part-put-bytes-start
 part-put-bytes-start c = search needs
@@ -58,7 +59,7 @@ same-length-3 c = search needs
 
 returns-3 : tie.Need-returns-3
 unfolding placeText
-returns-3 c = puts-as (ap (placeText (c .before .before .before .before .before .before .before .before .before .args .s .now)) (sym (c .before .before .before .before .before .enum-told .given .1))) (omega arith) (c .before .before .put-word .ensures)
+returns-3 c = puts-as (ap (placeText (c .before .before .before .before .before .before .before .before .before .args .s .now)) (sym (c .before .before .before .before .before .enum-told .given .1))) (omega arith) (wrote-puts (omega arith) (c .before .before .put-word .ensures))
 
 same-length-4 : tie.Need-same-length-4
 same-length-4 c = search needs

@@ -4,6 +4,7 @@ use native.Mathlib.Omega.{arith}
 use Rattle.text.specs.Laws.{puts-as}
 use Rattle.schema.specs.declared.Kind.{Kind}
 use Rattle.inspect.specs.Records.{recordText}
+use Rattle.lines.specs.Laws.{wrote-puts}
 use borrow.Author.Needs.{needs}
 use Rattle.inspect.proofs.records.put_record.Statement.{statement}
 use Rattle.inspect.proofs.records.put_record.Tie as tie
@@ -100,7 +101,7 @@ same-length c = search needs
 
 returns : tie.Need-returns
 unfolding recordText
-returns c = puts-as (ap (λ (k : Kind). recordText k (c .before .before .before .before .before .before .before .before .before .args .s .now) (c .before .before .before .before .before .before .before .before .before .args .slots)) (sym (c .before .before .before .before .before .enum-told .given .1))) (omega arith) (c .before .before .put-word .ensures)
+returns c = puts-as (ap (λ (k : Kind). recordText k (c .before .before .before .before .before .before .before .before .before .args .s .now) (c .before .before .before .before .before .before .before .before .before .args .slots)) (sym (c .before .before .before .before .before .enum-told .given .1))) (omega arith) (wrote-puts (omega arith) (c .before .before .put-word .ensures))
 
 same-length-2 : tie.Need-same-length-2
 same-length-2 c = search needs
@@ -128,7 +129,7 @@ same-length-5 c = search needs
 
 returns-5 : tie.Need-returns-5
 unfolding recordText
-returns-5 c = puts-as (ap (λ (k : Kind). recordText k (c .before .before .before .before .before .before .before .before .before .args .s .now) (c .before .before .before .before .before .before .before .before .before .args .slots)) (sym (c .before .before .before .before .before .enum-told5 .given .1))) (omega arith) (c .before .before .put-word2 .ensures)
+returns-5 c = puts-as (ap (λ (k : Kind). recordText k (c .before .before .before .before .before .before .before .before .before .args .s .now) (c .before .before .before .before .before .before .before .before .before .args .slots)) (sym (c .before .before .before .before .before .enum-told5 .given .1))) (omega arith) (wrote-puts (omega arith) (c .before .before .put-word2 .ensures))
 
 same-length-6 : tie.Need-same-length-6
 same-length-6 c = search needs
@@ -142,7 +143,7 @@ same-length-7 c = search needs
 
 returns-7 : tie.Need-returns-7
 unfolding recordText
-returns-7 c = puts-as (ap (λ (k : Kind). recordText k (c .before .before .before .before .before .before .before .before .before .args .s .now) (c .before .before .before .before .before .before .before .before .before .args .slots)) (sym (c .before .before .before .before .before .enum-told7 .given .1))) (omega arith) (c .before .before .put-word3 .ensures)
+returns-7 c = puts-as (ap (λ (k : Kind). recordText k (c .before .before .before .before .before .before .before .before .before .args .s .now) (c .before .before .before .before .before .before .before .before .before .args .slots)) (sym (c .before .before .before .before .before .enum-told7 .given .1))) (omega arith) (wrote-puts (omega arith) (c .before .before .put-word3 .ensures))
 
 same-length-8 : tie.Need-same-length-8
 same-length-8 c = search needs

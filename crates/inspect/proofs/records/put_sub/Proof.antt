@@ -3,6 +3,7 @@ use mathlib.Core.Path.{refl}
 use native.Mathlib.Omega.{arith}
 use Rattle.text.specs.Laws.{puts-then, puts-as}
 use Rattle.inspect.specs.Records.{subText}
+use Rattle.lines.specs.Laws.{wrote-puts}
 use borrow.Author.Needs.{needs}
 use Rattle.inspect.proofs.records.put_sub.Statement.{statement}
 use Rattle.inspect.proofs.records.put_sub.Tie as tie
@@ -24,7 +25,7 @@ same-length c = search needs
 
 returns : tie.Need-returns
 unfolding subText
-returns c = puts-as refl (omega arith) (puts-then (c .before .before .before .before .before .before .before .before .before .before .put-word .ensures) (puts-then (c .before .before .before .before .before .before .put-flag .ensures) (c .before .before .put-place .ensures)))
+returns c = puts-as refl (omega arith) (puts-then (wrote-puts (omega arith) (c .before .before .before .before .before .before .before .before .before .before .put-word .ensures)) (puts-then (c .before .before .before .before .before .before .put-flag .ensures) (c .before .before .put-place .ensures)))
 
 pub put-sub-spec : {M : Type 1} → statement M
 put-sub-spec =

@@ -1,5 +1,7 @@
 -- `inspect::records::put_whole` meets its contract: the word, and then the bytes.
 use Rattle.text.specs.Laws.{puts-then}
+use Rattle.lines.specs.Laws.{wrote-puts}
+use native.Mathlib.Omega.{arith}
 use borrow.Author.Needs.{needs}
 use Rattle.inspect.proofs.records.put_whole.Statement.{statement}
 use Rattle.inspect.proofs.records.put_whole.Tie as tie
@@ -14,7 +16,7 @@ same-length : tie.Need-same-length
 same-length c = search needs
 
 returns : tie.Need-returns
-returns c = puts-then (c .before .before .before .before .before .before .put-word .ensures) (c .before .before .put-bytes .ensures)
+returns c = puts-then (wrote-puts (omega arith) (c .before .before .before .before .before .before .put-word .ensures)) (c .before .before .put-bytes .ensures)
 
 pub put-whole-spec : {M : Type 1} → statement M
 put-whole-spec = tie.close (tie.spec put-word-requires put-bytes-requires same-length returns)

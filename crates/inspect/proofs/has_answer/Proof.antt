@@ -1,0 +1,20 @@
+-- `inspect::has_answer` meets its contract: the kind picks the call.
+use native.Mathlib.Omega.{arith}
+use Rattle.inspect.proofs.Answering.{has-walk, has-varint, has-utf8, has-none}
+use Rattle.inspect.proofs.has_answer.Statement.{statement}
+use Rattle.inspect.proofs.has_answer.Tie as tie
+
+returns : tie.Need-returns
+returns c = has-walk _ _ (c .match .keys1)
+
+returns-2 : tie.Need-returns-2
+returns-2 c = has-varint _ _ (c .match .keys2)
+
+returns-3 : tie.Need-returns-3
+returns-3 c = has-utf8 _ _ (c .match .keys3)
+
+returns-4 : tie.Need-returns-4
+returns-4 c = has-none _ _ (λ e. omega arith) (λ e. omega arith) (λ e. omega arith)
+
+pub has-answer-spec : {M : Type 1} → statement M
+has-answer-spec = tie.close (tie.spec returns returns-2 returns-3 returns-4)

@@ -1,0 +1,2 @@
+-- To be believed: Ends.
+pub mod Ends
