@@ -28,6 +28,10 @@ pub nth-bound : {A : Type 0} {i : ℕ} {xs : List A} {x : A} → Nth i xs x → 
 nth-bound here = omega arith
 nth-bound (there n) = let l = nth-bound n in omega arith
 
+pub nth-same : {A : Type 0} {i : ℕ} {xs : List A} {x y : A} → Nth i xs x → Nth i xs y → x ≡ y
+nth-same here here = refl
+nth-same (there n) (there m) = nth-same n m
+
 -- a message's bytes are those that mean it
 pub raw-is : {p : List ℕ} {m : RawMessage} → IsMessage p m → m .raw ≡ p
 raw-is (is-message g u) = refl

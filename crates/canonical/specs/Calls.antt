@@ -56,7 +56,7 @@ use Rattle.encode.specs.Sign.{signAt, signChecked, signAnswer, signedAt, signed
 use Rattle.canon.specs.Canon.{canonBody}
 use Rattle.canon.specs.Taken.{taken, taken-exactly, refused-exactly}
 use Rattle.canon.specs.Written.{canon-written, sign-written}
-use Rattle.canon.specs.Messages.{Nth, here, there, nth-bound, message-found, message-missing}
+use Rattle.canon.specs.Messages.{Nth, nth-bound, nth-same, message-found, message-missing}
 
 -- ---- what 01 has the calls tell and leave
 -- a writer of the bytes xs: their number, and they stand at the front of what was lent; or 12, the room needed, and
@@ -188,10 +188,6 @@ encode-takes s out b =
     (λ x z k. writes-other)
 
 -- ---- the message at an index
-nth-same : {A : Type 0} {i : ℕ} {xs : List A} {x y : A} → Nth i xs x → Nth i xs y → x ≡ y
-nth-same here here = refl
-nth-same (there n) (there m) = nth-same n m
-
 -- where message i of the RPC stands in the body
 found-in : {s : List ℕ} {x : Rpc} {m : RawMessage} (i : ℕ) (r : MessageAt) → IsRpc s x → Nth i (x .publish) m
     → messageAt s i ≡ r → (a : ℕ) × (e : ℕ) × (messageAt s i ≡ At a e) × (IsMessage (between s a e) m)

@@ -405,18 +405,7 @@ table-rest s t n c e =
           ∙ ap (λ (j : ℕ). drop j t) z,
     )
 
--- ---- refusals
-refused-leaves : (s t : List ℕ) (d : Decoded) → (decodedTold d .number ≡ 0 → ⊥) → leaves s t d ≡ t
-refused-leaves s t (Records n c) h = absurd (h refl)
-refused-leaves s t (Refused why) h = refl
-refused-leaves s t (Room n) h = refl
-
--- a refusal leaves the table as it was
-pub refused-unchanged : (s t : List ℕ) → (decodedTold (decodeAnswer s (length t)) .number ≡ 0 → ⊥)
-    → decodeTable s t ≡ t
-unfolding decodeTable
-refused-unchanged s t h = refused-leaves s t (decodeAnswer s (length t)) h
-
+-- ---- refusals; that one leaves the table as it was is `refused-decode` of message
 -- 10 is given exactly to a body above 65,536 bytes, with its length
 large-gate : (s : List ℕ) (room n : ℕ) (r : Counted) → Gate s r
     → decodedTold (onCount room (hasControl s) r) ≡ told too-large (n ∷ []) → (n ≡ length s) × (65536 < length s)

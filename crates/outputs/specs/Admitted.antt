@@ -13,7 +13,7 @@ use Rattle.ids.specs.declared.MessageAt.the-variants.{At, Count}
 use Rattle.ids.specs.Ids.{messageAt, idBytes}
 use Rattle.admission.specs.declared.Admission.the-variants as admission
 use Rattle.admission.specs.Admission.{admissionOf}
-use Rattle.canon.specs.Messages.{Nth, here, there, nth-bound, raw-is, message-found, message-missing}
+use Rattle.canon.specs.Messages.{Nth, nth-bound, nth-same, raw-is, message-found, message-missing}
 use Rattle.canon.specs.Taken.{Within, taken as accepted, taken-exactly}
 use Rattle.node.specs.declared.Node.{Node}
 use Rattle.node.specs.declared.Lent.the-variants as lent
@@ -38,10 +38,6 @@ pub record AdmitTakes (n : Node) (ss cs body : List ℕ) (i : ℕ) (word : Bool)
   pub forward : n .clock ≤ at
 
 -- ---- message i of the RPC, where it stands in the body
-nth-same : {A : Type 0} {i : ℕ} {xs : List A} {x y : A} → Nth i xs x → Nth i xs y → x ≡ y
-nth-same here here = refl
-nth-same (there n) (there m) = nth-same n m
-
 stands : {s : List ℕ} {x : Rpc} {r : RawMessage} (i : ℕ) (q : MessageAt) → Within s x → Nth i (x .publish) r
     → messageAt s i ≡ q → (a : ℕ) × (e : ℕ) × (messageAt s i ≡ At a e) × (r .raw ≡ between s a e)
 stands i (At a e) w n q =
