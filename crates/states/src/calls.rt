@@ -1,6 +1,4 @@
 // The calls of a run, and their lines.
-ghost use Prim.Native.Nat.{_≤_};
-ghost use lib.ListN.{length};
 use super::hurt::hurt;
 use super::state::put_state;
 use basis::little_at;
@@ -9,19 +7,45 @@ use lines::words_line;
 use mcache::told::told_lookup;
 use play::calls::Run;
 use play::calls::call_node;
+use play::calls::misfit;
 use play::calls::print;
-use play::calls::set;
 use play::calls::stop;
+use play::calls::within;
 use seen::told::told_contains;
 
 // Prints the record's number and some words.
-fn say(n: u64, words: &[u8], run: Run, out: &mut [u8]) -> Run
-    requires { ⌜ length (now words) ≤ 32 ⌝ }
-    requires { ⌜ 131350 ≤ length (now out) ⌝ }
-{
+fn say(n: u64, words: &[u8], run: Run, out: &mut [u8]) -> Run {
     let k = words_line(n, words, out);
     let node = run.node;
     print(out, k, node, run)
+}
+
+// Kinds 1 to 6.
+fn on_node(
+    n: u64,
+    kind: u64,
+    content: &[u8],
+    run: Run,
+    seen_store: &mut [u8],
+    cache_store: &mut [u8],
+    made: &mut [u8],
+    out: &mut [u8],
+) -> Run {
+    if misfit(kind, content.len()) {
+        return stop(run, b"bad\n");
+    }
+    call_node(
+        n,
+        64,
+        true,
+        kind,
+        content,
+        run,
+        seen_store,
+        cache_store,
+        made,
+        out,
+    )
 }
 
 // Kinds 4, 5 and 6, which begin with the room of the buffer.
@@ -34,10 +58,7 @@ fn write(
     cache_store: &mut [u8],
     made: &mut [u8],
     out: &mut [u8],
-) -> Run
-    requires { ⌜ length (now made) ≤ 65600 ⌝ }
-    requires { ⌜ 131350 ≤ length (now out) ⌝ }
-{
+) -> Run {
     if content.len() < 4 {
         return stop(run, b"bad\n");
     }
@@ -45,9 +66,8 @@ fn write(
     if made.len() < room {
         return stop(run, b"bad\n");
     }
-    call_node(
+    on_node(
         n,
-        true,
         kind,
         &content[4..],
         run,
@@ -59,9 +79,7 @@ fn write(
 }
 
 // Kind 7.
-fn lend(n: u64, content: &[u8], mut run: Run, most: usize, most_cache: usize, out: &mut [u8]) -> Run
-    requires { ⌜ 131350 ≤ length (now out) ⌝ }
-{
+fn lend(n: u64, content: &[u8], mut run: Run, most: usize, most_cache: usize, out: &mut [u8]) -> Run {
     if content.len() != 8 {
         return stop(run, b"bad\n");
     }
@@ -93,9 +111,7 @@ fn harm(
     seen_store: &mut [u8],
     cache_store: &mut [u8],
     out: &mut [u8],
-) -> Run
-    requires { ⌜ 131350 ≤ length (now out) ⌝ }
-{
+) -> Run {
     if content.len() != 13 {
         return stop(run, b"bad\n");
     }
@@ -116,9 +132,7 @@ fn harm(
 }
 
 // Kind 9: the seen part alone.
-fn contains(n: u64, id: &[u8], run: Run, seen_store: &[u8], out: &mut [u8]) -> Run
-    requires { ⌜ 131350 ≤ length (now out) ⌝ }
-{
+fn contains(n: u64, id: &[u8], run: Run, seen_store: &[u8], out: &mut [u8]) -> Run {
     let node = run.node;
     let seen = node.seen;
     let t = told_contains(seen.contains(seen_store, id));
@@ -135,9 +149,7 @@ fn contains(n: u64, id: &[u8], run: Run, seen_store: &[u8], out: &mut [u8]) -> R
 }
 
 // Kind 10: the message cache alone.
-fn lookup(n: u64, id: &[u8], run: Run, cache_store: &[u8], out: &mut [u8]) -> Run
-    requires { ⌜ 131350 ≤ length (now out) ⌝ }
-{
+fn lookup(n: u64, id: &[u8], run: Run, cache_store: &[u8], out: &mut [u8]) -> Run {
     let node = run.node;
     let cache = node.cache;
     let t = told_lookup(cache.lookup(cache_store, id));
@@ -180,27 +192,14 @@ fn on_lent(
     cache_store: &mut [u8],
     made: &mut [u8],
     out: &mut [u8],
-) -> Run
-    requires { ⌜ length (now made) ≤ 65600 ⌝ }
-    requires { ⌜ 131350 ≤ length (now out) ⌝ }
-{
+) -> Run {
     match kind {
         4..=6 => write(n, kind, content, run, seen_store, cache_store, made, out),
         8 => harm(n, content, run, seen_store, cache_store, out),
         9 => contains(n, content, run, seen_store, out),
         10 => lookup(n, content, run, cache_store, out),
         11 => state(n, run, seen_store, cache_store, made, out),
-        _ => call_node(
-            n,
-            true,
-            kind,
-            content,
-            run,
-            seen_store,
-            cache_store,
-            made,
-            out,
-        ),
+        _ => on_node(n, kind, content, run, seen_store, cache_store, made, out),
     }
 }
 
@@ -213,31 +212,20 @@ pub(crate) fn call(
     cache_store: &mut [u8],
     made: &mut [u8],
     out: &mut [u8],
-) -> Run
-    requires { ⌜ length (now made) ≤ 65600 ⌝ }
-    requires { ⌜ 131350 ≤ length (now out) ⌝ }
-{
-    if kind == 1 {
-        return set(n, 64, content, run, out);
-    }
+) -> Run {
     if kind == 7 {
         return lend(n, content, run, seen_store.len(), cache_store.len(), out);
     }
-    let seen_len = run.seen_len;
-    let cache_len = run.cache_len;
-    if seen_len <= seen_store.len() {
-        if cache_len <= cache_store.len() {
-            return on_lent(
-                n,
-                kind,
-                content,
-                run,
-                &mut seen_store[..seen_len],
-                &mut cache_store[..cache_len],
-                made,
-                out,
-            );
-        }
-    }
-    stop(run, b"bad\n")
+    let seen_len = within(run.seen_len, seen_store.len());
+    let cache_len = within(run.cache_len, cache_store.len());
+    on_lent(
+        n,
+        kind,
+        content,
+        run,
+        &mut seen_store[..seen_len],
+        &mut cache_store[..cache_len],
+        made,
+        out,
+    )
 }

@@ -28,8 +28,6 @@ fn turn(
     out: &mut [u8],
 ) -> Run
     requires { ⌜ 65600 ≤ length (now content) ⌝ }
-    requires { ⌜ length (now made) ≤ 65600 ⌝ }
-    requires { ⌜ 131350 ≤ length (now out) ⌝ }
 {
     let h = next_record(content, 65600);
     match h {

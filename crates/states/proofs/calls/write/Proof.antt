@@ -1,7 +1,4 @@
 -- `states::calls::write` is safe and ends: the part of the buffer that is lent is there.
-use native.Mathlib.Omega.{arith}
-use denote.Ref.{now}
-use lib.Seq.{length-take-le}
 use Rattle.lines.specs.Laws.{prefix}
 use borrow.Author.Needs.{needs}
 use Rattle.states.proofs.calls.write.Statement.{statement}
@@ -23,12 +20,7 @@ write-spec =
     (λ c. search needs)
     (λ c. search needs)
     (λ c. prefix _ _ (search needs))
-    (λ c κs. let l = length-take-le (c .before .before .before .before .before .before .little-at .result)
-    (now (c .before .before .before .before .before .before .before .before .before .before .before .before .before .args .made))
-    (c .before .before .before .before .before .if2 .left) in (
-      omega (arith, c .before .before .before .before .before .before .before .before .before .before .before .before .before .pre .0),
-      c .before .before .before .before .before .before .before .before .before .before .before .before .before .pre .1,
-    ))
+    (λ c κs. search needs)
     (λ c. search needs)
     (λ c. search needs)
     (λ c. search needs)
