@@ -6,7 +6,7 @@ use mathlib.Core.List.{List, [], _∷_}
 use mathlib.Core.Bool.{true, false}
 use native.Mathlib.Omega.{arith}
 use native.Mathlib.Nat.{mul-le-mul, mul-le-mul-right, suc-mul, zero-lt-suc, div-lt-iff-lt-mul, le-div-iff-mul-le}
-use lib.ListN.{length, take, drop, getD, set, length-drop, length-set, drop-of-length-le}
+use lib.ListN.{length, take, drop, getD, set, length-drop, length-set, drop-of-length-le, List·getD-eq-default}
 use lib.Seq.{sets, length-sets, getD-set-same, getD-set-other, take-all, take-nil}
 use lib.Dec.{leb, ltb}
 use borrow.Author.Count.{below-more}
@@ -36,12 +36,11 @@ row-fits size cap p n m h k r =
     omega arith
 
 -- where a place begins: the product of two numbers below 2^32 fits a word, and a larger one is divided for
-pub product-fits : (p size : ℕ) → p < 4294967296 → size < 4294967296 → p * size < 18446744073709551616
+pub product-fits : (p size : ℕ) → p < 4294967296 → size < 4294967296 → p * size ≤ 4294967295 * 4294967295
 product-fits p size h k =
     let a : p ≤ 4294967295 = omega arith in
     let b : size ≤ 4294967295 = omega arith in
-    let m : p * size ≤ 4294967295 * 4294967295 = mul-le-mul a b in
-    omega arith
+    mul-le-mul a b
 
 pub product-past : (p size end : ℕ) → (size ≡ 0 → ⊥) → end / size < p → end < p * size
 product-past p size end some h = div-lt-iff-lt-mul {k = size} {x = end} {y = p} (omega (arith, some)) .0 h
@@ -49,29 +48,43 @@ product-past p size end some h = div-lt-iff-lt-mul {k = size} {x = end} {y = p} 
 pub product-within : (p size end : ℕ) → (size ≡ 0 → ⊥) → p ≤ end / size → p * size ≤ end
 product-within p size end some h = le-div-iff-mul-le {k = size} {x = p} {y = end} (omega (arith, some)) .0 h
 
--- the id in a place, cut at the store's end
-pub id-cut : (size : ℕ) (lens st : List ℕ) (p b n m : ℕ) → b ≡ min (p * size) (length st) → n ≡ getD lens p 0
-    → m ≡ min n (length st - b)
-    → take ((b + m) - b) (drop b st) ≡ idAt size lens st p
-unfolding idAt
-id-cut size lens st p b n m eb en em =
-    let k : (b + m) - b ≡ m = omega arith in
-    rw (k, ← en)
-    (either (leb (p * size) (length st))
-    (λ t. let h = leb-true (p * size) (length st) t in
-    let e : b ≡ p * size = omega arith in
+-- a part from b on, cut at the store's end
+pub part-cut : (st : List ℕ) (b n k m : ℕ) → k ≡ min b (length st) → m ≡ min n (length st - k)
+    → take ((k + m) - k) (drop k st) ≡ take n (drop b st)
+part-cut st b n k m ek em =
+    let g : (k + m) - k ≡ m = omega arith in
+    rw g
+    (either (leb b (length st))
+    (λ t. let h = leb-true b (length st) t in
+    let e : k ≡ b = omega arith in
     rw (← e)
-    (either (leb n (length st - b))
-    (λ u. let g = leb-true n (length st - b) u in
+    (either (leb n (length st - k))
+    (λ u. let g = leb-true n (length st - k) u in
     let f : m ≡ n = omega arith in
     rw f)
-    (λ u. let g = leb-false n (length st - b) u in
-    let l : length (drop b st) ≡ length st - b = length-drop b st in
-    take-all m (drop b st) (omega arith) ∙ sym (take-all n (drop b st) (omega arith)))))
-    (λ t. let h = leb-false (p * size) (length st) t in
-    let x : drop b st ≡ [] = drop-of-length-le st {i = b} (omega arith) in
-    let y : drop (p * size) st ≡ [] = drop-of-length-le st {i = p * size} (omega arith) in
+    (λ u. let g = leb-false n (length st - k) u in
+    let l : length (drop k st) ≡ length st - k = length-drop k st in
+    take-all m (drop k st) (omega arith) ∙ sym (take-all n (drop k st) (omega arith)))))
+    (λ t. let h = leb-false b (length st) t in
+    let x : drop k st ≡ [] = drop-of-length-le st {i = k} (omega arith) in
+    let y : drop b st ≡ [] = drop-of-length-le st {i = b} (omega arith) in
     rw (x, y, take-nil m, take-nil n)))
+
+-- the id in a place: past the lengths, whole, and cut
+module _ (size : ℕ) (lens st : List ℕ) (p : ℕ) where
+  pub id-past : length lens ≤ p → [] ≡ idAt size lens st p
+  unfolding idAt
+  id-past h = rw (List·getD-eq-default lens 0 h)
+
+  pub id-whole : take ((p * size + getD lens p 0) - p * size) (drop (p * size) st) ≡ idAt size lens st p
+  unfolding idAt
+  id-whole =
+      let k : (p * size + getD lens p 0) - p * size ≡ getD lens p 0 = omega arith in
+      rw k
+
+  pub id-cut : take (getD lens p 0) (drop (p * size) st) ≡ idAt size lens st p
+  unfolding idAt
+  id-cut = refl
 
 -- ---- numbers in use
 module _ (most : ℕ) (ring : Ring) (l : List ℕ) (i : ℕ) (inv : allUpTo most (drop i (inUse ring l)) ≡ allUpTo most

@@ -2,7 +2,7 @@
 ghost use mathlib.Core.Path.{_≡_};
 ghost use mathlib.Core.Bool.{false, cond};
 ghost use Prim.Native.Nat.{_+_, _-_, _*_, min};
-ghost use lib.ListN.{drop, getD};
+ghost use lib.ListN.{take, drop, getD};
 ghost use lib.Dec.{eqb};
 ghost use Rattle.rows.specs.Rows.{placeOf};
 ghost use Rattle.rows.specs.Ids.{sameBytes, precedesBytes, indexOf, among, distinct};
@@ -68,16 +68,10 @@ pub fn number_at(l: &[u64], i: usize) -> u64
     0
 }
 
-// Where place p of places of one size begins; the end where that is not before it. The product of two numbers below 2^32 fits; only a larger one
-// is divided for.
+// Where place p of places of one size begins; the end where that is not before it.
 fn begin_of(p: usize, size: usize, end: usize) -> usize
     ensures { λ r. ⌜ r ≡ min (p * size) end ⌝ }
 {
-    if p < 4294967296 {
-        if size < 4294967296 {
-            return least(p * size, end);
-        }
-    }
     if size == 0 {
         return 0;
     }
@@ -93,14 +87,34 @@ fn least(a: usize, b: usize) -> usize
     if a < b { a } else { b }
 }
 
-// The id in a place of a store: empty past the end of the lengths, and cut at the end of the store.
+// The first n bytes of a place, cut at the end of the store.
+fn cut<'s>(ids: &'s [u8], size: usize, p: usize, n: usize) -> &'s [u8]
+    ensures { λ r. ⌜ now r ≡ take n (drop (p * size) (now (ids .entry))) ⌝ }
+{
+    let begin = begin_of(p, size, ids.len());
+    let end = begin + least(n, ids.len() - begin);
+    &ids[begin..end]
+}
+
+// The id in a place of a store: empty past the end of the lengths, and cut at the end of the store. A product of numbers below 2^32 fits, so that
+// only a large one is divided for.
 pub fn id_at<'l, 's>(lens: &'l [u8], ids: &'s [u8], size: usize, p: usize) -> &'s [u8]
     ensures { λ r. ⌜ now r ≡ idAt size (now (lens .entry)) (now (ids .entry)) p ⌝ }
 {
-    let begin = begin_of(p, size, ids.len());
-    let n = byte_at(lens, p) as usize;
-    let end = begin + least(n, ids.len() - begin);
-    &ids[begin..end]
+    if lens.len() <= p {
+        return &ids[..0];
+    }
+    let n = lens[p] as usize;
+    if p < 4294967296 {
+        if size < 4294967296 {
+            let begin = p * size;
+            let end = begin + n;
+            if end <= ids.len() {
+                return &ids[begin..end];
+            }
+        }
+    }
+    cut(ids, size, p, n)
 }
 
 // Whether two parts hold the same bytes. Ids of one publisher differ at their ends, so the last bytes are compared first.

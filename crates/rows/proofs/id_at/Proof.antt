@@ -1,26 +1,28 @@
 use denote.Ref.{now}
-use Rattle.rows.specs.StoreLaws.{id-cut}
+use mathlib.Core.Path.{_∙_}
+use native.Mathlib.Omega.{arith}
+use Rattle.rows.specs.StoreLaws.{product-fits, id-past, id-whole, id-cut}
 use borrow.Author.Needs.{needs}
 use Rattle.rows.proofs.id_at.Statement.{statement}
 use Rattle.rows.proofs.id_at.Tie as tie
 
-begin-of-requires : tie.Need-begin-of-requires
-begin-of-requires c κs = search needs
+slice-aggregate-result : tie.Need-slice-aggregate-result
+slice-aggregate-result c = search needs
 
-byte-at-requires : tie.Need-byte-at-requires
-byte-at-requires c κs = search needs
+returns : tie.Need-returns
+returns c = id-past (c .before .before .before .before .args .size) (now (c .before .before .before .before .args .lens)) (now (c .before .before .before .before .args .ids)) (c .before .before .before .before .args .p) (c .before .if1 .taken)
+
+shared-slice-read-n : tie.Need-shared-slice-read-n
+shared-slice-read-n c = search needs
 
 cast-n : tie.Need-cast-n
-cast-n c = search needs
+cast-n c = omega (arith, c .before .before .before .shared-slice-known .given (c .before .before .before .before .args .p))
 
-sub-least : tie.Need-sub-least
-sub-least c = search needs
-
-least-requires : tie.Need-least-requires
-least-requires c κs = search needs
+mul-begin : tie.Need-mul-begin
+mul-begin c = let f = product-fits (c .before .before .before .before .before .before .args .p) (c .before .before .before .before .before .before .args .size) (c .before .if2 .taken) (c .if3 .taken) in omega arith
 
 add-end : tie.Need-add-end
-add-end c = search needs
+add-end c = let f = product-fits (c .before .before .before .before .before .before .args .p) (c .before .before .before .before .before .before .args .size) (c .before .if2 .taken) (c .if3 .taken) in omega (arith, c .before .before .before .before .before .shared-slice-known .given (c .before .before .before .before .before .before .args .p))
 
 sub-result : tie.Need-sub-result
 sub-result c = search needs
@@ -31,20 +33,28 @@ part-result-start c = search needs
 part-result-end : tie.Need-part-result-end
 part-result-end c = search needs
 
-returns : tie.Need-returns
-returns c = id-cut (c .before .before .before .before .before .before .args .size) (now (c .before .before .before .before .before .before .args .lens)) (now (c .before .before .before .before .before .before .args .ids)) (c .before .before .before .before .before .before .args .p) (c .before .before .before .begin-of .result) (c .before .before .byte-at .result) (c .before .least .result) (c .before .before .before .begin-of .ensures) (c .before .before .byte-at .ensures) (c .before .least .ensures)
+returns-2 : tie.Need-returns-2
+returns-2 c = id-whole (c .before .before .before .before .before .before .before .before .args .size) (now (c .before .before .before .before .before .before .before .before .args .lens)) (now (c .before .before .before .before .before .before .before .before .args .ids)) (c .before .before .before .before .before .before .before .before .args .p)
+
+cut-requires : tie.Need-cut-requires
+cut-requires c κs = search needs
+
+returns-3 : tie.Need-returns-3
+returns-3 c = (c .cut .ensures) ∙ id-cut (c .before .before .before .before .before .before .args .size) (now (c .before .before .before .before .before .before .args .lens)) (now (c .before .before .before .before .before .before .args .ids)) (c .before .before .before .before .before .before .args .p)
 
 pub id-at-spec : {M : Type 1} → statement M
 id-at-spec =
     tie.close
     (tie.spec
-    begin-of-requires
-    byte-at-requires
+    slice-aggregate-result
+    returns
+    shared-slice-read-n
     cast-n
-    sub-least
-    least-requires
+    mul-begin
     add-end
     sub-result
     part-result-start
     part-result-end
-    returns)
+    returns-2
+    cut-requires
+    returns-3)
