@@ -201,7 +201,11 @@ fn get(n: u64, content: &[u8], part: CachePart, store: &[u8], out: &mut [u8]) ->
 fn places_len(max_messages: usize) -> usize
     ensures { λ r. ⌜ r ≤ 262144 ⌝ }
 {
-    if max_messages <= 64 { max_messages * 4096 } else { 0 }
+    if max_messages <= 64 {
+        max_messages * 4096
+    } else {
+        0
+    }
 }
 
 // A call on a part that was started, with its places of the store.

@@ -1,6 +1,6 @@
 -- What the pieces of a line make together.
 use Prim.Native.Nat.{ℕ, _+_, _≤_, _<_}
-use mathlib.Core.Path.{_≡_, refl, sym, ap, _∙_}
+use mathlib.Core.Path.{_≡_, refl, sym, _∙_}
 use mathlib.Core.List.{List, []}
 use mathlib.Core.Bool.{Bool, true, false, cond}
 use native.Mathlib.Omega.{arith}
@@ -11,12 +11,11 @@ use borrow.Author.Tests.{leb-true, lt-leb}
 use Rattle.basis.specs.Cases.{either}
 use Rattle.basis.specs.Writing.{endIn, setIn}
 use Rattle.basis.specs.Lists.{end-fits, set-fits, end-short, set-short}
-use Rattle.io.specs.Counts.{Counts}
 use Rattle.text.specs.declared.Header.{Header}
 use Rattle.text.specs.declared.Header.the-variants.{Record}
 use Rattle.text.specs.Record.{contentLength}
 use Rattle.text.specs.Line.{Puts}
-use Rattle.text.specs.Laws.{puts-length, puts-in}
+use Rattle.text.specs.Laws.{puts-in}
 use Rattle.lines.specs.Lines.{Wrote}
 
 -- two results that meet it are equal
@@ -79,22 +78,6 @@ pub wrote-more : {p q at end : ℕ} {xs b a : List ℕ} → p ≤ q → at + q �
 wrote-more {p} {q} {at} {end} {xs} {b} {a} h l f =
     let g = wrote-puts (omega arith) f in
     puts-wrote l (record { bytes = g .bytes; place = g .place; small = omega (arith, g .small) })
-
--- ---- a line at the front
-pub wrote-length : {room at end : ℕ} {xs b a : List ℕ} → Wrote room xs b at a end → length a ≡ length b
-wrote-length {room} {at} {end} {xs} {b} {a} f =
-    either (leb (at + room) (length b))
-    (λ t. puts-length (wrote-puts (leb-true _ _ t) f))
-    (λ t. ap length (f .bytes ∙ set-short room at xs b t))
-
--- it ends within the lent bytes
-pub wrote-counts : {room end : ℕ} {xs b a : List ℕ} → Wrote room xs b 0 a end → Counts end a
-wrote-counts {room} {end} {xs} {b} {a} f =
-    let l : end ≤ length a =
-      either (leb (0 + room) (length b))
-      (λ t. omega (arith, leb-true (0 + room) (length b) t, f .small, wrote-length f))
-      (λ t. omega (arith, f .place ∙ end-short room 0 xs b t)) in
-    (l, sym (length-take-le end a l))
 
 -- ---- buffers, as programs lend them
 -- a part from the front has as many elements as it was asked for

@@ -79,7 +79,14 @@ fn write(
 }
 
 // Kind 7.
-fn lend(n: u64, content: &[u8], mut run: Run, most: usize, most_cache: usize, out: &mut [u8]) -> Run {
+fn lend(
+    n: u64,
+    content: &[u8],
+    mut run: Run,
+    most: usize,
+    most_cache: usize,
+    out: &mut [u8],
+) -> Run {
     if content.len() != 8 {
         return stop(run, b"bad\n");
     }

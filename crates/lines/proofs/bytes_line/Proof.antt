@@ -8,14 +8,6 @@ use Rattle.lines.specs.Lines.{bytesLine}
 use borrow.Author.Needs.{needs}
 use Rattle.lines.proofs.bytes_line.Statement.{statement}
 use Rattle.lines.proofs.bytes_line.Tie as tie
-use Rattle.lines.proofs.bytes_line.Reads as reads
-use Rattle.lines.proofs.bytes_line.Lts as lts
-use Rattle.lines.proofs.end_line.Reads as end-line-reads
-use Rattle.lines.proofs.further.Reads as further-reads
-use Rattle.lines.proofs.put_shown.Reads as put-shown-reads
-use Rattle.lines.proofs.put_values.Reads as put-values-reads
-use Rattle.lines.proofs.put_word.Reads as put-word-reads
-use Rattle.lines.proofs.start_line.Reads as start-line-reads
 
 returns : tie.Need-returns
 unfolding bytesLine

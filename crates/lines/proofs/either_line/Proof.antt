@@ -5,9 +5,6 @@ use Rattle.lines.specs.Lines.{eitherLine}
 use borrow.Author.Needs.{needs}
 use Rattle.lines.proofs.either_line.Statement.{statement}
 use Rattle.lines.proofs.either_line.Tie as tie
-use Rattle.lines.proofs.either_line.Reads as reads
-use Rattle.lines.proofs.either_line.Lts as lts
-use Rattle.lines.proofs.told_line.Reads as told-line-reads
 
 told-line-requires : tie.Need-told-line-requires
 told-line-requires c κs = search needs

@@ -6,10 +6,6 @@ use Rattle.lines.specs.Lines.{madeLine}
 use borrow.Author.Needs.{needs}
 use Rattle.lines.proofs.made_line.Statement.{statement}
 use Rattle.lines.proofs.made_line.Tie as tie
-use Rattle.lines.proofs.made_line.Reads as reads
-use Rattle.lines.proofs.made_line.Lts as lts
-use Rattle.lines.proofs.bytes_line.Reads as bytes-line-reads
-use Rattle.lines.proofs.refusal_line.Reads as refusal-line-reads
 
 returns : tie.Need-returns
 unfolding madeLine

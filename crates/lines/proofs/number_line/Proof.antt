@@ -8,12 +8,6 @@ use Rattle.lines.specs.Lines.{numberLine}
 use borrow.Author.Needs.{needs}
 use Rattle.lines.proofs.number_line.Statement.{statement}
 use Rattle.lines.proofs.number_line.Tie as tie
-use Rattle.lines.proofs.number_line.Reads as reads
-use Rattle.lines.proofs.number_line.Lts as lts
-use Rattle.lines.proofs.end_line.Reads as end-line-reads
-use Rattle.lines.proofs.put_value.Reads as put-value-reads
-use Rattle.lines.proofs.put_word.Reads as put-word-reads
-use Rattle.lines.proofs.start_line.Reads as start-line-reads
 
 returns : tie.Need-returns
 unfolding numberLine

@@ -7,10 +7,6 @@ use Rattle.lines.proofs.Shown.{shown-none, shown-past, shown-there}
 use borrow.Author.Needs.{needs}
 use Rattle.lines.proofs.put_hex_of.Statement.{statement}
 use Rattle.lines.proofs.put_hex_of.Tie as tie
-use Rattle.lines.proofs.put_hex_of.Reads as reads
-use Rattle.lines.proofs.put_hex_of.Lts as lts
-use Rattle.lines.proofs.put_word.Reads as put-word-reads
-use Rattle.text.proofs.put_hex.Reads as put-hex-reads
 
 returns : tie.Need-returns
 returns c = puts-as (shown-none _ _ (c .if1 .taken)) (omega arith) (puts-none _ _)

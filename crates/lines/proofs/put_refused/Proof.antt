@@ -5,9 +5,6 @@ use Rattle.lines.specs.Laws.{wrote-in}
 use borrow.Author.Needs.{needs}
 use Rattle.lines.proofs.put_refused.Statement.{statement}
 use Rattle.lines.proofs.put_refused.Tie as tie
-use Rattle.lines.proofs.put_refused.Reads as reads
-use Rattle.lines.proofs.put_refused.Lts as lts
-use Rattle.text.proofs.put_refused.Reads as put-refused-reads
 
 put-refused-requires : tie.Need-put-refused-requires
 put-refused-requires c κs = search needs

@@ -6,10 +6,6 @@ use Rattle.lines.specs.Laws.{wrote-puts}
 use borrow.Author.Needs.{needs}
 use Rattle.lines.proofs.put_shown.Statement.{statement}
 use Rattle.lines.proofs.put_shown.Tie as tie
-use Rattle.lines.proofs.put_shown.Reads as reads
-use Rattle.lines.proofs.put_shown.Lts as lts
-use Rattle.lines.proofs.put_hex_of.Reads as put-hex-of-reads
-use Rattle.lines.proofs.put_value.Reads as put-value-reads
 
 put-value-requires : tie.Need-put-value-requires
 put-value-requires c κs = search needs

@@ -5,9 +5,6 @@ use Rattle.lines.specs.Laws.{wrote-in}
 use borrow.Author.Needs.{needs}
 use Rattle.lines.proofs.put_value.Statement.{statement}
 use Rattle.lines.proofs.put_value.Tie as tie
-use Rattle.lines.proofs.put_value.Reads as reads
-use Rattle.lines.proofs.put_value.Lts as lts
-use Rattle.text.proofs.put_number.Reads as put-number-reads
 
 put-number-requires : tie.Need-put-number-requires
 put-number-requires c κs = search needs

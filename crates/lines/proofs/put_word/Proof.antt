@@ -4,9 +4,6 @@ use Rattle.lines.specs.Laws.{wrote-in}
 use borrow.Author.Needs.{needs}
 use Rattle.lines.proofs.put_word.Statement.{statement}
 use Rattle.lines.proofs.put_word.Tie as tie
-use Rattle.lines.proofs.put_word.Reads as reads
-use Rattle.lines.proofs.put_word.Lts as lts
-use Rattle.text.proofs.put_text.Reads as put-text-reads
 
 put-text-requires : tie.Need-put-text-requires
 put-text-requires c κs = search needs

@@ -8,13 +8,6 @@ use Rattle.lines.specs.Lines.{refusalLine}
 use borrow.Author.Needs.{needs}
 use Rattle.lines.proofs.refusal_line.Statement.{statement}
 use Rattle.lines.proofs.refusal_line.Tie as tie
-use Rattle.lines.proofs.refusal_line.Reads as reads
-use Rattle.lines.proofs.refusal_line.Lts as lts
-use Rattle.lines.proofs.end_line.Reads as end-line-reads
-use Rattle.lines.proofs.printed.Reads as printed-reads
-use Rattle.lines.proofs.put_refused.Reads as put-refused-reads
-use Rattle.lines.proofs.put_word.Reads as put-word-reads
-use Rattle.lines.proofs.start_line.Reads as start-line-reads
 
 returns : tie.Need-returns
 unfolding refusalLine

@@ -5,9 +5,6 @@ use Rattle.lines.specs.Laws.{wrote-in}
 use borrow.Author.Needs.{needs}
 use Rattle.lines.proofs.start_line.Statement.{statement}
 use Rattle.lines.proofs.start_line.Tie as tie
-use Rattle.lines.proofs.start_line.Reads as reads
-use Rattle.lines.proofs.start_line.Lts as lts
-use Rattle.text.proofs.put_decimal.Reads as put-decimal-reads
 
 put-decimal-requires : tie.Need-put-decimal-requires
 put-decimal-requires c κs = search needs

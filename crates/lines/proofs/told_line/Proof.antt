@@ -5,10 +5,6 @@ use Rattle.lines.specs.Lines.{toldLine}
 use borrow.Author.Needs.{needs}
 use Rattle.lines.proofs.told_line.Statement.{statement}
 use Rattle.lines.proofs.told_line.Tie as tie
-use Rattle.lines.proofs.told_line.Reads as reads
-use Rattle.lines.proofs.told_line.Lts as lts
-use Rattle.lines.proofs.refusal_line.Reads as refusal-line-reads
-use Rattle.lines.proofs.words_line.Reads as words-line-reads
 
 words-line-requires : tie.Need-words-line-requires
 words-line-requires c κs = search needs
