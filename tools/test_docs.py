@@ -45,7 +45,7 @@ fn inner(s: &[u8]) -> u64
     0
 }
 """,
-    "crates/varint/src/told.rt": "pub fn told_read(why: u8) -> u8\n{\n    why\n}\n",
+    "crates/varint/src/told.rt": "pub fn told_read(why: u8) -> u8\n    ensures { λ r. ⌜ r ≡ why ⌝ }\n{\n    why\n}\n",
     "crates/varint/specs/Lib.antt": "-- Theorems: Laws (`read-back`).\n-- Cited by contracts, and joined: Sums, by Others of ring.\npub mod Laws\npub mod Sums\n",
     "crates/varint/specs/Sums.antt": "",
     "crates/varint/specs/Laws.antt": """\
@@ -67,13 +67,15 @@ pub struct Ring {
 
 impl Ring {
     pub fn step(self) -> Self
-        requires { ⌜ self .at < 9 ⌝ }
+        ensures { λ r. ⌜ r ≡ self ⌝ }
     {
         self
     }
 }
 
-pub extern "C" fn ring_start() -> u32 {
+pub extern "C" fn ring_start() -> u32
+    ensures { λ r. ⌜ r ≡ 0 ⌝ }
+{
     0
 }
 """,
@@ -99,12 +101,6 @@ pub extern "C" fn ring_start() -> u32 {
 |---|---|---|
 | `ring::Ring::step` | one; two | ring/two_steps + |
 | `ring::ring_start` | one; two |
-
-## Functions that ask something
-
-| Function | Asks |
-|---|---|
-| `ring::Ring::step` | that the place is below 9 |
 """,
 }
 
@@ -159,14 +155,16 @@ class Case(unittest.TestCase):
     def test_a_row_twice(self):
         self.tells("has a row in line 7 already", functions=("`varint::told::told_read`", "`varint::read`"))
 
-    def test_a_requires_that_is_not_listed(self):
-        self.tells("`ring::Ring::step` (crates/ring/src/lib.rt:6) has a `requires`", functions=("| `ring::Ring::step` | that", "| `varint::read` | that"))
+    def test_a_public_function_that_asks(self):
+        self.tells("crates/varint/src/lib.rt:3: `varint::read` is public and has a `requires`", varint=("    ensures {", "    requires { ⌜ 1 ≤ 2 ⌝ }\n    ensures {"))
 
-    def test_a_function_that_asks_nothing_is_listed(self):
-        self.tells("`varint::read` (crates/varint/src/lib.rt:3) has no `requires`", functions=("| `ring::Ring::step` | that", "| `varint::read` | that"))
+    def test_a_contract_of_two_parts_or_none(self):
+        self.tells("`varint::read` is public and has 2 `ensures`", varint=("    ensures {", "    ensures { λ r. ⌜ r ≤ 2 ⌝ }\n    ensures {"))
+        self.tells("`varint::read` is public and has no `ensures`", varint=("    ensures { λ r. ⌜ r ≡ readIn (now (s .entry)) ⌝ }\n", ""))
 
-    def test_a_requires_of_the_function_itself(self):
-        self.tells("`varint::read` (crates/varint/src/lib.rt:3) has a `requires`", varint=("    ensures {", "    requires { ⌜ 1 ≤ 2 ⌝ }\n    ensures {"))
+    def test_a_program_may_promise_less(self):
+        changes = {"crates": ("# wire", "# programs"), "contributing": ("| wire |", "| programs |")}
+        self.assertEqual(self.wrong(varint=("    ensures { λ r. ⌜ r ≡ readIn (now (s .entry)) ⌝ }\n", ""), **changes), [])
 
     def test_edits(self):
         self.tells("there is no edit varint/no_read", functions=("varint/one_read", "varint/no_read"))
