@@ -189,7 +189,7 @@ encode-takes s out b =
 
 -- ---- the message at an index
 -- where message i of the RPC stands in the body
-found-in : {s : List ℕ} {x : Rpc} {m : RawMessage} (i : ℕ) (r : MessageAt) → IsRpc s x → Nth i (x .publish) m
+pub found-in : {s : List ℕ} {x : Rpc} {m : RawMessage} (i : ℕ) (r : MessageAt) → IsRpc s x → Nth i (x .publish) m
     → messageAt s i ≡ r → (a : ℕ) × (e : ℕ) × (messageAt s i ≡ At a e) × (IsMessage (between s a e) m)
 found-in {s} i (At a e) g n q =
     let f = message-found i a e g q in
@@ -324,6 +324,11 @@ id-same (is-message {s = p} {es = es} g u) =
     (w .entries) refl)
     (slot-value p 0 p kind.RawMessage (λ t. t .third) 3 (w .fields) es (whole-part p) message-seqno (w .walked)
     (w .entries) refl)
+
+-- by the places of from and seqno
+pub id-named : {p : List ℕ} {m : RawMessage} (a e b f : ℕ) → IsMessage p m → idParts p ≡ parts.Parts a e b f
+    → messageId m ≡ id (between p a e ++ between p b f)
+id-named {p} a e b f i q = sym (id-same i) ∙ ap (toId p) q
 
 module _ {s : List ℕ} {x : Rpc} (pre : List ℕ) (i : ℕ) (out : List ℕ) (w : Within s x) where
   id-fine : OfMessage i (x .publish) out (λ m. WritesId pre out (messageId m))
