@@ -25,6 +25,15 @@
 extern "C" {
 #endif
 
+/* ---- version */
+
+/*
+ * The version that this header is of, 0.2.0: 10000 times the first number, 100 times the second, and the third. pradulins_version() is that of the archive.
+ * The format is that of a node's bytes and its stores: a state that was saved under another format is not to be loaded. pradulins_format() is the archive's.
+ */
+#define PRADULINS_VERSION 200
+#define PRADULINS_FORMAT 1
+
 /* ---- sizes */
 
 /* A node, in bytes. It needs no alignment. */
@@ -111,6 +120,19 @@ extern "C" {
 /* ---- the node */
 
 /*
+ * Clocks. `at` is a reading in milliseconds (or another unit: that of ttl). A reading below the node's clock is refused (31), and one that is ttl or more
+ * above the last empties the list of seen ids, as its rules say; so do not pass the wall clock, which steps. Take it once, at start, or the node's clock
+ * (pradulins_state) if that is later, and from then on add what a clock says that never steps:
+ *
+ *     first = later of CLOCK_REALTIME, in UTC milliseconds, and the clock of the node that was loaded;     since = CLOCK_MONOTONIC;
+ *     at = first + (CLOCK_MONOTONIC - since)
+ *
+ * Saved states. Bytes that were changed on disk may still be well formed: no call finds another byte of stored data, a moved clock, or an expiry far ahead.
+ * Keep a checksum over node and stores, with PRADULINS_FORMAT and the length, and test it before they are used; write a new file beside the old one, flush
+ * it, and rename it over the old one, so that a crash leaves one of the two. examples/c/gateway.c does all of this; docs/OPERATING.md says more.
+ */
+
+/*
  * Makes a node that holds nothing, with its clock at 0. An id counts as seen for `ttl` units of the host's clock; at most `max_seen` ids (0 to 256) and
  * `max_messages` messages (0 to 64) are kept, messages for `history_len` windows (1 to 16). The stores' content does not matter yet.
  * Refused: 40.
@@ -161,6 +183,23 @@ uint32_t pradulins_serve(const uint8_t node[PRADULINS_NODE_SIZE], const uint8_t 
                          size_t cache_store_len, const uint8_t *body, size_t body_len, uint8_t *out, size_t out_len,
                          uint64_t values[PRADULINS_VALUES]);
 
+/* ---- what a node holds */
+
+/*
+ * The settings of a node: those that it was started with. The stores' lengths follow from them, so this is the first call on a node that was saved.
+ * values[0]: ttl; values[1]: max_seen; values[2]: history_len; values[3]: max_messages.
+ * Refused: 40, where they are none that a node may be started with.
+ */
+uint32_t pradulins_settings(const uint8_t node[PRADULINS_NODE_SIZE], uint64_t values[PRADULINS_VALUES]);
+
+/*
+ * The clock and the counts of a node. It tests node and stores as every call does and writes to none of them: call it after loading a saved state.
+ * values[0]: the clock, the last reading that was taken; values[1]: how many ids are kept as seen; values[2]: how many messages are kept.
+ * Refused: 40, 41, 42.
+ */
+uint32_t pradulins_state(const uint8_t node[PRADULINS_NODE_SIZE], const uint8_t *seen_store, size_t seen_store_len, const uint8_t *cache_store,
+                         size_t cache_store_len, uint64_t values[PRADULINS_VALUES]);
+
 /* ---- bodies */
 
 /*
@@ -198,6 +237,48 @@ uint32_t pradulins_decode(const uint8_t *body, size_t body_len, uint64_t *table,
  * Refused: 10, 1 to 6.
  */
 uint32_t pradulins_walk(const uint8_t *body, size_t body_len, size_t at, uint64_t values[PRADULINS_VALUES]);
+
+/* ---- the archive */
+
+/* PRADULINS_VERSION and PRADULINS_FORMAT as they were when the archive was made. */
+uint32_t pradulins_version(void);
+uint32_t pradulins_format(void);
+
+/* ---- words */
+
+/* What a refusal means, in a few words; never null. It is for people: programs go by the number. */
+static inline const char *pradulins_refusal_text(uint32_t number)
+{
+    switch (number) {
+    case PRADULINS_OK: return "not refused";
+    case PRADULINS_VARINT_SHORT: return "a varint is cut short";
+    case PRADULINS_VARINT_OVERFLOW: return "a varint is above 64 bits";
+    case PRADULINS_VARINT_NOT_MINIMAL: return "a varint is longer than it needs to be";
+    case PRADULINS_FIELD_OVERFLOW: return "a field passes the end";
+    case PRADULINS_WIRE_TYPE: return "a wire type that is not supported";
+    case PRADULINS_FIELD_NUMBER: return "a field number out of range";
+    case PRADULINS_UTF8: return "a topic is not UTF-8";
+    case PRADULINS_BODY_TOO_LARGE: return "the body has above 65,536 bytes";
+    case PRADULINS_TOO_MANY_RECORDS: return "the body has above 512 records";
+    case PRADULINS_ROOM: return "no room for the answer";
+    case PRADULINS_NO_MESSAGE: return "no message at that index";
+    case PRADULINS_MISSING_FROM: return "the message has no from";
+    case PRADULINS_INVALID_FROM: return "from has 0 or above 64 bytes";
+    case PRADULINS_INVALID_SEQNO: return "seqno is missing, or has 0 or above 64 bytes";
+    case PRADULINS_KEY_WITHOUT_SIGNATURE: return "the message has a key and no signature";
+    case PRADULINS_MISSING_SIGNATURE: return "the message has no signature and no key";
+    case PRADULINS_SIGNATURE_LENGTH: return "the signature does not have 64 bytes";
+    case PRADULINS_NOT_VERIFIED: return "the host did not verify the signature";
+    case PRADULINS_TOPIC_COUNT: return "the message has no topic, or above 4";
+    case PRADULINS_TOPIC_TOO_LONG: return "a topic has above 1,024 bytes";
+    case PRADULINS_MESSAGE_TOO_LONG: return "the message has above 4,096 bytes";
+    case PRADULINS_CLOCK_BACK: return "the reading is before the node's clock";
+    case PRADULINS_BAD_SETTING: return "a setting is out of range";
+    case PRADULINS_BAD_STORE: return "a store has not the length that the settings say";
+    case PRADULINS_MALFORMED: return "node and stores are not well formed";
+    default: return "no refusal has this number";
+    }
+}
 
 #ifdef __cplusplus
 }
