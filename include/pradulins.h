@@ -188,7 +188,7 @@ uint32_t pradulins_serve(const uint8_t node[PRADULINS_NODE_SIZE], const uint8_t 
 /*
  * The settings of a node: those that it was started with. The stores' lengths follow from them, so this is the first call on a node that was saved.
  * values[0]: ttl; values[1]: max_seen; values[2]: history_len; values[3]: max_messages.
- * Refused: 40, where they are none that a node may be started with.
+ * Refused: 42, where no node is started with them.
  */
 uint32_t pradulins_settings(const uint8_t node[PRADULINS_NODE_SIZE], uint64_t values[PRADULINS_VALUES]);
 

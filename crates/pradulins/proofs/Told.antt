@@ -7,14 +7,18 @@ use native.Mathlib.Omega.{arith}
 use lib.ListN.{take, set}
 use lib.Seq.{sets}
 use Rattle.basis.specs.declared.Told.{Told}
-use Rattle.basis.specs.Told.{valuesOf}
+use Rattle.basis.specs.Refusals.{malformed}
+use Rattle.basis.specs.Told.{valuesOf, told, done}
 use Rattle.node.specs.declared.Node.{Node}
+use Rattle.node.specs.declared.Fault.{Fault}
+use Rattle.node.specs.declared.Lent.the-variants as lent
 use Rattle.node.specs.declared.Start.{Start}
 use Rattle.node.specs.declared.Start.the-variants as start
-use Rattle.node.specs.Told.{startTold}
-use Rattle.node.specs.Calls.{startAnswer, startNode}
+use Rattle.node.specs.Told.{startTold, faultTold}
+use Rattle.node.specs.Calls.{startAnswer, startNode, lentOf}
 use Rattle.node.specs.State.{legalSettings, freshNode}
 use Rattle.stored.specs.Layout.{nodeBytes}
+use Rattle.pradulins.specs.Holds.{settingsTold, stateTold}
 use Rattle.pradulins.specs.Unique.{Starts}
 use Rattle.pradulins.specs.Refused.{not-started}
 
@@ -65,3 +69,30 @@ module _ (t m h k : ℕ) (a : Start) (r : Told) (old : List ℕ) (e : a ≡ star
       let s : r .number ≡ startTold (startAnswer m h k) .number = ap (λ (x : Told). x .number) (q ∙ ap startTold e) in
       let made = started (legalSettings m h k) (freshNode t m h k) (freshNode 0 0 1 0) old (sym s ∙ z) in
       record { number = made .0; node = w ∙ ap nodeBytes p ∙ made .1 }
+
+-- ---- what a node holds
+on-started : {A : Type 0} (b : Bool) (x y : A) → start.Started ≡ cond b start.Started start.BadSetting → x ≡ cond b x y
+on-started true x y h = refl
+on-started false x y h = let e = ap (λ (s : Start). startTold s .number) h in absurd (omega arith)
+
+on-bad : {A : Type 0} (b : Bool) (x y : A) → start.BadSetting ≡ cond b start.Started start.BadSetting → y ≡ cond b x y
+on-bad true x y h = let e = ap (λ (s : Start). startTold s .number) h in absurd (omega arith)
+on-bad false x y h = refl
+
+module _ (n : Node) {r : Told} where
+  pub settings-told : start.Started ≡ startAnswer (n .«max_seen») (n .cache .«history_len») (n .cache .«max_messages»)
+      → r ≡ told 0 (n .ttl ∷ n .«max_seen» ∷ n .cache .«history_len» ∷ n .cache .«max_messages» ∷ []) → r ≡ settingsTold n
+  unfolding startAnswer
+  settings-told h q = q ∙ on-started (legalSettings (n .«max_seen») (n .cache .«history_len») (n .cache .«max_messages»)) _ (told malformed []) h
+
+  pub settings-bad : start.BadSetting ≡ startAnswer (n .«max_seen») (n .cache .«history_len») (n .cache .«max_messages»)
+      → r ≡ told malformed [] → r ≡ settingsTold n
+  unfolding startAnswer
+  settings-bad h q = q ∙ on-bad (legalSettings (n .«max_seen») (n .cache .«history_len») (n .cache .«max_messages»)) (done (n .ttl ∷ n .«max_seen» ∷ n .cache .«history_len» ∷ n .cache .«max_messages» ∷ [])) _ h
+
+  pub state-told : (ss cs : List ℕ) → lent.Fine ≡ lentOf n ss cs
+      → r ≡ told 0 (n .clock ∷ n .seen .count ∷ n .cache .count ∷ []) → r ≡ stateTold n ss cs
+  state-told ss cs h q = rw (sym h) q
+
+  pub state-faulty : (ss cs : List ℕ) (why : Fault) → lent.Faulty why ≡ lentOf n ss cs → r ≡ faultTold why → r ≡ stateTold n ss cs
+  state-faulty ss cs why h q = rw (sym h) q

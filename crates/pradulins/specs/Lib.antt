@@ -1,4 +1,6 @@
--- To be believed: Unique (the contract of each function); what it cites stands in the crates below.
--- Theorems: Unique, Refused.
+-- To be believed: Unique (the contract of each function), Holds; what they cite stands in the crates below.
+-- Theorems: Unique, Refused, HoldsLaws.
+pub mod Holds
+pub mod HoldsLaws
 pub mod Unique
 pub mod Refused

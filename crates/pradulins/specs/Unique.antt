@@ -22,6 +22,7 @@ use Rattle.node.specs.Told.{startTold, admitTold, beatTold, advertiseTold, askT
 use Rattle.node.specs.Calls.{startAnswer, planned, admitAnswer, admitNode, admitSeen, admitCache, beatAnswer, beatNode}
 use Rattle.node.specs.Calls.{advertiseAnswer, advertiseLeft, askAnswer, askLeft, serveAnswer, serveLeft}
 use Rattle.stored.specs.Layout.{nodeIn, nodeBytes}
+use Rattle.pradulins.specs.Holds.{settingsTold, stateTold}
 
 -- ---- the node: its bytes s, the stores ss and cs, and the values vs, as they are lent; then what is returned and left
 pub record Starts (s : List ℕ) (ttl max-seen history max : ℕ) (r : ℕ) (made : List ℕ) : Type 0 where
@@ -103,6 +104,23 @@ pub one-serve : {s ss cs body out vs : List ℕ} {r r₂ : ℕ} {ws ws₂ left l
     → Serves s ss cs body out vs r ws left → Serves s ss cs body out vs r₂ ws₂ left₂
     → (r ≡ r₂) × (ws ≡ ws₂) × (left ≡ left₂)
 one-serve a b = (a .number ∙ sym (b .number), a .values ∙ sym (b .values), a .buffer ∙ sym (b .buffer))
+
+-- ---- what a node holds; nothing is given to write but the values
+pub record Settles (s vs : List ℕ) (r : ℕ) (ws : List ℕ) : Type 0 where
+  pub number : r ≡ settingsTold (nodeIn s) .number
+  pub values : ws ≡ sets vs 0 (valuesOf (settingsTold (nodeIn s)))
+
+pub one-settings : {s vs : List ℕ} {r r₂ : ℕ} {ws ws₂ : List ℕ} → Settles s vs r ws → Settles s vs r₂ ws₂
+    → (r ≡ r₂) × (ws ≡ ws₂)
+one-settings a b = (a .number ∙ sym (b .number), a .values ∙ sym (b .values))
+
+pub record States (s ss cs vs : List ℕ) (r : ℕ) (ws : List ℕ) : Type 0 where
+  pub number : r ≡ stateTold (nodeIn s) ss cs .number
+  pub values : ws ≡ sets vs 0 (valuesOf (stateTold (nodeIn s) ss cs))
+
+pub one-state : {s ss cs vs : List ℕ} {r r₂ : ℕ} {ws ws₂ : List ℕ} → States s ss cs vs r ws → States s ss cs vs r₂ ws₂
+    → (r ≡ r₂) × (ws ≡ ws₂)
+one-state a b = (a .number ∙ sym (b .number), a .values ∙ sym (b .values))
 
 -- ---- bodies
 pub record Encodes (body out vs : List ℕ) (r : ℕ) (ws left : List ℕ) : Type 0 where

@@ -3,19 +3,25 @@
 ghost use mathlib.Core.Path.{_≡_};
 ghost use lib.Seq.{sets};
 ghost use Rattle.basis.specs.Told.{valuesOf};
-ghost use Rattle.pradulins.specs.Unique.{Starts, Admits, Beats, Advertises, Asks, Serves, Encodes, Signs, Identifies, Decodes, Walks};
+ghost use Rattle.pradulins.specs.Holds.{settingsTold, stateTold, versionNumber, formatNumber};
+ghost use Rattle.pradulins.specs.Unique.{Starts, Admits, Beats, Advertises, Asks, Serves, Settles, States};
+ghost use Rattle.pradulins.specs.Unique.{Encodes, Signs, Identifies, Decodes, Walks};
 use basis::Told;
+use basis::refusals;
 use encode::encode;
 use encode::sign_bytes;
 use ids::message_id;
 use ids::told::told_message;
 use message::decode;
 use message::told::told_decoded;
+use node::Lent;
 use node::Node;
+use node::Start;
 use node::told::told_admit;
 use node::told::told_advertise;
 use node::told::told_ask;
 use node::told::told_beat;
+use node::told::told_fault;
 use node::told::told_serve;
 use node::told::told_start;
 use protobuf::Cursor;
@@ -23,6 +29,10 @@ use protobuf::told::told_encoded;
 use protobuf::told::told_walk;
 use stored::load;
 use stored::store;
+
+pub const VERSION: u32 = 200;
+
+pub const FORMAT: u32 = 1;
 
 // What a call tells: its values are handed out, its number is returned.
 fn tell(t: Told, values: &mut [u64; 4]) -> u32
@@ -176,6 +186,62 @@ pub extern "C" fn pradulins_serve(
     tell(told_serve(answer), values)
 }
 
+// ---- what a node holds
+
+// What the settings of a node tell: a node can be started with them, or it is not well formed.
+fn told_settings(n: Node) -> Told
+    ensures { λ r. ⌜ r ≡ settingsTold n ⌝ }
+{
+    let cache = n.cache;
+    let s = Node::start(n.ttl, n.max_seen, cache.history_len, cache.max_messages);
+    let answer = s.answer;
+    match answer {
+        Start::Started => Told::four(
+            0,
+            n.ttl,
+            n.max_seen as u64,
+            cache.history_len as u64,
+            cache.max_messages as u64,
+        ),
+        Start::BadSetting => Told::none(refusals::MALFORMED),
+    }
+}
+
+// What clock and counts of a node tell, where it can be used with its stores.
+fn told_state(n: Node, seen_store: &[u8], cache_store: &[u8]) -> Told
+    ensures { λ r. ⌜ r ≡ stateTold n (now («seen_store» .entry)) (now («cache_store» .entry)) ⌝ }
+{
+    let lent = n.lent(seen_store, cache_store);
+    match lent {
+        Lent::Fine => Told::three(0, n.clock, n.seen.count as u64, n.cache.count as u64),
+        Lent::Faulty(why) => told_fault(why),
+    }
+}
+
+// The settings that a node was started with.
+#[no_mangle]
+pub extern "C" fn pradulins_settings(node: &[u8; 11344], values: &mut [u64; 4]) -> u32
+    ensures { λ r. ⌜ Settles (now (node .entry)) (now (values .entry)) r (now (values .exit)) ⌝ }
+{
+    let n = load(node);
+    tell(told_settings(n), values)
+}
+
+// Its clock, and how many ids and messages it keeps.
+#[no_mangle]
+pub extern "C" fn pradulins_state(
+    node: &[u8; 11344],
+    seen_store: &[u8],
+    cache_store: &[u8],
+    values: &mut [u64; 4],
+) -> u32
+    ensures { λ r. ⌜ States (now (node .entry)) (now («seen_store» .entry)) (now («cache_store» .entry))
+        (now (values .entry)) r (now (values .exit)) ⌝ }
+{
+    let n = load(node);
+    tell(told_state(n, seen_store, cache_store), values)
+}
+
 // ---- bodies
 
 // Writes a body anew in canonical bytes.
@@ -236,4 +302,22 @@ pub extern "C" fn pradulins_walk(body: &[u8], at: usize, values: &mut [u64; 4]) 
     let c = Cursor { at: at };
     let answer = c.step(body);
     tell(told_walk(answer), values)
+}
+
+// ---- the archive
+
+// The version that the archive was made of.
+#[no_mangle]
+pub extern "C" fn pradulins_version() -> u32
+    ensures { λ r. ⌜ r ≡ versionNumber ⌝ }
+{
+    VERSION
+}
+
+// The format of a node's bytes.
+#[no_mangle]
+pub extern "C" fn pradulins_format() -> u32
+    ensures { λ r. ⌜ r ≡ formatNumber ⌝ }
+{
+    FORMAT
 }
