@@ -64,8 +64,8 @@ static void settings_are(uint64_t ttl, uint64_t max_seen, uint64_t history_len, 
 static void settings_are_refused(void)
 {
     before();
-    expect(pradulins_settings(node, values) == PRADULINS_BAD_SETTING, "bad settings are not refused");
-    after(0, NULL, "values beside 40");
+    expect(pradulins_settings(node, values) == PRADULINS_MALFORMED, "settings that are none are not refused");
+    after(0, NULL, "values beside a refusal of the settings");
 }
 
 static void state_is(size_t seen_len, size_t cache_len, uint64_t clock, uint64_t ids, uint64_t messages)
@@ -110,11 +110,6 @@ static void with_number(size_t at, uint64_t value, void (*test)(void))
 
 /* Where the numbers stand: crates/stored/specs/Layout.antt. */
 enum { TTL_AT = 0, MAX_SEEN_AT = 8, CLOCK_AT = 16, SEEN_COUNT_AT = 32, HISTORY_AT = 40, MAX_MESSAGES_AT = 48, COUNT_AT = 72, EXPIRIES_AT = 80 };
-
-static void refused_40(void)
-{
-    settings_are_refused();
-}
 
 static void refused_42(void)
 {
@@ -164,12 +159,12 @@ static void nodes(void)
     state_is_refused(4 * 129, 0, PRADULINS_BAD_STORE);
 
     /* Damaged: settings that are none, counts and expiries that do not fit, and numbers that still do. */
-    with_number(MAX_SEEN_AT, 257, refused_40);
-    with_number(MAX_SEEN_AT, UINT64_MAX, refused_40);
-    with_number(HISTORY_AT, 0, refused_40);
-    with_number(HISTORY_AT, 17, refused_40);
-    with_number(MAX_MESSAGES_AT, 65, refused_40);
-    with_number(MAX_MESSAGES_AT, UINT64_MAX, refused_40);
+    with_number(MAX_SEEN_AT, 257, settings_are_refused);
+    with_number(MAX_SEEN_AT, UINT64_MAX, settings_are_refused);
+    with_number(HISTORY_AT, 0, settings_are_refused);
+    with_number(HISTORY_AT, 17, settings_are_refused);
+    with_number(MAX_MESSAGES_AT, 65, settings_are_refused);
+    with_number(MAX_MESSAGES_AT, UINT64_MAX, settings_are_refused);
     with_number(SEEN_COUNT_AT, 5, refused_42);
     with_number(SEEN_COUNT_AT, UINT64_MAX, refused_42);
     with_number(COUNT_AT, 4, refused_42);

@@ -182,7 +182,7 @@ impl Gateway {
         self.number(MESSAGE_COUNT) as usize
     }
 
-    /// A node and what stands after it, as the library finds them: its settings (40), the lengths of the stores (41), and whether all is well formed (42).
+    /// A node and what stands after it, as the library finds them: its settings (42), the lengths of the stores (41), and whether all is well formed (42).
     pub(crate) fn tested(node: &[u8], stores: &[u8]) -> Result<Gateway, Refusal> {
         let mut own = Box::new([0; NODE_SIZE]);
         own.copy_from_slice(node);

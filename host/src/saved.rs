@@ -74,7 +74,7 @@ impl Error for LoadError {
 }
 
 /// What each byte does to a checksum.
-const TABLE: [u64; 256] = table();
+static TABLE: [u64; 256] = table();
 
 const fn table() -> [u64; 256] {
     // The polynomial of CRC-64/XZ, 0x42F0E1EBA9EA3693, with its bits in the other order.
@@ -96,7 +96,11 @@ const fn table() -> [u64; 256] {
 
 /// CRC-64/XZ.
 fn checksum(bytes: &[u8]) -> u64 {
-    !bytes.iter().fold(!0, |sum: u64, byte| sum >> 8 ^ TABLE[usize::from(sum as u8 ^ *byte)])
+    let mut sum = !0;
+    for byte in bytes {
+        sum = sum >> 8 ^ TABLE[usize::from(sum as u8 ^ *byte)];
+    }
+    !sum
 }
 
 /// The header with what it stands before.
@@ -142,7 +146,7 @@ fn opened(bytes: &[u8]) -> Result<&[u8], LoadError> {
 impl Gateway {
     /// Its state as bytes, for [`Gateway::load`]: a header of 36 bytes, then the node and its two stores.
     ///
-    /// The header has a name, `pradulins-saved` and a line feed, in 16 bytes; then, each with its lowest byte first, the [`FORMAT`] in 4, the length of what follows the
+    /// The header has a name, `pradulins-saved` and a newline, in 16 bytes; then, each with its lowest byte first, the [`FORMAT`] in 4, the length of what follows the
     /// header in 8, and the checksum of what follows it in 8, which is CRC-64/XZ.
     pub fn save(&self) -> Vec<u8> {
         let (node, seen, cache) = self.parts();
@@ -152,17 +156,25 @@ impl Gateway {
     /// The gateway that was saved.
     ///
     /// Bytes of any origin may be passed. In this order it is tested that there are as many as a header has ([`LoadError::Short`]), its name, its format, its
-    /// length and its checksum. Then the library tests the node ([`LoadError::Refused`]): its settings (40), the lengths of its stores (41), and whether all is well formed
-    /// (42; also for bytes too few for a node). `load(&[])` is `Err(LoadError::Short { found: 0 })`.
+    /// length and its checksum. Then the library tests the node and its stores ([`LoadError::Refused`]), as [`Gateway::load_plain`] says. `load(&[])` is
+    /// `Err(LoadError::Short { found: 0 })`.
     ///
     /// The checksum finds bytes that were damaged. It is not a signature: who can write the file can write any state with a right checksum.
     pub fn load(bytes: &[u8]) -> Result<Gateway, LoadError> {
-        let rest = opened(bytes)?;
-        if rest.len() < NODE_SIZE {
-            return Err(LoadError::Refused(Refusal::Malformed));
+        Gateway::load_plain(opened(bytes)?).map_err(LoadError::Refused)
+    }
+
+    /// The gateway that version 0.1.0 saved: the node and its two stores with no header before them. Save it anew: without a checksum, damage is found only where
+    /// it is not well formed.
+    ///
+    /// Refused: [`Refusal::Malformed`] (42) for fewer bytes than a node has, and for settings that no gateway is started with; [`Refusal::BadStore`] (41) where the stores are
+    /// not as long as the settings say; then [`Refusal::Malformed`] where node and stores are not well formed.
+    pub fn load_plain(bytes: &[u8]) -> Result<Gateway, Refusal> {
+        if bytes.len() < NODE_SIZE {
+            return Err(Refusal::Malformed);
         }
-        let (node, stores) = rest.split_at(NODE_SIZE);
-        Gateway::tested(node, stores).map_err(LoadError::Refused)
+        let (node, stores) = bytes.split_at(NODE_SIZE);
+        Gateway::tested(node, stores)
     }
 
     /// Writes [`Gateway::save`] to a file by [`write_file`], so that a crash leaves the state that was saved before, or this one.
@@ -248,7 +260,6 @@ mod tests {
     fn the_checksum_is_crc_64_xz() {
         assert_eq!(checksum(b"123456789"), 0x995d_c9bb_df19_39fa);
         assert_eq!(checksum(b""), 0);
-        assert_eq!(checksum(&[0; 9]), !(0..9).fold(!0, |sum: u64, _| sum >> 8 ^ TABLE[usize::from(sum as u8)]));
     }
 
     #[test]
@@ -395,6 +406,12 @@ mod tests {
             assert_eq!(saved.len(), HEADER + NODE_SIZE + 4 * 129 + 2 * 4096);
             assert!(Gateway::load(&saved).unwrap() == gateway);
             assert_eq!(word(Gateway::load(&[])), "Short { found: 0 }");
+            // As version 0.1.0 saved it.
+            assert!(Gateway::load_plain(&saved[HEADER..]).unwrap() == gateway);
+            assert_eq!(word(Gateway::load(&saved[HEADER..])), "Name");
+            assert_eq!(Gateway::load_plain(&saved).err(), Some(Refusal::Malformed));
+            assert_eq!(Gateway::load_plain(&saved[HEADER..saved.len() - 1]).err(), Some(Refusal::BadStore));
+            assert_eq!(Gateway::load_plain(&[]).err(), Some(Refusal::Malformed));
         }
 
         #[test]
@@ -445,9 +462,9 @@ mod tests {
             assert_eq!(loaded(&|rest| rest.clear()), "Refused(Malformed)");
             assert_eq!(loaded(&|rest| rest.truncate(NODE_SIZE - 1)), "Refused(Malformed)");
             for (at, value) in [(8, 257), (40, 0), (40, 17), (48, 65)] {
-                assert_eq!(loaded(&|rest| rest[at..at + 8].copy_from_slice(&u64::to_le_bytes(value))), "Refused(BadSetting)");
+                assert_eq!(loaded(&|rest| rest[at..at + 8].copy_from_slice(&u64::to_le_bytes(value))), "Refused(Malformed)");
             }
-            assert_eq!(loaded(&|rest| rest[15] = 0xff), "Refused(BadSetting)");
+            assert_eq!(loaded(&|rest| rest[15] = 0xff), "Refused(Malformed)");
             assert_eq!(loaded(&|rest| rest.truncate(NODE_SIZE)), "Refused(BadStore)");
             assert_eq!(loaded(&|rest| rest.push(0)), "Refused(BadStore)");
             assert_eq!(loaded(&|rest| rest[8] = 5), "Refused(BadStore)");
