@@ -124,7 +124,7 @@ static struct clock start_clock(uint64_t node_clock)
 
 static uint64_t read_clock(const struct clock *clock)
 {
-    uint64_t passed = milliseconds(CLOCK_MONOTONIC) - clock->since;
+    uint64_t now = milliseconds(CLOCK_MONOTONIC), passed = now > clock->since ? now - clock->since : 0;
     return passed > UINT64_MAX - clock->first ? UINT64_MAX : clock->first + passed;
 }
 
@@ -360,7 +360,7 @@ static int run(struct gateway *g, const char *path, const uint8_t *body, size_t 
     uint64_t node_clock = values[STATE_CLOCK];
     struct clock clock = start_clock(node_clock);
     if (values[STATE_SEEN] > 0 && read_clock(&clock) - node_clock >= settings[SET_TTL])
-        fprintf(stderr, "gateway: the state is older than ttl, and what it has seen is forgotten now. After a short stop this means that a clock was wrong\n");
+        fprintf(stderr, "gateway: the state is ttl old or older: what it has seen is forgotten now. After a short stop this means that a clock is wrong\n");
 
     int bad = admit_all(g, &clock, body, body_len);
     r = pradulins_heartbeat(g->node, g->seen, g->seen_len, g->cache, g->cache_len, read_clock(&clock), values);

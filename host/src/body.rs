@@ -271,9 +271,17 @@ mod tests {
         let empty = Record::Message { raw: b"", from: None, data: None, seqno: None, signature: None, key: None };
         let full = Record::Message { raw: b"r", from: Some(b"f"), data: Some(b"d"), seqno: Some(b"n"), signature: Some(b"s"), key: Some(b"k") };
         let records = [Record::SubOpts { subscribe: None, topic_id: None }, full, Record::Topic("t"), Record::Topic("u"), empty, Record::IWant];
-        let (f, d, n, s, k): (&[u8], &[u8], &[u8], &[u8], &[u8]) = (b"f", b"d", b"n", b"s", b"k");
         let wanted = [
-            Message { index: 0, raw: b"r", from: Some(f), data: Some(d), seqno: Some(n), signature: Some(s), key: Some(k), topics: vec!["t", "u"] },
+            Message {
+                index: 0,
+                raw: b"r",
+                from: Some(&b"f"[..]),
+                data: Some(&b"d"[..]),
+                seqno: Some(&b"n"[..]),
+                signature: Some(&b"s"[..]),
+                key: Some(&b"k"[..]),
+                topics: vec!["t", "u"],
+            },
             Message { index: 1, raw: b"", from: None, data: None, seqno: None, signature: None, key: None, topics: vec![] },
         ];
         assert_eq!(messages_of(&records), wanted);

@@ -208,7 +208,7 @@ impl Gateway {
 ///
 /// The bytes go to a file beside it, with `.new` after the name, and to the disk; that file is then renamed over the old one, and the folder is flushed. On an error
 /// the file beside is removed, and the old one stays; only where flushing the folder is what failed, the new one is there. A `.new` file that a crash left is
-/// written over by the next call.
+/// written over by the next call. The new file has the permissions that new files get, not those of the old one.
 ///
 /// Two writers of one file at once are not for this: each takes the other's `.new` file for its own.
 pub fn write_file(path: impl AsRef<Path>, bytes: &[u8]) -> io::Result<()> {

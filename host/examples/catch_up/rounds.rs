@@ -141,7 +141,8 @@ pub fn run(out: &mut dyn Write) -> Result<(), Box<dyn Error>> {
     restart(south, out)
 }
 
-/// A wall clock that steps by an hour: with the site's own clock nothing is lost and nothing refused.
+/// A wall clock that steps by an hour: with the site's own clock nothing is lost and nothing refused. The machine's wall clock is not stepped for this; the site's clock
+/// would not see it, and the crate's tests do step one (src/clock.rs).
 fn clocks(site: &mut Site, out: &mut dyn Write) -> Result<(), Box<dyn Error>> {
     let old = notice("north", 1, TOPIC, &[1; 3900])?;
     let (name, now) = (site.name, site.clock.now());
@@ -152,8 +153,8 @@ fn clocks(site: &mut Site, out: &mut dyn Write) -> Result<(), Box<dyn Error>> {
     // What a host would see that passes the wall clock itself: on copies, since the second one loses what it has seen.
     let (mut back, mut ahead) = (site.gateway.clone(), site.gateway.clone());
     writeln!(out, "a host that passes the wall clock itself would see this")?;
-    writeln!(out, "  an hour back: a notice of now is {}", told(&mut back, &notice("east", 2, TOPIC, b"")?, now - HOUR)?)?;
-    writeln!(out, "  an hour ahead: the old notice is {}, though it was seen", told(&mut ahead, &old, site.clock.now() + HOUR)?)?;
+    writeln!(out, "  an hour back: a notice of now is {}", told(&mut back, &notice("east", 2, TOPIC, b"")?, now.saturating_sub(HOUR))?)?;
+    writeln!(out, "  an hour ahead: the old notice is {}, though it was seen", told(&mut ahead, &old, now.saturating_add(HOUR))?)?;
     Ok(())
 }
 
