@@ -3,9 +3,10 @@
  *
  *     gateway STATE [NOTICE]
  *
- * loads the gateway of the file STATE, or starts a new one where there is no such file; admits each message of the body in the file NOTICE, or of a notice that
- * is built in; prints for each `new`, `duplicate`, or why it is refused; opens a window; offers what it has; and saves itself to STATE. Run it twice on one file: the
- * notice is first new, then a duplicate. A file that was damaged is never replaced by a new gateway, which would have seen nothing: the program says what is wrong.
+ * loads the gateway of the file STATE, or starts a new one where there is no such file; admits each message of the body in the file NOTICE, or of a
+ * notice that is built in; prints for each `new`, `duplicate`, or why it is refused; opens a window; offers what it has; and saves itself to STATE.
+ * Run it twice on one file: the notice is first new, then a duplicate. A file that was damaged is never replaced by a new gateway, which would have
+ * seen nothing: the program says what is wrong.
  *
  * Status: 0, or 1 where something was refused or failed, or 2 for other arguments.
  *
@@ -131,8 +132,8 @@ static uint64_t read_clock(const struct clock *clock)
 /* ---- saved states: the file that the crate for Rust writes and reads, too */
 
 /*
- * The header: a name of 16 bytes; the format, 4 bytes, the length of what follows the header, 8 bytes, and its checksum, 8 bytes, the lowest byte first. Then
- * come the node and its two stores. The checksum is CRC-64/XZ.
+ * The header: a name of 16 bytes; the format, 4 bytes, the length of what follows the header, 8 bytes, and its checksum, 8 bytes, the lowest byte
+ * first. Then come the node and its two stores. The checksum is CRC-64/XZ.
  */
 #define NAME "pradulins-saved\n"
 enum { NAME_SIZE = 16, HEADER = 36 };
@@ -299,8 +300,8 @@ static int save(const struct gateway *g, const char *path)
 static const uint8_t BUILT_IN[88] = {0x12, 86, 0x0a, 1, 'C', 0x12, 8, 's', 't', 'u', 'd', 'y', ' ', '1', '7', 0x1a, 1, 1, 0x22, 2, 'c', 't', 0x2a, 64};
 
 /*
- * The host's word on a message. `sign` holds the bytes that its signature is made over; a real gateway tests the signature in the record against them, with the
- * key of the sender, by a library for that. This one believes everybody.
+ * The host's word on a message. `sign` holds the bytes that its signature is made over; a real gateway tests the signature in the record against
+ * them, with the key of the sender, by a library for that. This one believes everybody.
  */
 static bool verified(const uint8_t *sign, size_t sign_len, const uint64_t *record, const uint8_t *body)
 {
@@ -360,7 +361,7 @@ static int run(struct gateway *g, const char *path, const uint8_t *body, size_t 
     uint64_t node_clock = values[STATE_CLOCK];
     struct clock clock = start_clock(node_clock);
     if (values[STATE_SEEN] > 0 && read_clock(&clock) - node_clock >= settings[SET_TTL])
-        fprintf(stderr, "gateway: the state is ttl old or older: what it has seen is forgotten now. After a short stop this means that a clock is wrong\n");
+        fprintf(stderr, "gateway: the state is ttl old or older: what it has seen is forgotten now. After a short stop, a clock is wrong\n");
 
     int bad = admit_all(g, &clock, body, body_len);
     r = pradulins_heartbeat(g->node, g->seen, g->seen_len, g->cache, g->cache_len, read_clock(&clock), values);

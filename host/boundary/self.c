@@ -1,7 +1,7 @@
 /*
- * The calls of pradulins.h that no program has a line for: settings and state of a node, version and format, and the words for refusals. They are made on nodes that
- * are fresh, filled and damaged, and on stores of other lengths. Each time the answer and the values are tested, that values which are not named stay, and that no
- * byte of the node and the stores changed.
+ * The calls of pradulins.h that no program has a line for: settings and state of a node, version and format, and the words for refusals. They are
+ * made on nodes that are fresh, filled and damaged, and on stores of other lengths. Each time the answer and the values are tested, that values which
+ * are not named stay, and that no byte of the node and the stores changed.
  */
 #include "player.h"
 

@@ -1,5 +1,6 @@
 #!/usr/bin/env python3
-"""Tests of tools/host and tools/x86.py that need no compiler: comparing lines, when an archive is made again, the warning about the kit, and how a failure ends.
+"""Tests of tools/host and tools/x86.py that need no compiler: comparing lines, when an archive is made again, the warning about the kit, how a
+failure ends.
 
     python3 host/boundary/test_host.py
 """
@@ -103,8 +104,8 @@ class Archives(Tree):
 
     def test_it_is_made_again_where_something_changed(self):
         X86.archive("library")
-        for n, name in enumerate(["crates/basis/src/lib.rt", "crates/field/specs/Field.antt", "crates/field/proofs/deep/Field.antt", "crates/library/src/new.rt",
-                                  "crates.txt"], 2):
+        for n, name in enumerate(["crates/basis/src/lib.rt", "crates/field/specs/Field.antt", "crates/field/proofs/deep/Field.antt",
+                                  "crates/library/src/new.rt", "crates.txt"], 2):
             self.put(name, TREE.get(name, "") + "\n# changed\n")
             self.assertFalse(X86.stands("library"), name)
             X86.archive("library")
@@ -205,7 +206,8 @@ class Ends(Tree):
         status, out, err = self.ended()
         self.assertEqual(status, 1)
         self.assertEqual(out, ["%-26s %-20s %s" % ("archive", "rt staticlib", "proves and makes it, some minutes")])
-        self.assertEqual(err, ["  not proved: pradulins", "host: all of this is in target/host/log", "host: FAILED: rt staticlib pradulins ended with 1"])
+        self.assertEqual(err, ["  not proved: pradulins", "host: all of this is in target/host/log",
+                               "host: FAILED: rt staticlib pradulins ended with 1"])
 
     def test_usage(self):
         for words in (["none"], ["example", "d"], ["test", "c"], ["--kills", "0"], ["--archive", "x", "--anew"]):

@@ -6,12 +6,12 @@ use std::time::{Duration, Instant, SystemTime, UNIX_EPOCH};
 
 /// The readings to pass to a [`Gateway`], in UTC milliseconds. They never fall, and they do not jump with the wall clock.
 ///
-/// A wall clock steps: it is set by a person or by another machine, and a gateway takes that at its word. A reading before the gateway's clock is refused
-/// ([`Refusal::ClockBack`](crate::Refusal::ClockBack), 31) until the wall clock has caught up. A reading that is `ttl` or more after the last one empties the list of
-/// seen ids, as the rules say; old notices are then new again, and each true reading after it is refused.
+/// A wall clock steps: it is set by a person or by another machine, and a gateway takes that at its word. A reading before the gateway's clock is
+/// refused ([`Refusal::ClockBack`](crate::Refusal::ClockBack), 31) until the wall clock has caught up. A reading that is `ttl` or more after the last
+/// one empties the list of seen ids, as the rules say; old notices are then new again, and each true reading after it is refused.
 ///
-/// So this clock looks at the wall clock once, when it is made, and from then on adds what [`Instant`] says, which never steps. After a restart it goes on from the
-/// saved gateway's clock, where the wall clock is behind it, as on a machine that starts at 0 at each boot.
+/// So this clock looks at the wall clock once, when it is made, and from then on adds what [`Instant`] says, which never steps. After a restart it
+/// goes on from the saved gateway's clock, where the wall clock is behind it, as on a machine that starts at 0 at each boot.
 ///
 #[cfg_attr(not(no_archive), doc = "```")]
 #[cfg_attr(no_archive, doc = "```no_run")]
@@ -25,8 +25,8 @@ use std::time::{Duration, Instant, SystemTime, UNIX_EPOCH};
 ///
 /// [`Instant`] does not run while the machine sleeps. The clock is late then, which keeps ids longer and refuses nothing.
 ///
-/// Use one clock for each gateway, as long as the program runs: a second one that was made after the wall clock stepped may be behind the first. A `ttl` is in
-/// milliseconds with it.
+/// Use one clock for each gateway, as long as the program runs: a second one that was made after the wall clock stepped may be behind the first. A
+/// `ttl` is in milliseconds with it.
 #[derive(Clone, Copy)]
 pub struct Clock(Running<Machine>);
 
@@ -50,9 +50,9 @@ impl Clock {
 
     /// By how much a reading now is after the gateway's clock; 0 where it is not.
     ///
-    /// From `ttl` on, the next call empties the list of seen ids. Ask for it after loading a saved gateway: if it is `ttl` or more after a short stop, the wall clock
-    /// is wrong (or was, when the state was saved), and a person should look before a call is made. Of a gateway that was just started it says nothing: that one
-    /// has seen nothing, and its clock is 0.
+    /// From `ttl` on, the next call empties the list of seen ids. Ask for it after loading a saved gateway: if it is `ttl` or more after a short stop,
+    /// the wall clock is wrong (or was, when the state was saved), and a person should look before a call is made. Of a gateway that was just started
+    /// it says nothing: that one has seen nothing, and its clock is 0.
     pub fn ahead_of(&self, gateway: &Gateway) -> u64 {
         self.now().saturating_sub(gateway.clock())
     }
@@ -248,8 +248,8 @@ mod tests {
             not_new: usize,
         }
 
-        /// Three hours: every five minutes a new notice and a heartbeat, and all notices again of the 25 minutes before. The wall clock steps after some of them. The
-        /// gateway is passed the reading that `read` gives.
+        /// Three hours: every five minutes a new notice and a heartbeat, and all notices again of the 25 minutes before. The wall clock steps after
+        /// some of them. The gateway is passed the reading that `read` gives.
         fn story(set: &Set, steps: &[(usize, i64)], read: impl Fn() -> u64) -> Wrong {
             let mut gateway = Gateway::start(SETTINGS).unwrap();
             let mut wrong = Wrong::default();

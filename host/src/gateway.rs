@@ -48,8 +48,8 @@ pub struct Served {
 
 /// A gateway's state: ids that were seen, recent messages, and the clock.
 ///
-/// Every reading of the clock that is passed to it must be at least the last one; an earlier one is refused and changes nothing. [`Clock`](crate::Clock) gives
-/// readings that never fall.
+/// Every reading of the clock that is passed to it must be at least the last one; an earlier one is refused and changes nothing.
+/// [`Clock`](crate::Clock) gives readings that never fall.
 #[derive(Clone, PartialEq, Eq)]
 pub struct Gateway {
     node: Box<sys::Node>,
@@ -182,7 +182,8 @@ impl Gateway {
         self.number(MESSAGE_COUNT) as usize
     }
 
-    /// A node and what stands after it, as the library finds them: its settings (42), the lengths of the stores (41), and whether all is well formed (42).
+    /// A node and what stands after it, as the library finds them: its settings (42), the lengths of the stores (41), and whether all is well formed
+    /// (42).
     pub(crate) fn tested(node: &[u8], stores: &[u8]) -> Result<Gateway, Refusal> {
         let mut own = Box::new([0; NODE_SIZE]);
         own.copy_from_slice(node);

@@ -1,6 +1,6 @@
 //! A gossip node for gateways: it calls each notice new exactly once, and catches up with other gateways. Every call is a call of a library in which
-//! each function is proved to meet its contract; this crate owns the memory that the library is lent, and gives refusals a type. It depends on nothing, and its users
-//! write no `unsafe`.
+//! each function is proved to meet its contract; this crate owns the memory that the library is lent, and gives refusals a type. It depends on
+//! nothing, and its users write no `unsafe`.
 //!
 //! A host reads a body that came in, and admits each message in it:
 //!
@@ -29,8 +29,8 @@
 //! # Ok::<(), Box<dyn std::error::Error>>(())
 //! ```
 //!
-//! Another gateway catches up: it is told what there is, asks for what it lacks, and admits the reply. If it lacks n messages of the topic, n/15 such rounds, rounded
-//! up, are enough, under the premises that docs/PROMISES.md of the repository names.
+//! Another gateway catches up: it is told what there is, asks for what it lacks, and admits the reply. If it lacks n messages of the topic, n/15 such
+//! rounds, rounded up, are enough, under the premises that docs/PROMISES.md of the repository names.
 //!
 #![cfg_attr(not(no_archive), doc = "```")]
 #![cfg_attr(no_archive, doc = "```no_run")]
@@ -52,26 +52,27 @@
 //! # What the host does
 //!
 //! - Framing: how bodies are parted on the wire. The example in host/examples/catch_up has one way.
-//! - The check of signatures: over [`sign_bytes`] of a message, with its key or that of its sender. What came of it is passed to [`Gateway::admit`], which takes it at
-//!   its word.
+//! - The check of signatures: over [`sign_bytes`] of a message, with its key or that of its sender. What came of it is passed to [`Gateway::admit`],
+//!   which takes it at its word.
 //! - Readings of a clock, by [`Clock`], which does not step when the wall clock does.
 //! - A heartbeat at regular times ([`Gateway::heartbeat`]), and saving ([`Gateway::save_to`]).
 //!
 //! # Saved states
 //!
-//! [`Gateway::save`] writes a name, a format, a length and a checksum before the state, and [`Gateway::load`] says which of them is wrong, in a [`LoadError`]. The checksum is
-//! there since damaged bytes may still be well formed. [`Gateway::save_to`] and [`Gateway::load_from`] do the same with a file, written so that a crash leaves the old state or
-//! the new; [`write_file`] does that for any bytes. After loading, make the clock by [`Clock::after`], and look at [`Clock::ahead_of`].
+//! [`Gateway::save`] writes a name, a format, a length and a checksum before the state, and [`Gateway::load`] says which of them is wrong, in a
+//! [`LoadError`]. The checksum is there since damaged bytes may still be well formed. [`Gateway::save_to`] and [`Gateway::load_from`] do the same
+//! with a file, written so that a crash leaves the old state or the new; [`write_file`] does that for any bytes. After loading, make the clock by
+//! [`Clock::after`], and look at [`Clock::ahead_of`].
 //!
 //! # Sizes
 //!
-//! `max_seen` is at least as many notices as are new within one `ttl`: past it the oldest id leaves, and its notice is new if it comes again. How to choose this and the other
-//! [`Settings`], the windows of an offer, and buffers is in docs/OPERATING.md of the repository.
+//! `max_seen` is at least as many notices as are new within one `ttl`: past it the oldest id leaves, and its notice is new if it comes again. How to
+//! choose this and the other [`Settings`], the windows of an offer, and buffers is in docs/OPERATING.md of the repository.
 //!
 //! # Refusals
 //!
-//! A call that is refused has changed nothing. [`Refusal`] has a case for each number of the table of refusals, with the values beside it; docs/OPERATING.md says what each
-//! means for those who run a gateway.
+//! A call that is refused has changed nothing. [`Refusal`] has a case for each number of the table of refusals, with the values beside it;
+//! docs/OPERATING.md says what each means for those who run a gateway.
 //!
 #![cfg_attr(not(no_archive), doc = "```")]
 #![cfg_attr(no_archive, doc = "```no_run")]
@@ -86,9 +87,9 @@
 //!
 //! # Linking
 //!
-//! The archive libpradulins.a is for x86-64 Linux. It is looked for where `rt staticlib pradulins` writes it in the repository that this crate stands in,
-//! or in the folder that the environment variable `PRADULINS_LIB_DIR` names. Where there is none, or for another machine, the crate can be checked and those of its tests
-//! run that call nothing of it; `tools/host` of the repository runs all tests and the example on Arm, too.
+//! The archive libpradulins.a is for x86-64 Linux. It is looked for where `rt staticlib pradulins` writes it in the repository that this crate stands
+//! in, or in the folder that the environment variable `PRADULINS_LIB_DIR` names. Where there is none, or for another machine, the crate can be checked
+//! and those of its tests run that call nothing of it; `tools/host` of the repository runs all tests and the example on Arm, too.
 
 mod body;
 mod clock;

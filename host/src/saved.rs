@@ -146,8 +146,8 @@ fn opened(bytes: &[u8]) -> Result<&[u8], LoadError> {
 impl Gateway {
     /// Its state as bytes, for [`Gateway::load`]: a header of 36 bytes, then the node and its two stores.
     ///
-    /// The header has a name, `pradulins-saved` and a newline, in 16 bytes; then, each with its lowest byte first, the [`FORMAT`] in 4, the length of what follows the
-    /// header in 8, and the checksum of what follows it in 8, which is CRC-64/XZ.
+    /// The header has a name, `pradulins-saved` and a newline, in 16 bytes; then, each with its lowest byte first, the [`FORMAT`] in 4, the length of
+    /// what follows the header in 8, and the checksum of what follows it in 8, which is CRC-64/XZ.
     pub fn save(&self) -> Vec<u8> {
         let (node, seen, cache) = self.parts();
         sealed(&[node, seen, cache])
@@ -155,20 +155,20 @@ impl Gateway {
 
     /// The gateway that was saved.
     ///
-    /// Bytes of any origin may be passed. In this order it is tested that there are as many as a header has ([`LoadError::Short`]), its name, its format, its
-    /// length and its checksum. Then the library tests the node and its stores ([`LoadError::Refused`]), as [`Gateway::load_plain`] says. `load(&[])` is
-    /// `Err(LoadError::Short { found: 0 })`.
+    /// Bytes of any origin may be passed. In this order it is tested that there are as many as a header has ([`LoadError::Short`]), its name, its
+    /// format, its length and its checksum. Then the library tests the node and its stores ([`LoadError::Refused`]), as [`Gateway::load_plain`] says.
+    /// `load(&[])` is `Err(LoadError::Short { found: 0 })`.
     ///
     /// The checksum finds bytes that were damaged. It is not a signature: who can write the file can write any state with a right checksum.
     pub fn load(bytes: &[u8]) -> Result<Gateway, LoadError> {
         Gateway::load_plain(opened(bytes)?).map_err(LoadError::Refused)
     }
 
-    /// The gateway that version 0.1.0 saved: the node and its two stores with no header before them. Save it anew: without a checksum, damage is found only where
-    /// it is not well formed.
+    /// The gateway that version 0.1.0 saved: the node and its two stores with no header before them. Save it anew: without a checksum, damage is
+    /// found only where it is not well formed.
     ///
-    /// Refused: [`Refusal::Malformed`] (42) for fewer bytes than a node has, and for settings that no gateway is started with; [`Refusal::BadStore`] (41) where the stores are
-    /// not as long as the settings say; then [`Refusal::Malformed`] where node and stores are not well formed.
+    /// Refused: [`Refusal::Malformed`] (42) for fewer bytes than a node has, and for settings that no gateway is started with; [`Refusal::BadStore`]
+    /// (41) where the stores are not as long as the settings say; then [`Refusal::Malformed`] where node and stores are not well formed.
     pub fn load_plain(bytes: &[u8]) -> Result<Gateway, Refusal> {
         if bytes.len() < NODE_SIZE {
             return Err(Refusal::Malformed);
@@ -184,8 +184,8 @@ impl Gateway {
 
     /// The gateway that [`Gateway::save_to`] wrote to a file.
     ///
-    /// A host that starts for the first time has no file, and should start a new gateway then and only then: what is wrong with a file is for a person to look at,
-    /// since a new gateway has seen nothing and calls old notices new.
+    /// A host that starts for the first time has no file, and should start a new gateway then and only then: what is wrong with a file is for a
+    /// person to look at, since a new gateway has seen nothing and calls old notices new.
     ///
     /// ```no_run
     /// use pradulins::{Gateway, LoadError, Settings};
@@ -206,9 +206,9 @@ impl Gateway {
 
 /// Writes a file so that a crash leaves the old content or the new.
 ///
-/// The bytes go to a file beside it, with `.new` after the name, and to the disk; that file is then renamed over the old one, and the folder is flushed. On an error
-/// the file beside is removed, and the old one stays; only where flushing the folder is what failed, the new one is there. A `.new` file that a crash left is
-/// written over by the next call. The new file has the permissions that new files get, not those of the old one.
+/// The bytes go to a file beside it, with `.new` after the name, and to the disk; that file is then renamed over the old one, and the folder is
+/// flushed. On an error the file beside is removed, and the old one stays; only where flushing the folder is what failed, the new one is there. A
+/// `.new` file that a crash left is written over by the next call. The new file has the permissions that new files get, not those of the old one.
 ///
 /// Two writers of one file at once are not for this: each takes the other's `.new` file for its own.
 pub fn write_file(path: impl AsRef<Path>, bytes: &[u8]) -> io::Result<()> {

@@ -150,8 +150,8 @@ fn a_state_is_saved_and_loaded() {
     assert!(matches!(Gateway::load(&saved[..100]), Err(LoadError::Length { found: 64, .. })));
 }
 
-/// Bytes of a node or a store changed, past the header: a call on them is refused, or they are well formed and it answers. A call may then leave a state that is
-/// refused: with another ttl the next expiry may fall below the last one.
+/// Bytes of a node or a store changed, past the header: a call on them is refused, or they are well formed and it answers. A call may then leave a
+/// state that is refused: with another ttl the next expiry may fall below the last one.
 #[test]
 fn damage_is_refused_or_harmless() {
     let mut gateway = Gateway::start(SETTINGS).unwrap();

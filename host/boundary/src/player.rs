@@ -1,6 +1,6 @@
-//! Plays the records of the programs `inspect`, `trace` and `states` through the crate, and prints their lines; where the crate does not have the call, the
-//! record's number and `-`. In `trace` the gateway is saved and loaded again before each call. In `states` it is made before each call of bytes that nothing has
-//! tested, since a damaged state would not be loaded.
+//! Plays the records of the programs `inspect`, `trace` and `states` through the crate, and prints their lines; where the crate does not have the
+//! call, the record's number and `-`. In `trace` the gateway is saved and loaded again before each call. In `states` it is made before each call of
+//! bytes that nothing has tested, since a damaged state would not be loaded.
 
 use pradulins::{decode, message_id, reencode, sign_bytes, walk_from, Admitted, Gateway, Record, Refusal, Settings, NODE_SIZE};
 use std::fmt::Write as _;

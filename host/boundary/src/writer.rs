@@ -16,7 +16,8 @@ fn notice(number: u64) -> Vec<u8> {
     body
 }
 
-/// Admits a notice, saves the gateway to the file and prints its clock, over and over: the clock goes up by 1. It begins with the gateway of the file, if there is one.
+/// Admits a notice, saves the gateway to the file and prints its clock, over and over: the clock goes up by 1. It begins with the gateway of the
+/// file, if there is one.
 pub fn write(path: &str, out: &mut dyn Write) -> Result<(), Box<dyn Error>> {
     let mut gateway = match Gateway::load_from(path) {
         Err(LoadError::Read(why)) if why.kind() == ErrorKind::NotFound => Gateway::start(SETTINGS)?,

@@ -1,5 +1,5 @@
-//! Two gateways in one process. Notices are passed on over a link that loses some; then the gateways catch up with each other, round by round. Then a wall clock
-//! steps by an hour, and a gateway is saved and loaded again.
+//! Two gateways in one process. Notices are passed on over a link that loses some; then the gateways catch up with each other, round by round. Then a
+//! wall clock steps by an hour, and a gateway is saved and loaded again.
 //!
 //!     cargo run --example catch_up
 

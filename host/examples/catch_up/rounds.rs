@@ -141,8 +141,8 @@ pub fn run(out: &mut dyn Write) -> Result<(), Box<dyn Error>> {
     restart(south, out)
 }
 
-/// A wall clock that steps by an hour: with the site's own clock nothing is lost and nothing refused. The machine's wall clock is not stepped for this; the site's clock
-/// would not see it, and the crate's tests do step one (src/clock.rs).
+/// A wall clock that steps by an hour: with the site's own clock nothing is lost and nothing refused. The machine's wall clock is not stepped for
+/// this; the site's clock would not see it, and the crate's tests do step one (src/clock.rs).
 fn clocks(site: &mut Site, out: &mut dyn Write) -> Result<(), Box<dyn Error>> {
     let old = notice("north", 1, TOPIC, &[1; 3900])?;
     let (name, now) = (site.name, site.clock.now());
