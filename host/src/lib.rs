@@ -2,30 +2,33 @@
 //! each function is proved to meet its contract; this crate owns the memory that the library is lent, and gives refusals a type. It depends on
 //! nothing, and its users write no `unsafe`.
 //!
-//! A host reads a body that came in, and admits each message in it:
+//! A host admits each message of a body that came in. Here `verify` and `file` are its own: the check of a signature, and what it does with a notice
+//! that is new.
 //!
 #![cfg_attr(not(no_archive), doc = "```")]
 #![cfg_attr(no_archive, doc = "```no_run")]
 //! use pradulins::{messages, sign_bytes, Admitted, Clock, Gateway, Message, Settings};
 //! # fn verify(_message: &Message, _signed: &[u8]) -> bool { true }
-//! # fn show(_message: &Message) {}
+//! # fn file(_message: &Message) {}
 //! # let mut body = vec![0x12, 0x4b, 0x0a, 1, b'A', 0x1a, 1, 1, 0x22, 1, b't', 0x2a, 0x40];
 //! # body.extend([0; 64]);
-//! # let file = std::env::temp_dir().join(format!("pradulins-page-{}", std::process::id()));
+//! # let path = std::env::temp_dir().join(format!("pradulins-page-{}", std::process::id()));
 //!
 //! let settings = Settings { ttl: 3_600_000, max_seen: 256, history_len: 4, max_messages: 64 };
 //! let mut gateway = Gateway::start(settings)?;
 //! let clock = Clock::after(&gateway);
 //! for message in messages(&body)? {
 //!     let verified = verify(&message, &sign_bytes(&body, message.index)?);
-//!     if gateway.admit(&body, message.index, verified, clock.now())? == Admitted::New {
-//!         show(&message);
+//!     match gateway.admit(&body, message.index, verified, clock.now()) {
+//!         Ok(Admitted::New) => file(&message),
+//!         Ok(Admitted::Duplicate) => {}
+//!         Err(refusal) => eprintln!("message {}: {refusal}", message.index),
 //!     }
 //! }
 //! gateway.heartbeat(clock.now())?;
-//! gateway.save_to(&file)?;
-//! # assert_eq!((gateway.seen(), gateway.messages(), Gateway::load_from(&file)? == gateway), (1, 1, true));
-//! # std::fs::remove_file(&file)?;
+//! gateway.save_to(&path)?;
+//! # assert_eq!((gateway.seen(), gateway.messages(), Gateway::load_from(&path)? == gateway), (1, 1, true));
+//! # std::fs::remove_file(&path)?;
 //! # Ok::<(), Box<dyn std::error::Error>>(())
 //! ```
 //!
@@ -61,8 +64,8 @@
 //!
 //! [`Gateway::save`] writes a name, a format, a length and a checksum before the state, and [`Gateway::load`] says which of them is wrong, in a
 //! [`LoadError`]. The checksum is there since damaged bytes may still be well formed. [`Gateway::save_to`] and [`Gateway::load_from`] do the same
-//! with a file, written so that a crash leaves the old state or the new; [`write_file`] does that for any bytes. After loading, make the clock by
-//! [`Clock::after`], and look at [`Clock::ahead_of`].
+//! with a file, written so that a crash leaves the old state or the new; [`write_file`] does that for any bytes. At the next start load it, make the
+//! clock by [`Clock::after`], and look at [`Clock::ahead_of`]: a gateway that is started anew has seen nothing.
 //!
 //! # Sizes
 //!
