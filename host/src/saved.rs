@@ -294,9 +294,9 @@ mod tests {
 
     #[test]
     fn errors_in_words() {
-        let missing = io::Error::from(io::ErrorKind::NotFound);
+        let missing = io::Error::new(io::ErrorKind::NotFound, "there is no file");
         for (why, words) in [
-            (LoadError::Read(missing), "the saved state cannot be read: entity not found"),
+            (LoadError::Read(missing), "the saved state cannot be read: there is no file"),
             (LoadError::Short { found: 0 }, "no saved state: it has 0 bytes, and the header alone has 36"),
             (LoadError::Name, "no saved state: it does not begin with `pradulins-saved`"),
             (LoadError::Format { found: 2, read: 1 }, "the state was saved in format 2, and format 1 is read"),
