@@ -39,7 +39,7 @@ enum { TTL = 3600000, MAX_SEEN = 256, HISTORY_LEN = 4, MAX_MESSAGES = 64 };
 /* The most windows that are offered. */
 enum { WINDOWS = 4 };
 
-/* A node and its stores, which lie one after the other: so they are saved and loaded as they stand. */
+/* A node and its two stores. The stores lie one after the other, as in a saved state. */
 struct gateway {
     uint8_t node[PRADULINS_NODE_SIZE];
     uint8_t *seen, *cache;
@@ -141,6 +141,7 @@ enum { NAME_SIZE = 16, HEADER = 36 };
 /* No state is longer. */
 enum { MAX_SAVED = HEADER + PRADULINS_NODE_SIZE + PRADULINS_MAX_SEEN * PRADULINS_SEEN_ROW + PRADULINS_MAX_MESSAGES * PRADULINS_CACHE_PLACE };
 
+/* The checksum of bytes that follow others with the checksum `sum`; 0 where they follow none. */
 static uint64_t checksum_on(uint64_t sum, const uint8_t *bytes, size_t len)
 {
     static uint64_t table[256];
@@ -183,8 +184,10 @@ static int lend_stores(struct gateway *g, uint64_t max_seen, uint64_t max_messag
     g->seen_len = PRADULINS_SEEN_STORE_SIZE(max_seen);
     g->cache_len = PRADULINS_CACHE_STORE_SIZE(max_messages);
     g->seen = calloc(g->seen_len + g->cache_len + 1, 1);
+    if (!g->seen)
+        return failed("the stores", "no memory");
     g->cache = g->seen + g->seen_len;
-    return g->seen ? 0 : failed("the stores", "no memory");
+    return 0;
 }
 
 /* All bytes of a file, at most `room`; `*len` is then how many. */
@@ -357,7 +360,7 @@ static int run(struct gateway *g, const char *path, const uint8_t *body, size_t 
     if (r)
         return refused("the gateway", r, values);
 
-    /* The clock, and whether a reading now would empty the list of seen ids. */
+    /* The clock, and whether a reading now empties the list of seen ids. A real gateway stops here and asks a person, if it was not away so long. */
     uint64_t node_clock = values[STATE_CLOCK];
     struct clock clock = start_clock(node_clock);
     if (values[STATE_SEEN] > 0 && read_clock(&clock) - node_clock >= settings[SET_TTL])
