@@ -120,13 +120,13 @@ static void refused_42(void)
 static void another_ttl(void)
 {
     settings_are(UINT64_MAX, 4, 2, 3);
-    state_is(4 * 129, 3 * 4096, 102, 3, 3);
+    state_is(4 * 129, 3 * 4096, 103, 4, 3);
 }
 
 static void another_clock(void)
 {
     settings_are(1000, 4, 2, 3);
-    state_is(4 * 129, 3 * 4096, 0xfedcba9876543210, 3, 3);
+    state_is(4 * 129, 3 * 4096, 0xfedcba9876543210, 4, 3);
 }
 
 static void nodes(void)
@@ -143,9 +143,9 @@ static void nodes(void)
 
     /* Filled. */
     expect(pradulins_start(node, 1000, 4, 2, 3) == PRADULINS_OK, "settings are refused at start");
-    for (uint8_t i = 0; i < 3; i++) {
+    for (uint8_t i = 0; i < 4; i++) {
         admit('A' + i, 100 + i, 4 * 129, 3 * 4096);
-        state_is(4 * 129, 3 * 4096, 100 + i, i + 1u, i + 1u);
+        state_is(4 * 129, 3 * 4096, 100 + i, i + 1u, i < 3 ? i + 1u : 3);
     }
     settings_are(1000, 4, 2, 3);
 
@@ -171,7 +171,7 @@ static void nodes(void)
     with_number(EXPIRIES_AT, UINT64_MAX, refused_42);
     with_number(TTL_AT, UINT64_MAX, another_ttl);
     with_number(CLOCK_AT, 0xfedcba9876543210, another_clock);
-    state_is(4 * 129, 3 * 4096, 102, 3, 3);
+    state_is(4 * 129, 3 * 4096, 103, 4, 3);
 
     /* Bytes that were never a node. */
     memset(node, 0, sizeof node);
