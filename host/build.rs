@@ -20,9 +20,11 @@ fn main() {
     } else {
         println!("cargo:rustc-cfg=no_archive");
         if ours {
-            println!("cargo:warning=no {}: make it with `rt staticlib pradulins`, or set PRADULINS_LIB_DIR", archive.display());
+            println!("cargo:warning=no {}: make it by `rt staticlib pradulins`, or name its folder in PRADULINS_LIB_DIR", archive.display());
         } else {
-            println!("cargo:warning=libpradulins.a is for x86-64 Linux, so nothing can be linked for this target");
+            println!(
+                "cargo:warning=libpradulins.a is for x86-64 Linux: here only those tests run that call nothing of it. On Arm, tools/host runs all"
+            );
         }
     }
 }

@@ -1,9 +1,10 @@
-"""Builds and runs x86-64 programs of C, Rust and the archives of this repository, on x86-64 and on Arm. For tools/host and bench/bench.
+"""Builds and runs x86-64 programs of C, Rust and the archives of this repository, on x86-64 and on Arm. For tools/host, bench/bench and others.
 
 On x86-64 the machine's own cc and cargo are used. On Arm, Debian has a C compiler and a Rust for x86-64, and the kit an emulator with a loader and a C
 library. A Rust main does not start under the kit's; so a program's main is C, and cargo's tests run under Debian's emulator and C library.
 """
 
+import hashlib
 import os
 import platform
 import shutil
@@ -17,14 +18,36 @@ PACKAGES = ["gcc-x86-64-linux-gnu", "libc6-dev-amd64-cross", "rustc-web", "libst
 
 
 class Failure(Exception):
-    pass
+    """What went wrong; `tail` has the last lines that a command printed, where they went to a log."""
+    tail = ()
+
+
+LOG = None
+
+
+def log_to(path):
+    """From now on what commands print goes to this file."""
+    global LOG
+    os.makedirs(os.path.dirname(path), exist_ok=True)
+    LOG = open(path, "wb", buffering=0)
 
 
 def call(words, **more):
-    """Runs a command; what it prints goes to standard error."""
-    done = subprocess.run(words, stdout=sys.stderr, **more)
+    """Runs a command; what it prints goes to standard error, or to the log."""
+    if not LOG:
+        done = subprocess.run(words, stdout=sys.stderr, **more)
+    else:
+        LOG.write(("$ %s\n" % " ".join(words)).encode())
+        start = LOG.tell()
+        done = subprocess.run(words, stdout=LOG, stderr=subprocess.STDOUT, **more)
+        LOG.seek(0, os.SEEK_END)
     if done.returncode:
-        raise Failure("%s ended with %d" % (" ".join(words), done.returncode))
+        why = Failure("%s ended with %d" % (" ".join(words[:3] + ["..."] * (len(words) > 3)) if LOG else " ".join(words), done.returncode))
+        if LOG:
+            with open(LOG.name, "rb") as f:
+                f.seek(start)
+                why.tail = f.read().decode(errors="replace").splitlines()[-20:]
+        raise why
 
 
 # ---- what is installed
@@ -80,20 +103,71 @@ def install():
 
 # ---- building
 
-def archive(name, folder=None):
-    """lib<name>.a in a folder, or else as `rt staticlib` makes it."""
+def archive(name, folder=None, anew=False):
+    """lib<name>.a in a folder, or else as `rt staticlib` makes it: it is taken as it stands where nothing changed since, and made again with `anew`."""
     if folder:
         path = os.path.join(os.path.abspath(folder), "lib%s.a" % name)
     else:
-        path = os.path.join(ROOT, "target", "staticlib", "lib%s.a" % name)
+        path = own_archive(name)
         if not shutil.which("rt"):
             if not os.path.isfile(path):
                 raise Failure("no %s, and no rt to make it" % path)
-        else:
+        elif anew or not stands(name):
+            made_of = stamp(name)
             call(["rt", "staticlib", name], cwd=ROOT)
+            if os.path.isfile(path) and stamp(name) == made_of:
+                with open(path + ".stamp", "w") as out:
+                    out.write("%s\n%s\n" % (made_of, digest_of(path)))
     if not os.path.isfile(path):
         raise Failure("no %s" % path)
     return path
+
+
+def own_archive(name):
+    return os.path.join(ROOT, "target", "staticlib", "lib%s.a" % name)
+
+
+def stands(name):
+    """Whether lib<name>.a is there, is the one that was made here last, and all that it was made of is as it was then."""
+    path = own_archive(name)
+    if not os.path.isfile(path) or not os.path.isfile(path + ".stamp"):
+        return False
+    with open(path + ".stamp") as f:
+        return f.read().split() == [stamp(name), digest_of(path)]
+
+
+def crates_under(name):
+    """The crates of this repository that a crate stands on, and itself. Other names in crates.txt are the kit's."""
+    with open(os.path.join(ROOT, "crates.txt")) as f:
+        rows = [line.split(":", 1) for line in f if line.strip() and not line.startswith("#")]
+    needs = {row[0].strip(): row[1].split() for row in rows}
+    if name not in needs:
+        raise Failure("crates.txt has no crate %s" % name)
+    found, todo = set(), [name]
+    while todo:
+        one = todo.pop()
+        if one in needs and one not in found:
+            found.add(one)
+            todo += needs[one]
+    return sorted(found)
+
+
+def stamp(name):
+    """A digest of what an archive is made of: the kit, crates.txt, and all files of the crates that it stands on."""
+    files = [os.path.join(ROOT, "crates.txt")]
+    for crate in crates_under(name):
+        for part in ("src", "specs", "proofs"):
+            for folder, _, names in os.walk(os.path.join(ROOT, "crates", crate, part)):
+                files += [os.path.join(folder, one) for one in names]
+    digest = hashlib.sha256(("%s\n" % rt_version()).encode())
+    for file in sorted(files):
+        digest.update(("%s %s\n" % (os.path.relpath(file, ROOT), digest_of(file))).encode())
+    return digest.hexdigest()
+
+
+def digest_of(path):
+    with open(path, "rb") as f:
+        return hashlib.sha256(f.read()).hexdigest()
 
 
 def call_cargo(words, folder, out, env):
@@ -135,6 +209,28 @@ def kit():
         home = found and os.path.dirname(os.path.dirname(os.path.realpath(found)))
     folder = home and os.path.join(home, "on", platform.machine(), "toolchain")
     return folder if folder and os.path.isdir(folder) else None
+
+
+def rt_version():
+    """The kit's one-line identity, or None where there is no kit."""
+    if not shutil.which("rt"):
+        return None
+    told = subprocess.run(["rt", "version"], capture_output=True, text=True)
+    return told.stdout.strip() if told.returncode == 0 else None
+
+
+def kit_warning():
+    """Warns on standard error where the kit is not the one that the file KIT-ID names. The line, or None."""
+    file, found = os.path.join(ROOT, "KIT-ID"), rt_version()
+    if not os.path.isfile(file) or not found:
+        return None
+    with open(file) as f:
+        pinned = f.read().strip()
+    if found == pinned:
+        return None
+    line = "warning: rt version says `%s`; the proofs here were checked with `%s` (KIT-ID)" % (found, pinned)
+    print(line, file=sys.stderr, flush=True)
+    return line
 
 
 def running(program, options=None):

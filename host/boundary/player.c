@@ -2,7 +2,8 @@
  * Plays the records of the programs `inspect`, `trace` and `states` through pradulins.h, and prints their lines: on the same input the same lines are
  * expected. For what the interface does not have (kinds 6 and 7 of `inspect`, 9 and 10 of `states`) the line is the record's number and `-`. Beside that
  * it watches the memory of each call: a refused one changes none but `values`, one that succeeds writes only what it counts, and `values` gets as many
- * numbers as the header says. Each call on a body is made again with room that just suffices and with one byte or number less.
+ * numbers as the header says. Each call on a body is made again with room that just suffices and with one byte or number less. Before each call on a
+ * node, pradulins_settings and pradulins_state are asked: they tell what stands in the node's bytes, or the refusal that the call then answers.
  */
 #include "player.h"
 
@@ -360,14 +361,41 @@ static int set(size_t len, size_t most, int *started)
     return 1;
 }
 
+/* What the node's settings and state are told to be. 0, or the refusal that every call on it must answer. */
+static uint32_t told_fault(void)
+{
+    before();
+    uint32_t settings = pradulins_settings(node, values);
+    after(settings, 4, 0, 0, 1);
+    if (settings == 0)
+        expect(values[0] == number_at(node, 0, 8) && values[1] == number_at(node, 8, 8) && values[2] == number_at(node, 40, 8)
+               && values[3] == number_at(node, 48, 8), "other settings are told");
+    before();
+    uint32_t state = pradulins_state(node, seen, seen_len, cache, cache_len, values);
+    after(state, 3, 0, 0, 1);
+    if (state == 0)
+        expect(values[0] == number_at(node, 16, 8) && values[1] == number_at(node, 32, 8) && values[2] == number_at(node, 72, 8),
+               "another clock or other counts are told");
+    expect(settings == 0 || (settings == PRADULINS_MALFORMED && state != 0), "settings are refused, and the state is not");
+    return state;
+}
+
+/* Whether a call answered the fault that was told before it. */
+static void expect_fault(uint32_t told, uint32_t answered)
+{
+    expect(told == (answered >= PRADULINS_BAD_SETTING ? answered : 0), "the state is told to be otherwise than the call finds it");
+}
+
 static int admit(size_t len, int full)
 {
     if (len < 11 || (!full && content[10] > 1))
         return 0;
+    uint32_t told = told_fault();
     before();
     uint32_t r = pradulins_admit(node, seen, seen_len, cache, cache_len, content + 11, len - 11, number_at(content, 8, 2), content[10] == 1,
                                  number_at(content, 0, 8), values);
     after(r, 1, 0, 0, 0);
+    expect_fault(told, r);
     start_line("admit");
     if (r)
         put_refused(r, full);
@@ -381,9 +409,11 @@ static int beat(size_t len, int full)
 {
     if (len != 8)
         return 0;
+    uint32_t told = told_fault();
     before();
     uint32_t r = pradulins_heartbeat(node, seen, seen_len, cache, cache_len, number_at(content, 0, 8), values);
     after(r, 0, 0, 0, 0);
+    expect_fault(told, r);
     start_line("beat");
     if (r)
         put_refused(r, full);
@@ -396,7 +426,7 @@ static int beat(size_t len, int full)
 /* advertise, ask and serve, with a buffer of this room; what they are given stands from `at` on. */
 static int write_call(uint64_t kind, size_t at, size_t len, size_t room, int full)
 {
-    uint32_t r;
+    uint32_t r, told = told_fault();
     before();
     switch (kind) {
     case 4:
@@ -414,6 +444,7 @@ static int write_call(uint64_t kind, size_t at, size_t len, size_t room, int ful
         start_line("serve");
     }
     after(r, kind == 6 ? 3 : 1, r ? 0 : values[0], 0, 1);
+    expect_fault(told, r);
     if (r) {
         put_refused(r, full);
     } else {

@@ -132,6 +132,49 @@ pub fn decode(body: &[u8]) -> Result<Decoded<'_>, Refusal> {
     Ok(Decoded { control: values[1] == 1, records: rows.chunks_exact(RECORD_WORDS).map(|row| record_of(body, row)).collect() })
 }
 
+/// A message of a body, with its topics. Absent is `None`, apart from present and empty.
+#[derive(Clone, Debug, PartialEq, Eq)]
+pub struct Message<'a> {
+    /// Its index among the messages of the body, from 0: that of [`Gateway::admit`](crate::Gateway::admit), [`sign_bytes`] and [`message_id`].
+    pub index: usize,
+    /// All its bytes.
+    pub raw: &'a [u8],
+    /// Who published it.
+    pub from: Option<&'a [u8]>,
+    /// What it says.
+    pub data: Option<&'a [u8]>,
+    /// Its number.
+    pub seqno: Option<&'a [u8]>,
+    /// The signature, over [`sign_bytes`].
+    pub signature: Option<&'a [u8]>,
+    /// The key of the signature.
+    pub key: Option<&'a [u8]>,
+    /// Its topics, in the order in which it has them.
+    pub topics: Vec<&'a str>,
+}
+
+/// The messages among records, each with the topics that follow it.
+fn messages_of<'a>(records: &[Record<'a>]) -> Vec<Message<'a>> {
+    let mut messages: Vec<Message<'a>> = Vec::new();
+    for record in records {
+        match *record {
+            Record::Message { raw, from, data, seqno, signature, key } => {
+                messages.push(Message { index: messages.len(), raw, from, data, seqno, signature, key, topics: Vec::new() });
+            }
+            Record::Topic(topic) => messages.last_mut().expect("a topic stands after its message").topics.push(topic),
+            _ => {}
+        }
+    }
+    messages
+}
+
+/// The messages of a body, in one reading of it. Whether they would be admitted is not looked at.
+///
+/// Refused: what is wrong with the body (1 to 7, 10, 11).
+pub fn messages(body: &[u8]) -> Result<Vec<Message<'_>>, Refusal> {
+    Ok(messages_of(&decode(body)?.records))
+}
+
 /// A top-level field of a body.
 #[derive(Clone, Copy, Debug, PartialEq, Eq)]
 pub struct Field<'a> {
@@ -221,5 +264,27 @@ mod tests {
         assert_eq!(at(8, None, &[]), Record::Graft { topic_id: None });
         assert_eq!(at(9, Some(60), &[Some((0, 1))]), Record::Prune { topic_id: Some("a"), backoff: Some(60) });
         assert_eq!(at(10, None, &[None, Some((0, 8))]), Record::PeerInfo { peer_id: None, signed_peer_record: Some(b"abcdefgh") });
+    }
+
+    #[test]
+    fn records_are_messages() {
+        let empty = Record::Message { raw: b"", from: None, data: None, seqno: None, signature: None, key: None };
+        let full = Record::Message { raw: b"r", from: Some(b"f"), data: Some(b"d"), seqno: Some(b"n"), signature: Some(b"s"), key: Some(b"k") };
+        let records = [Record::SubOpts { subscribe: None, topic_id: None }, full, Record::Topic("t"), Record::Topic("u"), empty, Record::IWant];
+        let wanted = [
+            Message {
+                index: 0,
+                raw: b"r",
+                from: Some(&b"f"[..]),
+                data: Some(&b"d"[..]),
+                seqno: Some(&b"n"[..]),
+                signature: Some(&b"s"[..]),
+                key: Some(&b"k"[..]),
+                topics: vec!["t", "u"],
+            },
+            Message { index: 1, raw: b"", from: None, data: None, seqno: None, signature: None, key: None, topics: vec![] },
+        ];
+        assert_eq!(messages_of(&records), wanted);
+        assert!(messages_of(&[]).is_empty());
     }
 }

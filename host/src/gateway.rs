@@ -5,7 +5,7 @@ use crate::{answered, made, sys, Refusal, CACHE_PLACE, MAX_BODY, NODE_SIZE, SEEN
 /// What a gateway keeps, and how long.
 #[derive(Clone, Copy, Debug, PartialEq, Eq, Hash)]
 pub struct Settings {
-    /// How long an id counts as seen, in units of the host's clock.
+    /// How long an id counts as seen, in units of the host's clock; with [`Clock`](crate::Clock), in milliseconds.
     pub ttl: u64,
     /// The most ids that are kept as seen: 0 to 256.
     pub max_seen: usize,
@@ -35,9 +35,21 @@ pub struct Reply {
     pub left: usize,
 }
 
+/// What was written to a lent buffer by [`Gateway::serve_into`].
+#[derive(Clone, Copy, Debug, PartialEq, Eq, Hash)]
+pub struct Served {
+    /// How many bytes were written.
+    pub bytes: usize,
+    /// How many messages these are, at the indexes from 0 on.
+    pub messages: usize,
+    /// How many more are kept and did not fit, to be asked for again.
+    pub left: usize,
+}
+
 /// A gateway's state: ids that were seen, recent messages, and the clock.
 ///
 /// Every reading of the clock that is passed to it must be at least the last one; an earlier one is refused and changes nothing.
+/// [`Clock`](crate::Clock) gives readings that never fall.
 #[derive(Clone, PartialEq, Eq)]
 pub struct Gateway {
     node: Box<sys::Node>,
@@ -61,28 +73,6 @@ fn number_at(node: &[u8], at: usize) -> u64 {
     u64::from_le_bytes(bytes)
 }
 
-/// How long the two stores of a node are, if these are numbers of this machine.
-fn store_sizes(node: &[u8]) -> Option<(usize, usize)> {
-    let rows = usize::try_from(number_at(node, MAX_SEEN)).ok()?;
-    let places = usize::try_from(number_at(node, MAX_MESSAGES)).ok()?;
-    Some((rows.checked_mul(SEEN_ROW)?, places.checked_mul(CACHE_PLACE)?))
-}
-
-/// The three parts of saved bytes: the node and its two stores.
-fn parts(bytes: &[u8]) -> Result<[&[u8]; 3], Refusal> {
-    if bytes.len() < NODE_SIZE {
-        return Err(Refusal::Malformed);
-    }
-    let (node, stores) = bytes.split_at(NODE_SIZE);
-    match store_sizes(node) {
-        Some((seen, cache)) if seen.checked_add(cache) == Some(stores.len()) => {
-            let (seen, cache) = stores.split_at(seen);
-            Ok([node, seen, cache])
-        }
-        _ => Err(Refusal::BadStore),
-    }
-}
-
 impl Gateway {
     /// A gateway that holds nothing, with its clock at 0.
     ///
@@ -94,7 +84,8 @@ impl Gateway {
         Ok(Gateway { node, seen: vec![0; max_seen * SEEN_ROW], cache: vec![0; max_messages * CACHE_PLACE] })
     }
 
-    /// Admits the message at `index` of `body` (from 0). `verified` is the host's word that its signature was verified; `now` is the host's clock.
+    /// Admits the message at `index` of `body` (from 0). `verified` is the host's word that its signature was verified; `now` is the host's clock
+    /// ([`Clock::now`](crate::Clock::now)).
     ///
     /// Refused: what is wrong with the body (1 to 7, 10, 11), the index (20) or the message (21 to 30), in this order, and then
     /// [`Refusal::ClockBack`].
@@ -157,13 +148,13 @@ impl Gateway {
         Ok(Reply { body, messages, left })
     }
 
-    /// The same into a lent buffer: how many bytes were written, how many messages these are, and how many were left.
+    /// The same into a lent buffer.
     ///
     /// Refused also: [`Refusal::Room`], where not even the first message fits.
-    pub fn serve_into(&self, body: &[u8], out: &mut [u8]) -> Result<(usize, usize, usize), Refusal> {
+    pub fn serve_into(&self, body: &[u8], out: &mut [u8]) -> Result<Served, Refusal> {
         let mut values = [0; VALUES];
         answered(sys::serve(&self.node, &self.seen, &self.cache, body, out, &mut values), &values)?;
-        Ok((values[0] as usize, values[1] as usize, values[2] as usize))
+        Ok(Served { bytes: values[0] as usize, messages: values[1] as usize, left: values[2] as usize })
     }
 
     /// The settings that it was started with.
@@ -191,23 +182,33 @@ impl Gateway {
         self.number(MESSAGE_COUNT) as usize
     }
 
-    /// Its state as bytes, for [`Gateway::load`].
-    pub fn save(&self) -> Vec<u8> {
-        [&self.node[..], &self.seen, &self.cache].concat()
-    }
-
-    /// The gateway that was saved.
-    ///
-    /// Bytes of any origin may be passed: the library tests whether they are well formed. A number that was changed and still fits the others, as the clock or the
-    /// ttl, is not found out. Refused: [`Refusal::BadStore`] for a wrong length, [`Refusal::Malformed`], [`Refusal::BadSetting`].
-    pub fn load(bytes: &[u8]) -> Result<Gateway, Refusal> {
-        let [node, seen, cache] = parts(bytes)?;
+    /// A node and what stands after it, as the library finds them: its settings (42), the lengths of the stores (41), and whether all is well formed
+    /// (42).
+    pub(crate) fn tested(node: &[u8], stores: &[u8]) -> Result<Gateway, Refusal> {
         let mut own = Box::new([0; NODE_SIZE]);
         own.copy_from_slice(node);
-        let gateway = Gateway { node: own, seen: seen.to_vec(), cache: cache.to_vec() };
-        // The offer of no window tests the state and writes nothing.
-        gateway.advertise_into(b"", 0, &mut [])?;
+        let mut values = [0; VALUES];
+        answered(sys::settings(&own, &mut values), &values)?;
+        let (seen, cache) = (values[1] as usize * SEEN_ROW, values[3] as usize * CACHE_PLACE);
+        if stores.len() != seen + cache {
+            return Err(Refusal::BadStore);
+        }
+        let (seen, cache) = stores.split_at(seen);
+        let gateway = Gateway::from_parts(own, seen.to_vec(), cache.to_vec());
+        answered(sys::state(&gateway.node, &gateway.seen, &gateway.cache, &mut values), &values)?;
         Ok(gateway)
+    }
+
+    /// A gateway of bytes that nothing has tested, for the tests of the boundary: each call on it tests them.
+    #[doc(hidden)]
+    pub fn from_parts(node: Box<[u8; NODE_SIZE]>, seen: Vec<u8>, cache: Vec<u8>) -> Gateway {
+        Gateway { node, seen, cache }
+    }
+
+    /// The bytes of the node and of its two stores.
+    #[doc(hidden)]
+    pub fn parts(&self) -> (&[u8; NODE_SIZE], &[u8], &[u8]) {
+        (&self.node, &self.seen, &self.cache)
     }
 
     fn number(&self, at: usize) -> u64 {
@@ -226,32 +227,51 @@ impl std::fmt::Debug for Gateway {
     }
 }
 
-#[cfg(test)]
+#[cfg(all(test, not(no_archive)))]
 mod tests {
     use super::*;
 
-    /// Bytes of the length that these maxima ask for.
-    fn saved(max_seen: u64, max_messages: u64, stores: usize) -> Vec<u8> {
-        let mut bytes = vec![0; NODE_SIZE + stores];
-        bytes[MAX_SEEN..MAX_SEEN + 8].copy_from_slice(&max_seen.to_le_bytes());
-        bytes[MAX_MESSAGES..MAX_MESSAGES + 8].copy_from_slice(&max_messages.to_le_bytes());
-        bytes
+    /// What the library says of a gateway, beside what is read in its bytes.
+    fn agree(gateway: &Gateway) {
+        let mut values = [u64::MAX; VALUES];
+        assert_eq!(sys::settings(&gateway.node, &mut values), 0);
+        let Settings { ttl, max_seen, history_len, max_messages } = gateway.settings();
+        assert_eq!(values, [ttl, max_seen as u64, history_len as u64, max_messages as u64]);
+        values = [u64::MAX; VALUES];
+        assert_eq!(sys::state(&gateway.node, &gateway.seen, &gateway.cache, &mut values), 0);
+        assert_eq!(values, [gateway.clock(), gateway.seen() as u64, gateway.messages() as u64, u64::MAX]);
     }
 
     #[test]
-    fn saved_bytes_part_at_the_stores() {
-        let bytes = saved(2, 1, 2 * 129 + 4096);
-        let [node, seen, cache] = parts(&bytes).unwrap();
-        assert_eq!((node.len(), seen.len(), cache.len()), (NODE_SIZE, 258, 4096));
+    fn what_a_gateway_says_of_itself() {
+        for (ttl, max_seen, history_len, max_messages) in [(0, 0, 1, 0), (1000, 4, 2, 3), (u64::MAX, 256, 16, 64), (3_600_000, 1, 16, 64)] {
+            let settings = Settings { ttl, max_seen, history_len, max_messages };
+            let mut gateway = Gateway::start(settings).unwrap();
+            agree(&gateway);
+            assert_eq!((gateway.settings(), gateway.clock(), gateway.seen(), gateway.messages()), (settings, 0, 0, 0));
+            for from in 1..=7 {
+                let mut body = vec![0x12, 0x4b, 0x0a, 1, from, 0x1a, 1, 1, 0x22, 1, b't', 0x2a, 0x40];
+                body.extend([0; 64]);
+                let now = 1 << (9 * u64::from(from) - 1);
+                gateway.admit(&body, 0, true, now).unwrap();
+                agree(&gateway);
+                assert_eq!((gateway.clock(), gateway.messages()), (now, usize::from(from).min(max_messages)));
+            }
+            gateway.heartbeat(u64::MAX).unwrap();
+            agree(&gateway);
+            assert_eq!((gateway.clock(), gateway.seen()), (u64::MAX, 0));
+        }
     }
 
     #[test]
-    fn wrong_lengths_are_refused() {
-        assert_eq!(parts(&[]), Err(Refusal::Malformed));
-        assert_eq!(parts(&[0; NODE_SIZE - 1]), Err(Refusal::Malformed));
-        assert_eq!(parts(&saved(2, 1, 2 * 129 + 4095)), Err(Refusal::BadStore));
-        assert_eq!(parts(&saved(u64::MAX, 1, 0)), Err(Refusal::BadStore));
-        assert_eq!(parts(&saved(0, 1 << 52, 0)), Err(Refusal::BadStore));
-        assert!(parts(&saved(0, 0, 0)).is_ok());
+    fn bytes_that_nothing_tested() {
+        let mut gateway = Gateway::start(Settings { ttl: 1, max_seen: 1, history_len: 1, max_messages: 1 }).unwrap();
+        let (node, seen, cache) = gateway.parts();
+        assert!(Gateway::from_parts(Box::new(*node), seen.to_vec(), cache.to_vec()) == gateway);
+        gateway.node[HISTORY_LEN] = 0;
+        assert_eq!(gateway.heartbeat(1), Err(Refusal::Malformed));
+        gateway.node.fill(0xff);
+        assert_eq!(gateway.heartbeat(1).unwrap_err().number(), 40);
+        assert_eq!((gateway.clock(), gateway.seen()), (u64::MAX, usize::MAX));
     }
 }

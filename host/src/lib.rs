@@ -1,47 +1,122 @@
 //! A gossip node for gateways: it calls each notice new exactly once, and catches up with other gateways. Every call is a call of a library in which
-//! each function is proved to meet its contract; this crate owns the memory that the library is lent, and gives refusals a type.
+//! each function is proved to meet its contract; this crate owns the memory that the library is lent, and gives refusals a type. It depends on
+//! nothing, and its users write no `unsafe`.
 //!
-//! The host keeps two things: framing (how bodies are parted on the wire), and the check of signatures, whose outcome it passes to
-//! [`Gateway::admit`].
+//! A host admits each message of a body that came in. Here `verify` and `file` are its own: the check of a signature, and what it does with a notice
+//! that is new.
 //!
 #![cfg_attr(not(no_archive), doc = "```")]
 #![cfg_attr(no_archive, doc = "```no_run")]
-//! use pradulins::{Admitted, Gateway, Refusal, Settings};
+//! use pradulins::{messages, sign_bytes, Admitted, Clock, Gateway, Message, Settings};
+//! # fn verify(_message: &Message, _signed: &[u8]) -> bool { true }
+//! # fn file(_message: &Message) {}
+//! # let mut body = vec![0x12, 0x4b, 0x0a, 1, b'A', 0x1a, 1, 1, 0x22, 1, b't', 0x2a, 0x40];
+//! # body.extend([0; 64]);
+//! # let path = std::env::temp_dir().join(format!("pradulins-page-{}", std::process::id()));
 //!
-//! // A message from `A` with seqno 01 and the topic `t`; the signature is 64 zero bytes here.
-//! let mut body = vec![0x12, 0x4b, 0x0a, 1, b'A', 0x1a, 1, 1, 0x22, 1, b't', 0x2a, 0x40];
-//! body.extend([0; 64]);
+//! let settings = Settings { ttl: 3_600_000, max_seen: 256, history_len: 4, max_messages: 64 };
+//! let mut gateway = Gateway::start(settings)?;
+//! let clock = Clock::after(&gateway);
+//! for message in messages(&body)? {
+//!     let verified = verify(&message, &sign_bytes(&body, message.index)?);
+//!     match gateway.admit(&body, message.index, verified, clock.now()) {
+//!         Ok(Admitted::New) => file(&message),
+//!         Ok(Admitted::Duplicate) => {}
+//!         Err(refusal) => eprintln!("message {}: {refusal}", message.index),
+//!     }
+//! }
+//! gateway.heartbeat(clock.now())?;
+//! gateway.save_to(&path)?;
+//! # assert_eq!((gateway.seen(), gateway.messages(), Gateway::load_from(&path)? == gateway), (1, 1, true));
+//! # std::fs::remove_file(&path)?;
+//! # Ok::<(), Box<dyn std::error::Error>>(())
+//! ```
 //!
-//! let settings = Settings { ttl: 1000, max_seen: 4, history_len: 2, max_messages: 4 };
-//! let mut first = Gateway::start(settings)?;
-//! assert_eq!(first.admit(&body, 0, true, 100)?, Admitted::New);
-//! assert_eq!(first.admit(&body, 0, true, 100)?, Admitted::Duplicate);
-//! assert_eq!(first.admit(&body, 0, true, 99), Err(Refusal::ClockBack { clock: 100 }));
+//! Another gateway catches up: it is told what there is, asks for what it lacks, and admits the reply. If it lacks n messages of the topic, n/15 such
+//! rounds, rounded up, are enough, under the premises that docs/PROMISES.md of the repository names.
 //!
-//! // Another gateway catches up: it is told what there is, asks for what it lacks, and admits the reply.
-//! let mut second = Gateway::start(settings)?;
-//! let offer = first.advertise(b"t", 2)?;
+#![cfg_attr(not(no_archive), doc = "```")]
+#![cfg_attr(no_archive, doc = "```no_run")]
+//! # use pradulins::{Admitted, Gateway, Settings};
+//! # let settings = Settings { ttl: 3_600_000, max_seen: 256, history_len: 4, max_messages: 64 };
+//! # let (mut first, mut second) = (Gateway::start(settings)?, Gateway::start(settings)?);
+//! # let mut body = vec![0x12, 0x4b, 0x0a, 1, b'A', 0x1a, 1, 1, 0x22, 1, b't', 0x2a, 0x40];
+//! # body.extend([0; 64]);
+//! # first.admit(&body, 0, true, 100)?;
+//! let offer = first.advertise(b"t", 4)?;
 //! let request = second.ask(&offer)?;
 //! let reply = first.serve(&request)?;
 //! assert_eq!((reply.messages, reply.left), (1, 0));
 //! assert_eq!(second.admit(&reply.body, 0, true, 7)?, Admitted::New);
-//! assert_eq!(first.advertise(b"t", 2)?, second.advertise(b"t", 2)?);
+//! assert_eq!(first.advertise(b"t", 4)?, second.advertise(b"t", 4)?);
+//! # Ok::<(), pradulins::Refusal>(())
+//! ```
+//!
+//! # What the host does
+//!
+//! - Framing: how bodies are parted on the wire. The example in host/examples/catch_up has one way.
+//! - The check of signatures: over [`sign_bytes`] of a message, with its key or that of its sender. What came of it is passed to [`Gateway::admit`],
+//!   which takes it at its word.
+//! - Readings of a clock, by [`Clock`], which does not step when the wall clock does.
+//! - A heartbeat at regular times ([`Gateway::heartbeat`]), and saving ([`Gateway::save_to`]).
+//!
+//! # Saved states
+//!
+//! [`Gateway::save`] writes a name, a format, a length and a checksum before the state, and [`Gateway::load`] says which of them is wrong, in a
+//! [`LoadError`]. The checksum is there since damaged bytes may still be well formed. [`Gateway::save_to`] and [`Gateway::load_from`] do the same
+//! with a file, written so that a crash leaves the old state or the new; [`write_file`] does that for any bytes. At the next start load it, make the
+//! clock by [`Clock::after`], and look at [`Clock::ahead_of`]: a gateway that is started anew has seen nothing.
+//!
+//! # Sizes
+//!
+//! `max_seen` is at least as many notices as are new within one `ttl`: past it the oldest id leaves, and its notice is new if it comes again. How to
+//! choose this and the other [`Settings`], the windows of an offer, and buffers is in docs/OPERATING.md of the repository.
+//!
+//! # Refusals
+//!
+//! A call that is refused has changed nothing. [`Refusal`] has a case for each number of the table of refusals, with the values beside it;
+//! docs/OPERATING.md says what each means for those who run a gateway.
+//!
+#![cfg_attr(not(no_archive), doc = "```")]
+#![cfg_attr(no_archive, doc = "```no_run")]
+//! # use pradulins::{Gateway, Refusal, Settings};
+//! # let mut gateway = Gateway::start(Settings { ttl: 1000, max_seen: 4, history_len: 2, max_messages: 4 })?;
+//! gateway.heartbeat(100)?;
+//! let refusal = gateway.heartbeat(99).unwrap_err();
+//! assert_eq!(refusal, Refusal::ClockBack { clock: 100 });
+//! assert_eq!((refusal.number(), refusal.to_string()), (31, "refused 31: the reading is before the clock, 100".to_string()));
 //! # Ok::<(), Refusal>(())
 //! ```
 //!
 //! # Linking
 //!
-//! The archive libpradulins.a is for x86-64 Linux. It is looked for where `rt staticlib pradulins` writes it in the repository that this crate stands in,
-//! or in the folder that the environment variable `PRADULINS_LIB_DIR` names.
+//! The archive libpradulins.a is for x86-64 Linux. It is looked for where `rt staticlib pradulins` writes it in the repository that this crate stands
+//! in, or in the folder that the environment variable `PRADULINS_LIB_DIR` names. Where there is none, or for another machine, the crate can be checked
+//! and those of its tests run that call nothing of it; `tools/host` of the repository runs all tests and the example on Arm, too.
 
 mod body;
+mod clock;
 mod gateway;
 mod refusal;
+mod saved;
 mod sys;
 
-pub use body::{decode, message_id, reencode, sign_bytes, walk, walk_from, Decoded, Field, Record, Walk};
-pub use gateway::{Admitted, Gateway, Reply, Settings};
+pub use body::{decode, message_id, messages, reencode, sign_bytes, walk, walk_from, Decoded, Field, Message, Record, Walk};
+pub use clock::Clock;
+pub use gateway::{Admitted, Gateway, Reply, Served, Settings};
 pub use refusal::Refusal;
+pub use saved::{write_file, LoadError};
+
+/// The version of this crate.
+pub const VERSION: &str = env!("CARGO_PKG_VERSION");
+
+/// The format of a node's bytes and its stores. A state that was saved in another is not loaded.
+pub const FORMAT: u32 = 1;
+
+/// The version of the archive that the program is linked with: 10000 times the first number, 100 times the second, and the third.
+pub fn archive_version() -> u32 {
+    sys::version()
+}
 
 /// How many bytes the node itself takes, without its two stores.
 pub const NODE_SIZE: usize = 11344;
@@ -80,4 +155,20 @@ fn made(room: usize, write: impl FnOnce(&mut [u8], &mut sys::Values) -> u32) -> 
     out.truncate(values[0] as usize);
     out.shrink_to_fit();
     Ok(out)
+}
+
+#[cfg(all(test, not(no_archive)))]
+mod tests {
+    use super::*;
+
+    #[test]
+    fn versions_agree() {
+        let numbers: Vec<u32> = VERSION.split('.').map(|part| part.parse().unwrap()).collect();
+        assert_eq!(numbers.len(), 3);
+        assert_eq!(archive_version(), 10000 * numbers[0] + 100 * numbers[1] + numbers[2]);
+        assert_eq!(sys::format(), FORMAT);
+        let header = include_str!("../../include/pradulins.h");
+        assert!(header.contains(&format!("#define PRADULINS_VERSION {}\n", archive_version())));
+        assert!(header.contains(&format!("#define PRADULINS_FORMAT {FORMAT}\n")));
+    }
 }

@@ -112,6 +112,9 @@ pub enum Refusal {
 }
 
 impl Refusal {
+    /// All numbers of refusals that a call of this crate can meet.
+    pub const NUMBERS: [u32; 25] = [1, 2, 3, 4, 5, 6, 7, 10, 11, 12, 20, 21, 22, 23, 24, 25, 26, 27, 28, 29, 30, 31, 40, 41, 42];
+
     /// The refusal that a call answered. A number that no contract allows is a fault of the archive.
     pub(crate) fn from_call(number: u32, values: &[u64; 4]) -> Refusal {
         let [a, b, c, _] = *values;
@@ -249,11 +252,9 @@ impl Error for Refusal {}
 mod tests {
     use super::*;
 
-    const NUMBERS: [u32; 25] = [1, 2, 3, 4, 5, 6, 7, 10, 11, 12, 20, 21, 22, 23, 24, 25, 26, 27, 28, 29, 30, 31, 40, 41, 42];
-
     #[test]
     fn numbers_stay() {
-        for number in NUMBERS {
+        for number in Refusal::NUMBERS {
             let refusal = Refusal::from_call(number, &[11, 12, 13, 14]);
             assert_eq!(refusal.number(), number);
             assert!(refusal.to_string().starts_with(&format!("refused {number}: ")));
@@ -262,7 +263,7 @@ mod tests {
 
     #[test]
     fn values_stand_in_order() {
-        for number in NUMBERS {
+        for number in Refusal::NUMBERS {
             let values = Refusal::from_call(number, &[11, 12, 13, 14]).values();
             let count = match number {
                 4 => 3,

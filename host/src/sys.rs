@@ -69,11 +69,23 @@ mod calls {
             out_len: usize,
             values: *mut u64,
         ) -> u32;
+        pub fn pradulins_settings(node: *const u8, values: *mut u64) -> u32;
+        pub fn pradulins_state(
+            node: *const u8,
+            seen_store: *const u8,
+            seen_store_len: usize,
+            cache_store: *const u8,
+            cache_store_len: usize,
+            values: *mut u64,
+        ) -> u32;
         pub fn pradulins_encode(body: *const u8, body_len: usize, out: *mut u8, out_len: usize, values: *mut u64) -> u32;
         pub fn pradulins_sign_bytes(body: *const u8, body_len: usize, index: usize, out: *mut u8, out_len: usize, values: *mut u64) -> u32;
         pub fn pradulins_message_id(body: *const u8, body_len: usize, index: usize, out: *mut u8, out_len: usize, values: *mut u64) -> u32;
         pub fn pradulins_decode(body: *const u8, body_len: usize, table: *mut u64, table_len: usize, values: *mut u64) -> u32;
         pub fn pradulins_walk(body: *const u8, body_len: usize, at: usize, values: *mut u64) -> u32;
+        pub fn pradulins_version() -> u32;
+        #[cfg(test)]
+        pub fn pradulins_format() -> u32;
     }
 }
 
@@ -92,11 +104,14 @@ mod calls {
         pradulins_advertise(*const u8, *const u8, usize, *const u8, usize, *const u8, usize, usize, *mut u8, usize, *mut u64);
         pradulins_ask(*const u8, *const u8, usize, *const u8, usize, *const u8, usize, *mut u8, usize, *mut u64);
         pradulins_serve(*const u8, *const u8, usize, *const u8, usize, *const u8, usize, *mut u8, usize, *mut u64);
+        pradulins_settings(*const u8, *mut u64);
+        pradulins_state(*const u8, *const u8, usize, *const u8, usize, *mut u64);
         pradulins_encode(*const u8, usize, *mut u8, usize, *mut u64);
         pradulins_sign_bytes(*const u8, usize, usize, *mut u8, usize, *mut u64);
         pradulins_message_id(*const u8, usize, usize, *mut u8, usize, *mut u64);
         pradulins_decode(*const u8, usize, *mut u64, usize, *mut u64);
         pradulins_walk(*const u8, usize, usize, *mut u64);
+        pradulins_version();
     }
 }
 
@@ -190,6 +205,14 @@ pub(crate) fn serve(node: &Node, seen: &[u8], cache: &[u8], body: &[u8], out: &m
     }
 }
 
+pub(crate) fn settings(node: &Node, values: &mut Values) -> u32 {
+    unsafe { calls::pradulins_settings(node.as_ptr(), values.as_mut_ptr()) }
+}
+
+pub(crate) fn state(node: &Node, seen: &[u8], cache: &[u8], values: &mut Values) -> u32 {
+    unsafe { calls::pradulins_state(node.as_ptr(), seen.as_ptr(), seen.len(), cache.as_ptr(), cache.len(), values.as_mut_ptr()) }
+}
+
 pub(crate) fn encode(body: &[u8], out: &mut [u8], values: &mut Values) -> u32 {
     unsafe { calls::pradulins_encode(body.as_ptr(), body.len(), out.as_mut_ptr(), out.len(), values.as_mut_ptr()) }
 }
@@ -208,4 +231,13 @@ pub(crate) fn decode(body: &[u8], table: &mut [u64], values: &mut Values) -> u32
 
 pub(crate) fn walk(body: &[u8], at: usize, values: &mut Values) -> u32 {
     unsafe { calls::pradulins_walk(body.as_ptr(), body.len(), at, values.as_mut_ptr()) }
+}
+
+pub(crate) fn version() -> u32 {
+    unsafe { calls::pradulins_version() }
+}
+
+#[cfg(all(test, not(no_archive)))]
+pub(crate) fn format() -> u32 {
+    unsafe { calls::pradulins_format() }
 }

@@ -1,7 +1,8 @@
 //! The crate's calls with the archive: answers and refusals by their types, states saved, loaded and damaged.
 #![cfg(not(no_archive))]
 
-use pradulins::{decode, message_id, reencode, sign_bytes, walk, walk_from, Admitted, Gateway, Record, Refusal, Settings, NODE_SIZE};
+use pradulins::{decode, message_id, messages, reencode, sign_bytes, walk, walk_from};
+use pradulins::{Admitted, Clock, Gateway, LoadError, Message, Record, Refusal, Served, Settings, NODE_SIZE};
 
 const SETTINGS: Settings = Settings { ttl: 1000, max_seen: 4, history_len: 2, max_messages: 4 };
 
@@ -45,7 +46,7 @@ fn lent_buffers_may_be_too_short() {
     let request = [0x1a, 6, 0x12, 4, 0x0a, 2, b'A', 1];
     assert_eq!(gateway.serve_into(&request, &mut out[..76]), Err(Refusal::Room { needed: 77 }));
     assert_eq!(out, [7; 80]);
-    assert_eq!(gateway.serve_into(&request, &mut out), Ok((77, 1, 0)));
+    assert_eq!(gateway.serve_into(&request, &mut out), Ok(Served { bytes: 77, messages: 1, left: 0 }));
     assert_eq!((&out[..77], &out[77..]), (&x[..], &[7; 3][..]));
     let fresh = Gateway::start(SETTINGS).unwrap();
     assert_eq!(fresh.ask_into(&gateway.advertise(b"t", 1).unwrap(), &mut out), Ok(8));
@@ -88,6 +89,40 @@ fn records() {
 }
 
 #[test]
+fn messages_with_their_topics() {
+    // Two messages with a subscription between them; the second has two topics and no signature.
+    let first = body(b'A');
+    let second = [0x12, 0x0e, 0x0a, 1, b'B', 0x12, 0, 0x22, 1, b't', 0x22, 1, b'u', 0x32, 1, b'k'];
+    let both = [&first[..], &[0x0a, 2, 8, 1], &second].concat();
+    let one = Message {
+        index: 0,
+        raw: &first[2..],
+        from: Some(b"A"),
+        data: None,
+        seqno: Some(&[1]),
+        signature: Some(&[0; 64]),
+        key: None,
+        topics: vec!["t"],
+    };
+    let other = Message {
+        index: 1,
+        raw: &second[2..],
+        from: Some(b"B"),
+        data: Some(b""),
+        seqno: None,
+        signature: None,
+        key: Some(b"k"),
+        topics: vec!["t", "u"],
+    };
+    assert_eq!(messages(&both), Ok(vec![one, other]));
+    for message in messages(&both).unwrap() {
+        assert!(sign_bytes(&both, message.index).unwrap().windows(2).any(|pair| pair == [1, message.from.unwrap()[0]]));
+    }
+    assert_eq!(messages(&[]), Ok(vec![]));
+    assert_eq!(messages(&[0x80]), Err(Refusal::VarintShort));
+}
+
+#[test]
 fn a_walk_ends() {
     let bytes = [0x1a, 0, 0x0a, 2, 8, 1, 0x80];
     let fields: Vec<_> = walk(&bytes).map(|field| field.map(|f| (f.number, f.wire_type, f.bytes, f.end))).collect();
@@ -95,42 +130,54 @@ fn a_walk_ends() {
     assert!(walk_from(&bytes, usize::MAX).next().is_none());
 }
 
+/// Saved and loaded after every call, as a host might do it, with its own clock.
 #[test]
 fn a_state_is_saved_and_loaded() {
     let mut gateway = Gateway::start(SETTINGS).unwrap();
-    for (i, from) in (b'A'..b'H').enumerate() {
-        gateway.admit(&body(from), 0, true, i as u64).unwrap();
+    let clock = Clock::after(&gateway);
+    for from in b'A'..b'H' {
+        assert_eq!(gateway.admit(&body(from), 0, true, clock.now()), Ok(Admitted::New));
+        let loaded = Gateway::load(&gateway.save()).unwrap();
+        assert!(loaded == gateway);
+        assert_eq!(loaded.advertise(b"t", 2), gateway.advertise(b"t", 2));
+        gateway = loaded;
+        assert_eq!(gateway.admit(&body(from), 0, true, Clock::after(&gateway).now()), Ok(Admitted::Duplicate));
     }
-    let loaded = Gateway::load(&gateway.save()).unwrap();
-    assert!(loaded == gateway);
-    assert_eq!(loaded.advertise(b"t", 2), gateway.advertise(b"t", 2));
-    assert_eq!(Gateway::load(&gateway.save()[1..]).err(), Some(Refusal::BadStore));
-    assert_eq!(Gateway::load(&[0; NODE_SIZE]).err(), Some(Refusal::Malformed));
+    let saved = gateway.save();
+    assert!(matches!(Gateway::load(&[]), Err(LoadError::Short { found: 0 })));
+    assert!(matches!(Gateway::load(&saved[1..]), Err(LoadError::Name)));
+    assert!(matches!(Gateway::load(&[0; NODE_SIZE]), Err(LoadError::Name)));
+    assert!(matches!(Gateway::load(&saved[..100]), Err(LoadError::Length { found: 64, .. })));
 }
 
-/// Bytes of a saved state changed: it is refused, or it is well formed and its calls answer. A call may then leave a state that is refused: with another ttl the next
-/// expiry may fall below the last one.
+/// Bytes of a node or a store changed, past the header: a call on them is refused, or they are well formed and it answers. A call may then leave a
+/// state that is refused: with another ttl the next expiry may fall below the last one.
 #[test]
 fn damage_is_refused_or_harmless() {
     let mut gateway = Gateway::start(SETTINGS).unwrap();
     for from in b'A'..b'D' {
         gateway.admit(&body(from), 0, true, 5).unwrap();
     }
-    let saved = gateway.save();
+    let (node, seen, cache) = gateway.parts();
+    let whole = [&node[..], seen, cache].concat();
     let mut refused = 0;
-    for at in (0..saved.len()).step_by(7).chain(0..160) {
-        let mut bytes = saved.clone();
+    for at in (0..whole.len()).step_by(7).chain(0..160) {
+        let mut bytes = whole.clone();
         bytes[at] ^= 0x81;
-        match Gateway::load(&bytes) {
+        let (node, stores) = bytes.split_at(NODE_SIZE);
+        let (seen, cache) = stores.split_at(seen.len());
+        let mut other = Gateway::from_parts(Box::new(node.try_into().unwrap()), seen.to_vec(), cache.to_vec());
+        let (before, clock) = (other.clone(), other.clock());
+        let plain = Gateway::load_plain(&bytes);
+        match other.admit(&body(b'Z'), 0, true, clock) {
             Err(refusal) => {
                 assert!(matches!(refusal.number(), 40..=42));
+                assert!(other == before && matches!(plain, Err(Refusal::BadStore | Refusal::Malformed)));
                 refused += 1;
             }
-            Ok(mut other) => {
-                let clock = other.clock();
-                assert!(other.admit(&body(b'Z'), 0, true, clock).is_ok());
+            Ok(_) => {
+                assert!(plain.is_ok_and(|plain| plain == before));
                 assert!(matches!(other.heartbeat(clock), Ok(()) | Err(Refusal::Malformed)));
-                assert_eq!(other.save().len(), saved.len());
             }
         }
     }

@@ -1,7 +1,8 @@
-//! Plays the records of the programs `inspect`, `trace` and `states` through the crate, and prints their lines; where the crate does not have the call, the
-//! record's number and `-`. The gateway is saved and loaded again before each call, so that damaged states are met by loading them.
+//! Plays the records of the programs `inspect`, `trace` and `states` through the crate, and prints their lines; where the crate does not have the
+//! call, the record's number and `-`. In `trace` the gateway is saved and loaded again before each call. In `states` it is made before each call of
+//! bytes that nothing has tested, since a damaged state would not be loaded.
 
-use pradulins::{decode, message_id, reencode, sign_bytes, walk_from, Admitted, Gateway, Record, Refusal, Settings};
+use pradulins::{decode, message_id, reencode, sign_bytes, walk_from, Admitted, Gateway, Record, Refusal, Settings, NODE_SIZE};
 use std::fmt::Write as _;
 use std::io::{Result, Write};
 
@@ -145,9 +146,9 @@ fn trace(kind: u64, content: &[u8], n: u64, gateway: &mut Option<Gateway>) -> st
     Ok(line)
 }
 
-/// The state of a run of `states`: the bytes of a saved gateway, how much of each store is lent, and the buffer.
+/// The state of a run of `states`: a node and its stores, how much of each store is lent, and the buffer.
 struct States {
-    node: Vec<u8>,
+    node: Box<[u8; NODE_SIZE]>,
     seen: Vec<u8>,
     cache: Vec<u8>,
     lent: [usize; 2],
@@ -156,25 +157,21 @@ struct States {
 
 impl States {
     fn new() -> States {
-        let node = Gateway::start(Settings { ttl: 0, max_seen: 0, history_len: 1, max_messages: 0 }).map_or(vec![], |g| g.save());
-        States { node, seen: vec![0; 33282], cache: vec![0; 266240], lent: [0, 0], made: vec![0; 65600] }
+        let mut states = States { node: Box::new([0; NODE_SIZE]), seen: vec![0; 33282], cache: vec![0; 266240], lent: [0, 0], made: vec![0; 65600] };
+        if let Ok(fresh) = Gateway::start(Settings { ttl: 0, max_seen: 0, history_len: 1, max_messages: 0 }) {
+            states.save(&fresh);
+        }
+        states
     }
 
-    /// Whether the lent stores are as long as the node's settings say. Others cannot be loaded.
-    fn fits(&self) -> bool {
-        let max = |at| number(&self.node[at..at + 8]);
-        max(8).checked_mul(129) == Some(self.lent[0] as u64) && max(48).checked_mul(4096) == Some(self.lent[1] as u64)
-    }
-
-    fn load(&self) -> std::result::Result<Gateway, Refusal> {
-        Gateway::load(&[&self.node[..], &self.seen[..self.lent[0]], &self.cache[..self.lent[1]]].concat())
+    /// The gateway of the bytes as they stand.
+    fn gateway(&self) -> Gateway {
+        Gateway::from_parts(self.node.clone(), self.seen[..self.lent[0]].to_vec(), self.cache[..self.lent[1]].to_vec())
     }
 
     fn save(&mut self, gateway: &Gateway) {
-        let saved = gateway.save();
-        let (node, stores) = saved.split_at(pradulins::NODE_SIZE);
-        let (seen, cache) = stores.split_at(self.lent[0]);
-        self.node = node.to_vec();
+        let (node, seen, cache) = gateway.parts();
+        self.node.copy_from_slice(node);
         self.seen[..seen.len()].copy_from_slice(seen);
         self.cache[..cache.len()].copy_from_slice(cache);
     }
@@ -183,37 +180,37 @@ impl States {
         let fresh = start(content, 65535)?;
         let settings = fresh.settings();
         self.lent = [settings.max_seen * 129, settings.max_messages * 4096];
-        self.node = fresh.save()[..pradulins::NODE_SIZE].to_vec();
+        self.node.copy_from_slice(fresh.parts().0);
         Ok("ok".to_string())
     }
 
     fn admit(&mut self, content: &[u8]) -> std::result::Result<String, Refusal> {
-        let mut gateway = self.load()?;
+        let mut gateway = self.gateway();
         let admitted = gateway.admit(&content[11..], number(&content[8..10]) as usize, content[10] == 1, number(&content[..8]))?;
         self.save(&gateway);
         Ok(if admitted == Admitted::New { "new" } else { "dup" }.to_string())
     }
 
     fn beat(&mut self, content: &[u8]) -> std::result::Result<String, Refusal> {
-        let mut gateway = self.load()?;
+        let mut gateway = self.gateway();
         gateway.heartbeat(number(content))?;
         self.save(&gateway);
         Ok("ok".to_string())
     }
 
     fn advertise(&mut self, content: &[u8], room: usize) -> std::result::Result<String, Refusal> {
-        let count = self.load()?.advertise_into(&content[2..], number(&content[..2]) as usize, &mut self.made[..room])?;
+        let count = self.gateway().advertise_into(&content[2..], number(&content[..2]) as usize, &mut self.made[..room])?;
         Ok(made(&self.made[..count]))
     }
 
     fn ask(&mut self, body: &[u8], room: usize) -> std::result::Result<String, Refusal> {
-        let count = self.load()?.ask_into(body, &mut self.made[..room])?;
+        let count = self.gateway().ask_into(body, &mut self.made[..room])?;
         Ok(made(&self.made[..count]))
     }
 
     fn serve(&mut self, body: &[u8], room: usize) -> std::result::Result<String, Refusal> {
-        let (count, messages, left) = self.load()?.serve_into(body, &mut self.made[..room])?;
-        Ok(format!("{} {messages} {left}", made(&self.made[..count])))
+        let served = self.gateway().serve_into(body, &mut self.made[..room])?;
+        Ok(format!("{} {} {}", made(&self.made[..served.bytes]), served.messages, served.left))
     }
 
     /// Sets a number of the node or a byte of a store, as the C player does.
@@ -254,18 +251,17 @@ impl States {
         numbers.iter().map(u64::to_string).collect::<Vec<_>>().join(" ")
     }
 
-    /// The line of a record. Where a call is not to be had, `-`: what it would have changed is not known then, so such a call must be refused.
+    /// The line of a record; `-` for the parts of a node alone, which the crate does not have.
     fn line(&mut self, kind: u64, content: &[u8], n: u64) -> std::result::Result<String, ()> {
         let room = if content.len() < 4 { 0 } else { number(&content[..4]) as usize };
         let line = match kind {
             1 if content.len() == 14 => format!("{n} set {}", said(self.set(content), true)),
-            2..=6 if !self.fits() => format!("{n} -"),
             2 if content.len() >= 11 => format!("{n} admit {}", said(self.admit(content), true)),
             3 if content.len() == 8 => format!("{n} beat {}", said(self.beat(content), true)),
             4 if content.len() >= 6 && room <= 65600 => format!("{n} advertise {}", said(self.advertise(&content[4..], room), true)),
             5 if content.len() >= 4 && room <= 65600 => format!("{n} ask {}", said(self.ask(&content[4..], room), true)),
             6 if content.len() >= 4 && room <= 65600 => format!("{n} serve {}", said(self.serve(&content[4..], room), true)),
-            7 if content.len() == 8 => {
+            7 if content.len() == 8 && room <= self.seen.len() && number(&content[4..]) as usize <= self.cache.len() => {
                 self.lent = [room, number(&content[4..]) as usize];
                 format!("{n} lend ok")
             }

@@ -1,6 +1,6 @@
 //! Notices: bodies with one message each. The signature is a stand-in, to show where a host's own stands: anybody can make it.
 
-use pradulins::{decode, sign_bytes, Record, Refusal};
+use pradulins::{decode, sign_bytes, Message, Record, Refusal};
 
 /// Puts a length-delimited field at the end of `out`. Its number is below 16.
 fn put_field(out: &mut Vec<u8>, number: u8, bytes: &[u8]) {
@@ -35,23 +35,12 @@ pub fn notice(from: &str, seqno: u64, topic: &str, data: &[u8]) -> Result<Vec<u8
     Ok(body)
 }
 
-/// The host's word on the message at an index: whether its signature is right.
-pub fn verified(body: &[u8], index: usize) -> Result<bool, Refusal> {
-    let signed = sign_bytes(body, index)?;
-    let records = decode(body)?.records;
-    let mut signatures = records.iter().filter_map(|record| match record {
-        Record::Message { signature, .. } => Some(*signature),
-        _ => None,
-    });
-    Ok(signatures.nth(index).flatten() == Some(&stand_in(&signed)[..]))
+/// The host's word on a message of a body: whether its signature is right.
+pub fn verified(body: &[u8], message: &Message) -> Result<bool, Refusal> {
+    Ok(message.signature == Some(&stand_in(&sign_bytes(body, message.index)?)[..]))
 }
 
-/// How many messages a body has.
-pub fn messages(body: &[u8]) -> Result<usize, Refusal> {
-    Ok(decode(body)?.records.iter().filter(|record| matches!(record, Record::Message { .. })).count())
-}
-
-/// How many ids it names.
+/// How many ids a body names.
 pub fn ids(body: &[u8]) -> Result<usize, Refusal> {
     Ok(decode(body)?.records.iter().filter(|record| matches!(record, Record::MessageId(_))).count())
 }

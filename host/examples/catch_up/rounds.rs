@@ -1,28 +1,28 @@
 //! The story, as a function, so that a program in C can call it too.
 
 use super::frame::{put_frame, Frames};
-use super::notice::{ids, messages, notice, verified};
-use pradulins::{Admitted, Gateway, Settings};
+use super::notice::{ids, notice, verified};
+use pradulins::{messages, Admitted, Clock, Gateway, Settings};
 use std::error::Error;
 use std::io::Write;
 
 const TOPIC: &str = "ct";
 const WINDOWS: usize = 4;
 
-/// An hour, in seconds; also how long an id is kept.
-const HOUR: u64 = 3600;
+/// An hour, in milliseconds; also how long an id is kept.
+const HOUR: u64 = 3_600_000;
 
 /// A gateway, and what came in for it.
 struct Site {
     name: &'static str,
     gateway: Gateway,
     link: Frames,
-    clock: u64,
+    clock: Clock,
 }
 
 impl Site {
     fn new(name: &'static str, settings: Settings) -> Result<Site, Box<dyn Error>> {
-        Ok(Site { name, gateway: Gateway::start(settings)?, link: Frames::default(), clock: 10_000 })
+        Ok(Site { name, gateway: Gateway::start(settings)?, link: Frames::default(), clock: Clock::start() })
     }
 
     /// A frame comes in, in pieces.
@@ -42,14 +42,22 @@ impl Site {
     /// Admits every message of a body; how many were new.
     fn admit_all(&mut self, body: &[u8]) -> Result<usize, Box<dyn Error>> {
         let mut new = 0;
-        for index in 0..messages(body)? {
-            self.clock += 1;
-            if self.gateway.admit(body, index, verified(body, index)?, self.clock)? == Admitted::New {
-                new += 1;
-            }
+        for message in messages(body)? {
+            let admitted = self.gateway.admit(body, message.index, verified(body, &message)?, self.clock.now())?;
+            new += usize::from(admitted == Admitted::New);
         }
         Ok(new)
     }
+}
+
+/// What a gateway says of a notice at a reading: in words that do not tell the time.
+fn told(gateway: &mut Gateway, body: &[u8], now: u64) -> Result<String, Box<dyn Error>> {
+    let message = &messages(body)?[0];
+    Ok(match gateway.admit(body, message.index, verified(body, message)?, now) {
+        Ok(Admitted::New) => "new".to_string(),
+        Ok(Admitted::Duplicate) => "a duplicate".to_string(),
+        Err(refusal) => format!("refused {}", refusal.number()),
+    })
 }
 
 /// A site publishes a notice; the other gets it, unless it is lost.
@@ -129,17 +137,42 @@ pub fn run(out: &mut dyn Write) -> Result<(), Box<dyn Error>> {
         if same { "the same bytes" } else { "other bytes" }
     )?;
 
-    // An old notice comes in again: seen. And once more by a clock that steps back an hour: refused, and nothing is lost.
-    let old = notice("north", 1, TOPIC, &[1; 3900])?;
-    writeln!(out, "an old notice at south: {:?}", south.gateway.admit(&old, 0, verified(&old, 0)?, south.clock)?)?;
-    let back = south.clock - HOUR;
-    match south.gateway.admit(&old, 0, verified(&old, 0)?, back) {
-        Err(refusal) => writeln!(out, "the same at {back}: {refusal}")?,
-        Ok(admitted) => writeln!(out, "the same at {back}: {admitted:?}")?,
-    }
+    clocks(&mut south, out)?;
+    restart(south, out)
+}
 
-    // The state may be saved and loaded.
-    let loaded = Gateway::load(&south.gateway.save())?;
-    writeln!(out, "loaded again: {loaded:?}")?;
+/// A wall clock that steps by an hour: with the site's own clock nothing is lost and nothing refused. The machine's wall clock is not stepped for
+/// this; the site's clock would not see it, and the crate's tests do step one (src/clock.rs).
+fn clocks(site: &mut Site, out: &mut dyn Write) -> Result<(), Box<dyn Error>> {
+    let old = notice("north", 1, TOPIC, &[1; 3900])?;
+    let (name, now) = (site.name, site.clock.now());
+    writeln!(out, "the wall clock at {name} steps back an hour; its clock does not look at it again")?;
+    writeln!(out, "  an old notice is {}", told(&mut site.gateway, &old, site.clock.now())?)?;
+    writeln!(out, "  a notice of now is {}", told(&mut site.gateway, &notice("east", 1, TOPIC, b"")?, site.clock.now())?)?;
+
+    // What a host would see that passes the wall clock itself: on copies, since the second one loses what it has seen.
+    let (mut back, mut ahead) = (site.gateway.clone(), site.gateway.clone());
+    writeln!(out, "a host that passes the wall clock itself would see this")?;
+    writeln!(out, "  an hour back: a notice of now is {}", told(&mut back, &notice("east", 2, TOPIC, b"")?, now.saturating_sub(HOUR))?)?;
+    writeln!(out, "  an hour ahead: the old notice is {}, though it was seen", told(&mut ahead, &old, now.saturating_add(HOUR))?)?;
+    Ok(())
+}
+
+/// The program stops and starts again: the state is saved to a file and loaded.
+fn restart(site: Site, out: &mut dyn Write) -> Result<(), Box<dyn Error>> {
+    let file = std::env::temp_dir().join(format!("pradulins-catch-up-{}.state", std::process::id()));
+    site.gateway.save_to(&file)?;
+    let loaded = Gateway::load_from(&file);
+    std::fs::remove_file(&file)?;
+    let mut loaded = loaded?;
+
+    // The clock goes on where the saved one stood. After a stop as short as this, a reading that is ttl later would mean a wrong wall clock.
+    let clock = Clock::after(&loaded);
+    if clock.ahead_of(&loaded) >= loaded.settings().ttl {
+        return Err("the wall clock is ttl or more after the saved one: is it right?".into());
+    }
+    writeln!(out, "{} is saved and loaded: {} ids seen, {} messages", site.name, loaded.seen(), loaded.messages())?;
+    let old = notice("north", 1, TOPIC, &[1; 3900])?;
+    writeln!(out, "  an old notice is {}", told(&mut loaded, &old, clock.now())?)?;
     Ok(())
 }

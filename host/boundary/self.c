@@ -1,0 +1,216 @@
+/*
+ * The calls of pradulins.h that no program has a line for: settings and state of a node, version and format, and the words for refusals. They are
+ * made on nodes that are fresh, filled and damaged, and on stores of other lengths. Each time the answer and the values are tested, that values which
+ * are not named stay, and that no byte of the node and the stores changed.
+ */
+#include "player.h"
+
+#include <stdio.h>
+#include <string.h>
+
+#include "pradulins.h"
+
+/* The numbers of the crate's refusals; 0 past their end. */
+uint32_t boundary_refusal(size_t place);
+
+enum { SEEN = PRADULINS_MAX_SEEN * PRADULINS_SEEN_ROW, CACHE = PRADULINS_MAX_MESSAGES * PRADULINS_CACHE_PLACE };
+
+#define UNTOUCHED 0x5e5e5e5e5e5e5e5eu
+
+static uint8_t node[PRADULINS_NODE_SIZE], node_before[PRADULINS_NODE_SIZE];
+static uint8_t seen[SEEN], seen_before[SEEN];
+static uint8_t cache[CACHE], cache_before[CACHE];
+static uint64_t values[PRADULINS_VALUES];
+static int checks, faults;
+
+static void expect(int ok, const char *what)
+{
+    checks++;
+    if (!ok) {
+        faults++;
+        fprintf(stderr, "boundary: check %d: %s\n", checks, what);
+    }
+}
+
+static void before(void)
+{
+    memcpy(node_before, node, sizeof node);
+    memcpy(seen_before, seen, sizeof seen);
+    memcpy(cache_before, cache, sizeof cache);
+    for (int i = 0; i < PRADULINS_VALUES; i++)
+        values[i] = UNTOUCHED;
+}
+
+/* Nothing changed, and `values` has these numbers and no others. */
+static void after(int count, const uint64_t *wanted, const char *what)
+{
+    for (int i = 0; i < PRADULINS_VALUES; i++)
+        expect(values[i] == (i < count ? wanted[i] : UNTOUCHED), what);
+    expect(memcmp(node, node_before, sizeof node) == 0, "the node changed");
+    expect(memcmp(seen, seen_before, sizeof seen) == 0, "the seen store changed");
+    expect(memcmp(cache, cache_before, sizeof cache) == 0, "the cache store changed");
+}
+
+/* ---- calls */
+
+static void settings_are(uint64_t ttl, uint64_t max_seen, uint64_t history_len, uint64_t max_messages)
+{
+    const uint64_t wanted[] = {ttl, max_seen, history_len, max_messages};
+    before();
+    expect(pradulins_settings(node, values) == PRADULINS_OK, "the settings are refused");
+    after(4, wanted, "other settings");
+}
+
+static void settings_are_refused(void)
+{
+    before();
+    expect(pradulins_settings(node, values) == PRADULINS_MALFORMED, "settings that are none are not refused");
+    after(0, NULL, "values beside a refusal of the settings");
+}
+
+static void state_is(size_t seen_len, size_t cache_len, uint64_t clock, uint64_t ids, uint64_t messages)
+{
+    const uint64_t wanted[] = {clock, ids, messages};
+    before();
+    expect(pradulins_state(node, seen, seen_len, cache, cache_len, values) == PRADULINS_OK, "the state is refused");
+    after(3, wanted, "another clock or other counts");
+}
+
+static void state_is_refused(size_t seen_len, size_t cache_len, uint32_t number)
+{
+    before();
+    expect(pradulins_state(node, seen, seen_len, cache, cache_len, values) == number, "the state is not refused as it should be");
+    after(0, NULL, "values beside a refusal of the state");
+    /* The same as a call that changes the node: it is refused alike, and changes nothing. */
+    before();
+    expect(pradulins_heartbeat(node, seen, seen_len, cache, cache_len, UINT64_MAX, values) == number, "heartbeat answers otherwise");
+    after(0, NULL, "values beside a refusal of heartbeat");
+}
+
+/* ---- nodes */
+
+/* A body with one message. */
+static void admit(uint8_t from, uint64_t at, size_t seen_len, size_t cache_len)
+{
+    uint8_t body[77] = {0x12, 0x4b, 0x0a, 1, from, 0x1a, 1, 1, 0x22, 1, 't', 0x2a, 0x40};
+    expect(pradulins_admit(node, seen, seen_len, cache, cache_len, body, sizeof body, 0, true, at, values) == PRADULINS_OK && values[0] == 1,
+           "a notice is not new");
+}
+
+/* Sets 8 bytes of the node, tests, and sets them back. */
+static void with_number(size_t at, uint64_t value, void (*test)(void))
+{
+    uint8_t kept[8];
+    memcpy(kept, node + at, sizeof kept);
+    for (size_t i = 0; i < sizeof kept; i++, value >>= 8)
+        node[at + i] = (uint8_t)value;
+    test();
+    memcpy(node + at, kept, sizeof kept);
+}
+
+/* Where the numbers stand: crates/stored/specs/Layout.antt. */
+enum { TTL_AT = 0, MAX_SEEN_AT = 8, CLOCK_AT = 16, SEEN_COUNT_AT = 32, HISTORY_AT = 40, MAX_MESSAGES_AT = 48, COUNT_AT = 72, EXPIRIES_AT = 80 };
+
+static void refused_42(void)
+{
+    settings_are(1000, 4, 2, 3);
+    state_is_refused(4 * 129, 3 * 4096, PRADULINS_MALFORMED);
+}
+
+static void another_ttl(void)
+{
+    settings_are(UINT64_MAX, 4, 2, 3);
+    state_is(4 * 129, 3 * 4096, 103, 4, 3);
+}
+
+static void another_clock(void)
+{
+    settings_are(1000, 4, 2, 3);
+    state_is(4 * 129, 3 * 4096, 0xfedcba9876543210, 4, 3);
+}
+
+static void nodes(void)
+{
+    static const uint64_t legal[][4] = {{0, 0, 1, 0}, {UINT64_MAX, 256, 16, 64}, {3600000, 1, 2, 3}};
+    memset(seen, 0xa5, sizeof seen);
+    memset(cache, 0xa5, sizeof cache);
+    for (size_t i = 0; i < sizeof legal / sizeof *legal; i++) {
+        const uint64_t *s = legal[i];
+        expect(pradulins_start(node, s[0], s[1], s[2], s[3]) == PRADULINS_OK, "settings are refused at start");
+        settings_are(s[0], s[1], s[2], s[3]);
+        state_is(PRADULINS_SEEN_STORE_SIZE(s[1]), PRADULINS_CACHE_STORE_SIZE(s[3]), 0, 0, 0);
+    }
+
+    /* Filled. */
+    expect(pradulins_start(node, 1000, 4, 2, 3) == PRADULINS_OK, "settings are refused at start");
+    for (uint8_t i = 0; i < 4; i++) {
+        admit('A' + i, 100 + i, 4 * 129, 3 * 4096);
+        state_is(4 * 129, 3 * 4096, 100 + i, i + 1u, i < 3 ? i + 1u : 3);
+    }
+    settings_are(1000, 4, 2, 3);
+
+    /* Stores of other lengths. */
+    state_is_refused(3 * 129, 3 * 4096, PRADULINS_BAD_SETTING);
+    state_is_refused(4 * 129 - 1, 3 * 4096, PRADULINS_BAD_SETTING);
+    state_is_refused(4 * 129 + 1, 3 * 4096, PRADULINS_BAD_STORE);
+    state_is_refused(5 * 129, 3 * 4096, PRADULINS_BAD_STORE);
+    state_is_refused(4 * 129, 2 * 4096, PRADULINS_BAD_STORE);
+    state_is_refused(4 * 129, 3 * 4096 + 1, PRADULINS_BAD_STORE);
+    state_is_refused(4 * 129, 0, PRADULINS_BAD_STORE);
+
+    /* Damaged: settings that are none, counts and expiries that do not fit, and numbers that still do. */
+    with_number(MAX_SEEN_AT, 257, settings_are_refused);
+    with_number(MAX_SEEN_AT, UINT64_MAX, settings_are_refused);
+    with_number(HISTORY_AT, 0, settings_are_refused);
+    with_number(HISTORY_AT, 17, settings_are_refused);
+    with_number(MAX_MESSAGES_AT, 65, settings_are_refused);
+    with_number(MAX_MESSAGES_AT, UINT64_MAX, settings_are_refused);
+    with_number(SEEN_COUNT_AT, 5, refused_42);
+    with_number(SEEN_COUNT_AT, UINT64_MAX, refused_42);
+    with_number(COUNT_AT, 4, refused_42);
+    with_number(EXPIRIES_AT, UINT64_MAX, refused_42);
+    with_number(TTL_AT, UINT64_MAX, another_ttl);
+    with_number(CLOCK_AT, 0xfedcba9876543210, another_clock);
+    state_is(4 * 129, 3 * 4096, 103, 4, 3);
+
+    /* Bytes that were never a node. */
+    memset(node, 0, sizeof node);
+    settings_are_refused();
+    memset(node, 0xff, sizeof node);
+    settings_are_refused();
+    state_is_refused(4 * 129, 3 * 4096, PRADULINS_BAD_SETTING);
+}
+
+/* ---- words */
+
+static void words(void)
+{
+    const char *none = pradulins_refusal_text(UINT32_MAX);
+    uint32_t last = 0;
+    for (uint32_t number = 0; number <= 50; number++)
+        expect(pradulins_refusal_text(number) != NULL && *pradulins_refusal_text(number) != 0, "no words for a number");
+    for (size_t i = 0; boundary_refusal(i) != 0; i++) {
+        uint32_t number = boundary_refusal(i);
+        /* Each in words of its own, and no number between it and the one before it. */
+        expect(strcmp(pradulins_refusal_text(number), none) != 0, "a refusal without words of its own");
+        for (size_t j = 0; j < i; j++)
+            expect(strcmp(pradulins_refusal_text(number), pradulins_refusal_text(boundary_refusal(j))) != 0, "two refusals in the same words");
+        for (uint32_t other = last + 1; other < number; other++)
+            expect(strcmp(pradulins_refusal_text(other), none) == 0, "words for a number that is no refusal");
+        last = number;
+    }
+    expect(last == PRADULINS_MALFORMED, "another last refusal");
+    for (uint32_t other = last + 1; other <= 50; other++)
+        expect(strcmp(pradulins_refusal_text(other), none) == 0, "words for a number that is no refusal");
+    expect(strcmp(pradulins_refusal_text(PRADULINS_OK), none) != 0, "no words for 0");
+}
+
+int test_self(void)
+{
+    expect(pradulins_version() == PRADULINS_VERSION, "another version");
+    expect(pradulins_format() == PRADULINS_FORMAT, "another format");
+    words();
+    nodes();
+    printf("%d checks, %d failed\n", checks, faults);
+    return faults ? 1 : 0;
+}

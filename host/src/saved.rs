@@ -1,0 +1,512 @@
+//! Saved states: a gateway as bytes with a header before them, and files that are written so that a crash leaves the old or the new content.
+
+use crate::{Gateway, Refusal, FORMAT, NODE_SIZE};
+use std::error::Error;
+use std::ffi::OsString;
+use std::fmt;
+use std::fs::{self, File};
+use std::io::{self, Write};
+use std::path::{Path, PathBuf};
+
+/// What a saved state begins with.
+const NAME: &[u8; 16] = b"pradulins-saved\n";
+
+// Where the numbers of the header stand, the lowest byte first: a format of 4 bytes, a length and a checksum of 8.
+const FORMAT_AT: usize = 16;
+const LENGTH_AT: usize = 20;
+const CHECKSUM_AT: usize = 28;
+const HEADER: usize = 36;
+
+/// Why a gateway was not loaded.
+#[derive(Debug)]
+pub enum LoadError {
+    /// The file could not be read. Where there is none, the error's kind is [`io::ErrorKind::NotFound`].
+    Read(io::Error),
+    /// There are fewer bytes than the 36 of the header.
+    Short {
+        /// How many there are.
+        found: usize,
+    },
+    /// The bytes do not begin with the name of a saved state.
+    Name,
+    /// The state was saved in another format.
+    Format {
+        /// The format that it was saved in.
+        found: u32,
+        /// The format that this crate reads, [`FORMAT`].
+        read: u32,
+    },
+    /// The bytes after the header are not as many as it says.
+    Length {
+        /// How many it says.
+        said: u64,
+        /// How many there are.
+        found: u64,
+    },
+    /// The bytes after the header are not those that were saved.
+    Checksum,
+    /// The bytes are as they were saved, and they are no node with its stores. [`Gateway::save`] writes no such bytes.
+    Refused(Refusal),
+}
+
+impl fmt::Display for LoadError {
+    fn fmt(&self, f: &mut fmt::Formatter<'_>) -> fmt::Result {
+        match self {
+            LoadError::Read(why) => write!(f, "the saved state cannot be read: {why}"),
+            LoadError::Short { found } => write!(f, "no saved state: it has {found} bytes, and the header alone has {HEADER}"),
+            LoadError::Name => write!(f, "no saved state: it does not begin with `pradulins-saved`"),
+            LoadError::Format { found, read } => write!(f, "the state was saved in format {found}, and format {read} is read"),
+            LoadError::Length { said, found } => write!(f, "the saved state has {found} bytes after its header, which says {said}"),
+            LoadError::Checksum => write!(f, "the saved state was damaged: its checksum is another"),
+            LoadError::Refused(refusal) => write!(f, "the saved state is {refusal}"),
+        }
+    }
+}
+
+impl Error for LoadError {
+    fn source(&self) -> Option<&(dyn Error + 'static)> {
+        match self {
+            LoadError::Read(why) => Some(why),
+            LoadError::Refused(refusal) => Some(refusal),
+            _ => None,
+        }
+    }
+}
+
+/// What each byte does to a checksum.
+static TABLE: [u64; 256] = table();
+
+const fn table() -> [u64; 256] {
+    // The polynomial of CRC-64/XZ, 0x42F0E1EBA9EA3693, with its bits in the other order.
+    const POLYNOMIAL: u64 = 0xc96c_5795_d787_0f42;
+    let mut table = [0; 256];
+    let mut byte = 0;
+    while byte < 256 {
+        let mut rest = byte as u64;
+        let mut bit = 0;
+        while bit < 8 {
+            rest = if rest & 1 == 1 { rest >> 1 ^ POLYNOMIAL } else { rest >> 1 };
+            bit += 1;
+        }
+        table[byte] = rest;
+        byte += 1;
+    }
+    table
+}
+
+/// CRC-64/XZ.
+fn checksum(bytes: &[u8]) -> u64 {
+    let mut sum = !0;
+    for byte in bytes {
+        sum = sum >> 8 ^ TABLE[usize::from(sum as u8 ^ *byte)];
+    }
+    !sum
+}
+
+/// The header with what it stands before.
+fn sealed(parts: &[&[u8]]) -> Vec<u8> {
+    let length: usize = parts.iter().map(|part| part.len()).sum();
+    let mut bytes = Vec::with_capacity(HEADER + length);
+    bytes.extend_from_slice(NAME);
+    bytes.extend_from_slice(&FORMAT.to_le_bytes());
+    bytes.extend_from_slice(&(length as u64).to_le_bytes());
+    bytes.extend_from_slice(&[0; 8]);
+    for part in parts {
+        bytes.extend_from_slice(part);
+    }
+    let sum = checksum(&bytes[HEADER..]);
+    bytes[CHECKSUM_AT..HEADER].copy_from_slice(&sum.to_le_bytes());
+    bytes
+}
+
+/// What a header stands before, if all of the header is right.
+fn opened(bytes: &[u8]) -> Result<&[u8], LoadError> {
+    if bytes.len() < HEADER {
+        return Err(LoadError::Short { found: bytes.len() });
+    }
+    let (header, rest) = bytes.split_at(HEADER);
+    let number = |from: usize, to: usize| header[from..to].iter().rev().fold(0, |v, byte| v << 8 | u64::from(*byte));
+    if header[..FORMAT_AT] != NAME[..] {
+        return Err(LoadError::Name);
+    }
+    let format = number(FORMAT_AT, LENGTH_AT) as u32;
+    if format != FORMAT {
+        return Err(LoadError::Format { found: format, read: FORMAT });
+    }
+    let (said, found) = (number(LENGTH_AT, CHECKSUM_AT), rest.len() as u64);
+    if said != found {
+        return Err(LoadError::Length { said, found });
+    }
+    if number(CHECKSUM_AT, HEADER) != checksum(rest) {
+        return Err(LoadError::Checksum);
+    }
+    Ok(rest)
+}
+
+impl Gateway {
+    /// Its state as bytes, for [`Gateway::load`]: a header of 36 bytes, then the node and its two stores.
+    ///
+    /// The header has a name, `pradulins-saved` and a newline, in 16 bytes; then, each with its lowest byte first, the [`FORMAT`] in 4, the length of
+    /// what follows the header in 8, and the checksum of what follows it in 8, which is CRC-64/XZ.
+    pub fn save(&self) -> Vec<u8> {
+        let (node, seen, cache) = self.parts();
+        sealed(&[node, seen, cache])
+    }
+
+    /// The gateway that was saved.
+    ///
+    /// Bytes of any origin may be passed. In this order it is tested that there are as many as a header has ([`LoadError::Short`]), its name, its
+    /// format, its length and its checksum. Then the library tests the node and its stores ([`LoadError::Refused`]), as [`Gateway::load_plain`] says.
+    /// `load(&[])` is `Err(LoadError::Short { found: 0 })`.
+    ///
+    /// The checksum finds bytes that were damaged. It is not a signature: who can write the file can write any state with a right checksum.
+    pub fn load(bytes: &[u8]) -> Result<Gateway, LoadError> {
+        Gateway::load_plain(opened(bytes)?).map_err(LoadError::Refused)
+    }
+
+    /// The gateway that version 0.1.0 saved: the node and its two stores with no header before them. Save it anew: without a checksum, damage is
+    /// found only where it is not well formed.
+    ///
+    /// Refused: [`Refusal::Malformed`] (42) for fewer bytes than a node has, and for settings that no gateway is started with; [`Refusal::BadStore`]
+    /// (41) where the stores are not as long as the settings say; then [`Refusal::Malformed`] where node and stores are not well formed.
+    pub fn load_plain(bytes: &[u8]) -> Result<Gateway, Refusal> {
+        if bytes.len() < NODE_SIZE {
+            return Err(Refusal::Malformed);
+        }
+        let (node, stores) = bytes.split_at(NODE_SIZE);
+        Gateway::tested(node, stores)
+    }
+
+    /// Writes [`Gateway::save`] to a file by [`write_file`], so that a crash leaves the state that was saved before, or this one.
+    pub fn save_to(&self, path: impl AsRef<Path>) -> io::Result<()> {
+        write_file(path, &self.save())
+    }
+
+    /// The gateway that [`Gateway::save_to`] wrote to a file.
+    ///
+    /// A host that starts for the first time has no file, and should start a new gateway then and only then: what is wrong with a file is for a
+    /// person to look at, since a new gateway has seen nothing and calls old notices new.
+    ///
+    /// ```no_run
+    /// use pradulins::{Gateway, LoadError, Settings};
+    /// use std::io::ErrorKind;
+    ///
+    /// let settings = Settings { ttl: 3_600_000, max_seen: 256, history_len: 4, max_messages: 64 };
+    /// let gateway = match Gateway::load_from("gateway.state") {
+    ///     Ok(gateway) => gateway,
+    ///     Err(LoadError::Read(why)) if why.kind() == ErrorKind::NotFound => Gateway::start(settings)?,
+    ///     Err(why) => return Err(why.into()),
+    /// };
+    /// # Ok::<(), Box<dyn std::error::Error>>(())
+    /// ```
+    pub fn load_from(path: impl AsRef<Path>) -> Result<Gateway, LoadError> {
+        Gateway::load(&fs::read(path).map_err(LoadError::Read)?)
+    }
+}
+
+/// Writes a file so that a crash leaves the old content or the new.
+///
+/// The bytes go to a file beside it, with `.new` after the name, and to the disk; that file is then renamed over the old one, and the folder is
+/// flushed. On an error the file beside is removed, and the old one stays; only where flushing the folder is what failed, the new one is there. A
+/// `.new` file that a crash left is written over by the next call. The new file has the permissions that new files get, not those of the old one.
+///
+/// Two writers of one file at once are not for this: each takes the other's `.new` file for its own.
+pub fn write_file(path: impl AsRef<Path>, bytes: &[u8]) -> io::Result<()> {
+    let path = path.as_ref();
+    let beside = beside(path)?;
+    let written = write_whole(&beside, bytes).and_then(|()| fs::rename(&beside, path));
+    if let Err(why) = written {
+        let _ = fs::remove_file(&beside);
+        return Err(why);
+    }
+    let folder = match path.parent() {
+        Some(folder) if !folder.as_os_str().is_empty() => folder,
+        _ => Path::new("."),
+    };
+    File::open(folder)?.sync_all()
+}
+
+/// The name of the file beside.
+fn beside(path: &Path) -> io::Result<PathBuf> {
+    let Some(name) = path.file_name() else {
+        return Err(io::Error::new(io::ErrorKind::InvalidInput, "the path names no file"));
+    };
+    let mut name = OsString::from(name);
+    name.push(".new");
+    Ok(path.with_file_name(name))
+}
+
+/// A new file with these bytes, on the disk.
+fn write_whole(path: &Path, bytes: &[u8]) -> io::Result<()> {
+    let mut file = File::create(path)?;
+    file.write_all(bytes)?;
+    file.sync_all()
+}
+
+#[cfg(test)]
+mod tests {
+    use super::*;
+
+    /// The word that an error is, for comparing.
+    fn word(result: Result<impl Sized, LoadError>) -> String {
+        match result {
+            Ok(_) => "loaded".to_string(),
+            Err(LoadError::Read(why)) => format!("Read({:?})", why.kind()),
+            Err(why) => format!("{why:?}"),
+        }
+    }
+
+    #[test]
+    fn the_checksum_is_crc_64_xz() {
+        assert_eq!(checksum(b"123456789"), 0x995d_c9bb_df19_39fa);
+        assert_eq!(checksum(b""), 0);
+    }
+
+    #[test]
+    fn the_header_stands_as_told() {
+        let bytes = sealed(&[b"1234", b"", b"56789"]);
+        assert_eq!(bytes[..16], *b"pradulins-saved\n");
+        assert_eq!(bytes[16..20], [1, 0, 0, 0]);
+        assert_eq!(bytes[20..28], [9, 0, 0, 0, 0, 0, 0, 0]);
+        assert_eq!(bytes[28..36], 0x995d_c9bb_df19_39fa_u64.to_le_bytes());
+        assert_eq!(bytes[36..], *b"123456789");
+        assert_eq!(opened(&bytes).unwrap(), b"123456789");
+    }
+
+    #[test]
+    fn the_header_is_tested_in_order() {
+        let right = sealed(&[b"123456789"]);
+        assert_eq!(word(opened(&[])), "Short { found: 0 }");
+        assert_eq!(word(opened(&[b'x'; 35])), "Short { found: 35 }");
+        assert_eq!(word(opened(&right[..35])), "Short { found: 35 }");
+        assert_eq!(word(opened(&[0; 36])), "Name");
+        let mut bytes = right.clone();
+        bytes[40] = 0;
+        assert_eq!(word(opened(&bytes)), "Checksum");
+        bytes.push(0);
+        assert_eq!(word(opened(&bytes)), "Length { said: 9, found: 10 }");
+        bytes[17] = 1;
+        assert_eq!(word(opened(&bytes)), "Format { found: 257, read: 1 }");
+        bytes[0] = b'P';
+        assert_eq!(word(opened(&bytes)), "Name");
+        assert_eq!(word(opened(&right[..36])), "Length { said: 9, found: 0 }");
+    }
+
+    #[test]
+    fn errors_in_words() {
+        let missing = io::Error::new(io::ErrorKind::NotFound, "there is no file");
+        for (why, words) in [
+            (LoadError::Read(missing), "the saved state cannot be read: there is no file"),
+            (LoadError::Short { found: 0 }, "no saved state: it has 0 bytes, and the header alone has 36"),
+            (LoadError::Name, "no saved state: it does not begin with `pradulins-saved`"),
+            (LoadError::Format { found: 2, read: 1 }, "the state was saved in format 2, and format 1 is read"),
+            (LoadError::Length { said: 9, found: 8 }, "the saved state has 8 bytes after its header, which says 9"),
+            (LoadError::Checksum, "the saved state was damaged: its checksum is another"),
+            (LoadError::Refused(Refusal::Malformed), "the saved state is refused 42: node and stores are not well formed"),
+        ] {
+            assert_eq!(why.to_string(), words);
+            assert_eq!(why.source().is_some(), matches!(why, LoadError::Read(_) | LoadError::Refused(_)));
+        }
+    }
+
+    /// A folder of a test's own, removed at its end.
+    struct Folder(PathBuf);
+
+    impl Folder {
+        fn new(name: &str) -> Folder {
+            let path = std::env::temp_dir().join(format!("pradulins-{name}-{}", std::process::id()));
+            fs::create_dir_all(&path).unwrap();
+            Folder(path)
+        }
+
+        fn names(&self) -> Vec<String> {
+            let mut names: Vec<_> = fs::read_dir(&self.0).unwrap().map(|entry| entry.unwrap().file_name().into_string().unwrap()).collect();
+            names.sort();
+            names
+        }
+    }
+
+    impl Drop for Folder {
+        fn drop(&mut self) {
+            let _ = fs::remove_dir_all(&self.0);
+        }
+    }
+
+    #[test]
+    fn a_file_is_written_and_written_over() {
+        let folder = Folder::new("written");
+        let file = folder.0.join("a.state");
+        write_file(&file, b"first").unwrap();
+        fs::write(folder.0.join("a.state.new"), b"left by a crash, and longer").unwrap();
+        write_file(&file, b"second").unwrap();
+        assert_eq!(fs::read(&file).unwrap(), b"second");
+        assert_eq!(folder.names(), ["a.state"]);
+    }
+
+    #[test]
+    fn on_an_error_the_old_file_stays() {
+        let folder = Folder::new("error");
+        // A folder that is not empty cannot be renamed over.
+        let held = folder.0.join("held");
+        fs::create_dir(&held).unwrap();
+        fs::write(held.join("inside"), b"old").unwrap();
+        assert!(write_file(&held, b"new").is_err());
+        assert_eq!(folder.names(), ["held"]);
+        assert_eq!(fs::read(held.join("inside")).unwrap(), b"old");
+        // A file beside that cannot be written.
+        let file = folder.0.join("file");
+        write_file(&file, b"old").unwrap();
+        fs::create_dir(folder.0.join("file.new")).unwrap();
+        assert!(write_file(&file, b"new").is_err());
+        assert_eq!(fs::read(&file).unwrap(), b"old");
+        // No such folder, and no file's name.
+        assert_eq!(write_file(folder.0.join("none/file"), b"").unwrap_err().kind(), io::ErrorKind::NotFound);
+        assert_eq!(write_file("/", b"").unwrap_err().kind(), io::ErrorKind::InvalidInput);
+        assert_eq!(write_file("..", b"").unwrap_err().kind(), io::ErrorKind::InvalidInput);
+    }
+
+    #[cfg(not(no_archive))]
+    mod states {
+        use super::*;
+        use crate::{Admitted, Settings};
+
+        const SETTINGS: Settings = Settings { ttl: 1000, max_seen: 4, history_len: 2, max_messages: 2 };
+
+        // Where things stand in what a header stands before.
+        const EXPIRIES: usize = 80;
+        const SEEN: usize = NODE_SIZE;
+        const CACHE: usize = SEEN + 4 * 129;
+
+        /// A body with one message, whose data is `data`.
+        fn body(from: u8) -> Vec<u8> {
+            let mut body = vec![0x12, 0x51, 0x0a, 1, from, 0x12, 4, b'd', b'a', b't', b'a', 0x1a, 1, 1, 0x22, 1, b't', 0x2a, 0x40];
+            body.extend([0; 64]);
+            body
+        }
+
+        fn filled() -> Gateway {
+            let mut gateway = Gateway::start(SETTINGS).unwrap();
+            for from in b'A'..b'D' {
+                assert_eq!(gateway.admit(&body(from), 0, true, 5), Ok(Admitted::New));
+            }
+            gateway
+        }
+
+        /// Saved bytes changed after the header, and the header made anew.
+        fn resealed(gateway: &Gateway, change: impl FnOnce(&mut Vec<u8>)) -> Vec<u8> {
+            let mut rest = gateway.save().split_off(HEADER);
+            change(&mut rest);
+            sealed(&[&rest])
+        }
+
+        #[test]
+        fn saved_and_loaded() {
+            let gateway = filled();
+            let saved = gateway.save();
+            assert_eq!(saved.len(), HEADER + NODE_SIZE + 4 * 129 + 2 * 4096);
+            assert!(Gateway::load(&saved).unwrap() == gateway);
+            assert_eq!(word(Gateway::load(&[])), "Short { found: 0 }");
+            // As version 0.1.0 saved it.
+            assert!(Gateway::load_plain(&saved[HEADER..]).unwrap() == gateway);
+            assert_eq!(word(Gateway::load(&saved[HEADER..])), "Name");
+            assert_eq!(Gateway::load_plain(&saved).err(), Some(Refusal::Malformed));
+            assert_eq!(Gateway::load_plain(&saved[HEADER..saved.len() - 1]).err(), Some(Refusal::BadStore));
+            assert_eq!(Gateway::load_plain(&[]).err(), Some(Refusal::Malformed));
+        }
+
+        #[test]
+        fn every_damage_is_found() {
+            let saved = filled().save();
+            for at in (0..saved.len()).step_by(7).chain(0..HEADER + 200) {
+                for bits in [0x01, 0x80, 0xff] {
+                    let mut bytes = saved.clone();
+                    bytes[at] ^= bits;
+                    let told = word(Gateway::load(&bytes));
+                    let start = match at {
+                        0..=15 => "Name",
+                        16..=19 => "Format { found: ",
+                        20..=27 => "Length { said: ",
+                        _ => "Checksum",
+                    };
+                    assert!(told.starts_with(start), "byte {at}: {told}");
+                    if at > HEADER + 200 {
+                        break;
+                    }
+                }
+            }
+        }
+
+        #[test]
+        fn every_cut_is_found() {
+            let saved = filled().save();
+            let rest = saved.len() - HEADER;
+            for length in (0..=200).chain([NODE_SIZE - 1, NODE_SIZE, HEADER + NODE_SIZE - 1, HEADER + NODE_SIZE, HEADER + CACHE, saved.len() - 1]) {
+                let wanted = match length.checked_sub(HEADER) {
+                    None => format!("Short {{ found: {length} }}"),
+                    Some(found) => format!("Length {{ said: {rest}, found: {found} }}"),
+                };
+                assert_eq!(word(Gateway::load(&saved[..length])), wanted);
+            }
+            for more in [1, 2, 128, 129, 4096] {
+                let longer = [&saved[..], &vec![0; more]].concat();
+                assert_eq!(word(Gateway::load(&longer)), format!("Length {{ said: {rest}, found: {} }}", rest + more));
+            }
+        }
+
+        #[test]
+        fn the_library_tests_what_is_sealed() {
+            let gateway = filled();
+            let loaded = |change: &dyn Fn(&mut Vec<u8>)| word(Gateway::load(&resealed(&gateway, change)));
+            assert_eq!(loaded(&|_| ()), "loaded");
+            // Too few bytes for a node, or none; settings; lengths of stores; a count.
+            assert_eq!(loaded(&|rest| rest.clear()), "Refused(Malformed)");
+            assert_eq!(loaded(&|rest| rest.truncate(NODE_SIZE - 1)), "Refused(Malformed)");
+            for (at, value) in [(8, 257), (40, 0), (40, 17), (48, 65)] {
+                assert_eq!(loaded(&|rest| rest[at..at + 8].copy_from_slice(&u64::to_le_bytes(value))), "Refused(Malformed)");
+            }
+            assert_eq!(loaded(&|rest| rest[15] = 0xff), "Refused(Malformed)");
+            assert_eq!(loaded(&|rest| rest.truncate(NODE_SIZE)), "Refused(BadStore)");
+            assert_eq!(loaded(&|rest| rest.push(0)), "Refused(BadStore)");
+            assert_eq!(loaded(&|rest| rest[8] = 5), "Refused(BadStore)");
+            assert_eq!(loaded(&|rest| rest[32] = 5), "Refused(Malformed)");
+        }
+
+        /// Why there is a checksum: the library alone does not find these.
+        #[test]
+        fn damage_that_is_well_formed() {
+            let gateway = filled();
+            let request = Gateway::start(SETTINGS).unwrap().ask(&gateway.advertise(b"t", 2).unwrap()).unwrap();
+            // A byte of a message's data: it is served as it now stands.
+            let damaged = Gateway::load(&resealed(&gateway, |rest| rest[CACHE + 5] = b'D')).unwrap();
+            let (right, wrong) = (gateway.serve(&request).unwrap().body, damaged.serve(&request).unwrap().body);
+            assert_eq!(right.iter().zip(&wrong).filter(|(a, b)| a != b).map(|(_, b)| *b).collect::<Vec<_>>(), b"D");
+            // A byte of an id that was seen: the notice is new again.
+            let mut damaged = Gateway::load(&resealed(&gateway, |rest| rest[SEEN + 1] = b'Z')).unwrap();
+            assert_eq!(gateway.clone().admit(&body(b'A'), 0, true, 5), Ok(Admitted::Duplicate));
+            assert_eq!(damaged.admit(&body(b'A'), 0, true, 5), Ok(Admitted::New));
+            // An expiry far ahead: it admits once, and what that leaves is refused ever after, since expiries may not fall.
+            let newest = EXPIRIES + 2 * 8;
+            let mut damaged = Gateway::load(&resealed(&gateway, |rest| rest[newest + 6] = 1)).unwrap();
+            assert_eq!(damaged.admit(&body(b'E'), 0, true, 6), Ok(Admitted::New));
+            assert_eq!(damaged.admit(&body(b'F'), 0, true, 7), Err(Refusal::Malformed));
+            assert_eq!(damaged.heartbeat(7), Err(Refusal::Malformed));
+            assert_eq!(word(Gateway::load(&damaged.save())), "Refused(Malformed)");
+        }
+
+        #[test]
+        fn files() {
+            let folder = Folder::new("files");
+            let file = folder.0.join("gateway.state");
+            assert_eq!(word(Gateway::load_from(&file)), "Read(NotFound)");
+            let mut gateway = filled();
+            gateway.save_to(&file).unwrap();
+            assert!(Gateway::load_from(&file).unwrap() == gateway);
+            gateway.heartbeat(9).unwrap();
+            gateway.save_to(&file).unwrap();
+            assert_eq!(Gateway::load_from(&file).unwrap().clock(), 9);
+            assert_eq!(folder.names(), ["gateway.state"]);
+            fs::write(&file, b"").unwrap();
+            assert_eq!(word(Gateway::load_from(&file)), "Short { found: 0 }");
+        }
+    }
+}
