@@ -48,7 +48,7 @@ def beside(number, values, size):
     """What the numbers beside a refusal say; "" where they say nothing more. `size` is the body's, or None."""
     if len(values) != len(VALUES.get(number, ())):
         return ""
-    at = "of the body or of its submessage"
+    at = "(of the body, or of the submessage that it stands in)"
     if number == 4:
         offset, length, remaining = values
         # A submessage is shorter than its body.
@@ -56,7 +56,7 @@ def beside(number, values, size):
         return "at offset %d %s it was to have %s, and %s %s" % (
             offset, at, some(length, "byte"), format(remaining, ","), "remains" if remaining == 1 else "remain")
     if number == 5:
-        return "type %d, in the tag before offset %d %s" % (*values, at)
+        return "type %d, in the tag that ends at offset %d %s" % (*values, at)
     if number == 6:
         return "number %d, at offset %d %s" % (*values, at)
     if number == 7:
