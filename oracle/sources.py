@@ -3,9 +3,9 @@
 
     oracle/sources.py [DIR]
 
-prints the path of each file in the minip2p repository and, after a tab, where it stands. DIR is the folder that has them; without it ORACLE_SRC, or else source/
-beside this script. A file is taken under its path in the repository (crates/core/src/frame.rs) or by its flat name (src--crates--core--src--frame.rs.txt). Where
-one is missing it says which, and what to do; the exit status is then 1.
+prints the path of each file in the minip2p repository and, after a tab, where it stands. DIR is the folder that has them; without it ORACLE_SRC,
+or else source/ beside this script. A file is taken under its path in the repository (crates/core/src/frame.rs) or by its flat name
+(src--crates--core--src--frame.rs.txt). Where one is missing it says which, and what to do; the exit status is then 1.
 """
 
 import os

@@ -269,7 +269,7 @@ MISTAKES = [
     (("@none",), "no file 'none' in this folder"),
     (("@",), "no file '' in this folder"),
     (("--hex", "1a00"), "--hex is for a file or standard input, and '1a00' is none"),
-    (("--sign", "12", "00"), "'12' after --sign may be an index or a byte: write --sign=12, or put the body before --sign"),
+    (("--sign", "12", "00"), "'12' after --sign may be an index or a byte: write --sign=INDEX, or put the body before --sign"),
     (("--sign", "0a00"), "'0a00' is no message's index"),
     (("1a00", "--sign=65536"), "'65536' is no message's index, 0 to 65535"),
     (("1a00", "--sign=-1"), "'-1' is no message's index"),
