@@ -236,7 +236,7 @@ class Case(unittest.TestCase):
 
     def test_versions(self):
         self.tells("host/Cargo.toml:3: version is 1.2.4, and 1.2.3 in include/pradulins.h", cargo=('"1.2.3"', '"1.2.4"'))
-        self.tells("CHANGELOG.md:3: a version in a heading `## ` is 1.3.0, and 1.2.3 in include/pradulins.h", changelog=("## 1.2.3", "## 1.3.0 "))
+        self.tells("CHANGELOG.md:3: a version in a heading `## ` is 1.3.0, and 1.2.3 in include/pradulins.h", changelog=("## 1.2.3", "## 1.3.0, a clock"))
         self.tells("CHANGELOG.md: there is no such file", changelog=None)
         self.tells("CHANGELOG.md: it does not say a version in a heading", changelog=("## ", "### "))
         self.tells("crates/pradulins/src/lib.rt:1: `pub const VERSION: u32` is 123, and 10203 in", library=("10203", "123"))
