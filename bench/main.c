@@ -1,5 +1,5 @@
 /*
- * Times calls of this library and of the Rust of docs/src on the same inputs, in one run, one after the other in turn. `bench` makes the inputs and reads
+ * Times calls of this library and of the Rust on the same inputs, in one run, one after the other in turn. `bench` makes the inputs and reads
  * what this prints.
  *
  *     compare time|count REPETITIONS CLEAR FOLDER BODY...

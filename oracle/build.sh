@@ -1,35 +1,30 @@
 #!/bin/sh
 # Builds the oracle from nothing and prints the binary's path as its last line.
-# Needs cargo and rustc, and no network.
+# Needs cargo, rustc and Python 3, and no network.
 #
-#   ORACLE_SRC    folder with the docs/src files (src--*.rs.txt); else
-#                 shared/docs/src beside the repository
+#   ORACLE_SRC    folder with the Rust's files (see README.md); else source/
+#                 beside this script
 #   ORACLE_BUILD  where to build; else build/ beside this script
 set -eu
 here=$(cd "$(dirname "$0")" && pwd)
 build=${ORACLE_BUILD:-$here/build}
 stage=$build/stage
 
-src=${ORACLE_SRC:-$here/../../shared/docs/src}
-if [ ! -f "$src/src--crates--pubsub--src--message.rs.txt" ]; then
-    echo "build.sh: docs/src files not found; set ORACLE_SRC" >&2
-    exit 1
-fi
+# The Rust's files first: where one is missing, nothing is built.
+sources=$("$here/sources.py")
+for tool in cargo rustc; do
+    command -v $tool >/dev/null || { echo "oracle: no $tool on the PATH" >&2; exit 1; }
+done
 
-# The harness first, then the docs/src files under their real paths.
+# The harness, then the Rust's files under their real paths.
 rm -rf "$stage"
 mkdir -p "$stage"
 cp -R "$here/harness/." "$stage/"
 : >"$build/SOURCES"
-for name in \
-    crates/core/src/frame.rs crates/core/src/protobuf.rs \
-    crates/identity/src/key.rs crates/identity/src/peer_id.rs \
-    crates/pubsub/src/gossipsub/mcache.rs \
-    crates/pubsub/src/message.rs crates/pubsub/src/seen.rs
-do
-    source=$src/src--$(echo "$name" | sed 's,/,--,g').txt
+tab=$(printf '\t')
+echo "$sources" | while IFS=$tab read -r name source; do
     if [ -e "$stage/$name" ]; then
-        echo "build.sh: the harness has its own $name" >&2
+        echo "oracle: the harness has its own $name" >&2
         exit 1
     fi
     cp "$source" "$stage/$name"

@@ -134,7 +134,7 @@ def endings():
 def slowly(binary, oracle, counts, differ):
     """Byte by byte, so that every read is short."""
     data = caches.records([("seen", 1), ("insert", 1, 2, 1, b"a"), ("cache", 1, 1, 0), caches.put_step(caches.X), ("get", b"A\x01")])
-    program = subprocess.Popen([binary], stdin=subprocess.PIPE, stdout=subprocess.PIPE)
+    program = subprocess.Popen(binary, stdin=subprocess.PIPE, stdout=subprocess.PIPE)
     for byte in data:
         program.stdin.write(bytes([byte]))
         program.stdin.flush()
@@ -145,7 +145,7 @@ def slowly(binary, oracle, counts, differ):
 
 
 def main():
-    given = arguments(__doc__, COUNT)
+    given = arguments(__doc__, COUNT, "caches")
     r = random.Random(given.seed)
     counts, differ, played, runs = collections.Counter(), [], 0, 1
     source = caches.histories(r, given.count)

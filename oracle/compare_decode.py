@@ -33,7 +33,7 @@ def run(program, given, folder):
         for part in given:
             file.write(part)
     with open(into, "rb") as file, open(out, "wb") as made:
-        subprocess.run([program], stdin=file, stdout=made, check=True)
+        subprocess.run(program, stdin=file, stdout=made, check=True)
     with open(out, newline="") as made:
         return made.read().split("\n")
 
@@ -53,7 +53,7 @@ def groups(lines):
 def compare(binary, given, folder, counts, differ):
     """One run of each side."""
     printed = groups(run(binary, (wire.record(("decode", body, 0)) for body in given), folder))
-    answers = run(PATH, (("decode %s\n" % hexed(body)).encode() for body in given), folder)
+    answers = run([PATH], (("decode %s\n" % hexed(body)).encode() for body in given), folder)
     for n, (body, told) in enumerate(zip(given, answers), 1):
         expected = bodies.answer(body, told)
         expected[0] = "%d %s" % (n, expected[0])
@@ -82,7 +82,7 @@ def endings():
 
 def compare_all(about, source, compare, endings):
     """The bodies of `source` by `compare`, chunk by chunk, then the runs of `endings`; prints what it found."""
-    given = arguments(about, 400000)
+    given = arguments(about, 400000, "inspect")
     counts, differ, n = collections.Counter(), [], 0
     source = source(random.Random(given.seed), given.count)
     with tempfile.TemporaryDirectory() as folder:
@@ -90,7 +90,7 @@ def compare_all(about, source, compare, endings):
             compare(given.binary, chunk, folder, counts, differ)
             n += len(chunk)
     for name, text, expected in endings():
-        got = subprocess.run([given.binary], input=text, stdout=subprocess.PIPE, check=True).stdout.decode()
+        got = subprocess.run(given.binary, input=text, stdout=subprocess.PIPE, check=True).stdout.decode()
         n += 1
         if got != expected:
             differ.append((len(text), name.encode(), expected.split("\n"), got.split("\n")))

@@ -23,8 +23,9 @@ import nodes
 import traces
 from compare_caches import first_difference, line_at
 from compare_trace import shown, what
-from compare_wire import SHOWN, build
+from compare_wire import SHOWN
 from oracle import Oracle, hexed, parse_decode
+from programs import build
 
 CHUNK = 4000
 COUNT = 2000

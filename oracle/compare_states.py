@@ -108,7 +108,7 @@ def endings():
 
 
 def main():
-    given = arguments(__doc__, COUNT, rust=False)
+    given = arguments(__doc__, COUNT, "states", rust=False)
     r = random.Random(given.seed)
     counts, differ, broken = collections.Counter(), [], Broken()
     fixed = random_ones = others = runs = 0

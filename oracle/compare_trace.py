@@ -79,7 +79,7 @@ def play_ending(binary, name, data, told, counts, differ):
 def slowly(binary, counts, differ):
     """Byte by byte, so that every read is short."""
     data = nodes.records(traces.sample()) + b"\x01"
-    program = subprocess.Popen([binary], stdin=subprocess.PIPE, stdout=subprocess.PIPE)
+    program = subprocess.Popen(binary, stdin=subprocess.PIPE, stdout=subprocess.PIPE)
     for byte in data:
         program.stdin.write(bytes([byte]))
         program.stdin.flush()
@@ -91,7 +91,7 @@ def slowly(binary, counts, differ):
 
 
 def main():
-    given = arguments(__doc__, COUNT, rust=False)
+    given = arguments(__doc__, COUNT, "trace", rust=False)
     r = random.Random(given.seed)
     counts, differ, played, runs = collections.Counter(), [], 0, 1
     source = traces.histories(r, given.count)

@@ -19,26 +19,25 @@ import sys
 import tempfile
 import time
 
+import programs
 import wire
-from oracle import HERE, PATH
+from oracle import PATH
 
 SHOWN = 10
 
 
-def build():
-    if not os.path.exists(PATH):
-        subprocess.run([os.path.join(HERE, "build.sh")], check=True, stdout=subprocess.DEVNULL)
-
-
-def arguments(about, count, rust=True):
-    """What the command line gives; where the Rust is asked, the oracle is built if it is not there."""
+def arguments(about, count, name, rust=True):
+    """What the command line gives; `binary` are the words that run the program. Where the Rust is asked, the oracle is built if it is not there."""
     parser = argparse.ArgumentParser(description=about.split("\n")[0])
-    parser.add_argument("binary")
+    parser.add_argument("binary", metavar="BINARY", help="target/bin/%s, after `rt check %s`" % (name, name))
     parser.add_argument("--seed", type=int, default=1)
     parser.add_argument("--count", type=int, default=count)
     given = parser.parse_args()
     if rust:
-        build()
+        programs.look()
+    given.binary = programs.running(given.binary, name)
+    if rust:
+        programs.build()
     return given
 
 
@@ -49,9 +48,9 @@ def compare(binary, seed, count, folder):
         for case in wire.cases(random.Random(seed), count):
             records.write(wire.record(case))
             commands.write(wire.command(case) + "\n")
-    for program, given, made in ((binary, "records", "lines"), (PATH, "commands", "answers")):
+    for program, given, made in ((binary, "records", "lines"), ([PATH], "commands", "answers")):
         with open(name[given], "rb") as into, open(name[made], "wb") as out:
-            subprocess.run([program], stdin=into, stdout=out, check=True)
+            subprocess.run(program, stdin=into, stdout=out, check=True)
     counts, differ, n = collections.Counter(), [], 0
     with open(name["commands"]) as commands, open(name["answers"]) as answers, open(name["lines"], newline="") as lines:
         for n, asked in enumerate(commands, 1):
@@ -104,12 +103,12 @@ def ends(binary):
     differ, n = [], 0
     for name, given, text in endings():
         n += 1
-        got = subprocess.run([binary], input=given, stdout=subprocess.PIPE, check=True).stdout.decode()
+        got = subprocess.run(binary, input=given, stdout=subprocess.PIPE, check=True).stdout.decode()
         if got != text:
             differ.append((len(given), name, text, got))
     # Byte by byte, so that every read is short.
     given = b"".join(wire.record(case) for case in (("walk", bytes.fromhex("0a0508"), 0), ("varint", b"\xac\x02", 0)))
-    slow = subprocess.Popen([binary], stdin=subprocess.PIPE, stdout=subprocess.PIPE)
+    slow = subprocess.Popen(binary, stdin=subprocess.PIPE, stdout=subprocess.PIPE)
     for byte in given:
         slow.stdin.write(bytes([byte]))
         slow.stdin.flush()
@@ -121,7 +120,7 @@ def ends(binary):
 
 
 def main():
-    given = arguments(__doc__, 800000)
+    given = arguments(__doc__, 800000, "inspect")
     with tempfile.TemporaryDirectory() as folder:
         n, counts, differ = compare(given.binary, given.seed, given.count, folder)
     for (call, what), k in sorted(counts.items()):

@@ -27,7 +27,7 @@ def source(r, count):
 
 def compare(binary, given, folder, counts, differ):
     """One run of each side."""
-    answers = run(PATH, (("writes %s\n" % hexed(body)).encode() for body in given), folder)
+    answers = run([PATH], (("writes %s\n" % hexed(body)).encode() for body in given), folder)
     asked = []
     for body, told in zip(given, answers):
         asked.extend(bodies.write_cases(body, bodies.written(body, told)))

@@ -7,7 +7,7 @@ from compare_wire import SHOWN
 
 
 def printed_by(binary, data):
-    return subprocess.run([binary], input=data, stdout=subprocess.PIPE, check=True).stdout.decode().split("\n")
+    return subprocess.run(binary, input=data, stdout=subprocess.PIPE, check=True).stdout.decode().split("\n")
 
 
 def first_difference(told, printed):

@@ -16,6 +16,7 @@ import collections
 import os
 import sys
 
+import programs
 import state_histories
 import states
 from caches import padded
@@ -43,6 +44,7 @@ def histories():
 
 
 def main():
+    binary = programs.running(sys.argv[1], "states") if len(sys.argv) > 1 else None
     steps = [step for one in histories() for step in one]
     data, broken = states.records(steps), Broken()
     lines = states.expected(data, broken.watch)
@@ -53,8 +55,8 @@ def main():
     assert all(broken.alone[clause] for clause in states.CLAUSES), broken.alone
     assert counts["serve some left"] and len(lines) == len(steps)
     assert len(data) + len(text) <= MOST_BYTES, (len(data), len(text))
-    if len(sys.argv) > 1:
-        assert printed_by(sys.argv[1], data) == lines + [""]
+    if binary:
+        assert printed_by(binary, data) == lines + [""]
     folder = os.path.join(HERE, "../crates/states")
     with open(os.path.join(folder, "stdin"), "wb") as out:
         out.write(data)

@@ -19,8 +19,8 @@ import random
 import bodies
 import caches
 import wire
-from compare_wire import build
 from oracle import HERE, Oracle
+from programs import build
 
 SEED = 20
 RANDOM = 1300

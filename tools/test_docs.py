@@ -29,7 +29,7 @@ def loaded():
 DOCS = loaded()
 
 TREE = {
-    "crates.txt": "# NAME: what it depends on\n\n# wire\nvarint:\n\n# state\nring: varint\n",
+    "crates.txt": "# NAME: what it depends on\n\n# wire\nvarint:\n\n# state\nring: varint\n\n# boundary\npradulins: ring\n",
     "crates/varint/src/lib.rt": """\
 pub mod told;
 
@@ -82,7 +82,7 @@ pub extern "C" fn ring_start() -> u32
     "crates/ring/src/away.rt": "pub fn hidden() {\n}\n",
     "extra-edits/ring/two_steps.edit": "",
     "README.md": "Look at `docs/PROMISES.md`, crates/NAME/src and crates/*/specs.\n",
-    "CONTRIBUTING.md": "| Group | Crate | What |\n|---|---|---|\n| wire | varint | numbers |\n| state | `ring` | places |\n",
+    "CONTRIBUTING.md": "| Group | Crate | What |\n|---|---|---|\n| wire | varint | numbers |\n| state | `ring` | places |\n| boundary | pradulins | C |\n",
     "docs/PROMISES.md": "| Definition | File |\n|:--|--:|\n| `readIn`, `Begins` | crates/varint/specs/Laws.antt |\n",
     "docs/THEOREMS.md": "| Theorem | File | What |\n|---|---|---|\n| `read-back` | crates/varint/specs/Laws.antt | `a|b` |\n",
     "docs/FUNCTIONS.md": """\
@@ -102,16 +102,65 @@ pub extern "C" fn ring_start() -> u32
 | `ring::Ring::step` | one; two | ring/two_steps + |
 | `ring::ring_start` | one; two |
 """,
+    "include/pradulins.h": """\
+/* The version that this header is of, 1.2.3: and so on. */
+#define PRADULINS_VERSION 10203
+#define PRADULINS_FORMAT 7
+
+/* ---- refusals, and what `values` gets beside each */
+
+#define PRADULINS_OK 0
+#define PRADULINS_VARINT_SHORT 1        /* a varint is cut short */
+#define PRADULINS_MALFORMED 42
+
+/* ---- records */
+
+#define PRADULINS_RECORD_WORDS 20
+
+static inline const char *pradulins_refusal_text(uint32_t number)
+{
+    switch (number) {
+    case PRADULINS_OK: return "not refused";
+    case PRADULINS_VARINT_SHORT: return "a varint is cut short";
+    case PRADULINS_MALFORMED: return "it is not well formed";
+    default: return "no refusal has this number";
+    }
+}
+""",
+    "tools/refusals.py": """\
+WORDS = {
+    1: "a varint is cut short",
+    33: "an id is too long",
+    42: "it is not well formed",
+}
+VALUES = {33: ("length",)}
+""",
+    "crates/pradulins/src/lib.rt": "pub const VERSION: u32 = 10203;\npub const FORMAT: u32 = 7;\n",
+    "host/Cargo.toml": "# The library.\n[package]\nversion = \"1.2.3\"\nrust-version = \"1.74\"\n",
+    "CHANGELOG.md": "# Changes\n\n## 1.2.3\n\nA clock.\n\n## 1.2.2\n",
+    "KIT-ID": "kit-1 logic 0a0b\n",
+}
+
+PATHS = {
+    "crates": "crates.txt", "readme": "README.md", "contributing": "CONTRIBUTING.md", "varint": "crates/varint/src/lib.rt",
+    "lib": "crates/varint/specs/Lib.antt", "header": "include/pradulins.h", "refusals": "tools/refusals.py", "library": "crates/pradulins/src/lib.rt",
+    "cargo": "host/Cargo.toml", "changelog": "CHANGELOG.md", "kit": "KIT-ID",
 }
 
 
 class Case(unittest.TestCase):
     def wrong(self, **changes):
-        """What is wrong with the tree where in the file NAME one text is another: NAME=(old, new)."""
+        """What is wrong with the tree where in the file NAME one text is another: NAME=(old, new); or where there is no such file: NAME=None."""
+        return self.checked(**changes).wrong
+
+    def checked(self, version="kit-1 logic 0a0b", **changes):
         files = dict(TREE)
-        for name, (old, new) in changes.items():
-            path = {"crates": "crates.txt", "readme": "README.md", "contributing": "CONTRIBUTING.md"}.get(name, "docs/%s.md" % name.upper())
-            path = path if path in files else {"varint": "crates/varint/src/lib.rt", "lib": "crates/varint/specs/Lib.antt"}[name]
+        for name, change in changes.items():
+            path = PATHS.get(name, "docs/%s.md" % name.upper())
+            if change is None:
+                del files[path]
+                continue
+            old, new = change
             self.assertIn(old, files[path])
             files[path] = files[path].replace(old, new)
         with tempfile.TemporaryDirectory() as top:
@@ -119,7 +168,8 @@ class Case(unittest.TestCase):
                 os.makedirs(os.path.join(top, os.path.dirname(path)), exist_ok=True)
                 with open(os.path.join(top, path), "w", encoding="utf-8") as file:
                     file.write(text)
-            return DOCS.check(top)
+            with mock.patch.object(DOCS, "kit_version", return_value=version):
+                return DOCS.checked(top)
 
     def tells(self, words, **changes):
         wrong = self.wrong(**changes)
@@ -183,6 +233,41 @@ class Case(unittest.TestCase):
         self.tells("crates/varint/specs/Lib.antt:1: the comment does not say what More is", lib=("pub mod Laws", "pub mod Laws\npub mod More"))
         self.tells("the comment names Laws, and there is no such `pub mod`", lib=("pub mod Laws\n", ""))
         self.tells("no comment says which files", lib=("-- ", ""))
+
+    def test_versions(self):
+        self.tells("host/Cargo.toml:3: version is 1.2.4, and 1.2.3 in include/pradulins.h", cargo=('"1.2.3"', '"1.2.4"'))
+        self.tells("CHANGELOG.md:3: a version in a heading `## ` is 1.3.0, and 1.2.3 in include/pradulins.h", changelog=("## 1.2.3", "## 1.3.0, a clock"))
+        self.tells("CHANGELOG.md: there is no such file", changelog=None)
+        self.tells("CHANGELOG.md: it does not say a version in a heading", changelog=("## ", "### "))
+        self.tells("crates/pradulins/src/lib.rt:1: `pub const VERSION: u32` is 123, and 10203 in", library=("10203", "123"))
+        self.tells("crates/pradulins/src/lib.rt:2: `pub const FORMAT: u32` is 8, and 7 in", library=("= 7", "= 8"))
+        self.tells("crates/pradulins/src/lib.rt: it does not say `pub const FORMAT: u32`", library=("pub const FORMAT: u32 = 7;\n", ""))
+        self.tells("include/pradulins.h:1: its version in words is 1.2.3, and 2.2.3", header=("VERSION 10203", "VERSION 20203"))
+        self.tells("include/pradulins.h: it does not say PRADULINS_VERSION", header=("#define PRADULINS_VERSION 10203\n", ""))
+
+    def test_words_of_refusals(self):
+        self.tells("tools/refusals.py: refusal 1 is \"short\", and \"a varint is cut short\" in include/pradulins.h:19", refusals=("a varint is cut short", "short"))
+        self.tells("tools/refusals.py: it has no words for refusal 42", refusals=('    42: "it is not well formed",\n', ""))
+        self.tells("tools/refusals.py: refusal 43 has no words in include/pradulins.h", refusals=('    33:', '    43: "so",\n    33:'))
+        self.tells("pradulins_refusal_text has no words for PRADULINS_NEW", header=("MALFORMED 42\n", "MALFORMED 42\n#define PRADULINS_NEW 43\n"))
+        self.tells("include/pradulins.h:20: PRADULINS_OTHER is no refusal", header=("case PRADULINS_MALFORMED", "case PRADULINS_OTHER"))
+        self.tells("tools/refusals.py: it has no table WORDS", refusals=("WORDS", "TEXTS"))
+        self.tells("tools/refusals.py: it has no table WORDS", refusals=("{", "{{"))
+        self.tells("tools/refusals.py: there is no such file", refusals=None)
+
+    def test_the_kit(self):
+        self.assertEqual(self.checked(version="kit-2 logic 0a0c").wrong, ["KIT-ID:1: the proofs were checked with kit-1 logic 0a0b, this kit is kit-2 logic 0a0c"])
+        tree = self.checked(version=None)
+        self.assertEqual((tree.wrong, tree.notes), ([], ["KIT-ID was not tested: there is no rt on the PATH"]))
+        self.assertEqual(self.checked(version=None, kit=None).wrong, ["KIT-ID: there is no such file"])
+        self.assertEqual(self.checked(version="").wrong, ["KIT-ID:1: the proofs were checked with kit-1 logic 0a0b, this kit is one that does not say what it is"])
+        with tempfile.TemporaryDirectory() as folder, mock.patch.dict(os.environ, {"PATH": folder}):
+            self.assertIsNone(DOCS.kit_version())
+            path = os.path.join(folder, "rt")
+            with open(path, "w") as file:
+                file.write("#!/bin/sh\necho $1 3\n")
+            os.chmod(path, 0o755)
+            self.assertEqual(DOCS.kit_version(), "version 3")
 
     def test_cells(self):
         self.assertEqual(DOCS.cells_of("| `a|b` | c \\| d | |"), ["`a|b`", "c \\| d", ""])

@@ -218,20 +218,36 @@ MISTAKES = [
 
 class Mistakes(Case):
     def test_all_are_named(self):
-        text = "".join("# mistake\n%s\n" % line for line, *_ in MISTAKES).encode("utf-8", "surrogatepass")
+        for at in range(0, len(MISTAKES), TRACE.MOST_MISTAKES):
+            self.named(MISTAKES[at:at + TRACE.MOST_MISTAKES])
+
+    def named(self, mistakes):
+        text = "".join("# mistake\n%s\n" % line for line, *_ in mistakes).encode("utf-8", "surrogatepass")
         program = self.program("never", "open(%r, 'w')" % os.path.join(self.folder, "ran"))
         status, out, err = self.call("--program", program, text=text)
         self.assertEqual((status, out), (2, b""))
         said = err.split("\n")
-        self.assertEqual(len(said), len(MISTAKES) + 2, err)
-        for n, (line, *parts) in enumerate(MISTAKES):
+        self.assertEqual(len(said), len(mistakes) + 2, err)
+        for n, (line, *parts) in enumerate(mistakes):
             start = "%s:%d: " % (os.path.join(self.folder, "a.trace"), 2 * n + 2)
             for part in [start] + parts:
                 self.assertIn(part, said[n], line)
             if line.split()[0] in TRACE.CALLS and "UTF-8" not in said[n] and "cannot read" not in said[n]:
                 self.assertIn("expected", said[n])
-        self.assertEqual(said[-2], "trace: %d mistakes in the text; nothing was run" % len(MISTAKES))
+        self.assertEqual(said[-2], "trace: %d mistakes in the text; nothing was run" % len(mistakes))
         self.assertFalse(os.path.exists(os.path.join(self.folder, "ran")))
+
+    def test_it_stops_after_twenty(self):
+        more = "trace: 20 mistakes are named, and the rest is not read; nothing was run"
+        for text, last in (("beat x\n" * 20, "trace: 20 mistakes in the text; nothing was run"), ("beat x\n" * 20 + "\n# end\n \n", None),
+                           ("beat x\n" * 20 + "beat 1\n", more), ("beat x\n" * 21, more), ("beat\n" * 100000, more),
+                           ("beat x\n" * 19 + "admit x x x x", more), ("beat x\n" * 16 + "admit x x x x", None)):
+            status, out, err = self.call(text=text)
+            said = err.split("\n")
+            self.assertEqual((status, out, len(said)), (2, b"", 22), err[-300:])
+            self.assertEqual(said[-2], last or "trace: 20 mistakes in the text; nothing was run")
+            self.assertTrue(said[0].endswith("a.trace:1: beat: NOW is 'x': expected a number from 0 to 18446744073709551615")
+                            or "beat has nothing" in said[0], said[0])
 
     def test_several_in_a_line(self):
         status, _, err = self.call(text="admit -1 70000 3 zz")
@@ -277,7 +293,7 @@ class Playing(Case):
         self.assertEqual((status, err), (0, ""))
         self.assertEqual(list(self.answers(out.decode()).values()), [
             "77 bytes", "ok", "new", "11 bytes  1a090a070a017412024101", "dup", "ok", "0 bytes",
-            "refused 31: now is before the node's clock", "new"])
+            "refused 31: the reading is before the node's clock", "new"])
         self.assertIn("     # At 1100 the id has expired", out.decode())
 
     def test_catch_up(self):
@@ -292,7 +308,7 @@ class Playing(Case):
         names = {}
         told = [line.split()[-1] for line in out.decode().split("\n") if "bytes  " in line]
         with open(path, "rb") as file:
-            lines, _ = TRACE.parse(file.read(), "")
+            lines, _, _ = TRACE.parse(file.read(), "")
         for line in lines:
             if line.head.startswith("let "):
                 name = line.head[4:]
@@ -309,7 +325,7 @@ class Playing(Case):
             1: "77 bytes", 2: "ok", 3: "new", 4: "1 message, 0 left, 77 bytes  124b0a01411a01012201742a4000000000000000..",
             5: "0 messages, 0 left, 0 bytes",
             6: "0 bytes", 7: "refused 4: a field passes the end", 8: "refused 1: a varint is cut short", 9: "7 bytes  1a0512030a0142",
-            10: "refused 40: a setting out of range", 11: "refused 31: now is before the node's clock",
+            10: "refused 40: a setting is out of range", 11: "refused 31: the reading is before the node's clock",
             12: "refused 29: a topic has above 1,024 bytes", 13: "refused 20: no message at that index"})
 
     def test_columns(self):
@@ -382,7 +398,7 @@ class EndingEarly(Case):
         self.assertEqual(status, 1)
         self.assertEqual(self.answers(out), {1: "ok", 2: "ok", 3: "(part of the record above)", 4: "(no bytes)", 5: "ok", 6: "bad"})
         lines = out.split("\n")
-        self.assertEqual(lines[5].strip(), "refused 31: now is before the node's clock")
+        self.assertEqual(lines[5].strip(), "refused 31: the reading is before the node's clock")
         self.assertEqual(lines[5].index("refused"), lines[4].index("ok"))
         status, out = self.play("set 1 1 1 1\nbytes 0e 00 00 00 05 00\nbeat 1\nbeat 2")
         self.assertEqual((status, self.answers(out)),

@@ -1,4 +1,4 @@
-//! The Rust of docs/src, behind C functions that each run a whole loop. `message.rs`, `seen.rs` and `gossipsub/mcache.rs` beside it are the docs/src files,
+//! The Rust, behind C functions that each run a whole loop. `message.rs`, `seen.rs` and `gossipsub/mcache.rs` beside it are its files,
 //! put there by `bench`. What a loop answers depends on every call.
 #![allow(dead_code)]
 

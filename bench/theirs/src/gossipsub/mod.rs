@@ -1,4 +1,4 @@
-//! The module that holds the docs/src file `mcache.rs`, and the loops over its cache. A put begins with a body, as ours does: it is decoded, and the
+//! The module that holds the Rust's file `mcache.rs`, and the loops over its cache. A put begins with a body, as ours does: it is decoded, and the
 //! id is formed.
 
 mod mcache;

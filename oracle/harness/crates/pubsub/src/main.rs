@@ -1,5 +1,5 @@
 //! Harness: the root of the pubsub crate, here a program. `message.rs`,
-//! `seen.rs` and `gossipsub/mcache.rs` beside it are the docs/src files, put
+//! `seen.rs` and `gossipsub/mcache.rs` beside it are the original files, put
 //! there by build.sh; the rest is the oracle's driver, which lives in this crate
 //! because much of what it calls is `pub(crate)`.
 #![allow(dead_code)]

@@ -1,4 +1,4 @@
-//! Harness: the module that holds the docs/src file `mcache.rs`. `MessageCache`
+//! Harness: the module that holds the original file `mcache.rs`. `MessageCache`
 //! is `pub(super)`, so its session is kept here.
 //!
 //! `mcache_open.rs` is made by build.sh: the bytes of `mcache.rs` followed by

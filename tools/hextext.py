@@ -1,0 +1,78 @@
+"""Bytes as people write them: hex words, HEX*TIMES, $NAME, @FILE. For tools/trace and tools/inspect."""
+
+import os
+import re
+
+MOST_TIMES = 65536
+MOST_BYTES = 2**24
+CUT_TEXT = 28
+
+
+class Mistake(Exception):
+    """Something in the text that is not as it should be."""
+
+
+def cut(text, most):
+    return text if len(text) <= most else text[:most].rstrip() + ".."
+
+
+def number(word, name, most):
+    if not re.fullmatch("[0-9]{1,20}", word) or int(word) > most:
+        raise Mistake("%s is '%s': expected %s" % (name, cut(word, CUT_TEXT), "0 or 1" if most == 1 else "a number from 0 to %d" % most))
+    return int(word)
+
+
+def file_bytes(name, folder, whose="a path from the trace's folder"):
+    path = os.path.join(folder, name)
+    try:
+        if os.path.getsize(path) > MOST_BYTES:
+            raise Mistake("the file '%s' has above %d bytes" % (name, MOST_BYTES))
+        with open(path, "rb") as file:
+            return file.read()
+    except FileNotFoundError:
+        raise Mistake("no file '%s' in %s: expected @FILE with %s" % (name, folder or "this folder", whose)) from None
+    except OSError as why:
+        raise Mistake("cannot read the file '%s': %s" % (name, why.strerror)) from None
+
+
+def hexed(word, whole):
+    bad = re.search("[^0-9a-fA-F]", word)
+    if bad:
+        raise Mistake("'%s' is no hex (its character %d is '%s'): expected two hex digits for each byte, HEX*TIMES, $NAME, or @FILE alone"
+                      % (cut(whole, CUT_TEXT), bad.start() + 1, bad.group()))
+    if len(word) % 2:
+        raise Mistake("'%s' has an odd number of hex digits: expected two for each byte" % cut(whole, CUT_TEXT))
+    return bytes.fromhex(word)
+
+
+def word_bytes(word, names):
+    if word.startswith("$"):
+        if word[1:] not in names:
+            raise Mistake("no name '%s': expected a line `let %s BODY` before this one" % (word, word[1:] or "NAME"))
+        return names[word[1:]]
+    one, star, times = word.partition("*")
+    if not star:
+        return hexed(word, word)
+    return hexed(one, word) * number(times, "TIMES", MOST_TIMES)
+
+
+def joined(words, names):
+    """The bytes of some words; each is a text, and the place to name where it is wrong, or nothing."""
+    out = bytearray()
+    for word, place in words:
+        try:
+            out += word_bytes(word, names)
+            if len(out) > MOST_BYTES:
+                raise Mistake("the bytes are above %d" % MOST_BYTES)
+        except Mistake as why:
+            raise Mistake("%s: %s" % (place, why) if place else str(why)) from None
+    return bytes(out)
+
+
+def body_bytes(text, folder, names):
+    """A body as a line of a trace has it: nothing or -, @FILE, or words."""
+    if text in ("", "-"):
+        return b""
+    if text.startswith("@"):
+        return file_bytes(text[1:], folder)
+    return joined(((word, "") for word in text.split()), names)

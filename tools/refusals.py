@@ -1,0 +1,80 @@
+"""What each refusal means, and the line that tells one. For tools/trace and tools/inspect.
+
+The words are those of `pradulins_refusal_text` in include/pradulins.h; tools/docs tests that they agree. No call of the C interface gives 33.
+"""
+
+WORDS = {
+    1: "a varint is cut short",
+    2: "a varint is above 64 bits",
+    3: "a varint is longer than it needs to be",
+    4: "a field passes the end",
+    5: "a wire type that is not supported",
+    6: "a field number out of range",
+    7: "a topic is not UTF-8",
+    10: "the body has above 65,536 bytes",
+    11: "the body has above 512 records",
+    12: "no room for the answer",
+    20: "no message at that index",
+    21: "the message has no from",
+    22: "from has 0 or above 64 bytes",
+    23: "seqno is missing, or has 0 or above 64 bytes",
+    24: "the message has a key and no signature",
+    25: "the message has no signature and no key",
+    26: "the signature does not have 64 bytes",
+    27: "the host did not verify the signature",
+    28: "the message has no topic, or above 4",
+    29: "a topic has above 1,024 bytes",
+    30: "the message has above 4,096 bytes",
+    31: "the reading is before the node's clock",
+    33: "an id has above 129 bytes",
+    40: "a setting is out of range",
+    41: "a store has not the length that the settings say",
+    42: "node and stores are not well formed",
+}
+
+# Which numbers stand beside each refusal; beside the others none does.
+VALUES = {
+    4: ("offset", "length", "remaining"), 5: ("type", "offset"), 6: ("number", "offset"), 7: ("offset",),
+    10: ("length",), 11: ("number",), 12: ("needed",), 20: ("number",), 22: ("length",), 26: ("length",), 28: ("number",), 29: ("length",),
+    30: ("length",), 31: ("clock",), 33: ("length",),
+}
+
+
+def some(n, one):
+    return "%s %s%s" % (format(n, ","), one, "" if n == 1 else "s")
+
+
+def beside(number, values, size):
+    """What the numbers beside a refusal say; "" where they say nothing more. `size` is the body's, or None."""
+    if len(values) != len(VALUES.get(number, ())):
+        return ""
+    at = "(of the body, or of the submessage that it stands in)"
+    if number == 4:
+        offset, length, remaining = values
+        # A submessage is shorter than its body.
+        at = at if size is None else "of the body" if offset + remaining == size else "of its submessage"
+        return "at offset %d %s it was to have %s, and %s %s" % (
+            offset, at, some(length, "byte"), format(remaining, ","), "remains" if remaining == 1 else "remain")
+    if number == 5:
+        return "type %d, in the tag that ends at offset %d %s" % (*values, at)
+    if number == 6:
+        return "number %d, at offset %d %s" % (*values, at)
+    if number == 7:
+        # No topic stands in the body itself.
+        return "its length stands at offset %d of its submessage" % values
+    if number in (10, 22, 26, 29, 30, 33):
+        return "it has %s" % some(values[0], "byte")
+    if number in (11, 28):
+        return "it has %s" % format(values[0], ",")
+    if number == 12:
+        return "%s are needed" % format(values[0], ",")
+    if number == 20:
+        return "there %s %s" % ("is" if values[0] == 1 else "are", some(values[0], "message") if values[0] else "no messages")
+    if number == 31:
+        return "it is %d" % values
+    return ""
+
+
+def told(number, values=(), size=None):
+    """The line of a refusal: its number, what it means, and what the numbers beside it say."""
+    return ": ".join(filter(None, ("refused %d" % number, WORDS.get(number, ""), beside(number, values, size))))

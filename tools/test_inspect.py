@@ -1,0 +1,358 @@
+#!/usr/bin/env python3
+"""Tests of tools/inspect. Most need target/bin/inspect, which `rt check inspect` makes; without it they are left out, and that is said.
+
+    python3 tools/test_inspect.py
+"""
+
+import contextlib
+import importlib.machinery
+import importlib.util
+import io
+import os
+import random
+import re
+import subprocess
+import sys
+import tempfile
+import unittest
+from unittest import mock
+
+HERE = os.path.dirname(os.path.abspath(__file__))
+TOP = os.path.dirname(HERE)
+SCRIPT = os.path.join(HERE, "inspect")
+PROGRAM = os.path.join(TOP, "target", "bin", "inspect")
+X = "12 4b 0a 01 41 1a 01 01 22 01 74 2a 40 00*64"
+
+
+def loaded():
+    loader = importlib.machinery.SourceFileLoader("inspect_script", SCRIPT)
+    module = importlib.util.module_from_spec(importlib.util.spec_from_loader("inspect_script", loader))
+    sys.dont_write_bytecode = True
+    loader.exec_module(module)
+    return module
+
+
+INSPECT = loaded()
+
+
+def why_not():
+    """Why the program cannot be run, or None."""
+    try:
+        INSPECT.running(PROGRAM)
+    except (INSPECT.Failure, INSPECT.x86.Failure) as why:
+        return str(why)
+    return None
+
+
+WHY_NOT = why_not()
+
+
+def field(number, data):
+    size, out = len(data), b""
+    while size >= 128:
+        out, size = out + bytes([size % 128 + 128]), size // 128
+    return bytes([8 * number + 2]) + out + bytes([size]) + data
+
+
+class Case(unittest.TestCase):
+    def setUp(self):
+        kept = tempfile.TemporaryDirectory()
+        self.addCleanup(kept.cleanup)
+        self.folder = kept.name
+
+    def file(self, name, text):
+        path = os.path.join(self.folder, name)
+        with open(path, "wb") as file:
+            file.write(text if isinstance(text, bytes) else text.encode())
+        return path
+
+    def call(self, *words, given=b""):
+        """(status, standard output, standard error)."""
+        out, err = io.TextIOWrapper(io.BytesIO(), "utf-8"), io.StringIO()
+        with contextlib.redirect_stdout(out), contextlib.redirect_stderr(err), mock.patch.object(sys, "stdin", io.TextIOWrapper(io.BytesIO(given))):
+            try:
+                status = INSPECT.main(words)
+            except SystemExit as done:
+                status = done.code
+            out.flush()
+        return status, out.buffer.getvalue().decode(), err.getvalue()
+
+    def wrong(self, *words, given=b""):
+        """What is said where nothing can be answered."""
+        status, out, err = self.call(*words, given=given)
+        self.assertEqual((status, out), (2, ""), err)
+        return err
+
+    def shown(self, *words, status=0, given=b""):
+        """The lines that are printed."""
+        got, out, err = self.call(*words, given=given)
+        self.assertEqual((got, err), (status, ""), out)
+        return out.split("\n")[:-1]
+
+
+@unittest.skipIf(WHY_NOT, WHY_NOT)
+class Bodies(Case):
+    def test_a_message(self):
+        wanted = [
+            "accepted: 77 bytes, 2 records", "message 0: 75 bytes", '  from       41 "A" (1 byte)', "  seqno      01 (1 byte)", '  topics     "t"',
+            "  data       absent", "  signature  %s.. (64 bytes)" % ("00" * 24), "  key        absent", "  id         4101 (2 bytes)", "canonical: yes"]
+        self.assertEqual(self.shown(*X.split()), wanted)
+        self.assertEqual(self.shown(X), wanted)
+        full = self.shown(X, "--full")
+        self.assertEqual(full[6], "  signature  %s (64 bytes)" % ("00" * 64))
+        self.assertEqual(full[:6] + full[7:], wanted[:6] + wanted[7:])
+
+    def test_absent_and_empty(self):
+        lines = self.shown("120a 0a00 1200 1a00 2200 2a00", "120c 0a0141 120142 1a00 2200 3200", "1200")
+        self.assertEqual([line[13:] for line in lines[2:9]], ["empty", "empty", "empty", "empty", "empty", "absent", "none: refused 22: from has 0 or above 64 bytes: it has 0 bytes"])
+        self.assertEqual(lines[9], "message 1: 12 bytes")
+        self.assertEqual([line[13:] for line in lines[10:17]],
+                         ['41 "A" (1 byte)', "empty", "empty", '42 "B" (1 byte)', "absent", "empty", "none: refused 23: seqno is missing, or has 0 or above 64 bytes"])
+        self.assertEqual([line[13:] for line in lines[18:25]], ["absent", "absent", "none", "absent", "absent", "absent", "none: refused 21: the message has no from"])
+        self.assertIn("from has 0 or above 64 bytes: it has 65 bytes", self.shown("1246 0a41 41*65 1a0101")[8])
+
+    def test_subscriptions(self):
+        lines = self.shown("0a06080112026374", "0a06080012026374", "0a06080712026374", "0a0412026374", "0a021200", "0a040801 1200", "0a020801", "0a00")
+        self.assertEqual(lines[1:9], [
+            'subscribe to "ct"', 'unsubscribe from "ct"', 'subscribe to "ct"', 'neither subscribe nor unsubscribe (the flag is absent): topic "ct"',
+            "neither subscribe nor unsubscribe (the flag is absent): the empty topic", "subscribe to the empty topic", "subscribe to no topic",
+            "neither subscribe nor unsubscribe (the flag is absent): no topic"])
+
+    def test_a_control(self):
+        offer = field(1, field(1, b"t") + field(2, b"A\x01") + field(2, b"gate") + field(2, b"") + field(2, bytes(30)))
+        request = field(2, field(1, b"A\x01"))
+        prune = field(4, field(1, b"ct") + field(2, field(1, b"peer") + field(2, b"\x00")) + field(2, b"") + b"\x18\x3c")
+        body = field(3, offer + request) + field(2, b"") + field(3, field(3, field(1, b"t")) + prune + field(4, b"") + field(1, b"") + field(2, b"") + field(3, b""))
+        lines = self.shown(body.hex())
+        self.assertEqual(lines[1], "message 0: 0 bytes")
+        self.assertEqual(lines[9:-2], [
+            "control", '  offer (IHAVE) of topic "t": 4 ids', "    4101", '    67617465 "gate"', "    empty", "    %s.. (30 bytes)" % ("00" * 24),
+            "  request (IWANT): 1 id", "    4101", '  graft: topic "t"', '  prune: topic "ct", backoff 60 s, 2 peers',
+            '    peer 70656572 "peer" (4 bytes), signed record 00 (1 byte)', "    peer absent, signed record absent", "  prune: no topic, no backoff, no peers",
+            "  offer (IHAVE) of no topic: no ids", "  request (IWANT): no ids", "  graft: no topic"])
+        self.assertTrue(lines[-2].startswith("canonical: no; in canonical form it has %d bytes, 2 saved:" % (len(body) - 2)), lines[-2])
+
+    def test_canonical(self):
+        self.assertEqual(self.shown("1a00", "1a00"), ["accepted: 4 bytes, no records", "control: empty", "canonical: no; in canonical form it has 2 bytes, 2 saved:", "  1a00"])
+        self.assertEqual(self.shown("1a00"), ["accepted: 2 bytes, no records", "control: empty", "canonical: yes"])
+        self.assertEqual(self.shown("2000*3"), ["accepted: 6 bytes, no records", "canonical: no; in canonical form it has 0 bytes, 6 saved"])
+        self.assertEqual(self.shown("12000a00")[-2:], ["canonical: no; in canonical form it has 4 bytes, none saved:", "  0a001200"])
+        self.assertEqual(self.shown(""), ["accepted: 0 bytes, no records", "canonical: yes"])
+        self.assertEqual(len(self.shown("0a00*40 2000")[-1]), 2 + 48 + 2)
+        self.assertEqual(len(self.shown("0a00*40 2000", "--full")[-1]), 2 + 160)
+
+    def test_sign_bytes(self):
+        sign = "6c69627032702d7075627375623a"
+        two = ("12060a01410a0142", "1203120141")
+        self.assertEqual(self.shown(*two, "--sign")[-4:], ["sign bytes of message 0: 17 bytes", "  %s0a0142" % sign, "sign bytes of message 1: 17 bytes", "  %s120141" % sign])
+        for words in (("--sign", "1", *two), (*two, "--sign=1"), (*two, "--sign", "1")):
+            self.assertEqual(self.shown(*words)[-2:], ["sign bytes of message 1: 17 bytes", "  %s120141" % sign])
+        self.assertEqual(self.shown(*two, "--sign", "2", status=1)[-1], "sign bytes of message 2: refused 20: no message at that index: there are 2 messages")
+        self.assertEqual(self.shown("1a00", "--sign=65535", status=1)[-1], "sign bytes of message 65535: refused 20: no message at that index: there are no messages")
+        self.assertEqual(self.shown("1a00", "--sign")[-1], "sign bytes: none, since there is no message")
+        # They are never cut.
+        self.assertEqual(self.shown("12cb01 12c801 41*200", "--sign")[-1], "  %s12c801%s" % (sign, "41" * 200))
+
+    def test_refusals(self):
+        at = "(of the body, or of the submessage that it stands in)"
+        for body, line in (
+                ("80", "refused 1: a varint is cut short"),
+                ("ff*9 02", "refused 2: a varint is above 64 bits"),
+                ("8000", "refused 3: a varint is longer than it needs to be"),
+                ("0a0508", "refused 4: a field passes the end: at offset 2 of the body it was to have 5 bytes, and 1 remains"),
+                ("1203 0a0541", "refused 4: a field passes the end: at offset 2 of its submessage it was to have 5 bytes, and 1 remains"),
+                ("2100", "refused 4: a field passes the end: at offset 1 of the body it was to have 8 bytes, and 1 remains"),
+                ("0a01", "refused 4: a field passes the end: at offset 2 of the body it was to have 1 byte, and 0 remain"),
+                ("0b", "refused 5: a wire type that is not supported: type 3, in the tag that ends at offset 1 " + at),
+                ("00", "refused 6: a field number out of range: number 0, at offset 0 " + at),
+                ("8080808010", "refused 6: a field number out of range: number 536870912, at offset 0 " + at),
+                ("0a031201ff", "refused 7: a topic is not UTF-8: its length stands at offset 1 of its submessage"),
+                ("0a00*513", "refused 11: the body has above 512 records: it has 513"),
+                ("00*65536 00", "refused 10: the body has above 65,536 bytes: it has 65,537 bytes"),
+                ("00*65536 00*64", "refused 10: the body has above 65,536 bytes: it has 65,600 bytes")):
+            for more in ((), ("--sign",), ("--full",)):
+                self.assertEqual(self.shown(body, *more, status=1), [line], body)
+
+    def test_sizes(self):
+        self.assertEqual(self.shown("2000*32768")[0], "accepted: 65,536 bytes, no records")
+        self.assertEqual(self.shown("0a00*512")[0], "accepted: 1,024 bytes, 512 records")
+        err = self.wrong("00*65536 00*65")
+        self.assertEqual(err, "inspect: the body has 65,601 bytes, and the program takes at most 65,600. Every body above 65,536 bytes is refused (10)\n")
+
+    def test_text(self):
+        name = "k\u00f6ln \"x\"".encode()
+        self.assertEqual(self.shown(field(1, b"\x08\x01" + field(2, name)).hex())[1], 'subscribe to "k\u00f6ln \\"x\\""')
+        for data in (b"\x1b[1m", b"a\nb", b"\xf4\x8f\xbf\xbf", "\u202ea".encode()):
+            self.assertEqual(self.shown(field(1, b"\x08\x01" + field(2, data)).hex())[1], "subscribe to %s (%d bytes)" % (data.hex(), len(data)))
+        long = field(1, b"\x08\x01" + field(2, b"t" * 100)).hex()
+        self.assertEqual(self.shown(long)[1], 'subscribe to "%s.."' % ("t" * 48))
+        self.assertEqual(self.shown(long, "--full")[1], 'subscribe to "%s"' % ("t" * 100))
+
+    def test_files(self):
+        body = bytes.fromhex("1a00")
+        for word in (self.file("a.body", body), "@" + self.file("b", body)):
+            self.assertEqual(self.shown(word)[0], "accepted: 2 bytes, no records")
+        path = self.file("c.hex", "1a 00\n\n  0A00*2\r\n")
+        self.assertEqual(self.shown(path, "--hex")[0], "accepted: 6 bytes, 2 records")
+        self.assertEqual(self.shown("-", given=body)[0], "accepted: 2 bytes, no records")
+        self.assertEqual(self.shown("-", "--hex", given=b"1a00")[0], "accepted: 2 bytes, no records")
+        self.assertEqual(self.shown("-", given=b"")[0], "accepted: 0 bytes, no records")
+        # Bytes that look like hex text are taken as bytes, and it says so.
+        status, out, err = self.call("-", given=b"1a00\n")
+        self.assertEqual((status, out.split(":")[0]), (1, "refused 4"))
+        self.assertEqual(err, "inspect: standard input is taken as bytes and looks like hex text: --hex reads it so\n")
+        self.addCleanup(os.chdir, os.getcwd())
+        os.chdir(self.folder)
+        self.file("1a00", b"")
+        self.assertIn("'1a00' is hex, and a file here: write @1a00 for the file", self.wrong("1a00"))
+        self.assertEqual(self.shown("@1a00")[0], "accepted: 0 bytes, no records")
+        self.assertEqual(self.shown("1a", "00")[1], "control: empty")
+
+    def test_names(self):
+        path = os.path.join(TOP, "examples", "catch-up.trace")
+        lines = self.shown("--names", path, "$OFFER")
+        self.assertEqual(lines[1:3], ["control", '  offer (IHAVE) of topic "ct": 4 ids'])
+        trace = self.file("a.trace", "let A 1a\nlet B $A 00*1\n# no call\n")
+        self.assertEqual(self.shown("--names", trace, "$B")[1], "control: empty")
+        self.assertIn("no name '$C'", self.wrong("--names", trace, "$C"))
+        self.assertIn("a.trace:1: let: 'zz' is no hex", self.wrong("--names", self.file("a.trace", "let A zz"), "$A"))
+        self.assertIn("no file '/no/such'", self.wrong("--names", "/no/such", "$A"))
+
+    def test_the_examples_of_the_help(self):
+        status, out, err = self.call("-h")
+        self.assertEqual((status, err), (0, ""))
+        examples = re.findall(r"^  tools/inspect (.*)$", out, re.MULTILINE)
+        self.assertEqual(len(examples), 5)
+        self.addCleanup(os.chdir, os.getcwd())
+        os.chdir(TOP)
+        for line in examples:
+            words = [word.strip("'") for word in line.split()]
+            if "capture.body" not in words:
+                refused = words == ["0a", "05", "08"]
+                lines = self.shown(*words, status=1 if refused else 0)
+                self.assertTrue(not refused or "`%s`" % lines[0] in out.replace("\n", " "), lines)
+
+    def test_as_a_command(self):
+        done = subprocess.run([SCRIPT, "1a00"], capture_output=True, check=False)
+        self.assertEqual((done.returncode, done.stdout.split(b"\n")[0], done.stderr), (0, b"accepted: 2 bytes, no records", b""))
+        # Whoever reads may stop early.
+        done = subprocess.run("'%s' '1200*512' | head -n 2" % SCRIPT, shell=True, capture_output=True, check=False)
+        self.assertEqual((done.stdout.count(b"\n"), done.stderr), (2, b""))
+
+    def test_bodies_of_the_oracle(self):
+        sys.path.append(os.path.join(TOP, "oracle"))
+        import bodies
+        r = random.Random(3)
+        words, show = INSPECT.running(PROGRAM), INSPECT.Shown(False)
+        seen = set()
+        for body in [*bodies.named(), *(bodies.random_body(r) for _ in range(40)), *(bodies.messages_body(r) for _ in range(20)), bodies.many(r, 500)]:
+            lines, status = INSPECT.answer(words, body, INSPECT.ALL, show)
+            self.assertTrue(lines[0].startswith("refused " if status else "accepted: "))
+            seen.update(line.split()[0] for line in lines)
+        for word in ("subscribe", "message", "from", "offer", "request", "graft:", "prune:", "peer", "canonical:", "sign"):
+            self.assertIn(word, seen)
+
+
+# Of each mistake: the words, and what is said of it.
+MISTAKES = [
+    ((), "no body: expected hex, a file, or - for standard input"),
+    (("zz",), "'zz' is no hex (its character 1 is 'z'): expected two hex digits for each byte", "and there is no such file"),
+    (("1a", "0g"), "word 2: '0g' is no hex (its character 2 is 'g')"),
+    (("1a 00 0x0a",), "word 3: '0x0a' is no hex (its character 2 is 'x')"),
+    (("1a0",), "'1a0' has an odd number of hex digits"),
+    (("1a", "0"), "word 2: '0' has an odd number of hex digits"),
+    (("1a:00",), "its character 3 is ':'"),
+    (("00*x",), "TIMES is 'x': expected a number from 0 to 65536"),
+    (("00*65537",), "TIMES is '65537'"),
+    (("$X",), "no name '$X': --names TRACE takes names from a trace"),
+    (("none.body",), "no file 'none.body' in this folder"),
+    (("@none",), "no file 'none' in this folder"),
+    (("@",), "no file '' in this folder"),
+    (("--hex", "1a00"), "--hex is for a file or standard input, and '1a00' is none"),
+    (("--sign", "12", "00"), "'12' after --sign may be an index or a byte: write --sign=INDEX, or put the body before --sign"),
+    (("--sign", "0a00"), "'0a00' is no message's index"),
+    (("1a00", "--sign=65536"), "'65536' is no message's index, 0 to 65535"),
+    (("1a00", "--sign=-1"), "'-1' is no message's index"),
+    (("--ful", "1a00"), "unrecognized arguments: --ful"),
+]
+
+
+class Mistakes(Case):
+    def test_each(self):
+        for words, *parts in MISTAKES:
+            err = self.wrong(*words)
+            for part in parts:
+                self.assertIn(part, err, words)
+            self.assertIn("inspect: ", err)
+
+    def test_files(self):
+        one, two = self.file("a.body", b"\x1a"), self.file("b.body", b"\x00")
+        self.assertIn("One file is taken, alone: '%s' is one" % one, self.wrong(one, two))
+        self.assertIn("One file is taken, alone: '@b' is one", self.wrong("1a", "@b"))
+        self.assertIn("cannot read the file '%s': Is a directory" % self.folder, self.wrong(self.folder))
+        self.assertIn("line 2, word 2: 'zz' is no hex", self.wrong(self.file("a.hex", "1a 00\n00 zz"), "--hex"))
+        self.assertIn("standard input, line 1, word 1: '1' has an odd number", self.wrong("-", "--hex", given=b"1 a"))
+        self.assertIn("standard input is no hex text: its byte at 2 is not UTF-8", self.wrong("-", "--hex", given=b"1a\xff"))
+        self.assertIn("standard input has above 16777216 bytes", self.wrong("-", given=bytes(2**24 + 1)))
+
+
+class Programs(Case):
+    def stub(self, text, more=""):
+        """A program that prints a text. It is a script, which needs no emulator."""
+        path = self.file("stub", "#!/bin/sh\ncat >/dev/null\ncat <<'END'\n%s\nEND\n%s" % (text, more))
+        os.chmod(path, 0o755)
+        return path
+
+    def told(self, program, *words):
+        with mock.patch.object(INSPECT.x86, "running", lambda path: [path]):
+            return self.wrong("--program", program, *(words or ("1a00",)))
+
+    def test_none(self):
+        self.assertIn("no program at /no/such: `rt check inspect` makes it, or name one by --program", self.told("/no/such"))
+        path = self.file("closed", "x")
+        self.assertIn("is not a program that may be run", self.told(path))
+        os.chmod(path, 0o755)
+        self.assertIn("cannot run", self.told(path))
+
+        def no_kit(path):
+            raise INSPECT.x86.Failure("there is no kit")
+
+        with mock.patch.object(INSPECT.x86, "running", no_kit):
+            self.assertEqual(self.wrong("--program", path, "1a00"), "inspect: there is no kit\n")
+
+    def test_it_ends(self):
+        self.assertIn("the program ended with status 3", self.told(self.stub("", "exit 3")))
+        self.assertIn("the program ended by SIGKILL", self.told(self.stub("", "kill -KILL $$")))
+        self.assertIn("the program gave 1 of 2 answers", self.told(self.stub("1 decode ok 0 plain")))
+
+    def test_strange_answers(self):
+        for text in ("bad", "long", "1 encode 0", "2 decode ok 0 plain", "1 decode ok 0 plain\n2 encode 0\n3 encode 0", "  sub - -", "1 decode",
+                     "1 decode ok 0\n2 encode 0", "1 decode ok 1 plain\n2 encode 0", "1 decode yes\n2 encode 0", "1 decode ok 0 plain\n2 encode 1",
+                     "1 decode ok 0 plain\n2 encode 2 00", "1 decode ok 0 plain\n2 encode 1 0g", "1 decode refused\n2 encode 0", "1 decode refused x\n2 encode 0"):
+            self.assertIn("none that it should give", self.told(self.stub(text)), text)
+        for line in ("  sub -", "  sub x -", "  sub 1 00", "  rpc", "  message - - - - -", "  topic =00", "  id =00", "  peer - -", "  prune - =00", "  graft =0"):
+            self.assertRegex(self.told(self.stub("1 decode ok 1 control\n%s\n2 encode 0" % line)), "should print|stands below none", line)
+
+    def test_refusals_of_later_numbers(self):
+        program = self.stub("1 decode refused 14 3\n2 encode refused 14 3")
+        with mock.patch.object(INSPECT.x86, "running", lambda path: [path]):
+            self.assertEqual(self.shown("--program", program, "1a00", status=1), ["refused 14"])
+
+
+class Words(unittest.TestCase):
+    def test_each_refusal(self):
+        told = INSPECT.refusals.told
+        for number, words in INSPECT.refusals.WORDS.items():
+            values = tuple(range(1, 1 + len(INSPECT.refusals.VALUES.get(number, ()))))
+            line = told(number, values)
+            self.assertTrue(line.startswith("refused %d: %s" % (number, words)), line)
+            self.assertEqual(len(line) > len("refused %d: %s" % (number, words)), bool(values), line)
+            self.assertEqual(told(number), "refused %d: %s" % (number, words))
+        self.assertEqual(told(99, (1,)), "refused 99")
+        self.assertTrue(set(INSPECT.refusals.VALUES) <= set(INSPECT.refusals.WORDS))
+
+
+if __name__ == "__main__":
+    if WHY_NOT:
+        print("most tests are left out: %s" % WHY_NOT, file=sys.stderr)
+    unittest.main()
