@@ -113,11 +113,11 @@ def archive(name, folder=None, anew=False):
             if not os.path.isfile(path):
                 raise Failure("no %s, and no rt to make it" % path)
         elif anew or not stands(name):
-            made_of = stamp(name)
+            before = stamp(name)
             call(["rt", "staticlib", name], cwd=ROOT)
-            if os.path.isfile(path) and stamp(name) == made_of:
+            if os.path.isfile(path) and stamp(name) == before:
                 with open(path + ".stamp", "w") as out:
-                    out.write("%s\n%s\n" % (made_of, digest_of(path)))
+                    out.write("%s\n%s\n" % (before, digest_of(path)))
     if not os.path.isfile(path):
         raise Failure("no %s" % path)
     return path
@@ -128,12 +128,17 @@ def own_archive(name):
 
 
 def stands(name):
-    """Whether lib<name>.a is there, is the one that was made here last, and all that it was made of is as it was then."""
+    """Whether lib<name>.a is there, is the one that was made here last, and all that it was made of is as it was then. One that was made by hand has no such
+    note, and stands where it is newer than all that it is made of."""
     path = own_archive(name)
-    if not os.path.isfile(path) or not os.path.isfile(path + ".stamp"):
+    if not os.path.isfile(path):
         return False
-    with open(path + ".stamp") as f:
-        return f.read().split() == [stamp(name), digest_of(path)]
+    if os.path.isfile(path + ".stamp"):
+        with open(path + ".stamp") as f:
+            noted = f.read().split()
+        if noted[1:] == [digest_of(path)]:
+            return noted[0] == stamp(name)
+    return max(map(os.path.getmtime, made_of(name))) < os.path.getmtime(path)
 
 
 def crates_under(name):
@@ -152,15 +157,20 @@ def crates_under(name):
     return sorted(found)
 
 
-def stamp(name):
-    """A digest of what an archive is made of: the kit, crates.txt, and all files of the crates that it stands on."""
+def made_of(name):
+    """The files that an archive is made of: crates.txt, and all of the crates that it stands on."""
     files = [os.path.join(ROOT, "crates.txt")]
     for crate in crates_under(name):
         for part in ("src", "specs", "proofs"):
             for folder, _, names in os.walk(os.path.join(ROOT, "crates", crate, part)):
                 files += [os.path.join(folder, one) for one in names]
+    return sorted(files)
+
+
+def stamp(name):
+    """A digest of what an archive is made of: the kit and the files."""
     digest = hashlib.sha256(("%s\n" % rt_version()).encode())
-    for file in sorted(files):
+    for file in made_of(name):
         digest.update(("%s %s\n" % (os.path.relpath(file, ROOT), digest_of(file))).encode())
     return digest.hexdigest()
 

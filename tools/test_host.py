@@ -2,7 +2,7 @@
 """Tests of tools/host and tools/x86.py that need no compiler: comparing lines, when an archive is made again, the warning about the kit, how a
 failure ends.
 
-    python3 host/boundary/test_host.py
+    python3 tools/test_host.py
 """
 
 import contextlib
@@ -15,8 +15,7 @@ import tempfile
 import unittest
 from unittest import mock
 
-HERE = os.path.dirname(os.path.abspath(__file__))
-TOOLS = os.path.join(HERE, "..", "..", "tools")
+TOOLS = os.path.dirname(os.path.abspath(__file__))
 
 
 def loaded(name):
@@ -113,6 +112,16 @@ class Archives(Tree):
         os.rename(os.path.join(self.root, "crates/library/src/new.rt"), os.path.join(self.root, "crates/library/src/newer.rt"))
         self.assertFalse(X86.stands("library"))
 
+    def test_one_made_by_hand_stands_where_it_is_newer(self):
+        path = self.put("target/staticlib/liblibrary.a", "by hand")
+        os.utime(path, (2e9, 2e9))
+        self.assertTrue(X86.stands("library"))
+        X86.archive("library")
+        self.assertEqual(self.made(), 0)
+        os.utime(path, (1e9, 1e9))
+        X86.archive("library")
+        self.assertEqual(self.made(), 1)
+
     def test_another_kit(self):
         X86.archive("library")
         self.put(os.path.join(self.kit, "version"), "kit-2\n")
@@ -120,7 +129,8 @@ class Archives(Tree):
 
     def test_another_archive(self):
         path = X86.archive("library")
-        self.put(path, "made by hand")
+        self.put(path, "an older one put back")
+        os.utime(path, (1e9, 1e9))
         self.assertFalse(X86.stands("library"))
         os.remove(path)
         self.assertFalse(X86.stands("library"))
