@@ -239,8 +239,8 @@ impl fmt::Display for Refusal {
             Refusal::TopicTooLong { length } => write!(f, "a topic of {length} bytes, above 1,024"),
             Refusal::MessageTooLong { length } => write!(f, "a message of {length} bytes, above 4,096"),
             Refusal::ClockBack { clock } => write!(f, "the reading is before the clock, {clock}"),
-            Refusal::BadSetting => write!(f, "a setting out of range"),
-            Refusal::BadStore => write!(f, "a store whose length the settings do not say"),
+            Refusal::BadSetting => write!(f, "a setting is out of range"),
+            Refusal::BadStore => write!(f, "a store has not the length that the settings say"),
             Refusal::Malformed => write!(f, "node and stores are not well formed"),
         }
     }
