@@ -177,39 +177,13 @@ module _ (c : MessageCache) (st : List ℕ) where
     gossip-lent-exactly topic windows r s = rw (s .answer) (answer-exactly topic)
 
 -- ---- put: what comes after the test of the state has other numbers
-varint-low : (why : VarintError) → varintTold why .number < bad-setting
-varint-low varint.BufferTooShort = omega arith
-varint-low varint.Overflow = omega arith
-varint-low varint.NonCanonical = omega arith
-
-wire-low : (why : WireError) → refusalNumber why < bad-setting
-wire-low (wire.Varint why) = varint-low why
-wire-low (wire.FieldOverflow offset size remaining) = omega arith
-wire-low (wire.UnsupportedWireType type offset) = omega arith
-wire-low (wire.InvalidFieldNumber field offset) = omega arith
-wire-low (wire.InvalidUtf8 offset) = omega arith
-wire-low (wire.TooLarge len) = omega arith
-wire-low (wire.TooManyRecords records) = omega arith
-
-unfit-low : (why : Unfit) → unfitTold why .number < bad-setting
-unfit-low unfit.MissingFrom = omega arith
-unfit-low (unfit.InvalidFrom len) = omega arith
-unfit-low unfit.InvalidSeqno = omega arith
-unfit-low unfit.KeyWithoutSignature = omega arith
-unfit-low unfit.MissingSignature = omega arith
-unfit-low (unfit.InvalidSignatureLength len) = omega arith
-unfit-low unfit.SignatureInvalid = omega arith
-unfit-low (unfit.TopicCount count) = omega arith
-unfit-low (unfit.TopicTooLong len) = omega arith
-unfit-low (unfit.MessageTooLong len) = omega arith
-
 module _ (c : MessageCache) where
   under-low : (m id : List ℕ) → putNumber (answered (planUnder c m id)) < bad-setting
   under-low m id =
       either (ltb (indexIn c id) (c .count)) (λ t. simp t (omega arith)) (λ t. simp t (omega arith))
 
   fit-low : (p : List ℕ) (r : Admission) → putNumber (answered (planFit c p r)) < bad-setting
-  fit-low p (admission.Unfit why) = unfit-low why
+  fit-low p (admission.Unfit why) = omega (arith, unfit-range why .1)
   fit-low p (admission.Fit a e b f) = under-low p (idBytes p a e b f)
 
   at-low : (body : List ℕ) (r : MessageAt) → putNumber (answered (planAt c body r)) < bad-setting
@@ -217,7 +191,7 @@ module _ (c : MessageCache) where
   at-low body (at.At a e) = fit-low (between body a e) (admissionOf (between body a e) true)
 
   body-low : (body : List ℕ) (i : ℕ) (r : Checked) → putNumber (answered (planBody c body i r)) < bad-setting
-  body-low body i (checked.Refused why) = wire-low why
+  body-low body i (checked.Refused why) = omega (arith, wire-range why .1)
   body-low body i checked.Fine = at-low body (messageAt body i)
 
 module _ (c : MessageCache) (st : List ℕ) (y : Typed c) where
