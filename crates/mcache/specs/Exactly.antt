@@ -12,25 +12,18 @@ use borrow.Author.Tests.{leb-true, leb-false, ltb-true, ltb-false, eqb-true, eq-
 use Rattle.basis.specs.Cases.{either, clash}
 use Rattle.basis.specs.Refusals.{bad-setting, bad-store, malformed, topic-too-long}
 use Rattle.basis.specs.Told.{told}
-use Rattle.peer_id.specs.declared.VarintError.{VarintError}
-use Rattle.peer_id.specs.declared.VarintError.the-variants as varint
-use Rattle.peer_id.specs.Told.{varintTold}
-use Rattle.protobuf.specs.declared.WireError.{WireError}
-use Rattle.protobuf.specs.declared.WireError.the-variants as wire
 use Rattle.protobuf.specs.declared.Checked.{Checked}
 use Rattle.protobuf.specs.declared.Checked.the-variants as checked
-use Rattle.protobuf.specs.Told.{refusalNumber}
+use Rattle.protobuf.specs.RefusalLaws.{wire-range}
 use Rattle.protobuf.specs.Walk.{between}
 use Rattle.ids.specs.declared.MessageAt.{MessageAt}
 use Rattle.ids.specs.declared.MessageAt.the-variants as at
 use Rattle.ids.specs.Ids.{messageAt, idBytes}
 use Rattle.schema.specs.Accept.{acceptOf}
-use Rattle.admission.specs.declared.Unfit.{Unfit}
-use Rattle.admission.specs.declared.Unfit.the-variants as unfit
 use Rattle.admission.specs.declared.Admission.{Admission}
 use Rattle.admission.specs.declared.Admission.the-variants as admission
 use Rattle.admission.specs.Admission.{admissionOf}
-use Rattle.admission.specs.Told.{unfitTold}
+use Rattle.admission.specs.AdmissionLaws.{unfit-range}
 use Rattle.mcache.specs.declared.MessageCache.{MessageCache}
 use Rattle.mcache.specs.declared.Started.{Started}
 use Rattle.mcache.specs.declared.PutDone.{PutDone}
@@ -131,17 +124,8 @@ module _ (c : MessageCache) (st : List ℕ) where
     by-lent lent.BadStore e = store-says e
     by-lent lent.Malformed e = malformed-says e
 
-    by-fine : (l : Lent) → lentOf c st ≡ l → (lentNumber l ≡ 0) ↔ WellFormed c st
-    by-fine lent.Fine e = (λ z. fine-well-formed c st y e, λ w. refl)
-    by-fine lent.BadStore e = (λ z. absurd (omega arith), λ w. clash (let q = sym e ∙ well-formed-fine c st w in cc))
-    by-fine lent.Malformed e = (λ z. absurd (omega arith), λ w. clash (let q = sym e ∙ well-formed-fine c st w in cc))
-
     pub lent-exactly : Exactly c st (lentNumber (lentOf c st))
     lent-exactly = by-lent (lentOf c st) refl
-
-    -- a state that is lent is fine exactly where it is well formed
-    pub fine-exactly : (lentNumber (lentOf c st) ≡ 0) ↔ WellFormed c st
-    fine-exactly = by-fine (lentOf c st) refl
 
     pub shift-lent-exactly : (r : Shifted) → Shifts c st r → Exactly c st (lentNumber (r .answer))
     shift-lent-exactly r s = rw (s .answer) lent-exactly

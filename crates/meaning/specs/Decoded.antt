@@ -18,11 +18,9 @@ use Rattle.basis.specs.Told.{told, done}
 use Rattle.basis.specs.Cases.{either, clash}
 use Rattle.basis.specs.Bytes.{Bytes}
 use Rattle.utf8.specs.Utf8.{isUtf8}
-use Rattle.peer_id.specs.declared.VarintError.the-variants.{BufferTooShort, Overflow, NonCanonical}
 use Rattle.protobuf.specs.declared.Field.{Field}
 use Rattle.protobuf.specs.declared.WireError.{WireError}
-use Rattle.protobuf.specs.declared.WireError.the-variants.{Varint, FieldOverflow, UnsupportedWireType}
-use Rattle.protobuf.specs.declared.WireError.the-variants.{InvalidFieldNumber, InvalidUtf8, TooLarge, TooManyRecords}
+use Rattle.protobuf.specs.declared.WireError.the-variants.{InvalidUtf8, TooLarge, TooManyRecords}
 use Rattle.protobuf.specs.Told.{wireTold, refusalNumber}
 use Rattle.protobuf.specs.RefusalLaws.{wire-range, field-early}
 use Rattle.protobuf.specs.Walk.{Fields, end, refused, _then_, fieldsOf, between}

@@ -3,7 +3,7 @@
 use Prim.Native.Nat.{ℕ, _*_, _/_, _≤_, _<_}
 use mathlib.Core.Path.{_≡_, refl, ap, subst}
 use mathlib.Core.List.{List, [], _∷_}
-use mathlib.Core.Bool.{Bool, true, false, _&&_, and-false}
+use mathlib.Core.Bool.{Bool, true, false, and-false}
 use mathlib.Core.Logic.{_↔_, _⊎_, inl, inr}
 use native.Mathlib.Omega.{arith}
 use lib.ListN.{length}
@@ -14,12 +14,9 @@ use Rattle.basis.specs.declared.Told.{Told}
 use Rattle.basis.specs.Refusals.{bad-setting, bad-store, malformed, clock-back}
 use Rattle.basis.specs.Told.{told, done}
 use Rattle.basis.specs.Writing.{answer}
-use Rattle.peer_id.specs.declared.VarintError.the-variants as varint
 use Rattle.protobuf.specs.declared.Checked.{Checked}
 use Rattle.protobuf.specs.declared.Checked.the-variants as checked
-use Rattle.protobuf.specs.declared.WireError.{WireError}
-use Rattle.protobuf.specs.declared.WireError.the-variants as wire
-use Rattle.protobuf.specs.Told.{wireTold}
+use Rattle.protobuf.specs.RefusalLaws.{wire-range}
 use Rattle.protobuf.specs.Walk.{between}
 use Rattle.schema.specs.Accept.{acceptOf}
 use Rattle.ids.specs.declared.MessageAt.{MessageAt}
@@ -27,10 +24,8 @@ use Rattle.ids.specs.declared.MessageAt.the-variants as found
 use Rattle.ids.specs.Ids.{messageAt, idBytes}
 use Rattle.admission.specs.declared.Admission.{Admission}
 use Rattle.admission.specs.declared.Admission.the-variants as admission
-use Rattle.admission.specs.declared.Unfit.{Unfit}
-use Rattle.admission.specs.declared.Unfit.the-variants as unfit
 use Rattle.admission.specs.Admission.{admissionOf}
-use Rattle.admission.specs.Told.{unfitTold}
+use Rattle.admission.specs.AdmissionLaws.{unfit-range}
 use Rattle.seen.specs.State.{idSize, maxIds}
 use Rattle.seen.specs.Calls.{capOf}
 use Rattle.mcache.specs.State.{legal, messageSize, maxHistory, maxMessages}
