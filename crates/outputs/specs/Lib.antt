@@ -1,5 +1,5 @@
--- To be believed: Named, Outcomes, Replied (`Replies`, `Counts`), Admitted (`AdmitTakes`).
--- Theorems: Exactly, Told (with `AdmitTells`), Offered, Replied, Requested, Advertised, Admitted.
+-- To be believed: Named, Outcomes, Replied (`Replies`, `Counts`), Admitted (`AdmitTakes`, `AdmitTells`).
+-- Theorems: Exactly, Offered, Replied, Requested, Advertised, Admitted.
 -- On the way to them: Bodies, Cached.
 pub mod Named
 pub mod Offered
@@ -11,4 +11,3 @@ pub mod Advertised
 pub mod Outcomes
 pub mod Exactly
 pub mod Admitted
-pub mod Told
