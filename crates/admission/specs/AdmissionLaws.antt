@@ -36,10 +36,27 @@ use Rattle.schema.specs.AcceptLaws.{accept-records}
 use Rattle.ids.specs.IdLaws.{id-size}
 use Rattle.admission.specs.declared.Unfit.{Unfit}
 use Rattle.admission.specs.declared.Unfit.the-variants.{MissingFrom, InvalidFrom, InvalidSeqno, SignatureInvalid}
+use Rattle.admission.specs.declared.Unfit.the-variants.{KeyWithoutSignature, MissingSignature}
+use Rattle.admission.specs.declared.Unfit.the-variants.{InvalidSignatureLength, TopicCount, TopicTooLong}
+use Rattle.admission.specs.declared.Unfit.the-variants.{MessageTooLong}
 use Rattle.admission.specs.declared.Admission.{Admission}
 use Rattle.admission.specs.declared.Admission.the-variants as admission
 use Rattle.admission.specs.Admission.{topicsOf, firstLong, onLimits, onWord, onSignature, onId, admissionOf}
 use Rattle.admission.specs.Admission.{idGiven, whereRead, givesId}
+use Rattle.admission.specs.Told.{unfitTold}
+
+-- ---- its refusals are 21 to 30
+pub unfit-range : (why : Unfit) → (21 ≤ unfitTold why .number) × (unfitTold why .number ≤ 30)
+unfit-range MissingFrom = (omega arith, omega arith)
+unfit-range (InvalidFrom len) = (omega arith, omega arith)
+unfit-range InvalidSeqno = (omega arith, omega arith)
+unfit-range KeyWithoutSignature = (omega arith, omega arith)
+unfit-range MissingSignature = (omega arith, omega arith)
+unfit-range (InvalidSignatureLength len) = (omega arith, omega arith)
+unfit-range SignatureInvalid = (omega arith, omega arith)
+unfit-range (TopicCount count) = (omega arith, omega arith)
+unfit-range (TopicTooLong len) = (omega arith, omega arith)
+unfit-range (MessageTooLong len) = (omega arith, omega arith)
 
 -- ---- a message that is taken
 -- 28, 29, 30 are none of its

@@ -29,7 +29,7 @@ use Rattle.history.specs.History.{State, gatewayOf, Call, admit, ask, after, af
 use Rattle.history.specs.Script.{Act, gets, asks, callsOf, gatewayAfter, Written, nothing, got, asked}
 use Rattle.history.specs.ScriptLaws.{fresh-leaves}
 use Rattle.agreement.specs.Premises.{Clock}
-use Rattle.agreement.specs.Round.{missing, lacked, Play, turned, advertBy, advertOf, requestOf, replyOf}
+use Rattle.agreement.specs.Round.{missing, lacked, Play, advertBy, advertOf, requestOf, replyOf}
 use Rattle.agreement.specs.Round.{servedCount, askerRound, tellerRound, askerRounds, tellerRounds}
 use Rattle.agreement.specs.Holding.{Holding, holding-all, gotAll, pastAll}
 use Rattle.agreement.specs.HandOver.{request-is}
@@ -161,19 +161,6 @@ request-names =
     let r = request-is-exact message-set premises-a premises-b play fair in
     only-one (r .ids) second-id (r .count ∙ ap length a-lacks-the-second)
     (r .exactly second-id ∙ ap (λ (l : List Cached). among second-id (idsOf l)) a-lacks-the-second ∙ second-named)
-
--- and b asks for nothing
-b-wants : lacking (gatewayOf at-b) (toldOf topic 3 (gatewayOf at-a)) ≡ []
-unfolding gateway-a gateway-b lacking gossipIds inOrder enterId carrying holds among sameBytes signature first walkAt
-    walkFrom readField readValue skipField skipFixed readVarint readLen readTag readUvarint readFrom groupOf topicsOf
-b-wants = ap₂ (λ (g h : Gateway). lacking g (toldOf topic 3 h)) b-is a-is
-
-pub no-request-bytes : requestOf play at-b at-a ≡ []
-no-request-bytes =
-    requested holding-b holding-a play (turned fair)
-    ∙ request-is (at-a .node) (at-a .ids) (at-a .messages) topic 3 (fine holding-a topic 3 (fair .windows-x))
-    (holding-a .bytes) (fair .topic-short) (at-b .node) (at-b .ids) (at-b .messages)
-    ∙ ap (λ (l : List (List ℕ)). bytesFor l (request l)) b-wants
 
 -- ---- b's reply is the body with the second message
 abbrev reply-buffer : List ℕ

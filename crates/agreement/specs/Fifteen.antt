@@ -1,11 +1,11 @@
 -- Fifteen messages always fit a reply: a message of at most 4,096 bytes is a field of at most 4,099. Sixteen of 4,096
 -- bytes do not.
 use Prim.Native.Nat.{ℕ, zero, suc, _+_, _-_, _*_, _/_, _≤_, _<_, min}
-use mathlib.Core.Path.{_≡_, refl, ap, _∙_}
+use mathlib.Core.Path.{_≡_}
 use mathlib.Core.List.{List, [], _∷_}
 use native.Mathlib.Omega.{arith}
 use native.Mathlib.Nat.{zero-lt-suc}
-use lib.ListN.{length, getD, replicate, length-replicate, getD-replicate}
+use lib.ListN.{length, getD}
 use lib.Dec.{ltb}
 use borrow.Author.Tests.{ltb-true, ltb-false}
 use Rattle.basis.specs.Cases.{either}
@@ -69,14 +69,3 @@ longest-fit (suc k) room (m ∷ ms) each n h z =
 pub sixteen-not : (ms : List (List ℕ)) → ((i : ℕ) → i < length ms → length (getD ms i []) ≡ 4096) → 16 ≤ length ms
     → fitting 2 65536 ms ≡ 15
 sixteen-not ms each n = longest-fit 15 65536 ms each (omega arith) (omega arith) (omega arith)
-
-same-zeros : (k n : ℕ) → 16 ≤ k → n ≡ 4096 → fitting 2 65536 (replicate k (replicate {A = ℕ} n 0)) ≡ 15
-same-zeros k n h e =
-    let m : List ℕ = replicate {A = ℕ} n 0 in
-    let l = length-replicate k m in
-    sixteen-not (replicate k m) (λ i j. ap length (getD-replicate k i m [] (omega arith)) ∙ length-replicate {A = ℕ} n 0
-    ∙ e) (omega arith)
-
--- as with sixteen messages of 4,096 zeros
-pub sixteen-zeros : fitting 2 65536 (replicate 16 (replicate {A = ℕ} 4096 0)) ≡ 15
-sixteen-zeros = same-zeros 16 4096 (omega arith) refl

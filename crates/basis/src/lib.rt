@@ -121,7 +121,8 @@ fn read_little(s: &[u8], at: usize, n: usize) -> u64
     value
 }
 
-fn least(a: usize, b: usize) -> usize
+// The lesser of two.
+pub fn least(a: usize, b: usize) -> usize
     ensures { λ r. ⌜ r ≡ min a b ⌝ }
 {
     if a < b { a } else { b }

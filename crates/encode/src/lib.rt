@@ -27,6 +27,7 @@ use peer_id::uvarint_len;
 use protobuf::Checked;
 use protobuf::Encoded;
 use protobuf::Field;
+use protobuf::MAX_FIELD_NUMBER;
 use protobuf::Step;
 use protobuf::WIRE_LEN;
 use protobuf::put_bytes;
@@ -44,8 +45,6 @@ use schema::held_of;
 use schema::row_of;
 use schema::rows;
 use schema::slots_of;
-
-const MAX_FIELD_NUMBER: u64 = 536870911;
 
 // The largest place at which something is written: 2^62.
 const MAX_PLACE: usize = 4611686018427387904;

@@ -6,7 +6,7 @@ use mathlib.Core.Path.{_≡_}
 use mathlib.Core.Bool.{Bool, true, false, cond}
 use mathlib.Core.List.{List, [], _∷_, _++_}
 use mathlib.Core.Option.{Option, none, some}
-use lib.ListN.{length, getD, take, replicate}
+use lib.ListN.{length, getD, take}
 use Rattle.basis.specs.Bytes.{Bytes}
 use Rattle.rows.specs.Ids.{sameBytes}
 use Rattle.protobuf.specs.declared.Checked.{Checked}
@@ -25,9 +25,9 @@ use Rattle.node.specs.declared.Ask.{Ask}
 use Rattle.node.specs.declared.Ask.the-variants as asked
 use Rattle.node.specs.declared.Serve.{Serve}
 use Rattle.node.specs.declared.Serve.the-variants as served
-use Rattle.node.specs.Gateway.{Gateway, marked}
+use Rattle.node.specs.Gateway.{Gateway}
 use Rattle.node.specs.State.{gatewayIn, legalSettings, freshNode}
-use Rattle.node.specs.Calls.{Plan, no, taken, planned, admitNumber, admitAnswer, admitNode, admitSeen, admitCache}
+use Rattle.node.specs.Calls.{Plan, planned, admitNumber, admitAnswer, admitNode, admitSeen, admitCache}
 use Rattle.node.specs.Calls.{beatNumber, beatAnswer, beatNode, advertiseNumber, advertiseAnswer}
 use Rattle.node.specs.Calls.{askNumber, askAnswer, serveNumber, serveAnswer}
 
@@ -232,23 +232,6 @@ timesNew m calls s = times isNew m calls s
 
 abbrev pub timesDuplicate : List ℕ → List Call → State → ℕ
 timesDuplicate m calls s = times isDuplicate m calls s
-
--- ---- the ids that are called new, in the form in which they are seen, in their order
--- of one admit: its id once, or none
-abbrev pub newPlan : State → ℕ → Plan → List (List ℕ)
-newPlan s at (no r) = []
-newPlan s at (taken p id) = replicate (isNew (admitAnswer (s .node) (s .ids) at (taken p id))) (marked id)
-
-abbrev pub newAt : State → Call → List (List ℕ)
-newAt s (admit body i word at) = newPlan s at (planIn s body i word at)
-newAt s (heartbeat at) = []
-newAt s (advertise topic windows out) = []
-newAt s (ask body out) = []
-newAt s (serve body out) = []
-
-unfoldable pub newIds : List Call → State → List (List ℕ)
-newIds [] s = []
-newIds (c ∷ cs) s = newAt s c ++ newIds cs (after c s)
 
 -- ---- admits of k messages of a body, from an index on, each with the host's word and at its reading
 unfoldable pub admits : List ℕ → (ℕ → ℕ) → ℕ → ℕ → List Call

@@ -39,7 +39,7 @@ use Rattle.history.specs.History.{State, gatewayOf, Settings, Fresh, Cal
 use Rattle.history.specs.History.{serve}
 use Rattle.history.specs.History.{planIn, after, afterAll, reading, readings, beats, refusalAt, NoneRefused}
 use Rattle.history.specs.History.{all-done, done, admits, Placed, standing, whereAccepted, brought, isThat}
-use Rattle.history.specs.History.{brings, times, newAt, newIds}
+use Rattle.history.specs.History.{brings, times}
 
 -- ---- calls, and then more calls
 pub after-append : (cs ds : List Call) (s : State) → afterAll (cs ++ ds) s ≡ afterAll ds (afterAll cs s)
@@ -70,13 +70,6 @@ pub times-append : (f : Admit → ℕ) (m : List ℕ) (cs ds : List Call) (s : S
 unfolding times afterAll
 times-append f m [] ds s = omega arith
 times-append f m (c ∷ cs) ds s = let r = times-append f m cs ds (after c s) in omega arith
-
-pub new-ids-append : (cs ds : List Call) (s : State) → newIds (cs ++ ds) s ≡ newIds cs s ++ newIds ds (afterAll cs s)
-unfolding newIds afterAll
-new-ids-append [] ds s = refl
-new-ids-append (c ∷ cs) ds s =
-    ap (λ (l : List (List ℕ)). newAt s c ++ l) (new-ids-append cs ds (after c s))
-    ∙ sym (append-assoc (newAt s c) (newIds cs (after c s)) (newIds ds (afterAll cs (after c s))))
 
 -- admits are no heartbeats
 pub admits-beats : (body : List ℕ) (at : ℕ → ℕ) (i k : ℕ) → beats (admits body at i k) ≡ 0

@@ -41,7 +41,7 @@ use Rattle.mcache.specs.Calls.{storedUnder, shifted, Plan, no, keep, kep
 use Rattle.mcache.specs.Calls.{planned, shiftCache}
 use Rattle.mcache.specs.WellFormed.{Sized, Typed, freshAt, Reached, begun, given, opened}
 use Rattle.mcache.specs.StateLaws.{Tests, fine-tests, tests-fine}
-use Rattle.mcache.specs.CachedLaws.{windowsOf, windows-cached, cached-shifted, stale-in, leaving, spot, left-few}
+use Rattle.mcache.specs.CachedLaws.{windowsOf, windows-cached, cached-shifted, stale-in, spot, left-few}
 use Rattle.mcache.specs.CachedLaws.{rest-starts, ring-entered, kept-id, kept-message, kept-number, new-id}
 use Rattle.mcache.specs.CachedLaws.{new-message, new-number, grown, entered-some, entered-none, stored-some}
 use Rattle.mcache.specs.CachedLaws.{stored-none, rest}
@@ -471,28 +471,15 @@ unfolding freshAt
 fresh-typed next history max h =
     record { sized = fresh-sized next history max; next-small = h; small = zeros-small maxMessages }
 
-entered-sized : (n : ℕ) (id : List ℕ) (c : MessageCache) → Sized c → Sized (entered n id c)
-entered-sized n id c z =
-    either (eqb (c .«max_messages») 0)
-    (λ u. rw (entered-none n id c (eqb-true (c .«max_messages») 0 u)) (passed-sized c z))
-    (λ u. rw (entered-some n id c (eqb-false (c .«max_messages») 0 u)) (grown-sized n id c z))
-
 entered-typed : (n : ℕ) (id : List ℕ) (c : MessageCache) → Typed c → Typed (entered n id c)
 entered-typed n id c y =
     either (eqb (c .«max_messages») 0)
     (λ u. rw (entered-none n id c (eqb-true (c .«max_messages») 0 u)) (passed-typed c y))
     (λ u. rw (entered-some n id c (eqb-false (c .«max_messages») 0 u)) (grown-typed n id c y))
 
-sized-by : (c : MessageCache) → Sized c → (r : Plan) → Sized (keptIn c r)
-sized-by c z (no r) = z
-sized-by c z (keep m id) = entered-sized (length m) id c z
-
 typed-by : (c : MessageCache) → Typed c → (r : Plan) → Typed (keptIn c r)
 typed-by c y (no r) = y
 typed-by c y (keep m id) = entered-typed (length m) id c y
-
-pub put-sized : (c : MessageCache) (st body : List ℕ) (i : ℕ) → Sized c → Sized (keptIn c (planned c st body i))
-put-sized c st body i z = sized-by c z (planned c st body i)
 
 pub put-typed : (c : MessageCache) (st body : List ℕ) (i : ℕ) → Typed c → Typed (keptIn c (planned c st body i))
 put-typed c st body i y = typed-by c y (planned c st body i)
@@ -501,19 +488,10 @@ pub under-typed : (m id : List ℕ) (c : MessageCache) → Typed c → Typed (ke
 unfolding keptUnder
 under-typed m id c y = typed-by c y (planUnder c m id)
 
-sized-shift : (c : MessageCache) → Sized c → (l : Lent) → Sized (whenFine l (shifted c) c)
-sized-shift c z lent.Fine = shifted-sized c z
-sized-shift c z lent.BadStore = z
-sized-shift c z lent.Malformed = z
-
 typed-shift : (c : MessageCache) → Typed c → (l : Lent) → Typed (whenFine l (shifted c) c)
 typed-shift c y lent.Fine = shifted-typed c y
 typed-shift c y lent.BadStore = y
 typed-shift c y lent.Malformed = y
-
-pub shift-sized : (c : MessageCache) (st : List ℕ) → Sized c → Sized (shiftCache c st)
-unfolding shiftCache
-shift-sized c st z = sized-shift c z (lentOf c st)
 
 pub shift-typed : (c : MessageCache) (st : List ℕ) → Typed c → Typed (shiftCache c st)
 unfolding shiftCache

@@ -13,8 +13,6 @@ use lib.Dec.{ltb}
 use borrow.Author.Tests.{ltb-true, ltb-false, lt-ltb, le-ltb}
 use Rattle.basis.specs.declared.Written.{Written}
 use Rattle.basis.specs.Cases.{either, clash, both}
-use Rattle.basis.specs.Refusals.{topic-too-long}
-use Rattle.basis.specs.Told.{told as tells, done}
 use Rattle.basis.specs.Writing.{answer, written}
 use Rattle.rows.specs.Rows.{rowsIn}
 use Rattle.rows.specs.RowsLaws.{map-ring}
@@ -26,7 +24,6 @@ use Rattle.mcache.specs.declared.MessageCache.{MessageCache}
 use Rattle.mcache.specs.declared.Lent.the-variants as lent
 use Rattle.mcache.specs.declared.Gossip.the-variants as gossip
 use Rattle.mcache.specs.declared.GossipIds.{GossipIds}
-use Rattle.mcache.specs.Told.{gossipTold}
 use Rattle.mcache.specs.Messages.{Cached, topics, idsOf, held, carrying, enterId, inOrder, gossipIds}
 use Rattle.mcache.specs.State.{messageIn, cachedAt, cachedIn, told, insertRow, gatherInto, messageIdSize}
 use Rattle.mcache.specs.State.{maxMessages, ringOf}
@@ -227,10 +224,6 @@ module _ (c : MessageCache) (st topic : List ℕ) (fine : lentOf c st ≡ lent.F
   answer-says : gossipAnswer c st topic ≡ cond (ltb 1024 (length topic)) (gossip.TopicTooLong (length topic)) gossip.Ids
   unfolding gossipAnswer
   answer-says = rw fine
-
-  pub gossip-says : gossipTold (gossipAnswer c st topic) ≡ cond (ltb 1024 (length topic))
-      (tells topic-too-long (length topic ∷ [])) (done [])
-  gossip-says = rw answer-says (either (ltb 1024 (length topic)) (λ t. rw t) (λ t. rw t))
 
   pub gossip-told : (windows : ℕ) → length topic ≤ 1024
       → map (idAt messageIdSize (c .«id_len») (c .ids))

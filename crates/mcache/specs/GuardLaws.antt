@@ -79,9 +79,6 @@ module _ (c : MessageCache) (st m id : List ℕ) (small : length m ≤ messageSi
   pub plan-usable : Usable c st → planKept c st m id ≡ planUnder c m id
   plan-usable u = kept-plan (usable-lies c st u) (u .rows .room)
 
-  pub plan-fine : lentOf c st ≡ lent.Fine → planKept c st m id ≡ planUnder c m id
-  plan-fine f = kept-plan (fine-lies c st f) (fine-tests c st f .room)
-
   as-under : planKept c st m id ≡ planUnder c m id → (r : PutDone) (left : List ℕ) → Keeps c st m id r left
       → (r .answer ≡ answered (planUnder c m id)) × ((r .cache ≡ keptUnder m id c) × (left ≡ storedUnder c st m id))
   unfolding keptUnder storedUnder
@@ -91,10 +88,6 @@ module _ (c : MessageCache) (st m id : List ℕ) (small : length m ≤ messageSi
   pub keep-usable : Usable c st → (r : PutDone) (left : List ℕ) → Keeps c st m id r left
       → (r .answer ≡ answered (planUnder c m id)) × ((r .cache ≡ keptUnder m id c) × (left ≡ storedUnder c st m id))
   keep-usable u = as-under (plan-usable u)
-
-  pub keep-fine : lentOf c st ≡ lent.Fine → (r : PutDone) (left : List ℕ) → Keeps c st m id r left
-      → (r .answer ≡ answered (planUnder c m id)) × ((r .cache ≡ keptUnder m id c) × (left ≡ storedUnder c st m id))
-  keep-fine f = as-under (plan-fine f)
 
 -- ---- tell
 module _ (c : MessageCache) (st topic : List ℕ) (windows : ℕ) where

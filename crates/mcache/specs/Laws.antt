@@ -7,7 +7,6 @@ use native.Mathlib.Omega.{arith}
 use lib.ListN.{length, getD, replicate}
 use lib.Dec.{ltb, eqb}
 use borrow.Author.Tests.{ltb-true, ltb-false}
-use Rattle.basis.specs.declared.Told.{Told}
 use Rattle.basis.specs.Cases.{either}
 use Rattle.basis.specs.Told.{done}
 use Rattle.rows.specs.Rows.{placeOf, rowsIn}
@@ -141,13 +140,6 @@ not-stored c st (keep m id) n = absurd (n refl)
 pub put-refused : (c : MessageCache) (st body : List ℕ) (i : ℕ) → (putNumber (answered (planned c st body i)) ≡ 0 → ⊥)
     → (keptIn c (planned c st body i) ≡ c) × (storedIn c st (planned c st body i) ≡ st)
 put-refused c st body i n = not-stored c st (planned c st body i) (λ e. n (ap putNumber e))
-
-pub put-held : (c : MessageCache) (st body : List ℕ) (i : ℕ)
-    → putTold (answered (planned c st body i)) ≡ done (0 ∷ [])
-    → (keptIn c (planned c st body i) ≡ c) × (storedIn c st (planned c st body i) ≡ st)
-put-held c st body i h =
-    not-stored c st (planned c st body i)
-    (λ e. let q : 0 ≡ 1 = ap (λ (t : Told). t .first) (sym h ∙ ap putTold e) in omega arith)
 
 -- ---- get
 get-here : (id : List ℕ) (ms : List Cached) (d : Cached) → indexOf id (idsOf ms) < length ms

@@ -23,7 +23,7 @@ use Rattle.mcache.specs.declared.Lent.the-variants as lent
 use Rattle.mcache.specs.declared.Put.the-variants as put
 use Rattle.mcache.specs.Told.{putTold}
 use Rattle.mcache.specs.Messages.{Cached, held, put as putIn}
-use Rattle.mcache.specs.State.{cachedIn, messageSize, ringOf}
+use Rattle.mcache.specs.State.{cachedIn, messageSize}
 use Rattle.mcache.specs.Calls.{lentOf, Plan, no, keep, answered, keptIn, storedIn, planned}
 use Rattle.mcache.specs.WellFormed.{Sized, rowOf}
 use Rattle.mcache.specs.StateLaws.{fine-tests}
@@ -32,11 +32,6 @@ use Rattle.mcache.specs.CachedLaws.{stored-some, rest}
 use Rattle.mcache.specs.Laws.{put-plan, put-cached}
 
 -- ---- the messages
--- a held id is not replaced, whatever message comes with it
-pub held-kept : (max : ℕ) (id m : List ℕ) (ms : List Cached) → held id ms ≡ true → putIn max id m ms ≡ ms
-unfolding putIn
-held-kept max id m ms h = rw h
-
 -- with room, all stay
 pub room-keeps-all : (max : ℕ) (id m : List ℕ) (ms : List Cached) → held id ms ≡ false → length ms < max
     → putIn max id m ms ≡ ms ++ (new id m ∷ [])

@@ -157,11 +157,6 @@ lent-kept c st h z =
       generations = z .generations;
     }
 
--- and a legal history
-pub lent-history : (c : MessageCache) (st : List ℕ) → lentOf c st ≡ lent.Fine → (1 ≤ c .«history_len»)
-    × (c .«history_len» ≤ maxHistory)
-lent-history c st h = let t = fine-tests c st h in (t .history-some, t .history-few)
-
 -- ---- the ids of a tested state stand in sound rows
 pub kept-sound : (c : MessageCache) (st : List ℕ) → Usable c st → Sound messageIdSize (ringOf c) (c .«id_len») (c .ids)
 kept-sound c st ok =

@@ -18,13 +18,11 @@ use Rattle.basis.specs.Told.{told, done}
 use Rattle.basis.specs.Cases.{either, clash}
 use Rattle.basis.specs.Bytes.{Bytes}
 use Rattle.utf8.specs.Utf8.{isUtf8}
-use Rattle.peer_id.specs.declared.VarintError.the-variants.{BufferTooShort, Overflow, NonCanonical}
 use Rattle.protobuf.specs.declared.Field.{Field}
 use Rattle.protobuf.specs.declared.WireError.{WireError}
-use Rattle.protobuf.specs.declared.WireError.the-variants.{Varint, FieldOverflow, UnsupportedWireType}
-use Rattle.protobuf.specs.declared.WireError.the-variants.{InvalidFieldNumber, InvalidUtf8, TooLarge, TooManyRecords}
+use Rattle.protobuf.specs.declared.WireError.the-variants.{InvalidUtf8, TooLarge, TooManyRecords}
 use Rattle.protobuf.specs.Told.{wireTold, refusalNumber}
-use Rattle.protobuf.specs.RefusalLaws.{field-early}
+use Rattle.protobuf.specs.RefusalLaws.{wire-range, field-early}
 use Rattle.protobuf.specs.Walk.{Fields, end, refused, _then_, fieldsOf, between}
 use Rattle.protobuf.specs.WalkLaws.{along}
 use Rattle.schema.specs.declared.Kind.{Kind}
@@ -255,18 +253,6 @@ early-all =
 pub counted-early : (s : List ℕ) (why : WireError) → counted kind.Rpc s ≡ count.Refused why → refusalNumber why ≤ 7
 counted-early s why h = early-all kind.Rpc s why h
 
--- a refusal's number is not 0
-wire-number : (why : WireError) → 0 < refusalNumber why
-wire-number (Varint BufferTooShort) = omega arith
-wire-number (Varint Overflow) = omega arith
-wire-number (Varint NonCanonical) = omega arith
-wire-number (FieldOverflow offset size remaining) = omega arith
-wire-number (UnsupportedWireType type offset) = omega arith
-wire-number (InvalidFieldNumber field offset) = omega arith
-wire-number (InvalidUtf8 offset) = omega arith
-wire-number (TooLarge len) = omega arith
-wire-number (TooManyRecords records) = omega arith
-
 -- a body's refusals are 10, 1 to 7 and 11
 pub data Gated : ℕ → Type 0 where
   large-number : Gated too-large
@@ -275,7 +261,7 @@ pub data Gated : ℕ → Type 0 where
 
 pub refusal-gated : {s : List ℕ} {a : Told} → Refusal s a → Gated (a .number)
 refusal-gated (is-large h) = large-number
-refusal-gated {s} (is-wrong {why} h e) = early-number (wire-number why) (counted-early s why e)
+refusal-gated {s} (is-wrong {why} h e) = early-number (wire-range why .0) (counted-early s why e)
 refusal-gated (has-many h i l) = many-number
 
 -- so 0, 12 and all above are none of them
@@ -302,7 +288,7 @@ pub record Accepts (s : List ℕ) (words n c : ℕ) : Type 0 where
 
 refusal-nonzero : {s : List ℕ} {a : Told} → Refusal s a → 0 < a .number
 refusal-nonzero (is-large h) = omega arith
-refusal-nonzero (is-wrong {why} h e) = wire-number why
+refusal-nonzero (is-wrong {why} h e) = wire-range why .0
 refusal-nonzero (has-many h i l) = omega arith
 
 accepts-of : {s : List ℕ} {words : ℕ} {a : Told} (n c : ℕ) → Decodes s words a → a ≡ done (n ∷ c ∷ [])
@@ -349,7 +335,7 @@ told-records (Records m b) n c e = (
   ap (λ (k : ℕ). Records k b) (ap (λ (t : Told). t .first) e),
   ap (λ (t : Told). t .second) e,
 )
-told-records (Refused why) n c e = let z = wire-number why in absurd (omega (arith, ap (λ (t : Told). t .number) e))
+told-records (Refused why) n c e = let z = wire-range why .0 in absurd (omega (arith, ap (λ (t : Told). t .number) e))
 told-records (Room m) n c e = absurd (omega (arith, ap (λ (t : Told). t .number) e))
 
 gate-reads : (s : List ℕ) (room : ℕ) (r : Counted) (n : ℕ) (b : Bool) → Gate s r
@@ -448,7 +434,7 @@ wrong-exactly s words b = (λ p. forth (decodes s words b) (p .0) (p .1), λ w. 
 
     back : {a : Told} → Wrong s → Decodes s words a → (0 < a .number) × (a .number ≤ 7)
     back w (refuses (is-large h)) = absurd (omega (arith, w .small))
-    back w (refuses (is-wrong {why} h e)) = (wire-number why, counted-early s why e)
+    back w (refuses (is-wrong {why} h e)) = (wire-range why .0, counted-early s why e)
     back w (refuses (has-many {x} h i l)) = absurd (w .meaningless x i)
     back w (short {x} v l) = absurd (w .meaningless x (v .means))
     back w (reads {x} v l) = absurd (w .meaningless x (v .means))

@@ -1,22 +1,22 @@
--- 40, 41 and 42, each exactly: of a lent node and its stores, and of every call that is given them; and 40 of a start.
+-- 40, 41 and 42, each exactly: of a lent node and its stores, and of every call that is given them; 40 of a start; and
+-- what a heartbeat tells, whole.
 use Prim.Native.Nat.{ℕ, _*_, _/_, _≤_, _<_}
-use mathlib.Core.Path.{_≡_, refl, ap}
+use mathlib.Core.Path.{_≡_, refl, ap, subst}
 use mathlib.Core.List.{List, [], _∷_}
-use mathlib.Core.Bool.{Bool, true, false, _&&_}
+use mathlib.Core.Bool.{Bool, true, false, and-false}
 use mathlib.Core.Logic.{_↔_, _⊎_, inl, inr}
 use native.Mathlib.Omega.{arith}
 use lib.ListN.{length}
 use lib.Dec.{leb, ltb, eqb}
-use borrow.Author.Tests.{leb-false, lt-leb, ltb-true, ltb-false, lt-ltb, eqb-true, eqb-false, eq-eqb, ne-eqb}
+use borrow.Author.Tests.{leb-false, lt-leb, ltb-true, ltb-false, lt-ltb, le-ltb, eqb-true, eqb-false, eq-eqb, ne-eqb}
 use Rattle.basis.specs.Cases.{either, clash}
-use Rattle.basis.specs.Refusals.{bad-setting, bad-store, malformed}
+use Rattle.basis.specs.declared.Told.{Told}
+use Rattle.basis.specs.Refusals.{bad-setting, bad-store, malformed, clock-back}
+use Rattle.basis.specs.Told.{told, done}
 use Rattle.basis.specs.Writing.{answer}
-use Rattle.peer_id.specs.declared.VarintError.the-variants as varint
 use Rattle.protobuf.specs.declared.Checked.{Checked}
 use Rattle.protobuf.specs.declared.Checked.the-variants as checked
-use Rattle.protobuf.specs.declared.WireError.{WireError}
-use Rattle.protobuf.specs.declared.WireError.the-variants as wire
-use Rattle.protobuf.specs.Told.{wireTold}
+use Rattle.protobuf.specs.RefusalLaws.{wire-range}
 use Rattle.protobuf.specs.Walk.{between}
 use Rattle.schema.specs.Accept.{acceptOf}
 use Rattle.ids.specs.declared.MessageAt.{MessageAt}
@@ -24,10 +24,8 @@ use Rattle.ids.specs.declared.MessageAt.the-variants as found
 use Rattle.ids.specs.Ids.{messageAt, idBytes}
 use Rattle.admission.specs.declared.Admission.{Admission}
 use Rattle.admission.specs.declared.Admission.the-variants as admission
-use Rattle.admission.specs.declared.Unfit.{Unfit}
-use Rattle.admission.specs.declared.Unfit.the-variants as unfit
 use Rattle.admission.specs.Admission.{admissionOf}
-use Rattle.admission.specs.Told.{unfitTold}
+use Rattle.admission.specs.AdmissionLaws.{unfit-range}
 use Rattle.seen.specs.State.{idSize, maxIds}
 use Rattle.seen.specs.Calls.{capOf}
 use Rattle.mcache.specs.State.{legal, messageSize, maxHistory, maxMessages}
@@ -44,10 +42,6 @@ use Rattle.node.specs.Gateway.{Reply, sent, short, replyFor}
 use Rattle.node.specs.Calls.{wanted, cachedOf, roomOf, replied, serveAnswer}
 use Rattle.node.specs.WellFormed.{Typed, WellFormed}
 use Rattle.node.specs.WellFormedLaws.{fine-well-formed-node, well-formed-node-fine}
-
-and-false : (t : Bool) → (t && false) ≡ false
-and-false true = refl
-and-false false = refl
 
 -- ---- the lent node and its stores
 module _ (n : Node) (ss cs : List ℕ) where
@@ -158,29 +152,6 @@ module _ (n : Node) (ss cs : List ℕ) where
   )
 
 -- ---- the calls that are given them: 40, 41 and 42 are their numbers exactly where they are that of the lent state
-wire-below : (why : WireError) → wireTold why .number < bad-setting
-wire-below (wire.Varint varint.BufferTooShort) = omega arith
-wire-below (wire.Varint varint.Overflow) = omega arith
-wire-below (wire.Varint varint.NonCanonical) = omega arith
-wire-below (wire.FieldOverflow offset size remaining) = omega arith
-wire-below (wire.UnsupportedWireType type offset) = omega arith
-wire-below (wire.InvalidFieldNumber field offset) = omega arith
-wire-below (wire.InvalidUtf8 offset) = omega arith
-wire-below (wire.TooLarge len) = omega arith
-wire-below (wire.TooManyRecords records) = omega arith
-
-unfit-below : (why : Unfit) → unfitTold why .number < bad-setting
-unfit-below unfit.MissingFrom = omega arith
-unfit-below (unfit.InvalidFrom len) = omega arith
-unfit-below unfit.InvalidSeqno = omega arith
-unfit-below unfit.KeyWithoutSignature = omega arith
-unfit-below unfit.MissingSignature = omega arith
-unfit-below (unfit.InvalidSignatureLength len) = omega arith
-unfit-below unfit.SignatureInvalid = omega arith
-unfit-below (unfit.TopicCount count) = omega arith
-unfit-below (unfit.TopicTooLong len) = omega arith
-unfit-below (unfit.MessageTooLong len) = omega arith
-
 -- a number that is the fault's where there is one, and else below 40
 as-lent : (l : Lent) (x k : ℕ) → ((why : Fault) → l ≡ lent.Faulty why → x ≡ faultTold why .number)
     → (l ≡ lent.Fine → x < bad-setting) → bad-setting ≤ k → (x ≡ k) ↔ (lentTold l .number ≡ k)
@@ -190,7 +161,7 @@ as-lent lent.Fine x k f g h = let b = g refl in (λ p. absurd (omega arith), λ 
 module _ (n : Node) (ss cs : List ℕ) where
   module _ (body : List ℕ) (i : ℕ) (word : Bool) (at : ℕ) where
     fit-below : (p : List ℕ) (r : Admission) → admitTold (admitAnswer n ss at (planFit n at p r)) .number < bad-setting
-    fit-below p (admission.Unfit why) = unfit-below why
+    fit-below p (admission.Unfit why) = omega (arith, unfit-range why .1)
     fit-below p (admission.Fit a e b f) =
         either (ltb at (n .clock)) (λ t. rw t (omega arith))
         (λ t. rw t (either (heldAt n ss at (idBytes p a e b f)) (λ u. rw u (omega arith)) (λ u. rw u (omega arith))))
@@ -200,7 +171,7 @@ module _ (n : Node) (ss cs : List ℕ) where
     at-below (found.At a e) = fit-below (between body a e) (admissionOf (between body a e) word)
 
     body-below : (r : Checked) → admitTold (admitAnswer n ss at (planBody n at word body i r)) .number < bad-setting
-    body-below (checked.Refused why) = wire-below why
+    body-below (checked.Refused why) = omega (arith, wire-range why .1)
     body-below checked.Fine = at-below (messageAt body i)
 
     admit-faulty : (why : Fault) → lentOf n ss cs ≡ lent.Faulty why
@@ -261,7 +232,7 @@ module _ (n : Node) (ss cs : List ℕ) where
     ask-on : (r : Checked) → lentOf n ss cs ≡ lent.Fine → acceptOf body ≡ r
         → askTold (askAnswer n ss cs body out) .number < bad-setting
     unfolding askAnswer answer
-    ask-on (checked.Refused why) e a = rw (e, a) (wire-below why)
+    ask-on (checked.Refused why) e a = rw (e, a) (omega (arith, wire-range why .1))
     ask-on checked.Fine e a =
         rw (e, a) (either (leb (length (askBytes n ss body)) (length out)) (λ u. rw u (omega arith))
         (λ u. rw u (omega arith)))
@@ -282,12 +253,35 @@ module _ (n : Node) (ss cs : List ℕ) where
     serve-on : (r : Checked) → lentOf n ss cs ≡ lent.Fine → acceptOf body ≡ r
         → serveTold (serveAnswer n ss cs body out) .number < bad-setting
     unfolding serveAnswer
-    serve-on (checked.Refused why) e a = rw (e, a) (wire-below why)
+    serve-on (checked.Refused why) e a = rw (e, a) (omega (arith, wire-range why .1))
     serve-on checked.Fine e a = rw (e, a) (reply-below (replyFor (roomOf out) (cachedOf (n .cache) cs (wanted body))))
 
     pub serve-faults : (k : ℕ) → bad-setting ≤ k
         → (serveTold (serveAnswer n ss cs body out) .number ≡ k) ↔ (lentTold (lentOf n ss cs) .number ≡ k)
     serve-faults k h = as-lent (lentOf n ss cs) _ k serve-faulty (λ e. serve-on (acceptOf body) e refl) h
+
+-- ---- a heartbeat, whole: 40, 41, 42; 31 where now is below the clock, with the clock; else it is done
+pub data BeatTells (n : Node) (ss cs : List ℕ) (at : ℕ) : Told → Type 0 where
+  faulty : {why : Fault} → lentOf n ss cs ≡ lent.Faulty why → BeatTells n ss cs at (faultTold why)
+  back : lentOf n ss cs ≡ lent.Fine → at < n .clock → BeatTells n ss cs at (told clock-back (n .clock ∷ []))
+  beats : lentOf n ss cs ≡ lent.Fine → n .clock ≤ at → BeatTells n ss cs at (done [])
+
+module _ (n : Node) (ss cs : List ℕ) (at : ℕ) where
+  beat-tells : (l : Lent) → lentOf n ss cs ≡ l → BeatTells n ss cs at (beatTold (beatAnswer n ss cs at))
+  unfolding beatAnswer
+  beat-tells (lent.Faulty why) e = rw e (faulty e)
+  beat-tells lent.Fine e =
+      either (ltb at (n .clock)) (λ t. rw (e, t) (back e (ltb-true at (n .clock) t)))
+      (λ t. rw (e, t) (beats e (ltb-false at (n .clock) t)))
+
+  beat-only : {a : Told} → BeatTells n ss cs at a → beatTold (beatAnswer n ss cs at) ≡ a
+  unfolding beatAnswer
+  beat-only (faulty e) = rw e
+  beat-only (back e l) = rw (e, lt-ltb at (n .clock) l)
+  beat-only (beats e l) = rw (e, le-ltb at (n .clock) l)
+
+  pub beat-exactly : (a : Told) → (beatTold (beatAnswer n ss cs at) ≡ a) ↔ BeatTells n ss cs at a
+  beat-exactly a = (λ e. subst (BeatTells n ss cs at) e (beat-tells (lentOf n ss cs) refl), beat-only)
 
 -- ---- a start: max_seen above 256, history_len 0 or above 16, max_messages above 64
 module _ (max-seen history max : ℕ) where

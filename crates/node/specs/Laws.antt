@@ -173,28 +173,6 @@ module _ {n : Node} {ss cs body : List ℕ} {i : ℕ} {word : Bool} {at : ℕ} {
       rw (t .named) (gives-own m (r .0) (t .from-start) (t .from-end) (t .seqno-start) (t .seqno-end)
       (rw (t .bytes) (r .1)) (rw takes-word at (t .fit)))
 
--- and with the word given, a message that gives the id is fit, and named by it
-pub own-takes : (n : Node) (ss cs body : List ℕ) (i at a e : ℕ) (m id : List ℕ) → lentOf n ss cs ≡ lent.Fine
-    → acceptOf body ≡ checked.Fine → messageAt body i ≡ found.At a e → m ≡ between body a e → givesId m id ≡ true
-    → n .clock ≤ at → Takes n ss cs body i true at m id
-own-takes n ss cs body i at a e m id fine ok there bytes own h =
-    let g = gives-only m id own in
-    record {
-      fine = fine;
-      accepted = ok;
-      start = a;
-      next = e;
-      there = there;
-      bytes = bytes;
-      from-start = g .from-start;
-      from-end = g .from-end;
-      seqno-start = g .seqno-start;
-      seqno-end = g .seqno-end;
-      fit = g .taken;
-      named = g .named;
-      forward = h;
-    }
-
 -- where nothing is refused, the message at the index is taken, under its id
 pub plan-taken : (n : Node) (ss cs body : List ℕ) (i at a e x y z w : ℕ) → lentOf n ss cs ≡ lent.Fine
     → acceptOf body ≡ checked.Fine → messageAt body i ≡ found.At a e

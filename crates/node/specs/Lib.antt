@@ -1,5 +1,5 @@
 -- To be believed: Parts (`once`, `fitting`), Gateway, State, WellFormed, Calls (the order of refusals), Told; and what
--- theorems state: Laws (`Takes`), Freed (`Freed`), WrapLaws (`movedNode`).
+-- theorems state: Laws (`Takes`), Exactly (`BeatTells`), Freed (`Freed`), WrapLaws (`movedNode`).
 -- Cited by contracts, and joined to these by theorems: what the calls leave, in Calls, by Laws.
 -- Theorems: Laws, WellFormedLaws, Exactly, Freed, WrapLaws, Readers, Unique.
 -- On the way to them: PartsLaws, StateLaws, WireLaws, AskLaws, ReplyLaws.

@@ -1,9 +1,9 @@
 -- Advertise, ask and serve, each in one theorem: what the call answers and what it leaves, for every lent buffer, by
--- the gateway and the RPC that the body means.
+-- the gateway and the RPC that the body means; and where ask and serve refuse a body.
 use Prim.Native.Nat.{ℕ, _≤_, _<_}
-use mathlib.Core.Path.{_≡_, refl, sym, ap, _∙_}
+use mathlib.Core.Path.{_≡_, refl, sym, ap, subst, _∙_}
 use mathlib.Core.List.{List, [], _∷_}
-use mathlib.Core.Logic.{_⊎_, inl, inr}
+use mathlib.Core.Logic.{_↔_, _⊎_, inl, inr}
 use native.Mathlib.Omega.{arith}
 use lib.ListN.{length, take}
 use lib.Seq.{sets}
@@ -19,10 +19,16 @@ use Rattle.basis.specs.Refusals.{topic-too-long, short-room}
 use Rattle.basis.specs.Writing.{answer, written}
 use Rattle.basis.specs.Lists.{answer-fits, answer-short, written-fits, written-short}
 use Rattle.rows.specs.ListLaws.{drop-sets, put-sets}
+use Rattle.protobuf.specs.declared.WireError.{WireError}
+use Rattle.protobuf.specs.declared.Checked.{Checked}
+use Rattle.protobuf.specs.declared.Checked.the-variants as checked
+use Rattle.protobuf.specs.Told.{wireTold}
 use Rattle.protobuf.specs.Encode.{bytesField}
+use Rattle.schema.specs.Accept.{acceptOf}
 use Rattle.rpc.specs.Rpc.{Rpc}
 use Rattle.rpc.specs.Encode.{encodeRpc, repeated}
-use Rattle.canon.specs.Taken.{Within, taken}
+use Rattle.meaning.specs.Decoded.{Refusal, Gated, refusal-gated, gated-bound}
+use Rattle.canon.specs.Taken.{Within, taken, refused-exactly}
 use Rattle.node.specs.Parts.{once}
 use Rattle.node.specs.PartsLaws.{fitting-stop}
 use Rattle.node.specs.declared.Node.{Node}
@@ -34,7 +40,7 @@ use Rattle.node.specs.Gateway.{having, replyRoom, Reply, sent, short, sentBytes
 use Rattle.node.specs.State.{gatewayIn}
 use Rattle.node.specs.Calls.{lentOf, advertised, advertiseAnswer, advertiseLeft, offered, unseenOf, asked, askAnswer}
 use Rattle.node.specs.Calls.{askLeft, wanted, cachedOf, roomOf, servedOf, replyBytes, replied, replyTo, serveAnswer}
-use Rattle.node.specs.Calls.{serveLeft, toldIn, advertiseBytes, askBytes}
+use Rattle.node.specs.Calls.{serveLeft, toldIn, advertiseBytes, askBytes, askOn, serveOn}
 use Rattle.node.specs.ReplyLaws.{reply-within, reply-short, reply-some, sent-bytes}
 use Rattle.node.specs.Laws.{told-gateway, unseen-gateway, cached-gateway, advertise-says, ask-says, serve-says}
 use Rattle.outputs.specs.Named.{offersOf, wantsOf}
@@ -159,6 +165,29 @@ names-exactly (i ∷ is) x out tells on-bytes on-room w =
       no-room = λ there h. (ap tells (answer-short s out h) ∙ on-room (length s), written-short s out h);
     }
 
+-- ---- a body that is refused, of a call that tells this for each outcome of the one test, and none of 10, 1 to 7 and 11
+-- where the body is taken
+module _ (body : List ℕ) (b : Bytes body) (tell : Checked → Told)
+    (on-wrong : (why : WireError) → tell (checked.Refused why) ≡ wireTold why)
+    (other : Gated (tell checked.Fine .number) → ⊥) where
+  refused-of : (c : Checked) → acceptOf body ≡ c → (a : Told) → tell c ≡ a → Gated (a .number) → Refusal body a
+  refused-of (checked.Refused why) e a h g = refused-exactly body a b .0 (why, e, sym (on-wrong why) ∙ h)
+  refused-of checked.Fine e a h g = absurd (other (subst (λ (t : Told). Gated (t .number)) (sym h) g))
+
+  body-refused : (a : Told) → ((tell (acceptOf body) ≡ a) × Gated (a .number)) ↔ Refusal body a
+  body-refused a = (
+    λ p. refused-of (acceptOf body) refl a (p .0) (p .1),
+    λ r. let g = refused-exactly body a b .1 r in (ap tell (g .1) ∙ on-wrong (g .0) ∙ g .2, refusal-gated r),
+  )
+
+ask-other : (w : Written) → Gated (askTold (asked w) .number) → ⊥
+ask-other (wrote.Bytes k) g = omega (arith, gated-bound g .0)
+ask-other (wrote.Room k) g = omega (arith, gated-bound g .1)
+
+serve-other : (r : Reply) → Gated (serveTold (replied r) .number) → ⊥
+serve-other (sent ws ls) g = omega (arith, gated-bound g .0)
+serve-other (short needed) g = omega (arith, gated-bound g .1)
+
 -- ---- the calls, on a lent state that is fine
 module _ (n : Node) (ss cs out : List ℕ) (fine : lentOf n ss cs ≡ lent.Fine) where
   -- serve: the gateway and the RPC that the body means fix what is answered and left
@@ -183,6 +212,14 @@ module _ (n : Node) (ss cs out : List ℕ) (fine : lentOf n ss cs ≡ lent.Fine)
       f .1 ∙ ap (sets out 0) (sent-bytes ms out) in
       rw (a, b) (reply-exactly ms out r)
 
+  -- it tells 10, 1 to 7 or 11 exactly where the body is refused so
+  pub serve-refused-exactly : (body : List ℕ) → Bytes body → (a : Told)
+      → ((serveTold (serveAnswer n ss cs body out) ≡ a) × Gated (a .number)) ↔ Refusal body a
+  unfolding serveAnswer
+  serve-refused-exactly body b a =
+      let r = replyFor (roomOf out) (cachedOf (n .cache) cs (wanted body)) in
+      rw fine (body-refused body b (λ c. serveTold (serveOn (replied r) c)) (λ why. refl) (serve-other r) a)
+
   -- ask: the same
   pub ask-fixed : (body : List ℕ) (x : Rpc) → Within body x
       → (askAnswer n ss cs body out ≡ asked (answer (rpcBytes (askOf (offersOf x) (gatewayIn n ss cs))) out))
@@ -202,6 +239,13 @@ module _ (n : Node) (ss cs out : List ℕ) (fine : lentOf n ss cs ≡ lent.Fine)
       rw (f .0, f .1)
       (names-exactly ids (request ids) out (λ a. askTold (asked a)) (λ k. refl) (λ k. refl)
       (λ there. rw e at (request-within n ss w (λ z. there (sym e ∙ z)))))
+
+  pub ask-refused-exactly : (body : List ℕ) → Bytes body → (a : Told)
+      → ((askTold (askAnswer n ss cs body out) ≡ a) × Gated (a .number)) ↔ Refusal body a
+  unfolding askAnswer
+  ask-refused-exactly body b a =
+      let w = answer (askBytes n ss body) out in
+      rw fine (body-refused body b (λ c. askTold (askOn (asked w) c)) (λ why. refl) (ask-other w) a)
 
   advertise-long : (topic : List ℕ) (windows : ℕ) → 1024 < length topic
       → (advertiseTold (advertiseAnswer n ss cs topic windows out) ≡ told topic-too-long (length topic ∷ []))

@@ -1,4 +1,4 @@
--- To be believed: Named, Outcomes, Replied (`Replies`, `Counts`), Admitted (`AdmitTakes`).
+-- To be believed: Named, Outcomes, Replied (`Replies`, `Counts`), Admitted (`AdmitTakes`, `AdmitTells`).
 -- Theorems: Exactly, Offered, Replied, Requested, Advertised, Admitted.
 -- On the way to them: Bodies, Cached.
 pub mod Named

@@ -8,13 +8,13 @@ use native.Mathlib.Nat.{add-zero}
 use lib.ListN.{length, length-append}
 use lib.Seq.{sets}
 use lib.Dec.{ltb, eqb}
-use borrow.Author.Tests.{ne-eqb, le-ltb, ltb-false, eqb-false}
+use borrow.Author.Tests.{ltb-false, eqb-false}
 use Rattle.basis.specs.Cases.{either, clash}
 use Rattle.basis.specs.Writing.{endIn, setIn}
 use Rattle.basis.specs.Unique.{Leaves}
 use Rattle.basis.specs.Lists.{sets-append, end-fits, set-fits, answer-fits, answer-short, written-fits, written-short}
 use Rattle.peer_id.specs.Uvarint.{uvarint}
-use Rattle.peer_id.specs.Laws.{uvarint-some, uvarint-small, at-most-ten}
+use Rattle.peer_id.specs.Laws.{uvarint-small, at-most-ten}
 use Rattle.protobuf.specs.declared.WireError.{WireError}
 use Rattle.protobuf.specs.declared.Checked.the-variants.{Fine, Refused as Wrong}
 use Rattle.protobuf.specs.declared.Encoded.the-variants.{Bytes, Room, Refused}
@@ -35,15 +35,7 @@ fine-tag n type e =
     (λ q. either (ltb 7 type) (λ r. let w = simp (p, q, r) at e in clash (cc))
     (λ r. let z = eqb-false n 0 p in record { some = omega arith; most = ltb-false _ _ q; bits = ltb-false _ _ r })))
 
-pub tag-fine : (n type : ℕ) → CanTag n type → tagRefused n type ≡ Fine
-unfolding tagRefused
-tag-fine n type t = simp (ne-eqb n 0 (λ z. omega arith), le-ltb 536870911 n (t .most), le-ltb 7 type (t .bits))
-
 -- ---- how long a field is
-pub tag-some : (n type : ℕ) → 1 ≤ length (tag n type)
-unfolding tag
-tag-some n type = uvarint-some (n * 8 + type)
-
 pub tag-one : (n type : ℕ) → n ≤ 15 → type ≤ 7 → length (tag n type) ≡ 1
 unfolding tag
 tag-one n type h t = rw (uvarint-small (n * 8 + type) (omega arith))

@@ -3,9 +3,8 @@
 use Prim.Native.Nat.{ℕ, _+_, _-_, _/_, _≤_, _<_}
 use mathlib.Core.Path.{_≡_, refl}
 use mathlib.Core.List.{List}
-use mathlib.Core.Bool.{true}
 use native.Mathlib.Omega.{arith}
-use lib.ListN.{length, take, drop}
+use lib.ListN.{length, drop}
 use lib.Dec.{ltb, leb, eqb}
 use borrow.Author.Tests.{ltb-false, le-leb}
 use Rattle.basis.specs.Cases.{either, clash}
@@ -13,7 +12,6 @@ use Rattle.peer_id.specs.declared.Uvarint.{Uvarint}
 use Rattle.peer_id.specs.declared.Uvarint.the-variants.{Value as Read, Refused as Unread}
 use Rattle.peer_id.specs.Uvarint.{readUvarint}
 use Rattle.peer_id.specs.Laws.{used}
-use Rattle.utf8.specs.Utf8.{isUtf8}
 use Rattle.protobuf.specs.declared.Tag.{Tag}
 use Rattle.protobuf.specs.declared.Tag.the-variants as tag
 use Rattle.protobuf.specs.declared.Part.{Part}
@@ -24,7 +22,7 @@ use Rattle.protobuf.specs.declared.Skip.{Skip}
 use Rattle.protobuf.specs.declared.Skip.the-variants as skip
 use Rattle.protobuf.specs.declared.Field.{Field}
 use Rattle.protobuf.specs.declared.Step.the-variants as step
-use Rattle.protobuf.specs.Field.{after, tagOf, readTag, partOf, readLen, stringOf, readString, readVarint}
+use Rattle.protobuf.specs.Field.{after, tagOf, readTag, partOf, readLen, readVarint}
 use Rattle.protobuf.specs.Field.{skipFixed, pastValue, pastPart, skipField, ofValue, ofPart, ofSkip, readValue}
 use Rattle.protobuf.specs.Field.{ofTag, readField}
 
@@ -41,20 +39,6 @@ of-part s at a e (Unread why) q h = clash (cc)
 pub part-fits : (s : List ℕ) (at a e : ℕ) → part.Bytes a e ≡ readLen s at → (at < a) × (a ≤ e) × (e ≤ length s)
 unfolding readLen
 part-fits s at a e h = of-part s at a e (readUvarint (drop at s)) refl h
-
--- a string that is read is the part, and UTF-8
-of-string : (s : List ℕ) (at a e : ℕ) (r : Part) → part.Bytes a e ≡ stringOf s at r → (r ≡ part.Bytes a e)
-    × (isUtf8 (take (e - a) (drop a s)) ≡ true)
-of-string s at a e (part.Bytes b f) h =
-    either (isUtf8 (take (f - b) (drop b s)))
-    (λ t. let k = simp t at h in let eb : b ≡ a = cc in let ef : f ≡ e = cc in rw (← eb, ← ef) (refl, t))
-    (λ t. clash (let k = simp t at h in cc))
-of-string s at a e (part.Refused why) h = clash (cc)
-
-pub string-part : (s : List ℕ) (at a e : ℕ) → part.Bytes a e ≡ readString s at → (readLen s at ≡ part.Bytes a e)
-    × (isUtf8 (take (e - a) (drop a s)) ≡ true)
-unfolding readString
-string-part s at a e h = of-string s at a e (readLen s at) h
 
 -- ---- a value that is read moves on, within the bytes
 of-varint : (s : List ℕ) (at x e : ℕ) (r : Uvarint) → r ≡ readUvarint (drop at s)

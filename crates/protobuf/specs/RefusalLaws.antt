@@ -1,5 +1,5 @@
--- Which refusals reading a field can give: 1 to 6.
-use Prim.Native.Nat.{ℕ, _+_, _-_, _/_, _≤_}
+-- Which numbers a refusal can have, 1 to 11; and which of them reading a field can give, 1 to 6.
+use Prim.Native.Nat.{ℕ, _+_, _-_, _/_, _≤_, _<_}
 use mathlib.Core.Path.{_≡_, refl}
 use mathlib.Core.List.{List}
 use native.Mathlib.Omega.{arith}
@@ -14,7 +14,7 @@ use Rattle.peer_id.specs.Uvarint.{readUvarint}
 use Rattle.peer_id.specs.Told.{varintTold}
 use Rattle.protobuf.specs.declared.WireError.{WireError}
 use Rattle.protobuf.specs.declared.WireError.the-variants.{Varint, FieldOverflow, UnsupportedWireType}
-use Rattle.protobuf.specs.declared.WireError.the-variants.{InvalidFieldNumber}
+use Rattle.protobuf.specs.declared.WireError.the-variants.{InvalidFieldNumber, InvalidUtf8, TooLarge, TooManyRecords}
 use Rattle.protobuf.specs.declared.Tag.{Tag}
 use Rattle.protobuf.specs.declared.Tag.the-variants as tag
 use Rattle.protobuf.specs.declared.Part.{Part}
@@ -27,6 +27,17 @@ use Rattle.protobuf.specs.declared.Step.the-variants as step
 use Rattle.protobuf.specs.Told.{refusalNumber}
 use Rattle.protobuf.specs.Field.{after, tagOf, readTag, partOf, readLen, readVarint, skipFixed, pastValue}
 use Rattle.protobuf.specs.Field.{pastPart, skipField, ofValue, ofPart, ofSkip, readValue, ofTag, readField}
+
+pub wire-range : (why : WireError) → (0 < refusalNumber why) × (refusalNumber why ≤ 11)
+wire-range (Varint BufferTooShort) = (omega arith, omega arith)
+wire-range (Varint Overflow) = (omega arith, omega arith)
+wire-range (Varint NonCanonical) = (omega arith, omega arith)
+wire-range (FieldOverflow offset size remaining) = (omega arith, omega arith)
+wire-range (UnsupportedWireType type offset) = (omega arith, omega arith)
+wire-range (InvalidFieldNumber field offset) = (omega arith, omega arith)
+wire-range (InvalidUtf8 offset) = (omega arith, omega arith)
+wire-range (TooLarge len) = (omega arith, omega arith)
+wire-range (TooManyRecords records) = (omega arith, omega arith)
 
 varint-small : (v : VarintError) → varintTold v .number ≤ 6
 varint-small BufferTooShort = omega arith

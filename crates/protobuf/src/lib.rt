@@ -29,7 +29,7 @@ pub const WIRE_LEN: u8 = 2;
 pub const WIRE_I32: u8 = 5;
 
 // The largest field number, 2^29 - 1.
-const MAX_FIELD_NUMBER: u64 = 536870911;
+pub const MAX_FIELD_NUMBER: u64 = 536870911;
 
 // The largest body, in bytes.
 pub const MAX_RPC_SIZE: usize = 65536;

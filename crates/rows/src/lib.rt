@@ -8,6 +8,7 @@ ghost use Rattle.rows.specs.Rows.{placeOf};
 ghost use Rattle.rows.specs.Ids.{sameBytes, precedesBytes, indexOf, among, distinct};
 ghost use Rattle.rows.specs.Buckets.{bucketOf};
 ghost use Rattle.rows.specs.Store.{inUse, idAt, idsIn, allUpTo};
+use basis::least;
 
 // A lent store has `cap` places of one size; `count` of them are in use, from `start` on and from the last place to the first, the oldest first.
 pub struct Ring {
@@ -79,12 +80,6 @@ fn begin_of(p: usize, size: usize, end: usize) -> usize
         return end;
     }
     p * size
-}
-
-fn least(a: usize, b: usize) -> usize
-    ensures { λ r. ⌜ r ≡ min a b ⌝ }
-{
-    if a < b { a } else { b }
 }
 
 // The first n bytes of a place, cut at the end of the store.

@@ -1,7 +1,7 @@
 -- What each call on the seen cache answers and leaves. Refusals come in the order of 01's table: 40, 41, 42, 33; a
 -- refused call leaves the cache and the store as they were.
 use Prim.Native.Nat.{ℕ, _+_, _-_, _*_, _/_, _%_}
-use mathlib.Core.List.{List, [], _∷_}
+use mathlib.Core.List.{List}
 use mathlib.Core.Bool.{Bool, cond, _&&_}
 use lib.ListN.{length, getD}
 use lib.Seq.{sets}
@@ -21,7 +21,7 @@ use Rattle.seen.specs.declared.Gc.{Gc}
 use Rattle.seen.specs.declared.Gc.the-variants as gc
 use Rattle.seen.specs.declared.NextExpiry.{NextExpiry}
 use Rattle.seen.specs.declared.NextExpiry.the-variants as next
-use Rattle.seen.specs.Told.{lentTold, insertTold, containsTold, gcTold, nextTold}
+use Rattle.seen.specs.Told.{lentTold, insertTold, gcTold}
 use Rattle.seen.specs.Entries.{until}
 use Rattle.seen.specs.State.{wellFormed, spent, dropped, appended, idSize, maxIds, ringOf}
 
@@ -32,14 +32,8 @@ lentNumber r = lentTold r .number
 abbrev pub insertNumber : Insert → ℕ
 insertNumber r = insertTold r .number
 
-abbrev pub containsNumber : Contains → ℕ
-containsNumber r = containsTold r .number
-
 abbrev pub gcNumber : Gc → ℕ
 gcNumber r = gcTold r .number
-
-abbrev pub nextNumber : NextExpiry → ℕ
-nextNumber r = nextTold r .number
 
 -- ---- the lent state: 41, 42
 -- how many places a store has

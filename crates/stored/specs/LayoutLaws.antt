@@ -53,22 +53,6 @@ gathered-at w (suc n) (suc i) s h =
     let m : w + i * w ≡ suc i * w = add-comm w (i * w) ∙ sym (suc-mul i w) in
     gathered-at w n i (drop w s) (omega arith) ∙ rw (drop-drop (i * w) w s, m)
 
--- ---- the node: how many bytes
-pub node-bytes-length : (n : Node) → Fits n → length (nodeBytes n) ≡ 11344
-unfolding nodeBytes headOf
-node-bytes-length n f =
-    simp (length-append, spread-length)
-    (omega (
-      arith,
-      f .expiries,
-      f .id-lengths,
-      f .generations,
-      f .windows,
-      f .lengths,
-      f .cached-id-lengths,
-      f .cached-ids,
-    ))
-
 -- ---- the bytes of a node are that node
 -- where a part p of m elements ends, the rest begins
 next : (k m : ℕ) (s p r : List ℕ) → drop k s ≡ p ++ r → length p ≡ m → drop (k + m) s ≡ r

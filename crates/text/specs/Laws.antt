@@ -7,7 +7,7 @@ use native.Mathlib.Omega.{arith}
 use native.Mathlib.Nat.{pow-suc, one-le-pow}
 use native.Mathlib.Numerals.{add-one}
 use lib.ListN.{length, take, drop, set, length-append}
-use lib.Seq.{sets-eq, length-sets, take-at, take-nil}
+use lib.Seq.{length-sets, take-nil}
 use lib.Dec.{ltb, eqb}
 use borrow.Author.Tests.{ltb-true, ltb-false, lt-ltb}
 use Rattle.basis.specs.Cases.{either}
@@ -56,12 +56,6 @@ puts-as {at = at} e h f =
 
 pub puts-length : {p : ℕ} {xs b a : List ℕ} {at end : ℕ} → Puts p xs b at a end → length a ≡ length b
 puts-length {xs = xs} {b = b} {at = at} f = ap length (f .bytes) ∙ length-sets b at xs
-
--- what was put at the front
-pub puts-front : {p : ℕ} {xs b a : List ℕ} {end : ℕ} → Puts p xs b 0 a end → end ≤ length b → take end a ≡ xs
-puts-front {p} {xs} {b} {a} {end} f h =
-    let l : length xs ≡ end = omega arith in
-    rw (f .bytes, sets-eq xs b 0 (omega arith)) (take-at xs (drop (0 + length xs) b) end l)
 
 -- ---- decimal numbers
 length-digits : (b k n : ℕ) → length (digits b k n) ≡ k
@@ -135,29 +129,11 @@ unfolding refused
 length-refused m n a b c h p q r = simp length-append (omega (arith, length-number m h, length-numbers n a b c p q r))
 
 -- ---- what each public writer did
-pub text-puts : {at end : ℕ} {xs b a : List ℕ} → at + length xs ≤ length b → (end ≡ endIn (length xs) at xs b)
-    × (a ≡ setIn (length xs) at xs b) → Puts (length xs) xs b at a end
-text-puts h e = puts-in h (omega arith) e
-
-pub decimal-puts : {at end n : ℕ} {b a : List ℕ} → n < 2 ^ 64 → at + 20 ≤ length b → (end ≡ endIn 20 at (decimal n) b)
-    × (a ≡ setIn 20 at (decimal n) b) → Puts 20 (decimal n) b at a end
-decimal-puts {n = n} l h e = puts-in h (decimal-twenty n l) e
-
-pub number-puts : {at end n : ℕ} {b a : List ℕ} → n < 2 ^ 64 → at + 21 ≤ length b → (end ≡ endIn 21 at (number n) b)
-    × (a ≡ setIn 21 at (number n) b) → Puts 21 (number n) b at a end
-number-puts {n = n} l h e = puts-in h (length-number n l) e
-
 pub numbers-puts : (n p q r : ℕ) {at end : ℕ} {b a : List ℕ} → p < 2 ^ 64 → q < 2 ^ 64 → r < 2 ^ 64 → at + 63 ≤ length b
     → (end ≡ endIn 63 at (numbers (take n (p ∷ q ∷ r ∷ []))) b)
     × (a ≡ setIn 63 at (numbers (take n (p ∷ q ∷ r ∷ []))) b)
     → Puts 63 (numbers (take n (p ∷ q ∷ r ∷ []))) b at a end
 numbers-puts n p q r j k l h e = puts-in h (length-numbers n p q r j k l) e
-
-pub refused-puts : (n p q r : ℕ) {at end m : ℕ} {b a : List ℕ} → m < 2 ^ 64 → p < 2 ^ 64 → q < 2 ^ 64 → r < 2 ^ 64
-    → at + 92 ≤ length b → (end ≡ endIn 92 at (refused m (take n (p ∷ q ∷ r ∷ []))) b)
-    × (a ≡ setIn 92 at (refused m (take n (p ∷ q ∷ r ∷ []))) b)
-    → Puts 92 (refused m (take n (p ∷ q ∷ r ∷ []))) b at a end
-refused-puts n p q r {m = m} i j k l h e = puts-in h (length-refused m n p q r i j k l) e
 
 pub hex-puts : (s : List ℕ) {at end : ℕ} {b a : List ℕ} → at + 2 * length s ≤ length b
     → (end ≡ endIn (2 * length s) at (hex s) b) × (a ≡ setIn (2 * length s) at (hex s) b)

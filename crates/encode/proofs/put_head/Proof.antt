@@ -42,12 +42,21 @@ uvarint-len-requires-2 c κs = search needs
 add-end : tie.Need-add-end
 add-end c =
     let a = c .before .before .before .before .before .args in
-    omega (arith, c .before .uvarint-len .ensures, c .uvarint-len2 .ensures, at-most-ten (a .n * 8 + 2) (omega arith), at-most-ten (a .len) (omega arith))
+    omega (
+      arith,
+      c .before .uvarint-len .ensures,
+      c .uvarint-len2 .ensures,
+      at-most-ten (a .n * 8 + 2) (omega arith),
+      at-most-ten (a .len)
+          (omega arith),
+    )
 
 returns-3 : tie.Need-returns-3
 returns-3 c =
     let a = c .before .before .before .before .before .before .args in
-    head-short (a .n) (a .len) (a .at) (a .out .now) (omega arith) (omega arith) _ _ (ap (λ (k : ℕ). a .at + k) (c .before .before .uvarint-len .ensures)) (ap (λ (k : ℕ). (a .at + c .before .before .uvarint-len .result) + k) (c .before .uvarint-len2 .ensures)) (omega arith)
+    head-short (a .n) (a .len) (a .at) (a .out .now) (omega arith) (omega arith) _ _ (ap (λ (k : ℕ). a .at + k)
+    (c .before .before .uvarint-len .ensures)) (ap (λ (k : ℕ). (a .at + c .before .before .uvarint-len .result) + k)
+    (c .before .uvarint-len2 .ensures)) (omega arith)
 
 put-uvarint-requires : tie.Need-put-uvarint-requires
 put-uvarint-requires c κs = search needs
@@ -61,7 +70,11 @@ same-length c = search needs
 returns-4 : tie.Need-returns-4
 returns-4 c =
     let a = c .before .before .before .before .before .before .before .before .before .before .before .before .before .before .args in
-    head-put (a .n) (a .len) (a .at) (a .out .now) (omega arith) (omega arith) _ _ (ap (λ (k : ℕ). a .at + k) (c .before .before .before .before .before .before .before .before .before .before .uvarint-len .ensures)) (ap (λ (k : ℕ). (a .at + c .before .before .before .before .before .before .before .before .before .before .uvarint-len .result) + k) (c .before .before .before .before .before .before .before .before .before .uvarint-len2 .ensures)) _ _ (omega arith) (c .before .before .before .before .before .before .put-uvarint .ensures .lent) (c .before .before .put-uvarint2 .ensures .lent)
+    head-put (a .n) (a .len) (a .at) (a .out .now) (omega arith) (omega arith) _ _ (ap (λ (k : ℕ). a .at + k)
+    (c .before .before .before .before .before .before .before .before .before .before .uvarint-len .ensures)) (ap (λ (k : ℕ).
+    (a .at + c .before .before .before .before .before .before .before .before .before .before .uvarint-len .result) + k)
+    (c .before .before .before .before .before .before .before .before .before .uvarint-len2 .ensures)) _ _ (omega arith)
+    (c .before .before .before .before .before .before .put-uvarint .ensures .lent) (c .before .before .put-uvarint2 .ensures .lent)
 
 pub put-head-spec : {M : Type 1} → statement M
 put-head-spec =

@@ -32,32 +32,38 @@ enum-known-m-2 : tie.Need-enum-known-m-2
 enum-known-m-2 c = search needs
 
 sub-put-id : tie.Need-sub-put-id
-sub-put-id c = message-inside (c .before .before .before .before .before .before .before .before .before .before .args .body .now) (c .before .before .before .before .before .before .before .before .before .before .args .index) _ _ (sym (c .before .before .before .message-at .ensures) ∙ c .before .m2 .given .1) .0
+sub-put-id c = let a = c .before .before .before .before .before .before .before .before .before .before .args in
+    message-inside (a .body .now) (a .index) _ _ (sym (c .before .before .before .message-at .ensures) ∙ c .before .m2 .given .1) .0
 
 part-put-id-start : tie.Need-part-put-id-start
-part-put-id-start c = message-inside (c .before .before .before .before .before .before .before .before .before .before .args .body .now) (c .before .before .before .before .before .before .before .before .before .before .args .index) _ _ (sym (c .before .before .before .message-at .ensures) ∙ c .before .m2 .given .1) .0
+part-put-id-start c = let a = c .before .before .before .before .before .before .before .before .before .before .args in
+    message-inside (a .body .now) (a .index) _ _ (sym (c .before .before .before .message-at .ensures) ∙ c .before .m2 .given .1) .0
 
 part-put-id-end : tie.Need-part-put-id-end
-part-put-id-end c = message-inside (c .before .before .before .before .before .before .before .before .before .before .args .body .now) (c .before .before .before .before .before .before .before .before .before .before .args .index) _ _ (sym (c .before .before .before .message-at .ensures) ∙ c .before .m2 .given .1) .1
+part-put-id-end c = let a = c .before .before .before .before .before .before .before .before .before .before .args in
+    message-inside (a .body .now) (a .index) _ _ (sym (c .before .before .before .message-at .ensures) ∙ c .before .m2 .given .1) .1
 
 put-id-requires : tie.Need-put-id-requires
 put-id-requires c κs = search needs
 
 returns : tie.Need-returns
-returns c = let a = c .before .before .before .before .before .before .before .args in refused-body (a .before .now) (a .body .now) (a .index) (a .out .now) _ (sym (c .before .before .before .accept .ensures) ∙ c .before .c .given .1)
+returns c = let a = c .before .before .before .before .before .before .before .args in refused-body (a .before .now) (a .body .now) (a .index)
+    (a .out .now) _ (sym (c .before .before .before .accept .ensures) ∙ c .before .c .given .1)
 
 returns-2 : tie.Need-returns-2
-returns-2 c = let a = c .before .before .before .before .before .before .before .before .before .before .args in no-message (a .before .now) (a .body .now) (a .index) (a .out .now) _ (sym (c .before .before .before .before .before .before .accept .ensures) ∙ c .before .before .before .before .enum-told .given .1) (sym (c .before .before .before .message-at .ensures) ∙ c .before .m .given .1)
+returns-2 c = let a = c .before .before .before .before .before .before .before .before .before .before .args in no-message (a .before .now)
+    (a .body .now) (a .index) (a .out .now) _ (sym (c .before .before .before .before .before .before .accept .ensures)
+    ∙ c .before .before .before .before .enum-told .given .1) (sym (c .before .before .before .message-at .ensures) ∙ c .before .m .given .1)
 
 same-length : tie.Need-same-length
 same-length c = search needs
 
 returns-3 : tie.Need-returns-3
-returns-3 c = let a = c .before .before .before .before .before .before .before .before .before .before .before .before .before .before .before .args in
-    at-message (a .before .now) (a .body .now) (a .index) (a .out .now) _ _ _ _
-    (sym (c .before .before .before .before .before .before .before .before .before .before .before .accept .ensures)
-    ∙ c .before .before .before .before .before .before .before .before .before .enum-told .given .1)
-    (sym (c .before .before .before .before .before .before .before .before .message-at .ensures)
+returns-3 c = let a = c .before .before .before .before .before .before .before .before .before .before .before .before .before .before .before .args
+    in at-message (a .before .now) (a .body .now) (a .index) (a .out .now) _ _ _ _ (sym
+    (c .before .before .before .before .before .before .before .before .before .before .before .accept .ensures)
+    ∙ c .before .before .before .before .before .before .before .before .before .enum-told .given .1) (sym
+    (c .before .before .before .before .before .before .before .before .message-at .ensures)
     ∙ c .before .before .before .before .before .before .m2 .given .1) (c .before .before .put-id .ensures)
 
 pub put-id-at-spec : {M : Type 1} → statement M

@@ -19,8 +19,12 @@ same-length : tie.Need-same-length
 same-length c = search needs
 
 returns : tie.Need-returns
-returns c = line-put (c .before .before .before .before .before .before .before .before .before .before .before .before .before .before .args .n) (c .before .before .before .before .before .before .before .before .before .before .before .before .before .before .args .kind) (c .before .before .before .before .before .before .before .before .before .before .before .before .before .before .args .content .now) (c .before .before .before .before .before .before .before .before .before .before .before .before .before .before .pre .0) (wrote-puts (omega arith) (c .before .before .before .before .before .before .before .before .before .before .start-line .ensures))
-    (c .before .before .before .before .before .before .answer .ensures) (wrote-puts (omega arith) (c .before .before .end-line .ensures)) (omega arith) (c .before .before .before .before .before .before .before .before .before .before .before .before .before .before .pre .1)
+returns c = let a = c .before .before .before .before .before .before .before .before .before .before .before .before .before .before .args in
+    line-put (a .n) (a .kind) (a .content .now)
+    (c .before .before .before .before .before .before .before .before .before .before .before .before .before .before .pre .0) (wrote-puts
+    (omega arith) (c .before .before .before .before .before .before .before .before .before .before .start-line .ensures))
+    (c .before .before .before .before .before .before .answer .ensures) (wrote-puts (omega arith) (c .before .before .end-line .ensures))
+    (omega arith) (c .before .before .before .before .before .before .before .before .before .before .before .before .before .before .pre .1)
 
 pub line-spec : {M : Type 1} → statement M
 line-spec = tie.close (tie.spec start-line-requires answer-requires end-line-requires same-length returns)

@@ -40,12 +40,18 @@ same-length c = search needs
 
 returns-3 : tie.Need-returns-3
 unfolding bytesLine
-returns-3 c = wrote-yes _ _ (le-leb _ _ (c .before .before .before .before .before .before .before .before .before .before .before .before .before .before .before .before .before .before .before .before .before .before .if1 .left)) (wrote-yes _ _ (le-leb _ _ (c .before .before .before .before .before .before .before .before .before .before .before .before .before .before .before .before .before .before .before .before .before .if2 .left)) (puts-wrote (omega arith) (puts-as refl (omega arith)
-    (puts-then (wrote-puts (omega arith) (c .before .before .before .before .before .before .before .before .before .before .before .before .before .before .before .before .before .before .start-line .ensures))
-    (puts-then (puts-then (wrote-puts (omega arith) (c .before .before .before .before .before .before .before .before .before .before .before .before .before .before .put-word .ensures))
-    (puts-then (c .before .before .before .before .before .before .before .before .before .before .put-shown .ensures)
-    (rw (c .before .before .before .before .before .before .before .before .before .before .before .before .before .before .before .before .before .before .before .before .further .ensures) at (c .before .before .before .before .before .before .put-values .ensures))))
-    (wrote-puts (omega arith) (c .before .before .end-line .ensures)))))))
+returns-3 c = wrote-yes _ _ (le-leb _ _
+    (c .before .before .before .before .before .before .before .before .before .before .before .before .before .before .before .before .before .before
+    .before .before .before .before .if1 .left)) (wrote-yes _ _ (le-leb _ _
+    (c .before .before .before .before .before .before .before .before .before .before .before .before .before .before .before .before .before .before
+    .before .before .before .if2 .left)) (puts-wrote (omega arith) (puts-as refl (omega arith) (puts-then (wrote-puts (omega arith)
+    (c .before .before .before .before .before .before .before .before .before .before .before .before .before .before .before .before .before .before
+    .start-line .ensures)) (puts-then (puts-then (wrote-puts (omega arith)
+    (c .before .before .before .before .before .before .before .before .before .before .before .before .before .before .put-word .ensures))
+    (puts-then (c .before .before .before .before .before .before .before .before .before .before .put-shown .ensures) (rw
+    (c .before .before .before .before .before .before .before .before .before .before .before .before .before .before .before .before .before .before
+    .before .before .further .ensures) at (c .before .before .before .before .before .before .put-values .ensures)))) (wrote-puts (omega arith)
+    (c .before .before .end-line .ensures)))))))
 
 pub bytes-line-spec : {M : Type 1} → statement M
 bytes-line-spec =

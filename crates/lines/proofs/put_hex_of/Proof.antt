@@ -30,9 +30,12 @@ same-length : tie.Need-same-length
 same-length c = search needs
 
 returns-3 : tie.Need-returns-3
-returns-3 c = let l = length-take-le (c .before .before .before .before .before .before .before .before .before .before .before .before .before .before .args .count) (c .before .before .before .before .before .before .before .before .before .before .before .before .before .before .args .made .now) (c .before .before .before .before .before .before .before .before .before .before .if2 .left) in
-    puts-as (shown-there _ _ (c .before .before .before .before .before .before .before .before .before .before .before .if1 .left) (c .before .before .before .before .before .before .before .before .before .before .if2 .left)) (omega arith)
-    (puts-then (wrote-puts (omega arith) (c .before .before .before .before .before .before .before .put-word .ensures)) (hex-puts _ (omega arith) (c .before .before .put-hex .ensures)))
+returns-3 c = let a = c .before .before .before .before .before .before .before .before .before .before .before .before .before .before .args in
+    let l = length-take-le (a .count) (a .made .now) (c .before .before .before .before .before .before .before .before .before .before .if2 .left) in
+    puts-as (shown-there _ _ (c .before .before .before .before .before .before .before .before .before .before .before .if1 .left)
+    (c .before .before .before .before .before .before .before .before .before .before .if2 .left)) (omega arith) (puts-then (wrote-puts
+    (omega arith) (c .before .before .before .before .before .before .before .put-word .ensures)) (hex-puts _ (omega arith)
+    (c .before .before .put-hex .ensures)))
 
 pub put-hex-of-spec : {M : Type 1} → statement M
 put-hex-of-spec =

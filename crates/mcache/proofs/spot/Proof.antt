@@ -43,16 +43,29 @@ loop-less : tie.Need-loop-less Inv-loop μ-loop
 loop-less c = search needs
 
 loop-again : tie.Need-loop-again Inv-loop μ-loop
-loop-again c = let a = c .before .before .before .before .before .before .before .before .before .before .args in (omega arith, spot-next (idAt messageIdSize (now (a .id-lens)) (now (a .ids))) (a .p) (a .n) (now (a .rows)) (c .before .before .before .before .before .loop .i) (c .before .precedes .result) (c .before .before .before .before .before .before .before .before .before .before .pre) (c .before .before .before .before .loop-test .taken) (c .before .before .before .before .before .loop .inv .1) (c .before .precedes .ensures ∙ ap₂ precedesBytes (c .before .before .id-at2 .ensures) (c .before .before .before .before .before .before .id-at .ensures)) (c .if1 .taken))
+loop-again c = let a = c .before .before .before .before .before .before .before .before .before .before .args in (
+  omega arith,
+  spot-next
+      (idAt messageIdSize (now (a .id-lens)) (now (a .ids))) (a .p) (a .n) (now (a .rows)) (c .before .before .before .before .before .loop .i)
+      (c .before .precedes .result) (c .before .before .before .before .before .before .before .before .before .before .pre)
+      (c .before .before .before .before .loop-test .taken) (c .before .before .before .before .before .loop .inv .1) (c .before .precedes .ensures
+      ∙ ap₂ precedesBytes (c .before .before .id-at2 .ensures) (c .before .before .before .before .before .before .id-at .ensures)) (c .if1 .taken),
+)
 
 returns : tie.Need-returns Inv-loop μ-loop
-returns c = let a = c .before .before .before .before .before .before .before .before .before .before .args in spot-now (idAt messageIdSize (now (a .id-lens)) (now (a .ids))) (a .p) (a .n) (now (a .rows)) (c .before .before .before .before .before .loop .i) (c .before .precedes .result) (c .before .before .before .before .before .before .before .before .before .before .pre) (c .before .before .before .before .loop-test .taken) (c .before .before .before .before .before .loop .inv .1) (c .before .precedes .ensures ∙ ap₂ precedesBytes (c .before .before .id-at2 .ensures) (c .before .before .before .before .before .before .id-at .ensures)) (c .if1 .left)
+returns c = let a = c .before .before .before .before .before .before .before .before .before .before .args in spot-now (idAt messageIdSize (now
+    (a .id-lens)) (now (a .ids))) (a .p) (a .n) (now (a .rows)) (c .before .before .before .before .before .loop .i) (c .before .precedes .result)
+    (c .before .before .before .before .before .before .before .before .before .before .pre) (c .before .before .before .before .loop-test .taken)
+    (c .before .before .before .before .before .loop .inv .1) (c .before .precedes .ensures ∙ ap₂ precedesBytes (c .before .before .id-at2 .ensures)
+    (c .before .before .before .before .before .before .id-at .ensures)) (c .if1 .left)
 
 returns-2 : tie.Need-returns-2 Inv-loop μ-loop
 returns-2 c =
     let a = c .before .before .before .before .before .before .args in
-    spot-last (idAt messageIdSize (now (a .id-lens)) (now (a .ids))) (a .p) (take (a .n) (now (a .rows))) (c .before .loop .i) (c .before .loop .inv .1)
+    spot-last (idAt messageIdSize (now (a .id-lens)) (now (a .ids))) (a .p) (take (a .n) (now (a .rows))) (c .before .loop .i)
+    (c .before .loop .inv .1)
     (taken-length (a .n) (now (a .rows)) (c .before .loop .i) (c .before .before .before .before .before .before .pre) (c .loop-test .left))
 
 pub spot-spec : {M : Type 1} → statement M
-spot-spec = tie.close (tie.spec Inv-loop μ-loop id-at-requires loop-holds shared-slice-read-q cast-q id-at-requires-2 precedes-requires add-i loop-less loop-again returns returns-2)
+spot-spec = tie.close (tie.spec Inv-loop μ-loop id-at-requires loop-holds shared-slice-read-q cast-q id-at-requires-2 precedes-requires add-i
+    loop-less loop-again returns returns-2)

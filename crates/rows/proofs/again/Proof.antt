@@ -13,7 +13,9 @@ find-from-requires : tie.Need-find-from-requires
 find-from-requires c κs = search needs
 
 returns-2 : tie.Need-returns-2
-returns-2 c = rw (ne-eqb (c .before .before .before .before .before .before .args .flag) 0 (c .before .before .if1 .left)) (sym (find-among (c .before .before .before .before .before .before .args .size) (c .before .before .before .before .before .before .args .ring) (now (c .before .before .before .before .before .before .args .lens)) (now (c .before .before .before .before .before .before .args .ids)) (now (c .before .before .before .before .before .before .args .id)) (c .before .before .before .before .before .before .args .from) (c .before .find-from .result) (c .before .find-from .ensures)))
+returns-2 c = let a = c .before .before .before .before .before .before .args in
+    rw (ne-eqb (a .flag) 0 (c .before .before .if1 .left)) (sym (find-among (a .size) (a .ring) (now (a .lens)) (now (a .ids)) (now (a .id))
+    (a .from) (c .before .find-from .result) (c .before .find-from .ensures)))
 
 pub again-spec : {M : Type 1} → statement M
 again-spec = tie.close (tie.spec returns find-from-requires returns-2)

@@ -24,7 +24,10 @@ byte-at-requires : tie.Need-byte-at-requires Inv-loop μ-loop
 byte-at-requires c κs = search needs
 
 returns : tie.Need-returns Inv-loop μ-loop
-returns c = within-not (c .before .before .before .before .before .before .before .args .most) (c .before .before .before .before .before .before .before .args .ring) (now (c .before .before .before .before .before .before .before .args .lens)) (c .before .before .before .before .before .loop .i) (c .before .before .before .before .before .loop .inv) (c .before .before .before .if1 .taken) (rw (← c .before .before .place .ensures, ← c .before .byte-at .ensures) (c .if2 .taken))
+returns c = let a = c .before .before .before .before .before .before .before .args in
+    within-not (a .most) (a .ring) (now (a .lens)) (c .before .before .before .before .before .loop .i)
+    (c .before .before .before .before .before .loop .inv) (c .before .before .before .if1 .taken) (rw
+    (← c .before .before .place .ensures, ← c .before .byte-at .ensures) (c .if2 .taken))
 
 add-i : tie.Need-add-i Inv-loop μ-loop
 add-i c = search needs
@@ -33,10 +36,14 @@ loop-less : tie.Need-loop-less Inv-loop μ-loop
 loop-less c = search needs
 
 loop-again : tie.Need-loop-again Inv-loop μ-loop
-loop-again c = within-more (c .before .before .before .before .before .before .before .args .most) (c .before .before .before .before .before .before .before .args .ring) (now (c .before .before .before .before .before .before .before .args .lens)) (c .before .before .before .before .before .loop .i) (c .before .before .before .before .before .loop .inv) (c .before .before .before .if1 .taken) (rw (← c .before .before .place .ensures, ← c .before .byte-at .ensures) (c .if2 .left))
+loop-again c = let a = c .before .before .before .before .before .before .before .args in
+    within-more (a .most) (a .ring) (now (a .lens)) (c .before .before .before .before .before .loop .i)
+    (c .before .before .before .before .before .loop .inv) (c .before .before .before .if1 .taken) (rw
+    (← c .before .before .place .ensures, ← c .before .byte-at .ensures) (c .if2 .left))
 
 returns-2 : tie.Need-returns-2 Inv-loop μ-loop
-returns-2 c = within-all (c .before .before .before .before .args .most) (c .before .before .before .before .args .ring) (now (c .before .before .before .before .args .lens)) (c .before .before .loop .i) (c .before .before .loop .inv) (c .if1 .left)
+returns-2 c = let a = c .before .before .before .before .args in
+    within-all (a .most) (a .ring) (now (a .lens)) (c .before .before .loop .i) (c .before .before .loop .inv) (c .if1 .left)
 
 pub all-within-spec : {M : Type 1} → statement M
 all-within-spec =

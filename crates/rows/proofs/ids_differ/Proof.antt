@@ -15,13 +15,25 @@ use Rattle.rows.proofs.ids_differ.Statement.{statement}
 use Rattle.rows.proofs.ids_differ.Tie as tie
 
 abbrev Inv-loop : tie.InvT-loop
-Inv-loop lens ids size ring met₀ i₀ met i = (i ≤ ring .count) × ((length met ≡ buckets) × ((distinct (drop i (idsIn size ring lens ids)) ≡ true) × Met met (drop i (idsIn size ring lens ids))))
+Inv-loop lens ids size ring met₀ i₀ met i = (i ≤ ring .count) × ((length met ≡ buckets) × ((distinct (drop i
+    (idsIn size ring lens ids)) ≡ true) × Met met (drop i (idsIn size ring lens ids))))
 
 abbrev μ-loop : tie.MeasureT-loop
 μ-loop lens ids size ring met₀ i₀ met i = i
 
 loop-holds : tie.Need-loop-holds Inv-loop μ-loop
-loop-holds c = let e = ids-end (c .before .before .args .size) (c .before .before .args .ring) (now (c .before .before .args .lens)) (now (c .before .before .args .ids)) in (omega arith, (refl, (differ-none _ e, λ id z. sym (among-none id _ _ e refl))))
+loop-holds c = let a = c .before .before .args in
+    let e = ids-end (a .size) (a .ring) (now (a .lens)) (now (a .ids)) in (
+      omega arith,
+      (
+        refl,
+        (
+          differ-none _ e,
+          λ id z. sym
+              (among-none id _ _ e refl),
+        ),
+      ),
+    )
 
 sub-i : tie.Need-sub-i Inv-loop μ-loop
 sub-i c = search needs
@@ -42,7 +54,14 @@ again-requires : tie.Need-again-requires Inv-loop μ-loop
 again-requires c κs = search needs
 
 returns : tie.Need-returns Inv-loop μ-loop
-returns c = differ-not (c .before .before .before .before .before .before .before .before .before .args .size) (c .before .before .before .before .before .before .before .before .before .args .ring) (now (c .before .before .before .before .before .before .before .before .before .args .lens)) (now (c .before .before .before .before .before .before .before .before .before .args .ids)) (c .before .before .before .before .before .before .loop .i) (c .before .before .before .before .place .result) (c .before .before .before .before .before .loop-test .taken) (c .before .before .before .before .before .before .loop .inv .0) (c .before .before .before .before .place .ensures) (now (c .before .before .before .id-at .result)) (c .before .before .before .id-at .ensures) (sym (met-again (c .before .before .before .before .before .before .loop .met) _ (now (c .before .before .before .id-at .result)) (c .before .before .bucket .result) (c .before .before .before .before .before .before .loop .inv .1 .1 .1) (c .before .before .bucket .ensures)) ∙ sym (c .before .again .ensures) ∙ (c .if1 .taken))
+returns c = let a = c .before .before .before .before .before .before .before .before .before .args in
+    differ-not (a .size) (a .ring) (now (a .lens)) (now (a .ids)) (c .before .before .before .before .before .before .loop .i)
+    (c .before .before .before .before .place .result) (c .before .before .before .before .before .loop-test .taken)
+    (c .before .before .before .before .before .before .loop .inv .0) (c .before .before .before .before .place .ensures) (now
+    (c .before .before .before .id-at .result)) (c .before .before .before .id-at .ensures) (sym (met-again
+    (c .before .before .before .before .before .before .loop .met) _ (now (c .before .before .before .id-at .result))
+    (c .before .before .bucket .result) (c .before .before .before .before .before .before .loop .inv .1 .1 .1)
+    (c .before .before .bucket .ensures)) ∙ sym (c .before .again .ensures) ∙ (c .if1 .taken))
 
 array-write-met : tie.Need-array-write-met Inv-loop μ-loop
 array-write-met c = bucket-in _ (c .before .before .bucket .result) (c .before .before .bucket .ensures)
@@ -51,19 +70,35 @@ loop-less : tie.Need-loop-less Inv-loop μ-loop
 loop-less c = search needs
 
 loop-again : tie.Need-loop-again Inv-loop μ-loop
-loop-again c = (
+loop-again c = let a = c .before .before .before .before .before .before .before .before .before .args in (
   omega arith,
   (
-    length-set (c .before .before .before .before .before .before .loop .met) (c .before .before .bucket .result) 1 ∙ (c .before .before .before .before .before .before .loop .inv .1 .0),
+    length-set (c .before .before .before .before .before .before .loop .met) (c .before .before .bucket .result) 1 ∙
+        (c .before .before .before .before .before .before .loop .inv .1 .0),
     (
-      differ-more (c .before .before .before .before .before .before .before .before .before .args .size) (c .before .before .before .before .before .before .before .before .before .args .ring) (now (c .before .before .before .before .before .before .before .before .before .args .lens)) (now (c .before .before .before .before .before .before .before .before .before .args .ids)) (c .before .before .before .before .before .before .loop .i) (c .before .before .before .before .place .result) (c .before .before .before .before .before .loop-test .taken) (c .before .before .before .before .before .before .loop .inv .0) (c .before .before .before .before .place .ensures) (now (c .before .before .before .id-at .result)) (c .before .before .before .id-at .ensures) (sym (met-again (c .before .before .before .before .before .before .loop .met) _ (now (c .before .before .before .id-at .result)) (c .before .before .bucket .result) (c .before .before .before .before .before .before .loop .inv .1 .1 .1) (c .before .before .bucket .ensures)) ∙ sym (c .before .again .ensures) ∙ (c .if1 .left)) (c .before .before .before .before .before .before .loop .inv .1 .1 .0),
-      met-more (c .before .before .before .before .before .before .loop .met) (c .before .before .bucket .result) _ _ _ (row-before (c .before .before .before .before .before .before .before .before .before .args .size) (c .before .before .before .before .before .before .before .before .before .args .ring) (now (c .before .before .before .before .before .before .before .before .before .args .lens)) (now (c .before .before .before .before .before .before .before .before .before .args .ids)) (c .before .before .before .before .before .before .loop .i) (c .before .before .before .before .place .result) (c .before .before .before .before .before .loop-test .taken) (c .before .before .before .before .before .before .loop .inv .0) (c .before .before .before .before .place .ensures) (now (c .before .before .before .id-at .result)) (c .before .before .before .id-at .ensures)) (c .before .before .bucket .ensures) (c .before .before .before .before .before .before .loop .inv .1 .0) (c .before .before .before .before .before .before .loop .inv .1 .1 .1),
+      differ-more (a .size) (a .ring) (now (a .lens)) (now (a .ids))
+          (c .before .before .before .before .before .before .loop .i) (c .before .before .before .before .place .result)
+          (c .before .before .before .before .before .loop-test .taken) (c .before .before .before .before .before .before .loop .inv .0)
+          (c .before .before .before .before .place .ensures) (now (c .before .before .before .id-at .result))
+          (c .before .before .before .id-at .ensures) (sym (met-again (c .before .before .before .before .before .before .loop .met) _ (now
+          (c .before .before .before .id-at .result)) (c .before .before .bucket .result)
+          (c .before .before .before .before .before .before .loop .inv .1 .1 .1) (c .before .before .bucket .ensures)) ∙ sym
+          (c .before .again .ensures) ∙ (c .if1 .left)) (c .before .before .before .before .before .before .loop .inv .1 .1 .0),
+      met-more
+          (c .before .before .before .before .before .before .loop .met) (c .before .before .bucket .result) _ _ _ (row-before (a .size) (a .ring) (now
+          (a .lens)) (now (a .ids)) (c .before .before .before .before .before .before .loop .i) (c .before .before .before .before .place .result)
+          (c .before .before .before .before .before .loop-test .taken) (c .before .before .before .before .before .before .loop .inv .0)
+          (c .before .before .before .before .place .ensures) (now (c .before .before .before .id-at .result))
+          (c .before .before .before .id-at .ensures)) (c .before .before .bucket .ensures)
+          (c .before .before .before .before .before .before .loop .inv .1 .0)
+          (c .before .before .before .before .before .before .loop .inv .1 .1 .1),
     ),
   ),
 )
 
 returns-2 : tie.Need-returns-2 Inv-loop μ-loop
-returns-2 c = differ-all (c .before .loop .i) (idsIn (c .before .before .before .before .args .size) (c .before .before .before .before .args .ring) (now (c .before .before .before .before .args .lens)) (now (c .before .before .before .before .args .ids))) (c .loop-test .left) (c .before .loop .inv .1 .1 .0)
+returns-2 c = let a = c .before .before .before .before .args in
+    differ-all (c .before .loop .i) (idsIn (a .size) (a .ring) (now (a .lens)) (now (a .ids))) (c .loop-test .left) (c .before .loop .inv .1 .1 .0)
 
 pub ids-differ-spec : {M : Type 1} → statement M
 ids-differ-spec =

@@ -27,7 +27,10 @@ number-at-requires : tie.Need-number-at-requires Inv-loop μ-loop
 number-at-requires c κs = search needs
 
 returns : tie.Need-returns Inv-loop μ-loop
-returns c = spent-stop (now (c .before .before .before .before .before .before .before .args .expiry)) (c .before .before .before .before .before .before .before .args .ring) (c .before .before .before .before .before .before .before .args .at) (c .before .before .before .before .before .loop .i) (c .before .before .before .before .before .loop .inv) (c .before .before .place .result) (c .before .before .before .if1 .taken) (c .before .before .place .ensures) (rw (← c .before .number-at .ensures) (c .if2 .taken))
+returns c = let a = c .before .before .before .before .before .before .before .args in
+    spent-stop (now (a .expiry)) (a .ring) (a .at) (c .before .before .before .before .before .loop .i)
+    (c .before .before .before .before .before .loop .inv) (c .before .before .place .result) (c .before .before .before .if1 .taken)
+    (c .before .before .place .ensures) (rw (← c .before .number-at .ensures) (c .if2 .taken))
 
 add-i : tie.Need-add-i Inv-loop μ-loop
 add-i c = search needs
@@ -36,10 +39,14 @@ loop-less : tie.Need-loop-less Inv-loop μ-loop
 loop-less c = search needs
 
 loop-again : tie.Need-loop-again Inv-loop μ-loop
-loop-again c = spent-more (now (c .before .before .before .before .before .before .before .args .expiry)) (c .before .before .before .before .before .before .before .args .ring) (c .before .before .before .before .before .before .before .args .at) (c .before .before .before .before .before .loop .i) (c .before .before .before .before .before .loop .inv) (c .before .before .place .result) (c .before .before .before .if1 .taken) (c .before .before .place .ensures) (rw (← c .before .number-at .ensures) (c .if2 .left))
+loop-again c = let a = c .before .before .before .before .before .before .before .args in
+    spent-more (now (a .expiry)) (a .ring) (a .at) (c .before .before .before .before .before .loop .i)
+    (c .before .before .before .before .before .loop .inv) (c .before .before .place .result) (c .before .before .before .if1 .taken)
+    (c .before .before .place .ensures) (rw (← c .before .number-at .ensures) (c .if2 .left))
 
 returns-2 : tie.Need-returns-2 Inv-loop μ-loop
-returns-2 c = spent-end (now (c .before .before .before .before .args .expiry)) (c .before .before .before .before .args .ring) (c .before .before .before .before .args .at) (c .before .before .loop .i) (c .before .before .loop .inv) (c .if1 .left)
+returns-2 c = let a = c .before .before .before .before .args in
+    spent-end (now (a .expiry)) (a .ring) (a .at) (c .before .before .loop .i) (c .before .before .loop .inv) (c .if1 .left)
 
 pub expired-spec : {M : Type 1} → statement M
 expired-spec =

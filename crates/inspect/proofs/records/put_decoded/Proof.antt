@@ -17,8 +17,14 @@ put-decoded-spec =
     (λ c. search needs)
     (λ c κs. search needs)
     (λ c. search needs)
-    (λ c. puts-as (with-control _ (c .before .before .before .before .before .if1 .taken)) (omega arith) (puts-then (wrote-puts (omega arith) (c .before .before .before .before .before .before .before .before .before .before .before .before .before .put-word .ensures)) (puts-then (wrote-puts (omega arith) (c .before .before .before .before .before .before .before .before .before .put-value .ensures)) (wrote-puts (omega arith) (c .before .before .put-word2 .ensures)))))
+    (λ c. puts-as (with-control _ (c .before .before .before .before .before .if1 .taken)) (omega arith) (puts-then (wrote-puts (omega arith)
+    (c .before .before .before .before .before .before .before .before .before .before .before .before .before .put-word .ensures)) (puts-then
+    (wrote-puts (omega arith) (c .before .before .before .before .before .before .before .before .before .put-value .ensures)) (wrote-puts
+    (omega arith) (c .before .before .put-word2 .ensures)))))
     (λ c. search needs)
     (λ c κs. search needs)
     (λ c. search needs)
-    (λ c. puts-as (without-control _ (c .before .before .before .before .before .if1 .left)) (omega arith) (puts-then (wrote-puts (omega arith) (c .before .before .before .before .before .before .before .before .before .before .before .before .before .put-word .ensures)) (puts-then (wrote-puts (omega arith) (c .before .before .before .before .before .before .before .before .before .put-value .ensures)) (wrote-puts (omega arith) (c .before .before .put-word3 .ensures))))))
+    (λ c. puts-as (without-control _ (c .before .before .before .before .before .if1 .left)) (omega arith) (puts-then (wrote-puts (omega arith)
+    (c .before .before .before .before .before .before .before .before .before .before .before .before .before .put-word .ensures)) (puts-then
+    (wrote-puts (omega arith) (c .before .before .before .before .before .before .before .before .before .put-value .ensures)) (wrote-puts
+    (omega arith) (c .before .before .put-word3 .ensures))))))

@@ -37,17 +37,21 @@ enum-known-m-2 : tie.Need-enum-known-m-2
 enum-known-m-2 c = search needs
 
 sub-put-part : tie.Need-sub-put-part
-sub-put-part c = message-inside (now (c .before .before .before .before .before .before .before .before .before .before .before .before .before .before .args .body)) (c .before .before .before .before .before .before .before .before .before .before .before .before .before .before .args .index) _ _ (sym (c .before .before .before .before .message-at .ensures) ∙ (c .before .before .m2 .given .1)) .0
+sub-put-part c = let a = c .before .before .before .before .before .before .before .before .before .before .before .before .before .before .args in
+    message-inside (now (a .body)) (a .index) _ _ (sym (c .before .before .before .before .message-at .ensures) ∙
+    (c .before .before .m2 .given .1)) .0
 
 part-put-part-start : tie.Need-part-put-part-start
 part-put-part-start c =
-    message-inside (now (c .before .before .before .before .before .before .before .before .before .before .before .before .before .before .args .body))
+    message-inside (now (c .before .before .before .before .before .before .before .before .before .before .before .before .before .before .args
+    .body))
     (c .before .before .before .before .before .before .before .before .before .before .before .before .before .before .args .index) _ _
     (sym (c .before .before .before .before .message-at .ensures) ∙ (c .before .before .m2 .given .1)) .0
 
 part-put-part-end : tie.Need-part-put-part-end
 part-put-part-end c =
-    message-inside (now (c .before .before .before .before .before .before .before .before .before .before .before .before .before .before .args .body))
+    message-inside (now (c .before .before .before .before .before .before .before .before .before .before .before .before .before .before .args
+    .body))
     (c .before .before .before .before .before .before .before .before .before .before .before .before .before .before .args .index) _ _
     (sym (c .before .before .before .before .message-at .ensures) ∙ (c .before .before .m2 .given .1)) .1
 
@@ -56,25 +60,27 @@ put-part-requires c κs =
     tested (c .before .before .before .before .before .before .before .before .before .before .before .before .before .before .before .args .self)
     (now (c .before .before .before .before .before .before .before .before .before .before .before .before .before .before .before .args .store))
     (sym (c .before .before .before .before .before .before .before .before .before .enum-told3 .given .1)
-    ∙ (c .before .before .before .before .before .before .before .before .before .before .before .lent .ensures)) (search needs) (search needs) (search needs)
+    ∙ (c .before .before .before .before .before .before .before .before .before .before .before .lent .ensures)) (search needs) (search needs)
+    (search needs)
     (search needs) (search needs)
 
 same-length : tie.Need-same-length
 same-length c = search needs
 
 returns : tie.Need-returns
-returns c = put-done _ _ _ _ _ _ (puts-no (c .before .before .before .before .before .before .args .self)
-    (now (c .before .before .before .before .before .before .args .store)) _ _ (plan-store (c .before .before .before .before .before .before .args .self)
-    (now (c .before .before .before .before .before .before .args .store)) (now (c .before .before .before .before .before .before .args .body))
-    (c .before .before .before .before .before .before .args .index) (sym (c .enum-told .given .1) ∙ (c .before .before .lent .ensures))))
+returns c = let a = c .before .before .before .before .before .before .args in
+    put-done _ _ _ _ _ _ (puts-no (a .self) (now (a .store)) _ _ (plan-store (a .self) (now (a .store)) (now (a .body)) (a .index) (sym
+    (c .enum-told .given .1) ∙ (c .before .before .lent .ensures))))
 
 same-length-2 : tie.Need-same-length-2
 same-length-2 c = search needs
 
 returns-2 : tie.Need-returns-2
 returns-2 c =
-    put-done _ _ _ _ _ _ (puts-no (c .before .before .before .before .before .before .args .self) (now (c .before .before .before .before .before .before .args .store)) _ _
-    (plan-malformed (c .before .before .before .before .before .before .args .self) (now (c .before .before .before .before .before .before .args .store))
+    put-done _ _ _ _ _ _ (puts-no (c .before .before .before .before .before .before .args .self) (now
+    (c .before .before .before .before .before .before .args .store)) _ _
+    (plan-malformed (c .before .before .before .before .before .before .args .self) (now
+    (c .before .before .before .before .before .before .args .store))
     (now (c .before .before .before .before .before .before .args .body)) (c .before .before .before .before .before .before .args .index)
     (sym (c .enum-told2 .given .1) ∙ (c .before .before .lent .ensures))))
 
@@ -96,15 +102,12 @@ same-length-4 : tie.Need-same-length-4
 same-length-4 c = search needs
 
 returns-4 : tie.Need-returns-4
-returns-4 c = put-done _ _ _ _ _ _ (puts-no (c .before .before .before .before .before .before .before .before .before .before .before .before .before .args .self)
-    (now (c .before .before .before .before .before .before .before .before .before .before .before .before .before .args .store)) _ _
-    (plan-missing (c .before .before .before .before .before .before .before .before .before .before .before .before .before .args .self)
-    (now (c .before .before .before .before .before .before .before .before .before .before .before .before .before .args .store))
-    (now (c .before .before .before .before .before .before .before .before .before .before .before .before .before .args .body))
-    (c .before .before .before .before .before .before .before .before .before .before .before .before .before .args .index) _
-    (sym (c .before .before .before .before .before .before .before .enum-told3 .given .1)
-    ∙ (c .before .before .before .before .before .before .before .before .before .lent .ensures)) (sym (c .before .before .before .before .enum-told4 .given .1)
-    ∙ (c .before .before .before .before .before .before .accept .ensures)) (sym (c .before .m .given .1) ∙ (c .before .before .before .message-at .ensures))))
+returns-4 c = let a = c .before .before .before .before .before .before .before .before .before .before .before .before .before .args in
+    put-done _ _ _ _ _ _ (puts-no (a .self) (now (a .store)) _ _ (plan-missing (a .self) (now (a .store)) (now (a .body)) (a .index) _ (sym
+    (c .before .before .before .before .before .before .before .enum-told3 .given .1) ∙
+    (c .before .before .before .before .before .before .before .before .before .lent .ensures)) (sym
+    (c .before .before .before .before .enum-told4 .given .1) ∙ (c .before .before .before .before .before .before .accept .ensures)) (sym
+    (c .before .m .given .1) ∙ (c .before .before .before .message-at .ensures))))
 
 same-length-5 : tie.Need-same-length-5
 same-length-5 c = search needs
@@ -112,15 +115,21 @@ same-length-5 c = search needs
 returns-5 : tie.Need-returns-5
 returns-5 c =
     put-done _ _ _ _ _ _ (puts-as
-    (c .before .before .before .before .before .before .before .before .before .before .before .before .before .before .before .before .before .before .args
-    .self) (now (c .before .before .before .before .before .before .before .before .before .before .before .before .before .before .before .before .before
+    (c .before .before .before .before .before .before .before .before .before .before .before .before .before .before .before .before .before .before
+    .args
+    .self) (now (c .before .before .before .before .before .before .before .before .before .before .before .before .before .before .before .before
+    .before
     .before .args .store)) _ _ _ _ _
-    (plan-at (c .before .before .before .before .before .before .before .before .before .before .before .before .before .before .before .before .before .before
+    (plan-at (c .before .before .before .before .before .before .before .before .before .before .before .before .before .before .before .before
+    .before .before
     .args .self) (now
-    (c .before .before .before .before .before .before .before .before .before .before .before .before .before .before .before .before .before .before .args
+    (c .before .before .before .before .before .before .before .before .before .before .before .before .before .before .before .before .before .before
+    .args
     .store)) (now
-    (c .before .before .before .before .before .before .before .before .before .before .before .before .before .before .before .before .before .before .args
-    .body)) (c .before .before .before .before .before .before .before .before .before .before .before .before .before .before .before .before .before .before
+    (c .before .before .before .before .before .before .before .before .before .before .before .before .before .before .before .before .before .before
+    .args
+    .body)) (c .before .before .before .before .before .before .before .before .before .before .before .before .before .before .before .before .before
+    .before
     .args .index) _ _ (sym (c .before .before .before .before .before .before .before .before .before .before .before .before .enum-told3 .given .1)
     ∙ (c .before .before .before .before .before .before .before .before .before .before .before .before .before .before .lent .ensures))
     (sym (c .before .before .before .before .before .before .before .before .before .enum-told4 .given .1)

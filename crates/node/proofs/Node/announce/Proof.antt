@@ -10,7 +10,10 @@ tell-requires : tie.Need-tell-requires
 tell-requires c κs = search needs
 
 returns : tie.Need-returns
-returns c = let b = c .before .before .before .before .before .before in let a = b .args in tell-none (a .self) (now (a .cache-store)) (now (a .topic)) (a .windows) (b .pre .0) (c .before .tell .result .count) (c .before .tell .result .rows) (tell-usable (a .self .cache) (now (a .cache-store)) (now (a .topic)) (a .windows) (b .pre .0) _ (c .before .tell .ensures) .1 .0) (tell-usable (a .self .cache) (now (a .cache-store)) (now (a .topic)) (a .windows) (b .pre .0) _ (c .before .tell .ensures) .1 .1) (now (a .out)) (c .if1 .taken)
+returns c = let b = c .before .before .before .before .before .before in let a = b .args in tell-none (a .self) (now (a .cache-store)) (now
+    (a .topic)) (a .windows) (b .pre .0) (c .before .tell .result .count) (c .before .tell .result .rows) (tell-usable (a .self .cache) (now
+    (a .cache-store)) (now (a .topic)) (a .windows) (b .pre .0) _ (c .before .tell .ensures) .1 .0) (tell-usable (a .self .cache) (now
+    (a .cache-store)) (now (a .topic)) (a .windows) (b .pre .0) _ (c .before .tell .ensures) .1 .1) (now (a .out)) (c .if1 .taken)
 
 slice-aggregate-emit-advertisement : tie.Need-slice-aggregate-emit-advertisement
 slice-aggregate-emit-advertisement c = search needs
@@ -25,36 +28,42 @@ slice-aggregate-emit-advertisement-4 : tie.Need-slice-aggregate-emit-advertiseme
 slice-aggregate-emit-advertisement-4 c = search needs
 
 emit-advertisement-requires : tie.Need-emit-advertisement-requires
-emit-advertisement-requires c κs = let b = c .before .before .before .before .before .before .before .before .before .before .before .before .before in
-    let a = b .args in (
+emit-advertisement-requires c κs = let b = c .before .before .before .before .before .before .before .before .before .before .before .before .before
+    in let a = b .args in (
       told-room (a .self .cache) (now (a .cache-store)) (now (a .topic)) (a .windows) (b .pre .0)
           (c .before .before .before .before .before .before .before .before .tell .result .count)
-          (c .before .before .before .before .before .before .before .before .tell .result .rows)
-          (tell-usable (a .self .cache) (now (a .cache-store)) (now (a .topic)) (a .windows) (b .pre .0) _ (c .before .before .before .before .before .before .before .before .tell .ensures) .1 .0)
-          (tell-usable (a .self .cache) (now (a .cache-store)) (now (a .topic)) (a .windows) (b .pre .0) _ (c .before .before .before .before .before .before .before .before .tell .ensures) .1 .1),
+          (c .before .before .before .before .before .before .before .before .tell .result .rows) (tell-usable (a .self .cache) (now (a .cache-store)) (now
+          (a .topic)) (a .windows) (b .pre .0) _ (c .before .before .before .before .before .before .before .before .tell .ensures) .1 .0) (tell-usable
+          (a .self .cache) (now (a .cache-store)) (now (a .topic)) (a .windows) (b .pre .0) _
+          (c .before .before .before .before .before .before .before .before .tell .ensures) .1 .1),
       (
-        told-listed (a .self .cache) (now (a .cache-store)) (now (a .topic)) (a .windows) (b .pre .0)
-            (c .before .before .before .before .before .before .before .before .tell .result .count)
-            (c .before .before .before .before .before .before .before .before .tell .result .rows)
-            (tell-usable (a .self .cache) (now (a .cache-store)) (now (a .topic)) (a .windows) (b .pre .0) _ (c .before .before .before .before .before .before .before .before .tell .ensures) .1 .0)
-            (tell-usable (a .self .cache) (now (a .cache-store)) (now (a .topic)) (a .windows) (b .pre .0) _ (c .before .before .before .before .before .before .before .before .tell .ensures) .1 .1),
-        told-fits (a .self .cache) (now (a .cache-store)) (now (a .topic))
-            (a .windows) (b .pre .0) (c .before .before .before .before .before .before .before .before .tell .result .count)
-            (c .before .before .before .before .before .before .before .before .tell .result .rows)
-            (tell-usable (a .self .cache) (now (a .cache-store)) (now (a .topic)) (a .windows) (b .pre .0) _ (c .before .before .before .before .before .before .before .before .tell .ensures) .1 .0)
-            (tell-usable (a .self .cache) (now (a .cache-store)) (now (a .topic)) (a .windows) (b .pre .0) _ (c .before .before .before .before .before .before .before .before .tell .ensures) .1 .1) (b .pre .1),
+        told-listed (a .self .cache) (now (a .cache-store))
+            (now (a .topic)) (a .windows) (b .pre .0) (c .before .before .before .before .before .before .before .before .tell .result .count)
+            (c .before .before .before .before .before .before .before .before .tell .result .rows) (tell-usable (a .self .cache) (now (a .cache-store)) (now
+            (a .topic)) (a .windows) (b .pre .0) _ (c .before .before .before .before .before .before .before .before .tell .ensures) .1 .0) (tell-usable
+            (a .self .cache) (now (a .cache-store)) (now (a .topic)) (a .windows) (b .pre .0) _
+            (c .before .before .before .before .before .before .before .before .tell .ensures) .1 .1),
+        told-fits (a .self .cache) (now (a .cache-store)) (now
+            (a .topic)) (a .windows) (b .pre .0) (c .before .before .before .before .before .before .before .before .tell .result .count)
+            (c .before .before .before .before .before .before .before .before .tell .result .rows) (tell-usable (a .self .cache) (now (a .cache-store)) (now
+            (a .topic)) (a .windows) (b .pre .0) _ (c .before .before .before .before .before .before .before .before .tell .ensures) .1 .0) (tell-usable
+            (a .self .cache) (now (a .cache-store)) (now (a .topic)) (a .windows) (b .pre .0) _
+            (c .before .before .before .before .before .before .before .before .tell .ensures) .1 .1) (b .pre .1),
       ),
     )
 
 returns-2 : tie.Need-returns-2
-returns-2 c = let b = c .before .before .before .before .before .before .before .before .before .before .before .before .before .before .before .before in
-    let a = b .args in tell-short (a .self) (now (a .cache-store)) (now (a .topic)) (a .windows) (b .pre .0)
+returns-2 c = let b =
+    c .before .before .before .before .before .before .before .before .before .before .before .before .before .before .before .before in let a =
+    b .args in tell-short (a .self) (now (a .cache-store)) (now (a .topic)) (a .windows) (b .pre .0)
     (c .before .before .before .before .before .before .before .before .before .before .before .tell .result .count)
-    (c .before .before .before .before .before .before .before .before .before .before .before .tell .result .rows)
-    (tell-usable (a .self .cache) (now (a .cache-store)) (now (a .topic)) (a .windows) (b .pre .0) _ (c .before .before .before .before .before .before .before .before .before .before .before .tell .ensures) .1 .0)
-    (tell-usable (a .self .cache) (now (a .cache-store)) (now (a .topic)) (a .windows) (b .pre .0) _ (c .before .before .before .before .before .before .before .before .before .before .before .tell .ensures) .1 .1) (now (a .out))
-    (c .before .before .before .before .before .before .before .before .before .before .if1 .left) _ _ (c .before .before .emit-advertisement .result)
-    (c .before .before .emit-advertisement .ensures) (c .if2 .taken)
+    (c .before .before .before .before .before .before .before .before .before .before .before .tell .result .rows) (tell-usable (a .self .cache)
+    (now (a .cache-store)) (now (a .topic)) (a .windows) (b .pre .0) _
+    (c .before .before .before .before .before .before .before .before .before .before .before .tell .ensures) .1 .0) (tell-usable (a .self .cache)
+    (now (a .cache-store)) (now (a .topic)) (a .windows) (b .pre .0) _
+    (c .before .before .before .before .before .before .before .before .before .before .before .tell .ensures) .1 .1) (now (a .out))
+    (c .before .before .before .before .before .before .before .before .before .before .if1 .left) _ _
+    (c .before .before .emit-advertisement .result) (c .before .before .emit-advertisement .ensures) (c .if2 .taken)
 
 slice-aggregate-emit-advertisement-5 : tie.Need-slice-aggregate-emit-advertisement-5
 slice-aggregate-emit-advertisement-5 c = search needs
@@ -67,25 +76,30 @@ slice-aggregate-emit-advertisement-7 c = search needs
 
 emit-advertisement-requires-2 : tie.Need-emit-advertisement-requires-2
 emit-advertisement-requires-2 c κs = let b =
-    c .before .before .before .before .before .before .before .before .before .before .before .before .before .before .before .before .before .before .before
-    .before in let a = b .args in (
+    c .before .before .before .before .before .before .before .before .before .before .before .before .before .before .before .before .before .before
+    .before .before in let a = b .args in (
       told-room (a .self .cache) (now (a .cache-store)) (now (a .topic)) (a .windows) (b .pre .0)
           (c .before .before .before .before .before .before .before .before .before .before .before .before .before .before .before .tell .result .count)
           (c .before .before .before .before .before .before .before .before .before .before .before .before .before .before .before .tell .result .rows)
-          (tell-usable (a .self .cache) (now (a .cache-store)) (now (a .topic)) (a .windows) (b .pre .0) _ (c .before .before .before .before .before .before .before .before .before .before .before .before .before .before .before .tell .ensures) .1 .0)
-          (tell-usable (a .self .cache) (now (a .cache-store)) (now (a .topic)) (a .windows) (b .pre .0) _ (c .before .before .before .before .before .before .before .before .before .before .before .before .before .before .before .tell .ensures) .1 .1),
+          (tell-usable (a .self .cache) (now (a .cache-store)) (now (a .topic)) (a .windows) (b .pre .0) _
+          (c .before .before .before .before .before .before .before .before .before .before .before .before .before .before .before .tell .ensures) .1 .0)
+          (tell-usable (a .self .cache) (now (a .cache-store)) (now (a .topic)) (a .windows) (b .pre .0) _
+          (c .before .before .before .before .before .before .before .before .before .before .before .before .before .before .before .tell .ensures) .1 .1),
       (
         told-listed (a .self .cache) (now (a .cache-store)) (now (a .topic)) (a .windows) (b .pre .0)
             (c .before .before .before .before .before .before .before .before .before .before .before .before .before .before .before .tell .result .count)
             (c .before .before .before .before .before .before .before .before .before .before .before .before .before .before .before .tell .result .rows)
-            (tell-usable (a .self .cache) (now (a .cache-store)) (now (a .topic)) (a .windows) (b .pre .0) _ (c .before .before .before .before .before .before .before .before .before .before .before .before .before .before .before .tell .ensures) .1 .0)
-            (tell-usable (a .self .cache) (now (a .cache-store)) (now (a .topic)) (a .windows) (b .pre .0) _ (c .before .before .before .before .before .before .before .before .before .before .before .before .before .before .before .tell .ensures) .1 .1),
-        told-fits
-            (a .self .cache) (now (a .cache-store)) (now (a .topic)) (a .windows) (b .pre .0)
+            (tell-usable (a .self .cache) (now (a .cache-store)) (now (a .topic)) (a .windows) (b .pre .0) _
+            (c .before .before .before .before .before .before .before .before .before .before .before .before .before .before .before .tell .ensures) .1 .0)
+            (tell-usable (a .self .cache) (now (a .cache-store)) (now (a .topic)) (a .windows) (b .pre .0) _
+            (c .before .before .before .before .before .before .before .before .before .before .before .before .before .before .before .tell .ensures) .1 .1),
+        told-fits (a .self .cache) (now (a .cache-store)) (now (a .topic)) (a .windows) (b .pre .0)
             (c .before .before .before .before .before .before .before .before .before .before .before .before .before .before .before .tell .result .count)
             (c .before .before .before .before .before .before .before .before .before .before .before .before .before .before .before .tell .result .rows)
-            (tell-usable (a .self .cache) (now (a .cache-store)) (now (a .topic)) (a .windows) (b .pre .0) _ (c .before .before .before .before .before .before .before .before .before .before .before .before .before .before .before .tell .ensures) .1 .0)
-            (tell-usable (a .self .cache) (now (a .cache-store)) (now (a .topic)) (a .windows) (b .pre .0) _ (c .before .before .before .before .before .before .before .before .before .before .before .before .before .before .before .tell .ensures) .1 .1)
+            (tell-usable (a .self .cache) (now (a .cache-store)) (now (a .topic)) (a .windows) (b .pre .0) _
+            (c .before .before .before .before .before .before .before .before .before .before .before .before .before .before .before .tell .ensures) .1 .0)
+            (tell-usable (a .self .cache) (now (a .cache-store)) (now (a .topic)) (a .windows) (b .pre .0) _
+            (c .before .before .before .before .before .before .before .before .before .before .before .before .before .before .before .tell .ensures) .1 .1)
             (b .pre .1),
       ),
     )
@@ -95,17 +109,18 @@ same-length c = search needs
 
 returns-3 : tie.Need-returns-3
 returns-3 c = let b =
-    c .before .before .before .before .before .before .before .before .before .before .before .before .before .before .before .before .before .before .before
-    .before .before .before .before in let a = b .args in
-    tell-put (a .self) (now (a .cache-store)) (now (a .topic)) (a .windows) (b .pre .0)
-    (c .before .before .before .before .before .before .before .before .before .before .before .before .before .before .before .before .before .before .tell
-    .result .count)
-    (c .before .before .before .before .before .before .before .before .before .before .before .before .before .before .before .before .before .before .tell
-    .result .rows)
-    (tell-usable (a .self .cache) (now (a .cache-store)) (now (a .topic)) (a .windows) (b .pre .0) _ (c .before .before .before .before .before .before .before .before .before .before .before .before .before .before .before .before .before .before .tell .ensures) .1 .0)
-    (tell-usable (a .self .cache) (now (a .cache-store)) (now (a .topic)) (a .windows) (b .pre .0) _ (c .before .before .before .before .before .before .before .before .before .before .before .before .before .before .before .before .before .before .tell .ensures) .1 .1) (now (a .out))
-    (c .before .before .before .before .before .before .before .before .before .before .before .before .before .before .before .before .before .if1 .left) _ _
-    (c .before .before .before .before .before .before .before .before .before .emit-advertisement .result)
+    c .before .before .before .before .before .before .before .before .before .before .before .before .before .before .before .before .before .before
+    .before .before .before .before .before in let a = b .args in tell-put (a .self) (now (a .cache-store)) (now (a .topic)) (a .windows) (b .pre .0)
+    (c .before .before .before .before .before .before .before .before .before .before .before .before .before .before .before .before .before .before
+    .tell .result .count)
+    (c .before .before .before .before .before .before .before .before .before .before .before .before .before .before .before .before .before .before
+    .tell .result .rows) (tell-usable (a .self .cache) (now (a .cache-store)) (now (a .topic)) (a .windows) (b .pre .0) _
+    (c .before .before .before .before .before .before .before .before .before .before .before .before .before .before .before .before .before .before
+    .tell .ensures) .1 .0) (tell-usable (a .self .cache) (now (a .cache-store)) (now (a .topic)) (a .windows) (b .pre .0) _
+    (c .before .before .before .before .before .before .before .before .before .before .before .before .before .before .before .before .before .before
+    .tell .ensures) .1 .1) (now (a .out))
+    (c .before .before .before .before .before .before .before .before .before .before .before .before .before .before .before .before .before .if1
+    .left) _ _ (c .before .before .before .before .before .before .before .before .before .emit-advertisement .result)
     (c .before .before .before .before .before .before .before .before .before .emit-advertisement .ensures)
     (c .before .before .before .before .before .before .before .if2 .left) _ _ (c .before .before .emit-advertisement2 .ensures)
 

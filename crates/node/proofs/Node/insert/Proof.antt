@@ -19,11 +19,11 @@ same-length : tie.Need-same-length
 same-length c = search needs
 
 returns : tie.Need-returns
-returns c = let a = c .before .before .before .before .before .before .before .before .before .before .before .args in
-    admits-held (a .self) (now (a .seen-store)) (now (a .cache-store)) (a .at) (c .before .before .before .before .clean .result)
+returns c = let a = c .before .before .before .before .before .before .before .before .before .before .before .args in admits-held (a .self) (now
+    (a .seen-store)) (now (a .cache-store)) (a .at) (c .before .before .before .before .clean .result)
     (c .before .before .before .before .clean .ensures) (now (a .key))
-    (c .before .before .before .before .before .before .before .before .before .before .before .pre .1 .2) (now (a .part)) (c .before .before .holds .result)
-    (c .before .before .holds .ensures) (c .before .if1 .taken) (c .later .result) (c .later .ensures)
+    (c .before .before .before .before .before .before .before .before .before .before .before .pre .1 .2) (now (a .part))
+    (c .before .before .holds .result) (c .before .before .holds .ensures) (c .before .if1 .taken) (c .later .result) (c .later .ensures)
 
 expiry-of-requires : tie.Need-expiry-of-requires
 expiry-of-requires c κs = search needs
@@ -32,10 +32,14 @@ enter-requires : tie.Need-enter-requires
 enter-requires c κs = search needs
 
 sub-keep : tie.Need-sub-keep
-sub-keep c = key-long (now (c .before .before .before .before .before .before .before .before .before .before .before .before .before .before .before .before .args .key)) (c .before .before .before .before .before .before .before .before .before .before .before .before .before .before .before .before .pre .1 .2)
+sub-keep c = key-long (now
+    (c .before .before .before .before .before .before .before .before .before .before .before .before .before .before .before .before .args .key))
+    (c .before .before .before .before .before .before .before .before .before .before .before .before .before .before .before .before .pre .1 .2)
 
 part-keep-start : tie.Need-part-keep-start
-part-keep-start c = key-long (now (c .before .before .before .before .before .before .before .before .before .before .before .before .before .before .before .before .args .key)) (c .before .before .before .before .before .before .before .before .before .before .before .before .before .before .before .before .pre .1 .2)
+part-keep-start c = key-long (now
+    (c .before .before .before .before .before .before .before .before .before .before .before .before .before .before .before .before .args .key))
+    (c .before .before .before .before .before .before .before .before .before .before .before .before .before .before .before .before .pre .1 .2)
 
 part-keep-end : tie.Need-part-keep-end
 part-keep-end c = search needs
@@ -54,21 +58,34 @@ same-length-3 c = search needs
 
 returns-2 : tie.Need-returns-2
 returns-2 c = let a =
-    c .before .before .before .before .before .before .before .before .before .before .before .before .before .before .before .before .before .before .before
-    .before .before .before .args in
-    admits-new (a .self) (now (a .seen-store)) (now (a .cache-store)) (a .at)
+    c .before .before .before .before .before .before .before .before .before .before .before .before .before .before .before .before .before .before
+    .before .before .before .before .args in admits-new (a .self) (now (a .seen-store)) (now (a .cache-store)) (a .at)
     (c .before .before .before .before .before .before .before .before .before .before .before .before .before .before .before .clean .result)
-    (c .before .before .before .before .before .before .before .before .before .before .before .before .before .before .before .clean .ensures) (now (a .key))
-    (c .before .before .before .before .before .before .before .before .before .before .before .before .before .before .before .before .before .before .before
-    .before .before .before .pre .1 .2) (now (a .part))
+    (c .before .before .before .before .before .before .before .before .before .before .before .before .before .before .before .clean .ensures) (now
+    (a .key)) (c .before .before .before .before .before .before .before .before .before .before .before .before .before .before .before .before
+    .before .before .before .before .before .before .pre .1 .2) (now (a .part))
     (c .before .before .before .before .before .before .before .before .before .before .before .before .before .holds .result)
     (c .before .before .before .before .before .before .before .before .before .before .before .before .before .holds .ensures)
     (c .before .before .before .before .before .before .before .before .before .before .before .before .if1 .left)
     (c .before .before .before .before .before .before .before .before .before .before .before .expiry-of .result)
     (c .before .before .before .before .before .before .before .before .before .before .before .expiry-of .ensures)
-    (c .before .before .before .before .before .before .before .before .before .enter .result) _
-    (swept-enters (a .self) (now (a .seen-store)) (now (a .cache-store)) (a .at) (c .before .before .before .before .before .before .before .before .before .before .before .before .before .before .before .clean .result) (c .before .before .before .before .before .before .before .before .before .before .before .before .before .before .before .clean .ensures) (c .before .before .before .before .before .before .before .before .before .before .before .before .before .before .before .before .before .before .before .before .before .before .pre .0) (now (a .key)) (c .before .before .before .before .before .before .before .before .before .before .before .before .before .before .before .before .before .before .before .before .before .before .pre .1 .1) _ _ _ (c .before .before .before .before .before .before .before .before .before .enter .ensures)) (c .before .before .before .before .keep .result .cache) _
-    (keeps-under (a .self .cache) (now (a .cache-store)) (now (a .part)) (now (a .key)) (c .before .before .before .before .before .before .before .before .before .before .before .before .before .before .before .before .before .before .before .before .before .before .pre .0 .kept) (c .before .before .before .before .before .before .before .before .before .before .before .before .before .before .before .before .before .before .before .before .before .before .pre .1 .0) (c .before .before .before .before .before .before .before .before .before .before .before .before .before .before .before .before .before .before .before .before .before .before .pre .1 .2) (c .before .before .before .before .before .before .before .before .before .before .before .before .before .before .before .before .before .before .before .before .before .before .pre .1 .1) _ _ (c .before .before .before .before .keep .ensures)) (c .later2 .result) (c .later2 .ensures)
+    (c .before .before .before .before .before .before .before .before .before .enter .result) _ (swept-enters (a .self) (now (a .seen-store)) (now
+    (a .cache-store)) (a .at)
+    (c .before .before .before .before .before .before .before .before .before .before .before .before .before .before .before .clean .result)
+    (c .before .before .before .before .before .before .before .before .before .before .before .before .before .before .before .clean .ensures)
+    (c .before .before .before .before .before .before .before .before .before .before .before .before .before .before .before .before .before .before
+    .before .before .before .before .pre .0) (now (a .key))
+    (c .before .before .before .before .before .before .before .before .before .before .before .before .before .before .before .before .before .before
+    .before .before .before .before .pre .1 .1) _ _ _ (c .before .before .before .before .before .before .before .before .before .enter .ensures))
+    (c .before .before .before .before .keep .result .cache) _ (keeps-under (a .self .cache) (now (a .cache-store)) (now (a .part)) (now (a .key))
+    (c .before .before .before .before .before .before .before .before .before .before .before .before .before .before .before .before .before .before
+    .before .before .before .before .pre .0 .kept)
+    (c .before .before .before .before .before .before .before .before .before .before .before .before .before .before .before .before .before .before
+    .before .before .before .before .pre .1 .0)
+    (c .before .before .before .before .before .before .before .before .before .before .before .before .before .before .before .before .before .before
+    .before .before .before .before .pre .1 .2)
+    (c .before .before .before .before .before .before .before .before .before .before .before .before .before .before .before .before .before .before
+    .before .before .before .before .pre .1 .1) _ _ (c .before .before .before .before .keep .ensures)) (c .later2 .result) (c .later2 .ensures)
 
 pub insert-spec : {M : Type 1} → statement M
 insert-spec =

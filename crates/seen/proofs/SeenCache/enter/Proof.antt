@@ -19,10 +19,15 @@ without-requires : tie.Need-without-requires
 without-requires c κs = search needs
 
 returns : tie.Need-returns
-returns c = entered-none (c .before .before .before .before .before .before .before .args .cap) (c .before .before .before .before .before .before .before .args .max) (c .before .before .before .before .before .before .before .args .self) (now (c .before .before .before .before .before .before .before .args .store)) (now (c .before .before .before .before .before .before .before .args .id)) (c .before .before .before .before .before .before .before .args .expires) (sym (rw (c .before .before .before .before .ring .ensures) at (c .before .before .before .can-enter .ensures)) ∙ (c .before .before .if1 .taken)) _ (c .before .if2 .taken) (c .without .ensures)
+returns c = let a = c .before .before .before .before .before .before .before .args in
+    entered-none (a .cap) (a .max) (a .self) (now (a .store)) (now (a .id)) (a .expires) (sym (rw
+    (c .before .before .before .before .ring .ensures) at (c .before .before .before .can-enter .ensures)) ∙ (c .before .before .if1 .taken)) _
+    (c .before .if2 .taken) (c .without .ensures)
 
 add-minus : tie.Need-add-minus
-add-minus c = let r = can (c .before .before .before .before .before .before .args .max) (ringOf (c .before .before .before .before .before .before .args .cap) (c .before .before .before .before .before .before .args .self)) (length (now (c .before .before .before .before .before .before .args .store))) (length (now (c .before .before .before .before .before .before .args .id))) (sym (rw (c .before .before .before .ring .ensures) at (c .before .before .can-enter .ensures)) ∙ (c .before .if1 .taken)) in omega arith
+add-minus c = let a = c .before .before .before .before .before .before .args in
+    let r = can (a .max) (ringOf (a .cap) (a .self)) (length (now (a .store))) (length (now (a .id))) (sym (rw
+    (c .before .before .before .ring .ensures) at (c .before .before .can-enter .ensures)) ∙ (c .before .if1 .taken)) in omega arith
 
 minus-requires : tie.Need-minus-requires
 minus-requires c κs = search needs
@@ -31,16 +36,29 @@ without-requires-2 : tie.Need-without-requires-2
 without-requires-2 c κs = search needs
 
 append-requires : tie.Need-append-requires
-append-requires c κs = enter-room (c .before .before .before .before .before .before .before .before .before .args .cap) (c .before .before .before .before .before .before .before .before .before .args .max) (c .before .before .before .before .before .before .before .before .before .args .self) (now (c .before .before .before .before .before .before .before .before .before .args .store)) (now (c .before .before .before .before .before .before .before .before .before .args .id)) (c .before .before .before .before .before .before .before .before .before .args .expires) (sym (rw (c .before .before .before .before .before .before .ring .ensures) at (c .before .before .before .before .before .can-enter .ensures)) ∙ (c .before .before .before .before .if1 .taken)) (c .before .before .minus .result) (c .before .without2 .result) (c .before .before .before .if2 .left) (c .before .before .minus .ensures) (c .before .without2 .ensures) (search needs)
+append-requires c κs = let a = c .before .before .before .before .before .before .before .before .before .args in
+    enter-room (a .cap) (a .max) (a .self) (now (a .store)) (now (a .id)) (a .expires) (sym (rw
+    (c .before .before .before .before .before .before .ring .ensures) at (c .before .before .before .before .before .can-enter .ensures)) ∙
+    (c .before .before .before .before .if1 .taken)) (c .before .before .minus .result) (c .before .without2 .result)
+    (c .before .before .before .if2 .left) (c .before .before .minus .ensures) (c .before .without2 .ensures) (search needs)
 
 same-length : tie.Need-same-length
 same-length c = search needs
 
 returns-2 : tie.Need-returns-2
-returns-2 c = entered-some (c .before .before .before .before .before .before .before .before .before .before .before .before .args .cap) (c .before .before .before .before .before .before .before .before .before .before .before .before .args .max) (c .before .before .before .before .before .before .before .before .before .before .before .before .args .self) (now (c .before .before .before .before .before .before .before .before .before .before .before .before .args .store)) (now (c .before .before .before .before .before .before .before .before .before .before .before .before .args .id)) (c .before .before .before .before .before .before .before .before .before .before .before .before .args .expires) (sym (rw (c .before .before .before .before .before .before .before .before .before .ring .ensures) at (c .before .before .before .before .before .before .before .before .can-enter .ensures)) ∙ (c .before .before .before .before .before .before .before .if1 .taken)) (c .before .before .before .before .before .minus .result) (c .before .before .before .before .without2 .result) (c .before .before .before .before .before .before .if2 .left) (c .before .before .before .before .before .minus .ensures) (c .before .before .before .before .without2 .ensures) _ _ (c .before .before .append .ensures .0) (c .before .before .append .ensures .1)
+returns-2 c = let a = c .before .before .before .before .before .before .before .before .before .before .before .before .args in
+    entered-some (a .cap) (a .max) (a .self) (now (a .store)) (now (a .id)) (a .expires) (sym (rw
+    (c .before .before .before .before .before .before .before .before .before .ring .ensures) at
+    (c .before .before .before .before .before .before .before .before .can-enter .ensures)) ∙
+    (c .before .before .before .before .before .before .before .if1 .taken)) (c .before .before .before .before .before .minus .result)
+    (c .before .before .before .before .without2 .result) (c .before .before .before .before .before .before .if2 .left)
+    (c .before .before .before .before .before .minus .ensures) (c .before .before .before .before .without2 .ensures) _ _
+    (c .before .before .append .ensures .0) (c .before .before .append .ensures .1)
 
 returns-3 : tie.Need-returns-3
-returns-3 c = entered-not (c .before .before .before .before .before .args .cap) (c .before .before .before .before .before .args .max) (c .before .before .before .before .before .args .self) (now (c .before .before .before .before .before .args .store)) (now (c .before .before .before .before .before .args .id)) (c .before .before .before .before .before .args .expires) (sym (rw (c .before .before .ring .ensures) at (c .before .can-enter .ensures)) ∙ (c .if1 .left))
+returns-3 c = let a = c .before .before .before .before .before .args in
+    entered-not (a .cap) (a .max) (a .self) (now (a .store)) (now (a .id)) (a .expires) (sym (rw (c .before .before .ring .ensures) at
+    (c .before .can-enter .ensures)) ∙ (c .if1 .left))
 
 pub enter-spec : {M : Type 1} → statement M
 enter-spec =
