@@ -88,7 +88,7 @@ def lines_of(name, got):
 def refusal(body, told):
     """Why a body is refused, or None, from an answer that begins `err` or `ok records=N`."""
     if len(body) > MAX_BODY:
-        # The Rust has no such limit, nor one of records: document 01's refusals 10 and 11.
+        # The Rust has no such limit, nor one of records: the scope's refusals 10 and 11.
         return "refused 10 %d" % len(body)
     words = told.split(" ")
     if words[0] == "err":
@@ -146,7 +146,7 @@ def write_line(call, index, got):
         return "id refused 21"
     size, name = name.split(":")
     if not 1 <= int(size) <= MAX_FROM:
-        # The Rust wants a peer id; the lengths are document 01's.
+        # The Rust wants a peer id; the lengths are the scope's.
         return "id refused 22 " + size
     return "id refused 23" if name == "noseqno" else output(call, name)
 
@@ -266,7 +266,7 @@ def messages_body(r):
 # --- fixed bodies --------------------------------------------------------------
 
 def named():
-    """The rows of document 01 and of its readings, each kind of record, each refusal."""
+    """The rows of the scope and of its readings, each kind of record, each refusal."""
     for text in (
             "", "1a001a00", "12060a01410a0142", "80", "8000", "00", "0b", "0a0508", "0a031201ff", "f8ffffff0f00", "8080808010",
             "1a00", "1800", "1a032a0180", "0a0312 02ff", "0a01800b", "0a000b", "08", "0a", "09", "0d00", "03",
@@ -282,7 +282,7 @@ def named():
         yield bytes.fromhex(text.replace(" ", ""))
 
 
-# The topics of document 01: the first three are refused.
+# The topics of the scope: the first three are refused.
 TOPICS = [bytes.fromhex(text) for text in ("eda080", "c080", "f4908080", "f48fbfbf")]
 
 

@@ -8,7 +8,7 @@ itself, so histories can stand one after the other in one input.
 
 `expected` takes an input as bytes. What the caches hold, and what a body says or
 why it is refused (1 to 7), is the Rust's answer. The limits that the Rust does not
-have (10, 11, 20 to 30, 33, 40) are document 01's and stand here, as does the form
+have (10, 11, 20 to 30, 33, 40) are the scope's and stand here, as does the form
 of the records. Everything random comes from one seeded `random.Random`.
 """
 
@@ -63,7 +63,7 @@ def steps_of(data):
 # --- the lines, from the Rust's answers ------------------------------------------
 
 def unfit(message):
-    """Why the Rust's message may not be put: document 01's 21 to 30 without 27, or None."""
+    """Why the Rust's message may not be put: the scope's 21 to 30 without 27, or None."""
     size = {name: None if message[name] is None else len(message[name]) // 2 for name in ("raw", "from", "seqno", "signature")}
     topics = [len(topic) // 2 for topic in message["topic_ids"]]
     if size["from"] is None:
@@ -299,7 +299,7 @@ def grown(parts, size):
     return parts + [(2, bytes(max(0, size - len(plain(parts)) - 3)))]
 
 
-# Bodies of document 01 that are refused, 1 to 7.
+# Bodies of the scope that are refused, 1 to 7.
 REFUSED = ["80", "08" + "80" * 9 + "02", "8000", "0a0508", "0b", "00", "8080808010", "0a031201ff"]
 
 # What makes a message unfit, by the refusal: other fields, each (number, content), for those that it has.
@@ -524,7 +524,7 @@ def ending(r):
 
 # --- fixed histories --------------------------------------------------------------------
 
-# The message of document 01's trace.
+# The message of the scope's trace.
 X = [(1, b"A"), (3, b"\x01"), (4, b"t"), (5, bytes(SIGNATURE))]
 
 

@@ -4,10 +4,10 @@
     oracle/compare_decode.py BINARY [--seed N] [--count N]
 
 BINARY is target/bin/inspect, after `rt check inspect`. The bodies are all short
-ones, the rows of document 01, topics about every row of RFC 3629, bodies about
+ones, the rows of the scope, topics about every row of RFC 3629, bodies about
 the largest size and the most records, and --count random ones (bodies.py). Every
 field of every record is compared, in the order of the lent table, and every
-refusal with its values; 10 and 11 are document 01's own. Prints the counts, and
+refusal with its values; 10 and 11 are the scope's own. Prints the counts, and
 the first differences; the exit status is 0 where there are none.
 """
 

@@ -4,7 +4,7 @@
     oracle/compare_model.py [--seed N] [--count N]
 
 Two parts of nodes.py are held to the Rust: what it reads in a body, with every refusal
-and its values (10 and 11 are document 01's own), and what the node keeps. For the
+and its values (10 and 11 are the scope's own), and what the node keeps. For the
 second the same histories are played on a node that keeps nothing itself but asks the
 Rust's caches; every line is compared. The histories are the fixed ones of traces.py and
 --count random ones, the bodies those of bodies.py, with ten random ones for each random
@@ -33,7 +33,7 @@ SHORT = 40  # one of so many short bodies and short histories is taken
 
 
 class RustNode(nodes.Node):
-    """A node over the Rust's caches: document 01's calls, and nothing of the model's lists."""
+    """A node over the Rust's caches: the scope's calls, and nothing of the model's lists."""
 
     def __init__(self, oracle, *settings):
         super().__init__(*settings)

@@ -4,7 +4,7 @@
     oracle/compare_wire.py BINARY [--seed N] [--count N]
 
 BINARY is target/bin/inspect, after `rt check inspect`. The inputs are all short
-ones, the rows of document 01, bodies about the largest size, and --count random
+ones, the rows of the scope, bodies about the largest size, and --count random
 ones (wire.py). Then come runs that end early, whose texts are written here. The
 oracle is built first if it is not there. Prints the counts, and the first
 differences; the exit status is 0 where there are none.

@@ -7,7 +7,7 @@ BINARY is target/bin/inspect, after `rt check inspect`. The bodies are those of
 compare_decode.py, and then messages with from and seqno of lengths about the
 limits. Each body is encoded; sign bytes and ids are asked for message 0, message
 1, the last one and the one after it. Refusals 10, 11 and the lengths of 22 are
-document 01's own. Prints the counts, and the first differences; the exit status
+the scope's own. Prints the counts, and the first differences; the exit status
 is 0 where there are none.
 """
 

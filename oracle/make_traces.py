@@ -3,7 +3,7 @@
 
     oracle/make_traces.py
 
-The first plays document 01's sample, a history that meets every refusal that a trace
+The first plays the scope's sample, a history that meets every refusal that a trace
 can show, the shorter ones of the fixed histories and some random ones (traces.py, seed below),
 and ends in `long`. The second has pairs of nodes that catch up with each other, both
 ways, until both offer the same bytes, and ends in `bad`. The answers in stdout are

@@ -3,13 +3,13 @@
 
     oracle/make_vectors.py
 
-The records of `inspect` are the rows of document 01, a few of the short inputs,
+The records of `inspect` are the rows of the scope, a few of the short inputs,
 bodies of 65,536 and 65,537 bytes and of 511 to 513 records, and random ones
 (wire.py, bodies.py, seeds below). A second part has encode, sign and id of some 700
-bodies, and the topics of document 01 by every call. Those of `caches` are the fixed
+bodies, and the topics of the scope by every call. Those of `caches` are the fixed
 histories of caches.py and some random ones; they show every call and every refusal.
 The answers in stdout are the Rust's, from the oracle, never the program's; the
-limits that the Rust does not have are document 01's own. Each run ends with a length
+limits that the Rust does not have are the scope's own. Each run ends with a length
 that is too long, its kind cut off.
 """
 
@@ -73,7 +73,7 @@ def chosen_writes(r):
 
 
 def write_cases(r, oracle):
-    """Every case of the rows and the topics of document 01; of other bodies encode, and sign and id at one index."""
+    """Every case of the rows and the topics of the scope; of other bodies encode, and sign and id at one index."""
     def cases(body):
         told = oracle.ask(wire.command(("encode", body, 0)))
         return [case for case, _ in bodies.write_cases(body, bodies.written(body, told))]

@@ -1,4 +1,4 @@
-"""A model of the node and of the trace program, from document 01's sentences.
+"""A model of the node and of the trace program, from the scope's sentences.
 
 It reads bodies, refuses, keeps and answers by itself: it asks neither the Rust nor
 the program. Everything is a list that is searched from its start, and every answer

@@ -3,7 +3,7 @@
 What a call answers is nodes.py's word. This file adds what a trace cannot show: the values
 beside a refusal, the room of the buffer, stores of any length (40, 41), the rings in which ids
 and messages stand, so that every number can be set (kind 8) and every sum told (kind 11),
-and document 01's sentence "Well formed (42)", clause by clause. The layout is the one of
+and the scope's sentence "Well formed (42)", clause by clause. The layout is the one of
 crates/seen/specs/State.antt and crates/mcache/specs/State.antt. After each call the rows are
 read back and held against what nodes.py keeps.
 

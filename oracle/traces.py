@@ -296,7 +296,7 @@ LOOKS = [advertise(65535), ask(NAME, NEXT), serve(NAME, NEXT)]
 
 
 def sample():
-    """The trace of document 01."""
+    """The trace of the scope."""
     x = body_of(X)
     return [("set", 1000, 4, 2, 4), admit(100, x), advertise(1), admit(100, x), beat(1100), advertise(1), admit(1099, x), admit(1100, x)]
 
@@ -608,7 +608,7 @@ def endings():
     yield "refused settings between", begun + refused + records([beat(5), beat(4)]), ok + "2 set refused 40\n3 beat ok\n4 beat refused 31\n"
     yield "all zero", bytes(60), "bad\n"
     yield "bad in a text", b"set 1000 4 2 4\n", "long\n"
-    yield "document 01's sample", records(sample()), \
+    yield "the scope's sample", records(sample()), \
         "1 set ok\n2 admit new\n3 advertise 11 1a090a070a017412024101\n4 admit dup\n5 beat ok\n6 advertise 0\n7 admit refused 31\n8 admit new\n"
     served = "0a01411a01012201742a40" + "00" * 64
     yield "each answer", records([

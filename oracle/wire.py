@@ -36,7 +36,7 @@ def answer(asked, told):
     words, told = asked.split(" "), told.split(" ")
     call = {"uvarint": "varint"}.get(words[0], words[0])
     if call == "walk" and words[1] != "-" and len(words[1]) > 2 * MAX_BODY:
-        # The Rust has no such limit: document 01's refusal 10.
+        # The Rust has no such limit: the scope's refusal 10.
         return "walk refused 10 %d" % (len(words[1]) // 2)
     if told[0] == "err":
         return " ".join([call, "refused", str(NUMBER[told[1]])] + told[2:])
@@ -201,7 +201,7 @@ VARINT_BYTES = [0x00, 0x01, 0x02, 0x40, 0x7E, 0x7F, 0x80, 0x81, 0x82, 0xC0, 0xFE
 
 
 def named():
-    """The rows of document 01 and of its readings, and each refusal."""
+    """The rows of the scope and of its readings, and each refusal."""
     for text, place in [
             ("", 0), ("", 1), ("", TOP), ("1a001a00", 0), ("1a001a00", 2), ("1a001a00", 4), ("1a001a00", 5),
             ("80", 0), ("8000", 0), ("00", 0), ("03", 0), ("0b", 0), ("0c", 0), ("0e", 0), ("0f", 0),

@@ -1,6 +1,6 @@
-"""The rows of the scope paper's tables, as records of the programs `inspect` and `states`, with the lines that the paper asks for.
+"""The rows of the scope's tables, as records of the programs `inspect` and `states`, with the lines that the scope asks for.
 
-Each line is written from the paper, not from a program. `inspect()` and `states()` give (input, lines). Refusal 33 is not here: the seen part alone has
+Each line is written from the scope, not from a program. `inspect()` and `states()` give (input, lines). Refusal 33 is not here: the seen part alone has
 it, which the C interface does not lend.
 """
 
@@ -102,7 +102,7 @@ def steps():
     """(step, the line without its number)."""
     for bad in ((257, 2, 4), (4, 0, 4), (4, 17, 4), (4, 2, 65)):
         yield ("set", 1000, *bad), "set refused 40"
-    # The trace of the paper.
+    # The trace of the scope.
     yield SETTINGS, "set ok"
     yield ("admit", 100, 0, 1, X), "admit new"
     yield ("advertise", ROOM, 1, b"t"), "advertise 11 " + OFFER.hex()

@@ -1,4 +1,4 @@
-//! Why a call was refused: the scope paper's table, with the values beside each number.
+//! Why a call was refused: the scope's table, with the values beside each number.
 
 use std::error::Error;
 use std::fmt;

@@ -6,7 +6,7 @@ use pradulins::{Admitted, Clock, Gateway, LoadError, Message, Record, Refusal, S
 
 const SETTINGS: Settings = Settings { ttl: 1000, max_seen: 4, history_len: 2, max_messages: 4 };
 
-/// The body of the scope paper's trace, with another name.
+/// The body of the scope's trace, with another name.
 fn body(from: u8) -> Vec<u8> {
     let mut body = vec![0x12, 0x4b, 0x0a, 1, from, 0x1a, 1, 1, 0x22, 1, b't', 0x2a, 0x40];
     body.extend([0; 64]);

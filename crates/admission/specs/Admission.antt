@@ -1,4 +1,4 @@
--- Which messages may be taken, from 01's table: 21 to 30 in their order. p is the message's own bytes.
+-- Which messages may be taken, from the scope's table: 21 to 30 in their order. p is the message's own bytes.
 use Prim.Native.Nat.{ℕ, _-_}
 use mathlib.Core.List.{List, [], _∷_}
 use mathlib.Core.Bool.{Bool, true, false, cond, _&&_, _||_}
@@ -80,8 +80,8 @@ onId p word (id.Parts a e b f) =
 unfoldable pub admissionOf : List ℕ → Bool → Admission
 admissionOf p word = onId p word (idParts p)
 
--- ---- a message that may be taken, with its id: what 01 asks of each cached message. The host's word was given when it
--- came.
+-- ---- a message that may be taken, with its id: what the scope asks of each cached message. The host's word was
+-- given when it came.
 abbrev pub idGiven : List ℕ → List ℕ → Admission → Bool
 idGiven p i (admission.Unfit why) = false
 idGiven p i (admission.Fit a e b f) = sameBytes (idBytes p a e b f) i

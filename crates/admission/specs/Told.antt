@@ -1,4 +1,4 @@
--- What a message tells that is taken or not: 01's number and the values beside it.
+-- What a message tells that is taken or not: the scope's number and the values beside it.
 use mathlib.Core.List.{[], _∷_}
 use Rattle.basis.specs.declared.Told.{Told}
 use Rattle.basis.specs.Refusals.{missing-from, invalid-from, invalid-seqno, key-without-signature, missing-signature}

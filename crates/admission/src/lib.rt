@@ -1,4 +1,4 @@
-// Whether a message may be taken: `verify`'s order of checks without its cryptography, for which the host gives its word, and 01's limits on
+// Whether a message may be taken: `verify`'s order of checks without its cryptography, for which the host gives its word, and the scope's limits on
 // topics and size. The caches and the node use these rules.
 pub mod told;
 
@@ -31,7 +31,7 @@ pub const MAX_TOPIC_SIZE: usize = 1024;
 
 pub const MAX_MESSAGE_SIZE: usize = 4096;
 
-// Why a message is not taken: 21 to 30 of 01's table, under verify's names where it has them.
+// Why a message is not taken: 21 to 30 of the scope's table, under verify's names where it has them.
 pub enum Unfit {
     MissingFrom,
     InvalidFrom(usize),

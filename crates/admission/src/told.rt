@@ -1,4 +1,4 @@
-// What a message that is not taken tells: 01's number and the values beside it.
+// What a message that is not taken tells: the scope's number and the values beside it.
 ghost use mathlib.Core.Path.{_≡_};
 ghost use Rattle.admission.specs.Told.{unfitTold};
 use super::Unfit;

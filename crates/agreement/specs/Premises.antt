@@ -1,4 +1,4 @@
--- 01's "Premises of demand 3", each named after its phrase.
+-- The scope's "Premises of demand 3", each named after its phrase.
 use Prim.Native.Nat.{ℕ, _+_, _-_, _^_, _≤_, _<_}
 use mathlib.Core.Path.{_≡_}
 use mathlib.Core.Bool.{true}

@@ -43,7 +43,7 @@ onward p =
       reply-out = λ k. p .reply-out (suc k);
     }
 
--- 01's premises on these, for gateways with these settings
+-- the scope's premises on these, for gateways with these settings
 pub record Fair (p : Play) (x y : Settings) : Type 0 where
   pub topic-short : length (p .topic) ≤ 1024
   -- windows at least both history_lens

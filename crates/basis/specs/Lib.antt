@@ -1,5 +1,5 @@
--- To be believed: Bytes, Writing, Refusals (01's table), Told, Little, Unique (the contract of a call with one lent part).
--- On the way to them: Cases, Lists.
+-- To be believed: Bytes, Writing, Refusals (the scope's table), Told, Little, Unique (the contract of a call with one
+-- lent part). On the way to them: Cases, Lists.
 pub mod Cases
 pub mod Bytes
 pub mod Writing

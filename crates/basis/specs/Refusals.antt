@@ -1,4 +1,4 @@
--- 01's table of refusals, in its order: given exactly when; returned beside it.
+-- The scope's table of refusals, in its order: given exactly when; returned beside it.
 use Prim.Native.Nat.{ℕ}
 
 -- a bad setting at start, or a seen max above the store's length / 129, rounded down; nothing

@@ -1,5 +1,5 @@
--- What a call tells: 01's number, 0 where it is done, and the values beside it, at most four: what was done, or what
--- 01's table returns. And what a writer tells.
+-- What a call tells: the scope's number, 0 where it is done, and the values beside it, at most four: what was done, or
+-- what the scope's table returns. And what a writer tells.
 use Prim.Native.Nat.{ℕ}
 use mathlib.Core.List.{List, [], _∷_}
 use lib.ListN.{length, getD, take}

@@ -13,7 +13,7 @@ ghost use Rattle.basis.specs.Little.{little, bytesOf};
 ghost use Rattle.basis.specs.Told.{told};
 ghost use Rattle.basis.specs.Unique.{Leaves};
 
-// What a call tells: 01's number, 0 where it is done, and how many values stand beside it; the others are 0.
+// What a call tells: the scope's number, 0 where it is done, and how many values stand beside it; the others are 0.
 pub struct Told {
     pub number: u8,
     pub count: u8,

@@ -1,4 +1,4 @@
-// 01's table of refusals, in its order: given exactly when; returned beside it. The specs have the same table.
+// The scope's table of refusals, in its order: given exactly when; returned beside it. The specs have the same table.
 // A bad setting at start, or a seen max above the store's length / 129, rounded down; nothing.
 pub const BAD_SETTING: u8 = 40;
 

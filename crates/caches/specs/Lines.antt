@@ -1,4 +1,5 @@
--- The lines of answers, in ASCII: the record's number, the call, the answer. A refusal has 01's number and values.
+-- The lines of answers, in ASCII: the record's number, the call, the answer. A refusal has the scope's number and
+-- values.
 use Prim.Native.Nat.{ℕ}
 use mathlib.Core.Bool.{true, cond}
 use mathlib.Core.List.{List, [], _∷_}

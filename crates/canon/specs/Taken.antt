@@ -46,7 +46,7 @@ only-taken s b h =
 pub taken-exactly : (s : List ℕ) → Bytes s → (acceptOf s ≡ Fine) ↔ ((x : Rpc) × Within s x)
 taken-exactly s b = (only-taken s b, λ p. taken (p .1))
 
--- and refuse it exactly where 01 does, with what it tells
+-- and refuse it exactly where the scope does, with what it tells
 wrong-counted : (r : Counted) (why : WireError) → checked r ≡ Wrong why → r ≡ count.Refused why
 wrong-counted (count.Records n) why h = clash (cc)
 wrong-counted (count.Refused w) why h = cc

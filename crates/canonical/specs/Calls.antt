@@ -1,5 +1,5 @@
--- What the calls that write tell and leave, by 01's numbers and the values beside them, said of the RPC that the body
--- means and of nothing else, one exact theorem for each call. A body is refused by 10, 1 to 7 or 11 and nothing is
+-- What the calls that write tell and leave, by the scope's numbers and the values beside them, said of the RPC that the
+-- body means and of nothing else, one exact theorem for each call. A body is refused by 10, 1 to 7 or 11 and nothing is
 -- changed, or it means an RPC within capacity. Then `encode` writes that RPC, `sign_bytes` what is signed of its
 -- message i, `message_id` and `seen_message_id` that message's id; 20 where there is no message i; 12 where there is no
 -- room.
@@ -58,7 +58,7 @@ use Rattle.canon.specs.Taken.{taken, taken-exactly, refused-exactly}
 use Rattle.canon.specs.Written.{canon-written, sign-written}
 use Rattle.canon.specs.Messages.{Nth, nth-bound, nth-same, message-found, message-missing}
 
--- ---- what 01 has the calls tell and leave
+-- ---- what the scope has the calls tell and leave
 -- a writer of the bytes xs: their number, and they stand at the front of what was lent; or 12, the room needed, and
 -- nothing changes
 pub data Writes (xs out : List ℕ) : Told → List ℕ → Type 0 where
@@ -170,7 +170,7 @@ writes-other : {xs out : List ℕ} {a : Told} {l : List ℕ} → Writes xs out a
 writes-other (fits h) g = let z = gated-bound g in omega (arith, z .0)
 writes-other (short h) g = let z = gated-bound g in omega (arith, z .1)
 
--- encode tells a and leaves l exactly where 01 has it do so
+-- encode tells a and leaves l exactly where the scope has it do so
 pub encode-exactly : (s out : List ℕ) (a : Told) (l : List ℕ) → Bytes s
     → ((encodedTold (encodeAnswer s out) ≡ a) × (encodeLeft s out ≡ l)) ↔ Encodes s out a l
 unfolding encodeAnswer encodeLeft
@@ -252,7 +252,7 @@ of-message-other : {i : ℕ} {ms : List RawMessage} {out : List ℕ} {R : RawMes
 of-message-other other (no-such h) g = let z = gated-bound g in omega (arith, z .1)
 of-message-other {a = a} {l = l} other (such {m} n r) g = other m a l r g
 
--- sign_bytes tells a and leaves l exactly where 01 has it do so
+-- sign_bytes tells a and leaves l exactly where the scope has it do so
 pub sign-exactly : (s : List ℕ) (i : ℕ) (out : List ℕ) (a : Told) (l : List ℕ) → Bytes s
     → ((messageTold (signAnswer s i out) ≡ a) × (signLeft s i out ≡ l)) ↔ Signs s i out a l
 unfolding signAnswer signLeft
@@ -355,7 +355,7 @@ id-other from-invalid g = let z = gated-bound g in omega (arith, z .1)
 id-other seqno-invalid g = let z = gated-bound g in omega (arith, z .1)
 id-other (writes-id r) g = writes-other r g
 
--- message_id and seen_message_id tell a and leave l exactly where 01 has them do so
+-- message_id and seen_message_id tell a and leave l exactly where the scope has them do so
 pub id-exactly : (pre s : List ℕ) (i : ℕ) (out : List ℕ) (a : Told) (l : List ℕ) → Bytes s
     → ((messageTold (idAnswer pre s i out) ≡ a) × (idLeft pre s i out ≡ l)) ↔ Identifies pre s i out a l
 unfolding idAnswer idLeft

@@ -1,6 +1,6 @@
--- The nine rows of 01's table "Bodies and answers" that are marked P, as one theorem over the calls: for every lent
--- table and buffer, what `decode` and `encode` tell and leave, and in the third row also `sign_bytes` of message 0.
--- Other bodies stand apart.
+-- The nine rows of the scope's table "Bodies and answers" that are marked P, as one theorem over the calls: for every
+-- lent table and buffer, what `decode` and `encode` tell and leave, and in the third row also `sign_bytes` of message
+-- 0. Other bodies stand apart.
 use Prim.Native.Nat.{ℕ, _+_, _/_, _≤_, _<_}
 use mathlib.Core.Path.{_≡_, refl, sym, ap, subst, _∙_}
 use mathlib.Core.Bool.{Bool, true, false, cond}
@@ -77,7 +77,7 @@ pub record OneRecord (s row : List ℕ) (x : Rpc) (t : List ℕ) : Type 0 where
   pub short : length t < 20 → (decodedTold (decodeAnswer s (length t)) ≡ told short-room (1 ∷ []))
       × (decodeTable s t ≡ t)
 
--- ---- 01's rows
+-- ---- the scope's rows
 -- the third row's body; the RPC that is read back, with from `42`; and the row of the table: a message (2) that stands
 -- from 2 up to 8, and of its bytes from is present from 5 up to 6
 abbrev pub thirdBody : List ℕ

@@ -1,4 +1,4 @@
--- What a message, its id and a writer of its bytes tell: 01's number and the values beside it.
+-- What a message, its id and a writer of its bytes tell: the scope's number and the values beside it.
 use mathlib.Core.List.{[], _∷_}
 use Rattle.basis.specs.declared.Told.{Told}
 use Rattle.basis.specs.Refusals.{no-message, missing-from, invalid-from, invalid-seqno, short-room}

@@ -1,4 +1,4 @@
-// What a writer of a message's bytes tells: how many: 01's number and the values beside it.
+// What a writer of a message's bytes tells: how many: the scope's number and the values beside it.
 ghost use mathlib.Core.Path.{_≡_};
 ghost use Rattle.ids.specs.Told.{messageTold};
 use super::MessageBytes;

@@ -1,5 +1,5 @@
--- Lines, worked out: `1 walk refused 4 2 5 1` for 01's body `0a 05 08`, `12 varint 300 2`, `3 utf8 no`, and no line for
--- kind 9.
+-- Lines, worked out: `1 walk refused 4 2 5 1` for the scope's body `0a 05 08`, `12 varint 300 2`, `3 utf8 no`, and no
+-- line for kind 9.
 use mathlib.Core.Path.{_≡_, refl}
 use mathlib.Core.List.{[], _∷_, _++_}
 use lib.ListN.{replicate}
@@ -33,9 +33,9 @@ unfolding lineOf closed answerTo walkAnswer varintAnswer utf8Answer walk varint 
     refused readUvarint readFrom groupOf isUtf8 run readTag readLen skipField walkStep
 rows = (refl, refl, refl, refl)
 
--- `1 decode refused 7 1` for 01's body `0a 03 12 01 ff`, `2 decode ok 0 control` for `1a 00 1a 00`; and the records'
--- lines: `  message =0a01410a0142 =42 - - - -` for `12 06 0a 01 41 0a 01 42`, `  sub 1 -` and `  prune = 0`, where
--- empty is not absent
+-- `1 decode refused 7 1` for the scope's body `0a 03 12 01 ff`, `2 decode ok 0 control` for `1a 00 1a 00`; and the
+-- records' lines: `  message =0a01410a0142 =42 - - - -` for `12 06 0a 01 41 0a 01 42`, `  sub 1 -` and `  prune = 0`,
+-- where empty is not absent
 pub bodies :
     (decodeLine 1 (decodedTold (decodeAnswer (0x0a ∷ 0x03 ∷ 0x12 ∷ 0x01 ∷ 0xff ∷ []) 10240)) ≡ 49 ∷ 32 ∷ 100 ∷ 101 ∷ 99
     ∷ 111 ∷ 100 ∷ 101 ∷ 32 ∷ 114 ∷ 101 ∷ 102 ∷ 117 ∷ 115 ∷ 101 ∷ 100 ∷ 32 ∷ 55 ∷ 32 ∷ 49 ∷ 10 ∷ [])

@@ -19,7 +19,7 @@ pub record Wrote (room : ℕ) (xs before : List ℕ) (at : ℕ) (after : List �
 abbrev pub fitting : ℕ → List ℕ → List ℕ → List ℕ
 fitting most s xs = cond (leb (length s) most) xs []
 
--- ` refused`, the number in 01's table, the values beside it, of which a refusal has at most three
+-- ` refused`, the number in the scope's table, the values beside it, of which a refusal has at most three
 abbrev pub refusal : Told → List ℕ
 refusal t = refused (t .number) (take (t .count) (t .first ∷ t .second ∷ t .third ∷ []))
 

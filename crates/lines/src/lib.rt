@@ -53,7 +53,7 @@ fn put_refused(
     text::put_refused(out, at, refusal, count, first, second, third)
 }
 
-// A refusal of 01's table, with its values.
+// A refusal of the scope's table, with its values.
 pub fn put_refusal(out: &mut [u8], at: usize, t: Told) -> usize
     ensures { λ r. ⌜ Wrote 92 (refusal t) (now (out .entry)) at (now (out .exit)) r ⌝ }
 {

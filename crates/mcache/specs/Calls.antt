@@ -1,6 +1,6 @@
--- What each call on the message cache answers and leaves. Refusals come in the order of 01's table: 40 at the start;
--- 41, 42; then for `put` 10, 1 to 7, 11, 20, 21 to 26, 28, 29, 30, and for `gossip_ids` 29. A refused call leaves the
--- cache and the store as they were.
+-- What each call on the message cache answers and leaves. Refusals come in the order of the scope's table: 40 at the
+-- start; 41, 42; then for `put` 10, 1 to 7, 11, 20, 21 to 26, 28, 29, 30, and for `gossip_ids` 29. A refused call
+-- leaves the cache and the store as they were.
 use Prim.Native.Nat.{ℕ, _+_, _-_, _*_}
 use mathlib.Core.List.{List, [], _∷_, _++_}
 use mathlib.Core.Bool.{Bool, true, cond, _&&_}
@@ -36,7 +36,7 @@ use Rattle.mcache.specs.Told.{lentTold, startTold, putTold, lookupTold, 
 use Rattle.mcache.specs.State.{messageIn, legal, wellFormed, fresh, dropped, appended, passed, aged, stale, told}
 use Rattle.mcache.specs.State.{gatherInto, messageSize, messageIdSize, maxMessages, ringOf}
 
--- ---- 01's numbers
+-- ---- the scope's numbers
 abbrev pub lentNumber : Lent → ℕ
 lentNumber r = lentTold r .number
 

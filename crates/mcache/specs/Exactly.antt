@@ -1,5 +1,5 @@
--- 40, 41 and 42 of the message cache, each exactly where 01's table has it, and 29 of `gossip_ids`: by their numbers,
--- over the answer of the call itself. `lookup` says why `get` gave what it gave.
+-- 40, 41 and 42 of the message cache, each exactly where the scope's table has it, and 29 of `gossip_ids`: by their
+-- numbers, over the answer of the call itself. `lookup` says why `get` gave what it gave.
 use Prim.Native.Nat.{ℕ, _*_, _<_}
 use mathlib.Core.Path.{_≡_, refl, sym, _∙_}
 use mathlib.Core.List.{List, [], _∷_}

@@ -1,4 +1,5 @@
--- What the calls on a message cache mean: they do to the messages what 01 says, and a refused call changes nothing.
+-- What the calls on a message cache mean: they do to the messages what the scope says, and a refused call changes
+-- nothing.
 use Prim.Native.Nat.{ℕ, suc, _≤_, _<_}
 use mathlib.Core.Path.{_≡_, refl, sym, ap, _∙_}
 use mathlib.Core.List.{List, [], _∷_}

@@ -1,5 +1,5 @@
--- The message cache as 01, mcache.rs and the gossipsub document have it: messages with their ids, topics and windows,
--- the oldest first. A window is counted from the newest, which is 0.
+-- The message cache as the scope, mcache.rs and the gossipsub document have it: messages with their ids, topics and
+-- windows, the oldest first. A window is counted from the newest, which is 0.
 use Prim.Native.Nat.{ℕ, suc}
 use mathlib.Core.List.{List, [], _∷_, _++_, map}
 use mathlib.Core.Bool.{Bool, cond, _&&_}

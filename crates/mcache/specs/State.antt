@@ -52,7 +52,7 @@ cachedAt c st p =
 unfoldable pub cachedIn : MessageCache → List ℕ → List Cached
 cachedIn c st = rowsIn (cachedAt c st) (ringOf c)
 
--- ---- well formed, as 01 has it
+-- ---- well formed, as the scope has it
 -- window ages never rise from old to new, and the first is at most `most`
 unfoldable pub fallsFrom : ℕ → List ℕ → Bool
 fallsFrom most [] = true

@@ -1,5 +1,5 @@
--- A well formed message cache, as 01 has it: each clause by name. `well-formed-exactly` of WellFormedLaws says that
--- this is what the test asks.
+-- A well formed message cache, as the scope has it: each clause by name. `well-formed-exactly` of WellFormedLaws says
+-- that this is what the test asks.
 use Prim.Native.Nat.{ℕ, suc, _+_, _*_, _%_, _^_, _≤_, _<_}
 use mathlib.Core.Path.{_≡_}
 use mathlib.Core.Bool.{true}

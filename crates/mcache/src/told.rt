@@ -1,4 +1,4 @@
-// What each call on the message cache tells: 01's number and the values beside it.
+// What each call on the message cache tells: the scope's number and the values beside it.
 ghost use mathlib.Core.Path.{_≡_};
 ghost use Rattle.mcache.specs.Told.{lentTold, startTold, putTold, lookupTold, gossipTold};
 use super::Gossip;

@@ -1,6 +1,6 @@
--- Reading a body, as theorems about what `decode` tells and leaves, by 01's numbers and the values beside them:
+-- Reading a body, as theorems about what `decode` tells and leaves, by the scope's numbers and the values beside them:
 -- accepted exactly where the body means an RPC within capacity and the table has room; the table then says that RPC;
--- and each refusal exactly where 01 gives it.
+-- and each refusal exactly where the scope gives it.
 use Prim.Native.Nat.{ℕ, _+_, _*_, _/_, _≤_, _<_}
 use mathlib.Core.Path.{_≡_, refl, sym, ap, ap₂, subst, _∙_}
 use mathlib.Core.Bool.{Bool, true, false, cond}
@@ -54,7 +54,7 @@ use Rattle.meaning.specs.Back.{read-back, one-rpc}
 use Rattle.meaning.specs.Table.{rowsIn, table-back}
 use Rattle.meaning.specs.Size.{recordsIn, rpc-records}
 
--- ---- what 01 says of a body
+-- ---- what the scope says of a body
 -- it means an RPC and is within capacity
 pub record Within (s : List ℕ) (x : Rpc) : Type 0 where
   pub means : IsRpc s x
@@ -120,7 +120,7 @@ control-told {s} {x} i =
     sym (present-cond (hasControl s) (gather s (rowsOf kind.Rpc 0 s) nothing .control))
     ∙ ap (λ (y : Rpc). present (y .control)) (read-back i)
 
--- ---- a body is refused exactly where 01 refuses it
+-- ---- a body is refused exactly where the scope refuses it
 -- the gate's refusal
 pub refusal-of : (s : List ℕ) (r : Counted) (why : WireError) → Bytes s → Gate s r → r ≡ count.Refused why
     → Refusal s (wireTold why)

@@ -1,5 +1,5 @@
--- How many records an RPC has, by 01's list: each SubOpts, message, topic of a message, IHAVE, IWANT, message id,
--- GRAFT, PRUNE and PeerInfo; and a body has as many as the RPC that it means.
+-- How many records an RPC has, by the scope's list: each SubOpts, message, topic of a message, IHAVE, IWANT, message
+-- id, GRAFT, PRUNE and PeerInfo; and a body has as many as the RPC that it means.
 use Prim.Native.Nat.{ℕ, _+_, _<_}
 use mathlib.Core.Path.{_≡_, refl, sym, ap, _∙_}
 use mathlib.Core.List.{List, [], _∷_, _++_}

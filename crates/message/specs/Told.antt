@@ -1,4 +1,5 @@
--- What reading a body tells: how many records, and 1 where a control is there: 01's number and the values beside it.
+-- What reading a body tells: how many records, and 1 where a control is there: the scope's number and the values beside
+-- it.
 use mathlib.Core.Bool.{cond}
 use mathlib.Core.List.{[], _∷_}
 use Rattle.basis.specs.declared.Told.{Told}

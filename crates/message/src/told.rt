@@ -1,4 +1,4 @@
-// What reading a body tells: how many records, and 1 where a control is there: 01's number and the values beside it.
+// What reading a body tells: how many records, and 1 where a control is there: the scope's number and the values beside it.
 ghost use mathlib.Core.Path.{_≡_};
 ghost use Rattle.message.specs.Told.{decodedTold};
 use super::Decoded;

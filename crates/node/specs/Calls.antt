@@ -1,5 +1,5 @@
--- What each call on a node answers and leaves. Refusals come in the order of 01's table: 40, 41, 42 for the lent node
--- and stores; then what concerns the call. A refused call leaves the node and every lent byte as they were.
+-- What each call on a node answers and leaves. Refusals come in the order of the scope's table: 40, 41, 42 for the lent
+-- node and stores; then what concerns the call. A refused call leaves the node and every lent byte as they were.
 use Prim.Native.Nat.{ℕ, _*_}
 use mathlib.Core.List.{List, [], _∷_, map}
 use mathlib.Core.Bool.{Bool, cond, _&&_}
@@ -57,7 +57,7 @@ use Rattle.node.specs.Gateway.{Reply, sent, short, replyFor}
 unfoldable pub use Rattle.node.specs.Gateway.{maxRpcSize}
 use Rattle.node.specs.State.{legalSettings, freshNode, wellFormed, seenRing}
 
--- ---- 01's numbers
+-- ---- the scope's numbers
 abbrev pub admitNumber : Admit → ℕ
 admitNumber r = admitTold r .number
 

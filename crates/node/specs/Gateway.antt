@@ -1,5 +1,5 @@
--- A gateway as 01 has it, "The node": its settings, its clock, the ids that it has seen and the messages that it holds,
--- the oldest first; and what each call does to it and makes of it. Nothing here speaks of bytes in a store.
+-- A gateway as the scope has it, "The node": its settings, its clock, the ids that it has seen and the messages that it
+-- holds, the oldest first; and what each call does to it and makes of it. Nothing here speaks of bytes in a store.
 use Prim.Native.Nat.{ℕ, min}
 use mathlib.Core.Bool.{Bool, cond, not}
 use mathlib.Core.List.{List, [], _∷_}

@@ -1,5 +1,5 @@
--- What the calls on a node mean: they do to the gateway what 01 says, they speak of what it holds, and a refused call
--- changes nothing.
+-- What the calls on a node mean: they do to the gateway what the scope says, they speak of what it holds, and a refused
+-- call changes nothing.
 use Prim.Native.Nat.{ℕ, _≤_}
 use mathlib.Core.Path.{_≡_, refl, sym, ap, _∙_}
 use mathlib.Core.List.{List, [], _∷_}

@@ -1,5 +1,5 @@
--- A well formed node with its stores, as 01 has it: each clause by name. And the states that calls reach from a fresh
--- node.
+-- A well formed node with its stores, as the scope has it: each clause by name. And the states that calls reach from a
+-- fresh node.
 use Prim.Native.Nat.{ℕ, suc, _*_, _^_, _≤_, _<_}
 use mathlib.Core.Path.{_≡_}
 use mathlib.Core.Bool.{Bool, true}
@@ -32,7 +32,7 @@ pub record WellFormed (n : Node) (ss cs : List ℕ) : Type 0 where
   pub ids : seen.WellFormed (n .seen) ss
   -- seen expiries never fall from old to new
   pub rises : (i : ℕ) → suc i < n .seen .count → expiryOf n i ≤ expiryOf n (suc i)
-  -- the message cache: its store, its settings, and 01's other clauses
+  -- the message cache: its store, its settings, and the scope's other clauses
   pub messages : mcache.WellFormed (n .cache) cs
 
 -- ---- the states that the calls reach: a fresh node with stores of the right lengths; then admits of anything at any

@@ -1,4 +1,4 @@
-// A gateway, 01's "The node": the settings, the clock, the ids seen and the messages held. The node goes in by value and comes back, beside two
+// A gateway, the scope's "The node": the settings, the clock, the ids seen and the messages held. The node goes in by value and comes back, beside two
 // lent stores: seen, max_seen rows of 129 bytes, and cache, max_messages places of 4,096 bytes. Each call tests them first.
 mod parts;
 pub mod told;

@@ -1,4 +1,4 @@
-// What each call on a node tells: 01's number and the values beside it.
+// What each call on a node tells: the scope's number and the values beside it.
 ghost use mathlib.Core.Path.{_≡_};
 ghost use Rattle.node.specs.Told.{faultTold, lentTold, startTold, admitTold, beatTold, advertiseTold, askTold, serveTold};
 use super::Admit;

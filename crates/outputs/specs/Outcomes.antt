@@ -1,5 +1,5 @@
--- What advertise, ask and serve answer (`t`, 01's number and the values beside it) and how they leave the lent buffer
--- (`left` of `out`), in 01's words.
+-- What advertise, ask and serve answer (`t`, the scope's number and the values beside it) and how they leave the lent
+-- buffer (`left` of `out`), in the scope's words.
 use Prim.Native.Nat.{ℕ, _+_, _≤_, _<_}
 use mathlib.Core.Path.{_≡_}
 use mathlib.Core.List.{List, [], _∷_, map}

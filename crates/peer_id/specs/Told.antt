@@ -1,4 +1,4 @@
--- What reading a varint tells, and its refusal: 01's number and the values beside it.
+-- What reading a varint tells, and its refusal: the scope's number and the values beside it.
 use mathlib.Core.List.{[], _∷_}
 use Rattle.basis.specs.declared.Told.{Told}
 use Rattle.basis.specs.Refusals.{buffer-too-short, overflow, non-canonical}

@@ -1,4 +1,4 @@
-// What a varint's refusal tells: 01's number and the values beside it.
+// What a varint's refusal tells: the scope's number and the values beside it.
 ghost use mathlib.Core.Path.{_≡_};
 ghost use Rattle.peer_id.specs.Told.{varintTold};
 use super::VarintError;

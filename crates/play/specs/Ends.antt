@@ -1,4 +1,5 @@
--- Which records end a run with `bad`: 01, "Trace program". That a record is cut is told by its header and its content.
+-- Which records end a run with `bad`: the scope, "The trace program". That a record is cut is told by its header and its
+-- content.
 use Prim.Native.Nat.{ℕ, min}
 use mathlib.Core.List.{List}
 use mathlib.Core.Bool.{Bool, true, false, not, cond}

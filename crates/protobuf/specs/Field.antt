@@ -1,5 +1,5 @@
--- Reading the fields of a body, with every refusal of 01's table and its values, in the Rust's reading order. A place
--- past the end answers as the end does. specs/Grammar.antt has the Protocol Buffers document's own words, and
+-- Reading the fields of a body, with every refusal of the scope's table and its values, in the Rust's reading order. A
+-- place past the end answers as the end does. specs/Grammar.antt has the Protocol Buffers document's own words, and
 -- specs/Exactly.antt joins the two.
 use Prim.Native.Nat.{ℕ, _+_, _-_, _/_, _%_}
 use mathlib.Core.List.{List}

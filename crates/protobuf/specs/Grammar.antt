@@ -1,5 +1,6 @@
--- A body as the Protocol Buffers encoding document has it, section "Message Structure", with 01's rules: varints are
--- minimal, field numbers are 1 to 536870911, and groups (types 3 and 4) are not taken. Nothing here speaks of a reader.
+-- A body as the Protocol Buffers encoding document has it, section "Message Structure", with the scope's rules: varints
+-- are minimal, field numbers are 1 to 536870911, and groups (types 3 and 4) are not taken. Nothing here speaks of a
+-- reader.
 use Prim.Native.Nat.{ℕ, _+_, _*_, _^_, _≤_, _<_}
 use mathlib.Core.Path.{_≡_}
 use mathlib.Core.List.{List, [], _∷_, _++_}

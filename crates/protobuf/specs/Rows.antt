@@ -1,4 +1,4 @@
--- Rows of 01's table of bodies, as far as one field goes, and readings of its refusals.
+-- Rows of the scope's table of bodies, as far as one field goes, and readings of its refusals.
 use mathlib.Core.Path.{_≡_, refl}
 use mathlib.Core.List.{[], _∷_, _++_}
 use lib.ListN.{replicate}

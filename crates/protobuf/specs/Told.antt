@@ -1,5 +1,5 @@
--- What a refusal of a body, the readers and writers of fields and the host's walk tell: 01's number and the values
--- beside it.
+-- What a refusal of a body, the readers and writers of fields and the host's walk tell: the scope's number and the
+-- values beside it.
 use Prim.Native.Nat.{ℕ}
 use mathlib.Core.List.{[], _∷_}
 use Rattle.basis.specs.declared.Told.{Told}

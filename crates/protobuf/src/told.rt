@@ -1,4 +1,4 @@
-// What a refusal of a body, a writer of fields and the host's walk tell: 01's number and the values beside it.
+// What a refusal of a body, a writer of fields and the host's walk tell: the scope's number and the values beside it.
 ghost use mathlib.Core.Path.{_≡_};
 ghost use Rattle.protobuf.specs.Told.{wireTold, encodedTold, walkTold};
 use super::Encoded;

@@ -1,7 +1,7 @@
--- Which bodies mean which RPC, from the Protocol Buffers encoding document and 01's rules. A body is fields one after
--- the other (protobuf's `Body`); a field is known by its number and its wire type, and all others are passed over; of a
--- singular field the last wins; repeated ones append; a submessage is a body of its own; topics are UTF-8. Nothing here
--- speaks of a reader.
+-- Which bodies mean which RPC, from the Protocol Buffers encoding document and the scope's rules. A body is fields one
+-- after the other (protobuf's `Body`); a field is known by its number and its wire type, and all others are passed
+-- over; of a singular field the last wins; repeated ones append; a submessage is a body of its own; topics are UTF-8.
+-- Nothing here speaks of a reader.
 use Prim.Native.Nat.{ℕ}
 use mathlib.Core.Bool.{Bool, not, cond}
 use mathlib.Core.List.{List, [], _∷_, _++_}

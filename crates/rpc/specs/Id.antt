@@ -1,5 +1,5 @@
--- The id of a message, from 01: from and then seqno, of 1 to 64 bytes each; or the first of refusals 21, 22 and 23 that
--- it meets.
+-- The id of a message, from the scope: from and then seqno, of 1 to 64 bytes each; or the first of refusals 21, 22 and
+-- 23 that it meets.
 use Prim.Native.Nat.{ℕ}
 use mathlib.Core.Bool.{Bool, cond, _||_}
 use mathlib.Core.List.{List, _++_}

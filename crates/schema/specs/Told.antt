@@ -1,4 +1,4 @@
--- What counting the records of a body tells: how many: 01's number and the values beside it.
+-- What counting the records of a body tells: how many: the scope's number and the values beside it.
 use mathlib.Core.List.{[], _∷_}
 use Rattle.basis.specs.declared.Told.{Told}
 use Rattle.basis.specs.Told.{done}

@@ -1,5 +1,5 @@
--- What each call on the seen cache answers and leaves. Refusals come in the order of 01's table: 40, 41, 42, 33; a
--- refused call leaves the cache and the store as they were.
+-- What each call on the seen cache answers and leaves. Refusals come in the order of the scope's table: 40, 41, 42, 33;
+-- a refused call leaves the cache and the store as they were.
 use Prim.Native.Nat.{ℕ, _+_, _-_, _*_, _/_, _%_}
 use mathlib.Core.List.{List}
 use mathlib.Core.Bool.{Bool, cond, _&&_}
@@ -25,7 +25,7 @@ use Rattle.seen.specs.Told.{lentTold, insertTold, gcTold}
 use Rattle.seen.specs.Entries.{until}
 use Rattle.seen.specs.State.{wellFormed, spent, dropped, appended, idSize, maxIds, ringOf}
 
--- ---- 01's numbers
+-- ---- the scope's numbers
 abbrev pub lentNumber : Lent → ℕ
 lentNumber r = lentTold r .number
 

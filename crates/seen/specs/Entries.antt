@@ -1,4 +1,4 @@
--- The seen cache as 01 and seen.rs have it: ids with their expiries, the oldest first.
+-- The seen cache as the scope and seen.rs have it: ids with their expiries, the oldest first.
 use Prim.Native.Nat.{ℕ, _+_, _-_, _^_, min}
 use mathlib.Core.List.{List, [], _∷_, _++_, map}
 use mathlib.Core.Bool.{Bool, cond}

@@ -1,5 +1,5 @@
--- Each refusal of the seen part comes exactly where 01's table has it, by 01's numbers, for every call that tests the
--- lent state; and what stands beside a number. A call that is not refused tells what the entries say.
+-- Each refusal of the seen part comes exactly where the scope's table has it, by the scope's numbers, for every call
+-- that tests the lent state; and what stands beside a number. A call that is not refused tells what the entries say.
 use Prim.Native.Nat.{ℕ, _/_, _%_, _≤_, _<_}
 use mathlib.Core.Path.{_≡_, refl, ap, _∙_}
 use mathlib.Core.List.{List, [], _∷_}
@@ -46,7 +46,7 @@ toldOf (ofContains id) c st = containsTold (containsAnswer c st id)
 toldOf (ofGc at) c st = gcTold (gcAnswer at c st)
 toldOf ofNext c st = nextTold (nextAnswer c st)
 
--- ---- 01's table, for the seen part
+-- ---- the scope's table, for the seen part
 -- the max that a call is given; 0 for a call that is given none
 abbrev pub maxOf : Call → ℕ
 maxOf ofLent = 0

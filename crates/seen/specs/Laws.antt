@@ -1,5 +1,5 @@
--- What the calls on a seen cache mean: they do to the entries what 01 says, a refused call changes nothing, and every
--- state that the calls reach is well formed.
+-- What the calls on a seen cache mean: they do to the entries what the scope says, a refused call changes nothing, and
+-- every state that the calls reach is well formed.
 use Prim.Native.Nat.{ℕ, zero, suc, _-_, _*_, _/_, _%_, _≤_}
 use mathlib.Core.Path.{_≡_, refl, sym, ap, _∙_}
 use mathlib.Core.List.{List, [], _∷_, _++_, map-append}

@@ -30,7 +30,7 @@ rowAt c st p = record { id = idAt idSize (c .len) st p; expiry = getD (c .expiry
 unfoldable pub entriesIn : ℕ → SeenCache → List ℕ → List Entry
 entriesIn cap c st = rowsIn (rowAt c st) (ringOf cap c)
 
--- ---- well formed, as 01 has it for a seen cache alone: counts and lengths within limits, no id twice
+-- ---- well formed, as the scope has it for a seen cache alone: counts and lengths within limits, no id twice
 unfoldable pub wellFormed : ℕ → SeenCache → List ℕ → Bool
 wellFormed cap c st =
     leb (c .start) cap

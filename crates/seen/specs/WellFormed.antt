@@ -1,5 +1,5 @@
--- A well formed seen cache, as 01 has it: each clause by name. `well-formed-exactly` of Laws says that this is what the
--- test asks.
+-- A well formed seen cache, as the scope has it: each clause by name. `well-formed-exactly` of Laws says that this is
+-- what the test asks.
 use Prim.Native.Nat.{ℕ, _*_, _≤_, _<_}
 use mathlib.Core.Path.{_≡_}
 use mathlib.Core.Bool.{true}

@@ -1,4 +1,4 @@
-// What each call on the seen cache tells: 01's number and the values beside it.
+// What each call on the seen cache tells: the scope's number and the values beside it.
 ghost use mathlib.Core.Path.{_≡_};
 ghost use Rattle.seen.specs.Told.{lentTold, insertTold, containsTold, gcTold, nextTold};
 use super::Contains;
