@@ -7,10 +7,6 @@ use Rattle.encode.proofs.Heads.{no-field, no-place, head-short, head-pu
 use borrow.Author.Needs.{needs}
 use Rattle.encode.proofs.put_head.Statement.{statement}
 use Rattle.encode.proofs.put_head.Tie as tie
-use Rattle.encode.proofs.put_head.Reads as reads
-use Rattle.encode.proofs.put_head.Lts as lts
-use Rattle.peer_id.proofs.put_uvarint.Reads as put-uvarint-reads
-use Rattle.peer_id.proofs.uvarint_len.Reads as uvarint-len-reads
 
 returns : tie.Need-returns
 returns c =

@@ -1,17 +1,10 @@
 -- `ids::put_id_at` meets its contract: the body's test and the message's place pick the case.
-use mathlib.Core.Path.{_≡_, sym, ap, _∙_}
-use mathlib.Core.List.{List}
+use mathlib.Core.Path.{sym, _∙_}
 use borrow.Author.Needs.{needs}
-use Rattle.ids.specs.Ids.{idAnswer, idLeft, answerAt, leftAt, answerChecked, leftChecked, messageAt}
-use Rattle.schema.specs.Accept.{acceptOf}
 use Rattle.ids.specs.IdLaws.{message-inside}
 use Rattle.ids.proofs.Turns.{at-message, no-message, refused-body}
 use Rattle.ids.proofs.put_id_at.Statement.{statement}
 use Rattle.ids.proofs.put_id_at.Tie as tie
-use Rattle.ids.proofs.put_id_at.Reads as reads
-use Rattle.ids.proofs.put_id_at.Lts as lts
-use Rattle.ids.proofs.message_at.Reads as message-at-reads
-use Rattle.ids.proofs.put_id.Reads as put-id-reads
 
 accept-requires : tie.Need-accept-requires
 accept-requires c κs = search needs

@@ -1,7 +1,6 @@
 use denote.Ref.{now}
-use mathlib.Core.Path.{_≡_, sym, _∙_}
+use mathlib.Core.Path.{sym, _∙_}
 use lib.ListN.{length}
-use native.Mathlib.Omega.{arith}
 use Rattle.mcache.specs.GuardLaws.{when-forms}
 use Rattle.mcache.proofs.Walks.{formed, formed-not}
 use borrow.Author.Needs.{needs}

@@ -1,5 +1,5 @@
 use denote.Ref.{now}
-use Prim.Native.Nat.{ℕ, _+_, _-_, _≤_, _<_}
+use Prim.Native.Nat.{_+_, _-_, _≤_}
 use mathlib.Core.Path.{_≡_, ap₂, _∙_}
 use lib.ListN.{drop, take}
 use native.Mathlib.Omega.{arith}

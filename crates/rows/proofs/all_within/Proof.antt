@@ -1,7 +1,7 @@
 use denote.Ref.{now}
 use Prim.Native.Nat.{_-_}
-use mathlib.Core.Path.{_≡_, refl, sym, _∙_, ap}
-use lib.ListN.{drop, getD}
+use mathlib.Core.Path.{_≡_, refl}
+use lib.ListN.{drop}
 use Rattle.rows.specs.Store.{allUpTo, inUse}
 use Rattle.rows.specs.StoreLaws.{within-more, within-not, within-all}
 use borrow.Author.Needs.{needs}

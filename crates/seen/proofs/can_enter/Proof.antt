@@ -1,5 +1,4 @@
 -- `seen::can_enter` meets its contract: the tests, one after the other.
-use native.Mathlib.Omega.{arith}
 use Rattle.seen.proofs.Steps.{enter-start, enter-count, enter-cap, enter-store, enter-max, enter-id}
 use borrow.Author.Needs.{needs}
 use Rattle.seen.proofs.can_enter.Statement.{statement}

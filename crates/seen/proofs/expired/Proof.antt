@@ -3,7 +3,6 @@ use denote.Ref.{now}
 use Prim.Native.Nat.{_+_, _-_}
 use mathlib.Core.Path.{_≡_}
 use lib.ListN.{drop}
-use native.Mathlib.Omega.{arith}
 use Rattle.rows.specs.Store.{inUse}
 use Rattle.seen.specs.State.{spent}
 use Rattle.seen.specs.StateLaws.{spent-more, spent-stop, spent-end}

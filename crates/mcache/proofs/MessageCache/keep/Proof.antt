@@ -1,6 +1,6 @@
 use denote.Ref.{now}
 use Prim.Native.Nat.{ℕ}
-use mathlib.Core.Path.{_≡_, sym, _∙_}
+use mathlib.Core.Path.{sym, _∙_}
 use Rattle.mcache.proofs.Answers.{kept-not, kept-placed, kept-short, under-held, under-new}
 use borrow.Author.Needs.{length-unmapped, needs}
 use Rattle.mcache.proofs.MessageCache.keep.Statement.{statement}

@@ -1,5 +1,5 @@
 use denote.Ref.{now}
-use mathlib.Core.Path.{_≡_, refl, sym, _∙_}
+use mathlib.Core.Path.{sym, _∙_}
 use Rattle.ids.specs.IdLaws.{message-inside}
 use Rattle.mcache.proofs.Answers.{tested, put-done, puts-no, puts-as, plan-store, plan-malformed, plan-refused, plan-missing, plan-at}
 use borrow.Author.Needs.{needs}

@@ -1,6 +1,6 @@
 -- `MessageCache::tell` meets its contract: each row in use is looked at once, and goes into its spot where it is told of.
 use denote.Ref.{now}
-use Prim.Native.Nat.{ℕ, _+_, _-_, _≤_, _<_}
+use Prim.Native.Nat.{ℕ, _-_, _≤_, _<_}
 use mathlib.Core.Path.{_≡_, refl, sym, _∙_}
 use mathlib.Core.List.{[]}
 use lib.ListN.{length, drop}

@@ -1,6 +1,5 @@
 -- `node::Node::insert` meets its contract: after the clean-up the id is held, or it and its message are kept.
 use denote.Ref.{now}
-use native.Mathlib.Omega.{arith}
 use Rattle.node.proofs.Answers.{swept-enters, admits-held, admits-new, key-long, keeps-under}
 use borrow.Author.Needs.{needs}
 use Rattle.node.proofs.Node.insert.Statement.{statement}
