@@ -14,7 +14,7 @@ fn body(from: u8) -> Vec<u8> {
 }
 
 #[test]
-fn the_trace_of_the_paper() {
+fn the_trace_of_the_scope() {
     let x = body(b'A');
     let mut gateway = Gateway::start(SETTINGS).unwrap();
     assert_eq!(gateway.admit(&x, 0, true, 100), Ok(Admitted::New));
@@ -34,6 +34,28 @@ fn settings_are_tested() {
         assert_eq!(Gateway::start(settings).err(), Some(Refusal::BadSetting));
     }
     assert!(Gateway::start(Settings { ttl: u64::MAX, max_seen: 0, history_len: 1, max_messages: 0 }).is_ok());
+}
+
+/// What docs/OPERATING.md says of it: within one ttl, the notice after max_seen others drives the oldest out, which is new when it comes again; nothing is refused.
+#[test]
+fn the_257th_notice() {
+    let mut gateway = Gateway::start(Settings { ttl: 1_000_000, max_seen: 256, history_len: 4, max_messages: 64 }).unwrap();
+    let notice = |n: u16| {
+        let [high, low] = n.to_be_bytes();
+        let mut body = vec![0x12, 0x4c, 0x0a, 1, b'A', 0x1a, 2, high, low, 0x22, 1, b't', 0x2a, 0x40];
+        body.extend([0; 64]);
+        body
+    };
+    for n in 1..=256 {
+        assert_eq!(gateway.admit(&notice(n), 0, true, u64::from(n)), Ok(Admitted::New));
+    }
+    assert_eq!(gateway.admit(&notice(1), 0, true, 256), Ok(Admitted::Duplicate));
+    assert_eq!((gateway.seen(), gateway.messages()), (256, 64));
+    assert_eq!(gateway.admit(&notice(257), 0, true, 257), Ok(Admitted::New));
+    assert_eq!((gateway.seen(), gateway.messages()), (256, 64));
+    assert_eq!(gateway.admit(&notice(2), 0, true, 257), Ok(Admitted::Duplicate));
+    assert_eq!(gateway.admit(&notice(1), 0, true, 257), Ok(Admitted::New));
+    assert_eq!(gateway.admit(&notice(2), 0, true, 257), Ok(Admitted::New));
 }
 
 #[test]
