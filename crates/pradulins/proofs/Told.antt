@@ -88,7 +88,10 @@ module _ (n : Node) {r : Told} where
   pub settings-bad : start.BadSetting ≡ startAnswer (n .«max_seen») (n .cache .«history_len») (n .cache .«max_messages»)
       → r ≡ told malformed [] → r ≡ settingsTold n
   unfolding startAnswer
-  settings-bad h q = q ∙ on-bad (legalSettings (n .«max_seen») (n .cache .«history_len») (n .cache .«max_messages»)) (done (n .ttl ∷ n .«max_seen» ∷ n .cache .«history_len» ∷ n .cache .«max_messages» ∷ [])) _ h
+  settings-bad h q =
+      q
+      ∙ on-bad (legalSettings (n .«max_seen») (n .cache .«history_len») (n .cache .«max_messages»))
+      (done (n .ttl ∷ n .«max_seen» ∷ n .cache .«history_len» ∷ n .cache .«max_messages» ∷ [])) _ h
 
   pub state-told : (ss cs : List ℕ) → lent.Fine ≡ lentOf n ss cs
       → r ≡ told 0 (n .clock ∷ n .seen .count ∷ n .cache .count ∷ []) → r ≡ stateTold n ss cs

@@ -20,7 +20,10 @@ tell-requires c κs = search needs
 
 -- src/lib.rt:222:1
 returns : tie.Need-returns
-returns c = let t = told-as settingsTold (now (c .before .before .before .before .args .values)) (c .before .before .before .load .ensures) (c .before .before .told-settings .ensures) (c .tell .ensures) in
+returns c =
+    let t =
+    told-as settingsTold (now (c .before .before .before .before .args .values))
+    (c .before .before .before .load .ensures) (c .before .before .told-settings .ensures) (c .tell .ensures) in
     record { number = t .0; values = t .1 }
 
 pub pradulins-settings-spec : {M : Type 1} → statement M

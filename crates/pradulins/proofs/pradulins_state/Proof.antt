@@ -20,8 +20,11 @@ tell-requires c κs = search needs
 
 -- src/lib.rt:231:1
 returns : tie.Need-returns
-returns c = let a = c .before .before .before .before .before .before .args in
-    let t = told-as (λ n. stateTold n (now (a .seen-store)) (now (a .cache-store))) (now (a .values)) (c .before .before .before .load .ensures) (c .before .before .told-state .ensures) (c .tell .ensures) in
+returns c =
+    let a = c .before .before .before .before .before .before .args in
+    let t =
+    told-as (λ n. stateTold n (now (a .seen-store)) (now (a .cache-store))) (now (a .values))
+    (c .before .before .before .load .ensures) (c .before .before .told-state .ensures) (c .tell .ensures) in
     record { number = t .0; values = t .1 }
 
 pub pradulins-state-spec : {M : Type 1} → statement M

@@ -27,11 +27,15 @@ none-requires c κs = search needs
 
 -- src/lib.rt:192:1
 returns : tie.Need-returns
-returns c = settings-told (c .before .before .before .before .before .args .n) (sym (c .before .enum-told .given .1) ∙ c .before .before .before .start .ensures .answer) (c .four .ensures)
+returns c =
+    settings-told (c .before .before .before .before .before .args .n)
+    (sym (c .before .enum-told .given .1) ∙ c .before .before .before .start .ensures .answer) (c .four .ensures)
 
 -- src/lib.rt:192:1
 returns-2 : tie.Need-returns-2
-returns-2 c = settings-bad (c .before .before .before .before .before .args .n) (sym (c .before .enum-told2 .given .1) ∙ c .before .before .before .start .ensures .answer) (c .none .ensures)
+returns-2 c =
+    settings-bad (c .before .before .before .before .before .args .n)
+    (sym (c .before .enum-told2 .given .1) ∙ c .before .before .before .start .ensures .answer) (c .none .ensures)
 
 pub told-settings-spec : {M : Type 1} → statement M
 told-settings-spec =

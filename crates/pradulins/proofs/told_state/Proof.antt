@@ -28,11 +28,17 @@ told-fault-requires c κs = search needs
 
 -- src/lib.rt:211:1
 returns : tie.Need-returns
-returns c = let a = c .before .before .before .before .before .before .args in state-told (a .n) (now (a .seen-store)) (now (a .cache-store)) (sym (c .before .enum-told .given .1) ∙ c .before .before .before .lent .ensures) (c .three .ensures)
+returns c =
+    let a = c .before .before .before .before .before .before .args in
+    state-told (a .n) (now (a .seen-store)) (now (a .cache-store))
+    (sym (c .before .enum-told .given .1) ∙ c .before .before .before .lent .ensures) (c .three .ensures)
 
 -- src/lib.rt:211:1
 returns-2 : tie.Need-returns-2
-returns-2 c = let a = c .before .before .before .before .before .before .before .args in state-faulty (a .n) (now (a .seen-store)) (now (a .cache-store)) _ (sym (c .before .before .lent2 .given .1) ∙ c .before .before .before .before .lent .ensures) (c .told-fault .ensures)
+returns-2 c =
+    let a = c .before .before .before .before .before .before .before .args in
+    state-faulty (a .n) (now (a .seen-store)) (now (a .cache-store)) _
+    (sym (c .before .before .lent2 .given .1) ∙ c .before .before .before .before .lent .ensures) (c .told-fault .ensures)
 
 pub told-state-spec : {M : Type 1} → statement M
 told-state-spec =
