@@ -2,13 +2,13 @@
  * Pradulins: a gossip node for gateways, and the reading and writing of gossipsub bodies, as C programs link them. The archive is made by
  * `rt staticlib pradulins` (target/staticlib/libpradulins.a, x86-64 Linux).
  *
- * Every call returns 0 or the number of a refusal (PRADULINS_..., below), and hands numbers out in `values`, from the first on: what it did, or what
- * stands beside the refusal. Entries of `values` that a call does not name are left as they were. A refused call changes no other memory: not the
+ * Every call but those of "the archive", below, returns 0 or the number of a refusal (PRADULINS_..., below); where it is lent `values`, it hands numbers out in
+ * them, from the first on: what it did, or what stands beside the refusal. Entries of `values` that a call does not name are left as they were. A refused call changes no other memory: not the
  * node, not the stores, not the buffer or the table. A call that succeeds writes only the bytes or records that it counts.
  *
  * The library keeps nothing itself and allocates nothing. A node lives in PRADULINS_NODE_SIZE bytes and two stores, all three the host's own; they may
- * be copied, saved and loaded as bytes. Every call tests them anew, so bytes that are no node are refused and harm nothing. What calls leave is always well
- * formed, beginning with pradulins_start; a number that was changed from outside and still fits the others (a clock, a ttl) is not found out.
+ * be copied, saved and loaded as bytes. Every call that is lent all three tests them anew, so bytes that are no node are refused and harm nothing. What calls make
+ * of a node, beginning with pradulins_start, is always well formed; a number that was changed from outside and still fits the others (a clock, a ttl) is not found out.
  *
  * What a caller owes, as in any C program: each pointer is to as many elements as are said beside it, and is not null, also where the number is 0;
  * what a call may write (the pointers that are not const) overlaps nothing else that is passed to it; numbers of 64 bits are aligned; `verified` is
@@ -127,8 +127,11 @@ extern "C" {
  *     first = later of CLOCK_REALTIME, in UTC milliseconds, and the clock of the node that was loaded;     since = CLOCK_MONOTONIC;
  *     at = first + (CLOCK_MONOTONIC - since)
  *
- * Saved states. Bytes that were changed on disk may still be well formed: no call finds another byte of stored data, a moved clock, or an expiry far ahead.
- * Keep a checksum over node and stores, with PRADULINS_FORMAT and the length, and test it before they are used; write a new file beside the old one, flush
+ * One such clock for each node, made once. Where a node was loaded and first is ttl or more above its clock, the next admit or heartbeat forgets all that it has
+ * seen: after a short stop that means a wrong clock, so stop and ask a person.
+ *
+ * Saved states. Bytes that were changed on disk may still be well formed: no call finds another byte of stored data or of an id in the seen store, or a clock that
+ * was moved; the newest expiry far ahead is found (42) only after the next new notice. Keep a checksum over node and stores, with PRADULINS_FORMAT and the length, and test it before they are used; write a new file beside the old one, flush
  * it, and rename it over the old one, so that a crash leaves one of the two. examples/c/gateway.c does all of this; docs/OPERATING.md says more.
  */
 
@@ -273,7 +276,7 @@ static inline const char *pradulins_refusal_text(uint32_t number)
     case PRADULINS_TOPIC_TOO_LONG: return "a topic has above 1,024 bytes";
     case PRADULINS_MESSAGE_TOO_LONG: return "the message has above 4,096 bytes";
     case PRADULINS_CLOCK_BACK: return "the reading is before the node's clock";
-    case PRADULINS_BAD_SETTING: return "a setting is out of range";
+    case PRADULINS_BAD_SETTING: return "a setting is out of range, or the seen store is too short";
     case PRADULINS_BAD_STORE: return "a store has not the length that the settings say";
     case PRADULINS_MALFORMED: return "node and stores are not well formed";
     default: return "no refusal has this number";

@@ -27,7 +27,7 @@ WORDS = {
     30: "the message has above 4,096 bytes",
     31: "the reading is before the node's clock",
     33: "an id has above 129 bytes",
-    40: "a setting is out of range",
+    40: "a setting is out of range, or the seen store is too short",
     41: "a store has not the length that the settings say",
     42: "node and stores are not well formed",
 }

@@ -167,7 +167,7 @@ pub record Placed (s : List ℕ) (i : ℕ) (m : List ℕ) : Type 0 where
   pub bytes : between s start next ≡ m
 
 -- ---- what comes in, by the call alone and whatever the node does with it: an admit brings the message at its index.
--- "Where the body is refused or the host's word withheld, the node gets nothing"
+-- If the body is refused or the host's word is not given, the node gets nothing by it.
 abbrev pub standing : List ℕ → MessageAt → Option (List ℕ)
 standing body (At a e) = some (between body a e)
 standing body (Count n) = none

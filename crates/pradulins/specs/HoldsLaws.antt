@@ -1,30 +1,101 @@
 -- What the C interface tells of a node is what the gateway has that the node and its stores are; and its settings are told of
 -- every state that a call takes.
-use Prim.Native.Nat.{ℕ}
-use mathlib.Core.Path.{_≡_}
-use mathlib.Core.Bool.{true}
+use Prim.Native.Nat.{ℕ, zero, suc, _^_, _<_}
+use mathlib.Core.Path.{_≡_, refl, ap, _∙_}
+use mathlib.Core.Bool.{Bool, true, false, cond}
 use mathlib.Core.List.{List, [], _∷_}
-use lib.ListN.{length}
-use borrow.Author.Tests.{le-leb}
-use Rattle.basis.specs.Told.{done}
-use Rattle.seen.specs.State.{maxIds}
+use native.Mathlib.Omega.{arith}
+use lib.ListN.{length, getD, replicate, length-replicate}
+use lib.Seq.{sets}
+use lib.Dec.{leb}
+use borrow.Author.Tests.{le-leb, leb-true}
+use Rattle.basis.specs.Cases.{both}
+use Rattle.basis.specs.declared.Told.{Told}
+use Rattle.basis.specs.Told.{done, valuesOf}
+use Rattle.seen.specs.State.{maxIds, fresh as noIds}
 use Rattle.seen.specs.EntriesLaws.{length-entries}
 use Rattle.mcache.specs.State.{legal, fresh, maxHistory, maxMessages}
 use Rattle.mcache.specs.StateLaws.{fine-tests as cache-tests}
 use Rattle.mcache.specs.CachedLaws.{length-cached}
 use Rattle.node.specs.declared.Node.{Node}
 use Rattle.node.specs.declared.Lent.the-variants as lent
+use Rattle.node.specs.declared.Start.the-variants as start
 use Rattle.node.specs.State.{gatewayIn, legalSettings, freshNode}
 use Rattle.node.specs.StateLaws.{fine-tests}
-use Rattle.node.specs.Calls.{lentOf}
+use Rattle.node.specs.Told.{startTold}
+use Rattle.node.specs.Calls.{lentOf, startAnswer}
+use Rattle.stored.specs.Layout.{nodeIn, nodeBytes, headOf, Fits}
+use Rattle.stored.specs.LayoutLaws.{stored-loaded}
 use Rattle.pradulins.specs.Holds.{settingsTold, stateTold}
+use Rattle.pradulins.specs.Unique.{Starts, Settles}
 
 -- ---- settings
 -- a node that was started tells those that it was started with
-pub settings-started : (ttl max-seen history max : ℕ) → legalSettings max-seen history max ≡ true
+settings-fresh : (ttl max-seen history max : ℕ) → legalSettings max-seen history max ≡ true
     → settingsTold (freshNode ttl max-seen history max) ≡ done (ttl ∷ max-seen ∷ history ∷ max ∷ [])
 unfolding freshNode fresh
-settings-started ttl max-seen history max h = rw h
+settings-fresh ttl max-seen history max h = rw h
+
+-- the numbers of a fresh node fit its bytes
+zero-small : (n i m : ℕ) → 0 < m → getD (replicate n 0) i 0 < m
+zero-small zero i m h = h
+zero-small (suc n) zero m h = h
+zero-small (suc n) (suc i) m h = zero-small n i m h
+
+cons-small : (x : ℕ) (l : List ℕ) (m : ℕ) → x < m → ((i : ℕ) → getD l i 0 < m) → (i : ℕ) → getD (x ∷ l) i 0 < m
+cons-small x l m h k zero = h
+cons-small x l m h k (suc i) = k i
+
+head-small : (a b c d m : ℕ) → a < m → b < m → c < m → d < m → (i : ℕ)
+    → getD (a ∷ b ∷ 0 ∷ 0 ∷ 0 ∷ c ∷ d ∷ 0 ∷ 0 ∷ 0 ∷ []) i 0 < m
+head-small a b c d m h k l n =
+    let z : 0 < m = omega arith in
+    let max : List ℕ = d ∷ replicate 3 0 in
+    let history : List ℕ = c ∷ max in
+    let count : List ℕ = 0 ∷ history in
+    let start : List ℕ = 0 ∷ count in
+    let clock : List ℕ = 0 ∷ start in
+    cons-small a (b ∷ clock) m h (cons-small b clock m k (cons-small 0 start m z (cons-small 0 count m z
+    (cons-small 0 history m z (cons-small c max m l (cons-small d (replicate 3 0) m n (λ i. zero-small 3 i m z)))))))
+
+fresh-fits : (ttl max-seen history max : ℕ) → ttl < 2 ^ 64 → legalSettings max-seen history max ≡ true
+    → Fits (freshNode ttl max-seen history max)
+unfolding legalSettings legal freshNode noIds fresh headOf
+fresh-fits ttl max-seen history max t h =
+    let a = both (leb max-seen maxIds) _ h in
+    let b = both (leb 1 history) _ (a .1) in
+    let c = both (leb history maxHistory) _ (b .1) in
+    record {
+      head = head-small ttl max-seen history max (2 ^ 64) t (omega (arith, leb-true max-seen maxIds (a .0)))
+          (omega (arith, leb-true history maxHistory (c .0))) (omega (arith, leb-true max maxMessages (c .1)));
+      expiries = length-replicate {A = ℕ} maxIds 0;
+      expiry = λ i. zero-small maxIds i (2 ^ 64) (omega arith);
+      id-lengths = length-replicate {A = ℕ} maxIds 0;
+      generations = length-replicate {A = ℕ} maxMessages 0;
+      generation = λ i. zero-small maxMessages i (2 ^ 64) (omega arith);
+      windows = length-replicate {A = ℕ} maxMessages 0;
+      lengths = length-replicate {A = ℕ} maxMessages 0;
+      message-length = λ i. zero-small maxMessages i (2 ^ 16) (omega arith);
+      cached-id-lengths = length-replicate {A = ℕ} maxMessages 0;
+      cached-ids = length-replicate {A = ℕ} 8192 0;
+    }
+
+taken-start : (b : Bool) → 0 ≡ startTold (cond b start.Started start.BadSetting) .number → b ≡ true
+taken-start true h = refl
+taken-start false h = absurd (omega arith)
+
+pub settings-started : {s made vs ws : List ℕ} {ttl max-seen history max r : ℕ} → ttl < 2 ^ 64
+    → Starts s ttl max-seen history max 0 made → Settles made vs r ws
+    → (r ≡ 0) × (ws ≡ sets vs 0 (ttl ∷ max-seen ∷ history ∷ max ∷ []))
+unfolding startAnswer
+settings-started {s} {made} {vs} {ws} {ttl} {max-seen} {history} {max} t a b =
+    let l = taken-start (legalSettings max-seen history max) (a .number) in
+    let m : made ≡ nodeBytes (freshNode ttl max-seen history max) = rw l at (a .node) in
+    let n : nodeIn made ≡ freshNode ttl max-seen history max =
+    ap nodeIn m ∙ stored-loaded (freshNode ttl max-seen history max) (fresh-fits ttl max-seen history max t l) in
+    let e : settingsTold (nodeIn made) ≡ done (ttl ∷ max-seen ∷ history ∷ max ∷ []) =
+    ap settingsTold n ∙ settings-fresh ttl max-seen history max l in
+    (b .number ∙ ap (λ (x : Told). x .number) e, b .values ∙ ap (λ (x : Told). sets vs 0 (valuesOf x)) e)
 
 -- and every node that a call takes tells its own
 module _ (n : Node) (ss cs : List ℕ) (fine : lentOf n ss cs ≡ lent.Fine) where

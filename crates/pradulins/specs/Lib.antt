@@ -1,4 +1,4 @@
--- To be believed: Unique (the contract of each function), Holds; what they cite stands in the crates below.
+-- To be believed: Unique (the contract of each function that is lent something), Holds; what they cite stands in the crates below.
 -- Theorems: Unique, Refused, HoldsLaws.
 pub mod Holds
 pub mod HoldsLaws

@@ -1,5 +1,5 @@
-// The library as C and Rust programs link it. Each call answers a number, 0 or the refusal's in the table of refusals; `values` gets what stands beside it. The
-// node lives in 11,344 bytes that the host lends, its two stores in slices. A refused call changes no buffer and no node.
+// The library as C and Rust programs link it. Each call answers a number, 0 or the refusal's in the table of refusals; `values`, where it is lent, gets what stands
+// beside it. The node lives in 11,344 bytes that the host lends, its two stores in slices. A refused call changes no buffer and no node.
 ghost use mathlib.Core.Path.{_≡_};
 ghost use lib.Seq.{sets};
 ghost use Rattle.basis.specs.Told.{valuesOf};
