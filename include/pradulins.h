@@ -273,7 +273,7 @@ static inline const char *pradulins_refusal_text(uint32_t number)
     case PRADULINS_TOPIC_TOO_LONG: return "a topic has above 1,024 bytes";
     case PRADULINS_MESSAGE_TOO_LONG: return "the message has above 4,096 bytes";
     case PRADULINS_CLOCK_BACK: return "the reading is before the node's clock";
-    case PRADULINS_BAD_SETTING: return "a setting is out of range";
+    case PRADULINS_BAD_SETTING: return "a setting is out of range, or the seen store is too short";
     case PRADULINS_BAD_STORE: return "a store has not the length that the settings say";
     case PRADULINS_MALFORMED: return "node and stores are not well formed";
     default: return "no refusal has this number";

@@ -27,7 +27,7 @@ WORDS = {
     30: "the message has above 4,096 bytes",
     31: "the reading is before the node's clock",
     33: "an id has above 129 bytes",
-    40: "a setting is out of range",
+    40: "a setting is out of range, or the seen store is too short",
     41: "a store has not the length that the settings say",
     42: "node and stores are not well formed",
 }
@@ -67,7 +67,7 @@ def beside(number, values, size):
     if number in (11, 28):
         return "it has %s" % format(values[0], ",")
     if number == 12:
-        return "%s are needed" % format(values[0], ",")
+        return "%s %s needed" % (format(values[0], ","), "is" if values[0] == 1 else "are")
     if number == 20:
         return "there %s %s" % ("is" if values[0] == 1 else "are", some(values[0], "message") if values[0] else "no messages")
     if number == 31:

@@ -360,6 +360,8 @@ class Words(unittest.TestCase):
             self.assertEqual(len(line) > len("refused %d: %s" % (number, words)), bool(values), line)
             self.assertEqual(told(number), "refused %d: %s" % (number, words))
         self.assertEqual(told(99, (1,)), "refused 99")
+        self.assertEqual(told(12, (1,)), "refused 12: no room for the answer: 1 is needed")
+        self.assertEqual(told(12, (1024,)), "refused 12: no room for the answer: 1,024 are needed")
         self.assertTrue(set(INSPECT.refusals.VALUES) <= set(INSPECT.refusals.WORDS))
 
 

@@ -333,7 +333,7 @@ class Playing(Case):
             1: "77 bytes", 2: "ok", 3: "new", 4: "1 message, 0 left, 77 bytes  124b0a01411a01012201742a4000000000000000..",
             5: "0 messages, 0 left, 0 bytes",
             6: "0 bytes", 7: "refused 4: a field passes the end", 8: "refused 1: a varint is cut short", 9: "7 bytes  1a0512030a0142",
-            10: "refused 40: a setting is out of range", 11: "refused 31: the reading is before the node's clock",
+            10: "refused 40: a setting is out of range, or the seen store is too short", 11: "refused 31: the reading is before the node's clock",
             12: "refused 29: a topic has above 1,024 bytes", 13: "refused 20: no message at that index"})
 
     def test_columns(self):
