@@ -192,8 +192,8 @@ class Case(unittest.TestCase):
         # That of 0.1.0 has not all that the header names.
         self.write(os.path.join(self.made, "libpradulins.a"), b"!<arch>\npradulins_start\0pradulins_admit\0")
         self.assertEqual(self.wrong(self.prefix, "--archive", self.made),
-                         "install: %s/libpradulins.a is of an earlier version than the header, %s: it has no pradulins_format. `rt staticlib pradulins` makes it anew\n"
-                         % (self.made, INSTALL.version()))
+                         "install: %s/libpradulins.a has no pradulins_format: it is of an earlier version than the header, which is of %s. "
+                         "`rt staticlib pradulins` makes it anew\n" % (self.made, INSTALL.version()))
         self.assertEqual(self.files(self.prefix), [])
 
     def test_other_words(self):
