@@ -6,6 +6,7 @@ import re
 MOST_TIMES = 65536
 MOST_BYTES = 2**24
 CUT_TEXT = 28
+TOO_MANY = "the bytes are above %d" % MOST_BYTES
 
 
 class Mistake(Exception):
@@ -22,17 +23,23 @@ def number(word, name, most):
     return int(word)
 
 
-def file_bytes(name, folder, whose="a path from the trace's folder"):
-    path = os.path.join(folder, name)
+def no_file(name, folder=""):
+    return "no file '%s'%s" % (name, "" if os.path.isabs(name) else " in %s" % (folder or "this folder"))
+
+
+def file_bytes(name, folder, wanted="@FILE with a path from the trace's folder"):
     try:
-        if os.path.getsize(path) > MOST_BYTES:
-            raise Mistake("the file '%s' has above %d bytes" % (name, MOST_BYTES))
-        with open(path, "rb") as file:
-            return file.read()
+        with open(os.path.join(folder, name), "rb") as file:
+            data = file.read(MOST_BYTES + 1)
     except FileNotFoundError:
-        raise Mistake("no file '%s' in %s: expected @FILE with %s" % (name, folder or "this folder", whose)) from None
+        raise Mistake("%s: expected %s" % (no_file(name, folder), wanted)) from None
     except OSError as why:
         raise Mistake("cannot read the file '%s': %s" % (name, why.strerror)) from None
+    except ValueError:
+        raise Mistake("the file's name '%s' has a zero byte: expected %s" % (name.replace("\0", "\ufffd"), wanted)) from None
+    if len(data) > MOST_BYTES:
+        raise Mistake("the file '%s' has above %d bytes" % (name, MOST_BYTES))
+    return data
 
 
 def hexed(word, whole):
@@ -53,7 +60,10 @@ def word_bytes(word, names):
     one, star, times = word.partition("*")
     if not star:
         return hexed(word, word)
-    return hexed(one, word) * number(times, "TIMES", MOST_TIMES)
+    data, count = hexed(one, word), number(times, "TIMES", MOST_TIMES)
+    if len(data) * count > MOST_BYTES:
+        raise Mistake(TOO_MANY)
+    return data * count
 
 
 def joined(words, names):
@@ -63,7 +73,7 @@ def joined(words, names):
         try:
             out += word_bytes(word, names)
             if len(out) > MOST_BYTES:
-                raise Mistake("the bytes are above %d" % MOST_BYTES)
+                raise Mistake(TOO_MANY)
         except Mistake as why:
             raise Mistake("%s: %s" % (place, why) if place else str(why)) from None
     return bytes(out)

@@ -67,7 +67,7 @@ def beside(number, values, size):
     if number in (11, 28):
         return "it has %s" % format(values[0], ",")
     if number == 12:
-        return "%s are needed" % format(values[0], ",")
+        return "%s %s needed" % (format(values[0], ","), "is" if values[0] == 1 else "are")
     if number == 20:
         return "there %s %s" % ("is" if values[0] == 1 else "are", some(values[0], "message") if values[0] else "no messages")
     if number == 31:

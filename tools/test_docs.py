@@ -137,6 +137,12 @@ VALUES = {33: ("length",)}
 """,
     "crates/pradulins/src/lib.rt": "pub const VERSION: u32 = 10203;\npub const FORMAT: u32 = 7;\n",
     "host/Cargo.toml": "# The library.\n[package]\nversion = \"1.2.3\"\nrust-version = \"1.74\"\n",
+    "oracle/README.md": "`build.sh` makes build/one.rs of crates/core/src/frame.rs (frame.rs.txt, in crates/core) and harness/tail.rs; oracle/sources.py.\n",
+    "oracle/sources.py": "FILES = ('crates/core/src/frame.rs',)\n",
+    "oracle/build.sh": "",
+    "oracle/harness/tail.rs": "",
+    "bench/README.md": "| `main.c` | the program; crates/ring, README.md, target/bin/none |\n",
+    "bench/main.c": "",
     "CHANGELOG.md": "# Changes\n\n## 1.2.3\n\nA clock.\n\n## 1.2.2\n",
     "KIT-ID": "kit-1 logic 0a0b\n",
 }
@@ -145,6 +151,7 @@ PATHS = {
     "crates": "crates.txt", "readme": "README.md", "contributing": "CONTRIBUTING.md", "varint": "crates/varint/src/lib.rt",
     "lib": "crates/varint/specs/Lib.antt", "header": "include/pradulins.h", "refusals": "tools/refusals.py", "library": "crates/pradulins/src/lib.rt",
     "cargo": "host/Cargo.toml", "changelog": "CHANGELOG.md", "kit": "KIT-ID",
+    "oracle": "oracle/README.md", "sources": "oracle/sources.py", "tail": "oracle/harness/tail.rs", "bench": "bench/README.md",
 }
 
 
@@ -195,6 +202,23 @@ class Case(unittest.TestCase):
 
     def test_a_path_that_does_not_exist(self):
         self.tells("README.md:1: docs/PROMISE.md does not exist", readme=("PROMISES", "PROMISE"))
+        self.tells("CHANGELOG.md:5: tools/clock does not exist", changelog=("A clock", "`tools/clock`"))
+        # A name alone is no path there.
+        self.assertEqual(self.wrong(changelog=("A clock", "A clock.c")), [])
+
+    def test_paths_of_a_folder(self):
+        self.tells("oracle/README.md:1: built.sh does not exist", oracle=("build.sh", "built.sh"))
+        self.tells("oracle/README.md:1: harness/tail.rs does not exist", tail=None)
+        self.tells("oracle/README.md:1: harness/tails does not exist", oracle=("harness/tail.rs", "harness/tails"))
+        self.tells("oracle/README.md:1: oracle/build.sh.py does not exist", oracle=("oracle/sources.py", "oracle/build.sh.py"))
+        self.tells("oracle/README.md:1: crates/core/src/frames.rs does not exist", oracle=("frame.rs ", "frames.rs "))
+        self.tells("oracle/README.md:1: crates/co does not exist", oracle=("in crates/core", "in crates/co"))
+        self.tells("oracle/README.md: there is no such file", oracle=None)
+        self.tells("oracle/sources.py: it has no table FILES", sources=("FILES", "NAMES"))
+        self.tells("bench/README.md:1: mains.c does not exist", bench=("main.c", "mains.c"))
+        self.tells("bench/README.md:1: crates/rings does not exist", bench=("crates/ring", "crates/rings"))
+        # The Rust's files are named in oracle/README.md alone.
+        self.tells("bench/README.md:1: crates/core/src/frame.rs does not exist", bench=("crates/ring", "crates/core/src/frame.rs"))
 
     def test_a_function_without_a_row(self):
         self.tells("`varint::read` (crates/varint/src/lib.rt:3) has no row", functions=("| `varint::read` | one; two | varint/one_read |\n", ""))

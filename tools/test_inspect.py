@@ -216,7 +216,7 @@ class Bodies(Case):
         self.assertEqual(self.shown("--names", trace, "$B")[1], "control: empty")
         self.assertIn("no name '$C'", self.wrong("--names", trace, "$C"))
         self.assertIn("a.trace:1: let: 'zz' is no hex", self.wrong("--names", self.file("a.trace", "let A zz"), "$A"))
-        self.assertIn("no file '/no/such'", self.wrong("--names", "/no/such", "$A"))
+        self.assertEqual(self.wrong("--names", "/no/such", "$A"), "inspect: no file '/no/such': expected --names with the path of a trace\n")
 
     def test_the_examples_of_the_help(self):
         status, out, err = self.call("-h")
@@ -238,6 +238,13 @@ class Bodies(Case):
         # Whoever reads may stop early.
         done = subprocess.run("'%s' '1200*512' | head -n 2" % SCRIPT, shell=True, capture_output=True, check=False)
         self.assertEqual((done.stdout.count(b"\n"), done.stderr), (2, b""))
+        # The status is the body's all the same.
+        for words, status in ((["1a00"], 0), (["0a0508"], 1), (["1a00", "--sign=3"], 1), (["1200*512"], 0)):
+            read, write = os.pipe()
+            os.close(read)
+            done = subprocess.run([SCRIPT, *words], stdout=write, stderr=subprocess.PIPE, check=False)
+            os.close(write)
+            self.assertEqual((done.returncode, done.stderr), (status, b""), words)
 
     def test_bodies_of_the_oracle(self):
         sys.path.append(os.path.join(TOP, "oracle"))
@@ -266,7 +273,9 @@ MISTAKES = [
     (("00*65537",), "TIMES is '65537'"),
     (("$X",), "no name '$X': --names TRACE takes names from a trace"),
     (("none.body",), "no file 'none.body' in this folder"),
-    (("@none",), "no file 'none' in this folder"),
+    (("/no/such.body",), "no file '/no/such.body': expected hex, a file"),
+    (("@none",), "no file 'none' in this folder: expected @FILE with the path of a file"),
+    (("@/no/such",), "no file '/no/such': expected @FILE"),
     (("@",), "no file '' in this folder"),
     (("--hex", "1a00"), "--hex is for a file or standard input, and '1a00' is none"),
     (("--sign", "12", "00"), "'12' after --sign may be an index or a byte: write --sign=INDEX, or put the body before --sign"),
@@ -294,6 +303,8 @@ class Mistakes(Case):
         self.assertIn("standard input, line 1, word 1: '1' has an odd number", self.wrong("-", "--hex", given=b"1 a"))
         self.assertIn("standard input is no hex text: its byte at 2 is not UTF-8", self.wrong("-", "--hex", given=b"1a\xff"))
         self.assertIn("standard input has above 16777216 bytes", self.wrong("-", given=bytes(2**24 + 1)))
+        self.assertIn("line 1, word 1: the bytes are above 16777216", self.wrong("-", "--hex", given=b"00" * 100000 + b"*65536"))
+        self.assertIn("the file '/dev/zero' has above 16777216 bytes", self.wrong("@/dev/zero"))
 
 
 class Programs(Case):
@@ -349,6 +360,8 @@ class Words(unittest.TestCase):
             self.assertEqual(len(line) > len("refused %d: %s" % (number, words)), bool(values), line)
             self.assertEqual(told(number), "refused %d: %s" % (number, words))
         self.assertEqual(told(99, (1,)), "refused 99")
+        self.assertEqual(told(12, (1,)), "refused 12: no room for the answer: 1 is needed")
+        self.assertEqual(told(12, (1024,)), "refused 12: no room for the answer: 1,024 are needed")
         self.assertTrue(set(INSPECT.refusals.VALUES) <= set(INSPECT.refusals.WORDS))
 
 

@@ -20,7 +20,7 @@ from unittest import mock
 HERE = os.path.dirname(os.path.abspath(__file__))
 TOP = os.path.dirname(HERE)
 SCRIPT = os.path.join(HERE, "install")
-ARCHIVE = b"!<arch>\nstand-in"
+ARCHIVE = b"!<arch>\nstand-in, with pradulins_format\0"
 TRUE_ARCHIVE = os.path.join(TOP, "target", "staticlib")
 PROGRAM = """\
 #include <pradulins.h>
@@ -151,6 +151,21 @@ class Case(unittest.TestCase):
             with mock.patch.object(INSTALL, "known", return_value=found):
                 self.assertIn(part, self.install(self.prefix))
 
+    @unittest.skipUnless(shutil.which("pkg-config"), "there is no pkg-config")
+    def test_the_line_for_any_prefix(self):
+        # A compiler that prints its words, each on a line.
+        cc = os.path.join(self.folder, "cc" if INSTALL.x86.NATIVE else "x86_64-linux-gnu-gcc")
+        self.write(cc, b"#!/bin/sh\nprintf '%s\\n' \"$@\"\n")
+        os.chmod(cc, 0o755)
+        env = dict(os.environ, PATH=self.folder + os.pathsep + os.environ["PATH"])
+        for sign in "!%&()*+,-.;<=>?@[]^_`{|}~\u00fc\u65e5":
+            prefix = os.path.join(self.folder, "a%sb" % sign)
+            line = self.install(prefix).split("\n")[-2]
+            self.assertEqual("pkg-config" in line, sign in "()+,-.=@^_~", line)
+            done = subprocess.run(line, shell=True, cwd=self.folder, env=env, capture_output=True, text=True)
+            self.assertEqual((done.stdout.split("\n"), done.stderr),
+                             (["prog.c", "-I%s/include" % prefix, "-L%s/lib" % prefix, "-lpradulins", "-o", "prog", ""], ""), line)
+
     def test_it_cannot_be_written(self):
         self.write(self.prefix, b"a file")
         self.assertIn("cannot make the folder %s/include: Not a directory" % self.prefix, self.wrong(self.prefix, "--archive", self.made))
@@ -174,11 +189,17 @@ class Case(unittest.TestCase):
         self.assertIn("no rt", err)
         self.write(os.path.join(self.made, "libpradulins.a"), b"text")
         self.assertIn("libpradulins.a is no archive", self.wrong(self.prefix, "--archive", self.made))
+        # That of 0.1.0 has not all that the header names.
+        self.write(os.path.join(self.made, "libpradulins.a"), b"!<arch>\npradulins_start\0pradulins_admit\0")
+        self.assertEqual(self.wrong(self.prefix, "--archive", self.made),
+                         "install: %s/libpradulins.a has no pradulins_format: it is of an earlier version than the header, which is of %s. "
+                         "`rt staticlib pradulins` makes it anew\n" % (self.made, INSTALL.version()))
         self.assertEqual(self.files(self.prefix), [])
 
     def test_other_words(self):
         self.assertIn("PREFIX is empty", self.wrong("", status=2))
-        self.assertIn("a blank or a sign that pkg-config does not take", self.wrong(self.folder + "/a b", status=2))
+        for sign in " \t\n\u00a0\\$\"'#:\x01\x7f\udcff":
+            self.assertIn("a blank or a sign that pkg-config does not take", self.wrong(self.folder + "/a%sb" % sign, status=2))
         self.assertIn("PREFIX", self.wrong(status=2))
 
     @unittest.skipUnless(os.path.isfile(os.path.join(TRUE_ARCHIVE, "libpradulins.a")) and INSTALL.x86.compiler() and shutil.which("pkg-config"),

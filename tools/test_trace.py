@@ -207,7 +207,9 @@ MISTAKES = [
     ("ask 0*2", "'0*2' has an odd number"),
     ("ask g*2", "'g*2' is no hex"),
     ("ask $none", "no name '$none'", "let none BODY"),
-    ("ask @none.body", "no file 'none.body'"),
+    ("ask @none.body", "no file 'none.body' in "),
+    ("ask @/no/such", "no file '/no/such': expected @FILE"),
+    ("ask @a\0b", "the file's name 'a\ufffdb' has a zero byte"),
     ("advertise 1 @none", "no file 'none'"),
     ("advertise 1 =f", "'f' has an odd number"),
     ("let 1a 00", "the name is '1a'"),
@@ -284,6 +286,12 @@ class Mistakes(Case):
         self.assertEqual(status, 2)
         self.assertIn("a.trace:3: ask: the bytes are above 16777216", err)
         self.assertIn("1 mistake", err)
+        # They are counted before they are made: this would be 6 GB.
+        status, _, err = self.call(text="ask %s*65536\nask 00*65536 %s*256" % ("00" * 100000, "00" * 65536))
+        self.assertEqual(status, 2)
+        self.assertEqual(err.count("ask: the bytes are above 16777216\n"), 2)
+        status, _, err = self.call(text="ask @/dev/zero")
+        self.assertIn("ask: the file '/dev/zero' has above 16777216 bytes", err)
 
 
 class Playing(Case):
@@ -325,7 +333,7 @@ class Playing(Case):
             1: "77 bytes", 2: "ok", 3: "new", 4: "1 message, 0 left, 77 bytes  124b0a01411a01012201742a4000000000000000..",
             5: "0 messages, 0 left, 0 bytes",
             6: "0 bytes", 7: "refused 4: a field passes the end", 8: "refused 1: a varint is cut short", 9: "7 bytes  1a0512030a0142",
-            10: "refused 40: a setting is out of range", 11: "refused 31: the reading is before the node's clock",
+            10: "refused 40: a setting is out of range, or the seen store is too short", 11: "refused 31: the reading is before the node's clock",
             12: "refused 29: a topic has above 1,024 bytes", 13: "refused 20: no message at that index"})
 
     def test_columns(self):
@@ -419,6 +427,14 @@ class Programs(Case):
         done = subprocess.run("'%s' --emulator '%s' --program '%s' '%s' | head -n 2" % (SCRIPT, emulator, self.model, large), shell=True, check=False,
                               stdout=subprocess.PIPE, stderr=subprocess.PIPE)
         self.assertEqual((done.stdout.count(b"\n"), done.stderr), (2, b""))
+        # The status is the trace's all the same.
+        for text, status in ((self.TEXT, 0), (self.TEXT + "\nraw 9", 1)):
+            read, write = os.pipe()
+            os.close(read)
+            done = subprocess.run([SCRIPT, "--emulator", emulator, "--program", self.model, self.file("a.trace", text)], stdout=write, stderr=subprocess.PIPE,
+                                  check=False)
+            os.close(write)
+            self.assertEqual((done.returncode, done.stderr), (status, b""))
 
     def test_none(self):
         status, out, err = self.call("--program", os.path.join(self.folder, "none"), text=self.TEXT)
