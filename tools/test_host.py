@@ -325,7 +325,7 @@ class Killed(Tree):
     def test_it_saves(self):
         good, words, bad = self.played("saves", 20)
         self.assertEqual((good, bad), (20, None))
-        self.assertRegex(words, r"20 kills  all loaded: \d+ states, \d+ kills left a file beside, \d+ saved one state more than was told, \d+ before the first")
+        self.assertRegex(words, r"20 kills  all loaded: \d+ states, \d+ kills left a file beside, \d+ saved one state more than was told, \d+ before")
 
     def test_it_forgets(self):
         good, _, bad = self.played("forgets")

@@ -165,8 +165,8 @@ def noted(path):
 def stands(name):
     """In words, why lib<name>.a need not be made; None where it must be.
 
-    One that was made here has a note, and stands while all that it was made of is as it was then, the kit too. One that was made by hand has none, and
-    stands while it is newer than its sources and their folders. Without rt each stands."""
+    One that was made here has a note, and stands while all that it was made of is as it was then, the kit too. One that was made by hand has none,
+    and stands while it is newer than its sources and their folders. Without rt each stands."""
     path = own_archive(name)
     if not os.path.isfile(path):
         return None

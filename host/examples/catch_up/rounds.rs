@@ -141,12 +141,12 @@ pub fn run(out: &mut dyn Write) -> Result<(), Box<dyn Error>> {
     restart(south, out)
 }
 
-/// A wall clock that steps by an hour: with the site's own clock nothing is lost and nothing refused. The machine's wall clock is not stepped for
-/// this; the site's clock would not see it, and the crate's tests do step one (src/clock.rs).
+/// What a wall clock that steps by an hour would do. By the site's own clock, nothing: it does not look at the wall clock again. The machine's is not
+/// stepped for this; the crate's tests do step one (src/clock.rs).
 fn clocks(site: &mut Site, out: &mut dyn Write) -> Result<(), Box<dyn Error>> {
     let old = notice("north", 1, TOPIC, &[1; 3900])?;
     let (name, now) = (site.name, site.clock.now());
-    writeln!(out, "the wall clock at {name} steps back an hour; its clock does not look at it again")?;
+    writeln!(out, "if the wall clock stepped back an hour: the clock of {name} does not look at it again, so")?;
     writeln!(out, "  an old notice is {}", told(&mut site.gateway, &old, site.clock.now())?)?;
     writeln!(out, "  a notice of now is {}", told(&mut site.gateway, &notice("east", 1, TOPIC, b"")?, site.clock.now())?)?;
 
