@@ -159,7 +159,7 @@ def noted(path):
         return None
     with open(path + ".stamp") as f:
         words = f.read().split()
-    return words if words[:1] == [AGAIN] and len(words) == 1 or words[1:] == [digest_of(path)] else None
+    return words if words == [AGAIN] or words[1:] == [digest_of(path)] else None
 
 
 def stands(name):

@@ -83,7 +83,7 @@ impl Gateway {
     ///
     /// # Panics
     ///
-    /// Where the archive that the program is linked with is of another [`FORMAT`](crate::FORMAT); so do the calls that load.
+    /// If the program is linked with an archive of another [`FORMAT`](crate::FORMAT). So do the calls that load a gateway.
     pub fn start(settings: Settings) -> Result<Gateway, Refusal> {
         fits(sys::format());
         let mut node = Box::new([0; NODE_SIZE]);

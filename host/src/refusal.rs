@@ -287,7 +287,7 @@ mod tests {
             if refusal.values().is_empty() {
                 let number = refusal.number();
                 let name = header.lines().filter_map(|line| line.strip_prefix("#define ")?.split_once(' ')).find(|(name, rest)| {
-                    rest.split_whitespace().next() == Some(&number.to_string()) && header.contains(&format!("case {name}: return \""))
+                    rest.split_whitespace().next() == Some(number.to_string().as_str()) && header.contains(&format!("case {name}: return \""))
                 });
                 let name = name.unwrap_or_else(|| panic!("the header has no refusal {number}")).0;
                 assert_eq!(refusal.to_string(), format!("refused {number}: {}", after(format!("case {name}: return \""), "\"")));

@@ -146,13 +146,13 @@ pub fn run(out: &mut dyn Write) -> Result<(), Box<dyn Error>> {
 fn clocks(site: &mut Site, out: &mut dyn Write) -> Result<(), Box<dyn Error>> {
     let old = notice("north", 1, TOPIC, &[1; 3900])?;
     let (name, now) = (site.name, site.clock.now());
-    writeln!(out, "if the wall clock stepped back an hour: the clock of {name} does not look at it again, so")?;
+    writeln!(out, "if the wall clock stepped by an hour, the clock of {name} would not see it: it looked once, at start")?;
     writeln!(out, "  an old notice is {}", told(&mut site.gateway, &old, site.clock.now())?)?;
     writeln!(out, "  a notice of now is {}", told(&mut site.gateway, &notice("east", 1, TOPIC, b"")?, site.clock.now())?)?;
 
     // What a host would see that passes the wall clock itself: on copies, since the second one loses what it has seen.
     let (mut back, mut ahead) = (site.gateway.clone(), site.gateway.clone());
-    writeln!(out, "a host that passes the wall clock itself would see this")?;
+    writeln!(out, "a host that passes the wall clock itself would see it")?;
     writeln!(out, "  an hour back: a notice of now is {}", told(&mut back, &notice("east", 2, TOPIC, b"")?, now.saturating_sub(HOUR))?)?;
     writeln!(out, "  an hour ahead: the old notice is {}, though it was seen", told(&mut ahead, &old, now.saturating_add(HOUR))?)?;
     Ok(())
