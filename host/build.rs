@@ -1,30 +1,39 @@
-//! Finds the archive, libpradulins.a: in PRADULINS_LIB_DIR, or where `rt staticlib pradulins` writes it. It is for x86-64 Linux. Where there is none, the
-//! crate can be checked and its unit tests run, but no program can be linked.
+//! Finds the archive, libpradulins.a: in PRADULINS_LIB_DIR, or where `rt staticlib pradulins` writes it. It is for x86-64 Linux. Where there is none, or
+//! one of version 0.1.0, the crate can be checked and its unit tests run, but no program can be linked.
 
-use std::env;
 use std::path::PathBuf;
+use std::{env, fs};
+
+/// What an archive has since version 0.2.0.
+const SINCE: &[u8] = b"pradulins_format";
 
 fn main() {
     println!("cargo:rerun-if-env-changed=PRADULINS_LIB_DIR");
     println!("cargo:rerun-if-changed=build.rs");
-    let folder = match env::var_os("PRADULINS_LIB_DIR") {
-        Some(folder) => PathBuf::from(folder),
-        None => PathBuf::from(env::var_os("CARGO_MANIFEST_DIR").unwrap()).join("../target/staticlib"),
-    };
+    // A folder that is not named by its whole path counts from the folder that this program runs in, which is the crate's.
+    let here = env::current_dir().unwrap();
+    let named = env::var_os("PRADULINS_LIB_DIR").map(PathBuf::from);
+    let folder = here.join(named.clone().unwrap_or_else(|| PathBuf::from(env::var_os("CARGO_MANIFEST_DIR").unwrap()).join("../target/staticlib")));
     let archive = folder.join("libpradulins.a");
     println!("cargo:rerun-if-changed={}", archive.display());
     let ours = env::var("CARGO_CFG_TARGET_ARCH").as_deref() == Ok("x86_64") && env::var("CARGO_CFG_TARGET_OS").as_deref() == Ok("linux");
-    if ours && archive.is_file() {
-        println!("cargo:rustc-link-search=native={}", folder.display());
-        println!("cargo:rustc-link-lib=static=pradulins");
+    let missing = if !ours {
+        "libpradulins.a is for x86-64 Linux: here only those tests run that call nothing of it. On Arm, tools/host runs all".to_string()
     } else {
-        println!("cargo:rustc-cfg=no_archive");
-        if ours {
-            println!("cargo:warning=no {}: make it by `rt staticlib pradulins`, or name its folder in PRADULINS_LIB_DIR", archive.display());
-        } else {
-            println!(
-                "cargo:warning=libpradulins.a is for x86-64 Linux: here only those tests run that call nothing of it. On Arm, tools/host runs all"
-            );
+        let from = match &named {
+            Some(named) if named.is_relative() => format!(" (PRADULINS_LIB_DIR is not a whole path, and counts from {})", here.display()),
+            _ => String::new(),
+        };
+        match fs::read(&archive) {
+            Ok(bytes) if bytes.windows(SINCE.len()).any(|part| part == SINCE) => {
+                println!("cargo:rustc-link-search=native={}", folder.display());
+                println!("cargo:rustc-link-lib=static=pradulins");
+                return;
+            }
+            Ok(_) => format!("{}{from} is an older one, which this crate cannot use: make it anew by `rt staticlib pradulins`", archive.display()),
+            Err(_) => format!("no {}{from}: make it by `rt staticlib pradulins`, or name its folder in PRADULINS_LIB_DIR", archive.display()),
         }
-    }
+    };
+    println!("cargo:rustc-cfg=no_archive");
+    println!("cargo:warning={missing}");
 }

@@ -14,7 +14,8 @@ import sys
 ROOT = os.path.dirname(os.path.dirname(os.path.abspath(__file__)))
 TARGET = "x86_64-unknown-linux-gnu"
 NATIVE = platform.machine().lower() in ("x86_64", "amd64")
-PACKAGES = ["gcc-x86-64-linux-gnu", "libc6-dev-amd64-cross", "rustc-web", "libstd-rust-web-dev:amd64", "libc6:amd64", "qemu-user"]
+FOR_C = ["gcc-x86-64-linux-gnu", "libc6-dev-amd64-cross"]
+FOR_RUST = ["rustc-web", "libstd-rust-web-dev:amd64", "libc6:amd64", "qemu-user"]
 
 
 class Failure(Exception):
@@ -77,47 +78,44 @@ def emulator():
     return shutil.which("qemu-x86_64")
 
 
-def missing():
-    wanted = [("a C compiler for x86-64", compiler()), ("a rustc with the library for %s" % TARGET, rustc()), ("cargo", cargo())]
-    if not NATIVE:
+def missing(rust=True):
+    """What is not there of what C programs need, or C and Rust programs."""
+    wanted = [("a C compiler for x86-64", compiler())]
+    if rust:
+        wanted += [("a rustc with the library for %s" % TARGET, rustc()), ("cargo", cargo())]
+    if rust and not NATIVE:
         wanted += [("qemu-x86_64", emulator()), ("the C library for x86-64", os.path.exists("/lib64/ld-linux-x86-64.so.2"))]
     return [name for name, found in wanted if not found]
 
 
-def install():
-    """Installs Debian's packages on Arm. On x86-64 the machine's own compilers are asked for."""
-    if not missing():
+def install(rust=True):
+    """Installs Debian's packages on Arm, for C programs alone or for both. On x86-64 the machine's own compilers are asked for."""
+    if not missing(rust):
         return
     if NATIVE:
-        raise Failure("missing: %s" % ", ".join(missing()))
+        raise Failure("missing: %s" % ", ".join(missing(rust)))
+    packages = FOR_C + (FOR_RUST if rust else [])
     if not shutil.which("apt-get") or os.geteuid() != 0:
         raise Failure("missing: %s. On Debian, as root: dpkg --add-architecture amd64; apt-get update; apt-get install %s"
-                      % (", ".join(missing()), " ".join(PACKAGES)))
+                      % (", ".join(missing(rust)), " ".join(packages)))
     call(["dpkg", "--add-architecture", "amd64"])
     call(["apt-get", "update", "-q"])
-    wanted = PACKAGES + ([] if cargo() else ["cargo-web"])
+    wanted = packages + ([] if cargo() or not rust else ["cargo-web"])
     call(["apt-get", "install", "-y", "-q", "--no-install-recommends"] + wanted, env=dict(os.environ, DEBIAN_FRONTEND="noninteractive"))
-    if missing():
-        raise Failure("still missing: %s" % ", ".join(missing()))
+    if missing(rust):
+        raise Failure("still missing: %s" % ", ".join(missing(rust)))
 
 
 # ---- building
 
 def archive(name, folder=None, anew=False):
-    """lib<name>.a in a folder, or else as `rt staticlib` makes it: it is taken as it stands where nothing changed since, and made again with `anew`."""
+    """lib<name>.a in a folder, or else as `rt staticlib` makes it: it is taken where it stands, and made again where it does not, or with `anew`."""
     if folder:
         path = os.path.join(os.path.abspath(folder), "lib%s.a" % name)
     else:
         path = own_archive(name)
-        if not shutil.which("rt"):
-            if not os.path.isfile(path):
-                raise Failure("no %s, and no rt to make it" % path)
-        elif anew or not stands(name):
-            before = stamp(name)
-            call(["rt", "staticlib", name], cwd=ROOT)
-            if os.path.isfile(path) and stamp(name) == before:
-                with open(path + ".stamp", "w") as out:
-                    out.write("%s\n%s\n" % (before, digest_of(path)))
+        if anew or not stands(name):
+            make_archive(name)
     if not os.path.isfile(path):
         raise Failure("no %s" % path)
     return path
@@ -127,18 +125,58 @@ def own_archive(name):
     return os.path.join(ROOT, "target", "staticlib", "lib%s.a" % name)
 
 
+# The first word of a note on an archive that must be made again, where a digest of what it was made of stands else.
+AGAIN = "again"
+
+
+def make_archive(name):
+    """Runs `rt staticlib`, and leaves a note beside the archive: the digest of what it was made of, and its own. While it runs, and where a source
+    changed meanwhile, the note says that it must be made again."""
+    path = own_archive(name)
+    if not shutil.which("rt"):
+        raise Failure("there is no rt to make %s anew" % path if os.path.isfile(path) else "no %s, and no rt to make it" % path)
+    before = stamp(name)
+    os.makedirs(os.path.dirname(path), exist_ok=True)
+    note(path, AGAIN)
+    call(["rt", "staticlib", name], cwd=ROOT)
+    if not os.path.isfile(path):
+        raise Failure("rt staticlib %s made no %s" % (name, path))
+    if stamp(name) == before:
+        note(path, before, digest_of(path))
+    else:
+        note(path, AGAIN, digest_of(path))
+        print("warning: a source changed while rt staticlib %s ran; the next run makes the archive again" % name, file=sys.stderr, flush=True)
+
+
+def note(path, *words):
+    with open(path + ".stamp", "w") as out:
+        out.write("".join(word + "\n" for word in words))
+
+
+def noted(path):
+    """The words of the note beside an archive, if it is about that one. A note without a digest is about any: a run of rt did not end."""
+    if not os.path.isfile(path + ".stamp"):
+        return None
+    with open(path + ".stamp") as f:
+        words = f.read().split()
+    return words if words == [AGAIN] or words[1:] == [digest_of(path)] else None
+
+
 def stands(name):
-    """Whether lib<name>.a is there, is the one that was made here last, and all that it was made of is as it was then. One that was made by hand has no such
-    note, and stands where it is newer than all that it is made of."""
+    """In words, why lib<name>.a need not be made; None where it must be.
+
+    One that was made here has a note, and stands while all that it was made of is as it was then, the kit too. One that was made by hand has none,
+    and stands while it is newer than its sources and their folders. Without rt each stands."""
     path = own_archive(name)
     if not os.path.isfile(path):
-        return False
-    if os.path.isfile(path + ".stamp"):
-        with open(path + ".stamp") as f:
-            noted = f.read().split()
-        if noted[1:] == [digest_of(path)]:
-            return noted[0] == stamp(name)
-    return max(map(os.path.getmtime, made_of(name))) < os.path.getmtime(path)
+        return None
+    if not shutil.which("rt"):
+        return "there is no rt"
+    words = noted(path)
+    if words:
+        return "nothing changed since it was made" if words[0] == stamp(name) else None
+    newest = max(map(os.path.getmtime, made_of(name) + [folder for folder, _ in folders_of(name)]))
+    return "newer than its sources" if newest < os.path.getmtime(path) else None
 
 
 def crates_under(name):
@@ -157,14 +195,17 @@ def crates_under(name):
     return sorted(found)
 
 
-def made_of(name):
-    """The files that an archive is made of: crates.txt, and all of the crates that it stands on."""
-    files = [os.path.join(ROOT, "crates.txt")]
+def folders_of(name):
+    """The folders of the crates that an archive stands on, each with the names of its files."""
     for crate in crates_under(name):
         for part in ("src", "specs", "proofs"):
             for folder, _, names in os.walk(os.path.join(ROOT, "crates", crate, part)):
-                files += [os.path.join(folder, one) for one in names]
-    return sorted(files)
+                yield folder, names
+
+
+def made_of(name):
+    """The files that an archive is made of: crates.txt, and all of the crates that it stands on."""
+    return sorted([os.path.join(ROOT, "crates.txt")] + [os.path.join(folder, one) for folder, names in folders_of(name) for one in names])
 
 
 def stamp(name):

@@ -1,14 +1,17 @@
 /*
  * A small gateway in C, to copy from: a clock that does not step, a state that is kept in a file, and a notice that is admitted.
  *
- *     gateway STATE [NOTICE]
+ *     gateway STATE [NOTICE] [--forget]
  *
  * loads the gateway of the file STATE, or starts a new one where there is no such file; admits each message of the body in the file NOTICE, or of a
  * notice that is built in; prints for each `new`, `duplicate`, or why it is refused; opens a window; offers what it has; and saves itself to STATE.
  * Run it twice on one file: the notice is first new, then a duplicate. A file that was damaged is never replaced by a new gateway, which would have
- * seen nothing: the program says what is wrong.
+ * seen nothing: the program says what is wrong. Where the clock is so far after the state that all it has seen would be forgotten, the program stops,
+ * too, unless it is told to go on by `--forget`: after a short stop, a clock is wrong.
  *
  * Status: 0, or 1 where something was refused or failed, or 2 for other arguments.
+ *
+ * Its buffers and the table of its checksum are static: it is for one gateway and one thread.
  *
  * To build it, on x86-64 Linux in the repository's folder, after `rt staticlib pradulins`:
  *
@@ -28,6 +31,7 @@
 #include <stdio.h>
 #include <stdlib.h>
 #include <string.h>
+#include <sys/stat.h>
 #include <time.h>
 #include <unistd.h>
 
@@ -141,19 +145,25 @@ enum { NAME_SIZE = 16, HEADER = 36 };
 /* No state is longer. */
 enum { MAX_SAVED = HEADER + PRADULINS_NODE_SIZE + PRADULINS_MAX_SEEN * PRADULINS_SEEN_ROW + PRADULINS_MAX_MESSAGES * PRADULINS_CACHE_PLACE };
 
+/* What each byte does to a checksum. main fills it, once. */
+static uint64_t sums[256];
+
+static void fill_sums(void)
+{
+    for (unsigned byte = 0; byte < 256; byte++) {
+        uint64_t rest = byte;
+        for (int bit = 0; bit < 8; bit++)
+            rest = rest & 1 ? rest >> 1 ^ UINT64_C(0xc96c5795d7870f42) : rest >> 1;
+        sums[byte] = rest;
+    }
+}
+
 /* The checksum of bytes that follow others with the checksum `sum`; 0 where they follow none. */
 static uint64_t checksum_on(uint64_t sum, const uint8_t *bytes, size_t len)
 {
-    static uint64_t table[256];
-    if (table[1] == 0)
-        for (unsigned byte = 0; byte < 256; byte++) {
-            table[byte] = byte;
-            for (int bit = 0; bit < 8; bit++)
-                table[byte] = table[byte] & 1 ? table[byte] >> 1 ^ UINT64_C(0xc96c5795d7870f42) : table[byte] >> 1;
-        }
     sum = ~sum;
     for (size_t i = 0; i < len; i++)
-        sum = sum >> 8 ^ table[(sum ^ bytes[i]) & 0xff];
+        sum = sum >> 8 ^ sums[(sum ^ bytes[i]) & 0xff];
     return ~sum;
 }
 
@@ -257,15 +267,37 @@ static int flush_folder(const char *path)
     return close(fd) != 0 ? -1 : r;
 }
 
-/* Writes a new file, flushed. */
-static int write_beside(const struct gateway *g, const char *path)
+/*
+ * A new file, to be written. A state holds what notices hold: the file has the mode of the old one, and where there is none, its owner alone may read
+ * it. What a crash left under its name is removed.
+ */
+static FILE *open_beside(const char *path, const char *old)
+{
+    struct stat of_old, of_new;
+    if (unlink(path) != 0 && errno != ENOENT)
+        return NULL;
+    int fd = open(path, O_WRONLY | O_CREAT | O_EXCL, 0600);
+    if (fd < 0)
+        return NULL;
+    FILE *file = NULL;
+    if (stat(old, &of_old) != 0 || (fstat(fd, &of_new) == 0 && of_new.st_mode == of_old.st_mode) || fchmod(fd, of_old.st_mode & 07777) == 0)
+        file = fdopen(fd, "wb");
+    int why = errno;
+    if (!file)
+        close(fd);
+    errno = why;
+    return file;
+}
+
+/* Writes a new file beside the old one, flushed. */
+static int write_beside(const struct gateway *g, const char *path, const char *old)
 {
     uint8_t header[HEADER];
     memcpy(header, NAME, NAME_SIZE);
     put_number(header + 16, 4, PRADULINS_FORMAT);
     put_number(header + 20, 8, PRADULINS_NODE_SIZE + g->seen_len + g->cache_len);
     put_number(header + 28, 8, checksum_of(g));
-    FILE *file = fopen(path, "wb");
+    FILE *file = open_beside(path, old);
     if (!file)
         return -1;
     int ok = fwrite(header, 1, HEADER, file) == HEADER && fwrite(g->node, 1, sizeof g->node, file) == sizeof g->node
@@ -287,7 +319,7 @@ static int save(const struct gateway *g, const char *path)
         return failed(path, "no memory");
     memcpy(beside, path, len);
     memcpy(beside + len, ".new", 5);
-    int bad = write_beside(g, beside) != 0 || rename(beside, path) != 0;
+    int bad = write_beside(g, beside, path) != 0 || rename(beside, path) != 0;
     int why = errno;
     if (bad)
         remove(beside);
@@ -350,7 +382,7 @@ static int admit_all(struct gateway *g, const struct clock *clock, const uint8_t
 
 /* ---- the program */
 
-static int run(struct gateway *g, const char *path, const uint8_t *body, size_t body_len)
+static int run(struct gateway *g, const char *path, const uint8_t *body, size_t body_len, bool forget)
 {
     static uint8_t out[PRADULINS_OUT_SIZE];
     uint64_t settings[PRADULINS_VALUES], values[PRADULINS_VALUES];
@@ -360,11 +392,15 @@ static int run(struct gateway *g, const char *path, const uint8_t *body, size_t 
     if (r)
         return refused("the gateway", r, values);
 
-    /* The clock, and whether a reading now empties the list of seen ids. A real gateway stops here and asks a person, if it was not away so long. */
+    /*
+     * The clock, and whether a reading now empties the list of seen ids. Then a person is asked, before a call. If the stop was short, the clock is
+     * wrong, or was when the state was saved; a gateway that is to go on all the same starts its clock at node_clock, the wall clock left aside.
+     */
     uint64_t node_clock = values[STATE_CLOCK];
     struct clock clock = start_clock(node_clock);
-    if (values[STATE_SEEN] > 0 && read_clock(&clock) - node_clock >= settings[SET_TTL])
-        fprintf(stderr, "gateway: the state is ttl old or older: what it has seen is forgotten now. After a short stop, a clock is wrong\n");
+    if (!forget && values[STATE_SEEN] > 0 && read_clock(&clock) - node_clock >= settings[SET_TTL])
+        return failed(path, "the clock is ttl or more after the state, and all that it has seen would be forgotten. After a short stop, a clock is "
+                            "wrong; after a long one, go on by --forget");
 
     int bad = admit_all(g, &clock, body, body_len);
     r = pradulins_heartbeat(g->node, g->seen, g->seen_len, g->cache, g->cache_len, read_clock(&clock), values);
@@ -392,10 +428,13 @@ int main(int argc, char **argv)
     static uint8_t notice[PRADULINS_MAX_BODY];
     const uint8_t *body = BUILT_IN;
     size_t body_len = sizeof BUILT_IN;
+    bool forget = argc > 1 && strcmp(argv[argc - 1], "--forget") == 0;
+    argc -= forget;
     if (argc != 2 && argc != 3) {
-        fprintf(stderr, "usage: gateway STATE [NOTICE]\n");
+        fprintf(stderr, "usage: gateway STATE [NOTICE] [--forget]\n");
         return 2;
     }
+    fill_sums();
     if (pradulins_version() != PRADULINS_VERSION || pradulins_format() != PRADULINS_FORMAT)
         return failed("libpradulins.a", "it is of another version than pradulins.h");
     if (argc == 3) {
@@ -417,7 +456,7 @@ int main(int argc, char **argv)
     } else {
         return failed(argv[1], strerror(errno));
     }
-    int status = run(&g, argv[1], body, body_len);
+    int status = run(&g, argv[1], body, body_len, forget);
     free(g.seen);
     return status;
 }

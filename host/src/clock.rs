@@ -4,7 +4,8 @@ use crate::Gateway;
 use std::fmt;
 use std::time::{Duration, Instant, SystemTime, UNIX_EPOCH};
 
-/// The readings to pass to a [`Gateway`], in UTC milliseconds. They never fall, and they do not jump with the wall clock.
+/// The readings to pass to a [`Gateway`], in milliseconds. They never fall, and they do not jump with the wall clock. They are UTC where the wall
+/// clock was right when this one was made, and the machine did not sleep since.
 ///
 /// A wall clock steps: it is set by a person or by another machine, and a gateway takes that at its word. A reading before the gateway's clock is
 /// refused ([`Refusal::ClockBack`](crate::Refusal::ClockBack), 31) until the wall clock has caught up. A reading that is `ttl` or more after the last
@@ -43,16 +44,25 @@ impl Clock {
         Clock(Running::new(Machine, gateway.clock()))
     }
 
-    /// The reading now, in UTC milliseconds. It stops at 2^64−1.
+    /// A clock that starts at this reading, with the wall clock left aside.
+    ///
+    /// `Clock::at(gateway.clock())` is for a loaded gateway whose stop was short, where the wall clock jumped ahead meanwhile, or was behind when the
+    /// state was saved: the gateway forgets nothing, and goes on as if there had been no stop. A reading before the gateway's clock is refused (31).
+    pub fn at(reading: u64) -> Clock {
+        Clock(Running::at(Machine, reading))
+    }
+
+    /// The reading now, in milliseconds. It stops at 2^64−1.
     pub fn now(&self) -> u64 {
         self.0.now()
     }
 
     /// By how much a reading now is after the gateway's clock; 0 where it is not.
     ///
-    /// From `ttl` on, the next call empties the list of seen ids. Ask for it after loading a saved gateway: if it is `ttl` or more after a short stop,
-    /// the wall clock is wrong (or was, when the state was saved), and a person should look before a call is made. Of a gateway that was just started
-    /// it says nothing: that one has seen nothing, and its clock is 0.
+    /// From `ttl` on, the next admit or heartbeat empties the list of seen ids. Ask for it after loading a saved gateway: if it is `ttl` or more
+    /// after a short stop, the wall clock is wrong (or was, when the state was saved), and a person should look before a call is made. The cure is
+    /// then [`Clock::at`] with the gateway's own clock. Of a gateway that was just started it says nothing: that one has seen nothing, and its clock
+    /// is 0.
     pub fn ahead_of(&self, gateway: &Gateway) -> u64 {
         self.now().saturating_sub(gateway.clock())
     }
@@ -90,7 +100,13 @@ struct Running<S: Sources> {
 impl<S: Sources> Running<S> {
     /// It starts at the wall clock, or at this reading if it is later.
     fn new(sources: S, least: u64) -> Running<S> {
-        let (first, mark) = (sources.wall().max(least), sources.mark());
+        let first = sources.wall().max(least);
+        Running::at(sources, first)
+    }
+
+    /// It starts at this reading.
+    fn at(sources: S, first: u64) -> Running<S> {
+        let mark = sources.mark();
         Running { sources, first, mark }
     }
 
@@ -196,6 +212,18 @@ mod tests {
         let set = Set::at(100);
         assert_eq!(Running::new(&set, 99).now(), 100);
         assert_eq!(Running::new(&set, 101).now(), 101);
+    }
+
+    #[test]
+    fn it_starts_where_the_host_says() {
+        let set = Set::at(5 * HOUR);
+        let clock = Running::at(&set, 7);
+        assert_eq!(clock.now(), 7);
+        set.step(HOUR as i64);
+        set.pass(3);
+        assert_eq!(clock.now(), 10);
+        assert!((7..7 + HOUR).contains(&Clock::at(7).now()));
+        assert_eq!(Clock::at(u64::MAX).now(), u64::MAX);
     }
 
     #[test]
@@ -332,6 +360,22 @@ mod tests {
             set.pass(MINUTE);
             assert_eq!(gateway.admit(&notice(2), 0, true, clock.now()), Ok(Admitted::New));
             assert_eq!(gateway.admit(&notice(3), 0, true, set.wall.get()), Err(Refusal::ClockBack { clock: HOUR + MINUTE }));
+        }
+
+        #[test]
+        fn a_wall_clock_that_jumped_while_it_stood() {
+            // Half an hour of ttl; the wall clock is now an hour ahead of the state, and the stop was short.
+            let saved = saved_at(utc(SystemTime::now()) - HOUR);
+            let mut gateway = saved.clone();
+            assert!(Clock::after(&gateway).ahead_of(&gateway) >= SETTINGS.ttl);
+            let clock = Clock::at(gateway.clock());
+            assert!(clock.ahead_of(&gateway) < SETTINGS.ttl);
+            assert_eq!(gateway.admit(&notice(1), 0, true, clock.now()), Ok(Admitted::Duplicate));
+            assert_eq!(gateway.admit(&notice(2), 0, true, clock.now()), Ok(Admitted::New));
+            assert_eq!(gateway.heartbeat(clock.now()), Ok(()));
+            assert_eq!(gateway.seen(), 2);
+            // Before the gateway's clock it is refused.
+            assert_eq!(saved.clone().heartbeat(Clock::at(0).now()), Err(Refusal::ClockBack { clock: saved.clock() }));
         }
 
         #[test]

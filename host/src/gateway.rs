@@ -1,6 +1,6 @@
 //! The node with its two stores.
 
-use crate::{answered, made, sys, Refusal, CACHE_PLACE, MAX_BODY, NODE_SIZE, SEEN_ROW, VALUES};
+use crate::{answered, fits, made, sys, Refusal, CACHE_PLACE, MAX_BODY, NODE_SIZE, SEEN_ROW, VALUES};
 
 /// What a gateway keeps, and how long.
 #[derive(Clone, Copy, Debug, PartialEq, Eq, Hash)]
@@ -50,6 +50,9 @@ pub struct Served {
 ///
 /// Every reading of the clock that is passed to it must be at least the last one; an earlier one is refused and changes nothing.
 /// [`Clock`](crate::Clock) gives readings that never fall.
+///
+/// Each call tests the state. One of a gateway that was started here, or saved by such a one, is always well formed. A gateway that was loaded from
+/// damaged bytes (which still passed the tests of loading) may meet [`Refusal::Malformed`] (42) at any call, before all that is said there.
 #[derive(Clone, PartialEq, Eq)]
 pub struct Gateway {
     node: Box<sys::Node>,
@@ -77,7 +80,12 @@ impl Gateway {
     /// A gateway that holds nothing, with its clock at 0.
     ///
     /// Refused: [`Refusal::BadSetting`].
+    ///
+    /// # Panics
+    ///
+    /// If the program is linked with an archive of another [`FORMAT`](crate::FORMAT). So do the calls that load a gateway.
     pub fn start(settings: Settings) -> Result<Gateway, Refusal> {
+        fits(sys::format());
         let mut node = Box::new([0; NODE_SIZE]);
         let Settings { ttl, max_seen, history_len, max_messages } = settings;
         answered(sys::start(&mut node, ttl, max_seen, history_len, max_messages), &[0; VALUES])?;
@@ -185,6 +193,7 @@ impl Gateway {
     /// A node and what stands after it, as the library finds them: its settings (42), the lengths of the stores (41), and whether all is well formed
     /// (42).
     pub(crate) fn tested(node: &[u8], stores: &[u8]) -> Result<Gateway, Refusal> {
+        fits(sys::format());
         let mut own = Box::new([0; NODE_SIZE]);
         own.copy_from_slice(node);
         let mut values = [0; VALUES];

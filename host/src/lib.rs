@@ -7,7 +7,8 @@
 //!
 #![cfg_attr(not(no_archive), doc = "```")]
 #![cfg_attr(no_archive, doc = "```no_run")]
-//! use pradulins::{messages, sign_bytes, Admitted, Clock, Gateway, Message, Settings};
+//! use pradulins::{messages, sign_bytes, Admitted, Clock, Gateway, LoadError, Message, Settings};
+//! use std::io::ErrorKind;
 //! # fn verify(_message: &Message, _signed: &[u8]) -> bool { true }
 //! # fn file(_message: &Message) {}
 //! # let mut body = vec![0x12, 0x4b, 0x0a, 1, b'A', 0x1a, 1, 1, 0x22, 1, b't', 0x2a, 0x40];
@@ -15,7 +16,10 @@
 //! # let path = std::env::temp_dir().join(format!("pradulins-page-{}", std::process::id()));
 //!
 //! let settings = Settings { ttl: 3_600_000, max_seen: 256, history_len: 4, max_messages: 64 };
-//! let mut gateway = Gateway::start(settings)?;
+//! let mut gateway = match Gateway::load_from(&path) {
+//!     Err(LoadError::Read(why)) if why.kind() == ErrorKind::NotFound => Gateway::start(settings)?, // the first start of all
+//!     loaded => loaded?,
+//! };
 //! let clock = Clock::after(&gateway);
 //! for message in messages(&body)? {
 //!     let verified = verify(&message, &sign_bytes(&body, message.index)?);
@@ -91,8 +95,10 @@
 //! # Linking
 //!
 //! The archive libpradulins.a is for x86-64 Linux. It is looked for where `rt staticlib pradulins` writes it in the repository that this crate stands
-//! in, or in the folder that the environment variable `PRADULINS_LIB_DIR` names. Where there is none, or for another machine, the crate can be checked
-//! and those of its tests run that call nothing of it; `tools/host` of the repository runs all tests and the example on Arm, too.
+//! in, or in the folder that the environment variable `PRADULINS_LIB_DIR` names (by its whole path: another counts from this crate's folder). Where
+//! there is none, or only one of version 0.1.0, or for another machine, the crate can be checked and those of its tests run that call nothing of it;
+//! `tools/host` of the repository runs all tests and the example on Arm, too. An archive of another [`FORMAT`] is found when a gateway is started or
+//! loaded, which then panics.
 
 mod body;
 mod clock;
@@ -133,6 +139,14 @@ pub const MAX_BODY: usize = 65536;
 /// The most records that a body may have.
 pub const MAX_RECORDS: usize = 512;
 
+/// Holds the archive that the program is linked with to this crate: another format is a fault of the build.
+fn fits(archive: u32) {
+    assert!(
+        archive == FORMAT,
+        "libpradulins.a is for format {archive}, and this crate for format {FORMAT}: link the archive of the crate's own version"
+    );
+}
+
 /// How many numbers a record takes in the table that the library fills.
 const RECORD_WORDS: usize = 20;
 
@@ -157,10 +171,18 @@ fn made(room: usize, write: impl FnOnce(&mut [u8], &mut sys::Values) -> u32) -> 
     Ok(out)
 }
 
-#[cfg(all(test, not(no_archive)))]
+#[cfg(test)]
 mod tests {
     use super::*;
 
+    #[test]
+    #[should_panic(expected = "link the archive of the crate's own version")]
+    fn an_archive_of_another_format() {
+        fits(FORMAT);
+        fits(FORMAT + 1);
+    }
+
+    #[cfg(not(no_archive))]
     #[test]
     fn versions_agree() {
         let numbers: Vec<u32> = VERSION.split('.').map(|part| part.parse().unwrap()).collect();

@@ -103,7 +103,7 @@ pub enum Refusal {
         /// The gateway's clock.
         clock: u64,
     },
-    /// 40: a setting out of range.
+    /// 40: a setting out of range, or a seen store shorter than the settings say.
     BadSetting,
     /// 41: a store whose length the settings do not say.
     BadStore,
@@ -230,16 +230,16 @@ impl fmt::Display for Refusal {
             Refusal::NoMessage { messages } => write!(f, "no message at that index: there are {messages}"),
             Refusal::MissingFrom => write!(f, "the message has no from"),
             Refusal::InvalidFrom { length } => write!(f, "from has {length} bytes, not 1 to 64"),
-            Refusal::InvalidSeqno => write!(f, "seqno is missing, or does not have 1 to 64 bytes"),
+            Refusal::InvalidSeqno => write!(f, "seqno is missing, or has 0 or above 64 bytes"),
             Refusal::KeyWithoutSignature => write!(f, "the message has a key and no signature"),
-            Refusal::MissingSignature => write!(f, "the message has no signature"),
+            Refusal::MissingSignature => write!(f, "the message has no signature and no key"),
             Refusal::SignatureLength { length } => write!(f, "the signature has {length} bytes, not 64"),
             Refusal::NotVerified => write!(f, "the host did not verify the signature"),
             Refusal::TopicCount { topics } => write!(f, "the message has {topics} topics, not 1 to 4"),
             Refusal::TopicTooLong { length } => write!(f, "a topic of {length} bytes, above 1,024"),
             Refusal::MessageTooLong { length } => write!(f, "a message of {length} bytes, above 4,096"),
             Refusal::ClockBack { clock } => write!(f, "the reading is before the clock, {clock}"),
-            Refusal::BadSetting => write!(f, "a setting is out of range"),
+            Refusal::BadSetting => write!(f, "a setting is out of range, or the seen store is too short"),
             Refusal::BadStore => write!(f, "a store has not the length that the settings say"),
             Refusal::Malformed => write!(f, "node and stores are not well formed"),
         }
@@ -272,6 +272,26 @@ mod tests {
                 _ => 1,
             };
             assert_eq!(values, [11, 12, 13][..count]);
+        }
+    }
+
+    /// The words of refusals without values are those of the C header.
+    #[test]
+    fn words_are_the_headers() {
+        let header = include_str!("../../include/pradulins.h");
+        let after = |start: String, end: &str| {
+            let from = header.find(&start).unwrap_or_else(|| panic!("the header has no `{start}`")) + start.len();
+            &header[from..from + header[from..].find(end).unwrap()]
+        };
+        for refusal in Refusal::NUMBERS.map(|number| Refusal::from_call(number, &[0; 4])) {
+            if refusal.values().is_empty() {
+                let number = refusal.number();
+                let name = header.lines().filter_map(|line| line.strip_prefix("#define ")?.split_once(' ')).find(|(name, rest)| {
+                    rest.split_whitespace().next() == Some(number.to_string().as_str()) && header.contains(&format!("case {name}: return \""))
+                });
+                let name = name.unwrap_or_else(|| panic!("the header has no refusal {number}")).0;
+                assert_eq!(refusal.to_string(), format!("refused {number}: {}", after(format!("case {name}: return \""), "\"")));
+            }
         }
     }
 

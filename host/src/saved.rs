@@ -1,11 +1,11 @@
 //! Saved states: a gateway as bytes with a header before them, and files that are written so that a crash leaves the old or the new content.
 
-use crate::{Gateway, Refusal, FORMAT, NODE_SIZE};
+use crate::{Gateway, Refusal, CACHE_PLACE, FORMAT, NODE_SIZE, SEEN_ROW};
 use std::error::Error;
 use std::ffi::OsString;
 use std::fmt;
-use std::fs::{self, File};
-use std::io::{self, Write};
+use std::fs::{self, File, OpenOptions};
+use std::io::{self, Read, Write};
 use std::path::{Path, PathBuf};
 
 /// What a saved state begins with.
@@ -16,6 +16,9 @@ const FORMAT_AT: usize = 16;
 const LENGTH_AT: usize = 20;
 const CHECKSUM_AT: usize = 28;
 const HEADER: usize = 36;
+
+/// What stands after the header of the largest state: a node, 256 rows and 64 places.
+const LARGEST: usize = NODE_SIZE + 256 * SEEN_ROW + 64 * CACHE_PLACE;
 
 /// Why a gateway was not loaded.
 #[derive(Debug)]
@@ -36,16 +39,17 @@ pub enum LoadError {
         /// The format that this crate reads, [`FORMAT`].
         read: u32,
     },
-    /// The bytes after the header are not as many as it says.
+    /// The bytes after the header are not as many as it says, or more than any state has.
     Length {
         /// How many it says.
         said: u64,
-        /// How many there are.
+        /// How many there are; of a file that does not tell its length, at least so many.
         found: u64,
     },
     /// The bytes after the header are not those that were saved.
     Checksum,
-    /// The bytes are as they were saved, and they are no node with its stores. [`Gateway::save`] writes no such bytes.
+    /// The bytes are as they were saved, and they are no node with its stores. [`Gateway::save`] writes no such bytes of a gateway that no damaged
+    /// state was loaded into.
     Refused(Refusal),
 }
 
@@ -56,6 +60,9 @@ impl fmt::Display for LoadError {
             LoadError::Short { found } => write!(f, "no saved state: it has {found} bytes, and the header alone has {HEADER}"),
             LoadError::Name => write!(f, "no saved state: it does not begin with `pradulins-saved`"),
             LoadError::Format { found, read } => write!(f, "the state was saved in format {found}, and format {read} is read"),
+            LoadError::Length { said, found } if said == found => {
+                write!(f, "the saved state has {found} bytes after its header, and the largest has {LARGEST}")
+            }
             LoadError::Length { said, found } => write!(f, "the saved state has {found} bytes after its header, which says {said}"),
             LoadError::Checksum => write!(f, "the saved state was damaged: its checksum is another"),
             LoadError::Refused(refusal) => write!(f, "the saved state is {refusal}"),
@@ -119,8 +126,8 @@ fn sealed(parts: &[&[u8]]) -> Vec<u8> {
     bytes
 }
 
-/// What a header stands before, if all of the header is right.
-fn opened(bytes: &[u8]) -> Result<&[u8], LoadError> {
+/// What a header stands before, if all of the header is right. These are the first bytes of so many: all, or more than the largest state has.
+fn opened(bytes: &[u8], length: u64) -> Result<&[u8], LoadError> {
     if bytes.len() < HEADER {
         return Err(LoadError::Short { found: bytes.len() });
     }
@@ -133,8 +140,8 @@ fn opened(bytes: &[u8]) -> Result<&[u8], LoadError> {
     if format != FORMAT {
         return Err(LoadError::Format { found: format, read: FORMAT });
     }
-    let (said, found) = (number(LENGTH_AT, CHECKSUM_AT), rest.len() as u64);
-    if said != found {
+    let (said, found) = (number(LENGTH_AT, CHECKSUM_AT), length - HEADER as u64);
+    if said != found || found > LARGEST as u64 {
         return Err(LoadError::Length { said, found });
     }
     if number(CHECKSUM_AT, HEADER) != checksum(rest) {
@@ -161,7 +168,12 @@ impl Gateway {
     ///
     /// The checksum finds bytes that were damaged. It is not a signature: who can write the file can write any state with a right checksum.
     pub fn load(bytes: &[u8]) -> Result<Gateway, LoadError> {
-        Gateway::load_plain(opened(bytes)?).map_err(LoadError::Refused)
+        Gateway::load_part(bytes, bytes.len() as u64)
+    }
+
+    /// The same of the first bytes of so many.
+    fn load_part(bytes: &[u8], length: u64) -> Result<Gateway, LoadError> {
+        Gateway::load_plain(opened(bytes, length)?).map_err(LoadError::Refused)
     }
 
     /// The gateway that version 0.1.0 saved: the node and its two stores with no header before them. Save it anew: without a checksum, damage is
@@ -182,7 +194,7 @@ impl Gateway {
         write_file(path, &self.save())
     }
 
-    /// The gateway that [`Gateway::save_to`] wrote to a file.
+    /// The gateway that [`Gateway::save_to`] wrote to a file. Of a file that is longer than any state it reads no more than the largest has.
     ///
     /// A host that starts for the first time has no file, and should start a new gateway then and only then: what is wrong with a file is for a
     /// person to look at, since a new gateway has seen nothing and calls old notices new.
@@ -200,7 +212,8 @@ impl Gateway {
     /// # Ok::<(), Box<dyn std::error::Error>>(())
     /// ```
     pub fn load_from(path: impl AsRef<Path>) -> Result<Gateway, LoadError> {
-        Gateway::load(&fs::read(path).map_err(LoadError::Read)?)
+        let (bytes, length) = read_part(path.as_ref()).map_err(LoadError::Read)?;
+        Gateway::load_part(&bytes, length)
     }
 }
 
@@ -208,13 +221,16 @@ impl Gateway {
 ///
 /// The bytes go to a file beside it, with `.new` after the name, and to the disk; that file is then renamed over the old one, and the folder is
 /// flushed. On an error the file beside is removed, and the old one stays; only where flushing the folder is what failed, the new one is there. A
-/// `.new` file that a crash left is written over by the next call. The new file has the permissions that new files get, not those of the old one.
+/// `.new` file that a crash left is removed by the next call.
+///
+/// A state holds what notices hold. On Unix the new file has the permissions of the old one; where there is none, its owner alone may read and write
+/// it (0600). Its owner is the program's user.
 ///
 /// Two writers of one file at once are not for this: each takes the other's `.new` file for its own.
 pub fn write_file(path: impl AsRef<Path>, bytes: &[u8]) -> io::Result<()> {
     let path = path.as_ref();
     let beside = beside(path)?;
-    let written = write_whole(&beside, bytes).and_then(|()| fs::rename(&beside, path));
+    let written = write_whole(&beside, bytes, path).and_then(|()| fs::rename(&beside, path));
     if let Err(why) = written {
         let _ = fs::remove_file(&beside);
         return Err(why);
@@ -236,11 +252,45 @@ fn beside(path: &Path) -> io::Result<PathBuf> {
     Ok(path.with_file_name(name))
 }
 
-/// A new file with these bytes, on the disk.
-fn write_whole(path: &Path, bytes: &[u8]) -> io::Result<()> {
-    let mut file = File::create(path)?;
+/// A new file with these bytes, on the disk, with the permissions of the old one.
+fn write_whole(path: &Path, bytes: &[u8], old: &Path) -> io::Result<()> {
+    match fs::remove_file(path) {
+        Err(why) if why.kind() != io::ErrorKind::NotFound => return Err(why),
+        _ => {}
+    }
+    let mut options = OpenOptions::new();
+    options.write(true).create_new(true);
+    let mut file = kept(options, path, old)?;
     file.write_all(bytes)?;
     file.sync_all()
+}
+
+/// Opens a new file for its owner alone; then it gets the permissions of the old file, if there is one.
+#[cfg(unix)]
+fn kept(mut options: OpenOptions, path: &Path, old: &Path) -> io::Result<File> {
+    use std::os::unix::fs::OpenOptionsExt;
+    let file = options.mode(0o600).open(path)?;
+    if let Ok(old) = fs::metadata(old) {
+        if file.metadata()?.permissions() != old.permissions() {
+            file.set_permissions(old.permissions())?;
+        }
+    }
+    Ok(file)
+}
+
+#[cfg(not(unix))]
+fn kept(options: OpenOptions, path: &Path, _old: &Path) -> io::Result<File> {
+    options.open(path)
+}
+
+/// The bytes of a file, but at most one more than the largest state has; and how many it has.
+fn read_part(path: &Path) -> io::Result<(Vec<u8>, u64)> {
+    let file = File::open(path)?;
+    let told = file.metadata()?.len();
+    let mut bytes = Vec::new();
+    file.take((HEADER + LARGEST) as u64 + 1).read_to_end(&mut bytes)?;
+    let read = bytes.len() as u64;
+    Ok((bytes, if read > (HEADER + LARGEST) as u64 { read.max(told) } else { read }))
 }
 
 #[cfg(test)]
@@ -254,6 +304,10 @@ mod tests {
             Err(LoadError::Read(why)) => format!("Read({:?})", why.kind()),
             Err(why) => format!("{why:?}"),
         }
+    }
+
+    fn whole(bytes: &[u8]) -> Result<&[u8], LoadError> {
+        opened(bytes, bytes.len() as u64)
     }
 
     #[test]
@@ -270,26 +324,77 @@ mod tests {
         assert_eq!(bytes[20..28], [9, 0, 0, 0, 0, 0, 0, 0]);
         assert_eq!(bytes[28..36], 0x995d_c9bb_df19_39fa_u64.to_le_bytes());
         assert_eq!(bytes[36..], *b"123456789");
-        assert_eq!(opened(&bytes).unwrap(), b"123456789");
+        assert_eq!(whole(&bytes).unwrap(), b"123456789");
     }
 
     #[test]
     fn the_header_is_tested_in_order() {
         let right = sealed(&[b"123456789"]);
-        assert_eq!(word(opened(&[])), "Short { found: 0 }");
-        assert_eq!(word(opened(&[b'x'; 35])), "Short { found: 35 }");
-        assert_eq!(word(opened(&right[..35])), "Short { found: 35 }");
-        assert_eq!(word(opened(&[0; 36])), "Name");
+        assert_eq!(word(whole(&[])), "Short { found: 0 }");
+        assert_eq!(word(whole(&[b'x'; 35])), "Short { found: 35 }");
+        assert_eq!(word(whole(&right[..35])), "Short { found: 35 }");
+        assert_eq!(word(whole(&[0; 36])), "Name");
         let mut bytes = right.clone();
         bytes[40] = 0;
-        assert_eq!(word(opened(&bytes)), "Checksum");
+        assert_eq!(word(whole(&bytes)), "Checksum");
         bytes.push(0);
-        assert_eq!(word(opened(&bytes)), "Length { said: 9, found: 10 }");
+        assert_eq!(word(whole(&bytes)), "Length { said: 9, found: 10 }");
         bytes[17] = 1;
-        assert_eq!(word(opened(&bytes)), "Format { found: 257, read: 1 }");
+        assert_eq!(word(whole(&bytes)), "Format { found: 257, read: 1 }");
         bytes[0] = b'P';
-        assert_eq!(word(opened(&bytes)), "Name");
-        assert_eq!(word(opened(&right[..36])), "Length { said: 9, found: 0 }");
+        assert_eq!(word(whole(&bytes)), "Name");
+        assert_eq!(word(whole(&right[..36])), "Length { said: 9, found: 0 }");
+    }
+
+    #[test]
+    fn no_state_is_longer() {
+        let largest = sealed(&[&vec![7; LARGEST]]);
+        assert_eq!((LARGEST, whole(&largest).unwrap().len()), (306_512, LARGEST));
+        let longer = sealed(&[&vec![7; LARGEST + 1]]);
+        assert_eq!(word(whole(&longer)), "Length { said: 306513, found: 306513 }");
+        // The first bytes of a file that has more.
+        assert_eq!(word(opened(&longer, 1_000_000)), "Length { said: 306513, found: 999964 }");
+        assert_eq!(word(opened(&largest, 1_000_000)), "Length { said: 306512, found: 999964 }");
+    }
+
+    #[test]
+    fn no_more_is_read_than_the_largest_has() {
+        let folder = Folder::new("largest");
+        let file = folder.0.join("file");
+        let most = HEADER + LARGEST;
+        for (length, read) in [(0, 0), (5, 5), (most, most), (most + 1, most + 1), (most + 2, most + 1), (3_000_000_000, most + 1)] {
+            File::create(&file).unwrap().set_len(length as u64).unwrap();
+            let (bytes, told) = read_part(&file).unwrap();
+            assert_eq!((bytes.len(), told), (read, length as u64));
+        }
+        assert_eq!(word(Gateway::load_from(&file)), "Name");
+        // A header, and then more than is read.
+        let mut long = File::create(&file).unwrap();
+        long.write_all(&sealed(&[b"123456789"])).unwrap();
+        long.set_len(3_000_000_036).unwrap();
+        assert_eq!(word(Gateway::load_from(&file)), "Length { said: 9, found: 3000000000 }");
+        assert_eq!(word(Gateway::load_from(&folder.0)), format!("Read({:?})", fs::read(&folder.0).unwrap_err().kind()));
+    }
+
+    #[test]
+    #[cfg(unix)]
+    fn who_may_read_it() {
+        use std::os::unix::fs::PermissionsExt;
+        let folder = Folder::new("mode");
+        let file = folder.0.join("a.state");
+        let mode = || fs::metadata(&file).unwrap().permissions().mode() & 0o7777;
+        write_file(&file, b"first").unwrap();
+        assert_eq!(mode(), 0o600);
+        for kept in [0o640, 0o604, 0o666, 0o400, 0o600] {
+            fs::set_permissions(&file, fs::Permissions::from_mode(kept)).unwrap();
+            // One that a crash left, which anybody may read.
+            let left = folder.0.join("a.state.new");
+            fs::write(&left, b"left by a crash").unwrap();
+            fs::set_permissions(&left, fs::Permissions::from_mode(0o444)).unwrap();
+            write_file(&file, b"next").unwrap();
+            assert_eq!((mode(), fs::read(&file).unwrap()), (kept, b"next".to_vec()));
+        }
+        assert_eq!(folder.names(), ["a.state"]);
     }
 
     #[test]
@@ -301,6 +406,7 @@ mod tests {
             (LoadError::Name, "no saved state: it does not begin with `pradulins-saved`"),
             (LoadError::Format { found: 2, read: 1 }, "the state was saved in format 2, and format 1 is read"),
             (LoadError::Length { said: 9, found: 8 }, "the saved state has 8 bytes after its header, which says 9"),
+            (LoadError::Length { said: 400_000, found: 400_000 }, "the saved state has 400000 bytes after its header, and the largest has 306512"),
             (LoadError::Checksum, "the saved state was damaged: its checksum is another"),
             (LoadError::Refused(Refusal::Malformed), "the saved state is refused 42: node and stores are not well formed"),
         ] {

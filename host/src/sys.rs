@@ -84,7 +84,6 @@ mod calls {
         pub fn pradulins_decode(body: *const u8, body_len: usize, table: *mut u64, table_len: usize, values: *mut u64) -> u32;
         pub fn pradulins_walk(body: *const u8, body_len: usize, at: usize, values: *mut u64) -> u32;
         pub fn pradulins_version() -> u32;
-        #[cfg(test)]
         pub fn pradulins_format() -> u32;
     }
 }
@@ -112,6 +111,7 @@ mod calls {
         pradulins_decode(*const u8, usize, *mut u64, usize, *mut u64);
         pradulins_walk(*const u8, usize, usize, *mut u64);
         pradulins_version();
+        pradulins_format();
     }
 }
 
@@ -237,7 +237,6 @@ pub(crate) fn version() -> u32 {
     unsafe { calls::pradulins_version() }
 }
 
-#[cfg(all(test, not(no_archive)))]
 pub(crate) fn format() -> u32 {
     unsafe { calls::pradulins_format() }
 }

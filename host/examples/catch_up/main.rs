@@ -1,5 +1,5 @@
-//! Two gateways in one process. Notices are passed on over a link that loses some; then the gateways catch up with each other, round by round. Then a
-//! wall clock steps by an hour, and a gateway is saved and loaded again.
+//! Two gateways in one process. Notices are passed on over a link that loses some; then the gateways catch up with each other, round by round. Then
+//! it is told what a wall clock that steps by an hour would do, and a gateway is saved and loaded again.
 //!
 //!     cargo run --example catch_up
 
@@ -19,7 +19,7 @@ fn main() -> Result<(), Box<dyn std::error::Error>> {
 #[cfg(no_archive)]
 fn main() {
     if cfg!(all(target_arch = "x86_64", target_os = "linux")) {
-        eprintln!("catch_up: there is no libpradulins.a. Make it by `rt staticlib pradulins` in the repository's folder,");
+        eprintln!("catch_up: there is no libpradulins.a, or only an older one. Make it by `rt staticlib pradulins` in the repository's folder,");
         eprintln!("or name the folder that has it in PRADULINS_LIB_DIR.");
     } else {
         eprintln!("catch_up: libpradulins.a is for x86-64 Linux, and cannot be linked here. On Arm, `tools/host example` in the repository's folder");

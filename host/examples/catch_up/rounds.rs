@@ -141,18 +141,18 @@ pub fn run(out: &mut dyn Write) -> Result<(), Box<dyn Error>> {
     restart(south, out)
 }
 
-/// A wall clock that steps by an hour: with the site's own clock nothing is lost and nothing refused. The machine's wall clock is not stepped for
-/// this; the site's clock would not see it, and the crate's tests do step one (src/clock.rs).
+/// What a wall clock that steps by an hour would do. By the site's own clock, nothing: it does not look at the wall clock again. The machine's is not
+/// stepped for this; the crate's tests do step one (src/clock.rs).
 fn clocks(site: &mut Site, out: &mut dyn Write) -> Result<(), Box<dyn Error>> {
     let old = notice("north", 1, TOPIC, &[1; 3900])?;
     let (name, now) = (site.name, site.clock.now());
-    writeln!(out, "the wall clock at {name} steps back an hour; its clock does not look at it again")?;
+    writeln!(out, "if the wall clock stepped by an hour, the clock of {name} would not see it: it looked once, at start")?;
     writeln!(out, "  an old notice is {}", told(&mut site.gateway, &old, site.clock.now())?)?;
     writeln!(out, "  a notice of now is {}", told(&mut site.gateway, &notice("east", 1, TOPIC, b"")?, site.clock.now())?)?;
 
     // What a host would see that passes the wall clock itself: on copies, since the second one loses what it has seen.
     let (mut back, mut ahead) = (site.gateway.clone(), site.gateway.clone());
-    writeln!(out, "a host that passes the wall clock itself would see this")?;
+    writeln!(out, "a host that passes the wall clock itself would see it")?;
     writeln!(out, "  an hour back: a notice of now is {}", told(&mut back, &notice("east", 2, TOPIC, b"")?, now.saturating_sub(HOUR))?)?;
     writeln!(out, "  an hour ahead: the old notice is {}, though it was seen", told(&mut ahead, &old, now.saturating_add(HOUR))?)?;
     Ok(())
