@@ -245,6 +245,11 @@ class Bodies(Case):
             done = subprocess.run([SCRIPT, *words], stdout=write, stderr=subprocess.PIPE, check=False)
             os.close(write)
             self.assertEqual((done.returncode, done.stderr), (status, b""), words)
+        done = subprocess.run("'%s' - 0>/dev/null" % SCRIPT, shell=True, capture_output=True, check=False)
+        self.assertEqual((done.returncode, done.stderr), (2, b"inspect: cannot read standard input: Bad file descriptor\n"))
+        with open("/dev/full", "wb") as full:
+            done = subprocess.run([SCRIPT, "1a00"], stdout=full, stderr=subprocess.PIPE, check=False)
+        self.assertEqual((done.returncode, done.stderr), (2, b"inspect: cannot write standard output: No space left on device\n"))
 
     def test_bodies_of_the_oracle(self):
         sys.path.append(os.path.join(TOP, "oracle"))

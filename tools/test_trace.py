@@ -435,6 +435,11 @@ class Programs(Case):
                                   check=False)
             os.close(write)
             self.assertEqual((done.returncode, done.stderr), (status, b""))
+        for more in ([], ["--records", "-"], ["--records", "/dev/full"]):
+            with open("/dev/full", "wb") as full:
+                done = subprocess.run([SCRIPT, "--emulator", emulator, "--program", self.model, path, *more], stdout=full, stderr=subprocess.PIPE, check=False)
+            name = "/dev/full" if "/dev/full" in more else "standard output"
+            self.assertEqual((done.returncode, done.stderr.decode()), (1, "trace: cannot write %s: No space left on device\n" % name))
 
     def test_none(self):
         status, out, err = self.call("--program", os.path.join(self.folder, "none"), text=self.TEXT)
