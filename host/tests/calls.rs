@@ -152,18 +152,19 @@ fn a_walk_ends() {
     assert!(walk_from(&bytes, usize::MAX).next().is_none());
 }
 
-/// Saved and loaded after every call, as a host might do it, with its own clock.
+/// Saved and loaded after every call, as a host might do it, each time with a new clock. An hour of ttl: the test may be slow.
 #[test]
 fn a_state_is_saved_and_loaded() {
-    let mut gateway = Gateway::start(SETTINGS).unwrap();
-    let clock = Clock::after(&gateway);
+    let mut gateway = Gateway::start(Settings { ttl: 3_600_000, ..SETTINGS }).unwrap();
+    let mut clock = Clock::after(&gateway);
     for from in b'A'..b'H' {
         assert_eq!(gateway.admit(&body(from), 0, true, clock.now()), Ok(Admitted::New));
         let loaded = Gateway::load(&gateway.save()).unwrap();
         assert!(loaded == gateway);
         assert_eq!(loaded.advertise(b"t", 2), gateway.advertise(b"t", 2));
         gateway = loaded;
-        assert_eq!(gateway.admit(&body(from), 0, true, Clock::after(&gateway).now()), Ok(Admitted::Duplicate));
+        clock = Clock::after(&gateway);
+        assert_eq!(gateway.admit(&body(from), 0, true, clock.now()), Ok(Admitted::Duplicate));
     }
     let saved = gateway.save();
     assert!(matches!(Gateway::load(&[]), Err(LoadError::Short { found: 0 })));
