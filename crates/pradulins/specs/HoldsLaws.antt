@@ -3,6 +3,7 @@
 use Prim.Native.Nat.{ℕ, zero, suc, _^_, _<_}
 use mathlib.Core.Path.{_≡_, refl, ap, _∙_}
 use mathlib.Core.Bool.{Bool, true, false, cond}
+use mathlib.Core.Logic.{_↔_}
 use mathlib.Core.List.{List, [], _∷_}
 use native.Mathlib.Omega.{arith}
 use lib.ListN.{length, getD, replicate, length-replicate}
@@ -11,19 +12,21 @@ use lib.Dec.{leb}
 use borrow.Author.Tests.{le-leb, leb-true}
 use Rattle.basis.specs.Cases.{both}
 use Rattle.basis.specs.declared.Told.{Told}
-use Rattle.basis.specs.Told.{done, valuesOf}
+use Rattle.basis.specs.Refusals.{bad-setting, malformed}
+use Rattle.basis.specs.Told.{told, done, valuesOf}
 use Rattle.seen.specs.State.{maxIds, fresh as noIds}
 use Rattle.seen.specs.EntriesLaws.{length-entries}
 use Rattle.mcache.specs.State.{legal, fresh, maxHistory, maxMessages}
 use Rattle.mcache.specs.StateLaws.{fine-tests as cache-tests}
 use Rattle.mcache.specs.CachedLaws.{length-cached}
 use Rattle.node.specs.declared.Node.{Node}
+use Rattle.node.specs.declared.Lent.{Lent}
 use Rattle.node.specs.declared.Lent.the-variants as lent
 use Rattle.node.specs.declared.Start.the-variants as start
 use Rattle.node.specs.State.{gatewayIn, legalSettings, freshNode}
 use Rattle.node.specs.StateLaws.{fine-tests}
-use Rattle.node.specs.Told.{startTold}
-use Rattle.node.specs.Calls.{lentOf, startAnswer}
+use Rattle.node.specs.Told.{startTold, faultTold, lentTold}
+use Rattle.node.specs.Calls.{lentOf, onLent, startAnswer}
 use Rattle.stored.specs.Layout.{nodeIn, nodeBytes, headOf, Fits}
 use Rattle.stored.specs.LayoutLaws.{stored-loaded}
 use Rattle.pradulins.specs.Holds.{settingsTold, stateTold}
@@ -97,7 +100,29 @@ settings-started {s} {made} {vs} {ws} {ttl} {max-seen} {history} {max} t a b =
     ap settingsTold n ∙ settings-fresh ttl max-seen history max l in
     (b .number ∙ ap (λ (x : Told). x .number) e, b .values ∙ ap (λ (x : Told). sets vs 0 (valuesOf x)) e)
 
--- and every node that a call takes tells its own
+-- 42 comes exactly where a start would meet 40, and nothing else is refused
+told-settings : (b : Bool) (x : Told) → x .number ≡ 0
+    → (cond b x (told malformed []) .number ≡ malformed)
+    ↔ (startTold (cond b start.Started start.BadSetting) .number ≡ bad-setting)
+told-settings true x e = (λ h. absurd (omega arith), λ h. absurd (omega arith))
+told-settings false x e = (λ h. refl, λ h. refl)
+
+pub settings-exactly : (n : Node) → (settingsTold n .number ≡ malformed)
+    ↔ (startTold (startAnswer (n .«max_seen») (n .cache .«history_len») (n .cache .«max_messages»)) .number ≡ bad-setting)
+unfolding startAnswer
+settings-exactly n =
+    told-settings (legalSettings (n .«max_seen») (n .cache .«history_len») (n .cache .«max_messages»))
+    (done (n .ttl ∷ n .«max_seen» ∷ n .cache .«history_len» ∷ n .cache .«max_messages» ∷ [])) refl
+
+-- ---- the state: 40, 41 and 42 come exactly where the lent node and its stores meet them
+told-state : (l : Lent) (vs : List ℕ) → onLent faultTold l (done vs) .number ≡ lentTold l .number
+told-state lent.Fine vs = refl
+told-state (lent.Faulty why) vs = refl
+
+pub state-number : (n : Node) (ss cs : List ℕ) → stateTold n ss cs .number ≡ lentTold (lentOf n ss cs) .number
+state-number n ss cs = told-state (lentOf n ss cs) (n .clock ∷ n .seen .count ∷ n .cache .count ∷ [])
+
+-- ---- what is told of a state that a call takes: its settings
 module _ (n : Node) (ss cs : List ℕ) (fine : lentOf n ss cs ≡ lent.Fine) where
   taken-legal : legalSettings (n .«max_seen») (n .cache .«history_len») (n .cache .«max_messages») ≡ true
   unfolding legalSettings legal
