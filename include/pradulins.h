@@ -249,6 +249,28 @@ uint32_t pradulins_format(void);
 
 /* ---- words */
 
+/* How many of `values` a refusal gets, from the first on. */
+static inline int pradulins_refusal_values(uint32_t number)
+{
+    switch (number) {
+    case PRADULINS_FIELD_OVERFLOW: return 3;
+    case PRADULINS_WIRE_TYPE:
+    case PRADULINS_FIELD_NUMBER: return 2;
+    case PRADULINS_UTF8:
+    case PRADULINS_BODY_TOO_LARGE:
+    case PRADULINS_TOO_MANY_RECORDS:
+    case PRADULINS_ROOM:
+    case PRADULINS_NO_MESSAGE:
+    case PRADULINS_INVALID_FROM:
+    case PRADULINS_SIGNATURE_LENGTH:
+    case PRADULINS_TOPIC_COUNT:
+    case PRADULINS_TOPIC_TOO_LONG:
+    case PRADULINS_MESSAGE_TOO_LONG:
+    case PRADULINS_CLOCK_BACK: return 1;
+    default: return 0;
+    }
+}
+
 /* What a refusal means, in a few words; never null. It is for people: programs go by the number. */
 static inline const char *pradulins_refusal_text(uint32_t number)
 {

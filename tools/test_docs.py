@@ -5,8 +5,6 @@
 """
 
 import contextlib
-import importlib.machinery
-import importlib.util
 import io
 import os
 import sys
@@ -15,18 +13,14 @@ import unittest
 from unittest import mock
 
 HERE = os.path.dirname(os.path.abspath(__file__))
+sys.dont_write_bytecode = True
+sys.path.insert(0, HERE)
+import scripts  # noqa: E402
+
 SCRIPT = os.path.join(HERE, "docs")
 
 
-def loaded():
-    loader = importlib.machinery.SourceFileLoader("docs_script", SCRIPT)
-    module = importlib.util.module_from_spec(importlib.util.spec_from_loader("docs_script", loader))
-    sys.dont_write_bytecode = True
-    loader.exec_module(module)
-    return module
-
-
-DOCS = loaded()
+DOCS = scripts.loaded("docs")
 
 TREE = {
     "crates.txt": "# NAME: what it depends on\n\n# wire\nvarint:\n\n# state\nring: varint\n\n# boundary\npradulins: ring\n",

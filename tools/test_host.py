@@ -6,8 +6,6 @@ are killed, how a failure ends.
 """
 
 import contextlib
-import importlib.machinery
-import importlib.util
 import io
 import os
 import struct
@@ -17,17 +15,12 @@ import unittest
 from unittest import mock
 
 TOOLS = os.path.dirname(os.path.abspath(__file__))
+sys.dont_write_bytecode = True
+sys.path.insert(0, TOOLS)
+import scripts  # noqa: E402
 
 
-def loaded(name):
-    sys.dont_write_bytecode = True
-    loader = importlib.machinery.SourceFileLoader(name + "_script", os.path.join(TOOLS, name))
-    module = importlib.util.module_from_spec(importlib.util.spec_from_loader(name + "_script", loader))
-    loader.exec_module(module)
-    return module
-
-
-HOST = loaded("host")
+HOST = scripts.loaded("host")
 X86 = HOST.x86
 
 TREE = {

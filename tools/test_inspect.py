@@ -5,8 +5,6 @@
 """
 
 import contextlib
-import importlib.machinery
-import importlib.util
 import io
 import os
 import random
@@ -18,21 +16,17 @@ import unittest
 from unittest import mock
 
 HERE = os.path.dirname(os.path.abspath(__file__))
+sys.dont_write_bytecode = True
+sys.path.insert(0, HERE)
+import scripts  # noqa: E402
+
 TOP = os.path.dirname(HERE)
 SCRIPT = os.path.join(HERE, "inspect")
 PROGRAM = os.path.join(TOP, "target", "bin", "inspect")
 X = "12 4b 0a 01 41 1a 01 01 22 01 74 2a 40 00*64"
 
 
-def loaded():
-    loader = importlib.machinery.SourceFileLoader("inspect_script", SCRIPT)
-    module = importlib.util.module_from_spec(importlib.util.spec_from_loader("inspect_script", loader))
-    sys.dont_write_bytecode = True
-    loader.exec_module(module)
-    return module
-
-
-INSPECT = loaded()
+INSPECT = scripts.loaded("inspect")
 
 
 def why_not():

@@ -5,8 +5,6 @@
 """
 
 import contextlib
-import importlib.machinery
-import importlib.util
 import io
 import os
 import shutil
@@ -18,6 +16,10 @@ import unittest
 from unittest import mock
 
 HERE = os.path.dirname(os.path.abspath(__file__))
+sys.dont_write_bytecode = True
+sys.path.insert(0, HERE)
+import scripts  # noqa: E402
+
 TOP = os.path.dirname(HERE)
 SCRIPT = os.path.join(HERE, "install")
 ARCHIVE = b"!<arch>\nstand-in, with pradulins_format\0"
@@ -39,15 +41,7 @@ int main(void)
 """
 
 
-def loaded():
-    loader = importlib.machinery.SourceFileLoader("install_script", SCRIPT)
-    module = importlib.util.module_from_spec(importlib.util.spec_from_loader("install_script", loader))
-    sys.dont_write_bytecode = True
-    loader.exec_module(module)
-    return module
-
-
-INSTALL = loaded()
+INSTALL = scripts.loaded("install")
 
 
 class Case(unittest.TestCase):

@@ -5,8 +5,6 @@
 """
 
 import contextlib
-import importlib.machinery
-import importlib.util
 import io
 import os
 import re
@@ -18,6 +16,10 @@ import unittest
 from unittest import mock
 
 HERE = os.path.dirname(os.path.abspath(__file__))
+sys.dont_write_bytecode = True
+sys.path.insert(0, HERE)
+import scripts  # noqa: E402
+
 TOP = os.path.dirname(HERE)
 SCRIPT = os.path.join(HERE, "trace")
 ZEROS = bytes(64)
@@ -33,15 +35,7 @@ for line in nodes.expected(sys.stdin.buffer.read()):
 """ % os.path.join(TOP, "oracle")
 
 
-def loaded():
-    loader = importlib.machinery.SourceFileLoader("trace_script", SCRIPT)
-    module = importlib.util.module_from_spec(importlib.util.spec_from_loader("trace_script", loader))
-    sys.dont_write_bytecode = True
-    loader.exec_module(module)
-    return module
-
-
-TRACE = loaded()
+TRACE = scripts.loaded("trace")
 
 
 def record(kind, content):

@@ -62,37 +62,11 @@ static int failed(const char *what, const char *why)
     return 1;
 }
 
-/* How many values stand beside a refusal: see the list in pradulins.h. */
-static int values_beside(uint32_t number)
-{
-    switch (number) {
-    case PRADULINS_FIELD_OVERFLOW:
-        return 3;
-    case PRADULINS_WIRE_TYPE:
-    case PRADULINS_FIELD_NUMBER:
-        return 2;
-    case PRADULINS_UTF8:
-    case PRADULINS_BODY_TOO_LARGE:
-    case PRADULINS_TOO_MANY_RECORDS:
-    case PRADULINS_ROOM:
-    case PRADULINS_NO_MESSAGE:
-    case PRADULINS_INVALID_FROM:
-    case PRADULINS_SIGNATURE_LENGTH:
-    case PRADULINS_TOPIC_COUNT:
-    case PRADULINS_TOPIC_TOO_LONG:
-    case PRADULINS_MESSAGE_TOO_LONG:
-    case PRADULINS_CLOCK_BACK:
-        return 1;
-    default:
-        return 0;
-    }
-}
-
 /* A refusal in words, with its values. */
 static void put_refusal(FILE *out, uint32_t number, const uint64_t values[PRADULINS_VALUES])
 {
     fprintf(out, "refused %" PRIu32 ": %s", number, pradulins_refusal_text(number));
-    for (int i = 0; i < values_beside(number); i++)
+    for (int i = 0; i < pradulins_refusal_values(number); i++)
         fprintf(out, "%s %" PRIu64, i == 0 ? ":" : ",", values[i]);
     putc('\n', out);
 }

@@ -42,32 +42,6 @@ static void before(void)
         values[i] = UNTOUCHED;
 }
 
-/* How many values stand beside a refusal. */
-static int count_of(uint32_t number)
-{
-    switch (number) {
-    case PRADULINS_FIELD_OVERFLOW:
-        return 3;
-    case PRADULINS_WIRE_TYPE:
-    case PRADULINS_FIELD_NUMBER:
-        return 2;
-    case PRADULINS_VARINT_SHORT:
-    case PRADULINS_VARINT_OVERFLOW:
-    case PRADULINS_VARINT_NOT_MINIMAL:
-    case PRADULINS_MISSING_FROM:
-    case PRADULINS_INVALID_SEQNO:
-    case PRADULINS_KEY_WITHOUT_SIGNATURE:
-    case PRADULINS_MISSING_SIGNATURE:
-    case PRADULINS_NOT_VERIFIED:
-    case PRADULINS_BAD_SETTING:
-    case PRADULINS_BAD_STORE:
-    case PRADULINS_MALFORMED:
-        return 0;
-    default:
-        return 1;
-    }
-}
-
 static void expect(int ok, const char *what)
 {
     if (!ok && !fault) {
@@ -82,7 +56,7 @@ static void expect(int ok, const char *what)
 static void after(uint32_t number, int count, size_t bytes, size_t rows, int keeps)
 {
     if (number != 0) {
-        count = count_of(number);
+        count = pradulins_refusal_values(number);
         bytes = rows = 0;
         keeps = 1;
     }
@@ -116,7 +90,7 @@ static void put_number(uint64_t v)
 static void put_refused(uint32_t number, int full)
 {
     printf(" refused %u", number);
-    for (int i = 0; full && i < count_of(number); i++)
+    for (int i = 0; full && i < pradulins_refusal_values(number); i++)
         put_number(values[i]);
 }
 
@@ -262,7 +236,7 @@ static void rooms(uint64_t kind, const uint8_t *body, size_t len, size_t index, 
     before();
     uint32_t again = body_call(kind, body, len, index, needed);
     after(again, kind == 1 ? 2 : 1, kind == 1 || again ? 0 : values[0], kind == 1 && !again ? values[0] : 0, 1);
-    expect(again == r && (count_of(r) == 0 || values[0] == first), "another answer with just enough room");
+    expect(again == r && (pradulins_refusal_values(r) == 0 || values[0] == first), "another answer with just enough room");
     if (needed > 0) {
         before();
         again = body_call(kind, body, len, index, needed - 1);
