@@ -4,7 +4,7 @@ use mathlib.Core.Path.{_≡_, refl, sym, ap, _∙_}
 use mathlib.Core.List.{List, [], _∷_, _++_}
 use native.Mathlib.Omega.{arith}
 use native.Mathlib.Nat.{add-zero, zero-add, sub-zero, zero-sub, suc-sub-suc}
-use lib.ListN.{length, set, take, drop, replicate, length-take, List·getD-eq-default}
+use lib.ListN.{length, getD, set, take, drop, replicate, length-take, List·getD-eq-default}
 use lib.Seq.{sets, sets-eq, getD-drop, getD-take, take-nil}
 use mathlib.Core.Bool.{false}
 use lib.Dec.{ltb, leb}
@@ -88,10 +88,14 @@ pub sets-bytes : (st : List ℕ) (k : ℕ) (m : List ℕ) → Bytes st → Bytes
 sets-bytes st k [] h g = h
 sets-bytes st k (b ∷ m) h g = sets-bytes (set st k b) (suc k) m (set-bytes st k b h (g 0)) (λ i. g (suc i))
 
+-- zeros, and past them, are below every number that is above 0
+pub zeros-below : (n m i : ℕ) → 0 < m → getD (replicate n 0) i 0 < m
+zeros-below zero m i h = h
+zeros-below (suc n) m zero h = h
+zeros-below (suc n) m (suc i) h = zeros-below n m i h
+
 pub zeros-bytes : (n : ℕ) → Bytes (replicate n 0)
-zeros-bytes zero i = omega arith
-zeros-bytes (suc n) zero = omega arith
-zeros-bytes (suc n) (suc i) = zeros-bytes n i
+zeros-bytes n i = zeros-below n 256 i (omega arith)
 
 -- what is left of a front
 pub drop-take : {A : Type 0} (n m : ℕ) (l : List A) → drop m (take n l) ≡ take (n - m) (drop m l)

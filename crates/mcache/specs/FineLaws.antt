@@ -9,6 +9,7 @@ use lib.Seq.{sets, length-sets, getD-set-same, getD-set-other, set-out}
 use lib.Dec.{leb, ltb, eqb}
 use borrow.Author.Tests.{le-leb, leb-true, ltb-true, ltb-false, eqb-true, eqb-false, eq-eqb}
 use Rattle.basis.specs.Cases.{either, clash, both}
+use Rattle.basis.specs.Lists.{zeros-below}
 use Rattle.rows.specs.declared.Ring.{Ring}
 use Rattle.rows.specs.Rows.{rowsIn, newest, without, oneMore}
 use Rattle.rows.specs.RowsLaws.{place-le, ring-drop}
@@ -461,15 +462,10 @@ pub shifted-typed : (c : MessageCache) → Typed c → Typed (shifted c)
 unfolding shifted dropped aged
 shifted-typed c y = record { sized = shifted-sized c (y .sized); next-small = y .next-small; small = y .small }
 
-zeros-small : (n p : ℕ) → getD (replicate n 0) p 0 < 2 ^ 64
-zeros-small zero p = omega arith
-zeros-small (suc n) zero = omega arith
-zeros-small (suc n) (suc p) = zeros-small n p
-
 pub fresh-typed : (next history max : ℕ) → next < 2 ^ 64 → Typed (freshAt next history max)
 unfolding freshAt
 fresh-typed next history max h =
-    record { sized = fresh-sized next history max; next-small = h; small = zeros-small maxMessages }
+    record { sized = fresh-sized next history max; next-small = h; small = λ p. zeros-below maxMessages (2 ^ 64) p (omega arith) }
 
 entered-typed : (n : ℕ) (id : List ℕ) (c : MessageCache) → Typed c → Typed (entered n id c)
 entered-typed n id c y =

@@ -11,6 +11,7 @@ use lib.Seq.{sets}
 use lib.Dec.{leb}
 use borrow.Author.Tests.{le-leb, leb-true}
 use Rattle.basis.specs.Cases.{both}
+use Rattle.basis.specs.Lists.{zeros-below}
 use Rattle.basis.specs.declared.Told.{Told}
 use Rattle.basis.specs.Refusals.{bad-setting, malformed}
 use Rattle.basis.specs.Told.{told, done, valuesOf}
@@ -40,11 +41,6 @@ unfolding freshNode fresh
 settings-fresh ttl max-seen history max h = rw h
 
 -- the numbers of a fresh node fit its bytes
-zero-small : (n i m : ℕ) → 0 < m → getD (replicate n 0) i 0 < m
-zero-small zero i m h = h
-zero-small (suc n) zero m h = h
-zero-small (suc n) (suc i) m h = zero-small n i m h
-
 cons-small : (x : ℕ) (l : List ℕ) (m : ℕ) → x < m → ((i : ℕ) → getD l i 0 < m) → (i : ℕ) → getD (x ∷ l) i 0 < m
 cons-small x l m h k zero = h
 cons-small x l m h k (suc i) = k i
@@ -59,7 +55,7 @@ head-small a b c d m h k l n =
     let start : List ℕ = 0 ∷ count in
     let clock : List ℕ = 0 ∷ start in
     cons-small a (b ∷ clock) m h (cons-small b clock m k (cons-small 0 start m z (cons-small 0 count m z
-    (cons-small 0 history m z (cons-small c max m l (cons-small d (replicate 3 0) m n (λ i. zero-small 3 i m z)))))))
+    (cons-small 0 history m z (cons-small c max m l (cons-small d (replicate 3 0) m n (λ i. zeros-below 3 m i z)))))))
 
 fresh-fits : (ttl max-seen history max : ℕ) → ttl < 2 ^ 64 → legalSettings max-seen history max ≡ true
     → Fits (freshNode ttl max-seen history max)
@@ -72,13 +68,13 @@ fresh-fits ttl max-seen history max t h =
       head = head-small ttl max-seen history max (2 ^ 64) t (omega (arith, leb-true max-seen maxIds (a .0)))
           (omega (arith, leb-true history maxHistory (c .0))) (omega (arith, leb-true max maxMessages (c .1)));
       expiries = length-replicate {A = ℕ} maxIds 0;
-      expiry = λ i. zero-small maxIds i (2 ^ 64) (omega arith);
+      expiry = λ i. zeros-below maxIds (2 ^ 64) i (omega arith);
       id-lengths = length-replicate {A = ℕ} maxIds 0;
       generations = length-replicate {A = ℕ} maxMessages 0;
-      generation = λ i. zero-small maxMessages i (2 ^ 64) (omega arith);
+      generation = λ i. zeros-below maxMessages (2 ^ 64) i (omega arith);
       windows = length-replicate {A = ℕ} maxMessages 0;
       lengths = length-replicate {A = ℕ} maxMessages 0;
-      message-length = λ i. zero-small maxMessages i (2 ^ 16) (omega arith);
+      message-length = λ i. zeros-below maxMessages (2 ^ 16) i (omega arith);
       cached-id-lengths = length-replicate {A = ℕ} maxMessages 0;
       cached-ids = length-replicate {A = ℕ} 8192 0;
     }
