@@ -4,7 +4,7 @@ use mathlib.Core.Path.{_≡_, refl, _∙_}
 use mathlib.Core.List.{List, [], _∷_, _++_}
 use mathlib.Core.Bool.{Bool, true, false, _&&_}
 use native.Mathlib.Omega.{arith}
-use lib.ListN.{length, drop, getD, set, replicate, length-append, length-set, length-map, length-replicate}
+use lib.ListN.{length, drop, getD, set, length-append, length-set, length-map, length-replicate}
 use lib.Seq.{sets, length-sets, getD-set-same, getD-set-other, set-out}
 use lib.Dec.{leb, ltb, eqb}
 use borrow.Author.Tests.{le-leb, leb-true, ltb-true, ltb-false, eqb-true, eqb-false, eq-eqb}
