@@ -11,8 +11,8 @@ use Rattle.node.specs.State.{legalSettings}
 use Rattle.node.specs.Told.{faultTold}
 use Rattle.node.specs.Calls.{lentOf, onLent}
 
--- the settings that it was started with. Those that none is started with are 42: "settings legal" is a clause of it, and
--- the one that a node shows without its stores.
+-- the settings that it was started with. Those that none is started with are 42: that settings are legal is a clause of
+-- it, and the one that a node shows without its stores.
 abbrev pub settingsTold : Node → Told
 settingsTold n =
     cond (legalSettings (n .«max_seen») (n .cache .«history_len») (n .cache .«max_messages»))
