@@ -86,17 +86,15 @@ pub fn read_uvarint(input: &[u8]) -> Uvarint
     Uvarint::Refused(VarintError::BufferTooShort)
 }
 
-// How many bytes a value takes.
+// How many bytes a value takes: the bits that it needs, at least one, divided by seven and rounded up.
 pub fn uvarint_len(value: u64) -> usize
     ensures { λ r. ⌜ r ≡ length (uvarint value) ⌝ }
 {
-    let mut v = value;
-    let mut len: usize = 1;
-    while 128 <= v {
-        v = v / 128;
-        len = len + 1;
+    let mut bits = 64 - u64::leading_zeros(value);
+    if bits < 1 {
+        bits = 1;
     }
-    len
+    ((bits + 6) / 7) as usize
 }
 
 // Writes a value at `at`, where it fits, and says where it ends.

@@ -1,36 +1,34 @@
--- `peer_id::uvarint_len` meets its contract: len - 1 bytes are passed, and v's are left.
-use Prim.Native.Nat.{ℕ, _+_, _≤_, _<_}
-use mathlib.Core.Path.{_≡_, refl, sym, ap, _∙_}
+-- `peer_id::uvarint_len` meets its contract: what it gives is the form, and the form is the length of the encoding.
+use Prim.Native.Nat.{_-_, max}
+use mathlib.Core.Path.{_≡_}
+use mathlib.Core.Logic.{⊎-elim}
 use native.Mathlib.Omega.{arith}
-use lib.ListN.{length}
-use Rattle.peer_id.specs.Uvarint.{uvarint}
-use Rattle.peer_id.specs.Laws.{uvarint-small, uvarint-big}
+use lib.Count.{leadingZeros, leading-le}
+use Rattle.peer_id.specs.Length.{byBits, bitsOf}
+use Rattle.peer_id.specs.LengthLaws.{bits-uvarint}
 use Rattle.peer_id.proofs.uvarint_len.Statement.{statement}
 use Rattle.peer_id.proofs.uvarint_len.Tie as tie
 use Rattle.peer_id.proofs.uvarint_len.Reads as reads
 use Rattle.peer_id.proofs.uvarint_len.Lts as lts
 
-abbrev Inv-loop : tie.InvT-loop
-Inv-loop value v₀ len₀ v len = (length (uvarint value) + 1 ≡ len + length (uvarint v)) × (len + v ≤ value + 1) × (v ≤ value)
+-- the bits, at least one
+at-least-one : (c : tie.Joined1) → c .if1 .bits ≡ max (64 - leadingZeros 64 (c .before .args .value)) 1
+at-least-one c = ⊎-elim (λ w. omega arith) (λ w. omega arith) (c .if1 .came)
 
-abbrev μ-loop : tie.MeasureT-loop
-μ-loop value v₀ len₀ v len = v
+sub-bits : tie.Need-sub-bits
+sub-bits c = leading-le 64 (c .args .value)
 
-loop-holds : tie.Need-loop-holds Inv-loop μ-loop
-loop-holds c = omega arith
+add-result : tie.Need-add-result
+add-result c = omega (arith, at-least-one (c .before))
 
-add-len : tie.Need-add-len Inv-loop μ-loop
-add-len c = omega arith
+cast-result : tie.Need-cast-result
+cast-result c = omega (arith, at-least-one (c .before))
 
-loop-less : tie.Need-loop-less Inv-loop μ-loop
-loop-less c = omega arith
-
-loop-again : tie.Need-loop-again Inv-loop μ-loop
-loop-again c = (omega (arith, ap length (uvarint-big (c .before .loop .v) (c .loop-test .taken))), omega arith, omega arith)
-
-returns : tie.Need-returns Inv-loop μ-loop
-returns c = omega (arith, ap length (uvarint-small (c .before .loop .v) (c .loop-test .left)))
+returns : tie.Need-returns
+unfolding byBits bitsOf
+returns c =
+    let a = c .before .before .args in
+    omega (arith, at-least-one (c .before), bits-uvarint (a .value) (c .before .before .fits .value .fits))
 
 pub uvarint-len-spec : {M : Type 1} → statement M
-uvarint-len-spec =
-    tie.close (tie.spec Inv-loop μ-loop loop-holds add-len loop-less loop-again returns)
+uvarint-len-spec = tie.close (tie.spec sub-bits add-result cast-result returns)
