@@ -301,6 +301,27 @@ def id_bodies():
             yield tagged(2, b"") + tagged(2, one + two) + tagged(2, b"\x08\x01")
 
 
+# The values about which the length of a varint changes, as the rows of crates/peer_id/specs/LengthLaws.antt have them.
+TURNS = [0, 1, 127, 128, 2**14 - 1, 2**14, 2**21 - 1, 2**21, 2**28, 2**32 - 1, 2**35, 2**42, 2**49, 2**56 - 1, 2**56, 2**63 - 1, 2**63, 2**64 - 1]
+
+
+def backoff_bodies():
+    """Prunes with a backoff at each of these values and one to each side: alone, before a topic and a peer, twice, and all of them one after the other."""
+    values = sorted({v + d for v in TURNS for d in (-1, 0, 1) if 0 <= v + d < 2**64})
+    assert {len(varint(v)) for v in values} == set(range(1, 11))
+    prunes = []
+    for v in values:
+        prunes.append(tagged(4, counted(3, v)))
+        yield tagged(3, prunes[-1])
+        yield tagged(3, tagged(4, counted(3, v) + tagged(2, tagged(1, b"p")) + tagged(1, b"t")))
+        yield tagged(3, tagged(4, counted(3, 1) + counted(3, v)))
+        yield tagged(3, tagged(4, counted(3, v) + counted(3, 2**64 - 1)))
+    yield tagged(3, b"".join(prunes))
+    yield tagged(3, b"".join(reversed(prunes)))
+    yield b"".join(tagged(3, one) for one in prunes)
+    yield b"".join(tagged(3, tagged(3, b"") + one) for one in prunes)
+
+
 def each(value, n, least=0):
     """All tuples of up to n elements."""
     rows = [b""]

@@ -4,11 +4,12 @@
     oracle/compare_write.py BINARY [--seed N] [--count N]
 
 BINARY is target/bin/inspect, after `rt check inspect`. The bodies are those of
-compare_decode.py, and then messages with from and seqno of lengths about the
-limits. Each body is encoded; sign bytes and ids are asked for message 0, message
-1, the last one and the one after it. Refusals 10, 11 and the lengths of 22 are
-the scope's own. Prints the counts, and the first differences; the exit status
-is 0 where there are none.
+compare_decode.py, then messages with from and seqno of lengths about the
+limits, and prunes with backoffs about the values where a varint grows by a byte,
+so that lengths of one byte to ten are written. Each body is encoded; sign bytes
+and ids are asked for message 0, message 1, the last one and the one after it.
+Refusals 10, 11 and the lengths of 22 are the scope's own. Prints the counts, and
+the first differences; the exit status is 0 where there are none.
 """
 
 import bodies
@@ -20,6 +21,7 @@ from oracle import PATH, hexed
 def source(r, count):
     yield from bodies.bodies(r, count)
     yield from bodies.id_bodies()
+    yield from bodies.backoff_bodies()
     yield bytes(wire.MAX_CONTENT - wire.PLACE["sign"])
     for _ in range(count // 8):
         yield bodies.messages_body(r)
