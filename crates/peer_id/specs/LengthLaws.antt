@@ -57,28 +57,28 @@ pub bits-uvarint : (v : ℕ) → v < 2 ^ 64 → byBits v ≡ length (uvarint v)
 bits-uvarint v h = bits-loop v h ∙ loop-uvarint v
 
 -- ---- the values about which the length changes: the form, the loop and the encoding's length
-abbrev pub Row : ℕ → ℕ → Type 0
-Row v n = (byBits v ≡ n) × (byLoop v ≡ n) × (length (uvarint v) ≡ n)
+abbrev pub LengthAt : ℕ → ℕ → Type 0
+LengthAt v n = (byBits v ≡ n) × (byLoop v ≡ n) × (length (uvarint v) ≡ n)
 
 pub length-rows :
-    Row 0 1
-    × Row 1 1
-    × Row 127 1
-    × Row 128 2
-    × Row 16383 2
-    × Row 16384 3
-    × Row (2 ^ 21 - 1) 3
-    × Row (2 ^ 21) 4
-    × Row (2 ^ 28) 5
-    × Row (2 ^ 32 - 1) 5
-    × Row (2 ^ 35) 6
-    × Row (2 ^ 42) 7
-    × Row (2 ^ 49) 8
-    × Row (2 ^ 56 - 1) 8
-    × Row (2 ^ 56) 9
-    × Row (2 ^ 63 - 1) 9
-    × Row (2 ^ 63) 10
-    × Row (2 ^ 64 - 1) 10
+    LengthAt 0 1
+    × LengthAt 1 1
+    × LengthAt 127 1
+    × LengthAt 128 2
+    × LengthAt 16383 2
+    × LengthAt 16384 3
+    × LengthAt (2 ^ 21 - 1) 3
+    × LengthAt (2 ^ 21) 4
+    × LengthAt (2 ^ 28) 5
+    × LengthAt (2 ^ 32 - 1) 5
+    × LengthAt (2 ^ 35) 6
+    × LengthAt (2 ^ 42) 7
+    × LengthAt (2 ^ 49) 8
+    × LengthAt (2 ^ 56 - 1) 8
+    × LengthAt (2 ^ 56) 9
+    × LengthAt (2 ^ 63 - 1) 9
+    × LengthAt (2 ^ 63) 10
+    × LengthAt (2 ^ 64 - 1) 10
 unfolding byBits bitsOf leadingZeros byLoop turnsOf uvarint bytesOf
 length-rows = (
   (refl, refl, refl),

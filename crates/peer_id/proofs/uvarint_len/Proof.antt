@@ -8,8 +8,6 @@ use Rattle.peer_id.specs.Length.{byBits, bitsOf}
 use Rattle.peer_id.specs.LengthLaws.{bits-uvarint}
 use Rattle.peer_id.proofs.uvarint_len.Statement.{statement}
 use Rattle.peer_id.proofs.uvarint_len.Tie as tie
-use Rattle.peer_id.proofs.uvarint_len.Reads as reads
-use Rattle.peer_id.proofs.uvarint_len.Lts as lts
 
 -- the bits, at least one
 at-least-one : (c : tie.Joined1) → c .if1 .bits ≡ max (64 - leadingZeros 64 (c .before .args .value)) 1
