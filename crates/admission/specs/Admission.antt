@@ -1,9 +1,10 @@
 -- Which messages may be taken, from the scope's table: 21 to 30 in their order. p is the message's own bytes.
 use Prim.Native.Nat.{ℕ, _-_}
-use mathlib.Core.List.{List, [], _∷_}
+use mathlib.Core.List.{List, [], _∷_, map}
 use mathlib.Core.Bool.{Bool, true, false, cond, _&&_, _||_}
-use lib.ListN.{length}
+use lib.ListN.{length, take, drop, getD}
 use lib.Dec.{ltb, eqb}
+use Rattle.rows.specs.Rows.{tab}
 use Rattle.rows.specs.Ids.{sameBytes}
 use Rattle.protobuf.specs.declared.Field.{Field}
 use Rattle.protobuf.specs.Walk.{Fields, end, refused, _then_, fieldsOf, isBytes, valueIn}
@@ -34,6 +35,43 @@ topicsAlong p (f then w) = cond (isBytes 4 f) (valueIn p f ∷ topicsAlong p w) 
 
 unfoldable pub topicsOf : List ℕ → List (List ℕ)
 topicsOf p = topicsAlong p (fieldsOf p)
+
+-- ---- and where they stand in it: the first byte of each, counted from the message's own start, and how many there are
+pub record Span : Type 0 where
+  pub start : ℕ
+  pub size : ℕ
+
+abbrev pub spanOf : Field → Span
+spanOf f = record { start = f .start; size = f .next - f .start }
+
+abbrev pub placesAlong : Fields → List Span
+placesAlong end = []
+placesAlong (refused why) = []
+placesAlong (f then w) = cond (isBytes 4 f) (spanOf f ∷ placesAlong w) (placesAlong w)
+
+unfoldable pub topicPlaces : List ℕ → List Span
+topicPlaces p = placesAlong (fieldsOf p)
+
+-- the bytes that stand there; `cut-topics` of AdmissionLaws: those of all its topics' places are its topics
+abbrev pub cut : List ℕ → Span → List ℕ
+cut p s = take (s .size) (drop (s .start) p)
+
+-- places as numbers: a list of starts and one of lengths, of which the first n are meant
+abbrev pub startsOf : List Span → List ℕ
+startsOf l = map (λ (s : Span). s .start) l
+
+abbrev pub sizesOf : List Span → List ℕ
+sizesOf l = map (λ (s : Span). s .size) l
+
+unfoldable pub spansIn : List ℕ → List ℕ → ℕ → List Span
+spansIn starts sizes n = tab (λ (i : ℕ). record { start = getD starts i 0; size = getD sizes i 0 }) n
+
+-- the same places, in the same order
+unfoldable pub sameSpans : List Span → List Span → Bool
+sameSpans [] [] = true
+sameSpans [] (t ∷ ts) = false
+sameSpans (s ∷ ss) [] = false
+sameSpans (s ∷ ss) (t ∷ ts) = eqb (s .start) (t .start) && (eqb (s .size) (t .size) && sameSpans ss ts)
 
 -- the length of the first topic above 1,024 bytes, 0 where there is none
 unfoldable pub firstLong : List (List ℕ) → ℕ
@@ -92,3 +130,7 @@ whereRead (count.Records n) t = t
 
 unfoldable pub givesId : List ℕ → List ℕ → Bool
 givesId p i = whereRead (counted kind.RawMessage p) (idGiven p i (admissionOf p true))
+
+-- and with the places of its topics, as they are kept beside it
+unfoldable pub keptWith : List ℕ → List ℕ → List Span → Bool
+keptWith p i ts = givesId p i && sameSpans (topicPlaces p) ts

@@ -1,6 +1,7 @@
 -- To be believed: Admission, Told.
--- Theorems: AdmissionLaws, Rows.
+-- Theorems: AdmissionLaws, TopicLaws, Rows.
 pub mod Told
 pub mod Admission
 pub mod AdmissionLaws
+pub mod TopicLaws
 pub mod Rows

@@ -3,13 +3,14 @@
 pub mod told;
 
 ghost use mathlib.Core.Path.{_≡_};
-ghost use mathlib.Core.Bool.{cond};
+ghost use mathlib.Core.Bool.{true, cond};
 ghost use Prim.Native.Nat.{_+_, _≤_, _<_};
-ghost use lib.ListN.{length};
+ghost use lib.ListN.{length, set};
+ghost use lib.Seq.{sets};
 ghost use Rattle.protobuf.specs.Walk.{isBytes};
-ghost use Rattle.rows.specs.Ids.{among, sameBytes};
+ghost use Rattle.rows.specs.Ids.{sameBytes};
 ghost use Rattle.ids.specs.Ids.{idBytes};
-ghost use Rattle.admission.specs.Admission.{topicsOf, topicsIn, longAfter, onSignature, onWord, onLimits, admissionOf, givesId};
+ghost use Rattle.admission.specs.Admission.{topicPlaces, startsOf, sizesOf, spansIn, sameSpans, topicsIn, longAfter, onSignature, onWord, onLimits, admissionOf, idGiven, keptWith};
 use ids::MessageId;
 use ids::id_of;
 use protobuf::Field;
@@ -17,6 +18,7 @@ use protobuf::Step;
 use protobuf::WIRE_LEN;
 use protobuf::read_field;
 use rows::same;
+use rows::short_at;
 use schema::Counted;
 use schema::Kind;
 use schema::Place;
@@ -97,8 +99,22 @@ fn long_after(f: Field, len: usize, long: usize) -> usize
     long
 }
 
-pub fn topics_of(part: &[u8]) -> Topics
+// Writes a number at a place of a list, where it is to be there and the list has the place.
+fn note(there: bool, out: &mut [usize], i: usize, v: usize)
+    ensures { λ _. ⌜ now (out .exit) ≡ cond there (set (now (out .entry)) i v) (now (out .entry)) ⌝ }
+{
+    if there {
+        if i < out.len() {
+            out[i] = v;
+        }
+    }
+}
+
+// The topics of a message: how many, the first that is too long, and in `starts` and `sizes` where each stands, as many as these have places for.
+pub fn topics_of(part: &[u8], starts: &mut [usize], sizes: &mut [usize]) -> Topics
     ensures { λ r. ⌜ r ≡ topicsIn (now (part .entry)) ⌝ }
+    ensures { λ _. ⌜ now (starts .exit) ≡ sets (now (starts .entry)) 0 (startsOf (topicPlaces (now (part .entry)))) ⌝ }
+    ensures { λ _. ⌜ now (sizes .exit) ≡ sets (now (sizes .entry)) 0 (sizesOf (topicPlaces (now (part .entry)))) ⌝ }
 {
     let mut at: usize = 0;
     let mut n: usize = 0;
@@ -113,8 +129,12 @@ pub fn topics_of(part: &[u8]) -> Topics
                 return Topics { count: n, long };
             }
             Step::At(f) => {
+                let len = f.next - f.start;
+                let there = is_topic(f);
+                note(there, starts, n, f.start);
+                note(there, sizes, n, len);
                 n = count_after(f, n);
-                long = long_after(f, f.next - f.start, long);
+                long = long_after(f, len, long);
                 at = f.next;
             }
         }
@@ -122,40 +142,11 @@ pub fn topics_of(part: &[u8]) -> Topics
     Topics { count: n, long }
 }
 
-// Whether a message carries a topic.
-pub fn carries(part: &[u8], topic: &[u8]) -> bool
-    ensures { λ r. ⌜ r ≡ among (now (topic .entry)) (topicsOf (now (part .entry))) ⌝ }
-{
-    let mut at: usize = 0;
-    while at < part.len() {
-        let step = read_field(part, at);
-        match step {
-            Step::End => {
-                return false;
-            }
-            Step::Refused(_) => {
-                return false;
-            }
-            Step::At(f) => {
-                if is_topic(f) {
-                    let start = f.start;
-                    let next = f.next;
-                    if same(&part[start..next], topic) {
-                        return true;
-                    }
-                }
-                at = f.next;
-            }
-        }
-    }
-    false
-}
-
 // 28, 29, 30.
-fn limits(part: &[u8], fit: Admission) -> Admission
+fn limits(part: &[u8], t: Topics, fit: Admission) -> Admission
+    requires { ⌜ t ≡ topicsIn (now part) ⌝ }
     ensures { λ r. ⌜ r ≡ onLimits (now (part .entry)) fit ⌝ }
 {
-    let t = topics_of(part);
     if t.count == 0 {
         return Admission::Unfit(Unfit::TopicCount(t.count));
     }
@@ -172,7 +163,15 @@ fn limits(part: &[u8], fit: Admission) -> Admission
 }
 
 // 24 or 25, 26, 27, and then the limits.
-fn signed(part: &[u8], signature: Place, key: Place, verified: bool, fit: Admission) -> Admission
+fn signed(
+    part: &[u8],
+    t: Topics,
+    signature: Place,
+    key: Place,
+    verified: bool,
+    fit: Admission,
+) -> Admission
+    requires { ⌜ t ≡ topicsIn (now part) ⌝ }
     ensures { λ r. ⌜ r ≡ onSignature signature key (onWord verified (onLimits (now (part .entry)) fit)) ⌝ }
 {
     let Place::Present { start: a, end: e } = signature else {
@@ -188,11 +187,12 @@ fn signed(part: &[u8], signature: Place, key: Place, verified: bool, fit: Admiss
     if !verified {
         return Admission::Unfit(Unfit::SignatureInvalid);
     }
-    limits(part, fit)
+    limits(part, t, fit)
 }
 
-// Whether a message may be taken, given the host's word on its signature: 21 to 30, in their order.
-pub fn admit(part: &[u8], verified: bool) -> Admission
+// Whether a message with these topics may be taken, given the host's word on its signature: 21 to 30, in their order.
+fn weigh(part: &[u8], t: Topics, verified: bool) -> Admission
+    requires { ⌜ t ≡ topicsIn (now part) ⌝ }
     ensures { λ r. ⌜ r ≡ admissionOf (now (part .entry)) verified ⌝ }
 {
     let slots = slots_of(part, Kind::RawMessage);
@@ -217,9 +217,19 @@ pub fn admit(part: &[u8], verified: bool) -> Admission
                 seqno_start,
                 seqno_end,
             };
-            signed(part, signature, key, verified, fit)
+            signed(part, t, signature, key, verified, fit)
         }
     }
+}
+
+// Whether a message may be taken, given the host's word on its signature.
+pub fn admit(part: &[u8], verified: bool) -> Admission
+    ensures { λ r. ⌜ r ≡ admissionOf (now (part .entry)) verified ⌝ }
+{
+    let mut starts = [0usize; MAX_TOPICS];
+    let mut sizes = [0usize; MAX_TOPICS];
+    let t = topics_of(part, &mut starts, &mut sizes);
+    weigh(part, t, verified)
 }
 
 // Whether an id is that of the message in a part: from and then seqno.
@@ -237,24 +247,62 @@ fn same_parts(part: &[u8], a: usize, e: usize, b: usize, f: usize, id: &[u8]) ->
     false
 }
 
-// Whether some bytes are a message that may be taken, and its id is this one.
-pub fn gives_id(part: &[u8], id: &[u8]) -> bool
-    ensures { λ r. ⌜ r ≡ givesId (now (part .entry)) (now (id .entry)) ⌝ }
+// Whether the first n places of two lists are the same. The second is a row of a lent state: past its end it has zeros.
+fn same_spans(starts: &[usize], sizes: &[usize], n: usize, kept_starts: &[u16], kept_sizes: &[u16]) -> bool
+    requires { ⌜ (n ≤ length (now starts)) × (n ≤ length (now sizes)) ⌝ }
+    ensures { λ r. ⌜ r ≡ sameSpans (spansIn (now (starts .entry)) (now (sizes .entry)) n) (spansIn (now («kept_starts» .entry)) (now («kept_sizes» .entry)) n) ⌝ }
+{
+    let mut i = 0;
+    while i < n {
+        if starts[i] != short_at(kept_starts, i) as usize {
+            return false;
+        }
+        if sizes[i] != short_at(kept_sizes, i) as usize {
+            return false;
+        }
+        i += 1;
+    }
+    true
+}
+
+// Whether a message with these topics may be taken and its id is this one.
+fn names(part: &[u8], t: Topics, id: &[u8]) -> bool
+    requires { ⌜ t ≡ topicsIn (now part) ⌝ }
+    ensures { λ r. ⌜ r ≡ idGiven (now (part .entry)) (now (id .entry)) (admissionOf (now (part .entry)) true) ⌝ }
+{
+    let r = weigh(part, t, true);
+    match r {
+        Admission::Unfit(_) => false,
+        Admission::Fit {
+            from_start,
+            from_end,
+            seqno_start,
+            seqno_end,
+        } => same_parts(part, from_start, from_end, seqno_start, seqno_end, id),
+    }
+}
+
+// Whether some bytes are a message that may be taken, its id is this one, and its topics stand in the n places that are kept beside it.
+pub fn kept_with(part: &[u8], id: &[u8], n: usize, kept_starts: &[u16], kept_sizes: &[u16]) -> bool
+    ensures { λ r. ⌜ r ≡ keptWith (now (part .entry)) (now (id .entry)) (spansIn (now («kept_starts» .entry)) (now («kept_sizes» .entry)) n) ⌝ }
 {
     let c = count(part, Kind::RawMessage);
     match c {
         Counted::Refused(_) => false,
         Counted::Records(_) => {
-            let r = admit(part, true);
-            match r {
-                Admission::Unfit(_) => false,
-                Admission::Fit {
-                    from_start,
-                    from_end,
-                    seqno_start,
-                    seqno_end,
-                } => same_parts(part, from_start, from_end, seqno_start, seqno_end, id),
+            let mut starts = [0usize; MAX_TOPICS];
+            let mut sizes = [0usize; MAX_TOPICS];
+            let t = topics_of(part, &mut starts, &mut sizes);
+            if t.count != n {
+                return false;
             }
+            if MAX_TOPICS < n {
+                return false;
+            }
+            if same_spans(&starts, &sizes, n, kept_starts, kept_sizes) {
+                return names(part, t, id);
+            }
+            false
         }
     }
 }

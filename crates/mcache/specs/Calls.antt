@@ -34,7 +34,7 @@ use Rattle.mcache.specs.declared.Gossip.{Gossip}
 use Rattle.mcache.specs.declared.Gossip.the-variants as gossip
 use Rattle.mcache.specs.Told.{lentTold, startTold, putTold, lookupTold, gossipTold}
 use Rattle.mcache.specs.State.{messageIn, legal, wellFormed, fresh, dropped, appended, passed, aged, stale, told}
-use Rattle.mcache.specs.State.{gatherInto, messageSize, messageIdSize, maxMessages, ringOf}
+use Rattle.mcache.specs.State.{gatherInto, messageSize, messageIdSize, maxMessages, ringOf, tableOf}
 
 -- ---- the scope's numbers
 abbrev pub lentNumber : Lent → ℕ
@@ -75,10 +75,10 @@ whenFine lent.Malformed new old = old
 unfoldable pub indexIn : MessageCache → List ℕ → ℕ
 indexIn c id = indexOf id (idsIn messageIdSize (ringOf c) (c .«id_len») (c .ids))
 
--- the oldest leaves where there is no room; then a message of n bytes more. With max_messages 0 none is kept.
-unfoldable pub entered : ℕ → List ℕ → MessageCache → MessageCache
-entered n id c =
-    cond (eqb (c .«max_messages») 0) (passed c) (appended n id (dropped ((c .count + 1) - c .«max_messages») c))
+-- the oldest leaves where there is no room; then a message more. With max_messages 0 none is kept.
+unfoldable pub entered : List ℕ → List ℕ → MessageCache → MessageCache
+entered m id c =
+    cond (eqb (c .«max_messages») 0) (passed c) (appended m id (dropped ((c .count + 1) - c .«max_messages») c))
 
 -- the bytes of the message are written where it is kept, and no others
 unfoldable pub enteredStore : MessageCache → List ℕ → List ℕ → List ℕ
@@ -95,7 +95,7 @@ found c st id = cond (ltb (indexIn c id) (c .count)) (messageIn (c .len) st (pla
 -- the places of the messages that are told of, in the order of their ids
 unfoldable pub gossipList : MessageCache → List ℕ → List ℕ → ℕ → List ℕ
 gossipList c st topic windows =
-    gatherInto (told (c .window) (c .len) st windows topic) (idAt messageIdSize (c .«id_len») (c .ids)) []
+    gatherInto (told (c .window) (c .len) (tableOf c) st windows topic) (idAt messageIdSize (c .«id_len») (c .ids)) []
     (rowsIn (λ (p : ℕ). p) (ringOf c))
 
 -- and zeros after them
@@ -115,7 +115,7 @@ answered (keep m id) = put.Stored
 
 abbrev pub keptIn : MessageCache → Plan → MessageCache
 keptIn c (no r) = c
-keptIn c (keep m id) = entered (length m) id c
+keptIn c (keep m id) = entered m id c
 
 abbrev pub storedIn : MessageCache → List ℕ → Plan → List ℕ
 storedIn c st (no r) = st

@@ -1,5 +1,6 @@
 -- What a cache and its store hold. A store has max_messages places of 4,096 bytes. The message in place p is the first
--- `len[p]` bytes of that place; its id is the first `id_len[p]` bytes of the p-th 128 bytes of `ids`.
+-- `len[p]` bytes of that place; its id is the first `id_len[p]` bytes of the p-th 128 bytes of `ids`; its topics are
+-- `topic_count[p]` parts of it, each with its start and its length in the p-th four of `topic_start` and `topic_len`.
 use Prim.Native.Nat.{ℕ, suc, _+_, _-_, _*_, _%_, _^_, _≤_, _<_}
 use mathlib.Core.Path.{_≡_}
 use mathlib.Core.List.{List, [], _∷_, _++_, map}
@@ -11,7 +12,7 @@ use Rattle.rows.specs.declared.Ring.{Ring}
 use Rattle.rows.specs.Rows.{placeOf, rowsIn}
 use Rattle.rows.specs.Ids.{precedesBytes, among, distinct}
 use Rattle.rows.specs.Store.{idAt, idsIn, inUse, allUpTo}
-use Rattle.admission.specs.Admission.{topicsOf, givesId}
+use Rattle.admission.specs.Admission.{Span, topicPlaces, cut, startsOf, sizesOf, spansIn, keptWith}
 use Rattle.mcache.specs.declared.MessageCache.{MessageCache}
 use Rattle.mcache.specs.Messages.{Cached}
 
@@ -32,6 +33,13 @@ maxHistory = 16
 abbrev pub idsSize : ℕ
 idsSize = maxMessages * messageIdSize
 
+-- the most topics of a message, and the places for those of all
+abbrev pub maxTopics : ℕ
+maxTopics = 4
+
+abbrev pub topicsSize : ℕ
+topicsSize = maxMessages * maxTopics
+
 -- the rows
 abbrev pub ringOf : MessageCache → Ring
 ringOf c = record { cap = c .«max_messages»; start = c .start; count = c .count }
@@ -39,6 +47,34 @@ ringOf c = record { cap = c .«max_messages»; start = c .start; count = c .coun
 -- the message in place p
 unfoldable pub messageIn : List ℕ → List ℕ → ℕ → List ℕ
 messageIn lens st p = take (getD lens p 0) (drop (p * messageSize) st)
+
+-- ---- where its topics stand in it, as they are kept beside it
+pub record Table : Type 0 where
+  pub counts : List ℕ
+  pub starts : List ℕ
+  pub sizes : List ℕ
+
+abbrev pub table : List ℕ → List ℕ → List ℕ → Table
+table counts starts sizes = record { counts = counts; starts = starts; sizes = sizes }
+
+abbrev pub tableOf : MessageCache → Table
+tableOf c = table (c .«topic_count») (c .«topic_start») (c .«topic_len»)
+
+unfoldable pub topicsAt : Table → ℕ → List Span
+topicsAt t p = spansIn (drop (p * maxTopics) (t .starts)) (drop (p * maxTopics) (t .sizes)) (getD (t .counts) p 0)
+
+-- what is kept of a message: where its topics stand, at most four
+unfoldable pub keptPlaces : List ℕ → List Span
+keptPlaces m = take maxTopics (topicPlaces m)
+
+-- the table with that in place p; slots past the count stay as they were
+unfoldable pub noted : List ℕ → ℕ → Table → Table
+noted m p t =
+    record {
+      counts = set (t .counts) p (length (keptPlaces m));
+      starts = sets (t .starts) (p * maxTopics) (startsOf (keptPlaces m));
+      sizes = sets (t .sizes) (p * maxTopics) (sizesOf (keptPlaces m));
+    }
 
 unfoldable pub cachedAt : MessageCache → List ℕ → ℕ → Cached
 cachedAt c st p =
@@ -63,22 +99,23 @@ unfoldable pub runsTo : ℕ → List ℕ → Bool
 runsTo next [] = true
 runsTo next (g ∷ gs) = eqb ((g + length (g ∷ gs)) % 2 ^ 64) next && runsTo next gs
 
--- a message fits its place, may be taken, and gives its stored id
-unfoldable pub givesAt : List ℕ → List ℕ → List ℕ → List ℕ → ℕ → Bool
-givesAt lens ilens ids st p =
-    leb (getD lens p 0) messageSize && givesId (messageIn lens st p) (idAt messageIdSize ilens ids p)
+-- a message fits its place, may be taken, gives its stored id, and has its topics where they are kept
+unfoldable pub givesAt : List ℕ → List ℕ → List ℕ → Table → List ℕ → ℕ → Bool
+givesAt lens ilens ids table st p =
+    leb (getD lens p 0) messageSize
+    && keptWith (messageIn lens st p) (idAt messageIdSize ilens ids p) (topicsAt table p)
 
 unfoldable pub allTrue : List Bool → Bool
 allTrue [] = true
 allTrue (b ∷ bs) = b && allTrue bs
 
-unfoldable pub givesIn : Ring → List ℕ → List ℕ → List ℕ → List ℕ → Bool
-givesIn ring lens ilens ids st = allTrue (rowsIn (givesAt lens ilens ids st) ring)
+unfoldable pub givesIn : Ring → List ℕ → List ℕ → List ℕ → Table → List ℕ → Bool
+givesIn ring lens ilens ids table st = allTrue (rowsIn (givesAt lens ilens ids table st) ring)
 
 unfoldable pub idsFit : MessageCache → List ℕ → Bool
 idsFit c st =
     allUpTo messageIdSize (inUse (ringOf c) (c .«id_len»))
-    && (givesIn (ringOf c) (c .len) (c .«id_len») (c .ids) st
+    && (givesIn (ringOf c) (c .len) (c .«id_len») (c .ids) (tableOf c) st
     && distinct (idsIn messageIdSize (ringOf c) (c .«id_len») (c .ids)))
 
 unfoldable pub rowsFit : MessageCache → List ℕ → Bool
@@ -97,13 +134,19 @@ wellFormed c st =
     && (leb (c .start) (c .«max_messages») && (leb (c .count) (c .«max_messages») && rowsFit c st))
 
 -- ---- what the rows need of the arrays and the store
-pub record Laid (ring : Ring) (lens ilens ids st : List ℕ) : Type 0 where
+pub record Roomy (table : Table) : Type 0 where
+  pub counts : length (table .counts) ≡ maxMessages
+  pub starts : length (table .starts) ≡ topicsSize
+  pub sizes : length (table .sizes) ≡ topicsSize
+
+pub record Laid (ring : Ring) (lens ilens ids : List ℕ) (table : Table) (st : List ℕ) : Type 0 where
   pub few : ring .cap ≤ maxMessages
   pub starts : ring .start ≤ ring .cap
   pub within : ring .count ≤ ring .cap
   pub lengths : length lens ≡ maxMessages
   pub id-lengths : length ilens ≡ maxMessages
   pub id-room : length ids ≡ idsSize
+  pub topics : Roomy table
   pub room : length st ≡ ring .cap * messageSize
   pub id-short : (i : ℕ) → i < ring .count → getD ilens (placeOf ring i) 0 ≤ messageIdSize
 
@@ -116,11 +159,12 @@ pub record Placed (c : MessageCache) (st : List ℕ) : Type 0 where
   pub lengths : length (c .len) ≡ maxMessages
   pub id-lengths : length (c .«id_len») ≡ maxMessages
   pub id-room : length (c .ids) ≡ idsSize
+  pub topics : Roomy (tableOf c)
   pub windows : length (c .window) ≡ maxMessages
   pub generations : length (c .generation) ≡ maxMessages
 
 pub record Usable (c : MessageCache) (st : List ℕ) : Type 0 where
-  pub rows : Laid (ringOf c) (c .len) (c .«id_len») (c .ids) st
+  pub rows : Laid (ringOf c) (c .len) (c .«id_len») (c .ids) (tableOf c) st
   pub short : (i : ℕ) → i < c .count → getD (c .len) (placeOf (ringOf c) i) 0 ≤ messageSize
   pub windows : length (c .window) ≡ maxMessages
   pub generations : length (c .generation) ≡ maxMessages
@@ -139,6 +183,9 @@ fresh history max =
       len = replicate maxMessages 0;
       «id_len» = replicate maxMessages 0;
       ids = replicate idsSize 0;
+      «topic_count» = replicate maxMessages 0;
+      «topic_start» = replicate topicsSize 0;
+      «topic_len» = replicate topicsSize 0;
     }
 
 unfoldable pub dropped : ℕ → MessageCache → MessageCache
@@ -154,12 +201,16 @@ dropped k c =
       len = c .len;
       «id_len» = c .«id_len»;
       ids = c .ids;
+      «topic_count» = c .«topic_count»;
+      «topic_start» = c .«topic_start»;
+      «topic_len» = c .«topic_len»;
     }
 
--- a message of n bytes more, in the newest window, with the next arrival number
-unfoldable pub appended : ℕ → List ℕ → MessageCache → MessageCache
-appended n id c =
+-- a message m more, in the newest window, with the next arrival number
+unfoldable pub appended : List ℕ → List ℕ → MessageCache → MessageCache
+appended m id c =
     let p = placeOf (ringOf c) (c .count) in
+    let t = noted m p (tableOf c) in
     record {
       «history_len» = c .«history_len»;
       «max_messages» = c .«max_messages»;
@@ -168,9 +219,12 @@ appended n id c =
       count = c .count + 1;
       generation = set (c .generation) p (c .«next_generation»);
       window = set (c .window) p 0;
-      len = set (c .len) p n;
+      len = set (c .len) p (length m);
       «id_len» = set (c .«id_len») p (length id);
       ids = sets (c .ids) (p * messageIdSize) id;
+      «topic_count» = t .counts;
+      «topic_start» = t .starts;
+      «topic_len» = t .sizes;
     }
 
 -- the next arrival number is given, and nothing is kept
@@ -187,6 +241,9 @@ passed c =
       len = c .len;
       «id_len» = c .«id_len»;
       ids = c .ids;
+      «topic_count» = c .«topic_count»;
+      «topic_start» = c .«topic_start»;
+      «topic_len» = c .«topic_len»;
     }
 
 -- a window's age, a window later; ages in use are below 16
@@ -206,6 +263,9 @@ aged c =
       len = c .len;
       «id_len» = c .«id_len»;
       ids = c .ids;
+      «topic_count» = c .«topic_count»;
+      «topic_start» = c .«topic_start»;
+      «topic_len» = c .«topic_len»;
     }
 
 -- how many of the oldest leave when a window is opened: those in front of the first that stays
@@ -214,8 +274,10 @@ stale history [] = 0
 stale history (w ∷ ws) = cond (ltb (w + 1) history) 0 (suc (stale history ws))
 
 -- ---- the rows that are told of, in the order of their ids
-unfoldable pub told : List ℕ → List ℕ → List ℕ → ℕ → List ℕ → ℕ → Bool
-told window lens st windows topic p = ltb (getD window p 0) windows && among topic (topicsOf (messageIn lens st p))
+-- the message in place p is in the newest windows asked for, and one of its topics is this one
+unfoldable pub told : List ℕ → List ℕ → Table → List ℕ → ℕ → List ℕ → ℕ → Bool
+told window lens table st windows topic p =
+    ltb (getD window p 0) windows && among topic (map (cut (messageIn lens st p)) (topicsAt table p))
 
 -- how many rows stand before p
 unfoldable pub spotOf : (ℕ → List ℕ) → ℕ → List ℕ → ℕ

@@ -7,10 +7,11 @@ use mathlib.Core.List.{List}
 use lib.ListN.{length, getD, replicate}
 use Rattle.rows.specs.Rows.{placeOf}
 use Rattle.rows.specs.Store.{idAt}
+use Rattle.admission.specs.Admission.{topicPlaces}
 use Rattle.admission.specs.AdmissionLaws.{Gives}
 use Rattle.mcache.specs.declared.MessageCache.{MessageCache}
 use Rattle.mcache.specs.State.{messageIn, legal, messageSize, messageIdSize, maxMessages, maxHistory, idsSize}
-use Rattle.mcache.specs.State.{ringOf}
+use Rattle.mcache.specs.State.{topicsSize, Roomy, tableOf, topicsAt, ringOf}
 use Rattle.mcache.specs.Calls.{planned, keptIn, storedIn, shiftCache}
 
 -- ---- true of every MessageCache, by its type: its arrays have their sizes
@@ -20,6 +21,7 @@ pub record Sized (c : MessageCache) : Type 0 where
   pub lengths : length (c .len) ≡ maxMessages
   pub id-lengths : length (c .«id_len») ≡ maxMessages
   pub id-room : length (c .ids) ≡ idsSize
+  pub topics : Roomy (tableOf c)
 
 -- and arrival numbers are below 2 ^ 64
 pub record Typed (c : MessageCache) : Type 0 where
@@ -63,6 +65,8 @@ pub record WellFormed (c : MessageCache) (st : List ℕ) : Type 0 where
   pub last : (i : ℕ) → suc i ≡ c .count → c .«next_generation» ≡ (numberOf c i + 1) % 2 ^ 64
   -- each cached message may be taken and gives its stored id
   pub gives : (i : ℕ) → i < c .count → Gives (messageIn (c .len) st (rowOf c i)) (idOf c i)
+  -- and its topics stand where the row has them: as many, each with this start and this length
+  pub topics : (i : ℕ) → i < c .count → topicsAt (tableOf c) (rowOf c i) ≡ topicPlaces (messageIn (c .len) st (rowOf c i))
 
 -- ---- the states that the calls reach
 -- a new cache whose first message gets the arrival number `next`; `start` gives the number 0
@@ -79,6 +83,9 @@ freshAt next history max =
       len = replicate maxMessages 0;
       «id_len» = replicate maxMessages 0;
       ids = replicate idsSize 0;
+      «topic_count» = replicate maxMessages 0;
+      «topic_start» = replicate topicsSize 0;
+      «topic_len» = replicate topicsSize 0;
     }
 
 -- a new cache with legal settings and a store of their length; then puts of anything, the refused ones too, and windows

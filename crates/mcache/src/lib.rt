@@ -1,5 +1,5 @@
-// The heartbeat-windowed message cache, from mcache.rs: messages in a lent store, a place of 4,096 bytes each; their ids, lengths, windows and
-// arrival numbers by value. The places are a ring, so that a message that leaves moves no other, and a freed place is used again.
+// The heartbeat-windowed message cache, from mcache.rs: messages in a lent store, a place of 4,096 bytes each; their ids, lengths, windows, arrival
+// numbers and the places of their topics by value. The places are a ring, so that a message that leaves moves no other, and a freed place is used again.
 pub mod told;
 
 ghost use mathlib.Core.Path.{_≡_};
@@ -9,21 +9,25 @@ ghost use Prim.Native.Nat.{ℕ, _+_, _-_, _*_, _≤_, _<_};
 ghost use lib.ListN.{length, drop, take, getD, replicate};
 ghost use lib.Seq.{sets};
 ghost use Rattle.rows.specs.Rows.{placeOf};
+ghost use Rattle.rows.specs.Ids.{among};
 ghost use Rattle.rows.specs.Store.{InStore, inUse, idAt};
-ghost use Rattle.admission.specs.Admission.{admissionOf};
+ghost use Rattle.admission.specs.Admission.{startsOf, sizesOf, cut, spansIn, admissionOf};
 ghost use Rattle.mcache.specs.State.{messageSize, messageIdSize, maxMessages, ringOf, messageIn, fallsFrom, runsTo, givesIn, idsFit, rowsFit, stale, older, Laid, Usable, Placed, fresh, dropped, appended, told, spotOf, putAt, insertRow};
+ghost use Rattle.mcache.specs.State.{maxTopics, table, Roomy, keptPlaces};
 ghost use Rattle.mcache.specs.Calls.{lentOf, indexIn, entered, enteredStore};
 ghost use Rattle.mcache.specs.Calls.{shifted, found, formable, rowsLie, keepable, planFit, answered};
 ghost use Rattle.mcache.specs.Calls.{keptIn, storedIn, getPart, lookupAnswer};
 ghost use Rattle.mcache.specs.Unique.{Starts, Puts, Keeps, Shifts, Gossips, TellsRows, Forms, WritesId};
 use admission::Admission;
+use admission::MAX_TOPICS;
 use admission::MAX_TOPIC_SIZE;
 use admission::Unfit;
 use admission::admit;
-use admission::carries;
-use admission::gives_id;
+use admission::kept_with;
+use admission::topics_of;
 use basis::Written;
 use basis::has_room;
+use basis::least;
 use ids::MessageAt;
 use ids::message_at;
 use protobuf::Checked;
@@ -38,6 +42,7 @@ use rows::ids_differ;
 use rows::minus;
 use rows::place;
 use rows::precedes;
+use rows::same;
 use rows::short_at;
 use schema::accept;
 
@@ -60,6 +65,9 @@ pub struct MessageCache {
     pub len: [u16; MAX_MESSAGES],
     pub id_len: [u8; MAX_MESSAGES],
     pub ids: [u8; MAX_MESSAGES * MESSAGE_ID_SIZE],
+    pub topic_count: [u8; MAX_MESSAGES],
+    pub topic_start: [u16; MAX_MESSAGES * MAX_TOPICS],
+    pub topic_len: [u16; MAX_MESSAGES * MAX_TOPICS],
 }
 
 // Whether the lent state is one: 41 for a store of the wrong length, 42 for a cache that is not well formed.
@@ -158,10 +166,19 @@ fn generations_run(generation: &[u64], ring: Ring, next: u64) -> bool
     true
 }
 
-// Whether each message fits its place, may be taken, and gives its stored id.
-fn messages_fit(lens: &[u16], id_lens: &[u8], ids: &[u8], store: &[u8], ring: Ring) -> bool
-    requires { ⌜ Laid ring (now lens) (now «id_lens») (now ids) (now store) ⌝ }
-    ensures { λ r. ⌜ r ≡ givesIn ring (now (lens .entry)) (now («id_lens» .entry)) (now (ids .entry)) (now (store .entry)) ⌝ }
+// Whether each message fits its place, may be taken, gives its stored id, and has its topics where they are kept.
+fn messages_fit(
+    lens: &[u16],
+    id_lens: &[u8],
+    ids: &[u8],
+    counts: &[u8],
+    starts: &[u16],
+    sizes: &[u16],
+    store: &[u8],
+    ring: Ring,
+) -> bool
+    requires { ⌜ Laid ring (now lens) (now «id_lens») (now ids) (table (now counts) (now starts) (now sizes)) (now store) ⌝ }
+    ensures { λ r. ⌜ r ≡ givesIn ring (now (lens .entry)) (now («id_lens» .entry)) (now (ids .entry)) (table (now (counts .entry)) (now (starts .entry)) (now (sizes .entry))) (now (store .entry)) ⌝ }
 {
     let mut i = 0;
     while i < ring.count {
@@ -174,7 +191,9 @@ fn messages_fit(lens: &[u16], id_lens: &[u8], ids: &[u8], store: &[u8], ring: Ri
         let end = base + n;
         let id_base = p * MESSAGE_ID_SIZE;
         let id_end = id_base + id_lens[p] as usize;
-        if gives_id(&store[base..end], &ids[id_base..id_end]) {
+        let slot = p * MAX_TOPICS;
+        let topics = counts[p] as usize;
+        if kept_with(&store[base..end], &ids[id_base..id_end], topics, &starts[slot..], &sizes[slot..]) {
             i += 1;
         } else {
             return false;
@@ -255,6 +274,34 @@ pub fn form_id(part: &[u8], a: usize, e: usize, b: usize, f: usize, out: &mut [u
     0
 }
 
+// Writes numbers below 2^16 from a place on: the first n of `values`.
+fn put_shorts(out: &mut [u16], at: usize, values: &[usize], n: usize)
+    requires { ⌜ (at + n ≤ length (now out)) × (n ≤ length (now values)) × ((i : ℕ) → i < n → getD (now values) i 0 < 65536) ⌝ }
+    ensures { λ _. ⌜ now (out .exit) ≡ sets (now (out .entry)) at (take n (now (values .entry))) ⌝ }
+{
+    let mut i = 0;
+    while i < n {
+        out[at + i] = values[i] as u16;
+        i += 1;
+    }
+}
+
+// Writes where the topics of a message stand, at most four, into the slots from `slot` on, and answers how many it wrote.
+fn note_topics(part: &[u8], starts: &mut [u16], sizes: &mut [u16], slot: usize) -> usize
+    requires { ⌜ (length (now part) ≤ messageSize) × (slot + maxTopics ≤ length (now starts)) × (slot + maxTopics ≤ length (now sizes)) ⌝ }
+    ensures { λ r. ⌜ r ≡ length (keptPlaces (now (part .entry))) ⌝ }
+    ensures { λ _. ⌜ now (starts .exit) ≡ sets (now (starts .entry)) slot (startsOf (keptPlaces (now (part .entry)))) ⌝ }
+    ensures { λ _. ⌜ now (sizes .exit) ≡ sets (now (sizes .entry)) slot (sizesOf (keptPlaces (now (part .entry)))) ⌝ }
+{
+    let mut from = [0usize; MAX_TOPICS];
+    let mut long = [0usize; MAX_TOPICS];
+    let t = topics_of(part, &mut from, &mut long);
+    let n = least(t.count, MAX_TOPICS);
+    put_shorts(starts, slot, &from, n);
+    put_shorts(sizes, slot, &long, n);
+    n
+}
+
 // ---- what keep and tell ask of the rows
 
 // Whether the rows lie within the arrays.
@@ -304,23 +351,57 @@ fn message_in<'l, 's>(lens: &'l [u16], store: &'s [u8], p: usize) -> &'s [u8]
     &store[base..end]
 }
 
+// A part of a message, cut at its end.
+fn part_of<'s>(message: &'s [u8], start: usize, len: usize) -> &'s [u8]
+    ensures { λ r. ⌜ now r ≡ take len (drop start (now (message .entry))) ⌝ }
+{
+    if message.len() < start {
+        return &message[..0];
+    }
+    if message.len() - start < len {
+        return &message[start..];
+    }
+    &message[start..start + len]
+}
+
+// Whether one of the first n parts of a message is the topic.
+fn carries(message: &[u8], starts: &[u16], sizes: &[u16], n: usize, topic: &[u8]) -> bool
+    ensures { λ r. ⌜ r ≡ among (now (topic .entry)) (map (cut (now (message .entry))) (spansIn (now (starts .entry)) (now (sizes .entry)) n)) ⌝ }
+{
+    let mut i = 0;
+    while i < n {
+        let start = short_at(starts, i) as usize;
+        let len = short_at(sizes, i) as usize;
+        if same(part_of(message, start, len), topic) {
+            return true;
+        }
+        i += 1;
+    }
+    false
+}
+
 // Whether the message in place p is in the newest windows asked for and carries the topic.
 fn is_told(
     window: &[u8],
     lens: &[u16],
+    counts: &[u8],
+    starts: &[u16],
+    sizes: &[u16],
     store: &[u8],
     p: usize,
     windows: usize,
     topic: &[u8],
 ) -> bool
-    requires { ⌜ p < maxMessages ⌝ }
-    ensures { λ r. ⌜ r ≡ told (now (window .entry)) (now (lens .entry)) (now (store .entry)) windows (now (topic .entry)) p ⌝ }
+    requires { ⌜ (p < maxMessages) × Roomy (table (now counts) (now starts) (now sizes)) ⌝ }
+    ensures { λ r. ⌜ r ≡ told (now (window .entry)) (now (lens .entry)) (table (now (counts .entry)) (now (starts .entry)) (now (sizes .entry))) (now (store .entry)) windows (now (topic .entry)) p ⌝ }
 {
     let w = byte_at(window, p) as usize;
     if windows <= w {
         return false;
     }
-    carries(message_in(lens, store, p), topic)
+    let slot = p * MAX_TOPICS;
+    let n = byte_at(counts, p) as usize;
+    carries(message_in(lens, store, p), &starts[slot..], &sizes[slot..], n, topic)
 }
 
 // Where the row p goes among the first n of `rows`: before the first whose id does not come before its own.
@@ -404,6 +485,9 @@ impl MessageCache {
             len: [0; MAX_MESSAGES],
             id_len: [0; MAX_MESSAGES],
             ids: [0; MAX_MESSAGES * MESSAGE_ID_SIZE],
+            topic_count: [0; MAX_MESSAGES],
+            topic_start: [0; MAX_MESSAGES * MAX_TOPICS],
+            topic_len: [0; MAX_MESSAGES * MAX_TOPICS],
         }
     }
 
@@ -438,8 +522,11 @@ impl MessageCache {
         let id_lens = self.id_len;
         let lens = self.len;
         let ids = self.ids;
+        let counts = self.topic_count;
+        let starts = self.topic_start;
+        let sizes = self.topic_len;
         if all_within(&id_lens, ring, MESSAGE_ID_SIZE as u8) {
-            if messages_fit(&lens, &id_lens, &ids, store, ring) {
+            if messages_fit(&lens, &id_lens, &ids, &counts, &starts, &sizes, store, ring) {
                 return ids_differ(&id_lens, &ids, MESSAGE_ID_SIZE, ring);
             }
         }
@@ -512,7 +599,7 @@ impl MessageCache {
         requires { ⌜ Placed self (now store) ⌝ }
         requires { ⌜ self .count < self .«max_messages» ⌝ }
         requires { ⌜ (length (now part) ≤ messageSize) × (length (now id) ≤ messageIdSize) ⌝ }
-        ensures { λ r. ⌜ r ≡ appended (length (now (part .entry))) (now (id .entry)) self ⌝ }
+        ensures { λ r. ⌜ r ≡ appended (now (part .entry)) (now (id .entry)) self ⌝ }
         ensures { λ _. ⌜ now (store .exit) ≡ sets (now (store .entry)) (placeOf (ringOf self) (self .count) * messageSize) (now (part .entry)) ⌝ }
     {
         let count = self.count;
@@ -521,6 +608,12 @@ impl MessageCache {
         let mut ids = self.ids;
         put_bytes(&mut ids, p * MESSAGE_ID_SIZE, id);
         self.ids = ids;
+        let mut starts = self.topic_start;
+        let mut sizes = self.topic_len;
+        let n = note_topics(part, &mut starts, &mut sizes, p * MAX_TOPICS);
+        self.topic_start = starts;
+        self.topic_len = sizes;
+        self.topic_count[p] = n as u8;
         self.id_len[p] = id.len() as u8;
         self.len[p] = part.len() as u16;
         self.window[p] = 0;
@@ -534,7 +627,7 @@ impl MessageCache {
     fn enter(mut self, store: &mut [u8], part: &[u8], id: &[u8]) -> Self
         requires { ⌜ Placed self (now store) ⌝ }
         requires { ⌜ (length (now part) ≤ messageSize) × (length (now id) ≤ messageIdSize) ⌝ }
-        ensures { λ r. ⌜ r ≡ entered (length (now (part .entry))) (now (id .entry)) self ⌝ }
+        ensures { λ r. ⌜ r ≡ entered (now (part .entry)) (now (id .entry)) self ⌝ }
         ensures { λ _. ⌜ now (store .exit) ≡ enteredStore self (now (store .entry)) (now (part .entry)) ⌝ }
     {
         let max = self.max_messages;
@@ -736,12 +829,15 @@ impl MessageCache {
             let lens = self.len;
             let id_lens = self.id_len;
             let ids = self.ids;
+            let counts = self.topic_count;
+            let starts = self.topic_start;
+            let sizes = self.topic_len;
             let mut rows = [0u8; MAX_MESSAGES];
             let mut count = 0;
             let mut i = 0;
             while i < ring.count {
                 let p = place(ring, i);
-                let there = is_told(&window, &lens, store, p, windows, topic);
+                let there = is_told(&window, &lens, &counts, &starts, &sizes, store, p, windows, topic);
                 count = tell_row(there, &mut rows, count, &id_lens, &ids, p);
                 i += 1;
             }
