@@ -14,13 +14,10 @@ use Rattle.basis.specs.Writing.{setIn}
 use Rattle.stored.specs.Layout.{spread, gathered}
 
 -- ---- reading
--- a number of two bytes fits
-pub half-fits : (s : List ℕ) (p : ℕ) → Bytes s → little (take 2 (drop p s)) < 65536
-half-fits s p b =
-    let l : length (take 2 (drop p s)) ≤ 2 = rw length-take (omega arith) in
-    let h : little (take 2 (drop p s)) < 256 ^ length (take 2 (drop p s)) = little-below _ (take-bytes 2 (drop p s) (drop-bytes p s b)) in
-    let q : 256 ^ length (take 2 (drop p s)) ≤ 256 ^ 2 = pow-le-pow-right (omega arith) l in
-    omega arith
+-- a number of two bytes
+pub half-read : (s : List ℕ) (p : ℕ) → p + 2 ≤ length s → getD s p 0 + getD s (p + 1) 0 * 256 ≡ little (take 2 (drop p s))
+unfolding little
+half-read s p h = rw (add-one p, drop-cons s p 0 (omega arith), drop-cons s (suc p) 0 (omega arith)) (omega arith)
 
 -- one number more
 pub gathered-snoc : (w n : ℕ) (s : List ℕ) → gathered w (suc n) s ≡ gathered w n s ++ (little (take w (drop (n * w) s)) ∷ [])

@@ -38,14 +38,21 @@ fn read_words(s: &[u8], at: usize, out: &mut [u64])
     }
 }
 
-// And those of 2 bytes each.
+// And the number in 2 bytes. It is written out: a node has many of them.
+fn read_half(s: &[u8], at: usize) -> u16
+    requires { ⌜ at + 2 ≤ length (now s) ⌝ }
+    ensures { λ r. ⌜ r ≡ little (take 2 (drop at (now (s .entry)))) ⌝ }
+{
+    s[at] as u16 + s[at + 1] as u16 * 256
+}
+
 fn read_halves(s: &[u8], at: usize, out: &mut [u16])
     requires { ⌜ at + 2 * length (now out) ≤ length (now s) ⌝ }
     ensures { λ _. ⌜ now (out .exit) ≡ gathered 2 (length (now (out .entry))) (drop at (now (s .entry))) ⌝ }
 {
     let mut i: usize = 0;
     while i < out.len() {
-        out[i] = little_at(s, at + i * 2, 2) as u16;
+        out[i] = read_half(s, at + i * 2);
         i += 1;
     }
 }
