@@ -751,7 +751,8 @@ def some_hurt(r, play):
         place, near = place * size + at, (r.choice(places) if places else 0) * size + at
     elif what in (TOPIC_START, TOPIC_LEN):
         slots = range(place * MAX_TOPICS, (place + 1) * MAX_TOPICS)
-        place, near = r.choice(slots[:run.cache.topic_count[place % 64]] if r.randrange(3) else slots), r.choice(slots)
+        used = slots[:run.cache.topic_count[place % 64]] or slots
+        place, near = r.choice(used if r.randrange(3) else slots), r.choice(slots)
     elif places and what in (EXPIRY, SEEN_LEN, ARRIVAL, WINDOW, LEN, ID_LEN, TOPIC_COUNT):
         near = r.choice(places)
     elif what not in (EXPIRY, SEEN_LEN, ARRIVAL, WINDOW, LEN, ID_LEN, TOPIC_COUNT):
