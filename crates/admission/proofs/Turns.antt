@@ -1,11 +1,12 @@
 -- A turn of the walk over a message's topics, and which case it is.
 use Prim.Native.Nat.{ℕ, _+_, _-_, _≤_, _<_}
 use mathlib.Core.Path.{_≡_, refl, sym, ap, ap₂, _∙_}
-use mathlib.Core.Bool.{Bool, true, false, cond, not, _&&_}
-use mathlib.Core.List.{List, [], _∷_}
+use mathlib.Core.Bool.{Bool, true, false, cond, not, _&&_, and-true}
+use mathlib.Core.List.{List, [], _∷_, map}
 use native.Mathlib.Omega.{arith}
-use lib.ListN.{length, take, drop, length-append, length-drop}
-use lib.Seq.{take-all}
+use native.Mathlib.Numerals.{add-one}
+use lib.ListN.{length, take, drop, getD, set, length-append, length-drop, length-set, drop-of-length-le}
+use lib.Seq.{sets, take-all, drop-cons, set-out}
 use lib.Dec.{ltb, eqb}
 use borrow.Author.Tests.{ltb-true, eqb-true, eq-eqb, ne-eqb, lt-ltb, le-ltb}
 use Rattle.basis.specs.Cases.{either, clash}
@@ -16,9 +17,13 @@ use Rattle.protobuf.specs.Field.{readField}
 use Rattle.protobuf.specs.Laws.{Stands}
 use Rattle.protobuf.specs.Walk.{_then_, walkAt, isBytes, between, valueIn}
 use Rattle.protobuf.specs.WalkLaws.{walk-on, walk-end}
-use Rattle.rows.specs.Ids.{sameBytes, among}
-use Rattle.rows.specs.IdsLaws.{same-append, same-length, among-more, among-here}
+use Rattle.rows.specs.Rows.{tab}
+use Rattle.rows.specs.RowsLaws.{length-tab, getD-tab}
+use Rattle.rows.specs.Ids.{sameBytes}
+use Rattle.rows.specs.IdsLaws.{same-append, same-length}
 use Rattle.schema.specs.declared.Kind.the-variants as kind
+use Rattle.schema.specs.declared.Counted.the-variants as count
+use Rattle.schema.specs.Count.{counted}
 use Rattle.schema.specs.declared.Slots.{Slots}
 use Rattle.schema.specs.Slots.{slotsOf}
 use Rattle.ids.specs.declared.MessageId.{MessageId}
@@ -28,7 +33,8 @@ use Rattle.admission.specs.declared.Unfit.the-variants.{TopicCount, Topi
 use Rattle.admission.specs.declared.Topics.{Topics}
 use Rattle.admission.specs.declared.Admission.{Admission}
 use Rattle.admission.specs.declared.Admission.the-variants as admission
-use Rattle.admission.specs.Admission.{topicsAlong, topicsOf, firstLong, topicsIn, longAfter, onLimits, onId, admissionOf}
+use Rattle.admission.specs.Admission.{topicsAlong, topicsOf, Span, spanOf, placesAlong, topicPlaces, startsOf, sizesOf, spansIn, sameSpans, firstLong, topicsIn, longAfter, onLimits, onId, admissionOf, idGiven, givesId, keptWith}
+use Rattle.admission.specs.TopicLaws.{places-count, gives-few, same-spans-equal, length-spans, spans-put}
 
 -- ---- the topics from a place on
 pub topics-on : (p : List ℕ) (at : ℕ) (f : Field) → step.At f ≡ readField p at → topicsAlong p (walkAt p at) ≡ cond (isBytes 4 f) (valueIn p f ∷ topicsAlong p (walkAt p (f .next))) (topicsAlong p (walkAt p (f .next)))
@@ -95,15 +101,111 @@ module _ {t : Topics} (p : List ℕ) (e : t ≡ topicsIn p) where
   pub longs : t .long ≡ firstLong (topicsOf p)
   longs = ap (λ (x : Topics). x .long) e
 
--- ---- a topic is looked for
-pub carries-here : (p t : List ℕ) (at : ℕ) (f : Field) (w : Bool) → step.At f ≡ readField p at → isBytes 4 f ≡ true → among t (topicsAlong p (walkAt p at)) ≡ w → sameBytes (valueIn p f) t ≡ true → true ≡ w
-carries-here p t at f w e b inv h = among-here t w (simp b at (topics-on p at f e)) inv h
+-- ---- their places
+places-on : (p : List ℕ) (at : ℕ) (f : Field) → step.At f ≡ readField p at
+    → placesAlong (walkAt p at) ≡ cond (isBytes 4 f) (spanOf f ∷ placesAlong (walkAt p (f .next))) (placesAlong (walkAt p (f .next)))
+places-on p at f e = ap placesAlong (walk-on p at (step.At f) e)
 
-pub carries-other : (p t : List ℕ) (at : ℕ) (f : Field) (w : Bool) → step.At f ≡ readField p at → isBytes 4 f ≡ true → among t (topicsAlong p (walkAt p at)) ≡ w → sameBytes (valueIn p f) t ≡ false → among t (topicsAlong p (walkAt p (f .next))) ≡ w
-carries-other p t at f w e b inv h = among-more t w (simp b at (topics-on p at f e)) inv h
+pub places-end : (p : List ℕ) (at : ℕ) → step.End ≡ readField p at → placesAlong (walkAt p at) ≡ []
+places-end p at e = ap placesAlong (walk-on p at step.End e)
 
-pub carries-past : (p t : List ℕ) (at : ℕ) (f : Field) (w : Bool) → step.At f ≡ readField p at → isBytes 4 f ≡ false → among t (topicsAlong p (walkAt p at)) ≡ w → among t (topicsAlong p (walkAt p (f .next))) ≡ w
-carries-past p t at f w e b inv = sym (ap (among t) (simp b at (topics-on p at f e))) ∙ inv
+pub places-refused : (p : List ℕ) (at : ℕ) (why : WireError) → step.Refused why ≡ readField p at → placesAlong (walkAt p at) ≡ []
+places-refused p at why e = ap placesAlong (walk-on p at (step.Refused why) e)
+
+pub places-past : (p : List ℕ) (at : ℕ) → length p ≤ at → placesAlong (walkAt p at) ≡ []
+places-past p at h = ap placesAlong (walk-end p at h)
+
+-- a number of each place is written, in the place's own order
+module _ (of : Span → ℕ) where
+  note-step : (t : Bool) (s : Span) (l : List Span) (out next : List ℕ) (n m : ℕ) → next ≡ cond t (set out n (of s)) out → m ≡ cond t (n + 1) n
+      → sets out n (map of (cond t (s ∷ l) l)) ≡ sets next m (map of l)
+  note-step true s l out next n m h k = rw (h, k, add-one n)
+  note-step false s l out next n m h k = rw (h, k)
+
+  pub note-more : (p : List ℕ) (at : ℕ) (f : Field) (there : Bool) (out next : List ℕ) (n m : ℕ) → step.At f ≡ readField p at → there ≡ isBytes 4 f
+      → next ≡ cond there (set out n (of (spanOf f))) out → m ≡ cond (isBytes 4 f) (n + 1) n → sets out n (map of (placesAlong (walkAt p at))) ≡ sets next m (map of (placesAlong (walkAt p (f .next))))
+  note-more p at f there out next n m e b h k =
+      ap (λ (l : List Span). sets out n (map of l)) (places-on p at f e)
+      ∙ note-step (isBytes 4 f) (spanOf f) (placesAlong (walkAt p (f .next))) out next n m (rw b at h) k
+
+  pub note-done : (out all : List ℕ) (n : ℕ) (l : List Span) → l ≡ [] → sets out n (map of l) ≡ all → out ≡ all
+  note-done out all n l e h = sym (ap (λ (r : List Span). sets out n (map of r)) e) ∙ h
+
+-- a number written, where the list has the place
+pub note-set : (there : Bool) (l : List ℕ) (i v : ℕ) → there ≡ true → set l i v ≡ cond there (set l i v) l
+note-set there l i v e = rw e
+
+pub note-out : (there : Bool) (l : List ℕ) (i v : ℕ) → there ≡ true → length l ≤ i → l ≡ cond there (set l i v) l
+note-out there l i v e h = rw e (sym (set-out l i v h))
+
+pub note-not : (there : Bool) (l : List ℕ) (i v : ℕ) → there ≡ false → l ≡ cond there (set l i v) l
+note-not there l i v e = rw e
+
+pub note-length : (there : Bool) (l next : List ℕ) (i v n : ℕ) → next ≡ cond there (set l i v) l → length l ≡ n → length next ≡ n
+note-length there l next i v n h e = either there (λ t. rw (simp t at h, length-set l i v) e) (λ t. rw (simp t at h) e)
+
+-- as many as there are topics, and found again in two lists of four
+pub counts-places : {t : Topics} (p : List ℕ) → t ≡ topicsIn p → t .count ≡ length (topicPlaces p)
+counts-places p e = counts p e ∙ sym (places-count p)
+
+pub spans-found : (p x y a b : List ℕ) (n k : ℕ) → k ≡ length (topicPlaces p) → k ≡ n → n ≤ 4 → length a ≡ 4 → length b ≡ 4
+    → x ≡ sets a 0 (startsOf (topicPlaces p)) → y ≡ sets b 0 (sizesOf (topicPlaces p)) → spansIn x y n ≡ topicPlaces p
+spans-found p x y a b n k c e h l m f g =
+    let q : n ≡ length (topicPlaces p) = sym e ∙ c in
+    rw (f, g, q) (spans-put a b 0 (topicPlaces p) (omega arith) (omega arith))
+
+-- ---- kept places are compared
+module _ (a b c d : List ℕ) (n i : ℕ) where
+  abbrev spanAt : List ℕ → List ℕ → ℕ → Span
+  spanAt x y j = record { start = getD x j 0; size = getD y j 0 }
+
+  spans-from : (x y : List ℕ) → i < n → drop i (spansIn x y n) ≡ spanAt x y i ∷ drop (i + 1) (spansIn x y n)
+  unfolding spansIn
+  spans-from x y h =
+      let l : i < length (tab (spanAt x y) n) = rw (length-tab (spanAt x y) n) h in
+      rw (add-one i, drop-cons (tab (spanAt x y) n) i (spanAt x y i) l, getD-tab (spanAt x y) n i (spanAt x y i) h)
+
+  spans-end : (x y : List ℕ) → n ≤ i → drop i (spansIn x y n) ≡ []
+  spans-end x y h = drop-of-length-le (spansIn x y n) {i = i} (rw (length-spans x y n) h)
+
+  module _ (w : Bool) (inv : sameSpans (drop i (spansIn a b n)) (drop i (spansIn c d n)) ≡ w) where
+    same-here : i < n → (eqb (getD a i 0) (getD c i 0) && (eqb (getD b i 0) (getD d i 0) && sameSpans (drop (i + 1) (spansIn a b n)) (drop (i + 1) (spansIn c d n)))) ≡ w
+    unfolding sameSpans
+    same-here h = rw (spans-from a b h, spans-from c d h) at inv
+
+    pub spans-start : i < n → (getD a i 0 ≡ getD c i 0 → ⊥) → false ≡ w
+    spans-start h k = simp (ne-eqb (getD a i 0) (getD c i 0) k) at (same-here h)
+
+    pub spans-size : i < n → (getD b i 0 ≡ getD d i 0 → ⊥) → false ≡ w
+    spans-size h k =
+        either (eqb (getD a i 0) (getD c i 0)) (λ t. simp (t, ne-eqb (getD b i 0) (getD d i 0) k) at (same-here h)) (λ t. simp t at (same-here h))
+
+    pub spans-more : i < n → getD a i 0 ≡ getD c i 0 → getD b i 0 ≡ getD d i 0 → sameSpans (drop (i + 1) (spansIn a b n)) (drop (i + 1) (spansIn c d n)) ≡ w
+    spans-more h k l = simp (eq-eqb (getD a i 0) (getD c i 0) k, eq-eqb (getD b i 0) (getD d i 0) l) at (same-here h)
+
+    pub spans-all : n ≤ i → true ≡ w
+    unfolding sameSpans
+    spans-all h = rw (spans-end a b h, spans-end c d h) at inv
+
+-- ---- a message with its id and its kept places
+module _ (p i : List ℕ) (ts : List Span) where
+  pub kept-not : false ≡ givesId p i → false ≡ keptWith p i ts
+  unfolding keptWith
+  kept-not h = rw (← h)
+
+  pub kept-other : sameSpans (topicPlaces p) ts ≡ false → false ≡ keptWith p i ts
+  unfolding keptWith
+  kept-other h = either (givesId p i) (λ t. rw (t, h)) (λ t. rw t)
+
+  pub kept-count : (length (topicPlaces p) ≡ length ts → ⊥) → false ≡ keptWith p i ts
+  kept-count h = kept-other (either (sameSpans (topicPlaces p) ts) (λ t. absurd (h (ap length (same-spans-equal (topicPlaces p) ts t)))) (λ t. t))
+
+  pub kept-many : 4 < length (topicPlaces p) → false ≡ keptWith p i ts
+  kept-many h = kept-not (either (givesId p i) (λ t. let k = gives-few p i t in absurd (omega arith)) (λ t. sym t))
+
+  pub kept-names : (n : ℕ) (r : Bool) → counted kind.RawMessage p ≡ count.Records n → sameSpans (topicPlaces p) ts ≡ true → r ≡ idGiven p i (admissionOf p true) → r ≡ keptWith p i ts
+  unfolding keptWith givesId
+  kept-names n r h s g = rw (h, s) (g ∙ sym (and-true (idGiven p i (admissionOf p true))))
 
 -- ---- 28, 29, 30
 module _ (p : List ℕ) (r : Admission) (n l : ℕ) (hn : n ≡ length (topicsOf p)) (hl : l ≡ firstLong (topicsOf p)) where

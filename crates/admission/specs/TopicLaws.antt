@@ -52,7 +52,7 @@ starts-along p =
     (λ at i. omega arith)
     (λ at why r i. omega arith)
     (λ at f st r rest. either (isBytes 4 f)
-    (λ t. simp t (first-or (f .start) _ (length p) (omega (arith, st .ends, st .within)) rest))
+    (λ t. simp t (first-or (f .start) (startsOf (placesAlong (walkAt p (f .next)))) (length p) (omega (arith, st .ends, st .within)) rest))
     (λ t. simp t rest))
 
 sizes-along : (p : List ℕ) (at : ℕ) (i : ℕ) → getD (sizesOf (placesAlong (walkAt p at))) i 0 ≤ length p
@@ -61,7 +61,7 @@ sizes-along p =
     (λ at i. omega arith)
     (λ at why r i. omega arith)
     (λ at f st r rest. either (isBytes 4 f)
-    (λ t. simp t (first-or (f .next - f .start) _ (length p) (omega (arith, st .ends, st .within)) rest))
+    (λ t. simp t (first-or (f .next - f .start) (sizesOf (placesAlong (walkAt p (f .next)))) (length p) (omega (arith, st .ends, st .within)) rest))
     (λ t. simp t rest))
 
 pub starts-within : (p : List ℕ) (i : ℕ) → getD (startsOf (topicPlaces p)) i 0 ≤ length p

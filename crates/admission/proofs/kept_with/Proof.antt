@@ -1,15 +1,19 @@
--- `admission::gives_id` meets its contract: it is read, then admitted, and then the id's bytes are compared.
-use mathlib.Core.Path.{_≡_, sym, _∙_}
-use mathlib.Core.Bool.{true}
-use Rattle.ids.specs.IdLaws.{id-fits}
-use Rattle.admission.specs.AdmissionLaws.{fit-parts, gives-refused, gives-unfit, gives-fit}
+-- `admission::kept_with` meets its contract: it is read, its topics' places are compared, and then it is admitted and its id compared.
+use denote.Ref.{now}
+use mathlib.Core.Path.{_≡_, refl, sym, _∙_}
+use native.Mathlib.Omega.{arith}
+use Rattle.admission.specs.Admission.{spansIn}
+use Rattle.admission.specs.AdmissionLaws.{gives-refused}
+use Rattle.admission.specs.TopicLaws.{length-spans}
+use Rattle.admission.proofs.Turns.{counts-places, spans-found, kept-not, kept-other, kept-count, kept-many, kept-names}
 use borrow.Author.Needs.{needs}
-use Rattle.admission.proofs.gives_id.Statement.{statement}
-use Rattle.admission.proofs.gives_id.Tie as tie
-use Rattle.admission.proofs.gives_id.Reads as reads
-use Rattle.admission.proofs.gives_id.Lts as lts
-use Rattle.admission.proofs.admit.Reads as admit-reads
-use Rattle.admission.proofs.same_parts.Reads as same-parts-reads
+use Rattle.admission.proofs.kept_with.Statement.{statement}
+use Rattle.admission.proofs.kept_with.Tie as tie
+use Rattle.admission.proofs.kept_with.Reads as reads
+use Rattle.admission.proofs.kept_with.Lts as lts
+use Rattle.admission.proofs.names.Reads as names-reads
+use Rattle.admission.proofs.same_spans.Reads as same-spans-reads
+use Rattle.admission.proofs.topics_of.Reads as topics-of-reads
 use Rattle.schema.proofs.count.Reads as count-reads
 
 count-requires : tie.Need-count-requires
@@ -21,42 +25,58 @@ enum-told c = search needs
 enum-told-2 : tie.Need-enum-told-2
 enum-told-2 c = search needs
 
-admit-requires : tie.Need-admit-requires
-admit-requires c κs = search needs
+slice-aggregate-topics-of : tie.Need-slice-aggregate-topics-of
+slice-aggregate-topics-of c = search needs
 
-enum-told-3 : tie.Need-enum-told-3
-enum-told-3 c = search needs
+slice-aggregate-topics-of-2 : tie.Need-slice-aggregate-topics-of-2
+slice-aggregate-topics-of-2 c = search needs
 
-enum-known-r : tie.Need-enum-known-r
-enum-known-r c = search needs
-
-same-parts-requires : tie.Need-same-parts-requires
-same-parts-requires c κs = let g = id-fits ((c .before .before .before .before .before .before .before .before .before .args .part .now)) _ _ _ _ (fit-parts ((c .before .before .before .before .before .before .before .before .before .args .part .now)) true _ _ _ _ (sym (c .before .before .before .admit .ensures) ∙ (c .before .r .given .1))) in
-    (g .from .0, g .from .1, g .seqno .0, g .seqno .1)
+topics-of-requires : tie.Need-topics-of-requires
+topics-of-requires c κs = search needs
 
 returns : tie.Need-returns
-returns c = gives-refused ((c .before .before .before .before .before .args .part .now)) ((c .before .before .before .before .before .args .id .now)) _ (sym (c .before .before .count .ensures) ∙ (c .enum-told .given .1))
+returns c = kept-count (now (c .before .before .before .before .before .before .before .before .before .before .before .before .before .before .args .part)) (now (c .before .before .before .before .before .before .before .before .before .before .before .before .before .before .args .id)) (spansIn (now (c .before .before .before .before .before .before .before .before .before .before .before .before .before .before .args .kept-starts)) (now (c .before .before .before .before .before .before .before .before .before .before .before .before .before .before .args .kept-sizes)) (c .before .before .before .before .before .before .before .before .before .before .before .before .before .before .args .n)) (λ z. (c .if1 .taken) (counts-places (now (c .before .before .before .before .before .before .before .before .before .before .before .before .before .before .args .part)) (c .before .before .before .before .topics-of .ensures .0) ∙ z ∙ length-spans _ _ _))
 
 returns-2 : tie.Need-returns-2
-returns-2 c = gives-unfit ((c .before .before .before .before .before .before .before .before .args .part .now)) ((c .before .before .before .before .before .before .before .before .args .id .now)) _ _ (sym (c .before .before .before .before .before .count .ensures) ∙ (c .before .before .before .enum-told2 .given .1)) (sym (c .before .before .admit .ensures) ∙ (c .enum-told3 .given .1))
+returns-2 c = kept-many (now (c .before .before .before .before .before .before .before .before .before .before .before .before .before .before .before .args .part)) (now (c .before .before .before .before .before .before .before .before .before .before .before .before .before .before .before .args .id)) (spansIn (now (c .before .before .before .before .before .before .before .before .before .before .before .before .before .before .before .args .kept-starts)) (now (c .before .before .before .before .before .before .before .before .before .before .before .before .before .before .before .args .kept-sizes)) (c .before .before .before .before .before .before .before .before .before .before .before .before .before .before .before .args .n)) (omega (arith, counts-places (now (c .before .before .before .before .before .before .before .before .before .before .before .before .before .before .before .args .part)) (c .before .before .before .before .before .topics-of .ensures .0), c .before .if1 .left, c .if2 .taken))
+
+slice-aggregate-same-spans : tie.Need-slice-aggregate-same-spans
+slice-aggregate-same-spans c = search needs
+
+slice-aggregate-same-spans-2 : tie.Need-slice-aggregate-same-spans-2
+slice-aggregate-same-spans-2 c = search needs
+
+same-spans-requires : tie.Need-same-spans-requires
+same-spans-requires c κs = search needs
+
+names-requires : tie.Need-names-requires
+names-requires c κs = search needs
 
 returns-3 : tie.Need-returns-3
-returns-3 c = gives-fit ((c .before .before .before .before .before .before .before .before .before .before .args .part .now))
-    ((c .before .before .before .before .before .before .before .before .before .before .args .id .now)) _ _ _ _ _ _
-    (sym (c .before .before .before .before .before .before .before .count .ensures) ∙ (c .before .before .before .before .before .enum-told2 .given .1))
-    (sym (c .before .before .before .before .admit .ensures) ∙ (c .before .before .r .given .1)) (c .same-parts .ensures)
+returns-3 c = kept-names (now (c .before .before .before .before .before .before .before .before .before .before .before .before .before .before .before .before .before .before .before .before .args .part)) (now (c .before .before .before .before .before .before .before .before .before .before .before .before .before .before .before .before .before .before .before .before .args .id)) (spansIn (now (c .before .before .before .before .before .before .before .before .before .before .before .before .before .before .before .before .before .before .before .before .args .kept-starts)) (now (c .before .before .before .before .before .before .before .before .before .before .before .before .before .before .before .before .before .before .before .before .args .kept-sizes)) (c .before .before .before .before .before .before .before .before .before .before .before .before .before .before .before .before .before .before .before .before .args .n)) _ _ (sym (c .before .before .before .before .before .before .before .before .before .before .before .before .before .before .before .count .ensures) ∙ (c .before .before .before .before .before .before .before .before .before .before .before .before .before .enum-told2 .given .1)) (sym (rw (spans-found (now (c .before .before .before .before .before .before .before .before .before .before .before .before .before .before .before .before .before .before .before .before .args .part)) _ _ _ _ _ _ (counts-places (now (c .before .before .before .before .before .before .before .before .before .before .before .before .before .before .before .before .before .before .before .before .args .part)) (c .before .before .before .before .before .before .before .before .before .before .topics-of .ensures .0)) (c .before .before .before .before .before .before .if1 .left) (c .before .before .before .before .before .if2 .left) refl refl (c .before .before .before .before .before .before .before .before .before .before .topics-of .ensures .1 .0) (c .before .before .before .before .before .before .before .before .before .before .topics-of .ensures .1 .1)) at (c .before .before .same-spans .ensures)) ∙ (c .before .if3 .taken)) (c .names .ensures)
 
-pub gives-id-spec : {M : Type 1} → statement M
-gives-id-spec =
+returns-4 : tie.Need-returns-4
+returns-4 c = kept-not (now (c .before .before .before .before .before .before .before .args .part)) (now (c .before .before .before .before .before .before .before .args .id)) (spansIn (now (c .before .before .before .before .before .before .before .args .kept-starts)) (now (c .before .before .before .before .before .before .before .args .kept-sizes)) (c .before .before .before .before .before .before .before .args .n)) (gives-refused _ _ _ (sym (c .before .before .count .ensures) ∙ (c .enum-told .given .1)))
+
+returns-5 : tie.Need-returns-5
+returns-5 c = kept-other (now (c .before .before .before .before .before .before .before .before .before .before .before .before .before .before .before .before .before .before .before .args .part)) (now (c .before .before .before .before .before .before .before .before .before .before .before .before .before .before .before .before .before .before .before .args .id)) (spansIn (now (c .before .before .before .before .before .before .before .before .before .before .before .before .before .before .before .before .before .before .before .args .kept-starts)) (now (c .before .before .before .before .before .before .before .before .before .before .before .before .before .before .before .before .before .before .before .args .kept-sizes)) (c .before .before .before .before .before .before .before .before .before .before .before .before .before .before .before .before .before .before .before .args .n)) (sym (rw (spans-found (now (c .before .before .before .before .before .before .before .before .before .before .before .before .before .before .before .before .before .before .before .args .part)) _ _ _ _ _ _ (counts-places (now (c .before .before .before .before .before .before .before .before .before .before .before .before .before .before .before .before .before .before .before .args .part)) (c .before .before .before .before .before .before .before .before .before .topics-of .ensures .0)) (c .before .before .before .before .before .if1 .left) (c .before .before .before .before .if2 .left) refl refl (c .before .before .before .before .before .before .before .before .before .topics-of .ensures .1 .0) (c .before .before .before .before .before .before .before .before .before .topics-of .ensures .1 .1)) at (c .before .same-spans .ensures)) ∙ (c .if3 .left))
+
+pub kept-with-spec : {M : Type 1} → statement M
+kept-with-spec =
     tie.close
     (tie.spec
     count-requires
     enum-told
     enum-told-2
-    admit-requires
-    enum-told-3
-    enum-known-r
-    same-parts-requires
+    slice-aggregate-topics-of
+    slice-aggregate-topics-of-2
+    topics-of-requires
     returns
     returns-2
-    returns-3)
+    slice-aggregate-same-spans
+    slice-aggregate-same-spans-2
+    same-spans-requires
+    names-requires
+    returns-3
+    returns-4
+    returns-5)

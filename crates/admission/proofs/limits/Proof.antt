@@ -1,30 +1,24 @@
 -- `admission::limits` meets its contract.
 use Rattle.admission.proofs.Turns.{counts, longs, limit-none, limit-many, limit-long, limit-size, limit-fit}
-use borrow.Author.Needs.{needs}
 use Rattle.admission.proofs.limits.Statement.{statement}
 use Rattle.admission.proofs.limits.Tie as tie
 use Rattle.admission.proofs.limits.Reads as reads
 use Rattle.admission.proofs.limits.Lts as lts
-use Rattle.admission.proofs.topics_of.Reads as topics-of-reads
-
-topics-of-requires : tie.Need-topics-of-requires
-topics-of-requires c κs = search needs
 
 returns : tie.Need-returns
-returns c = limit-none _ _ _ _ (counts _ (c .before .before .topics-of .ensures)) (longs _ (c .before .before .topics-of .ensures)) (c .if1 .taken)
+returns c = limit-none _ _ _ _ (counts _ (c .before .before .pre)) (longs _ (c .before .before .pre)) (c .if1 .taken)
 
 returns-2 : tie.Need-returns-2
-returns-2 c = limit-many _ _ _ _ (counts _ (c .before .before .before .before .topics-of .ensures)) (longs _ (c .before .before .before .before .topics-of .ensures)) (c .before .before .if1 .left) (c .if2 .taken)
+returns-2 c = limit-many _ _ _ _ (counts _ (c .before .before .before .before .pre)) (longs _ (c .before .before .before .before .pre)) (c .before .before .if1 .left) (c .if2 .taken)
 
 returns-3 : tie.Need-returns-3
-returns-3 c = limit-long _ _ _ _ (counts _ (c .before .before .before .before .before .before .topics-of .ensures)) (longs _ (c .before .before .before .before .before .before .topics-of .ensures)) (c .before .before .before .before .if1 .left) (c .before .before .if2 .left) (c .if3 .taken)
+returns-3 c = limit-long _ _ _ _ (counts _ (c .before .before .before .before .before .before .pre)) (longs _ (c .before .before .before .before .before .before .pre)) (c .before .before .before .before .if1 .left) (c .before .before .if2 .left) (c .if3 .taken)
 
 returns-4 : tie.Need-returns-4
-returns-4 c = limit-size _ _ _ _ (counts _ (c .before .before .before .before .before .before .before .topics-of .ensures)) (longs _ (c .before .before .before .before .before .before .before .topics-of .ensures)) (c .before .before .before .before .before .if1 .left) (c .before .before .before .if2 .left) (c .before .if3 .left) (c .if4 .taken)
+returns-4 c = limit-size _ _ _ _ (counts _ (c .before .before .before .before .before .before .before .pre)) (longs _ (c .before .before .before .before .before .before .before .pre)) (c .before .before .before .before .before .if1 .left) (c .before .before .before .if2 .left) (c .before .if3 .left) (c .if4 .taken)
 
 returns-5 : tie.Need-returns-5
-returns-5 c = limit-fit _ _ _ _ (counts _ (c .before .before .before .before .before .before .before .topics-of .ensures)) (longs _ (c .before .before .before .before .before .before .before .topics-of .ensures)) (c .before .before .before .before .before .if1 .left) (c .before .before .before .if2 .left) (c .before .if3 .left) (c .if4 .left)
+returns-5 c = limit-fit _ _ _ _ (counts _ (c .before .before .before .before .before .before .before .pre)) (longs _ (c .before .before .before .before .before .before .before .pre)) (c .before .before .before .before .before .if1 .left) (c .before .before .before .if2 .left) (c .before .if3 .left) (c .if4 .left)
 
 pub limits-spec : {M : Type 1} → statement M
-limits-spec =
-    tie.close (tie.spec topics-of-requires returns returns-2 returns-3 returns-4 returns-5)
+limits-spec = tie.close (tie.spec returns returns-2 returns-3 returns-4 returns-5)

@@ -1,31 +1,40 @@
--- `admission::topics_of` meets its contract: the topics passed and those from here on are all of them.
+-- `admission::topics_of` meets its contract.
 use Prim.Native.Nat.{_+_, _-_, _≤_}
 use mathlib.Core.Path.{_≡_, refl, sym, _∙_}
 use native.Mathlib.Omega.{arith}
 use lib.ListN.{length}
+use lib.Seq.{sets}
 use Rattle.protobuf.specs.Walk.{walkAt, isBytes}
 use Rattle.protobuf.specs.Laws.{field-stands}
-use Rattle.admission.specs.Admission.{topicsAlong, topicsOf, firstLong}
+use Rattle.admission.specs.Admission.{topicsAlong, topicsOf, Span, placesAlong, topicPlaces, startsOf, sizesOf, firstLong}
 use Rattle.basis.specs.Cases.{at-most}
 use Rattle.admission.proofs.Turns.{topics-end, topics-refused, topics-past, count-more, longFrom, long-more, topics-done}
+use Rattle.admission.proofs.Turns.{places-end, places-refused, places-past, note-more, note-done, note-length}
 use borrow.Author.Needs.{needs}
 use Rattle.admission.proofs.topics_of.Statement.{statement}
 use Rattle.admission.proofs.topics_of.Tie as tie
 use Rattle.admission.proofs.topics_of.Reads as reads
 use Rattle.admission.proofs.topics_of.Lts as lts
 use Rattle.admission.proofs.count_after.Reads as count-after-reads
+use Rattle.admission.proofs.is_topic.Reads as is-topic-reads
 use Rattle.admission.proofs.long_after.Reads as long-after-reads
+use Rattle.admission.proofs.note.Reads as note-reads
 use Rattle.protobuf.proofs.read_field.Reads as read-field-reads
 
 abbrev Inv-loop : tie.InvT-loop
-Inv-loop part at₀ n₀ long₀ at n long = (at ≤ length part) × (n ≤ at) × (length (topicsOf part) ≡ n + length (topicsAlong part (walkAt part at))) × (firstLong (topicsOf part) ≡ longFrom long (topicsAlong part (walkAt part at)))
+Inv-loop part starts₀ sizes₀ at₀ n₀ long₀ starts sizes at n long =
+    let ts = topicsAlong part (walkAt part at) in
+    let ps = placesAlong (walkAt part at) in
+    (at ≤ length part) × (n ≤ at) × (length (topicsOf part) ≡ n + length ts) × (firstLong (topicsOf part) ≡ longFrom long ts)
+    × (sets starts n (startsOf ps) ≡ sets starts₀ 0 (startsOf (topicPlaces part))) × (sets sizes n (sizesOf ps) ≡ sets sizes₀ 0 (sizesOf (topicPlaces part)))
+    × (length starts ≡ length starts₀) × (length sizes ≡ length sizes₀)
 
 abbrev μ-loop : tie.MeasureT-loop
-μ-loop part at₀ n₀ long₀ at n long = length part - at
+μ-loop part starts₀ sizes₀ at₀ n₀ long₀ starts sizes at n long = length part - at
 
 loop-holds : tie.Need-loop-holds Inv-loop μ-loop
-unfolding topicsOf
-loop-holds c = (omega arith, omega arith, omega arith, refl)
+unfolding topicsOf topicPlaces
+loop-holds c = (omega arith, omega arith, omega arith, refl, refl, refl, refl, refl)
 
 read-field-requires : tie.Need-read-field-requires Inv-loop μ-loop
 read-field-requires c κs = search needs
@@ -33,59 +42,81 @@ read-field-requires c κs = search needs
 enum-told : tie.Need-enum-told Inv-loop μ-loop
 enum-told c = search needs
 
+same-length : tie.Need-same-length Inv-loop μ-loop
+same-length c = search needs
+
+same-length-2 : tie.Need-same-length-2 Inv-loop μ-loop
+same-length-2 c = search needs
+
 returns : tie.Need-returns Inv-loop μ-loop
-returns c = topics-done _ _ _ _ (topics-end _ _ (sym (c .enum-told .given .1) ∙ (c .before .before .read-field .ensures))) ((c .before .before .before .before .loop .inv .2)) ((c .before .before .before .before .loop .inv .3))
+returns c = (topics-done _ _ _ _ (topics-end _ _ (sym (c .enum-told .given .1) ∙ (c .before .before .read-field .ensures))) (c .before .before .before .before .loop .inv .2) (c .before .before .before .before .loop .inv .3),
+    (note-done (λ (s : Span). s .start) _ _ _ _ (places-end _ _ (sym (c .enum-told .given .1) ∙ (c .before .before .read-field .ensures))) (c .before .before .before .before .loop .inv .4), note-done (λ (s : Span). s .size) _ _ _ _ (places-end _ _ (sym (c .enum-told .given .1) ∙ (c .before .before .read-field .ensures))) (c .before .before .before .before .loop .inv .5)))
 
 enum-told-2 : tie.Need-enum-told-2 Inv-loop μ-loop
 enum-told-2 c = search needs
 
+same-length-3 : tie.Need-same-length-3 Inv-loop μ-loop
+same-length-3 c = search needs
+
+same-length-4 : tie.Need-same-length-4 Inv-loop μ-loop
+same-length-4 c = search needs
+
 returns-2 : tie.Need-returns-2 Inv-loop μ-loop
-returns-2 c = topics-done _ _ _ _ (topics-refused _ _ _ (sym (c .enum-told2 .given .1) ∙ (c .before .before .read-field .ensures))) ((c .before .before .before .before .loop .inv .2)) ((c .before .before .before .before .loop .inv .3))
+returns-2 c = (topics-done _ _ _ _ (topics-refused _ _ _ (sym (c .enum-told2 .given .1) ∙ (c .before .before .read-field .ensures))) (c .before .before .before .before .loop .inv .2) (c .before .before .before .before .loop .inv .3),
+    (note-done (λ (s : Span). s .start) _ _ _ _ (places-refused _ _ _ (sym (c .enum-told2 .given .1) ∙ (c .before .before .read-field .ensures))) (c .before .before .before .before .loop .inv .4), note-done (λ (s : Span). s .size) _ _ _ _ (places-refused _ _ _ (sym (c .enum-told2 .given .1) ∙ (c .before .before .read-field .ensures))) (c .before .before .before .before .loop .inv .5)))
 
 enum-known-step : tie.Need-enum-known-step Inv-loop μ-loop
 enum-known-step c = search needs
 
+sub-len : tie.Need-sub-len Inv-loop μ-loop
+sub-len c = (field-stands (c .before .before .before .before .before .before .before .before .before .before .args .part .now) (c .before .before .before .before .before .before .loop .at) _ (sym (c .before .before .step .given .1) ∙ (c .before .before .before .before .read-field .ensures))) .ends
+
+is-topic-requires : tie.Need-is-topic-requires Inv-loop μ-loop
+is-topic-requires c κs = search needs
+
+note-requires : tie.Need-note-requires Inv-loop μ-loop
+note-requires c κs = search needs
+
+note-requires-2 : tie.Need-note-requires-2 Inv-loop μ-loop
+note-requires-2 c κs = search needs
+
 count-after-requires : tie.Need-count-after-requires Inv-loop μ-loop
 count-after-requires c κs = omega arith
-
-sub-long-after : tie.Need-sub-long-after Inv-loop μ-loop
-sub-long-after c = field-stands ((c .before .before .before .before .before .before .before .before .before .args .part .now)) ((c .before .before .before .before .before .before .before .loop .at)) _ (sym (c .before .before .before .step .given .1) ∙ (c .before .before .before .before .before .read-field .ensures)) .ends
 
 long-after-requires : tie.Need-long-after-requires Inv-loop μ-loop
 long-after-requires c κs = search needs
 
 loop-less : tie.Need-loop-less Inv-loop μ-loop
-loop-less c =
-    omega (
-      arith,
-      field-stands ((c .before .before .before .before .before .before .before .before .before .before .args .part .now))
-          ((c .before .before .before .before .before .before .before .before .loop .at)) ((c .before .before .before .before .step .given .0 .0))
-          (sym (c .before .before .before .before .step .given .1) ∙ (c .before .before .before .before .before .before .read-field .ensures)),
-    )
+loop-less c = 
+    let f = c .before .before .before .before .before .before .before .before .before .before .before .before .before .step .given .0 .0 in
+    let st = field-stands (c .before .before .before .before .before .before .before .before .before .before .before .before .before .before .before .before .before .before .before .before .before .args .part .now) (c .before .before .before .before .before .before .before .before .before .before .before .before .before .before .before .before .before .loop .at) f (sym (c .before .before .before .before .before .before .before .before .before .before .before .before .before .step .given .1) ∙ (c .before .before .before .before .before .before .before .before .before .before .before .before .before .before .before .read-field .ensures)) in
+    omega (arith, st)
 
 loop-again : tie.Need-loop-again Inv-loop μ-loop
-loop-again c = let st = field-stands ((c .before .before .before .before .before .before .before .before .before .before .args .part .now))
-    ((c .before .before .before .before .before .before .before .before .loop .at)) ((c .before .before .before .before .step .given .0 .0))
-    (sym (c .before .before .before .before .step .given .1) ∙ (c .before .before .before .before .before .before .read-field .ensures)) in
-    let k = at-most (isBytes 4 ((c .before .before .before .before .step .given .0 .0))) ((c .before .before .before .before .before .before .before .before .loop .n)) (c .before .before .count-after .result) (c .before .before .count-after .ensures) in (
+loop-again c = 
+    let f = c .before .before .before .before .before .before .before .before .before .before .before .before .before .step .given .0 .0 in
+    let e = sym (c .before .before .before .before .before .before .before .before .before .before .before .before .before .step .given .1) ∙ (c .before .before .before .before .before .before .before .before .before .before .before .before .before .before .before .read-field .ensures) in
+    let st = field-stands (c .before .before .before .before .before .before .before .before .before .before .before .before .before .before .before .before .before .before .before .before .before .args .part .now) (c .before .before .before .before .before .before .before .before .before .before .before .before .before .before .before .before .before .loop .at) f e in
+    let k = at-most (isBytes 4 f) (c .before .before .before .before .before .before .before .before .before .before .before .before .before .before .before .before .before .loop .n) (c .before .count-after .result) (c .before .count-after .ensures) in (
       st .within,
       omega arith,
-      (c .before .before .before .before .before .before .before .before .loop .inv .2)
-          ∙ count-more ((c .before .before .before .before .before .before .before .before .before .before .args .part .now))
-          ((c .before .before .before .before .before .before .before .before .loop .at))
-          ((c .before .before .before .before .before .before .before .before .loop .n)) (c .before .before .count-after .result)
-          ((c .before .before .before .before .step .given .0 .0)) (sym (c .before .before .before .before .step .given .1)
-          ∙ (c .before .before .before .before .before .before .read-field .ensures)) (c .before .before .count-after .ensures),
-      (c .before .before .before .before .before .before .before .before .loop .inv .3)
-          ∙ long-more ((c .before .before .before .before .before .before .before .before .before .before .args .part .now))
-          ((c .before .before .before .before .before .before .before .before .loop .at))
-          ((c .before .before .before .before .before .before .before .before .loop .long)) (c .long-after .result)
-          ((c .before .before .before .before .step .given .0 .0)) (sym (c .before .before .before .before .step .given .1)
-          ∙ (c .before .before .before .before .before .before .read-field .ensures)) st (c .long-after .ensures),
+      (c .before .before .before .before .before .before .before .before .before .before .before .before .before .before .before .before .before .loop .inv .2) ∙ count-more (c .before .before .before .before .before .before .before .before .before .before .before .before .before .before .before .before .before .before .before .before .before .args .part .now) (c .before .before .before .before .before .before .before .before .before .before .before .before .before .before .before .before .before .loop .at) (c .before .before .before .before .before .before .before .before .before .before .before .before .before .before .before .before .before .loop .n) (c .before .count-after .result) f e (c .before .count-after .ensures),
+      (c .before .before .before .before .before .before .before .before .before .before .before .before .before .before .before .before .before .loop .inv .3) ∙ long-more (c .before .before .before .before .before .before .before .before .before .before .before .before .before .before .before .before .before .before .before .before .before .args .part .now) (c .before .before .before .before .before .before .before .before .before .before .before .before .before .before .before .before .before .loop .at) (c .before .before .before .before .before .before .before .before .before .before .before .before .before .before .before .before .before .loop .long) (c .long-after .result) f e st (c .long-after .ensures),
+      sym (note-more (λ (s : Span). s .start) (c .before .before .before .before .before .before .before .before .before .before .before .before .before .before .before .before .before .before .before .before .before .args .part .now) (c .before .before .before .before .before .before .before .before .before .before .before .before .before .before .before .before .before .loop .at) f _ _ _ _ _ e (c .before .before .before .before .before .before .before .before .before .before .is-topic .ensures) (c .before .before .before .before .before .before .before .before .note .ensures) (c .before .count-after .ensures)) ∙ (c .before .before .before .before .before .before .before .before .before .before .before .before .before .before .before .before .before .loop .inv .4),
+      sym (note-more (λ (s : Span). s .size) (c .before .before .before .before .before .before .before .before .before .before .before .before .before .before .before .before .before .before .before .before .before .args .part .now) (c .before .before .before .before .before .before .before .before .before .before .before .before .before .before .before .before .before .loop .at) f _ _ _ _ _ e (c .before .before .before .before .before .before .before .before .before .before .is-topic .ensures) (c .before .before .before .before .note2 .ensures) (c .before .count-after .ensures)) ∙ (c .before .before .before .before .before .before .before .before .before .before .before .before .before .before .before .before .before .loop .inv .5),
+      note-length (c .before .before .before .before .before .before .before .before .before .before .is-topic .result) (c .before .before .before .before .before .before .before .before .before .before .before .before .before .before .before .before .before .loop .starts) _ (c .before .before .before .before .before .before .before .before .before .before .before .before .before .before .before .before .before .loop .n) (f .start) _ (c .before .before .before .before .before .before .before .before .note .ensures) (c .before .before .before .before .before .before .before .before .before .before .before .before .before .before .before .before .before .loop .inv .6),
+      note-length (c .before .before .before .before .before .before .before .before .before .before .is-topic .result) (c .before .before .before .before .before .before .before .before .before .before .before .before .before .before .before .before .before .loop .sizes) _ (c .before .before .before .before .before .before .before .before .before .before .before .before .before .before .before .before .before .loop .n) (f .next - f .start) _ (c .before .before .before .before .note2 .ensures) (c .before .before .before .before .before .before .before .before .before .before .before .before .before .before .before .before .before .loop .inv .7),
     )
 
+same-length-5 : tie.Need-same-length-5 Inv-loop μ-loop
+same-length-5 c = search needs
+
+same-length-6 : tie.Need-same-length-6 Inv-loop μ-loop
+same-length-6 c = search needs
+
 returns-3 : tie.Need-returns-3 Inv-loop μ-loop
-returns-3 c = topics-done _ _ _ _ (topics-past _ _ (c .loop-test .left)) ((c .before .loop .inv .2)) ((c .before .loop .inv .3))
+returns-3 c = (topics-done _ _ _ _ (topics-past _ _ (c .loop-test .left)) (c .before .loop .inv .2) (c .before .loop .inv .3),
+    (note-done (λ (s : Span). s .start) _ _ _ _ (places-past _ _ (c .loop-test .left)) (c .before .loop .inv .4), note-done (λ (s : Span). s .size) _ _ _ _ (places-past _ _ (c .loop-test .left)) (c .before .loop .inv .5)))
 
 pub topics-of-spec : {M : Type 1} → statement M
 topics-of-spec =
@@ -96,13 +127,22 @@ topics-of-spec =
     loop-holds
     read-field-requires
     enum-told
+    same-length
+    same-length-2
     returns
     enum-told-2
+    same-length-3
+    same-length-4
     returns-2
     enum-known-step
+    sub-len
+    is-topic-requires
+    note-requires
+    note-requires-2
     count-after-requires
-    sub-long-after
     long-after-requires
     loop-less
     loop-again
+    same-length-5
+    same-length-6
     returns-3)

@@ -1,14 +1,15 @@
--- `admission::admit` meets its contract: the id's places pick the case.
+-- `admission::weigh` meets its contract: the id's places pick the case.
+use denote.Ref.{now}
 use mathlib.Core.Path.{_≡_, ap, _∙_}
 use Rattle.schema.specs.declared.Slots.{Slots}
 use Rattle.admission.specs.declared.Admission.the-variants as admission
 use Rattle.admission.specs.Admission.{onLimits, onWord, onSignature}
 use Rattle.admission.proofs.Turns.{admit-on}
 use borrow.Author.Needs.{needs}
-use Rattle.admission.proofs.admit.Statement.{statement}
-use Rattle.admission.proofs.admit.Tie as tie
-use Rattle.admission.proofs.admit.Reads as reads
-use Rattle.admission.proofs.admit.Lts as lts
+use Rattle.admission.proofs.weigh.Statement.{statement}
+use Rattle.admission.proofs.weigh.Tie as tie
+use Rattle.admission.proofs.weigh.Reads as reads
+use Rattle.admission.proofs.weigh.Lts as lts
 use Rattle.admission.proofs.signed.Reads as signed-reads
 use Rattle.ids.proofs.id_of.Reads as id-of-reads
 use Rattle.schema.proofs.slots_of.Reads as slots-of-reads
@@ -44,17 +45,14 @@ returns-3 : tie.Need-returns-3
 returns-3 c = admit-on _ _ _ _ _ (c .before .before .before .slots-of .ensures) (c .before .before .id-of .ensures) (c .enum-told2 .given .1)
 
 returns-4 : tie.Need-returns-4
-returns-4 c =
+returns-4 c = 
+    let i = c .before .before .id2 .given .0 in
     (c .signed .ensures)
-    ∙ ap (λ (t : Slots). onSignature (t .fourth) (t .fifth) (onWord (c .before .before .before .before .before .before .before .args .verified)
-    (onLimits ((c .before .before .before .before .before .before .before .args .part .now))
-    (admission.Fit ((c .before .before .id2 .given .0 .0)) ((c .before .before .id2 .given .0 .1 .0)) ((c .before .before .id2 .given .0 .1 .1 .0))
-    ((c .before .before .id2 .given .0 .1 .1 .1 .0)))))) (c .before .before .before .before .before .slots-of .ensures)
-    ∙ admit-on _ _ _ _ _ (c .before .before .before .before .before .slots-of .ensures) (c .before .before .before .before .id-of .ensures)
-    (c .before .before .id2 .given .1)
+    ∙ ap (λ (s : Slots). onSignature (s .fourth) (s .fifth) (onWord (c .before .before .before .before .before .before .before .args .verified) (onLimits (now (c .before .before .before .before .before .before .before .args .part)) (admission.Fit (i .0) (i .1 .0) (i .1 .1 .0) (i .1 .1 .1 .0)))))
+    (c .before .before .before .before .before .slots-of .ensures) ∙ admit-on _ _ _ _ _ (c .before .before .before .before .before .slots-of .ensures) (c .before .before .before .before .id-of .ensures) (c .before .before .id2 .given .1)
 
-pub admit-spec : {M : Type 1} → statement M
-admit-spec =
+pub weigh-spec : {M : Type 1} → statement M
+weigh-spec =
     tie.close
     (tie.spec
     slots-of-requires
