@@ -38,7 +38,7 @@ fn read_words(s: &[u8], at: usize, out: &mut [u64])
     }
 }
 
-// And the number in 2 bytes. It is written out: a node has many of them.
+// The number in 2 bytes. A node has 576 of these: with the bytes written out, reading them all costs little more than a copy.
 fn read_half(s: &[u8], at: usize) -> u16
     requires { ⌜ at + 2 ≤ length (now s) ⌝ }
     ensures { λ r. ⌜ r ≡ little (take 2 (drop at (now (s .entry)))) ⌝ }
@@ -46,6 +46,7 @@ fn read_half(s: &[u8], at: usize) -> u16
     s[at] as u16 + s[at + 1] as u16 * 256
 }
 
+// And those of 2 bytes each.
 fn read_halves(s: &[u8], at: usize, out: &mut [u16])
     requires { ⌜ at + 2 * length (now out) ≤ length (now s) ⌝ }
     ensures { λ _. ⌜ now (out .exit) ≡ gathered 2 (length (now (out .entry))) (drop at (now (s .entry))) ⌝ }
@@ -74,7 +75,7 @@ fn seen_in(s: &[u8]) -> SeenCache
     }
 }
 
-// Of each of the 64 rows a byte, from a place on.
+// A byte for each of the 64 rows, from a place on.
 fn column_at(s: &[u8], at: usize) -> [u8; 64]
     requires { ⌜ at + 64 ≤ length (now s) ⌝ }
     ensures { λ r. ⌜ r ≡ between (now (s .entry)) at (at + 64) ⌝ }
@@ -84,7 +85,7 @@ fn column_at(s: &[u8], at: usize) -> [u8; 64]
     out
 }
 
-// Of each of the four slots of a row a number of 2 bytes, from a place on.
+// A number of 2 bytes for each of the four slots of each row, from a place on.
 fn slots_at(s: &[u8], at: usize) -> [u16; 256]
     requires { ⌜ at + 512 ≤ length (now s) ⌝ }
     ensures { λ r. ⌜ r ≡ gathered 2 256 (drop at (now (s .entry))) ⌝ }
