@@ -23,10 +23,8 @@ gathered w (suc n) s = little (take w s) ∷ gathered w n (drop w s)
 
 -- ---- the layout: ten numbers of 8 bytes; the expiries and the arrival numbers, of 8 bytes each; the lengths of the
 -- messages, of 2 bytes each; then bytes: the lengths of the ids seen, the windows, the lengths of the ids cached, these
--- ids, and how many topics each message has; then, of 2 bytes each, where the topics start, and their lengths
-abbrev pub nodeSize : ℕ
-nodeSize = 12432
-
+-- ids, and how many topics each message has; then, of 2 bytes each and four for each message, where its topics start,
+-- and how long they are
 unfoldable pub headOf : Node → List ℕ
 headOf n =
     n .ttl ∷ n .«max_seen» ∷ n .clock ∷ n .seen .start ∷ n .seen .count ∷ n .cache .«history_len»
@@ -46,6 +44,10 @@ nodeBytes n =
     ++ (n .cache .«topic_count»
     ++ (spread 2 (n .cache .«topic_start»)
     ++ spread 2 (n .cache .«topic_len»))))))))))
+
+-- how many bytes that is
+abbrev pub nodeSize : ℕ
+nodeSize = 12432
 
 -- ---- the node that bytes are
 abbrev pub wordAt : List ℕ → ℕ → ℕ

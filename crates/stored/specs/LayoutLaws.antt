@@ -19,6 +19,10 @@ unfolding spread
 spread-length w [] = sym (mul-zero w)
 spread-length w (v ∷ vs) = rw (length-append, bytes-length, spread-length w vs, mul-suc w (length vs)) (omega arith)
 
+pub stored-size : (n : Node) → Fits n → length (nodeBytes n) ≡ nodeSize
+unfolding nodeBytes headOf
+stored-size n f = simp (length-append, spread-length) (omega arith)
+
 -- ---- several numbers and their bytes
 pub gathered-spread : (w : ℕ) (vs rest : List ℕ) → ((i : ℕ) → getD vs i 0 < 256 ^ w)
     → gathered w (length vs) (spread w vs ++ rest) ≡ vs
