@@ -1,15 +1,14 @@
 -- One turn of each loop of the crate, over plain lists and numbers.
-use Prim.Native.Nat.{ℕ, zero, suc, _+_, _*_, _^_, _<_, _≤_}
+use Prim.Native.Nat.{ℕ, zero, suc, _+_, _*_, _<_, _≤_}
 use mathlib.Core.Path.{_≡_, sym, ap, _∙_}
 use mathlib.Core.List.{List, [], _∷_, _++_}
 use native.Mathlib.Omega.{arith}
 use native.Mathlib.Numerals.{add-one}
-use native.Mathlib.Nat.{pow-le-pow-right, add-comm, suc-mul}
-use lib.ListN.{length, getD, set, take, drop, length-take, drop-of-length-le}
+use native.Mathlib.Nat.{add-comm, suc-mul}
+use lib.ListN.{length, getD, set, take, drop, drop-of-length-le}
 use lib.Seq.{sets, length-sets, drop-cons, drop-drop, take-suc-set, take-all}
-use Rattle.basis.specs.Bytes.{Bytes}
-use Rattle.basis.specs.Lists.{sets-append, drop-bytes, take-bytes, set-fits}
-use Rattle.basis.specs.Little.{little, bytesOf, bytes-length, little-below}
+use Rattle.basis.specs.Lists.{sets-append, set-fits}
+use Rattle.basis.specs.Little.{little, bytesOf, bytes-length}
 use Rattle.basis.specs.Writing.{setIn}
 use Rattle.stored.specs.Layout.{spread, gathered}
 

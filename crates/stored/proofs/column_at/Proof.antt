@@ -1,6 +1,5 @@
 -- `stored::column_at` meets its contract.
 use Prim.Native.Nat.{_+_}
-use mathlib.Core.Path.{refl}
 use native.Mathlib.Omega.{arith}
 use Rattle.stored.proofs.Parts.{part-copied}
 use borrow.Author.Needs.{needs}
