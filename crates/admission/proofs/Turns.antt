@@ -34,7 +34,7 @@ use Rattle.admission.specs.declared.Topics.{Topics}
 use Rattle.admission.specs.declared.Admission.{Admission}
 use Rattle.admission.specs.declared.Admission.the-variants as admission
 use Rattle.admission.specs.Admission.{topicsAlong, topicsOf, Span, spanOf, placesAlong, topicPlaces, startsOf, sizesOf, spansIn, sameSpans, firstLong, topicsIn, longAfter, onLimits, onId, admissionOf, idGiven, givesId, keptWith}
-use Rattle.admission.specs.TopicLaws.{places-count, gives-few, same-spans-equal, length-spans, spans-put}
+use Rattle.admission.specs.TopicLaws.{gives-few, same-spans-equal, length-spans, spans-put}
 
 -- ---- the topics from a place on
 pub topics-on : (p : List ℕ) (at : ℕ) (f : Field) → step.At f ≡ readField p at → topicsAlong p (walkAt p at) ≡ cond (isBytes 4 f) (valueIn p f ∷ topicsAlong p (walkAt p (f .next))) (topicsAlong p (walkAt p (f .next)))
@@ -144,10 +144,7 @@ note-not there l i v e = rw e
 pub note-length : (there : Bool) (l next : List ℕ) (i v n : ℕ) → next ≡ cond there (set l i v) l → length l ≡ n → length next ≡ n
 note-length there l next i v n h e = either there (λ t. rw (simp t at h, length-set l i v) e) (λ t. rw (simp t at h) e)
 
--- as many as there are topics, and found again in two lists of four
-pub counts-places : {t : Topics} (p : List ℕ) → t ≡ topicsIn p → t .count ≡ length (topicPlaces p)
-counts-places p e = counts p e ∙ sym (places-count p)
-
+-- found again in two lists of four
 pub spans-found : (p x y a b : List ℕ) (n k : ℕ) → k ≡ length (topicPlaces p) → k ≡ n → n ≤ 4 → length a ≡ 4 → length b ≡ 4
     → x ≡ sets a 0 (startsOf (topicPlaces p)) → y ≡ sets b 0 (sizesOf (topicPlaces p)) → spansIn x y n ≡ topicPlaces p
 spans-found p x y a b n k c e h l m f g =

@@ -14,8 +14,9 @@ use Rattle.protobuf.specs.WalkLaws.{along}
 use Rattle.rows.specs.Rows.{tab}
 use Rattle.rows.specs.RowsLaws.{length-tab, tab-ext}
 use Rattle.rows.specs.ListLaws.{put-sets}
+use Rattle.admission.specs.declared.Topics.{Topics}
 use Rattle.admission.specs.Admission.{topicsAlong, topicsOf, Span, placesAlong, topicPlaces, cut, startsOf, sizesOf}
-use Rattle.admission.specs.Admission.{spansIn, sameSpans, givesId, keptWith}
+use Rattle.admission.specs.Admission.{topicsIn, spansIn, sameSpans, givesId, keptWith}
 use Rattle.admission.specs.AdmissionLaws.{gives-only, fit-limits}
 
 -- ---- cut out, they are the topics
@@ -33,6 +34,9 @@ cut-topics p = cut-along p (fieldsOf p)
 -- as many
 pub places-count : (p : List ℕ) → length (topicPlaces p) ≡ length (topicsOf p)
 places-count p = sym (length-map (topicPlaces p) (cut p)) ∙ ap length (cut-topics p)
+
+pub counts-places : {t : Topics} (p : List ℕ) → t ≡ topicsIn p → t .count ≡ length (topicPlaces p)
+counts-places p e = ap (λ (t : Topics). t .count) e ∙ sym (places-count p)
 
 -- a message that gives an id has at most four
 pub gives-few : (p i : List ℕ) → givesId p i ≡ true → length (topicPlaces p) ≤ 4

@@ -38,12 +38,16 @@ use Rattle.mcache.specs.declared.Lookup.the-variants as lookup
 use Rattle.mcache.specs.declared.Gossip.{Gossip}
 use Rattle.mcache.specs.declared.GossipIds.{GossipIds}
 use Rattle.mcache.specs.declared.Gossip.the-variants as gossip
-use Rattle.mcache.specs.State.{messageIn, fallsFrom, runsTo, givesIn, idsFit, rowsFit, legal, wellFormed, Laid, Placed, Usable, messageSize, messageIdSize, maxMessages, maxHistory, idsSize, ringOf}
+use Rattle.mcache.specs.State.{messageIn, fallsFrom, runsTo, givesIn, idsFit, rowsFit, legal, wellFormed, Laid, Placed, Usable, messageSize, messageIdSize, maxMessages, maxHistory, idsSize, ringOf, topicsSize, Roomy, tableOf}
 use Rattle.mcache.specs.Calls.{lentOf, indexIn, entered, enteredStore, keepable, planKept, planUnder, keptUnder, storedUnder, shifted, found, gossipList, gossipArray, Plan, no, keep, answered, keptIn, storedIn, planFit, planned, shiftCache, getPart, lookupAnswer, gossipAnswer, gossipCount, gossipRows}
 use Rattle.mcache.specs.Unique.{Puts, Keeps, Shifts, Gossips, Forms, WritesId}
 use Rattle.mcache.specs.StateLaws.{lent-kept}
 use Rattle.mcache.specs.GuardLaws.{lie-rows, when-keeps, keep-usable, form-fit}
 use Rattle.mcache.proofs.Walks.{part-from}
+
+-- ---- the arrays of the topics' places
+pub roomy : (c : MessageCache) → length (c .«topic_count») ≡ maxMessages → length (c .«topic_start») ≡ topicsSize → length (c .«topic_len») ≡ topicsSize → Roomy (tableOf c)
+roomy c x y z = record { counts = x; starts = y; sizes = z }
 
 -- ---- the rows
 module _ (c : MessageCache) (st : List ℕ) where
@@ -57,7 +61,7 @@ module _ (c : MessageCache) (st : List ℕ) where
   shorts = allUpTo messageIdSize (inUse (ringOf c) (c .«id_len»))
 
   abbrev gives : Bool
-  gives = givesIn (ringOf c) (c .len) (c .«id_len») (c .ids) st
+  gives = givesIn (ringOf c) (c .len) (c .«id_len») (c .ids) (tableOf c) st
 
   abbrev differ : Bool
   differ = distinct (idsIn messageIdSize (ringOf c) (c .«id_len») (c .ids))
@@ -91,9 +95,9 @@ module _ (c : MessageCache) (st : List ℕ) where
     pub ring-of : (l : List ℕ) → length l ≡ maxMessages → InStore (ringOf c) l
     ring-of l z = record { starts = starts; within = within; size = omega arith }
 
-    pub rows-of : length (c .len) ≡ maxMessages → length (c .«id_len») ≡ maxMessages → length (c .ids) ≡ idsSize → length st ≡ c .«max_messages» * messageSize → shorts ≡ true
-        → Laid (ringOf c) (c .len) (c .«id_len») (c .ids) st
-    rows-of x y z r s =
+    pub rows-of : length (c .len) ≡ maxMessages → length (c .«id_len») ≡ maxMessages → length (c .ids) ≡ idsSize → Roomy (tableOf c) → length st ≡ c .«max_messages» * messageSize → shorts ≡ true
+        → Laid (ringOf c) (c .len) (c .«id_len») (c .ids) (tableOf c) st
+    rows-of x y z t r s =
         record {
           few = few;
           starts = starts;
@@ -101,6 +105,7 @@ module _ (c : MessageCache) (st : List ℕ) where
           lengths = x;
           id-lengths = y;
           id-room = z;
+          topics = t;
           room = r;
           id-short = short-in messageIdSize (c .«id_len») (ringOf c) s;
         }
@@ -299,9 +304,9 @@ module _ (c : MessageCache) (st body : List ℕ) (i : ℕ) where
   plan-at a b e f g = rw (← e, ← f, ← g)
 
 -- ---- a state that was tested
-module _ (c : MessageCache) (st : List ℕ) (h : lent.Fine ≡ lentOf c st) (g : length (c .generation) ≡ maxMessages) (w : length (c .window) ≡ maxMessages) (l : length (c .len) ≡ maxMessages) (i : length (c .«id_len») ≡ maxMessages) (r : length (c .ids) ≡ idsSize) where
+module _ (c : MessageCache) (st : List ℕ) (h : lent.Fine ≡ lentOf c st) (g : length (c .generation) ≡ maxMessages) (w : length (c .window) ≡ maxMessages) (l : length (c .len) ≡ maxMessages) (i : length (c .«id_len») ≡ maxMessages) (r : length (c .ids) ≡ idsSize) (t : Roomy (tableOf c)) where
   pub tested : Usable c st
-  tested = lent-kept c st (sym h) (record { generations = g; windows = w; lengths = l; id-lengths = i; id-room = r })
+  tested = lent-kept c st (sym h) (record { generations = g; windows = w; lengths = l; id-lengths = i; id-room = r; topics = t })
 
 pub told-as : (c : MessageCache) (st topic : List ℕ) (windows : ℕ) (b : Gossip) (r : GossipIds) → (r .answer ≡ b) × ((r .count ≡ 0) × (r .rows ≡ replicate maxMessages 0))
     → Tells c st topic windows b 0 (replicate maxMessages 0) → Gossips c st topic windows r
@@ -340,11 +345,11 @@ module _ (c : MessageCache) (st m id : List ℕ) where
   kept-not h = record { answer = rw h; cache = rw h; store = rw h }
 
   module _ (g : keepable (ringOf c) (length st) (length m) (length id) ≡ true) where
-    pub kept-placed : length (c .generation) ≡ maxMessages → length (c .window) ≡ maxMessages → length (c .len) ≡ maxMessages → length (c .«id_len») ≡ maxMessages → length (c .ids) ≡ idsSize → Placed c st
-    kept-placed x w l i r =
+    pub kept-placed : length (c .generation) ≡ maxMessages → length (c .window) ≡ maxMessages → length (c .len) ≡ maxMessages → length (c .«id_len») ≡ maxMessages → length (c .ids) ≡ idsSize → Roomy (tableOf c) → Placed c st
+    kept-placed x w l i r y =
         let k = when-keeps (ringOf c) (length st) (length m) (length id) g in
         let t = lie-rows (ringOf c) (k .0) in
-        record { few = t .0; starts = t .1; within = t .2; room = k .1; lengths = l; id-lengths = i; id-room = r; windows = w; generations = x }
+        record { few = t .0; starts = t .1; within = t .2; room = k .1; lengths = l; id-lengths = i; id-room = r; topics = y; windows = w; generations = x }
 
     pub kept-short : (length m ≤ messageSize) × (length id ≤ messageIdSize)
     kept-short = let k = when-keeps (ringOf c) (length st) (length m) (length id) g in (k .2, k .3)
@@ -354,7 +359,7 @@ module _ (c : MessageCache) (st m id : List ℕ) where
       unfolding planKept
       under-held h = let t = lt-ltb (indexIn c id) (c .count) (omega (arith, e)) in record { answer = rw (g, t); cache = rw (g, t); store = rw (g, t) }
 
-      pub under-new : c .count ≤ r → (d : MessageCache) (st2 : List ℕ) → (d ≡ entered (length m) id c) × (st2 ≡ enteredStore c st m)
+      pub under-new : c .count ≤ r → (d : MessageCache) (st2 : List ℕ) → (d ≡ entered m id c) × (st2 ≡ enteredStore c st m)
           → Keeps c st m id (record { answer = put.Stored; cache = d }) st2
       unfolding planKept
       under-new h d st2 w = let t = le-ltb (indexIn c id) (c .count) (omega (arith, e)) in record { answer = rw (g, t); cache = rw (g, t) (w .0); store = rw (g, t) (w .1) }

@@ -15,11 +15,12 @@ use Rattle.rows.specs.Rows.{placeOf}
 use Rattle.rows.specs.Ids.{indexOf}
 use Rattle.rows.specs.RowsLaws.{place-lt, place-le}
 use Rattle.rows.specs.Store.{idsIn, inUse}
+use Rattle.admission.specs.Admission.{startsOf, sizesOf}
 use Rattle.mcache.specs.declared.MessageCache.{MessageCache}
 use Rattle.mcache.specs.declared.Start.the-variants as start
 use Rattle.mcache.specs.declared.Gossip.the-variants as gossip
 use Rattle.mcache.specs.declared.GossipIds.{GossipIds}
-use Rattle.mcache.specs.State.{Placed, legal, fresh, dropped, appended, passed, aged, older, stale, messageSize, messageIdSize, maxMessages, maxHistory, ringOf}
+use Rattle.mcache.specs.State.{Placed, legal, fresh, dropped, appended, passed, aged, older, stale, messageSize, messageIdSize, maxMessages, maxHistory, ringOf, maxTopics, keptPlaces, noted}
 use Rattle.mcache.specs.Calls.{startAnswer, startCache, indexIn, entered, enteredStore, shifted, gossipList, gossipArray, rowsLie, tellAnswer, tellCount, tellRows}
 use Rattle.mcache.specs.Unique.{TellsRows}
 use Rattle.mcache.specs.CachedLaws.{stale-in}
@@ -45,7 +46,7 @@ module _ (history max : ℕ) where
 -- ---- without the oldest
 pub dropped-is : (k p : ℕ) (c : MessageCache) → p ≡ placeOf (ringOf c) k
     → _≡_ {A = MessageCache}
-    (record { «history_len» = c .«history_len»; «max_messages» = c .«max_messages»; «next_generation» = c .«next_generation»; start = p; count = c .count - k; generation = c .generation; window = c .window; len = c .len; «id_len» = c .«id_len»; ids = c .ids })
+    (record { «history_len» = c .«history_len»; «max_messages» = c .«max_messages»; «next_generation» = c .«next_generation»; start = p; count = c .count - k; generation = c .generation; window = c .window; len = c .len; «id_len» = c .«id_len»; ids = c .ids; «topic_count» = c .«topic_count»; «topic_start» = c .«topic_start»; «topic_len» = c .«topic_len» })
     (dropped k c)
 unfolding dropped
 dropped-is k p c h = rw h
@@ -61,6 +62,7 @@ kept-dropped k c st ok h =
       lengths = ok .lengths;
       id-lengths = ok .id-lengths;
       id-room = ok .id-room;
+      topics = ok .topics;
       windows = ok .windows;
       generations = ok .generations;
     }
@@ -72,11 +74,13 @@ bytes-put at bs out out2 h e = e ∙ set-fits (length bs) at bs out h
 -- the next place
 pub next-lies : (c : MessageCache) (st : List ℕ) (p : ℕ) → Placed c st → c .count < c .«max_messages» → p ≡ placeOf (ringOf c) (c .count)
     → (p < maxMessages) × (p * messageSize + messageSize ≤ length st) × (p * messageIdSize + messageIdSize ≤ length (c .ids)) × (p < length (c .len)) × (p < length (c .«id_len»)) × (p < length (c .window)) × (p < length (c .generation))
+    × (p < length (c .«topic_count»)) × (p * maxTopics + maxTopics ≤ length (c .«topic_start»)) × (p * maxTopics + maxTopics ≤ length (c .«topic_len»))
 next-lies c st p ok h e =
     let l : p < c .«max_messages» = rw e (place-lt (ringOf c) (c .count) (ok .starts) h) in
-    (omega (arith, ok .few), omega (arith, ok .room), omega (arith, ok .few, ok .id-room), omega (arith, ok .few, ok .lengths), omega (arith, ok .few, ok .id-lengths), omega (arith, ok .few, ok .windows), omega (arith, ok .few, ok .generations))
+    (omega (arith, ok .few), omega (arith, ok .room), omega (arith, ok .few, ok .id-room), omega (arith, ok .few, ok .lengths), omega (arith, ok .few, ok .id-lengths), omega (arith, ok .few, ok .windows), omega (arith, ok .few, ok .generations), omega (arith, ok .few, ok .topics .counts), omega (arith, ok .few, ok .topics .starts), omega (arith, ok .few, ok .topics .sizes))
 
-pub appended-is : (n : ℕ) (id : List ℕ) (c : MessageCache) (p g : ℕ) (ids : List ℕ) → p ≡ placeOf (ringOf c) (c .count) → g ≡ (c .«next_generation» + 1) % 2 ^ 64 → ids ≡ sets (c .ids) (p * messageIdSize) id
+pub appended-is : (m id : List ℕ) (c : MessageCache) (p g n : ℕ) (ids starts sizes : List ℕ) → n ≡ length (keptPlaces m) → starts ≡ sets (c .«topic_start») (p * maxTopics) (startsOf (keptPlaces m))
+    → sizes ≡ sets (c .«topic_len») (p * maxTopics) (sizesOf (keptPlaces m)) → p ≡ placeOf (ringOf c) (c .count) → g ≡ (c .«next_generation» + 1) % 2 ^ 64 → ids ≡ sets (c .ids) (p * messageIdSize) id
     → _≡_ {A = MessageCache}
     (record {
       «history_len» = c .«history_len»;
@@ -86,25 +90,28 @@ pub appended-is : (n : ℕ) (id : List ℕ) (c : MessageCache) (p g : ℕ) (ids 
       count = c .count + 1;
       generation = set (c .generation) p (c .«next_generation»);
       window = set (c .window) p 0;
-      len = set (c .len) p n;
+      len = set (c .len) p (length m);
       «id_len» = set (c .«id_len») p (length id);
       ids = ids;
+      «topic_count» = set (c .«topic_count») p n;
+      «topic_start» = starts;
+      «topic_len» = sizes;
     })
-    (appended n id c)
-unfolding appended
-appended-is n id c p g ids h e f = rw (f, e, h)
+    (appended m id c)
+unfolding appended noted
+appended-is m id c p g n ids starts sizes a b d h e f = rw (a, b, d, f, e, h)
 
 pub appended-store : (c : MessageCache) (p : ℕ) (st st2 m : List ℕ) → p ≡ placeOf (ringOf c) (c .count) → st2 ≡ sets st (p * messageSize) m → st2 ≡ sets st (placeOf (ringOf c) (c .count) * messageSize) m
 appended-store c p st st2 m h e = e ∙ ap (λ (i : ℕ). sets st (i * messageSize) m) h
 
 module _ (c : MessageCache) (st m id : List ℕ) where
   -- with max_messages 0 nothing is kept
-  pub entered-none : (n g : ℕ) → c .«max_messages» ≡ 0 → g ≡ (c .«next_generation» + 1) % 2 ^ 64
+  pub entered-none : (g : ℕ) → c .«max_messages» ≡ 0 → g ≡ (c .«next_generation» + 1) % 2 ^ 64
       → (_≡_ {A = MessageCache}
-      (record { «history_len» = c .«history_len»; «max_messages» = c .«max_messages»; «next_generation» = g; start = c .start; count = c .count; generation = c .generation; window = c .window; len = c .len; «id_len» = c .«id_len»; ids = c .ids })
-      (entered n id c)) × (st ≡ enteredStore c st m)
+      (record { «history_len» = c .«history_len»; «max_messages» = c .«max_messages»; «next_generation» = g; start = c .start; count = c .count; generation = c .generation; window = c .window; len = c .len; «id_len» = c .«id_len»; ids = c .ids; «topic_count» = c .«topic_count»; «topic_start» = c .«topic_start»; «topic_len» = c .«topic_len» })
+      (entered m id c)) × (st ≡ enteredStore c st m)
   unfolding entered enteredStore passed
-  entered-none n g h e = let z = eq-eqb (c .«max_messages») 0 h in (rw (z, e), rw z)
+  entered-none g h e = let z = eq-eqb (c .«max_messages») 0 h in (rw (z, e), rw z)
 
   module _ (k : ℕ) (d : MessageCache) (some : c .«max_messages» ≡ 0 → ⊥) (ek : k ≡ (c .count + 1) - c .«max_messages») (ed : d ≡ dropped k c) where
     pub enter-room : Placed c st → Placed d st × (d .count < d .«max_messages»)
@@ -115,13 +122,13 @@ module _ (c : MessageCache) (st m id : List ℕ) where
         let x : d .«max_messages» ≡ c .«max_messages» = ap (λ (x : MessageCache). x .«max_messages») ed in
         (rw ed (kept-dropped k c st ok (omega (arith, some))), omega (arith, some))
 
-    pub entered-some : (n : ℕ) (r : MessageCache) (st2 : List ℕ) → r ≡ appended n id d → st2 ≡ sets st (placeOf (ringOf d) (d .count) * messageSize) m
-        → (r ≡ entered n id c) × (st2 ≡ enteredStore c st m)
+    pub entered-some : (r : MessageCache) (st2 : List ℕ) → r ≡ appended m id d → st2 ≡ sets st (placeOf (ringOf d) (d .count) * messageSize) m
+        → (r ≡ entered m id c) × (st2 ≡ enteredStore c st m)
     unfolding entered enteredStore dropped
-    entered-some n r st2 er es =
+    entered-some r st2 er es =
         let z = ne-eqb (c .«max_messages») 0 some in
         let w : d ≡ dropped ((c .count + 1) - c .«max_messages») c = ed ∙ ap (λ (i : ℕ). dropped i c) ek in
-        (rw z (er ∙ ap (appended n id) w), rw z (es ∙ ap (λ (x : MessageCache). sets st (placeOf (ringOf x) (x .count) * messageSize) m) w))
+        (rw z (er ∙ ap (appended m id) w), rw z (es ∙ ap (λ (x : MessageCache). sets st (placeOf (ringOf x) (x .count) * messageSize) m) w))
 
 -- ---- finding
 pub index-is : (c : MessageCache) (id : List ℕ) (r : ℕ) → r ≡ 0 + indexOf id (drop 0 (idsIn messageIdSize (ringOf c) (c .«id_len») (c .ids))) → r ≡ indexIn c id
@@ -133,7 +140,7 @@ pub stale-within : (history : ℕ) (ring : Ring) (l : List ℕ) (k : ℕ) → k 
 stale-within history ring l k e = let h = stale-in history ring l in omega arith
 
 pub shifted-is : (c : MessageCache) (k : ℕ) (w : List ℕ) (r : MessageCache) → k ≡ stale (c .«history_len») (inUse (ringOf c) (c .window)) → w ≡ map older (c .window)
-    → r ≡ dropped k (record { «history_len» = c .«history_len»; «max_messages» = c .«max_messages»; «next_generation» = c .«next_generation»; start = c .start; count = c .count; generation = c .generation; window = w; len = c .len; «id_len» = c .«id_len»; ids = c .ids })
+    → r ≡ dropped k (record { «history_len» = c .«history_len»; «max_messages» = c .«max_messages»; «next_generation» = c .«next_generation»; start = c .start; count = c .count; generation = c .generation; window = w; len = c .len; «id_len» = c .«id_len»; ids = c .ids; «topic_count» = c .«topic_count»; «topic_start» = c .«topic_start»; «topic_len» = c .«topic_len» })
     → r ≡ shifted c
 unfolding shifted aged
 shifted-is c k w r ek ew e = e ∙ rw (ew, ek)

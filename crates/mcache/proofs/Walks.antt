@@ -1,29 +1,35 @@
 -- One step of each walk over the rows.
-use Prim.Native.Nat.{ℕ, zero, suc, _+_, _-_, _*_, _%_, _^_, _≤_, _<_}
+use Prim.Native.Nat.{ℕ, zero, suc, _+_, _-_, _*_, _%_, _^_, _≤_, _<_, min}
 use mathlib.Core.Path.{_≡_, refl, sym, ap, ap₂, _∙_}
 use mathlib.Core.List.{List, [], _∷_, _++_, map, map-append, append-assoc, append-nil}
 use mathlib.Core.Bool.{Bool, true, false, cond, _&&_}
 use native.Mathlib.Omega.{arith}
+use native.Mathlib.Nat.{zero-add}
 use native.Mathlib.Numerals.{add-one}
 use lib.ListN.{length, take, drop, getD, set, length-drop, drop-of-length-le, length-take, length-append, length-map}
-use lib.Seq.{drop-cons, take-suc, set-at, getD-at, take-all, length-take-le, sets, length-sets}
+use lib.ListN.{take-append-drop}
+use lib.Seq.{drop-cons, take-suc, set-at, getD-at, take-all, length-take-le, sets, length-sets, set-out, getD-take}
 use lib.Dec.{leb, ltb, eqb}
-use borrow.Author.Tests.{le-leb, lt-leb, lt-ltb, le-ltb, eq-eqb, ne-eqb}
+use borrow.Author.Tests.{le-leb, lt-leb, lt-ltb, le-ltb, eq-eqb, ne-eqb, leb-true, leb-false}
+use Rattle.basis.specs.Cases.{either}
 use Rattle.rows.specs.declared.Ring.{Ring}
-use Rattle.rows.specs.Rows.{placeOf, rowsIn}
-use Rattle.rows.specs.RowsLaws.{length-ring, ring-from, ring-end, place-lt}
+use Rattle.rows.specs.Rows.{tab, placeOf, rowsIn}
+use Rattle.rows.specs.RowsLaws.{length-tab, getD-tab, map-tab, length-ring, ring-from, ring-end, place-lt}
+use Rattle.rows.specs.ListLaws.{put-sets}
 use Rattle.basis.specs.Writing.{endIn, setIn}
 use Rattle.basis.specs.Unique.{Leaves}
 use Rattle.basis.specs.Lists.{sets-append, end-fits, set-fits}
 use Rattle.protobuf.specs.Walk.{between}
 use Rattle.ids.specs.Ids.{idBytes}
-use Rattle.rows.specs.Ids.{among}
+use Rattle.rows.specs.Ids.{sameBytes, among}
+use Rattle.rows.specs.IdsLaws.{among-more, among-here, among-none}
 use Rattle.rows.specs.Store.{inUse, idAt}
-use Rattle.admission.specs.Admission.{topicsOf, givesId}
+use Rattle.admission.specs.Admission.{Span, topicPlaces, cut, spansIn, keptWith}
 use Rattle.mcache.specs.Calls.{formable, formCount, formLeft, rowsLie, keepable}
 use Rattle.mcache.specs.Unique.{Forms}
 use Rattle.mcache.specs.GuardLaws.{lie-rows, when-forms, id-length}
 use Rattle.mcache.specs.State.{messageIn, fallsFrom, runsTo, givesAt, allTrue, givesIn, stale, older, told, Laid, messageSize, messageIdSize, maxMessages}
+use Rattle.mcache.specs.State.{maxTopics, Table, topicsAt, keptPlaces}
 
 -- ---- windows
 module _ (most : ℕ) (ring : Ring) (l : List ℕ) (last i : ℕ) (inv : fallsFrom last (drop i (inUse ring l)) ≡ fallsFrom most (inUse ring l)) where
@@ -71,18 +77,18 @@ module _ (next : ℕ) (ring : Ring) (l : List ℕ) (i : ℕ) (inv : runsTo next 
   runs-all h = rw (ring-end (λ (p : ℕ). getD l p 0) ring i h) at inv
 
 -- ---- messages
-module _ (ring : Ring) (lens ilens ids st : List ℕ) (i : ℕ) (inv : allTrue (drop i (rowsIn (givesAt lens ilens ids st) ring)) ≡ givesIn ring lens ilens ids st) where
-  pub gives-more : i < ring .count → givesAt lens ilens ids st (placeOf ring i) ≡ true → allTrue (drop (i + 1) (rowsIn (givesAt lens ilens ids st) ring)) ≡ givesIn ring lens ilens ids st
+module _ (ring : Ring) (lens ilens ids : List ℕ) (table : Table) (st : List ℕ) (i : ℕ) (inv : allTrue (drop i (rowsIn (givesAt lens ilens ids table st) ring)) ≡ givesIn ring lens ilens ids table st) where
+  pub gives-more : i < ring .count → givesAt lens ilens ids table st (placeOf ring i) ≡ true → allTrue (drop (i + 1) (rowsIn (givesAt lens ilens ids table st) ring)) ≡ givesIn ring lens ilens ids table st
   unfolding allTrue
-  gives-more h e = simp e at (rw (ring-from (givesAt lens ilens ids st) ring i h) at inv)
+  gives-more h e = simp e at (rw (ring-from (givesAt lens ilens ids table st) ring i h) at inv)
 
-  pub gives-not : i < ring .count → givesAt lens ilens ids st (placeOf ring i) ≡ false → false ≡ givesIn ring lens ilens ids st
+  pub gives-not : i < ring .count → givesAt lens ilens ids table st (placeOf ring i) ≡ false → false ≡ givesIn ring lens ilens ids table st
   unfolding allTrue
-  gives-not h e = simp e at (rw (ring-from (givesAt lens ilens ids st) ring i h) at inv)
+  gives-not h e = simp e at (rw (ring-from (givesAt lens ilens ids table st) ring i h) at inv)
 
-  pub gives-all : ring .count ≤ i → true ≡ givesIn ring lens ilens ids st
+  pub gives-all : ring .count ≤ i → true ≡ givesIn ring lens ilens ids table st
   unfolding allTrue
-  gives-all h = rw (ring-end (givesAt lens ilens ids st) ring i h) at inv
+  gives-all h = rw (ring-end (givesAt lens ilens ids table st) ring i h) at inv
 
 -- ---- what leaves when a window is opened
 module _ (history : ℕ) (ring : Ring) (l : List ℕ) (i : ℕ) (inv : i + stale history (drop i (inUse ring l)) ≡ stale history (inUse ring l)) where
@@ -124,53 +130,156 @@ take-none : (n : ℕ) → _≡_ {A = List ℕ} (take n []) []
 take-none zero = refl
 take-none (suc n) = refl
 
+-- a slice from a on to the end
+abbrev rest : List ℕ → ℕ → List ℕ
+rest l a = take (length l - a) (drop a l)
+
+rest-is : (l : List ℕ) (a : ℕ) → rest l a ≡ drop a l
+rest-is l a = take-all (length l - a) (drop a l) (rw (length-drop a l) (omega arith))
+
 -- ---- what is told
-module _ (window lens st : List ℕ) (windows : ℕ) (topic : List ℕ) (p : ℕ) where
-  pub told-not : windows ≤ getD window p 0 → false ≡ told window lens st windows topic p
+module _ (window lens : List ℕ) (table : Table) (st : List ℕ) (windows : ℕ) (topic : List ℕ) (p : ℕ) where
+  pub told-not : windows ≤ getD window p 0 → false ≡ told window lens table st windows topic p
   unfolding told
   told-not h = sym (simp (le-ltb (getD window p 0) windows h))
 
-  pub told-is : (r : Bool) (m : List ℕ) → getD window p 0 < windows → m ≡ messageIn lens st p → r ≡ among topic (topicsOf m) → r ≡ told window lens st windows topic p
-  unfolding told
-  told-is r m h f e = e ∙ ap (λ (l : List ℕ). among topic (topicsOf l)) f ∙ sym (simp (lt-ltb (getD window p 0) windows h))
+  pub told-is : (r : Bool) (m : List ℕ) (n : ℕ) → getD window p 0 < windows → m ≡ messageIn lens st p → n ≡ getD (table .counts) p 0
+      → r ≡ among topic (map (cut m) (spansIn (rest (table .starts) (p * maxTopics)) (rest (table .sizes) (p * maxTopics)) n)) → r ≡ told window lens table st windows topic p
+  unfolding told topicsAt
+  told-is r m n h f g e =
+      (rw (rest-is (table .starts) (p * maxTopics), rest-is (table .sizes) (p * maxTopics), f, g) at e) ∙ sym (simp (lt-ltb (getD window p 0) windows h))
 
--- the message in a place, cut at the end of the store
-module _ (lens st : List ℕ) (p : ℕ) where
-  pub message-none : length st < p * messageSize → [] ≡ messageIn lens st p
-  unfolding messageIn
-  message-none h = rw (drop-of-length-le st {i = p * messageSize} (omega arith)) (sym (take-none (getD lens p 0)))
+-- a part, cut at the end of the bytes
+module _ (s : List ℕ) (a n : ℕ) where
+  pub part-none : length s < a → [] ≡ take n (drop a s)
+  part-none h = rw (drop-of-length-le s {i = a} (omega arith)) (sym (take-none n))
 
-  pub message-cut : (n : ℕ) → n ≡ getD lens p 0 → length st < p * messageSize + n → take (length st - p * messageSize) (drop (p * messageSize) st) ≡ messageIn lens st p
-  unfolding messageIn
-  message-cut n e h =
-      let l = length-drop (p * messageSize) st in
-      take-all (length st - p * messageSize) (drop (p * messageSize) st) (omega arith) ∙ sym (take-all (getD lens p 0) (drop (p * messageSize) st) (omega arith))
+  pub part-cut : length s - a < n → a ≤ length s → take (length s - a) (drop a s) ≡ take n (drop a s)
+  part-cut h k =
+      let l = length-drop a s in
+      take-all (length s - a) (drop a s) (omega arith) ∙ sym (take-all n (drop a s) (omega arith))
 
-  pub message-whole : (n : ℕ) → n ≡ getD lens p 0 → take ((p * messageSize + n) - p * messageSize) (drop (p * messageSize) st) ≡ messageIn lens st p
-  unfolding messageIn
-  message-whole n e = rw (part-from (p * messageSize) n (drop (p * messageSize) st)) (ap (λ (k : ℕ). take k (drop (p * messageSize) st)) e)
+-- ---- a topic looked for among the parts
+module _ (m topic a b : List ℕ) (n i : ℕ) where
+  abbrev parts : List (List ℕ)
+  parts = map (cut m) (spansIn a b n)
+
+  abbrev partAt : ℕ → List ℕ
+  partAt j = take (getD b j 0) (drop (getD a j 0) m)
+
+  parts-are : parts ≡ tab partAt n
+  unfolding spansIn
+  parts-are = map-tab (cut m) (λ (j : ℕ). record { start = getD a j 0; size = getD b j 0 }) n
+
+  parts-from : i < n → drop i parts ≡ partAt i ∷ drop (i + 1) parts
+  parts-from h =
+      let l : i < length (tab partAt n) = rw (length-tab partAt n) h in
+      rw (parts-are, add-one i, drop-cons (tab partAt n) i (partAt i) l, getD-tab partAt n i (partAt i) h)
+
+  parts-end : n ≤ i → drop i parts ≡ []
+  parts-end h = drop-of-length-le parts {i = i} (rw (parts-are, length-tab partAt n) h)
+
+  module _ (w : Bool) (inv : among topic (drop i parts) ≡ w) where
+    pub part-here : i < n → sameBytes (partAt i) topic ≡ true → true ≡ w
+    part-here h e = among-here topic w (parts-from h) inv e
+
+    pub part-other : i < n → sameBytes (partAt i) topic ≡ false → among topic (drop (i + 1) parts) ≡ w
+    part-other h e = among-more topic w (parts-from h) inv e
+
+    pub parts-none : n ≤ i → false ≡ w
+    parts-none h = among-none topic (drop i parts) w (parts-end h) inv
+
+-- ---- numbers written one after the other
+module _ (out first values : List ℕ) (at n i : ℕ) (h : i < n) (r : n ≤ length values) where
+  pub shorts-more : (v : ℕ) → v ≡ getD values i 0 → sets out (at + i) (drop i (take n values)) ≡ first
+      → sets (set out (at + i) v) (at + (i + 1)) (drop (i + 1) (take n values)) ≡ first
+  shorts-more v e inv =
+      let l : i < length (take n values) = rw (length-take-le n values r) h in
+      let d : drop i (take n values) ≡ v ∷ drop (i + 1) (take n values) =
+      rw (add-one i, drop-cons (take n values) i 0 l, getD-take n values i 0 h, e) in
+      let k : at + (i + 1) ≡ suc (at + i) = omega arith in
+      rw k (rw d at inv)
+
+pub shorts-done : (out first values : List ℕ) (at n i : ℕ) → n ≤ i → sets out (at + i) (drop i (take n values)) ≡ first → out ≡ first
+shorts-done out first values at n i h inv =
+    let l = length-take n values in
+    rw (drop-of-length-le (take n values) {i = i} (omega arith)) at inv
+
+-- ---- the kept places of a message
+-- numbers written past the end of a list
+sets-past : (vs l : List ℕ) (i : ℕ) → length l ≤ i → sets l i vs ≡ l
+sets-past [] l i h = refl
+sets-past (v ∷ vs) l i h = rw (set-out l i v h) (sets-past vs l (suc i) (omega arith))
+
+-- of those written from the front as many stand there as there is room for
+front : (vs a : List ℕ) (n m : ℕ) → length a ≡ m → n ≡ min (length vs) m → take n (sets a 0 vs) ≡ take m vs
+front vs a n m l e =
+    let u = length-take m vs in
+    let w : length (take m vs) ≡ n = omega arith in
+    let s : sets (sets a 0 (take m vs)) (length (take m vs)) (drop m vs) ≡ sets a 0 (take m vs) =
+    either (leb (length vs) m)
+    (λ t. rw (drop-of-length-le vs {i = m} (leb-true (length vs) m t)))
+    (λ t. let g = leb-false (length vs) m t in
+    sets-past (drop m vs) (sets a 0 (take m vs)) (length (take m vs)) (rw (length-sets a 0 (take m vs)) (omega arith))) in
+    let c : sets a 0 vs ≡ sets a 0 (take m vs) =
+    ap (sets a 0) (sym (take-append-drop m vs)) ∙ sets-append a 0 (take m vs) (drop m vs) ∙ rw (zero-add (length (take m vs))) s in
+    rw (c, ← w) (put-sets a 0 (take m vs) (omega arith))
+
+map-take : {A B : Type 0} (f : A → B) (n : ℕ) (l : List A) → map f (take n l) ≡ take n (map f l)
+map-take f zero l = refl
+map-take f (suc n) [] = refl
+map-take {B = B} f (suc n) (x ∷ l) = ap (λ (r : List B). f x ∷ r) (map-take f n l)
+
+module _ (m : List ℕ) (k n : ℕ) (e : k ≡ length (topicPlaces m)) (f : n ≡ min k maxTopics) where
+  pub kept-number : n ≡ length (keptPlaces m)
+  unfolding keptPlaces
+  kept-number = let l = length-take maxTopics (topicPlaces m) in f ∙ omega arith
+
+  module _ (of : Span → ℕ) (a x : List ℕ) (l : length a ≡ maxTopics) (g : x ≡ sets a 0 (map of (topicPlaces m))) where
+    kept-front : take n x ≡ take maxTopics (map of (topicPlaces m))
+    kept-front =
+        let w = length-map (topicPlaces m) of in
+        rw g (front (map of (topicPlaces m)) a n maxTopics l (omega arith))
+
+    pub kept-values : take n x ≡ map of (keptPlaces m)
+    unfolding keptPlaces
+    kept-values = kept-front ∙ sym (map-take of maxTopics (topicPlaces m))
+
+    pub kept-below : (b : ℕ) → ((i : ℕ) → getD (map of (topicPlaces m)) i 0 ≤ b) → (i : ℕ) → i < n → getD x i 0 ≤ b
+    kept-below b h i u =
+        let v : getD x i 0 ≡ getD (map of (topicPlaces m)) i 0 =
+        sym (getD-take n x i 0 u) ∙ ap (λ (r : List ℕ). getD r i 0) kept-front
+        ∙ getD-take maxTopics (map of (topicPlaces m)) i 0 (omega arith) in
+        rw v (h i)
 
 -- ---- whether a row gives its id
-module _ (lens ilens ids st : List ℕ) (p : ℕ) where
-  pub gives-long : messageSize < getD lens p 0 → givesAt lens ilens ids st p ≡ false
+module _ (lens ilens ids : List ℕ) (table : Table) (st : List ℕ) (p : ℕ) where
+  pub gives-long : messageSize < getD lens p 0 → givesAt lens ilens ids table st p ≡ false
   unfolding givesAt
   gives-long h = simp (lt-leb (getD lens p 0) messageSize h)
 
   pub gives-says : (r : Bool) → getD lens p 0 ≤ messageSize
-      → r ≡ givesId (take ((p * messageSize + getD lens p 0) - p * messageSize) (drop (p * messageSize) st)) (take ((p * messageIdSize + getD ilens p 0) - p * messageIdSize) (drop (p * messageIdSize) ids))
-      → givesAt lens ilens ids st p ≡ r
-  unfolding givesAt messageIn idAt
+      → r ≡ keptWith (take ((p * messageSize + getD lens p 0) - p * messageSize) (drop (p * messageSize) st)) (take ((p * messageIdSize + getD ilens p 0) - p * messageIdSize) (drop (p * messageIdSize) ids))
+      (spansIn (rest (table .starts) (p * maxTopics)) (rest (table .sizes) (p * maxTopics)) (getD (table .counts) p 0))
+      → givesAt lens ilens ids table st p ≡ r
+  unfolding givesAt messageIn idAt topicsAt
   gives-says r h e =
       simp (le-leb (getD lens p 0) messageSize h)
-      (sym (e ∙ ap₂ givesId (part-from (p * messageSize) (getD lens p 0) (drop (p * messageSize) st)) (part-from (p * messageIdSize) (getD ilens p 0) (drop (p * messageIdSize) ids))))
+      (sym (rw (
+        part-from (p * messageSize) (getD lens p 0) (drop (p * messageSize) st),
+        part-from (p * messageIdSize) (getD ilens p 0) (drop (p * messageIdSize) ids),
+        rest-is (table .starts) (p * maxTopics),
+        rest-is (table .sizes) (p * maxTopics),
+      ) at e))
 
 -- the i-th row: its place, its message's place and its id's place
-pub row-lies : (ring : Ring) (lens ilens ids st : List ℕ) (i p : ℕ) → Laid ring lens ilens ids st → i < ring .count → p ≡ placeOf ring i
+pub row-lies : (ring : Ring) (lens ilens ids : List ℕ) (table : Table) (st : List ℕ) (i p : ℕ) → Laid ring lens ilens ids table st → i < ring .count → p ≡ placeOf ring i
     → (p < maxMessages) × (p < length lens) × (p < length ilens) × (p * messageSize + messageSize ≤ length st) × (p * messageIdSize + getD ilens p 0 ≤ length ids) × (getD ilens p 0 ≤ messageIdSize)
-row-lies ring lens ilens ids st i p ok h e =
+    × (p < length (table .counts)) × (p * maxTopics ≤ length (table .starts)) × (p * maxTopics ≤ length (table .sizes))
+row-lies ring lens ilens ids table st i p ok h e =
     let l : p < ring .cap = rw e (place-lt ring i (ok .starts) (omega (arith, ok .within))) in
     let n : getD ilens p 0 ≤ messageIdSize = rw e (ok .id-short i h) in
-    (omega (arith, ok .few), omega (arith, ok .few, ok .lengths), omega (arith, ok .few, ok .id-lengths), omega (arith, ok .room), omega (arith, ok .few, ok .id-room), n)
+    (omega (arith, ok .few), omega (arith, ok .few, ok .lengths), omega (arith, ok .few, ok .id-lengths), omega (arith, ok .room), omega (arith, ok .few, ok .id-room), n, omega (arith, ok .few, ok .topics .counts), omega (arith, ok .few, ok .topics .starts), omega (arith, ok .few, ok .topics .sizes))
 
 pub row-in : (ring : Ring) (i p : ℕ) → rowsLie ring ≡ true → i < ring .count → p ≡ placeOf ring i → (p < maxMessages) × (ring .count ≤ maxMessages)
 row-in ring i p l h e =

@@ -21,11 +21,13 @@ use Rattle.mcache.specs.declared.MessageCache.{MessageCache}
 use Rattle.mcache.specs.Messages.{Cached, idsOf, shift}
 use Rattle.mcache.specs.State.{messageIn, cachedAt, cachedIn, fallsFrom, dropped, appended, passed, older, aged}
 use Rattle.mcache.specs.State.{stale, messageSize, messageIdSize, maxMessages, ringOf}
+use Rattle.mcache.specs.State.{tableOf, topicsAt, keptPlaces, noted}
 use Rattle.mcache.specs.Calls.{entered, enteredStore, shifted}
 use Rattle.rows.specs.RowsLaws.{ring-more, newest-more}
 use Rattle.rows.specs.StoreLaws.{id-kept, id-put}
 use Rattle.mcache.specs.WellFormed.{Sized}
-use Rattle.mcache.specs.StateLaws.{Tests, row-short, row-id-short}
+use Rattle.mcache.specs.StateLaws.{Tests, row-short, row-id-short, row-few}
+use Rattle.mcache.specs.TableLaws.{noted-here, noted-other}
 
 abbrev pub windowsOf : List Cached → List ℕ
 windowsOf ms = map (λ (m : Cached). m .window) ms
@@ -229,12 +231,22 @@ module _ (c : MessageCache) (st m id : List ℕ) (t : Tests c st) (z : Sized c) 
       (row-fits messageSize (c .«max_messages») (spot c) (length m) (length st) (spot-in c (t .starts) (t .within) some)
       n (omega (arith, t .room)))
 
+  pub kept-topics : (i : ℕ) → i < c .count - leaving c
+      → topicsAt (noted m (spot c) (tableOf c)) (stays c i) ≡ topicsAt (tableOf c) (stays c i)
+  kept-topics i h =
+      noted-other m (spot c) (tableOf c) (stays c i) (spot-free c (t .starts) (t .within) some i h)
+      (rw (stays-is c (t .starts) (t .within) some i h) (row-few c st t (leaving c + i) (omega arith)))
+
+  pub new-topics : topicsAt (noted m (spot c) (tableOf c)) (spot c) ≡ keptPlaces m
+  new-topics = noted-here m (spot c) (tableOf c) (z .topics) spot-small
+
   pub new-number : (l : List ℕ) (x : ℕ) → length l ≡ maxMessages → getD (set l (spot c) x) (spot c) 0 ≡ x
   new-number l x e = getD-set-same l (spot c) x 0 (omega (arith, spot-small))
 
 -- the cache with a message more, where some is kept
-unfoldable pub grown : ℕ → List ℕ → MessageCache → MessageCache
-grown n id c =
+unfoldable pub grown : List ℕ → List ℕ → MessageCache → MessageCache
+grown m id c =
+    let t = noted m (spot c) (tableOf c) in
     record {
       «history_len» = c .«history_len»;
       «max_messages» = c .«max_messages»;
@@ -243,19 +255,21 @@ grown n id c =
       count = rest c .count + 1;
       generation = set (c .generation) (spot c) (c .«next_generation»);
       window = set (c .window) (spot c) 0;
-      len = set (c .len) (spot c) n;
+      len = set (c .len) (spot c) (length m);
       «id_len» = set (c .«id_len») (spot c) (length id);
       ids = sets (c .ids) (spot c * messageIdSize) id;
+      «topic_count» = t .counts;
+      «topic_start» = t .starts;
+      «topic_len» = t .sizes;
     }
 
-pub entered-some : (n : ℕ) (id : List ℕ) (c : MessageCache) → (c .«max_messages» ≡ 0 → ⊥)
-    → entered n id c ≡ grown n id c
+pub entered-some : (m id : List ℕ) (c : MessageCache) → (c .«max_messages» ≡ 0 → ⊥) → entered m id c ≡ grown m id c
 unfolding entered appended dropped grown spot
-entered-some n id c some = rw (ne-eqb (c .«max_messages») 0 some)
+entered-some m id c some = rw (ne-eqb (c .«max_messages») 0 some)
 
-pub entered-none : (n : ℕ) (id : List ℕ) (c : MessageCache) → c .«max_messages» ≡ 0 → entered n id c ≡ passed c
+pub entered-none : (m id : List ℕ) (c : MessageCache) → c .«max_messages» ≡ 0 → entered m id c ≡ passed c
 unfolding entered
-entered-none n id c e = rw (eq-eqb (c .«max_messages») 0 e)
+entered-none m id c e = rw (eq-eqb (c .«max_messages») 0 e)
 
 pub stored-some : (c : MessageCache) (st m : List ℕ) → (c .«max_messages» ≡ 0 → ⊥)
     → enteredStore c st m ≡ sets st (spot c * messageSize) m
@@ -286,12 +300,12 @@ new id m = record { id = id; message = m; window = 0 }
 
 module _ (c : MessageCache) (st m id : List ℕ) (t : Tests c st) (z : Sized c) (k : length id ≤ messageIdSize)
     (n : length m ≤ messageSize) where
-  pub cached-grown : (c .«max_messages» ≡ 0 → ⊥) → cachedIn (grown (length m) id c) (sets st (spot c * messageSize) m)
+  pub cached-grown : (c .«max_messages» ≡ 0 → ⊥) → cachedIn (grown m id c) (sets st (spot c * messageSize) m)
       ≡ newest (c .«max_messages») (cachedIn c st ++ (new id m ∷ []))
   unfolding cachedIn grown cachedAt
   cached-grown some =
       ring-entered c (t .starts) (t .within) some (cachedAt c st)
-      (cachedAt (grown (length m) id c) (sets st (spot c * messageSize) m)) (new id m)
+      (cachedAt (grown m id c) (sets st (spot c * messageSize) m)) (new id m)
       (λ i h. rw (
         kept-id c st m id t z k n some i h,
         kept-message c st m id t z k n some i h,
@@ -303,13 +317,13 @@ module _ (c : MessageCache) (st m id : List ℕ) (t : Tests c st) (z : Sized c) 
         new-number c st m id t z k n some (c .window) 0 (z .windows),
       ))
 
-  pub cached-entered : cachedIn (entered (length m) id c) (enteredStore c st m) ≡ newest (c .«max_messages»)
+  pub cached-entered : cachedIn (entered m id c) (enteredStore c st m) ≡ newest (c .«max_messages»)
       (cachedIn c st ++ (new id m ∷ []))
   cached-entered =
       either (eqb (c .«max_messages») 0)
       (λ u.
       let e = eqb-true (c .«max_messages») 0 u in
-      rw (entered-none (length m) id c e, stored-none c st m e) (cached-passed c st (new id m) (t .within) e))
+      rw (entered-none m id c e, stored-none c st m e) (cached-passed c st (new id m) (t .within) e))
       (λ u.
       let some = eqb-false (c .«max_messages») 0 u in
-      rw (entered-some (length m) id c some, stored-some c st m some) (cached-grown some))
+      rw (entered-some m id c some, stored-some c st m some) (cached-grown some))

@@ -30,13 +30,14 @@ use Rattle.admission.specs.declared.Admission.{Admission}
 use Rattle.admission.specs.declared.Admission.the-variants as admission
 use Rattle.admission.specs.Admission.{admissionOf, givesId}
 use Rattle.admission.specs.AdmissionLaws.{fit-limits, fit-id, gives-own, message-read}
+use Rattle.admission.specs.TopicLaws.{kept-own}
 use Rattle.mcache.specs.declared.MessageCache.{MessageCache}
 use Rattle.mcache.specs.declared.Lent.{Lent}
 use Rattle.mcache.specs.declared.Lent.the-variants as lent
 use Rattle.mcache.specs.Messages.{Cached, shift}
 use Rattle.mcache.specs.State.{cachedIn, fallsFrom, runsTo, givesAt, allTrue, givesIn, legal, fresh, dropped}
 use Rattle.mcache.specs.State.{passed, older, aged, stale, messageSize, messageIdSize, maxMessages, maxHistory}
-use Rattle.mcache.specs.State.{idsSize, ringOf}
+use Rattle.mcache.specs.State.{idsSize, ringOf, topicsSize, Table, tableOf, keptPlaces, noted}
 use Rattle.mcache.specs.Calls.{lentOf, whenFine, indexIn, entered, enteredStore, planUnder, keptUnder}
 use Rattle.mcache.specs.Calls.{storedUnder, shifted, Plan, no, keep, keptIn, storedIn, planFit, planAt, planBody}
 use Rattle.mcache.specs.Calls.{planned, shiftCache}
@@ -45,7 +46,8 @@ use Rattle.mcache.specs.StateLaws.{Tests, fine-tests, tests-fine}
 use Rattle.mcache.specs.CachedLaws.{windowsOf, windows-cached, cached-shifted, stale-in, spot, left-few}
 use Rattle.mcache.specs.CachedLaws.{rest-starts, ring-entered, kept-id, kept-message, kept-number, new-id}
 use Rattle.mcache.specs.CachedLaws.{new-message, new-number, grown, entered-some, entered-none, stored-some}
-use Rattle.mcache.specs.CachedLaws.{stored-none, rest}
+use Rattle.mcache.specs.CachedLaws.{stored-none, rest, kept-topics, new-topics}
+use Rattle.mcache.specs.TableLaws.{kept-all, noted-roomy}
 use Rattle.mcache.specs.Laws.{held-rows}
 
 -- ---- the oldest leave, and what was true of the rows still is
@@ -181,12 +183,13 @@ ids-less : (k : ℕ) (ring : Ring) (lens ids : List ℕ) → ring .start ≤ rin
 unfolding idsIn
 ids-less k ring lens ids a b h = ring-drop (idAt messageIdSize lens ids) ring k a b h
 
-gives-less : (k : ℕ) (ring : Ring) (lens ilens ids st : List ℕ) → ring .start ≤ ring .cap → ring .count ≤ ring .cap
-    → k ≤ ring .count → givesIn ring lens ilens ids st ≡ true
-    → givesIn (without k ring) lens ilens ids st ≡ true
+gives-less : (k : ℕ) (ring : Ring) (lens ilens ids : List ℕ) (table : Table) (st : List ℕ) → ring .start ≤ ring .cap → ring .count ≤ ring .cap
+    → k ≤ ring .count → givesIn ring lens ilens ids table st ≡ true
+    → givesIn (without k ring) lens ilens ids table st ≡ true
 unfolding givesIn
-gives-less k ring lens ilens ids st a b h g =
-    rw (ring-drop (givesAt lens ilens ids st) ring k a b h) (true-drop k (rowsIn (givesAt lens ilens ids st) ring) g)
+gives-less k ring lens ilens ids table st a b h g =
+    rw (ring-drop (givesAt lens ilens ids table st) ring k a b h)
+    (true-drop k (rowsIn (givesAt lens ilens ids table st) ring) g)
 
 shifted-tests : (c : MessageCache) (st : List ℕ) → Tests c st → Sized c → Tests (shifted c) st
 unfolding shifted aged dropped
@@ -205,7 +208,7 @@ shifted-tests c st t z =
           (runs-drop (c .«next_generation») k (inUse (ringOf c) (c .generation)) (t .runs));
       id-short = rw (numbers-less k (ringOf c) (c .«id_len») (t .starts) (t .within) h)
           (upto-drop messageIdSize k (inUse (ringOf c) (c .«id_len»)) (t .id-short));
-      gives = gives-less k (ringOf c) (c .len) (c .«id_len») (c .ids) st (t .starts) (t .within) h (t .gives);
+      gives = gives-less k (ringOf c) (c .len) (c .«id_len») (c .ids) (tableOf c) st (t .starts) (t .within) h (t .gives);
       once = rw (ids-less k (ringOf c) (c .«id_len») (c .ids) (t .starts) (t .within) h)
           (distinct-drop k (idsIn messageIdSize (ringOf c) (c .«id_len») (c .ids)) (t .once));
     }
@@ -286,31 +289,32 @@ module _ (c : MessageCache) (st m id : List ℕ) (t : Tests c st) (z : Sized c) 
 
   gives-more : givesIn (oneMore (rest c)) (set (c .len) (spot c) (length m))
       (set (c .«id_len») (spot c) (length id)) (sets (c .ids) (spot c * messageIdSize) id)
-      (sets st (spot c * messageSize) m) ≡ true
+      (noted m (spot c) (tableOf c)) (sets st (spot c * messageSize) m) ≡ true
   unfolding givesIn givesAt newest
   gives-more =
-      let old = givesAt (c .len) (c .«id_len») (c .ids) st in
+      let old = givesAt (c .len) (c .«id_len») (c .ids) (tableOf c) st in
       let l = rowsIn old (ringOf c) ++ (true ∷ []) in
       rw
       (ring-entered c (t .starts) (t .within) some old
       (givesAt (set (c .len) (spot c) (length m)) (set (c .«id_len») (spot c) (length id))
-      (sets (c .ids) (spot c * messageIdSize) id) (sets st (spot c * messageSize) m)) true
+      (sets (c .ids) (spot c * messageIdSize) id) (noted m (spot c) (tableOf c)) (sets st (spot c * messageSize) m)) true
       (λ i h.
       rw (
         kept-number c st m id t z (k .id-small) (k .small) some (c .len) (length m) i h,
         kept-message c st m id t z (k .id-small) (k .small) some i h,
-        kept-id c st m id t z (k .id-small)
-            (k .small) some i h,
+        kept-id c st m id t z (k .id-small) (k .small) some i h,
+        kept-topics c st m id t z (k .id-small) (k .small) some i h,
       ))
       (rw (
         new-number c st m id t z (k .id-small) (k .small) some (c .len) (length m) (z .lengths),
         new-message c st m id t z (k .id-small) (k .small) some,
         new-id c st m id t z (k .id-small) (k .small) some,
+        new-topics c st m id t z (k .id-small) (k .small) some,
         le-leb (length m) messageSize (k .small),
-      ) (k .own)))
+      ) (kept-own m id (keptPlaces m) (k .own) (kept-all m id (k .own)))))
       (true-drop (length l - c .«max_messages») l (true-snoc (rowsIn old (ringOf c)) (t .gives)))
 
-  grown-tests : Tests (grown (length m) id c) (sets st (spot c * messageSize) m)
+  grown-tests : Tests (grown m id c) (sets st (spot c * messageSize) m)
   unfolding grown newest
   grown-tests =
       let windows = inUse (ringOf c) (c .window) in
@@ -359,16 +363,16 @@ passed-tests c st t e =
     }
 
 entered-fine : (c : MessageCache) (st m id : List ℕ) → Tests c st → Sized c → Enters c m id
-    → lentOf (entered (length m) id c) (enteredStore c st m) ≡ lent.Fine
+    → lentOf (entered m id c) (enteredStore c st m) ≡ lent.Fine
 entered-fine c st m id t z k =
     either (eqb (c .«max_messages») 0)
     (λ u.
     let e = eqb-true (c .«max_messages») 0 u in
-    rw (entered-none (length m) id c e, stored-none c st m e) (tests-fine (passed c) st (passed-tests c st t e)))
+    rw (entered-none m id c e, stored-none c st m e) (tests-fine (passed c) st (passed-tests c st t e)))
     (λ u.
     let some = eqb-false (c .«max_messages») 0 u in
-    rw (entered-some (length m) id c some, stored-some c st m some)
-    (tests-fine (grown (length m) id c) (sets st (spot c * messageSize) m) (grown-tests c st m id t z k some)))
+    rw (entered-some m id c some, stored-some c st m some)
+    (tests-fine (grown m id c) (sets st (spot c * messageSize) m) (grown-tests c st m id t z k some)))
 
 put-by : (c : MessageCache) (st body : List ℕ) (i : ℕ) → lentOf c st ≡ lent.Fine → Sized c → (r : Plan)
     → planned c st body i ≡ r → lentOf (keptIn c r) (storedIn c st r) ≡ lent.Fine
@@ -391,15 +395,16 @@ under-fine c st m id f z n k g =
     (λ t. rw t (entered-fine c st m id (fine-tests c st f) z (record { small = n; id-small = k; own = g; fresh = t })))
 
 -- ---- sizes, and arrival numbers below 2 ^ 64, are kept
-grown-sized : (n : ℕ) (id : List ℕ) (c : MessageCache) → Sized c → Sized (grown n id c)
+grown-sized : (m id : List ℕ) (c : MessageCache) → Sized c → Sized (grown m id c)
 unfolding grown
-grown-sized n id c z =
+grown-sized m id c z =
     record {
       generations = length-set (c .generation) (spot c) (c .«next_generation») ∙ z .generations;
       windows = length-set (c .window) (spot c) 0 ∙ z .windows;
-      lengths = length-set (c .len) (spot c) n ∙ z .lengths;
+      lengths = length-set (c .len) (spot c) (length m) ∙ z .lengths;
       id-lengths = length-set (c .«id_len») (spot c) (length id) ∙ z .id-lengths;
       id-room = length-sets (c .ids) (spot c * messageIdSize) id ∙ z .id-room;
+      topics = noted-roomy m (spot c) (tableOf c) (z .topics);
     }
 
 passed-sized : (c : MessageCache) → Sized c → Sized (passed c)
@@ -411,6 +416,7 @@ passed-sized c z =
       lengths = z .lengths;
       id-lengths = z .id-lengths;
       id-room = z .id-room;
+      topics = z .topics;
     }
 
 pub shifted-sized : (c : MessageCache) → Sized c → Sized (shifted c)
@@ -422,6 +428,7 @@ shifted-sized c z =
       lengths = z .lengths;
       id-lengths = z .id-lengths;
       id-room = z .id-room;
+      topics = z .topics;
     }
 
 pub fresh-sized : (next history max : ℕ) → Sized (freshAt next history max)
@@ -433,6 +440,12 @@ fresh-sized next history max =
       lengths = length-replicate {A = ℕ} maxMessages 0;
       id-lengths = length-replicate {A = ℕ} maxMessages 0;
       id-room = length-replicate {A = ℕ} idsSize 0;
+      topics =
+          record {
+            counts = length-replicate {A = ℕ} maxMessages 0;
+            starts = length-replicate {A = ℕ} topicsSize 0;
+            sizes = length-replicate {A = ℕ} topicsSize 0;
+          };
     }
 
 set-small : (l : List ℕ) (q x : ℕ) → ((p : ℕ) → getD l p 0 < 2 ^ 64) → x < 2 ^ 64 → (p : ℕ)
@@ -445,11 +458,11 @@ set-small l q x s h p =
     (λ u. rw (set-out l q x (ltb-false q (length l) u)) (s p)))
     (λ t. rw (getD-set-other l q p x 0 (eqb-false p q t)) (s p))
 
-grown-typed : (n : ℕ) (id : List ℕ) (c : MessageCache) → Typed c → Typed (grown n id c)
+grown-typed : (m id : List ℕ) (c : MessageCache) → Typed c → Typed (grown m id c)
 unfolding grown
-grown-typed n id c y =
+grown-typed m id c y =
     record {
-      sized = grown-sized n id c (y .sized);
+      sized = grown-sized m id c (y .sized);
       next-small = omega arith;
       small = set-small (c .generation) (spot c) (c .«next_generation») (y .small) (y .next-small);
     }
@@ -467,15 +480,15 @@ unfolding freshAt
 fresh-typed next history max h =
     record { sized = fresh-sized next history max; next-small = h; small = λ p. zeros-below maxMessages (2 ^ 64) p (omega arith) }
 
-entered-typed : (n : ℕ) (id : List ℕ) (c : MessageCache) → Typed c → Typed (entered n id c)
-entered-typed n id c y =
+entered-typed : (m id : List ℕ) (c : MessageCache) → Typed c → Typed (entered m id c)
+entered-typed m id c y =
     either (eqb (c .«max_messages») 0)
-    (λ u. rw (entered-none n id c (eqb-true (c .«max_messages») 0 u)) (passed-typed c y))
-    (λ u. rw (entered-some n id c (eqb-false (c .«max_messages») 0 u)) (grown-typed n id c y))
+    (λ u. rw (entered-none m id c (eqb-true (c .«max_messages») 0 u)) (passed-typed c y))
+    (λ u. rw (entered-some m id c (eqb-false (c .«max_messages») 0 u)) (grown-typed m id c y))
 
 typed-by : (c : MessageCache) → Typed c → (r : Plan) → Typed (keptIn c r)
 typed-by c y (no r) = y
-typed-by c y (keep m id) = entered-typed (length m) id c y
+typed-by c y (keep m id) = entered-typed m id c y
 
 pub put-typed : (c : MessageCache) (st body : List ℕ) (i : ℕ) → Typed c → Typed (keptIn c (planned c st body i))
 put-typed c st body i y = typed-by c y (planned c st body i)

@@ -14,22 +14,23 @@ use borrow.Author.Tests.{ltb-true, ltb-false, lt-ltb, le-ltb}
 use Rattle.basis.specs.declared.Written.{Written}
 use Rattle.basis.specs.Cases.{either, clash, both}
 use Rattle.basis.specs.Writing.{answer, written}
-use Rattle.rows.specs.Rows.{rowsIn}
-use Rattle.rows.specs.RowsLaws.{map-ring}
+use Rattle.rows.specs.Rows.{tab, placeOf, rowsIn}
+use Rattle.rows.specs.RowsLaws.{length-tab, getD-tab, map-ring}
 use Rattle.rows.specs.Ids.{sameBytes, precedesBytes, among, distinct}
 use Rattle.rows.specs.IdsLaws.{same-self, same-equal, order-irreflexive, order-total, order-trans, each-distinct}
 use Rattle.rows.specs.Store.{idAt, idsIn}
 use Rattle.admission.specs.Admission.{topicsOf}
+use Rattle.admission.specs.TopicLaws.{cut-topics}
 use Rattle.mcache.specs.declared.MessageCache.{MessageCache}
 use Rattle.mcache.specs.declared.Lent.the-variants as lent
 use Rattle.mcache.specs.declared.Gossip.the-variants as gossip
 use Rattle.mcache.specs.declared.GossipIds.{GossipIds}
 use Rattle.mcache.specs.Messages.{Cached, topics, idsOf, held, carrying, enterId, inOrder, gossipIds}
 use Rattle.mcache.specs.State.{messageIn, cachedAt, cachedIn, told, insertRow, gatherInto, messageIdSize}
-use Rattle.mcache.specs.State.{maxMessages, ringOf}
+use Rattle.mcache.specs.State.{maxMessages, ringOf, tableOf}
 use Rattle.mcache.specs.Calls.{lentOf, gossipList, gossipArray, gossipAnswer, gossipCount, gossipRows}
 use Rattle.mcache.specs.Unique.{Gossips, WritesId}
-use Rattle.mcache.specs.StateLaws.{fine-tests}
+use Rattle.mcache.specs.StateLaws.{Tests, fine-tests, row-topics}
 
 -- ---- an id among others, exactly
 pub among-in : (x : List ℕ) (l : List (List ℕ)) → among x l ≡ true → List·Memᴰ x l
@@ -187,16 +188,46 @@ gather-enter t id qs (p ∷ ps) d a =
     (λ u. rw u (gather-enter t id qs ps e (λ x m. a x (rw (m) (or-true (sameBytes (id p) x))))))
 
 -- ---- the messages that carry a topic are those in the rows that are told of
+-- by the topics that the message itself has
+abbrev carried : MessageCache → List ℕ → List ℕ → ℕ → ℕ → Bool
+carried c st topic windows p =
+    ltb (getD (c .window) p 0) windows && among topic (topicsOf (messageIn (c .len) st p))
+
 carrying-rows : (c : MessageCache) (st topic : List ℕ) (windows : ℕ) (ps : List ℕ)
     → idsOf (carrying topic windows (map (cachedAt c st) ps)) ≡ map (idAt messageIdSize (c .«id_len») (c .ids))
-    (chosen (told (c .window) (c .len) st windows topic) ps)
-unfolding carrying chosen cachedAt told
+    (chosen (carried c st topic windows) ps)
+unfolding carrying chosen cachedAt
 carrying-rows c st topic windows [] = refl
 carrying-rows c st topic windows (p ∷ ps) =
     let r = carrying-rows c st topic windows ps in
     either (ltb (getD (c .window) p 0) windows && among topic (topicsOf (messageIn (c .len) st p)))
     (λ t. rw t (ap (λ (l : List (List ℕ)). idAt messageIdSize (c .«id_len») (c .ids) p ∷ l) r))
     (λ t. rw t r)
+
+-- in a tested state the kept places say the same
+told-carried : (c : MessageCache) (st topic : List ℕ) (windows i : ℕ) → Tests c st → i < c .count
+    → told (c .window) (c .len) (tableOf c) st windows topic (placeOf (ringOf c) i)
+    ≡ carried c st topic windows (placeOf (ringOf c) i)
+unfolding told
+told-carried c st topic windows i t h =
+    let p = placeOf (ringOf c) i in
+    rw (row-topics c st t i h, cut-topics (messageIn (c .len) st p))
+
+chosen-same : (t u : ℕ → Bool) (ps : List ℕ) → ((i : ℕ) → i < length ps → t (getD ps i 0) ≡ u (getD ps i 0))
+    → chosen t ps ≡ chosen u ps
+unfolding chosen
+chosen-same t u [] h = refl
+chosen-same t u (p ∷ ps) h = rw (h 0 (omega arith), chosen-same t u ps (λ i k. h (suc i) (omega arith)))
+
+told-rows : (c : MessageCache) (st topic : List ℕ) (windows : ℕ) → Tests c st
+    → chosen (told (c .window) (c .len) (tableOf c) st windows topic) (rowsIn (λ (p : ℕ). p) (ringOf c))
+    ≡ chosen (carried c st topic windows) (rowsIn (λ (p : ℕ). p) (ringOf c))
+unfolding rowsIn
+told-rows c st topic windows t =
+    let g : ℕ → ℕ = λ (i : ℕ). placeOf (ringOf c) i in
+    chosen-same _ _ (tab g (c .count))
+    (λ i k. let l : i < c .count = rw (length-tab g (c .count)) at k in
+    rw (getD-tab g (c .count) i 0 l) (told-carried c st topic windows i t l))
 
 pub gossip-ids : (c : MessageCache) (st topic : List ℕ) (windows : ℕ) → lentOf c st ≡ lent.Fine
     → map (idAt messageIdSize (c .«id_len») (c .ids)) (gossipList c st topic windows) ≡ gossipIds topic windows
@@ -205,11 +236,12 @@ unfolding gossipList gossipIds cachedIn Apart among idsIn
 gossip-ids c st topic windows f =
     let ps = rowsIn (λ (p : ℕ). p) (ringOf c) in
     let id = idAt messageIdSize (c .«id_len») (c .ids) in
-    let t = told (c .window) (c .len) st windows topic in
+    let t = told (c .window) (c .len) (tableOf c) st windows topic in
     gather-enter t id [] ps
     (rw (map-ring id (λ (p : ℕ). p) (ringOf c)) (fine-tests c st f .once))
     (λ x m. refl)
     ∙ enter-order (map id (chosen t ps))
+    ∙ ap (λ (qs : List ℕ). inOrder (map id qs)) (told-rows c st topic windows (fine-tests c st f))
     ∙ ap inOrder (sym (carrying-rows c st topic windows ps))
     ∙ ap (λ (ms : List Cached). inOrder (idsOf (carrying topic windows ms)))
     (map-ring (cachedAt c st) (λ (p : ℕ). p) (ringOf c))

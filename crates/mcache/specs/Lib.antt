@@ -2,13 +2,14 @@
 -- contracts).
 -- Cited by contracts, and joined to these by theorems: the other definitions of State and Calls, by Laws.
 -- Theorems: Laws, GossipLaws, FineLaws, WellFormedLaws, WrapLaws, Unique, Exactly, Readers.
--- On the way to them: StateLaws, CachedLaws, GatherLaws, GuardLaws.
+-- On the way to them: TableLaws, StateLaws, CachedLaws, GatherLaws, GuardLaws.
 pub mod Told
 pub mod Messages
 pub mod State
 pub mod Calls
 pub mod Unique
 pub mod WellFormed
+pub mod TableLaws
 pub mod StateLaws
 pub mod GuardLaws
 pub mod CachedLaws

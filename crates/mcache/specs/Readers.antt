@@ -17,18 +17,20 @@ use Rattle.ids.specs.declared.MessageAt.the-variants as at
 use Rattle.schema.specs.Accept.{acceptOf}
 use Rattle.ids.specs.Ids.{messageAt, idBytes}
 use Rattle.admission.specs.declared.Admission.the-variants as admission
-use Rattle.admission.specs.Admission.{admissionOf}
+use Rattle.admission.specs.Admission.{topicPlaces, admissionOf}
 use Rattle.mcache.specs.declared.MessageCache.{MessageCache}
 use Rattle.mcache.specs.declared.Lent.the-variants as lent
 use Rattle.mcache.specs.declared.Put.the-variants as put
 use Rattle.mcache.specs.Told.{putTold}
 use Rattle.mcache.specs.Messages.{Cached, held, put as putIn}
-use Rattle.mcache.specs.State.{cachedIn, messageSize}
+use Rattle.mcache.specs.State.{cachedIn, messageSize, tableOf, topicsAt}
 use Rattle.mcache.specs.Calls.{lentOf, Plan, no, keep, answered, keptIn, storedIn, planned}
 use Rattle.mcache.specs.WellFormed.{Sized, rowOf}
 use Rattle.mcache.specs.StateLaws.{fine-tests}
 use Rattle.mcache.specs.CachedLaws.{new, leaving, spot, stays, spot-in, spot-free, grown, entered-some}
-use Rattle.mcache.specs.CachedLaws.{stored-some, rest}
+use Rattle.mcache.specs.CachedLaws.{stored-some, rest, new-topics}
+use Rattle.mcache.specs.TableLaws.{kept-all}
+use Rattle.mcache.specs.FineLaws.{Enters, planned-keeps}
 use Rattle.mcache.specs.Laws.{put-plan, put-cached}
 
 -- ---- the messages
@@ -89,6 +91,8 @@ pub record Written (c d : MessageCache) (st st2 m : List ℕ) : Type 0 where
   pub freed : c .count ≡ c .«max_messages» → place ≡ rowOf c 0
   -- and the message is all that is written
   pub stored : st2 ≡ sets st (place * messageSize) m
+  -- its topics' places stand beside it, whatever stood there before
+  pub topics : topicsAt (tableOf d) place ≡ topicPlaces m
 
 full-place : (ring : Ring) → ring .start ≤ ring .cap → 1 ≤ ring .cap
     → placeOf (without 1 ring) (ring .cap - 1) ≡ placeOf ring 0
@@ -119,10 +123,10 @@ stays-row : (c : MessageCache) (j : ℕ) → stays c j ≡ placeOf (oneMore (res
 unfolding stays placeOf
 stays-row c j = refl
 
-grown-written : (c : MessageCache) (st m id : List ℕ) → lentOf c st ≡ lent.Fine → (c .«max_messages» ≡ 0 → ⊥)
-    → Written c (grown (length m) id c) st (sets st (spot c * messageSize) m) m
+grown-written : (c : MessageCache) (st m id : List ℕ) → lentOf c st ≡ lent.Fine → Sized c
+    → (c .«max_messages» ≡ 0 → ⊥) → Enters c m id → Written c (grown m id c) st (sets st (spot c * messageSize) m) m
 unfolding grown
-grown-written c st m id fine some =
+grown-written c st m id fine z some k =
     let t = fine-tests c st fine in
     let n : ((c .count - leaving c) + 1) - 1 ≡ c .count - leaving c = omega arith in
     record {
@@ -132,10 +136,12 @@ grown-written c st m id fine some =
       free = λ j h e. spot-free c (t .starts) (t .within) some j (omega arith) (stays-row c j ∙ e);
       freed = spot-freed c (t .starts) some;
       stored = refl;
+      topics = new-topics c st m id t z (k .id-small) (k .small) some ∙ kept-all m id (k .own);
     }
 
-pub freed-place-used : (c : MessageCache) (st body m id : List ℕ) (i : ℕ) → lentOf c st ≡ lent.Fine
+pub freed-place-used : (c : MessageCache) (st body m id : List ℕ) (i : ℕ) → lentOf c st ≡ lent.Fine → Sized c
     → (c .«max_messages» ≡ 0 → ⊥) → planned c st body i ≡ keep m id
     → Written c (keptIn c (planned c st body i)) st (storedIn c st (planned c st body i)) m
-freed-place-used c st body m id i fine some e =
-    rw (e, entered-some (length m) id c some, stored-some c st m some) (grown-written c st m id fine some)
+freed-place-used c st body m id i fine z some e =
+    rw (e, entered-some m id c some, stored-some c st m some)
+    (grown-written c st m id fine z some (planned-keeps c st body m id i fine e))

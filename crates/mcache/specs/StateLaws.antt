@@ -1,10 +1,10 @@
 -- Laws of the test for a well formed state: what it asks, part by part, and what that says of each row.
 use Prim.Native.Nat.{ℕ, zero, suc, _-_, _*_, _≤_, _<_}
-use mathlib.Core.Path.{_≡_, refl, sym, _∙_}
+use mathlib.Core.Path.{_≡_, refl, sym, ap, _∙_}
 use mathlib.Core.List.{List, [], _∷_}
 use mathlib.Core.Bool.{Bool, true}
 use native.Mathlib.Omega.{arith}
-use lib.ListN.{length, getD}
+use lib.ListN.{length, drop, getD}
 use lib.Dec.{leb, eqb}
 use borrow.Author.Tests.{le-leb, leb-true, eqb-true, eq-eqb}
 use Rattle.basis.specs.Cases.{either, clash, both}
@@ -13,11 +13,13 @@ use Rattle.rows.specs.Rows.{tab, placeOf, rowsIn}
 use Rattle.rows.specs.RowsLaws.{length-tab, getD-tab}
 use Rattle.rows.specs.Ids.{distinct}
 use Rattle.rows.specs.Store.{idAt, idsIn, inUse, allUpTo, Sound}
-use Rattle.admission.specs.Admission.{givesId}
+use Rattle.admission.specs.Admission.{Span, topicPlaces, givesId, keptWith}
+use Rattle.admission.specs.TopicLaws.{gives-few, length-spans, kept-only}
 use Rattle.mcache.specs.declared.MessageCache.{MessageCache}
 use Rattle.mcache.specs.declared.Lent.the-variants as lent
 use Rattle.mcache.specs.State.{messageIn, fallsFrom, runsTo, givesAt, allTrue, givesIn, idsFit, rowsFit, legal}
 use Rattle.mcache.specs.State.{wellFormed, Usable, messageSize, messageIdSize, maxMessages, maxHistory, ringOf}
+use Rattle.mcache.specs.State.{maxTopics, tableOf, topicsAt}
 use Rattle.mcache.specs.Calls.{lentOf}
 use Rattle.mcache.specs.WellFormed.{Sized}
 use Rattle.rows.specs.StoreLaws.{short-in}
@@ -33,7 +35,7 @@ pub record Tests (c : MessageCache) (st : List ℕ) : Type 0 where
   pub falls : fallsFrom (c .«history_len» - 1) (inUse (ringOf c) (c .window)) ≡ true
   pub runs : runsTo (c .«next_generation») (inUse (ringOf c) (c .generation)) ≡ true
   pub id-short : allUpTo messageIdSize (inUse (ringOf c) (c .«id_len»)) ≡ true
-  pub gives : givesIn (ringOf c) (c .len) (c .«id_len») (c .ids) st ≡ true
+  pub gives : givesIn (ringOf c) (c .len) (c .«id_len») (c .ids) (tableOf c) st ≡ true
   pub once : distinct (idsIn messageIdSize (ringOf c) (c .«id_len») (c .ids)) ≡ true
 
 fine-both : (c : MessageCache) (st : List ℕ) → lentOf c st ≡ lent.Fine → (length st ≡ c .«max_messages» * messageSize)
@@ -123,15 +125,26 @@ module _ (c : MessageCache) (st : List ℕ) (t : Tests c st) (i : ℕ) (h : i < 
   p = placeOf (ringOf c) i
 
   gives-row : (leb (getD (c .len) p 0) messageSize ≡ true)
-      × (givesId (messageIn (c .len) st p) (idAt messageIdSize (c .«id_len») (c .ids) p) ≡ true)
+      × (keptWith (messageIn (c .len) st p) (idAt messageIdSize (c .«id_len») (c .ids) p) (topicsAt (tableOf c) p) ≡ true)
   unfolding givesIn givesAt
-  gives-row = both _ _ (true-in (givesAt (c .len) (c .«id_len») (c .ids) st) (ringOf c) (t .gives) i h)
+  gives-row = both _ _ (true-in (givesAt (c .len) (c .«id_len») (c .ids) (tableOf c) st) (ringOf c) (t .gives) i h)
 
   pub row-short : getD (c .len) p 0 ≤ messageSize
   row-short = leb-true (getD (c .len) p 0) messageSize (gives-row .0)
 
   pub row-gives : givesId (messageIn (c .len) st p) (idAt messageIdSize (c .«id_len») (c .ids) p) ≡ true
-  row-gives = gives-row .1
+  row-gives = kept-only (messageIn (c .len) st p) _ _ (gives-row .1) .0
+
+  pub row-topics : topicsAt (tableOf c) p ≡ topicPlaces (messageIn (c .len) st p)
+  row-topics = kept-only (messageIn (c .len) st p) _ _ (gives-row .1) .1
+
+  pub row-few : getD (c .«topic_count») p 0 ≤ maxTopics
+  unfolding topicsAt
+  row-few =
+      let n = length-spans (drop (p * maxTopics) (c .«topic_start»)) (drop (p * maxTopics) (c .«topic_len»))
+      (getD (c .«topic_count») p 0) in
+      let e = ap (λ (l : List Span). length l) row-topics in
+      omega (arith, gives-few (messageIn (c .len) st p) (idAt messageIdSize (c .«id_len») (c .ids) p) row-gives)
 
   pub row-id-short : getD (c .«id_len») p 0 ≤ messageIdSize
   row-id-short = short-in messageIdSize (c .«id_len») (ringOf c) (t .id-short) i h
@@ -149,6 +162,7 @@ lent-kept c st h z =
             lengths = z .lengths;
             id-lengths = z .id-lengths;
             id-room = z .id-room;
+            topics = z .topics;
             room = t .room;
             id-short = row-id-short c st t;
           };

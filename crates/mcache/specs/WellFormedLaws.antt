@@ -16,13 +16,16 @@ use Rattle.rows.specs.RowsLaws.{length-tab, getD-tab}
 use Rattle.rows.specs.Store.{inUse}
 use Rattle.admission.specs.Admission.{givesId}
 use Rattle.admission.specs.AdmissionLaws.{Gives, gives-own, gives-only}
+use Rattle.admission.specs.TopicLaws.{kept-own}
 use Rattle.mcache.specs.declared.MessageCache.{MessageCache}
 use Rattle.mcache.specs.declared.Lent.the-variants as lent
 use Rattle.mcache.specs.State.{messageIn, fallsFrom, runsTo, givesAt, givesIn, messageSize, messageIdSize, ringOf}
+use Rattle.mcache.specs.State.{tableOf, topicsAt}
 use Rattle.mcache.specs.Calls.{lentOf}
 use Rattle.rows.specs.StoreLaws.{short-all, once-in, all-once}
 use Rattle.mcache.specs.WellFormed.{Typed, rowOf, idOf, WellFormed}
 use Rattle.mcache.specs.StateLaws.{fine-tests, tests-fine, in-true, row-short, row-gives, row-id-short}
+use Rattle.mcache.specs.StateLaws.{row-topics}
 use Rattle.mcache.specs.CachedLaws.{falls-each, falls-in}
 
 -- ---- windows that never rise
@@ -117,13 +120,14 @@ gives-back p i g =
     rw (g .named) (gives-own p (g .records) (g .from-start) (g .from-end) (g .seqno-start) (g .seqno-end) (g .read)
     (g .taken))
 
-rows-give : (c : MessageCache) (st : List ℕ) → WellFormed c st → givesIn (ringOf c) (c .len) (c .«id_len») (c .ids) st
-    ≡ true
+rows-give : (c : MessageCache) (st : List ℕ) → WellFormed c st
+    → givesIn (ringOf c) (c .len) (c .«id_len») (c .ids) (tableOf c) st ≡ true
 unfolding givesIn givesAt
 rows-give c st w =
-    in-true (givesAt (c .len) (c .«id_len») (c .ids) st) (ringOf c)
+    in-true (givesAt (c .len) (c .«id_len») (c .ids) (tableOf c) st) (ringOf c)
     (λ i h. rw (le-leb (getD (c .len) (rowOf c i) 0) messageSize (w .short i h))
-    (gives-back (messageIn (c .len) st (rowOf c i)) (idOf c i) (w .gives i h)))
+    (kept-own (messageIn (c .len) st (rowOf c i)) (idOf c i) (topicsAt (tableOf c) (rowOf c i))
+    (gives-back (messageIn (c .len) st (rowOf c i)) (idOf c i) (w .gives i h)) (w .topics i h)))
 
 -- ---- well formed, exactly
 pub fine-well-formed : (c : MessageCache) (st : List ℕ) → Typed c → lentOf c st ≡ lent.Fine → WellFormed c st
@@ -151,6 +155,7 @@ fine-well-formed c st y f =
       last = λ i h. let a = runs-rows (c .generation) (ringOf c) (c .«next_generation») (t .runs) i (omega arith) in
           omega arith;
       gives = λ i h. gives-only (messageIn (c .len) st (rowOf c i)) (idOf c i) (row-gives c st t i h);
+      topics = row-topics c st t;
     }
 
 pub well-formed-fine : (c : MessageCache) (st : List ℕ) → WellFormed c st → lentOf c st ≡ lent.Fine

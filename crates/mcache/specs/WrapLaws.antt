@@ -47,6 +47,9 @@ moved k c =
       len = c .len;
       «id_len» = c .«id_len»;
       ids = c .ids;
+      «topic_count» = c .«topic_count»;
+      «topic_start» = c .«topic_start»;
+      «topic_len» = c .«topic_len»;
     }
 
 -- ---- the test
@@ -123,24 +126,24 @@ passed-moved : (k : ℕ) (c : MessageCache) → passed (moved k c) ≡ moved k (
 unfolding passed moved
 passed-moved k c = rw (next-moved k (c .«next_generation»))
 
-grown-moved : (k n : ℕ) (id : List ℕ) (c : MessageCache) → grown n id (moved k c) ≡ moved k (grown n id c)
+grown-moved : (k : ℕ) (m id : List ℕ) (c : MessageCache) → grown m id (moved k c) ≡ moved k (grown m id c)
 unfolding grown spot moved
-grown-moved k n id c =
+grown-moved k m id c =
     rw (
       next-moved k (c .«next_generation»),
       map-set (λ (g : ℕ). (g + k) % 2 ^ 64) (c .generation) (spot c) (c .«next_generation»),
     )
 
-entered-moved : (k n : ℕ) (id : List ℕ) (c : MessageCache) → entered n id (moved k c) ≡ moved k (entered n id c)
+entered-moved : (k : ℕ) (m id : List ℕ) (c : MessageCache) → entered m id (moved k c) ≡ moved k (entered m id c)
 unfolding moved
-entered-moved k n id c =
+entered-moved k m id c =
     either (eqb (c .«max_messages») 0)
     (λ t.
     let e = eqb-true (c .«max_messages») 0 t in
-    entered-none n id (moved k c) e ∙ passed-moved k c ∙ ap (moved k) (sym (entered-none n id c e)))
+    entered-none m id (moved k c) e ∙ passed-moved k c ∙ ap (moved k) (sym (entered-none m id c e)))
     (λ t.
     let e = eqb-false (c .«max_messages») 0 t in
-    entered-some n id (moved k c) e ∙ grown-moved k n id c ∙ ap (moved k) (sym (entered-some n id c e)))
+    entered-some m id (moved k c) e ∙ grown-moved k m id c ∙ ap (moved k) (sym (entered-some m id c e)))
 
 stored-moved : (k : ℕ) (c : MessageCache) (st m : List ℕ) → enteredStore (moved k c) st m ≡ enteredStore c st m
 unfolding enteredStore moved dropped
@@ -148,7 +151,7 @@ stored-moved k c st m = refl
 
 kept-moved : (k : ℕ) (c : MessageCache) (r : Plan) → keptIn (moved k c) r ≡ moved k (keptIn c r)
 kept-moved k c (no r) = refl
-kept-moved k c (keep m id) = entered-moved k (length m) id c
+kept-moved k c (keep m id) = entered-moved k m id c
 
 storing-moved : (k : ℕ) (c : MessageCache) (st : List ℕ) (r : Plan) → storedIn (moved k c) st r ≡ storedIn c st r
 storing-moved k c st (no r) = refl

@@ -335,33 +335,25 @@ fn can_keep(ring: Ring, s: usize, m: usize, i: usize) -> bool
 
 // ---- telling
 
+// A part of some bytes, cut at their end.
+fn part_of<'s>(bytes: &'s [u8], start: usize, len: usize) -> &'s [u8]
+    ensures { λ r. ⌜ now r ≡ take len (drop start (now (bytes .entry))) ⌝ }
+{
+    if bytes.len() < start {
+        return &bytes[..0];
+    }
+    if bytes.len() - start < len {
+        return &bytes[start..];
+    }
+    &bytes[start..start + len]
+}
+
 // The message in place p: cut at the end of the store.
 fn message_in<'l, 's>(lens: &'l [u16], store: &'s [u8], p: usize) -> &'s [u8]
     requires { ⌜ p < maxMessages ⌝ }
     ensures { λ r. ⌜ now r ≡ messageIn (now (lens .entry)) (now (store .entry)) p ⌝ }
 {
-    let base = p * MESSAGE_SIZE;
-    if store.len() < base {
-        return &store[..0];
-    }
-    let end = base + short_at(lens, p) as usize;
-    if store.len() < end {
-        return &store[base..];
-    }
-    &store[base..end]
-}
-
-// A part of a message, cut at its end.
-fn part_of<'s>(message: &'s [u8], start: usize, len: usize) -> &'s [u8]
-    ensures { λ r. ⌜ now r ≡ take len (drop start (now (message .entry))) ⌝ }
-{
-    if message.len() < start {
-        return &message[..0];
-    }
-    if message.len() - start < len {
-        return &message[start..];
-    }
-    &message[start..start + len]
+    part_of(store, p * MESSAGE_SIZE, short_at(lens, p) as usize)
 }
 
 // Whether one of the first n parts of a message is the topic.

@@ -4,8 +4,8 @@ use mathlib.Core.Path.{_≡_, refl, sym, _∙_}
 use native.Mathlib.Omega.{arith}
 use Rattle.admission.specs.Admission.{spansIn}
 use Rattle.admission.specs.AdmissionLaws.{gives-refused}
-use Rattle.admission.specs.TopicLaws.{length-spans}
-use Rattle.admission.proofs.Turns.{counts-places, spans-found, kept-not, kept-other, kept-count, kept-many, kept-names}
+use Rattle.admission.specs.TopicLaws.{counts-places, length-spans}
+use Rattle.admission.proofs.Turns.{spans-found, kept-not, kept-other, kept-count, kept-many, kept-names}
 use borrow.Author.Needs.{needs}
 use Rattle.admission.proofs.kept_with.Statement.{statement}
 use Rattle.admission.proofs.kept_with.Tie as tie

@@ -1,5 +1,4 @@
 use denote.Ref.{now}
-use lib.ListN.{length}
 use native.Mathlib.Omega.{arith}
 use Rattle.mcache.proofs.Steps.{entered-none, enter-room, entered-some}
 use borrow.Author.Needs.{needs}
@@ -12,7 +11,7 @@ wrapping-add-u64-requires c κs = search needs
 returns : tie.Need-returns
 returns c = entered-none (c .before .before .before .before .before .args .self) (now (c .before .before .before .before .before .args .store))
     (now (c .before .before .before .before .before .args .part)) (now (c .before .before .before .before .before .args .id))
-    (length (now (c .before .before .before .before .before .args .part))) (c .wrapping-add-u64 .result) (c .before .if1 .taken) (c .wrapping-add-u64 .ensures)
+    (c .wrapping-add-u64 .result) (c .before .if1 .taken) (c .wrapping-add-u64 .ensures)
 
 add-minus : tie.Need-add-minus
 add-minus c = search needs
@@ -43,7 +42,7 @@ returns-2 c = entered-some (c .before .before .before .before .before .before .b
     (c .before .before .before .before .before .minus .result) (c .before .before .before .before .without .result)
     (c .before .before .before .before .before .before .before .if1 .left) (c .before .before .before .before .before .minus .ensures)
     (c .before .before .before .before .without .ensures)
-    (length (now (c .before .before .before .before .before .before .before .before .before .before .before .args .part))) _ _
+    _ _
     (c .before .before .append .ensures .0) (c .before .before .append .ensures .1)
 
 pub enter-spec : {M : Type 1} → statement M

@@ -1,6 +1,6 @@
 use denote.Ref.{now}
 use mathlib.Core.Path.{_≡_, sym, _∙_}
-use Rattle.mcache.proofs.Answers.{tested, get-store, get-malformed, get-found}
+use Rattle.mcache.proofs.Answers.{roomy, tested, get-store, get-malformed, get-found}
 use borrow.Author.Needs.{needs}
 use Rattle.mcache.proofs.MessageCache.get.Statement.{statement}
 use Rattle.mcache.proofs.MessageCache.get.Tie as tie
@@ -25,6 +25,7 @@ enum-told-3 c = search needs
 
 message-of-requires : tie.Need-message-of-requires
 message-of-requires c κs = tested (c .before .before .before .before .before .args .self) (now (c .before .before .before .before .before .args .store)) (sym (c .enum-told3 .given .1) ∙ (c .before .before .lent .ensures)) (search needs) (search needs) (search needs) (search needs) (search needs)
+    (roomy (c .before .before .before .before .before .args .self) (search needs) (search needs) (search needs))
 
 returns : tie.Need-returns
 returns c = get-store (c .before .before .before .before .before .before .args .self) (now (c .before .before .before .before .before .before .args .store)) (now (c .before .before .before .before .before .before .args .id)) (sym (c .before .enum-told .given .1) ∙ (c .before .before .before .lent .ensures))

@@ -32,7 +32,12 @@ enter-requires c κs =
           (length-unmapped ℕ (a .self .window) 64 (g .1 .1 .1 .1 .1 .1 .1 .1 .0 .1 .0 .1))
           (length-unmapped ℕ (a .self .len) 64 (g .1 .1 .1 .1 .1 .1 .1 .1 .1 .0 .1 .0 .1))
           (length-unmapped ℕ (a .self .«id_len») 64 (g .1 .1 .1 .1 .1 .1 .1 .1 .1 .1 .0 .1 .0 .1))
-          (length-unmapped ℕ (a .self .ids) 8192 (g .1 .1 .1 .1 .1 .1 .1 .1 .1 .1 .1 .0 .1 .0 .1)),
+          (length-unmapped ℕ (a .self .ids) 8192 (g .1 .1 .1 .1 .1 .1 .1 .1 .1 .1 .1 .0 .1 .0 .1))
+          (record {
+            counts = length-unmapped ℕ (a .self .«topic_count») 64 (g .1 .1 .1 .1 .1 .1 .1 .1 .1 .1 .1 .1 .0 .1 .0 .1);
+            starts = length-unmapped ℕ (a .self .«topic_start») 256 (g .1 .1 .1 .1 .1 .1 .1 .1 .1 .1 .1 .1 .1 .0 .1 .0 .1);
+            sizes = length-unmapped ℕ (a .self .«topic_len») 256 (g .1 .1 .1 .1 .1 .1 .1 .1 .1 .1 .1 .1 .1 .1 .0 .1 .0 .1);
+          }),
       kept-short (a .self) (now (a .store)) (now (a .part)) (now (a .id)) k,
     )
 
