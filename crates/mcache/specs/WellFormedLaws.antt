@@ -1,7 +1,7 @@
 -- The test for a well formed cache asks exactly what the clauses of WellFormed say.
 use Prim.Native.Nat.{ℕ, zero, suc, _+_, _-_, _%_, _^_, _≤_, _<_}
 use mathlib.Core.Path.{_≡_, refl, sym, ap, _∙_}
-use mathlib.Core.List.{List, [], _∷_}
+use mathlib.Core.List.{List, [], _∷_, map}
 use mathlib.Core.Bool.{true}
 use mathlib.Core.Logic.{_↔_}
 use native.Mathlib.Omega.{arith}
@@ -14,19 +14,20 @@ use Rattle.rows.specs.declared.Ring.{Ring}
 use Rattle.rows.specs.Rows.{tab, placeOf, rowsIn}
 use Rattle.rows.specs.RowsLaws.{length-tab, getD-tab}
 use Rattle.rows.specs.Store.{inUse}
-use Rattle.admission.specs.Admission.{givesId}
+use Rattle.admission.specs.Admission.{topicsOf, topicPlaces, cut, givesId}
 use Rattle.admission.specs.AdmissionLaws.{Gives, gives-own, gives-only}
-use Rattle.admission.specs.TopicLaws.{kept-own}
+use Rattle.admission.specs.TopicLaws.{cut-topics, kept-own}
 use Rattle.mcache.specs.declared.MessageCache.{MessageCache}
 use Rattle.mcache.specs.declared.Lent.the-variants as lent
 use Rattle.mcache.specs.State.{messageIn, fallsFrom, runsTo, givesAt, givesIn, messageSize, messageIdSize, ringOf}
 use Rattle.mcache.specs.State.{tableOf, topicsAt}
 use Rattle.mcache.specs.Calls.{lentOf}
 use Rattle.rows.specs.StoreLaws.{short-all, once-in, all-once}
-use Rattle.mcache.specs.WellFormed.{Typed, rowOf, idOf, WellFormed}
+use Rattle.mcache.specs.WellFormed.{Typed, rowOf, idOf, WellFormed, Reached}
 use Rattle.mcache.specs.StateLaws.{fine-tests, tests-fine, in-true, row-short, row-gives, row-id-short}
 use Rattle.mcache.specs.StateLaws.{row-topics}
 use Rattle.mcache.specs.CachedLaws.{falls-each, falls-in}
+use Rattle.mcache.specs.FineLaws.{reached-fine}
 
 -- ---- windows that never rise
 falls-next : (most : ℕ) (l : List ℕ) (i : ℕ) → fallsFrom most l ≡ true → suc i < length l
@@ -177,3 +178,13 @@ well-formed-fine c st w =
 
 pub well-formed-exactly : (c : MessageCache) (st : List ℕ) → Typed c → (lentOf c st ≡ lent.Fine) ↔ WellFormed c st
 well-formed-exactly c st y = (fine-well-formed c st y, well-formed-fine c st)
+
+-- ---- so in every state that the calls reach the kept places are those of the message's topics, and cut out of it they
+-- are its topics
+module _ {c : MessageCache} {st : List ℕ} (r : Reached c st) (i : ℕ) (h : i < c .count) where
+  pub reached-topics : topicsAt (tableOf c) (rowOf c i) ≡ topicPlaces (messageIn (c .len) st (rowOf c i))
+  reached-topics = row-topics c st (fine-tests c st (reached-fine r)) i h
+
+  pub reached-cut : map (cut (messageIn (c .len) st (rowOf c i))) (topicsAt (tableOf c) (rowOf c i))
+      ≡ topicsOf (messageIn (c .len) st (rowOf c i))
+  reached-cut = rw reached-topics (cut-topics (messageIn (c .len) st (rowOf c i)))

@@ -208,9 +208,10 @@ module _ (n : Node) (ss cs : List ℕ) where
 -- ---- a node that was tested is ready for every step
 module _ (n : Node) (ss cs : List ℕ) (h : lent.Fine ≡ lentOf n ss cs)
     (e : length (n .seen .expiry) ≡ 256) (l : length (n .seen .len) ≡ 256)
-    (g : length (n .cache .generation) ≡ 64) (w : length (n .cache .window) ≡ 64) (m : length (n .cache .len) ≡ 64) (i : length (n .cache .«id_len») ≡ 64) (r : length (n .cache .ids) ≡ 8192) where
+    (g : length (n .cache .generation) ≡ 64) (w : length (n .cache .window) ≡ 64) (m : length (n .cache .len) ≡ 64) (i : length (n .cache .«id_len») ≡ 64) (r : length (n .cache .ids) ≡ 8192)
+    (x : length (n .cache .«topic_count») ≡ 64) (y : length (n .cache .«topic_start») ≡ 256) (z : length (n .cache .«topic_len») ≡ 256) where
   pub tested : Ready n ss cs
-  tested = lent-ready n ss cs (sym h) (e, l) (record { generations = g; windows = w; lengths = m; id-lengths = i; id-room = r })
+  tested = lent-ready n ss cs (sym h) (e, l) (record { generations = g; windows = w; lengths = m; id-lengths = i; id-room = r; topics = record { counts = x; starts = y; sizes = z } })
 
 -- ---- admit
 abbrev AdmitsBy : Node → List ℕ → List ℕ → ℕ → Plan → Admit → Node → List ℕ → List ℕ → Type 0

@@ -14,7 +14,7 @@ use Rattle.rpc.specs.Rpc.{Rpc}
 use Rattle.rpc.specs.Encode.{encodeRpc}
 use Rattle.encode.specs.Puts.{Puts, Fits}
 use Rattle.mcache.specs.declared.MessageCache.{MessageCache}
-use Rattle.mcache.specs.State.{Usable, Listed, told, ringOf}
+use Rattle.mcache.specs.State.{Usable, Listed, told, ringOf, tableOf}
 use Rattle.mcache.specs.Calls.{gossipList, gossipArray}
 use Rattle.mcache.specs.GatherLaws.{Each, each-rest, each-gather, length-gather}
 use Rattle.node.specs.declared.Node.{Node}
@@ -49,7 +49,7 @@ module _ (c : MessageCache) (cs topic : List ℕ) (windows : ℕ) (ok : Usable c
   listed-few =
       let r = ok .rows in
       let l = length-ring (λ (p : ℕ). p) (ringOf c) in
-      let g = length-gather (told (c .window) (c .len) cs windows topic) (idAt 128 (c .«id_len») (c .ids)) [] (rowsIn (λ (p : ℕ). p) (ringOf c)) in
+      let g = length-gather (told (c .window) (c .len) (tableOf c) cs windows topic) (idAt 128 (c .«id_len») (c .ids)) [] (rowsIn (λ (p : ℕ). p) (ringOf c)) in
       omega (arith, r .within, r .few)
 
   -- as they are given: a count, and an array with those rows at its front

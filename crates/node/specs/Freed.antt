@@ -79,7 +79,7 @@ module _ (n : Node) (ss cs body : List ℕ) (i : ℕ) (word : Bool) (at : ℕ) (
       let f = fine-tests n ss cs (t .fine) in
       let u : ltb (indexIn (n .cache) id) (n .cache .count) ≡ false = sym (held-index (n .cache) cs id) ∙ h in
       let p : putPlanned (n .cache) cs body i ≡ keep m id = rw u at (plan-put t) in
-      rw (new, u) (rw p at (mcache.freed-place-used (n .cache) cs body m id i (f .messages) some p))
+      rw (new, u) (rw p at (mcache.freed-place-used (n .cache) cs body m id i (f .messages) (typed .messages .sized) some p))
 
   message-none : n .cache .«max_messages» ≡ 0 → admitCache n ss cs at (taken m id) ≡ cs
   unfolding storedUnder storedAt

@@ -16,7 +16,7 @@ use Rattle.rows.specs.Rows.{tab, placeOf, rowsIn, newest}
 use Rattle.rows.specs.RowsLaws.{length-tab, getD-tab}
 use Rattle.rows.specs.ListLaws.{map-drop}
 use Rattle.rows.specs.Store.{inUse, allUpTo}
-use Rattle.admission.specs.Admission.{givesId}
+use Rattle.admission.specs.Admission.{topicPlaces, givesId}
 use Rattle.seen.specs.declared.SeenCache.{SeenCache}
 use Rattle.seen.specs.declared.Lent.the-variants as seenLent
 use Rattle.seen.specs.Entries.{Entry, holds, until, inserted, live}
@@ -28,8 +28,8 @@ use Rattle.seen.specs.Laws.{fresh-fine, fresh-sized, insert-fine, insert-sized,
 use Rattle.seen.specs.Laws.{well-formed-exactly as seen-exactly}
 use Rattle.mcache.specs.declared.MessageCache.{MessageCache}
 use Rattle.mcache.specs.declared.Lent.the-variants as cacheLent
-use Rattle.mcache.specs.State.{legal, messageSize, messageIdSize}
-use Rattle.mcache.specs.WellFormed.{Typed as cacheTyped}
+use Rattle.mcache.specs.State.{legal, messageIn, tableOf, topicsAt, messageSize, messageIdSize}
+use Rattle.mcache.specs.WellFormed.{rowOf, Typed as cacheTyped}
 use Rattle.mcache.specs.Calls.{lentOf as cacheLentOf, keptUnder, shifted}
 use Rattle.mcache.specs.FineLaws.{upto-drop, upto-snoc, fresh-first, fresh-typed, start-fine, shifted-fine}
 use Rattle.mcache.specs.FineLaws.{shifted-typed, under-fine, under-typed}
@@ -415,3 +415,9 @@ reached-typed r = reached-keeps r .typed
 
 pub reached-well-formed : {n : Node} {ss cs : List ℕ} → Reached n ss cs → WellFormed n ss cs
 reached-well-formed {n} {ss} {cs} r = fine-well-formed-node n ss cs (reached-typed r) (reached-fine r)
+
+-- after any history, evictions, windows opened and places used again too, the places kept beside a message are those of
+-- its topics
+pub reached-topics : {n : Node} {ss cs : List ℕ} → Reached n ss cs → (i : ℕ) → i < n .cache .count
+    → topicsAt (tableOf (n .cache)) (rowOf (n .cache) i) ≡ topicPlaces (messageIn (n .cache .len) cs (rowOf (n .cache) i))
+reached-topics r = reached-well-formed r .messages .topics

@@ -25,7 +25,10 @@ announce-requires c κs = let b = c .before .before .before .before .before .bef
       (let q = (g .1 .1 .1 .1 .1 .0 .1 .1 .1 .1 .1 .0) in search needs) (let q = (g .1 .1 .1 .1 .1 .1 .0 .1 .1 .1 .1 .1 .1 .1 .0) in search needs)
       (let q = (g .1 .1 .1 .1 .1 .1 .0 .1 .1 .1 .1 .1 .1 .1 .1 .0) in search needs) (let q = (g .1 .1 .1 .1 .1 .1 .0 .1 .1 .1 .1 .1 .1 .1 .1 .1 .0) in
       search needs) (let q = (g .1 .1 .1 .1 .1 .1 .0 .1 .1 .1 .1 .1 .1 .1 .1 .1 .1 .0) in search needs)
-      (let q = (g .1 .1 .1 .1 .1 .1 .0 .1 .1 .1 .1 .1 .1 .1 .1 .1 .1 .1 .0) in search needs) .kept,
+      (let q = (g .1 .1 .1 .1 .1 .1 .0 .1 .1 .1 .1 .1 .1 .1 .1 .1 .1 .1 .0) in search needs)
+      (let q = (g .1 .1 .1 .1 .1 .1 .0 .1 .1 .1 .1 .1 .1 .1 .1 .1 .1 .1 .1 .0) in search needs)
+      (let q = (g .1 .1 .1 .1 .1 .1 .0 .1 .1 .1 .1 .1 .1 .1 .1 .1 .1 .1 .1 .1 .0) in search needs)
+      (let q = (g .1 .1 .1 .1 .1 .1 .0 .1 .1 .1 .1 .1 .1 .1 .1 .1 .1 .1 .1 .1 .1 .0) in search needs) .kept,
   (c .before .if1 .left),
 )
 
