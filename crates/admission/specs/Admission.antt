@@ -1,8 +1,10 @@
 -- Which messages may be taken, from the scope's table: 21 to 30 in their order. p is the message's own bytes.
 use Prim.Native.Nat.{ℕ, _-_}
+use mathlib.Core.Path.{_≡_}
 use mathlib.Core.List.{List, [], _∷_, map}
 use mathlib.Core.Bool.{Bool, true, false, cond, _&&_, _||_}
 use lib.ListN.{length, take, drop, getD}
+use lib.Seq.{sets}
 use lib.Dec.{ltb, eqb}
 use Rattle.rows.specs.Rows.{tab}
 use Rattle.rows.specs.Ids.{sameBytes}
@@ -81,6 +83,13 @@ firstLong (t ∷ ts) = cond (ltb 1024 (length t)) (length t) (firstLong ts)
 -- both
 abbrev pub topicsIn : List ℕ → Topics
 topicsIn p = record { count = length (topicsOf p); long = firstLong (topicsOf p) }
+
+-- what `topics_of` answers, and how it leaves two lists a and b: the starts and the lengths are written from their front
+-- on, as many as they have places for
+pub record FindsTopics (p a b : List ℕ) (r : Topics) (a2 b2 : List ℕ) : Type 0 where
+  pub topics : r ≡ topicsIn p
+  pub starts : a2 ≡ sets a 0 (startsOf (topicPlaces p))
+  pub sizes : b2 ≡ sets b 0 (sizesOf (topicPlaces p))
 
 -- the length of the first topic that is too long, a field of n bytes further
 unfoldable pub longAfter : Field → ℕ → ℕ → ℕ

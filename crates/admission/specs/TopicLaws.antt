@@ -16,7 +16,7 @@ use Rattle.rows.specs.RowsLaws.{length-tab, tab-ext}
 use Rattle.rows.specs.ListLaws.{put-sets}
 use Rattle.admission.specs.declared.Topics.{Topics}
 use Rattle.admission.specs.Admission.{topicsAlong, topicsOf, Span, placesAlong, topicPlaces, cut, startsOf, sizesOf}
-use Rattle.admission.specs.Admission.{topicsIn, spansIn, sameSpans, givesId, keptWith}
+use Rattle.admission.specs.Admission.{topicsIn, FindsTopics, spansIn, sameSpans, givesId, keptWith}
 use Rattle.admission.specs.AdmissionLaws.{gives-only, fit-limits}
 
 -- ---- cut out, they are the topics
@@ -37,6 +37,15 @@ places-count p = sym (length-map (topicPlaces p) (cut p)) ∙ ap length (cut-top
 
 pub counts-places : {t : Topics} (p : List ℕ) → t ≡ topicsIn p → t .count ≡ length (topicPlaces p)
 counts-places p e = ap (λ (t : Topics). t .count) e ∙ sym (places-count p)
+
+-- two results that meet the contract of `topics_of` are the same, the lists too
+pub one-topics : (p a b : List ℕ) (r s : Topics) (a2 b2 a3 b3 : List ℕ) → FindsTopics p a b r a2 b2
+    → FindsTopics p a b s a3 b3 → (r ≡ s) × (a2 ≡ a3) × (b2 ≡ b3)
+one-topics p a b r s a2 b2 a3 b3 x y = (
+  x .topics ∙ sym (y .topics),
+  x .starts ∙ sym (y .starts),
+  x .sizes ∙ sym (y .sizes),
+)
 
 -- a message that gives an id has at most four
 pub gives-few : (p i : List ℕ) → givesId p i ≡ true → length (topicPlaces p) ≤ 4

@@ -6,11 +6,10 @@ ghost use mathlib.Core.Path.{_≡_};
 ghost use mathlib.Core.Bool.{true, cond};
 ghost use Prim.Native.Nat.{_+_, _≤_, _<_};
 ghost use lib.ListN.{length, set};
-ghost use lib.Seq.{sets};
 ghost use Rattle.protobuf.specs.Walk.{isBytes};
 ghost use Rattle.rows.specs.Ids.{sameBytes};
 ghost use Rattle.ids.specs.Ids.{idBytes};
-ghost use Rattle.admission.specs.Admission.{topicPlaces, startsOf, sizesOf, spansIn, sameSpans, topicsIn, longAfter, onSignature, onWord, onLimits, admissionOf, idGiven, keptWith};
+ghost use Rattle.admission.specs.Admission.{spansIn, sameSpans, topicsIn, FindsTopics, longAfter, onSignature, onWord, onLimits, admissionOf, idGiven, keptWith};
 use ids::MessageId;
 use ids::id_of;
 use protobuf::Field;
@@ -112,9 +111,7 @@ fn note(there: bool, out: &mut [usize], i: usize, v: usize)
 
 // The topics of a message: how many, the first that is too long, and in `starts` and `sizes` where each stands, as many as these have places for.
 pub fn topics_of(part: &[u8], starts: &mut [usize], sizes: &mut [usize]) -> Topics
-    ensures { λ r. ⌜ r ≡ topicsIn (now (part .entry)) ⌝ }
-    ensures { λ _. ⌜ now (starts .exit) ≡ sets (now (starts .entry)) 0 (startsOf (topicPlaces (now (part .entry)))) ⌝ }
-    ensures { λ _. ⌜ now (sizes .exit) ≡ sets (now (sizes .entry)) 0 (sizesOf (topicPlaces (now (part .entry)))) ⌝ }
+    ensures { λ r. ⌜ FindsTopics (now (part .entry)) (now (starts .entry)) (now (sizes .entry)) r (now (starts .exit)) (now (sizes .exit)) ⌝ }
 {
     let mut at: usize = 0;
     let mut n: usize = 0;
@@ -248,7 +245,13 @@ fn same_parts(part: &[u8], a: usize, e: usize, b: usize, f: usize, id: &[u8]) ->
 }
 
 // Whether the first n places of two lists are the same. The second is a row of a lent state: past its end it has zeros.
-fn same_spans(starts: &[usize], sizes: &[usize], n: usize, kept_starts: &[u16], kept_sizes: &[u16]) -> bool
+fn same_spans(
+    starts: &[usize],
+    sizes: &[usize],
+    n: usize,
+    kept_starts: &[u16],
+    kept_sizes: &[u16],
+) -> bool
     requires { ⌜ (n ≤ length (now starts)) × (n ≤ length (now sizes)) ⌝ }
     ensures { λ r. ⌜ r ≡ sameSpans (spansIn (now (starts .entry)) (now (sizes .entry)) n) (spansIn (now («kept_starts» .entry)) (now («kept_sizes» .entry)) n) ⌝ }
 {

@@ -19,8 +19,8 @@ ghost use Rattle.mcache.specs.Calls.{shifted, found, formable, rowsLie, 
 ghost use Rattle.mcache.specs.Calls.{keptIn, storedIn, getPart, lookupAnswer};
 ghost use Rattle.mcache.specs.Unique.{Starts, Puts, Keeps, Shifts, Gossips, TellsRows, Forms, WritesId};
 use admission::Admission;
-use admission::MAX_TOPICS;
 use admission::MAX_TOPIC_SIZE;
+use admission::MAX_TOPICS;
 use admission::Unfit;
 use admission::admit;
 use admission::kept_with;
@@ -193,7 +193,13 @@ fn messages_fit(
         let id_end = id_base + id_lens[p] as usize;
         let slot = p * MAX_TOPICS;
         let topics = counts[p] as usize;
-        if kept_with(&store[base..end], &ids[id_base..id_end], topics, &starts[slot..], &sizes[slot..]) {
+        if kept_with(
+            &store[base..end],
+            &ids[id_base..id_end],
+            topics,
+            &starts[slot..],
+            &sizes[slot..],
+        ) {
             i += 1;
         } else {
             return false;
@@ -393,7 +399,13 @@ fn is_told(
     }
     let slot = p * MAX_TOPICS;
     let n = byte_at(counts, p) as usize;
-    carries(message_in(lens, store, p), &starts[slot..], &sizes[slot..], n, topic)
+    carries(
+        message_in(lens, store, p),
+        &starts[slot..],
+        &sizes[slot..],
+        n,
+        topic,
+    )
 }
 
 // Where the row p goes among the first n of `rows`: before the first whose id does not come before its own.
@@ -829,7 +841,17 @@ impl MessageCache {
             let mut i = 0;
             while i < ring.count {
                 let p = place(ring, i);
-                let there = is_told(&window, &lens, &counts, &starts, &sizes, store, p, windows, topic);
+                let there = is_told(
+                    &window,
+                    &lens,
+                    &counts,
+                    &starts,
+                    &sizes,
+                    store,
+                    p,
+                    windows,
+                    topic,
+                );
                 count = tell_row(there, &mut rows, count, &id_lens, &ids, p);
                 i += 1;
             }

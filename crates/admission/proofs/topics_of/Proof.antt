@@ -49,8 +49,11 @@ same-length-2 : tie.Need-same-length-2 Inv-loop μ-loop
 same-length-2 c = search needs
 
 returns : tie.Need-returns Inv-loop μ-loop
-returns c = (topics-done _ _ _ _ (topics-end _ _ (sym (c .enum-told .given .1) ∙ (c .before .before .read-field .ensures))) (c .before .before .before .before .loop .inv .2) (c .before .before .before .before .loop .inv .3),
-    (note-done (λ (s : Span). s .start) _ _ _ _ (places-end _ _ (sym (c .enum-told .given .1) ∙ (c .before .before .read-field .ensures))) (c .before .before .before .before .loop .inv .4), note-done (λ (s : Span). s .size) _ _ _ _ (places-end _ _ (sym (c .enum-told .given .1) ∙ (c .before .before .read-field .ensures))) (c .before .before .before .before .loop .inv .5)))
+returns c = record {
+  topics = topics-done _ _ _ _ (topics-end _ _ (sym (c .enum-told .given .1) ∙ (c .before .before .read-field .ensures))) (c .before .before .before .before .loop .inv .2) (c .before .before .before .before .loop .inv .3);
+  starts = note-done (λ (s : Span). s .start) _ _ _ _ (places-end _ _ (sym (c .enum-told .given .1) ∙ (c .before .before .read-field .ensures))) (c .before .before .before .before .loop .inv .4);
+  sizes = note-done (λ (s : Span). s .size) _ _ _ _ (places-end _ _ (sym (c .enum-told .given .1) ∙ (c .before .before .read-field .ensures))) (c .before .before .before .before .loop .inv .5);
+}
 
 enum-told-2 : tie.Need-enum-told-2 Inv-loop μ-loop
 enum-told-2 c = search needs
@@ -62,8 +65,11 @@ same-length-4 : tie.Need-same-length-4 Inv-loop μ-loop
 same-length-4 c = search needs
 
 returns-2 : tie.Need-returns-2 Inv-loop μ-loop
-returns-2 c = (topics-done _ _ _ _ (topics-refused _ _ _ (sym (c .enum-told2 .given .1) ∙ (c .before .before .read-field .ensures))) (c .before .before .before .before .loop .inv .2) (c .before .before .before .before .loop .inv .3),
-    (note-done (λ (s : Span). s .start) _ _ _ _ (places-refused _ _ _ (sym (c .enum-told2 .given .1) ∙ (c .before .before .read-field .ensures))) (c .before .before .before .before .loop .inv .4), note-done (λ (s : Span). s .size) _ _ _ _ (places-refused _ _ _ (sym (c .enum-told2 .given .1) ∙ (c .before .before .read-field .ensures))) (c .before .before .before .before .loop .inv .5)))
+returns-2 c = record {
+  topics = topics-done _ _ _ _ (topics-refused _ _ _ (sym (c .enum-told2 .given .1) ∙ (c .before .before .read-field .ensures))) (c .before .before .before .before .loop .inv .2) (c .before .before .before .before .loop .inv .3);
+  starts = note-done (λ (s : Span). s .start) _ _ _ _ (places-refused _ _ _ (sym (c .enum-told2 .given .1) ∙ (c .before .before .read-field .ensures))) (c .before .before .before .before .loop .inv .4);
+  sizes = note-done (λ (s : Span). s .size) _ _ _ _ (places-refused _ _ _ (sym (c .enum-told2 .given .1) ∙ (c .before .before .read-field .ensures))) (c .before .before .before .before .loop .inv .5);
+}
 
 enum-known-step : tie.Need-enum-known-step Inv-loop μ-loop
 enum-known-step c = search needs
@@ -87,13 +93,13 @@ long-after-requires : tie.Need-long-after-requires Inv-loop μ-loop
 long-after-requires c κs = search needs
 
 loop-less : tie.Need-loop-less Inv-loop μ-loop
-loop-less c = 
+loop-less c =
     let f = c .before .before .before .before .before .before .before .before .before .before .before .before .before .step .given .0 .0 in
     let st = field-stands (c .before .before .before .before .before .before .before .before .before .before .before .before .before .before .before .before .before .before .before .before .before .args .part .now) (c .before .before .before .before .before .before .before .before .before .before .before .before .before .before .before .before .before .loop .at) f (sym (c .before .before .before .before .before .before .before .before .before .before .before .before .before .step .given .1) ∙ (c .before .before .before .before .before .before .before .before .before .before .before .before .before .before .before .read-field .ensures)) in
     omega (arith, st)
 
 loop-again : tie.Need-loop-again Inv-loop μ-loop
-loop-again c = 
+loop-again c =
     let f = c .before .before .before .before .before .before .before .before .before .before .before .before .before .step .given .0 .0 in
     let e = sym (c .before .before .before .before .before .before .before .before .before .before .before .before .before .step .given .1) ∙ (c .before .before .before .before .before .before .before .before .before .before .before .before .before .before .before .read-field .ensures) in
     let st = field-stands (c .before .before .before .before .before .before .before .before .before .before .before .before .before .before .before .before .before .before .before .before .before .args .part .now) (c .before .before .before .before .before .before .before .before .before .before .before .before .before .before .before .before .before .loop .at) f e in
@@ -115,8 +121,11 @@ same-length-6 : tie.Need-same-length-6 Inv-loop μ-loop
 same-length-6 c = search needs
 
 returns-3 : tie.Need-returns-3 Inv-loop μ-loop
-returns-3 c = (topics-done _ _ _ _ (topics-past _ _ (c .loop-test .left)) (c .before .loop .inv .2) (c .before .loop .inv .3),
-    (note-done (λ (s : Span). s .start) _ _ _ _ (places-past _ _ (c .loop-test .left)) (c .before .loop .inv .4), note-done (λ (s : Span). s .size) _ _ _ _ (places-past _ _ (c .loop-test .left)) (c .before .loop .inv .5)))
+returns-3 c = record {
+  topics = topics-done _ _ _ _ (topics-past _ _ (c .loop-test .left)) (c .before .loop .inv .2) (c .before .loop .inv .3);
+  starts = note-done (λ (s : Span). s .start) _ _ _ _ (places-past _ _ (c .loop-test .left)) (c .before .loop .inv .4);
+  sizes = note-done (λ (s : Span). s .size) _ _ _ _ (places-past _ _ (c .loop-test .left)) (c .before .loop .inv .5);
+}
 
 pub topics-of-spec : {M : Type 1} → statement M
 topics-of-spec =

@@ -45,7 +45,7 @@ returns-3 : tie.Need-returns-3
 returns-3 c = admit-on _ _ _ _ _ (c .before .before .before .slots-of .ensures) (c .before .before .id-of .ensures) (c .enum-told2 .given .1)
 
 returns-4 : tie.Need-returns-4
-returns-4 c = 
+returns-4 c =
     let i = c .before .before .id2 .given .0 in
     (c .signed .ensures)
     ∙ ap (λ (s : Slots). onSignature (s .fourth) (s .fifth) (onWord (c .before .before .before .before .before .before .before .args .verified) (onLimits (now (c .before .before .before .before .before .before .before .args .part)) (admission.Fit (i .0) (i .1 .0) (i .1 .1 .0) (i .1 .1 .1 .0)))))

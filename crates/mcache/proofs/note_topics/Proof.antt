@@ -31,13 +31,13 @@ slice-aggregate-put-shorts : tie.Need-slice-aggregate-put-shorts
 slice-aggregate-put-shorts c = search needs
 
 put-shorts-requires : tie.Need-put-shorts-requires
-put-shorts-requires c κs = (omega (arith, kept-number (now (c .before .before .before .before .before .before .before .before .before .before .before .args .part)) (c .before .before .before .before .before .topics-of .result .count) (c .before .before .least .result) (counts-places (now (c .before .before .before .before .before .before .before .before .before .before .before .args .part)) (c .before .before .before .before .before .topics-of .ensures .0)) (c .before .before .least .ensures), c .before .before .before .before .before .before .before .before .before .before .before .pre), omega (arith, c .before .before .least .ensures), λ i h. let k = kept-below (now (c .before .before .before .before .before .before .before .before .before .before .before .args .part)) (c .before .before .before .before .before .topics-of .result .count) (c .before .before .least .result) (counts-places (now (c .before .before .before .before .before .before .before .before .before .before .before .args .part)) (c .before .before .before .before .before .topics-of .ensures .0)) (c .before .before .least .ensures) (λ (s : Span). s .start) _ _ refl (c .before .before .before .before .before .topics-of .ensures .1 .0) _ (starts-within (now (c .before .before .before .before .before .before .before .before .before .before .before .args .part))) i h in omega (arith, c .before .before .before .before .before .before .before .before .before .before .before .pre .0))
+put-shorts-requires c κs = (omega (arith, kept-number (now (c .before .before .before .before .before .before .before .before .before .before .before .args .part)) (c .before .before .before .before .before .topics-of .result .count) (c .before .before .least .result) (counts-places (now (c .before .before .before .before .before .before .before .before .before .before .before .args .part)) (c .before .before .before .before .before .topics-of .ensures .topics)) (c .before .before .least .ensures), c .before .before .before .before .before .before .before .before .before .before .before .pre), omega (arith, c .before .before .least .ensures), λ i h. let k = kept-below (now (c .before .before .before .before .before .before .before .before .before .before .before .args .part)) (c .before .before .before .before .before .topics-of .result .count) (c .before .before .least .result) (counts-places (now (c .before .before .before .before .before .before .before .before .before .before .before .args .part)) (c .before .before .before .before .before .topics-of .ensures .topics)) (c .before .before .least .ensures) (λ (s : Span). s .start) _ _ refl (c .before .before .before .before .before .topics-of .ensures .starts) _ (starts-within (now (c .before .before .before .before .before .before .before .before .before .before .before .args .part))) i h in omega (arith, c .before .before .before .before .before .before .before .before .before .before .before .pre .0))
 
 slice-aggregate-put-shorts-2 : tie.Need-slice-aggregate-put-shorts-2
 slice-aggregate-put-shorts-2 c = search needs
 
 put-shorts-requires-2 : tie.Need-put-shorts-requires-2
-put-shorts-requires-2 c κs = (omega (arith, kept-number (now (c .before .before .before .before .before .before .before .before .before .before .before .before .before .before .before .before .args .part)) (c .before .before .before .before .before .before .before .before .before .before .topics-of .result .count) (c .before .before .before .before .before .before .before .least .result) (counts-places (now (c .before .before .before .before .before .before .before .before .before .before .before .before .before .before .before .before .args .part)) (c .before .before .before .before .before .before .before .before .before .before .topics-of .ensures .0)) (c .before .before .before .before .before .before .before .least .ensures), c .before .before .before .before .before .before .before .before .before .before .before .before .before .before .before .before .pre), omega (arith, c .before .before .before .before .before .before .before .least .ensures), λ i h. let k = kept-below (now (c .before .before .before .before .before .before .before .before .before .before .before .before .before .before .before .before .args .part)) (c .before .before .before .before .before .before .before .before .before .before .topics-of .result .count) (c .before .before .before .before .before .before .before .least .result) (counts-places (now (c .before .before .before .before .before .before .before .before .before .before .before .before .before .before .before .before .args .part)) (c .before .before .before .before .before .before .before .before .before .before .topics-of .ensures .0)) (c .before .before .before .before .before .before .before .least .ensures) (λ (s : Span). s .size) _ _ refl (c .before .before .before .before .before .before .before .before .before .before .topics-of .ensures .1 .1) _ (sizes-within (now (c .before .before .before .before .before .before .before .before .before .before .before .before .before .before .before .before .args .part))) i h in omega (arith, c .before .before .before .before .before .before .before .before .before .before .before .before .before .before .before .before .pre .0))
+put-shorts-requires-2 c κs = (omega (arith, kept-number (now (c .before .before .before .before .before .before .before .before .before .before .before .before .before .before .before .before .args .part)) (c .before .before .before .before .before .before .before .before .before .before .topics-of .result .count) (c .before .before .before .before .before .before .before .least .result) (counts-places (now (c .before .before .before .before .before .before .before .before .before .before .before .before .before .before .before .before .args .part)) (c .before .before .before .before .before .before .before .before .before .before .topics-of .ensures .topics)) (c .before .before .before .before .before .before .before .least .ensures), c .before .before .before .before .before .before .before .before .before .before .before .before .before .before .before .before .pre), omega (arith, c .before .before .before .before .before .before .before .least .ensures), λ i h. let k = kept-below (now (c .before .before .before .before .before .before .before .before .before .before .before .before .before .before .before .before .args .part)) (c .before .before .before .before .before .before .before .before .before .before .topics-of .result .count) (c .before .before .before .before .before .before .before .least .result) (counts-places (now (c .before .before .before .before .before .before .before .before .before .before .before .before .before .before .before .before .args .part)) (c .before .before .before .before .before .before .before .before .before .before .topics-of .ensures .topics)) (c .before .before .before .before .before .before .before .least .ensures) (λ (s : Span). s .size) _ _ refl (c .before .before .before .before .before .before .before .before .before .before .topics-of .ensures .sizes) _ (sizes-within (now (c .before .before .before .before .before .before .before .before .before .before .before .before .before .before .before .before .args .part))) i h in omega (arith, c .before .before .before .before .before .before .before .before .before .before .before .before .before .before .before .before .pre .0))
 
 same-length : tie.Need-same-length
 same-length c = search needs
@@ -47,9 +47,11 @@ same-length-2 c = search needs
 
 returns : tie.Need-returns
 returns c = (
-  kept-number (now (c .before .before .before .before .before .before .before .before .before .before .before .before .before .before .before .before .before .before .before .args .part)) (c .before .before .before .before .before .before .before .before .before .before .before .before .before .topics-of .result .count) (c .before .before .before .before .before .before .before .before .before .before .least .result) (counts-places (now (c .before .before .before .before .before .before .before .before .before .before .before .before .before .before .before .before .before .before .before .args .part)) (c .before .before .before .before .before .before .before .before .before .before .before .before .before .topics-of .ensures .0)) (c .before .before .before .before .before .before .before .before .before .before .least .ensures),
-  ((c .before .before .before .before .before .before .before .put-shorts .ensures) ∙ ap (sets (now (c .before .before .before .before .before .before .before .before .before .before .before .before .before .before .before .before .before .before .before .args .starts)) (c .before .before .before .before .before .before .before .before .before .before .before .before .before .before .before .before .before .before .before .args .slot)) (kept-values (now (c .before .before .before .before .before .before .before .before .before .before .before .before .before .before .before .before .before .before .before .args .part)) (c .before .before .before .before .before .before .before .before .before .before .before .before .before .topics-of .result .count) (c .before .before .before .before .before .before .before .before .before .before .least .result) (counts-places (now (c .before .before .before .before .before .before .before .before .before .before .before .before .before .before .before .before .before .before .before .args .part)) (c .before .before .before .before .before .before .before .before .before .before .before .before .before .topics-of .ensures .0)) (c .before .before .before .before .before .before .before .before .before .before .least .ensures) (λ (s : Span). s .start) _ _ refl (c .before .before .before .before .before .before .before .before .before .before .before .before .before .topics-of .ensures .1 .0)),
-  (c .before .before .put-shorts2 .ensures) ∙ ap (sets (now (c .before .before .before .before .before .before .before .before .before .before .before .before .before .before .before .before .before .before .before .args .sizes)) (c .before .before .before .before .before .before .before .before .before .before .before .before .before .before .before .before .before .before .before .args .slot)) (kept-values (now (c .before .before .before .before .before .before .before .before .before .before .before .before .before .before .before .before .before .before .before .args .part)) (c .before .before .before .before .before .before .before .before .before .before .before .before .before .topics-of .result .count) (c .before .before .before .before .before .before .before .before .before .before .least .result) (counts-places (now (c .before .before .before .before .before .before .before .before .before .before .before .before .before .before .before .before .before .before .before .args .part)) (c .before .before .before .before .before .before .before .before .before .before .before .before .before .topics-of .ensures .0)) (c .before .before .before .before .before .before .before .before .before .before .least .ensures) (λ (s : Span). s .size) _ _ refl (c .before .before .before .before .before .before .before .before .before .before .before .before .before .topics-of .ensures .1 .1))),
+  kept-number (now (c .before .before .before .before .before .before .before .before .before .before .before .before .before .before .before .before .before .before .before .args .part)) (c .before .before .before .before .before .before .before .before .before .before .before .before .before .topics-of .result .count) (c .before .before .before .before .before .before .before .before .before .before .least .result) (counts-places (now (c .before .before .before .before .before .before .before .before .before .before .before .before .before .before .before .before .before .before .before .args .part)) (c .before .before .before .before .before .before .before .before .before .before .before .before .before .topics-of .ensures .topics)) (c .before .before .before .before .before .before .before .before .before .before .least .ensures),
+  (
+    (c .before .before .before .before .before .before .before .put-shorts .ensures) ∙ ap (sets (now (c .before .before .before .before .before .before .before .before .before .before .before .before .before .before .before .before .before .before .before .args .starts)) (c .before .before .before .before .before .before .before .before .before .before .before .before .before .before .before .before .before .before .before .args .slot)) (kept-values (now (c .before .before .before .before .before .before .before .before .before .before .before .before .before .before .before .before .before .before .before .args .part)) (c .before .before .before .before .before .before .before .before .before .before .before .before .before .topics-of .result .count) (c .before .before .before .before .before .before .before .before .before .before .least .result) (counts-places (now (c .before .before .before .before .before .before .before .before .before .before .before .before .before .before .before .before .before .before .before .args .part)) (c .before .before .before .before .before .before .before .before .before .before .before .before .before .topics-of .ensures .topics)) (c .before .before .before .before .before .before .before .before .before .before .least .ensures) (λ (s : Span). s .start) _ _ refl (c .before .before .before .before .before .before .before .before .before .before .before .before .before .topics-of .ensures .starts)),
+    (c .before .before .put-shorts2 .ensures) ∙ ap (sets (now (c .before .before .before .before .before .before .before .before .before .before .before .before .before .before .before .before .before .before .before .args .sizes)) (c .before .before .before .before .before .before .before .before .before .before .before .before .before .before .before .before .before .before .before .args .slot)) (kept-values (now (c .before .before .before .before .before .before .before .before .before .before .before .before .before .before .before .before .before .before .before .args .part)) (c .before .before .before .before .before .before .before .before .before .before .before .before .before .topics-of .result .count) (c .before .before .before .before .before .before .before .before .before .before .least .result) (counts-places (now (c .before .before .before .before .before .before .before .before .before .before .before .before .before .before .before .before .before .before .before .args .part)) (c .before .before .before .before .before .before .before .before .before .before .before .before .before .topics-of .ensures .topics)) (c .before .before .before .before .before .before .before .before .before .before .least .ensures) (λ (s : Span). s .size) _ _ refl (c .before .before .before .before .before .before .before .before .before .before .before .before .before .topics-of .ensures .sizes)),
+  ),
 )
 
 pub note-topics-spec : {M : Type 1} → statement M
