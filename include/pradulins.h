@@ -28,16 +28,18 @@ extern "C" {
 /* ---- version */
 
 /*
- * The version that this header is of, 0.2.0: 10000 times the first number, 100 times the second, and the third. pradulins_version() is that of the archive.
- * The format is that of a node's bytes and its stores: a state that was saved under another format is not to be loaded. pradulins_format() is the archive's.
+ * The version that this header is of, 0.3.0: 10000 times the first number, 100 times the second, and the third. pradulins_version() is that of the archive.
+ * The format is that of a node's bytes and its stores: a state that was saved under another format is not to be loaded. pradulins_format() is the archive's: hold
+ * it to PRADULINS_FORMAT before the first call, since a node of another format may have another length. Format 2 came with 0.3.0: a node keeps where the topics of
+ * its messages stand, and has 12,432 bytes where it had 11,344. Nodes of format 1 are not taken over: start anew, and catch up.
  */
-#define PRADULINS_VERSION 200
-#define PRADULINS_FORMAT 1
+#define PRADULINS_VERSION 300
+#define PRADULINS_FORMAT 2
 
 /* ---- sizes */
 
 /* A node, in bytes. It needs no alignment. */
-#define PRADULINS_NODE_SIZE 11344
+#define PRADULINS_NODE_SIZE 12432
 
 /* The seen store has max_seen rows, the cache store max_messages places: exactly so many bytes. */
 #define PRADULINS_SEEN_ROW 129

@@ -343,6 +343,23 @@ def message(r, parts):
     return b"".join(out)
 
 
+def topic_message(r, who):
+    """A message with none to five topics, among them empty and repeated ones, beside fields 4 of other types and fields that hold one; some as long as
+    a message may be, some with an empty topic at the end."""
+    pool = r.sample(TOPICS, 2) + [b"", b"t"] + ([] if r.randrange(8) else LONGEST_TOPICS[1:2])
+    out = [tagged(1, who[0]), tagged(3, who[1]), tagged(5, blob(r, 1) * SIGNATURE)]
+    topics = [tagged(4, r.choice(pool)) for _ in range(r.choice((0, 1, 1, 2, 2, 3, 3, 4, 4, 4, 5)))]
+    out = r.sample(out + topics, len(out) + len(topics)) if r.randrange(2) else out[:2] + topics + out[2:]
+    for _ in range(r.choice((0, 0, 1, 1, 2))):
+        out.insert(r.randrange(len(out) + 1), r.choice((
+            b"\x20\x05", b"\x20\xff\x01", b"\x25\x22\x01t\x00", b"\x21\x22\x01t\x22\x01t\x22\x00", tagged(2, tagged(4, b"t")), tagged(6, tagged(4, b"")),
+            tagged(21, tagged(4, b"t")), tagged(21, tagged(4, b"t") * 3 + tagged(4, b"")), tagged(15, b""))))
+    size = MAX_MESSAGE - sum(map(len, out)) - 4
+    if r.randrange(12) == 0 and size > 127:
+        out.insert(r.randrange(len(out) + 1), tagged(15, bytes(size + 1 - r.choice((0, 0, 0, 1)))))
+    return b"".join(out + ([tagged(4, b"")] if r.randrange(6) == 0 else []))
+
+
 def padded(body, size):
     """A field more that is skipped, so that the body has so many bytes."""
     n = size - len(body) - 4
@@ -544,6 +561,18 @@ def x_named(who, seqno, *topics):
     return put_step(x_with(from_=[who], seqno=[seqno], topic=topics or [b"t"]))
 
 
+# Messages with the id of X, and where the topics of each stand in it: (start, length), counted from its own start.
+TOPIC_MESSAGES = [
+    (plain(X), [(8, 1)]),
+    (bytes.fromhex("22002200") + plain(X), [(2, 0), (4, 0), (12, 1)]),
+    (bytes.fromhex("2005") + plain(X), [(10, 1)]),
+    (bytes.fromhex("aa0103220174") + plain(X), [(14, 1)]),
+    (plain(x_with(topic=[b"t", b"t", b"u", b""])), [(8, 1), (11, 1), (14, 1), (17, 0)]),
+    (plain(x_with(topic=[b"t" * MAX_TOPIC])), [(9, MAX_TOPIC)]),
+    (plain(without(X, 4) + [(2, bytes(MAX_MESSAGE - 77)), (4, b"")]), [(MAX_MESSAGE, 0)]),
+]
+
+
 def looks(names, topics, *windows):
     return [("get", name) for name in names] + [("gossip", n, topic) for topic in topics for n in windows]
 
@@ -650,6 +679,18 @@ def cache_named():
         + looks([], [b"\xe2\x82", b"t\xff"], 0)
 
 
+def topic_named():
+    """Where topics stand in a message: every topic that a message has, and what stands beside it."""
+    for raw, places in TOPIC_MESSAGES:
+        topics = {raw[start + a:start + size + b] for start, size in places for a, b in ((0, 0), (-2, 0), (-1, 0), (0, 1), (1, 0)) if size + b >= a}
+        yield [("cache", 2, 2, 0), ("put", 0, tagged(2, raw))] + looks([b"A\x01"], sorted(topics | {b"t", b"u", b""}), 1)
+    # A place used again, by a message with more topics or with fewer.
+    for before in range(1, MAX_TOPICS + 1):
+        for after in range(1, MAX_TOPICS + 1):
+            yield [("cache", 2, 1, 0), x_named(b"f", b"0", *[b"old%d" % n for n in range(before)]),
+                   x_named(b"f", b"1", *[b"new%d" % n for n in range(after)])] + looks([], [b"%s%d" % (one, n) for one in (b"old", b"new") for n in range(4)], 1)
+
+
 def named():
     """The edges of every call, each refusal, and both parts beside each other."""
     yield from seen_named()
@@ -661,4 +702,4 @@ def named():
 
 
 def histories(r, count):
-    return then_random(r, count, (named(),), history)
+    return then_random(r, count, (named(), topic_named()), history)

@@ -6,7 +6,7 @@
 The input meets every refusal that the program can show (10 once, by ask), breaks every clause of
 42 alone, and has states that look odd and are well formed, stores of other lengths, buffers
 that just fit and just do not, full capacities, arrival numbers at the wrap, rows that left and come
-back, and maxima of 0 (state_histories.py). A reply about 65,536 bytes would be too long for it:
+back, maxima of 0, and messages with topics of every sort (state_histories.py). A reply about 65,536 bytes would be too long for it:
 compare_states.py has those. The answers in stdout are the model's (states.py), never the
 program's; `rt check` holds the program to them. With BINARY, target/bin/states, they are compared
 at once.
@@ -25,7 +25,7 @@ from nodes import MAX_BODY, ROOM
 from oracle import HERE
 from state_histories import STATE, admit, tells, turned
 
-MOST_BYTES = 250000
+MOST_BYTES = 300000
 
 
 def histories():
@@ -33,14 +33,21 @@ def histories():
     yield state_histories.each_refusal()
     # 10, of one call only: the others would be as long again.
     yield turned().add(("ask", ROOM, padded(tells(b"A\x04", b"B"), MAX_BODY + 1)), STATE).steps
-    yield from state_histories.broken_once()
-    for part in (state_histories.odd_histories, state_histories.lent_histories, state_histories.buffer_histories):
+    *broken, topics = state_histories.broken_once()
+    yield from broken
+    yield from state_histories.odd_histories(True, state_histories.ODD_FINDERS[:3])
+    for part in (state_histories.lent_histories, state_histories.buffer_histories):
         yield from part(few=True)
     yield state_histories.full_in_few_bytes()
     yield from list(state_histories.wrap_histories())[4:8:3]
     unused = list(state_histories.unused_histories())
     yield from unused[1:2] + unused[10:14]
     yield from list(state_histories.small_histories())[:3]
+    # Where topics are kept.
+    yield topics
+    yield from state_histories.odd_histories(True, state_histories.ODD_FINDERS[3:])
+    yield from state_histories.kept_histories(few=True)
+    yield from list(state_histories.reuse_histories())[3:13:3]
 
 
 def main():

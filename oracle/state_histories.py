@@ -11,10 +11,11 @@ import caches
 import states
 import traces
 from bodies import tagged
-from caches import REFUSED, X, grown, padded, plain, x_with
-from nodes import MAX_BODY, MAX_MESSAGE, ROOM, TOP
+from caches import REFUSED, TOPIC_MESSAGES, X, grown, padded, plain, topic_message, x_with
+from nodes import MAX_BODY, MAX_MESSAGE, MAX_TOPICS, ROOM, TOP
 from states import ARRIVAL, CACHE_BYTE, CACHE_BYTES, CLOCK, COUNT, EXPIRY, HISTORY_LEN, ID_LEN, IDS, LEN, MAX_HELD, MAX_ID, MAX_IDS, MAX_MADE, \
-    NEXT, ROW, SEEN_BYTE, SEEN_BYTES, SEEN_COUNT, SEEN_LEN, SEEN_START, START, TTL, WINDOW, Run
+    NEXT, ROW, SEEN_BYTE, SEEN_BYTES, SEEN_COUNT, SEEN_LEN, SEEN_START, SLOTS, START, TOPIC_COUNT, TOPIC_LEN, TOPIC_START, TTL, WINDOW, Run, \
+    taken, topic_places
 from traces import admit, beat, body_of, control, ihave, tells, wants, x_body
 from wire import then_random
 
@@ -86,9 +87,10 @@ def value_of(run, what, place):
         return store[place] if place < lent else 0
     if what in (EXPIRY, SEEN_LEN):
         return (seen.expiry if what == EXPIRY else seen.len)[place % 256]
-    rows = {ARRIVAL: cache.arrival, WINDOW: cache.window, LEN: cache.len, ID_LEN: cache.id_len}
+    rows = {ARRIVAL: cache.arrival, WINDOW: cache.window, LEN: cache.len, ID_LEN: cache.id_len, TOPIC_COUNT: cache.topic_count,
+            TOPIC_START: cache.topic_start, TOPIC_LEN: cache.topic_len}
     if what in rows:
-        return rows[what][place % 64]
+        return rows[what][place % len(rows[what])]
     if what == IDS:
         return cache.ids[place % len(cache.ids)]
     return {TTL: run.ttl, MAX_IDS: run.max_seen, CLOCK: run.clock, SEEN_START: seen.start, SEEN_COUNT: seen.count, HISTORY_LEN: cache.history_len,
@@ -104,10 +106,23 @@ def healing(run, steps):
 
 
 def other_message(run, place, raw):
-    """Steps after which the message in a place is this one; its stored id stays."""
+    """Steps after which the message in a place is this one, with the places of its topics, if it may be taken; its stored id stays."""
     old = run.cache.message_at(run.cache_store, place)
     steps = [hurt(CACHE_BYTE, byte, place * MAX_MESSAGE + n) for n, byte in enumerate(raw) if n >= len(old) or old[n] != byte]
-    return steps + ([] if run.cache.len[place] == len(raw) else [hurt(LEN, len(raw), place)])
+    steps += [] if run.cache.len[place] == len(raw) else [hurt(LEN, len(raw), place)]
+    return steps + (other_topics(run, place, topic_places(raw)) if taken(raw) else [])
+
+
+def other_topics(run, place, kept):
+    """Steps after which these places of topics stand in a row."""
+    return [step for step in topics_set(place, kept) if value_of(run, step[1], step[2]) != step[3]]
+
+
+def topics_set(place, kept):
+    steps = [hurt(TOPIC_COUNT, len(kept), place)]
+    for slot, (start, size) in enumerate(kept, place * MAX_TOPICS):
+        steps += [hurt(TOPIC_START, start, slot), hurt(TOPIC_LEN, size, slot)]
+    return steps
 
 
 def other_id(run, place, name):
@@ -140,6 +155,12 @@ def turned():
 def straight():
     """Both rings full, from place 0 on."""
     return Play(("set", 100, 3, 4, 3), *[admit(10 + n, named_message(n)) for n in range(3)])
+
+
+def topical():
+    """A ring of three places that has turned: messages with one topic, with three, and with two where one with four was."""
+    topics = ((b"t", b"u", b"t", b""), (b"t",), (b"", b"topic", b"t"), (b"u", b"u"))
+    return Play(("set", 100, 4, 4, 3), *[admit(10 + n, named_message(n, *each)) for n, each in enumerate(topics)])
 
 
 def empty(*settings):
@@ -241,7 +262,34 @@ def broken_empty():
     yield "start", [hurt(START, 4)]
 
 
-BROKEN_FINDERS = ((turned, breaks), (empty, lambda play: broken_empty()))
+def topic_breaks(play):
+    """(clause, steps) for a state made by `topical`."""
+    cache = play.run.cache
+    for place in play.messages():
+        count, slots = cache.topic_count[place], cache.slots(place)
+        for value in sorted({0, 1, 2, 3, 4, 5, 6, 64, 255} - {count}):
+            yield "topic count", [hurt(TOPIC_COUNT, value, place)]
+        # A topic twice; and one more that is kept in its right place.
+        last = cache.topic_start[slots[-1]], cache.topic_len[slots[-1]]
+        yield "topic count", [hurt(TOPIC_COUNT, count + 1, place), hurt(TOPIC_START, last[0], slots[-1] + 1), hurt(TOPIC_LEN, last[1], slots[-1] + 1)]
+        for slot in slots:
+            start, size = cache.topic_start[slot], cache.topic_len[slot]
+            # The tag's place, the length's and the next byte's; counted from the body and from the store.
+            for value in sorted({start - 2, start - 1, start + 1, start + 2, 0, 4096, 4097, 65535, place * MAX_MESSAGE + start} - {start}):
+                yield "topic start", [hurt(TOPIC_START, value, slot)]
+            for value in sorted({max(0, size - 1), size + 1, size + 2, 0, 1024, 4096, 65535} - {size}):
+                yield "topic length", [hurt(TOPIC_LEN, value, slot)]
+    # The same bytes in another place, and in another order.
+    first, *rest, last = play.messages()
+    one, other = cache.slots(last)
+    yield "topic start", [hurt(TOPIC_START, cache.topic_start[other], one)]
+    yield "topic start", [hurt(TOPIC_START, cache.topic_start[a], b) for a, b in ((one, other), (other, one))]
+    # Those of another row, and the slots of the message that was there before.
+    yield "topic count", topics_set(first, topic_places(cache.message_at(play.run.cache_store, rest[0])))
+    yield "topic count", [hurt(TOPIC_COUNT, 4, last)]
+
+
+BROKEN_FINDERS = ((turned, breaks), (empty, lambda play: broken_empty()), (topical, topic_breaks))
 
 
 def harmed(play, clause, steps, *calls):
@@ -256,11 +304,11 @@ def broken_histories():
     """Each clause broken alone: every call is refused and changes nothing; then it is healed."""
     for make, find in BROKEN_FINDERS:
         for clause, steps in find(make()):
-            yield harmed(make(), clause, steps, *CALLS, *POOR, STATE).add(*(CALLS if make is turned else FEW)).steps
+            yield harmed(make(), clause, steps, *CALLS, *POOR, STATE).add(*(FEW if make is empty else CALLS)).steps
 
 
 def broken_once():
-    """Each clause broken alone, once, one after the other."""
+    """Each clause broken alone, once, one after the other: a history for each state to start from."""
     got = set()
     for make, find in BROKEN_FINDERS:
         play = make()
@@ -352,18 +400,82 @@ def odd_empty(play):
         yield [hurt(MAX_HELD, most), ("lend", 4 * ROW, most * MAX_MESSAGE)]
 
 
-def odd_histories(few=False):
+def odd_topical(play):
+    run, held = play.run, play.messages()
+    past = [slot for place in held for slot in range(play.run.cache.slots(place).stop, (place + 1) * MAX_TOPICS)]
+    # Slots past the count, one by one and all; rows not in use.
+    for value in (0, 7, 65535):
+        for what in (TOPIC_START, TOPIC_LEN):
+            for slot in past:
+                yield [hurt(what, value, slot)]
+        yield [hurt(what, value, slot) for what in (TOPIC_START, TOPIC_LEN) for slot in past]
+    for value in (0, 1, 4, 5, 255):
+        yield [hurt(TOPIC_COUNT, value, place) for place in (3, 4, 63)]
+    for value in (1, 4096, 65535):
+        yield [hurt(what, value, slot) for what in (TOPIC_START, TOPIC_LEN) for slot in (12, 15, 16, SLOTS - 1)]
+    # Places and values beyond: row 64 is row 0, slot 256 is slot 0.
+    cache, place = run.cache, held[1]
+    slot = place * MAX_TOPICS
+    yield [hurt(TOPIC_COUNT, 256 + cache.topic_count[place], place + 64), hurt(TOPIC_START, 65536 + cache.topic_start[slot], slot + SLOTS),
+           hurt(TOPIC_LEN, 2**32 + cache.topic_len[slot], slot + 2 * SLOTS)]
+    # Messages with other topics and the same id, with their places.
+    for topics in ((b"t",), (b"",), (b"", b""), (b"t", b"t", b"t", b"t"), (b"u" * 1024,), (b"topic", b"", b"t" * 1024, b"t")):
+        yield other_message(run, place, plain(x_with(seqno=[b"\x02"], topic=topics)))
+    for raw, _ in TOPIC_MESSAGES[1:5]:
+        yield other_message(run, held[0], raw)
+    # A number above 21 is that of the ids.
+    for what in (TOPIC_LEN + 1, 23, 128, 255):
+        yield [hurt(what, 0x41, place * MAX_ID), hurt(what, 9, 8192 + 3 * MAX_ID)]
+
+
+ODD_FINDERS = ((turned, odd_turned), (straight, odd_straight), (empty, odd_empty), (topical, odd_topical))
+
+
+def odd_histories(few=False, finders=ODD_FINDERS):
     more = [admit(21, named_message(n)) for n in (10, 11, 12, 13)] + [beat(22), advertise(), serve(*[b"A" + bytes([n]) for n in range(14)]),
                                                                      ask(*[b"A" + bytes([n]) for n in range(14)]), STATE]
     if few:
         more = [more[0], beat(22), ask(*[b"A" + bytes([n]) for n in range(4)]), STATE]
-    for make, find in ((turned, odd_turned), (straight, odd_straight), (empty, odd_empty)):
+    for make, find in finders:
         for n, steps in enumerate(find(make())):
             if few and (n % 5 or len(steps) > 4):
                 continue
             play = make().add(*steps)
             assert play.run.broken() == [], (steps, play.run.broken())
             yield play.add(*FEW, *(CALLS[1:] if not few else []), *more).steps
+
+
+# --- where topics are kept -----------------------------------------------------------------------
+
+def kept_histories(few=False):
+    """Messages, and where their topics stand. The places may be set by hand; each alone set otherwise is refused. Slots past them, and other rows, may
+    hold anything."""
+    for raw, kept in TOPIC_MESSAGES:
+        looks = [advertise(topic=topic) for topic in sorted({raw[start:start + size] for start, size in kept})]
+        play = Play(("set", 100, 4, 2, 2), admit(10, tagged(2, raw)), *looks, *topics_set(0, kept), ("lookup", b"A\x01"), *([] if few else looks))
+        assert play.run.broken() == [] and other_topics(play.run, 0, kept) == []
+        for step in topics_set(0, kept):
+            _, what, slot, right = step
+            wrong = {TOPIC_COUNT: {0, right - 1, right + 1, 5, 255}, TOPIC_START: {right - 1, right + 1, 0, 65535},
+                     TOPIC_LEN: {max(0, right - 1), right + 1, 65535}}[what] - {right}
+            for value in sorted(wrong - ({255, 0} if few and what != TOPIC_COUNT else set())):
+                play.add(hurt(what, value, slot), beat(10), *([] if few else [*looks, *FEW]))
+            play.add(step)
+        others = [slot for slot in range(len(kept), 8) if not few or slot in (len(kept), 3, 4)]
+        yield play.add(*[hurt(what, 65535, slot) for slot in others for what in (TOPIC_START, TOPIC_LEN)], hurt(TOPIC_COUNT, 255, 1),
+                       ("lookup", b"A\x01"), beat(11), *looks, *([] if few else [serve(b"A\x01")]), STATE).steps
+
+
+def reuse_histories():
+    """A place used again, by a message with more topics and with fewer; the count of the one before is not its own."""
+    topics = [[b"%s%d" % (name, n) for n in range(MAX_TOPICS)] for name in (b"old", b"new")]
+    looks = [advertise(topic=topic) for each in topics for topic in each]
+    for before in range(1, MAX_TOPICS + 1):
+        for after in range(1, MAX_TOPICS + 1):
+            play = Play(("set", 100, 4, 2, 1), admit(10, named_message(0, *topics[0][:before])), *looks, admit(11, named_message(1, *topics[1][:after])), *looks)
+            assert play.run.cache.topic_count[0] == after
+            yield play.add(hurt(TOPIC_COUNT, before), *FEW, ("lookup", b"A\x01"), hurt(TOPIC_COUNT, after), *looks, beat(12), *looks, beat(13), *looks,
+                           admit(14, named_message(2, *topics[0])), *looks, STATE).steps
 
 
 # --- stores of other lengths -------------------------------------------------------------------
@@ -591,8 +703,8 @@ def refusal_histories():
 
 
 def named():
-    for part in (refusal_histories, broken_histories, odd_histories, lent_histories, buffer_histories, full_histories, wrap_histories, unused_histories,
-                 small_histories, contains_histories):
+    for part in (refusal_histories, broken_histories, odd_histories, kept_histories, reuse_histories, lent_histories, buffer_histories, full_histories,
+                 wrap_histories, unused_histories, small_histories, contains_histories):
         yield from part()
 
 
@@ -619,11 +731,14 @@ def some_room(r, play, step):
     return wide(step, max(0, needed + r.choice((-2, -1, -1, 0, 0, 1))))
 
 
+TOPICAL = (TOPIC_COUNT, TOPIC_START, TOPIC_LEN)
+
+
 def some_hurt(r, play):
     """A number of the state or a byte of a store, often about what it was or what a row beside has."""
     run = play.run
     what = r.choice((TTL, MAX_IDS, CLOCK, SEEN_START, SEEN_COUNT, EXPIRY, EXPIRY, SEEN_LEN, SEEN_LEN, HISTORY_LEN, MAX_HELD, NEXT, START, COUNT,
-                     ARRIVAL, ARRIVAL, WINDOW, WINDOW, LEN, LEN, ID_LEN, IDS, SEEN_BYTE, SEEN_BYTE, CACHE_BYTE, CACHE_BYTE))
+                     ARRIVAL, ARRIVAL, WINDOW, WINDOW, LEN, LEN, ID_LEN, IDS, SEEN_BYTE, SEEN_BYTE, CACHE_BYTE, CACHE_BYTE, *TOPICAL, *TOPICAL, *TOPICAL))
     ids = play.ids() if run.seen.fits(run.max_seen) and run.max_seen <= 256 else []
     held = play.messages() if run.cache.fits(run.cache.max_messages) and run.cache.max_messages <= 64 else []
     places = ids if what in (EXPIRY, SEEN_LEN, SEEN_BYTE) else held
@@ -634,11 +749,17 @@ def some_hurt(r, play):
         length = {SEEN_BYTE: run.seen.len[place % 256], CACHE_BYTE: run.cache.len[place % 64], IDS: run.cache.id_len[place % 64]}[what]
         at = r.randrange(length + 1)
         place, near = place * size + at, (r.choice(places) if places else 0) * size + at
-    elif places and what in (EXPIRY, SEEN_LEN, ARRIVAL, WINDOW, LEN, ID_LEN):
+    elif what in (TOPIC_START, TOPIC_LEN):
+        slots = range(place * MAX_TOPICS, (place + 1) * MAX_TOPICS)
+        used = slots[:run.cache.topic_count[place % 64]] or slots
+        place, near = r.choice(used if r.randrange(3) else slots), r.choice(slots)
+    elif places and what in (EXPIRY, SEEN_LEN, ARRIVAL, WINDOW, LEN, ID_LEN, TOPIC_COUNT):
         near = r.choice(places)
-    elif what not in (EXPIRY, SEEN_LEN, ARRIVAL, WINDOW, LEN, ID_LEN):
+    elif what not in (EXPIRY, SEEN_LEN, ARRIVAL, WINDOW, LEN, ID_LEN, TOPIC_COUNT):
         place = near = 0
     old = value_of(run, what, place)
+    if what in TOPICAL and r.randrange(3) == 0:
+        return hurt(what, r.choice((0, 5, 255, 65535, 4096, r.randrange(100))), place)
     value = r.choice((old, old + 1, old - 1, old + 1, old - 1, old + r.choice((2, 3, 256)), value_of(run, what, near), value_of(run, what, near),
                       0, 1, r.randrange(5), r.choice((16, 17, 64, 65, 128, 129, 130, 255, 256, 257, 4096, 4097)), r.randrange(2**64),
                       r.choice((2**32, 2**52, 2**63, TOP - 1, TOP))))
@@ -681,6 +802,13 @@ def harm(r, play, calls):
             play.add(*back)
 
 
+def some_topics(r, play):
+    """Messages with topics of every sort, and what is told of some topics."""
+    raws = [topic_message(r, r.choice(((b"a", b"b"), (b"ab", b"c"), (b"t", b"\x22\x01")))) for _ in range(r.choice((1, 2, 3)))]
+    topics = [b"", b"t"] + [raw[start:start + size] for raw in raws if taken(raw) for start, size in topic_places(raw)]
+    return [admit(play.run.clock, tagged(2, raw)) for raw in raws] + [advertise(topic=topic) for topic in r.sample(topics, 2)]
+
+
 def history(r):
     """A random history of a trace with any rooms, in which numbers are set and other lengths are lent, with a look at the state now and then."""
     steps = traces.history(r)
@@ -702,6 +830,8 @@ def history(r):
             play.add(some_alone(r, pool))
         elif how == 2:
             harm(r, play, calls)
+        elif how == 3:
+            play.add(*some_topics(r, play))
     return play.add(STATE).steps
 
 

@@ -5,7 +5,8 @@ beside a refusal, the room of the buffer, stores of any length (40, 41), the rin
 and messages stand, so that every number can be set (kind 8) and every sum told (kind 11),
 and the scope's sentence "Well formed (42)", clause by clause. The layout is the one of
 crates/seen/specs/State.antt and crates/mcache/specs/State.antt. After each call the rows are
-read back and held against what nodes.py keeps.
+read back and held against what nodes.py keeps; the topics are cut out of the messages where the
+table of their places says.
 
 A step is a call, its numbers and then its bytes: ("set", ttl, max_seen, history_len,
 max_messages), ("admit", now, index, verified, body), ("beat", now), ("advertise", room,
@@ -18,7 +19,7 @@ import functools
 import itertools
 
 import nodes
-from nodes import MAX_HISTORY, MAX_MESSAGE, MAX_MESSAGES, MAX_NAME, MAX_SEEN, ROOM, TOP, Refused, shown
+from nodes import MAX_HISTORY, MAX_MESSAGE, MAX_MESSAGES, MAX_NAME, MAX_SEEN, MAX_TOPICS, ROOM, TOP, Refused, shown
 from records import Records
 
 MAX_CONTENT = 65600
@@ -26,6 +27,7 @@ MAX_MADE = 65600
 ROW = 129
 MAX_SEEN_ID = 129
 MAX_ID = 2 * MAX_NAME
+SLOTS = MAX_MESSAGES * MAX_TOPICS
 SEEN_BYTES = 258 * ROW
 CACHE_BYTES = 65 * MAX_MESSAGE
 
@@ -38,7 +40,7 @@ record, records = RECORDS.record, RECORDS.records
 
 # What a step of kind 8 sets.
 TTL, MAX_IDS, CLOCK, SEEN_START, SEEN_COUNT, EXPIRY, SEEN_LEN, HISTORY_LEN, MAX_HELD, NEXT, START, COUNT, ARRIVAL, WINDOW, LEN, ID_LEN, IDS, \
-    SEEN_BYTE, CACHE_BYTE = range(19)
+    SEEN_BYTE, CACHE_BYTE, TOPIC_COUNT, TOPIC_START, TOPIC_LEN = range(22)
 
 # Every refusal that the program can show.
 LENT = {40, 41, 42}
@@ -49,7 +51,8 @@ REFUSALS = {"set": {40}, "admit": LENT | BODY | set(range(20, 32)), "beat": LENT
 # The clauses of 42, in the order of the sentence.
 CLAUSES = ["seen start", "seen count", "seen length", "start", "count", "message length", "id length", "max_seen", "history_len 0",
            "history_len above 16", "max_messages", "seen id twice", "cached id twice", "expiry falls", "window too old", "window rises",
-           "arrival not consecutive", "arrival not on to the next", "message not admissible", "message of another id"]
+           "arrival not consecutive", "arrival not on to the next", "message not admissible", "message of another id", "topic count",
+           "topic start", "topic length"]
 
 
 def placed(cap, start, i):
@@ -108,12 +111,21 @@ class Cache(Rows):
         self.history_len, self.max_messages, self.next = history_len, max_messages, 0
         self.arrival, self.window, self.len, self.id_len = ([0] * MAX_MESSAGES for _ in range(4))
         self.ids = bytearray(MAX_MESSAGES * MAX_ID)
+        self.topic_count, self.topic_start, self.topic_len = [0] * MAX_MESSAGES, [0] * SLOTS, [0] * SLOTS
 
     def id_at(self, p):
         return bytes(self.ids[p * MAX_ID:p * MAX_ID + self.id_len[p]])
 
     def message_at(self, store, p):
         return bytes(store[p * MAX_MESSAGE:p * MAX_MESSAGE + self.len[p]])
+
+    def slots(self, p):
+        return range(p * MAX_TOPICS, p * MAX_TOPICS + self.topic_count[p])
+
+    def topics_at(self, store, p):
+        """The topics of a message, cut out where the table says."""
+        raw = self.message_at(store, p)
+        return [raw[self.topic_start[k]:self.topic_start[k] + self.topic_len[k]] for k in self.slots(p)]
 
     def broken(self, store):
         cap = self.max_messages
@@ -151,6 +163,19 @@ class Cache(Rows):
             yield "message not admissible"
         if any(one and self.id_len[p] <= MAX_ID and one[0] != self.id_at(p) for one, p in zip(found, places)):
             yield "message of another id"
+        yield from self.misplaced(store, [p for one, p in zip(found, places) if one])
+
+    def misplaced(self, store, places):
+        """The clauses on the topics of messages that may be taken. A slot past the count is not looked at."""
+        told = {p: topic_places(self.message_at(store, p)) for p in places}
+        if any(self.topic_count[p] != len(told[p]) for p in places):
+            yield "topic count"
+        kept = [(self.topic_start[k], self.topic_len[k], *one) for p in places if self.topic_count[p] == len(told[p])
+                for k, one in zip(self.slots(p), told[p])]
+        if any(start != right for start, _, right, _ in kept):
+            yield "topic start"
+        if any(size != right for _, size, _, right in kept):
+            yield "topic length"
 
     def put(self, store, name, raw):
         """A message more, the newest; the oldest goes where there is no room."""
@@ -162,6 +187,10 @@ class Cache(Rows):
             self.arrival[p], self.window[p], self.len[p], self.id_len[p] = self.next, 0, len(raw), len(name)
             self.ids[p * MAX_ID:p * MAX_ID + len(name)] = name
             store[p * MAX_MESSAGE:p * MAX_MESSAGE + len(raw)] = raw
+            kept = topic_places(raw)
+            self.topic_count[p] = len(kept)
+            for k, one in zip(self.slots(p), kept):
+                self.topic_start[k], self.topic_len[k] = one
         self.next = (self.next + 1) % 2**64
 
     def shift(self):
@@ -169,6 +198,12 @@ class Cache(Rows):
         leave = itertools.takewhile(lambda p: self.window[p] + 1 >= self.history_len, self.places(self.max_messages))
         self.drop(self.max_messages, len(list(leave)))
         self.window = [min(age + 1, 255) for age in self.window]
+
+
+@functools.lru_cache(4096)
+def topic_places(raw):
+    """Where the topics of a message that may be taken stand in it, as (start, length): its fields 4 with a length, in their order."""
+    return [(nodes.number_at(raw, place)[1], len(content)) for field, wire, place, content in nodes.fields(raw) if (field, wire) == (4, 2)]
 
 
 @functools.lru_cache(4096)
@@ -229,9 +264,9 @@ class Run:
     def held(self):
         """What the rows hold, in the form of nodes.py."""
         seen, cache = self.seen, self.cache
-        messages = [self.cache.message_at(self.cache_store, p) for p in cache.places(cache.max_messages)]
         return [(seen.id_at(self.seen_store, p), seen.expiry[p]) for p in seen.places(self.max_seen)], \
-            [[cache.id_at(p), raw, taken(raw)[1], cache.window[p]] for p, raw in zip(cache.places(cache.max_messages), messages)]
+            [[cache.id_at(p), cache.message_at(self.cache_store, p), cache.topics_at(self.cache_store, p), cache.window[p]]
+             for p in cache.places(cache.max_messages)]
 
     # The calls.
 
@@ -307,10 +342,11 @@ class Run:
         elif what in (EXPIRY, SEEN_LEN):
             if p < MAX_SEEN:
                 (seen.expiry if what == EXPIRY else seen.len)[p] = value if what == EXPIRY else value % 256
-        elif what in (ARRIVAL, WINDOW, LEN, ID_LEN):
-            row, most = {ARRIVAL: (cache.arrival, 2**64), WINDOW: (cache.window, 256), LEN: (cache.len, 65536), ID_LEN: (cache.id_len, 256)}[what]
-            row[p % MAX_MESSAGES] = value % most
-        elif what == IDS:
+        elif what in (ARRIVAL, WINDOW, LEN, ID_LEN, TOPIC_COUNT, TOPIC_START, TOPIC_LEN):
+            row, most = {ARRIVAL: (cache.arrival, 2**64), WINDOW: (cache.window, 256), LEN: (cache.len, 65536), ID_LEN: (cache.id_len, 256),
+                         TOPIC_COUNT: (cache.topic_count, 256), TOPIC_START: (cache.topic_start, 65536), TOPIC_LEN: (cache.topic_len, 65536)}[what]
+            row[p % len(row)] = value % most
+        elif what == IDS or what > TOPIC_LEN:
             cache.ids[p % len(cache.ids)] = value % 256
         else:
             one, name = {TTL: (self, "ttl"), MAX_IDS: (self, "max_seen"), CLOCK: (self, "clock"), SEEN_START: (seen, "start"),

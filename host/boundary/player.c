@@ -489,6 +489,12 @@ static int hurt(size_t len)
         set_number(2640 + p % 64 * 2, 2, value);
     } else if (what == 15) {
         set_number(3088 + p % 64, 1, value);
+    } else if (what == 19) {
+        set_number(11344 + p % 64, 1, value);
+    } else if (what == 20) {
+        set_number(11408 + p % 256 * 2, 2, value);
+    } else if (what == 21) {
+        set_number(11920 + p % 256 * 2, 2, value);
     } else {
         set_number(3152 + p % 8192, 1, value);
     }

@@ -73,6 +73,17 @@ def message(who=b"A", seqno=b"\x01", topics=(b"t",), signature=bytes(64), key=No
 
 X = message()
 
+# Messages with the id of X's, and where the topics of each stand in it: (start, length).
+TOPIC_MESSAGES = (
+    (X[2:], [(8, 1)]),
+    (bytes.fromhex("22002200") + X[2:], [(2, 0), (4, 0), (12, 1)]),
+    (bytes.fromhex("2005") + X[2:], [(10, 1)]),
+    (bytes.fromhex("aa0103220174") + X[2:], [(14, 1)]),
+    (message(topics=(b"t", b"t", b"u", b""))[2:], [(8, 1), (11, 1), (14, 1), (17, 0)]),
+    (message(topics=(b"t" * 1024,))[3:], [(9, 1024)]),
+    (message(topics=(), data=bytes(4096 - 77))[3:] + field(4, b""), [(4096, 0)]),
+)
+
 
 def inspect():
     records, lines = b"", []
@@ -125,10 +136,32 @@ def steps():
         yield from calls("41")
     yield ("lend", 4 * 129, 4 * 4096), "lend ok"
     for what, place, bad, right in ((program.SEEN_COUNT, 0, 5, 1), (program.COUNT, 0, 5, 1), (program.WINDOW, 0, 2, 0), (program.ARRIVAL, 0, 1, 0),
-                                    (program.LEN, 0, 74, 75), (program.ID_LEN, 0, 1, 2), (program.IDS, 0, 66, 65), (program.HISTORY_LEN, 0, 0, 2)):
+                                    (program.LEN, 0, 74, 75), (program.ID_LEN, 0, 1, 2), (program.IDS, 0, 66, 65), (program.HISTORY_LEN, 0, 0, 2),
+                                    (program.TOPIC_COUNT, 0, 0, 1), (program.TOPIC_COUNT, 0, 2, 1), (program.TOPIC_COUNT, 0, 5, 1),
+                                    (program.TOPIC_START, 0, 7, 8), (program.TOPIC_START, 0, 65535, 8), (program.TOPIC_LEN, 0, 2, 1),
+                                    (program.TOPIC_LEN, 0, 65535, 1)):
         yield ("hurt", what, place, bad), "hurt ok"
         yield from calls("42")
         yield ("hurt", what, place, right), "hurt ok"
+    # Slots past the topics that a message has, and rows that are not in use.
+    for what, place in ((program.TOPIC_START, 1), (program.TOPIC_LEN, 3), (program.TOPIC_COUNT, 1), (program.TOPIC_START, 4)):
+        yield ("hurt", what, place, 65535), "hurt ok"
+        yield ("advertise", ROOM, 1, b"t"), "advertise 11 " + OFFER.hex()
+    # Where the topics of a message stand: as told, and not a place beside it.
+    for raw, kept in TOPIC_MESSAGES:
+        yield SETTINGS, "set ok"
+        yield ("admit", 100, 0, 1, field(2, raw)), "admit new"
+        for slot, (start, size) in enumerate(kept):
+            yield ("hurt", program.TOPIC_START, slot, start), "hurt ok"
+            yield ("hurt", program.TOPIC_LEN, slot, size), "hurt ok"
+        yield ("beat", 100), "beat ok"
+        for slot, (start, size) in enumerate(kept):
+            for what, right in ((program.TOPIC_START, start), (program.TOPIC_LEN, size)):
+                yield ("hurt", what, slot, right + 1), "hurt ok"
+                yield ("beat", 100), "beat refused 42"
+                yield ("hurt", what, slot, right), "hurt ok"
+    yield SETTINGS, "set ok"
+    yield ("admit", 100, 0, 1, X), "admit new"
     # Bodies.
     for body, told in REFUSED + ((bytes(65537).hex(), "10 65537"), ("0a00" * 513, "11 513")):
         body = bytes.fromhex(body)

@@ -110,11 +110,18 @@ static void with_number(size_t at, uint64_t value, void (*test)(void))
 
 /* Where the numbers stand: crates/stored/specs/Layout.antt. */
 enum { TTL_AT = 0, MAX_SEEN_AT = 8, CLOCK_AT = 16, SEEN_COUNT_AT = 32, HISTORY_AT = 40, MAX_MESSAGES_AT = 48, COUNT_AT = 72, EXPIRIES_AT = 80 };
+enum { TOPIC_COUNTS_AT = 11344, TOPIC_STARTS_AT = 11408, TOPIC_LENGTHS_AT = 11920 };
 
 static void refused_42(void)
 {
     settings_are(1000, 4, 2, 3);
     state_is_refused(4 * 129, 3 * 4096, PRADULINS_MALFORMED);
+}
+
+static void taken(void)
+{
+    settings_are(1000, 4, 2, 3);
+    state_is(4 * 129, 3 * 4096, 103, 4, 3);
 }
 
 static void another_ttl(void)
@@ -169,6 +176,22 @@ static void nodes(void)
     with_number(SEEN_COUNT_AT, UINT64_MAX, refused_42);
     with_number(COUNT_AT, 4, refused_42);
     with_number(EXPIRIES_AT, UINT64_MAX, refused_42);
+    /* The places of topics. Each message has one, of 1 byte from the 8th on; 8 bytes are the four slots of a row, or the counts of eight rows. */
+    with_number(TOPIC_COUNTS_AT, 0x000101, refused_42);
+    with_number(TOPIC_COUNTS_AT, 0x010201, refused_42);
+    with_number(TOPIC_COUNTS_AT, 0x050101, refused_42);
+    with_number(TOPIC_COUNTS_AT, UINT64_MAX, refused_42);
+    with_number(TOPIC_COUNTS_AT, 0xffffffffff010101, taken);
+    with_number(TOPIC_STARTS_AT, 7, refused_42);
+    with_number(TOPIC_STARTS_AT + 8, 9, refused_42);
+    with_number(TOPIC_STARTS_AT + 16, 0xffff, refused_42);
+    with_number(TOPIC_STARTS_AT, 0xffffffffffff0008, taken);
+    with_number(TOPIC_STARTS_AT + 24, UINT64_MAX, taken);
+    with_number(TOPIC_LENGTHS_AT, 2, refused_42);
+    with_number(TOPIC_LENGTHS_AT + 8, 0, refused_42);
+    with_number(TOPIC_LENGTHS_AT + 16, 0xffff, refused_42);
+    with_number(TOPIC_LENGTHS_AT, 0xffffffffffff0001, taken);
+    with_number(PRADULINS_NODE_SIZE - 8, UINT64_MAX, taken);
     with_number(TTL_AT, UINT64_MAX, another_ttl);
     with_number(CLOCK_AT, 0xfedcba9876543210, another_clock);
     state_is(4 * 129, 3 * 4096, 103, 4, 3);

@@ -116,8 +116,8 @@ pub use saved::{write_file, LoadError};
 /// The version of this crate.
 pub const VERSION: &str = env!("CARGO_PKG_VERSION");
 
-/// The format of a node's bytes and its stores. A state that was saved in another is not loaded.
-pub const FORMAT: u32 = 1;
+/// The format of a node's bytes and its stores. A state that was saved in another is not loaded: up to version 0.2.0 that was 1.
+pub const FORMAT: u32 = 2;
 
 /// The version of the archive that the program is linked with: 10000 times the first number, 100 times the second, and the third.
 pub fn archive_version() -> u32 {
@@ -125,7 +125,7 @@ pub fn archive_version() -> u32 {
 }
 
 /// How many bytes the node itself takes, without its two stores.
-pub const NODE_SIZE: usize = 11344;
+pub const NODE_SIZE: usize = 12432;
 
 /// How many bytes a row of the seen store takes.
 pub const SEEN_ROW: usize = 129;

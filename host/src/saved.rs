@@ -163,8 +163,12 @@ impl Gateway {
     /// The gateway that was saved.
     ///
     /// Bytes of any origin may be passed. In this order it is tested that there are as many as a header has ([`LoadError::Short`]), its name, its
-    /// format, its length and its checksum. Then the library tests the node and its stores ([`LoadError::Refused`]), as [`Gateway::load_plain`] says.
-    /// `load(&[])` is `Err(LoadError::Short { found: 0 })`.
+    /// format, its length and its checksum. Then the library tests the node and its stores ([`LoadError::Refused`]): [`Refusal::Malformed`] (42) for
+    /// fewer bytes than a node has, and for settings that no gateway is started with; [`Refusal::BadStore`] (41) where the stores are not as long as the
+    /// settings say; then [`Refusal::Malformed`] where node and stores are not well formed. `load(&[])` is `Err(LoadError::Short { found: 0 })`.
+    ///
+    /// What an earlier version saved is not loaded: a state of 0.2.0 is of format 1 ([`LoadError::Format`]), and one of 0.1.0 has no header
+    /// ([`LoadError::Name`]). Start a new gateway then, and let it catch up; docs/OPERATING.md of the repository says what that means.
     ///
     /// The checksum finds bytes that were damaged. It is not a signature: who can write the file can write any state with a right checksum.
     pub fn load(bytes: &[u8]) -> Result<Gateway, LoadError> {
@@ -173,20 +177,12 @@ impl Gateway {
 
     /// The same of the first bytes of so many.
     fn load_part(bytes: &[u8], length: u64) -> Result<Gateway, LoadError> {
-        Gateway::load_plain(opened(bytes, length)?).map_err(LoadError::Refused)
-    }
-
-    /// The gateway that version 0.1.0 saved: the node and its two stores with no header before them. Save it anew: without a checksum, damage is
-    /// found only where it is not well formed.
-    ///
-    /// Refused: [`Refusal::Malformed`] (42) for fewer bytes than a node has, and for settings that no gateway is started with; [`Refusal::BadStore`]
-    /// (41) where the stores are not as long as the settings say; then [`Refusal::Malformed`] where node and stores are not well formed.
-    pub fn load_plain(bytes: &[u8]) -> Result<Gateway, Refusal> {
-        if bytes.len() < NODE_SIZE {
-            return Err(Refusal::Malformed);
+        let rest = opened(bytes, length)?;
+        if rest.len() < NODE_SIZE {
+            return Err(LoadError::Refused(Refusal::Malformed));
         }
-        let (node, stores) = bytes.split_at(NODE_SIZE);
-        Gateway::tested(node, stores)
+        let (node, stores) = rest.split_at(NODE_SIZE);
+        Gateway::tested(node, stores).map_err(LoadError::Refused)
     }
 
     /// Writes [`Gateway::save`] to a file by [`write_file`], so that a crash leaves the state that was saved before, or this one.
@@ -320,7 +316,7 @@ mod tests {
     fn the_header_stands_as_told() {
         let bytes = sealed(&[b"1234", b"", b"56789"]);
         assert_eq!(bytes[..16], *b"pradulins-saved\n");
-        assert_eq!(bytes[16..20], [1, 0, 0, 0]);
+        assert_eq!(bytes[16..20], [2, 0, 0, 0]);
         assert_eq!(bytes[20..28], [9, 0, 0, 0, 0, 0, 0, 0]);
         assert_eq!(bytes[28..36], 0x995d_c9bb_df19_39fa_u64.to_le_bytes());
         assert_eq!(bytes[36..], *b"123456789");
@@ -340,21 +336,30 @@ mod tests {
         bytes.push(0);
         assert_eq!(word(whole(&bytes)), "Length { said: 9, found: 10 }");
         bytes[17] = 1;
-        assert_eq!(word(whole(&bytes)), "Format { found: 257, read: 1 }");
+        assert_eq!(word(whole(&bytes)), "Format { found: 258, read: 2 }");
         bytes[0] = b'P';
         assert_eq!(word(whole(&bytes)), "Name");
         assert_eq!(word(whole(&right[..36])), "Length { said: 9, found: 0 }");
     }
 
+    /// Its length and its checksum are right, and the format is what is told.
+    #[test]
+    fn a_header_of_format_1() {
+        let mut old = sealed(&[&[0; 11_344], &[0; 4 * SEEN_ROW], &[0; 2 * CACHE_PLACE]]);
+        assert_eq!(whole(&old).unwrap().len(), old.len() - HEADER);
+        old[FORMAT_AT] = 1;
+        assert_eq!(word(Gateway::load(&old)), "Format { found: 1, read: 2 }");
+    }
+
     #[test]
     fn no_state_is_longer() {
         let largest = sealed(&[&vec![7; LARGEST]]);
-        assert_eq!((LARGEST, whole(&largest).unwrap().len()), (306_512, LARGEST));
+        assert_eq!((LARGEST, whole(&largest).unwrap().len()), (307_600, LARGEST));
         let longer = sealed(&[&vec![7; LARGEST + 1]]);
-        assert_eq!(word(whole(&longer)), "Length { said: 306513, found: 306513 }");
+        assert_eq!(word(whole(&longer)), "Length { said: 307601, found: 307601 }");
         // The first bytes of a file that has more.
-        assert_eq!(word(opened(&longer, 1_000_000)), "Length { said: 306513, found: 999964 }");
-        assert_eq!(word(opened(&largest, 1_000_000)), "Length { said: 306512, found: 999964 }");
+        assert_eq!(word(opened(&longer, 1_000_000)), "Length { said: 307601, found: 999964 }");
+        assert_eq!(word(opened(&largest, 1_000_000)), "Length { said: 307600, found: 999964 }");
     }
 
     #[test]
@@ -404,9 +409,9 @@ mod tests {
             (LoadError::Read(missing), "the saved state cannot be read: there is no file"),
             (LoadError::Short { found: 0 }, "no saved state: it has 0 bytes, and the header alone has 36"),
             (LoadError::Name, "no saved state: it does not begin with `pradulins-saved`"),
-            (LoadError::Format { found: 2, read: 1 }, "the state was saved in format 2, and format 1 is read"),
+            (LoadError::Format { found: 1, read: 2 }, "the state was saved in format 1, and format 2 is read"),
             (LoadError::Length { said: 9, found: 8 }, "the saved state has 8 bytes after its header, which says 9"),
-            (LoadError::Length { said: 400_000, found: 400_000 }, "the saved state has 400000 bytes after its header, and the largest has 306512"),
+            (LoadError::Length { said: 400_000, found: 400_000 }, "the saved state has 400000 bytes after its header, and the largest has 307600"),
             (LoadError::Checksum, "the saved state was damaged: its checksum is another"),
             (LoadError::Refused(Refusal::Malformed), "the saved state is refused 42: node and stores are not well formed"),
         ] {
@@ -512,12 +517,25 @@ mod tests {
             assert_eq!(saved.len(), HEADER + NODE_SIZE + 4 * 129 + 2 * 4096);
             assert!(Gateway::load(&saved).unwrap() == gateway);
             assert_eq!(word(Gateway::load(&[])), "Short { found: 0 }");
-            // As version 0.1.0 saved it.
-            assert!(Gateway::load_plain(&saved[HEADER..]).unwrap() == gateway);
             assert_eq!(word(Gateway::load(&saved[HEADER..])), "Name");
-            assert_eq!(Gateway::load_plain(&saved).err(), Some(Refusal::Malformed));
-            assert_eq!(Gateway::load_plain(&saved[HEADER..saved.len() - 1]).err(), Some(Refusal::BadStore));
-            assert_eq!(Gateway::load_plain(&[]).err(), Some(Refusal::Malformed));
+        }
+
+        /// The same gateway as earlier versions saved it: its node ends where the places of the topics begin.
+        #[test]
+        fn states_of_before() {
+            let rest = filled().save().split_off(HEADER);
+            let mut old = sealed(&[&rest[..11_344], &rest[NODE_SIZE..]]);
+            old[FORMAT_AT] = 1;
+            let folder = Folder::new("before");
+            let file = folder.0.join("gateway.state");
+            fs::write(&file, &old).unwrap();
+            assert_eq!(word(Gateway::load_from(&file)), "Format { found: 1, read: 2 }");
+            assert_eq!(Gateway::load(&old).unwrap_err().to_string(), "the state was saved in format 1, and format 2 is read");
+            assert_eq!(fs::read(&file).unwrap(), old);
+            // Without its header, as 0.1.0 saved it; and with another number written over its own.
+            assert_eq!(word(Gateway::load(&old[HEADER..])), "Name");
+            old[FORMAT_AT] = 2;
+            assert_eq!(word(Gateway::load(&old)), "Refused(BadStore)");
         }
 
         #[test]

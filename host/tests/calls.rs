@@ -191,15 +191,15 @@ fn damage_is_refused_or_harmless() {
         let (seen, cache) = stores.split_at(seen.len());
         let mut other = Gateway::from_parts(Box::new(node.try_into().unwrap()), seen.to_vec(), cache.to_vec());
         let (before, clock) = (other.clone(), other.clock());
-        let plain = Gateway::load_plain(&bytes);
+        let loaded = Gateway::load(&other.save());
         match other.admit(&body(b'Z'), 0, true, clock) {
             Err(refusal) => {
                 assert!(matches!(refusal.number(), 40..=42));
-                assert!(other == before && matches!(plain, Err(Refusal::BadStore | Refusal::Malformed)));
+                assert!(other == before && matches!(loaded, Err(LoadError::Refused(Refusal::BadStore | Refusal::Malformed))));
                 refused += 1;
             }
             Ok(_) => {
-                assert!(plain.is_ok_and(|plain| plain == before));
+                assert!(loaded.is_ok_and(|loaded| loaded == before));
                 assert!(matches!(other.heartbeat(clock), Ok(()) | Err(Refusal::Malformed)));
             }
         }

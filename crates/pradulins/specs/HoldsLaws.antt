@@ -77,6 +77,11 @@ fresh-fits ttl max-seen history max t h =
       message-length = λ i. zeros-below maxMessages (2 ^ 16) i (omega arith);
       cached-id-lengths = length-replicate {A = ℕ} maxMessages 0;
       cached-ids = length-replicate {A = ℕ} 8192 0;
+      topic-counts = length-replicate {A = ℕ} maxMessages 0;
+      topic-starts = length-replicate {A = ℕ} 256 0;
+      topic-start = λ i. zeros-below 256 (2 ^ 16) i (omega arith);
+      topic-lengths = length-replicate {A = ℕ} 256 0;
+      topic-length = λ i. zeros-below 256 (2 ^ 16) i (omega arith);
     }
 
 taken-start : (b : Bool) → 0 ≡ startTold (cond b start.Started start.BadSetting) .number → b ≡ true

@@ -15,7 +15,7 @@ use Rattle.node.specs.Told.{startTold}
 use Rattle.node.specs.State.{legalSettings, freshNode}
 use Rattle.node.specs.Calls.{startAnswer}
 use Rattle.node.specs.Laws.{admit-refused, beat-refused, advertise-refused, ask-refused, serve-refused}
-use Rattle.stored.specs.Layout.{nodeIn, nodeBytes}
+use Rattle.stored.specs.Layout.{nodeSize, nodeIn, nodeBytes}
 use Rattle.stored.specs.LayoutLaws.{loaded-stored}
 use Rattle.pradulins.specs.Unique.{Starts, Admits, Beats, Advertises, Asks, Serves, Encodes, Signs, Identifies}
 use Rattle.pradulins.specs.Unique.{Decodes}
@@ -34,7 +34,7 @@ refused-start {s} {ttl} {max-seen} {history} {max} a h =
     ∙ not-started (legalSettings max-seen history max) (nodeBytes (freshNode ttl max-seen history max)) s
     (λ z. h (a .number ∙ z))
 
-module _ {s : List ℕ} (size : length s ≡ 11344) (bytes : Bytes s) {ss cs : List ℕ} where
+module _ {s : List ℕ} (size : length s ≡ nodeSize) (bytes : Bytes s) {ss cs : List ℕ} where
   pub refused-admit : {body : List ℕ} {i : ℕ} {word : Bool} {at : ℕ} {vs : List ℕ} {r : ℕ}
       {ws made ids messages : List ℕ}
       → Admits s ss cs body i word at vs r ws made ids messages → (r ≡ 0 → ⊥)

@@ -1,5 +1,5 @@
 // The library as C and Rust programs link it. Each call answers a number, 0 or the refusal's in the table of refusals; `values`, where it is lent, gets what stands
-// beside it. The node lives in 11,344 bytes that the host lends, its two stores in slices. A refused call changes no buffer and no node.
+// beside it. The node lives in NODE_SIZE bytes that the host lends, its two stores in slices. A refused call changes no buffer and no node.
 ghost use mathlib.Core.Path.{_≡_};
 ghost use lib.Seq.{sets};
 ghost use Rattle.basis.specs.Told.{valuesOf};
@@ -27,12 +27,13 @@ use node::told::told_start;
 use protobuf::Cursor;
 use protobuf::told::told_encoded;
 use protobuf::told::told_walk;
+use stored::NODE_SIZE;
 use stored::load;
 use stored::store;
 
-pub const VERSION: u32 = 200;
+pub const VERSION: u32 = 300;
 
-pub const FORMAT: u32 = 1;
+pub const FORMAT: u32 = 2;
 
 // What a call tells: its values are handed out, its number is returned.
 fn tell(t: Told, values: &mut [u64; 4]) -> u32
@@ -64,7 +65,7 @@ fn tell(t: Told, values: &mut [u64; 4]) -> u32
 // A node that holds nothing, in the lent bytes.
 #[no_mangle]
 pub extern "C" fn pradulins_start(
-    node: &mut [u8; 11344],
+    node: &mut [u8; NODE_SIZE],
     ttl: u64,
     max_seen: usize,
     history_len: usize,
@@ -86,7 +87,7 @@ pub extern "C" fn pradulins_start(
 // Admits the message at an index of a body, with the host's word on its signature, at a reading of the clock.
 #[no_mangle]
 pub extern "C" fn pradulins_admit(
-    node: &mut [u8; 11344],
+    node: &mut [u8; NODE_SIZE],
     seen_store: &mut [u8],
     cache_store: &mut [u8],
     body: &[u8],
@@ -110,7 +111,7 @@ pub extern "C" fn pradulins_admit(
 // Opens a window at a reading of the clock.
 #[no_mangle]
 pub extern "C" fn pradulins_heartbeat(
-    node: &mut [u8; 11344],
+    node: &mut [u8; NODE_SIZE],
     seen_store: &[u8],
     cache_store: &[u8],
     at: u64,
@@ -130,7 +131,7 @@ pub extern "C" fn pradulins_heartbeat(
 // Writes what the node tells of a topic, from so many of the newest windows.
 #[no_mangle]
 pub extern "C" fn pradulins_advertise(
-    node: &[u8; 11344],
+    node: &[u8; NODE_SIZE],
     seen_store: &[u8],
     cache_store: &[u8],
     topic: &[u8],
@@ -151,7 +152,7 @@ pub extern "C" fn pradulins_advertise(
 // Writes a request for what the IHAVEs of a body name and the node has not seen.
 #[no_mangle]
 pub extern "C" fn pradulins_ask(
-    node: &[u8; 11344],
+    node: &[u8; NODE_SIZE],
     seen_store: &[u8],
     cache_store: &[u8],
     body: &[u8],
@@ -170,7 +171,7 @@ pub extern "C" fn pradulins_ask(
 // Writes the cached messages that the IWANTs of a body name, as many as there is room for.
 #[no_mangle]
 pub extern "C" fn pradulins_serve(
-    node: &[u8; 11344],
+    node: &[u8; NODE_SIZE],
     seen_store: &[u8],
     cache_store: &[u8],
     body: &[u8],
@@ -220,7 +221,7 @@ fn told_state(n: Node, seen_store: &[u8], cache_store: &[u8]) -> Told
 
 // The settings that a node was started with.
 #[no_mangle]
-pub extern "C" fn pradulins_settings(node: &[u8; 11344], values: &mut [u64; 4]) -> u32
+pub extern "C" fn pradulins_settings(node: &[u8; NODE_SIZE], values: &mut [u64; 4]) -> u32
     ensures { λ r. ⌜ Settles (now (node .entry)) (now (values .entry)) r (now (values .exit)) ⌝ }
 {
     let n = load(node);
@@ -230,7 +231,7 @@ pub extern "C" fn pradulins_settings(node: &[u8; 11344], values: &mut [u64; 4]) 
 // Its clock, and how many ids and messages it keeps.
 #[no_mangle]
 pub extern "C" fn pradulins_state(
-    node: &[u8; 11344],
+    node: &[u8; NODE_SIZE],
     seen_store: &[u8],
     cache_store: &[u8],
     values: &mut [u64; 4],

@@ -1,7 +1,7 @@
 // Kind 8: a number of the node or of a store set to a value, so that 40, 41 and 42 can be seen. What: 0 ttl, 1 max_seen, 2 clock; of the seen part
 // 3 start, 4 count, 5 an expiry, 6 a length; of the cache 7 history_len, 8 max_messages, 9 the next arrival number, 10 start, 11 count, 12 an arrival
-// number, 13 a window, 14 a message's length, 15 an id's length, 16 and above 18 a byte of the ids; 17
-// and 18, bytes of the stores, are set where they are lent.
+// number, 13 a window, 14 a message's length, 15 an id's length, 16 and above 21 a byte of the ids, 19 how many topics a row has, 20 where a topic
+// starts, 21 its length, the last two in the place 4 · row + slot; 17 and 18, bytes of the stores, are set where they are lent.
 use mcache::MessageCache;
 use node::Node;
 use seen::SeenCache;
@@ -25,6 +25,19 @@ fn hurt_seen(mut seen: SeenCache, what: u64, p: usize, value: u64) -> SeenCache 
     seen
 }
 
+fn hurt_topics(mut cache: MessageCache, what: u64, p: usize, value: u64) -> MessageCache {
+    if what == 19 {
+        cache.topic_count[p % 64] = (value % 256) as u8;
+        return cache;
+    }
+    if what == 20 {
+        cache.topic_start[p % 256] = (value % 65536) as u16;
+        return cache;
+    }
+    cache.topic_len[p % 256] = (value % 65536) as u16;
+    cache
+}
+
 fn hurt_rows(mut cache: MessageCache, what: u64, p: usize, value: u64) -> MessageCache {
     if what == 12 {
         cache.generation[p % 64] = value;
@@ -41,6 +54,11 @@ fn hurt_rows(mut cache: MessageCache, what: u64, p: usize, value: u64) -> Messag
     if what == 15 {
         cache.id_len[p % 64] = (value % 256) as u8;
         return cache;
+    }
+    if 18 < what {
+        if what < 22 {
+            return hurt_topics(cache, what, p, value);
+        }
     }
     cache.ids[p % 8192] = (value % 256) as u8;
     cache

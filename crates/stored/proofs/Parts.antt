@@ -13,7 +13,7 @@ use Rattle.protobuf.specs.Walk.{between}
 use Rattle.seen.specs.declared.SeenCache.{SeenCache}
 use Rattle.mcache.specs.declared.MessageCache.{MessageCache}
 use Rattle.node.specs.declared.Node.{Node}
-use Rattle.stored.specs.Layout.{spread, gathered, wordAt, headOf, nodeBytes, nodeIn}
+use Rattle.stored.specs.Layout.{spread, gathered, nodeSize, wordAt, headOf, nodeBytes, nodeIn}
 use Rattle.stored.specs.LayoutLaws.{spread-length}
 
 -- a write of as many as there are leaves nothing of what was there
@@ -29,17 +29,17 @@ part-copied s after l a e k h i z =
     z ∙ set-fits _ 0 (between s a e) l (omega arith) ∙ all-written (between s a e) l n
 
 -- ---- reading
-pub seen-read : (s expiry len l : List ℕ) (start count : ℕ) → length s ≡ 11344 → start ≡ wordAt s 24 → count ≡ wordAt s 32 → expiry ≡ gathered 8 256 (drop 80 s) → length l ≡ 256 → len ≡ setIn (length (between s 2768 3024)) 0 (between s 2768 3024) l → _≡_ {A = SeenCache} (record { start = start; count = count; expiry = expiry; len = len }) (nodeIn s .seen)
+pub seen-read : (s expiry len l : List ℕ) (start count : ℕ) → length s ≡ nodeSize → start ≡ wordAt s 24 → count ≡ wordAt s 32 → expiry ≡ gathered 8 256 (drop 80 s) → length l ≡ 256 → len ≡ setIn (length (between s 2768 3024)) 0 (between s 2768 3024) l → _≡_ {A = SeenCache} (record { start = start; count = count; expiry = expiry; len = len }) (nodeIn s .seen)
 unfolding nodeIn
 seen-read s expiry len l start count h a b c i d =
     let e : len ≡ between s 2768 3024 = part-copied s len l 2768 3024 (omega arith) (omega arith) i d in
     rw (a, b, c, e)
 
-pub cache-read : (s generation len window lens ids l₁ l₂ l₃ : List ℕ) (history most next start count : ℕ) → length s ≡ 11344 → history ≡ wordAt s 40
+pub cache-read : (s generation len window lens ids l counts starts sizes : List ℕ) (history most next start count : ℕ) → length s ≡ nodeSize → history ≡ wordAt s 40
     → most ≡ wordAt s 48 → next ≡ wordAt s 56 → start ≡ wordAt s 64 → count ≡ wordAt s 72 → generation ≡ gathered 8 64 (drop 2128 s)
-    → len ≡ gathered 2 64 (drop 2640 s) → length l₁ ≡ 64 → window ≡ setIn (length (between s 3024 3088)) 0 (between s 3024 3088) l₁ → length l₂ ≡ 64
-    → lens ≡ setIn (length (between s 3088 3152)) 0 (between s 3088 3152) l₂ → length l₃ ≡ 8192
-    → ids ≡ setIn (length (between s 3152 11344)) 0 (between s 3152 11344) l₃
+    → len ≡ gathered 2 64 (drop 2640 s) → window ≡ between s 3024 3088 → lens ≡ between s 3088 3152 → length l ≡ 8192
+    → ids ≡ setIn (length (between s 3152 11344)) 0 (between s 3152 11344) l → counts ≡ between s 11344 11408 → starts ≡ gathered 2 256 (drop 11408 s)
+    → sizes ≡ gathered 2 256 (drop 11920 s)
     → _≡_ {A = MessageCache}
     (record {
       «history_len» = history;
@@ -52,13 +52,14 @@ pub cache-read : (s generation len window lens ids l₁ l₂ l₃ : List ℕ) (h
       len = len;
       «id_len» = lens;
       ids = ids;
+      «topic_count» = counts;
+      «topic_start» = starts;
+      «topic_len» = sizes;
     }) (nodeIn s .cache)
 unfolding nodeIn
-cache-read s generation len window lens ids l₁ l₂ l₃ history most next start count h a b c d e f g i₁ p₁ i₂ p₂ i₃ p₃ =
-    let x : window ≡ between s 3024 3088 = part-copied s window l₁ 3024 3088 (omega arith) (omega arith) i₁ p₁ in
-    let y : lens ≡ between s 3088 3152 = part-copied s lens l₂ 3088 3152 (omega arith) (omega arith) i₂ p₂ in
-    let z : ids ≡ between s 3152 11344 = part-copied s ids l₃ 3152 11344 (omega arith) (omega arith) i₃ p₃ in
-    rw (a, b, c, d, e, f, g, x, y, z)
+cache-read s generation len window lens ids l counts starts sizes history most next start count h a b c d e f g x y i z p q r =
+    let w : ids ≡ between s 3152 11344 = part-copied s ids l 3152 11344 (omega arith) (omega arith) i z in
+    rw (a, b, c, d, e, f, g, x, y, w, p, q, r)
 
 pub node-read : (s : List ℕ) (ttl most clock : ℕ) (seen : SeenCache) (cache : MessageCache) → ttl ≡ wordAt s 0 → most ≡ wordAt s 8 → clock ≡ wordAt s 16 → seen ≡ nodeIn s .seen → cache ≡ nodeIn s .cache → _≡_ {A = Node} (record { ttl = ttl; «max_seen» = most; clock = clock; seen = seen; cache = cache }) (nodeIn s)
 unfolding nodeIn
@@ -88,25 +89,33 @@ _then_ {l} {mid} {after} {xs} {ys} {k} {i} {e} p q =
     let w = put-append l mid after k i e xs ys (p .ends, p .now) (q .ends, q .now) in
     record { ends = w .0; now = w .1 }
 
-pub node-written : (n : Node) (o₀ o₁ o₂ o₃ o₄ o₅ o₆ o₇ o₈ : List ℕ) → length o₀ ≡ 11344 → length (n .seen .expiry) ≡ 256 → length (n .cache .generation) ≡ 64
-    → length (n .cache .len) ≡ 64 → length (n .seen .len) ≡ 256 → length (n .cache .window) ≡ 64 → length (n .cache .«id_len») ≡ 64
-    → length (n .cache .ids) ≡ 8192 → o₁ ≡ sets o₀ 0 (spread 8 (headOf n)) → o₂ ≡ sets o₁ 80 (spread 8 (n .seen .expiry))
+pub node-written : (n : Node) (o₀ o₁ o₂ o₃ o₄ o₅ o₆ o₇ o₈ o₉ o₁₀ o₁₁ : List ℕ) → length o₀ ≡ nodeSize → length (n .seen .expiry) ≡ 256
+    → length (n .cache .generation) ≡ 64 → length (n .cache .len) ≡ 64 → length (n .seen .len) ≡ 256 → length (n .cache .window) ≡ 64
+    → length (n .cache .«id_len») ≡ 64 → length (n .cache .ids) ≡ 8192 → length (n .cache .«topic_count») ≡ 64
+    → length (n .cache .«topic_start») ≡ 256 → length (n .cache .«topic_len») ≡ 256
+    → o₁ ≡ sets o₀ 0 (spread 8 (headOf n)) → o₂ ≡ sets o₁ 80 (spread 8 (n .seen .expiry))
     → o₃ ≡ sets o₂ 2128 (spread 8 (n .cache .generation)) → o₄ ≡ sets o₃ 2640 (spread 2 (n .cache .len))
     → o₅ ≡ setIn (length (n .seen .len)) 2768 (n .seen .len) o₄ → o₆ ≡ setIn (length (n .cache .window)) 3024 (n .cache .window) o₅
-    → o₇ ≡ setIn (length (n .cache .«id_len»)) 3088 (n .cache .«id_len») o₆ → o₈ ≡ setIn (length (n .cache .ids)) 3152 (n .cache .ids) o₇ → o₈ ≡ nodeBytes n
+    → o₇ ≡ setIn (length (n .cache .«id_len»)) 3088 (n .cache .«id_len») o₆ → o₈ ≡ setIn (length (n .cache .ids)) 3152 (n .cache .ids) o₇
+    → o₉ ≡ setIn (length (n .cache .«topic_count»)) 11344 (n .cache .«topic_count») o₈ → o₁₀ ≡ sets o₉ 11408 (spread 2 (n .cache .«topic_start»))
+    → o₁₁ ≡ sets o₁₀ 11920 (spread 2 (n .cache .«topic_len»)) → o₁₁ ≡ nodeBytes n
 unfolding nodeBytes headOf
-node-written n o₀ o₁ o₂ o₃ o₄ o₅ o₆ o₇ o₈ h i₂ i₃ i₄ i₅ i₆ i₇ i₈ e₁ e₂ e₃ e₄ e₅ e₆ e₇ e₈ =
+node-written n o₀ o₁ o₂ o₃ o₄ o₅ o₆ o₇ o₈ o₉ o₁₀ o₁₁ h i₂ i₃ i₄ i₅ i₆ i₇ i₈ i₉ i₁₀ i₁₁ e₁ e₂ e₃ e₄ e₅ e₆ e₇ e₈ e₉ e₁₀ e₁₁ =
     let p₁ = numbers 8 o₀ o₁ (headOf n) 0 80 (omega arith) e₁ in
     let p₂ = numbers 8 o₁ o₂ (n .seen .expiry) 80 2128 (omega arith) e₂ in
     let p₃ = numbers 8 o₂ o₃ (n .cache .generation) 2128 2640 (omega arith) e₃ in
     let p₄ = numbers 2 o₃ o₄ (n .cache .len) 2640 2768 (omega arith) e₄ in
-    let h₄ : length o₄ ≡ 11344 = kept p₄ (kept p₃ (kept p₂ (kept p₁ h))) in
+    let h₄ : length o₄ ≡ nodeSize = kept p₄ (kept p₃ (kept p₂ (kept p₁ h))) in
     let p₅ = bytes o₄ o₅ (n .seen .len) 2768 3024 (omega arith) (omega arith) e₅ in
-    let h₅ : length o₅ ≡ 11344 = kept p₅ h₄ in
+    let h₅ : length o₅ ≡ nodeSize = kept p₅ h₄ in
     let p₆ = bytes o₅ o₆ (n .cache .window) 3024 3088 (omega arith) (omega arith) e₆ in
-    let h₆ : length o₆ ≡ 11344 = kept p₆ h₅ in
+    let h₆ : length o₆ ≡ nodeSize = kept p₆ h₅ in
     let p₇ = bytes o₆ o₇ (n .cache .«id_len») 3088 3152 (omega arith) (omega arith) e₇ in
-    let h₇ : length o₇ ≡ 11344 = kept p₇ h₆ in
+    let h₇ : length o₇ ≡ nodeSize = kept p₇ h₆ in
     let p₈ = bytes o₇ o₈ (n .cache .ids) 3152 11344 (omega arith) (omega arith) e₈ in
-    let q : Part o₀ 0 (nodeBytes n) o₈ 11344 = p₁ then p₂ then p₃ then p₄ then p₅ then p₆ then p₇ then p₈ in
+    let h₈ : length o₈ ≡ nodeSize = kept p₈ h₇ in
+    let p₉ = bytes o₈ o₉ (n .cache .«topic_count») 11344 11408 (omega arith) (omega arith) e₉ in
+    let p₁₀ = numbers 2 o₉ o₁₀ (n .cache .«topic_start») 11408 11920 (omega arith) e₁₀ in
+    let p₁₁ = numbers 2 o₁₀ o₁₁ (n .cache .«topic_len») 11920 nodeSize (omega arith) e₁₁ in
+    let q : Part o₀ 0 (nodeBytes n) o₁₁ nodeSize = p₁ then p₂ then p₃ then p₄ then p₅ then p₆ then p₇ then p₈ then p₉ then p₁₀ then p₁₁ in
     q .now ∙ all-written (nodeBytes n) o₀ (omega (arith, q .ends))

@@ -1,26 +1,21 @@
 -- One turn of each loop of the crate, over plain lists and numbers.
-use Prim.Native.Nat.{ℕ, zero, suc, _+_, _*_, _^_, _<_, _≤_}
+use Prim.Native.Nat.{ℕ, zero, suc, _+_, _*_, _/_, _%_, _<_, _≤_}
 use mathlib.Core.Path.{_≡_, sym, ap, _∙_}
 use mathlib.Core.List.{List, [], _∷_, _++_}
 use native.Mathlib.Omega.{arith}
 use native.Mathlib.Numerals.{add-one}
-use native.Mathlib.Nat.{pow-le-pow-right, add-comm, suc-mul}
-use lib.ListN.{length, getD, set, take, drop, length-take, drop-of-length-le}
-use lib.Seq.{sets, length-sets, drop-cons, drop-drop, take-suc-set, take-all}
-use Rattle.basis.specs.Bytes.{Bytes}
-use Rattle.basis.specs.Lists.{sets-append, drop-bytes, take-bytes, set-fits}
-use Rattle.basis.specs.Little.{little, bytesOf, bytes-length, little-below}
-use Rattle.basis.specs.Writing.{setIn}
+use native.Mathlib.Nat.{add-comm, suc-mul}
+use lib.ListN.{length, getD, set, take, drop, drop-of-length-le}
+use lib.Seq.{sets, drop-cons, drop-drop, take-suc-set, take-all}
+use Rattle.basis.specs.Lists.{sets-append}
+use Rattle.basis.specs.Little.{little, bytesOf, bytes-length}
 use Rattle.stored.specs.Layout.{spread, gathered}
 
 -- ---- reading
--- a number of two bytes fits
-pub half-fits : (s : List ℕ) (p : ℕ) → Bytes s → little (take 2 (drop p s)) < 65536
-half-fits s p b =
-    let l : length (take 2 (drop p s)) ≤ 2 = rw length-take (omega arith) in
-    let h : little (take 2 (drop p s)) < 256 ^ length (take 2 (drop p s)) = little-below _ (take-bytes 2 (drop p s) (drop-bytes p s b)) in
-    let q : 256 ^ length (take 2 (drop p s)) ≤ 256 ^ 2 = pow-le-pow-right (omega arith) l in
-    omega arith
+-- a number of two bytes
+pub half-read : (s : List ℕ) (p : ℕ) → p + 2 ≤ length s → getD s p 0 + getD s (p + 1) 0 * 256 ≡ little (take 2 (drop p s))
+unfolding little
+half-read s p h = rw (add-one p, drop-cons s p 0 (omega arith), drop-cons s (suc p) 0 (omega arith)) (omega arith)
 
 -- one number more
 pub gathered-snoc : (w n : ℕ) (s : List ℕ) → gathered w (suc n) s ≡ gathered w n s ++ (little (take w (drop (n * w) s)) ∷ [])
@@ -40,14 +35,15 @@ gathered-done w s out at i n h k l e =
     sym (take-all i out (omega arith)) ∙ e ∙ ap (λ (j : ℕ). gathered w j (drop at s)) q
 
 -- ---- writing
-pub put-length : (w k : ℕ) (xs l after : List ℕ) → k + w ≤ length l → after ≡ setIn w k xs l → length after ≡ length l
-put-length w k xs l after h e = ap length (e ∙ set-fits w k xs l h) ∙ length-sets l k xs
+-- a number of two bytes
+pub half-written : (l : List ℕ) (p v : ℕ) → v < 65536 → set (set l p (v % 256)) (p + 1) (v / 256) ≡ sets l p (bytesOf 2 v)
+unfolding bytesOf
+half-written l p v h = let q : v / 256 % 256 ≡ v / 256 = omega arith in rw (q, add-one p)
 
 -- one number of several, each of w bytes
-pub spread-turn : (w : ℕ) (whole l after vs : List ℕ) (at i : ℕ) → i < length vs → sets l (at + i * w) (spread w (drop i vs)) ≡ whole → at + i * w + w ≤ length l → after ≡ setIn w (at + i * w) (bytesOf w (getD vs i 0)) l → sets after (at + (i + 1) * w) (spread w (drop (i + 1) vs)) ≡ whole
+pub spread-turn : (w : ℕ) (whole l after vs : List ℕ) (at i : ℕ) → i < length vs → sets l (at + i * w) (spread w (drop i vs)) ≡ whole → after ≡ sets l (at + i * w) (bytesOf w (getD vs i 0)) → sets after (at + (i + 1) * w) (spread w (drop (i + 1) vs)) ≡ whole
 unfolding spread
-spread-turn w whole l after vs at i h e room z =
-    let y : after ≡ sets l (at + i * w) (bytesOf w (getD vs i 0)) = z ∙ set-fits w (at + i * w) (bytesOf w (getD vs i 0)) l room in
+spread-turn w whole l after vs at i h e y =
     let p : at + i * w + w ≡ at + suc i * w = rw suc-mul (omega arith) in
     let x : sets l (at + i * w) (spread w (drop i vs)) ≡ sets (sets l (at + i * w) (bytesOf w (getD vs i 0))) (at + suc i * w) (spread w (drop (suc i) vs)) = rw (drop-cons vs i 0 h, sets-append l (at + i * w) (bytesOf w (getD vs i 0)) (spread w (drop (suc i) vs)), bytes-length w (getD vs i 0), p) in
     rw (y, add-one i) (sym x ∙ e)

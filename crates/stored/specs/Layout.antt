@@ -22,8 +22,9 @@ gathered w zero s = []
 gathered w (suc n) s = little (take w s) ∷ gathered w n (drop w s)
 
 -- ---- the layout: ten numbers of 8 bytes; the expiries and the arrival numbers, of 8 bytes each; the lengths of the
--- messages, of 2 bytes each; then
--- bytes: the lengths of the ids seen, the windows, the lengths of the ids cached, and these ids
+-- messages, of 2 bytes each; then bytes: the lengths of the ids seen, the windows, the lengths of the ids cached, these
+-- ids, and how many topics each message has; then, of 2 bytes each and four for each message, where its topics start,
+-- and how long they are
 unfoldable pub headOf : Node → List ℕ
 headOf n =
     n .ttl ∷ n .«max_seen» ∷ n .clock ∷ n .seen .start ∷ n .seen .count ∷ n .cache .«history_len»
@@ -39,7 +40,14 @@ nodeBytes n =
     ++ (n .seen .len
     ++ (n .cache .window
     ++ (n .cache .«id_len»
-    ++ n .cache .ids))))))
+    ++ (n .cache .ids
+    ++ (n .cache .«topic_count»
+    ++ (spread 2 (n .cache .«topic_start»)
+    ++ spread 2 (n .cache .«topic_len»))))))))))
+
+-- how many bytes that is
+abbrev pub nodeSize : ℕ
+nodeSize = 12432
 
 -- ---- the node that bytes are
 abbrev pub wordAt : List ℕ → ℕ → ℕ
@@ -69,6 +77,9 @@ nodeIn s =
             len = gathered 2 64 (drop 2640 s);
             «id_len» = between s 3088 3152;
             ids = between s 3152 11344;
+            «topic_count» = between s 11344 11408;
+            «topic_start» = gathered 2 256 (drop 11408 s);
+            «topic_len» = gathered 2 256 (drop 11920 s);
           };
     }
 
@@ -85,3 +96,8 @@ pub record Fits (n : Node) : Type 0 where
   pub message-length : (i : ℕ) → getD (n .cache .len) i 0 < 2 ^ 16
   pub cached-id-lengths : length (n .cache .«id_len») ≡ 64
   pub cached-ids : length (n .cache .ids) ≡ 8192
+  pub topic-counts : length (n .cache .«topic_count») ≡ 64
+  pub topic-starts : length (n .cache .«topic_start») ≡ 256
+  pub topic-start : (i : ℕ) → getD (n .cache .«topic_start») i 0 < 2 ^ 16
+  pub topic-lengths : length (n .cache .«topic_len») ≡ 256
+  pub topic-length : (i : ℕ) → getD (n .cache .«topic_len») i 0 < 2 ^ 16

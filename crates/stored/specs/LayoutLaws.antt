@@ -1,7 +1,7 @@
 -- Laws of the layout: how many bytes there are, and that a node and its bytes are found again from each other.
 use Prim.Native.Nat.{ℕ, zero, suc, _+_, _*_, _^_, _<_, _≤_}
 use mathlib.Core.Path.{_≡_, refl, sym, ap, _∙_}
-use mathlib.Core.List.{List, [], _∷_, _++_, append-assoc}
+use mathlib.Core.List.{List, [], _∷_, _++_, append-assoc, append-nil}
 use native.Mathlib.Omega.{arith}
 use native.Mathlib.Nat.{mul-zero, mul-suc, suc-mul, zero-mul, add-comm}
 use lib.ListN.{length, getD, take, drop, length-append, length-take, length-drop, take-append-drop}
@@ -11,13 +11,17 @@ use Rattle.basis.specs.Lists.{drop-bytes, take-bytes}
 use Rattle.basis.specs.Little.{little, bytesOf, bytes-length, little-of-bytes, bytes-of-little}
 use Rattle.protobuf.specs.Walk.{between}
 use Rattle.node.specs.declared.Node.{Node}
-use Rattle.stored.specs.Layout.{spread, gathered, headOf, nodeBytes, nodeIn, Fits}
+use Rattle.stored.specs.Layout.{spread, gathered, nodeSize, headOf, nodeBytes, nodeIn, Fits}
 
 -- ---- how many bytes
 pub spread-length : (w : ℕ) (vs : List ℕ) → length (spread w vs) ≡ w * length vs
 unfolding spread
 spread-length w [] = sym (mul-zero w)
 spread-length w (v ∷ vs) = rw (length-append, bytes-length, spread-length w vs, mul-suc w (length vs)) (omega arith)
+
+pub stored-size : (n : Node) → Fits n → length (nodeBytes n) ≡ nodeSize
+unfolding nodeBytes headOf
+stored-size n f = simp (length-append, spread-length) (omega arith)
 
 -- ---- several numbers and their bytes
 pub gathered-spread : (w : ℕ) (vs rest : List ℕ) → ((i : ℕ) → getD vs i 0 < 256 ^ w)
@@ -69,9 +73,11 @@ bytes-found k m s xs r e l = rw e (take-at xs r m l)
 by-fields : (n : Node) (s : List ℕ) → gathered 8 10 s ≡ headOf n → gathered 8 256 (drop 80 s) ≡ n .seen .expiry
     → gathered 8 64 (drop 2128 s) ≡ n .cache .generation → gathered 2 64 (drop 2640 s) ≡ n .cache .len
     → between s 2768 3024 ≡ n .seen .len → between s 3024 3088 ≡ n .cache .window
-    → between s 3088 3152 ≡ n .cache .«id_len» → between s 3152 11344 ≡ n .cache .ids → nodeIn s ≡ n
+    → between s 3088 3152 ≡ n .cache .«id_len» → between s 3152 11344 ≡ n .cache .ids
+    → between s 11344 11408 ≡ n .cache .«topic_count» → gathered 2 256 (drop 11408 s) ≡ n .cache .«topic_start»
+    → gathered 2 256 (drop 11920 s) ≡ n .cache .«topic_len» → nodeIn s ≡ n
 unfolding nodeIn headOf
-by-fields n s h e₁ e₂ e₃ e₄ e₅ e₆ e₇ =
+by-fields n s h e₁ e₂ e₃ e₄ e₅ e₆ e₇ e₈ e₉ e₁₀ =
     let head : (i : ℕ) → i < 10 → little (take 8 (drop (i * 8) s)) ≡ getD (headOf n) i 0 =
     λ i l. sym (gathered-at 8 10 i s l) ∙ ap (λ (vs : List ℕ). getD vs i 0) h in
     rw (
@@ -93,13 +99,19 @@ by-fields n s h e₁ e₂ e₃ e₄ e₅ e₆ e₇ =
       e₅,
       e₆,
       e₇,
+      e₈,
+      e₉,
+      e₁₀,
     )
 
 pub stored-loaded : (n : Node) → Fits n → nodeIn (nodeBytes n) ≡ n
 unfolding nodeBytes headOf
 stored-loaded n f =
     let s = nodeBytes n in
-    let r₆ = n .cache .«id_len» ++ n .cache .ids in
+    let r₉ = spread 2 (n .cache .«topic_start») ++ spread 2 (n .cache .«topic_len») in
+    let r₈ = n .cache .«topic_count» ++ r₉ in
+    let r₇ = n .cache .ids ++ r₈ in
+    let r₆ = n .cache .«id_len» ++ r₇ in
     let r₅ = n .cache .window ++ r₆ in
     let r₄ = n .seen .len ++ r₅ in
     let r₃ = spread 2 (n .cache .len) ++ r₄ in
@@ -112,8 +124,11 @@ stored-loaded n f =
     let d₄ : drop 2768 s ≡ r₄ = next 2640 128 s (spread 2 (n .cache .len)) r₄ d₃ (rw (spread-length, f .lengths)) in
     let d₅ : drop 3024 s ≡ r₅ = next 2768 256 s (n .seen .len) r₅ d₄ (f .id-lengths) in
     let d₆ : drop 3088 s ≡ r₆ = next 3024 64 s (n .cache .window) r₆ d₅ (f .windows) in
-    let d₇ : drop 3152 s ≡ n .cache .ids =
-    next 3088 64 s (n .cache .«id_len») (n .cache .ids) d₆ (f .cached-id-lengths) in
+    let d₇ : drop 3152 s ≡ r₇ = next 3088 64 s (n .cache .«id_len») r₇ d₆ (f .cached-id-lengths) in
+    let d₈ : drop 11344 s ≡ r₈ = next 3152 8192 s (n .cache .ids) r₈ d₇ (f .cached-ids) in
+    let d₉ : drop 11408 s ≡ r₉ = next 11344 64 s (n .cache .«topic_count») r₉ d₈ (f .topic-counts) in
+    let d₁₀ : drop 11920 s ≡ spread 2 (n .cache .«topic_len») ++ [] =
+    next 11408 512 s (spread 2 (n .cache .«topic_start»)) _ d₉ (rw (spread-length, f .topic-starts)) ∙ sym (append-nil _) in
     by-fields n s
     (numbers-found 8 0 10 s (headOf n) r₁ refl refl (f .head))
     (numbers-found 8 80 256 s (n .seen .expiry) r₂ d₁ (f .expiries) (f .expiry))
@@ -121,38 +136,16 @@ stored-loaded n f =
     (numbers-found 2 2640 64 s (n .cache .len) r₄ d₃ (f .lengths) (f .message-length))
     (bytes-found 2768 256 s (n .seen .len) r₅ d₄ (f .id-lengths))
     (bytes-found 3024 64 s (n .cache .window) r₆ d₅ (f .windows))
-    (bytes-found 3088 64 s (n .cache .«id_len») (n .cache .ids) d₆ (f .cached-id-lengths))
-    (rw d₇ (take-all 8192 (n .cache .ids) (omega (arith, f .cached-ids))))
+    (bytes-found 3088 64 s (n .cache .«id_len») r₇ d₆ (f .cached-id-lengths))
+    (bytes-found 3152 8192 s (n .cache .ids) r₈ d₇ (f .cached-ids))
+    (bytes-found 11344 64 s (n .cache .«topic_count») r₉ d₈ (f .topic-counts))
+    (numbers-found 2 11408 256 s (n .cache .«topic_start») (spread 2 (n .cache .«topic_len»)) d₉ (f .topic-starts) (f .topic-start))
+    (numbers-found 2 11920 256 s (n .cache .«topic_len») [] d₁₀ (f .topic-lengths) (f .topic-length))
 
 -- ---- bytes of that length are those of the node in them
--- a part and what follows it
-rejoined : (m k : ℕ) (s : List ℕ) → take m (drop k s) ++ drop (k + m) s ≡ drop k s
-rejoined m k s = rw (← drop-drop m k s) (take-append-drop m (drop k s))
-
--- the parts by their sizes
-whole : (s p₀ p₁ p₂ p₃ p₄ p₅ p₆ p₇ : List ℕ) → length s ≡ 11344 → p₀ ≡ take 80 s → p₁ ≡ take 2048 (drop 80 s)
-    → p₂ ≡ take 512 (drop 2128 s) → p₃ ≡ take 128 (drop 2640 s) → p₄ ≡ take 256 (drop 2768 s)
-    → p₅ ≡ take 64 (drop 3024 s) → p₆ ≡ take 64 (drop 3088 s) → p₇ ≡ take 8192 (drop 3152 s)
-    → p₀ ++ (p₁ ++ (p₂ ++ (p₃ ++ (p₄ ++ (p₅ ++ (p₆ ++ p₇)))))) ≡ s
-whole s p₀ p₁ p₂ p₃ p₄ p₅ p₆ p₇ l e₀ e₁ e₂ e₃ e₄ e₅ e₆ e₇ =
-    let k : length (drop 3152 s) ≤ 8192 = rw (length-drop 3152 s) (omega arith) in
-    rw (
-      e₀,
-      e₁,
-      e₂,
-      e₃,
-      e₄,
-      e₅,
-      e₆,
-      e₇,
-      take-all 8192 (drop 3152 s) k,
-      rejoined 64 3088 s,
-      rejoined 64 3024 s,
-      rejoined 256 2768 s,
-      rejoined 128 2640 s,
-      rejoined 512 2128 s,
-      rejoined 2048 80 s,
-    ) (take-append-drop 80 s)
+-- a part of m elements and what follows it
+rejoined : {p r : List ℕ} (m k : ℕ) (s : List ℕ) → p ≡ take m (drop k s) → r ≡ drop (k + m) s → p ++ r ≡ drop k s
+rejoined m k s e h = rw (e, h, ← drop-drop m k s) (take-append-drop m (drop k s))
 
 -- the head's numbers are the first ten
 gathered-cons : (w n k : ℕ) (s : List ℕ) → gathered w (suc n) (drop k s) ≡ little (take w (drop k s)) ∷ gathered w n
@@ -189,17 +182,19 @@ numbers-again w n k s h b =
     let l : n * w ≤ length (drop k s) = rw (length-drop k s) (omega arith) in
     spread-gathered w n (drop k s) l (drop-bytes k s b)
 
-pub loaded-stored : (s : List ℕ) → length s ≡ 11344 → Bytes s → nodeBytes (nodeIn s) ≡ s
+pub loaded-stored : (s : List ℕ) → length s ≡ nodeSize → Bytes s → nodeBytes (nodeIn s) ≡ s
 unfolding nodeBytes nodeIn
 loaded-stored s l b =
     let h : spread 8 (headOf (nodeIn s)) ≡ take 80 s = rw (head-gathered s) (numbers-again 8 10 0 s (omega arith) b) in
-    whole s (spread 8 (headOf (nodeIn s))) (spread 8 (gathered 8 256 (drop 80 s)))
-    (spread 8 (gathered 8 64 (drop 2128 s))) (spread 2 (gathered 2 64 (drop 2640 s))) (between s 2768 3024)
-    (between s 3024 3088) (between s 3088 3152) (between s 3152 11344) l h
-    (numbers-again 8 256 80 s (omega arith) b)
-    (numbers-again 8 64 2128 s (omega arith) b)
-    (numbers-again 2 64 2640 s (omega arith) b)
-    refl
-    refl
-    refl
-    refl
+    let k : length (drop 11920 s) ≤ 512 = rw (length-drop 11920 s) (omega arith) in
+    rejoined 80 0 s h
+    (rejoined 2048 80 s (numbers-again 8 256 80 s (omega arith) b)
+    (rejoined 512 2128 s (numbers-again 8 64 2128 s (omega arith) b)
+    (rejoined 128 2640 s (numbers-again 2 64 2640 s (omega arith) b)
+    (rejoined 256 2768 s refl
+    (rejoined 64 3024 s refl
+    (rejoined 64 3088 s refl
+    (rejoined 8192 3152 s refl
+    (rejoined 64 11344 s refl
+    (rejoined 512 11408 s (numbers-again 2 256 11408 s (omega arith) b)
+    (numbers-again 2 256 11920 s (omega arith) b ∙ take-all 512 (drop 11920 s) k))))))))))

@@ -1,11 +1,12 @@
-// A node as bytes that a host keeps between two calls: 11,344 of them, each number with its lowest byte first. Every such bytes are some node; whether
-// it is well formed each call tests.
+// A node as bytes that a host keeps between two calls: NODE_SIZE of them, each number with its lowest byte first. Every such bytes are some node;
+// whether it is well formed each call tests.
 ghost use mathlib.Core.Path.{_≡_};
 ghost use Prim.Native.Nat.{_+_, _*_, _≤_};
 ghost use lib.ListN.{length, take, drop};
 ghost use lib.Seq.{sets};
-ghost use Rattle.basis.specs.Little.{little};
-ghost use Rattle.stored.specs.Layout.{spread, gathered, nodeBytes, nodeIn};
+ghost use Rattle.basis.specs.Little.{little, bytesOf};
+ghost use Rattle.protobuf.specs.Walk.{between};
+ghost use Rattle.stored.specs.Layout.{spread, gathered, nodeSize, nodeBytes, nodeIn};
 use basis::little_at;
 use basis::put_little;
 use mcache::MessageCache;
@@ -13,7 +14,7 @@ use node::Node;
 use protobuf::put_bytes;
 use seen::SeenCache;
 
-pub const NODE_SIZE: usize = 11344;
+pub const NODE_SIZE: usize = 12432;
 
 // ---- reading
 
@@ -37,6 +38,14 @@ fn read_words(s: &[u8], at: usize, out: &mut [u64])
     }
 }
 
+// The number in 2 bytes. A node has 576 of these: with the bytes written out, reading them all costs little more than a copy.
+fn read_half(s: &[u8], at: usize) -> u16
+    requires { ⌜ at + 2 ≤ length (now s) ⌝ }
+    ensures { λ r. ⌜ r ≡ little (take 2 (drop at (now (s .entry)))) ⌝ }
+{
+    s[at] as u16 + s[at + 1] as u16 * 256
+}
+
 // And those of 2 bytes each.
 fn read_halves(s: &[u8], at: usize, out: &mut [u16])
     requires { ⌜ at + 2 * length (now out) ≤ length (now s) ⌝ }
@@ -44,14 +53,14 @@ fn read_halves(s: &[u8], at: usize, out: &mut [u16])
 {
     let mut i: usize = 0;
     while i < out.len() {
-        out[i] = little_at(s, at + i * 2, 2) as u16;
+        out[i] = read_half(s, at + i * 2);
         i += 1;
     }
 }
 
 // The ids seen.
 fn seen_in(s: &[u8]) -> SeenCache
-    requires { ⌜ length (now s) ≡ 11344 ⌝ }
+    requires { ⌜ length (now s) ≡ nodeSize ⌝ }
     ensures { λ r. ⌜ r ≡ (nodeIn (now (s .entry))) .seen ⌝ }
 {
     let mut expiry = [0u64; 256];
@@ -66,19 +75,35 @@ fn seen_in(s: &[u8]) -> SeenCache
     }
 }
 
+// A byte for each of the 64 rows, from a place on.
+fn column_at(s: &[u8], at: usize) -> [u8; 64]
+    requires { ⌜ at + 64 ≤ length (now s) ⌝ }
+    ensures { λ r. ⌜ r ≡ between (now (s .entry)) at (at + 64) ⌝ }
+{
+    let mut out = [0u8; 64];
+    put_bytes(&mut out, 0, &s[at..at + 64]);
+    out
+}
+
+// A number of 2 bytes for each of the four slots of each row, from a place on.
+fn slots_at(s: &[u8], at: usize) -> [u16; 256]
+    requires { ⌜ at + 512 ≤ length (now s) ⌝ }
+    ensures { λ r. ⌜ r ≡ gathered 2 256 (drop at (now (s .entry))) ⌝ }
+{
+    let mut out = [0u16; 256];
+    read_halves(s, at, &mut out);
+    out
+}
+
 // The messages held.
 fn cache_in(s: &[u8]) -> MessageCache
-    requires { ⌜ length (now s) ≡ 11344 ⌝ }
+    requires { ⌜ length (now s) ≡ nodeSize ⌝ }
     ensures { λ r. ⌜ r ≡ (nodeIn (now (s .entry))) .cache ⌝ }
 {
     let mut generation = [0u64; 64];
     read_words(s, 2128, &mut generation);
     let mut len = [0u16; 64];
     read_halves(s, 2640, &mut len);
-    let mut window = [0u8; 64];
-    put_bytes(&mut window, 0, &s[3024..3088]);
-    let mut id_len = [0u8; 64];
-    put_bytes(&mut id_len, 0, &s[3088..3152]);
     let mut ids = [0u8; 8192];
     put_bytes(&mut ids, 0, &s[3152..11344]);
     MessageCache {
@@ -88,15 +113,18 @@ fn cache_in(s: &[u8]) -> MessageCache
         start: read_word(s, 64) as usize,
         count: read_word(s, 72) as usize,
         generation: generation,
-        window: window,
+        window: column_at(s, 3024),
         len: len,
-        id_len: id_len,
+        id_len: column_at(s, 3088),
         ids: ids,
+        topic_count: column_at(s, 11344),
+        topic_start: slots_at(s, 11408),
+        topic_len: slots_at(s, 11920),
     }
 }
 
 // The node that bytes are.
-pub fn load(bytes: &[u8; 11344]) -> Node
+pub fn load(bytes: &[u8; NODE_SIZE]) -> Node
     ensures { λ r. ⌜ r ≡ nodeIn (now (bytes .entry)) ⌝ }
 {
     Node {
@@ -122,6 +150,15 @@ fn write_words(out: &mut [u8], at: usize, values: &[u64])
     }
 }
 
+// The 2 bytes of a number, written out as they are read.
+fn write_half(out: &mut [u8], at: usize, value: u16)
+    requires { ⌜ at + 2 ≤ length (now out) ⌝ }
+    ensures { λ _. ⌜ now (out .exit) ≡ sets (now (out .entry)) at (bytesOf 2 value) ⌝ }
+{
+    out[at] = (value % 256) as u8;
+    out[at + 1] = (value / 256) as u8;
+}
+
 // And 2 each.
 fn write_halves(out: &mut [u8], at: usize, values: &[u16])
     requires { ⌜ at + 2 * length (now values) ≤ length (now out) ⌝ }
@@ -129,13 +166,13 @@ fn write_halves(out: &mut [u8], at: usize, values: &[u16])
 {
     let mut i: usize = 0;
     while i < values.len() {
-        put_little(out, at + i * 2, 2, values[i] as u64);
+        write_half(out, at + i * 2, values[i]);
         i += 1;
     }
 }
 
 // The bytes of a node.
-pub fn store(node: Node, out: &mut [u8; 11344])
+pub fn store(node: Node, out: &mut [u8; NODE_SIZE])
     ensures { λ _. ⌜ now (out .exit) ≡ nodeBytes node ⌝ }
 {
     let head = [
@@ -158,4 +195,7 @@ pub fn store(node: Node, out: &mut [u8; 11344])
     put_bytes(out, 3024, &node.cache.window);
     put_bytes(out, 3088, &node.cache.id_len);
     put_bytes(out, 3152, &node.cache.ids);
+    put_bytes(out, 11344, &node.cache.topic_count);
+    write_halves(out, 11408, &node.cache.topic_start);
+    write_halves(out, 11920, &node.cache.topic_len);
 }

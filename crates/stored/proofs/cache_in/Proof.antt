@@ -32,36 +32,6 @@ part-put-bytes-end c = search needs
 put-bytes-requires : tie.Need-put-bytes-requires
 put-bytes-requires c κs = search needs
 
-slice-aggregate-put-bytes-2 : tie.Need-slice-aggregate-put-bytes-2
-slice-aggregate-put-bytes-2 c = search needs
-
-sub-put-bytes-2 : tie.Need-sub-put-bytes-2
-sub-put-bytes-2 c = search needs
-
-part-put-bytes-start-2 : tie.Need-part-put-bytes-start-2
-part-put-bytes-start-2 c = search needs
-
-part-put-bytes-end-2 : tie.Need-part-put-bytes-end-2
-part-put-bytes-end-2 c = search needs
-
-put-bytes-requires-2 : tie.Need-put-bytes-requires-2
-put-bytes-requires-2 c κs = search needs
-
-slice-aggregate-put-bytes-3 : tie.Need-slice-aggregate-put-bytes-3
-slice-aggregate-put-bytes-3 c = search needs
-
-sub-put-bytes-3 : tie.Need-sub-put-bytes-3
-sub-put-bytes-3 c = search needs
-
-part-put-bytes-start-3 : tie.Need-part-put-bytes-start-3
-part-put-bytes-start-3 c = search needs
-
-part-put-bytes-end-3 : tie.Need-part-put-bytes-end-3
-part-put-bytes-end-3 c = search needs
-
-put-bytes-requires-3 : tie.Need-put-bytes-requires-3
-put-bytes-requires-3 c κs = search needs
-
 read-word-requires : tie.Need-read-word-requires
 read-word-requires c κs = search needs
 
@@ -77,29 +47,43 @@ read-word-requires-4 c κs = search needs
 read-word-requires-5 : tie.Need-read-word-requires-5
 read-word-requires-5 c κs = search needs
 
+column-at-requires : tie.Need-column-at-requires
+column-at-requires c κs = search needs
+
+column-at-requires-2 : tie.Need-column-at-requires-2
+column-at-requires-2 c κs = search needs
+
+column-at-requires-3 : tie.Need-column-at-requires-3
+column-at-requires-3 c κs = search needs
+
+slots-at-requires : tie.Need-slots-at-requires
+slots-at-requires c κs = search needs
+
+slots-at-requires-2 : tie.Need-slots-at-requires-2
+slots-at-requires-2 c κs = search needs
+
 returns : tie.Need-returns
 returns c =
-    let w = c .before .before .before .before in
-    let p₃ = w .before .before in
-    let p₂ = p₃ .before .before .before .before in
-    let p₁ = p₂ .before .before .before .before in
-    let h = p₁ .before .before .before .before in
+    let w = c .before .before .before .before .before .before .before .before .before in
+    let p = w .before .before in
+    let h = p .before .before .before .before in
     let r = h .before .before .before in
     let start = r .before .before .before in
-    cache-read (start .args .s .now) _ _ _ _ _ _ _ _ _ _ _ _ _ (start .pre)
+    cache-read (start .args .s .now) _ _ _ _ _ _ _ _ _ _ _ _ _ _ (start .pre)
     (w .read-word .ensures)
-    (c .before .before .before .read-word2 .ensures)
-    (c .before .before .read-word3 .ensures)
-    (c .before .read-word4 .ensures)
-    (c .read-word5 .ensures)
+    (c .before .before .before .before .before .before .before .before .read-word2 .ensures)
+    (c .before .before .before .before .before .before .before .read-word3 .ensures)
+    (c .before .before .before .before .before .before .read-word4 .ensures)
+    (c .before .before .before .before .before .read-word5 .ensures)
     (r .read-words .ensures)
     (h .read-halves .ensures)
+    (c .before .before .before .before .column-at .ensures)
+    (c .before .before .before .column-at2 .ensures)
     refl
-    (p₁ .put-bytes .ensures .lent)
-    refl
-    (p₂ .put-bytes2 .ensures .lent)
-    refl
-    (p₃ .put-bytes3 .ensures .lent)
+    (p .put-bytes .ensures .lent)
+    (c .before .before .column-at3 .ensures)
+    (c .before .slots-at .ensures)
+    (c .slots-at2 .ensures)
 
 pub cache-in-spec : {M : Type 1} → statement M
 cache-in-spec =
@@ -114,19 +98,14 @@ cache-in-spec =
     part-put-bytes-start
     part-put-bytes-end
     put-bytes-requires
-    slice-aggregate-put-bytes-2
-    sub-put-bytes-2
-    part-put-bytes-start-2
-    part-put-bytes-end-2
-    put-bytes-requires-2
-    slice-aggregate-put-bytes-3
-    sub-put-bytes-3
-    part-put-bytes-start-3
-    part-put-bytes-end-3
-    put-bytes-requires-3
     read-word-requires
     read-word-requires-2
     read-word-requires-3
     read-word-requires-4
     read-word-requires-5
+    column-at-requires
+    column-at-requires-2
+    column-at-requires-3
+    slots-at-requires
+    slots-at-requires-2
     returns)

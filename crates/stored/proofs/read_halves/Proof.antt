@@ -1,11 +1,10 @@
 -- `stored::read_halves` meets its contract. The invariant: the first i numbers are there.
-use Prim.Native.Nat.{_+_, _-_, _*_, _<_, _≤_}
+use Prim.Native.Nat.{_-_, _≤_}
 use mathlib.Core.Path.{_≡_, refl}
-use native.Mathlib.Omega.{arith}
 use lib.ListN.{length, take, drop}
-use Rattle.stored.specs.Layout.{gathered}
-use Rattle.stored.proofs.Steps.{gathered-turn, gathered-done, half-fits}
 use borrow.Author.Needs.{needs}
+use Rattle.stored.specs.Layout.{gathered}
+use Rattle.stored.proofs.Steps.{gathered-turn, gathered-done}
 use Rattle.stored.proofs.read_halves.Statement.{statement}
 use Rattle.stored.proofs.read_halves.Tie as tie
 
@@ -15,22 +14,60 @@ Inv-loop s at out₀ i₀ out i = (i ≤ length out₀) × ((length out ≡ leng
 abbrev μ-loop : tie.MeasureT-loop
 μ-loop s at out₀ i₀ out i = length out₀ - i
 
-pub read-halves-spec : {M : Type 1} → statement M
+loop-holds : tie.Need-loop-holds Inv-loop μ-loop
 unfolding gathered
+loop-holds c = (search needs, (refl, refl))
+
+mul-read-half : tie.Need-mul-read-half Inv-loop μ-loop
+mul-read-half c = search needs
+
+add-read-half : tie.Need-add-read-half Inv-loop μ-loop
+add-read-half c = search needs
+
+read-half-requires : tie.Need-read-half-requires Inv-loop μ-loop
+read-half-requires c κs = search needs
+
+mul-out : tie.Need-mul-out Inv-loop μ-loop
+mul-out c = search needs
+
+slice-write-out : tie.Need-slice-write-out Inv-loop μ-loop
+slice-write-out c = search needs
+
+add-i : tie.Need-add-i Inv-loop μ-loop
+add-i c = search needs
+
+loop-less : tie.Need-loop-less Inv-loop μ-loop
+loop-less c = search needs
+
+loop-again : tie.Need-loop-again Inv-loop μ-loop
+loop-again c =
+    let a = c .before .before .before .before .before .args in
+    let l = c .before .before .loop in
+    (search needs, (search needs, gathered-turn 2 (a .s .now) (l .out) (a .at) (l .i) _ (search needs) (l .inv .1 .1) (c .read-half .ensures)))
+
+same-length : tie.Need-same-length Inv-loop μ-loop
+same-length c = search needs
+
+returns : tie.Need-returns Inv-loop μ-loop
+returns c =
+    let a = c .before .before .before .before .args in
+    let l = c .before .loop in
+    gathered-done 2 (a .s .now) (l .out) (a .at) (l .i) _ (search needs) (search needs) (search needs) (l .inv .1 .1)
+
+pub read-halves-spec : {M : Type 1} → statement M
 read-halves-spec =
     tie.close
     (tie.spec
     Inv-loop
     μ-loop
-    (λ c. (search needs, (refl, refl)))
-    (λ c. search needs)
-    (λ c. search needs)
-    (λ c κs. search needs)
-    (λ c. let h : c .little-at .result < 65536 = rw (c .little-at .ensures) (half-fits (c .before .before .before .before .before .args .s .now) (c .before .before .before .before .before .args .at + c .before .before .loop .i * 2) (λ k. omega (arith, c .before .before .before .before .shared-slice-known .given k))) in omega arith)
-    (λ c. search needs)
-    (λ c. search needs)
-    (λ c. search needs)
-    (λ c. search needs)
-    (λ c. let l = c .before .before .loop in (search needs, (search needs, gathered-turn 2 (c .before .before .before .before .before .args .s .now) (l .out) (c .before .before .before .before .before .args .at) (l .i) (c .little-at .result) (search needs) (l .inv .1 .1) (c .little-at .ensures))))
-    (λ c. search needs)
-    (λ c. let l = c .before .loop in gathered-done 2 (c .before .before .before .before .args .s .now) (l .out) (c .before .before .before .before .args .at) (l .i) (length (c .before .before .before .before .args .out .now)) (search needs) (search needs) (search needs) (l .inv .1 .1)))
+    loop-holds
+    mul-read-half
+    add-read-half
+    read-half-requires
+    mul-out
+    slice-write-out
+    add-i
+    loop-less
+    loop-again
+    same-length
+    returns)
