@@ -67,6 +67,16 @@ topicsAt t p = spansIn (drop (p * maxTopics) (t .starts)) (drop (p * maxTopics) 
 unfoldable pub keptPlaces : List ℕ → List Span
 keptPlaces m = take maxTopics (topicPlaces m)
 
+-- n places of a message were found, as numbers: what is to be kept of it
+pub record Found (m : List ℕ) (n : ℕ) (a b : List ℕ) : Type 0 where
+  pub counts : n ≡ length (keptPlaces m)
+  pub starts : take n a ≡ startsOf (keptPlaces m)
+  pub sizes : take n b ≡ sizesOf (keptPlaces m)
+  pub starts-room : n ≤ length a
+  pub sizes-room : n ≤ length b
+  pub starts-small : (i : ℕ) → i < n → getD a i 0 < 65536
+  pub sizes-small : (i : ℕ) → i < n → getD b i 0 < 65536
+
 -- the table with that in place p; slots past the count stay as they were
 unfoldable pub noted : List ℕ → ℕ → Table → Table
 noted m p t =

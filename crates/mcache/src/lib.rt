@@ -11,9 +11,9 @@ ghost use lib.Seq.{sets};
 ghost use Rattle.rows.specs.Rows.{placeOf};
 ghost use Rattle.rows.specs.Ids.{among};
 ghost use Rattle.rows.specs.Store.{InStore, inUse, idAt};
-ghost use Rattle.admission.specs.Admission.{startsOf, sizesOf, cut, spansIn, admissionOf};
+ghost use Rattle.admission.specs.Admission.{cut, spansIn, admissionOf};
 ghost use Rattle.mcache.specs.State.{messageSize, messageIdSize, maxMessages, ringOf, messageIn, fallsFrom, runsTo, givesIn, idsFit, rowsFit, stale, older, Laid, Usable, Placed, fresh, dropped, appended, told, spotOf, putAt, insertRow};
-ghost use Rattle.mcache.specs.State.{maxTopics, table, Roomy, keptPlaces};
+ghost use Rattle.mcache.specs.State.{table, Roomy, Found};
 ghost use Rattle.mcache.specs.Calls.{lentOf, indexIn, entered, enteredStore};
 ghost use Rattle.mcache.specs.Calls.{shifted, found, formable, rowsLie, keepable, planFit, answered};
 ghost use Rattle.mcache.specs.Calls.{keptIn, storedIn, getPart, lookupAnswer};
@@ -290,22 +290,6 @@ fn put_shorts(out: &mut [u16], at: usize, values: &[usize], n: usize)
         out[at + i] = values[i] as u16;
         i += 1;
     }
-}
-
-// Writes where the topics of a message stand, at most four, into the slots from `slot` on, and answers how many it wrote.
-fn note_topics(part: &[u8], starts: &mut [u16], sizes: &mut [u16], slot: usize) -> usize
-    requires { ⌜ (length (now part) ≤ messageSize) × (slot + maxTopics ≤ length (now starts)) × (slot + maxTopics ≤ length (now sizes)) ⌝ }
-    ensures { λ r. ⌜ r ≡ length (keptPlaces (now (part .entry))) ⌝ }
-    ensures { λ _. ⌜ now (starts .exit) ≡ sets (now (starts .entry)) slot (startsOf (keptPlaces (now (part .entry)))) ⌝ }
-    ensures { λ _. ⌜ now (sizes .exit) ≡ sets (now (sizes .entry)) slot (sizesOf (keptPlaces (now (part .entry)))) ⌝ }
-{
-    let mut from = [0usize; MAX_TOPICS];
-    let mut long = [0usize; MAX_TOPICS];
-    let t = topics_of(part, &mut from, &mut long);
-    let n = least(t.count, MAX_TOPICS);
-    put_shorts(starts, slot, &from, n);
-    put_shorts(sizes, slot, &long, n);
-    n
 }
 
 // ---- what keep and tell ask of the rows
@@ -598,11 +582,20 @@ impl MessageCache {
         self
     }
 
-    // With a message more, the newest.
-    fn append(mut self, store: &mut [u8], part: &[u8], id: &[u8]) -> Self
+    // With a message more, the newest; where its topics stand was found before: n of them, each with its start and its length.
+    fn append(
+        mut self,
+        store: &mut [u8],
+        part: &[u8],
+        id: &[u8],
+        n: usize,
+        from: &[usize],
+        long: &[usize],
+    ) -> Self
         requires { ⌜ Placed self (now store) ⌝ }
         requires { ⌜ self .count < self .«max_messages» ⌝ }
         requires { ⌜ (length (now part) ≤ messageSize) × (length (now id) ≤ messageIdSize) ⌝ }
+        requires { ⌜ Found (now part) n (now from) (now long) ⌝ }
         ensures { λ r. ⌜ r ≡ appended (now (part .entry)) (now (id .entry)) self ⌝ }
         ensures { λ _. ⌜ now (store .exit) ≡ sets (now (store .entry)) (placeOf (ringOf self) (self .count) * messageSize) (now (part .entry)) ⌝ }
     {
@@ -614,7 +607,8 @@ impl MessageCache {
         self.ids = ids;
         let mut starts = self.topic_start;
         let mut sizes = self.topic_len;
-        let n = note_topics(part, &mut starts, &mut sizes, p * MAX_TOPICS);
+        put_shorts(&mut starts, p * MAX_TOPICS, from, n);
+        put_shorts(&mut sizes, p * MAX_TOPICS, long, n);
         self.topic_start = starts;
         self.topic_len = sizes;
         self.topic_count[p] = n as u8;
@@ -628,9 +622,18 @@ impl MessageCache {
     }
 
     // With a message whose id is not held: past max_messages the oldest goes.
-    fn enter(mut self, store: &mut [u8], part: &[u8], id: &[u8]) -> Self
+    fn enter(
+        mut self,
+        store: &mut [u8],
+        part: &[u8],
+        id: &[u8],
+        n: usize,
+        from: &[usize],
+        long: &[usize],
+    ) -> Self
         requires { ⌜ Placed self (now store) ⌝ }
         requires { ⌜ (length (now part) ≤ messageSize) × (length (now id) ≤ messageIdSize) ⌝ }
+        requires { ⌜ Found (now part) n (now from) (now long) ⌝ }
         ensures { λ r. ⌜ r ≡ entered (now (part .entry)) (now (id .entry)) self ⌝ }
         ensures { λ _. ⌜ now (store .exit) ≡ enteredStore self (now (store .entry)) (now (part .entry)) ⌝ }
     {
@@ -641,7 +644,7 @@ impl MessageCache {
         }
         let k = minus(self.count + 1, max);
         let rest = self.without(k);
-        rest.append(store, part, id)
+        rest.append(store, part, id, n, from, long)
     }
 
     // Which row holds an id, counted from the oldest; the count of rows where none does.
@@ -668,7 +671,11 @@ impl MessageCache {
                     cache: self,
                 };
             }
-            let cache = self.enter(store, part, id);
+            let mut from = [0usize; MAX_TOPICS];
+            let mut long = [0usize; MAX_TOPICS];
+            let t = topics_of(part, &mut from, &mut long);
+            let n = least(t.count, MAX_TOPICS);
+            let cache = self.enter(store, part, id, n, &from, &long);
             return PutDone {
                 answer: Put::Stored,
                 cache,

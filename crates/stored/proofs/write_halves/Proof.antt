@@ -45,11 +45,13 @@ loop-again : tie.Need-loop-again Inv-loop μ-loop
 loop-again c =
     let l = c .before .before .before .before .before .before .loop in
     let a = c .before .before .before .before .before .before .before .before .before .args in
-    let w = c .before .before .write-half in
-    (search needs, (
-      ap length (w .ensures) ∙ simp length-sets (l .inv .1 .0),
-      spread-turn 2 _ (l .out) (w .last .0) (a .values .now) (a .at) (l .i) (search needs) (l .inv .1 .1) (w .ensures),
-    ))
+    let w = c .before .before .write-half in (
+      search needs,
+      (
+        ap length (w .ensures) ∙ simp length-sets (l .inv .1 .0),
+        spread-turn 2 _ (l .out) (w .last .0) (a .values .now) (a .at) (l .i) (search needs) (l .inv .1 .1) (w .ensures),
+      ),
+    )
 
 same-length : tie.Need-same-length Inv-loop μ-loop
 same-length c = search needs
