@@ -525,13 +525,21 @@ impl MessageCache {
         let ring = self.ring();
         let id_lens = self.id_len;
         let lens = self.len;
-        let ids = self.ids;
         let counts = self.topic_count;
         let starts = self.topic_start;
         let sizes = self.topic_len;
         if all_within(&id_lens, ring, MESSAGE_ID_SIZE as u8) {
-            if messages_fit(&lens, &id_lens, &ids, &counts, &starts, &sizes, store, ring) {
-                return ids_differ(&id_lens, &ids, MESSAGE_ID_SIZE, ring);
+            if messages_fit(
+                &lens,
+                &id_lens,
+                &self.ids,
+                &counts,
+                &starts,
+                &sizes,
+                store,
+                ring,
+            ) {
+                return ids_differ(&id_lens, &self.ids, MESSAGE_ID_SIZE, ring);
             }
         }
         false
@@ -650,8 +658,7 @@ impl MessageCache {
     {
         let ring = self.ring();
         let id_lens = self.id_len;
-        let ids = self.ids;
-        find_from(&id_lens, &ids, MESSAGE_ID_SIZE, ring, 0, id)
+        find_from(&id_lens, &self.ids, MESSAGE_ID_SIZE, ring, 0, id)
     }
 
     // Puts a message under its id into a state that the caller tested; it tests only that the rows lie in the arrays and the store, and that both
@@ -832,7 +839,6 @@ impl MessageCache {
             let window = self.window;
             let lens = self.len;
             let id_lens = self.id_len;
-            let ids = self.ids;
             let counts = self.topic_count;
             let starts = self.topic_start;
             let sizes = self.topic_len;
@@ -852,7 +858,7 @@ impl MessageCache {
                     windows,
                     topic,
                 );
-                count = tell_row(there, &mut rows, count, &id_lens, &ids, p);
+                count = tell_row(there, &mut rows, count, &id_lens, &self.ids, p);
                 i += 1;
             }
             return GossipIds {
