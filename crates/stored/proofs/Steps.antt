@@ -1,14 +1,15 @@
 -- One turn of each loop of the crate, over plain lists and numbers.
-use Prim.Native.Nat.{ℕ, zero, suc, _+_, _*_, _/_, _%_, _<_, _≤_}
+use Prim.Native.Nat.{ℕ, zero, suc, _+_, _*_, _<_, _≤_}
 use mathlib.Core.Path.{_≡_, sym, ap, _∙_}
 use mathlib.Core.List.{List, [], _∷_, _++_}
 use native.Mathlib.Omega.{arith}
 use native.Mathlib.Numerals.{add-one}
 use native.Mathlib.Nat.{add-comm, suc-mul}
 use lib.ListN.{length, getD, set, take, drop, drop-of-length-le}
-use lib.Seq.{sets, drop-cons, drop-drop, take-suc-set, take-all}
-use Rattle.basis.specs.Lists.{sets-append}
+use lib.Seq.{sets, length-sets, drop-cons, drop-drop, take-suc-set, take-all}
+use Rattle.basis.specs.Lists.{sets-append, set-fits}
 use Rattle.basis.specs.Little.{little, bytesOf, bytes-length}
+use Rattle.basis.specs.Writing.{setIn}
 use Rattle.stored.specs.Layout.{spread, gathered}
 
 -- ---- reading
@@ -35,15 +36,14 @@ gathered-done w s out at i n h k l e =
     sym (take-all i out (omega arith)) ∙ e ∙ ap (λ (j : ℕ). gathered w j (drop at s)) q
 
 -- ---- writing
--- a number of two bytes
-pub half-written : (l : List ℕ) (p v : ℕ) → v < 65536 → set (set l p (v % 256)) (p + 1) (v / 256) ≡ sets l p (bytesOf 2 v)
-unfolding bytesOf
-half-written l p v h = let q : v / 256 % 256 ≡ v / 256 = omega arith in rw (q, add-one p)
+pub put-length : (w k : ℕ) (xs l after : List ℕ) → k + w ≤ length l → after ≡ setIn w k xs l → length after ≡ length l
+put-length w k xs l after h e = ap length (e ∙ set-fits w k xs l h) ∙ length-sets l k xs
 
 -- one number of several, each of w bytes
-pub spread-turn : (w : ℕ) (whole l after vs : List ℕ) (at i : ℕ) → i < length vs → sets l (at + i * w) (spread w (drop i vs)) ≡ whole → after ≡ sets l (at + i * w) (bytesOf w (getD vs i 0)) → sets after (at + (i + 1) * w) (spread w (drop (i + 1) vs)) ≡ whole
+pub spread-turn : (w : ℕ) (whole l after vs : List ℕ) (at i : ℕ) → i < length vs → sets l (at + i * w) (spread w (drop i vs)) ≡ whole → at + i * w + w ≤ length l → after ≡ setIn w (at + i * w) (bytesOf w (getD vs i 0)) l → sets after (at + (i + 1) * w) (spread w (drop (i + 1) vs)) ≡ whole
 unfolding spread
-spread-turn w whole l after vs at i h e y =
+spread-turn w whole l after vs at i h e room z =
+    let y : after ≡ sets l (at + i * w) (bytesOf w (getD vs i 0)) = z ∙ set-fits w (at + i * w) (bytesOf w (getD vs i 0)) l room in
     let p : at + i * w + w ≡ at + suc i * w = rw suc-mul (omega arith) in
     let x : sets l (at + i * w) (spread w (drop i vs)) ≡ sets (sets l (at + i * w) (bytesOf w (getD vs i 0))) (at + suc i * w) (spread w (drop (suc i) vs)) = rw (drop-cons vs i 0 h, sets-append l (at + i * w) (bytesOf w (getD vs i 0)) (spread w (drop (suc i) vs)), bytes-length w (getD vs i 0), p) in
     rw (y, add-one i) (sym x ∙ e)

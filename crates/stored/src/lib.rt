@@ -4,7 +4,7 @@ ghost use mathlib.Core.Path.{_≡_};
 ghost use Prim.Native.Nat.{_+_, _*_, _≤_};
 ghost use lib.ListN.{length, take, drop};
 ghost use lib.Seq.{sets};
-ghost use Rattle.basis.specs.Little.{little, bytesOf};
+ghost use Rattle.basis.specs.Little.{little};
 ghost use Rattle.protobuf.specs.Walk.{between};
 ghost use Rattle.stored.specs.Layout.{spread, gathered, nodeSize, nodeBytes, nodeIn};
 use basis::little_at;
@@ -150,15 +150,6 @@ fn write_words(out: &mut [u8], at: usize, values: &[u64])
     }
 }
 
-// The 2 bytes of a number, written out as they are read.
-fn write_half(out: &mut [u8], at: usize, value: u16)
-    requires { ⌜ at + 2 ≤ length (now out) ⌝ }
-    ensures { λ _. ⌜ now (out .exit) ≡ sets (now (out .entry)) at (bytesOf 2 value) ⌝ }
-{
-    out[at] = (value % 256) as u8;
-    out[at + 1] = (value / 256) as u8;
-}
-
 // And 2 each.
 fn write_halves(out: &mut [u8], at: usize, values: &[u16])
     requires { ⌜ at + 2 * length (now values) ≤ length (now out) ⌝ }
@@ -166,7 +157,7 @@ fn write_halves(out: &mut [u8], at: usize, values: &[u16])
 {
     let mut i: usize = 0;
     while i < values.len() {
-        write_half(out, at + i * 2, values[i]);
+        put_little(out, at + i * 2, 2, values[i] as u64);
         i += 1;
     }
 }

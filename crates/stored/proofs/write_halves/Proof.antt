@@ -1,11 +1,12 @@
 -- `stored::write_halves` meets its contract. The invariant: to write the numbers that are left is to write them all.
 use Prim.Native.Nat.{_+_, _-_, _*_, _≤_}
 use mathlib.Core.Path.{_≡_, refl, ap, _∙_}
+use native.Mathlib.Omega.{arith}
 use native.Mathlib.Nat.{add-zero}
 use lib.ListN.{length, drop}
-use lib.Seq.{sets, length-sets}
+use lib.Seq.{sets}
 use Rattle.stored.specs.Layout.{spread}
-use Rattle.stored.proofs.Steps.{spread-turn, spread-done}
+use Rattle.stored.proofs.Steps.{spread-turn, spread-done, put-length}
 use borrow.Author.Needs.{needs}
 use Rattle.stored.proofs.write_halves.Statement.{statement}
 use Rattle.stored.proofs.write_halves.Tie as tie
@@ -17,65 +18,32 @@ Inv-loop out₀ at values i₀ out i =
 abbrev μ-loop : tie.MeasureT-loop
 μ-loop out₀ at values i₀ out i = length values - i
 
-loop-holds : tie.Need-loop-holds Inv-loop μ-loop
-loop-holds c = (search needs, (refl, rw add-zero))
-
-mul-write-half : tie.Need-mul-write-half Inv-loop μ-loop
-mul-write-half c = search needs
-
-add-write-half : tie.Need-add-write-half Inv-loop μ-loop
-add-write-half c = search needs
-
-mul-write-half-2 : tie.Need-mul-write-half-2 Inv-loop μ-loop
-mul-write-half-2 c = search needs
-
-shared-slice-read-write-half : tie.Need-shared-slice-read-write-half Inv-loop μ-loop
-shared-slice-read-write-half c = search needs
-
-write-half-requires : tie.Need-write-half-requires Inv-loop μ-loop
-write-half-requires c κs = search needs
-
-add-i : tie.Need-add-i Inv-loop μ-loop
-add-i c = search needs
-
-loop-less : tie.Need-loop-less Inv-loop μ-loop
-loop-less c = search needs
-
-loop-again : tie.Need-loop-again Inv-loop μ-loop
-loop-again c =
-    let l = c .before .before .before .before .before .before .loop in
-    let a = c .before .before .before .before .before .before .before .before .before .args in
-    let w = c .before .before .write-half in (
-      search needs,
-      (
-        ap length (w .ensures) ∙ simp length-sets (l .inv .1 .0),
-        spread-turn 2 _ (l .out) (w .last .0) (a .values .now) (a .at) (l .i) (search needs) (l .inv .1 .1) (w .ensures),
-      ),
-    )
-
-same-length : tie.Need-same-length Inv-loop μ-loop
-same-length c = search needs
-
-returns : tie.Need-returns Inv-loop μ-loop
-returns c =
-    let l = c .before .loop in
-    let a = c .before .before .before .before .args in
-    spread-done 2 _ (l .out) (a .values .now) (a .at + l .i * 2) (l .i) (search needs) (l .inv .1 .1)
-
 pub write-halves-spec : {M : Type 1} → statement M
 write-halves-spec =
     tie.close
     (tie.spec
     Inv-loop
     μ-loop
-    loop-holds
-    mul-write-half
-    add-write-half
-    mul-write-half-2
-    shared-slice-read-write-half
-    write-half-requires
-    add-i
-    loop-less
-    loop-again
-    same-length
-    returns)
+    (λ c. (search needs, (refl, rw add-zero)))
+    (λ c. search needs)
+    (λ c. search needs)
+    (λ c. search needs)
+    (λ c. search needs)
+    (λ c. omega (arith, c .shared-slice-known2 .given (c .before .before .before .loop .i)))
+    (λ c κs. search needs)
+    (λ c. search needs)
+    (λ c. search needs)
+    (λ c. let l = c .before .before .before .before .before .before .loop in
+    let room : c .before .before .before .before .before .before .before .before .before .args .at + l .i * 2 + 2 ≤ length (l .out) = omega arith in (
+      search needs,
+      (
+        put-length 2 (c .before .before .before .before .before .before .before .before .before .args .at + l .i * 2) _ _ _ room
+            (c .before .before .put-little .ensures .lent) ∙ (l .inv .1 .0),
+        spread-turn 2 _ (l .out) (c .before .before .put-little .last .0)
+            (c .before .before .before .before .before .before .before .before .before .args .values .now)
+            (c .before .before .before .before .before .before .before .before .before .args .at) (l .i) (search needs) (l .inv .1 .1) room
+            (c .before .before .put-little .ensures .lent),
+      ),
+    ))
+    (λ c. search needs)
+    (λ c. let l = c .before .loop in spread-done 2 _ (l .out) (c .before .before .before .before .args .values .now) (c .before .before .before .before .args .at + l .i * 2) (l .i) (search needs) (l .inv .1 .1)))

@@ -3,12 +3,10 @@ use Prim.Native.Nat.{_+_, _-_, _*_, _≤_}
 use mathlib.Core.Path.{_≡_, refl, ap, _∙_}
 use native.Mathlib.Omega.{arith}
 use native.Mathlib.Nat.{add-zero}
-use lib.ListN.{length, getD, drop}
-use lib.Seq.{sets, length-sets}
+use lib.ListN.{length, drop}
+use lib.Seq.{sets}
 use Rattle.stored.specs.Layout.{spread}
-use Rattle.basis.specs.Lists.{set-fits}
-use Rattle.basis.specs.Little.{bytesOf}
-use Rattle.stored.proofs.Steps.{spread-turn, spread-done}
+use Rattle.stored.proofs.Steps.{spread-turn, spread-done, put-length}
 use borrow.Author.Needs.{needs}
 use Rattle.stored.proofs.write_words.Statement.{statement}
 use Rattle.stored.proofs.write_words.Tie as tie
@@ -35,14 +33,15 @@ write-words-spec =
     (λ c. search needs)
     (λ c. search needs)
     (λ c. let l = c .before .before .before .before .before .before .loop in
-    let a = c .before .before .before .before .before .before .before .before .before .args in
-    let w = c .before .before .put-little in
-    let room : a .at + l .i * 8 + 8 ≤ length (l .out) = omega arith in
-    let e : w .last .0 ≡ sets (l .out) (a .at + l .i * 8) (bytesOf 8 (getD (a .values .now) (l .i) 0)) = w .ensures .lent ∙ set-fits 8 _ _ (l .out) room in (
+    let room : c .before .before .before .before .before .before .before .before .before .args .at + l .i * 8 + 8 ≤ length (l .out) = omega arith in (
       search needs,
       (
-        ap length e ∙ simp length-sets (l .inv .1 .0),
-        spread-turn 8 _ (l .out) (w .last .0) (a .values .now) (a .at) (l .i) (search needs) (l .inv .1 .1) e,
+        put-length 8 (c .before .before .before .before .before .before .before .before .before .args .at + l .i * 8) _ _ _ room
+            (c .before .before .put-little .ensures .lent) ∙ (l .inv .1 .0),
+        spread-turn 8 _ (l .out) (c .before .before .put-little .last .0)
+            (c .before .before .before .before .before .before .before .before .before .args .values .now)
+            (c .before .before .before .before .before .before .before .before .before .args .at) (l .i) (search needs) (l .inv .1 .1) room
+            (c .before .before .put-little .ensures .lent),
       ),
     ))
     (λ c. search needs)
