@@ -38,7 +38,7 @@ topicsAlong p (f then w) = cond (isBytes 4 f) (valueIn p f ∷ topicsAlong p w) 
 unfoldable pub topicsOf : List ℕ → List (List ℕ)
 topicsOf p = topicsAlong p (fieldsOf p)
 
--- ---- and where they stand in it: the first byte of each, counted from the message's own start, and how many there are
+-- ---- and where they stand in it: the first byte of each, counted from the message's own start, and its length
 pub record Span : Type 0 where
   pub start : ℕ
   pub size : ℕ
@@ -54,7 +54,7 @@ placesAlong (f then w) = cond (isBytes 4 f) (spanOf f ∷ placesAlong w) (places
 unfoldable pub topicPlaces : List ℕ → List Span
 topicPlaces p = placesAlong (fieldsOf p)
 
--- the bytes that stand there; `cut-topics` of AdmissionLaws: those of all its topics' places are its topics
+-- the bytes that stand there; `cut-topics` of TopicLaws: those of all its topics' places are its topics
 abbrev pub cut : List ℕ → Span → List ℕ
 cut p s = take (s .size) (drop (s .start) p)
 

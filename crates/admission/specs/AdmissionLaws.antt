@@ -183,11 +183,6 @@ pub gives-refused : (p i : List ℕ) (why : WireError) → counted kind.RawMessa
 unfolding givesId
 gives-refused p i why h = ap (λ c. whereRead c (idGiven p i (admissionOf p true))) (sym h)
 
-pub gives-unfit : (p i : List ℕ) (n : ℕ) (why : Unfit) → counted kind.RawMessage p ≡ count.Records n
-    → admissionOf p true ≡ admission.Unfit why → false ≡ givesId p i
-unfolding givesId
-gives-unfit p i n why h k = ap (idGiven p i) (sym k) ∙ ap (λ c. whereRead c (idGiven p i (admissionOf p true))) (sym h)
-
 pub gives-fit : (p i : List ℕ) (n a e b f : ℕ) (r : Bool) → counted kind.RawMessage p ≡ count.Records n
     → admissionOf p true ≡ admission.Fit a e b f → r ≡ sameBytes (idBytes p a e b f) i → r ≡ givesId p i
 unfolding givesId
