@@ -37,7 +37,8 @@ use Rattle.admission.specs.Admission.{topicsAlong, topicsOf, Span, spanO
 use Rattle.admission.specs.TopicLaws.{gives-few, same-spans-equal, length-spans, spans-put}
 
 -- ---- the topics from a place on
-pub topics-on : (p : List ℕ) (at : ℕ) (f : Field) → step.At f ≡ readField p at → topicsAlong p (walkAt p at) ≡ cond (isBytes 4 f) (valueIn p f ∷ topicsAlong p (walkAt p (f .next))) (topicsAlong p (walkAt p (f .next)))
+pub topics-on : (p : List ℕ) (at : ℕ) (f : Field) → step.At f ≡ readField p at → topicsAlong p (walkAt p at) ≡ cond (isBytes 4 f) (valueIn p f ∷
+    topicsAlong p (walkAt p (f .next))) (topicsAlong p (walkAt p (f .next)))
 topics-on p at f e = ap (topicsAlong p) (walk-on p at (step.At f) e)
 
 pub topics-end : (p : List ℕ) (at : ℕ) → step.End ≡ readField p at → topicsAlong p (walkAt p at) ≡ []
@@ -54,15 +55,18 @@ count-step : (t : Bool) (v : List ℕ) (l : List (List ℕ)) (n m : ℕ) → m �
 count-step true v l n m h = omega arith
 count-step false v l n m h = omega arith
 
-pub count-more : (p : List ℕ) (at n m : ℕ) (f : Field) → step.At f ≡ readField p at → m ≡ cond (isBytes 4 f) (n + 1) n → n + length (topicsAlong p (walkAt p at)) ≡ m + length (topicsAlong p (walkAt p (f .next)))
-count-more p at n m f e h = ap (λ (l : List (List ℕ)). n + length l) (topics-on p at f e) ∙ count-step (isBytes 4 f) (valueIn p f) (topicsAlong p (walkAt p (f .next))) n m h
+pub count-more : (p : List ℕ) (at n m : ℕ) (f : Field) → step.At f ≡ readField p at → m ≡ cond (isBytes 4 f) (n + 1) n → n + length (topicsAlong p
+    (walkAt p at)) ≡ m + length (topicsAlong p (walkAt p (f .next)))
+count-more p at n m f e h = ap (λ (l : List (List ℕ)). n + length l) (topics-on p at f e) ∙ count-step (isBytes 4 f) (valueIn p f) (topicsAlong p
+    (walkAt p (f .next))) n m h
 
 -- one more, or none
 -- the first long topic, where `long` is that of the topics passed
 abbrev pub longFrom : ℕ → List (List ℕ) → ℕ
 longFrom long l = cond (eqb long 0) (firstLong l) long
 
-long-step : (t : Bool) (v : List ℕ) (l : List (List ℕ)) (long next : ℕ) → next ≡ cond (t && (eqb long 0 && ltb 1024 (length v))) (length v) long → longFrom long (cond t (v ∷ l) l) ≡ longFrom next l
+long-step : (t : Bool) (v : List ℕ) (l : List (List ℕ)) (long next : ℕ) → next ≡ cond (t && (eqb long 0 && ltb 1024 (length v))) (length v) long →
+    longFrom long (cond t (v ∷ l) l) ≡ longFrom next l
 unfolding firstLong
 long-step false v l long next h = rw h
 long-step true v l long next h =
@@ -72,7 +76,8 @@ long-step true v l long next h =
     (λ u. let k = simp (z, u) at h in simp (z, u, k)))
     (λ z. let k = simp z at h in simp (z, k))
 
-pub long-more : (p : List ℕ) (at long next : ℕ) (f : Field) → step.At f ≡ readField p at → Stands p at f → next ≡ longAfter f (f .next - f .start) long
+pub long-more : (p : List ℕ) (at long next : ℕ) (f : Field) → step.At f ≡ readField p at → Stands p at f → next ≡ longAfter f (f .next - f .start)
+    long
     → longFrom long (topicsAlong p (walkAt p at)) ≡ longFrom next (topicsAlong p (walkAt p (f .next)))
 unfolding longAfter
 long-more p at long next f e st h =
@@ -88,7 +93,8 @@ long-none long = either (eqb long 0) (λ t. simp t (sym (eqb-true long 0 t))) (�
 abbrev topicsMade : ℕ → ℕ → Topics
 topicsMade n long = record { count = n; long = long }
 
-pub topics-done : (p : List ℕ) (n long : ℕ) (l : List (List ℕ)) → l ≡ [] → length (topicsOf p) ≡ n + length l → firstLong (topicsOf p) ≡ longFrom long l → topicsMade n long ≡ topicsIn p
+pub topics-done : (p : List ℕ) (n long : ℕ) (l : List (List ℕ)) → l ≡ [] → length (topicsOf p) ≡ n + length l → firstLong (topicsOf p) ≡ longFrom long
+    l → topicsMade n long ≡ topicsIn p
 topics-done p n long l e h k =
     let z = ap length e in
     ap₂ topicsMade (omega arith) (sym (k ∙ ap (longFrom long) e ∙ long-none long))
@@ -123,7 +129,8 @@ module _ (of : Span → ℕ) where
   note-step false s l out next n m h k = rw (h, k)
 
   pub note-more : (p : List ℕ) (at : ℕ) (f : Field) (there : Bool) (out next : List ℕ) (n m : ℕ) → step.At f ≡ readField p at → there ≡ isBytes 4 f
-      → next ≡ cond there (set out n (of (spanOf f))) out → m ≡ cond (isBytes 4 f) (n + 1) n → sets out n (map of (placesAlong (walkAt p at))) ≡ sets next m (map of (placesAlong (walkAt p (f .next))))
+      → next ≡ cond there (set out n (of (spanOf f))) out → m ≡ cond (isBytes 4 f) (n + 1) n → sets out n (map of (placesAlong (walkAt p at))) ≡ sets
+      next m (map of (placesAlong (walkAt p (f .next))))
   note-more p at f there out next n m e b h k =
       ap (λ (l : List Span). sets out n (map of l)) (places-on p at f e)
       ∙ note-step (isBytes 4 f) (spanOf f) (placesAlong (walkAt p (f .next))) out next n m (rw b at h) k
@@ -166,7 +173,8 @@ module _ (a b c d : List ℕ) (n i : ℕ) where
   spans-end x y h = drop-of-length-le (spansIn x y n) {i = i} (rw (length-spans x y n) h)
 
   module _ (w : Bool) (inv : sameSpans (drop i (spansIn a b n)) (drop i (spansIn c d n)) ≡ w) where
-    same-here : i < n → (eqb (getD a i 0) (getD c i 0) && (eqb (getD b i 0) (getD d i 0) && sameSpans (drop (i + 1) (spansIn a b n)) (drop (i + 1) (spansIn c d n)))) ≡ w
+    same-here : i < n → (eqb (getD a i 0) (getD c i 0) && (eqb (getD b i 0) (getD d i 0) && sameSpans (drop (i + 1) (spansIn a b n)) (drop (i + 1)
+        (spansIn c d n)))) ≡ w
     unfolding sameSpans
     same-here h = rw (spans-from a b h, spans-from c d h) at inv
 
@@ -177,7 +185,8 @@ module _ (a b c d : List ℕ) (n i : ℕ) where
     spans-size h k =
         either (eqb (getD a i 0) (getD c i 0)) (λ t. simp (t, ne-eqb (getD b i 0) (getD d i 0) k) at (same-here h)) (λ t. simp t at (same-here h))
 
-    pub spans-more : i < n → getD a i 0 ≡ getD c i 0 → getD b i 0 ≡ getD d i 0 → sameSpans (drop (i + 1) (spansIn a b n)) (drop (i + 1) (spansIn c d n)) ≡ w
+    pub spans-more : i < n → getD a i 0 ≡ getD c i 0 → getD b i 0 ≡ getD d i 0 → sameSpans (drop (i + 1) (spansIn a b n)) (drop (i + 1) (spansIn c d
+        n)) ≡ w
     spans-more h k l = simp (eq-eqb (getD a i 0) (getD c i 0) k, eq-eqb (getD b i 0) (getD d i 0) l) at (same-here h)
 
     pub spans-all : n ≤ i → true ≡ w
@@ -200,7 +209,8 @@ module _ (p i : List ℕ) (ts : List Span) where
   pub kept-many : 4 < length (topicPlaces p) → false ≡ keptWith p i ts
   kept-many h = kept-not (either (givesId p i) (λ t. let k = gives-few p i t in absurd (omega arith)) (λ t. sym t))
 
-  pub kept-names : (n : ℕ) (r : Bool) → counted kind.RawMessage p ≡ count.Records n → sameSpans (topicPlaces p) ts ≡ true → r ≡ idGiven p i (admissionOf p true) → r ≡ keptWith p i ts
+  pub kept-names : (n : ℕ) (r : Bool) → counted kind.RawMessage p ≡ count.Records n → sameSpans (topicPlaces p) ts ≡ true → r ≡ idGiven p i
+      (admissionOf p true) → r ≡ keptWith p i ts
   unfolding keptWith givesId
   kept-names n r h s g = rw (h, s) (g ∙ sym (and-true (idGiven p i (admissionOf p true))))
 
@@ -217,17 +227,35 @@ module _ (p : List ℕ) (r : Admission) (n l : ℕ) (hn : n ≡ length (topicsOf
   pub limit-long : (n ≡ 0 → ⊥) → n ≤ 4 → (l ≡ 0 → ⊥) → admission.Unfit (TopicTooLong l) ≡ onLimits p r
   unfolding onLimits
   limit-long z h k =
-      simp (hl, ne-eqb (length (topicsOf p)) 0 (λ q. z (hn ∙ q)), le-ltb 4 (length (topicsOf p)) (omega arith), ne-eqb (firstLong (topicsOf p)) 0 (λ q. k (hl ∙ q)))
+      simp (
+        hl,
+        ne-eqb (length (topicsOf p)) 0 (λ q. z (hn ∙ q)),
+        le-ltb 4 (length (topicsOf p)) (omega arith),
+        ne-eqb (firstLong (topicsOf p)) 0 (λ
+            q. k (hl ∙ q)),
+      )
 
   pub limit-size : (n ≡ 0 → ⊥) → n ≤ 4 → l ≡ 0 → 4096 < length p → admission.Unfit (MessageTooLong (length p)) ≡ onLimits p r
   unfolding onLimits
   limit-size z h k m =
-      simp (ne-eqb (length (topicsOf p)) 0 (λ q. z (hn ∙ q)), le-ltb 4 (length (topicsOf p)) (omega arith), eq-eqb (firstLong (topicsOf p)) 0 (sym hl ∙ k), lt-ltb 4096 (length p) m)
+      simp (
+        ne-eqb (length (topicsOf p)) 0 (λ q. z (hn ∙ q)),
+        le-ltb 4 (length (topicsOf p)) (omega arith),
+        eq-eqb (firstLong (topicsOf p)) 0 (sym hl
+            ∙ k),
+        lt-ltb 4096 (length p) m,
+      )
 
   pub limit-fit : (n ≡ 0 → ⊥) → n ≤ 4 → l ≡ 0 → length p ≤ 4096 → r ≡ onLimits p r
   unfolding onLimits
   limit-fit z h k m =
-      simp (ne-eqb (length (topicsOf p)) 0 (λ q. z (hn ∙ q)), le-ltb 4 (length (topicsOf p)) (omega arith), eq-eqb (firstLong (topicsOf p)) 0 (sym hl ∙ k), le-ltb 4096 (length p) m)
+      simp (
+        ne-eqb (length (topicsOf p)) 0 (λ q. z (hn ∙ q)),
+        le-ltb 4 (length (topicsOf p)) (omega arith),
+        eq-eqb (firstLong (topicsOf p)) 0 (sym hl
+            ∙ k),
+        le-ltb 4096 (length p) m,
+      )
 
 -- ---- 27
 pub not-true : (v : Bool) → not v ≡ true → v ≡ false
@@ -239,7 +267,8 @@ not-false true h = refl
 not-false false h = clash (cc)
 
 -- ---- 21, 22, 23
-pub admit-on : (p : List ℕ) (word : Bool) (t : Slots) (i j : MessageId) → t ≡ slotsOf kind.RawMessage p → i ≡ onFrom (t .first) (t .third) → i ≡ j → onId p word j ≡ admissionOf p word
+pub admit-on : (p : List ℕ) (word : Bool) (t : Slots) (i j : MessageId) → t ≡ slotsOf kind.RawMessage p → i ≡ onFrom (t .first) (t .third) → i ≡ j →
+    onId p word j ≡ admissionOf p word
 unfolding admissionOf idParts
 admit-on p word t i j h k e = ap (onId p word) (sym e ∙ k ∙ ap (λ (x : Slots). onFrom (x .first) (x .third)) h)
 
@@ -256,7 +285,8 @@ module _ (p i : List ℕ) (a e b f : ℕ) (o : a ≤ e) (l : e ≤ length p) whe
       same-append (between p a e) (between p b f) i
       ∙ ap (λ (n : ℕ). sameBytes (between p a e) (take n i) && sameBytes (between p b f) (drop n i)) (between-length p a e l)
 
-  pub parts-first : (r : Bool) → sameBytes (between p a e) (take (e - a) i) ≡ true → r ≡ sameBytes (between p b f) (take (length i - (e - a)) (drop (e - a) i)) → r ≡ sameBytes (idBytes p a e b f) i
+  pub parts-first : (r : Bool) → sameBytes (between p a e) (take (e - a) i) ≡ true → r ≡ sameBytes (between p b f) (take (length i - (e - a)) (drop (e
+      - a) i)) → r ≡ sameBytes (idBytes p a e b f) i
   parts-first r h k =
       let w = take-all (length i - (e - a)) (drop (e - a) i) (rw (length-drop (e - a) i) (omega arith)) in
       k ∙ ap (sameBytes (between p b f)) w ∙ sym (simp h at split)

@@ -46,7 +46,8 @@ use Rattle.mcache.specs.GuardLaws.{lie-rows, when-keeps, keep-usable, fo
 use Rattle.mcache.proofs.Walks.{part-from}
 
 -- ---- the arrays of the topics' places
-pub roomy : (c : MessageCache) → length (c .«topic_count») ≡ maxMessages → length (c .«topic_start») ≡ topicsSize → length (c .«topic_len») ≡ topicsSize → Roomy (tableOf c)
+pub roomy : (c : MessageCache) → length (c .«topic_count») ≡ maxMessages → length (c .«topic_start») ≡ topicsSize → length (c .«topic_len») ≡
+    topicsSize → Roomy (tableOf c)
 roomy c x y z = record { counts = x; starts = y; sizes = z }
 
 -- ---- the rows
@@ -95,7 +96,8 @@ module _ (c : MessageCache) (st : List ℕ) where
     pub ring-of : (l : List ℕ) → length l ≡ maxMessages → InStore (ringOf c) l
     ring-of l z = record { starts = starts; within = within; size = omega arith }
 
-    pub rows-of : length (c .len) ≡ maxMessages → length (c .«id_len») ≡ maxMessages → length (c .ids) ≡ idsSize → Roomy (tableOf c) → length st ≡ c .«max_messages» * messageSize → shorts ≡ true
+    pub rows-of : length (c .len) ≡ maxMessages → length (c .«id_len») ≡ maxMessages → length (c .ids) ≡ idsSize → Roomy (tableOf c) → length st ≡ c
+        .«max_messages» * messageSize → shorts ≡ true
         → Laid (ringOf c) (c .len) (c .«id_len») (c .ids) (tableOf c) st
     rows-of x y z t r s =
         record {
@@ -136,12 +138,23 @@ module _ (c : MessageCache) (st : List ℕ) where
       module _ (a : c .«history_len» ≤ maxHistory) where
         pub lent-many : maxMessages < c .«max_messages» → lent.Malformed ≡ lentOf c st
         unfolding lentOf wellFormed legal
-        lent-many h = simp (whole, le-leb 1 (c .«history_len») (omega (arith, n)), le-leb (c .«history_len») maxHistory a, lt-leb (c .«max_messages») maxMessages h)
+        lent-many h = simp (
+          whole,
+          le-leb 1 (c .«history_len») (omega (arith, n)),
+          le-leb (c .«history_len») maxHistory a,
+          lt-leb (c .«max_messages»)
+              maxMessages h,
+        )
 
         module _ (m : c .«max_messages» ≤ maxMessages) where
           settings : legal (c .«history_len») (c .«max_messages») ≡ true
           unfolding legal
-          settings = simp (le-leb 1 (c .«history_len») (omega (arith, n)), le-leb (c .«history_len») maxHistory a, le-leb (c .«max_messages») maxMessages m)
+          settings = simp (
+            le-leb 1 (c .«history_len») (omega (arith, n)),
+            le-leb (c .«history_len») maxHistory a,
+            le-leb (c .«max_messages»)
+                maxMessages m,
+          )
 
           pub lent-start : c .«max_messages» < c .start → lent.Malformed ≡ lentOf c st
           unfolding lentOf wellFormed
@@ -166,14 +179,16 @@ module _ (c : MessageCache) (st id : List ℕ) where
   unfolding found
   found-none h = sym (simp (le-ltb (indexIn c id) (c .count) h))
 
-  pub found-at : (i p : ℕ) → i ≡ indexIn c id → i < c .count → p ≡ placeOf (ringOf c) i → take ((p * messageSize + getD (c .len) p 0) - p * messageSize) (drop (p * messageSize) st) ≡ found c st id
+  pub found-at : (i p : ℕ) → i ≡ indexIn c id → i < c .count → p ≡ placeOf (ringOf c) i → take ((p * messageSize + getD (c .len) p 0) - p *
+      messageSize) (drop (p * messageSize) st) ≡ found c st id
   unfolding found messageIn
   found-at i p e h k =
       part-from (p * messageSize) (getD (c .len) p 0) (drop (p * messageSize) st)
       ∙ ap (λ (q : ℕ). messageIn (c .len) st q) (k ∙ ap (placeOf (ringOf c)) e)
       ∙ sym (simp (lt-ltb (indexIn c id) (c .count) (omega arith)))
 
-  pub found-lies : (i p : ℕ) → Usable c st → i < c .count → p ≡ placeOf (ringOf c) i → (p < maxMessages) × (p < length (c .len)) × (p * messageSize + getD (c .len) p 0 ≤ length st)
+  pub found-lies : (i p : ℕ) → Usable c st → i < c .count → p ≡ placeOf (ringOf c) i → (p < maxMessages) × (p < length (c .len)) × (p * messageSize +
+      getD (c .len) p 0 ≤ length st)
   found-lies i p ok h e =
       let r = ok .rows in
       let l : p < c .«max_messages» = rw e (place-lt (ringOf c) i (r .starts) (omega (arith, r .within))) in
@@ -256,10 +271,12 @@ module _ (c : MessageCache) (st topic : List ℕ) (windows : ℕ) where
   pub gossip-malformed : lent.Malformed ≡ lentOf c st → Tells c st topic windows gossip.Malformed 0 (replicate maxMessages 0)
   gossip-malformed e = untold gossip.Malformed (says-malformed e) (λ k. clash (cc))
 
-  pub gossip-long : lent.Fine ≡ lentOf c st → 1024 < length topic → Tells c st topic windows (gossip.TopicTooLong (length topic)) 0 (replicate maxMessages 0)
+  pub gossip-long : lent.Fine ≡ lentOf c st → 1024 < length topic → Tells c st topic windows (gossip.TopicTooLong (length topic)) 0 (replicate
+      maxMessages 0)
   gossip-long e h = untold (gossip.TopicTooLong (length topic)) (says-long e h) (λ k. clash (cc))
 
-  pub gossip-told : lent.Fine ≡ lentOf c st → length topic ≤ 1024 → (n : ℕ) (rows : List ℕ) → n ≡ length (gossipList c st topic windows) → rows ≡ gossipArray c st topic windows
+  pub gossip-told : lent.Fine ≡ lentOf c st → length topic ≤ 1024 → (n : ℕ) (rows : List ℕ) → n ≡ length (gossipList c st topic windows) → rows ≡
+      gossipArray c st topic windows
       → Tells c st topic windows gossip.Ids n rows
   unfolding gossipCount gossipRows
   gossip-told e h n rows f g = let s = says-ids e h in record { answer = sym s; count = rw s f; rows = rw s g }
@@ -272,10 +289,12 @@ Does c st plan a r s = (a ≡ answered plan) × ((r ≡ keptIn c plan) × (s ≡
 pub puts-no : (c : MessageCache) (st : List ℕ) (plan : Plan) (a : Put) → plan ≡ no a → Does c st plan a c st
 puts-no c st plan a e = (rw e, (rw e, rw e))
 
-pub puts-as : (c : MessageCache) (st : List ℕ) (plan other : Plan) (a : Put) (r : MessageCache) (s : List ℕ) → plan ≡ other → Does c st other a r s → Does c st plan a r s
+pub puts-as : (c : MessageCache) (st : List ℕ) (plan other : Plan) (a : Put) (r : MessageCache) (s : List ℕ) → plan ≡ other → Does c st other a r s →
+    Does c st plan a r s
 puts-as c st plan other a r s e p = (rw e (p .0), (rw e (p .1 .0), rw e (p .1 .1)))
 
-pub put-done : (c : MessageCache) (st body : List ℕ) (i : ℕ) (r : PutDone) (left : List ℕ) → Does c st (planned c st body i) (r .answer) (r .cache) left → Puts c st body i r left
+pub put-done : (c : MessageCache) (st body : List ℕ) (i : ℕ) (r : PutDone) (left : List ℕ) → Does c st (planned c st body i) (r .answer) (r .cache)
+    left → Puts c st body i r left
 put-done c st body i r left p = record { answer = p .0; cache = p .1 .0; store = p .1 .1 }
 
 module _ (c : MessageCache) (p : List ℕ) where
@@ -295,20 +314,25 @@ module _ (c : MessageCache) (st body : List ℕ) (i : ℕ) where
   unfolding planned
   plan-refused why e f = rw (← e, ← f)
 
-  pub plan-missing : (n : ℕ) → lent.Fine ≡ lentOf c st → checked.Fine ≡ acceptOf body → at.Count n ≡ messageAt body i → planned c st body i ≡ no (put.NoMessage n)
+  pub plan-missing : (n : ℕ) → lent.Fine ≡ lentOf c st → checked.Fine ≡ acceptOf body → at.Count n ≡ messageAt body i → planned c st body i ≡ no
+      (put.NoMessage n)
   unfolding planned
   plan-missing n e f g = rw (← e, ← f, ← g)
 
-  pub plan-at : (a b : ℕ) → lent.Fine ≡ lentOf c st → checked.Fine ≡ acceptOf body → at.At a b ≡ messageAt body i → planned c st body i ≡ planFit c (between body a b) (admissionOf (between body a b) true)
+  pub plan-at : (a b : ℕ) → lent.Fine ≡ lentOf c st → checked.Fine ≡ acceptOf body → at.At a b ≡ messageAt body i → planned c st body i ≡ planFit c
+      (between body a b) (admissionOf (between body a b) true)
   unfolding planned
   plan-at a b e f g = rw (← e, ← f, ← g)
 
 -- ---- a state that was tested
-module _ (c : MessageCache) (st : List ℕ) (h : lent.Fine ≡ lentOf c st) (g : length (c .generation) ≡ maxMessages) (w : length (c .window) ≡ maxMessages) (l : length (c .len) ≡ maxMessages) (i : length (c .«id_len») ≡ maxMessages) (r : length (c .ids) ≡ idsSize) (t : Roomy (tableOf c)) where
-  pub tested : Usable c st
-  tested = lent-kept c st (sym h) (record { generations = g; windows = w; lengths = l; id-lengths = i; id-room = r; topics = t })
+module _ (c : MessageCache) (st : List ℕ) (h : lent.Fine ≡ lentOf c st) (g : length (c .generation) ≡ maxMessages) (w : length (c .window) ≡
+    maxMessages) (l : length (c .len) ≡ maxMessages) (i : length (c .«id_len») ≡ maxMessages) (r : length (c .ids) ≡ idsSize) (t : Roomy (tableOf c))
+  where
+    pub tested : Usable c st
+    tested = lent-kept c st (sym h) (record { generations = g; windows = w; lengths = l; id-lengths = i; id-room = r; topics = t })
 
-pub told-as : (c : MessageCache) (st topic : List ℕ) (windows : ℕ) (b : Gossip) (r : GossipIds) → (r .answer ≡ b) × ((r .count ≡ 0) × (r .rows ≡ replicate maxMessages 0))
+pub told-as : (c : MessageCache) (st topic : List ℕ) (windows : ℕ) (b : Gossip) (r : GossipIds) → (r .answer ≡ b) × ((r .count ≡ 0) × (r .rows ≡
+    replicate maxMessages 0))
     → Tells c st topic windows b 0 (replicate maxMessages 0) → Gossips c st topic windows r
 told-as c st topic windows b r e t = record { answer = e .0 ∙ t .answer; count = e .1 .0 ∙ t .count; rows = e .1 .1 ∙ t .rows }
 
@@ -321,10 +345,12 @@ module _ (p : List ℕ) (a e b f : ℕ) (h : admissionOf p true ≡ admission.Fi
     pub id-whole : take n out ≡ idBytes p a e b f
     id-whole =
         let l = fit-id p true a e b f h in
-        rw (k .1, sets-eq (idBytes p a e b f) first 0 (omega arith)) (take-at (idBytes p a e b f) (drop (0 + length (idBytes p a e b f)) first) n (sym (k .0)))
+        rw (k .1, sets-eq (idBytes p a e b f) first 0 (omega arith)) (take-at (idBytes p a e b f) (drop (0 + length (idBytes p a e b f)) first) n (sym
+        (k .0)))
 
     pub id-fits-in : n ≤ length out
-    id-fits-in = let l = fit-id p true a e b f h in let o : length out ≡ length first = ap length (k .1) ∙ length-sets first 0 (idBytes p a e b f) in omega (arith, k .0)
+    id-fits-in = let l = fit-id p true a e b f h in let o : length out ≡ length first = ap length (k .1) ∙ length-sets first 0 (idBytes p a e b f) in
+        omega (arith, k .0)
 
     pub id-counts : n ≡ length (take n out)
     id-counts = k .0 ∙ sym (ap length id-whole)
@@ -345,11 +371,24 @@ module _ (c : MessageCache) (st m id : List ℕ) where
   kept-not h = record { answer = rw h; cache = rw h; store = rw h }
 
   module _ (g : keepable (ringOf c) (length st) (length m) (length id) ≡ true) where
-    pub kept-placed : length (c .generation) ≡ maxMessages → length (c .window) ≡ maxMessages → length (c .len) ≡ maxMessages → length (c .«id_len») ≡ maxMessages → length (c .ids) ≡ idsSize → Roomy (tableOf c) → Placed c st
+    pub kept-placed : length (c .generation) ≡ maxMessages → length (c .window) ≡ maxMessages → length (c .len) ≡ maxMessages → length (c .«id_len») ≡
+        maxMessages → length (c .ids) ≡ idsSize → Roomy (tableOf c) → Placed c st
     kept-placed x w l i r y =
         let k = when-keeps (ringOf c) (length st) (length m) (length id) g in
         let t = lie-rows (ringOf c) (k .0) in
-        record { few = t .0; starts = t .1; within = t .2; room = k .1; lengths = l; id-lengths = i; id-room = r; topics = y; windows = w; generations = x }
+        record {
+          few = t .0;
+          starts = t .1;
+          within = t .2;
+          room = k .1;
+          lengths = l;
+          id-lengths = i;
+          id-room = r;
+          topics = y;
+          windows = w;
+          generations
+              = x;
+        }
 
     pub kept-short : (length m ≤ messageSize) × (length id ≤ messageIdSize)
     kept-short = let k = when-keeps (ringOf c) (length st) (length m) (length id) g in (k .2, k .3)
@@ -357,12 +396,20 @@ module _ (c : MessageCache) (st m id : List ℕ) where
     module _ (r : ℕ) (e : r ≡ indexIn c id) where
       pub under-held : r < c .count → Keeps c st m id (record { answer = put.Held; cache = c }) st
       unfolding planKept
-      under-held h = let t = lt-ltb (indexIn c id) (c .count) (omega (arith, e)) in record { answer = rw (g, t); cache = rw (g, t); store = rw (g, t) }
+      under-held h = let t = lt-ltb (indexIn c id) (c .count) (omega (arith, e)) in record {
+        answer = rw (g, t);
+        cache = rw (g, t);
+        store = rw (g, t);
+      }
 
       pub under-new : c .count ≤ r → (d : MessageCache) (st2 : List ℕ) → (d ≡ entered m id c) × (st2 ≡ enteredStore c st m)
           → Keeps c st m id (record { answer = put.Stored; cache = d }) st2
       unfolding planKept
-      under-new h d st2 w = let t = le-ltb (indexIn c id) (c .count) (omega (arith, e)) in record { answer = rw (g, t); cache = rw (g, t) (w .0); store = rw (g, t) (w .1) }
+      under-new h d st2 w = let t = le-ltb (indexIn c id) (c .count) (omega (arith, e)) in record {
+        answer = rw (g, t);
+        cache = rw (g, t) (w .0);
+        store = rw (g, t) (w .1);
+      }
 
 -- ---- the id in a place
 module _ (c : MessageCache) (row : ℕ) (out id : List ℕ) (e : id ≡ idAt messageIdSize (c .«id_len») (c .ids) row) where

@@ -35,18 +35,44 @@ module _ (history max : ℕ) where
   unfolding startAnswer startCache legal
   start-long n h = let k = le-leb 1 history (omega (arith, n)) in let l = lt-leb history maxHistory h in (simp (k, l), simp (k, l))
 
-  pub start-many : (history ≡ 0 → ⊥) → history ≤ maxHistory → maxMessages < max → (start.BadSetting ≡ startAnswer history max) × (fresh 1 0 ≡ startCache history max)
+  pub start-many : (history ≡ 0 → ⊥) → history ≤ maxHistory → maxMessages < max → (start.BadSetting ≡ startAnswer history max) × (fresh 1 0 ≡
+      startCache history max)
   unfolding startAnswer startCache legal
-  start-many n h m = let k = le-leb 1 history (omega (arith, n)) in let l = le-leb history maxHistory h in let j = lt-leb max maxMessages m in (simp (k, l, j), simp (k, l, j))
+  start-many n h m = let k = le-leb 1 history (omega (arith, n)) in let l = le-leb history maxHistory h in let j = lt-leb max maxMessages m in (
+    simp
+        (k, l, j),
+    simp (k, l, j),
+  )
 
-  pub start-fits : (history ≡ 0 → ⊥) → history ≤ maxHistory → max ≤ maxMessages → (start.Started ≡ startAnswer history max) × (fresh history max ≡ startCache history max)
+  pub start-fits : (history ≡ 0 → ⊥) → history ≤ maxHistory → max ≤ maxMessages → (start.Started ≡ startAnswer history max) × (fresh history max ≡
+      startCache history max)
   unfolding startAnswer startCache legal
-  start-fits n h m = let k = le-leb 1 history (omega (arith, n)) in let l = le-leb history maxHistory h in let j = le-leb max maxMessages m in (simp (k, l, j), simp (k, l, j))
+  start-fits n h m = let k = le-leb 1 history (omega (arith, n)) in let l = le-leb history maxHistory h in let j = le-leb max maxMessages m in (
+    simp
+        (k, l, j),
+    simp (k, l, j),
+  )
 
 -- ---- without the oldest
 pub dropped-is : (k p : ℕ) (c : MessageCache) → p ≡ placeOf (ringOf c) k
     → _≡_ {A = MessageCache}
-    (record { «history_len» = c .«history_len»; «max_messages» = c .«max_messages»; «next_generation» = c .«next_generation»; start = p; count = c .count - k; generation = c .generation; window = c .window; len = c .len; «id_len» = c .«id_len»; ids = c .ids; «topic_count» = c .«topic_count»; «topic_start» = c .«topic_start»; «topic_len» = c .«topic_len» })
+    (record {
+      «history_len» = c .«history_len»;
+      «max_messages» = c .«max_messages»;
+      «next_generation» = c .«next_generation»;
+      start = p;
+      count = c
+          .count - k;
+      generation = c .generation;
+      window = c .window;
+      len = c .len;
+      «id_len» = c .«id_len»;
+      ids = c .ids;
+      «topic_count» = c
+          .«topic_count»;
+      «topic_start» = c .«topic_start»;
+      «topic_len» = c .«topic_len»;
+    })
     (dropped k c)
 unfolding dropped
 dropped-is k p c h = rw h
@@ -73,14 +99,32 @@ bytes-put at bs out out2 h e = e ∙ set-fits (length bs) at bs out h
 
 -- the next place
 pub next-lies : (c : MessageCache) (st : List ℕ) (p : ℕ) → Placed c st → c .count < c .«max_messages» → p ≡ placeOf (ringOf c) (c .count)
-    → (p < maxMessages) × (p * messageSize + messageSize ≤ length st) × (p * messageIdSize + messageIdSize ≤ length (c .ids)) × (p < length (c .len)) × (p < length (c .«id_len»)) × (p < length (c .window)) × (p < length (c .generation))
-    × (p < length (c .«topic_count»)) × (p * maxTopics + maxTopics ≤ length (c .«topic_start»)) × (p * maxTopics + maxTopics ≤ length (c .«topic_len»))
+    → (p < maxMessages) × (p * messageSize + messageSize ≤ length st) × (p * messageIdSize + messageIdSize ≤ length (c .ids)) × (p < length (c .len))
+    × (p < length (c .«id_len»)) × (p < length (c .window)) × (p < length (c .generation))
+    × (p < length (c .«topic_count»)) × (p * maxTopics + maxTopics ≤ length (c .«topic_start»)) × (p * maxTopics + maxTopics ≤ length (c
+    .«topic_len»))
 next-lies c st p ok h e =
-    let l : p < c .«max_messages» = rw e (place-lt (ringOf c) (c .count) (ok .starts) h) in
-    (omega (arith, ok .few), omega (arith, ok .room), omega (arith, ok .few, ok .id-room), omega (arith, ok .few, ok .lengths), omega (arith, ok .few, ok .id-lengths), omega (arith, ok .few, ok .windows), omega (arith, ok .few, ok .generations), omega (arith, ok .few, ok .topics .counts), omega (arith, ok .few, ok .topics .starts), omega (arith, ok .few, ok .topics .sizes))
+    let l : p < c .«max_messages» = rw e (place-lt (ringOf c) (c .count) (ok .starts) h) in (
+      omega (arith, ok .few),
+      omega (arith, ok .room),
+      omega (arith, ok .few, ok .id-room),
+      omega (arith, ok .few, ok .lengths),
+      omega (
+        arith,
+        ok .few,
+        ok .id-lengths,
+      ),
+      omega (arith, ok .few, ok .windows),
+      omega (arith, ok .few, ok .generations),
+      omega (arith, ok .few, ok .topics .counts),
+      omega (arith, ok .few, ok .topics .starts),
+      omega (arith, ok .few, ok .topics .sizes),
+    )
 
-pub appended-is : (m id : List ℕ) (c : MessageCache) (p g n : ℕ) (ids starts sizes : List ℕ) → n ≡ length (keptPlaces m) → starts ≡ sets (c .«topic_start») (p * maxTopics) (startsOf (keptPlaces m))
-    → sizes ≡ sets (c .«topic_len») (p * maxTopics) (sizesOf (keptPlaces m)) → p ≡ placeOf (ringOf c) (c .count) → g ≡ (c .«next_generation» + 1) % 2 ^ 64 → ids ≡ sets (c .ids) (p * messageIdSize) id
+pub appended-is : (m id : List ℕ) (c : MessageCache) (p g n : ℕ) (ids starts sizes : List ℕ) → n ≡ length (keptPlaces m) → starts ≡ sets (c
+    .«topic_start») (p * maxTopics) (startsOf (keptPlaces m))
+    → sizes ≡ sets (c .«topic_len») (p * maxTopics) (sizesOf (keptPlaces m)) → p ≡ placeOf (ringOf c) (c .count) → g ≡ (c .«next_generation» + 1) % 2
+    ^ 64 → ids ≡ sets (c .ids) (p * messageIdSize) id
     → _≡_ {A = MessageCache}
     (record {
       «history_len» = c .«history_len»;
@@ -101,14 +145,29 @@ pub appended-is : (m id : List ℕ) (c : MessageCache) (p g n : ℕ) (ids starts
 unfolding appended noted
 appended-is m id c p g n ids starts sizes a b d h e f = rw (a, b, d, f, e, h)
 
-pub appended-store : (c : MessageCache) (p : ℕ) (st st2 m : List ℕ) → p ≡ placeOf (ringOf c) (c .count) → st2 ≡ sets st (p * messageSize) m → st2 ≡ sets st (placeOf (ringOf c) (c .count) * messageSize) m
+pub appended-store : (c : MessageCache) (p : ℕ) (st st2 m : List ℕ) → p ≡ placeOf (ringOf c) (c .count) → st2 ≡ sets st (p * messageSize) m → st2 ≡
+    sets st (placeOf (ringOf c) (c .count) * messageSize) m
 appended-store c p st st2 m h e = e ∙ ap (λ (i : ℕ). sets st (i * messageSize) m) h
 
 module _ (c : MessageCache) (st m id : List ℕ) where
   -- with max_messages 0 nothing is kept
   pub entered-none : (g : ℕ) → c .«max_messages» ≡ 0 → g ≡ (c .«next_generation» + 1) % 2 ^ 64
       → (_≡_ {A = MessageCache}
-      (record { «history_len» = c .«history_len»; «max_messages» = c .«max_messages»; «next_generation» = g; start = c .start; count = c .count; generation = c .generation; window = c .window; len = c .len; «id_len» = c .«id_len»; ids = c .ids; «topic_count» = c .«topic_count»; «topic_start» = c .«topic_start»; «topic_len» = c .«topic_len» })
+      (record {
+        «history_len» = c .«history_len»;
+        «max_messages» = c .«max_messages»;
+        «next_generation» = g;
+        start = c .start;
+        count = c .count;
+        generation = c .generation;
+        window = c .window;
+        len = c .len;
+        «id_len» = c .«id_len»;
+        ids = c .ids;
+        «topic_count» = c .«topic_count»;
+        «topic_start» = c .«topic_start»;
+        «topic_len» = c .«topic_len»;
+      })
       (entered m id c)) × (st ≡ enteredStore c st m)
   unfolding entered enteredStore passed
   entered-none g h e = let z = eq-eqb (c .«max_messages») 0 h in (rw (z, e), rw z)
@@ -131,7 +190,8 @@ module _ (c : MessageCache) (st m id : List ℕ) where
         (rw z (er ∙ ap (appended m id) w), rw z (es ∙ ap (λ (x : MessageCache). sets st (placeOf (ringOf x) (x .count) * messageSize) m) w))
 
 -- ---- finding
-pub index-is : (c : MessageCache) (id : List ℕ) (r : ℕ) → r ≡ 0 + indexOf id (drop 0 (idsIn messageIdSize (ringOf c) (c .«id_len») (c .ids))) → r ≡ indexIn c id
+pub index-is : (c : MessageCache) (id : List ℕ) (r : ℕ) → r ≡ 0 + indexOf id (drop 0 (idsIn messageIdSize (ringOf c) (c .«id_len») (c .ids))) → r ≡
+    indexIn c id
 unfolding indexIn
 index-is c id r e = e ∙ zero-add (indexOf id (idsIn messageIdSize (ringOf c) (c .«id_len») (c .ids)))
 
@@ -139,24 +199,48 @@ index-is c id r e = e ∙ zero-add (indexOf id (idsIn messageIdSize (ringOf c) (
 pub stale-within : (history : ℕ) (ring : Ring) (l : List ℕ) (k : ℕ) → k ≡ stale history (inUse ring l) → k ≤ ring .count
 stale-within history ring l k e = let h = stale-in history ring l in omega arith
 
-pub shifted-is : (c : MessageCache) (k : ℕ) (w : List ℕ) (r : MessageCache) → k ≡ stale (c .«history_len») (inUse (ringOf c) (c .window)) → w ≡ map older (c .window)
-    → r ≡ dropped k (record { «history_len» = c .«history_len»; «max_messages» = c .«max_messages»; «next_generation» = c .«next_generation»; start = c .start; count = c .count; generation = c .generation; window = w; len = c .len; «id_len» = c .«id_len»; ids = c .ids; «topic_count» = c .«topic_count»; «topic_start» = c .«topic_start»; «topic_len» = c .«topic_len» })
+pub shifted-is : (c : MessageCache) (k : ℕ) (w : List ℕ) (r : MessageCache) → k ≡ stale (c .«history_len») (inUse (ringOf c) (c .window)) → w ≡ map
+    older (c .window)
+    → r ≡ dropped k (record {
+      «history_len» = c .«history_len»;
+      «max_messages» = c .«max_messages»;
+      «next_generation» = c .«next_generation»;
+      start =
+          c .start;
+      count = c .count;
+      generation = c .generation;
+      window = w;
+      len = c .len;
+      «id_len» = c .«id_len»;
+      ids = c .ids;
+      «topic_count» = c
+          .«topic_count»;
+      «topic_start» = c .«topic_start»;
+      «topic_len» = c .«topic_len»;
+    })
     → r ≡ shifted c
 unfolding shifted aged
 shifted-is c k w r ek ew e = e ∙ rw (ew, ek)
 
 -- ---- telling
-told-rows : (c : MessageCache) (st topic : List ℕ) (windows n : ℕ) (rows : List ℕ) (l : List ℕ) → l ≡ gossipList c st topic windows → n ≡ length l → rows ≡ l ++ drop n (replicate maxMessages 0)
+told-rows : (c : MessageCache) (st topic : List ℕ) (windows n : ℕ) (rows : List ℕ) (l : List ℕ) → l ≡ gossipList c st topic windows → n ≡ length l →
+    rows ≡ l ++ drop n (replicate maxMessages 0)
     → (n ≡ length (gossipList c st topic windows)) × (rows ≡ gossipArray c st topic windows)
 unfolding gossipArray
 told-rows c st topic windows n rows l e f g = (rw (← e) f, rw (← e) (g ∙ ap (λ (k : ℕ). l ++ drop k (replicate maxMessages 0)) f))
 
 module _ (c : MessageCache) (st topic : List ℕ) (windows : ℕ) where
-  pub tells-rows : (n : ℕ) (rows l : List ℕ) → rowsLie (ringOf c) ≡ true → l ≡ gossipList c st topic windows → n ≡ length l → rows ≡ l ++ drop n (replicate maxMessages 0)
+  pub tells-rows : (n : ℕ) (rows l : List ℕ) → rowsLie (ringOf c) ≡ true → l ≡ gossipList c st topic windows → n ≡ length l → rows ≡ l ++ drop n
+      (replicate maxMessages 0)
       → TellsRows c st topic windows (record { answer = gossip.Ids; count = n; rows = rows })
   unfolding tellAnswer tellCount tellRows
-  tells-rows n rows l h e f g = let q = told-rows c st topic windows n rows l e f g in record { answer = rw h; count = rw h (q .0); rows = rw h (q .1) }
+  tells-rows n rows l h e f g = let q = told-rows c st topic windows n rows l e f g in record {
+    answer = rw h;
+    count = rw h (q .0);
+    rows = rw h (q .1);
+  }
 
-  pub tells-none : (r : GossipIds) → rowsLie (ringOf c) ≡ false → (r .answer ≡ gossip.Malformed) × ((r .count ≡ 0) × (r .rows ≡ replicate maxMessages 0)) → TellsRows c st topic windows r
+  pub tells-none : (r : GossipIds) → rowsLie (ringOf c) ≡ false → (r .answer ≡ gossip.Malformed) × ((r .count ≡ 0) × (r .rows ≡ replicate maxMessages
+      0)) → TellsRows c st topic windows r
   unfolding tellAnswer tellCount tellRows
   tells-none r h e = record { answer = rw h (e .0); count = rw h (e .1 .0); rows = rw h (e .1 .1) }

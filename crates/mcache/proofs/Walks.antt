@@ -33,7 +33,8 @@ use Rattle.mcache.specs.State.{maxTopics, Table, topicsAt, keptPlaces}
 
 -- ---- windows
 module _ (most : ℕ) (ring : Ring) (l : List ℕ) (last i : ℕ) (inv : fallsFrom last (drop i (inUse ring l)) ≡ fallsFrom most (inUse ring l)) where
-  pub falls-more : (w : ℕ) → i < ring .count → w ≡ getD l (placeOf ring i) 0 → w ≤ last → fallsFrom w (drop (i + 1) (inUse ring l)) ≡ fallsFrom most (inUse ring l)
+  pub falls-more : (w : ℕ) → i < ring .count → w ≡ getD l (placeOf ring i) 0 → w ≤ last → fallsFrom w (drop (i + 1) (inUse ring l)) ≡ fallsFrom most
+      (inUse ring l)
   unfolding fallsFrom inUse
   falls-more w h e k =
       rw e (simp (le-leb (getD l (placeOf ring i) 0) last (rw (sym e) k)) at (rw (ring-from (λ (p : ℕ). getD l p 0) ring i h) at inv))
@@ -59,17 +60,20 @@ module _ (next : ℕ) (ring : Ring) (l : List ℕ) (i : ℕ) (inv : runsTo next 
   unfolding inUse
   after = length-drop (i + 1) (inUse ring l) ∙ ap (λ (n : ℕ). n - (i + 1)) (length-ring (λ (p : ℕ). getD l p 0) ring)
 
-  step : i < ring .count → (eqb ((getD l (placeOf ring i) 0 + (ring .count - i)) % 2 ^ 64) next && runsTo next (drop (i + 1) (inUse ring l))) ≡ runsTo next (inUse ring l)
+  step : i < ring .count → (eqb ((getD l (placeOf ring i) 0 + (ring .count - i)) % 2 ^ 64) next && runsTo next (drop (i + 1) (inUse ring l))) ≡ runsTo
+      next (inUse ring l)
   unfolding runsTo inUse
   step h =
       let s = rw (ring-from (λ (p : ℕ). getD l p 0) ring i h) at inv in
       let k : suc (length (drop (i + 1) (inUse ring l))) ≡ ring .count - i = omega (arith, after) in
       rw k at s
 
-  pub runs-more : (g age : ℕ) → i < ring .count → g ≡ getD l (placeOf ring i) 0 → (age + g) % 2 ^ 64 ≡ next → age ≡ ring .count - i → runsTo next (drop (i + 1) (inUse ring l)) ≡ runsTo next (inUse ring l)
+  pub runs-more : (g age : ℕ) → i < ring .count → g ≡ getD l (placeOf ring i) 0 → (age + g) % 2 ^ 64 ≡ next → age ≡ ring .count - i → runsTo next
+      (drop (i + 1) (inUse ring l)) ≡ runsTo next (inUse ring l)
   runs-more g age h e f k = simp (same-age next (getD l (placeOf ring i) 0) (ring .count - i) age (rw (sym e) f) k) at (step h)
 
-  pub runs-not : (g age : ℕ) → i < ring .count → g ≡ getD l (placeOf ring i) 0 → (age + g) % 2 ^ 64 ≡ next → age < 2 ^ 64 → ring .count < 2 ^ 64 → (age ≡ ring .count - i → ⊥) → false ≡ runsTo next (inUse ring l)
+  pub runs-not : (g age : ℕ) → i < ring .count → g ≡ getD l (placeOf ring i) 0 → (age + g) % 2 ^ 64 ≡ next → age < 2 ^ 64 → ring .count < 2 ^ 64 →
+      (age ≡ ring .count - i → ⊥) → false ≡ runsTo next (inUse ring l)
   runs-not g age h e f a b n = simp (other-age next (getD l (placeOf ring i) 0) (ring .count - i) age (rw (sym e) f) a (omega arith) n) at (step h)
 
   pub runs-all : ring .count ≤ i → true ≡ runsTo next (inUse ring l)
@@ -77,8 +81,10 @@ module _ (next : ℕ) (ring : Ring) (l : List ℕ) (i : ℕ) (inv : runsTo next 
   runs-all h = rw (ring-end (λ (p : ℕ). getD l p 0) ring i h) at inv
 
 -- ---- messages
-module _ (ring : Ring) (lens ilens ids : List ℕ) (table : Table) (st : List ℕ) (i : ℕ) (inv : allTrue (drop i (rowsIn (givesAt lens ilens ids table st) ring)) ≡ givesIn ring lens ilens ids table st) where
-  pub gives-more : i < ring .count → givesAt lens ilens ids table st (placeOf ring i) ≡ true → allTrue (drop (i + 1) (rowsIn (givesAt lens ilens ids table st) ring)) ≡ givesIn ring lens ilens ids table st
+module _ (ring : Ring) (lens ilens ids : List ℕ) (table : Table) (st : List ℕ) (i : ℕ) (inv : allTrue (drop i (rowsIn (givesAt lens ilens ids table
+    st) ring)) ≡ givesIn ring lens ilens ids table st) where
+  pub gives-more : i < ring .count → givesAt lens ilens ids table st (placeOf ring i) ≡ true → allTrue (drop (i + 1) (rowsIn (givesAt lens ilens ids
+      table st) ring)) ≡ givesIn ring lens ilens ids table st
   unfolding allTrue
   gives-more h e = simp e at (rw (ring-from (givesAt lens ilens ids table st) ring i h) at inv)
 
@@ -92,7 +98,8 @@ module _ (ring : Ring) (lens ilens ids : List ℕ) (table : Table) (st : List �
 
 -- ---- what leaves when a window is opened
 module _ (history : ℕ) (ring : Ring) (l : List ℕ) (i : ℕ) (inv : i + stale history (drop i (inUse ring l)) ≡ stale history (inUse ring l)) where
-  pub stale-more : (w : ℕ) → i < ring .count → w ≡ getD l (placeOf ring i) 0 → history ≤ w + 1 → (i + 1) + stale history (drop (i + 1) (inUse ring l)) ≡ stale history (inUse ring l)
+  pub stale-more : (w : ℕ) → i < ring .count → w ≡ getD l (placeOf ring i) 0 → history ≤ w + 1 → (i + 1) + stale history (drop (i + 1) (inUse ring l))
+      ≡ stale history (inUse ring l)
   unfolding stale inUse
   stale-more w h e k =
       let s = simp (le-ltb (getD l (placeOf ring i) 0 + 1) history (rw (sym e) k)) at (rw (ring-from (λ (p : ℕ). getD l p 0) ring i h) at inv) in
@@ -111,12 +118,22 @@ module _ (history : ℕ) (ring : Ring) (l : List ℕ) (i : ℕ) (inv : i + stale
       omega arith
 
 -- ---- windows a window later
-pub aging-more : (l out : List ℕ) (i v : ℕ) → i < length l → out ≡ map older (take i l) ++ drop i l → v ≡ older (getD out i 0) → set out i v ≡ map older (take (i + 1) l) ++ drop (i + 1) l
+pub aging-more : (l out : List ℕ) (i v : ℕ) → i < length l → out ≡ map older (take i l) ++ drop i l → v ≡ older (getD out i 0) → set out i v ≡ map
+    older (take (i + 1) l) ++ drop (i + 1) l
 aging-more l out i v h e f =
     let n : length (map older (take i l)) ≡ i = length-map (take i l) older ∙ length-take-le i l (omega arith) in
     let o : out ≡ map older (take i l) ++ (getD l i 0 ∷ drop (suc i) l) = e ∙ ap (λ (t : List ℕ). map older (take i l) ++ t) (drop-cons l i 0 h) in
     let g : getD out i 0 ≡ getD l i 0 = rw o (getD-at (map older (take i l)) (getD l i 0) (drop (suc i) l) 0 i n) in
-    rw (o, f, g, add-one i, take-suc l i 0 h, map-append older (take i l) (getD l i 0 ∷ []), append-assoc (map older (take i l)) (older (getD l i 0) ∷ []) (drop (suc i) l))
+    rw (
+      o,
+      f,
+      g,
+      add-one i,
+      take-suc l i 0 h,
+      map-append older (take i l) (getD l i 0 ∷ []),
+      append-assoc (map older (take i l)) (older (getD l i 0) ∷
+          []) (drop (suc i) l),
+    )
     (set-at (map older (take i l)) (getD l i 0) (drop (suc i) l) (older (getD l i 0)) i n)
 
 pub aging-done : (l out : List ℕ) (i : ℕ) → length l ≤ i → out ≡ map older (take i l) ++ drop i l → out ≡ map older l
@@ -144,10 +161,12 @@ module _ (window lens : List ℕ) (table : Table) (st : List ℕ) (windows : ℕ
   told-not h = sym (simp (le-ltb (getD window p 0) windows h))
 
   pub told-is : (r : Bool) (m : List ℕ) (n : ℕ) → getD window p 0 < windows → m ≡ messageIn lens st p → n ≡ getD (table .counts) p 0
-      → r ≡ among topic (map (cut m) (spansIn (rest (table .starts) (p * maxTopics)) (rest (table .sizes) (p * maxTopics)) n)) → r ≡ told window lens table st windows topic p
+      → r ≡ among topic (map (cut m) (spansIn (rest (table .starts) (p * maxTopics)) (rest (table .sizes) (p * maxTopics)) n)) → r ≡ told window lens
+      table st windows topic p
   unfolding told topicsAt
   told-is r m n h f g e =
-      (rw (rest-is (table .starts) (p * maxTopics), rest-is (table .sizes) (p * maxTopics), f, g) at e) ∙ sym (simp (lt-ltb (getD window p 0) windows h))
+      (rw (rest-is (table .starts) (p * maxTopics), rest-is (table .sizes) (p * maxTopics), f, g) at e) ∙ sym (simp (lt-ltb (getD window p 0) windows
+      h))
 
 -- a part, cut at the end of the bytes
 module _ (s : List ℕ) (a n : ℕ) where
@@ -231,9 +250,9 @@ map-take f (suc n) [] = refl
 map-take {B = B} f (suc n) (x ∷ l) = ap (λ (r : List B). f x ∷ r) (map-take f n l)
 
 module _ (m : List ℕ) (k n : ℕ) (e : k ≡ length (topicPlaces m)) (f : n ≡ min k maxTopics) where
-  pub kept-number : n ≡ length (keptPlaces m)
+  pub kept-length : n ≡ length (keptPlaces m)
   unfolding keptPlaces
-  kept-number = let l = length-take maxTopics (topicPlaces m) in f ∙ omega arith
+  kept-length = let l = length-take maxTopics (topicPlaces m) in f ∙ omega arith
 
   module _ (of : Span → ℕ) (a x : List ℕ) (l : length a ≡ maxTopics) (g : x ≡ sets a 0 (map of (topicPlaces m))) where
     kept-front : take n x ≡ take maxTopics (map of (topicPlaces m))
@@ -259,7 +278,8 @@ module _ (lens ilens ids : List ℕ) (table : Table) (st : List ℕ) (p : ℕ) w
   gives-long h = simp (lt-leb (getD lens p 0) messageSize h)
 
   pub gives-says : (r : Bool) → getD lens p 0 ≤ messageSize
-      → r ≡ keptWith (take ((p * messageSize + getD lens p 0) - p * messageSize) (drop (p * messageSize) st)) (take ((p * messageIdSize + getD ilens p 0) - p * messageIdSize) (drop (p * messageIdSize) ids))
+      → r ≡ keptWith (take ((p * messageSize + getD lens p 0) - p * messageSize) (drop (p * messageSize) st)) (take ((p * messageIdSize + getD ilens p
+      0) - p * messageIdSize) (drop (p * messageIdSize) ids))
       (spansIn (rest (table .starts) (p * maxTopics)) (rest (table .sizes) (p * maxTopics)) (getD (table .counts) p 0))
       → givesAt lens ilens ids table st p ≡ r
   unfolding givesAt messageIn idAt topicsAt
@@ -273,13 +293,34 @@ module _ (lens ilens ids : List ℕ) (table : Table) (st : List ℕ) (p : ℕ) w
       ) at e))
 
 -- the i-th row: its place, its message's place and its id's place
-pub row-lies : (ring : Ring) (lens ilens ids : List ℕ) (table : Table) (st : List ℕ) (i p : ℕ) → Laid ring lens ilens ids table st → i < ring .count → p ≡ placeOf ring i
-    → (p < maxMessages) × (p < length lens) × (p < length ilens) × (p * messageSize + messageSize ≤ length st) × (p * messageIdSize + getD ilens p 0 ≤ length ids) × (getD ilens p 0 ≤ messageIdSize)
+pub row-lies : (ring : Ring) (lens ilens ids : List ℕ) (table : Table) (st : List ℕ) (i p : ℕ) → Laid ring lens ilens ids table st → i < ring .count →
+    p ≡ placeOf ring i
+    → (p < maxMessages) × (p < length lens) × (p < length ilens) × (p * messageSize + messageSize ≤ length st) × (p * messageIdSize + getD ilens p 0 ≤
+    length ids) × (getD ilens p 0 ≤ messageIdSize)
     × (p < length (table .counts)) × (p * maxTopics ≤ length (table .starts)) × (p * maxTopics ≤ length (table .sizes))
 row-lies ring lens ilens ids table st i p ok h e =
     let l : p < ring .cap = rw e (place-lt ring i (ok .starts) (omega (arith, ok .within))) in
-    let n : getD ilens p 0 ≤ messageIdSize = rw e (ok .id-short i h) in
-    (omega (arith, ok .few), omega (arith, ok .few, ok .lengths), omega (arith, ok .few, ok .id-lengths), omega (arith, ok .room), omega (arith, ok .few, ok .id-room), n, omega (arith, ok .few, ok .topics .counts), omega (arith, ok .few, ok .topics .starts), omega (arith, ok .few, ok .topics .sizes))
+    let n : getD ilens p 0 ≤ messageIdSize = rw e (ok .id-short i h) in (
+      omega (arith, ok .few),
+      omega (arith, ok .few, ok .lengths),
+      omega (arith, ok .few, ok .id-lengths),
+      omega (arith, ok .room),
+      omega (
+        arith,
+        ok
+            .few,
+        ok .id-room,
+      ),
+      n,
+      omega (arith, ok .few, ok .topics .counts),
+      omega (arith, ok .few, ok .topics .starts),
+      omega (
+        arith,
+        ok .few,
+        ok
+            .topics .sizes,
+      ),
+    )
 
 pub row-in : (ring : Ring) (i p : ℕ) → rowsLie ring ≡ true → i < ring .count → p ≡ placeOf ring i → (p < maxMessages) × (ring .count ≤ maxMessages)
 row-in ring i p l h e =

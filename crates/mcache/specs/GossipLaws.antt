@@ -205,11 +205,11 @@ carrying-rows c st topic windows (p ∷ ps) =
     (λ t. rw t r)
 
 -- in a tested state the kept places say the same
-told-carried : (c : MessageCache) (st topic : List ℕ) (windows i : ℕ) → Tests c st → i < c .count
+told-kept : (c : MessageCache) (st topic : List ℕ) (windows i : ℕ) → Tests c st → i < c .count
     → told (c .window) (c .len) (tableOf c) st windows topic (placeOf (ringOf c) i)
     ≡ carried c st topic windows (placeOf (ringOf c) i)
 unfolding told
-told-carried c st topic windows i t h =
+told-kept c st topic windows i t h =
     let p = placeOf (ringOf c) i in
     rw (row-topics c st t i h, cut-topics (messageIn (c .len) st p))
 
@@ -227,7 +227,7 @@ told-rows c st topic windows t =
     let g : ℕ → ℕ = λ (i : ℕ). placeOf (ringOf c) i in
     chosen-same _ _ (tab g (c .count))
     (λ i k. let l : i < c .count = rw (length-tab g (c .count)) at k in
-    rw (getD-tab g (c .count) i 0 l) (told-carried c st topic windows i t l))
+    rw (getD-tab g (c .count) i 0 l) (told-kept c st topic windows i t l))
 
 pub gossip-ids : (c : MessageCache) (st topic : List ℕ) (windows : ℕ) → lentOf c st ≡ lent.Fine
     → map (idAt messageIdSize (c .«id_len») (c .ids)) (gossipList c st topic windows) ≡ gossipIds topic windows

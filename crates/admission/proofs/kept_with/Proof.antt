@@ -35,10 +35,28 @@ topics-of-requires : tie.Need-topics-of-requires
 topics-of-requires c κs = search needs
 
 returns : tie.Need-returns
-returns c = kept-count (now (c .before .before .before .before .before .before .before .before .before .before .before .before .before .before .args .part)) (now (c .before .before .before .before .before .before .before .before .before .before .before .before .before .before .args .id)) (spansIn (now (c .before .before .before .before .before .before .before .before .before .before .before .before .before .before .args .kept-starts)) (now (c .before .before .before .before .before .before .before .before .before .before .before .before .before .before .args .kept-sizes)) (c .before .before .before .before .before .before .before .before .before .before .before .before .before .before .args .n)) (λ z. (c .if1 .taken) (counts-places (now (c .before .before .before .before .before .before .before .before .before .before .before .before .before .before .args .part)) (c .before .before .before .before .topics-of .ensures .topics) ∙ z ∙ length-spans _ _ _))
+returns c = kept-count (now (c .before .before .before .before .before .before .before .before .before .before .before .before .before .before .args
+    .part)) (now (c .before .before .before .before .before .before .before .before .before .before .before .before .before .before .args .id))
+    (spansIn (now (c .before .before .before .before .before .before .before .before .before .before .before .before .before .before .args
+    .kept-starts)) (now (c .before .before .before .before .before .before .before .before .before .before .before .before .before .before .args
+    .kept-sizes)) (c .before .before .before .before .before .before .before .before .before .before .before .before .before .before .args .n)) (λ z.
+    (c .if1 .taken) (counts-places (now (c .before .before .before .before .before .before .before .before .before .before .before .before .before
+    .before .args .part)) (c .before .before .before .before .topics-of .ensures .topics) ∙ z ∙ length-spans _ _ _))
 
 returns-2 : tie.Need-returns-2
-returns-2 c = kept-many (now (c .before .before .before .before .before .before .before .before .before .before .before .before .before .before .before .args .part)) (now (c .before .before .before .before .before .before .before .before .before .before .before .before .before .before .before .args .id)) (spansIn (now (c .before .before .before .before .before .before .before .before .before .before .before .before .before .before .before .args .kept-starts)) (now (c .before .before .before .before .before .before .before .before .before .before .before .before .before .before .before .args .kept-sizes)) (c .before .before .before .before .before .before .before .before .before .before .before .before .before .before .before .args .n)) (omega (arith, counts-places (now (c .before .before .before .before .before .before .before .before .before .before .before .before .before .before .before .args .part)) (c .before .before .before .before .before .topics-of .ensures .topics), c .before .if1 .left, c .if2 .taken))
+returns-2 c = kept-many (now (c .before .before .before .before .before .before .before .before .before .before .before .before .before .before
+    .before .args .part)) (now (c .before .before .before .before .before .before .before .before .before .before .before .before .before .before
+    .before .args .id)) (spansIn (now (c .before .before .before .before .before .before .before .before .before .before .before .before .before
+    .before .before .args .kept-starts)) (now (c .before .before .before .before .before .before .before .before .before .before .before .before
+    .before .before .before .args .kept-sizes)) (c .before .before .before .before .before .before .before .before .before .before .before .before
+    .before .before .before .args .n)) (omega (
+      arith,
+      counts-places (now (c .before .before .before .before .before .before .before .before .before
+          .before .before .before .before .before .before .args .part)) (c .before .before .before .before .before .topics-of .ensures .topics),
+      c .before
+          .if1 .left,
+      c .if2 .taken,
+    ))
 
 slice-aggregate-same-spans : tie.Need-slice-aggregate-same-spans
 slice-aggregate-same-spans c = search needs
@@ -53,13 +71,43 @@ names-requires : tie.Need-names-requires
 names-requires c κs = search needs
 
 returns-3 : tie.Need-returns-3
-returns-3 c = kept-names (now (c .before .before .before .before .before .before .before .before .before .before .before .before .before .before .before .before .before .before .before .before .args .part)) (now (c .before .before .before .before .before .before .before .before .before .before .before .before .before .before .before .before .before .before .before .before .args .id)) (spansIn (now (c .before .before .before .before .before .before .before .before .before .before .before .before .before .before .before .before .before .before .before .before .args .kept-starts)) (now (c .before .before .before .before .before .before .before .before .before .before .before .before .before .before .before .before .before .before .before .before .args .kept-sizes)) (c .before .before .before .before .before .before .before .before .before .before .before .before .before .before .before .before .before .before .before .before .args .n)) _ _ (sym (c .before .before .before .before .before .before .before .before .before .before .before .before .before .before .before .count .ensures) ∙ (c .before .before .before .before .before .before .before .before .before .before .before .before .before .enum-told2 .given .1)) (sym (rw (spans-found (now (c .before .before .before .before .before .before .before .before .before .before .before .before .before .before .before .before .before .before .before .before .args .part)) _ _ _ _ _ _ (counts-places (now (c .before .before .before .before .before .before .before .before .before .before .before .before .before .before .before .before .before .before .before .before .args .part)) (c .before .before .before .before .before .before .before .before .before .before .topics-of .ensures .topics)) (c .before .before .before .before .before .before .if1 .left) (c .before .before .before .before .before .if2 .left) refl refl (c .before .before .before .before .before .before .before .before .before .before .topics-of .ensures .starts) (c .before .before .before .before .before .before .before .before .before .before .topics-of .ensures .sizes)) at (c .before .before .same-spans .ensures)) ∙ (c .before .if3 .taken)) (c .names .ensures)
+returns-3 c = kept-names (now (c .before .before .before .before .before .before .before .before .before .before .before .before .before .before
+    .before .before .before .before .before .before .args .part)) (now (c .before .before .before .before .before .before .before .before .before
+    .before .before .before .before .before .before .before .before .before .before .before .args .id)) (spansIn (now (c .before .before .before
+    .before .before .before .before .before .before .before .before .before .before .before .before .before .before .before .before .before .args
+    .kept-starts)) (now (c .before .before .before .before .before .before .before .before .before .before .before .before .before .before .before
+    .before .before .before .before .before .args .kept-sizes)) (c .before .before .before .before .before .before .before .before .before .before
+    .before .before .before .before .before .before .before .before .before .before .args .n)) _ _ (sym (c .before .before .before .before .before
+    .before .before .before .before .before .before .before .before .before .before .count .ensures) ∙ (c .before .before .before .before .before
+    .before .before .before .before .before .before .before .before .enum-told2 .given .1)) (sym (rw (spans-found (now (c .before .before .before
+    .before .before .before .before .before .before .before .before .before .before .before .before .before .before .before .before .before .args
+    .part)) _ _ _ _ _ _ (counts-places (now (c .before .before .before .before .before .before .before .before .before .before .before .before .before
+    .before .before .before .before .before .before .before .args .part)) (c .before .before .before .before .before .before .before .before .before
+    .before .topics-of .ensures .topics)) (c .before .before .before .before .before .before .if1 .left) (c .before .before .before .before .before
+    .if2 .left) refl refl (c .before .before .before .before .before .before .before .before .before .before .topics-of .ensures .starts) (c .before
+    .before .before .before .before .before .before .before .before .before .topics-of .ensures .sizes)) at (c .before .before .same-spans .ensures))
+    ∙ (c .before .if3 .taken)) (c .names .ensures)
 
 returns-4 : tie.Need-returns-4
-returns-4 c = kept-not (now (c .before .before .before .before .before .before .before .args .part)) (now (c .before .before .before .before .before .before .before .args .id)) (spansIn (now (c .before .before .before .before .before .before .before .args .kept-starts)) (now (c .before .before .before .before .before .before .before .args .kept-sizes)) (c .before .before .before .before .before .before .before .args .n)) (gives-refused _ _ _ (sym (c .before .before .count .ensures) ∙ (c .enum-told .given .1)))
+returns-4 c = kept-not (now (c .before .before .before .before .before .before .before .args .part)) (now (c .before .before .before .before .before
+    .before .before .args .id)) (spansIn (now (c .before .before .before .before .before .before .before .args .kept-starts)) (now (c .before .before
+    .before .before .before .before .before .args .kept-sizes)) (c .before .before .before .before .before .before .before .args .n)) (gives-refused _
+    _ _ (sym (c .before .before .count .ensures) ∙ (c .enum-told .given .1)))
 
 returns-5 : tie.Need-returns-5
-returns-5 c = kept-other (now (c .before .before .before .before .before .before .before .before .before .before .before .before .before .before .before .before .before .before .before .args .part)) (now (c .before .before .before .before .before .before .before .before .before .before .before .before .before .before .before .before .before .before .before .args .id)) (spansIn (now (c .before .before .before .before .before .before .before .before .before .before .before .before .before .before .before .before .before .before .before .args .kept-starts)) (now (c .before .before .before .before .before .before .before .before .before .before .before .before .before .before .before .before .before .before .before .args .kept-sizes)) (c .before .before .before .before .before .before .before .before .before .before .before .before .before .before .before .before .before .before .before .args .n)) (sym (rw (spans-found (now (c .before .before .before .before .before .before .before .before .before .before .before .before .before .before .before .before .before .before .before .args .part)) _ _ _ _ _ _ (counts-places (now (c .before .before .before .before .before .before .before .before .before .before .before .before .before .before .before .before .before .before .before .args .part)) (c .before .before .before .before .before .before .before .before .before .topics-of .ensures .topics)) (c .before .before .before .before .before .if1 .left) (c .before .before .before .before .if2 .left) refl refl (c .before .before .before .before .before .before .before .before .before .topics-of .ensures .starts) (c .before .before .before .before .before .before .before .before .before .topics-of .ensures .sizes)) at (c .before .same-spans .ensures)) ∙ (c .if3 .left))
+returns-5 c = kept-other (now (c .before .before .before .before .before .before .before .before .before .before .before .before .before .before
+    .before .before .before .before .before .args .part)) (now (c .before .before .before .before .before .before .before .before .before .before
+    .before .before .before .before .before .before .before .before .before .args .id)) (spansIn (now (c .before .before .before .before .before
+    .before .before .before .before .before .before .before .before .before .before .before .before .before .before .args .kept-starts)) (now (c
+    .before .before .before .before .before .before .before .before .before .before .before .before .before .before .before .before .before .before
+    .before .args .kept-sizes)) (c .before .before .before .before .before .before .before .before .before .before .before .before .before .before
+    .before .before .before .before .before .args .n)) (sym (rw (spans-found (now (c .before .before .before .before .before .before .before .before
+    .before .before .before .before .before .before .before .before .before .before .before .args .part)) _ _ _ _ _ _ (counts-places (now (c .before
+    .before .before .before .before .before .before .before .before .before .before .before .before .before .before .before .before .before .before
+    .args .part)) (c .before .before .before .before .before .before .before .before .before .topics-of .ensures .topics)) (c .before .before .before
+    .before .before .if1 .left) (c .before .before .before .before .if2 .left) refl refl (c .before .before .before .before .before .before .before
+    .before .before .topics-of .ensures .starts) (c .before .before .before .before .before .before .before .before .before .topics-of .ensures
+    .sizes)) at (c .before .same-spans .ensures)) ∙ (c .if3 .left))
 
 pub kept-with-spec : {M : Type 1} → statement M
 kept-with-spec =

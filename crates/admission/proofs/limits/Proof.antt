@@ -9,16 +9,22 @@ returns : tie.Need-returns
 returns c = limit-none _ _ _ _ (counts _ (c .before .before .pre)) (longs _ (c .before .before .pre)) (c .if1 .taken)
 
 returns-2 : tie.Need-returns-2
-returns-2 c = limit-many _ _ _ _ (counts _ (c .before .before .before .before .pre)) (longs _ (c .before .before .before .before .pre)) (c .before .before .if1 .left) (c .if2 .taken)
+returns-2 c = limit-many _ _ _ _ (counts _ (c .before .before .before .before .pre)) (longs _ (c .before .before .before .before .pre)) (c .before
+    .before .if1 .left) (c .if2 .taken)
 
 returns-3 : tie.Need-returns-3
-returns-3 c = limit-long _ _ _ _ (counts _ (c .before .before .before .before .before .before .pre)) (longs _ (c .before .before .before .before .before .before .pre)) (c .before .before .before .before .if1 .left) (c .before .before .if2 .left) (c .if3 .taken)
+returns-3 c = limit-long _ _ _ _ (counts _ (c .before .before .before .before .before .before .pre)) (longs _ (c .before .before .before .before
+    .before .before .pre)) (c .before .before .before .before .if1 .left) (c .before .before .if2 .left) (c .if3 .taken)
 
 returns-4 : tie.Need-returns-4
-returns-4 c = limit-size _ _ _ _ (counts _ (c .before .before .before .before .before .before .before .pre)) (longs _ (c .before .before .before .before .before .before .before .pre)) (c .before .before .before .before .before .if1 .left) (c .before .before .before .if2 .left) (c .before .if3 .left) (c .if4 .taken)
+returns-4 c = limit-size _ _ _ _ (counts _ (c .before .before .before .before .before .before .before .pre)) (longs _ (c .before .before .before
+    .before .before .before .before .pre)) (c .before .before .before .before .before .if1 .left) (c .before .before .before .if2 .left) (c .before
+    .if3 .left) (c .if4 .taken)
 
 returns-5 : tie.Need-returns-5
-returns-5 c = limit-fit _ _ _ _ (counts _ (c .before .before .before .before .before .before .before .pre)) (longs _ (c .before .before .before .before .before .before .before .pre)) (c .before .before .before .before .before .if1 .left) (c .before .before .before .if2 .left) (c .before .if3 .left) (c .if4 .left)
+returns-5 c = limit-fit _ _ _ _ (counts _ (c .before .before .before .before .before .before .before .pre)) (longs _ (c .before .before .before
+    .before .before .before .before .pre)) (c .before .before .before .before .before .if1 .left) (c .before .before .before .if2 .left) (c .before
+    .if3 .left) (c .if4 .left)
 
 pub limits-spec : {M : Type 1} → statement M
 limits-spec = tie.close (tie.spec returns returns-2 returns-3 returns-4 returns-5)

@@ -23,14 +23,19 @@ enum-known-r : tie.Need-enum-known-r
 enum-known-r c = search needs
 
 same-parts-requires : tie.Need-same-parts-requires
-same-parts-requires c κs = let g = id-fits (now (c .before .before .before .before .before .before .args .part)) _ _ _ _ (fit-parts (now (c .before .before .before .before .before .before .args .part)) true _ _ _ _ (sym (c .before .before .before .weigh .ensures) ∙ (c .before .r .given .1))) in
+same-parts-requires c κs = let g = id-fits (now (c .before .before .before .before .before .before .args .part)) _ _ _ _ (fit-parts (now (c .before
+    .before .before .before .before .before .args .part)) true _ _ _ _ (sym (c .before .before .before .weigh .ensures) ∙ (c .before .r .given .1)))
+    in
     (g .from .0, g .from .1, g .seqno .0, g .seqno .1)
 
 returns : tie.Need-returns
-returns c = ap (idGiven (now (c .before .before .before .before .before .args .part)) (now (c .before .before .before .before .before .args .id))) (sym (c .enum-told .given .1) ∙ (c .before .before .weigh .ensures))
+returns c = ap (idGiven (now (c .before .before .before .before .before .args .part)) (now (c .before .before .before .before .before .args .id)))
+    (sym (c .enum-told .given .1) ∙ (c .before .before .weigh .ensures))
 
 returns-2 : tie.Need-returns-2
-returns-2 c = (c .same-parts .ensures) ∙ ap (idGiven (now (c .before .before .before .before .before .before .before .args .part)) (now (c .before .before .before .before .before .before .before .args .id))) (sym (c .before .before .r .given .1) ∙ (c .before .before .before .before .weigh .ensures))
+returns-2 c = (c .same-parts .ensures) ∙ ap (idGiven (now (c .before .before .before .before .before .before .before .args .part)) (now (c .before
+    .before .before .before .before .before .before .args .id))) (sym (c .before .before .r .given .1) ∙ (c .before .before .before .before .weigh
+    .ensures))
 
 pub names-spec : {M : Type 1} → statement M
 names-spec =

@@ -17,10 +17,12 @@ same-length : tie.Need-same-length
 same-length c = search needs
 
 returns : tie.Need-returns
-returns c = note-set (c .before .before .args .there) (now (c .before .before .args .out)) (c .before .before .args .i) (c .before .before .args .v) (c .before .if1 .taken)
+returns c = note-set (c .before .before .args .there) (now (c .before .before .args .out)) (c .before .before .args .i) (c .before .before .args .v)
+    (c .before .if1 .taken)
 
 returns-2 : tie.Need-returns-2
-returns-2 c = note-out (c .before .before .args .there) (now (c .before .before .args .out)) (c .before .before .args .i) (c .before .before .args .v) (c .before .if1 .taken) (c .if2 .left)
+returns-2 c = note-out (c .before .before .args .there) (now (c .before .before .args .out)) (c .before .before .args .i) (c .before .before .args .v)
+    (c .before .if1 .taken) (c .if2 .left)
 
 returns-3 : tie.Need-returns-3
 returns-3 c = note-not (c .before .args .there) (now (c .before .args .out)) (c .before .args .i) (c .before .args .v) (c .if1 .left)

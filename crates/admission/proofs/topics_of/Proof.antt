@@ -26,7 +26,8 @@ Inv-loop part starts₀ sizes₀ at₀ n₀ long₀ starts sizes at n long =
     let ts = topicsAlong part (walkAt part at) in
     let ps = placesAlong (walkAt part at) in
     (at ≤ length part) × (n ≤ at) × (length (topicsOf part) ≡ n + length ts) × (firstLong (topicsOf part) ≡ longFrom long ts)
-    × (sets starts n (startsOf ps) ≡ sets starts₀ 0 (startsOf (topicPlaces part))) × (sets sizes n (sizesOf ps) ≡ sets sizes₀ 0 (sizesOf (topicPlaces part)))
+    × (sets starts n (startsOf ps) ≡ sets starts₀ 0 (startsOf (topicPlaces part))) × (sets sizes n (sizesOf ps) ≡ sets sizes₀ 0 (sizesOf (topicPlaces
+    part)))
     × (length starts ≡ length starts₀) × (length sizes ≡ length sizes₀)
 
 abbrev μ-loop : tie.MeasureT-loop
@@ -50,9 +51,12 @@ same-length-2 c = search needs
 
 returns : tie.Need-returns Inv-loop μ-loop
 returns c = record {
-  topics = topics-done _ _ _ _ (topics-end _ _ (sym (c .enum-told .given .1) ∙ (c .before .before .read-field .ensures))) (c .before .before .before .before .loop .inv .2) (c .before .before .before .before .loop .inv .3);
-  starts = note-done (λ (s : Span). s .start) _ _ _ _ (places-end _ _ (sym (c .enum-told .given .1) ∙ (c .before .before .read-field .ensures))) (c .before .before .before .before .loop .inv .4);
-  sizes = note-done (λ (s : Span). s .size) _ _ _ _ (places-end _ _ (sym (c .enum-told .given .1) ∙ (c .before .before .read-field .ensures))) (c .before .before .before .before .loop .inv .5);
+  topics = topics-done _ _ _ _ (topics-end _ _ (sym (c .enum-told .given .1) ∙ (c .before .before .read-field .ensures))) (c .before .before .before
+      .before .loop .inv .2) (c .before .before .before .before .loop .inv .3);
+  starts = note-done (λ (s : Span). s .start) _ _ _ _ (places-end _ _ (sym (c .enum-told .given .1) ∙ (c .before .before .read-field .ensures))) (c
+      .before .before .before .before .loop .inv .4);
+  sizes = note-done (λ (s : Span). s .size) _ _ _ _ (places-end _ _ (sym (c .enum-told .given .1) ∙ (c .before .before .read-field .ensures))) (c
+      .before .before .before .before .loop .inv .5);
 }
 
 enum-told-2 : tie.Need-enum-told-2 Inv-loop μ-loop
@@ -66,16 +70,21 @@ same-length-4 c = search needs
 
 returns-2 : tie.Need-returns-2 Inv-loop μ-loop
 returns-2 c = record {
-  topics = topics-done _ _ _ _ (topics-refused _ _ _ (sym (c .enum-told2 .given .1) ∙ (c .before .before .read-field .ensures))) (c .before .before .before .before .loop .inv .2) (c .before .before .before .before .loop .inv .3);
-  starts = note-done (λ (s : Span). s .start) _ _ _ _ (places-refused _ _ _ (sym (c .enum-told2 .given .1) ∙ (c .before .before .read-field .ensures))) (c .before .before .before .before .loop .inv .4);
-  sizes = note-done (λ (s : Span). s .size) _ _ _ _ (places-refused _ _ _ (sym (c .enum-told2 .given .1) ∙ (c .before .before .read-field .ensures))) (c .before .before .before .before .loop .inv .5);
+  topics = topics-done _ _ _ _ (topics-refused _ _ _ (sym (c .enum-told2 .given .1) ∙ (c .before .before .read-field .ensures))) (c .before .before
+      .before .before .loop .inv .2) (c .before .before .before .before .loop .inv .3);
+  starts = note-done (λ (s : Span). s .start) _ _ _ _ (places-refused _ _ _ (sym (c .enum-told2 .given .1) ∙ (c .before .before .read-field
+      .ensures))) (c .before .before .before .before .loop .inv .4);
+  sizes = note-done (λ (s : Span). s .size) _ _ _ _ (places-refused _ _ _ (sym (c .enum-told2 .given .1) ∙ (c .before .before .read-field .ensures)))
+      (c .before .before .before .before .loop .inv .5);
 }
 
 enum-known-step : tie.Need-enum-known-step Inv-loop μ-loop
 enum-known-step c = search needs
 
 sub-len : tie.Need-sub-len Inv-loop μ-loop
-sub-len c = (field-stands (c .before .before .before .before .before .before .before .before .before .before .args .part .now) (c .before .before .before .before .before .before .loop .at) _ (sym (c .before .before .step .given .1) ∙ (c .before .before .before .before .read-field .ensures))) .ends
+sub-len c = (field-stands (c .before .before .before .before .before .before .before .before .before .before .args .part .now) (c .before .before
+    .before .before .before .before .loop .at) _ (sym (c .before .before .step .given .1) ∙ (c .before .before .before .before .read-field .ensures)))
+    .ends
 
 is-topic-requires : tie.Need-is-topic-requires Inv-loop μ-loop
 is-topic-requires c κs = search needs
@@ -95,23 +104,60 @@ long-after-requires c κs = search needs
 loop-less : tie.Need-loop-less Inv-loop μ-loop
 loop-less c =
     let f = c .before .before .before .before .before .before .before .before .before .before .before .before .before .step .given .0 .0 in
-    let st = field-stands (c .before .before .before .before .before .before .before .before .before .before .before .before .before .before .before .before .before .before .before .before .before .args .part .now) (c .before .before .before .before .before .before .before .before .before .before .before .before .before .before .before .before .before .loop .at) f (sym (c .before .before .before .before .before .before .before .before .before .before .before .before .before .step .given .1) ∙ (c .before .before .before .before .before .before .before .before .before .before .before .before .before .before .before .read-field .ensures)) in
+    let st = field-stands (c .before .before .before .before .before .before .before .before .before .before .before .before .before .before .before
+    .before .before .before .before .before .before .args .part .now) (c .before .before .before .before .before .before .before .before .before
+    .before .before .before .before .before .before .before .before .loop .at) f (sym (c .before .before .before .before .before .before .before
+    .before .before .before .before .before .before .step .given .1) ∙ (c .before .before .before .before .before .before .before .before .before
+    .before .before .before .before .before .before .read-field .ensures)) in
     omega (arith, st)
 
 loop-again : tie.Need-loop-again Inv-loop μ-loop
 loop-again c =
     let f = c .before .before .before .before .before .before .before .before .before .before .before .before .before .step .given .0 .0 in
-    let e = sym (c .before .before .before .before .before .before .before .before .before .before .before .before .before .step .given .1) ∙ (c .before .before .before .before .before .before .before .before .before .before .before .before .before .before .before .read-field .ensures) in
-    let st = field-stands (c .before .before .before .before .before .before .before .before .before .before .before .before .before .before .before .before .before .before .before .before .before .args .part .now) (c .before .before .before .before .before .before .before .before .before .before .before .before .before .before .before .before .before .loop .at) f e in
-    let k = at-most (isBytes 4 f) (c .before .before .before .before .before .before .before .before .before .before .before .before .before .before .before .before .before .loop .n) (c .before .count-after .result) (c .before .count-after .ensures) in (
+    let e = sym (c .before .before .before .before .before .before .before .before .before .before .before .before .before .step .given .1) ∙ (c
+    .before .before .before .before .before .before .before .before .before .before .before .before .before .before .before .read-field .ensures)
+    in
+    let st = field-stands (c .before .before .before .before .before .before .before .before .before .before .before .before .before .before .before
+    .before .before .before .before .before .before .args .part .now) (c .before .before .before .before .before .before .before .before .before
+    .before .before .before .before .before .before .before .before .loop .at) f e in
+    let k = at-most (isBytes 4 f) (c .before .before .before .before .before .before .before .before .before .before .before .before .before .before
+    .before .before .before .loop .n) (c .before .count-after .result) (c .before .count-after .ensures) in (
       st .within,
       omega arith,
-      (c .before .before .before .before .before .before .before .before .before .before .before .before .before .before .before .before .before .loop .inv .2) ∙ count-more (c .before .before .before .before .before .before .before .before .before .before .before .before .before .before .before .before .before .before .before .before .before .args .part .now) (c .before .before .before .before .before .before .before .before .before .before .before .before .before .before .before .before .before .loop .at) (c .before .before .before .before .before .before .before .before .before .before .before .before .before .before .before .before .before .loop .n) (c .before .count-after .result) f e (c .before .count-after .ensures),
-      (c .before .before .before .before .before .before .before .before .before .before .before .before .before .before .before .before .before .loop .inv .3) ∙ long-more (c .before .before .before .before .before .before .before .before .before .before .before .before .before .before .before .before .before .before .before .before .before .args .part .now) (c .before .before .before .before .before .before .before .before .before .before .before .before .before .before .before .before .before .loop .at) (c .before .before .before .before .before .before .before .before .before .before .before .before .before .before .before .before .before .loop .long) (c .long-after .result) f e st (c .long-after .ensures),
-      sym (note-more (λ (s : Span). s .start) (c .before .before .before .before .before .before .before .before .before .before .before .before .before .before .before .before .before .before .before .before .before .args .part .now) (c .before .before .before .before .before .before .before .before .before .before .before .before .before .before .before .before .before .loop .at) f _ _ _ _ _ e (c .before .before .before .before .before .before .before .before .before .before .is-topic .ensures) (c .before .before .before .before .before .before .before .before .note .ensures) (c .before .count-after .ensures)) ∙ (c .before .before .before .before .before .before .before .before .before .before .before .before .before .before .before .before .before .loop .inv .4),
-      sym (note-more (λ (s : Span). s .size) (c .before .before .before .before .before .before .before .before .before .before .before .before .before .before .before .before .before .before .before .before .before .args .part .now) (c .before .before .before .before .before .before .before .before .before .before .before .before .before .before .before .before .before .loop .at) f _ _ _ _ _ e (c .before .before .before .before .before .before .before .before .before .before .is-topic .ensures) (c .before .before .before .before .note2 .ensures) (c .before .count-after .ensures)) ∙ (c .before .before .before .before .before .before .before .before .before .before .before .before .before .before .before .before .before .loop .inv .5),
-      note-length (c .before .before .before .before .before .before .before .before .before .before .is-topic .result) (c .before .before .before .before .before .before .before .before .before .before .before .before .before .before .before .before .before .loop .starts) _ (c .before .before .before .before .before .before .before .before .before .before .before .before .before .before .before .before .before .loop .n) (f .start) _ (c .before .before .before .before .before .before .before .before .note .ensures) (c .before .before .before .before .before .before .before .before .before .before .before .before .before .before .before .before .before .loop .inv .6),
-      note-length (c .before .before .before .before .before .before .before .before .before .before .is-topic .result) (c .before .before .before .before .before .before .before .before .before .before .before .before .before .before .before .before .before .loop .sizes) _ (c .before .before .before .before .before .before .before .before .before .before .before .before .before .before .before .before .before .loop .n) (f .next - f .start) _ (c .before .before .before .before .note2 .ensures) (c .before .before .before .before .before .before .before .before .before .before .before .before .before .before .before .before .before .loop .inv .7),
+      (c .before .before .before .before .before .before .before .before .before .before .before .before .before .before .before .before .before .loop
+          .inv .2) ∙ count-more (c .before .before .before .before .before .before .before .before .before .before .before .before .before .before
+          .before .before .before .before .before .before .before .args .part .now) (c .before .before .before .before .before .before .before .before
+          .before .before .before .before .before .before .before .before .before .loop .at) (c .before .before .before .before .before .before
+          .before .before .before .before .before .before .before .before .before .before .before .loop .n) (c .before .count-after .result) f e (c
+          .before .count-after .ensures),
+      (c .before .before .before .before .before .before .before .before .before .before .before .before .before .before .before .before .before .loop
+          .inv .3) ∙ long-more (c .before .before .before .before .before .before .before .before .before .before .before .before .before .before
+          .before .before .before .before .before .before .before .args .part .now) (c .before .before .before .before .before .before .before .before
+          .before .before .before .before .before .before .before .before .before .loop .at) (c .before .before .before .before .before .before
+          .before .before .before .before .before .before .before .before .before .before .before .loop .long) (c .long-after .result) f e st (c
+          .long-after .ensures),
+      sym (note-more (λ (s : Span). s .start) (c .before .before .before .before .before .before .before .before .before .before .before .before
+          .before .before .before .before .before .before .before .before .before .args .part .now) (c .before .before .before .before .before .before
+          .before .before .before .before .before .before .before .before .before .before .before .loop .at) f _ _ _ _ _ e (c .before .before .before
+          .before .before .before .before .before .before .before .is-topic .ensures) (c .before .before .before .before .before .before .before
+          .before .note .ensures) (c .before .count-after .ensures)) ∙ (c .before .before .before .before .before .before .before .before .before
+          .before .before .before .before .before .before .before .before .loop .inv .4),
+      sym (note-more (λ (s : Span). s .size) (c .before .before .before .before .before .before .before .before .before .before .before .before
+          .before .before .before .before .before .before .before .before .before .args .part .now) (c .before .before .before .before .before .before
+          .before .before .before .before .before .before .before .before .before .before .before .loop .at) f _ _ _ _ _ e (c .before .before .before
+          .before .before .before .before .before .before .before .is-topic .ensures) (c .before .before .before .before .note2 .ensures) (c .before
+          .count-after .ensures)) ∙ (c .before .before .before .before .before .before .before .before .before .before .before .before .before .before
+          .before .before .before .loop .inv .5),
+      note-length (c .before .before .before .before .before .before .before .before .before .before .is-topic .result) (c .before .before .before
+          .before .before .before .before .before .before .before .before .before .before .before .before .before .before .loop .starts) _ (c .before
+          .before .before .before .before .before .before .before .before .before .before .before .before .before .before .before .before .loop .n) (f
+          .start) _ (c .before .before .before .before .before .before .before .before .note .ensures) (c .before .before .before .before .before
+          .before .before .before .before .before .before .before .before .before .before .before .before .loop .inv .6),
+      note-length (c .before .before .before .before .before .before .before .before .before .before .is-topic .result) (c .before .before .before
+          .before .before .before .before .before .before .before .before .before .before .before .before .before .before .loop .sizes) _ (c .before
+          .before .before .before .before .before .before .before .before .before .before .before .before .before .before .before .before .loop .n) (f
+          .next - f .start) _ (c .before .before .before .before .note2 .ensures) (c .before .before .before .before .before .before .before .before
+          .before .before .before .before .before .before .before .before .before .loop .inv .7),
     )
 
 same-length-5 : tie.Need-same-length-5 Inv-loop μ-loop

@@ -39,7 +39,8 @@ returns : tie.Need-returns
 returns c = admit-on _ _ _ _ _ (c .before .before .before .slots-of .ensures) (c .before .before .id-of .ensures) (c .enum-told .given .1)
 
 returns-2 : tie.Need-returns-2
-returns-2 c = admit-on _ _ _ _ _ (c .before .before .before .before .slots-of .ensures) (c .before .before .before .id-of .ensures) (c .before .id .given .1)
+returns-2 c = admit-on _ _ _ _ _ (c .before .before .before .before .slots-of .ensures) (c .before .before .before .id-of .ensures) (c .before .id
+    .given .1)
 
 returns-3 : tie.Need-returns-3
 returns-3 c = admit-on _ _ _ _ _ (c .before .before .before .slots-of .ensures) (c .before .before .id-of .ensures) (c .enum-told2 .given .1)
@@ -48,8 +49,11 @@ returns-4 : tie.Need-returns-4
 returns-4 c =
     let i = c .before .before .id2 .given .0 in
     (c .signed .ensures)
-    ∙ ap (λ (s : Slots). onSignature (s .fourth) (s .fifth) (onWord (c .before .before .before .before .before .before .before .args .verified) (onLimits (now (c .before .before .before .before .before .before .before .args .part)) (admission.Fit (i .0) (i .1 .0) (i .1 .1 .0) (i .1 .1 .1 .0)))))
-    (c .before .before .before .before .before .slots-of .ensures) ∙ admit-on _ _ _ _ _ (c .before .before .before .before .before .slots-of .ensures) (c .before .before .before .before .id-of .ensures) (c .before .before .id2 .given .1)
+    ∙ ap (λ (s : Slots). onSignature (s .fourth) (s .fifth) (onWord (c .before .before .before .before .before .before .before .args .verified)
+    (onLimits (now (c .before .before .before .before .before .before .before .args .part)) (admission.Fit (i .0) (i .1 .0) (i .1 .1 .0) (i .1 .1
+    .1 .0)))))
+    (c .before .before .before .before .before .slots-of .ensures) ∙ admit-on _ _ _ _ _ (c .before .before .before .before .before .slots-of .ensures)
+    (c .before .before .before .before .id-of .ensures) (c .before .before .id2 .given .1)
 
 pub weigh-spec : {M : Type 1} → statement M
 weigh-spec =

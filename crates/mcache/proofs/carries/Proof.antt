@@ -47,7 +47,17 @@ same-requires : tie.Need-same-requires Inv-loop μ-loop
 same-requires c κs = search needs
 
 returns : tie.Need-returns Inv-loop μ-loop
-returns c = part-here (now (c .before .before .before .before .before .before .before .before .before .before .before .args .message)) (now (c .before .before .before .before .before .before .before .before .before .before .before .args .topic)) (now (c .before .before .before .before .before .before .before .before .before .before .before .args .starts)) (now (c .before .before .before .before .before .before .before .before .before .before .before .args .sizes)) (c .before .before .before .before .before .before .before .before .before .before .before .args .n) (c .before .before .before .before .before .before .loop .i) _ (c .before .before .before .before .before .before .loop .inv .1) (c .before .before .before .before .before .loop-test .taken) (sym (rw (c .before .before .part-of .ensures, c .before .before .before .before .short-at .ensures, c .before .before .before .short-at2 .ensures) at (c .before .same .ensures)) ∙ (c .if1 .taken))
+returns c = part-here (now (c .before .before .before .before .before .before .before .before .before .before .before .args .message)) (now (c .before
+    .before .before .before .before .before .before .before .before .before .before .args .topic)) (now (c .before .before .before .before .before
+    .before .before .before .before .before .before .args .starts)) (now (c .before .before .before .before .before .before .before .before .before
+    .before .before .args .sizes)) (c .before .before .before .before .before .before .before .before .before .before .before .args .n) (c .before
+    .before .before .before .before .before .loop .i) _ (c .before .before .before .before .before .before .loop .inv .1) (c .before .before .before
+    .before .before .loop-test .taken) (sym (rw (
+      c .before .before .part-of .ensures,
+      c .before .before .before .before .short-at .ensures,
+      c .before
+          .before .before .short-at2 .ensures,
+    ) at (c .before .same .ensures)) ∙ (c .if1 .taken))
 
 add-i : tie.Need-add-i Inv-loop μ-loop
 add-i c = search needs
@@ -56,10 +66,26 @@ loop-less : tie.Need-loop-less Inv-loop μ-loop
 loop-less c = search needs
 
 loop-again : tie.Need-loop-again Inv-loop μ-loop
-loop-again c = (omega arith, part-other (now (c .before .before .before .before .before .before .before .before .before .before .before .args .message)) (now (c .before .before .before .before .before .before .before .before .before .before .before .args .topic)) (now (c .before .before .before .before .before .before .before .before .before .before .before .args .starts)) (now (c .before .before .before .before .before .before .before .before .before .before .before .args .sizes)) (c .before .before .before .before .before .before .before .before .before .before .before .args .n) (c .before .before .before .before .before .before .loop .i) _ (c .before .before .before .before .before .before .loop .inv .1) (c .before .before .before .before .before .loop-test .taken) (sym (rw (c .before .before .part-of .ensures, c .before .before .before .before .short-at .ensures, c .before .before .before .short-at2 .ensures) at (c .before .same .ensures)) ∙ (c .if1 .left)))
+loop-again c = (
+  omega arith,
+  part-other (now (c .before .before .before .before .before .before .before .before .before .before .before .args
+      .message)) (now (c .before .before .before .before .before .before .before .before .before .before .before .args .topic)) (now (c .before .before
+      .before .before .before .before .before .before .before .before .before .args .starts)) (now (c .before .before .before .before .before .before
+      .before .before .before .before .before .args .sizes)) (c .before .before .before .before .before .before .before .before .before .before .before
+      .args .n) (c .before .before .before .before .before .before .loop .i) _ (c .before .before .before .before .before .before .loop .inv .1) (c
+      .before .before .before .before .before .loop-test .taken) (sym (rw (
+        c .before .before .part-of .ensures,
+        c .before .before .before .before
+            .short-at .ensures,
+        c .before .before .before .short-at2 .ensures,
+      ) at (c .before .same .ensures)) ∙ (c .if1 .left)),
+)
 
 returns-2 : tie.Need-returns-2 Inv-loop μ-loop
-returns-2 c = parts-none (now (c .before .before .before .before .before .before .args .message)) (now (c .before .before .before .before .before .before .args .topic)) (now (c .before .before .before .before .before .before .args .starts)) (now (c .before .before .before .before .before .before .args .sizes)) (c .before .before .before .before .before .before .args .n) (c .before .loop .i) _ (c .before .loop .inv .1) (c .loop-test .left)
+returns-2 c = parts-none (now (c .before .before .before .before .before .before .args .message)) (now (c .before .before .before .before .before
+    .before .args .topic)) (now (c .before .before .before .before .before .before .args .starts)) (now (c .before .before .before .before .before
+    .before .args .sizes)) (c .before .before .before .before .before .before .args .n) (c .before .loop .i) _ (c .before .loop .inv .1) (c .loop-test
+    .left)
 
 pub carries-spec : {M : Type 1} → statement M
 carries-spec =

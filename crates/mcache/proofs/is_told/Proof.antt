@@ -19,7 +19,13 @@ cast-w : tie.Need-cast-w
 cast-w c = search needs
 
 returns : tie.Need-returns
-returns c = told-not (now (c .before .before .before .before .before .before .before .before .before .args .window)) (now (c .before .before .before .before .before .before .before .before .before .args .lens)) (table (now (c .before .before .before .before .before .before .before .before .before .args .counts)) (now (c .before .before .before .before .before .before .before .before .before .args .starts)) (now (c .before .before .before .before .before .before .before .before .before .args .sizes))) (now (c .before .before .before .before .before .before .before .before .before .args .store)) (c .before .before .before .before .before .before .before .before .before .args .windows) (now (c .before .before .before .before .before .before .before .before .before .args .topic)) (c .before .before .before .before .before .before .before .before .before .args .p) (omega (arith, c .before .byte-at .ensures, c .if1 .taken))
+returns c = told-not (now (c .before .before .before .before .before .before .before .before .before .args .window)) (now (c .before .before .before
+    .before .before .before .before .before .before .args .lens)) (table (now (c .before .before .before .before .before .before .before .before
+    .before .args .counts)) (now (c .before .before .before .before .before .before .before .before .before .args .starts)) (now (c .before .before
+    .before .before .before .before .before .before .before .args .sizes))) (now (c .before .before .before .before .before .before .before .before
+    .before .args .store)) (c .before .before .before .before .before .before .before .before .before .args .windows) (now (c .before .before .before
+    .before .before .before .before .before .before .args .topic)) (c .before .before .before .before .before .before .before .before .before .args
+    .p) (omega (arith, c .before .byte-at .ensures, c .if1 .taken))
 
 mul-slot : tie.Need-mul-slot
 mul-slot c = search needs
@@ -61,7 +67,21 @@ carries-requires : tie.Need-carries-requires
 carries-requires c κs = search needs
 
 returns-2 : tie.Need-returns-2
-returns-2 c = told-is (now (c .before .before .before .before .before .before .before .before .before .before .before .before .before .before .args .window)) (now (c .before .before .before .before .before .before .before .before .before .before .before .before .before .before .args .lens)) (table (now (c .before .before .before .before .before .before .before .before .before .before .before .before .before .before .args .counts)) (now (c .before .before .before .before .before .before .before .before .before .before .before .before .before .before .args .starts)) (now (c .before .before .before .before .before .before .before .before .before .before .before .before .before .before .args .sizes))) (now (c .before .before .before .before .before .before .before .before .before .before .before .before .before .before .args .store)) (c .before .before .before .before .before .before .before .before .before .before .before .before .before .before .args .windows) (now (c .before .before .before .before .before .before .before .before .before .before .before .before .before .before .args .topic)) (c .before .before .before .before .before .before .before .before .before .before .before .before .before .before .args .p) _ _ _ (omega (arith, c .before .before .before .before .before .before .byte-at .ensures, c .before .before .before .before .before .if1 .left)) (c .before .before .before .message-in .ensures) (c .before .before .before .before .byte-at2 .ensures) (c .carries .ensures)
+returns-2 c = told-is (now (c .before .before .before .before .before .before .before .before .before .before .before .before .before .before .args
+    .window)) (now (c .before .before .before .before .before .before .before .before .before .before .before .before .before .before .args .lens))
+    (table (now (c .before .before .before .before .before .before .before .before .before .before .before .before .before .before .args .counts))
+    (now (c .before .before .before .before .before .before .before .before .before .before .before .before .before .before .args .starts)) (now (c
+    .before .before .before .before .before .before .before .before .before .before .before .before .before .before .args .sizes))) (now (c .before
+    .before .before .before .before .before .before .before .before .before .before .before .before .before .args .store)) (c .before .before .before
+    .before .before .before .before .before .before .before .before .before .before .before .args .windows) (now (c .before .before .before .before
+    .before .before .before .before .before .before .before .before .before .before .args .topic)) (c .before .before .before .before .before .before
+    .before .before .before .before .before .before .before .before .args .p) _ _ _ (omega (
+      arith,
+      c .before .before .before .before .before .before
+          .byte-at .ensures,
+      c .before .before .before .before .before .if1 .left,
+    )) (c .before .before .before .message-in .ensures) (c .before .before
+    .before .before .byte-at2 .ensures) (c .carries .ensures)
 
 pub is-told-spec : {M : Type 1} → statement M
 is-told-spec =

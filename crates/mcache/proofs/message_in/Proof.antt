@@ -26,7 +26,8 @@ part-of-requires c κs = search needs
 
 returns : tie.Need-returns
 unfolding messageIn
-returns c = (c .part-of .ensures) ∙ ap (λ (n : ℕ). take n (drop (c .before .before .before .before .args .p * messageSize) (now (c .before .before .before .before .args .store)))) (c .before .short-at .ensures)
+returns c = (c .part-of .ensures) ∙ ap (λ (n : ℕ). take n (drop (c .before .before .before .before .args .p * messageSize) (now (c .before .before
+    .before .before .args .store)))) (c .before .short-at .ensures)
 
 pub message-in-spec : {M : Type 1} → statement M
 message-in-spec =

@@ -32,41 +32,142 @@ place-requires : tie.Need-place-requires Inv-loop μ-loop
 place-requires c κs = search needs
 
 mul-n : tie.Need-mul-n Inv-loop μ-loop
-mul-n c = let w = row-lies (c .before .before .before .before .before .before .before .before .before .before .before .args .ring) (now (c .before .before .before .before .before .before .before .before .before .before .before .args .lens)) (now (c .before .before .before .before .before .before .before .before .before .before .before .args .id-lens)) (now (c .before .before .before .before .before .before .before .before .before .before .before .args .ids)) (table (now (c .before .before .before .before .before .before .before .before .before .before .before .args .counts)) (now (c .before .before .before .before .before .before .before .before .before .before .before .args .starts)) (now (c .before .before .before .before .before .before .before .before .before .before .before .args .sizes))) (now (c .before .before .before .before .before .before .before .before .before .before .before .args .store)) (c .before .before .before .loop .i) (c .place .result) (c .before .before .before .before .before .before .before .before .before .before .before .pre) (c .before .if1 .taken) (c .place .ensures) in omega arith
+mul-n c = let w = row-lies (c .before .before .before .before .before .before .before .before .before .before .before .args .ring) (now (c .before
+    .before .before .before .before .before .before .before .before .before .before .args .lens)) (now (c .before .before .before .before .before
+    .before .before .before .before .before .before .args .id-lens)) (now (c .before .before .before .before .before .before .before .before .before
+    .before .before .args .ids)) (table (now (c .before .before .before .before .before .before .before .before .before .before .before .args
+    .counts)) (now (c .before .before .before .before .before .before .before .before .before .before .before .args .starts)) (now (c .before .before
+    .before .before .before .before .before .before .before .before .before .args .sizes))) (now (c .before .before .before .before .before .before
+    .before .before .before .before .before .args .store)) (c .before .before .before .loop .i) (c .place .result) (c .before .before .before .before
+    .before .before .before .before .before .before .before .pre) (c .before .if1 .taken) (c .place .ensures) in omega arith
 
 shared-slice-read-n : tie.Need-shared-slice-read-n Inv-loop μ-loop
-shared-slice-read-n c = let w = row-lies (c .before .before .before .before .before .before .before .before .before .before .before .before .args .ring) (now (c .before .before .before .before .before .before .before .before .before .before .before .before .args .lens)) (now (c .before .before .before .before .before .before .before .before .before .before .before .before .args .id-lens)) (now (c .before .before .before .before .before .before .before .before .before .before .before .before .args .ids)) (table (now (c .before .before .before .before .before .before .before .before .before .before .before .before .args .counts)) (now (c .before .before .before .before .before .before .before .before .before .before .before .before .args .starts)) (now (c .before .before .before .before .before .before .before .before .before .before .before .before .args .sizes))) (now (c .before .before .before .before .before .before .before .before .before .before .before .before .args .store)) (c .before .before .before .before .loop .i) (c .before .place .result) (c .before .before .before .before .before .before .before .before .before .before .before .before .pre) (c .before .before .if1 .taken) (c .before .place .ensures) in omega arith
+shared-slice-read-n c = let w = row-lies (c .before .before .before .before .before .before .before .before .before .before .before .before .args
+    .ring) (now (c .before .before .before .before .before .before .before .before .before .before .before .before .args .lens)) (now (c .before
+    .before .before .before .before .before .before .before .before .before .before .before .args .id-lens)) (now (c .before .before .before .before
+    .before .before .before .before .before .before .before .before .args .ids)) (table (now (c .before .before .before .before .before .before
+    .before .before .before .before .before .before .args .counts)) (now (c .before .before .before .before .before .before .before .before .before
+    .before .before .before .args .starts)) (now (c .before .before .before .before .before .before .before .before .before .before .before .before
+    .args .sizes))) (now (c .before .before .before .before .before .before .before .before .before .before .before .before .args .store)) (c .before
+    .before .before .before .loop .i) (c .before .place .result) (c .before .before .before .before .before .before .before .before .before .before
+    .before .before .pre) (c .before .before .if1 .taken) (c .before .place .ensures) in omega arith
 
 cast-n : tie.Need-cast-n Inv-loop μ-loop
 cast-n c = omega (arith, (c .shared-slice-known8 .given) (c .before .place .result))
 
 returns : tie.Need-returns Inv-loop μ-loop
-returns c = gives-not (c .before .before .before .before .before .before .before .before .before .before .before .before .before .args .ring) (now (c .before .before .before .before .before .before .before .before .before .before .before .before .before .args .lens)) (now (c .before .before .before .before .before .before .before .before .before .before .before .before .before .args .id-lens)) (now (c .before .before .before .before .before .before .before .before .before .before .before .before .before .args .ids)) (table (now (c .before .before .before .before .before .before .before .before .before .before .before .before .before .args .counts)) (now (c .before .before .before .before .before .before .before .before .before .before .before .before .before .args .starts)) (now (c .before .before .before .before .before .before .before .before .before .before .before .before .before .args .sizes))) (now (c .before .before .before .before .before .before .before .before .before .before .before .before .before .args .store)) (c .before .before .before .before .before .loop .i) (c .before .before .before .before .before .loop .inv .1) (c .before .before .before .if1 .taken)
-    (subst (λ (p : ℕ). givesAt (now (c .before .before .before .before .before .before .before .before .before .before .before .before .before .args .lens)) (now (c .before .before .before .before .before .before .before .before .before .before .before .before .before .args .id-lens)) (now (c .before .before .before .before .before .before .before .before .before .before .before .before .before .args .ids)) (table (now (c .before .before .before .before .before .before .before .before .before .before .before .before .before .args .counts)) (now (c .before .before .before .before .before .before .before .before .before .before .before .before .before .args .starts)) (now (c .before .before .before .before .before .before .before .before .before .before .before .before .before .args .sizes))) (now (c .before .before .before .before .before .before .before .before .before .before .before .before .before .args .store)) p ≡ false) (c .before .before .place .ensures) (gives-long (now (c .before .before .before .before .before .before .before .before .before .before .before .before .before .args .lens)) (now (c .before .before .before .before .before .before .before .before .before .before .before .before .before .args .id-lens)) (now (c .before .before .before .before .before .before .before .before .before .before .before .before .before .args .ids)) (table (now (c .before .before .before .before .before .before .before .before .before .before .before .before .before .args .counts)) (now (c .before .before .before .before .before .before .before .before .before .before .before .before .before .args .starts)) (now (c .before .before .before .before .before .before .before .before .before .before .before .before .before .args .sizes))) (now (c .before .before .before .before .before .before .before .before .before .before .before .before .before .args .store)) (c .before .before .place .result) (c .if2 .taken)))
+returns c = gives-not (c .before .before .before .before .before .before .before .before .before .before .before .before .before .args .ring) (now (c
+    .before .before .before .before .before .before .before .before .before .before .before .before .before .args .lens)) (now (c .before .before
+    .before .before .before .before .before .before .before .before .before .before .before .args .id-lens)) (now (c .before .before .before .before
+    .before .before .before .before .before .before .before .before .before .args .ids)) (table (now (c .before .before .before .before .before
+    .before .before .before .before .before .before .before .before .args .counts)) (now (c .before .before .before .before .before .before .before
+    .before .before .before .before .before .before .args .starts)) (now (c .before .before .before .before .before .before .before .before .before
+    .before .before .before .before .args .sizes))) (now (c .before .before .before .before .before .before .before .before .before .before .before
+    .before .before .args .store)) (c .before .before .before .before .before .loop .i) (c .before .before .before .before .before .loop .inv .1) (c
+    .before .before .before .if1 .taken)
+    (subst (λ (p : ℕ). givesAt (now (c .before .before .before .before .before .before .before .before .before .before .before .before .before .args
+    .lens)) (now (c .before .before .before .before .before .before .before .before .before .before .before .before .before .args .id-lens)) (now
+    (c .before .before .before .before .before .before .before .before .before .before .before .before .before .args .ids)) (table (now (c .before
+    .before .before .before .before .before .before .before .before .before .before .before .before .args .counts)) (now (c .before .before
+    .before .before .before .before .before .before .before .before .before .before .before .args .starts)) (now (c .before .before .before
+    .before .before .before .before .before .before .before .before .before .before .args .sizes))) (now (c .before .before .before .before
+    .before .before .before .before .before .before .before .before .before .args .store)) p ≡ false) (c .before .before .place .ensures)
+    (gives-long (now (c .before .before .before .before .before .before .before .before .before .before .before .before .before .args .lens)) (now
+    (c .before .before .before .before .before .before .before .before .before .before .before .before .before .args .id-lens)) (now (c .before
+    .before .before .before .before .before .before .before .before .before .before .before .before .args .ids)) (table (now (c .before .before
+    .before .before .before .before .before .before .before .before .before .before .before .args .counts)) (now (c .before .before .before
+    .before .before .before .before .before .before .before .before .before .before .args .starts)) (now (c .before .before .before .before
+    .before .before .before .before .before .before .before .before .before .args .sizes))) (now (c .before .before .before .before .before
+    .before .before .before .before .before .before .before .before .args .store)) (c .before .before .place .result) (c .if2 .taken)))
 
 mul-base : tie.Need-mul-base Inv-loop μ-loop
-mul-base c = let w = row-lies (c .before .before .before .before .before .before .before .before .before .before .before .before .before .args .ring) (now (c .before .before .before .before .before .before .before .before .before .before .before .before .before .args .lens)) (now (c .before .before .before .before .before .before .before .before .before .before .before .before .before .args .id-lens)) (now (c .before .before .before .before .before .before .before .before .before .before .before .before .before .args .ids)) (table (now (c .before .before .before .before .before .before .before .before .before .before .before .before .before .args .counts)) (now (c .before .before .before .before .before .before .before .before .before .before .before .before .before .args .starts)) (now (c .before .before .before .before .before .before .before .before .before .before .before .before .before .args .sizes))) (now (c .before .before .before .before .before .before .before .before .before .before .before .before .before .args .store)) (c .before .before .before .before .before .loop .i) (c .before .before .place .result) (c .before .before .before .before .before .before .before .before .before .before .before .before .before .pre) (c .before .before .before .if1 .taken) (c .before .before .place .ensures) in omega arith
+mul-base c = let w = row-lies (c .before .before .before .before .before .before .before .before .before .before .before .before .before .args .ring)
+    (now (c .before .before .before .before .before .before .before .before .before .before .before .before .before .args .lens)) (now (c .before
+    .before .before .before .before .before .before .before .before .before .before .before .before .args .id-lens)) (now (c .before .before .before
+    .before .before .before .before .before .before .before .before .before .before .args .ids)) (table (now (c .before .before .before .before
+    .before .before .before .before .before .before .before .before .before .args .counts)) (now (c .before .before .before .before .before .before
+    .before .before .before .before .before .before .before .args .starts)) (now (c .before .before .before .before .before .before .before .before
+    .before .before .before .before .before .args .sizes))) (now (c .before .before .before .before .before .before .before .before .before .before
+    .before .before .before .args .store)) (c .before .before .before .before .before .loop .i) (c .before .before .place .result) (c .before .before
+    .before .before .before .before .before .before .before .before .before .before .before .pre) (c .before .before .before .if1 .taken) (c .before
+    .before .place .ensures) in omega arith
 
 add-end : tie.Need-add-end Inv-loop μ-loop
-add-end c = let w = row-lies (c .before .before .before .before .before .before .before .before .before .before .before .before .before .args .ring) (now (c .before .before .before .before .before .before .before .before .before .before .before .before .before .args .lens)) (now (c .before .before .before .before .before .before .before .before .before .before .before .before .before .args .id-lens)) (now (c .before .before .before .before .before .before .before .before .before .before .before .before .before .args .ids)) (table (now (c .before .before .before .before .before .before .before .before .before .before .before .before .before .args .counts)) (now (c .before .before .before .before .before .before .before .before .before .before .before .before .before .args .starts)) (now (c .before .before .before .before .before .before .before .before .before .before .before .before .before .args .sizes))) (now (c .before .before .before .before .before .before .before .before .before .before .before .before .before .args .store)) (c .before .before .before .before .before .loop .i) (c .before .before .place .result) (c .before .before .before .before .before .before .before .before .before .before .before .before .before .pre) (c .before .before .before .if1 .taken) (c .before .before .place .ensures) in omega arith
+add-end c = let w = row-lies (c .before .before .before .before .before .before .before .before .before .before .before .before .before .args .ring)
+    (now (c .before .before .before .before .before .before .before .before .before .before .before .before .before .args .lens)) (now (c .before
+    .before .before .before .before .before .before .before .before .before .before .before .before .args .id-lens)) (now (c .before .before .before
+    .before .before .before .before .before .before .before .before .before .before .args .ids)) (table (now (c .before .before .before .before
+    .before .before .before .before .before .before .before .before .before .args .counts)) (now (c .before .before .before .before .before .before
+    .before .before .before .before .before .before .before .args .starts)) (now (c .before .before .before .before .before .before .before .before
+    .before .before .before .before .before .args .sizes))) (now (c .before .before .before .before .before .before .before .before .before .before
+    .before .before .before .args .store)) (c .before .before .before .before .before .loop .i) (c .before .before .place .result) (c .before .before
+    .before .before .before .before .before .before .before .before .before .before .before .pre) (c .before .before .before .if1 .taken) (c .before
+    .before .place .ensures) in omega arith
 
 mul-id-base : tie.Need-mul-id-base Inv-loop μ-loop
-mul-id-base c = let w = row-lies (c .before .before .before .before .before .before .before .before .before .before .before .before .before .args .ring) (now (c .before .before .before .before .before .before .before .before .before .before .before .before .before .args .lens)) (now (c .before .before .before .before .before .before .before .before .before .before .before .before .before .args .id-lens)) (now (c .before .before .before .before .before .before .before .before .before .before .before .before .before .args .ids)) (table (now (c .before .before .before .before .before .before .before .before .before .before .before .before .before .args .counts)) (now (c .before .before .before .before .before .before .before .before .before .before .before .before .before .args .starts)) (now (c .before .before .before .before .before .before .before .before .before .before .before .before .before .args .sizes))) (now (c .before .before .before .before .before .before .before .before .before .before .before .before .before .args .store)) (c .before .before .before .before .before .loop .i) (c .before .before .place .result) (c .before .before .before .before .before .before .before .before .before .before .before .before .before .pre) (c .before .before .before .if1 .taken) (c .before .before .place .ensures) in omega arith
+mul-id-base c = let w = row-lies (c .before .before .before .before .before .before .before .before .before .before .before .before .before .args
+    .ring) (now (c .before .before .before .before .before .before .before .before .before .before .before .before .before .args .lens)) (now (c
+    .before .before .before .before .before .before .before .before .before .before .before .before .before .args .id-lens)) (now (c .before .before
+    .before .before .before .before .before .before .before .before .before .before .before .args .ids)) (table (now (c .before .before .before
+    .before .before .before .before .before .before .before .before .before .before .args .counts)) (now (c .before .before .before .before .before
+    .before .before .before .before .before .before .before .before .args .starts)) (now (c .before .before .before .before .before .before .before
+    .before .before .before .before .before .before .args .sizes))) (now (c .before .before .before .before .before .before .before .before .before
+    .before .before .before .before .args .store)) (c .before .before .before .before .before .loop .i) (c .before .before .place .result) (c .before
+    .before .before .before .before .before .before .before .before .before .before .before .before .pre) (c .before .before .before .if1 .taken) (c
+    .before .before .place .ensures) in omega arith
 
 shared-slice-read-id-end : tie.Need-shared-slice-read-id-end Inv-loop μ-loop
-shared-slice-read-id-end c = let w = row-lies (c .before .before .before .before .before .before .before .before .before .before .before .before .before .before .args .ring) (now (c .before .before .before .before .before .before .before .before .before .before .before .before .before .before .args .lens)) (now (c .before .before .before .before .before .before .before .before .before .before .before .before .before .before .args .id-lens)) (now (c .before .before .before .before .before .before .before .before .before .before .before .before .before .before .args .ids)) (table (now (c .before .before .before .before .before .before .before .before .before .before .before .before .before .before .args .counts)) (now (c .before .before .before .before .before .before .before .before .before .before .before .before .before .before .args .starts)) (now (c .before .before .before .before .before .before .before .before .before .before .before .before .before .before .args .sizes))) (now (c .before .before .before .before .before .before .before .before .before .before .before .before .before .before .args .store)) (c .before .before .before .before .before .before .loop .i) (c .before .before .before .place .result) (c .before .before .before .before .before .before .before .before .before .before .before .before .before .before .pre) (c .before .before .before .before .if1 .taken) (c .before .before .before .place .ensures) in omega arith
+shared-slice-read-id-end c = let w = row-lies (c .before .before .before .before .before .before .before .before .before .before .before .before
+    .before .before .args .ring) (now (c .before .before .before .before .before .before .before .before .before .before .before .before .before
+    .before .args .lens)) (now (c .before .before .before .before .before .before .before .before .before .before .before .before .before .before
+    .args .id-lens)) (now (c .before .before .before .before .before .before .before .before .before .before .before .before .before .before .args
+    .ids)) (table (now (c .before .before .before .before .before .before .before .before .before .before .before .before .before .before .args
+    .counts)) (now (c .before .before .before .before .before .before .before .before .before .before .before .before .before .before .args .starts))
+    (now (c .before .before .before .before .before .before .before .before .before .before .before .before .before .before .args .sizes))) (now (c
+    .before .before .before .before .before .before .before .before .before .before .before .before .before .before .args .store)) (c .before .before
+    .before .before .before .before .loop .i) (c .before .before .before .place .result) (c .before .before .before .before .before .before .before
+    .before .before .before .before .before .before .before .pre) (c .before .before .before .before .if1 .taken) (c .before .before .before .place
+    .ensures) in omega arith
 
 cast-id-end : tie.Need-cast-id-end Inv-loop μ-loop
 cast-id-end c = omega (arith, (c .shared-slice-known9 .given) (c .before .before .before .place .result))
 
 add-id-end : tie.Need-add-id-end Inv-loop μ-loop
-add-id-end c = let w = row-lies (c .before .before .before .before .before .before .before .before .before .before .before .before .before .before .args .ring) (now (c .before .before .before .before .before .before .before .before .before .before .before .before .before .before .args .lens)) (now (c .before .before .before .before .before .before .before .before .before .before .before .before .before .before .args .id-lens)) (now (c .before .before .before .before .before .before .before .before .before .before .before .before .before .before .args .ids)) (table (now (c .before .before .before .before .before .before .before .before .before .before .before .before .before .before .args .counts)) (now (c .before .before .before .before .before .before .before .before .before .before .before .before .before .before .args .starts)) (now (c .before .before .before .before .before .before .before .before .before .before .before .before .before .before .args .sizes))) (now (c .before .before .before .before .before .before .before .before .before .before .before .before .before .before .args .store)) (c .before .before .before .before .before .before .loop .i) (c .before .before .before .place .result) (c .before .before .before .before .before .before .before .before .before .before .before .before .before .before .pre) (c .before .before .before .before .if1 .taken) (c .before .before .before .place .ensures) in omega arith
+add-id-end c = let w = row-lies (c .before .before .before .before .before .before .before .before .before .before .before .before .before .before
+    .args .ring) (now (c .before .before .before .before .before .before .before .before .before .before .before .before .before .before .args .lens))
+    (now (c .before .before .before .before .before .before .before .before .before .before .before .before .before .before .args .id-lens)) (now (c
+    .before .before .before .before .before .before .before .before .before .before .before .before .before .before .args .ids)) (table (now (c
+    .before .before .before .before .before .before .before .before .before .before .before .before .before .before .args .counts)) (now (c .before
+    .before .before .before .before .before .before .before .before .before .before .before .before .before .args .starts)) (now (c .before .before
+    .before .before .before .before .before .before .before .before .before .before .before .before .args .sizes))) (now (c .before .before .before
+    .before .before .before .before .before .before .before .before .before .before .before .args .store)) (c .before .before .before .before .before
+    .before .loop .i) (c .before .before .before .place .result) (c .before .before .before .before .before .before .before .before .before .before
+    .before .before .before .before .pre) (c .before .before .before .before .if1 .taken) (c .before .before .before .place .ensures) in omega arith
 
 mul-slot : tie.Need-mul-slot Inv-loop μ-loop
-mul-slot c = let w = row-lies (c .before .before .before .before .before .before .before .before .before .before .before .before .before .before .args .ring) (now (c .before .before .before .before .before .before .before .before .before .before .before .before .before .before .args .lens)) (now (c .before .before .before .before .before .before .before .before .before .before .before .before .before .before .args .id-lens)) (now (c .before .before .before .before .before .before .before .before .before .before .before .before .before .before .args .ids)) (table (now (c .before .before .before .before .before .before .before .before .before .before .before .before .before .before .args .counts)) (now (c .before .before .before .before .before .before .before .before .before .before .before .before .before .before .args .starts)) (now (c .before .before .before .before .before .before .before .before .before .before .before .before .before .before .args .sizes))) (now (c .before .before .before .before .before .before .before .before .before .before .before .before .before .before .args .store)) (c .before .before .before .before .before .before .loop .i) (c .before .before .before .place .result) (c .before .before .before .before .before .before .before .before .before .before .before .before .before .before .pre) (c .before .before .before .before .if1 .taken) (c .before .before .before .place .ensures) in omega arith
+mul-slot c = let w = row-lies (c .before .before .before .before .before .before .before .before .before .before .before .before .before .before .args
+    .ring) (now (c .before .before .before .before .before .before .before .before .before .before .before .before .before .before .args .lens)) (now
+    (c .before .before .before .before .before .before .before .before .before .before .before .before .before .before .args .id-lens)) (now (c
+    .before .before .before .before .before .before .before .before .before .before .before .before .before .before .args .ids)) (table (now (c
+    .before .before .before .before .before .before .before .before .before .before .before .before .before .before .args .counts)) (now (c .before
+    .before .before .before .before .before .before .before .before .before .before .before .before .before .args .starts)) (now (c .before .before
+    .before .before .before .before .before .before .before .before .before .before .before .before .args .sizes))) (now (c .before .before .before
+    .before .before .before .before .before .before .before .before .before .before .before .args .store)) (c .before .before .before .before .before
+    .before .loop .i) (c .before .before .before .place .result) (c .before .before .before .before .before .before .before .before .before .before
+    .before .before .before .before .pre) (c .before .before .before .before .if1 .taken) (c .before .before .before .place .ensures) in omega arith
 
 shared-slice-read-topics : tie.Need-shared-slice-read-topics Inv-loop μ-loop
-shared-slice-read-topics c = let w = row-lies (c .before .before .before .before .before .before .before .before .before .before .before .before .before .before .before .args .ring) (now (c .before .before .before .before .before .before .before .before .before .before .before .before .before .before .before .args .lens)) (now (c .before .before .before .before .before .before .before .before .before .before .before .before .before .before .before .args .id-lens)) (now (c .before .before .before .before .before .before .before .before .before .before .before .before .before .before .before .args .ids)) (table (now (c .before .before .before .before .before .before .before .before .before .before .before .before .before .before .before .args .counts)) (now (c .before .before .before .before .before .before .before .before .before .before .before .before .before .before .before .args .starts)) (now (c .before .before .before .before .before .before .before .before .before .before .before .before .before .before .before .args .sizes))) (now (c .before .before .before .before .before .before .before .before .before .before .before .before .before .before .before .args .store)) (c .before .before .before .before .before .before .before .loop .i) (c .before .before .before .before .place .result) (c .before .before .before .before .before .before .before .before .before .before .before .before .before .before .before .pre) (c .before .before .before .before .before .if1 .taken) (c .before .before .before .before .place .ensures) in omega arith
+shared-slice-read-topics c = let w = row-lies (c .before .before .before .before .before .before .before .before .before .before .before .before
+    .before .before .before .args .ring) (now (c .before .before .before .before .before .before .before .before .before .before .before .before
+    .before .before .before .args .lens)) (now (c .before .before .before .before .before .before .before .before .before .before .before .before
+    .before .before .before .args .id-lens)) (now (c .before .before .before .before .before .before .before .before .before .before .before .before
+    .before .before .before .args .ids)) (table (now (c .before .before .before .before .before .before .before .before .before .before .before
+    .before .before .before .before .args .counts)) (now (c .before .before .before .before .before .before .before .before .before .before .before
+    .before .before .before .before .args .starts)) (now (c .before .before .before .before .before .before .before .before .before .before .before
+    .before .before .before .before .args .sizes))) (now (c .before .before .before .before .before .before .before .before .before .before .before
+    .before .before .before .before .args .store)) (c .before .before .before .before .before .before .before .loop .i) (c .before .before .before
+    .before .place .result) (c .before .before .before .before .before .before .before .before .before .before .before .before .before .before .before
+    .pre) (c .before .before .before .before .before .if1 .taken) (c .before .before .before .before .place .ensures) in omega arith
 
 cast-topics : tie.Need-cast-topics Inv-loop μ-loop
 cast-topics c = omega (arith, (c .shared-slice-known10 .given) (c .before .before .before .before .place .result))
@@ -78,7 +179,21 @@ part-kept-with-start : tie.Need-part-kept-with-start Inv-loop μ-loop
 part-kept-with-start c = search needs
 
 part-kept-with-end : tie.Need-part-kept-with-end Inv-loop μ-loop
-part-kept-with-end c = let w = row-lies (c .before .before .before .before .before .before .before .before .before .before .before .before .before .before .before .args .ring) (now (c .before .before .before .before .before .before .before .before .before .before .before .before .before .before .before .args .lens)) (now (c .before .before .before .before .before .before .before .before .before .before .before .before .before .before .before .args .id-lens)) (now (c .before .before .before .before .before .before .before .before .before .before .before .before .before .before .before .args .ids)) (table (now (c .before .before .before .before .before .before .before .before .before .before .before .before .before .before .before .args .counts)) (now (c .before .before .before .before .before .before .before .before .before .before .before .before .before .before .before .args .starts)) (now (c .before .before .before .before .before .before .before .before .before .before .before .before .before .before .before .args .sizes))) (now (c .before .before .before .before .before .before .before .before .before .before .before .before .before .before .before .args .store)) (c .before .before .before .before .before .before .before .loop .i) (c .before .before .before .before .place .result) (c .before .before .before .before .before .before .before .before .before .before .before .before .before .before .before .pre) (c .before .before .before .before .before .if1 .taken) (c .before .before .before .before .place .ensures) in omega (arith, c .before .before .if2 .left)
+part-kept-with-end c = let w = row-lies (c .before .before .before .before .before .before .before .before .before .before .before .before .before
+    .before .before .args .ring) (now (c .before .before .before .before .before .before .before .before .before .before .before .before .before
+    .before .before .args .lens)) (now (c .before .before .before .before .before .before .before .before .before .before .before .before .before
+    .before .before .args .id-lens)) (now (c .before .before .before .before .before .before .before .before .before .before .before .before .before
+    .before .before .args .ids)) (table (now (c .before .before .before .before .before .before .before .before .before .before .before .before
+    .before .before .before .args .counts)) (now (c .before .before .before .before .before .before .before .before .before .before .before .before
+    .before .before .before .args .starts)) (now (c .before .before .before .before .before .before .before .before .before .before .before .before
+    .before .before .before .args .sizes))) (now (c .before .before .before .before .before .before .before .before .before .before .before .before
+    .before .before .before .args .store)) (c .before .before .before .before .before .before .before .loop .i) (c .before .before .before .before
+    .place .result) (c .before .before .before .before .before .before .before .before .before .before .before .before .before .before .before .pre)
+    (c .before .before .before .before .before .if1 .taken) (c .before .before .before .before .place .ensures) in omega (
+      arith,
+      c .before .before
+          .if2 .left,
+    )
 
 sub-kept-with-2 : tie.Need-sub-kept-with-2 Inv-loop μ-loop
 sub-kept-with-2 c = search needs
@@ -87,31 +202,138 @@ part-kept-with-start-2 : tie.Need-part-kept-with-start-2 Inv-loop μ-loop
 part-kept-with-start-2 c = search needs
 
 part-kept-with-end-2 : tie.Need-part-kept-with-end-2 Inv-loop μ-loop
-part-kept-with-end-2 c = let w = row-lies (c .before .before .before .before .before .before .before .before .before .before .before .before .before .before .before .before .args .ring) (now (c .before .before .before .before .before .before .before .before .before .before .before .before .before .before .before .before .args .lens)) (now (c .before .before .before .before .before .before .before .before .before .before .before .before .before .before .before .before .args .id-lens)) (now (c .before .before .before .before .before .before .before .before .before .before .before .before .before .before .before .before .args .ids)) (table (now (c .before .before .before .before .before .before .before .before .before .before .before .before .before .before .before .before .args .counts)) (now (c .before .before .before .before .before .before .before .before .before .before .before .before .before .before .before .before .args .starts)) (now (c .before .before .before .before .before .before .before .before .before .before .before .before .before .before .before .before .args .sizes))) (now (c .before .before .before .before .before .before .before .before .before .before .before .before .before .before .before .before .args .store)) (c .before .before .before .before .before .before .before .before .loop .i) (c .before .before .before .before .before .place .result) (c .before .before .before .before .before .before .before .before .before .before .before .before .before .before .before .before .pre) (c .before .before .before .before .before .before .if1 .taken) (c .before .before .before .before .before .place .ensures) in omega arith
+part-kept-with-end-2 c = let w = row-lies (c .before .before .before .before .before .before .before .before .before .before .before .before .before
+    .before .before .before .args .ring) (now (c .before .before .before .before .before .before .before .before .before .before .before .before
+    .before .before .before .before .args .lens)) (now (c .before .before .before .before .before .before .before .before .before .before .before
+    .before .before .before .before .before .args .id-lens)) (now (c .before .before .before .before .before .before .before .before .before .before
+    .before .before .before .before .before .before .args .ids)) (table (now (c .before .before .before .before .before .before .before .before
+    .before .before .before .before .before .before .before .before .args .counts)) (now (c .before .before .before .before .before .before .before
+    .before .before .before .before .before .before .before .before .before .args .starts)) (now (c .before .before .before .before .before .before
+    .before .before .before .before .before .before .before .before .before .before .args .sizes))) (now (c .before .before .before .before .before
+    .before .before .before .before .before .before .before .before .before .before .before .args .store)) (c .before .before .before .before .before
+    .before .before .before .loop .i) (c .before .before .before .before .before .place .result) (c .before .before .before .before .before .before
+    .before .before .before .before .before .before .before .before .before .before .pre) (c .before .before .before .before .before .before .if1
+    .taken) (c .before .before .before .before .before .place .ensures) in omega arith
 
 mul-kept-with : tie.Need-mul-kept-with Inv-loop μ-loop
-mul-kept-with c = let w = row-lies (c .before .before .before .before .before .before .before .before .before .before .before .before .before .before .before .before .before .args .ring) (now (c .before .before .before .before .before .before .before .before .before .before .before .before .before .before .before .before .before .args .lens)) (now (c .before .before .before .before .before .before .before .before .before .before .before .before .before .before .before .before .before .args .id-lens)) (now (c .before .before .before .before .before .before .before .before .before .before .before .before .before .before .before .before .before .args .ids)) (table (now (c .before .before .before .before .before .before .before .before .before .before .before .before .before .before .before .before .before .args .counts)) (now (c .before .before .before .before .before .before .before .before .before .before .before .before .before .before .before .before .before .args .starts)) (now (c .before .before .before .before .before .before .before .before .before .before .before .before .before .before .before .before .before .args .sizes))) (now (c .before .before .before .before .before .before .before .before .before .before .before .before .before .before .before .before .before .args .store)) (c .before .before .before .before .before .before .before .before .before .loop .i) (c .before .before .before .before .before .before .place .result) (c .before .before .before .before .before .before .before .before .before .before .before .before .before .before .before .before .before .pre) (c .before .before .before .before .before .before .before .if1 .taken) (c .before .before .before .before .before .before .place .ensures) in omega arith
+mul-kept-with c = let w = row-lies (c .before .before .before .before .before .before .before .before .before .before .before .before .before .before
+    .before .before .before .args .ring) (now (c .before .before .before .before .before .before .before .before .before .before .before .before
+    .before .before .before .before .before .args .lens)) (now (c .before .before .before .before .before .before .before .before .before .before
+    .before .before .before .before .before .before .before .args .id-lens)) (now (c .before .before .before .before .before .before .before .before
+    .before .before .before .before .before .before .before .before .before .args .ids)) (table (now (c .before .before .before .before .before
+    .before .before .before .before .before .before .before .before .before .before .before .before .args .counts)) (now (c .before .before .before
+    .before .before .before .before .before .before .before .before .before .before .before .before .before .before .args .starts)) (now (c .before
+    .before .before .before .before .before .before .before .before .before .before .before .before .before .before .before .before .args .sizes)))
+    (now (c .before .before .before .before .before .before .before .before .before .before .before .before .before .before .before .before .before
+    .args .store)) (c .before .before .before .before .before .before .before .before .before .loop .i) (c .before .before .before .before .before
+    .before .place .result) (c .before .before .before .before .before .before .before .before .before .before .before .before .before .before .before
+    .before .before .pre) (c .before .before .before .before .before .before .before .if1 .taken) (c .before .before .before .before .before .before
+    .place .ensures) in omega arith
 
 sub-kept-with-3 : tie.Need-sub-kept-with-3 Inv-loop μ-loop
-sub-kept-with-3 c = let w = row-lies (c .before .before .before .before .before .before .before .before .before .before .before .before .before .before .before .before .before .args .ring) (now (c .before .before .before .before .before .before .before .before .before .before .before .before .before .before .before .before .before .args .lens)) (now (c .before .before .before .before .before .before .before .before .before .before .before .before .before .before .before .before .before .args .id-lens)) (now (c .before .before .before .before .before .before .before .before .before .before .before .before .before .before .before .before .before .args .ids)) (table (now (c .before .before .before .before .before .before .before .before .before .before .before .before .before .before .before .before .before .args .counts)) (now (c .before .before .before .before .before .before .before .before .before .before .before .before .before .before .before .before .before .args .starts)) (now (c .before .before .before .before .before .before .before .before .before .before .before .before .before .before .before .before .before .args .sizes))) (now (c .before .before .before .before .before .before .before .before .before .before .before .before .before .before .before .before .before .args .store)) (c .before .before .before .before .before .before .before .before .before .loop .i) (c .before .before .before .before .before .before .place .result) (c .before .before .before .before .before .before .before .before .before .before .before .before .before .before .before .before .before .pre) (c .before .before .before .before .before .before .before .if1 .taken) (c .before .before .before .before .before .before .place .ensures) in omega arith
+sub-kept-with-3 c = let w = row-lies (c .before .before .before .before .before .before .before .before .before .before .before .before .before
+    .before .before .before .before .args .ring) (now (c .before .before .before .before .before .before .before .before .before .before .before
+    .before .before .before .before .before .before .args .lens)) (now (c .before .before .before .before .before .before .before .before .before
+    .before .before .before .before .before .before .before .before .args .id-lens)) (now (c .before .before .before .before .before .before .before
+    .before .before .before .before .before .before .before .before .before .before .args .ids)) (table (now (c .before .before .before .before
+    .before .before .before .before .before .before .before .before .before .before .before .before .before .args .counts)) (now (c .before .before
+    .before .before .before .before .before .before .before .before .before .before .before .before .before .before .before .args .starts)) (now (c
+    .before .before .before .before .before .before .before .before .before .before .before .before .before .before .before .before .before .args
+    .sizes))) (now (c .before .before .before .before .before .before .before .before .before .before .before .before .before .before .before .before
+    .before .args .store)) (c .before .before .before .before .before .before .before .before .before .loop .i) (c .before .before .before .before
+    .before .before .place .result) (c .before .before .before .before .before .before .before .before .before .before .before .before .before .before
+    .before .before .before .pre) (c .before .before .before .before .before .before .before .if1 .taken) (c .before .before .before .before .before
+    .before .place .ensures) in omega arith
 
 part-kept-with-start-3 : tie.Need-part-kept-with-start-3 Inv-loop μ-loop
-part-kept-with-start-3 c = let w = row-lies (c .before .before .before .before .before .before .before .before .before .before .before .before .before .before .before .before .before .args .ring) (now (c .before .before .before .before .before .before .before .before .before .before .before .before .before .before .before .before .before .args .lens)) (now (c .before .before .before .before .before .before .before .before .before .before .before .before .before .before .before .before .before .args .id-lens)) (now (c .before .before .before .before .before .before .before .before .before .before .before .before .before .before .before .before .before .args .ids)) (table (now (c .before .before .before .before .before .before .before .before .before .before .before .before .before .before .before .before .before .args .counts)) (now (c .before .before .before .before .before .before .before .before .before .before .before .before .before .before .before .before .before .args .starts)) (now (c .before .before .before .before .before .before .before .before .before .before .before .before .before .before .before .before .before .args .sizes))) (now (c .before .before .before .before .before .before .before .before .before .before .before .before .before .before .before .before .before .args .store)) (c .before .before .before .before .before .before .before .before .before .loop .i) (c .before .before .before .before .before .before .place .result) (c .before .before .before .before .before .before .before .before .before .before .before .before .before .before .before .before .before .pre) (c .before .before .before .before .before .before .before .if1 .taken) (c .before .before .before .before .before .before .place .ensures) in omega arith
+part-kept-with-start-3 c = let w = row-lies (c .before .before .before .before .before .before .before .before .before .before .before .before .before
+    .before .before .before .before .args .ring) (now (c .before .before .before .before .before .before .before .before .before .before .before
+    .before .before .before .before .before .before .args .lens)) (now (c .before .before .before .before .before .before .before .before .before
+    .before .before .before .before .before .before .before .before .args .id-lens)) (now (c .before .before .before .before .before .before .before
+    .before .before .before .before .before .before .before .before .before .before .args .ids)) (table (now (c .before .before .before .before
+    .before .before .before .before .before .before .before .before .before .before .before .before .before .args .counts)) (now (c .before .before
+    .before .before .before .before .before .before .before .before .before .before .before .before .before .before .before .args .starts)) (now (c
+    .before .before .before .before .before .before .before .before .before .before .before .before .before .before .before .before .before .args
+    .sizes))) (now (c .before .before .before .before .before .before .before .before .before .before .before .before .before .before .before .before
+    .before .args .store)) (c .before .before .before .before .before .before .before .before .before .loop .i) (c .before .before .before .before
+    .before .before .place .result) (c .before .before .before .before .before .before .before .before .before .before .before .before .before .before
+    .before .before .before .pre) (c .before .before .before .before .before .before .before .if1 .taken) (c .before .before .before .before .before
+    .before .place .ensures) in omega arith
 
 part-kept-with-end-3 : tie.Need-part-kept-with-end-3 Inv-loop μ-loop
-part-kept-with-end-3 c = let w = row-lies (c .before .before .before .before .before .before .before .before .before .before .before .before .before .before .before .before .before .args .ring) (now (c .before .before .before .before .before .before .before .before .before .before .before .before .before .before .before .before .before .args .lens)) (now (c .before .before .before .before .before .before .before .before .before .before .before .before .before .before .before .before .before .args .id-lens)) (now (c .before .before .before .before .before .before .before .before .before .before .before .before .before .before .before .before .before .args .ids)) (table (now (c .before .before .before .before .before .before .before .before .before .before .before .before .before .before .before .before .before .args .counts)) (now (c .before .before .before .before .before .before .before .before .before .before .before .before .before .before .before .before .before .args .starts)) (now (c .before .before .before .before .before .before .before .before .before .before .before .before .before .before .before .before .before .args .sizes))) (now (c .before .before .before .before .before .before .before .before .before .before .before .before .before .before .before .before .before .args .store)) (c .before .before .before .before .before .before .before .before .before .loop .i) (c .before .before .before .before .before .before .place .result) (c .before .before .before .before .before .before .before .before .before .before .before .before .before .before .before .before .before .pre) (c .before .before .before .before .before .before .before .if1 .taken) (c .before .before .before .before .before .before .place .ensures) in omega arith
+part-kept-with-end-3 c = let w = row-lies (c .before .before .before .before .before .before .before .before .before .before .before .before .before
+    .before .before .before .before .args .ring) (now (c .before .before .before .before .before .before .before .before .before .before .before
+    .before .before .before .before .before .before .args .lens)) (now (c .before .before .before .before .before .before .before .before .before
+    .before .before .before .before .before .before .before .before .args .id-lens)) (now (c .before .before .before .before .before .before .before
+    .before .before .before .before .before .before .before .before .before .before .args .ids)) (table (now (c .before .before .before .before
+    .before .before .before .before .before .before .before .before .before .before .before .before .before .args .counts)) (now (c .before .before
+    .before .before .before .before .before .before .before .before .before .before .before .before .before .before .before .args .starts)) (now (c
+    .before .before .before .before .before .before .before .before .before .before .before .before .before .before .before .before .before .args
+    .sizes))) (now (c .before .before .before .before .before .before .before .before .before .before .before .before .before .before .before .before
+    .before .args .store)) (c .before .before .before .before .before .before .before .before .before .loop .i) (c .before .before .before .before
+    .before .before .place .result) (c .before .before .before .before .before .before .before .before .before .before .before .before .before .before
+    .before .before .before .pre) (c .before .before .before .before .before .before .before .if1 .taken) (c .before .before .before .before .before
+    .before .place .ensures) in omega arith
 
 mul-kept-with-2 : tie.Need-mul-kept-with-2 Inv-loop μ-loop
-mul-kept-with-2 c = let w = row-lies (c .before .before .before .before .before .before .before .before .before .before .before .before .before .before .before .before .before .before .args .ring) (now (c .before .before .before .before .before .before .before .before .before .before .before .before .before .before .before .before .before .before .args .lens)) (now (c .before .before .before .before .before .before .before .before .before .before .before .before .before .before .before .before .before .before .args .id-lens)) (now (c .before .before .before .before .before .before .before .before .before .before .before .before .before .before .before .before .before .before .args .ids)) (table (now (c .before .before .before .before .before .before .before .before .before .before .before .before .before .before .before .before .before .before .args .counts)) (now (c .before .before .before .before .before .before .before .before .before .before .before .before .before .before .before .before .before .before .args .starts)) (now (c .before .before .before .before .before .before .before .before .before .before .before .before .before .before .before .before .before .before .args .sizes))) (now (c .before .before .before .before .before .before .before .before .before .before .before .before .before .before .before .before .before .before .args .store)) (c .before .before .before .before .before .before .before .before .before .before .loop .i) (c .before .before .before .before .before .before .before .place .result) (c .before .before .before .before .before .before .before .before .before .before .before .before .before .before .before .before .before .before .pre) (c .before .before .before .before .before .before .before .before .if1 .taken) (c .before .before .before .before .before .before .before .place .ensures) in omega arith
+mul-kept-with-2 c = let w = row-lies (c .before .before .before .before .before .before .before .before .before .before .before .before .before
+    .before .before .before .before .before .args .ring) (now (c .before .before .before .before .before .before .before .before .before .before
+    .before .before .before .before .before .before .before .before .args .lens)) (now (c .before .before .before .before .before .before .before
+    .before .before .before .before .before .before .before .before .before .before .before .args .id-lens)) (now (c .before .before .before .before
+    .before .before .before .before .before .before .before .before .before .before .before .before .before .before .args .ids)) (table (now (c
+    .before .before .before .before .before .before .before .before .before .before .before .before .before .before .before .before .before .before
+    .args .counts)) (now (c .before .before .before .before .before .before .before .before .before .before .before .before .before .before .before
+    .before .before .before .args .starts)) (now (c .before .before .before .before .before .before .before .before .before .before .before .before
+    .before .before .before .before .before .before .args .sizes))) (now (c .before .before .before .before .before .before .before .before .before
+    .before .before .before .before .before .before .before .before .before .args .store)) (c .before .before .before .before .before .before .before
+    .before .before .before .loop .i) (c .before .before .before .before .before .before .before .place .result) (c .before .before .before .before
+    .before .before .before .before .before .before .before .before .before .before .before .before .before .before .pre) (c .before .before .before
+    .before .before .before .before .before .if1 .taken) (c .before .before .before .before .before .before .before .place .ensures) in omega arith
 
 sub-kept-with-4 : tie.Need-sub-kept-with-4 Inv-loop μ-loop
-sub-kept-with-4 c = let w = row-lies (c .before .before .before .before .before .before .before .before .before .before .before .before .before .before .before .before .before .before .args .ring) (now (c .before .before .before .before .before .before .before .before .before .before .before .before .before .before .before .before .before .before .args .lens)) (now (c .before .before .before .before .before .before .before .before .before .before .before .before .before .before .before .before .before .before .args .id-lens)) (now (c .before .before .before .before .before .before .before .before .before .before .before .before .before .before .before .before .before .before .args .ids)) (table (now (c .before .before .before .before .before .before .before .before .before .before .before .before .before .before .before .before .before .before .args .counts)) (now (c .before .before .before .before .before .before .before .before .before .before .before .before .before .before .before .before .before .before .args .starts)) (now (c .before .before .before .before .before .before .before .before .before .before .before .before .before .before .before .before .before .before .args .sizes))) (now (c .before .before .before .before .before .before .before .before .before .before .before .before .before .before .before .before .before .before .args .store)) (c .before .before .before .before .before .before .before .before .before .before .loop .i) (c .before .before .before .before .before .before .before .place .result) (c .before .before .before .before .before .before .before .before .before .before .before .before .before .before .before .before .before .before .pre) (c .before .before .before .before .before .before .before .before .if1 .taken) (c .before .before .before .before .before .before .before .place .ensures) in omega arith
+sub-kept-with-4 c = let w = row-lies (c .before .before .before .before .before .before .before .before .before .before .before .before .before
+    .before .before .before .before .before .args .ring) (now (c .before .before .before .before .before .before .before .before .before .before
+    .before .before .before .before .before .before .before .before .args .lens)) (now (c .before .before .before .before .before .before .before
+    .before .before .before .before .before .before .before .before .before .before .before .args .id-lens)) (now (c .before .before .before .before
+    .before .before .before .before .before .before .before .before .before .before .before .before .before .before .args .ids)) (table (now (c
+    .before .before .before .before .before .before .before .before .before .before .before .before .before .before .before .before .before .before
+    .args .counts)) (now (c .before .before .before .before .before .before .before .before .before .before .before .before .before .before .before
+    .before .before .before .args .starts)) (now (c .before .before .before .before .before .before .before .before .before .before .before .before
+    .before .before .before .before .before .before .args .sizes))) (now (c .before .before .before .before .before .before .before .before .before
+    .before .before .before .before .before .before .before .before .before .args .store)) (c .before .before .before .before .before .before .before
+    .before .before .before .loop .i) (c .before .before .before .before .before .before .before .place .result) (c .before .before .before .before
+    .before .before .before .before .before .before .before .before .before .before .before .before .before .before .pre) (c .before .before .before
+    .before .before .before .before .before .if1 .taken) (c .before .before .before .before .before .before .before .place .ensures) in omega arith
 
 part-kept-with-start-4 : tie.Need-part-kept-with-start-4 Inv-loop μ-loop
-part-kept-with-start-4 c = let w = row-lies (c .before .before .before .before .before .before .before .before .before .before .before .before .before .before .before .before .before .before .args .ring) (now (c .before .before .before .before .before .before .before .before .before .before .before .before .before .before .before .before .before .before .args .lens)) (now (c .before .before .before .before .before .before .before .before .before .before .before .before .before .before .before .before .before .before .args .id-lens)) (now (c .before .before .before .before .before .before .before .before .before .before .before .before .before .before .before .before .before .before .args .ids)) (table (now (c .before .before .before .before .before .before .before .before .before .before .before .before .before .before .before .before .before .before .args .counts)) (now (c .before .before .before .before .before .before .before .before .before .before .before .before .before .before .before .before .before .before .args .starts)) (now (c .before .before .before .before .before .before .before .before .before .before .before .before .before .before .before .before .before .before .args .sizes))) (now (c .before .before .before .before .before .before .before .before .before .before .before .before .before .before .before .before .before .before .args .store)) (c .before .before .before .before .before .before .before .before .before .before .loop .i) (c .before .before .before .before .before .before .before .place .result) (c .before .before .before .before .before .before .before .before .before .before .before .before .before .before .before .before .before .before .pre) (c .before .before .before .before .before .before .before .before .if1 .taken) (c .before .before .before .before .before .before .before .place .ensures) in omega arith
+part-kept-with-start-4 c = let w = row-lies (c .before .before .before .before .before .before .before .before .before .before .before .before .before
+    .before .before .before .before .before .args .ring) (now (c .before .before .before .before .before .before .before .before .before .before
+    .before .before .before .before .before .before .before .before .args .lens)) (now (c .before .before .before .before .before .before .before
+    .before .before .before .before .before .before .before .before .before .before .before .args .id-lens)) (now (c .before .before .before .before
+    .before .before .before .before .before .before .before .before .before .before .before .before .before .before .args .ids)) (table (now (c
+    .before .before .before .before .before .before .before .before .before .before .before .before .before .before .before .before .before .before
+    .args .counts)) (now (c .before .before .before .before .before .before .before .before .before .before .before .before .before .before .before
+    .before .before .before .args .starts)) (now (c .before .before .before .before .before .before .before .before .before .before .before .before
+    .before .before .before .before .before .before .args .sizes))) (now (c .before .before .before .before .before .before .before .before .before
+    .before .before .before .before .before .before .before .before .before .args .store)) (c .before .before .before .before .before .before .before
+    .before .before .before .loop .i) (c .before .before .before .before .before .before .before .place .result) (c .before .before .before .before
+    .before .before .before .before .before .before .before .before .before .before .before .before .before .before .pre) (c .before .before .before
+    .before .before .before .before .before .if1 .taken) (c .before .before .before .before .before .before .before .place .ensures) in omega arith
 
 part-kept-with-end-4 : tie.Need-part-kept-with-end-4 Inv-loop μ-loop
-part-kept-with-end-4 c = let w = row-lies (c .before .before .before .before .before .before .before .before .before .before .before .before .before .before .before .before .before .before .args .ring) (now (c .before .before .before .before .before .before .before .before .before .before .before .before .before .before .before .before .before .before .args .lens)) (now (c .before .before .before .before .before .before .before .before .before .before .before .before .before .before .before .before .before .before .args .id-lens)) (now (c .before .before .before .before .before .before .before .before .before .before .before .before .before .before .before .before .before .before .args .ids)) (table (now (c .before .before .before .before .before .before .before .before .before .before .before .before .before .before .before .before .before .before .args .counts)) (now (c .before .before .before .before .before .before .before .before .before .before .before .before .before .before .before .before .before .before .args .starts)) (now (c .before .before .before .before .before .before .before .before .before .before .before .before .before .before .before .before .before .before .args .sizes))) (now (c .before .before .before .before .before .before .before .before .before .before .before .before .before .before .before .before .before .before .args .store)) (c .before .before .before .before .before .before .before .before .before .before .loop .i) (c .before .before .before .before .before .before .before .place .result) (c .before .before .before .before .before .before .before .before .before .before .before .before .before .before .before .before .before .before .pre) (c .before .before .before .before .before .before .before .before .if1 .taken) (c .before .before .before .before .before .before .before .place .ensures) in omega arith
+part-kept-with-end-4 c = let w = row-lies (c .before .before .before .before .before .before .before .before .before .before .before .before .before
+    .before .before .before .before .before .args .ring) (now (c .before .before .before .before .before .before .before .before .before .before
+    .before .before .before .before .before .before .before .before .args .lens)) (now (c .before .before .before .before .before .before .before
+    .before .before .before .before .before .before .before .before .before .before .before .args .id-lens)) (now (c .before .before .before .before
+    .before .before .before .before .before .before .before .before .before .before .before .before .before .before .args .ids)) (table (now (c
+    .before .before .before .before .before .before .before .before .before .before .before .before .before .before .before .before .before .before
+    .args .counts)) (now (c .before .before .before .before .before .before .before .before .before .before .before .before .before .before .before
+    .before .before .before .args .starts)) (now (c .before .before .before .before .before .before .before .before .before .before .before .before
+    .before .before .before .before .before .before .args .sizes))) (now (c .before .before .before .before .before .before .before .before .before
+    .before .before .before .before .before .before .before .before .before .args .store)) (c .before .before .before .before .before .before .before
+    .before .before .before .loop .i) (c .before .before .before .before .before .before .before .place .result) (c .before .before .before .before
+    .before .before .before .before .before .before .before .before .before .before .before .before .before .before .pre) (c .before .before .before
+    .before .before .before .before .before .if1 .taken) (c .before .before .before .before .before .before .before .place .ensures) in omega arith
 
 kept-with-requires : tie.Need-kept-with-requires Inv-loop μ-loop
 kept-with-requires c κs = search needs
@@ -125,16 +347,92 @@ loop-less c = search needs
 loop-again : tie.Need-loop-again Inv-loop μ-loop
 loop-again c = (
   omega arith,
-  gives-more (c .before .before .before .before .before .before .before .before .before .before .before .before .before .before .before .before .before .before .before .before .before .args .ring) (now (c .before .before .before .before .before .before .before .before .before .before .before .before .before .before .before .before .before .before .before .before .before .args .lens)) (now (c .before .before .before .before .before .before .before .before .before .before .before .before .before .before .before .before .before .before .before .before .before .args .id-lens)) (now (c .before .before .before .before .before .before .before .before .before .before .before .before .before .before .before .before .before .before .before .before .before .args .ids)) (table (now (c .before .before .before .before .before .before .before .before .before .before .before .before .before .before .before .before .before .before .before .before .before .args .counts)) (now (c .before .before .before .before .before .before .before .before .before .before .before .before .before .before .before .before .before .before .before .before .before .args .starts)) (now (c .before .before .before .before .before .before .before .before .before .before .before .before .before .before .before .before .before .before .before .before .before .args .sizes))) (now (c .before .before .before .before .before .before .before .before .before .before .before .before .before .before .before .before .before .before .before .before .before .args .store)) (c .before .before .before .before .before .before .before .before .before .before .before .before .before .loop .i) (c .before .before .before .before .before .before .before .before .before .before .before .before .before .loop .inv .1) (c .before .before .before .before .before .before .before .before .before .before .before .if1 .taken)
-      (subst (λ (p : ℕ). givesAt (now (c .before .before .before .before .before .before .before .before .before .before .before .before .before .before .before .before .before .before .before .before .before .args .lens)) (now (c .before .before .before .before .before .before .before .before .before .before .before .before .before .before .before .before .before .before .before .before .before .args .id-lens)) (now (c .before .before .before .before .before .before .before .before .before .before .before .before .before .before .before .before .before .before .before .before .before .args .ids)) (table (now (c .before .before .before .before .before .before .before .before .before .before .before .before .before .before .before .before .before .before .before .before .before .args .counts)) (now (c .before .before .before .before .before .before .before .before .before .before .before .before .before .before .before .before .before .before .before .before .before .args .starts)) (now (c .before .before .before .before .before .before .before .before .before .before .before .before .before .before .before .before .before .before .before .before .before .args .sizes))) (now (c .before .before .before .before .before .before .before .before .before .before .before .before .before .before .before .before .before .before .before .before .before .args .store)) p ≡ true) (c .before .before .before .before .before .before .before .before .before .before .place .ensures) (gives-says (now (c .before .before .before .before .before .before .before .before .before .before .before .before .before .before .before .before .before .before .before .before .before .args .lens)) (now (c .before .before .before .before .before .before .before .before .before .before .before .before .before .before .before .before .before .before .before .before .before .args .id-lens)) (now (c .before .before .before .before .before .before .before .before .before .before .before .before .before .before .before .before .before .before .before .before .before .args .ids)) (table (now (c .before .before .before .before .before .before .before .before .before .before .before .before .before .before .before .before .before .before .before .before .before .args .counts)) (now (c .before .before .before .before .before .before .before .before .before .before .before .before .before .before .before .before .before .before .before .before .before .args .starts)) (now (c .before .before .before .before .before .before .before .before .before .before .before .before .before .before .before .before .before .before .before .before .before .args .sizes))) (now (c .before .before .before .before .before .before .before .before .before .before .before .before .before .before .before .before .before .before .before .before .before .args .store)) (c .before .before .before .before .before .before .before .before .before .before .place .result) (c .before .kept-with .result) (c .before .before .before .before .before .before .before .before .if2 .left) (c .before .kept-with .ensures) ∙ (c .if3 .taken))),
+  gives-more (c .before .before .before .before .before .before .before .before .before .before .before .before .before .before .before .before
+      .before .before .before .before .before .args .ring) (now (c .before .before .before .before .before .before .before .before .before .before
+      .before .before .before .before .before .before .before .before .before .before .before .args .lens)) (now (c .before .before .before .before
+      .before .before .before .before .before .before .before .before .before .before .before .before .before .before .before .before .before .args
+      .id-lens)) (now (c .before .before .before .before .before .before .before .before .before .before .before .before .before .before .before
+      .before .before .before .before .before .before .args .ids)) (table (now (c .before .before .before .before .before .before .before .before
+      .before .before .before .before .before .before .before .before .before .before .before .before .before .args .counts)) (now (c .before .before
+      .before .before .before .before .before .before .before .before .before .before .before .before .before .before .before .before .before .before
+      .before .args .starts)) (now (c .before .before .before .before .before .before .before .before .before .before .before .before .before .before
+      .before .before .before .before .before .before .before .args .sizes))) (now (c .before .before .before .before .before .before .before .before
+      .before .before .before .before .before .before .before .before .before .before .before .before .before .args .store)) (c .before .before
+      .before .before .before .before .before .before .before .before .before .before .before .loop .i) (c .before .before .before .before .before
+      .before .before .before .before .before .before .before .before .loop .inv .1) (c .before .before .before .before .before .before .before
+      .before .before .before .before .if1 .taken)
+      (subst (λ (p : ℕ). givesAt (now (c .before .before .before .before .before .before .before .before .before .before .before .before .before
+      .before .before .before .before .before .before .before .before .args .lens)) (now (c .before .before .before .before .before .before
+      .before .before .before .before .before .before .before .before .before .before .before .before .before .before .before .args .id-lens))
+      (now (c .before .before .before .before .before .before .before .before .before .before .before .before .before .before .before .before
+      .before .before .before .before .before .args .ids)) (table (now (c .before .before .before .before .before .before .before .before .before
+      .before .before .before .before .before .before .before .before .before .before .before .before .args .counts)) (now (c .before .before
+      .before .before .before .before .before .before .before .before .before .before .before .before .before .before .before .before .before
+      .before .before .args .starts)) (now (c .before .before .before .before .before .before .before .before .before .before .before .before
+      .before .before .before .before .before .before .before .before .before .args .sizes))) (now (c .before .before .before .before .before
+      .before .before .before .before .before .before .before .before .before .before .before .before .before .before .before .before .args
+      .store)) p ≡ true) (c .before .before .before .before .before .before .before .before .before .before .place .ensures) (gives-says (now (c
+      .before .before .before .before .before .before .before .before .before .before .before .before .before .before .before .before .before
+      .before .before .before .before .args .lens)) (now (c .before .before .before .before .before .before .before .before .before .before
+      .before .before .before .before .before .before .before .before .before .before .before .args .id-lens)) (now (c .before .before .before
+      .before .before .before .before .before .before .before .before .before .before .before .before .before .before .before .before .before
+      .before .args .ids)) (table (now (c .before .before .before .before .before .before .before .before .before .before .before .before .before
+      .before .before .before .before .before .before .before .before .args .counts)) (now (c .before .before .before .before .before .before
+      .before .before .before .before .before .before .before .before .before .before .before .before .before .before .before .args .starts)) (now
+      (c .before .before .before .before .before .before .before .before .before .before .before .before .before .before .before .before .before
+      .before .before .before .before .args .sizes))) (now (c .before .before .before .before .before .before .before .before .before .before
+      .before .before .before .before .before .before .before .before .before .before .before .args .store)) (c .before .before .before .before
+      .before .before .before .before .before .before .place .result) (c .before .kept-with .result) (c .before .before .before .before .before
+      .before .before .before .if2 .left) (c .before .kept-with .ensures) ∙ (c .if3 .taken))),
 )
 
 returns-2 : tie.Need-returns-2 Inv-loop μ-loop
-returns-2 c = gives-not (c .before .before .before .before .before .before .before .before .before .before .before .before .before .before .before .before .before .before .before .before .before .args .ring) (now (c .before .before .before .before .before .before .before .before .before .before .before .before .before .before .before .before .before .before .before .before .before .args .lens)) (now (c .before .before .before .before .before .before .before .before .before .before .before .before .before .before .before .before .before .before .before .before .before .args .id-lens)) (now (c .before .before .before .before .before .before .before .before .before .before .before .before .before .before .before .before .before .before .before .before .before .args .ids)) (table (now (c .before .before .before .before .before .before .before .before .before .before .before .before .before .before .before .before .before .before .before .before .before .args .counts)) (now (c .before .before .before .before .before .before .before .before .before .before .before .before .before .before .before .before .before .before .before .before .before .args .starts)) (now (c .before .before .before .before .before .before .before .before .before .before .before .before .before .before .before .before .before .before .before .before .before .args .sizes))) (now (c .before .before .before .before .before .before .before .before .before .before .before .before .before .before .before .before .before .before .before .before .before .args .store)) (c .before .before .before .before .before .before .before .before .before .before .before .before .before .loop .i) (c .before .before .before .before .before .before .before .before .before .before .before .before .before .loop .inv .1) (c .before .before .before .before .before .before .before .before .before .before .before .if1 .taken)
-    (subst (λ (p : ℕ). givesAt (now (c .before .before .before .before .before .before .before .before .before .before .before .before .before .before .before .before .before .before .before .before .before .args .lens)) (now (c .before .before .before .before .before .before .before .before .before .before .before .before .before .before .before .before .before .before .before .before .before .args .id-lens)) (now (c .before .before .before .before .before .before .before .before .before .before .before .before .before .before .before .before .before .before .before .before .before .args .ids)) (table (now (c .before .before .before .before .before .before .before .before .before .before .before .before .before .before .before .before .before .before .before .before .before .args .counts)) (now (c .before .before .before .before .before .before .before .before .before .before .before .before .before .before .before .before .before .before .before .before .before .args .starts)) (now (c .before .before .before .before .before .before .before .before .before .before .before .before .before .before .before .before .before .before .before .before .before .args .sizes))) (now (c .before .before .before .before .before .before .before .before .before .before .before .before .before .before .before .before .before .before .before .before .before .args .store)) p ≡ false) (c .before .before .before .before .before .before .before .before .before .before .place .ensures) (gives-says (now (c .before .before .before .before .before .before .before .before .before .before .before .before .before .before .before .before .before .before .before .before .before .args .lens)) (now (c .before .before .before .before .before .before .before .before .before .before .before .before .before .before .before .before .before .before .before .before .before .args .id-lens)) (now (c .before .before .before .before .before .before .before .before .before .before .before .before .before .before .before .before .before .before .before .before .before .args .ids)) (table (now (c .before .before .before .before .before .before .before .before .before .before .before .before .before .before .before .before .before .before .before .before .before .args .counts)) (now (c .before .before .before .before .before .before .before .before .before .before .before .before .before .before .before .before .before .before .before .before .before .args .starts)) (now (c .before .before .before .before .before .before .before .before .before .before .before .before .before .before .before .before .before .before .before .before .before .args .sizes))) (now (c .before .before .before .before .before .before .before .before .before .before .before .before .before .before .before .before .before .before .before .before .before .args .store)) (c .before .before .before .before .before .before .before .before .before .before .place .result) (c .before .kept-with .result) (c .before .before .before .before .before .before .before .before .if2 .left) (c .before .kept-with .ensures) ∙ (c .if3 .left)))
+returns-2 c = gives-not (c .before .before .before .before .before .before .before .before .before .before .before .before .before .before .before
+    .before .before .before .before .before .before .args .ring) (now (c .before .before .before .before .before .before .before .before .before
+    .before .before .before .before .before .before .before .before .before .before .before .before .args .lens)) (now (c .before .before .before
+    .before .before .before .before .before .before .before .before .before .before .before .before .before .before .before .before .before .before
+    .args .id-lens)) (now (c .before .before .before .before .before .before .before .before .before .before .before .before .before .before .before
+    .before .before .before .before .before .before .args .ids)) (table (now (c .before .before .before .before .before .before .before .before
+    .before .before .before .before .before .before .before .before .before .before .before .before .before .args .counts)) (now (c .before .before
+    .before .before .before .before .before .before .before .before .before .before .before .before .before .before .before .before .before .before
+    .before .args .starts)) (now (c .before .before .before .before .before .before .before .before .before .before .before .before .before .before
+    .before .before .before .before .before .before .before .args .sizes))) (now (c .before .before .before .before .before .before .before .before
+    .before .before .before .before .before .before .before .before .before .before .before .before .before .args .store)) (c .before .before .before
+    .before .before .before .before .before .before .before .before .before .before .loop .i) (c .before .before .before .before .before .before
+    .before .before .before .before .before .before .before .loop .inv .1) (c .before .before .before .before .before .before .before .before .before
+    .before .before .if1 .taken)
+    (subst (λ (p : ℕ). givesAt (now (c .before .before .before .before .before .before .before .before .before .before .before .before .before .before
+    .before .before .before .before .before .before .before .args .lens)) (now (c .before .before .before .before .before .before .before .before
+    .before .before .before .before .before .before .before .before .before .before .before .before .before .args .id-lens)) (now (c .before
+    .before .before .before .before .before .before .before .before .before .before .before .before .before .before .before .before .before
+    .before .before .before .args .ids)) (table (now (c .before .before .before .before .before .before .before .before .before .before .before
+    .before .before .before .before .before .before .before .before .before .before .args .counts)) (now (c .before .before .before .before
+    .before .before .before .before .before .before .before .before .before .before .before .before .before .before .before .before .before .args
+    .starts)) (now (c .before .before .before .before .before .before .before .before .before .before .before .before .before .before .before
+    .before .before .before .before .before .before .args .sizes))) (now (c .before .before .before .before .before .before .before .before
+    .before .before .before .before .before .before .before .before .before .before .before .before .before .args .store)) p ≡ false) (c .before
+    .before .before .before .before .before .before .before .before .before .place .ensures) (gives-says (now (c .before .before .before .before
+    .before .before .before .before .before .before .before .before .before .before .before .before .before .before .before .before .before .args
+    .lens)) (now (c .before .before .before .before .before .before .before .before .before .before .before .before .before .before .before
+    .before .before .before .before .before .before .args .id-lens)) (now (c .before .before .before .before .before .before .before .before
+    .before .before .before .before .before .before .before .before .before .before .before .before .before .args .ids)) (table (now (c .before
+    .before .before .before .before .before .before .before .before .before .before .before .before .before .before .before .before .before
+    .before .before .before .args .counts)) (now (c .before .before .before .before .before .before .before .before .before .before .before
+    .before .before .before .before .before .before .before .before .before .before .args .starts)) (now (c .before .before .before .before
+    .before .before .before .before .before .before .before .before .before .before .before .before .before .before .before .before .before .args
+    .sizes))) (now (c .before .before .before .before .before .before .before .before .before .before .before .before .before .before .before
+    .before .before .before .before .before .before .args .store)) (c .before .before .before .before .before .before .before .before .before
+    .before .place .result) (c .before .kept-with .result) (c .before .before .before .before .before .before .before .before .if2 .left) (c
+    .before .kept-with .ensures) ∙ (c .if3 .left)))
 
 returns-3 : tie.Need-returns-3 Inv-loop μ-loop
-returns-3 c = gives-all (c .before .before .before .before .before .before .before .before .before .before .args .ring) (now (c .before .before .before .before .before .before .before .before .before .before .args .lens)) (now (c .before .before .before .before .before .before .before .before .before .before .args .id-lens)) (now (c .before .before .before .before .before .before .before .before .before .before .args .ids)) (table (now (c .before .before .before .before .before .before .before .before .before .before .args .counts)) (now (c .before .before .before .before .before .before .before .before .before .before .args .starts)) (now (c .before .before .before .before .before .before .before .before .before .before .args .sizes))) (now (c .before .before .before .before .before .before .before .before .before .before .args .store)) (c .before .before .loop .i) (c .before .before .loop .inv .1) (c .if1 .left)
+returns-3 c = gives-all (c .before .before .before .before .before .before .before .before .before .before .args .ring) (now (c .before .before
+    .before .before .before .before .before .before .before .before .args .lens)) (now (c .before .before .before .before .before .before .before
+    .before .before .before .args .id-lens)) (now (c .before .before .before .before .before .before .before .before .before .before .args .ids))
+    (table (now (c .before .before .before .before .before .before .before .before .before .before .args .counts)) (now (c .before .before .before
+    .before .before .before .before .before .before .before .args .starts)) (now (c .before .before .before .before .before .before .before .before
+    .before .before .args .sizes))) (now (c .before .before .before .before .before .before .before .before .before .before .args .store)) (c .before
+    .before .loop .i) (c .before .before .loop .inv .1) (c .if1 .left)
 
 pub messages-fit-spec : {M : Type 1} → statement M
 messages-fit-spec =

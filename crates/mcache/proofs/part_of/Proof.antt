@@ -27,7 +27,8 @@ part-result-end : tie.Need-part-result-end
 part-result-end c = search needs
 
 returns-2 : tie.Need-returns-2
-returns-2 c = part-cut (now (c .before .before .before .args .bytes)) (c .before .before .before .args .start) (c .before .before .before .args .len) (c .before .if2 .taken) (c .before .before .if1 .left)
+returns-2 c = part-cut (now (c .before .before .before .args .bytes)) (c .before .before .before .args .start) (c .before .before .before .args .len)
+    (c .before .if2 .taken) (c .before .before .if1 .left)
 
 add-result : tie.Need-add-result
 add-result c = search needs
@@ -42,7 +43,8 @@ part-result-end-2 : tie.Need-part-result-end-2
 part-result-end-2 c = search needs
 
 returns-3 : tie.Need-returns-3
-returns-3 c = part-from (c .before .before .before .args .start) (c .before .before .before .args .len) (drop (c .before .before .before .args .start) (now (c .before .before .before .args .bytes)))
+returns-3 c = part-from (c .before .before .before .args .start) (c .before .before .before .args .len) (drop (c .before .before .before .args .start)
+    (now (c .before .before .before .args .bytes)))
 
 pub part-of-spec : {M : Type 1} → statement M
 part-of-spec =

@@ -51,14 +51,17 @@ loop-again : tie.Need-loop-again Inv-loop μ-loop
 loop-again c = (
   omega arith,
   length-set (c .before .before .loop .out) (c .before .before .before .args .at + c .before .before .loop .i) _ ∙ (c .before .before .loop .inv .1),
-  shorts-more (c .before .before .loop .out) _ (now (c .before .before .before .args .values)) (c .before .before .before .args .at) (c .before .before .before .args .n) (c .before .before .loop .i) (c .before .loop-test .taken) (c .before .before .before .pre .1) _ refl (c .before .before .loop .inv .2),
+  shorts-more (c .before .before .loop .out) _ (now (c .before .before .before .args .values)) (c .before .before .before .args .at) (c .before
+      .before .before .args .n) (c .before .before .loop .i) (c .before .loop-test .taken) (c .before .before .before .pre .1) _ refl (c .before
+      .before .loop .inv .2),
 )
 
 same-length : tie.Need-same-length Inv-loop μ-loop
 same-length c = search needs
 
 returns : tie.Need-returns Inv-loop μ-loop
-returns c = shorts-done (c .before .loop .out) _ (now (c .before .before .args .values)) (c .before .before .args .at) (c .before .before .args .n) (c .before .loop .i) (c .loop-test .left) (c .before .loop .inv .2)
+returns c = shorts-done (c .before .loop .out) _ (now (c .before .before .args .values)) (c .before .before .args .at) (c .before .before .args .n) (c
+    .before .loop .i) (c .loop-test .left) (c .before .loop .inv .2)
 
 pub put-shorts-spec : {M : Type 1} → statement M
 put-shorts-spec =

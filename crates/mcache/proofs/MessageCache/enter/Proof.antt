@@ -9,7 +9,9 @@ wrapping-add-u64-requires : tie.Need-wrapping-add-u64-requires
 wrapping-add-u64-requires c κs = search needs
 
 returns : tie.Need-returns
-returns c = entered-none (c .before .before .before .before .before .before .before .args .self) (now (c .before .before .before .before .before .before .before .args .store)) (now (c .before .before .before .before .before .before .before .args .part)) (now (c .before .before .before .before .before .before .before .args .id)) (c .wrapping-add-u64 .result) (c .before .if1 .taken) (c .wrapping-add-u64 .ensures)
+returns c = entered-none (c .before .before .before .before .before .before .before .args .self) (now (c .before .before .before .before .before
+    .before .before .args .store)) (now (c .before .before .before .before .before .before .before .args .part)) (now (c .before .before .before
+    .before .before .before .before .args .id)) (c .wrapping-add-u64 .result) (c .before .if1 .taken) (c .wrapping-add-u64 .ensures)
 
 add-minus : tie.Need-add-minus
 add-minus c = search needs
@@ -22,7 +24,11 @@ without-requires c κs = search needs
 
 append-requires : tie.Need-append-requires
 append-requires c κs =
-    let r = enter-room (c .before .before .before .before .before .before .before .before .before .before .args .self) (now (c .before .before .before .before .before .before .before .before .before .before .args .store)) (now (c .before .before .before .before .before .before .before .before .before .before .args .part)) (now (c .before .before .before .before .before .before .before .before .before .before .args .id)) (c .before .before .minus .result) (c .before .without .result) (c .before .before .before .before .if1 .left) (c .before .before .minus .ensures) (c .before .without .ensures) (c .before .before .before .before .before .before .before .before .before .before .pre .0) in
+    let r = enter-room (c .before .before .before .before .before .before .before .before .before .before .args .self) (now (c .before .before .before
+    .before .before .before .before .before .before .before .args .store)) (now (c .before .before .before .before .before .before .before .before
+    .before .before .args .part)) (now (c .before .before .before .before .before .before .before .before .before .before .args .id)) (c .before
+    .before .minus .result) (c .before .without .result) (c .before .before .before .before .if1 .left) (c .before .before .minus .ensures) (c
+    .before .without .ensures) (c .before .before .before .before .before .before .before .before .before .before .pre .0) in
     (r .0, (r .1, c .before .before .before .before .before .before .before .before .before .before .pre .1))
 
 same-length : tie.Need-same-length
@@ -30,7 +36,12 @@ same-length c = search needs
 
 returns-2 : tie.Need-returns-2
 returns-2 c =
-    entered-some (c .before .before .before .before .before .before .before .before .before .before .before .before .before .args .self) (now (c .before .before .before .before .before .before .before .before .before .before .before .before .before .args .store)) (now (c .before .before .before .before .before .before .before .before .before .before .before .before .before .args .part)) (now (c .before .before .before .before .before .before .before .before .before .before .before .before .before .args .id)) (c .before .before .before .before .before .minus .result) (c .before .before .before .before .without .result) (c .before .before .before .before .before .before .before .if1 .left) (c .before .before .before .before .before .minus .ensures) (c .before .before .before .before .without .ensures) _ _
+    entered-some (c .before .before .before .before .before .before .before .before .before .before .before .before .before .args .self) (now (c
+    .before .before .before .before .before .before .before .before .before .before .before .before .before .args .store)) (now (c .before .before
+    .before .before .before .before .before .before .before .before .before .before .before .args .part)) (now (c .before .before .before .before
+    .before .before .before .before .before .before .before .before .before .args .id)) (c .before .before .before .before .before .minus .result)
+    (c .before .before .before .before .without .result) (c .before .before .before .before .before .before .before .if1 .left) (c .before .before
+    .before .before .before .minus .ensures) (c .before .before .before .before .without .ensures) _ _
     (c .before .before .append .ensures .0) (c .before .before .append .ensures .1)
 
 pub enter-spec : {M : Type 1} → statement M

@@ -5,7 +5,7 @@ use mathlib.Core.Path.{refl, sym, _∙_}
 use native.Mathlib.Omega.{arith}
 use Rattle.admission.specs.Admission.{Span}
 use Rattle.admission.specs.TopicLaws.{counts-places, starts-within, sizes-within}
-use Rattle.mcache.proofs.Walks.{kept-number, kept-values, kept-below}
+use Rattle.mcache.proofs.Walks.{kept-length, kept-values, kept-below}
 use Rattle.mcache.proofs.Answers.{roomy, kept-not, kept-placed, kept-short, under-held, under-new}
 use borrow.Author.Needs.{length-unmapped, needs}
 use Rattle.mcache.proofs.MessageCache.keep.Statement.{statement}
@@ -29,7 +29,9 @@ find-requires : tie.Need-find-requires
 find-requires c κs = search needs
 
 returns : tie.Need-returns
-returns c = let a = c .before .before .before .before .before .before .before .before .before .args in under-held (a .self) (now (a .store)) (now (a .part)) (now (a .id)) (rw (c .before .before .before .before .before .ring .ensures) at (sym (c .before .before .before .before .can-keep .ensures) ∙ c .before .before .before .if1 .taken)) (c .before .before .find .result) (c .before .before .find .ensures) (c .if2 .taken)
+returns c = let a = c .before .before .before .before .before .before .before .before .before .args in under-held (a .self) (now (a .store)) (now (a
+    .part)) (now (a .id)) (rw (c .before .before .before .before .before .ring .ensures) at (sym (c .before .before .before .before .can-keep
+    .ensures) ∙ c .before .before .before .if1 .taken)) (c .before .before .find .result) (c .before .before .find .ensures) (c .if2 .taken)
 
 slice-aggregate-topics-of : tie.Need-slice-aggregate-topics-of
 slice-aggregate-topics-of c = search needs
@@ -51,24 +53,60 @@ slice-aggregate-enter-2 c = search needs
 
 enter-requires : tie.Need-enter-requires
 enter-requires c κs =
-    let a = c .before .before .before .before .before .before .before .before .before .before .before .before .before .before .before .before .before .before .args in
-    let g = c .before .before .before .before .before .before .before .before .before .before .before .before .before .before .before .before .before .before .good .0 in
-    let k = (rw (c .before .before .before .before .before .before .before .before .before .before .before .before .before .before .ring .ensures) at (sym (c .before .before .before .before .before .before .before .before .before .before .before .before .before .can-keep .ensures) ∙ c .before .before .before .before .before .before .before .before .before .before .before .before .if1 .taken)) in
+    let a = c .before .before .before .before .before .before .before .before .before .before .before .before .before .before .before .before .before
+    .before .args in
+    let g = c .before .before .before .before .before .before .before .before .before .before .before .before .before .before .before .before .before
+    .before .good .0 in
+    let k = (rw (c .before .before .before .before .before .before .before .before .before .before .before .before .before .before .ring .ensures) at
+    (sym (c .before .before .before .before .before .before .before .before .before .before .before .before .before .can-keep .ensures) ∙ c
+    .before .before .before .before .before .before .before .before .before .before .before .before .if1 .taken)) in
     let s = kept-short (a .self) (now (a .store)) (now (a .part)) (now (a .id)) k in (
       kept-placed (a .self) (now (a .store)) (now (a .part)) (now (a .id)) k
-          (length-unmapped ℕ (a .self .generation) 64 (g .1 .1 .1 .1 .1 .1 .1 .0 .1 .0 .1)) (length-unmapped ℕ (a .self .window) 64 (g .1 .1 .1 .1 .1 .1 .1 .1 .0 .1 .0 .1)) (length-unmapped ℕ (a .self .len) 64 (g .1 .1 .1 .1 .1 .1 .1 .1 .1 .0 .1 .0 .1))
-          (length-unmapped ℕ (a .self .«id_len») 64 (g .1 .1 .1 .1 .1 .1 .1 .1 .1 .1 .0 .1 .0 .1)) (length-unmapped ℕ (a .self .ids) 8192 (g .1 .1 .1 .1 .1 .1 .1 .1 .1 .1 .1 .0 .1 .0 .1))
-          (roomy (a .self) (length-unmapped ℕ (a .self .«topic_count») 64 (g .1 .1 .1 .1 .1 .1 .1 .1 .1 .1 .1 .1 .0 .1 .0 .1)) (length-unmapped ℕ (a .self .«topic_start») 256 (g .1 .1 .1 .1 .1 .1 .1 .1 .1 .1 .1 .1 .1 .0 .1 .0 .1)) (length-unmapped ℕ (a .self .«topic_len») 256 (g .1 .1 .1 .1 .1 .1 .1 .1 .1 .1 .1 .1 .1 .1 .0 .1 .0 .1))),
+          (length-unmapped ℕ (a .self .generation) 64 (g .1 .1 .1 .1 .1 .1 .1 .0 .1 .0 .1)) (length-unmapped ℕ (a .self .window) 64 (g .1 .1 .1 .1 .1
+          .1 .1 .1 .0 .1 .0 .1)) (length-unmapped ℕ (a .self .len) 64 (g .1 .1 .1 .1 .1 .1 .1 .1 .1 .0 .1 .0 .1))
+          (length-unmapped ℕ (a .self .«id_len») 64 (g .1 .1 .1 .1 .1 .1 .1 .1 .1 .1 .0 .1 .0 .1)) (length-unmapped ℕ (a .self .ids) 8192 (g .1 .1 .1
+          .1 .1 .1 .1 .1 .1 .1 .1 .0 .1 .0 .1))
+          (roomy (a .self) (length-unmapped ℕ (a .self .«topic_count») 64 (g .1 .1 .1 .1 .1 .1 .1 .1 .1 .1 .1 .1 .0 .1 .0 .1)) (length-unmapped ℕ (a
+          .self .«topic_start») 256 (g .1 .1 .1 .1 .1 .1 .1 .1 .1 .1 .1 .1 .1 .0 .1 .0 .1)) (length-unmapped ℕ (a .self .«topic_len») 256 (g .1 .1
+          .1 .1 .1 .1 .1 .1 .1 .1 .1 .1 .1 .1 .0 .1 .0 .1))),
       (
         s,
         record {
-          counts = kept-number (now (c .before .before .before .before .before .before .before .before .before .before .before .before .before .before .before .before .before .before .args .part)) (c .before .before .before .before .before .before .topics-of .result .count) (c .before .before .before .least .result) (counts-places (now (c .before .before .before .before .before .before .before .before .before .before .before .before .before .before .before .before .before .before .args .part)) (c .before .before .before .before .before .before .topics-of .ensures .topics)) (c .before .before .before .least .ensures);
-          starts = kept-values (now (c .before .before .before .before .before .before .before .before .before .before .before .before .before .before .before .before .before .before .args .part)) (c .before .before .before .before .before .before .topics-of .result .count) (c .before .before .before .least .result) (counts-places (now (c .before .before .before .before .before .before .before .before .before .before .before .before .before .before .before .before .before .before .args .part)) (c .before .before .before .before .before .before .topics-of .ensures .topics)) (c .before .before .before .least .ensures) (λ (s : Span). s .start) _ _ refl (c .before .before .before .before .before .before .topics-of .ensures .starts);
-          sizes = kept-values (now (c .before .before .before .before .before .before .before .before .before .before .before .before .before .before .before .before .before .before .args .part)) (c .before .before .before .before .before .before .topics-of .result .count) (c .before .before .before .least .result) (counts-places (now (c .before .before .before .before .before .before .before .before .before .before .before .before .before .before .before .before .before .before .args .part)) (c .before .before .before .before .before .before .topics-of .ensures .topics)) (c .before .before .before .least .ensures) (λ (s : Span). s .size) _ _ refl (c .before .before .before .before .before .before .topics-of .ensures .sizes);
+          counts = kept-length (now (c .before .before .before .before .before .before .before .before .before .before .before .before .before .before
+              .before .before .before .before .args .part)) (c .before .before .before .before .before .before .topics-of .result .count) (c .before
+              .before .before .least .result) (counts-places (now (c .before .before .before .before .before .before .before .before .before .before
+              .before .before .before .before .before .before .before .before .args .part)) (c .before .before .before .before .before .before
+              .topics-of .ensures .topics)) (c .before .before .before .least .ensures);
+          starts = kept-values (now (c .before .before .before .before .before .before .before .before .before .before .before .before .before .before
+              .before .before .before .before .args .part)) (c .before .before .before .before .before .before .topics-of .result .count) (c .before
+              .before .before .least .result) (counts-places (now (c .before .before .before .before .before .before .before .before .before .before
+              .before .before .before .before .before .before .before .before .args .part)) (c .before .before .before .before .before .before
+              .topics-of .ensures .topics)) (c .before .before .before .least .ensures) (λ (s : Span). s .start) _ _ refl (c .before .before .before
+              .before .before .before .topics-of .ensures .starts);
+          sizes = kept-values (now (c .before .before .before .before .before .before .before .before .before .before .before .before .before .before
+              .before .before .before .before .args .part)) (c .before .before .before .before .before .before .topics-of .result .count) (c .before
+              .before .before .least .result) (counts-places (now (c .before .before .before .before .before .before .before .before .before .before
+              .before .before .before .before .before .before .before .before .args .part)) (c .before .before .before .before .before .before
+              .topics-of .ensures .topics)) (c .before .before .before .least .ensures) (λ (s : Span). s .size) _ _ refl (c .before .before .before
+              .before .before .before .topics-of .ensures .sizes);
           starts-room = omega (arith, c .before .before .before .least .ensures);
           sizes-room = omega (arith, c .before .before .before .least .ensures);
-          starts-small = λ i h. let q = kept-below (now (c .before .before .before .before .before .before .before .before .before .before .before .before .before .before .before .before .before .before .args .part)) (c .before .before .before .before .before .before .topics-of .result .count) (c .before .before .before .least .result) (counts-places (now (c .before .before .before .before .before .before .before .before .before .before .before .before .before .before .before .before .before .before .args .part)) (c .before .before .before .before .before .before .topics-of .ensures .topics)) (c .before .before .before .least .ensures) (λ (s : Span). s .start) _ _ refl (c .before .before .before .before .before .before .topics-of .ensures .starts) _ (starts-within (now (c .before .before .before .before .before .before .before .before .before .before .before .before .before .before .before .before .before .before .args .part))) i h in omega (arith, s .0);
-          sizes-small = λ i h. let q = kept-below (now (c .before .before .before .before .before .before .before .before .before .before .before .before .before .before .before .before .before .before .args .part)) (c .before .before .before .before .before .before .topics-of .result .count) (c .before .before .before .least .result) (counts-places (now (c .before .before .before .before .before .before .before .before .before .before .before .before .before .before .before .before .before .before .args .part)) (c .before .before .before .before .before .before .topics-of .ensures .topics)) (c .before .before .before .least .ensures) (λ (s : Span). s .size) _ _ refl (c .before .before .before .before .before .before .topics-of .ensures .sizes) _ (sizes-within (now (c .before .before .before .before .before .before .before .before .before .before .before .before .before .before .before .before .before .before .args .part))) i h in omega (arith, s .0);
+          starts-small = λ i h. let q = kept-below (now (c .before .before .before .before .before .before .before .before .before .before .before
+              .before .before .before .before .before .before .before .args .part)) (c .before .before .before .before .before .before .topics-of
+              .result .count) (c .before .before .before .least .result) (counts-places (now (c .before .before .before .before .before .before
+              .before .before .before .before .before .before .before .before .before .before .before .before .args .part)) (c .before .before .before
+              .before .before .before .topics-of .ensures .topics)) (c .before .before .before .least .ensures) (λ (s : Span). s .start) _ _ refl (c
+              .before .before .before .before .before .before .topics-of .ensures .starts) _ (starts-within (now (c .before .before .before .before
+              .before .before .before .before .before .before .before .before .before .before .before .before .before .before .args .part))) i h in
+              omega (arith, s .0);
+          sizes-small = λ i h. let q = kept-below (now (c .before .before .before .before .before .before .before .before .before .before .before
+              .before .before .before .before .before .before .before .args .part)) (c .before .before .before .before .before .before .topics-of
+              .result .count) (c .before .before .before .least .result) (counts-places (now (c .before .before .before .before .before .before
+              .before .before .before .before .before .before .before .before .before .before .before .before .args .part)) (c .before .before .before
+              .before .before .before .topics-of .ensures .topics)) (c .before .before .before .least .ensures) (λ (s : Span). s .size) _ _ refl (c
+              .before .before .before .before .before .before .topics-of .ensures .sizes) _ (sizes-within (now (c .before .before .before .before
+              .before .before .before .before .before .before .before .before .before .before .before .before .before .before .args .part))) i h in
+              omega (arith, s .0);
         },
       ),
     )
@@ -77,10 +115,18 @@ same-length : tie.Need-same-length
 same-length c = search needs
 
 returns-2 : tie.Need-returns-2
-returns-2 c = let a = c .before .before .before .before .before .before .before .before .before .before .before .before .before .before .before .before .before .before .before .before .before .args in under-new (a .self) (now (a .store)) (now (a .part)) (now (a .id)) (rw (c .before .before .before .before .before .before .before .before .before .before .before .before .before .before .before .before .before .ring .ensures) at (sym (c .before .before .before .before .before .before .before .before .before .before .before .before .before .before .before .before .can-keep .ensures) ∙ c .before .before .before .before .before .before .before .before .before .before .before .before .before .before .before .if1 .taken)) (c .before .before .before .before .before .before .before .before .before .before .before .before .before .before .find .result) (c .before .before .before .before .before .before .before .before .before .before .before .before .before .before .find .ensures) (c .before .before .before .before .before .before .before .before .before .before .before .before .if2 .left) _ _ (c .before .before .enter .ensures)
+returns-2 c = let a = c .before .before .before .before .before .before .before .before .before .before .before .before .before .before .before
+    .before .before .before .before .before .before .args in under-new (a .self) (now (a .store)) (now (a .part)) (now (a .id)) (rw (c .before .before
+    .before .before .before .before .before .before .before .before .before .before .before .before .before .before .before .ring .ensures) at (sym (c
+    .before .before .before .before .before .before .before .before .before .before .before .before .before .before .before .before .can-keep
+    .ensures) ∙ c .before .before .before .before .before .before .before .before .before .before .before .before .before .before .before .if1
+    .taken)) (c .before .before .before .before .before .before .before .before .before .before .before .before .before .before .find .result) (c
+    .before .before .before .before .before .before .before .before .before .before .before .before .before .before .find .ensures) (c .before .before
+    .before .before .before .before .before .before .before .before .before .before .if2 .left) _ _ (c .before .before .enter .ensures)
 
 returns-3 : tie.Need-returns-3
-returns-3 c = let a = c .before .before .before .before .before .before .args in kept-not (a .self) (now (a .store)) (now (a .part)) (now (a .id)) (rw (c .before .before .ring .ensures) at (sym (c .before .can-keep .ensures) ∙ c .if1 .left))
+returns-3 c = let a = c .before .before .before .before .before .before .args in kept-not (a .self) (now (a .store)) (now (a .part)) (now (a .id)) (rw
+    (c .before .before .ring .ensures) at (sym (c .before .can-keep .ensures) ∙ c .if1 .left))
 
 pub keep-spec : {M : Type 1} → statement M
 keep-spec =

@@ -61,11 +61,18 @@ put-part-requires c κs =
     tested (c .before .before .before .before .before .before .before .before .before .before .before .before .before .before .before .args .self)
     (now (c .before .before .before .before .before .before .before .before .before .before .before .before .before .before .before .args .store))
     (sym (c .before .before .before .before .before .before .before .before .before .enum-told3 .given .1)
-    ∙ (c .before .before .before .before .before .before .before .before .before .before .before .lent .ensures)) (search needs) (search needs) (search needs) (search needs) (search needs)
+    ∙ (c .before .before .before .before .before .before .before .before .before .before .before .lent .ensures)) (search needs) (search needs)
+    (search needs) (search needs) (search needs)
     (roomy (c .before .before .before .before .before .before .before .before .before .before .before .before .before .before .before .args .self)
-    (length-unmapped ℕ (c .before .before .before .before .before .before .before .before .before .before .before .before .before .before .before .args .self .«topic_count») 64 (c .before .before .before .before .before .before .before .before .before .before .before .before .before .before .before .good .0 .1 .1 .1 .1 .1 .1 .1 .1 .1 .1 .1 .1 .0 .1 .0 .1))
-    (length-unmapped ℕ (c .before .before .before .before .before .before .before .before .before .before .before .before .before .before .before .args .self .«topic_start») 256 (c .before .before .before .before .before .before .before .before .before .before .before .before .before .before .before .good .0 .1 .1 .1 .1 .1 .1 .1 .1 .1 .1 .1 .1 .1 .0 .1 .0 .1))
-    (length-unmapped ℕ (c .before .before .before .before .before .before .before .before .before .before .before .before .before .before .before .args .self .«topic_len») 256 (c .before .before .before .before .before .before .before .before .before .before .before .before .before .before .before .good .0 .1 .1 .1 .1 .1 .1 .1 .1 .1 .1 .1 .1 .1 .1 .0 .1 .0 .1)))
+    (length-unmapped ℕ (c .before .before .before .before .before .before .before .before .before .before .before .before .before .before .before
+    .args .self .«topic_count») 64 (c .before .before .before .before .before .before .before .before .before .before .before .before .before
+    .before .before .good .0 .1 .1 .1 .1 .1 .1 .1 .1 .1 .1 .1 .1 .0 .1 .0 .1))
+    (length-unmapped ℕ (c .before .before .before .before .before .before .before .before .before .before .before .before .before .before .before
+    .args .self .«topic_start») 256 (c .before .before .before .before .before .before .before .before .before .before .before .before .before
+    .before .before .good .0 .1 .1 .1 .1 .1 .1 .1 .1 .1 .1 .1 .1 .1 .0 .1 .0 .1))
+    (length-unmapped ℕ (c .before .before .before .before .before .before .before .before .before .before .before .before .before .before .before
+    .args .self .«topic_len») 256 (c .before .before .before .before .before .before .before .before .before .before .before .before .before
+    .before .before .good .0 .1 .1 .1 .1 .1 .1 .1 .1 .1 .1 .1 .1 .1 .1 .0 .1 .0 .1)))
 
 same-length : tie.Need-same-length
 same-length c = search needs

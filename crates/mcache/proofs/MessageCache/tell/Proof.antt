@@ -55,34 +55,82 @@ slice-aggregate-is-told-2 : tie.Need-slice-aggregate-is-told-2 Inv-loop μ-loop
 slice-aggregate-is-told-2 c = search needs
 
 slice-aggregate-is-told-3 : tie.Need-slice-aggregate-is-told-3 Inv-loop μ-loop
-slice-aggregate-is-told-3 c = sym (length-unmapped ℕ (c .before .before .before .before .before .before .before .before .before .before .before .before .before .before .before .before .before .before .before .args .self .«topic_count») 64 (c .before .before .before .before .before .before .before .before .before .before .before .before .before .before .before .before .before .before .before .good .0 .1 .1 .1 .1 .1 .1 .1 .1 .1 .1 .1 .1 .0 .1 .0 .1))
+slice-aggregate-is-told-3 c = sym (length-unmapped ℕ (c .before .before .before .before .before .before .before .before .before .before .before
+    .before .before .before .before .before .before .before .before .args .self .«topic_count») 64 (c .before .before .before .before .before .before
+    .before .before .before .before .before .before .before .before .before .before .before .before .before .good .0 .1 .1 .1 .1 .1 .1 .1 .1 .1 .1 .1
+    .1 .0 .1 .0 .1))
 
 slice-aggregate-is-told-4 : tie.Need-slice-aggregate-is-told-4 Inv-loop μ-loop
-slice-aggregate-is-told-4 c = sym (length-unmapped ℕ (c .before .before .before .before .before .before .before .before .before .before .before .before .before .before .before .before .before .before .before .before .args .self .«topic_start») 256 (c .before .before .before .before .before .before .before .before .before .before .before .before .before .before .before .before .before .before .before .before .good .0 .1 .1 .1 .1 .1 .1 .1 .1 .1 .1 .1 .1 .1 .0 .1 .0 .1))
+slice-aggregate-is-told-4 c = sym (length-unmapped ℕ (c .before .before .before .before .before .before .before .before .before .before .before
+    .before .before .before .before .before .before .before .before .before .args .self .«topic_start») 256 (c .before .before .before .before .before
+    .before .before .before .before .before .before .before .before .before .before .before .before .before .before .before .good .0 .1 .1 .1 .1 .1 .1
+    .1 .1 .1 .1 .1 .1 .1 .0 .1 .0 .1))
 
 slice-aggregate-is-told-5 : tie.Need-slice-aggregate-is-told-5 Inv-loop μ-loop
-slice-aggregate-is-told-5 c = sym (length-unmapped ℕ (c .before .before .before .before .before .before .before .before .before .before .before .before .before .before .before .before .before .before .before .before .before .args .self .«topic_len») 256 (c .before .before .before .before .before .before .before .before .before .before .before .before .before .before .before .before .before .before .before .before .before .good .0 .1 .1 .1 .1 .1 .1 .1 .1 .1 .1 .1 .1 .1 .1 .0 .1 .0 .1))
+slice-aggregate-is-told-5 c = sym (length-unmapped ℕ (c .before .before .before .before .before .before .before .before .before .before .before
+    .before .before .before .before .before .before .before .before .before .before .args .self .«topic_len») 256 (c .before .before .before .before
+    .before .before .before .before .before .before .before .before .before .before .before .before .before .before .before .before .before .good .0
+    .1 .1 .1 .1 .1 .1 .1 .1 .1 .1 .1 .1 .1 .1 .0 .1 .0 .1))
 
 is-told-requires : tie.Need-is-told-requires Inv-loop μ-loop
 is-told-requires c κs = (
-  row-in (c .before .before .before .before .before .before .before .before .before .before .before .before .before .before .before .before .before .before .ring .result) (c .before .before .before .before .before .before .before .before .loop .i) (c .before .before .before .before .before .place .result) (sym (c .before .before .before .before .before .before .before .before .before .before .before .before .before .before .before .before .before .rows-lie .ensures) ∙ c .before .before .before .before .before .before .before .before .before .before .before .before .before .before .before .before .if1 .taken) (c .before .before .before .before .before .before .if2 .taken) (c .before .before .before .before .before .place .ensures) .0,
-  roomy (c .before .before .before .before .before .before .before .before .before .before .before .before .before .before .before .before .before .before .before .before .before .args .self)
-      (length-unmapped ℕ (c .before .before .before .before .before .before .before .before .before .before .before .before .before .before .before .before .before .before .before .before .before .args .self .«topic_count») 64 (c .before .before .before .before .before .before .before .before .before .before .before .before .before .before .before .before .before .before .before .before .before .good .0 .1 .1 .1 .1 .1 .1 .1 .1 .1 .1 .1 .1 .0 .1 .0 .1))
-      (length-unmapped ℕ (c .before .before .before .before .before .before .before .before .before .before .before .before .before .before .before .before .before .before .before .before .before .args .self .«topic_start») 256 (c .before .before .before .before .before .before .before .before .before .before .before .before .before .before .before .before .before .before .before .before .before .good .0 .1 .1 .1 .1 .1 .1 .1 .1 .1 .1 .1 .1 .1 .0 .1 .0 .1))
-      (length-unmapped ℕ (c .before .before .before .before .before .before .before .before .before .before .before .before .before .before .before .before .before .before .before .before .before .args .self .«topic_len») 256 (c .before .before .before .before .before .before .before .before .before .before .before .before .before .before .before .before .before .before .before .before .before .good .0 .1 .1 .1 .1 .1 .1 .1 .1 .1 .1 .1 .1 .1 .1 .0 .1 .0 .1)),
+  row-in (c .before .before .before .before .before .before .before .before .before .before .before .before .before .before .before .before .before
+      .before .ring .result) (c .before .before .before .before .before .before .before .before .loop .i) (c .before .before .before .before .before
+      .place .result) (sym (c .before .before .before .before .before .before .before .before .before .before .before .before .before .before .before
+      .before .before .rows-lie .ensures) ∙ c .before .before .before .before .before .before .before .before .before .before .before .before .before
+      .before .before .before .if1 .taken) (c .before .before .before .before .before .before .if2 .taken) (c .before .before .before .before .before
+      .place .ensures) .0,
+  roomy (c .before .before .before .before .before .before .before .before .before .before .before .before .before .before .before .before .before
+      .before .before .before .before .args .self)
+      (length-unmapped ℕ (c .before .before .before .before .before .before .before .before .before .before .before .before .before .before .before
+      .before .before .before .before .before .before .args .self .«topic_count») 64 (c .before .before .before .before .before .before .before
+      .before .before .before .before .before .before .before .before .before .before .before .before .before .before .good .0 .1 .1 .1 .1 .1 .1
+      .1 .1 .1 .1 .1 .1 .0 .1 .0 .1))
+      (length-unmapped ℕ (c .before .before .before .before .before .before .before .before .before .before .before .before .before .before .before
+      .before .before .before .before .before .before .args .self .«topic_start») 256 (c .before .before .before .before .before .before .before
+      .before .before .before .before .before .before .before .before .before .before .before .before .before .before .good .0 .1 .1 .1 .1 .1 .1
+      .1 .1 .1 .1 .1 .1 .1 .0 .1 .0 .1))
+      (length-unmapped ℕ (c .before .before .before .before .before .before .before .before .before .before .before .before .before .before .before
+      .before .before .before .before .before .before .args .self .«topic_len») 256 (c .before .before .before .before .before .before .before
+      .before .before .before .before .before .before .before .before .before .before .before .before .before .before .good .0 .1 .1 .1 .1 .1 .1
+      .1 .1 .1 .1 .1 .1 .1 .1 .0 .1 .0 .1)),
 )
 
 slice-aggregate-tell-row : tie.Need-slice-aggregate-tell-row Inv-loop μ-loop
 slice-aggregate-tell-row c = search needs
 
 slice-aggregate-tell-row-2 : tie.Need-slice-aggregate-tell-row-2 Inv-loop μ-loop
-slice-aggregate-tell-row-2 c = sym (length-unmapped ℕ (c .before .before .before .before .before .before .before .before .before .before .before .before .before .before .before .before .before .before .before .before .before .before .before .before .args .self .«id_len») 64 (c .before .before .before .before .before .before .before .before .before .before .before .before .before .before .before .before .before .before .before .before .before .before .before .before .good .0 .1 .1 .1 .1 .1 .1 .1 .1 .1 .1 .0 .1 .0 .1))
+slice-aggregate-tell-row-2 c = sym (length-unmapped ℕ (c .before .before .before .before .before .before .before .before .before .before .before
+    .before .before .before .before .before .before .before .before .before .before .before .before .before .args .self .«id_len») 64 (c .before
+    .before .before .before .before .before .before .before .before .before .before .before .before .before .before .before .before .before .before
+    .before .before .before .before .before .good .0 .1 .1 .1 .1 .1 .1 .1 .1 .1 .1 .0 .1 .0 .1))
 
 slice-aggregate-tell-row-3 : tie.Need-slice-aggregate-tell-row-3 Inv-loop μ-loop
-slice-aggregate-tell-row-3 c = sym (length-unmapped ℕ (c .before .before .before .before .before .before .before .before .before .before .before .before .before .before .before .before .before .before .before .before .before .before .before .before .before .args .self .ids) 8192 (c .before .before .before .before .before .before .before .before .before .before .before .before .before .before .before .before .before .before .before .before .before .before .before .before .before .good .0 .1 .1 .1 .1 .1 .1 .1 .1 .1 .1 .1 .0 .1 .0 .1))
+slice-aggregate-tell-row-3 c = sym (length-unmapped ℕ (c .before .before .before .before .before .before .before .before .before .before .before
+    .before .before .before .before .before .before .before .before .before .before .before .before .before .before .args .self .ids) 8192 (c .before
+    .before .before .before .before .before .before .before .before .before .before .before .before .before .before .before .before .before .before
+    .before .before .before .before .before .before .good .0 .1 .1 .1 .1 .1 .1 .1 .1 .1 .1 .1 .0 .1 .0 .1))
 
 tell-row-requires : tie.Need-tell-row-requires Inv-loop μ-loop
-tell-row-requires c κs = let w = row-in (c .before .before .before .before .before .before .before .before .before .before .before .before .before .before .before .before .before .before .before .before .before .before .ring .result) (c .before .before .before .before .before .before .before .before .before .before .before .before .loop .i) (c .before .before .before .before .before .before .before .before .before .place .result) (sym (c .before .before .before .before .before .before .before .before .before .before .before .before .before .before .before .before .before .before .before .before .before .rows-lie .ensures) ∙ c .before .before .before .before .before .before .before .before .before .before .before .before .before .before .before .before .before .before .before .before .if1 .taken) (c .before .before .before .before .before .before .before .before .before .before .if2 .taken) (c .before .before .before .before .before .before .before .before .before .place .ensures) in (omega (arith, c .before .before .before .before .before .before .before .before .before .before .before .before .loop .inv .1, c .before .before .before .before .before .before .before .before .before .before .before .before .loop .inv .2, c .before .before .before .before .before .before .before .before .before .before .if2 .taken, w .1), w .0)
+tell-row-requires c κs = let w = row-in (c .before .before .before .before .before .before .before .before .before .before .before .before .before
+    .before .before .before .before .before .before .before .before .before .ring .result) (c .before .before .before .before .before .before .before
+    .before .before .before .before .before .loop .i) (c .before .before .before .before .before .before .before .before .before .place .result) (sym
+    (c .before .before .before .before .before .before .before .before .before .before .before .before .before .before .before .before .before .before
+    .before .before .before .rows-lie .ensures) ∙ c .before .before .before .before .before .before .before .before .before .before .before .before
+    .before .before .before .before .before .before .before .before .if1 .taken) (c .before .before .before .before .before .before .before .before
+    .before .before .if2 .taken) (c .before .before .before .before .before .before .before .before .before .place .ensures) in (
+      omega (
+        arith,
+        c
+            .before .before .before .before .before .before .before .before .before .before .before .before .loop .inv .1,
+        c .before .before .before .before
+            .before .before .before .before .before .before .before .before .loop .inv .2,
+        c .before .before .before .before .before .before .before .before
+            .before .before .if2 .taken,
+        w .1,
+      ),
+      w .0,
+    )
 
 add-i : tie.Need-add-i Inv-loop μ-loop
 add-i c = search needs
@@ -92,21 +140,50 @@ loop-less c = search needs
 
 loop-again : tie.Need-loop-again Inv-loop μ-loop
 loop-again c =
-    let w = row-in (c .before .before .before .before .before .before .before .before .before .before .before .before .before .before .before .before .before .before .before .before .before .before .before .before .ring .result) (c .before .before .before .before .before .before .before .before .before .before .before .before .before .before .loop .i) (c .before .before .before .before .before .before .before .before .before .before .before .place .result) (sym (c .before .before .before .before .before .before .before .before .before .before .before .before .before .before .before .before .before .before .before .before .before .before .before .rows-lie .ensures) ∙ c .before .before .before .before .before .before .before .before .before .before .before .before .before .before .before .before .before .before .before .before .before .before .if1 .taken) (c .before .before .before .before .before .before .before .before .before .before .before .before .if2 .taken) (c .before .before .before .before .before .before .before .before .before .before .before .place .ensures) in
-    let few : c .before .before .before .before .before .before .before .before .before .before .before .before .before .before .loop .count < length (c .before .before .before .before .before .before .before .before .before .before .before .before .before .before .loop .rows) = omega (arith, c .before .before .before .before .before .before .before .before .before .before .before .before .before .before .loop .inv .1, c .before .before .before .before .before .before .before .before .before .before .before .before .before .before .loop .inv .2, c .before .before .before .before .before .before .before .before .before .before .before .before .if2 .taken, w .1) in
-    let r = gather-turn _ _ _ _ (c .before .before .before .before .before .before .before .before .before .before .before .before .before .before .before .before .before .before .before .before .before .before .before .before .ring .result) (c .before .before .before .before .before .before .before .before .before .before .before .before .before .before .loop .i) (c .before .before .before .before .before .before .before .before .before .before .before .place .result) (c .before .before .before .before .before .before .before .before .before .before .before .before .before .before .loop .count) (c .before .before .before .before .before .before .before .before .before .before .before .before .before .before .loop .rows) (c .before .before .before .before .before .before .before .before .before .before .before .before .if2 .taken) (c .before .before .before .before .before .before .before .before .before .before .before .place .ensures) few
-    (c .before .tell-row .result) _ (c .before .before .before .before .before .before .before .before .before .before .before .before .before .before .loop .inv .1) (c .before .before .before .before .before .before .before .before .before .before .before .before .before .before .loop .inv .3) (rw (c .before .before .before .before .before .is-told .ensures) at (c .before .tell-row .ensures)) in
+    let w = row-in (c .before .before .before .before .before .before .before .before .before .before .before .before .before .before .before .before
+    .before .before .before .before .before .before .before .before .ring .result) (c .before .before .before .before .before .before .before
+    .before .before .before .before .before .before .before .loop .i) (c .before .before .before .before .before .before .before .before .before
+    .before .before .place .result) (sym (c .before .before .before .before .before .before .before .before .before .before .before .before
+    .before .before .before .before .before .before .before .before .before .before .before .rows-lie .ensures) ∙ c .before .before .before
+    .before .before .before .before .before .before .before .before .before .before .before .before .before .before .before .before .before
+    .before .before .if1 .taken) (c .before .before .before .before .before .before .before .before .before .before .before .before .if2 .taken)
+    (c .before .before .before .before .before .before .before .before .before .before .before .place .ensures) in
+    let few : c .before .before .before .before .before .before .before .before .before .before .before .before .before .before .loop .count < length
+    (c .before .before .before .before .before .before .before .before .before .before .before .before .before .before .loop .rows) = omega (
+      arith,
+      c .before .before .before .before .before .before .before .before .before .before .before .before .before .before .loop .inv .1,
+      c
+          .before .before .before .before .before .before .before .before .before .before .before .before .before .before .loop .inv .2,
+      c .before
+          .before .before .before .before .before .before .before .before .before .before .before .if2 .taken,
+      w .1,
+    ) in
+    let r = gather-turn _ _ _ _ (c .before .before .before .before .before .before .before .before .before .before .before .before .before .before
+    .before .before .before .before .before .before .before .before .before .before .ring .result) (c .before .before .before .before .before
+    .before .before .before .before .before .before .before .before .before .loop .i) (c .before .before .before .before .before .before .before
+    .before .before .before .before .place .result) (c .before .before .before .before .before .before .before .before .before .before .before
+    .before .before .before .loop .count) (c .before .before .before .before .before .before .before .before .before .before .before .before
+    .before .before .loop .rows) (c .before .before .before .before .before .before .before .before .before .before .before .before .if2 .taken)
+    (c .before .before .before .before .before .before .before .before .before .before .before .place .ensures) few
+    (c .before .tell-row .result) _ (c .before .before .before .before .before .before .before .before .before .before .before .before .before .before
+    .loop .inv .1) (c .before .before .before .before .before .before .before .before .before .before .before .before .before .before .loop .inv
+    .3) (rw (c .before .before .before .before .before .is-told .ensures) at (c .before .tell-row .ensures)) in
     (omega (arith, c .before .before .before .before .before .before .before .before .before .before .before .before .if2 .taken), r .0, r .1, r .2)
 
 returns : tie.Need-returns Inv-loop μ-loop
 unfolding gossipList
 returns c =
     let a = c .before .before .before .before .before .before .before .before .before .before .before .before .before .before .before .args in
-    let l = sym (c .before .before .before .before .before .before .before .before .before .before .before .rows-lie .ensures) ∙ c .before .before .before .before .before .before .before .before .before .before .if1 .taken in
+    let l = sym (c .before .before .before .before .before .before .before .before .before .before .before .rows-lie .ensures) ∙ c .before .before
+    .before .before .before .before .before .before .before .before .if1 .taken in
     let t = lie-rows (c .before .before .before .before .before .before .before .before .before .before .before .before .ring .result) l in
-    let r = rw (c .before .before .before .before .before .before .before .before .before .before .before .before .ring .ensures) at (gather-done _ _ _ _ (c .before .before .before .before .before .before .before .before .before .before .before .before .ring .result) (c .before .before .loop .i) (c .before .before .loop .count) (c .before .before .loop .rows) (c .if2 .left)
-    (omega (arith, c .before .before .loop .inv .0, c .before .before .loop .inv .1, c .before .before .loop .inv .2, t .0, t .2)) (c .before .before .loop .inv .3)) in
-    tells-rows (a .self) (now (a .store)) (now (a .topic)) (a .windows) (c .before .before .loop .count) _ _ (rw (c .before .before .before .before .before .before .before .before .before .before .before .before .ring .ensures) at l) refl (r .0) (r .1)
+    let r = rw (c .before .before .before .before .before .before .before .before .before .before .before .before .ring .ensures) at (gather-done _ _
+    _ _ (c .before .before .before .before .before .before .before .before .before .before .before .before .ring .result) (c .before .before .loop
+    .i) (c .before .before .loop .count) (c .before .before .loop .rows) (c .if2 .left)
+    (omega (arith, c .before .before .loop .inv .0, c .before .before .loop .inv .1, c .before .before .loop .inv .2, t .0, t .2)) (c .before .before
+    .loop .inv .3)) in
+    tells-rows (a .self) (now (a .store)) (now (a .topic)) (a .windows) (c .before .before .loop .count) _ _ (rw (c .before .before .before .before
+    .before .before .before .before .before .before .before .before .ring .ensures) at l) refl (r .0) (r .1)
 
 untold-requires : tie.Need-untold-requires Inv-loop μ-loop
 untold-requires c κs = search needs
