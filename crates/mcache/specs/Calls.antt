@@ -4,7 +4,7 @@
 use Prim.Native.Nat.{ℕ, _+_, _-_, _*_}
 use mathlib.Core.List.{List, [], _∷_, _++_}
 use mathlib.Core.Bool.{Bool, true, cond, _&&_}
-use lib.ListN.{length, drop, replicate}
+use lib.ListN.{length, drop, getD, replicate}
 use lib.Seq.{sets}
 use lib.Dec.{leb, ltb, eqb}
 use Rattle.rows.specs.declared.Ring.{Ring}
@@ -32,9 +32,12 @@ use Rattle.mcache.specs.declared.Lookup.{Lookup}
 use Rattle.mcache.specs.declared.Lookup.the-variants as lookup
 use Rattle.mcache.specs.declared.Gossip.{Gossip}
 use Rattle.mcache.specs.declared.Gossip.the-variants as gossip
+use Rattle.mcache.specs.declared.Offer.{Offer}
+use Rattle.mcache.specs.declared.Offer.the-variants as offer
+use Rattle.mcache.specs.Messages.{offerFor}
 use Rattle.mcache.specs.Told.{lentTold, startTold, putTold, lookupTold, gossipTold}
 use Rattle.mcache.specs.State.{messageIn, legal, wellFormed, fresh, dropped, appended, passed, aged, stale, told}
-use Rattle.mcache.specs.State.{gatherInto, messageSize, messageIdSize, maxMessages, ringOf, tableOf}
+use Rattle.mcache.specs.State.{hasTopic, gatherInto, messageSize, messageIdSize, maxMessages, ringOf, tableOf}
 
 -- ---- the scope's numbers
 abbrev pub lentNumber : Lent → ℕ
@@ -131,7 +134,7 @@ keptUnder m id c = keptIn c (planUnder c m id)
 unfoldable pub storedUnder : MessageCache → List ℕ → List ℕ → List ℕ → List ℕ
 storedUnder c st m id = storedIn c st (planUnder c m id)
 
--- ---- keep, tell and form_id test no state: each asks something of constant cost first
+-- ---- keep, tell, offer and form_id test no state: each asks something of constant cost first
 -- the rows lie within the arrays
 unfoldable pub rowsLie : Ring → Bool
 rowsLie ring = leb (ring .cap) maxMessages && (leb (ring .start) (ring .cap) && leb (ring .count) (ring .cap))
@@ -152,6 +155,18 @@ tellCount c st topic windows = cond (rowsLie (ringOf c)) (length (gossipList c s
 
 unfoldable pub tellRows : MessageCache → List ℕ → List ℕ → ℕ → List ℕ
 tellRows c st topic windows = cond (rowsLie (ringOf c)) (gossipArray c st topic windows) (replicate maxMessages 0)
+
+-- what is said of the message in place p
+unfoldable pub offerAt : MessageCache → List ℕ → List ℕ → ℕ → ℕ → Offer
+offerAt c st topic windows p = offerFor (hasTopic (c .len) (tableOf c) st topic p) (getD (c .window) p 0) windows
+
+-- and of an id
+unfoldable pub offerIn : MessageCache → List ℕ → List ℕ → List ℕ → ℕ → Offer
+offerIn c st id topic windows =
+    cond (rowsLie (ringOf c))
+    (cond (ltb (indexIn c id) (c .count)) (offerAt c st topic windows (placeOf (ringOf c) (indexIn c id)))
+    offer.NotCached)
+    offer.NotCached
 
 -- from at a to e and seqno at b to f lie within n bytes, and m bytes have room for both
 unfoldable pub formable : ℕ → ℕ → ℕ → ℕ → ℕ → ℕ → Bool

@@ -7,6 +7,8 @@ use lib.Dec.{ltb}
 use Rattle.rows.specs.Rows.{newest}
 use Rattle.rows.specs.Ids.{sameBytes, precedesBytes, among}
 use Rattle.admission.specs.Admission.{topicsOf}
+use Rattle.mcache.specs.declared.Offer.{Offer}
+use Rattle.mcache.specs.declared.Offer.the-variants as offer
 
 pub record Cached : Type 0 where
   pub id : List ℕ
@@ -58,3 +60,15 @@ inOrder (i ∷ is) = enterId i (inOrder is)
 
 unfoldable pub gossipIds : List ℕ → ℕ → List Cached → List (List ℕ)
 gossipIds topic windows ms = inOrder (idsOf (carrying topic windows ms))
+
+-- ---- why an id is not among them
+-- what is said of a message, by whether it carries the topic and its window's age: the topic is named before the window
+abbrev pub offerFor : Bool → ℕ → ℕ → Offer
+offerFor carried age windows =
+    cond carried (cond (ltb age windows) offer.Listed (offer.OlderWindow age)) offer.WithoutTopic
+
+-- of the message with the id
+unfoldable pub offerOf : List ℕ → List ℕ → ℕ → List Cached → Offer
+offerOf id topic windows [] = offer.NotCached
+offerOf id topic windows (m ∷ ms) =
+    cond (sameBytes (m .id) id) (offerFor (among topic (topics m)) (m .window) windows) (offerOf id topic windows ms)

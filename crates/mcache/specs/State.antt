@@ -284,10 +284,13 @@ stale history [] = 0
 stale history (w ∷ ws) = cond (ltb (w + 1) history) 0 (suc (stale history ws))
 
 -- ---- the rows that are told of, in the order of their ids
--- the message in place p is in the newest windows asked for, and one of its topics is this one
+-- one of the topics of the message in place p is this one, by the places that are kept of them
+abbrev pub hasTopic : List ℕ → Table → List ℕ → List ℕ → ℕ → Bool
+hasTopic lens table st topic p = among topic (map (cut (messageIn lens st p)) (topicsAt table p))
+
+-- and it is in the newest windows asked for
 unfoldable pub told : List ℕ → List ℕ → Table → List ℕ → ℕ → List ℕ → ℕ → Bool
-told window lens table st windows topic p =
-    ltb (getD window p 0) windows && among topic (map (cut (messageIn lens st p)) (topicsAt table p))
+told window lens table st windows topic p = ltb (getD window p 0) windows && hasTopic lens table st topic p
 
 -- how many rows stand before p
 unfoldable pub spotOf : (ℕ → List ℕ) → ℕ → List ℕ → ℕ

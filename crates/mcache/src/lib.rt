@@ -12,11 +12,12 @@ ghost use Rattle.rows.specs.Rows.{placeOf};
 ghost use Rattle.rows.specs.Ids.{among};
 ghost use Rattle.rows.specs.Store.{InStore, inUse, idAt};
 ghost use Rattle.admission.specs.Admission.{cut, spansIn, admissionOf};
-ghost use Rattle.mcache.specs.State.{messageSize, messageIdSize, maxMessages, ringOf, messageIn, fallsFrom, runsTo, givesIn, idsFit, rowsFit, stale, older, Laid, Usable, Placed, fresh, dropped, appended, told, spotOf, putAt, insertRow};
+ghost use Rattle.mcache.specs.State.{messageSize, messageIdSize, maxMessages, ringOf, messageIn, fallsFrom, runsTo, givesIn, idsFit, rowsFit, stale, older, Laid, Usable, Placed, fresh, dropped, appended, told, hasTopic, spotOf, putAt, insertRow};
 ghost use Rattle.mcache.specs.State.{table, Roomy, Found};
 ghost use Rattle.mcache.specs.Calls.{lentOf, indexIn, entered, enteredStore};
 ghost use Rattle.mcache.specs.Calls.{shifted, found, formable, rowsLie, keepable, planFit, answered};
-ghost use Rattle.mcache.specs.Calls.{keptIn, storedIn, getPart, lookupAnswer};
+ghost use Rattle.mcache.specs.Calls.{keptIn, storedIn, getPart, lookupAnswer, offerIn};
+ghost use Rattle.mcache.specs.Messages.{offerFor};
 ghost use Rattle.mcache.specs.Unique.{Starts, Puts, Keeps, Shifts, Gossips, TellsRows, Forms, WritesId};
 use admission::Admission;
 use admission::MAX_TOPIC_SIZE;
@@ -119,6 +120,15 @@ pub enum Gossip {
     BadStore,
     Malformed,
     TopicTooLong(usize),
+}
+
+// Whether an id is told of for a topic and the newest windows asked for, and why not: no message with it is cached; that one does not carry the topic;
+// it does, and its window has an age that they do not reach, the newest being 0.
+pub enum Offer {
+    Listed,
+    NotCached,
+    WithoutTopic,
+    OlderWindow(usize),
 }
 
 // The places of the messages that are told of, in the order of their ids: the first `count` of rows.
@@ -362,6 +372,30 @@ fn carries(message: &[u8], starts: &[u16], sizes: &[u16], n: usize, topic: &[u8]
     false
 }
 
+// Whether the message in place p carries the topic, by what is kept of it.
+fn has_topic(
+    lens: &[u16],
+    counts: &[u8],
+    starts: &[u16],
+    sizes: &[u16],
+    store: &[u8],
+    p: usize,
+    topic: &[u8],
+) -> bool
+    requires { ⌜ (p < maxMessages) × Roomy (table (now counts) (now starts) (now sizes)) ⌝ }
+    ensures { λ r. ⌜ r ≡ hasTopic (now (lens .entry)) (table (now (counts .entry)) (now (starts .entry)) (now (sizes .entry))) (now (store .entry)) (now (topic .entry)) p ⌝ }
+{
+    let slot = p * MAX_TOPICS;
+    let n = byte_at(counts, p) as usize;
+    carries(
+        message_in(lens, store, p),
+        &starts[slot..],
+        &sizes[slot..],
+        n,
+        topic,
+    )
+}
+
 // Whether the message in place p is in the newest windows asked for and carries the topic.
 fn is_told(
     window: &[u8],
@@ -381,15 +415,20 @@ fn is_told(
     if windows <= w {
         return false;
     }
-    let slot = p * MAX_TOPICS;
-    let n = byte_at(counts, p) as usize;
-    carries(
-        message_in(lens, store, p),
-        &starts[slot..],
-        &sizes[slot..],
-        n,
-        topic,
-    )
+    has_topic(lens, counts, starts, sizes, store, p, topic)
+}
+
+// What is said of a message: the topic is named before the window.
+fn offer_for(carried: bool, age: usize, windows: usize) -> Offer
+    ensures { λ r. ⌜ r ≡ offerFor carried age windows ⌝ }
+{
+    if carried {
+        if age < windows {
+            return Offer::Listed;
+        }
+        return Offer::OlderWindow(age);
+    }
+    Offer::WithoutTopic
 }
 
 // Where the row p goes among the first n of `rows`: before the first whose id does not come before its own.
@@ -869,6 +908,26 @@ impl MessageCache {
             };
         }
         MessageCache::untold(Gossip::Malformed)
+    }
+
+    // Whether an id is among those, and why not, of a state that the caller tested; it tests only that the rows lie in the arrays.
+    pub fn offer(self, store: &[u8], id: &[u8], topic: &[u8], windows: usize) -> Offer
+        ensures { λ r. ⌜ r ≡ offerIn self (now (store .entry)) (now (id .entry)) (now (topic .entry)) windows ⌝ }
+    {
+        let ring = self.ring();
+        if rows_lie(ring) {
+            let row = self.find(id);
+            if row < ring.count {
+                let p = place(ring, row);
+                let lens = self.len;
+                let counts = self.topic_count;
+                let starts = self.topic_start;
+                let sizes = self.topic_len;
+                let carried = has_topic(&lens, &counts, &starts, &sizes, store, p, topic);
+                return offer_for(carried, self.window[p] as usize, windows);
+            }
+        }
+        Offer::NotCached
     }
 
     // No ids.

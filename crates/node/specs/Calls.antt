@@ -33,7 +33,7 @@ use Rattle.seen.specs.Entries.{until}
 use Rattle.seen.specs.Calls.{capOf, heldIn, cleaned, entered, enteredStore}
 use Rattle.mcache.specs.declared.MessageCache.{MessageCache}
 use Rattle.mcache.specs.State.{messageIn, messageSize, messageIdSize, ringOf}
-use Rattle.mcache.specs.Calls.{keptUnder, storedUnder, shifted, gossipList}
+use Rattle.mcache.specs.Calls.{keptUnder, storedUnder, shifted, gossipList, offerIn}
 use Rattle.node.specs.declared.Node.{Node}
 use Rattle.node.specs.declared.Lent.{Lent}
 use Rattle.node.specs.declared.Lent.the-variants as lent
@@ -47,11 +47,13 @@ use Rattle.node.specs.declared.Beat.{Beat}
 use Rattle.node.specs.declared.Beat.the-variants as beat
 use Rattle.node.specs.declared.Advertise.{Advertise}
 use Rattle.node.specs.declared.Advertise.the-variants as advertise
+use Rattle.node.specs.declared.Explain.{Explain}
+use Rattle.node.specs.declared.Explain.the-variants as explain
 use Rattle.node.specs.declared.Ask.{Ask}
 use Rattle.node.specs.declared.Ask.the-variants as ask
 use Rattle.node.specs.declared.Serve.{Serve}
 use Rattle.node.specs.declared.Serve.the-variants as serve
-use Rattle.node.specs.Told.{admitTold, beatTold, advertiseTold, askTold, serveTold}
+use Rattle.node.specs.Told.{admitTold, beatTold, advertiseTold, explainTold, askTold, serveTold}
 use Rattle.node.specs.Gateway.{marked, ifAny, rpcBytes, advertisementFor, requestFor, replyRoom, writtenIn, sentIn}
 use Rattle.node.specs.Gateway.{Reply, sent, short, replyFor}
 unfoldable pub use Rattle.node.specs.Gateway.{maxRpcSize}
@@ -66,6 +68,9 @@ beatNumber r = beatTold r .number
 
 abbrev pub advertiseNumber : Advertise → ℕ
 advertiseNumber r = advertiseTold r .number
+
+abbrev pub explainNumber : Explain → ℕ
+explainNumber r = explainTold r .number
 
 abbrev pub askNumber : Ask → ℕ
 askNumber r = askTold r .number
@@ -200,6 +205,13 @@ advertiseAnswer n ss cs topic windows out =
 unfoldable pub advertiseLeft : Node → List ℕ → List ℕ → List ℕ → ℕ → List ℕ → List ℕ
 advertiseLeft n ss cs topic windows out =
     whenFine (lentOf n ss cs) (cond (ltb 1024 (length topic)) out (written (advertiseBytes n cs topic windows) out)) out
+
+-- ---- explain: 40, 41, 42, 29
+unfoldable pub explainAnswer : Node → List ℕ → List ℕ → List ℕ → List ℕ → ℕ → Explain
+explainAnswer n ss cs id topic windows =
+    onLent explain.Faulty (lentOf n ss cs)
+    (cond (ltb 1024 (length topic)) (explain.TopicTooLong (length topic))
+    (explain.Why (offerIn (n .cache) cs id topic windows)))
 
 -- ---- ask: 40, 41, 42, 10, 1 to 7, 11, 12
 -- the ids in the IHAVEs of a body, each at its first mention

@@ -8,7 +8,8 @@ use lib.ListN.{length, take, drop}
 use lib.Dec.{eqb}
 use Rattle.protobuf.specs.Encode.{bytesField}
 use Rattle.seen.specs.Entries.{Entry, holds, inserted, live}
-use Rattle.mcache.specs.Messages.{Cached, held, put, shift, get, gossipIds}
+use Rattle.mcache.specs.declared.Offer.{Offer}
+use Rattle.mcache.specs.Messages.{Cached, held, put, shift, get, gossipIds, offerOf}
 use Rattle.rpc.specs.Rpc.{Rpc, ControlMessage}
 use Rattle.rpc.specs.Encode.{encodeRpc, repeated}
 use Rattle.node.specs.Parts.{once, fitting}
@@ -104,6 +105,10 @@ advertisementFor topic ids = ifAny ids (advertisement topic ids)
 -- advertise topic, windows
 unfoldable pub advertiseOf : List ℕ → ℕ → Gateway → Option Rpc
 advertiseOf topic windows g = advertisementFor topic (toldOf topic windows g)
+
+-- ---- explain: whether an id is among those, and why not
+abbrev pub explainOf : List ℕ → List ℕ → ℕ → Gateway → Offer
+explainOf id topic windows g = offerOf id topic windows (g .cache)
 
 -- ---- ask
 -- those of the ids whose marked form is not seen

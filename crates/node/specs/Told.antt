@@ -17,6 +17,10 @@ use Rattle.node.specs.declared.Beat.{Beat}
 use Rattle.node.specs.declared.Beat.the-variants as beat
 use Rattle.node.specs.declared.Advertise.{Advertise}
 use Rattle.node.specs.declared.Advertise.the-variants as advertise
+use Rattle.mcache.specs.declared.Offer.{Offer}
+use Rattle.mcache.specs.declared.Offer.the-variants as offer
+use Rattle.node.specs.declared.Explain.{Explain}
+use Rattle.node.specs.declared.Explain.the-variants as explain
 use Rattle.node.specs.declared.Ask.{Ask}
 use Rattle.node.specs.declared.Ask.the-variants as ask
 use Rattle.node.specs.declared.Serve.{Serve}
@@ -56,6 +60,19 @@ advertiseTold (advertise.Bytes count) = done (count ∷ [])
 advertiseTold (advertise.Faulty why) = faultTold why
 advertiseTold (advertise.TopicTooLong len) = told topic-too-long (len ∷ [])
 advertiseTold (advertise.Room needed) = told short-room (needed ∷ [])
+
+-- 0 where the id is listed, 1 where it is not cached, 2 where its message is without the topic, 3 in an older window,
+-- with its age
+abbrev pub offerTold : Offer → Told
+offerTold offer.Listed = done (0 ∷ [])
+offerTold offer.NotCached = done (1 ∷ [])
+offerTold offer.WithoutTopic = done (2 ∷ [])
+offerTold (offer.OlderWindow age) = done (3 ∷ age ∷ [])
+
+abbrev pub explainTold : Explain → Told
+explainTold (explain.Why o) = offerTold o
+explainTold (explain.Faulty why) = faultTold why
+explainTold (explain.TopicTooLong len) = told topic-too-long (len ∷ [])
 
 abbrev pub askTold : Ask → Told
 askTold (ask.Bytes count) = done (count ∷ [])

@@ -13,13 +13,15 @@ use Rattle.node.specs.declared.Beat.{Beat}
 use Rattle.node.specs.declared.Beaten.{Beaten}
 use Rattle.node.specs.declared.Advertise.{Advertise}
 use Rattle.node.specs.declared.Advertised.{Advertised}
+use Rattle.node.specs.declared.Explain.{Explain}
+use Rattle.node.specs.declared.Explained.{Explained}
 use Rattle.node.specs.declared.Ask.{Ask}
 use Rattle.node.specs.declared.Asked.{Asked}
 use Rattle.node.specs.declared.Serve.{Serve}
 use Rattle.node.specs.declared.Served.{Served}
 use Rattle.node.specs.Calls.{startAnswer, startNode, planned, admitAnswer, admitNode, admitSeen, admitCache}
 use Rattle.node.specs.Calls.{beatAnswer, beatNode, advertiseAnswer, advertiseLeft, askAnswer, askLeft}
-use Rattle.node.specs.Calls.{serveAnswer, serveLeft}
+use Rattle.node.specs.Calls.{explainAnswer, serveAnswer, serveLeft}
 
 pub record Starts (ttl max-seen history max : ℕ) (r : Started) : Type 0 where
   pub answer : r .answer ≡ startAnswer max-seen history max
@@ -75,6 +77,17 @@ one-advertise n ss cs topic windows out r s left left2 a b = (
       (a .node ∙ sym (b .node)),
   a .buffer ∙ sym (b .buffer),
 )
+
+-- nothing is lent to be written
+pub record Explains (n : Node) (ss cs id topic : List ℕ) (windows : ℕ) (r : Explained) : Type 0 where
+  pub answer : r .answer ≡ explainAnswer n ss cs id topic windows
+  pub node : r .node ≡ n
+
+pub one-explain : (n : Node) (ss cs id topic : List ℕ) (windows : ℕ) (r s : Explained)
+    → Explains n ss cs id topic windows r → Explains n ss cs id topic windows s → r ≡ s
+one-explain n ss cs id topic windows r s a b =
+    ap₂ (λ (x : Explain) (m : Node). record { answer = x; node = m }) (a .answer ∙ sym (b .answer))
+    (a .node ∙ sym (b .node))
 
 pub record Asks (n : Node) (ss cs body out : List ℕ) (r : Asked) (left : List ℕ) : Type 0 where
   pub answer : r .answer ≡ askAnswer n ss cs body out

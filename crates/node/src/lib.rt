@@ -25,7 +25,7 @@ ghost use Rattle.node.specs.Parts.{partsIn, Parts};
 ghost use Rattle.seen.specs.State.{idSize};
 ghost use Rattle.mcache.specs.State.{messageSize, messageIdSize, maxMessages, messageIn, Listed, Usable};
 ghost use Rattle.node.specs.Gateway.{marked, advertisement, request};
-ghost use Rattle.node.specs.Unique.{Starts, Admits, Beats, Advertises, Asks, Serves};
+ghost use Rattle.node.specs.Unique.{Starts, Admits, Beats, Advertises, Explains, Asks, Serves};
 ghost use Rattle.node.specs.State.{seenRing, Ready, risesFrom, seenFits, freshNode};
 ghost use Rattle.node.specs.Calls.{lentOf, laterNode, taken, planFit, swept, heldAt};
 ghost use Rattle.node.specs.Calls.{admitAnswer, admitNode, admitSeen, admitCache, toldIn};
@@ -40,6 +40,7 @@ use ids::message_at;
 use mcache::MESSAGE_ID_SIZE;
 use mcache::MESSAGE_SIZE;
 use mcache::MessageCache;
+use mcache::Offer;
 use mcache::form_id;
 use parts::add_part;
 use parts::emit_bytes;
@@ -127,6 +128,17 @@ pub enum Advertise {
 
 pub struct Advertised {
     pub answer: Advertise,
+    pub node: Node,
+}
+
+pub enum Explain {
+    Why(Offer),
+    Faulty(Fault),
+    TopicTooLong(usize),
+}
+
+pub struct Explained {
+    pub answer: Explain,
     pub node: Node,
 }
 
@@ -670,6 +682,40 @@ impl Node {
                 }
                 let answer = self.announce(cache_store, topic, windows, out);
                 Advertised { answer, node: self }
+            }
+        }
+    }
+
+    // Whether an id stands in the advertisement of a topic from the newest windows asked for, and why not. An id of any length is taken.
+    pub fn explain(
+        self,
+        seen_store: &[u8],
+        cache_store: &[u8],
+        id: &[u8],
+        topic: &[u8],
+        windows: usize,
+    ) -> Explained
+        ensures { λ r. ⌜ Explains self (now («seen_store» .entry)) (now («cache_store» .entry)) (now (id .entry)) (now (topic .entry)) windows r ⌝ }
+    {
+        let lent = self.lent(seen_store, cache_store);
+        match lent {
+            Lent::Faulty(why) => Explained {
+                answer: Explain::Faulty(why),
+                node: self,
+            },
+            Lent::Fine => {
+                if MAX_TOPIC_SIZE < topic.len() {
+                    return Explained {
+                        answer: Explain::TopicTooLong(topic.len()),
+                        node: self,
+                    };
+                }
+                let cache = self.cache;
+                let offer = cache.offer(cache_store, id, topic, windows);
+                Explained {
+                    answer: Explain::Why(offer),
+                    node: self,
+                }
             }
         }
     }

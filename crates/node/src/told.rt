@@ -1,10 +1,11 @@
 // What each call on a node tells: the scope's number and the values beside it.
 ghost use mathlib.Core.Path.{_≡_};
-ghost use Rattle.node.specs.Told.{faultTold, lentTold, startTold, admitTold, beatTold, advertiseTold, askTold, serveTold};
+ghost use Rattle.node.specs.Told.{faultTold, lentTold, startTold, admitTold, beatTold, advertiseTold, offerTold, explainTold, askTold, serveTold};
 use super::Admit;
 use super::Advertise;
 use super::Ask;
 use super::Beat;
+use super::Explain;
 use super::Fault;
 use super::Lent;
 use super::Serve;
@@ -12,6 +13,7 @@ use super::Start;
 use admission::told::told_unfit;
 use basis::Told;
 use basis::refusals;
+use mcache::Offer;
 use protobuf::told::told_wire;
 
 pub fn told_fault(why: Fault) -> Told
@@ -74,6 +76,28 @@ pub fn told_advertise(answer: Advertise) -> Told
         Advertise::Faulty(why) => told_fault(why),
         Advertise::TopicTooLong(len) => Told::one(refusals::TOPIC_TOO_LONG, len as u64),
         Advertise::Room(needed) => Told::one(refusals::SHORT_ROOM, needed as u64),
+    }
+}
+
+// 0 where the id is listed, 1 where it is not cached, 2 where its message is without the topic, 3 in an older window, with its age.
+pub fn told_offer(offer: Offer) -> Told
+    ensures { λ r. ⌜ r ≡ offerTold offer ⌝ }
+{
+    match offer {
+        Offer::Listed => Told::one(0, 0),
+        Offer::NotCached => Told::one(0, 1),
+        Offer::WithoutTopic => Told::one(0, 2),
+        Offer::OlderWindow(age) => Told::two(0, 3, age as u64),
+    }
+}
+
+pub fn told_explain(answer: Explain) -> Told
+    ensures { λ r. ⌜ r ≡ explainTold answer ⌝ }
+{
+    match answer {
+        Explain::Why(offer) => told_offer(offer),
+        Explain::Faulty(why) => told_fault(why),
+        Explain::TopicTooLong(len) => Told::one(refusals::TOPIC_TOO_LONG, len as u64),
     }
 }
 
