@@ -1,0 +1,3 @@
+-- To be believed: Ends, Given.
+pub mod Ends
+pub mod Given
