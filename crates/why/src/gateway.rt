@@ -5,7 +5,6 @@ ghost use lib.ListN.{length, take};
 ghost use Rattle.stored.specs.Layout.{nodeSize, nodeIn};
 ghost use Rattle.why.specs.Given.{givenOf, Gives};
 use answers::gateway_line;
-use mcache::MESSAGE_SIZE;
 use node::Fault;
 use node::Lent;
 use node::Node;
@@ -29,7 +28,8 @@ fn node_in(content: &[u8]) -> Node
     load(&bytes)
 }
 
-// Whether the bytes behind a node are its stores, as long as its maxima say, and can be used with it. The maxima can be any numbers.
+// Whether the bytes behind a node are its stores, as long as its maxima say, and can be used with it. The maxima can be any numbers; that the cache
+// store is as long as it should be, the node tests.
 fn given(node: Node, rest: &[u8]) -> Lent
     ensures { λ r. ⌜ r ≡ givenOf node (now (rest .entry)) ⌝ }
 {
@@ -38,14 +38,6 @@ fn given(node: Node, rest: &[u8]) -> Lent
         return Lent::Faulty(Fault::BadStore);
     }
     let seen_len = max_seen * ID_SIZE;
-    let cache_len = rest.len() - seen_len;
-    let max_messages = node.cache.max_messages;
-    if cache_len / MESSAGE_SIZE != max_messages {
-        return Lent::Faulty(Fault::BadStore);
-    }
-    if cache_len % MESSAGE_SIZE != 0 {
-        return Lent::Faulty(Fault::BadStore);
-    }
     node.lent(&rest[..seen_len], &rest[seen_len..])
 }
 
