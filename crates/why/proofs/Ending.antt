@@ -1,12 +1,12 @@
 -- The tests of a record, one after the other.
-use Prim.Native.Nat.{ℕ}
+use Prim.Native.Nat.{ℕ, _≤_}
 use mathlib.Core.Path.{_≡_}
 use mathlib.Core.List.{List}
 use mathlib.Core.Logic.{_≢_}
 use mathlib.Core.Bool.{Bool, true, false}
 use lib.ListN.{length}
 use lib.Dec.{ltb}
-use borrow.Author.Tests.{eq-eqb, ne-eqb}
+use borrow.Author.Tests.{ltb-false, ne-eqb}
 use Rattle.stored.specs.Layout.{nodeSize}
 use Rattle.play.specs.Ends.{noQuestion, isBad}
 use Rattle.why.specs.Ends.{endsRun}
@@ -15,6 +15,10 @@ module _ (started : Bool) (kind : ℕ) (s : List ℕ) where
   pub no-node : kind ≡ 13 → ltb (length s) nodeSize ≡ endsRun started kind s
   unfolding endsRun
   no-node e = rw e
+
+  pub has-node : endsRun started kind s ≡ false → kind ≡ 13 → nodeSize ≤ length s
+  unfolding endsRun
+  has-node h e = ltb-false (length s) nodeSize (rw e at h)
 
   pub cut : (r : Bool) → kind ≡ 12 → started ≡ true → r ≡ noQuestion s → r ≡ endsRun started kind s
   unfolding endsRun

@@ -1,10 +1,10 @@
 -- The test of a gateway that is given as bytes, one step after the other, and what it leaves.
 use Prim.Native.Nat.{ℕ, _+_, _-_, _*_, _/_, _≤_, _<_}
-use mathlib.Core.Path.{_≡_, sym, _∙_}
-use mathlib.Core.List.{List}
+use mathlib.Core.Path.{_≡_, sym, ap, _∙_}
+use mathlib.Core.List.{List, [], _++_, append-nil}
 use mathlib.Core.Bool.{false}
 use native.Mathlib.Omega.{arith}
-use lib.ListN.{length, length-drop}
+use lib.ListN.{length, take, length-drop, drop-of-length-le}
 use lib.Seq.{length-take-le}
 use lib.Dec.{eqb}
 use borrow.Author.Tests.{le-ltb, eq-eqb, ne-eqb, eqb-false}
@@ -19,7 +19,18 @@ use Rattle.node.specs.declared.Fault.the-variants as fault
 use Rattle.node.specs.declared.Lent.{Lent}
 use Rattle.node.specs.declared.Lent.the-variants as lent
 use Rattle.node.specs.Calls.{lentOf, rightSizes}
+use Rattle.stored.specs.Layout.{nodeSize, nodeIn}
 use Rattle.why.specs.Given.{seenPart, cachePart, givenOf, Gives}
+use Rattle.why.specs.Laws.{placed}
+
+-- the first bytes, copied into an array of their size
+pub node-copied : (s l after : List ℕ) (n : Node) → nodeSize ≤ length s → length l ≡ nodeSize
+    → after ≡ setIn (length (take nodeSize s)) 0 (take nodeSize s) l → n ≡ nodeIn after → n ≡ nodeIn (take nodeSize s)
+node-copied s l after n h i z e =
+    let p = take nodeSize s in
+    let k : length p ≡ nodeSize = length-take-le nodeSize s h in
+    let w : after ≡ p ++ [] = placed p l after (omega arith) z ∙ ap (λ (t : List ℕ). p ++ t) (drop-of-length-le l (omega arith)) in
+    e ∙ ap nodeIn (w ∙ append-nil p)
 
 module _ (n : Node) (rest : List ℕ) where
   -- too few bytes for the seen store

@@ -44,12 +44,15 @@ module _ (n : Node) (rest : List ℕ) (fine : givenOf n rest ≡ lent.Fine) wher
       (t .few, cache-tests (n .cache) (cachePart n rest) (t .messages) .few)
 
 -- what is written at the front is read there
+pub placed : (xs l after : List ℕ) → length xs ≤ length l → after ≡ setIn (length xs) 0 xs l
+    → after ≡ xs ++ drop (length xs) l
+placed xs l after h z =
+    z ∙ set-fits (length xs) 0 xs l (omega arith) ∙ sets-eq xs l 0 (omega arith) ∙ rw (zero-add (length xs))
+
 front : (k : ℕ) (xs l after : List ℕ) → length xs ≡ k → k ≤ length l → after ≡ setIn (length xs) 0 xs l
     → take k after ≡ xs
 front k xs l after e h z =
-    let w : after ≡ xs ++ drop (length xs) l =
-    z ∙ set-fits (length xs) 0 xs l (omega arith) ∙ sets-eq xs l 0 (omega arith) ∙ rw (zero-add (length xs)) in
-    ap (take k) w ∙ take-at xs (drop (length xs) l) k e
+    ap (take k) (placed xs l after (omega arith) z) ∙ take-at xs (drop (length xs) l) k e
 
 pub given-lent : {n : Node} {rest ss cs ids messages : List ℕ} → maxIds * idSize ≤ length ss
     → maxMessages * messageSize ≤ length cs → Gives n rest ss cs lent.Fine ids messages
