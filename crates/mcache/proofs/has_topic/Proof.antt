@@ -5,11 +5,6 @@ use Rattle.mcache.proofs.Walks.{topic-is}
 use borrow.Author.Needs.{needs}
 use Rattle.mcache.proofs.has_topic.Statement.{statement}
 use Rattle.mcache.proofs.has_topic.Tie as tie
-use Rattle.mcache.proofs.has_topic.Reads as reads
-use Rattle.mcache.proofs.has_topic.Lts as lts
-use Rattle.mcache.proofs.carries.Reads as carries-reads
-use Rattle.mcache.proofs.message_in.Reads as message-in-reads
-use Rattle.rows.proofs.byte_at.Reads as byte-at-reads
 
 mul-first : tie.Need-mul-first
 mul-first c = search needs
@@ -51,7 +46,10 @@ carries-requires : tie.Need-carries-requires
 carries-requires c κs = search needs
 
 returns : tie.Need-returns
-returns c = topic-is (now (c .before .before .before .before .before .before .before .before .before .before .before .args .lens)) (table (now (c .before .before .before .before .before .before .before .before .before .before .before .args .counts)) (now (c .before .before .before .before .before .before .before .before .before .before .before .args .starts)) (now (c .before .before .before .before .before .before .before .before .before .before .before .args .sizes))) (now (c .before .before .before .before .before .before .before .before .before .before .before .args .store)) (now (c .before .before .before .before .before .before .before .before .before .before .before .args .topic)) (c .before .before .before .before .before .before .before .before .before .before .before .args .p) _ _ _ (c .before .before .before .message-in .ensures) (c .before .before .before .before .byte-at .ensures) (c .carries .ensures)
+returns c =
+    let a = c .before .before .before .before .before .before .before .before .before .before .before .args in
+    topic-is (now (a .lens)) (table (now (a .counts)) (now (a .starts)) (now (a .sizes))) (now (a .store)) (now (a .topic)) (a .p) _ _ _
+    (c .before .before .before .message-in .ensures) (c .before .before .before .before .byte-at .ensures) (c .carries .ensures)
 
 pub has-topic-spec : {M : Type 1} → statement M
 has-topic-spec =

@@ -14,15 +14,19 @@ cast-w : tie.Need-cast-w
 cast-w c = search needs
 
 returns : tie.Need-returns
-returns c = told-not (now (c .before .before .before .before .before .before .before .before .before .args .window)) (now (c .before .before .before .before .before .before .before .before .before .args .lens)) (table (now (c .before .before .before .before .before .before .before .before .before .args .counts)) (now (c .before .before .before .before .before .before .before .before .before .args .starts)) (now (c .before .before .before .before .before .before .before .before .before .args .sizes)))
-    (now (c .before .before .before .before .before .before .before .before .before .args .store)) (c .before .before .before .before .before .before .before .before .before .args .windows) (now (c .before .before .before .before .before .before .before .before .before .args .topic)) (c .before .before .before .before .before .before .before .before .before .args .p) (omega (arith, c .before .byte-at .ensures, c .if1 .taken))
+returns c =
+    let a = c .before .before .before .before .before .before .before .before .before .args in
+    told-not (now (a .window)) (now (a .lens)) (table (now (a .counts)) (now (a .starts)) (now (a .sizes))) (now (a .store)) (a .windows)
+    (now (a .topic)) (a .p) (omega (arith, c .before .byte-at .ensures, c .if1 .taken))
 
 has-topic-requires : tie.Need-has-topic-requires
 has-topic-requires c κs = search needs
 
 returns-2 : tie.Need-returns-2
-returns-2 c = told-is (now (c .before .before .before .before .before .before .before .before .before .before .args .window)) (now (c .before .before .before .before .before .before .before .before .before .before .args .lens)) (table (now (c .before .before .before .before .before .before .before .before .before .before .args .counts)) (now (c .before .before .before .before .before .before .before .before .before .before .args .starts)) (now (c .before .before .before .before .before .before .before .before .before .before .args .sizes)))
-    (now (c .before .before .before .before .before .before .before .before .before .before .args .store)) (c .before .before .before .before .before .before .before .before .before .before .args .windows) (now (c .before .before .before .before .before .before .before .before .before .before .args .topic)) (c .before .before .before .before .before .before .before .before .before .before .args .p) _ (omega (arith, c .before .before .byte-at .ensures, c .before .if1 .left)) (c .has-topic .ensures)
+returns-2 c =
+    let a = c .before .before .before .before .before .before .before .before .before .before .args in
+    told-is (now (a .window)) (now (a .lens)) (table (now (a .counts)) (now (a .starts)) (now (a .sizes))) (now (a .store)) (a .windows)
+    (now (a .topic)) (a .p) _ (omega (arith, c .before .before .byte-at .ensures, c .before .if1 .left)) (c .has-topic .ensures)
 
 pub is-told-spec : {M : Type 1} → statement M
 is-told-spec = tie.close (tie.spec byte-at-requires cast-w returns has-topic-requires returns-2)

@@ -3,14 +3,12 @@ use Rattle.mcache.proofs.Answers.{for-listed, for-older}
 use borrow.Author.Needs.{needs}
 use Rattle.mcache.proofs.offer_for.Statement.{statement}
 use Rattle.mcache.proofs.offer_for.Tie as tie
-use Rattle.mcache.proofs.offer_for.Reads as reads
-use Rattle.mcache.proofs.offer_for.Lts as lts
 
 returns : tie.Need-returns
-returns c = for-listed (c .before .before .args .carried) (c .before .before .args .age) (c .before .before .args .windows) (c .before .if1 .taken) (c .if2 .taken)
+returns c = let a = c .before .before .args in for-listed (a .carried) (a .age) (a .windows) (c .before .if1 .taken) (c .if2 .taken)
 
 returns-2 : tie.Need-returns-2
-returns-2 c = for-older (c .before .before .args .carried) (c .before .before .args .age) (c .before .before .args .windows) (c .before .if1 .taken) (c .if2 .left)
+returns-2 c = let a = c .before .before .args in for-older (a .carried) (a .age) (a .windows) (c .before .if1 .taken) (c .if2 .left)
 
 returns-3 : tie.Need-returns-3
 returns-3 c = search needs

@@ -10,15 +10,6 @@ use Rattle.mcache.proofs.Walks.{row-in}
 use borrow.Author.Needs.{length-unmapped, needs}
 use Rattle.mcache.proofs.MessageCache.offer.Statement.{statement}
 use Rattle.mcache.proofs.MessageCache.offer.Tie as tie
-use Rattle.mcache.proofs.MessageCache.offer.Reads as reads
-use Rattle.mcache.proofs.MessageCache.offer.Lts as lts
-use Rattle.mcache.proofs.MessageCache.find.Reads as find-reads
-use Rattle.mcache.proofs.MessageCache.ring.Reads as ring-reads
-use Rattle.mcache.proofs.has_topic.Reads as has-topic-reads
-use Rattle.mcache.proofs.offer_for.Reads as offer-for-reads
-use Rattle.mcache.proofs.rows_lie.Reads as rows-lie-reads
-use Rattle.rows.proofs.byte_at.Reads as byte-at-reads
-use Rattle.rows.proofs.place.Reads as place-reads
 
 ring-requires : tie.Need-ring-requires
 ring-requires c κs = search needs
@@ -36,22 +27,42 @@ slice-aggregate-has-topic : tie.Need-slice-aggregate-has-topic
 slice-aggregate-has-topic c = search needs
 
 slice-aggregate-has-topic-2 : tie.Need-slice-aggregate-has-topic-2
-slice-aggregate-has-topic-2 c = sym (length-unmapped ℕ (c .before .before .before .before .before .before .before .before .before .before .before .before .before .before .before .before .before .args .self .«topic_count») 64 (c .before .before .before .before .before .before .before .before .before .before .before .before .before .before .before .before .before .good .0 .1 .1 .1 .1 .1 .1 .1 .1 .1 .1 .1 .1 .0 .1 .0 .1))
+slice-aggregate-has-topic-2 c =
+    let a = c .before .before .before .before .before .before .before .before .before .before .before .before .before .before .before .before .before .args in
+    let g = c .before .before .before .before .before .before .before .before .before .before .before .before .before .before .before .before .before .good in
+    sym (length-unmapped ℕ (a .self .«topic_count») 64 (g .0 .1 .1 .1 .1 .1 .1 .1 .1 .1 .1 .1 .1 .0 .1 .0 .1))
 
 slice-aggregate-has-topic-3 : tie.Need-slice-aggregate-has-topic-3
-slice-aggregate-has-topic-3 c = sym (length-unmapped ℕ (c .before .before .before .before .before .before .before .before .before .before .before .before .before .before .before .before .before .before .args .self .«topic_start») 256 (c .before .before .before .before .before .before .before .before .before .before .before .before .before .before .before .before .before .before .good .0 .1 .1 .1 .1 .1 .1 .1 .1 .1 .1 .1 .1 .1 .0 .1 .0 .1))
+slice-aggregate-has-topic-3 c =
+    let a = c .before .before .before .before .before .before .before .before .before .before .before .before .before .before .before .before .before .before .args in
+    let g = c .before .before .before .before .before .before .before .before .before .before .before .before .before .before .before .before .before .before .good in
+    sym (length-unmapped ℕ (a .self .«topic_start») 256 (g .0 .1 .1 .1 .1 .1 .1 .1 .1 .1 .1 .1 .1 .1 .0 .1 .0 .1))
 
 slice-aggregate-has-topic-4 : tie.Need-slice-aggregate-has-topic-4
-slice-aggregate-has-topic-4 c = sym (length-unmapped ℕ (c .before .before .before .before .before .before .before .before .before .before .before .before .before .before .before .before .before .before .before .args .self .«topic_len») 256 (c .before .before .before .before .before .before .before .before .before .before .before .before .before .before .before .before .before .before .before .good .0 .1 .1 .1 .1 .1 .1 .1 .1 .1 .1 .1 .1 .1 .1 .0 .1 .0 .1))
+slice-aggregate-has-topic-4 c =
+    let a = c .before .before .before .before .before .before .before .before .before .before .before .before .before .before .before .before .before .before .before .args in
+    let g = c .before .before .before .before .before .before .before .before .before .before .before .before .before .before .before .before .before .before .before .good in
+    sym (length-unmapped ℕ (a .self .«topic_len») 256 (g .0 .1 .1 .1 .1 .1 .1 .1 .1 .1 .1 .1 .1 .1 .1 .0 .1 .0 .1))
 
 has-topic-requires : tie.Need-has-topic-requires
-has-topic-requires c κs = (
-  row-in (c .before .before .before .before .before .before .before .before .before .before .before .before .before .before .before .ring .result) (c .before .before .before .before .before .before .before .before .before .before .before .before .find .result) (c .before .before .before .before .before .before .before .before .before .place .result) (sym (c .before .before .before .before .before .before .before .before .before .before .before .before .before .before .rows-lie .ensures) ∙ c .before .before .before .before .before .before .before .before .before .before .before .before .before .if1 .taken) (c .before .before .before .before .before .before .before .before .before .before .if2 .taken) (c .before .before .before .before .before .before .before .before .before .place .ensures) .0,
-  roomy (c .before .before .before .before .before .before .before .before .before .before .before .before .before .before .before .before .before .before .before .args .self) (length-unmapped ℕ (c .before .before .before .before .before .before .before .before .before .before .before .before .before .before .before .before .before .before .before .args .self .«topic_count») 64 (c .before .before .before .before .before .before .before .before .before .before .before .before .before .before .before .before .before .before .before .good .0 .1 .1 .1 .1 .1 .1 .1 .1 .1 .1 .1 .1 .0 .1 .0 .1)) (length-unmapped ℕ (c .before .before .before .before .before .before .before .before .before .before .before .before .before .before .before .before .before .before .before .args .self .«topic_start») 256 (c .before .before .before .before .before .before .before .before .before .before .before .before .before .before .before .before .before .before .before .good .0 .1 .1 .1 .1 .1 .1 .1 .1 .1 .1 .1 .1 .1 .0 .1 .0 .1)) (length-unmapped ℕ (c .before .before .before .before .before .before .before .before .before .before .before .before .before .before .before .before .before .before .before .args .self .«topic_len») 256 (c .before .before .before .before .before .before .before .before .before .before .before .before .before .before .before .before .before .before .before .good .0 .1 .1 .1 .1 .1 .1 .1 .1 .1 .1 .1 .1 .1 .1 .0 .1 .0 .1)),
-)
+has-topic-requires c κs =
+    let a = c .before .before .before .before .before .before .before .before .before .before .before .before .before .before .before .before .before .before .before .args in
+    let g = c .before .before .before .before .before .before .before .before .before .before .before .before .before .before .before .before .before .before .before .good in
+    let ring = c .before .before .before .before .before .before .before .before .before .before .before .before .before .before .before .ring in
+    let p = c .before .before .before .before .before .before .before .before .before .place in
+    let l = sym (c .before .before .before .before .before .before .before .before .before .before .before .before .before .before .rows-lie .ensures) ∙ c .before .before .before .before .before .before .before .before .before .before .before .before .before .if1 .taken in
+    let h = c .before .before .before .before .before .before .before .before .before .before .if2 .taken in (
+      row-in (ring .result) (c .before .before .before .before .before .before .before .before .before .before .before .before .find .result) (p .result) l h (p .ensures) .0,
+      roomy (a .self) (length-unmapped ℕ (a .self .«topic_count») 64 (g .0 .1 .1 .1 .1 .1 .1 .1 .1 .1 .1 .1 .1 .0 .1 .0 .1))
+          (length-unmapped ℕ (a .self .«topic_start») 256 (g .0 .1 .1 .1 .1 .1 .1 .1 .1 .1 .1 .1 .1 .1 .0 .1 .0 .1))
+          (length-unmapped ℕ (a .self .«topic_len») 256 (g .0 .1 .1 .1 .1 .1 .1 .1 .1 .1 .1 .1 .1 .1 .1 .0 .1 .0 .1)),
+    )
 
 slice-aggregate-byte-at : tie.Need-slice-aggregate-byte-at
-slice-aggregate-byte-at c = sym (length-unmapped ℕ (c .before .before .before .before .before .before .before .before .before .before .before .before .before .before .before .before .before .before .before .before .before .args .self .«window») 64 (c .before .before .before .before .before .before .before .before .before .before .before .before .before .before .before .before .before .before .before .before .before .good .0 .1 .1 .1 .1 .1 .1 .1 .1 .0 .1 .0 .1))
+slice-aggregate-byte-at c =
+    let a = c .before .before .before .before .before .before .before .before .before .before .before .before .before .before .before .before .before .before .before .before .before .args in
+    let g = c .before .before .before .before .before .before .before .before .before .before .before .before .before .before .before .before .before .before .before .before .before .good in
+    sym (length-unmapped ℕ (a .self .«window») 64 (g .0 .1 .1 .1 .1 .1 .1 .1 .1 .0 .1 .0 .1))
 
 byte-at-requires : tie.Need-byte-at-requires
 byte-at-requires c κs = search needs
@@ -63,17 +74,32 @@ offer-for-requires : tie.Need-offer-for-requires
 offer-for-requires c κs = search needs
 
 returns : tie.Need-returns
-returns c = offer-found (c .before .before .before .before .before .before .before .before .before .before .before .before .before .before .before .before .before .before .before .before .before .before .before .args .self) (now (c .before .before .before .before .before .before .before .before .before .before .before .before .before .before .before .before .before .before .before .before .before .before .before .args .store)) (now (c .before .before .before .before .before .before .before .before .before .before .before .before .before .before .before .before .before .before .before .before .before .before .before .args .id)) (now (c .before .before .before .before .before .before .before .before .before .before .before .before .before .before .before .before .before .before .before .before .before .before .before .args .topic)) (c .before .before .before .before .before .before .before .before .before .before .before .before .before .before .before .before .before .before .before .before .before .before .before .args .windows)
-    (rw (c .before .before .before .before .before .before .before .before .before .before .before .before .before .before .before .before .before .before .before .ring .ensures) at (sym (c .before .before .before .before .before .before .before .before .before .before .before .before .before .before .before .before .before .before .rows-lie .ensures) ∙ c .before .before .before .before .before .before .before .before .before .before .before .before .before .before .before .before .before .if1 .taken)) (c .before .before .before .before .before .before .before .before .before .before .before .before .before .before .before .before .find .result) (c .before .before .before .before .before .before .before .before .before .before .before .before .before .before .before .before .find .ensures) (omega (arith, c .before .before .before .before .before .before .before .before .before .before .before .before .before .before .if2 .taken, ap (λ (r : Ring). r .count) (c .before .before .before .before .before .before .before .before .before .before .before .before .before .before .before .before .before .before .before .ring .ensures))) (c .before .before .before .before .before .before .before .before .before .before .before .before .before .place .result)
-    (rw (c .before .before .before .before .before .before .before .before .before .before .before .before .before .before .before .before .before .before .before .ring .ensures) at (c .before .before .before .before .before .before .before .before .before .before .before .before .before .place .ensures)) (c .before .before .before .has-topic .result) (c .before .before .before .has-topic .ensures) _
-    (c .offer-for .ensures ∙ ap (λ (w : ℕ). offerFor (c .before .before .before .has-topic .result) w (c .before .before .before .before .before .before .before .before .before .before .before .before .before .before .before .before .before .before .before .before .before .before .before .args .windows)) (c .before .byte-at .ensures))
+returns c =
+    let a = c .before .before .before .before .before .before .before .before .before .before .before .before .before .before .before .before .before .before .before .before .before .before .before .args in
+    let ring = c .before .before .before .before .before .before .before .before .before .before .before .before .before .before .before .before .before .before .before .ring in
+    let l = sym (c .before .before .before .before .before .before .before .before .before .before .before .before .before .before .before .before .before .before .rows-lie .ensures) ∙ c .before .before .before .before .before .before .before .before .before .before .before .before .before .before .before .before .before .if1 .taken in
+    let row = c .before .before .before .before .before .before .before .before .before .before .before .before .before .before .before .before .find in
+    let h = c .before .before .before .before .before .before .before .before .before .before .before .before .before .before .if2 .taken in
+    let p = c .before .before .before .before .before .before .before .before .before .before .before .before .before .place in
+    let t = c .before .before .before .has-topic in
+    let w = c .before .byte-at in
+    offer-found (a .self) (now (a .store)) (now (a .id)) (now (a .topic)) (a .windows) (rw (ring .ensures) at l) (row .result) (row .ensures)
+    (omega (arith, h, ap (λ (r : Ring). r .count) (ring .ensures))) (p .result) (rw (ring .ensures) at (p .ensures)) (t .result) (t .ensures) _
+    (c .offer-for .ensures ∙ ap (λ (k : ℕ). offerFor (t .result) k (a .windows)) (w .ensures))
 
 returns-2 : tie.Need-returns-2
-returns-2 c = offer-lost (c .before .before .before .before .before .before .before .before .before .args .self) (now (c .before .before .before .before .before .before .before .before .before .args .store)) (now (c .before .before .before .before .before .before .before .before .before .args .id)) (now (c .before .before .before .before .before .before .before .before .before .args .topic)) (c .before .before .before .before .before .before .before .before .before .args .windows)
-    (rw (c .before .before .before .before .before .ring .ensures) at (sym (c .before .before .before .before .rows-lie .ensures) ∙ c .before .before .before .if1 .taken)) (c .before .before .find .result) (c .before .before .find .ensures) (omega (arith, c .if2 .left, ap (λ (r : Ring). r .count) (c .before .before .before .before .before .ring .ensures)))
+returns-2 c =
+    let a = c .before .before .before .before .before .before .before .before .before .args in
+    let ring = c .before .before .before .before .before .ring in
+    let l = sym (c .before .before .before .before .rows-lie .ensures) ∙ c .before .before .before .if1 .taken in
+    let row = c .before .before .find in
+    offer-lost (a .self) (now (a .store)) (now (a .id)) (now (a .topic)) (a .windows) (rw (ring .ensures) at l) (row .result) (row .ensures)
+    (omega (arith, c .if2 .left, ap (λ (r : Ring). r .count) (ring .ensures)))
 
 returns-3 : tie.Need-returns-3
-returns-3 c = offer-not (c .before .before .before .before .before .before .args .self) (now (c .before .before .before .before .before .before .args .store)) (now (c .before .before .before .before .before .before .args .id)) (now (c .before .before .before .before .before .before .args .topic)) (c .before .before .before .before .before .before .args .windows)
+returns-3 c =
+    let a = c .before .before .before .before .before .before .args in
+    offer-not (a .self) (now (a .store)) (now (a .id)) (now (a .topic)) (a .windows)
     (rw (c .before .before .ring .ensures) at (sym (c .before .rows-lie .ensures) ∙ c .if1 .left))
 
 pub offer-spec : {M : Type 1} → statement M
