@@ -110,7 +110,7 @@ def main():
     for name, k in sorted(agreement.counts.items()):
         print("%-32s %8d" % ("by the advertisement: " + name, k))
     missing = {(call, number) for call, numbers in whys.REFUSALS.items() for number in numbers if not counts["%s refused %d" % (call, number)]}
-    assert not given.count or not missing, missing
+    assert not missing, missing
     print("%d histories and %d runs of their own, %d lines, seed %d: %d differences, and %d from the advertisements"
           % (played, runs, sum(counts.values()), given.seed, len(differ), len(agreement.differ)))
     Model(binary, whys.records, whys.expected, shown, SHOWN_STEPS, lambda steps: steps[0][0] == "set").report(differ)

@@ -23,7 +23,7 @@ from bodies import BROKEN, tagged
 from caches import LONG_TOPICS, LONGEST_TOPICS, TOPICS, X
 from nodes import MAX_CONTENT, TOP
 from records import Records, header
-from state_histories import Play, named_message
+from state_histories import Play, named_message, some_why, why
 from states import CLOCK, COUNT, MAX_HELD, MAX_IDS, MAX_MESSAGE, NODE_SIZE, ROW, gateway_bytes
 from traces import admit, advertise, beat, body_of, x_body
 from wire import then_random
@@ -33,8 +33,8 @@ FORM = {**nodes.FORM, "why": (12, (2,), 2), "gateway": (13, (), True)}
 RECORDS = Records(FORM, MAX_CONTENT, {13: MAX_GATEWAY})
 record, records = RECORDS.record, RECORDS.records
 
-# Every refusal that the program can show.
-REFUSALS = {**nodes.REFUSALS, "why": {29}, "gateway": {41, 42}}
+# Every refusal that the two calls more can show.
+REFUSALS = {"why": {29}, "gateway": {41, 42}}
 
 
 class Run(nodes.Run):
@@ -56,10 +56,6 @@ expected = functools.partial(nodes.expected, begun=Run)
 
 
 # --- questions -----------------------------------------------------------------------
-
-def why(windows, name, topic=b"t"):
-    return ("why", windows, name, topic)
-
 
 def asked(names, topics, windows):
     """For each topic and number of windows the advertisement, and then `why` of each id."""
@@ -90,11 +86,6 @@ def questions(r, steps, pool=(), topics=()):
 
 
 # --- random histories ------------------------------------------------------------------
-
-def some_why(r, pool, topics):
-    name = r.choice(traces.named_by(pool))
-    return why(r.choice(traces.WINDOWS), name if r.randrange(3) else traces.near(r, name), traces.some_topic(r, topics))
-
 
 def history(r):
     """A history of `trace`, with questions in it and after it."""
