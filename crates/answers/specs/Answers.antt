@@ -2,10 +2,11 @@
 -- scope's number and, where they are asked for, the values beside it. A writer's line has the number of bytes and,
 -- above 0, their hex; serve's has its two counts after that.
 use Prim.Native.Nat.{ℕ}
-use mathlib.Core.Bool.{Bool, false}
+use mathlib.Core.Bool.{Bool, false, cond}
 use mathlib.Core.List.{List, [], _∷_}
+use lib.Dec.{eqb}
 use Rattle.basis.specs.declared.Told.{Told}
-use Rattle.lines.specs.Lines.{toldLine, eitherLine, madeLine}
+use Rattle.lines.specs.Lines.{wordsLine, numberLine, refusalLine, toldLine, eitherLine, madeLine}
 
 -- ` set` and ` set ok`
 abbrev pub setWord : List ℕ
@@ -60,3 +61,39 @@ serveWord = 32 ∷ 115 ∷ 101 ∷ 114 ∷ 118 ∷ 101 ∷ []
 
 abbrev pub serveLine : ℕ → Bool → List ℕ → Told → List ℕ
 serveLine n full s t = madeLine n serveWord full s t
+
+-- ` why`, ` why listed`, ` why missing`, ` why topic`, ` why window`
+abbrev pub whyWord : List ℕ
+whyWord = 32 ∷ 119 ∷ 104 ∷ 121 ∷ []
+
+abbrev pub whyListed : List ℕ
+whyListed = 32 ∷ 119 ∷ 104 ∷ 121 ∷ 32 ∷ 108 ∷ 105 ∷ 115 ∷ 116 ∷ 101 ∷ 100 ∷ []
+
+abbrev pub whyMissing : List ℕ
+whyMissing = 32 ∷ 119 ∷ 104 ∷ 121 ∷ 32 ∷ 109 ∷ 105 ∷ 115 ∷ 115 ∷ 105 ∷ 110 ∷ 103 ∷ []
+
+abbrev pub whyTopic : List ℕ
+whyTopic = 32 ∷ 119 ∷ 104 ∷ 121 ∷ 32 ∷ 116 ∷ 111 ∷ 112 ∷ 105 ∷ 99 ∷ []
+
+abbrev pub whyWindow : List ℕ
+whyWindow = 32 ∷ 119 ∷ 104 ∷ 121 ∷ 32 ∷ 119 ∷ 105 ∷ 110 ∷ 100 ∷ 111 ∷ 119 ∷ []
+
+-- by the first value: 0 listed, 1 not cached, 2 without the topic, else in an older window, whose age is the second
+unfoldable pub offerLine : ℕ → ℕ → ℕ → List ℕ
+offerLine n offer age =
+    cond (eqb offer 0) (wordsLine n whyListed)
+    (cond (eqb offer 1) (wordsLine n whyMissing)
+    (cond (eqb offer 2) (wordsLine n whyTopic) (numberLine n whyWindow age)))
+
+unfoldable pub whyLine : ℕ → Bool → Told → List ℕ
+whyLine n full t = cond (eqb (t .number) 0) (offerLine n (t .first) (t .second)) (refusalLine n whyWord full t)
+
+-- ` gateway` and ` gateway ok`
+abbrev pub gatewayWord : List ℕ
+gatewayWord = 32 ∷ 103 ∷ 97 ∷ 116 ∷ 101 ∷ 119 ∷ 97 ∷ 121 ∷ []
+
+abbrev pub gatewayOk : List ℕ
+gatewayOk = 32 ∷ 103 ∷ 97 ∷ 116 ∷ 101 ∷ 119 ∷ 97 ∷ 121 ∷ 32 ∷ 111 ∷ 107 ∷ []
+
+abbrev pub gatewayLine : ℕ → Told → List ℕ
+gatewayLine n t = toldLine n gatewayOk gatewayWord false t

@@ -1,14 +1,14 @@
 -- The tests of a record, one after the other.
-use Prim.Native.Nat.{ℕ, min}
+use Prim.Native.Nat.{ℕ, _-_, _≤_, _<_, min}
 use mathlib.Core.Path.{_≡_}
 use mathlib.Core.List.{List}
 use mathlib.Core.Logic.{_≢_}
 use mathlib.Core.Bool.{Bool, true, false, not}
 use lib.ListN.{length, take, drop}
 use lib.Dec.{ltb, eqb}
-use borrow.Author.Tests.{eq-eqb, ne-eqb}
+use borrow.Author.Tests.{lt-ltb, le-ltb, eq-eqb, ne-eqb}
 use Rattle.basis.specs.Little.{little}
-use Rattle.play.specs.Ends.{misfits, noWord, isBad}
+use Rattle.play.specs.Ends.{misfits, noWord, isBad, noQuestion}
 
 -- ---- a content's length
 pub settings : (kind len : ℕ) → kind ≡ 1 → not (eqb len 14) ≡ misfits kind len
@@ -68,3 +68,13 @@ pub early : (started : Bool) (kind : ℕ) (s : List ℕ) → misfits kind (lengt
     → true ≡ isBad started kind s
 unfolding isBad
 early started kind s m e t = simp (m, ne-eqb _ _ e, t)
+
+-- ---- a question
+pub numbers-cut : (s : List ℕ) → length s < 4 → true ≡ noQuestion s
+unfolding noQuestion
+numbers-cut s h = rw (lt-ltb (length s) 4 h)
+
+pub id-cut : (s : List ℕ) (k : ℕ) → 4 ≤ length s → k ≡ little (take (min 2 8) (drop 2 s))
+    → ltb (length s - 4) k ≡ noQuestion s
+unfolding noQuestion
+id-cut s k h e = rw (le-ltb (length s) 4 h, e)

@@ -1,6 +1,6 @@
 -- Which records end a run with `bad`: the scope, "The trace program". That a record is cut is told by its header and its
 -- content.
-use Prim.Native.Nat.{ℕ, min}
+use Prim.Native.Nat.{ℕ, _-_, min}
 use mathlib.Core.List.{List}
 use mathlib.Core.Bool.{Bool, true, false, not, cond}
 use lib.ListN.{length, take, drop}
@@ -25,3 +25,8 @@ noWord kind s = cond (eqb kind 2) (ltb 1 (little (take (min 1 8) (drop 10 s)))) 
 unfoldable pub isBad : Bool → ℕ → List ℕ → Bool
 isBad started kind s =
     cond (misfits kind (length s)) true (cond (eqb kind 1) false (cond started (noWord kind s) true))
+
+-- content of kind 12, which other programs have: it is shorter than its two numbers, or than the id, whose length is the
+-- second of them
+unfoldable pub noQuestion : List ℕ → Bool
+noQuestion s = cond (ltb (length s) 4) true (ltb (length s - 4) (little (take (min 2 8) (drop 2 s))))

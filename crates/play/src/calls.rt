@@ -2,13 +2,14 @@
 // A record's content is tested once, by `misfit`: a call takes what is there, a number that is not is 0.
 ghost use mathlib.Core.Path.{_≡_};
 ghost use Prim.Native.Nat.{min};
-ghost use Rattle.play.specs.Ends.{misfits};
+ghost use Rattle.play.specs.Ends.{misfits, noQuestion};
 use answers::admit_line;
 use answers::advertise_line;
 use answers::ask_line;
 use answers::beat_line;
 use answers::serve_line;
 use answers::set_line;
+use answers::why_line;
 use basis::little_at;
 use node::Node;
 use node::Start;
@@ -16,6 +17,7 @@ use node::told::told_admit;
 use node::told::told_advertise;
 use node::told::told_ask;
 use node::told::told_beat;
+use node::told::told_explain;
 use node::told::told_serve;
 use node::told::told_start;
 
@@ -63,6 +65,17 @@ pub fn misfit(kind: u64, len: usize) -> bool
     }
 }
 
+// Whether content is none of kind 12: its two numbers are cut, or the id is.
+pub fn no_question(content: &[u8]) -> bool
+    ensures { λ r. ⌜ r ≡ noQuestion (now (content .entry)) ⌝ }
+{
+    if content.len() < 4 {
+        return true;
+    }
+    let id_len = little_at(content, 2, 2);
+    ((content.len() - 4) as u64) < id_len
+}
+
 // The lesser: of a length, what is there.
 pub fn within(len: usize, most: usize) -> usize
     ensures { λ r. ⌜ r ≡ min len most ⌝ }
@@ -79,14 +92,14 @@ pub fn print(out: &[u8], k: usize, node: Node, mut run: Run) -> Run {
 }
 
 // How long the stores are for such settings.
-fn rows_len(max_seen: usize) -> usize {
+pub fn rows_len(max_seen: usize) -> usize {
     if max_seen <= 256 {
         return max_seen * 129;
     }
     0
 }
 
-fn places_len(max_messages: usize) -> usize {
+pub fn places_len(max_messages: usize) -> usize {
     if max_messages <= 64 {
         return max_messages * 4096;
     }
@@ -222,6 +235,33 @@ fn serve(
     let r = node.serve(seen_store, cache_store, content, made);
     let answer = r.answer;
     let k = serve_line(n, full, made, told_serve(answer), out);
+    print(out, k, r.node, run)
+}
+
+// Kind 12, which the trace program has not: windows u16, the id's length u16, the id, the topic.
+pub fn why(
+    n: u64,
+    full: bool,
+    content: &[u8],
+    run: Run,
+    seen_store: &[u8],
+    cache_store: &[u8],
+    out: &mut [u8],
+) -> Run {
+    let windows = little_at(content, 0, 2) as usize;
+    let id_len = little_at(content, 2, 2) as usize;
+    let id = within(4, content.len());
+    let topic = id + within(id_len, content.len() - id);
+    let node = run.node;
+    let r = node.explain(
+        seen_store,
+        cache_store,
+        &content[id..topic],
+        &content[topic..],
+        windows,
+    );
+    let answer = r.answer;
+    let k = why_line(n, full, told_explain(answer), out);
     print(out, k, r.node, run)
 }
 

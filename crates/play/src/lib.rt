@@ -29,7 +29,7 @@ fn no_word(kind: u64, content: &[u8]) -> bool
 }
 
 // Whether the record ends the run: it is none, or a call before accepted settings.
-fn is_bad(started: bool, kind: u64, content: &[u8]) -> bool
+pub fn is_bad(started: bool, kind: u64, content: &[u8]) -> bool
     ensures { λ r. ⌜ r ≡ isBad started kind (now (content .entry)) ⌝ }
 {
     if misfit(kind, content.len()) {
@@ -45,7 +45,7 @@ fn is_bad(started: bool, kind: u64, content: &[u8]) -> bool
 }
 
 // Answers a record. The stores are lent as long as the settings say.
-fn answer(
+pub fn answer(
     n: u64,
     kind: u64,
     content: &[u8],

@@ -19,9 +19,9 @@ use Rattle.ids.specs.Ids.{idAnswer, idLeft}
 use Rattle.encode.specs.Encode.{encodeAnswer, encodeLeft}
 use Rattle.encode.specs.Sign.{signAnswer, signLeft}
 use Rattle.node.specs.State.{legalSettings, freshNode}
-use Rattle.node.specs.Told.{startTold, admitTold, beatTold, advertiseTold, askTold, serveTold}
+use Rattle.node.specs.Told.{startTold, admitTold, beatTold, advertiseTold, explainTold, askTold, serveTold}
 use Rattle.node.specs.Calls.{startAnswer, planned, admitAnswer, admitNode, admitSeen, admitCache, beatAnswer, beatNode}
-use Rattle.node.specs.Calls.{advertiseAnswer, advertiseLeft, askAnswer, askLeft, serveAnswer, serveLeft}
+use Rattle.node.specs.Calls.{advertiseAnswer, advertiseLeft, explainAnswer, askAnswer, askLeft, serveAnswer, serveLeft}
 use Rattle.stored.specs.Layout.{nodeIn, nodeBytes}
 use Rattle.pradulins.specs.Holds.{settingsTold, stateTold}
 
@@ -71,7 +71,7 @@ pub one-beat : {s ss cs : List ℕ} {at : ℕ} {vs : List ℕ} {r r₂ : ℕ} {w
     → Beats s ss cs at vs r ws made → Beats s ss cs at vs r₂ ws₂ made₂ → (r ≡ r₂) × (ws ≡ ws₂) × (made ≡ made₂)
 one-beat a b = (a .number ∙ sym (b .number), a .values ∙ sym (b .values), a .node ∙ sym (b .node))
 
--- what an advertise, an ask and a serve tell; they are given no node and no store to write
+-- what an advertise, an explain, an ask and a serve tell; they are given no node and no store to write
 abbrev pub advertiseTells : List ℕ → List ℕ → List ℕ → List ℕ → ℕ → List ℕ → Told
 advertiseTells s ss cs topic windows out = advertiseTold (advertiseAnswer (nodeIn s) ss cs topic windows out)
 
@@ -85,6 +85,18 @@ pub one-advertise : {s ss cs topic : List ℕ} {windows : ℕ} {out vs : List �
     → Advertises s ss cs topic windows out vs r ws left → Advertises s ss cs topic windows out vs r₂ ws₂ left₂
     → (r ≡ r₂) × (ws ≡ ws₂) × (left ≡ left₂)
 one-advertise a b = (a .number ∙ sym (b .number), a .values ∙ sym (b .values), a .buffer ∙ sym (b .buffer))
+
+-- an explain is given no buffer either
+abbrev pub explainTells : List ℕ → List ℕ → List ℕ → List ℕ → List ℕ → ℕ → Told
+explainTells s ss cs id topic windows = explainTold (explainAnswer (nodeIn s) ss cs id topic windows)
+
+pub record Explains (s ss cs id topic : List ℕ) (windows : ℕ) (vs : List ℕ) (r : ℕ) (ws : List ℕ) : Type 0 where
+  pub number : r ≡ explainTells s ss cs id topic windows .number
+  pub values : ws ≡ sets vs 0 (valuesOf (explainTells s ss cs id topic windows))
+
+pub one-explain : {s ss cs id topic : List ℕ} {windows : ℕ} {vs : List ℕ} {r r₂ : ℕ} {ws ws₂ : List ℕ}
+    → Explains s ss cs id topic windows vs r ws → Explains s ss cs id topic windows vs r₂ ws₂ → (r ≡ r₂) × (ws ≡ ws₂)
+one-explain a b = (a .number ∙ sym (b .number), a .values ∙ sym (b .values))
 
 pub record Asks (s ss cs body out vs : List ℕ) (r : ℕ) (ws left : List ℕ) : Type 0 where
   pub number : r ≡ askTold (askAnswer (nodeIn s) ss cs body out) .number

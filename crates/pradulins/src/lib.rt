@@ -4,7 +4,7 @@ ghost use mathlib.Core.Path.{_≡_};
 ghost use lib.Seq.{sets};
 ghost use Rattle.basis.specs.Told.{valuesOf};
 ghost use Rattle.pradulins.specs.Holds.{settingsTold, stateTold, versionNumber, formatNumber};
-ghost use Rattle.pradulins.specs.Unique.{Starts, Admits, Beats, Advertises, Asks, Serves, Settles, States};
+ghost use Rattle.pradulins.specs.Unique.{Starts, Admits, Beats, Advertises, Explains, Asks, Serves, Settles, States};
 ghost use Rattle.pradulins.specs.Unique.{Encodes, Signs, Identifies, Decodes, Walks};
 use basis::Told;
 use basis::refusals;
@@ -21,6 +21,7 @@ use node::told::told_admit;
 use node::told::told_advertise;
 use node::told::told_ask;
 use node::told::told_beat;
+use node::told::told_explain;
 use node::told::told_fault;
 use node::told::told_serve;
 use node::told::told_start;
@@ -147,6 +148,27 @@ pub extern "C" fn pradulins_advertise(
     let r = n.advertise(seen_store, cache_store, topic, windows, out);
     let answer = r.answer;
     tell(told_advertise(answer), values)
+}
+
+// Whether an id stands in what the node tells of a topic from so many of the newest windows, and why not: the first value is 0 where it does, 1 where
+// no message with it is cached, 2 where that one does not carry the topic, 3 where its window is older, whose age is then the second.
+#[no_mangle]
+pub extern "C" fn pradulins_explain(
+    node: &[u8; NODE_SIZE],
+    seen_store: &[u8],
+    cache_store: &[u8],
+    id: &[u8],
+    topic: &[u8],
+    windows: usize,
+    values: &mut [u64; 4],
+) -> u32
+    ensures { λ r. ⌜ Explains (now (node .entry)) (now («seen_store» .entry)) (now («cache_store» .entry))
+        (now (id .entry)) (now (topic .entry)) windows (now (values .entry)) r (now (values .exit)) ⌝ }
+{
+    let n = load(node);
+    let r = n.explain(seen_store, cache_store, id, topic, windows);
+    let answer = r.answer;
+    tell(told_explain(answer), values)
 }
 
 // Writes a request for what the IHAVEs of a body name and the node has not seen.

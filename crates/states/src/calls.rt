@@ -8,8 +8,10 @@ use mcache::told::told_lookup;
 use play::calls::Run;
 use play::calls::call_node;
 use play::calls::misfit;
+use play::calls::no_question;
 use play::calls::print;
 use play::calls::stop;
+use play::calls::why;
 use play::calls::within;
 use seen::told::told_contains;
 
@@ -189,6 +191,21 @@ fn state(
     print(out, end, node, run)
 }
 
+// Kind 12.
+fn question(
+    n: u64,
+    content: &[u8],
+    run: Run,
+    seen_store: &[u8],
+    cache_store: &[u8],
+    out: &mut [u8],
+) -> Run {
+    if no_question(content) {
+        return stop(run, b"bad\n");
+    }
+    why(n, true, content, run, seen_store, cache_store, out)
+}
+
 // A call, with the parts of the stores that are lent.
 fn on_lent(
     n: u64,
@@ -206,6 +223,7 @@ fn on_lent(
         9 => contains(n, content, run, seen_store, out),
         10 => lookup(n, content, run, cache_store, out),
         11 => state(n, run, seen_store, cache_store, made, out),
+        12 => question(n, content, run, seen_store, cache_store, out),
         _ => on_node(n, kind, content, run, seen_store, cache_store, made, out),
     }
 }
