@@ -46,18 +46,21 @@ class Agreement:
 
     def look(self, steps, lines):
         """The lines that the program printed for a history. What an offer names counts until the node may have changed."""
-        offers = {}
+        offers, at = {}, None
         for n, (step, line) in enumerate(zip(steps, lines)):
             answer = line.split(" ", 2)[-1]
+            if step[0] != "why" and at is not None:
+                self.close(steps[at:n], offers)
+            at = n if step[0] == "advertise" else None if step[0] != "why" else at
             if step[0] == "advertise":
-                offers[step[1:]] = self.named(answer), set()
+                offers[step[1:]] = self.named(answer)
             elif step[0] == "why" and (step[1], step[3]) in offers:
-                names, asked = offers[step[1], step[3]]
-                asked.add(step[2])
+                names = offers[step[1], step[3]]
                 self.one(steps[:n + 1], answer, "refused" if names is None else "listed" if step[2] in names else "not listed")
             elif step[0] in ("set", "gateway", "admit", "beat"):
-                self.close(steps[:n], offers)
-        self.close(steps, offers)
+                offers.clear()
+        if at is not None:
+            self.close(steps[at:], offers)
 
     @staticmethod
     def named(answer):
@@ -71,10 +74,12 @@ class Agreement:
             self.differ.append((steps, "%s, by the advertisement" % wanted, answer))
 
     def close(self, steps, offers):
-        for (windows, topic), (names, asked) in offers.items():
-            if asked and names and names - asked:
-                self.differ.append((steps, "a question about %s" % sorted(names - asked)[0].hex(), "%d %s" % (windows, topic.hex())))
-        offers.clear()
+        """An advertisement and the questions after it, where these are many: each id that it names is among them."""
+        windows, topic = steps[0][1:]
+        left = (offers[windows, topic] or set()) - {step[2] for step in steps[1:] if (step[1], step[3]) == (windows, topic)}
+        if len(steps) > 2 and left:
+            self.differ.append((steps, "a question about %s" % sorted(left)[0].hex(), "none"))
+        self.counts["asked of all" if len(steps) > 2 else "asked of some"] += 1
 
 
 def of_file(path):

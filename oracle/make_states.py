@@ -49,7 +49,7 @@ def histories():
     yield from state_histories.kept_histories(few=True)
     yield from list(state_histories.reuse_histories())[3:13:3]
     # Why an id is not told of.
-    yield from state_histories.why_histories(few=True)
+    yield state_histories.why_in_few_bytes()
 
 
 def main():

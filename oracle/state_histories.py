@@ -666,27 +666,38 @@ def contains_histories():
                    hurt(EXPIRY, 0, 3), ("contains", b"\x01A\x04"), beat(20), STATE).steps  # alone, no expiry is looked at
 
 
-def why_histories(few=False):
-    """Every answer of `why`, on rings that have turned: each id, topic and number of windows; then 40, 41 and 42 before 29. Nothing is changed."""
+def why_histories():
+    """Every answer of `why`, on rings that have turned and that have not: each id, topic and number of windows; then 40, 41 and 42 before 29. Nothing is
+    changed."""
     names, long = [b"A" + bytes([n]) for n in range(6)], b"t" * 1025
-    topics, windows = (b"t", b"u", b"", b"topi", b"topic", b"\xff", b"t" * 1024, long), (0, 1, 2, 3, 4, 5, 65535)
-    if few:
-        names, topics, windows = names[1:5], (b"t", b"u"), (0, 1, 2)
-    for make in (turned, topical) if few else (turned, straight, topical, empty):
+    for make in (turned, straight, topical, empty):
         play = make()
-        play.add(*[why(n, name, topic) for topic in topics for n in windows for name in names], STATE)
-        play.add(*[why(9, name) for name in (b"", b"A", b"\x01A\x03", b"A\x03\x00", b"\x03", bytes(128), bytes(129), bytes(1000))],
-                 why(9, topic=long), why(9, b"", long), why(0, topic=b"\xff" * 1025), why(9, topic=b"t" * 1024), why(9, topic=b"\xff"), STATE)
+        for topic in (b"t", b"u", b"", b"topi", b"topic", b"\xff", b"t" * 1024, long):
+            play.add(*[why(n, name, topic) for n in (0, 1, 2, 3, 4, 5, 65535) for name in names])
+        play.add(STATE, *[why(9, name) for name in (b"", b"A", b"\x01A\x03", b"A\x03\x00", b"\x03", bytes(128), bytes(129), bytes(1000))],
+                 why(9, b"", b"\xff"), why(9, b"", long), why(0, topic=b"\xff" * 1025), STATE)
         lent = play.run.seen_len, play.run.cache_len
         for other in ((lent[0] - 1, lent[1]), (lent[0] + 1, lent[1]), (lent[0], lent[1] - 1), (0, 0)):
             play.add(("lend", *other), why(9), why(9, topic=long))
-        play.add(("lend", *lent), hurt(COUNT, 9), why(9), why(9, topic=long), STATE)
-        yield play.steps
+        yield play.add(("lend", *lent), hurt(COUNT, 9), why(9), why(9, topic=long), STATE).steps
     # The oldest age, and a message that leaves; an id that is cached and no longer seen, and one that is seen and no longer cached.
     play = Play(("set", 10, 4, 16, 2), admit(1, named_message(3)))
     for _ in range(16):
-        play.add(beat(1), *[why(n) for n in ((15, 16) if few else range(18))])
+        play.add(beat(1), *[why(n) for n in range(18)])
     yield play.add(STATE, admit(1, named_message(3)), why(), admit(11, named_message(3)), why(), why(0), beat(11), why(1), why(2), STATE).steps
+
+
+def why_in_few_bytes():
+    """Each answer of `why` and each of its refusals, a few times."""
+    long = b"t" * 1025
+    play = turned().add(*[why(n, name) for n in range(4) for name in (b"A\x01", b"A\x02", b"A\x03", b"A\x04")], why(65535, b"A\x02"))
+    play.add(*[why(n, topic=topic) for n in (0, 2) for topic in (b"u", b"", b"tt", b"\xff")], why(9, topic=b"t" * 1024), why(9, topic=long), why(9, b"", long))
+    play.add(*[why(9, name) for name in (b"", b"A", b"\x01A\x03", b"A\x03\x00", bytes(128), bytes(129))], STATE)
+    for other in ((515, 12288), (517, 12288), (516, 12287)):
+        play.add(("lend", *other), why(9))
+    play.add(("lend", 515, 12288), why(9, topic=long), ("lend", 516, 12288), hurt(COUNT, 9), why(9), why(9, topic=long), hurt(COUNT, 3), STATE)
+    # A message leaves the cache; it is seen, and nothing of it is told.
+    return play.add(beat(20), why(2), beat(20), why(3), why(4), beat(20), why(65535), why(65535, b"A\x04"), admit(20, named_message(3)), STATE).steps
 
 
 def each_refusal():
