@@ -31,11 +31,11 @@ import whys
 from compare_trace import play, play_ending, shown
 from compare_wire import SHOWN
 from differences import Model
+from saved import Unsaved, read  # of tools, where programs looks, too
 
 CHUNK = 40
 COUNT = 1500
 SHOWN_STEPS = 40
-HEADER = 36  # of a saved state: host/src/saved.rs
 
 
 class Agreement:
@@ -83,9 +83,11 @@ class Agreement:
 
 
 def of_file(path):
-    """What a host saved: the node and its stores."""
-    with open(path, "rb") as file:
-        return file.read()[HEADER:]
+    """The histories of what a host saved."""
+    try:
+        return whys.of_file(read(path))
+    except Unsaved as why:
+        programs.stop("%s: %s" % (path, why))
 
 
 def main():
@@ -98,7 +100,7 @@ def main():
     binary = programs.running(given.binary, "why")
     r = random.Random(given.seed)
     counts, differ, agreement, played, runs = collections.Counter(), [], Agreement(), 0, 0
-    source = itertools.chain(whys.of_file(of_file(given.state)) if given.state else (), whys.histories(r, given.count))
+    source = itertools.chain(of_file(given.state) if given.state else (), whys.histories(r, given.count))
     with tempfile.TemporaryDirectory() as folder:
         while chunk := list(itertools.islice(source, CHUNK)):
             lines = iter(play(binary, chunk, folder, counts, differ, whys))
