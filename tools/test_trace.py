@@ -11,13 +11,13 @@ import re
 import stat
 import subprocess
 import sys
-import tempfile
 import unittest
 from unittest import mock
 
 HERE = os.path.dirname(os.path.abspath(__file__))
 sys.dont_write_bytecode = True
 sys.path.insert(0, HERE)
+import cases  # noqa: E402
 import scripts  # noqa: E402
 
 TOP = os.path.dirname(HERE)
@@ -42,23 +42,10 @@ def record(kind, content):
     return len(content).to_bytes(4, "little") + kind.to_bytes(2, "little") + content
 
 
-class Case(unittest.TestCase):
+class Case(cases.Case):
     def setUp(self):
-        kept = tempfile.TemporaryDirectory()
-        self.addCleanup(kept.cleanup)
-        self.folder = kept.name
+        super().setUp()
         self.model = self.program("model", MODEL)
-
-    def file(self, name, text):
-        path = os.path.join(self.folder, name)
-        with open(path, "wb") as file:
-            file.write(text if isinstance(text, bytes) else text.encode())
-        return path
-
-    def program(self, name, text, by=sys.executable):
-        path = self.file(name, "#!%s\n%s" % (by, text))
-        os.chmod(path, 0o755)
-        return path
 
     def prints(self, text, more=""):
         """A program that prints a text."""

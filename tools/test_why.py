@@ -11,7 +11,6 @@ import os
 import re
 import subprocess
 import sys
-import tempfile
 import unittest
 from unittest import mock
 
@@ -19,6 +18,7 @@ HERE = os.path.dirname(os.path.abspath(__file__))
 TOP = os.path.dirname(HERE)
 sys.dont_write_bytecode = True
 sys.path[:0] = [HERE, os.path.join(TOP, "oracle")]
+import cases  # noqa: E402
 import saved  # noqa: E402
 import scripts  # noqa: E402
 import state_histories  # noqa: E402
@@ -41,24 +41,11 @@ for line in whys.expected(sys.stdin.buffer.read()):
 TURNED = states.gateway_bytes(state_histories.turned().run)
 
 
-class Case(unittest.TestCase):
+class Case(cases.Case):
     def setUp(self):
-        kept = tempfile.TemporaryDirectory()
-        self.addCleanup(kept.cleanup)
-        self.folder = kept.name
+        super().setUp()
         self.model = self.program("model", MODEL)
         self.state = self.file("gateway.state", saved.sealed(TURNED))
-
-    def file(self, name, data):
-        path = os.path.join(self.folder, name)
-        with open(path, "wb") as file:
-            file.write(data if isinstance(data, bytes) else data.encode())
-        return path
-
-    def program(self, name, text, by=sys.executable):
-        path = self.file(name, "#!%s\n%s" % (by, text))
-        os.chmod(path, 0o755)
-        return path
 
     def prints(self, text, more=""):
         """A program that prints a text."""
