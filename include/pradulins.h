@@ -172,10 +172,10 @@ uint32_t pradulins_advertise(const uint8_t node[PRADULINS_NODE_SIZE], const uint
                              uint64_t values[PRADULINS_VALUES]);
 
 /*
- * Says whether `id` stands in the body that pradulins_advertise writes for the same topic and windows, and why it does not. It looks at the cached messages
- * alone: an id that was seen and is not cached is not cached. `id` is a message's from and its seqno, as an IHAVE has it; one that is empty or longer than
+ * Says whether `id` stands in the body that pradulins_advertise writes for the same topic and windows, and if not, why. Only cached messages are looked at: one
+ * that was seen may have left the cache. `id` is a message's from and its seqno, as an IHAVE has it, and may have any length; one that is empty or longer than
  * PRADULINS_ID_SIZE is not cached. Where both topic and window rule it out, the topic is named. A topic that is not UTF-8 is carried by no message.
- * values[0]: one of the four PRADULINS_OFFER_...; beside the last of them values[1]: the age of the window, 0 for the newest.
+ * values[0]: one of the four PRADULINS_OFFER_... below; beside the last of them values[1]: the age of the window, 0 for the newest.
  * Refused: 40, 41, 42, 29.
  */
 uint32_t pradulins_explain(const uint8_t node[PRADULINS_NODE_SIZE], const uint8_t *seen_store, size_t seen_store_len, const uint8_t *cache_store,
