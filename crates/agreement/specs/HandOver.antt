@@ -1,6 +1,5 @@
--- A round's advertisement and request, between node b that tells and node a that asks: the advertisement is taken and
--- offers what b tells of; the request is taken and names exactly those of them that a has not seen, each once; and b
--- has every message that is asked for.
+-- A round's request, of node a that is given the advertisement of node b: it is taken and names exactly those of the ids
+-- that b tells of and a has not seen, each once; and b has every message that is asked for.
 use Prim.Native.Nat.{ℕ, suc, _+_, _≤_}
 use mathlib.Core.Path.{_≡_, refl, sym, ap, subst, _∙_}
 use mathlib.Core.Bool.{true, false, not}
@@ -29,20 +28,15 @@ use Rattle.node.specs.declared.Node.{Node}
 use Rattle.node.specs.declared.Lent.the-variants as lent
 use Rattle.node.specs.Gateway.{Gateway, marked, toldOf, lacking, having, advertisement, request}
 use Rattle.node.specs.State.{gatewayIn}
-use Rattle.node.specs.Calls.{lentOf, bytesFor, toldIn, advertiseBytes, offered, unseenOf, askBytes, wanted, cachedOf}
+use Rattle.node.specs.Calls.{lentOf, bytesFor, advertiseBytes, offered, unseenOf, askBytes, wanted, cachedOf}
 use Rattle.node.specs.Laws.{told-gateway, unseen-gateway, cached-gateway}
 use Rattle.node.specs.Readers.{asked-exactly}
 use Rattle.node.specs.WireLaws.{advertisement-bytes, request-bytes}
-use Rattle.outputs.specs.Named.{offersOf, wantsOf}
-use Rattle.outputs.specs.Offered.{offered-once, wanted-once}
-use Rattle.outputs.specs.Bodies.{nothing, nothing-means, no-bytes, some-bytes, request-means, records-told}
+use Rattle.outputs.specs.Named.{wantsOf}
+use Rattle.outputs.specs.Offered.{wanted-once}
+use Rattle.outputs.specs.Bodies.{nothing, nothing-means, by-cases, no-bytes, some-bytes, request-means, records-told}
 use Rattle.outputs.specs.Bodies.{records-asked}
-use Rattle.outputs.specs.Advertised.{advertise-means, advertise-none}
-
--- ---- a list is empty, or not
-by-cases : {A : Type 0} (l : List (List ℕ)) → (l ≡ [] → A) → ((l ≡ [] → ⊥) → A) → A
-by-cases [] f g = f refl
-by-cases (i ∷ is) f g = g (λ e. clash (cc))
+use Rattle.outputs.specs.Adverts.{advert-means, advert-offers}
 
 -- ---- those that are lacking, of some ids
 lacking-few : (g : Gateway) (is : List (List ℕ)) → length (lacking g is) ≤ length is
@@ -128,48 +122,9 @@ having-all g (i ∷ is) h =
     let r = having-all g is (λ j m. h j (either (sameBytes i j) (λ t. simp t) (λ t. simp t m))) in
     simp k (ap suc r)
 
--- ---- the advertisement of node b
+-- ---- the request of node a, given the advertisement of node b
 module _ (b : Node) (bs bc topic : List ℕ) (windows : ℕ) (fine : lentOf b bs bc ≡ lent.Fine) (bytes : Bytes bc)
     (short : length topic ≤ 1024) where
-  told-is : toldIn b bc topic windows ≡ toldOf topic windows (gatewayIn b bs bc)
-  told-is = told-gateway b bs bc topic windows fine
-
-  -- where there is something to tell of
-  advert-means : (toldOf topic windows (gatewayIn b bs bc) ≡ [] → ⊥)
-      → Within (advertiseBytes b bc topic windows) (advertisement topic (toldOf topic windows (gatewayIn b bs bc)))
-  advert-means there =
-      subst (λ (l : List (List ℕ)). Within (advertiseBytes b bc topic windows) (advertisement topic l)) told-is
-      (advertise-means b bs bc topic windows fine bytes short (λ e. there (sym told-is ∙ e)))
-
-  -- it is a body within capacity, also where it is empty
-  pub advert-rpc : (x : Rpc) × (Within (advertiseBytes b bc topic windows) x)
-      × (offersOf x ≡ toldOf topic windows (gatewayIn b bs bc))
-  unfolding advertisement
-  advert-rpc =
-      by-cases (toldOf topic windows (gatewayIn b bs bc))
-      (λ e. (
-        nothing,
-        subst (λ (s : List ℕ). Within s nothing) (sym (advertise-none b bc topic windows (told-is ∙ e)))
-            nothing-means,
-        sym e,
-      ))
-      (λ there. (
-        advertisement topic (toldOf topic windows (gatewayIn b bs bc)),
-        advert-means there,
-        append-nil (toldOf topic windows (gatewayIn b bs bc)),
-      ))
-
-  -- it is taken, also where it is empty
-  pub advert-taken : acceptOf (advertiseBytes b bc topic windows) ≡ Fine
-  advert-taken = taken (advert-rpc .1)
-
-  -- and offers what is told of
-  pub advert-offers : offered (advertiseBytes b bc topic windows) ≡ toldOf topic windows (gatewayIn b bs bc)
-  advert-offers =
-      offered-once (advert-rpc .1 .means) ∙ ap once (advert-rpc .2)
-      ∙ once-same (toldOf topic windows (gatewayIn b bs bc)) (told-distinct topic windows (gatewayIn b bs bc .cache))
-
-  -- ---- the request of node a
   module _ (a : Node) («as» ac : List ℕ) where
     abbrev asked : List (List ℕ)
     asked = lacking (gatewayIn a «as» ac) (toldOf topic windows (gatewayIn b bs bc))
@@ -177,7 +132,7 @@ module _ (b : Node) (bs bc topic : List ℕ) (windows : ℕ) (fine : lentOf b bs
     -- it asks for what is lacking of what is told of
     pub request-names : unseenOf a «as» (offered (advertiseBytes b bc topic windows)) ≡ lacking (gatewayIn a «as» ac)
         (toldOf topic windows (gatewayIn b bs bc))
-    request-names = ap (unseenOf a «as») advert-offers
+    request-names = ap (unseenOf a «as») (advert-offers b bs bc topic windows fine bytes short)
         ∙ unseen-gateway a «as» ac (toldOf topic windows (gatewayIn b bs bc))
 
     pub request-is : askBytes a «as» (advertiseBytes b bc topic windows) ≡ bytesFor asked (request asked)
@@ -212,10 +167,11 @@ module _ (b : Node) (bs bc topic : List ℕ) (windows : ℕ) (fine : lentOf b bs
     request-meant there =
         let t = toldOf topic windows (gatewayIn b bs bc) in
         let e : advertiseBytes b bc topic windows ≡ encodeRpc (advertisement topic t) =
-        ap (λ (l : List (List ℕ)). bytesFor l (advertisement topic l)) told-is
+        ap (λ (l : List (List ℕ)). bytesFor l (advertisement topic l)) (told-gateway b bs bc topic windows fine)
         ∙ some-bytes t (advertisement topic t) (some-told there) in
         let w : Within (encodeRpc (advertisement topic t)) (advertisement topic t) =
-        subst (λ (s : List ℕ). Within s (advertisement topic t)) e (advert-means (some-told there)) in
+        subst (λ (s : List ℕ). Within s (advertisement topic t)) e
+        (advert-means b bs bc topic windows fine bytes short (some-told there)) in
         subst (λ (s : List ℕ). Within s (request asked)) (sym (request-is ∙ some-bytes asked (request asked) there))
         (request-within (gatewayIn a «as» ac) topic t w)
 

@@ -34,7 +34,7 @@ use Rattle.node.specs.Laws.{is-new, beat-says}
 use Rattle.node.specs.WellFormedLaws.{rises-less, first-least}
 use Rattle.history.specs.History.{State, gatewayOf, Settings, Fresh, Call, admit, heartbeat, advertise, ask, serve}
 use Rattle.history.specs.History.{planIn, after, afterAll, reading, readings, firstOf, beat, beats, refusalAt}
-use Rattle.history.specs.History.{brought, answerIn}
+use Rattle.history.specs.History.{explain, brought, answerIn}
 use Rattle.history.specs.Laws.{node-clock, Kept, after-keeps, fresh-keeps, fresh-starts, fresh-clock, admit-none}
 use Rattle.history.specs.Laws.{taken-number, admit-leaves, admit-clock, beat-leaves, beat-clock, brings-that}
 use Rattle.history.specs.Laws.{brought-plan, unbrought-plan}
@@ -421,6 +421,7 @@ pastNext past (heartbeat at) = suc past
 pastNext past (advertise topic windows out) = past
 pastNext past (ask body out) = past
 pastNext past (serve body out) = past
+pastNext past (explain id topic windows) = past
 
 unfoldable pub pastAll : ℕ → List Call → ℕ
 pastAll past [] = past
@@ -438,6 +439,7 @@ module _ {set : List (List ℕ)} {x : Settings} {first past : ℕ} {got : List (
   holding-next (advertise topic windows out) h inside = left-same (0 + left) left (omega arith) h
   holding-next (ask body out) h inside = left-same (0 + left) left (omega arith) h
   holding-next (serve body out) h inside = left-same (0 + left) left (omega arith) h
+  holding-next (explain id topic windows) h inside = left-same (0 + left) left (omega arith) h
 
 -- ---- after some calls, with readings and heartbeats that come after them
 pub members-here : {set : List (List ℕ)} {c : Call} {cs : List Call} → Members set (c ∷ cs) → MemberAt set c

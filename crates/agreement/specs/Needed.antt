@@ -47,7 +47,8 @@ use Rattle.node.specs.Calls.{onLent, lentOf, planned, no, admitAnswer, beatAnsw
 use Rattle.node.specs.Calls.{askBytes, askAnswer}
 use Rattle.node.specs.Calls.{roomOf, servedOf, replyTo, serveNumber}
 use Rattle.history.specs.History.{State, Settings, Fresh, Call, admit, heartbeat, advertise, ask, serve, planIn}
-use Rattle.history.specs.History.{after, afterAll, refusalAt, brought, brings, isNew as newAnswer, times, timesNew}
+use Rattle.history.specs.History.{explain, after, afterAll, refusalAt, brought, brings, isNew as newAnswer, times}
+use Rattle.history.specs.History.{timesNew}
 use Rattle.history.specs.Laws.{history-keeps, brings-exactly}
 use Rattle.agreement.specs.Round.{missing}
 use Rattle.agreement.specs.Fifteen.{longest-field, some-fit, longest-fit}
@@ -182,6 +183,7 @@ module _ (m : List ℕ) (why : Unfit) (u : admissionOf m true ≡ admission.Unfi
   never-new (advertise name windows out ∷ cs) s = rw (never-new cs (after (advertise name windows out) s))
   never-new (ask body out ∷ cs) s = rw (never-new cs (after (ask body out) s))
   never-new (serve body out ∷ cs) s = rw (never-new cs (after (serve body out) s))
+  never-new (explain id name windows ∷ cs) s = rw (never-new cs (after (explain id name windows) s))
 
 -- it comes in, is called new in no history, and is refused by 25 each time
 pub record Unanswered (m body : List ℕ) : Type 0 where

@@ -14,7 +14,7 @@ use Rattle.rows.specs.IdsLaws.{same-self, same-equal, among-append}
 use Rattle.node.specs.declared.Admit.the-variants as answer
 use Rattle.history.specs.History.{State, Settings, Call, admit, heartbeat, advertise, ask, serve, afterAll, reading}
 use Rattle.history.specs.History.{readings, firstOf, beat, beats, refusalAt, brought, isThat, brings, timesGot}
-use Rattle.history.specs.History.{answerIn, isNew, isDuplicate, countAt, times, timesNew, timesDuplicate}
+use Rattle.history.specs.History.{explain, answerIn, isNew, isDuplicate, countAt, times, timesNew, timesDuplicate}
 use Rattle.history.specs.Laws.{readings-append, beats-append, brings-that}
 use Rattle.agreement.specs.Premises.{MessageSet, MemberAt, Members, none-left, member, Premises}
 use Rattle.agreement.specs.Holding.{withGot, gotBy, gotNext, gotAll, Holding, admit-answers, admit-done}
@@ -123,6 +123,7 @@ module _ {set : List (List ℕ)} (ms : MessageSet set) (m : List ℕ) {x : Setti
     call-one rs left (advertise topic windows out) h inside = not-this refl refl refl refl
     call-one rs left (ask body out) h inside = not-this refl refl refl refl
     call-one rs left (serve body out) h inside = not-this refl refl refl refl
+    call-one rs left (explain id topic windows) h inside = not-this refl refl refl refl
 
   some-calls : {first past : ℕ} {got : List (List ℕ)} {s : State} (calls : List Call)
       → Holding set x first past (readings calls) (beats calls) got s → Members set calls

@@ -29,11 +29,12 @@ use Rattle.node.specs.Calls.{lentOf, advertiseAnswer, advertiseLeft, advertiseB
 use Rattle.node.specs.Calls.{serveAnswer, serveLeft, cachedOf, wanted, roomOf, servedOf, replyBytes, replyTo}
 use Rattle.node.specs.Calls.{serveNumber}
 use Rattle.node.specs.ReplyLaws.{reply-some}
+use Rattle.outputs.specs.Adverts.{advert-rpc, advert-taken}
 use Rattle.history.specs.History.{State, gatewayOf, Settings, advertise, ask, serve, refusalAt, servedBytes}
 use Rattle.history.specs.History.{servedMessages}
 use Rattle.agreement.specs.Round.{Play, Fair, advertBy, advertOf, requestOf, replyAnswer, replyOf, servedCount}
 use Rattle.agreement.specs.Holding.{Holding}
-use Rattle.agreement.specs.HandOver.{advert-rpc, advert-taken, request-rpc, request-taken, reply-has, reply-all}
+use Rattle.agreement.specs.HandOver.{request-rpc, request-taken, reply-has, reply-all}
 use Rattle.agreement.specs.HandOver.{lacks-exactly}
 use Rattle.agreement.specs.Fifteen.{fifteen-fit}
 use Rattle.agreement.specs.Delivered.{Delivers, reply-taken}

@@ -6,9 +6,11 @@ use Rattle.node.specs.declared.Beat.{Beat}
 use Rattle.node.specs.declared.Advertise.{Advertise}
 use Rattle.node.specs.declared.Ask.{Ask}
 use Rattle.node.specs.declared.Serve.{Serve}
+use Rattle.node.specs.declared.Explain.{Explain}
 use Rattle.node.specs.Calls.{admitAnswer, beatAnswer, advertiseAnswer, advertiseLeft, askAnswer, askLeft, serveAnswer}
-use Rattle.node.specs.Calls.{serveLeft}
-use Rattle.history.specs.History.{State, Call, admit, heartbeat, advertise, ask, serve, planIn, after}
+use Rattle.node.specs.Calls.{serveLeft, explainAnswer}
+use Rattle.history.specs.History.{State, Call, admit, heartbeat, advertise, ask, serve, explain}
+use Rattle.history.specs.History.{planIn, after}
 
 pub data Answer : Type 0 where
   admitted : Admit → Answer
@@ -17,6 +19,8 @@ pub data Answer : Type 0 where
   advertised : Advertise → List ℕ → Answer
   asked : Ask → List ℕ → Answer
   served : Serve → List ℕ → Answer
+  -- there is none
+  explained : Explain → Answer
 
 unfoldable pub answerAt : State → Call → Answer
 answerAt s (admit body i word at) = admitted (admitAnswer (s .node) (s .ids) at (planIn s body i word at))
@@ -28,6 +32,8 @@ answerAt s (ask body out) =
     asked (askAnswer (s .node) (s .ids) (s .messages) body out) (askLeft (s .node) (s .ids) (s .messages) body out)
 answerAt s (serve body out) =
     served (serveAnswer (s .node) (s .ids) (s .messages) body out) (serveLeft (s .node) (s .ids) (s .messages) body out)
+answerAt s (explain id topic windows) =
+    explained (explainAnswer (s .node) (s .ids) (s .messages) id topic windows)
 
 -- each call is lent the node and stores as the last one left them
 unfoldable pub answersOf : List Call → State → List Answer

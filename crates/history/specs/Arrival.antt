@@ -8,11 +8,12 @@ use Rattle.node.specs.declared.Ask.{Ask}
 use Rattle.node.specs.declared.Serve.{Serve}
 use Rattle.node.specs.WellFormed.{Typed}
 use Rattle.node.specs.WrapLaws.{movedNode, admit-moved, admit-typed, beat-moved, beaten-typed, advertise-moved}
-use Rattle.node.specs.WrapLaws.{ask-moved, serve-moved}
-use Rattle.history.specs.History.{State, Settings, Fresh, Call, admit, heartbeat, advertise, ask, serve, after}
-use Rattle.history.specs.History.{afterAll}
+use Rattle.node.specs.WrapLaws.{ask-moved, serve-moved, explain-moved}
+use Rattle.history.specs.History.{State, Settings, Fresh, Call, admit, heartbeat, advertise, ask, serve, explain}
+use Rattle.history.specs.History.{after, afterAll}
 use Rattle.history.specs.Laws.{fresh-keeps}
-use Rattle.history.specs.Answers.{Answer, admitted, beaten, advertised, asked, served, answerAt, answersOf}
+use Rattle.history.specs.Answers.{Answer, admitted, beaten, advertised, asked, served, explained}
+use Rattle.history.specs.Answers.{answerAt, answersOf}
 
 -- every arrival number, and the next, k further; the same stores
 unfoldable pub movedState : ℕ → State → State
@@ -38,6 +39,8 @@ module _ (k : ℕ) (s : State) (typed : Typed (s .node)) where
   answer-free (serve body out) =
       let m = serve-moved k (s .node) (s .ids) (s .messages) typed body out in
       ap₂ (λ (x : Serve) (l : List ℕ). served x l) (m .0) (m .1)
+  answer-free (explain id topic windows) =
+      ap explained (explain-moved k (s .node) (s .ids) (s .messages) typed id topic windows)
 
   pub after-free : (c : Call) → after c (movedState k s) ≡ movedState k (after c s)
   unfolding after movedState
@@ -49,6 +52,7 @@ module _ (k : ℕ) (s : State) (typed : Typed (s .node)) where
   after-free (advertise topic windows out) = refl
   after-free (ask body out) = refl
   after-free (serve body out) = refl
+  after-free (explain id topic windows) = refl
 
 -- a node's types stay
 after-typed : (s : State) → Typed (s .node) → (c : Call) → Typed (after c s .node)
@@ -58,6 +62,7 @@ after-typed s typed (heartbeat at) = beaten-typed (s .node) (s .ids) (s .message
 after-typed s typed (advertise topic windows out) = typed
 after-typed s typed (ask body out) = typed
 after-typed s typed (serve body out) = typed
+after-typed s typed (explain id topic windows) = typed
 
 -- ---- all calls: the same answers and buffers, and at the end the state that stands k further
 pub arrival-free : (k : ℕ) (calls : List Call) (s : State) → Typed (s .node)

@@ -29,7 +29,7 @@ use Rattle.node.specs.Gateway.{Gateway}
 use Rattle.node.specs.State.{gatewayIn, legalSettings, freshNode}
 use Rattle.node.specs.Calls.{Plan, planned, admitNumber, admitAnswer, admitNode, admitSeen, admitCache}
 use Rattle.node.specs.Calls.{beatNumber, beatAnswer, beatNode, advertiseNumber, advertiseAnswer}
-use Rattle.node.specs.Calls.{askNumber, askAnswer, serveNumber, serveAnswer}
+use Rattle.node.specs.Calls.{askNumber, askAnswer, serveNumber, serveAnswer, explainNumber, explainAnswer}
 
 -- a node with its two stores
 pub record State : Type 0 where
@@ -66,6 +66,8 @@ pub data Call : Type 0 where
   -- body, buffer
   ask : List ℕ → List ℕ → Call
   serve : List ℕ → List ℕ → Call
+  -- id, topic, windows
+  explain : List ℕ → List ℕ → ℕ → Call
 
 -- what an admit is to do
 abbrev pub planIn : State → List ℕ → ℕ → Bool → ℕ → Plan
@@ -88,6 +90,7 @@ after (heartbeat at) s =
 after (advertise topic windows out) s = s
 after (ask body out) s = s
 after (serve body out) s = s
+after (explain id topic windows) s = s
 
 unfoldable pub afterAll : List Call → State → State
 afterAll [] s = s
@@ -100,6 +103,7 @@ reading (heartbeat at) = at ∷ []
 reading (advertise topic windows out) = []
 reading (ask body out) = []
 reading (serve body out) = []
+reading (explain id topic windows) = []
 
 unfoldable pub readings : List Call → List ℕ
 readings [] = []
@@ -115,6 +119,7 @@ beat (heartbeat at) = 1
 beat (advertise topic windows out) = 0
 beat (ask body out) = 0
 beat (serve body out) = 0
+beat (explain id topic windows) = 0
 
 unfoldable pub beats : List Call → ℕ
 beats [] = 0
@@ -128,6 +133,8 @@ refusalAt s (advertise topic windows out) =
     advertiseNumber (advertiseAnswer (s .node) (s .ids) (s .messages) topic windows out)
 refusalAt s (ask body out) = askNumber (askAnswer (s .node) (s .ids) (s .messages) body out)
 refusalAt s (serve body out) = serveNumber (serveAnswer (s .node) (s .ids) (s .messages) body out)
+refusalAt s (explain id topic windows) =
+    explainNumber (explainAnswer (s .node) (s .ids) (s .messages) id topic windows)
 
 pub data NoneRefused : List Call → State → Type 0 where
   all-done : {s : State} → NoneRefused [] s
@@ -182,6 +189,7 @@ brought (heartbeat at) = none
 brought (advertise topic windows out) = none
 brought (ask body out) = none
 brought (serve body out) = none
+brought (explain id topic windows) = none
 
 abbrev pub isThat : List ℕ → Option (List ℕ) → Bool
 isThat m none = false
@@ -222,6 +230,7 @@ countAt f m s (heartbeat at) = 0
 countAt f m s (advertise topic windows out) = 0
 countAt f m s (ask body out) = 0
 countAt f m s (serve body out) = 0
+countAt f m s (explain id topic windows) = 0
 
 unfoldable pub times : (Admit → ℕ) → List ℕ → List Call → State → ℕ
 times f m [] s = 0

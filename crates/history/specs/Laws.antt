@@ -36,7 +36,7 @@ use Rattle.node.specs.WellFormed.{Typed}
 use Rattle.node.specs.Laws.{fresh-gateway, fit-plan, admit-gateway, beat-says, beat-gateway}
 use Rattle.node.specs.WellFormedLaws.{Keeps, begun-keeps, admitted-keeps, beaten-keeps}
 use Rattle.history.specs.History.{State, gatewayOf, Settings, Fresh, Call, admit, heartbeat, advertise, ask}
-use Rattle.history.specs.History.{serve}
+use Rattle.history.specs.History.{serve, explain}
 use Rattle.history.specs.History.{planIn, after, afterAll, reading, readings, beats, refusalAt, NoneRefused}
 use Rattle.history.specs.History.{all-done, done, admits, Placed, standing, whereAccepted, brought, isThat}
 use Rattle.history.specs.History.{brings, times}
@@ -107,6 +107,7 @@ after-keeps (heartbeat at) s k =
 after-keeps (advertise topic windows out) s k = k
 after-keeps (ask body out) s k = k
 after-keeps (serve body out) s k = k
+after-keeps (explain id topic windows) s k = k
 
 pub all-keep : (calls : List Call) (s : State) → Kept s → Kept (afterAll calls s)
 unfolding afterAll
@@ -187,6 +188,7 @@ refused-stays (heartbeat at) s h =
 refused-stays (advertise topic windows out) s h = refl
 refused-stays (ask body out) s h = refl
 refused-stays (serve body out) s h = refl
+refused-stays (explain id topic windows) s h = refl
 
 -- ---- what a call brings
 -- an admit brings m exactly where the host gives its word, the body is accepted, and m stands at the index

@@ -35,11 +35,14 @@ use Rattle.mcache.specs.declared.Put.{Put}
 use Rattle.mcache.specs.declared.Put.the-variants as put
 use Rattle.mcache.specs.declared.PutDone.{PutDone}
 use Rattle.mcache.specs.declared.Lookup.the-variants as lookup
+use Rattle.mcache.specs.declared.Offer.{Offer}
+use Rattle.mcache.specs.declared.Offer.the-variants as offer
+use Rattle.mcache.specs.Messages.{offerFor}
 use Rattle.mcache.specs.declared.Gossip.{Gossip}
 use Rattle.mcache.specs.declared.GossipIds.{GossipIds}
 use Rattle.mcache.specs.declared.Gossip.the-variants as gossip
-use Rattle.mcache.specs.State.{messageIn, fallsFrom, runsTo, givesIn, idsFit, rowsFit, legal, wellFormed, Laid, Placed, Usable, messageSize, messageIdSize, maxMessages, maxHistory, idsSize, ringOf, topicsSize, Roomy, tableOf}
-use Rattle.mcache.specs.Calls.{lentOf, indexIn, entered, enteredStore, keepable, planKept, planUnder, keptUnder, storedUnder, shifted, found, gossipList, gossipArray, Plan, no, keep, answered, keptIn, storedIn, planFit, planned, shiftCache, getPart, lookupAnswer, gossipAnswer, gossipCount, gossipRows}
+use Rattle.mcache.specs.State.{messageIn, fallsFrom, runsTo, givesIn, idsFit, rowsFit, legal, wellFormed, Laid, Placed, Usable, messageSize, messageIdSize, maxMessages, maxHistory, idsSize, ringOf, topicsSize, Roomy, tableOf, hasTopic}
+use Rattle.mcache.specs.Calls.{lentOf, indexIn, entered, enteredStore, rowsLie, keepable, planKept, planUnder, keptUnder, storedUnder, shifted, found, gossipList, gossipArray, Plan, no, keep, answered, keptIn, storedIn, planFit, planned, shiftCache, getPart, lookupAnswer, offerAt, offerIn, gossipAnswer, gossipCount, gossipRows}
 use Rattle.mcache.specs.Unique.{Puts, Keeps, Shifts, Gossips, Forms, WritesId}
 use Rattle.mcache.specs.StateLaws.{lent-kept}
 use Rattle.mcache.specs.GuardLaws.{lie-rows, when-keeps, keep-usable, form-fit}
@@ -222,6 +225,29 @@ module _ (c : MessageCache) (st id : List ℕ) where
   pub lookup-missing : lent.Fine ≡ lentOf c st → (i : ℕ) → i ≡ indexIn c id → c .count ≤ i → lookup.Missing ≡ lookupAnswer c st id
   unfolding lookupAnswer
   lookup-missing e i f h = rw (← e, le-ltb (indexIn c id) (c .count) (omega arith))
+
+-- ---- why an id is told of or not
+module _ (carried : Bool) (age windows : ℕ) where
+  pub for-listed : carried ≡ true → age < windows → offer.Listed ≡ offerFor carried age windows
+  for-listed e h = rw (e, lt-ltb age windows h)
+
+  pub for-older : carried ≡ true → windows ≤ age → offer.OlderWindow age ≡ offerFor carried age windows
+  for-older e h = rw (e, le-ltb age windows h)
+
+module _ (c : MessageCache) (st id topic : List ℕ) (windows : ℕ) where
+  pub offer-not : rowsLie (ringOf c) ≡ false → offer.NotCached ≡ offerIn c st id topic windows
+  unfolding offerIn
+  offer-not l = rw l
+
+  module _ (l : rowsLie (ringOf c) ≡ true) (i : ℕ) (f : i ≡ indexIn c id) where
+    pub offer-lost : c .count ≤ i → offer.NotCached ≡ offerIn c st id topic windows
+    unfolding offerIn
+    offer-lost h = rw (l, le-ltb (indexIn c id) (c .count) (omega arith))
+
+    pub offer-found : i < c .count → (p : ℕ) → p ≡ placeOf (ringOf c) i → (b : Bool) → b ≡ hasTopic (c .len) (tableOf c) st topic p → (o : Offer)
+        → o ≡ offerFor b (getD (c .window) p 0) windows → o ≡ offerIn c st id topic windows
+    unfolding offerIn offerAt
+    offer-found h p g b e o q = q ∙ rw (l, lt-ltb (indexIn c id) (c .count) (omega arith), ← f, ← g, e)
 
 -- ---- shift
 module _ (c : MessageCache) (st : List ℕ) where

@@ -28,7 +28,7 @@ use Rattle.admission.specs.Admission.{Span, topicPlaces, cut, spansIn, keptWith
 use Rattle.mcache.specs.Calls.{formable, formCount, formLeft, rowsLie, keepable}
 use Rattle.mcache.specs.Unique.{Forms}
 use Rattle.mcache.specs.GuardLaws.{lie-rows, when-forms, id-length}
-use Rattle.mcache.specs.State.{messageIn, fallsFrom, runsTo, givesAt, allTrue, givesIn, stale, older, told, Laid, messageSize, messageIdSize, maxMessages}
+use Rattle.mcache.specs.State.{messageIn, fallsFrom, runsTo, givesAt, allTrue, givesIn, stale, older, told, hasTopic, Laid, messageSize, messageIdSize, maxMessages}
 use Rattle.mcache.specs.State.{maxTopics, Table, topicsAt, keptPlaces}
 
 -- ---- windows
@@ -160,13 +160,18 @@ module _ (window lens : List ℕ) (table : Table) (st : List ℕ) (windows : ℕ
   unfolding told
   told-not h = sym (simp (le-ltb (getD window p 0) windows h))
 
-  pub told-is : (r : Bool) (m : List ℕ) (n : ℕ) → getD window p 0 < windows → m ≡ messageIn lens st p → n ≡ getD (table .counts) p 0
-      → r ≡ among topic (map (cut m) (spansIn (rest (table .starts) (p * maxTopics)) (rest (table .sizes) (p * maxTopics)) n)) → r ≡ told window lens
-      table st windows topic p
-  unfolding told topicsAt
-  told-is r m n h f g e =
-      (rw (rest-is (table .starts) (p * maxTopics), rest-is (table .sizes) (p * maxTopics), f, g) at e) ∙ sym (simp (lt-ltb (getD window p 0) windows
-      h))
+  pub told-is : (r : Bool) → getD window p 0 < windows → r ≡ hasTopic lens table st topic p → r ≡ told window lens table st windows topic p
+  unfolding told
+  told-is r h e = e ∙ sym (simp (lt-ltb (getD window p 0) windows h))
+
+-- which topics are kept
+pub topic-is : (lens : List ℕ) (table : Table) (st topic : List ℕ) (p : ℕ) (r : Bool) (m : List ℕ) (n : ℕ) → m ≡ messageIn lens st p
+    → n ≡ getD (table .counts) p 0
+    → r ≡ among topic (map (cut m) (spansIn (rest (table .starts) (p * maxTopics)) (rest (table .sizes) (p * maxTopics)) n))
+    → r ≡ hasTopic lens table st topic p
+unfolding topicsAt
+topic-is lens table st topic p r m n f g e =
+    rw (rest-is (table .starts) (p * maxTopics), rest-is (table .sizes) (p * maxTopics), f, g) at e
 
 -- a part, cut at the end of the bytes
 module _ (s : List ℕ) (a n : ℕ) where

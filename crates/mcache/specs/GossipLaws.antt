@@ -26,7 +26,7 @@ use Rattle.mcache.specs.declared.Lent.the-variants as lent
 use Rattle.mcache.specs.declared.Gossip.the-variants as gossip
 use Rattle.mcache.specs.declared.GossipIds.{GossipIds}
 use Rattle.mcache.specs.Messages.{Cached, topics, idsOf, held, carrying, enterId, inOrder, gossipIds}
-use Rattle.mcache.specs.State.{messageIn, cachedAt, cachedIn, told, insertRow, gatherInto, messageIdSize}
+use Rattle.mcache.specs.State.{messageIn, cachedAt, cachedIn, hasTopic, told, insertRow, gatherInto, messageIdSize}
 use Rattle.mcache.specs.State.{maxMessages, ringOf, tableOf}
 use Rattle.mcache.specs.Calls.{lentOf, gossipList, gossipArray, gossipAnswer, gossipCount, gossipRows}
 use Rattle.mcache.specs.Unique.{Gossips, WritesId}
@@ -205,13 +205,17 @@ carrying-rows c st topic windows (p ∷ ps) =
     (λ t. rw t r)
 
 -- in a tested state the kept places say the same
+pub topic-kept : (c : MessageCache) (st topic : List ℕ) (i : ℕ) → Tests c st → i < c .count
+    → hasTopic (c .len) (tableOf c) st topic (placeOf (ringOf c) i)
+    ≡ among topic (topicsOf (messageIn (c .len) st (placeOf (ringOf c) i)))
+topic-kept c st topic i t h =
+    rw (row-topics c st t i h, cut-topics (messageIn (c .len) st (placeOf (ringOf c) i)))
+
 told-kept : (c : MessageCache) (st topic : List ℕ) (windows i : ℕ) → Tests c st → i < c .count
     → told (c .window) (c .len) (tableOf c) st windows topic (placeOf (ringOf c) i)
     ≡ carried c st topic windows (placeOf (ringOf c) i)
 unfolding told
-told-kept c st topic windows i t h =
-    let p = placeOf (ringOf c) i in
-    rw (row-topics c st t i h, cut-topics (messageIn (c .len) st p))
+told-kept c st topic windows i t h = rw (topic-kept c st topic i t h)
 
 chosen-same : (t u : ℕ → Bool) (ps : List ℕ) → ((i : ℕ) → i < length ps → t (getD ps i 0) ≡ u (getD ps i 0))
     → chosen t ps ≡ chosen u ps
@@ -466,7 +470,7 @@ told-distinct topic windows ms =
     clash (cc))
 
 -- and it is cached
-mem-held : (m : Cached) (ms : List Cached) → List·Memᴰ m ms → held (m .id) ms ≡ true
+pub mem-held : (m : Cached) (ms : List Cached) → List·Memᴰ m ms → held (m .id) ms ≡ true
 unfolding held among
 mem-held m [] d = absurd (List·Memᴰ·not-nil d)
 mem-held m (k ∷ ms) d =

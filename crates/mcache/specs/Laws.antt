@@ -158,11 +158,11 @@ get-none id (m ∷ ms) h =
     either (sameBytes (m .id) id) (λ t. let k : suc (length ms) ≤ 0 = rw t at h in absurd (omega arith))
     (λ t. let k : suc (length ms) ≤ suc (indexOf id (idsOf ms)) = rw t at h in rw t (get-none id ms (omega arith)))
 
-index-cached : (c : MessageCache) (st id : List ℕ) → indexOf id (idsOf (cachedIn c st)) ≡ indexIn c id
+pub index-cached : (c : MessageCache) (st id : List ℕ) → indexOf id (idsOf (cachedIn c st)) ≡ indexIn c id
 unfolding indexIn
 index-cached c st id = ap (indexOf id) (ids-cached c st)
 
-row-cached : (c : MessageCache) (st : List ℕ) (i : ℕ) (d : Cached) → i < c .count
+pub row-cached : (c : MessageCache) (st : List ℕ) (i : ℕ) (d : Cached) → i < c .count
     → getD (cachedIn c st) i d ≡ cachedAt c st (placeOf (ringOf c) i)
 unfolding cachedIn rowsIn
 row-cached c st i d h = getD-tab (λ (j : ℕ). cachedAt c st (placeOf (ringOf c) j)) (c .count) i d h

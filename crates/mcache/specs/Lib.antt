@@ -1,7 +1,7 @@
 -- To be believed: Messages, WellFormed, Calls (the order of refusals), State (`cachedIn`, `legal`), Told, Unique (the
 -- contracts).
 -- Cited by contracts, and joined to these by theorems: the other definitions of State and Calls, by Laws.
--- Theorems: Laws, GossipLaws, FineLaws, WellFormedLaws, WrapLaws, Unique, Exactly, Readers.
+-- Theorems: Laws, GossipLaws, OfferLaws (`Answers`), FineLaws, WellFormedLaws, WrapLaws, Unique, Exactly, Readers.
 -- On the way to them: TableLaws, StateLaws, CachedLaws, GatherLaws, GuardLaws.
 pub mod Told
 pub mod Messages
@@ -16,6 +16,7 @@ pub mod CachedLaws
 pub mod Laws
 pub mod GossipLaws
 pub mod GatherLaws
+pub mod OfferLaws
 pub mod FineLaws
 pub mod WellFormedLaws
 pub mod WrapLaws

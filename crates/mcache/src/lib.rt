@@ -385,12 +385,12 @@ fn has_topic(
     requires { ⌜ (p < maxMessages) × Roomy (table (now counts) (now starts) (now sizes)) ⌝ }
     ensures { λ r. ⌜ r ≡ hasTopic (now (lens .entry)) (table (now (counts .entry)) (now (starts .entry)) (now (sizes .entry))) (now (store .entry)) (now (topic .entry)) p ⌝ }
 {
-    let slot = p * MAX_TOPICS;
+    let first = p * MAX_TOPICS;
     let n = byte_at(counts, p) as usize;
     carries(
         message_in(lens, store, p),
-        &starts[slot..],
-        &sizes[slot..],
+        &starts[first..],
+        &sizes[first..],
         n,
         topic,
     )
@@ -919,12 +919,14 @@ impl MessageCache {
             let row = self.find(id);
             if row < ring.count {
                 let p = place(ring, row);
+                let window = self.window;
                 let lens = self.len;
                 let counts = self.topic_count;
                 let starts = self.topic_start;
                 let sizes = self.topic_len;
                 let carried = has_topic(&lens, &counts, &starts, &sizes, store, p, topic);
-                return offer_for(carried, self.window[p] as usize, windows);
+                let age = byte_at(&window, p) as usize;
+                return offer_for(carried, age, windows);
             }
         }
         Offer::NotCached

@@ -27,7 +27,8 @@ use Rattle.mcache.specs.declared.Start.the-variants as cacheStart
 use Rattle.mcache.specs.State.{legal, wellFormed as cacheWellFormed, fresh as noMessages, Usable}
 use Rattle.mcache.specs.Unique.{Keeps, Forms}
 use Rattle.mcache.specs.GuardLaws.{keep-usable, form-fit}
-use Rattle.mcache.specs.Calls.{startAnswer as cacheStartAnswer, startCache, lentOf as cacheLentOf, keptUnder, storedUnder, shifted}
+use Rattle.mcache.specs.declared.Offer.{Offer}
+use Rattle.mcache.specs.Calls.{startAnswer as cacheStartAnswer, startCache, lentOf as cacheLentOf, keptUnder, storedUnder, shifted, offerIn}
 use Rattle.protobuf.specs.declared.WireError.{WireError}
 use Rattle.protobuf.specs.declared.Checked.the-variants as checked
 use Rattle.protobuf.specs.Walk.{between}
@@ -51,9 +52,11 @@ use Rattle.node.specs.declared.Admit.the-variants as admit
 use Rattle.node.specs.declared.Beat.the-variants as beat
 use Rattle.node.specs.declared.Advertise.{Advertise}
 use Rattle.node.specs.declared.Advertise.the-variants as advertise
+use Rattle.node.specs.declared.Explain.{Explain}
+use Rattle.node.specs.declared.Explain.the-variants as explain
 use Rattle.node.specs.Gateway.{marked}
-use Rattle.node.specs.Unique.{Starts, Admits, Beats, Advertises}
-use Rattle.node.specs.Calls.{startAnswer, startNode, rightSizes, lentOf, laterNode, Plan, no, taken, planFit, planned, swept, heldAt, admitAnswer, admitNode, admitSeen, admitCache, beatAnswer, beatNode, advertiseBytes, advertised, advertiseAnswer, advertiseLeft}
+use Rattle.node.specs.Unique.{Starts, Admits, Beats, Advertises, Explains}
+use Rattle.node.specs.Calls.{startAnswer, startNode, rightSizes, lentOf, laterNode, Plan, no, taken, planFit, planned, swept, heldAt, admitAnswer, admitNode, admitSeen, admitCache, beatAnswer, beatNode, advertiseBytes, advertised, advertiseAnswer, advertiseLeft, explainAnswer}
 use Rattle.node.specs.StateLaws.{room-cap, room-whole, fine-tests, lent-ready}
 
 -- ---- start
@@ -402,3 +405,21 @@ module _ (n : Node) (ss cs topic : List ℕ) (windows : ℕ) (out : List ℕ) wh
       → (r ≡ advertised (answer (advertiseBytes n cs topic windows) out)) × (o ≡ written (advertiseBytes n cs topic windows) out) → Advertising r o
   unfolding advertiseAnswer advertiseLeft
   advertise-told e k r o w = let t = le-ltb 1024 (length topic) k in record { answer = rw (← e, t) (w .0); node = refl; buffer = rw (← e, t) (w .1) }
+
+-- ---- explain
+module _ (n : Node) (ss cs id topic : List ℕ) (windows : ℕ) where
+  abbrev Explaining : Explain → Type 0
+  Explaining a = Explains n ss cs id topic windows (record { answer = a; node = n })
+
+  pub explain-faulty : (why : Fault) → lent.Faulty why ≡ lentOf n ss cs → Explaining (explain.Faulty why)
+  unfolding explainAnswer
+  explain-faulty why e = record { answer = rw (← e); node = refl }
+
+  pub explain-long : lent.Fine ≡ lentOf n ss cs → 1024 < length topic → Explaining (explain.TopicTooLong (length topic))
+  unfolding explainAnswer
+  explain-long e k = record { answer = rw (← e, lt-ltb 1024 (length topic) k); node = refl }
+
+  pub explain-why : lent.Fine ≡ lentOf n ss cs → length topic ≤ 1024 → (o : Offer) → o ≡ offerIn (n .cache) cs id topic windows
+      → Explaining (explain.Why o)
+  unfolding explainAnswer
+  explain-why e k o w = record { answer = rw (← e, le-ltb 1024 (length topic) k, w); node = refl }

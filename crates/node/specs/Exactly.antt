@@ -28,18 +28,21 @@ use Rattle.admission.specs.Admission.{admissionOf}
 use Rattle.admission.specs.AdmissionLaws.{unfit-range}
 use Rattle.seen.specs.State.{idSize, maxIds}
 use Rattle.seen.specs.Calls.{capOf}
+use Rattle.mcache.specs.declared.Offer.{Offer}
+use Rattle.mcache.specs.declared.Offer.the-variants as offer
 use Rattle.mcache.specs.State.{legal, messageSize, maxHistory, maxMessages}
+use Rattle.mcache.specs.Calls.{offerIn}
 use Rattle.node.specs.declared.Node.{Node}
 use Rattle.node.specs.declared.Fault.{Fault}
 use Rattle.node.specs.declared.Lent.{Lent}
 use Rattle.node.specs.declared.Lent.the-variants as lent
 use Rattle.node.specs.Told.{faultTold, lentTold, startTold, admitTold, beatTold, advertiseTold, askTold}
-use Rattle.node.specs.Told.{serveTold}
+use Rattle.node.specs.Told.{offerTold, explainTold, serveTold}
 use Rattle.node.specs.State.{legalSettings, wellFormed}
 use Rattle.node.specs.Calls.{startAnswer, rightSizes, lentOf, planFit, planAt, planBody, planned, heldAt}
 use Rattle.node.specs.Calls.{admitAnswer, beatAnswer, advertiseBytes, advertiseAnswer, askBytes, askAnswer}
 use Rattle.node.specs.Gateway.{Reply, sent, short, replyFor}
-use Rattle.node.specs.Calls.{wanted, cachedOf, roomOf, replied, serveAnswer}
+use Rattle.node.specs.Calls.{explainAnswer, wanted, cachedOf, roomOf, replied, serveAnswer}
 use Rattle.node.specs.WellFormed.{Typed, WellFormed}
 use Rattle.node.specs.WellFormedLaws.{fine-well-formed-node, well-formed-node-fine}
 
@@ -222,6 +225,30 @@ module _ (n : Node) (ss cs : List ℕ) where
         → (advertiseTold (advertiseAnswer n ss cs topic windows out) .number ≡ k)
         ↔ (lentTold (lentOf n ss cs) .number ≡ k)
     advertise-faults k h = as-lent (lentOf n ss cs) _ k advertise-faulty advertise-below h
+
+  module _ (id topic : List ℕ) (windows : ℕ) where
+    explain-faulty : (why : Fault) → lentOf n ss cs ≡ lent.Faulty why
+        → explainTold (explainAnswer n ss cs id topic windows) .number ≡ faultTold why .number
+    unfolding explainAnswer
+    explain-faulty why e = rw e
+
+    offer-zero : (o : Offer) → offerTold o .number < bad-setting
+    offer-zero offer.Listed = omega arith
+    offer-zero offer.NotCached = omega arith
+    offer-zero offer.WithoutTopic = omega arith
+    offer-zero (offer.OlderWindow age) = omega arith
+
+    explain-below : lentOf n ss cs ≡ lent.Fine
+        → explainTold (explainAnswer n ss cs id topic windows) .number < bad-setting
+    unfolding explainAnswer
+    explain-below e =
+        rw e
+        (either (ltb 1024 (length topic)) (λ t. rw t (omega arith))
+        (λ t. rw t (offer-zero (offerIn (n .cache) cs id topic windows))))
+
+    pub explain-faults : (k : ℕ) → bad-setting ≤ k
+        → (explainTold (explainAnswer n ss cs id topic windows) .number ≡ k) ↔ (lentTold (lentOf n ss cs) .number ≡ k)
+    explain-faults k h = as-lent (lentOf n ss cs) _ k explain-faulty explain-below h
 
   module _ (body out : List ℕ) where
     ask-faulty : (why : Fault) → lentOf n ss cs ≡ lent.Faulty why

@@ -1,7 +1,8 @@
 -- To be believed: Parts (`once`, `fitting`), Gateway, State, WellFormed, Calls (the order of refusals), Told; and what
--- theorems state: Laws (`Takes`), Exactly (`BeatTells`), Freed (`Freed`), WrapLaws (`movedNode`).
+-- theorems state: Laws (`Takes`), Exactly (`BeatTells`), Explained (`Explanation`, `ExplainTells`), Freed (`Freed`),
+-- WrapLaws (`movedNode`).
 -- Cited by contracts, and joined to these by theorems: what the calls leave, in Calls, by Laws.
--- Theorems: Laws, WellFormedLaws, Exactly, Freed, WrapLaws, Readers, Unique.
+-- Theorems: Laws, WellFormedLaws, Exactly, Explained, Freed, WrapLaws, Readers, Unique.
 -- On the way to them: PartsLaws, StateLaws, WireLaws, AskLaws, ReplyLaws.
 pub mod Parts
 pub mod PartsLaws
@@ -17,6 +18,7 @@ pub mod ReplyLaws
 pub mod Laws
 pub mod WellFormedLaws
 pub mod Exactly
+pub mod Explained
 pub mod Freed
 pub mod WrapLaws
 pub mod Readers

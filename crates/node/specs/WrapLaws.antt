@@ -23,7 +23,7 @@ use Rattle.mcache.specs.declared.MessageCache.{MessageCache}
 use Rattle.mcache.specs.declared.Lent.the-variants as cacheLent
 use Rattle.mcache.specs.State.{wellFormed as cacheWellFormed, messageSize}
 use Rattle.mcache.specs.Calls.{lentOf as cacheLentOf, indexIn, planUnder, keptIn, storedIn, keptUnder, storedUnder}
-use Rattle.mcache.specs.Calls.{Plan as PutPlan, planned as putPlanned, shifted, shiftCache, gossipList}
+use Rattle.mcache.specs.Calls.{Plan as PutPlan, planned as putPlanned, shifted, shiftCache, gossipList, offerAt, offerIn}
 use Rattle.mcache.specs.WellFormed.{Typed as cacheTyped}
 use Rattle.mcache.specs.FineLaws.{under-typed}
 use Rattle.mcache.specs.WrapLaws.{moved, wrap-free, wrap-free-put, wrap-free-kept, wrap-free-stored, wrap-free-shift}
@@ -36,7 +36,7 @@ use Rattle.node.specs.State.{wellFormed, seenFits}
 use Rattle.node.specs.Calls.{rightSizes, lentOf, laterNode, Plan, no, taken, planFit, planAt, planBody, planned}
 use Rattle.node.specs.Calls.{swept, heldAt, admitAnswer, admitNode, admitSeen, admitCache, beatAnswer, whenDone}
 use Rattle.node.specs.Calls.{beatNode, toldIn, advertiseBytes, advertiseAnswer, advertiseLeft, unseenOf, askBytes}
-use Rattle.node.specs.Calls.{askAnswer, askLeft, wanted, cachedOf, serveAnswer, serveLeft}
+use Rattle.node.specs.Calls.{explainAnswer, askAnswer, askLeft, wanted, cachedOf, serveAnswer, serveLeft}
 use Rattle.node.specs.WellFormed.{Typed}
 use Rattle.node.specs.StateLaws.{fine-tests}
 use Rattle.node.specs.Laws.{Takes, plan-takes, takes-id-small, swept-fine, swept-sized, seen-inserted, beat-done}
@@ -209,6 +209,17 @@ module _ (k : ℕ) (n : Node) (ss cs : List ℕ) (typed : Typed n) where
   advertise-moved topic windows out =
       let t = told-moved topic windows in
       (rw (lent-moved, t), rw (lent-moved, t))
+
+  -- and explain
+  offer-moved : (id topic : List ℕ) (windows : ℕ)
+      → offerIn (moved k (n .cache)) cs id topic windows ≡ offerIn (n .cache) cs id topic windows
+  unfolding offerIn offerAt indexIn moved
+  offer-moved id topic windows = refl
+
+  pub explain-moved : (id topic : List ℕ) (windows : ℕ)
+      → explainAnswer (movedNode k n) ss cs id topic windows ≡ explainAnswer n ss cs id topic windows
+  unfolding explainAnswer movedNode
+  explain-moved id topic windows = rw (lent-moved, offer-moved id topic windows)
 
   asked-moved : (body : List ℕ) → askBytes (movedNode k n) ss body ≡ askBytes n ss body
   unfolding askBytes unseenOf movedNode

@@ -8,6 +8,7 @@ use mathlib.Core.Option.{Option, none, some}
 use native.Mathlib.Omega.{arith}
 use lib.ListN.{length, length-append}
 use lib.Dec.{eqb}
+use Rattle.basis.specs.Cases.{clash}
 use Rattle.utf8.specs.Grammar.{Utf8}
 use Rattle.protobuf.specs.Grammar.{Body, none as no-fields}
 use Rattle.protobuf.specs.Encode.{bytesField}
@@ -109,6 +110,11 @@ ids-alone ids w =
     (is-iwant (bytes-body 1 (omega arith) (omega arith) ids w))
 
 -- ---- the RPCs that a node writes
+-- ids, or none
+pub by-cases : {A : Type 0} (ids : List (List ℕ)) → (ids ≡ [] → A) → ((ids ≡ [] → ⊥) → A) → A
+by-cases [] f g = f refl
+by-cases (i ∷ is) f g = g (λ e. clash (cc))
+
 -- where there are no ids to name, no bytes
 pub no-bytes : (ids : List (List ℕ)) (x : Rpc) → ids ≡ [] → bytesFor ids x ≡ []
 no-bytes ids x e = rw e

@@ -1,5 +1,5 @@
 -- To be believed: Named, Outcomes, Replied (`Replies`, `Counts`), Admitted (`AdmitTakes`, `AdmitTells`).
--- Theorems: Exactly, Offered, Replied, Requested, Advertised, Admitted.
+-- Theorems: Exactly, Offered, Replied, Requested, Advertised, Adverts, Admitted.
 -- On the way to them: Bodies, Cached.
 pub mod Named
 pub mod Offered
@@ -8,6 +8,7 @@ pub mod Cached
 pub mod Replied
 pub mod Requested
 pub mod Advertised
+pub mod Adverts
 pub mod Outcomes
 pub mod Exactly
 pub mod Admitted
