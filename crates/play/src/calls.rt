@@ -72,8 +72,8 @@ pub fn no_question(content: &[u8]) -> bool
     if content.len() < 4 {
         return true;
     }
-    let id_len = little_at(content, 2, 2);
-    ((content.len() - 4) as u64) < id_len
+    let id_len = little_at(content, 2, 2) as usize;
+    content.len() - 4 < id_len
 }
 
 // The lesser: of a length, what is there.

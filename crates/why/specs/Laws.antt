@@ -60,8 +60,7 @@ pub given-lent : {n : Node} {rest ss cs ids messages : List ℕ} → maxIds * id
     × (take (n .cache .«max_messages» * messageSize) messages ≡ cachePart n rest)
 given-lent {n} {rest} {ss} {cs} {ids} {messages} h k g =
     let fine = sym (g .answer) in
-    let few = given-few n rest fine in
-    (
+    let few = given-few n rest fine in (
       front (n .«max_seen» * idSize) (seenPart n rest) ss ids (seen-length n rest fine) (omega arith)
           (rw fine at (g .seen)),
       front (n .cache .«max_messages» * messageSize) (cachePart n rest) cs messages (cache-length n rest fine)
