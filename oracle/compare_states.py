@@ -23,7 +23,7 @@ import states
 from compare_wire import arguments
 from differences import Model, first_difference, line_at, printed_by, sort_of
 from records import header
-from state_histories import STATE
+from state_histories import STATE, cut_why
 from states import MAX_CONTENT, record, records
 from traces import beat
 
@@ -95,8 +95,7 @@ def endings():
         for n in (0, 14):
             yield "kind %d with %d bytes" % (kind, n), begun + header(n, kind) + bytes(n) + begun, ok + "bad\n"
     for size, rest in ((1, 0), (3, 2), (256, 255), (65535, 300)):
-        yield "why of an id of %d bytes in %d" % (size, rest), begun + header(4 + rest, 12) + b"\x01\x00" + size.to_bytes(2, "little") + bytes(rest) + begun, \
-            ok + "bad\n"
+        yield "why of an id of %d bytes in %d" % (size, rest), begun + cut_why(size, rest) + begun, ok + "bad\n"
     yield "why of the longest id and topic", begun + records([("why", 0, bytes(65535), b"t"), ("why", 0, b"", b"t" * (most - 4)), ("why", 0, b"", b"")]), \
         ok + "2 why missing\n3 why refused 29 65596\n4 why missing\n"
     for call, (kind, _, rest) in states.FORM.items():

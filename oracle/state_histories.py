@@ -13,6 +13,7 @@ import traces
 from bodies import tagged
 from caches import REFUSED, TOPIC_MESSAGES, X, grown, padded, plain, topic_message, x_with
 from nodes import MAX_BODY, MAX_MESSAGE, MAX_TOPICS, ROOM, TOP
+from records import header
 from states import ARRIVAL, CACHE_BYTE, CACHE_BYTES, CLOCK, COUNT, EXPIRY, HISTORY_LEN, ID_LEN, IDS, LEN, MAX_HELD, MAX_ID, MAX_IDS, MAX_MADE, \
     NEXT, ROW, SEEN_BYTE, SEEN_BYTES, SEEN_COUNT, SEEN_LEN, SEEN_START, SLOTS, START, TOPIC_COUNT, TOPIC_LEN, TOPIC_START, TTL, WINDOW, Run, \
     taken, topic_places
@@ -46,6 +47,11 @@ def serve(*names, room=ROOM):
 
 def why(windows=65535, name=b"A\x03", topic=b"t"):
     return ("why", windows, name, topic)
+
+
+def cut_why(size, rest):
+    """A record of kind 12 whose id is to have so many bytes, and has the rest."""
+    return header(4 + rest, 12) + b"\x01\x00" + size.to_bytes(2, "little") + bytes(rest)
 
 
 def filled(parts, size):

@@ -23,7 +23,7 @@ from bodies import BROKEN, tagged
 from caches import LONG_TOPICS, LONGEST_TOPICS, TOPICS, X
 from nodes import MAX_CONTENT, TOP
 from records import Records, header
-from state_histories import Play, named_message, some_why, why
+from state_histories import Play, cut_why, named_message, some_why, why
 from states import CLOCK, COUNT, MAX_HELD, MAX_IDS, MAX_MESSAGE, NODE_SIZE, ROW, gateway_bytes
 from traces import admit, advertise, beat, body_of, x_body
 from wire import then_random
@@ -289,7 +289,7 @@ def endings():
     for n in range(4):
         yield "why with %d bytes" % n, begun + header(n, 12) + bytes(n) + begun, ok + "bad\n"
     for size, rest in ((1, 0), (2, 1), (3, 2), (256, 255), (65535, 100), (65535, most - 4)):
-        yield "an id of %d bytes in %d" % (size, rest), begun + header(4 + rest, 12) + b"\x01\x00" + size.to_bytes(2, "little") + bytes(rest) + begun, ok + "bad\n"
+        yield "an id of %d bytes in %d" % (size, rest), begun + cut_why(size, rest) + begun, ok + "bad\n"
     for size in (1, 2, 3, 256, most - 4):
         yield "an id of %d bytes, and no topic" % size, begun + record(why(1, bytes(size), b"")) + begun, ok + "2 why missing\n3 set ok\n"
     yield "the longest content", begun + record(why(1, b"", b"t" * (most - 4))) + begun, ok + "2 why refused 29\n3 set ok\n"
