@@ -25,7 +25,7 @@ stateTold n ss cs =
 
 -- 0.3.0: 10000 times the first number, 100 times the second, and the third
 abbrev pub versionNumber : ℕ
-versionNumber = 300
+versionNumber = 301
 
 -- of Layout in crate stored: another layout is another format
 abbrev pub formatNumber : ℕ
