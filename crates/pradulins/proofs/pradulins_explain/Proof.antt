@@ -14,8 +14,8 @@ pradulins-explain-spec =
     (λ c κs. search needs)
     (λ c κs. search needs)
     (λ c κs. search needs)
-    (λ c. let node = c .before .before .before .before .before .before .before .load .ensures in
-    let did = c .before .before .before .before .before .explain .ensures in
-    let t = told-as explainTold (now (c .before .before .before .before .before .before .before .before .before .before .args .values))
-    (rw node at (did .answer)) (c .before .before .told-explain .ensures) (c .tell .ensures) in
+    (λ c. let p = c .before .before .before .before in
+    let t = told-as explainTold (now (p .before .before .before .before .before .args .values))
+    (rw (p .load .ensures) at (c .before .before .before .explain .ensures .answer)) (c .before .before .told-explain .ensures)
+    (c .tell .ensures) in
     record { number = t .0; values = t .1 }))

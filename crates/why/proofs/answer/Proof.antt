@@ -18,7 +18,9 @@ returns : tie.Need-returns
 returns c = search needs
 
 take-gateway-requires : tie.Need-take-gateway-requires
-take-gateway-requires c κs = has-node _ _ _ (sym (c .before .before .before .before .before .ends-run .ensures) ∙ c .before .before .before .before .if1 .left) (c .before .before .before .if2 .taken)
+take-gateway-requires c κs =
+    let p = c .before .before .before in
+    has-node _ _ _ (sym (p .before .before .ends-run .ensures) ∙ p .before .if1 .left) (p .if2 .taken)
 
 same-length : tie.Need-same-length
 same-length c = search needs

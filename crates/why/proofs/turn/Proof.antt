@@ -39,7 +39,9 @@ enum-known-h : tie.Need-enum-known-h
 enum-known-h c = search needs
 
 go-on-requires : tie.Need-go-on-requires
-go-on-requires c κs = let l = content-fits _ _ _ (c .before .before .before .before .before .before .h .given .1) (c .before .before .before .before .before .before .before .before .next-header .ensures) in omega arith
+go-on-requires c κs =
+    let p = c .before .before .before .before .before .before in
+    let l = content-fits _ _ _ (p .h .given .1) (p .before .before .next-header .ensures) in omega arith
 
 returns : tie.Need-returns
 returns c = search needs
