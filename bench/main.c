@@ -291,6 +291,21 @@ static uint64_t node_advertise(uint64_t times)
     return advertise(PRADULINS_MAX_HISTORY, times);
 }
 
+/* Of the id that was admitted last, which is found last. */
+static uint64_t node_explain(uint64_t times)
+{
+    uint64_t sum = 0;
+    if (pradulins_message_id(bodies.at + 255 * body_size, body_size, 0, out, PRADULINS_OUT_SIZE, values))
+        fail("refused", "message_id");
+    size_t id_len = values[0];
+    while (times-- > 0) {
+        if (pradulins_explain(node, seen, seen_len, cache, cache_len, out, id_len, (const uint8_t *)"t", 1, PRADULINS_MAX_HISTORY, values) || values[0])
+            fail("not listed", "explain");
+        sum++;
+    }
+    return sum;
+}
+
 static uint64_t node_ask(uint64_t times)
 {
     uint64_t sum = 0;
@@ -486,6 +501,7 @@ static void node_cases(void)
     measure("node/heartbeat", node_heartbeat, NULL, 0, 8);
     fill_node();
     measure("node/advertise", node_advertise, NULL, 0, 8);
+    measure("node/explain", node_explain, NULL, 0, 8);
     measure("node/ask", node_ask, NULL, 0, 8);
     measure("node/serve", node_serve, NULL, 0, 8);
     measure("node/read", node_load, NULL, 0, 8);

@@ -1,11 +1,11 @@
 //! Finds the archive, libpradulins.a: in PRADULINS_LIB_DIR, or where `rt staticlib pradulins` writes it. It is for x86-64 Linux. Where there is none, or
-//! one of version 0.1.0, the crate can be checked and its unit tests run, but no program can be linked.
+//! one of an earlier version, the crate can be checked and its unit tests run, but no program can be linked.
 
 use std::path::PathBuf;
 use std::{env, fs};
 
-/// What an archive has since version 0.2.0.
-const SINCE: &[u8] = b"pradulins_format";
+/// What an archive has since version 0.3.1.
+const SINCE: &[u8] = b"pradulins_explain";
 
 fn main() {
     println!("cargo:rerun-if-env-changed=PRADULINS_LIB_DIR");

@@ -28,12 +28,12 @@ extern "C" {
 /* ---- version */
 
 /*
- * The version that this header is of, 0.3.0: 10000 times the first number, 100 times the second, and the third. pradulins_version() is that of the archive.
+ * The version that this header is of, 0.3.1: 10000 times the first number, 100 times the second, and the third. pradulins_version() is that of the archive.
  * The format is that of a node's bytes and its stores: a state that was saved under another format is not to be loaded. pradulins_format() is the archive's: hold
  * it to PRADULINS_FORMAT before the first call, since a node of another format may have another length. Format 2 came with 0.3.0: a node keeps where the topics of
  * its messages stand, and has 12,432 bytes where it had 11,344. Nodes of format 1 are not taken over: start anew, and catch up.
  */
-#define PRADULINS_VERSION 300
+#define PRADULINS_VERSION 301
 #define PRADULINS_FORMAT 2
 
 /* ---- sizes */
@@ -170,6 +170,22 @@ uint32_t pradulins_heartbeat(uint8_t node[PRADULINS_NODE_SIZE], const uint8_t *s
 uint32_t pradulins_advertise(const uint8_t node[PRADULINS_NODE_SIZE], const uint8_t *seen_store, size_t seen_store_len, const uint8_t *cache_store,
                              size_t cache_store_len, const uint8_t *topic, size_t topic_len, size_t windows, uint8_t *out, size_t out_len,
                              uint64_t values[PRADULINS_VALUES]);
+
+/*
+ * Says whether `id` stands in the body that pradulins_advertise writes for the same topic and windows, and if not, why. Only cached messages are looked at: one
+ * that was seen may have left the cache. `id` is a message's from and its seqno, as an IHAVE has it, and may have any length; one that is empty or longer than
+ * PRADULINS_ID_SIZE is not cached. Where both topic and window rule it out, the topic is named. A topic that is not UTF-8 is carried by no message.
+ * values[0]: one of the four PRADULINS_OFFER_... below; beside the last of them values[1]: the age of the window, 0 for the newest.
+ * Refused: 40, 41, 42, 29.
+ */
+uint32_t pradulins_explain(const uint8_t node[PRADULINS_NODE_SIZE], const uint8_t *seen_store, size_t seen_store_len, const uint8_t *cache_store,
+                           size_t cache_store_len, const uint8_t *id, size_t id_len, const uint8_t *topic, size_t topic_len, size_t windows,
+                           uint64_t values[PRADULINS_VALUES]);
+
+#define PRADULINS_OFFER_LISTED 0        /* it is in the advertisement */
+#define PRADULINS_OFFER_NOT_CACHED 1    /* no message with that id is in the cache */
+#define PRADULINS_OFFER_WITHOUT_TOPIC 2 /* its message is in the cache, without that topic */
+#define PRADULINS_OFFER_OLDER_WINDOW 3  /* its message is in the cache with that topic, in a window that the newest `windows` do not reach */
 
 /*
  * Writes to `out` a body that requests what `body` offers and the node has not seen: one IWANT, each id once.

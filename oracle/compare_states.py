@@ -23,7 +23,7 @@ import states
 from compare_wire import arguments
 from differences import Model, first_difference, line_at, printed_by, sort_of
 from records import header
-from state_histories import STATE
+from state_histories import STATE, cut_why
 from states import MAX_CONTENT, record, records
 from traces import beat
 
@@ -38,7 +38,7 @@ def answered(words):
         return words[1] + (" nothing" if words[2] == "0" else " bytes")
     if words[1] == "serve":
         return words[1] + (" nothing" if words[2] == "0" else " bytes" if words[-1] == "0" else " some left")
-    return words[1] if words[1] == "state" else " ".join(words[1:3])
+    return words[1] if words[1] == "state" else " ".join(words[1:3])  # of `why` in a window, without its age
 
 
 def what(line):
@@ -91,11 +91,15 @@ def endings():
         yield "too long, %d bytes of the header" % n, begun + header(most + 1, 11)[:n], ok + "long\n"
     yield "the longest content", begun + header(most, 11) + bytes(most) + begun, ok + "2 state 0 0 0 0 0 0 0 0 0\n3 set ok\n"
     yield "the longest content, cut", begun + header(most, 11) + bytes(most - 1), ok + "bad\n"
-    for kind in (0, 12, 13, 255, 256, 257, 0x0b00, 65535):
+    for kind in (0, 13, 14, 255, 256, 257, 0x0b00, 65535):
         for n in (0, 14):
             yield "kind %d with %d bytes" % (kind, n), begun + header(n, kind) + bytes(n) + begun, ok + "bad\n"
-    for call, (kind, sizes, rest) in states.FORM.items():
-        least = sum(sizes)
+    for size, rest in ((1, 0), (3, 2), (256, 255), (65535, 300)):
+        yield "why of an id of %d bytes in %d" % (size, rest), begun + cut_why(size, rest) + begun, ok + "bad\n"
+    yield "why of the longest id and topic", begun + records([("why", 0, bytes(65535), b"t"), ("why", 0, b"", b"t" * (most - 4)), ("why", 0, b"", b"")]), \
+        ok + "2 why missing\n3 why refused 29 65596\n4 why missing\n"
+    for call, (kind, _, rest) in states.FORM.items():
+        least = states.RECORDS.least(call)
         for n in range(least):
             yield "%s with %d bytes" % (call, n), begun + header(n, kind) + bytes(n) + begun, ok + "bad\n"
         for n in (least + 1, least + 2, least + 256) if not rest else ():

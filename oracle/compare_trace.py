@@ -34,24 +34,26 @@ SHOWN_BYTES = 400
 
 
 def what(line):
-    return sort_of(line, lambda words: words[1] + " " + (words[2] if words[1] in ("set", "admit", "beat") else "nothing" if words[2] == "0" else "bytes"))
+    return sort_of(line, lambda words: words[1] + " " + ("nothing" if words[2] == "0" else "bytes" if words[2].isdigit() else words[2]))
 
 
 def shown(step):
     """A step as a line for tools/trace; of bytes the first ones."""
-    def word(one):
+    def word(n, one):
         if not isinstance(one, bytes):
             return str(one)
-        return ("=" if step[0] == "advertise" else "") + one[:SHOWN_BYTES].hex() \
+        if n == len(step) - 2:  # the id of a `why`
+            return one.hex() or "-"
+        return ("=" if step[0] in ("advertise", "why") else "") + one[:SHOWN_BYTES].hex() \
             + (" # and more, %d bytes" % len(one) if len(one) > SHOWN_BYTES else "")
 
-    return " ".join(map(word, step))
+    return " ".join(word(*one) for one in enumerate(step))
 
 
-def play(binary, histories, folder, counts, differ):
-    """Many histories in one run; of each the first difference, as (steps to it, expected, printed)."""
-    data = b"".join(map(nodes.records, histories))
-    told = nodes.expected(data)
+def play(binary, histories, folder, counts, differ, model=nodes):
+    """Many histories in one run; of each the first difference, as (steps to it, expected, printed). Gives the lines printed."""
+    data = b"".join(map(model.records, histories))
+    told = model.expected(data)
     counts.update(map(what, told))
     printed = run(binary, [data], folder)
     at = 0
@@ -61,10 +63,11 @@ def play(binary, histories, folder, counts, differ):
             got = line_at(printed, at + n)
             differ.append((steps[:n + 1], told[at + n], got))
             if not got.startswith("%d " % (at + n + 1)):
-                return  # the lines after it belong to other records
+                return printed  # the lines after it belong to other records
         at += len(steps)
     if printed[at:] != [""]:
         differ.append(("after the last record", "", line_at(printed, at)))
+    return printed
 
 
 def play_ending(binary, name, data, told, counts, differ):

@@ -6,10 +6,10 @@
 The input meets every refusal that the program can show (10 once, by ask), breaks every clause of
 42 alone, and has states that look odd and are well formed, stores of other lengths, buffers
 that just fit and just do not, full capacities, arrival numbers at the wrap, rows that left and come
-back, maxima of 0, and messages with topics of every sort (state_histories.py). A reply about 65,536 bytes would be too long for it:
-compare_states.py has those. The answers in stdout are the model's (states.py), never the
-program's; `rt check` holds the program to them. With BINARY, target/bin/states, they are compared
-at once.
+back, maxima of 0, messages with topics of every sort, and each answer of `why` (state_histories.py).
+A reply about 65,536 bytes would be too long for it: compare_states.py has those. The answers in
+stdout are the model's (states.py), never the program's; `rt check` holds the program to them. With
+BINARY, target/bin/states, they are compared at once.
 """
 
 import collections
@@ -48,6 +48,8 @@ def histories():
     yield from state_histories.odd_histories(True, state_histories.ODD_FINDERS[3:])
     yield from state_histories.kept_histories(few=True)
     yield from list(state_histories.reuse_histories())[3:13:3]
+    # Why an id is not told of.
+    yield state_histories.why_in_few_bytes()
 
 
 def main():

@@ -195,8 +195,13 @@ class Node:
         while len(self.seen) > self.max_seen:
             self.seen.pop(0)
 
+    def entry(self, name):
+        """What is cached under an id, or None."""
+        return next((one for one in self.cache if one[0] == name), None)
+
     def cached(self, name):
-        return next((raw for one, raw, _, _ in self.cache if one == name), None)
+        found = self.entry(name)
+        return found and found[1]
 
     def put(self, name, raw, topics):
         if self.cached(name) is None:
@@ -246,6 +251,18 @@ class Node:
             return b""
         return fitted(tagged(3, tagged(1, tagged(1, topic) + b"".join(tagged(2, name) for name in names))))
 
+    def explain(self, windows, name, topic):
+        """Why an id is not in the advertisement of a topic, or that it is. Where topic and window both rule it out, the topic is told."""
+        if len(topic) > MAX_TOPIC:
+            raise Refused(29, len(topic))
+        found = self.entry(name)
+        if found is None:
+            return "missing"
+        _, _, topics, age = found
+        if topic not in topics:
+            return "topic"
+        return "listed" if age < windows else "window %d" % age
+
     def ask(self, body):
         names = [name for name in once(Body(body).have) if not self.is_seen(name)]
         return fitted(tagged(3, tagged(2, b"".join(tagged(1, name) for name in names)))) if names else b""
@@ -279,6 +296,8 @@ def shown(out):
 class Run:
     """The node of a run. Before settings are accepted there is none. `make` makes a node of its settings."""
 
+    records = RECORDS
+
     def __init__(self, steps=(), make=Node):
         self.node, self.make = None, make
         for step in steps:
@@ -290,6 +309,10 @@ class Run:
             return self.played(*step)
         except Refused as why:
             return "refused %d" % why.number
+
+    def ends_at(self, step):
+        """Whether a step ends the run, by `bad`."""
+        return (step[0] == "admit" and step[3] > 1) or (step[0] != "set" and self.node is None)
 
     def played(self, call, *given):
         if call == "set":
@@ -314,20 +337,20 @@ def made(answer):
     return bytes.fromhex(words[1]) if words[0] != "0" else b""
 
 
-def played(data, make=Node):
+def played(data, make=Node, begun=Run):
     """The steps of an input, each with its answer, and the line that ends it: "", "bad" or "long"."""
-    run, got = Run(make=make), []
-    for step in RECORDS.steps(data):
+    run, got = begun(make=make), []
+    for step in run.records.steps(data):
         if isinstance(step, str):
             return got, step
-        if (step[0] == "admit" and step[3] > 1) or (step[0] != "set" and run.node is None):
+        if run.ends_at(step):
             return got, "bad"
         got.append((step, run.answer(step)))
     return got, ""
 
 
-def expected(data, make=Node):
+def expected(data, make=Node, begun=Run):
     """The lines for an input."""
-    got, end = played(data, make)
+    got, end = played(data, make, begun)
     lines = ["%d %s %s" % (n, step[0], answer) for n, (step, answer) in enumerate(got, 1)]
     return lines + [end] if end else lines

@@ -1,4 +1,4 @@
-"""The records of the programs, for caches.py, nodes.py and states.py.
+"""The records of the programs, for caches.py, nodes.py, states.py and whys.py.
 
 A record is its content's length, its kind and its content, little-endian. A step is a
 call, its numbers and then its bytes.
@@ -10,19 +10,25 @@ def header(length, kind):
 
 
 class Records:
-    """The records of one program. `form` has of each call its kind, how many bytes its numbers have, and whether bytes follow them; content above
-    `most` bytes ends a run."""
+    """The records of one program. `form` has of each call its kind, how many bytes its numbers have, and whether bytes follow them: True, or 2 for two
+    strings of bytes, of which the first has its length before it, in 2 bytes. Content above `most` bytes ends a run; `more` has kinds with another most."""
 
-    def __init__(self, form, most):
-        self.form, self.most = form, most
+    def __init__(self, form, most, more=None):
+        self.form, self.most, self.more = form, most, more or {}
         self.calls = {kind: call for call, (kind, _, _) in form.items()}
 
     def record(self, step):
         kind, sizes, rest = self.form[step[0]]
         assert len(step) == 1 + len(sizes) + rest, step[0]
-        content = b"".join(n.to_bytes(size, "little") for n, size in zip(step[1:], sizes)) + (step[-1] if rest else b"")
-        assert len(content) <= self.most, step[0]
+        content = b"".join(n.to_bytes(size, "little") for n, size in zip(step[1:], sizes))
+        content += (len(step[-2]).to_bytes(2, "little") + step[-2] if rest == 2 else b"") + (step[-1] if rest else b"")
+        assert len(content) <= self.more.get(kind, self.most), step[0]
         return header(len(content), kind) + content
+
+    def least(self, call):
+        """How many bytes the content of a call has at least."""
+        _, sizes, rest = self.form[call]
+        return sum(sizes) + (2 if rest == 2 else 0)
 
     def records(self, steps):
         return b"".join(map(self.record, steps))
@@ -31,21 +37,33 @@ class Records:
         """The step of a record, or None where its kind or its length is wrong."""
         if kind not in self.calls:
             return None
-        _, sizes, rest = self.form[self.calls[kind]]
-        if len(content) < sum(sizes) or (len(content) > sum(sizes) and not rest):
+        call = self.calls[kind]
+        _, sizes, rest = self.form[call]
+        if len(content) < self.least(call) or (len(content) > self.least(call) and not rest):
             return None
-        step, at = [self.calls[kind]], 0
+        step, at = [call], 0
         for size in sizes:
             step.append(int.from_bytes(content[at:at + size], "little"))
             at += size
+        if rest == 2:
+            start = at + 2
+            at = start + int.from_bytes(content[at:start], "little")
+            if at > len(content):
+                return None
+            step.append(content[start:at])
         return tuple(step + [content[at:]] if rest else step)
+
+    def too_long(self, head):
+        """Whether a header, or the start of one, says more than a record may have. The kind counts where it is there."""
+        size, kind = int.from_bytes(head[:4], "little"), int.from_bytes(head[4:6], "little")
+        return len(head) >= 4 and size > (self.more.get(kind, self.most) if len(head) >= 6 else max(self.most, *self.more.values(), 0))
 
     def steps(self, data):
         """The steps of an input, one after the other, and then the word that ends it: "", "bad" or "long"."""
         at = 0
         while at < len(data):
             size = int.from_bytes(data[at:at + 4], "little")
-            if len(data) - at >= 4 and size > self.most:
+            if self.too_long(data[at:at + 6]):
                 yield "long"
                 return
             step = self.step_of(int.from_bytes(data[at + 4:at + 6], "little"), data[at + 6:at + 6 + size]) if len(data) - at >= 6 + size else None

@@ -13,6 +13,7 @@ import traces
 from bodies import tagged
 from caches import REFUSED, TOPIC_MESSAGES, X, grown, padded, plain, topic_message, x_with
 from nodes import MAX_BODY, MAX_MESSAGE, MAX_TOPICS, ROOM, TOP
+from records import header
 from states import ARRIVAL, CACHE_BYTE, CACHE_BYTES, CLOCK, COUNT, EXPIRY, HISTORY_LEN, ID_LEN, IDS, LEN, MAX_HELD, MAX_ID, MAX_IDS, MAX_MADE, \
     NEXT, ROW, SEEN_BYTE, SEEN_BYTES, SEEN_COUNT, SEEN_LEN, SEEN_START, SLOTS, START, TOPIC_COUNT, TOPIC_LEN, TOPIC_START, TTL, WINDOW, Run, \
     taken, topic_places
@@ -42,6 +43,15 @@ def ask(*names, room=ROOM):
 
 def serve(*names, room=ROOM):
     return ("serve", room, wants(*names))
+
+
+def why(windows=65535, name=b"A\x03", topic=b"t"):
+    return ("why", windows, name, topic)
+
+
+def cut_why(size, rest):
+    """A record of kind 12 whose id is to have so many bytes, and has the rest."""
+    return header(4 + rest, 12) + b"\x01\x00" + size.to_bytes(2, "little") + bytes(rest)
 
 
 def filled(parts, size):
@@ -173,6 +183,7 @@ CALLS = [STATE, admit(20, named_message(9)), admit(20, named_message(4)), beat(2
 # Refused for themselves, too: what is tested first is told.
 POOR = [admit(1, named_message(4)), admit(20, b"\x80"), beat(1), advertise(9, b"t" * 1025), ("ask", 0, b"\x0b"), ("serve", 0, wants(b"A\x03") + b"\x00"),
         ("contains", bytes(130)), ("lookup", bytes(130))]
+WHYS = [why(), why(0), why(1), why(2), why(1, b"A\x04"), why(9, b"A\x01"), why(0, topic=b"u"), why(0, b""), why(9, bytes(129)), why(9, topic=b"t" * 1025)]
 
 
 # --- each clause of 42 ----------------------------------------------------------------------
@@ -304,7 +315,7 @@ def broken_histories():
     """Each clause broken alone: every call is refused and changes nothing; then it is healed."""
     for make, find in BROKEN_FINDERS:
         for clause, steps in find(make()):
-            yield harmed(make(), clause, steps, *CALLS, *POOR, STATE).add(*(FEW if make is empty else CALLS)).steps
+            yield harmed(make(), clause, steps, *CALLS, *POOR, *WHYS, STATE).add(*(FEW if make is empty else CALLS), *WHYS).steps
 
 
 def broken_once():
@@ -442,7 +453,7 @@ def odd_histories(few=False, finders=ODD_FINDERS):
                 continue
             play = make().add(*steps)
             assert play.run.broken() == [], (steps, play.run.broken())
-            yield play.add(*FEW, *(CALLS[1:] if not few else []), *more).steps
+            yield play.add(*FEW, *([*WHYS, *CALLS[1:]] if not few else []), *more).steps
 
 
 # --- where topics are kept -----------------------------------------------------------------------
@@ -483,7 +494,7 @@ def reuse_histories():
 def lent_histories(few=False):
     lengths = (0, 1, 128, 129, 387, 515, 516, 517, 516 + 128, 645, 256 * ROW, 257 * ROW, SEEN_BYTES - 1, SEEN_BYTES)
     sizes = (0, 1, 4096, 8192, 12287, 12288, 12289, 16384, 64 * 4096, CACHE_BYTES)
-    calls = CALLS[:-1]
+    calls = CALLS[:-1] + WHYS[-2:]
     if few:
         lengths, sizes, calls = (0, 387, 515, 517, 645, 257 * ROW), (0, 12287, 16384), [CALLS[2], beat(20), CALLS[5], *FEW]
     play = turned()
@@ -500,7 +511,7 @@ def lent_histories(few=False):
         back = healing(play.run, wrong)
         play.add(*wrong)
         for seen_len, cache_len in ((515, 12288), (517, 12288), (516, 12287), (516, 12288)):
-            play.add(("lend", seen_len, cache_len), *(CALLS[1:4] + FEW if few else CALLS + POOR))
+            play.add(("lend", seen_len, cache_len), *(CALLS[1:4] + FEW if few else CALLS + POOR + WHYS))
         play.add(*back)
     yield play.add(*POOR, STATE).steps
     # Maxima whose products do not fit a number.
@@ -661,6 +672,40 @@ def contains_histories():
                    hurt(EXPIRY, 0, 3), ("contains", b"\x01A\x04"), beat(20), STATE).steps  # alone, no expiry is looked at
 
 
+def why_histories():
+    """Every answer of `why`, on rings that have turned and that have not: each id, topic and number of windows; then 40, 41 and 42 before 29. Nothing is
+    changed."""
+    names, long = [b"A" + bytes([n]) for n in range(6)], b"t" * 1025
+    for make in (turned, straight, topical, empty):
+        play = make()
+        for topic in (b"t", b"u", b"", b"topi", b"topic", b"\xff", b"t" * 1024, long):
+            play.add(*[why(n, name, topic) for n in (0, 1, 2, 3, 4, 5, 65535) for name in names])
+        play.add(STATE, *[why(9, name) for name in (b"", b"A", b"\x01A\x03", b"A\x03\x00", b"\x03", bytes(128), bytes(129), bytes(1000))],
+                 why(9, b"", b"\xff"), why(9, b"", long), why(0, topic=b"\xff" * 1025), STATE)
+        lent = play.run.seen_len, play.run.cache_len
+        for other in ((lent[0] - 1, lent[1]), (lent[0] + 1, lent[1]), (lent[0], lent[1] - 1), (0, 0)):
+            play.add(("lend", *other), why(9), why(9, topic=long))
+        yield play.add(("lend", *lent), hurt(COUNT, 9), why(9), why(9, topic=long), STATE).steps
+    # The oldest age, and a message that leaves; an id that is cached and no longer seen, and one that is seen and no longer cached.
+    play = Play(("set", 10, 4, 16, 2), admit(1, named_message(3)))
+    for _ in range(16):
+        play.add(beat(1), *[why(n) for n in range(18)])
+    yield play.add(STATE, admit(1, named_message(3)), why(), admit(11, named_message(3)), why(), why(0), beat(11), why(1), why(2), STATE).steps
+
+
+def why_in_few_bytes():
+    """Each answer of `why` and each of its refusals, a few times."""
+    long = b"t" * 1025
+    play = turned().add(*[why(n, name) for n in range(4) for name in (b"A\x01", b"A\x02", b"A\x03", b"A\x04")], why(65535, b"A\x02"))
+    play.add(*[why(n, topic=topic) for n in (0, 2) for topic in (b"u", b"", b"tt", b"\xff")], why(9, topic=b"t" * 1024), why(9, topic=long), why(9, b"", long))
+    play.add(*[why(9, name) for name in (b"", b"A", b"\x01A\x03", b"A\x03\x00", bytes(128), bytes(129))], STATE)
+    for other in ((515, 12288), (517, 12288), (516, 12287)):
+        play.add(("lend", *other), why(9))
+    play.add(("lend", 515, 12288), why(9, topic=long), ("lend", 516, 12288), hurt(COUNT, 9), why(9), why(9, topic=long), hurt(COUNT, 3), STATE)
+    # A message leaves the cache; it is seen, and nothing of it is told.
+    return play.add(beat(20), why(2), beat(20), why(3), why(4), beat(20), why(65535), why(65535, b"A\x04"), admit(20, named_message(3)), STATE).steps
+
+
 def each_refusal():
     """Every refusal of a body, a message and a room, a few times, in few bytes; all but one of the bodies are short."""
     play = turned()
@@ -704,7 +749,7 @@ def refusal_histories():
 
 def named():
     for part in (refusal_histories, broken_histories, odd_histories, kept_histories, reuse_histories, lent_histories, buffer_histories, full_histories,
-                 wrap_histories, unused_histories, small_histories, contains_histories):
+                 wrap_histories, unused_histories, small_histories, contains_histories, why_histories):
         yield from part()
 
 
@@ -776,6 +821,11 @@ def some_lend(r, play):
     return ("lend", max(0, min(one, SEEN_BYTES)), max(0, min(other, CACHE_BYTES)))
 
 
+def some_why(r, pool, topics):
+    name = r.choice(traces.named_by(pool))
+    return why(r.choice(traces.WINDOWS), name if r.randrange(4) else traces.near(r, name), traces.some_topic(r, topics))
+
+
 def some_alone(r, pool, marks=(b"", b"\x01", b"\x01", b"\x01", b"\x00")):
     name = r.choice(traces.named_by(pool))
     if r.randrange(4) == 0:
@@ -806,12 +856,14 @@ def some_topics(r, play):
     """Messages with topics of every sort, and what is told of some topics."""
     raws = [topic_message(r, r.choice(((b"a", b"b"), (b"ab", b"c"), (b"t", b"\x22\x01")))) for _ in range(r.choice((1, 2, 3)))]
     topics = [b"", b"t"] + [raw[start:start + size] for raw in raws if taken(raw) for start, size in topic_places(raw)]
-    return [admit(play.run.clock, tagged(2, raw)) for raw in raws] + [advertise(topic=topic) for topic in r.sample(topics, 2)]
+    return [admit(play.run.clock, tagged(2, raw)) for raw in raws] + [advertise(topic=topic) for topic in r.sample(topics, 2)] \
+        + [why(r.randrange(2), name, topic) for name in (b"ab", b"abc", b"t\x22\x01") for topic in topics[-2:]]
 
 
 def history(r):
     """A random history of a trace with any rooms, in which numbers are set and other lengths are lent, with a look at the state now and then."""
-    steps = traces.history(r)
+    names, topics = caches.names(r), traces.some_topics(r)
+    steps = traces.some_calls(r, names, topics)
     settings = list(steps[0])
     settings[4] = r.choice((settings[4], settings[4], 16, 63, 64))
     pool = [(who[:1], who[1:2]) for who in (b"ab", b"abc")] + caches.names(r)
@@ -819,7 +871,7 @@ def history(r):
 
     def calls(n):
         got = r.sample(steps[1:], min(n, len(steps) - 1)) + ([some_alone(r, pool)] if r.randrange(3) == 0 else [])
-        return [wide(step) for step in got if step[0] != "set"]
+        return [wide(step) for step in got if step[0] != "set"] + [some_why(r, names, topics)]
 
     for step in steps[1:]:
         play.add(some_room(r, play, step) if step[0] in ROOMED else step)
@@ -832,6 +884,8 @@ def history(r):
             harm(r, play, calls)
         elif how == 3:
             play.add(*some_topics(r, play))
+        elif how < 8:
+            play.add(some_why(r, names, topics))
     return play.add(STATE).steps
 
 

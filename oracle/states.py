@@ -11,12 +11,15 @@ table of their places says.
 A step is a call, its numbers and then its bytes: ("set", ttl, max_seen, history_len,
 max_messages), ("admit", now, index, verified, body), ("beat", now), ("advertise", room,
 windows, topic), ("ask", room, body), ("serve", room, body), ("lend", seen length, cache
-length), ("hurt", what, place, value), ("contains", id), ("lookup", id), ("state", b"").
-`expected` takes an input as bytes and gives the lines of the run.
+length), ("hurt", what, place, value), ("contains", id), ("lookup", id), ("state", b""),
+("why", windows, id, topic). `expected` takes an input as bytes and gives the lines of the run.
+`node_bytes` and `from_bytes` are a node as the bytes that hosts keep, after
+crates/stored/specs/Layout.antt.
 """
 
 import functools
 import itertools
+import struct
 
 import nodes
 from nodes import MAX_HISTORY, MAX_MESSAGE, MAX_MESSAGES, MAX_NAME, MAX_SEEN, MAX_TOPICS, ROOM, TOP, Refused, shown
@@ -34,7 +37,7 @@ CACHE_BYTES = 65 * MAX_MESSAGE
 # Of each call: its kind, how many bytes its numbers have, and whether bytes follow them.
 FORM = {"set": (1, (8, 2, 2, 2), False), "admit": (2, (8, 2, 1), True), "beat": (3, (8,), False), "advertise": (4, (4, 2), True),
         "ask": (5, (4,), True), "serve": (6, (4,), True), "lend": (7, (4, 4), False), "hurt": (8, (1, 4, 8), False), "contains": (9, (), True),
-        "lookup": (10, (), True), "state": (11, (), True)}
+        "lookup": (10, (), True), "state": (11, (), True), "why": (12, (2,), 2)}
 RECORDS = Records(FORM, MAX_CONTENT)
 record, records = RECORDS.record, RECORDS.records
 
@@ -46,7 +49,7 @@ TTL, MAX_IDS, CLOCK, SEEN_START, SEEN_COUNT, EXPIRY, SEEN_LEN, HISTORY_LEN, MAX_
 LENT = {40, 41, 42}
 BODY = set(range(1, 8)) | {10, 11}
 REFUSALS = {"set": {40}, "admit": LENT | BODY | set(range(20, 32)), "beat": LENT | {31}, "advertise": LENT | {29, 12}, "ask": LENT | BODY | {12},
-            "serve": LENT | BODY | {12}, "contains": {41, 42, 33}, "lookup": {41, 42}}
+            "serve": LENT | BODY | {12}, "contains": {41, 42, 33}, "lookup": {41, 42}, "why": LENT | {29}}
 
 # The clauses of 42, in the order of the sentence.
 CLAUSES = ["seen start", "seen count", "seen length", "start", "count", "message length", "id length", "max_seen", "history_len 0",
@@ -329,6 +332,9 @@ class Run:
         reply, written, left = self.lent().serve(body, min(room, ROOM))
         return "%s %d %d" % (self.write(reply, room), written, left)
 
+    def why(self, windows, name, topic):
+        return self.lent().explain(windows, name, topic)
+
     def lend(self, seen_len, cache_len):
         self.seen_len, self.cache_len = seen_len, cache_len
         return "ok"
@@ -379,6 +385,48 @@ class Run:
         return "%d %d %d %d %d %d %d %d %d" % (
             self.clock, self.seen.start, self.seen.count, self.cache.start, self.cache.count, self.cache.next,
             total(self.seen_store[:self.seen_len]), total(self.cache_store[:self.cache_len]), total(self.made))
+
+
+# --- a node as bytes -------------------------------------------------------------
+
+# Ten numbers; expiries, arrival numbers; lengths of messages; lengths of seen ids, ages, lengths of cached ids; these ids; counts of topics, their
+# starts, their lengths.
+LAYOUT = struct.Struct("<10Q 256Q 64Q 64H 256B 64B 64B 8192s 64B 256H 256H")
+NODE_SIZE = 12432
+assert LAYOUT.size == NODE_SIZE
+
+
+def node_bytes(run):
+    seen, cache = run.seen, run.cache
+    return LAYOUT.pack(run.ttl, run.max_seen, run.clock, seen.start, seen.count, cache.history_len, cache.max_messages, cache.next, cache.start,
+                       cache.count, *seen.expiry, *cache.arrival, *cache.len, *seen.len, *cache.window, *cache.id_len, bytes(cache.ids),
+                       *cache.topic_count, *cache.topic_start, *cache.topic_len)
+
+
+def gateway_bytes(run):
+    """A node with the stores that it is lent, one after the other."""
+    return node_bytes(run) + bytes(run.seen_store[:run.seen_len] + run.cache_store[:run.cache_len])
+
+
+def from_bytes(data):
+    """The run of a node and its stores that stand one after the other; 41 where the stores are not as long as the node's maxima say."""
+    run, numbers = Run(), iter(LAYOUT.unpack(data[:NODE_SIZE]))
+    seen, cache = run.seen, run.cache
+    run.ttl, run.max_seen, run.clock, seen.start, seen.count, cache.history_len, cache.max_messages, cache.next, cache.start, cache.count = \
+        itertools.islice(numbers, 10)
+
+    def some(count):
+        return list(itertools.islice(numbers, count))
+    seen.expiry, cache.arrival, cache.len = some(MAX_SEEN), some(MAX_MESSAGES), some(MAX_MESSAGES)
+    seen.len, cache.window, cache.id_len = some(MAX_SEEN), some(MAX_MESSAGES), some(MAX_MESSAGES)
+    cache.ids = bytearray(next(numbers))
+    cache.topic_count, cache.topic_start, cache.topic_len = some(MAX_MESSAGES), some(SLOTS), some(SLOTS)
+    run.seen_len, run.cache_len = run.max_seen * ROW, cache.max_messages * MAX_MESSAGE
+    stores = data[NODE_SIZE:]
+    if len(stores) != run.seen_len + run.cache_len:
+        raise Refused(41)
+    run.seen_store, run.cache_store = bytearray(stores[:run.seen_len]), bytearray(stores[run.seen_len:])
+    return run
 
 
 # --- the lines -----------------------------------------------------------------

@@ -182,7 +182,12 @@ def some_topics(r):
 
 
 def history(r):
-    pool, topics, clock = caches.names(r), some_topics(r), readings(r)
+    return some_calls(r, caches.names(r), some_topics(r))
+
+
+def some_calls(r, pool, topics):
+    """A history of messages with these ids and topics."""
+    clock = readings(r)
     steps, admits = [some_settings(r)], []
     for _ in range(r.randrange(6, 40)):
         now, how = next(clock), r.randrange(100)

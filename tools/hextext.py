@@ -1,4 +1,4 @@
-"""Bytes as people write them: hex words, HEX*TIMES, $NAME, @FILE. For tools/trace and tools/inspect."""
+"""Bytes as people write them: hex words, HEX*TIMES, $NAME, @FILE; topics as text. For tools/trace, tools/inspect and tools/why."""
 
 import os
 import re
@@ -27,7 +27,10 @@ def no_file(name, folder=""):
     return "no file '%s'%s" % (name, "" if os.path.isabs(name) else " in %s" % (folder or "this folder"))
 
 
-def file_bytes(name, folder, wanted="@FILE with a path from the trace's folder"):
+BESIDE = "@FILE with a path from the trace's folder"
+
+
+def file_bytes(name, folder, wanted=BESIDE):
     try:
         with open(os.path.join(folder, name), "rb") as file:
             data = file.read(MOST_BYTES + 1)
@@ -79,10 +82,17 @@ def joined(words, names):
     return bytes(out)
 
 
-def body_bytes(text, folder, names):
+def body_bytes(text, folder, names, wanted=BESIDE):
     """A body as a line of a trace has it: nothing or -, @FILE, or words."""
     if text in ("", "-"):
         return b""
     if text.startswith("@"):
-        return file_bytes(text[1:], folder)
+        return file_bytes(text[1:], folder, wanted)
     return joined(((word, "") for word in text.split()), names)
+
+
+def topic_bytes(text, folder, names, wanted=BESIDE):
+    """A topic: text as it stands, nothing or -, @FILE, or =BODY."""
+    if text.startswith("="):
+        return body_bytes(text[1:].strip(), folder, names, wanted)
+    return text.encode() if text != "-" and not text.startswith("@") else body_bytes(text, folder, names, wanted)

@@ -1,7 +1,9 @@
-"""What each refusal means, and the line that tells one. For tools/trace and tools/inspect.
+"""What each refusal means, and the line that tells one; and what `why` answers. For tools/trace, tools/inspect and tools/why.
 
 The words are those of `pradulins_refusal_text` in include/pradulins.h; tools/docs tests that they agree. No call of the C interface gives 33.
 """
+
+import re
 
 WORDS = {
     1: "a varint is cut short",
@@ -78,3 +80,15 @@ def beside(number, values, size):
 def told(number, values=(), size=None):
     """The line of a refusal: its number, what it means, and what the numbers beside it say."""
     return ": ".join(filter(None, ("refused %d" % number, WORDS.get(number, ""), beside(number, values, size))))
+
+
+# What the program `why` says of an id, in words; in an older window its age follows.
+WHY = {"listed": "listed", "missing": "not in the cache", "topic": "in the cache, without that topic", "window": "in the cache, in a window of age"}
+
+
+def told_why(answer):
+    """The words of an answer of `why` that is no refusal; None where it is none that the program gives."""
+    found = re.fullmatch("(listed|missing|topic)|(window) ([0-9]{1,3})", answer)
+    if not found:
+        return None
+    return WHY[found[1]] if found[1] else "%s %d" % (WHY["window"], int(found[3]))

@@ -271,10 +271,6 @@ class Lines(unittest.TestCase):
         self.assertEqual(HOST.may_skip("inspect", b"\xff\xff\xff\xff\x06\0"), {"1"})
         self.assertEqual(HOST.may_skip("inspect", b"\xff"), set())
 
-    def test_checksum(self):
-        self.assertEqual(HOST.checksum(b"123456789"), 0x995dc9bbdf1939fa)
-        self.assertEqual(len(HOST.sealed(b"")), 36)
-
 
 # A writer that does as its name says, and what loads its file.
 WRITER = """

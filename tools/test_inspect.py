@@ -11,13 +11,13 @@ import random
 import re
 import subprocess
 import sys
-import tempfile
 import unittest
 from unittest import mock
 
 HERE = os.path.dirname(os.path.abspath(__file__))
 sys.dont_write_bytecode = True
 sys.path.insert(0, HERE)
+import cases  # noqa: E402
 import scripts  # noqa: E402
 
 TOP = os.path.dirname(HERE)
@@ -48,18 +48,7 @@ def field(number, data):
     return bytes([8 * number + 2]) + out + bytes([size]) + data
 
 
-class Case(unittest.TestCase):
-    def setUp(self):
-        kept = tempfile.TemporaryDirectory()
-        self.addCleanup(kept.cleanup)
-        self.folder = kept.name
-
-    def file(self, name, text):
-        path = os.path.join(self.folder, name)
-        with open(path, "wb") as file:
-            file.write(text if isinstance(text, bytes) else text.encode())
-        return path
-
+class Case(cases.Case):
     def call(self, *words, given=b""):
         """(status, standard output, standard error)."""
         out, err = io.TextIOWrapper(io.BytesIO(), "utf-8"), io.StringIO()

@@ -19,7 +19,7 @@ import sources  # noqa: E402
 
 RUST = ("compare_wire", "compare_decode", "compare_write", "compare_caches")
 PROGRAM = {"compare_wire": "inspect", "compare_decode": "inspect", "compare_write": "inspect", "compare_caches": "caches", "compare_trace": "trace",
-           "compare_states": "states", "make_states": "states"}
+           "compare_states": "states", "make_states": "states", "compare_why": "why", "make_why": "why"}
 
 
 class Case(unittest.TestCase):

@@ -1,5 +1,5 @@
 #!/usr/bin/env python3
-"""Tests of tools/trace. They need no program: where one is run, it is a stub, or the model of oracle/nodes.py.
+"""Tests of tools/trace. They need no program: where one is run, it is a stub, or the model of oracle/nodes.py or oracle/whys.py.
 
     python3 tools/test_trace.py
 """
@@ -11,13 +11,13 @@ import re
 import stat
 import subprocess
 import sys
-import tempfile
 import unittest
 from unittest import mock
 
 HERE = os.path.dirname(os.path.abspath(__file__))
 sys.dont_write_bytecode = True
 sys.path.insert(0, HERE)
+import cases  # noqa: E402
 import scripts  # noqa: E402
 
 TOP = os.path.dirname(HERE)
@@ -29,8 +29,8 @@ MODEL = """\
 import sys
 sys.dont_write_bytecode = True
 sys.path.insert(0, %r)
-import nodes
-for line in nodes.expected(sys.stdin.buffer.read()):
+import nodes as model
+for line in model.expected(sys.stdin.buffer.read()):
     print(line)
 """ % os.path.join(TOP, "oracle")
 
@@ -42,23 +42,10 @@ def record(kind, content):
     return len(content).to_bytes(4, "little") + kind.to_bytes(2, "little") + content
 
 
-class Case(unittest.TestCase):
+class Case(cases.Case):
     def setUp(self):
-        kept = tempfile.TemporaryDirectory()
-        self.addCleanup(kept.cleanup)
-        self.folder = kept.name
+        super().setUp()
         self.model = self.program("model", MODEL)
-
-    def file(self, name, text):
-        path = os.path.join(self.folder, name)
-        with open(path, "wb") as file:
-            file.write(text if isinstance(text, bytes) else text.encode())
-        return path
-
-    def program(self, name, text, by=sys.executable):
-        path = self.file(name, "#!%s\n%s" % (by, text))
-        os.chmod(path, 0o755)
-        return path
 
     def prints(self, text, more=""):
         """A program that prints a text."""
@@ -107,6 +94,11 @@ class Records(Case):
                 ("advertise 1 t", 4, n2(1) + b"t"),
                 ("ask 1a00", 5, b"\x1a\x00"),
                 ("serve 1a 00", 6, b"\x1a\x00"),
+                ("why 1 4101 t", 12, n2(1) + n2(2) + b"A\x01t"),
+                ("why 65535 - -", 12, n2(65535) + n2(0)),
+                ("why 0 00*300 two words", 12, n2(0) + n2(300) + bytes(300) + b"two words"),
+                ("why 2 41", 12, n2(2) + n2(1) + b"A"),
+                ("why 2 41 =00ff", 12, n2(2) + n2(1) + b"A\x00\xff"),
                 ("raw 9 0102", 9, b"\x01\x02"),
                 ("raw 65535", 65535, b"")):
             self.assertEqual(self.records(text), record(kind, content), text)
@@ -139,6 +131,11 @@ class Records(Case):
         text = "let a 01\nlet b2_ $a 02 $a\nask $b2_\nlet a 03*2\nask $a $b2_\nlet e\nask $e"
         self.assertEqual(self.records(text), record(5, b"\x01\x02\x01") + record(5, b"\x03\x03\x01\x02\x01") + record(5, b""))
 
+    def test_ids(self):
+        self.file("id", b"\xff\xfe")
+        for text, name in (("4101", b"A\x01"), ("$ID", b"A\x02"), ("41*3", b"AAA"), ("@id", b"\xff\xfe"), ("-", b"")):
+            self.assertEqual(self.records("let ID 4102\nwhy 7 %s t" % text), record(12, b"\x07\x00" + len(name).to_bytes(2, "little") + name + b"t"), text)
+
     def test_topics(self):
         self.file("topic", b"\xff\xfe")
         for text, topic in (
@@ -165,7 +162,7 @@ class Records(Case):
 
 # Of each mistake: the line, and parts of what is said of it.
 MISTAKES = [
-    ("amit 100 0 1", "unknown call 'amit'", "expected one of set, admit, beat, advertise, ask, serve"),
+    ("amit 100 0 1", "unknown call 'amit'", "expected one of set, admit, beat, advertise, ask, serve, why"),
     ("SET 1 2 3 4", "unknown call 'SET'"),
     ("set", "set has nothing after it", "expected set TTL MAX_SEEN HISTORY_LEN MAX_MESSAGES"),
     ("set 1 2 3", "set has 3 words after it"),
@@ -174,6 +171,15 @@ MISTAKES = [
     ("beat 1 2", "beat has 2 words after it"),
     ("admit 1 2", "expected admit NOW INDEX VERIFIED BODY"),
     ("advertise", "expected advertise WINDOWS TOPIC"),
+    ("why", "why has nothing after it", "expected why WINDOWS ID TOPIC"),
+    ("why 1", "why has 1 word after it"),
+    ("why 65536 41 t", "WINDOWS is '65536'"),
+    ("why 1 4 t", "'4' has an odd number of hex digits"),
+    ("why 1 A t", "'A' has an odd number"),
+    ("why 1 t t", "'t' is no hex"),
+    ("why 1 $none t", "no name '$none'"),
+    ("why 1 00*65536 t", "the id has 65536 bytes: expected at most 65535"),
+    ("why 1 41 =f", "'f' has an odd number"),
     ("raw", "expected raw KIND BODY"),
     ("let", "expected let NAME BODY"),
     ("set 18446744073709551616 1 1 1", "TTL is '18446744073709551616': expected a number from 0 to 18446744073709551615"),
@@ -317,6 +323,41 @@ class Playing(Case):
                 names[name] = TRACE.body_bytes(line.rest, "", names)
                 if name in ("OFFER", "REQUEST", "REPLY"):
                     self.assertIn(names[name].hex(), told)
+
+    def test_why(self):
+        """The example, each answer beside what its text says."""
+        path = os.path.join(TOP, "examples", "why.trace")
+        asks = self.program("asks", MODEL.replace("nodes", "whys"))
+        status, out, err = self.call("--program", asks, path)
+        self.assertEqual((status, err), (0, ""))
+        told = [re.split("   +", line.strip())[-1] for line in out.decode().split("\n") if re.match(" *[0-9]+  why", line)]
+        self.assertEqual(told, [
+            "listed", "not in the cache", "in the cache, without that topic", "in the cache, without that topic", "not in the cache",
+            "in the cache, in a window of age 1", "listed", "in the cache, in a window of age 0", "in the cache, without that topic",
+            "listed", "listed", "not in the cache", "listed", "refused 29: a topic has above 1,024 bytes"])
+        # What is advertised just before is listed, and nothing else is.
+        names = {"$IDX": "4101", "$IDY": "4102"}
+        for line in out.decode().split("\n"):
+            if " advertise " in line:
+                offered, asked = line.split()[-1], line.split()[2:4]
+            found = re.match(r" *[0-9]+  why (\S+) (\S+) (\S+)  +(\S.*)", line)
+            if found and list(found.groups()[:1] + found.groups()[2:3]) == asked:
+                self.assertEqual(found[4] == "listed", names.get(found[2], "none") in offered, line)
+
+    def test_which_program(self):
+        for text, name in (("set 1 1 1 1\nbeat 5", "trace"), ("# why\nbeat 5", "trace"), ("raw 12 00", "trace"), ("let why 00", "trace"),
+                           ("beat 5\nwhy 1 41 t", "why"), ("", "trace")):
+            lines, mistakes, _ = TRACE.parse(text.encode(), "")
+            self.assertEqual((TRACE.program_for(lines), mistakes), (name, []), text)
+            with mock.patch.object(TRACE, "command", side_effect=TRACE.Failure("none")) as command:
+                self.assertEqual(self.call(text=text)[0], 1)
+                self.call("--program", "/other", text=text)
+            here, given = (call.args for call in command.call_args_list)
+            self.assertEqual((here[0], here[2]), (os.path.join(TOP, "target", "bin", name), name))
+            self.assertEqual((given[0], given[2]), ("/other", name))
+        status, _, err = self.call("--program", os.path.join(self.folder, "none"), text="why 1 41 t")
+        self.assertEqual(status, 1)
+        self.assertIn("rt check why", err)
 
     def test_answers(self):
         status, out = self.play(
@@ -466,6 +507,8 @@ class Programs(Case):
             self.assertIn("none that a trace has", out)
         for text in ("1 ask 1", "1 ask 0 00", "1 ask", "1 ask x 00", "1 ask 1 00 0 0"):
             self.assertIn("none that a trace has", self.play("ask", program=self.prints(text))[1], text)
+        for text in ("1 why", "1 why ok", "1 why window", "1 why window x", "1 why window 1 2", "1 why listed 1", "1 why refused"):
+            self.assertIn("none that a trace has", self.play("why 1 41 t", program=self.prints(text))[1], text)
         for text in ("1 serve 0", "1 serve 0 0", "1 serve 1 0 0", "1 serve 0 00 0 0"):
             self.assertIn("none that a trace has", self.play("serve", program=self.prints(text))[1], text)
         for text in ("1 set ok\n2 beat ok", "1 set ok\nbad", "1 set ok\n"):

@@ -1,5 +1,5 @@
 /*
- * Plays the records of the programs `inspect`, `trace` and `states` through pradulins.h, and prints their lines: on the same input the same lines are
+ * Plays the records of the programs `inspect`, `trace`, `states` and `why` through pradulins.h, and prints their lines: on the same input the same lines are
  * expected. For what the interface does not have (kinds 6 and 7 of `inspect`, 9 and 10 of `states`) the line is the record's number and `-`. Beside that
  * it watches the memory of each call: a refused one changes none but `values`, one that succeeds writes only what it counts, and `values` gets as many
  * numbers as the header says. Each call on a body is made again with room that just suffices and with one byte or number less. Before each call on a
@@ -14,7 +14,7 @@
 #include "pradulins.h"
 
 /* The lengths of the programs' own buffers. */
-enum { CONTENT = 65600, SEEN = 33282, CACHE = 266240, MADE = 65600 };
+enum { CONTENT = 307600, SEEN = 33282, CACHE = 266240, MADE = 65600 };
 
 #define UNTOUCHED 0x5e5e5e5e5e5e5e5eu
 
@@ -26,6 +26,7 @@ static uint8_t made[MADE], made_before[MADE];
 static uint64_t table[PRADULINS_TABLE_WORDS], table_before[PRADULINS_TABLE_WORDS];
 static uint64_t values[PRADULINS_VALUES];
 static size_t seen_len, cache_len;
+static int started;
 static uint64_t n;
 static const char *fault;
 
@@ -121,18 +122,21 @@ static uint64_t number_at(const uint8_t *s, size_t at, size_t len)
 
 enum next { END, BAD, LONG, RECORD };
 
-static enum next next_record(size_t most, uint64_t *kind, size_t *len)
+/* A gateway, kind 13, may have more than the others, `largest`. */
+static enum next next_record(size_t most, size_t largest, uint64_t *kind, size_t *len)
 {
     uint8_t header[6];
     size_t got = fread(header, 1, sizeof header, stdin);
     if (got == 0)
         return END;
-    if (got >= 4 && number_at(header, 0, 4) > most)
+    if (got >= 4 && number_at(header, 0, 4) > largest)
         return LONG;
     if (got < sizeof header)
         return BAD;
     *len = number_at(header, 0, 4);
     *kind = number_at(header, 4, 2);
+    if (*kind != 13 && *len > most)
+        return LONG;
     return fread(content, 1, *len, stdin) == *len ? RECORD : BAD;
 }
 
@@ -312,7 +316,7 @@ static int inspect(uint64_t kind, size_t len)
 /* ---- trace and states */
 
 /* The settings of a record, for a node that keeps at most `most` messages. */
-static int set(size_t len, size_t most, int *started)
+static int set(size_t len, size_t most)
 {
     if (len != 14)
         return 0;
@@ -329,7 +333,7 @@ static int set(size_t len, size_t most, int *started)
         printf(" ok");
         seen_len = PRADULINS_SEEN_STORE_SIZE(max_seen);
         cache_len = PRADULINS_CACHE_STORE_SIZE(max_messages);
-        *started = 1;
+        started = 1;
     }
     putchar('\n');
     return 1;
@@ -432,11 +436,51 @@ static int write_call(uint64_t kind, size_t at, size_t len, size_t room, int ful
     return 1;
 }
 
+/* What the values of pradulins_explain say. */
+static void put_offer(void)
+{
+    switch (values[0]) {
+    case PRADULINS_OFFER_LISTED:
+        printf(" listed");
+        break;
+    case PRADULINS_OFFER_NOT_CACHED:
+        printf(" missing");
+        break;
+    case PRADULINS_OFFER_WITHOUT_TOPIC:
+        printf(" topic");
+        break;
+    case PRADULINS_OFFER_OLDER_WINDOW:
+        printf(" window");
+        put_number(values[1]);
+        break;
+    default:
+        expect(0, "an answer that is none of the four");
+    }
+}
+
+static int why(size_t len, int full)
+{
+    if (len < 4 || number_at(content, 2, 2) > len - 4)
+        return 0;
+    size_t id_len = number_at(content, 2, 2), windows = number_at(content, 0, 2);
+    uint32_t told = told_fault();
+    before();
+    uint32_t r = pradulins_explain(node, seen, seen_len, cache, cache_len, content + 4, id_len, content + 4 + id_len, len - 4 - id_len, windows, values);
+    after(r, values[0] == PRADULINS_OFFER_OLDER_WINDOW ? 2 : 1, 0, 0, 1);
+    expect_fault(told, r);
+    start_line("why");
+    if (r)
+        put_refused(r, full);
+    else
+        put_offer();
+    putchar('\n');
+    return 1;
+}
+
 static int trace(uint64_t kind, size_t len)
 {
-    static int started;
     if (kind == 1)
-        return set(len, 8, &started);
+        return set(len, 8);
     if (!started)
         return 0;
     switch (kind) {
@@ -451,6 +495,52 @@ static int trace(uint64_t kind, size_t len)
     default:
         return 0;
     }
+}
+
+/* Whether the stores behind a node in the content are as long as its maxima say. The maxima may be any numbers. */
+static int are_stores(size_t len)
+{
+    uint64_t max_seen = number_at(content, 8, 8), max_messages = number_at(content, 48, 8);
+    return max_seen <= CONTENT && max_messages <= CONTENT
+           && PRADULINS_SEEN_STORE_SIZE(max_seen) + PRADULINS_CACHE_STORE_SIZE(max_messages) == len - PRADULINS_NODE_SIZE;
+}
+
+/* Kind 13 of `why`: a node and its stores, which are tested where they stand. */
+static int gateway(size_t len)
+{
+    if (len < PRADULINS_NODE_SIZE)
+        return 0;
+    const uint8_t *ids = content + PRADULINS_NODE_SIZE;
+    uint32_t r = PRADULINS_BAD_STORE;
+    if (are_stores(len)) {
+        size_t ids_len = PRADULINS_SEEN_STORE_SIZE(number_at(content, 8, 8)), messages_len = len - PRADULINS_NODE_SIZE - ids_len;
+        before();
+        r = pradulins_state(content, ids, ids_len, ids + ids_len, messages_len, values);
+        after(r, 3, 0, 0, 1);
+        if (r == 0) {
+            memcpy(node, content, sizeof node);
+            memcpy(seen, ids, seen_len = ids_len);
+            memcpy(cache, ids + ids_len, cache_len = messages_len);
+            started = 1;
+        }
+    }
+    start_line("gateway");
+    if (r)
+        put_refused(r, 0);
+    else
+        printf(" ok");
+    putchar('\n');
+    return 1;
+}
+
+/* The program `why`: a trace, and two kinds more. */
+static int why_program(uint64_t kind, size_t len)
+{
+    if (kind == 13)
+        return gateway(len);
+    if (kind == 12)
+        return started && why(len, 0);
+    return trace(kind, len);
 }
 
 /* Sets a number of the node, of so many bytes. */
@@ -541,10 +631,9 @@ static int state(void)
 
 static int states(uint64_t kind, size_t len)
 {
-    int started;
     switch (kind) {
     case 1:
-        return set(len, 65535, &started);
+        return set(len, 65535);
     case 2:
         return admit(len, 1);
     case 3:
@@ -564,6 +653,8 @@ static int states(uint64_t kind, size_t len)
         return not_there();
     case 11:
         return state();
+    case 12:
+        return why(len, 1);
     default:
         return 0;
     }
@@ -571,14 +662,15 @@ static int states(uint64_t kind, size_t len)
 
 int play(const char *program)
 {
-    int (*call)(uint64_t, size_t) = strcmp(program, "inspect") == 0 ? inspect : strcmp(program, "trace") == 0 ? trace : states;
-    size_t most = call == trace ? 32768 : 65600;
+    int (*call)(uint64_t, size_t) = strcmp(program, "inspect") == 0 ? inspect : strcmp(program, "trace") == 0 ? trace
+                                    : strcmp(program, "why") == 0 ? why_program : states;
+    size_t most = call == trace || call == why_program ? 32768 : 65600, largest = call == why_program ? CONTENT : most;
     if (call == states)
         pradulins_start(node, 0, 0, 1, 0);
     for (n = 1;; n++) {
         uint64_t kind = 0;
         size_t len = 0;
-        enum next next = next_record(most, &kind, &len);
+        enum next next = next_record(most, largest, &kind, &len);
         if (next == LONG) {
             puts("long");
             break;

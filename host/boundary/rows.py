@@ -107,6 +107,15 @@ def calls(told):
     yield ("advertise", ROOM, 1, b"t"), "advertise refused " + told
     yield ("ask", ROOM, OFFER), "ask refused " + told
     yield ("serve", ROOM, REQUEST), "serve refused " + told
+    yield ("why", 1, b"A\x01", b"t"), "why refused " + told
+
+
+# Windows, id and topic, and what is said where X is in the newest window but one of two.
+QUESTIONS = ((2, b"A\x01", b"t", "listed"), (3, b"A\x01", b"t", "listed"), (65535, b"A\x01", b"t", "listed"), (1, b"A\x01", b"t", "window 1"),
+             (0, b"A\x01", b"t", "window 1"), (2, b"A\x01", b"u", "topic"), (0, b"A\x01", b"u", "topic"), (2, b"A\x01", b"", "topic"),
+             (2, b"A\x01", b"\xff", "topic"), (2, b"A\x01", b"t" * 1024, "topic"), (2, b"A\x02", b"t", "missing"), (2, b"", b"t", "missing"),
+             (2, b"A", b"t", "missing"), (2, b"\x01A\x01", b"t", "missing"), (2, bytes(128), b"t", "missing"), (2, bytes(129), b"t", "missing"),
+             (2, b"A\x02", b"\xff", "missing"), (2, b"A\x01", b"t" * 1025, "refused 29 1025"), (2, b"", b"\xff" * 1026, "refused 29 1026"))
 
 
 def steps():
@@ -125,7 +134,14 @@ def steps():
     yield ("ask", ROOM, OFFER), "ask 8 " + REQUEST.hex()
     yield ("admit", 1099, 0, 1, X), "admit refused 31 1100"
     yield ("beat", 1099), "beat refused 31 1100"
+    # Why it is not offered.
+    for windows, name, topic, told in QUESTIONS:
+        yield ("why", windows, name, topic), "why " + told
     yield ("admit", 1100, 0, 1, X), "admit new"
+    # New once more, it is still the cached one, in its old window.
+    yield ("why", 1, b"A\x01", b"t"), "why window 1"
+    yield ("beat", 1100), "beat ok"
+    yield ("why", 65535, b"A\x01", b"t"), "why missing"
     # Lent stores of other lengths, and a node that is not well formed.
     yield SETTINGS, "set ok"
     yield ("admit", 100, 0, 1, X), "admit new"

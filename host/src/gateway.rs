@@ -24,6 +24,22 @@ pub enum Admitted {
     Duplicate,
 }
 
+/// Whether a notice is offered, and why it is not: what [`Gateway::explain`] answers.
+#[derive(Clone, Copy, Debug, PartialEq, Eq, Hash)]
+pub enum Offer {
+    /// Its id is in the advertisement.
+    Listed,
+    /// No message with that id is in the cache: it never came, or it left by its age or by [`Settings::max_messages`].
+    NotCached,
+    /// Its message is in the cache, without that topic.
+    WithoutTopic,
+    /// Its message is in the cache with that topic, in a window that the newest windows asked for do not reach.
+    OlderWindow {
+        /// How many heartbeats ago the window was the newest: 0 is the newest itself. More windows than this would list it.
+        age: usize,
+    },
+}
+
 /// What a gateway serves.
 #[derive(Clone, Debug, PartialEq, Eq, Hash)]
 pub struct Reply {
@@ -125,6 +141,23 @@ impl Gateway {
         let mut values = [0; VALUES];
         answered(sys::advertise(&self.node, &self.seen, &self.cache, topic, windows, out, &mut values), &values)?;
         Ok(values[0] as usize)
+    }
+
+    /// Whether an id is in the advertisement of a topic ([`Gateway::advertise`] with the same `windows`), and why it is not. Where both the topic and the
+    /// window rule it out, the topic is told.
+    ///
+    /// The id is that of [`message_id`](crate::message_id), and may have any length. What was seen says nothing here: only messages in the cache are offered.
+    ///
+    /// Refused: [`Refusal::TopicTooLong`].
+    pub fn explain(&self, id: &[u8], topic: &[u8], windows: usize) -> Result<Offer, Refusal> {
+        let mut values = [0; VALUES];
+        answered(sys::explain(&self.node, &self.seen, &self.cache, id, topic, windows, &mut values), &values)?;
+        Ok(match values[0] {
+            0 => Offer::Listed,
+            1 => Offer::NotCached,
+            2 => Offer::WithoutTopic,
+            _ => Offer::OlderWindow { age: values[1] as usize },
+        })
     }
 
     /// A body that asks for what `body` offers and was not seen; empty where that is nothing.

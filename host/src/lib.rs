@@ -56,6 +56,9 @@
 //! # Ok::<(), pradulins::Refusal>(())
 //! ```
 //!
+//! Where somebody asks why a notice is not offered, [`Gateway::explain`] says it by the notice's id: that it is not in the cache, that it is there without
+//! the topic, or how old its window is ([`Offer`]). What a gateway that was saved would say, `tools/why` of the repository tells.
+//!
 //! # What the host does
 //!
 //! - Framing: how bodies are parted on the wire. The example in host/examples/catch_up has one way.
@@ -96,7 +99,7 @@
 //!
 //! The archive libpradulins.a is for x86-64 Linux. It is looked for where `rt staticlib pradulins` writes it in the repository that this crate stands
 //! in, or in the folder that the environment variable `PRADULINS_LIB_DIR` names (by its whole path: another counts from this crate's folder). Where
-//! there is none, or only one of version 0.1.0, or for another machine, the crate can be checked and those of its tests run that call nothing of it;
+//! there is none, or only one from before version 0.3.1, or for another machine, the crate can be checked and those of its tests run that call nothing of it;
 //! `tools/host` of the repository runs all tests and the example on Arm, too. An archive of another [`FORMAT`] is found when a gateway is started or
 //! loaded, which then panics.
 
@@ -109,7 +112,7 @@ mod sys;
 
 pub use body::{decode, message_id, messages, reencode, sign_bytes, walk, walk_from, Decoded, Field, Message, Record, Walk};
 pub use clock::Clock;
-pub use gateway::{Admitted, Gateway, Reply, Served, Settings};
+pub use gateway::{Admitted, Gateway, Offer, Reply, Served, Settings};
 pub use refusal::Refusal;
 pub use saved::{write_file, LoadError};
 

@@ -45,6 +45,19 @@ mod calls {
             out_len: usize,
             values: *mut u64,
         ) -> u32;
+        pub fn pradulins_explain(
+            node: *const u8,
+            seen_store: *const u8,
+            seen_store_len: usize,
+            cache_store: *const u8,
+            cache_store_len: usize,
+            id: *const u8,
+            id_len: usize,
+            topic: *const u8,
+            topic_len: usize,
+            windows: usize,
+            values: *mut u64,
+        ) -> u32;
         pub fn pradulins_ask(
             node: *const u8,
             seen_store: *const u8,
@@ -101,6 +114,7 @@ mod calls {
         pradulins_admit(*mut u8, *mut u8, usize, *mut u8, usize, *const u8, usize, usize, bool, u64, *mut u64);
         pradulins_heartbeat(*mut u8, *const u8, usize, *const u8, usize, u64, *mut u64);
         pradulins_advertise(*const u8, *const u8, usize, *const u8, usize, *const u8, usize, usize, *mut u8, usize, *mut u64);
+        pradulins_explain(*const u8, *const u8, usize, *const u8, usize, *const u8, usize, *const u8, usize, usize, *mut u64);
         pradulins_ask(*const u8, *const u8, usize, *const u8, usize, *const u8, usize, *mut u8, usize, *mut u64);
         pradulins_serve(*const u8, *const u8, usize, *const u8, usize, *const u8, usize, *mut u8, usize, *mut u64);
         pradulins_settings(*const u8, *mut u64);
@@ -166,6 +180,24 @@ pub(crate) fn advertise(node: &Node, seen: &[u8], cache: &[u8], topic: &[u8], wi
             windows,
             out.as_mut_ptr(),
             out.len(),
+            values.as_mut_ptr(),
+        )
+    }
+}
+
+pub(crate) fn explain(node: &Node, seen: &[u8], cache: &[u8], id: &[u8], topic: &[u8], windows: usize, values: &mut Values) -> u32 {
+    unsafe {
+        calls::pradulins_explain(
+            node.as_ptr(),
+            seen.as_ptr(),
+            seen.len(),
+            cache.as_ptr(),
+            cache.len(),
+            id.as_ptr(),
+            id.len(),
+            topic.as_ptr(),
+            topic.len(),
+            windows,
             values.as_mut_ptr(),
         )
     }

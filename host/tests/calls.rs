@@ -2,7 +2,7 @@
 #![cfg(not(no_archive))]
 
 use pradulins::{decode, message_id, messages, reencode, sign_bytes, walk, walk_from};
-use pradulins::{Admitted, Clock, Gateway, LoadError, Message, Record, Refusal, Served, Settings, NODE_SIZE};
+use pradulins::{Admitted, Clock, Gateway, LoadError, Message, Offer, Record, Refusal, Served, Settings, NODE_SIZE};
 
 const SETTINGS: Settings = Settings { ttl: 1000, max_seen: 4, history_len: 2, max_messages: 4 };
 
@@ -56,6 +56,43 @@ fn the_257th_notice() {
     assert_eq!(gateway.admit(&notice(2), 0, true, 257), Ok(Admitted::Duplicate));
     assert_eq!(gateway.admit(&notice(1), 0, true, 257), Ok(Admitted::New));
     assert_eq!(gateway.admit(&notice(2), 0, true, 257), Ok(Admitted::New));
+}
+
+/// Each answer, the edges of id and topic, and that `Listed` is said of exactly what is advertised.
+#[test]
+fn why_a_notice_is_not_offered() {
+    let mut gateway = Gateway::start(SETTINGS).unwrap();
+    let older = |age| Ok::<_, Refusal>(Offer::OlderWindow { age });
+    assert_eq!(gateway.explain(b"A\x01", b"t", 1), Ok(Offer::NotCached));
+    gateway.admit(&body(b'A'), 0, true, 100).unwrap();
+    assert_eq!(gateway.explain(b"A\x01", b"t", 1), Ok(Offer::Listed));
+    assert_eq!(gateway.explain(b"A\x01", b"t", usize::MAX), Ok(Offer::Listed));
+    assert_eq!(gateway.explain(b"A\x01", b"t", 0), older(0));
+    for topic in [&b"u"[..], b"", b"tt", b"\xff", &[b't'; 1024]] {
+        assert_eq!(gateway.explain(b"A\x01", topic, 0), Ok(Offer::WithoutTopic));
+        assert_eq!(gateway.explain(b"A\x02", topic, 1), Ok(Offer::NotCached));
+    }
+    for id in [&b""[..], b"A", b"\x01", b"A\x01\x00", b"\x01A\x01", &[b'A'; 128], &[b'A'; 129], &[0; 1000]] {
+        assert_eq!(gateway.explain(id, b"t", 1), Ok(Offer::NotCached));
+        assert_eq!(gateway.explain(id, &[b't'; 1025], 1), Err(Refusal::TopicTooLong { length: 1025 }));
+    }
+    assert_eq!(gateway.explain(b"A\x01", &[b't'; 1025], 1), Err(Refusal::TopicTooLong { length: 1025 }));
+    gateway.heartbeat(200).unwrap();
+    gateway.admit(&body(b'B'), 0, true, 200).unwrap();
+    assert_eq!((gateway.explain(b"A\x01", b"t", 1), gateway.explain(b"B\x01", b"t", 1)), (older(1), Ok(Offer::Listed)));
+    assert_eq!(gateway.explain(b"A\x01", b"t", 0), older(1));
+    assert_eq!(gateway.explain(b"A\x01", b"u", 0), Ok(Offer::WithoutTopic));
+    for (topic, windows) in [(b"t", 0), (b"t", 1), (b"t", 2), (b"t", 9), (b"u", 2)] {
+        let offer = gateway.advertise(topic, windows).unwrap();
+        let records = decode(&offer).unwrap().records;
+        for id in [&b"A\x01"[..], b"B\x01", b"C\x01", b"A", b""] {
+            assert_eq!(gateway.explain(id, topic, windows) == Ok(Offer::Listed), records.contains(&Record::MessageId(id)));
+        }
+    }
+    // It leaves the cache by its age, though it is still seen.
+    gateway.heartbeat(201).unwrap();
+    assert_eq!((gateway.seen(), gateway.explain(b"A\x01", b"t", 2)), (2, Ok(Offer::NotCached)));
+    assert_eq!(gateway.explain(b"B\x01", b"t", 1), older(1));
 }
 
 #[test]
@@ -192,6 +229,7 @@ fn damage_is_refused_or_harmless() {
         let mut other = Gateway::from_parts(Box::new(node.try_into().unwrap()), seen.to_vec(), cache.to_vec());
         let (before, clock) = (other.clone(), other.clock());
         let loaded = Gateway::load(&other.save());
+        assert_eq!(other.explain(b"A\x01", b"t", 1).is_err(), loaded.is_err());
         match other.admit(&body(b'Z'), 0, true, clock) {
             Err(refusal) => {
                 assert!(matches!(refusal.number(), 40..=42));

@@ -26,18 +26,35 @@ use Rattle.mcache.specs.CachedLaws.{windowsOf, length-cached, ids-cached
 use Rattle.mcache.specs.Laws.{index-cached, row-cached}
 use Rattle.mcache.specs.GossipLaws.{among-in, in-among, mem-held, topic-kept, gossip-exactly}
 
--- ---- what each answer says of an id, a topic, the windows asked for and the messages
-pub record Answers (id topic : List ℕ) (windows : ℕ) (ms : List Cached) (o : Offer) : Type 0 where
+-- ---- what each answer says of an id, a topic, the windows asked for and the messages; `is` tells which is given
+pub record Answers (id topic : List ℕ) (windows : ℕ) (ms : List Cached) (is : Offer → Type 0) : Type 0 where
   -- no cached message has the id
-  pub not-cached : (o ≡ offer.NotCached) ↔ ((m : Cached) → List·Memᴰ m ms → m .id ≡ id → ⊥)
+  pub not-cached : is offer.NotCached ↔ ((m : Cached) → List·Memᴰ m ms → m .id ≡ id → ⊥)
   -- a cached message has it, and the topic is not among its topics
-  pub without-topic : (o ≡ offer.WithoutTopic)
+  pub without-topic : is offer.WithoutTopic
       ↔ ((m : Cached) × List·Memᴰ m ms × (m .id ≡ id) × (List·Memᴰ topic (topics m) → ⊥))
   -- a cached message has it and carries the topic; this is its window's age, which the windows asked for do not reach
-  pub older-window : (age : ℕ) → (o ≡ offer.OlderWindow age)
+  pub older-window : (age : ℕ) → is (offer.OlderWindow age)
       ↔ ((m : Cached) × List·Memᴰ m ms × (m .id ≡ id) × List·Memᴰ topic (topics m) × (m .window ≡ age) × (windows ≤ age))
   -- it is among the ids that are told of
-  pub listed : (o ≡ offer.Listed) ↔ (among id (gossipIds topic windows ms) ≡ true)
+  pub listed : is offer.Listed ↔ (among id (gossipIds topic windows ms) ≡ true)
+
+-- told in other words, they are the same
+pub answers-as : {id topic : List ℕ} {windows : ℕ} {ms : List Cached} {is has : Offer → Type 0}
+    → ((o : Offer) → has o ↔ is o) → Answers id topic windows ms is → Answers id topic windows ms has
+answers-as w a =
+    record {
+      not-cached = (λ h. a .not-cached .0 (w offer.NotCached .0 h), λ x. w offer.NotCached .1 (a .not-cached .1 x));
+      without-topic = (
+        λ h. a .without-topic .0 (w offer.WithoutTopic .0 h),
+        λ x. w offer.WithoutTopic .1 (a .without-topic .1 x),
+      );
+      older-window = λ age. (
+        λ h. a .older-window age .0 (w (offer.OlderWindow age) .0 h),
+        λ x. w (offer.OlderWindow age) .1 (a .older-window age .1 x),
+      );
+      listed = (λ h. a .listed .0 (w offer.Listed .0 h), λ x. w offer.Listed .1 (a .listed .1 x));
+    }
 
 -- ---- of one message
 module _ (age windows : ℕ) where
@@ -112,7 +129,7 @@ module _ (id topic : List ℕ) (windows : ℕ) where
     abbrev said : Offer
     said = offerOf id topic windows ms
 
-    pub offer-exactly : Answers id topic windows ms (offerOf id topic windows ms)
+    pub offer-exactly : Answers id topic windows ms (λ o. offerOf id topic windows ms ≡ o)
     offer-exactly =
         record {
           not-cached = (
@@ -195,9 +212,9 @@ module _ (id topic : List ℕ) (windows : ℕ) where
         (λ t. let h = ltb-false (indexIn c id) (c .count) t in rw t (sym (offer-none (cachedIn c st) (omega arith)))))
 
     -- each answer, exactly, of a tested cache
-    pub answers-exactly : Answers id topic windows (cachedIn c st) (offerIn c st id topic windows)
+    pub answers-exactly : Answers id topic windows (cachedIn c st) (λ o. offerIn c st id topic windows ≡ o)
     answers-exactly =
-        rw offer-cached
+        answers-as (λ o. (λ h. sym offer-cached ∙ h, λ h. offer-cached ∙ h))
         (offer-exactly id topic windows (cachedIn c st) (rw (ids-cached c st) (fine-tests c st fine .once)))
 
 -- ---- an age that is named is below history_len

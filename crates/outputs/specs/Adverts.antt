@@ -104,5 +104,5 @@ module _ (b : Node) (bs bc topic : List ℕ) (windows : ℕ) (fine : lentOf b bs
       let w : offered (take k left) ≡ toldOf topic windows (gatewayIn b bs bc) =
       ap (λ (l : List ℕ). offered (take k l)) (says .buffer)
       ∙ ap offered (bytes-left out k (sym (says .answer) ∙ e)) ∙ advert-offers in
-      let x = explain-exactly b bs bc id topic windows fine short r why .listed in
+      let x = explain-exactly b bs bc id topic windows fine short r why .exactly .listed in
       (λ h. ap (among id) w ∙ x .0 h, λ h. x .1 (sym (ap (among id) w) ∙ h))

@@ -1,14 +1,15 @@
 -- The tests of a record, one after the other.
-use Prim.Native.Nat.{ℕ, _-_, _≤_, _<_, min}
+use Prim.Native.Nat.{ℕ, _-_, _*_, _≤_, _<_, min}
 use mathlib.Core.Path.{_≡_}
 use mathlib.Core.List.{List}
 use mathlib.Core.Logic.{_≢_}
 use mathlib.Core.Bool.{Bool, true, false, not}
 use lib.ListN.{length, take, drop}
 use lib.Dec.{ltb, eqb}
-use borrow.Author.Tests.{lt-ltb, le-ltb, eq-eqb, ne-eqb}
+use borrow.Author.Tests.{lt-ltb, le-ltb, le-leb, lt-leb, eq-eqb, ne-eqb}
 use Rattle.basis.specs.Little.{little}
 use Rattle.play.specs.Ends.{misfits, noWord, isBad, noQuestion}
+use Rattle.play.specs.Stores.{storeLen}
 
 -- ---- a content's length
 pub settings : (kind len : ℕ) → kind ≡ 1 → not (eqb len 14) ≡ misfits kind len
@@ -78,3 +79,12 @@ pub id-cut : (s : List ℕ) (k : ℕ) → 4 ≤ length s → k ≡ little (take 
     → ltb (length s - 4) k ≡ noQuestion s
 unfolding noQuestion
 id-cut s k h e = rw (le-ltb (length s) 4 h, e)
+
+-- ---- how much of a store is lent
+pub rows-lent : (most size n : ℕ) → n ≤ most → n * size ≡ storeLen most size n
+unfolding storeLen
+rows-lent most size n h = rw (le-leb n most h)
+
+pub none-lent : (most size n : ℕ) → most < n → 0 ≡ storeLen most size n
+unfolding storeLen
+none-lent most size n h = rw (lt-leb n most h)

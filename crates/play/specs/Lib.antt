@@ -1,2 +1,3 @@
--- To be believed: Ends.
+-- To be believed: Ends, Stores.
 pub mod Ends
+pub mod Stores

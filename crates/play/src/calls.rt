@@ -3,6 +3,7 @@
 ghost use mathlib.Core.Path.{_≡_};
 ghost use Prim.Native.Nat.{min};
 ghost use Rattle.play.specs.Ends.{misfits, noQuestion};
+ghost use Rattle.play.specs.Stores.{storeLen};
 use answers::admit_line;
 use answers::advertise_line;
 use answers::ask_line;
@@ -92,14 +93,18 @@ pub fn print(out: &[u8], k: usize, node: Node, mut run: Run) -> Run {
 }
 
 // How long the stores are for such settings.
-pub fn rows_len(max_seen: usize) -> usize {
+pub fn rows_len(max_seen: usize) -> usize
+    ensures { λ r. ⌜ r ≡ storeLen 256 129 «max_seen» ⌝ }
+{
     if max_seen <= 256 {
         return max_seen * 129;
     }
     0
 }
 
-pub fn places_len(max_messages: usize) -> usize {
+pub fn places_len(max_messages: usize) -> usize
+    ensures { λ r. ⌜ r ≡ storeLen 64 4096 «max_messages» ⌝ }
+{
     if max_messages <= 64 {
         return max_messages * 4096;
     }

@@ -32,7 +32,7 @@ use stored::NODE_SIZE;
 use stored::load;
 use stored::store;
 
-pub const VERSION: u32 = 300;
+pub const VERSION: u32 = 301;
 
 pub const FORMAT: u32 = 2;
 

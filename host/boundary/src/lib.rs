@@ -31,7 +31,7 @@ pub extern "C" fn boundary_catch_up() -> c_int {
     status(rounds::run(&mut stdout().lock()))
 }
 
-/// Plays the records on standard input, as the program `inspect`, `trace` or `states` does.
+/// Plays the records on standard input, as the program `inspect`, `trace`, `states` or `why` does.
 ///
 /// # Safety
 ///

@@ -1,8 +1,9 @@
-//! Plays the records of the programs `inspect`, `trace` and `states` through the crate, and prints their lines; where the crate does not have the
-//! call, the record's number and `-`. In `trace` the gateway is saved and loaded again before each call. In `states` it is made before each call of
-//! bytes that nothing has tested, since a damaged state would not be loaded.
+//! Plays the records of the programs `inspect`, `trace`, `states` and `why` through the crate, and prints their lines; where the crate does not have the
+//! call, the record's number and `-`. In `trace` and `why` the gateway is saved and loaded again before each call. In `states` it is made before each call
+//! of bytes that nothing has tested, since a damaged state would not be loaded.
 
-use pradulins::{decode, message_id, reencode, sign_bytes, walk_from, Admitted, Gateway, Record, Refusal, Settings, NODE_SIZE};
+use pradulins::{decode, message_id, reencode, sign_bytes, walk_from, Admitted, Gateway, Offer, Record, Refusal, Settings};
+use pradulins::{CACHE_PLACE, NODE_SIZE, SEEN_ROW};
 use std::fmt::Write as _;
 use std::io::{Result, Write};
 
@@ -109,6 +110,58 @@ fn start(content: &[u8], most: usize) -> std::result::Result<Gateway, Refusal> {
         return Err(Refusal::BadSetting);
     }
     Gateway::start(settings)
+}
+
+/// Windows, id and topic of a question; nothing where the record is none.
+fn question(content: &[u8]) -> Option<(usize, &[u8], &[u8])> {
+    let rest = content.get(4..)?;
+    let size = number(&content[2..4]) as usize;
+    Some((number(&content[..2]) as usize, rest.get(..size)?, rest.get(size..)?))
+}
+
+/// What is said of an id.
+fn why(gateway: &Gateway, windows: usize, id: &[u8], topic: &[u8]) -> std::result::Result<String, Refusal> {
+    Ok(match gateway.explain(id, topic, windows)? {
+        Offer::Listed => "listed".to_string(),
+        Offer::NotCached => "missing".to_string(),
+        Offer::WithoutTopic => "topic".to_string(),
+        Offer::OlderWindow { age } => format!("window {age}"),
+    })
+}
+
+/// The gateway of a node's bytes and its stores, if these are as long as its maxima say and all is well formed.
+fn given(node: &[u8], stores: &[u8]) -> std::result::Result<Gateway, Refusal> {
+    let size = |at: usize, row: usize| usize::try_from(number(&node[at..at + 8])).ok()?.checked_mul(row);
+    let (seen, cache) = size(8, SEEN_ROW).zip(size(48, CACHE_PLACE)).ok_or(Refusal::BadStore)?;
+    if seen.checked_add(cache) != Some(stores.len()) {
+        return Err(Refusal::BadStore);
+    }
+    let mut own = Box::new([0; NODE_SIZE]);
+    own.copy_from_slice(node);
+    let gateway = Gateway::from_parts(own, stores[..seen].to_vec(), stores[seen..].to_vec());
+    gateway.advertise(b"", 0)?; // tests the state, as each call does
+    Ok(gateway)
+}
+
+/// The program `why`: a trace, and two kinds more.
+fn asked(kind: u64, content: &[u8], n: u64, gateway: &mut Option<Gateway>) -> std::result::Result<String, ()> {
+    match kind {
+        12 => {
+            let saved = gateway.as_ref().ok_or(())?.save();
+            let (windows, id, topic) = question(content).ok_or(())?;
+            Ok(format!("{n} why {}", said(why(&Gateway::load(&saved).map_err(|_| ())?, windows, id, topic), false)))
+        }
+        13 if content.len() >= NODE_SIZE => {
+            let (node, stores) = content.split_at(NODE_SIZE);
+            let answer = given(node, stores).map(|one| {
+                *gateway = Some(one);
+                "ok".to_string()
+            });
+            Ok(format!("{n} gateway {}", said(answer, false)))
+        }
+        13 => Err(()),
+        _ => trace(kind, content, n, gateway),
+    }
 }
 
 /// A call on a gateway.
@@ -274,18 +327,25 @@ impl States {
             }
             9 | 10 => format!("{n} -"),
             11 => format!("{n} state {}", self.told()),
+            12 => {
+                let (windows, id, topic) = question(content).ok_or(())?;
+                format!("{n} why {}", said(why(&self.gateway(), windows, id, topic), true))
+            }
             _ => return Err(()),
         };
         Ok(line)
     }
 }
 
-/// The next record, or the word that ends the run.
-fn next<'a>(data: &mut &'a [u8], most: u64) -> std::result::Result<(u64, &'a [u8]), &'static str> {
+/// The next record, or the word that ends the run. A gateway, kind 13, may have more than the others, `largest`.
+fn next<'a>(data: &mut &'a [u8], most: u64, largest: u64) -> std::result::Result<(u64, &'a [u8]), &'static str> {
     if data.is_empty() {
         return Err("");
     }
-    if data.len() >= 4 && number(&data[..4]) > most {
+    if data.len() >= 4 && number(&data[..4]) > largest {
+        return Err("long\n");
+    }
+    if data.len() >= 6 && number(&data[4..6]) != 13 && number(&data[..4]) > most {
         return Err("long\n");
     }
     if data.len() < 6 || data.len() - 6 < number(&data[..4]) as usize {
@@ -299,17 +359,19 @@ fn next<'a>(data: &mut &'a [u8], most: u64) -> std::result::Result<(u64, &'a [u8
 
 /// Plays a whole input.
 pub fn play(program: &[u8], mut data: &[u8], out: &mut dyn Write) -> Result<()> {
-    let most = if program == b"trace" { 32768 } else { 65600 };
+    let most = if program == b"trace" || program == b"why" { 32768 } else { 65600 };
+    let largest = if program == b"why" { 307600 } else { most };
     let mut gateway = None;
     let mut states = States::new();
     for n in 1.. {
-        let (kind, content) = match next(&mut data, most) {
+        let (kind, content) = match next(&mut data, most, largest) {
             Ok(record) => record,
             Err(word) => return write!(out, "{word}"),
         };
         let line = match program {
             b"inspect" => inspect(kind, content, n),
             b"trace" => trace(kind, content, n, &mut gateway),
+            b"why" => asked(kind, content, n, &mut gateway),
             _ => states.line(kind, content, n),
         };
         match line {
