@@ -28,31 +28,41 @@ slice-aggregate-has-topic c = search needs
 
 slice-aggregate-has-topic-2 : tie.Need-slice-aggregate-has-topic-2
 slice-aggregate-has-topic-2 c =
-    let a = c .before .before .before .before .before .before .before .before .before .before .before .before .before .before .before .before .before .args in
-    let g = c .before .before .before .before .before .before .before .before .before .before .before .before .before .before .before .before .before .good in
+    let b = c .before .before .before .before .before .before .before .before .before .before .before .before .before .before .before .before
+    .before in
+    let a = b .args in
+    let g = b .good in
     sym (length-unmapped ℕ (a .self .«topic_count») 64 (g .0 .1 .1 .1 .1 .1 .1 .1 .1 .1 .1 .1 .1 .0 .1 .0 .1))
 
 slice-aggregate-has-topic-3 : tie.Need-slice-aggregate-has-topic-3
 slice-aggregate-has-topic-3 c =
-    let a = c .before .before .before .before .before .before .before .before .before .before .before .before .before .before .before .before .before .before .args in
-    let g = c .before .before .before .before .before .before .before .before .before .before .before .before .before .before .before .before .before .before .good in
+    let b = c .before .before .before .before .before .before .before .before .before .before .before .before .before .before .before .before
+    .before .before in
+    let a = b .args in
+    let g = b .good in
     sym (length-unmapped ℕ (a .self .«topic_start») 256 (g .0 .1 .1 .1 .1 .1 .1 .1 .1 .1 .1 .1 .1 .1 .0 .1 .0 .1))
 
 slice-aggregate-has-topic-4 : tie.Need-slice-aggregate-has-topic-4
 slice-aggregate-has-topic-4 c =
-    let a = c .before .before .before .before .before .before .before .before .before .before .before .before .before .before .before .before .before .before .before .args in
-    let g = c .before .before .before .before .before .before .before .before .before .before .before .before .before .before .before .before .before .before .before .good in
+    let b = c .before .before .before .before .before .before .before .before .before .before .before .before .before .before .before .before
+    .before .before .before in
+    let a = b .args in
+    let g = b .good in
     sym (length-unmapped ℕ (a .self .«topic_len») 256 (g .0 .1 .1 .1 .1 .1 .1 .1 .1 .1 .1 .1 .1 .1 .1 .0 .1 .0 .1))
 
 has-topic-requires : tie.Need-has-topic-requires
 has-topic-requires c κs =
-    let a = c .before .before .before .before .before .before .before .before .before .before .before .before .before .before .before .before .before .before .before .args in
-    let g = c .before .before .before .before .before .before .before .before .before .before .before .before .before .before .before .before .before .before .before .good in
+    let b = c .before .before .before .before .before .before .before .before .before .before .before .before .before .before .before .before
+    .before .before .before in
+    let a = b .args in
+    let g = b .good in
     let ring = c .before .before .before .before .before .before .before .before .before .before .before .before .before .before .before .ring in
     let p = c .before .before .before .before .before .before .before .before .before .place in
-    let l = sym (c .before .before .before .before .before .before .before .before .before .before .before .before .before .before .rows-lie .ensures) ∙ c .before .before .before .before .before .before .before .before .before .before .before .before .before .if1 .taken in
+    let l = sym (c .before .before .before .before .before .before .before .before .before .before .before .before .before .before .rows-lie
+    .ensures) ∙ c .before .before .before .before .before .before .before .before .before .before .before .before .before .if1 .taken in
     let h = c .before .before .before .before .before .before .before .before .before .before .if2 .taken in (
-      row-in (ring .result) (c .before .before .before .before .before .before .before .before .before .before .before .before .find .result) (p .result) l h (p .ensures) .0,
+      row-in (ring .result) (c .before .before .before .before .before .before .before .before .before .before .before .before .find .result) (p
+          .result) l h (p .ensures) .0,
       roomy (a .self) (length-unmapped ℕ (a .self .«topic_count») 64 (g .0 .1 .1 .1 .1 .1 .1 .1 .1 .1 .1 .1 .1 .0 .1 .0 .1))
           (length-unmapped ℕ (a .self .«topic_start») 256 (g .0 .1 .1 .1 .1 .1 .1 .1 .1 .1 .1 .1 .1 .1 .0 .1 .0 .1))
           (length-unmapped ℕ (a .self .«topic_len») 256 (g .0 .1 .1 .1 .1 .1 .1 .1 .1 .1 .1 .1 .1 .1 .1 .0 .1 .0 .1)),
@@ -60,8 +70,10 @@ has-topic-requires c κs =
 
 slice-aggregate-byte-at : tie.Need-slice-aggregate-byte-at
 slice-aggregate-byte-at c =
-    let a = c .before .before .before .before .before .before .before .before .before .before .before .before .before .before .before .before .before .before .before .before .before .args in
-    let g = c .before .before .before .before .before .before .before .before .before .before .before .before .before .before .before .before .before .before .before .before .before .good in
+    let b = c .before .before .before .before .before .before .before .before .before .before .before .before .before .before .before .before
+    .before .before .before .before .before in
+    let a = b .args in
+    let g = b .good in
     sym (length-unmapped ℕ (a .self .«window») 64 (g .0 .1 .1 .1 .1 .1 .1 .1 .1 .0 .1 .0 .1))
 
 byte-at-requires : tie.Need-byte-at-requires
@@ -75,10 +87,15 @@ offer-for-requires c κs = search needs
 
 returns : tie.Need-returns
 returns c =
-    let a = c .before .before .before .before .before .before .before .before .before .before .before .before .before .before .before .before .before .before .before .before .before .before .before .args in
-    let ring = c .before .before .before .before .before .before .before .before .before .before .before .before .before .before .before .before .before .before .before .ring in
-    let l = sym (c .before .before .before .before .before .before .before .before .before .before .before .before .before .before .before .before .before .before .rows-lie .ensures) ∙ c .before .before .before .before .before .before .before .before .before .before .before .before .before .before .before .before .before .if1 .taken in
-    let row = c .before .before .before .before .before .before .before .before .before .before .before .before .before .before .before .before .find in
+    let a = c .before .before .before .before .before .before .before .before .before .before .before .before .before .before .before .before
+    .before .before .before .before .before .before .before .args in
+    let ring = c .before .before .before .before .before .before .before .before .before .before .before .before .before .before .before .before
+    .before .before .before .ring in
+    let l = sym (c .before .before .before .before .before .before .before .before .before .before .before .before .before .before .before .before
+    .before .before .rows-lie .ensures) ∙ c .before .before .before .before .before .before .before .before .before .before .before .before .before
+    .before .before .before .before .if1 .taken in
+    let row = c .before .before .before .before .before .before .before .before .before .before .before .before .before .before .before .before
+    .find in
     let h = c .before .before .before .before .before .before .before .before .before .before .before .before .before .before .if2 .taken in
     let p = c .before .before .before .before .before .before .before .before .before .before .before .before .before .place in
     let t = c .before .before .before .has-topic in
