@@ -1,4 +1,4 @@
--- To be believed: Bytes, Writing, Refusals (the scope's table), Told, Little, Unique (the contract of a call with one
+-- To be believed: Bytes, Writing, Refusals (the scope's table), Spot, Told, Little, Unique (the contract of a call with one
 -- lent part). On the way to them: Cases, Lists.
 pub mod Cases
 pub mod Bytes
@@ -6,5 +6,6 @@ pub mod Writing
 pub mod Lists
 pub mod Little
 pub mod Refusals
+pub mod Spot
 pub mod Told
 pub mod Unique

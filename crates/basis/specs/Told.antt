@@ -1,8 +1,11 @@
 -- What a call tells: the scope's number, 0 where it is done, and the values beside it, at most four: what was done, or
--- what the scope's table returns. And what a writer tells.
+-- what the scope's table returns. With a refusal of a body's bytes, also where in the body it stands. And what a writer
+-- tells.
 use Prim.Native.Nat.{ℕ}
 use mathlib.Core.List.{List, [], _∷_}
 use lib.ListN.{length, getD, take}
+use Rattle.basis.specs.declared.Spot.{Spot}
+use Rattle.basis.specs.declared.Spot.the-variants.{Nowhere}
 use Rattle.basis.specs.declared.Told.{Told}
 use Rattle.basis.specs.declared.Written.{Written}
 use Rattle.basis.specs.declared.Written.the-variants as written
@@ -17,6 +20,20 @@ told number values =
       second = getD values 1 0;
       third = getD values 2 0;
       fourth = getD values 3 0;
+      spot = Nowhere;
+    }
+
+-- the same number and values, with a place
+abbrev pub placed : Spot → Told → Told
+placed spot t =
+    record {
+      number = t .number;
+      count = t .count;
+      first = t .first;
+      second = t .second;
+      third = t .third;
+      fourth = t .fourth;
+      spot = spot;
     }
 
 abbrev pub done : List ℕ → Told

@@ -10,10 +10,58 @@ ghost use lib.Seq.{sets};
 ghost use lib.Dec.{leb};
 ghost use Rattle.basis.specs.Writing.{endIn, setIn};
 ghost use Rattle.basis.specs.Little.{little, bytesOf};
-ghost use Rattle.basis.specs.Told.{told};
+ghost use Rattle.basis.specs.Told.{told, placed};
+ghost use Rattle.basis.specs.Spot.{at, inside, Reaches};
 ghost use Rattle.basis.specs.Unique.{Leaves};
 
-// What a call tells: the scope's number, 0 where it is done, and how many values stand beside it; the others are 0.
+// Where in a body a refusal stands: how many bytes after the body's start, and the numbers of the fields that enclose it, the outermost first, 0
+// for none. Or that it is no refusal of a body's bytes.
+pub enum Spot {
+    Nowhere,
+    At {
+        offset: usize,
+        outer: u64,
+        middle: u64,
+        inner: u64,
+    },
+}
+
+impl Spot {
+    // A place that no field encloses.
+    pub fn at(offset: usize) -> Spot
+        ensures { λ r. ⌜ r ≡ at offset ⌝ }
+    {
+        Spot::At {
+            offset,
+            outer: 0,
+            middle: 0,
+            inner: 0,
+        }
+    }
+
+    // The same place in what encloses it: in a field of that number, whose bytes stand from start.
+    pub fn inside(self, field: u64, start: usize) -> Spot
+        requires { ⌜ Reaches start self ⌝ }
+        ensures { λ r. ⌜ r ≡ inside field start self ⌝ }
+    {
+        match self {
+            Spot::Nowhere => Spot::Nowhere,
+            Spot::At {
+                offset,
+                outer,
+                middle,
+                inner: _,
+            } => Spot::At {
+                offset: start + offset,
+                outer: field,
+                middle: outer,
+                inner: middle,
+            },
+        }
+    }
+}
+
+// What a call tells: the scope's number, 0 where it is done, and how many values stand beside it; the others are 0. And where in the body it stands.
 pub struct Told {
     pub number: u8,
     pub count: u8,
@@ -21,6 +69,7 @@ pub struct Told {
     pub second: u64,
     pub third: u64,
     pub fourth: u64,
+    pub spot: Spot,
 }
 
 impl Told {
@@ -34,6 +83,7 @@ impl Told {
             second: 0,
             third: 0,
             fourth: 0,
+            spot: Spot::Nowhere,
         }
     }
 
@@ -47,6 +97,7 @@ impl Told {
             second: 0,
             third: 0,
             fourth: 0,
+            spot: Spot::Nowhere,
         }
     }
 
@@ -60,6 +111,7 @@ impl Told {
             second,
             third: 0,
             fourth: 0,
+            spot: Spot::Nowhere,
         }
     }
 
@@ -73,6 +125,7 @@ impl Told {
             second,
             third,
             fourth: 0,
+            spot: Spot::Nowhere,
         }
     }
 
@@ -86,6 +139,22 @@ impl Told {
             second,
             third,
             fourth,
+            spot: Spot::Nowhere,
+        }
+    }
+
+    // The same, with its place.
+    pub fn placed(self, spot: Spot) -> Told
+        ensures { λ r. ⌜ r ≡ placed spot self ⌝ }
+    {
+        Told {
+            number: self.number,
+            count: self.count,
+            first: self.first,
+            second: self.second,
+            third: self.third,
+            fourth: self.fourth,
+            spot,
         }
     }
 }

@@ -14,7 +14,7 @@ use protobuf::Checked;
 use protobuf::Field;
 use protobuf::Step;
 use protobuf::WIRE_LEN;
-use protobuf::WireError;
+use protobuf::Refusal;
 use protobuf::put_bytes;
 use protobuf::read_field;
 use schema::Kind;
@@ -45,7 +45,7 @@ pub enum MessageId {
 pub enum MessageBytes {
     Bytes(usize),
     Room(usize),
-    Refused(WireError),
+    Refused(Refusal),
     NoMessage(usize),
     MissingFrom,
     InvalidFrom(usize),

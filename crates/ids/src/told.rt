@@ -4,14 +4,14 @@ ghost use Rattle.ids.specs.Told.{messageTold};
 use super::MessageBytes;
 use basis::Told;
 use basis::refusals;
-use protobuf::told::told_wire;
+use protobuf::told::told_refusal;
 
 pub fn told_message(answer: MessageBytes) -> Told
     ensures { λ r. ⌜ r ≡ messageTold answer ⌝ }
 {
     match answer {
         MessageBytes::Bytes(count) => Told::one(0, count as u64),
-        MessageBytes::Refused(why) => told_wire(why),
+        MessageBytes::Refused(refusal) => told_refusal(refusal),
         MessageBytes::NoMessage(count) => Told::one(refusals::NO_MESSAGE, count as u64),
         MessageBytes::MissingFrom => Told::none(refusals::MISSING_FROM),
         MessageBytes::InvalidFrom(len) => Told::one(refusals::INVALID_FROM, len as u64),

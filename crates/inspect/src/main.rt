@@ -26,7 +26,7 @@ use peer_id::told::told_varint;
 use protobuf::Cursor;
 use protobuf::Walk;
 use protobuf::told::told_encoded;
-use protobuf::told::told_wire;
+use protobuf::told::told_refusal;
 use records::decode_line;
 use records::records_in;
 use records::row_line;
@@ -40,7 +40,7 @@ fn put_walk(out: &mut [u8], at: usize, w: Walk) -> usize
 {
     match w {
         Walk::End => put_word(out, at, b" end"),
-        Walk::Refused(why) => put_refusal(out, at, told_wire(why)),
+        Walk::Refused(refusal) => put_refusal(out, at, told_refusal(refusal)),
         Walk::Field {
             field,
             wire_type,

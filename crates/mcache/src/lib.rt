@@ -32,7 +32,7 @@ use basis::least;
 use ids::MessageAt;
 use ids::message_at;
 use protobuf::Checked;
-use protobuf::WireError;
+use protobuf::Refusal;
 use protobuf::put_bytes;
 use rows::Ring;
 use rows::all_within;
@@ -93,7 +93,7 @@ pub enum Put {
     Held,
     BadStore,
     Malformed,
-    Refused(WireError),
+    Refused(Refusal),
     NoMessage(usize),
     Unfit(Unfit),
 }

@@ -9,7 +9,7 @@ use super::Start;
 use admission::told::told_unfit;
 use basis::Told;
 use basis::refusals;
-use protobuf::told::told_wire;
+use protobuf::told::told_refusal;
 
 pub fn told_lent(answer: Lent) -> Told
     ensures { λ r. ⌜ r ≡ lentTold answer ⌝ }
@@ -38,7 +38,7 @@ pub fn told_put(answer: Put) -> Told
         Put::Held => Told::one(0, 0),
         Put::BadStore => Told::none(refusals::BAD_STORE),
         Put::Malformed => Told::none(refusals::MALFORMED),
-        Put::Refused(why) => told_wire(why),
+        Put::Refused(refusal) => told_refusal(refusal),
         Put::NoMessage(count) => Told::one(refusals::NO_MESSAGE, count as u64),
         Put::Unfit(why) => told_unfit(why),
     }

@@ -14,9 +14,9 @@ ghost use Rattle.message.specs.Rows.{bareRow, ownRows, rowsOf, fieldRows
 ghost use Rattle.message.specs.Decode.{hasControl, decodeAnswer, decodeTable};
 use protobuf::Field;
 use protobuf::Step;
-use protobuf::WireError;
+use protobuf::Refusal;
 use protobuf::read_field;
-use schema::Counted;
+use schema::Tested;
 use schema::Kind;
 use schema::Number;
 use schema::Place;
@@ -48,7 +48,7 @@ pub enum RecordAt {
 
 pub enum Decoded {
     Records { count: usize, control: bool },
-    Refused(WireError),
+    Refused(Refusal),
     Room(usize),
 }
 
@@ -271,8 +271,8 @@ pub fn decode(body: &[u8], table: &mut [u64]) -> Decoded
 {
     let c = body_records(body);
     match c {
-        Counted::Refused(why) => Decoded::Refused(why),
-        Counted::Records(n) => {
+        Tested::Refused(refusal) => Decoded::Refused(refusal),
+        Tested::Records(n) => {
             if table.len() / RECORD_WORDS < n {
                 return Decoded::Room(n);
             }

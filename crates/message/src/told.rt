@@ -4,14 +4,14 @@ ghost use Rattle.message.specs.Told.{decodedTold};
 use super::Decoded;
 use basis::Told;
 use basis::refusals;
-use protobuf::told::told_wire;
+use protobuf::told::told_refusal;
 
 pub fn told_decoded(answer: Decoded) -> Told
     ensures { λ r. ⌜ r ≡ decodedTold answer ⌝ }
 {
     match answer {
         Decoded::Records { count, control } => Told::two(0, count as u64, control as u64),
-        Decoded::Refused(why) => told_wire(why),
+        Decoded::Refused(refusal) => told_refusal(refusal),
         Decoded::Room(needed) => Told::one(refusals::SHORT_ROOM, needed as u64),
     }
 }

@@ -51,7 +51,7 @@ use parts::parts_at;
 use parts::parts_that_fit;
 use protobuf::Checked;
 use protobuf::MAX_RPC_SIZE;
-use protobuf::WireError;
+use protobuf::Refusal;
 use protobuf::put_bytes;
 use rows::Ring;
 use rows::find_from;
@@ -97,7 +97,7 @@ pub enum Admit {
     New,
     Duplicate,
     Faulty(Fault),
-    Refused(WireError),
+    Refused(Refusal),
     NoMessage(usize),
     Unfit(Unfit),
     ClockBack(u64),
@@ -145,7 +145,7 @@ pub struct Explained {
 pub enum Ask {
     Bytes(usize),
     Faulty(Fault),
-    Refused(WireError),
+    Refused(Refusal),
     Room(usize),
 }
 
@@ -162,7 +162,7 @@ pub enum Serve {
         left: usize,
     },
     Faulty(Fault),
-    Refused(WireError),
+    Refused(Refusal),
     Room(usize),
 }
 

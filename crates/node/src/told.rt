@@ -14,7 +14,7 @@ use admission::told::told_unfit;
 use basis::Told;
 use basis::refusals;
 use mcache::Offer;
-use protobuf::told::told_wire;
+use protobuf::told::told_refusal;
 
 pub fn told_fault(why: Fault) -> Told
     ensures { λ r. ⌜ r ≡ faultTold why ⌝ }
@@ -51,7 +51,7 @@ pub fn told_admit(answer: Admit) -> Told
         Admit::New => Told::one(0, 1),
         Admit::Duplicate => Told::one(0, 0),
         Admit::Faulty(why) => told_fault(why),
-        Admit::Refused(why) => told_wire(why),
+        Admit::Refused(refusal) => told_refusal(refusal),
         Admit::NoMessage(count) => Told::one(refusals::NO_MESSAGE, count as u64),
         Admit::Unfit(why) => told_unfit(why),
         Admit::ClockBack(clock) => Told::one(refusals::CLOCK_BACK, clock),
@@ -107,7 +107,7 @@ pub fn told_ask(answer: Ask) -> Told
     match answer {
         Ask::Bytes(count) => Told::one(0, count as u64),
         Ask::Faulty(why) => told_fault(why),
-        Ask::Refused(why) => told_wire(why),
+        Ask::Refused(refusal) => told_refusal(refusal),
         Ask::Room(needed) => Told::one(refusals::SHORT_ROOM, needed as u64),
     }
 }
@@ -122,7 +122,7 @@ pub fn told_serve(answer: Serve) -> Told
             left,
         } => Told::three(0, bytes as u64, messages as u64, left as u64),
         Serve::Faulty(why) => told_fault(why),
-        Serve::Refused(why) => told_wire(why),
+        Serve::Refused(refusal) => told_refusal(refusal),
         Serve::Room(needed) => Told::one(refusals::SHORT_ROOM, needed as u64),
     }
 }

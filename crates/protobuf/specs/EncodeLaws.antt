@@ -15,7 +15,7 @@ use Rattle.basis.specs.Unique.{Leaves}
 use Rattle.basis.specs.Lists.{sets-append, end-fits, set-fits, answer-fits, answer-short, written-fits, written-short}
 use Rattle.peer_id.specs.Uvarint.{uvarint}
 use Rattle.peer_id.specs.Laws.{uvarint-small, at-most-ten}
-use Rattle.protobuf.specs.declared.WireError.{WireError}
+use Rattle.protobuf.specs.declared.Refusal.{Refusal}
 use Rattle.protobuf.specs.declared.Checked.the-variants.{Fine, Refused as Wrong}
 use Rattle.protobuf.specs.declared.Encoded.the-variants.{Bytes, Room, Refused}
 use Rattle.protobuf.specs.Encode.{tag, varintField, bytesField, tagRefused, ofWritten, answerOf, leftOf, encoded}
@@ -79,9 +79,9 @@ module _ (n type : ℕ) (xs out : List ℕ) where
   unfolding encoded
   encoded-short e h = ap (answerOf xs out) e ∙ ap ofWritten (answer-short xs out h)
 
-  pub encoded-refused : (why : WireError) → tagRefused n type ≡ Wrong why → encoded n type xs out ≡ Refused why
+  pub encoded-refused : (r : Refusal) → tagRefused n type ≡ Wrong r → encoded n type xs out ≡ Refused r
   unfolding encoded
-  encoded-refused why e = ap (answerOf xs out) e
+  encoded-refused r e = ap (answerOf xs out) e
 
   pub left-fits : tagRefused n type ≡ Fine → length xs ≤ length out → left n type xs out ≡ sets out 0 xs
   unfolding left
@@ -91,9 +91,9 @@ module _ (n type : ℕ) (xs out : List ℕ) where
   unfolding left
   left-short e h = ap (leftOf xs out) e ∙ written-short xs out h
 
-  pub left-refused : (why : WireError) → tagRefused n type ≡ Wrong why → left n type xs out ≡ out
+  pub left-refused : (r : Refusal) → tagRefused n type ≡ Wrong r → left n type xs out ≡ out
   unfolding left
-  left-refused why e = ap (leftOf xs out) e
+  left-refused r e = ap (leftOf xs out) e
 
 -- ---- parts written one after the other
 -- xs were written at `at`: they end at `end`, and the lent bytes are `after` then

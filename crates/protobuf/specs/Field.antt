@@ -26,11 +26,12 @@ use Rattle.protobuf.specs.declared.Step.{Step}
 use Rattle.protobuf.specs.declared.Step.the-variants as step
 use Rattle.protobuf.specs.declared.Walk.{Walk}
 use Rattle.protobuf.specs.declared.Walk.the-variants as walk
+use Rattle.protobuf.specs.Refusal.{here, nowhere}
 
--- a varint read at a place: its refusal, or what f makes of its value and the place after it
+-- a varint read at a place: its refusal, which points at the place, or what f makes of its value and the place after it
 abbrev pub after : {A : Type 0} → ℕ → (WireError → A) → (ℕ → ℕ → A) → Uvarint → A
 after at bad f (Read x n) = f x (at + n)
-after at bad f (Unread why) = bad (Varint why)
+after at bad f (Unread error) = bad (Varint error at)
 
 -- a tag's low three bits are the wire type, the rest is the field number, 1 to 536870911; 6 points at the tag
 abbrev pub tagOf : ℕ → ℕ → ℕ → Tag
@@ -114,12 +115,12 @@ readField s at = ofTag s (readTag s at)
 -- ---- the host's walk: a tag and what it skips, of a body of at most 65,536 bytes
 abbrev pub walkSkip : ℕ → ℕ → ℕ → Skip → Walk
 walkSkip n type at (skip.Next e) = walk.Field n type at (record { at = e })
-walkSkip n type at (skip.Refused why) = walk.Refused why
+walkSkip n type at (skip.Refused why) = walk.Refused (here why)
 
 abbrev pub walkTag : List ℕ → Tag → Walk
 walkTag s tag.End = walk.End
-walkTag s (tag.Refused why) = walk.Refused why
+walkTag s (tag.Refused why) = walk.Refused (here why)
 walkTag s (tag.Field n type at) = walkSkip n type at (skipField s at type)
 
 unfoldable pub walkStep : List ℕ → ℕ → Walk
-walkStep s at = cond (ltb 65536 (length s)) (walk.Refused (TooLarge (length s))) (walkTag s (readTag s at))
+walkStep s at = cond (ltb 65536 (length s)) (walk.Refused (nowhere (TooLarge (length s)))) (walkTag s (readTag s at))

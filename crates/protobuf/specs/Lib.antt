@@ -1,6 +1,7 @@
--- To be believed: Told, Field, Grammar, Walk, Encode.
+-- To be believed: Refusal, Told, Field, Grammar, Walk, Encode.
 -- Theorems: Laws, RefusalLaws, WalkLaws, Exactly, Rows, Refused.
 -- On the way to them: EncodeLaws.
+pub mod Refusal
 pub mod Told
 pub mod Field
 pub mod Laws

@@ -1,16 +1,20 @@
--- Which numbers a refusal can have, 1 to 11; and which of them reading a field can give, 1 to 6.
+-- Which numbers a refusal can have, 1 to 11; which of them reading a field can give, 1 to 6; and that their place lies
+-- within the bytes that are read.
 use Prim.Native.Nat.{ℕ, _+_, _-_, _/_, _≤_, _<_}
 use mathlib.Core.Path.{_≡_, refl}
 use mathlib.Core.List.{List}
 use native.Mathlib.Omega.{arith}
 use lib.ListN.{length, drop}
 use lib.Dec.{ltb, leb, eqb}
+use borrow.Author.Tests.{leb-false}
 use Rattle.basis.specs.Cases.{either, clash}
+use Rattle.basis.specs.Spot.{Within}
 use Rattle.peer_id.specs.declared.VarintError.{VarintError}
 use Rattle.peer_id.specs.declared.VarintError.the-variants.{BufferTooShort, Overflow, NonCanonical}
 use Rattle.peer_id.specs.declared.Uvarint.{Uvarint}
 use Rattle.peer_id.specs.declared.Uvarint.the-variants.{Value as Read, Refused as Unread}
 use Rattle.peer_id.specs.Uvarint.{readUvarint}
+use Rattle.peer_id.specs.Laws.{used}
 use Rattle.peer_id.specs.Told.{varintTold}
 use Rattle.protobuf.specs.declared.WireError.{WireError}
 use Rattle.protobuf.specs.declared.WireError.the-variants.{Varint, FieldOverflow, UnsupportedWireType}
@@ -24,14 +28,16 @@ use Rattle.protobuf.specs.declared.VarintValue.the-variants as value
 use Rattle.protobuf.specs.declared.Skip.{Skip}
 use Rattle.protobuf.specs.declared.Skip.the-variants as skip
 use Rattle.protobuf.specs.declared.Step.the-variants as step
+use Rattle.protobuf.specs.Refusal.{spotOf}
 use Rattle.protobuf.specs.Told.{refusalNumber}
+use Rattle.protobuf.specs.Laws.{tag-moves}
 use Rattle.protobuf.specs.Field.{after, tagOf, readTag, partOf, readLen, readVarint, skipFixed, pastValue}
 use Rattle.protobuf.specs.Field.{pastPart, skipField, ofValue, ofPart, ofSkip, readValue, ofTag, readField}
 
 pub wire-range : (why : WireError) → (0 < refusalNumber why) × (refusalNumber why ≤ 11)
-wire-range (Varint BufferTooShort) = (omega arith, omega arith)
-wire-range (Varint Overflow) = (omega arith, omega arith)
-wire-range (Varint NonCanonical) = (omega arith, omega arith)
+wire-range (Varint BufferTooShort offset) = (omega arith, omega arith)
+wire-range (Varint Overflow offset) = (omega arith, omega arith)
+wire-range (Varint NonCanonical offset) = (omega arith, omega arith)
 wire-range (FieldOverflow offset size remaining) = (omega arith, omega arith)
 wire-range (UnsupportedWireType type offset) = (omega arith, omega arith)
 wire-range (InvalidFieldNumber field offset) = (omega arith, omega arith)
@@ -44,102 +50,123 @@ varint-small BufferTooShort = omega arith
 varint-small Overflow = omega arith
 varint-small NonCanonical = omega arith
 
--- the refusals of each reader
-abbrev Early : WireError → Type 0
-Early why = refusalNumber why ≤ 6
+-- the refusals of each reader of so many bytes
+record Early (total : ℕ) (why : WireError) : Type 0 where
+  small : refusalNumber why ≤ 6
+  within : Within total (spotOf why)
 
-tag-after : (at : ℕ) (r : Uvarint) (why : WireError) → tag.Refused why ≡ after at tag.Refused (tagOf at) r → Early why
-tag-after at (Unread v) why h = let e : why ≡ Varint v = cc in rw e (varint-small v)
-tag-after at (Read x n) why h =
+varint-early : (total at : ℕ) (v : VarintError) → at ≤ total → Early total (Varint v at)
+varint-early total at v l = record { small = varint-small v; within = l }
+
+tag-after : (total at : ℕ) (r : Uvarint) (why : WireError) → at ≤ total
+    → tag.Refused why ≡ after at tag.Refused (tagOf at) r → Early total why
+tag-after total at (Unread v) why l h = let e : why ≡ Varint v at = cc in rw e (varint-early total at v l)
+tag-after total at (Read x n) why l h =
     either (eqb (x / 8) 0) (λ t. let k = simp t at h in let e : why ≡ InvalidFieldNumber (x / 8) at = cc in
-    rw e (omega arith))
+    rw e (record { small = omega arith; within = l }))
     (λ t. either (ltb 536870911 (x / 8))
-    (λ w. let k = simp (t, w) at h in let e : why ≡ InvalidFieldNumber (x / 8) at = cc in rw e (omega arith))
+    (λ w. let k = simp (t, w) at h in let e : why ≡ InvalidFieldNumber (x / 8) at = cc in
+    rw e (record { small = omega arith; within = l }))
     (λ w. clash (let k = simp (t, w) at h in cc)))
 
-tag-early : (s : List ℕ) (at : ℕ) (why : WireError) → tag.Refused why ≡ readTag s at → Early why
+tag-early : (s : List ℕ) (at : ℕ) (why : WireError) → tag.Refused why ≡ readTag s at → Early (length s) why
 unfolding readTag
 tag-early s at why h =
     either (leb (length s) at) (λ t. clash (let k = simp t at h in cc))
-    (λ t. tag-after at (readUvarint (drop at s)) why (simp t at h))
+    (λ t. let l = leb-false _ _ t in tag-after (length s) at (readUvarint (drop at s)) why (omega (arith, l)) (simp t at h))
 
-part-after : (total at : ℕ) (r : Uvarint) (why : WireError) → part.Refused why ≡ after at part.Refused (partOf total) r
-    → Early why
-part-after total at (Unread v) why h = let e : why ≡ Varint v = cc in rw e (varint-small v)
-part-after total at (Read x n) why h =
-    either (ltb (total - (at + n)) x)
-    (λ t. let k = simp t at h in let e : why ≡ FieldOverflow (at + n) x (total - (at + n)) = cc in
-    rw e (omega arith))
+part-after : (s : List ℕ) (at : ℕ) (r : Uvarint) (why : WireError) → at ≤ length s → r ≡ readUvarint (drop at s)
+    → part.Refused why ≡ after at part.Refused (partOf (length s)) r → Early (length s) why
+part-after s at (Unread v) why l q h = let e : why ≡ Varint v at = cc in rw e (varint-early (length s) at v l)
+part-after s at (Read x n) why l q h =
+    let u = used s at x n q in
+    either (ltb (length s - (at + n)) x)
+    (λ t. let k = simp t at h in let e : why ≡ FieldOverflow (at + n) x (length s - (at + n)) = cc in
+    rw e (record { small = omega arith; within = u .1 }))
     (λ t. clash (let k = simp t at h in cc))
 
-part-early : (s : List ℕ) (at : ℕ) (why : WireError) → part.Refused why ≡ readLen s at → Early why
+part-early : (s : List ℕ) (at : ℕ) (why : WireError) → at ≤ length s → part.Refused why ≡ readLen s at
+    → Early (length s) why
 unfolding readLen
-part-early s at why h = part-after (length s) at (readUvarint (drop at s)) why h
+part-early s at why l h = part-after s at (readUvarint (drop at s)) why l refl h
 
-value-after : (at : ℕ) (r : Uvarint) (why : WireError) → value.Refused why ≡ after at value.Refused value.Value r
-    → Early why
-value-after at (Unread v) why h = let e : why ≡ Varint v = cc in rw e (varint-small v)
-value-after at (Read x n) why h = clash (cc)
+value-after : (total at : ℕ) (r : Uvarint) (why : WireError) → at ≤ total
+    → value.Refused why ≡ after at value.Refused value.Value r → Early total why
+value-after total at (Unread v) why l h = let e : why ≡ Varint v at = cc in rw e (varint-early total at v l)
+value-after total at (Read x n) why l h = clash (cc)
 
-value-early : (s : List ℕ) (at : ℕ) (why : WireError) → value.Refused why ≡ readVarint s at → Early why
+value-early : (s : List ℕ) (at : ℕ) (why : WireError) → at ≤ length s → value.Refused why ≡ readVarint s at
+    → Early (length s) why
 unfolding readVarint
-value-early s at why h = value-after at (readUvarint (drop at s)) why h
+value-early s at why l h = value-after (length s) at (readUvarint (drop at s)) why l h
 
-fixed-early : (total at n : ℕ) (why : WireError) → skip.Refused why ≡ skipFixed total at n → Early why
+fixed-early : (total at n : ℕ) (why : WireError) → at ≤ total → skip.Refused why ≡ skipFixed total at n
+    → Early total why
 unfolding skipFixed
-fixed-early total at n why h =
+fixed-early total at n why l h =
     either (ltb (total - at) n) (λ t. let k = simp t at h in let e : why ≡ FieldOverflow at n (total - at) = cc in
-    rw e (omega arith))
+    rw e (record { small = omega arith; within = l }))
     (λ t. clash (let k = simp t at h in cc))
 
-past-value : (s : List ℕ) (at : ℕ) (r : VarintValue) (why : WireError) → r ≡ readVarint s at
-    → skip.Refused why ≡ pastValue r → Early why
-past-value s at (value.Value x e) why q h = clash (cc)
-past-value s at (value.Refused w) why q h = let e : why ≡ w = cc in rw e (value-early s at w q)
+past-value : (s : List ℕ) (at : ℕ) (r : VarintValue) (why : WireError) → at ≤ length s → r ≡ readVarint s at
+    → skip.Refused why ≡ pastValue r → Early (length s) why
+past-value s at (value.Value x e) why l q h = clash (cc)
+past-value s at (value.Refused w) why l q h = let e : why ≡ w = cc in rw e (value-early s at w l q)
 
-past-part : (s : List ℕ) (at : ℕ) (r : Part) (why : WireError) → r ≡ readLen s at → skip.Refused why ≡ pastPart r
-    → Early why
-past-part s at (part.Bytes a e) why q h = clash (cc)
-past-part s at (part.Refused w) why q h = let e : why ≡ w = cc in rw e (part-early s at w q)
+past-part : (s : List ℕ) (at : ℕ) (r : Part) (why : WireError) → at ≤ length s → r ≡ readLen s at
+    → skip.Refused why ≡ pastPart r → Early (length s) why
+past-part s at (part.Bytes a e) why l q h = clash (cc)
+past-part s at (part.Refused w) why l q h = let e : why ≡ w = cc in rw e (part-early s at w l q)
 
-skip-early : (s : List ℕ) (at type : ℕ) (why : WireError) → skip.Refused why ≡ skipField s at type → Early why
+skip-early : (s : List ℕ) (at type : ℕ) (why : WireError) → at ≤ length s → skip.Refused why ≡ skipField s at type
+    → Early (length s) why
 unfolding skipField
-skip-early s at type why h =
-    either (eqb type 0) (λ t0. past-value s at (readVarint s at) why refl (simp t0 at h))
-    (λ t0. either (eqb type 2) (λ t2. past-part s at (readLen s at) why refl (simp (t0, t2) at h))
-    (λ t2. either (eqb type 5) (λ t5. fixed-early (length s) at 4 why (simp (t0, t2, t5) at h))
-    (λ t5. either (eqb type 1) (λ t1. fixed-early (length s) at 8 why (simp (t0, t2, t5, t1) at h))
+skip-early s at type why l h =
+    either (eqb type 0) (λ t0. past-value s at (readVarint s at) why l refl (simp t0 at h))
+    (λ t0. either (eqb type 2) (λ t2. past-part s at (readLen s at) why l refl (simp (t0, t2) at h))
+    (λ t2. either (eqb type 5) (λ t5. fixed-early (length s) at 4 why l (simp (t0, t2, t5) at h))
+    (λ t5. either (eqb type 1) (λ t1. fixed-early (length s) at 8 why l (simp (t0, t2, t5, t1) at h))
     (λ t1. let k = simp (t0, t2, t5, t1) at h in let e : why ≡ UnsupportedWireType type at = cc in
-    rw e (omega arith)))))
+    rw e (record { small = omega arith; within = l })))))
 
-of-value : (s : List ℕ) (n type at : ℕ) (r : VarintValue) (why : WireError) → r ≡ readVarint s at
-    → step.Refused why ≡ ofValue n type at r → Early why
-of-value s n type at (value.Value x e) why q h = clash (cc)
-of-value s n type at (value.Refused w) why q h = let e : why ≡ w = cc in rw e (value-early s at w q)
+of-value : (s : List ℕ) (n type at : ℕ) (r : VarintValue) (why : WireError) → at ≤ length s → r ≡ readVarint s at
+    → step.Refused why ≡ ofValue n type at r → Early (length s) why
+of-value s n type at (value.Value x e) why l q h = clash (cc)
+of-value s n type at (value.Refused w) why l q h = let e : why ≡ w = cc in rw e (value-early s at w l q)
 
-of-part : (s : List ℕ) (n type at : ℕ) (r : Part) (why : WireError) → r ≡ readLen s at
-    → step.Refused why ≡ ofPart n type at r → Early why
-of-part s n type at (part.Bytes a e) why q h = clash (cc)
-of-part s n type at (part.Refused w) why q h = let e : why ≡ w = cc in rw e (part-early s at w q)
+of-part : (s : List ℕ) (n type at : ℕ) (r : Part) (why : WireError) → at ≤ length s → r ≡ readLen s at
+    → step.Refused why ≡ ofPart n type at r → Early (length s) why
+of-part s n type at (part.Bytes a e) why l q h = clash (cc)
+of-part s n type at (part.Refused w) why l q h = let e : why ≡ w = cc in rw e (part-early s at w l q)
 
-of-skip : (s : List ℕ) (n type at : ℕ) (r : Skip) (why : WireError) → r ≡ skipField s at type
-    → step.Refused why ≡ ofSkip n type at r → Early why
-of-skip s n type at (skip.Next e) why q h = clash (cc)
-of-skip s n type at (skip.Refused w) why q h = let e : why ≡ w = cc in rw e (skip-early s at type w q)
+of-skip : (s : List ℕ) (n type at : ℕ) (r : Skip) (why : WireError) → at ≤ length s → r ≡ skipField s at type
+    → step.Refused why ≡ ofSkip n type at r → Early (length s) why
+of-skip s n type at (skip.Next e) why l q h = clash (cc)
+of-skip s n type at (skip.Refused w) why l q h = let e : why ≡ w = cc in rw e (skip-early s at type w l q)
 
-read-early : (s : List ℕ) (n type at : ℕ) (why : WireError) → step.Refused why ≡ readValue s n type at → Early why
+read-early : (s : List ℕ) (n type at : ℕ) (why : WireError) → at ≤ length s → step.Refused why ≡ readValue s n type at
+    → Early (length s) why
 unfolding readValue
-read-early s n type at why h =
-    either (eqb type 0) (λ t0. of-value s n type at (readVarint s at) why refl (simp t0 at h))
-    (λ t0. either (eqb type 2) (λ t2. of-part s n type at (readLen s at) why refl (simp (t0, t2) at h))
-    (λ t2. of-skip s n type at (skipField s at type) why refl (simp (t0, t2) at h)))
+read-early s n type at why l h =
+    either (eqb type 0) (λ t0. of-value s n type at (readVarint s at) why l refl (simp t0 at h))
+    (λ t0. either (eqb type 2) (λ t2. of-part s n type at (readLen s at) why l refl (simp (t0, t2) at h))
+    (λ t2. of-skip s n type at (skipField s at type) why l refl (simp (t0, t2) at h)))
 
-of-tag : (s : List ℕ) (at : ℕ) (r : Tag) (why : WireError) → r ≡ readTag s at → step.Refused why ≡ ofTag s r → Early why
+of-tag : (s : List ℕ) (at : ℕ) (r : Tag) (why : WireError) → r ≡ readTag s at → step.Refused why ≡ ofTag s r
+    → Early (length s) why
 of-tag s at tag.End why q h = clash (cc)
 of-tag s at (tag.Refused w) why q h = let e : why ≡ w = cc in rw e (tag-early s at w q)
-of-tag s at (tag.Field n type to) why q h = read-early s n type to why h
+of-tag s at (tag.Field n type to) why q h = read-early s n type to why (tag-moves s at n type to q .1) h
+
+early : (s : List ℕ) (at : ℕ) (why : WireError) → step.Refused why ≡ readField s at → Early (length s) why
+unfolding readField
+early s at why h = of-tag s at (readTag s at) why refl h
 
 -- a field is refused by one of 1 to 6
 pub field-early : (s : List ℕ) (at : ℕ) (why : WireError) → step.Refused why ≡ readField s at → refusalNumber why ≤ 6
-unfolding readField
-field-early s at why h = of-tag s at (readTag s at) why refl h
+field-early s at why h = early s at why h .small
+
+-- and at a place within the bytes
+pub field-within : (s : List ℕ) (at : ℕ) (why : WireError) → step.Refused why ≡ readField s at
+    → Within (length s) (spotOf why)
+field-within s at why h = early s at why h .within

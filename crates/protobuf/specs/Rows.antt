@@ -15,13 +15,13 @@ use Rattle.protobuf.specs.Field.{readField}
 
 pub rows :
     (readField [] 0 ≡ step.End)
-    × (readField (0x80 ∷ []) 0 ≡ step.Refused (Varint BufferTooShort))
-    × (readField (0x80 ∷ 0 ∷ []) 0 ≡ step.Refused (Varint NonCanonical))
+    × (readField (0x80 ∷ []) 0 ≡ step.Refused (Varint BufferTooShort 0))
+    × (readField (0x80 ∷ 0 ∷ []) 0 ≡ step.Refused (Varint NonCanonical 0))
     × (readField (0 ∷ []) 0 ≡ step.Refused (InvalidFieldNumber 0 0))
     × (readField (3 ∷ []) 0 ≡ step.Refused (InvalidFieldNumber 0 0))
     × (readField (0x0b ∷ []) 0 ≡ step.Refused (UnsupportedWireType 3 1))
     × (readField (0x0a ∷ 5 ∷ 8 ∷ []) 0 ≡ step.Refused (FieldOverflow 2 5 1))
-    × (readField (0x08 ∷ []) 0 ≡ step.Refused (Varint BufferTooShort))
+    × (readField (0x08 ∷ []) 0 ≡ step.Refused (Varint BufferTooShort 1))
     × (readField (0x09 ∷ []) 0 ≡ step.Refused (FieldOverflow 1 8 0))
     × (readField (0x0d ∷ 0 ∷ []) 0 ≡ step.Refused (FieldOverflow 1 4 1))
     × (readField (0x0a ∷ replicate 9 0xff ++ (1 ∷ [])) 0 ≡ step.Refused (FieldOverflow 11 18446744073709551615 0))

@@ -24,6 +24,7 @@ use Rattle.protobuf.specs.declared.Step.{Step}
 use Rattle.protobuf.specs.declared.Step.the-variants as step
 use Rattle.protobuf.specs.Field.{readTag, readLen, readVarint, pastValue, pastPart, skipField, ofValue, ofPart}
 use Rattle.protobuf.specs.Field.{ofSkip, readValue, ofTag, readField, walkSkip, walkTag, walkStep}
+use Rattle.protobuf.specs.Refusal.{here}
 use Rattle.protobuf.specs.Laws.{Stands, field-stands, field-end}
 use Rattle.protobuf.specs.Walk.{Fields, end, refused, _then_, onStep, walkFrom, walkAt, between}
 
@@ -65,7 +66,7 @@ walk-end s at h = walk-on s at step.End (sym (field-end s at h))
 -- ---- the host's walk is this walk: its step finds the same field, the same end, and the same refusal
 abbrev pub outline : Step → Walk
 outline step.End = walk.End
-outline (step.Refused why) = walk.Refused why
+outline (step.Refused why) = walk.Refused (here why)
 outline (step.At f) = walk.Field (f .field) (f .«wire_type») (f .«tag_end») (record { at = f .next })
 
 value-outline : (n type at : ℕ) (r : VarintValue) → walkSkip n type at (pastValue r) ≡ outline (ofValue n type at r)

@@ -11,7 +11,9 @@ ghost use Rattle.basis.specs.Writing.{endIn, setIn};
 ghost use Rattle.basis.specs.Unique.{Leaves};
 ghost use Rattle.peer_id.specs.Uvarint.{readUvarint};
 ghost use Rattle.protobuf.specs.Field.{readTag, readLen, readString, readVarint, skipFixed, skipField, readValue, readField, walkStep};
+ghost use Rattle.protobuf.specs.Refusal.{spotOf, here, nowhere};
 ghost use Rattle.protobuf.specs.Encode.{tag, varintField, bytesField, tagRefused, encoded, left};
+use basis::Spot;
 use basis::has_room;
 use peer_id::Uvarint;
 use peer_id::VarintError;
@@ -34,9 +36,13 @@ pub const MAX_FIELD_NUMBER: u64 = 536870911;
 // The largest body, in bytes.
 pub const MAX_RPC_SIZE: usize = 65536;
 
-// Why a body is refused: 1 to 7 with the Rust's names, then 10 and 11, which the Rust does not have.
+// Why a body is refused: 1 to 7 with the Rust's names, then 10 and 11, which the Rust does not have. An offset counts from the start of the slice
+// that was read: of a bad varint it is its first byte's, and the Rust does not have it.
 pub enum WireError {
-    Varint(VarintError),
+    Varint {
+        error: VarintError,
+        offset: usize,
+    },
     FieldOverflow {
         offset: usize,
         length: u64,
@@ -59,6 +65,56 @@ pub enum WireError {
     TooManyRecords {
         records: usize,
     },
+}
+
+// A refusal of a body, and where in the body it stands.
+pub struct Refusal {
+    pub why: WireError,
+    pub spot: Spot,
+}
+
+// Where in the slice that was read a refusal stands.
+pub fn spot_of(why: WireError) -> Spot
+    ensures { λ r. ⌜ r ≡ spotOf why ⌝ }
+{
+    match why {
+        WireError::Varint { error: _, offset } => Spot::at(offset),
+        WireError::FieldOverflow {
+            offset,
+            length: _,
+            remaining: _,
+        } => Spot::at(offset),
+        WireError::UnsupportedWireType {
+            wire_type: _,
+            offset,
+        } => Spot::at(offset),
+        WireError::InvalidFieldNumber { field: _, offset } => Spot::at(offset),
+        WireError::InvalidUtf8 { offset } => Spot::at(offset),
+        WireError::TooLarge { len: _ } => Spot::Nowhere,
+        WireError::TooManyRecords { records: _ } => Spot::Nowhere,
+    }
+}
+
+impl Refusal {
+    // A refusal where the slice that was read is the body.
+    pub fn here(why: WireError) -> Refusal
+        ensures { λ r. ⌜ r ≡ here why ⌝ }
+    {
+        Refusal {
+            why,
+            spot: spot_of(why),
+        }
+    }
+
+    // A refusal of no byte of a body.
+    pub fn nowhere(why: WireError) -> Refusal
+        ensures { λ r. ⌜ r ≡ nowhere why ⌝ }
+    {
+        Refusal {
+            why,
+            spot: Spot::Nowhere,
+        }
+    }
 }
 
 pub enum Tag {
@@ -123,7 +179,7 @@ pub fn read_tag(input: &[u8], idx: usize) -> Tag
     }
     let v = uvarint_at(input, idx);
     match v {
-        Uvarint::Refused(why) => Tag::Refused(WireError::Varint(why)),
+        Uvarint::Refused(error) => Tag::Refused(WireError::Varint { error, offset: idx }),
         Uvarint::Value { value, used } => {
             let field = value / 8;
             if field == 0 {
@@ -147,7 +203,7 @@ pub fn read_len_delimited(input: &[u8], idx: usize) -> Part
 {
     let v = uvarint_at(input, idx);
     match v {
-        Uvarint::Refused(why) => Part::Refused(WireError::Varint(why)),
+        Uvarint::Refused(error) => Part::Refused(WireError::Varint { error, offset: idx }),
         Uvarint::Value { value, used } => {
             let start = idx + used;
             let remaining = input.len() - start;
@@ -188,7 +244,7 @@ pub fn read_varint_value(input: &[u8], idx: usize) -> VarintValue
 {
     let v = uvarint_at(input, idx);
     match v {
-        Uvarint::Refused(why) => VarintValue::Refused(WireError::Varint(why)),
+        Uvarint::Refused(error) => VarintValue::Refused(WireError::Varint { error, offset: idx }),
         Uvarint::Value { value, used } => VarintValue::Value {
             value,
             next: idx + used,
@@ -446,7 +502,7 @@ pub enum Walk {
         tag_end: usize,
         next: Cursor,
     },
-    Refused(WireError),
+    Refused(Refusal),
 }
 
 impl Cursor {
@@ -456,12 +512,12 @@ impl Cursor {
     {
         let at = self.at;
         if MAX_RPC_SIZE < body.len() {
-            return Walk::Refused(WireError::TooLarge { len: body.len() });
+            return Walk::Refused(Refusal::nowhere(WireError::TooLarge { len: body.len() }));
         }
         let t = read_tag(body, at);
         match t {
             Tag::End => Walk::End,
-            Tag::Refused(why) => Walk::Refused(why),
+            Tag::Refused(why) => Walk::Refused(Refusal::here(why)),
             Tag::Field {
                 field,
                 wire_type,
@@ -469,7 +525,7 @@ impl Cursor {
             } => {
                 let k = skip_field(body, next, wire_type);
                 match k {
-                    Skip::Refused(why) => Walk::Refused(why),
+                    Skip::Refused(why) => Walk::Refused(Refusal::here(why)),
                     Skip::Next(end) => Walk::Field {
                         field,
                         wire_type,
@@ -486,12 +542,13 @@ impl Cursor {
 pub enum Encoded {
     Bytes(usize),
     Room(usize),
-    Refused(WireError),
+    Refused(Refusal),
 }
 
+// Whether a body is taken, or a tag can be written.
 pub enum Checked {
     Fine,
-    Refused(WireError),
+    Refused(Refusal),
 }
 
 // A tag has a field number from 1 to 2^29 - 1 and three bits of wire type.
@@ -499,16 +556,16 @@ fn check_tag(field: u64, wire_type: u8) -> Checked
     ensures { λ r. ⌜ r ≡ tagRefused field «wire_type» ⌝ }
 {
     if field == 0 {
-        return Checked::Refused(WireError::InvalidFieldNumber { field, offset: 0 });
+        return Checked::Refused(Refusal::nowhere(WireError::InvalidFieldNumber { field, offset: 0 }));
     }
     if MAX_FIELD_NUMBER < field {
-        return Checked::Refused(WireError::InvalidFieldNumber { field, offset: 0 });
+        return Checked::Refused(Refusal::nowhere(WireError::InvalidFieldNumber { field, offset: 0 }));
     }
     if 7 < wire_type {
-        return Checked::Refused(WireError::UnsupportedWireType {
+        return Checked::Refused(Refusal::nowhere(WireError::UnsupportedWireType {
             wire_type,
             offset: 0,
-        });
+        }));
     }
     Checked::Fine
 }

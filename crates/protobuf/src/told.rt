@@ -1,7 +1,8 @@
 // What a refusal of a body, a writer of fields and the host's walk tell: the scope's number and the values beside it.
 ghost use mathlib.Core.Path.{_≡_};
-ghost use Rattle.protobuf.specs.Told.{wireTold, encodedTold, walkTold};
+ghost use Rattle.protobuf.specs.Told.{wireTold, refusalTold, encodedTold, walkTold};
 use super::Encoded;
+use super::Refusal;
 use super::Walk;
 use super::WireError;
 use basis::Told;
@@ -12,7 +13,7 @@ pub fn told_wire(why: WireError) -> Told
     ensures { λ r. ⌜ r ≡ wireTold why ⌝ }
 {
     match why {
-        WireError::Varint(why) => told_varint(why),
+        WireError::Varint { error, offset: _ } => told_varint(error),
         WireError::FieldOverflow {
             offset,
             length,
@@ -42,13 +43,22 @@ pub fn told_wire(why: WireError) -> Told
     }
 }
 
+// With its place.
+pub fn told_refusal(refusal: Refusal) -> Told
+    ensures { λ r. ⌜ r ≡ refusalTold refusal ⌝ }
+{
+    let why = refusal.why;
+    let spot = refusal.spot;
+    told_wire(why).placed(spot)
+}
+
 pub fn told_encoded(answer: Encoded) -> Told
     ensures { λ r. ⌜ r ≡ encodedTold answer ⌝ }
 {
     match answer {
         Encoded::Bytes(count) => Told::one(0, count as u64),
         Encoded::Room(needed) => Told::one(refusals::SHORT_ROOM, needed as u64),
-        Encoded::Refused(why) => told_wire(why),
+        Encoded::Refused(refusal) => told_refusal(refusal),
     }
 }
 
@@ -63,6 +73,6 @@ pub fn told_walk(answer: Walk) -> Told
             tag_end,
             next,
         } => Told::four(0, field, wire_type as u64, tag_end as u64, next.at as u64),
-        Walk::Refused(why) => told_wire(why),
+        Walk::Refused(refusal) => told_refusal(refusal),
     }
 }

@@ -9,22 +9,28 @@ use borrow.Author.Tests.{ltb-true, ltb-false, le-ltb, lt-ltb}
 use Rattle.basis.specs.Cases.{either, clash}
 use Rattle.protobuf.specs.declared.WireError.{WireError}
 use Rattle.protobuf.specs.declared.WireError.the-variants.{TooLarge, TooManyRecords}
+use Rattle.protobuf.specs.Refusal.{nowhere}
 use Rattle.protobuf.specs.declared.Checked.the-variants.{Fine}
 use Rattle.schema.specs.declared.Kind.the-variants as kind
 use Rattle.schema.specs.declared.Counted.{Counted}
-use Rattle.schema.specs.declared.Counted.the-variants.{Records, Refused}
+use Rattle.schema.specs.declared.Counted.the-variants as count
+use Rattle.schema.specs.declared.Tested.{Tested}
+use Rattle.schema.specs.declared.Tested.the-variants.{Records, Refused}
 use Rattle.schema.specs.Count.{counted}
+use Rattle.schema.specs.Spots.{spotIn}
 use Rattle.schema.specs.Accept.{few, bodyRecords, checked, acceptOf}
 
-pub data Gate (s : List ℕ) : Counted → Type 0 where
-  large : 65536 < length s → Gate s (Refused (TooLarge (length s)))
-  bad : length s ≤ 65536 → (why : WireError) → counted kind.Rpc s ≡ Refused why → Gate s (Refused why)
-  many : length s ≤ 65536 → (n : ℕ) → counted kind.Rpc s ≡ Records n → 512 < n → Gate s (Refused (TooManyRecords n))
-  passes : length s ≤ 65536 → (n : ℕ) → counted kind.Rpc s ≡ Records n → n ≤ 512 → Gate s (Records n)
+pub data Gate (s : List ℕ) : Tested → Type 0 where
+  large : 65536 < length s → Gate s (Refused (nowhere (TooLarge (length s))))
+  bad : length s ≤ 65536 → (why : WireError) → counted kind.Rpc s ≡ count.Refused why
+      → Gate s (Refused (record { why = why; spot = spotIn kind.Rpc s }))
+  many : length s ≤ 65536 → (n : ℕ) → counted kind.Rpc s ≡ count.Records n → 512 < n
+      → Gate s (Refused (nowhere (TooManyRecords n)))
+  passes : length s ≤ 65536 → (n : ℕ) → counted kind.Rpc s ≡ count.Records n → n ≤ 512 → Gate s (Records n)
 
-of-counted : (s : List ℕ) (r : Counted) → length s ≤ 65536 → counted kind.Rpc s ≡ r → Gate s (few r)
-of-counted s (Refused why) h e = bad h why e
-of-counted s (Records n) h e =
+of-counted : (s : List ℕ) (r : Counted) → length s ≤ 65536 → counted kind.Rpc s ≡ r → Gate s (few (spotIn kind.Rpc s) r)
+of-counted s (count.Refused why) h e = bad h why e
+of-counted s (count.Records n) h e =
     either (ltb 512 n) (λ t. simp t (many h n e (ltb-true 512 n t))) (λ t. simp t (passes h n e (ltb-false 512 n t)))
 
 pub gate : (s : List ℕ) → Gate s (bodyRecords s)
@@ -34,28 +40,33 @@ gate s =
     (λ t. simp t (of-counted s (counted kind.Rpc s) (ltb-false 65536 (length s) t) refl))
 
 -- ---- and back
-pub records-taken : (s : List ℕ) (n : ℕ) → length s ≤ 65536 → counted kind.Rpc s ≡ Records n → n ≤ 512
+pub records-taken : (s : List ℕ) (n : ℕ) → length s ≤ 65536 → counted kind.Rpc s ≡ count.Records n → n ≤ 512
     → bodyRecords s ≡ Records n
 unfolding bodyRecords
 records-taken s n h e l = simp (le-ltb 65536 (length s) h, e, le-ltb 512 n l)
 
-pub records-many : (s : List ℕ) (n : ℕ) → length s ≤ 65536 → counted kind.Rpc s ≡ Records n → 512 < n
-    → bodyRecords s ≡ Refused (TooManyRecords n)
+pub records-many : (s : List ℕ) (n : ℕ) → length s ≤ 65536 → counted kind.Rpc s ≡ count.Records n → 512 < n
+    → bodyRecords s ≡ Refused (nowhere (TooManyRecords n))
 unfolding bodyRecords
 records-many s n h e l = simp (le-ltb 65536 (length s) h, e, lt-ltb 512 n l)
 
-pub records-large : (s : List ℕ) → 65536 < length s → bodyRecords s ≡ Refused (TooLarge (length s))
+pub records-large : (s : List ℕ) → 65536 < length s → bodyRecords s ≡ Refused (nowhere (TooLarge (length s)))
 unfolding bodyRecords
 records-large s h = simp (lt-ltb 65536 (length s) h)
+
+pub records-wrong : (s : List ℕ) (why : WireError) → length s ≤ 65536 → counted kind.Rpc s ≡ count.Refused why
+    → bodyRecords s ≡ Refused (record { why = why; spot = spotIn kind.Rpc s })
+unfolding bodyRecords
+records-wrong s why h e = simp (le-ltb 65536 (length s) h, e)
 
 -- ---- a body that is taken
 pub record Taken (s : List ℕ) : Type 0 where
   pub records : ℕ
-  pub counts : counted kind.Rpc s ≡ Records records
+  pub counts : counted kind.Rpc s ≡ count.Records records
   pub few : records ≤ 512
   pub small : length s ≤ 65536
 
-of-gate : (s : List ℕ) (r : Counted) → Gate s r → checked r ≡ Fine → Taken s
+of-gate : (s : List ℕ) (r : Tested) → Gate s r → checked r ≡ Fine → Taken s
 of-gate s _ (large h) e = clash (cc)
 of-gate s _ (bad h why q) e = clash (cc)
 of-gate s _ (many h n q l) e = clash (cc)
@@ -74,5 +85,5 @@ pub accept-small : (s : List ℕ) → acceptOf s ≡ Fine → length s ≤ 65536
 accept-small s h = is-taken s h .small
 
 -- and it has at most 512 records
-pub accept-records : (s : List ℕ) → acceptOf s ≡ Fine → (r : ℕ) × (counted kind.Rpc s ≡ Records r) × (r ≤ 512)
+pub accept-records : (s : List ℕ) → acceptOf s ≡ Fine → (r : ℕ) × (counted kind.Rpc s ≡ count.Records r) × (r ≤ 512)
 accept-records s h = let t = is-taken s h in (t .records, t .counts, t .few)

@@ -1,15 +1,17 @@
--- To be believed: Count, Accept, Told. Cited by contracts, and joined to these by theorems: Schema (the table; by
+-- To be believed: Count, Spots, Accept, Told. Cited by contracts, and joined to these by theorems: Schema (the table; by
 -- Decoded of meaning), Slots (by Back of meaning), Kinds, Made. Theorems: TextLaws. On the way to them: SchemaLaws,
--- CountLaws, AcceptLaws, SlotsLaws.
+-- CountLaws, SpotsLaws, AcceptLaws, SlotsLaws.
 pub mod Told
 pub mod Schema
 pub mod Kinds
 pub mod Count
+pub mod Spots
 pub mod Accept
 pub mod Slots
 pub mod Made
 pub mod SchemaLaws
 pub mod CountLaws
+pub mod SpotsLaws
 pub mod AcceptLaws
 pub mod TextLaws
 pub mod SlotsLaws

@@ -6,16 +6,20 @@ ghost use lib.ListN.{length};
 ghost use Rattle.schema.specs.Schema.{table, rowOf, isVarint, roleOf, formedAs, heldOf, ownOf};
 ghost use Rattle.schema.specs.Accept.{bodyRecords, acceptOf};
 ghost use Rattle.schema.specs.Count.{FieldWithin, counted, fieldCount, textCount};
+ghost use Rattle.schema.specs.Spots.{textSpot, fieldSpot, spotIn};
 ghost use Rattle.schema.specs.Slots.{setPlace, placeOf, withField, slotsOf, hasField};
 ghost use Rattle.schema.specs.Made.{placeFrom, numberFrom, madeFrom, indexOf, Sixes};
+use basis::Spot;
 use protobuf::Checked;
 use protobuf::Field;
 use protobuf::MAX_RPC_SIZE;
+use protobuf::Refusal;
 use protobuf::Step;
 use protobuf::WIRE_LEN;
 use protobuf::WIRE_VARINT;
 use protobuf::WireError;
 use protobuf::read_field;
+use protobuf::spot_of;
 
 // The most records that a body may have.
 pub const MAX_RECORDS: usize = 512;
@@ -95,6 +99,12 @@ pub struct Slots {
 pub enum Counted {
     Records(usize),
     Refused(WireError),
+}
+
+// The same of a whole body, with the refusal's place.
+pub enum Tested {
+    Records(usize),
+    Refused(Refusal),
 }
 
 // The role of a message's field, by its number: the table of messages.
@@ -381,21 +391,95 @@ pub fn count(input: &[u8], kind: Kind) -> Counted
     Counted::Records(n)
 }
 
-// How many records a body has, or why it is refused: 10, 1 to 7, 11. This is the one test of a body.
-pub fn body_records(body: &[u8]) -> Counted
+// Where a field of text is refused.
+fn spot_text(input: &[u8], f: Field) -> Spot
+    requires { ⌜ FieldWithin (now input) f ⌝ }
+    ensures { λ r. ⌜ r ≡ textSpot (now (input .entry)) f ⌝ }
+{
+    let start = f.start;
+    let next = f.next;
+    if utf8::is_utf8(&input[start..next]) {
+        return Spot::Nowhere;
+    }
+    Spot::at(f.tag_end)
+}
+
+// Where a field of a message is refused.
+fn spot_field(input: &[u8], kind: Kind, f: Field) -> Spot
+    requires { ⌜ FieldWithin (now input) f ⌝ }
+    ensures { λ r. ⌜ r ≡ fieldSpot kind (now (input .entry)) f ⌝ }
+{
+    let role = role_of(kind, f.field, f.wire_type);
+    match role {
+        Role::Skip => Spot::Nowhere,
+        Role::Number(_) => Spot::Nowhere,
+        Role::Text(_) => spot_text(input, f),
+        Role::Bytes(_) => Spot::Nowhere,
+        Role::Topic => spot_text(input, f),
+        Role::MessageId => Spot::Nowhere,
+        Role::Sub(k, _) => {
+            let start = f.start;
+            let next = f.next;
+            let spot = spot_in(&input[start..next], k);
+            spot.inside(f.field, start)
+        }
+        Role::Unsigned(_) => Spot::Nowhere,
+    }
+}
+
+// Where a message is refused, at its first refusal in reading order. Bodies that are taken are not walked so: it is asked of refused ones only.
+pub fn spot_in(input: &[u8], kind: Kind) -> Spot
+    ensures { λ r. ⌜ r ≡ spotIn kind (now (input .entry)) ⌝ }
+{
+    let mut at: usize = 0;
+    while at < input.len() {
+        let step = read_field(input, at);
+        match step {
+            Step::End => {
+                return Spot::Nowhere;
+            }
+            Step::Refused(why) => {
+                return spot_of(why);
+            }
+            Step::At(f) => {
+                let spot = spot_field(input, kind, f);
+                match spot {
+                    Spot::At {
+                        offset: _,
+                        outer: _,
+                        middle: _,
+                        inner: _,
+                    } => {
+                        return spot;
+                    }
+                    Spot::Nowhere => {
+                        at = f.next;
+                    }
+                }
+            }
+        }
+    }
+    Spot::Nowhere
+}
+
+// How many records a body has, or why it is refused, and where: 10, 1 to 7, 11. This is the one test of a body.
+pub fn body_records(body: &[u8]) -> Tested
     ensures { λ r. ⌜ r ≡ bodyRecords (now (body .entry)) ⌝ }
 {
     if MAX_RPC_SIZE < body.len() {
-        return Counted::Refused(WireError::TooLarge { len: body.len() });
+        return Tested::Refused(Refusal::nowhere(WireError::TooLarge { len: body.len() }));
     }
     let c = count(body, Kind::Rpc);
     match c {
-        Counted::Refused(why) => Counted::Refused(why),
+        Counted::Refused(why) => Tested::Refused(Refusal {
+            why,
+            spot: spot_in(body, Kind::Rpc),
+        }),
         Counted::Records(n) => {
             if MAX_RECORDS < n {
-                return Counted::Refused(WireError::TooManyRecords { records: n });
+                return Tested::Refused(Refusal::nowhere(WireError::TooManyRecords { records: n }));
             }
-            Counted::Records(n)
+            Tested::Records(n)
         }
     }
 }
@@ -406,8 +490,8 @@ pub fn accept(body: &[u8]) -> Checked
 {
     let c = body_records(body);
     match c {
-        Counted::Refused(why) => Checked::Refused(why),
-        Counted::Records(_) => Checked::Fine,
+        Tested::Refused(refusal) => Checked::Refused(refusal),
+        Tested::Records(_) => Checked::Fine,
     }
 }
 
