@@ -213,17 +213,18 @@ read-valued s n type to f b h =
 record Named (n type to : ℕ) (f : Field) : Type 0 where
   number-of : f .field ≡ n
   type-of : f .«wire_type» ≡ type
+  end-of : f .«tag_end» ≡ to
 
 value-named : (n type to : ℕ) (f : Field) (r : VarintValue) → step.At f ≡ ofValue n type to r → Named n type to f
-value-named n type to f (value.Value x e) h = record { number-of = cc; type-of = cc }
+value-named n type to f (value.Value x e) h = record { number-of = cc; type-of = cc; end-of = cc }
 value-named n type to f (value.Refused why) h = clash (cc)
 
 part-named : (n type to : ℕ) (f : Field) (r : Part) → step.At f ≡ ofPart n type to r → Named n type to f
-part-named n type to f (part.Bytes a e) h = record { number-of = cc; type-of = cc }
+part-named n type to f (part.Bytes a e) h = record { number-of = cc; type-of = cc; end-of = cc }
 part-named n type to f (part.Refused why) h = clash (cc)
 
 skip-named : (n type to : ℕ) (f : Field) (r : Skip) → step.At f ≡ ofSkip n type to r → Named n type to f
-skip-named n type to f (skip.Next e) h = record { number-of = cc; type-of = cc }
+skip-named n type to f (skip.Next e) h = record { number-of = cc; type-of = cc; end-of = cc }
 skip-named n type to f (skip.Refused why) h = clash (cc)
 
 read-named : (s : List ℕ) (n type to : ℕ) (f : Field) → step.At f ≡ readValue s n type to → Named n type to f
@@ -239,6 +240,7 @@ pub record Stood (s : List ℕ) (at : ℕ) (f : Field) : Type 0 where
   pub is : Value (f .«wire_type») bytes-of (payloadOf s f)
   pub least : 1 ≤ f .field
   pub most : f .field ≤ 536870911
+  pub tagged : f .«tag_end» ≡ at + length (uvarint (f .field * 8 + f .«wire_type»))
   pub here : drop at s ≡ uvarint (f .field * 8 + f .«wire_type») ++ (bytes-of ++ drop (f .next) s)
 
 tag-stood : (s : List ℕ) (at : ℕ) (f : Field) (r : Tag) → Bytes s → r ≡ readTag s at → step.At f ≡ ofTag s r
@@ -256,6 +258,7 @@ tag-stood s at f (tag.Field n type to) b q h =
       is = v .is;
       least = omega (arith, m .number-of, t .least);
       most = omega (arith, m .number-of, t .most);
+      tagged = m .end-of ∙ t .spells .ends ∙ ap (λ (l : List ℕ). at + length l) (sym tn);
       here = t .spells .here ∙ ap₂ (λ (x y : List ℕ). x ++ y) (sym tn) (v .here);
     }
 
