@@ -338,9 +338,10 @@ sound s (g ∷ hs) at b h =
 
 -- ---- from the grammar to the walk: each value is read where it stands
 -- a field of the grammar is read at its place, and what it holds is the grammar's
-pub record Found (s : List ℕ) (at n : ℕ) (p : Payload) (rest : List ℕ) : Type 0 where
+pub record Found (s : List ℕ) (at n type : ℕ) (p : Payload) (rest : List ℕ) : Type 0 where
   pub f : Field
   pub read : step.At f ≡ readField s at
+  pub tagged : f .«tag_end» ≡ at + length (uvarint (n * 8 + type))
   pub entry : entryOf s f ≡ record { field = n; payload = p }
   pub left : drop (f .next) s ≡ rest
 
@@ -348,6 +349,7 @@ pub record Found (s : List ℕ) (at n : ℕ) (p : Payload) (rest : List ℕ) : T
 record Held (s : List ℕ) (n type to : ℕ) (p : Payload) (rest : List ℕ) : Type 0 where
   f : Field
   read : step.At f ≡ readValue s n type to
+  tagged : f .«tag_end» ≡ to
   entry : entryOf s f ≡ record { field = n; payload = p }
   left : drop (f .next) s ≡ rest
 
@@ -365,6 +367,7 @@ varint-held s n to v rest b h =
     record {
       f = record { field = n; «wire_type» = 0; «tag_end» = to; value = v; start = e; next = e };
       read = simp (reads-spelt s to v rest b h);
+      tagged = refl;
       entry = refl;
       left = drop-front s to (uvarint v) rest h;
     }
@@ -385,6 +388,7 @@ bytes-held s n to d rest b h =
     record {
       f = record { field = n; «wire_type» = 2; «tag_end» = to; value = e - a; start = a; next = e };
       read = simp (reads-spelt s to (length d) (d ++ rest) b h1, le-ltb _ _ k);
+      tagged = refl;
       entry = ap (λ (y : List ℕ). record { field = n; payload = bytes y }) t;
       left = drop-front s a d rest h2;
     }
@@ -412,6 +416,7 @@ four-held s n to d rest g h =
     record {
       f = record { field = n; «wire_type» = 5; «tag_end» = to; value = 0; start = to; next = to + 4 };
       read = simp (fixed-reads s to d rest 4 (omega arith) g h);
+      tagged = refl;
       entry = ap (λ (y : List ℕ). record { field = n; payload = four y }) (t .0);
       left = t .1;
     }
@@ -424,6 +429,7 @@ eight-held s n to d rest g h =
     record {
       f = record { field = n; «wire_type» = 1; «tag_end» = to; value = 0; start = to; next = to + 8 };
       read = simp (fixed-reads s to d rest 8 (omega arith) g h);
+      tagged = refl;
       entry = ap (λ (y : List ℕ). record { field = n; payload = eight y }) (t .0);
       left = t .1;
     }
@@ -461,13 +467,19 @@ tag-reads s at n type rest l m b h =
     )
 
 pub found : (s : List ℕ) (at n type : ℕ) (v rest : List ℕ) (p : Payload) → 1 ≤ n → n ≤ 536870911 → Value type v p
-    → drop at s ≡ uvarint (n * 8 + type) ++ (v ++ rest) → Found s at n p rest
+    → drop at s ≡ uvarint (n * 8 + type) ++ (v ++ rest) → Found s at n type p rest
 unfolding readField
 found s at n type v rest p l m w h =
     let t = tag-reads s at n type (v ++ rest) l m (type-bits w) h in
     let r = held s n (at + length (uvarint (n * 8 + type))) rest w
     (drop-front s at (uvarint (n * 8 + type)) (v ++ rest) h) in
-    record { f = r .f; read = r .read ∙ ap (ofTag s) (sym t); entry = r .entry; left = r .left }
+    record {
+      f = r .f;
+      read = r .read ∙ ap (ofTag s) (sym t);
+      tagged = r .tagged;
+      entry = r .entry;
+      left = r .left;
+    }
 
 -- the walk that a body of the grammar has
 pub record Walks (s : List ℕ) (at : ℕ) (es : List Entry) : Type 0 where
