@@ -20,7 +20,7 @@ use Rattle.protobuf.specs.Field.{walkStep}
 -- ` end`; or the field, its wire type, the place after its tag and the next place
 unfoldable pub walk : Walk → List ℕ
 walk End = 32 ∷ 101 ∷ 110 ∷ 100 ∷ []
-walk (Refused why) = refusal (refusalTold why)
+walk (Refused r) = refusal (refusalTold r)
 walk (Field f type at next) = number f ++ (number type ++ (number at ++ number (next .at)))
 
 -- the value and how many bytes it took

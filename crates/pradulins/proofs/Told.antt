@@ -6,6 +6,8 @@ use mathlib.Core.List.{List, [], _∷_}
 use native.Mathlib.Omega.{arith}
 use lib.ListN.{take, set}
 use lib.Seq.{sets}
+use Rattle.basis.specs.declared.Spot.{Spot}
+use Rattle.basis.specs.declared.Spot.the-variants.{Nowhere, At}
 use Rattle.basis.specs.declared.Told.{Told}
 use Rattle.basis.specs.Refusals.{malformed}
 use Rattle.basis.specs.Told.{valuesOf, told, done}
@@ -18,6 +20,7 @@ use Rattle.node.specs.Told.{startTold, faultTold}
 use Rattle.node.specs.Calls.{startAnswer, startNode, lentOf}
 use Rattle.node.specs.State.{legalSettings, freshNode}
 use Rattle.stored.specs.Layout.{nodeBytes}
+use Rattle.pradulins.specs.Handed.{spotWords, handed}
 use Rattle.pradulins.specs.Holds.{settingsTold, stateTold}
 use Rattle.pradulins.specs.Unique.{Starts}
 use Rattle.pradulins.specs.Refused.{not-started}
@@ -41,12 +44,24 @@ all-stored (suc (suc (suc zero))) a b d e vs h k l m = absurd (m refl)
 all-stored (suc (suc (suc (suc zero)))) a b d e vs h k l m = refl
 all-stored (suc (suc (suc (suc (suc n))))) a b d e vs h k l m = refl
 
+-- ---- a place
+module _ (spot : Spot) (vs : List ℕ) where
+  pub nowhere-stored : spot ≡ Nowhere → vs ≡ sets vs 4 (spotWords spot)
+  nowhere-stored e = rw e
+
+  pub spot-stored : (n a b d : ℕ) → spot ≡ At n a b d → set (set (set (set vs 4 n) 5 a) 6 b) 7 d ≡ sets vs 4 (spotWords spot)
+  spot-stored n a b d e = rw e
+
+-- ---- both
+pub told-both : (t : Told) (vs : List ℕ) {ws xs : List ℕ} → ws ≡ sets vs 0 (valuesOf t) → xs ≡ sets ws 4 (spotWords (t .spot)) → xs ≡ handed t vs
+told-both t vs e f = f ∙ ap (λ (l : List ℕ). sets l 4 (spotWords (t .spot))) e
+
 -- ---- what is told of the answer a, which is b; vs are the values before
-pub told-as : {A : Type 0} (told : A → Told) (vs : List ℕ) {a b : A} {t : Told} {r : ℕ} {ws : List ℕ} → b ≡ a → t ≡ told b → (r ≡ t .number) × (ws ≡ sets vs 0 (valuesOf t))
-    → (r ≡ told a .number) × (ws ≡ sets vs 0 (valuesOf (told a)))
+pub told-as : {A : Type 0} (told : A → Told) (vs : List ℕ) {a b : A} {t : Told} {r : ℕ} {ws : List ℕ} → b ≡ a → t ≡ told b → (r ≡ t .number) × (ws ≡ handed t vs)
+    → (r ≡ told a .number) × (ws ≡ handed (told a) vs)
 told-as told vs {a} {b} {t} e q h =
     let s : t ≡ told a = q ∙ ap told e in
-    (h .0 ∙ ap (λ (x : Told). x .number) s, h .1 ∙ ap (λ (x : Told). sets vs 0 (valuesOf x)) s)
+    (h .0 ∙ ap (λ (x : Told). x .number) s, h .1 ∙ ap (λ (x : Told). handed x vs) s)
 
 -- ---- a start
 started : (b : Bool) (n m : Node) (old : List ℕ) → startTold (cond b start.Started start.BadSetting) .number ≡ 0
