@@ -3,8 +3,9 @@
  * `rt staticlib pradulins` (target/staticlib/libpradulins.a, x86-64 Linux).
  *
  * Every call but those of "the archive", below, returns 0 or the number of a refusal (PRADULINS_..., below); where it is lent `values`, it hands numbers out in
- * them, from the first on: what it did, or what stands beside the refusal. Entries of `values` that a call does not name are left as they were. A refused call changes no other memory: not the
- * node, not the stores, not the buffer or the table. A call that succeeds writes only the bytes or records that it counts.
+ * them, from the first on: what it did, or what stands beside the refusal. A refusal 1 to 7 also says where in the body it stands, from values[4] on ("sizes",
+ * below). Entries of `values` that a call does not name are left as they were. A refused call changes no other memory: not the node, not the stores, not the
+ * buffer or the table. A call that succeeds writes only the bytes or records that it counts.
  *
  * The library keeps nothing itself and allocates nothing. A node lives in PRADULINS_NODE_SIZE bytes and two stores, all three the host's own; they may
  * be copied, saved and loaded as bytes. Every call that is lent all three tests them anew, so bytes that are no node are refused and harm nothing. What calls make
@@ -28,12 +29,14 @@ extern "C" {
 /* ---- version */
 
 /*
- * The version that this header is of, 0.3.1: 10000 times the first number, 100 times the second, and the third. pradulins_version() is that of the archive.
+ * The version that this header is of, 0.4.0: 10000 times the first number, 100 times the second, and the third. pradulins_version() is that of the archive.
+ * Since 0.4.0 `values` has 8 numbers, where it had 4: a program that was made with an earlier header lends too few, and is not to be linked with this archive.
+ * Make it anew, and hold pradulins_version() to PRADULINS_VERSION before the first call.
  * The format is that of a node's bytes and its stores: a state that was saved under another format is not to be loaded. pradulins_format() is the archive's: hold
  * it to PRADULINS_FORMAT before the first call, since a node of another format may have another length. Format 2 came with 0.3.0: a node keeps where the topics of
  * its messages stand, and has 12,432 bytes where it had 11,344. Nodes of format 1 are not taken over: start anew, and catch up.
  */
-#define PRADULINS_VERSION 301
+#define PRADULINS_VERSION 400
 #define PRADULINS_FORMAT 2
 
 /* ---- sizes */
@@ -62,9 +65,18 @@ extern "C" {
 #define PRADULINS_ID_SIZE 128
 
 /* How many numbers `values` has. */
-#define PRADULINS_VALUES 4
+#define PRADULINS_VALUES 8
 
-/* ---- refusals, and what `values` gets beside each */
+/*
+ * Where in the body a refusal 1 to 7 stands. values[PRADULINS_OFFSET]: how many bytes after the start of the whole body. For 1 to 3 that is the first byte of
+ * the varint, or where it was to begin, and for 4 to 7 the point that the offset among the first values names within the innermost field. From
+ * values[PRADULINS_FIELDS] on: the numbers of the fields that enclose it, the outermost first, at most three, 0 for none; the refused field is not among them.
+ */
+#define PRADULINS_OFFSET 4
+#define PRADULINS_FIELDS 5
+#define PRADULINS_MAX_FIELDS 3
+
+/* ---- refusals, and what `values` gets beside each. Offsets here count from the start of the innermost field that encloses the refused one */
 
 #define PRADULINS_OK 0
 #define PRADULINS_VARINT_SHORT 1        /* a varint is cut short */
@@ -287,6 +299,12 @@ static inline int pradulins_refusal_values(uint32_t number)
     case PRADULINS_CLOCK_BACK: return 1;
     default: return 0;
     }
+}
+
+/* Whether `values` also gets the place of a refusal in the body. */
+static inline bool pradulins_refusal_has_place(uint32_t number)
+{
+    return PRADULINS_VARINT_SHORT <= number && number <= PRADULINS_UTF8;
 }
 
 /* What a refusal means, in a few words; never null. It is for people: programs go by the number. */

@@ -62,12 +62,18 @@ static int failed(const char *what, const char *why)
     return 1;
 }
 
-/* A refusal in words, with its values. */
+/* A refusal in words, with its values, and where in the body it stands. */
 static void put_refusal(FILE *out, uint32_t number, const uint64_t values[PRADULINS_VALUES])
 {
     fprintf(out, "refused %" PRIu32 ": %s", number, pradulins_refusal_text(number));
     for (int i = 0; i < pradulins_refusal_values(number); i++)
         fprintf(out, "%s %" PRIu64, i == 0 ? ":" : ",", values[i]);
+    if (pradulins_refusal_has_place(number)) {
+        const uint64_t *fields = values + PRADULINS_FIELDS;
+        fprintf(out, "; at byte %" PRIu64 " of the body", values[PRADULINS_OFFSET]);
+        for (int i = 0; i < PRADULINS_MAX_FIELDS && fields[i] != 0; i++)
+            fprintf(out, "%s %" PRIu64, i == 0 ? ", in field" : ",", fields[i]);
+    }
     putc('\n', out);
 }
 

@@ -1,6 +1,6 @@
 -- The lines that answer a call on a node, in ASCII: the record's number, the call, the answer. A refusal has the
--- scope's number and, where they are asked for, the values beside it. A writer's line has the number of bytes and,
--- above 0, their hex; serve's has its two counts after that.
+-- scope's number and, where they are asked for, the values beside it and its place in the body. A writer's line has the
+-- number of bytes and, above 0, their hex; serve's has its two counts after that.
 use Prim.Native.Nat.{ℕ}
 use mathlib.Core.Bool.{Bool, false, cond}
 use mathlib.Core.List.{List, [], _∷_}

@@ -1,5 +1,5 @@
-// The lines that answer a call on a node, at the front of out. `full` says whether the values beside a refusal are printed. A line wants 192 bytes, that
-// of a writer 131,350; where they are not there nothing is written. A writer's buffer of more than 65,600 bytes has no line.
+// The lines that answer a call on a node, at the front of out. `full` says whether the values beside a refusal and its place are printed. A line wants 256
+// bytes, that of a writer 131,350; where they are not there nothing is written. A writer's buffer of more than 65,600 bytes has no line.
 ghost use Rattle.lines.specs.Lines.{Wrote};
 ghost use Rattle.answers.specs.Answers.{setLine, admitLine, beatLine, advertiseLine, askLine, serveLine};
 ghost use Rattle.answers.specs.Answers.{offerLine, whyLine, gatewayLine};
@@ -12,19 +12,19 @@ use lines::told_line;
 use lines::words_line;
 
 pub fn set_line(n: u64, t: Told, out: &mut [u8]) -> usize
-    ensures { λ k. ⌜ Wrote 192 (setLine n t) (now (out .entry)) 0 (now (out .exit)) k ⌝ }
+    ensures { λ k. ⌜ Wrote 256 (setLine n t) (now (out .entry)) 0 (now (out .exit)) k ⌝ }
 {
     told_line(n, b" set ok", b" set", false, t, out)
 }
 
 pub fn admit_line(n: u64, full: bool, t: Told, out: &mut [u8]) -> usize
-    ensures { λ k. ⌜ Wrote 192 (admitLine n full t) (now (out .entry)) 0 (now (out .exit)) k ⌝ }
+    ensures { λ k. ⌜ Wrote 256 (admitLine n full t) (now (out .entry)) 0 (now (out .exit)) k ⌝ }
 {
     either_line(n, b" admit new", b" admit dup", b" admit", full, t, out)
 }
 
 pub fn beat_line(n: u64, full: bool, t: Told, out: &mut [u8]) -> usize
-    ensures { λ k. ⌜ Wrote 192 (beatLine n full t) (now (out .entry)) 0 (now (out .exit)) k ⌝ }
+    ensures { λ k. ⌜ Wrote 256 (beatLine n full t) (now (out .entry)) 0 (now (out .exit)) k ⌝ }
 {
     told_line(n, b" beat ok", b" beat", full, t, out)
 }
@@ -49,7 +49,7 @@ pub fn serve_line(n: u64, full: bool, made: &[u8], t: Told, out: &mut [u8]) -> u
 
 // What was found of an id, by the first value; the second is its window's age.
 fn offer_line(n: u64, offer: u64, age: u64, out: &mut [u8]) -> usize
-    ensures { λ k. ⌜ Wrote 192 (offerLine n offer age) (now (out .entry)) 0 (now (out .exit)) k ⌝ }
+    ensures { λ k. ⌜ Wrote 256 (offerLine n offer age) (now (out .entry)) 0 (now (out .exit)) k ⌝ }
 {
     if offer == 0 {
         return words_line(n, b" why listed", out);
@@ -64,7 +64,7 @@ fn offer_line(n: u64, offer: u64, age: u64, out: &mut [u8]) -> usize
 }
 
 pub fn why_line(n: u64, full: bool, t: Told, out: &mut [u8]) -> usize
-    ensures { λ k. ⌜ Wrote 192 (whyLine n full t) (now (out .entry)) 0 (now (out .exit)) k ⌝ }
+    ensures { λ k. ⌜ Wrote 256 (whyLine n full t) (now (out .entry)) 0 (now (out .exit)) k ⌝ }
 {
     if t.number == 0 {
         return offer_line(n, t.first, t.second, out);
@@ -73,7 +73,7 @@ pub fn why_line(n: u64, full: bool, t: Told, out: &mut [u8]) -> usize
 }
 
 pub fn gateway_line(n: u64, t: Told, out: &mut [u8]) -> usize
-    ensures { λ k. ⌜ Wrote 192 (gatewayLine n t) (now (out .entry)) 0 (now (out .exit)) k ⌝ }
+    ensures { λ k. ⌜ Wrote 256 (gatewayLine n t) (now (out .entry)) 0 (now (out .exit)) k ⌝ }
 {
     told_line(n, b" gateway ok", b" gateway", false, t, out)
 }

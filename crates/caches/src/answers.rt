@@ -8,7 +8,7 @@ use lines::refusal_line;
 use lines::told_line;
 
 pub(crate) fn insert_line(n: u64, t: Told, out: &mut [u8]) -> usize
-    ensures { λ r. ⌜ Wrote 192 (insertLine n t) (now (out .entry)) 0 (now (out .exit)) r ⌝ }
+    ensures { λ r. ⌜ Wrote 256 (insertLine n t) (now (out .entry)) 0 (now (out .exit)) r ⌝ }
 {
     either_line(
         n,
@@ -22,7 +22,7 @@ pub(crate) fn insert_line(n: u64, t: Told, out: &mut [u8]) -> usize
 }
 
 pub(crate) fn contains_line(n: u64, t: Told, out: &mut [u8]) -> usize
-    ensures { λ r. ⌜ Wrote 192 (containsLine n t) (now (out .entry)) 0 (now (out .exit)) r ⌝ }
+    ensures { λ r. ⌜ Wrote 256 (containsLine n t) (now (out .entry)) 0 (now (out .exit)) r ⌝ }
 {
     either_line(
         n,
@@ -36,7 +36,7 @@ pub(crate) fn contains_line(n: u64, t: Told, out: &mut [u8]) -> usize
 }
 
 pub(crate) fn clean_line(n: u64, t: Told, out: &mut [u8]) -> usize
-    ensures { λ r. ⌜ Wrote 192 (cleanLine n t) (now (out .entry)) 0 (now (out .exit)) r ⌝ }
+    ensures { λ r. ⌜ Wrote 256 (cleanLine n t) (now (out .entry)) 0 (now (out .exit)) r ⌝ }
 {
     if t.number == 0 {
         return number_line(n, b" clean", t.first, out);
@@ -45,7 +45,7 @@ pub(crate) fn clean_line(n: u64, t: Told, out: &mut [u8]) -> usize
 }
 
 pub(crate) fn next_line(n: u64, t: Told, out: &mut [u8]) -> usize
-    ensures { λ r. ⌜ Wrote 192 (nextLine n t) (now (out .entry)) 0 (now (out .exit)) r ⌝ }
+    ensures { λ r. ⌜ Wrote 256 (nextLine n t) (now (out .entry)) 0 (now (out .exit)) r ⌝ }
 {
     if t.count == 1 {
         return number_line(n, b" next", t.first, out);
@@ -54,13 +54,13 @@ pub(crate) fn next_line(n: u64, t: Told, out: &mut [u8]) -> usize
 }
 
 pub(crate) fn put_line(n: u64, t: Told, out: &mut [u8]) -> usize
-    ensures { λ r. ⌜ Wrote 192 (putLine n t) (now (out .entry)) 0 (now (out .exit)) r ⌝ }
+    ensures { λ r. ⌜ Wrote 256 (putLine n t) (now (out .entry)) 0 (now (out .exit)) r ⌝ }
 {
     either_line(n, b" put stored", b" put held", b" put", true, t, out)
 }
 
 pub(crate) fn shift_line(n: u64, t: Told, out: &mut [u8]) -> usize
-    ensures { λ r. ⌜ Wrote 192 (shiftLine n t) (now (out .entry)) 0 (now (out .exit)) r ⌝ }
+    ensures { λ r. ⌜ Wrote 256 (shiftLine n t) (now (out .entry)) 0 (now (out .exit)) r ⌝ }
 {
     told_line(n, b" shift ok", b" shift", true, t, out)
 }

@@ -53,7 +53,7 @@ fn arriving(mut cache: MessageCache, next: u64) -> MessageCache {
 
 // Kind 6.
 fn begin(n: u64, content: &[u8], part: CachePart, out: &mut [u8]) -> CachePart
-    requires { ⌜ 192 ≤ length (now out) ⌝ }
+    requires { ⌜ 256 ≤ length (now out) ⌝ }
 {
     if content.len() != 12 {
         return bad(part);
@@ -77,7 +77,7 @@ fn begin(n: u64, content: &[u8], part: CachePart, out: &mut [u8]) -> CachePart
 
 // Kind 7.
 fn put(n: u64, content: &[u8], part: CachePart, store: &mut [u8], out: &mut [u8]) -> CachePart
-    requires { ⌜ 192 ≤ length (now out) ⌝ }
+    requires { ⌜ 256 ≤ length (now out) ⌝ }
 {
     if content.len() < 2 {
         return bad(part);
@@ -98,7 +98,7 @@ fn put(n: u64, content: &[u8], part: CachePart, store: &mut [u8], out: &mut [u8]
 
 // Kind 8.
 fn shift(n: u64, content: &[u8], part: CachePart, store: &[u8], out: &mut [u8]) -> CachePart
-    requires { ⌜ 192 ≤ length (now out) ⌝ }
+    requires { ⌜ 256 ≤ length (now out) ⌝ }
 {
     if content.len() != 0 {
         return bad(part);
@@ -146,7 +146,7 @@ fn say_ids(n: u64, id_lens: &[u8], ids: &[u8], rows: &[u8], count: usize, out: &
 }
 
 fn say_gossip(n: u64, cache: MessageCache, g: GossipIds, out: &mut [u8]) -> bool
-    requires { ⌜ 192 ≤ length (now out) ⌝ }
+    requires { ⌜ 256 ≤ length (now out) ⌝ }
 {
     let answer = g.answer;
     let t = told_gossip(answer);
@@ -162,7 +162,7 @@ fn say_gossip(n: u64, cache: MessageCache, g: GossipIds, out: &mut [u8]) -> bool
 
 // Kind 9.
 fn gossip(n: u64, content: &[u8], part: CachePart, store: &[u8], out: &mut [u8]) -> CachePart
-    requires { ⌜ 192 ≤ length (now out) ⌝ }
+    requires { ⌜ 256 ≤ length (now out) ⌝ }
 {
     if content.len() < 2 {
         return bad(part);
@@ -183,7 +183,7 @@ fn say_message(n: u64, message: &[u8], out: &mut [u8]) -> bool {
 
 // Kind 10.
 fn get(n: u64, content: &[u8], part: CachePart, store: &[u8], out: &mut [u8]) -> CachePart
-    requires { ⌜ 192 ≤ length (now out) ⌝ }
+    requires { ⌜ 256 ≤ length (now out) ⌝ }
 {
     let cache = part.cache;
     let answer = cache.lookup(store, content);
@@ -217,7 +217,7 @@ fn call(
     store: &mut [u8],
     out: &mut [u8],
 ) -> CachePart
-    requires { ⌜ 192 ≤ length (now out) ⌝ }
+    requires { ⌜ 256 ≤ length (now out) ⌝ }
 {
     match kind {
         7 => put(n, content, part, store, out),
@@ -237,7 +237,7 @@ pub(crate) fn cache_turn(
     out: &mut [u8],
 ) -> CachePart
     requires { ⌜ 262144 ≤ length (now store) ⌝ }
-    requires { ⌜ 192 ≤ length (now out) ⌝ }
+    requires { ⌜ 256 ≤ length (now out) ⌝ }
 {
     if kind == 6 {
         return begin(n, content, part, out);

@@ -38,7 +38,7 @@ fn play(
 ) -> Run
     requires { ⌜ 33024 ≤ length (now «seen_store») ⌝ }
     requires { ⌜ 262144 ≤ length (now «cache_store») ⌝ }
-    requires { ⌜ 192 ≤ length (now out) ⌝ }
+    requires { ⌜ 256 ≤ length (now out) ⌝ }
 {
     let seen = run.seen;
     let cache = run.cache;
@@ -81,7 +81,7 @@ fn turn(
     requires { ⌜ 65600 ≤ length (now content) ⌝ }
     requires { ⌜ 33024 ≤ length (now «seen_store») ⌝ }
     requires { ⌜ 262144 ≤ length (now «cache_store») ⌝ }
-    requires { ⌜ 192 ≤ length (now out) ⌝ }
+    requires { ⌜ 256 ≤ length (now out) ⌝ }
 {
     let h = next_record(content, 65600);
     match h {

@@ -77,7 +77,7 @@ fn begin(n: u64, content: &[u8], part: SeenPart, out: &mut [u8]) -> SeenPart {
 
 // Kind 2.
 fn insert(n: u64, content: &[u8], part: SeenPart, store: &mut [u8], out: &mut [u8]) -> SeenPart
-    requires { ⌜ 192 ≤ length (now out) ⌝ }
+    requires { ⌜ 256 ≤ length (now out) ⌝ }
 {
     if content.len() < 18 {
         return bad(part);
@@ -95,7 +95,7 @@ fn insert(n: u64, content: &[u8], part: SeenPart, store: &mut [u8], out: &mut [u
 
 // Kind 3.
 fn clean(n: u64, content: &[u8], part: SeenPart, store: &[u8], out: &mut [u8]) -> SeenPart
-    requires { ⌜ 192 ≤ length (now out) ⌝ }
+    requires { ⌜ 256 ≤ length (now out) ⌝ }
 {
     if content.len() != 8 {
         return bad(part);
@@ -111,7 +111,7 @@ fn clean(n: u64, content: &[u8], part: SeenPart, store: &[u8], out: &mut [u8]) -
 
 // Kind 4.
 fn next(n: u64, content: &[u8], part: SeenPart, store: &[u8], out: &mut [u8]) -> SeenPart
-    requires { ⌜ 192 ≤ length (now out) ⌝ }
+    requires { ⌜ 256 ≤ length (now out) ⌝ }
 {
     if content.len() != 0 {
         return bad(part);
@@ -125,7 +125,7 @@ fn next(n: u64, content: &[u8], part: SeenPart, store: &[u8], out: &mut [u8]) ->
 
 // Kind 5.
 fn contains(n: u64, content: &[u8], part: SeenPart, store: &[u8], out: &mut [u8]) -> SeenPart
-    requires { ⌜ 192 ≤ length (now out) ⌝ }
+    requires { ⌜ 256 ≤ length (now out) ⌝ }
 {
     let cache = part.cache;
     let answer = cache.contains(store, content);
@@ -150,7 +150,7 @@ fn call(
     store: &mut [u8],
     out: &mut [u8],
 ) -> SeenPart
-    requires { ⌜ 192 ≤ length (now out) ⌝ }
+    requires { ⌜ 256 ≤ length (now out) ⌝ }
 {
     match kind {
         2 => insert(n, content, part, store, out),
@@ -170,7 +170,7 @@ pub(crate) fn seen_turn(
     out: &mut [u8],
 ) -> SeenPart
     requires { ⌜ 33024 ≤ length (now store) ⌝ }
-    requires { ⌜ 192 ≤ length (now out) ⌝ }
+    requires { ⌜ 256 ≤ length (now out) ⌝ }
 {
     if kind == 1 {
         return begin(n, content, part, out);

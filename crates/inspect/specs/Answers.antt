@@ -14,13 +14,13 @@ use Rattle.peer_id.specs.Told.{varintTold}
 use Rattle.utf8.specs.Utf8.{isUtf8}
 use Rattle.protobuf.specs.declared.Walk.{Walk}
 use Rattle.protobuf.specs.declared.Walk.the-variants.{End, Field, Refused}
-use Rattle.protobuf.specs.Told.{wireTold}
+use Rattle.protobuf.specs.Told.{refusalTold}
 use Rattle.protobuf.specs.Field.{walkStep}
 
 -- ` end`; or the field, its wire type, the place after its tag and the next place
 unfoldable pub walk : Walk → List ℕ
 walk End = 32 ∷ 101 ∷ 110 ∷ 100 ∷ []
-walk (Refused why) = refusal (wireTold why)
+walk (Refused r) = refusal (refusalTold r)
 walk (Field f type at next) = number f ++ (number type ++ (number at ++ number (next .at)))
 
 -- the value and how many bytes it took

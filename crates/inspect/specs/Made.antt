@@ -1,4 +1,5 @@
--- The lines of what was written: the call, the number of bytes and, above 0, their hex; or the refusal with its values.
+-- The lines of what was written: the call, the number of bytes and, above 0, their hex; or the refusal with its values
+-- and its place.
 use Prim.Native.Nat.{ℕ}
 use mathlib.Core.Bool.{true}
 use mathlib.Core.List.{List, [], _∷_}

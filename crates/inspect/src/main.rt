@@ -35,8 +35,8 @@ use text::next_header;
 
 // One step of the field walk.
 fn put_walk(out: &mut [u8], at: usize, w: Walk) -> usize
-    requires { ⌜ at + 92 ≤ length (now out) ⌝ }
-    ensures { λ r. ⌜ Puts 92 (walk w) (now (out .entry)) at (now (out .exit)) r ⌝ }
+    requires { ⌜ at + 182 ≤ length (now out) ⌝ }
+    ensures { λ r. ⌜ Puts 182 (walk w) (now (out .entry)) at (now (out .exit)) r ⌝ }
 {
     match w {
         Walk::End => put_word(out, at, b" end"),
@@ -57,8 +57,8 @@ fn put_walk(out: &mut [u8], at: usize, w: Walk) -> usize
 }
 
 fn put_varint(out: &mut [u8], at: usize, v: Uvarint) -> usize
-    requires { ⌜ at + 92 ≤ length (now out) ⌝ }
-    ensures { λ r. ⌜ Puts 92 (varint v) (now (out .entry)) at (now (out .exit)) r ⌝ }
+    requires { ⌜ at + 182 ≤ length (now out) ⌝ }
+    ensures { λ r. ⌜ Puts 182 (varint v) (now (out .entry)) at (now (out .exit)) r ⌝ }
 {
     match v {
         Uvarint::Refused(why) => put_refusal(out, at, told_varint(why)),

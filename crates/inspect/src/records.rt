@@ -216,8 +216,8 @@ fn put_decoded(out: &mut [u8], at: usize, t: Told) -> usize
 
 // Puts the line of record n at the front of out and says how long it is.
 pub(crate) fn decode_line(n: u64, t: Told, out: &mut [u8]) -> usize
-    requires { ⌜ 192 ≤ length (now out) ⌝ }
-    ensures { λ r. ⌜ Wrote 192 (decodeLine n t) (now (out .entry)) 0 (now (out .exit)) r ⌝ }
+    requires { ⌜ 256 ≤ length (now out) ⌝ }
+    ensures { λ r. ⌜ Wrote 256 (decodeLine n t) (now (out .entry)) 0 (now (out .exit)) r ⌝ }
 {
     if t.number == 0 {
         let i = start_line(out, n);

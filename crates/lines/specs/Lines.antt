@@ -5,7 +5,10 @@ use mathlib.Core.List.{List, [], _∷_, _++_}
 use mathlib.Core.Bool.{Bool, cond}
 use lib.ListN.{length, take}
 use lib.Dec.{ltb, leb, eqb}
+use Rattle.basis.specs.declared.Spot.{Spot}
+use Rattle.basis.specs.declared.Spot.the-variants.{Nowhere, At}
 use Rattle.basis.specs.declared.Told.{Told}
+use Rattle.basis.specs.Spot.{fieldsOf}
 use Rattle.basis.specs.Writing.{endIn, setIn}
 use Rattle.text.specs.Line.{decimal, number, numbers, refused, hex}
 
@@ -19,9 +22,20 @@ pub record Wrote (room : ℕ) (xs before : List ℕ) (at : ℕ) (after : List �
 abbrev pub fitting : ℕ → List ℕ → List ℕ → List ℕ
 fitting most s xs = cond (leb (length s) most) xs []
 
--- ` refused`, the number in the scope's table, the values beside it, of which a refusal has at most three
+-- ` in` and the numbers of the fields that enclose a place, the outermost first; nothing where none does
+unfoldable pub fieldsText : List ℕ → List ℕ
+fieldsText [] = []
+fieldsText (n ∷ ns) = 32 ∷ 105 ∷ 110 ∷ numbers (n ∷ ns)
+
+-- where in the body: ` at`, the offset, and the fields
+unfoldable pub spotText : Spot → List ℕ
+spotText Nowhere = []
+spotText (At offset outer middle inner) =
+    32 ∷ 97 ∷ 116 ∷ (number offset ++ fieldsText (fieldsOf (At offset outer middle inner)))
+
+-- ` refused`, the number in the scope's table, the values beside it, of which a refusal has at most three, and its place
 abbrev pub refusal : Told → List ℕ
-refusal t = refused (t .number) (take (t .count) (t .first ∷ t .second ∷ t .third ∷ []))
+refusal t = refused (t .number) (take (t .count) (t .first ∷ t .second ∷ t .third ∷ [])) ++ spotText (t .spot)
 
 -- above 0, a blank and the hex of the first n bytes
 unfoldable pub shownText : List ℕ → ℕ → List ℕ
@@ -34,13 +48,10 @@ wordsLine n words = fitting 32 words (decimal n ++ (words ++ (10 ∷ [])))
 unfoldable pub numberLine : ℕ → List ℕ → ℕ → List ℕ
 numberLine n words value = fitting 32 words (decimal n ++ ((words ++ number value) ++ (10 ∷ [])))
 
--- a refusal, with its values where `full`
+-- a refusal, with its values and its place where `full`
 unfoldable pub refusalLine : ℕ → List ℕ → Bool → Told → List ℕ
 refusalLine n words full t =
-    fitting 32 words
-    (decimal n
-    ++ ((words ++ refused (t .number) (take (cond full (t .count) 0) (t .first ∷ t .second ∷ t .third ∷ [])))
-    ++ (10 ∷ [])))
+    fitting 32 words (decimal n ++ ((words ++ cond full (refusal t) (refused (t .number) [])) ++ (10 ∷ [])))
 
 -- what was done, or the call and its refusal
 unfoldable pub toldLine : ℕ → List ℕ → List ℕ → Bool → Told → List ℕ

@@ -5,10 +5,14 @@ ghost use Prim.Native.Nat.{_+_, _-_, _≤_};
 ghost use mathlib.Core.Bool.{cond};
 ghost use mathlib.Core.List.{[], _∷_, _++_};
 ghost use lib.ListN.{length, take};
+ghost use Rattle.basis.specs.Spot.{fieldsOf};
+ghost use Rattle.basis.specs.declared.Spot.the-variants.{At};
 ghost use Rattle.text.specs.Line.{Puts, decimal, number, numbers, refused};
-ghost use Rattle.lines.specs.Lines.{Wrote, refusal, shownText, wordsLine, numberLine, refusalLine};
+ghost use Rattle.lines.specs.Lines.{Wrote, fieldsText, spotText, refusal, shownText, wordsLine, numberLine, refusalLine};
 ghost use Rattle.lines.specs.Lines.{toldLine, eitherLine, bytesLine, madeLine};
+use basis::Spot;
 use basis::Told;
+use basis::has_room;
 
 pub fn put_word(out: &mut [u8], at: usize, word: &[u8]) -> usize
     ensures { λ r. ⌜ Wrote (length (now (word .entry))) (now (word .entry)) (now (out .entry)) at (now (out .exit)) r ⌝ }
@@ -53,19 +57,84 @@ fn put_refused(
     text::put_refused(out, at, refusal, count, first, second, third)
 }
 
-// A refusal of the scope's table, with its values.
-pub fn put_refusal(out: &mut [u8], at: usize, t: Told) -> usize
-    ensures { λ r. ⌜ Wrote 92 (refusal t) (now (out .entry)) at (now (out .exit)) r ⌝ }
+// How many fields enclose a place.
+fn depth(outer: u64, middle: u64, inner: u64) -> u64
+    ensures { λ r. ⌜ r ≡ length (fieldsOf (At 0 outer middle inner)) ⌝ }
 {
-    put_refused(
-        out,
-        at,
-        t.number as u64,
-        t.count as u64,
-        t.first,
-        t.second,
-        t.third,
-    )
+    if outer == 0 {
+        return 0;
+    }
+    if middle == 0 {
+        return 1;
+    }
+    if inner == 0 {
+        return 2;
+    }
+    3
+}
+
+// The fields that enclose a place.
+fn put_fields(out: &mut [u8], at: usize, outer: u64, middle: u64, inner: u64) -> usize
+    requires { ⌜ at + 66 ≤ length (now out) ⌝ }
+    ensures { λ r. ⌜ Puts 66 (fieldsText (fieldsOf (At 0 outer middle inner))) (now (out .entry)) at (now (out .exit)) r ⌝ }
+{
+    let count = depth(outer, middle, inner);
+    if count == 0 {
+        return at;
+    }
+    let i = put_word(out, at, b" in");
+    put_values(out, i, count, outer, middle, inner)
+}
+
+// Where in the body a refusal stands.
+fn put_spot(out: &mut [u8], at: usize, spot: Spot) -> usize
+    requires { ⌜ at + 90 ≤ length (now out) ⌝ }
+    ensures { λ r. ⌜ Puts 90 (spotText spot) (now (out .entry)) at (now (out .exit)) r ⌝ }
+{
+    match spot {
+        Spot::Nowhere => at,
+        Spot::At {
+            offset,
+            outer,
+            middle,
+            inner,
+        } => {
+            let i = put_word(out, at, b" at");
+            let j = put_value(out, i, offset as u64);
+            put_fields(out, j, outer, middle, inner)
+        }
+    }
+}
+
+// A refusal of the scope's table, with its values and its place.
+pub fn put_refusal(out: &mut [u8], at: usize, t: Told) -> usize
+    ensures { λ r. ⌜ Wrote 182 (refusal t) (now (out .entry)) at (now (out .exit)) r ⌝ }
+{
+    if has_room(out.len(), at, 182) {
+        let i = put_refused(
+            out,
+            at,
+            t.number as u64,
+            t.count as u64,
+            t.first,
+            t.second,
+            t.third,
+        );
+        let spot = t.spot;
+        return put_spot(out, i, spot);
+    }
+    at
+}
+
+// Its number alone where it is not to be shown in full.
+fn put_told(out: &mut [u8], at: usize, full: bool, t: Told) -> usize
+    requires { ⌜ at + 182 ≤ length (now out) ⌝ }
+    ensures { λ r. ⌜ Puts 182 (cond full (refusal t) (refused (t .number) [])) (now (out .entry)) at (now (out .exit)) r ⌝ }
+{
+    if full {
+        return put_refusal(out, at, t);
+    }
+    put_refused(out, at, t.number as u64, 0, 0, 0, 0)
 }
 
 // The hex of the first bytes. A writer never counts more than it was lent.
@@ -101,14 +170,14 @@ pub fn end_line(out: &mut [u8], at: usize) -> usize
     put_word(out, at, b"\n")
 }
 
-// Puts the line of record n at the front of out and says how long it is: the words. 192 bytes hold each line that shows no bytes.
+// Puts the line of record n at the front of out and says how long it is: the words. 256 bytes hold each line that shows no bytes.
 pub fn words_line(n: u64, words: &[u8], out: &mut [u8]) -> usize
-    ensures { λ r. ⌜ Wrote 192 (wordsLine n (now (words .entry))) (now (out .entry)) 0 (now (out .exit)) r ⌝ }
+    ensures { λ r. ⌜ Wrote 256 (wordsLine n (now (words .entry))) (now (out .entry)) 0 (now (out .exit)) r ⌝ }
 {
     if 32 < words.len() {
         return 0;
     }
-    if out.len() < 192 {
+    if out.len() < 256 {
         return 0;
     }
     let i = start_line(out, n);
@@ -118,12 +187,12 @@ pub fn words_line(n: u64, words: &[u8], out: &mut [u8]) -> usize
 
 // The words and a number.
 pub fn number_line(n: u64, words: &[u8], value: u64, out: &mut [u8]) -> usize
-    ensures { λ r. ⌜ Wrote 192 (numberLine n (now (words .entry)) value) (now (out .entry)) 0 (now (out .exit)) r ⌝ }
+    ensures { λ r. ⌜ Wrote 256 (numberLine n (now (words .entry)) value) (now (out .entry)) 0 (now (out .exit)) r ⌝ }
 {
     if 32 < words.len() {
         return 0;
     }
-    if out.len() < 192 {
+    if out.len() < 256 {
         return 0;
     }
     let i = start_line(out, n);
@@ -132,33 +201,25 @@ pub fn number_line(n: u64, words: &[u8], value: u64, out: &mut [u8]) -> usize
     end_line(out, k)
 }
 
-// How many of a refusal's values are printed.
-fn printed(full: bool, count: u8) -> u64
-    ensures { λ r. ⌜ r ≡ cond full count 0 ⌝ }
-{
-    if full { count as u64 } else { 0 }
-}
-
-// The words and a refusal, with its values where `full`.
+// The words and a refusal, with its values and its place where `full`.
 pub fn refusal_line(n: u64, words: &[u8], full: bool, t: Told, out: &mut [u8]) -> usize
-    ensures { λ r. ⌜ Wrote 192 (refusalLine n (now (words .entry)) full t) (now (out .entry)) 0 (now (out .exit)) r ⌝ }
+    ensures { λ r. ⌜ Wrote 256 (refusalLine n (now (words .entry)) full t) (now (out .entry)) 0 (now (out .exit)) r ⌝ }
 {
     if 32 < words.len() {
         return 0;
     }
-    if out.len() < 192 {
+    if out.len() < 256 {
         return 0;
     }
-    let count = printed(full, t.count);
     let i = start_line(out, n);
     let j = put_word(out, i, words);
-    let k = put_refused(out, j, t.number as u64, count, t.first, t.second, t.third);
+    let k = put_told(out, j, full, t);
     end_line(out, k)
 }
 
 // The words for what was done; or those of the call, and its refusal.
 pub fn told_line(n: u64, done: &[u8], words: &[u8], full: bool, t: Told, out: &mut [u8]) -> usize
-    ensures { λ r. ⌜ Wrote 192 (toldLine n (now (done .entry)) (now (words .entry)) full t) (now (out .entry)) 0 (now (out .exit)) r ⌝ }
+    ensures { λ r. ⌜ Wrote 256 (toldLine n (now (done .entry)) (now (words .entry)) full t) (now (out .entry)) 0 (now (out .exit)) r ⌝ }
 {
     if t.number == 0 {
         return words_line(n, done, out);
@@ -176,7 +237,7 @@ pub fn either_line(
     t: Told,
     out: &mut [u8],
 ) -> usize
-    ensures { λ r. ⌜ Wrote 192 (eitherLine n (now (one .entry)) (now (other .entry)) (now (words .entry)) full t) (now (out .entry)) 0 (now (out .exit)) r ⌝ }
+    ensures { λ r. ⌜ Wrote 256 (eitherLine n (now (one .entry)) (now (other .entry)) (now (words .entry)) full t) (now (out .entry)) 0 (now (out .exit)) r ⌝ }
 {
     if t.first == 1 {
         return told_line(n, one, words, full, t, out);

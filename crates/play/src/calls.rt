@@ -1,5 +1,5 @@
-// The calls of a run on a node and their lines: what the programs share that play records. `full` says whether the values beside a refusal are printed.
-// A record's content is tested once, by `misfit`: a call takes what is there, a number that is not is 0.
+// The calls of a run on a node and their lines: what the programs share that play records. `full` says whether the values beside a refusal and its place
+// are printed. A record's content is tested once, by `misfit`: a call takes what is there, a number that is not is 0.
 ghost use mathlib.Core.Path.{_≡_};
 ghost use Prim.Native.Nat.{min};
 ghost use Rattle.play.specs.Ends.{misfits, noQuestion};

@@ -8,7 +8,7 @@ use lib.ListN.{take, set}
 use lib.Seq.{sets}
 use Rattle.basis.specs.declared.Told.{Told}
 use Rattle.basis.specs.Refusals.{malformed}
-use Rattle.basis.specs.Told.{valuesOf, told, done}
+use Rattle.basis.specs.Told.{told, done}
 use Rattle.node.specs.declared.Node.{Node}
 use Rattle.node.specs.declared.Fault.{Fault}
 use Rattle.node.specs.declared.Lent.the-variants as lent
@@ -18,6 +18,7 @@ use Rattle.node.specs.Told.{startTold, faultTold}
 use Rattle.node.specs.Calls.{startAnswer, startNode, lentOf}
 use Rattle.node.specs.State.{legalSettings, freshNode}
 use Rattle.stored.specs.Layout.{nodeBytes}
+use Rattle.pradulins.specs.Handed.{spotWords, handed}
 use Rattle.pradulins.specs.Holds.{settingsTold, stateTold}
 use Rattle.pradulins.specs.Unique.{Starts}
 use Rattle.pradulins.specs.Refused.{not-started}
@@ -42,11 +43,11 @@ all-stored (suc (suc (suc (suc zero)))) a b d e vs h k l m = refl
 all-stored (suc (suc (suc (suc (suc n))))) a b d e vs h k l m = refl
 
 -- ---- what is told of the answer a, which is b; vs are the values before
-pub told-as : {A : Type 0} (told : A → Told) (vs : List ℕ) {a b : A} {t : Told} {r : ℕ} {ws : List ℕ} → b ≡ a → t ≡ told b → (r ≡ t .number) × (ws ≡ sets vs 0 (valuesOf t))
-    → (r ≡ told a .number) × (ws ≡ sets vs 0 (valuesOf (told a)))
+pub told-as : {A : Type 0} (told : A → Told) (vs : List ℕ) {a b : A} {t : Told} {r : ℕ} {ws : List ℕ} → b ≡ a → t ≡ told b → (r ≡ t .number) × (ws ≡ handed t vs)
+    → (r ≡ told a .number) × (ws ≡ handed (told a) vs)
 told-as told vs {a} {b} {t} e q h =
     let s : t ≡ told a = q ∙ ap told e in
-    (h .0 ∙ ap (λ (x : Told). x .number) s, h .1 ∙ ap (λ (x : Told). sets vs 0 (valuesOf x)) s)
+    (h .0 ∙ ap (λ (x : Told). x .number) s, h .1 ∙ ap (λ (x : Told). handed x vs) s)
 
 -- ---- a start
 started : (b : Bool) (n m : Node) (old : List ℕ) → startTold (cond b start.Started start.BadSetting) .number ≡ 0

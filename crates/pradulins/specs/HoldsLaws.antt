@@ -14,7 +14,7 @@ use Rattle.basis.specs.Cases.{both}
 use Rattle.basis.specs.Lists.{zeros-below}
 use Rattle.basis.specs.declared.Told.{Told}
 use Rattle.basis.specs.Refusals.{bad-setting, malformed}
-use Rattle.basis.specs.Told.{told, done, valuesOf}
+use Rattle.basis.specs.Told.{told, done}
 use Rattle.seen.specs.State.{maxIds, fresh as noIds}
 use Rattle.seen.specs.EntriesLaws.{length-entries}
 use Rattle.mcache.specs.State.{legal, fresh, maxHistory, maxMessages}
@@ -30,6 +30,7 @@ use Rattle.node.specs.Told.{startTold, faultTold, lentTold}
 use Rattle.node.specs.Calls.{lentOf, onLent, startAnswer}
 use Rattle.stored.specs.Layout.{nodeIn, nodeBytes, headOf, Fits}
 use Rattle.stored.specs.LayoutLaws.{stored-loaded}
+use Rattle.pradulins.specs.Handed.{handed}
 use Rattle.pradulins.specs.Holds.{settingsTold, stateTold}
 use Rattle.pradulins.specs.Unique.{Starts, Settles}
 
@@ -99,7 +100,7 @@ settings-started {s} {made} {vs} {ws} {ttl} {max-seen} {history} {max} t a b =
     ap nodeIn m ∙ stored-loaded (freshNode ttl max-seen history max) (fresh-fits ttl max-seen history max t l) in
     let e : settingsTold (nodeIn made) ≡ done (ttl ∷ max-seen ∷ history ∷ max ∷ []) =
     ap settingsTold n ∙ settings-fresh ttl max-seen history max l in
-    (b .number ∙ ap (λ (x : Told). x .number) e, b .values ∙ ap (λ (x : Told). sets vs 0 (valuesOf x)) e)
+    (b .number ∙ ap (λ (x : Told). x .number) e, b .values ∙ ap (λ (x : Told). handed x vs) e)
 
 -- 42 comes exactly where a start would meet 40, and nothing else is refused
 told-settings : (b : Bool) (x : Told) → x .number ≡ 0

@@ -1,15 +1,13 @@
 -- The contract of each function of the C interface that is lent something, as a record of what it says of the number
 -- that is returned, the values that are handed out, and every other lent byte; and that it leaves no choice: two results
--- that meet it are the same. Number and values are those of the answer, as Told of its crate has them, and the other
--- values stay.
+-- that meet it are the same. Number and values are those of the answer, as Told of its crate has them, and with a refusal
+-- of a body's bytes its place is handed out, too; the other values stay.
 use Prim.Native.Nat.{ℕ}
 use mathlib.Core.Path.{_≡_, sym, _∙_}
 use mathlib.Core.Bool.{Bool, cond}
 use mathlib.Core.List.{List, []}
 use lib.ListN.{length}
-use lib.Seq.{sets}
 use Rattle.basis.specs.declared.Told.{Told}
-use Rattle.basis.specs.Told.{valuesOf}
 use Rattle.protobuf.specs.Told.{encodedTold, walkTold}
 use Rattle.protobuf.specs.Field.{walkStep}
 use Rattle.message.specs.Told.{decodedTold}
@@ -23,6 +21,7 @@ use Rattle.node.specs.Told.{startTold, admitTold, beatTold, advertiseTold, expl
 use Rattle.node.specs.Calls.{startAnswer, planned, admitAnswer, admitNode, admitSeen, admitCache, beatAnswer, beatNode}
 use Rattle.node.specs.Calls.{advertiseAnswer, advertiseLeft, explainAnswer, askAnswer, askLeft, serveAnswer, serveLeft}
 use Rattle.stored.specs.Layout.{nodeIn, nodeBytes}
+use Rattle.pradulins.specs.Handed.{handed}
 use Rattle.pradulins.specs.Holds.{settingsTold, stateTold}
 
 -- ---- the node: its bytes s, the stores ss and cs, and the values vs, as they are lent; then what is returned and left
@@ -44,7 +43,7 @@ admitTells s ss cs body i word at =
 pub record Admits (s ss cs body : List ℕ) (i : ℕ) (word : Bool) (at : ℕ) (vs : List ℕ) (r : ℕ)
     (ws made ids messages : List ℕ) : Type 0 where
   pub number : r ≡ admitTells s ss cs body i word at .number
-  pub values : ws ≡ sets vs 0 (valuesOf (admitTells s ss cs body i word at))
+  pub values : ws ≡ handed (admitTells s ss cs body i word at) vs
   pub node : made ≡ nodeBytes (admitNode (nodeIn s) ss at (planned (nodeIn s) ss cs body i word at))
   pub seen : ids ≡ admitSeen (nodeIn s) ss at (planned (nodeIn s) ss cs body i word at)
   pub cache : messages ≡ admitCache (nodeIn s) ss cs at (planned (nodeIn s) ss cs body i word at)
@@ -64,7 +63,7 @@ one-admit a b = (
 
 pub record Beats (s ss cs : List ℕ) (at : ℕ) (vs : List ℕ) (r : ℕ) (ws made : List ℕ) : Type 0 where
   pub number : r ≡ beatTold (beatAnswer (nodeIn s) ss cs at) .number
-  pub values : ws ≡ sets vs 0 (valuesOf (beatTold (beatAnswer (nodeIn s) ss cs at)))
+  pub values : ws ≡ handed (beatTold (beatAnswer (nodeIn s) ss cs at)) vs
   pub node : made ≡ nodeBytes (beatNode (nodeIn s) ss cs at)
 
 pub one-beat : {s ss cs : List ℕ} {at : ℕ} {vs : List ℕ} {r r₂ : ℕ} {ws ws₂ made made₂ : List ℕ}
@@ -78,7 +77,7 @@ advertiseTells s ss cs topic windows out = advertiseTold (advertiseAnswer (nodeI
 pub record Advertises (s ss cs topic : List ℕ) (windows : ℕ) (out vs : List ℕ) (r : ℕ)
     (ws left : List ℕ) : Type 0 where
   pub number : r ≡ advertiseTells s ss cs topic windows out .number
-  pub values : ws ≡ sets vs 0 (valuesOf (advertiseTells s ss cs topic windows out))
+  pub values : ws ≡ handed (advertiseTells s ss cs topic windows out) vs
   pub buffer : left ≡ advertiseLeft (nodeIn s) ss cs topic windows out
 
 pub one-advertise : {s ss cs topic : List ℕ} {windows : ℕ} {out vs : List ℕ} {r r₂ : ℕ} {ws ws₂ left left₂ : List ℕ}
@@ -92,7 +91,7 @@ explainTells s ss cs id topic windows = explainTold (explainAnswer (nodeIn s) ss
 
 pub record Explains (s ss cs id topic : List ℕ) (windows : ℕ) (vs : List ℕ) (r : ℕ) (ws : List ℕ) : Type 0 where
   pub number : r ≡ explainTells s ss cs id topic windows .number
-  pub values : ws ≡ sets vs 0 (valuesOf (explainTells s ss cs id topic windows))
+  pub values : ws ≡ handed (explainTells s ss cs id topic windows) vs
 
 pub one-explain : {s ss cs id topic : List ℕ} {windows : ℕ} {vs : List ℕ} {r r₂ : ℕ} {ws ws₂ : List ℕ}
     → Explains s ss cs id topic windows vs r ws → Explains s ss cs id topic windows vs r₂ ws₂ → (r ≡ r₂) × (ws ≡ ws₂)
@@ -100,7 +99,7 @@ one-explain a b = (a .number ∙ sym (b .number), a .values ∙ sym (b .values))
 
 pub record Asks (s ss cs body out vs : List ℕ) (r : ℕ) (ws left : List ℕ) : Type 0 where
   pub number : r ≡ askTold (askAnswer (nodeIn s) ss cs body out) .number
-  pub values : ws ≡ sets vs 0 (valuesOf (askTold (askAnswer (nodeIn s) ss cs body out)))
+  pub values : ws ≡ handed (askTold (askAnswer (nodeIn s) ss cs body out)) vs
   pub buffer : left ≡ askLeft (nodeIn s) ss cs body out
 
 pub one-ask : {s ss cs body out vs : List ℕ} {r r₂ : ℕ} {ws ws₂ left left₂ : List ℕ}
@@ -110,7 +109,7 @@ one-ask a b = (a .number ∙ sym (b .number), a .values ∙ sym (b .values), a .
 
 pub record Serves (s ss cs body out vs : List ℕ) (r : ℕ) (ws left : List ℕ) : Type 0 where
   pub number : r ≡ serveTold (serveAnswer (nodeIn s) ss cs body out) .number
-  pub values : ws ≡ sets vs 0 (valuesOf (serveTold (serveAnswer (nodeIn s) ss cs body out)))
+  pub values : ws ≡ handed (serveTold (serveAnswer (nodeIn s) ss cs body out)) vs
   pub buffer : left ≡ serveLeft (nodeIn s) ss cs body out
 
 pub one-serve : {s ss cs body out vs : List ℕ} {r r₂ : ℕ} {ws ws₂ left left₂ : List ℕ}
@@ -121,7 +120,7 @@ one-serve a b = (a .number ∙ sym (b .number), a .values ∙ sym (b .values), a
 -- ---- what a node holds; nothing is given to write but the values
 pub record Settles (s vs : List ℕ) (r : ℕ) (ws : List ℕ) : Type 0 where
   pub number : r ≡ settingsTold (nodeIn s) .number
-  pub values : ws ≡ sets vs 0 (valuesOf (settingsTold (nodeIn s)))
+  pub values : ws ≡ handed (settingsTold (nodeIn s)) vs
 
 pub one-settings : {s vs : List ℕ} {r r₂ : ℕ} {ws ws₂ : List ℕ} → Settles s vs r ws → Settles s vs r₂ ws₂
     → (r ≡ r₂) × (ws ≡ ws₂)
@@ -129,7 +128,7 @@ one-settings a b = (a .number ∙ sym (b .number), a .values ∙ sym (b .values)
 
 pub record States (s ss cs vs : List ℕ) (r : ℕ) (ws : List ℕ) : Type 0 where
   pub number : r ≡ stateTold (nodeIn s) ss cs .number
-  pub values : ws ≡ sets vs 0 (valuesOf (stateTold (nodeIn s) ss cs))
+  pub values : ws ≡ handed (stateTold (nodeIn s) ss cs) vs
 
 pub one-state : {s ss cs vs : List ℕ} {r r₂ : ℕ} {ws ws₂ : List ℕ} → States s ss cs vs r ws → States s ss cs vs r₂ ws₂
     → (r ≡ r₂) × (ws ≡ ws₂)
@@ -138,7 +137,7 @@ one-state a b = (a .number ∙ sym (b .number), a .values ∙ sym (b .values))
 -- ---- bodies
 pub record Encodes (body out vs : List ℕ) (r : ℕ) (ws left : List ℕ) : Type 0 where
   pub number : r ≡ encodedTold (encodeAnswer body out) .number
-  pub values : ws ≡ sets vs 0 (valuesOf (encodedTold (encodeAnswer body out)))
+  pub values : ws ≡ handed (encodedTold (encodeAnswer body out)) vs
   pub buffer : left ≡ encodeLeft body out
 
 pub one-encode : {body out vs : List ℕ} {r r₂ : ℕ} {ws ws₂ left left₂ : List ℕ} → Encodes body out vs r ws left
@@ -147,7 +146,7 @@ one-encode a b = (a .number ∙ sym (b .number), a .values ∙ sym (b .values), 
 
 pub record Signs (body : List ℕ) (i : ℕ) (out vs : List ℕ) (r : ℕ) (ws left : List ℕ) : Type 0 where
   pub number : r ≡ messageTold (signAnswer body i out) .number
-  pub values : ws ≡ sets vs 0 (valuesOf (messageTold (signAnswer body i out)))
+  pub values : ws ≡ handed (messageTold (signAnswer body i out)) vs
   pub buffer : left ≡ signLeft body i out
 
 pub one-sign : {body : List ℕ} {i : ℕ} {out vs : List ℕ} {r r₂ : ℕ} {ws ws₂ left left₂ : List ℕ}
@@ -156,7 +155,7 @@ one-sign a b = (a .number ∙ sym (b .number), a .values ∙ sym (b .values), a 
 
 pub record Identifies (body : List ℕ) (i : ℕ) (out vs : List ℕ) (r : ℕ) (ws left : List ℕ) : Type 0 where
   pub number : r ≡ messageTold (idAnswer [] body i out) .number
-  pub values : ws ≡ sets vs 0 (valuesOf (messageTold (idAnswer [] body i out)))
+  pub values : ws ≡ handed (messageTold (idAnswer [] body i out)) vs
   pub buffer : left ≡ idLeft [] body i out
 
 pub one-id : {body : List ℕ} {i : ℕ} {out vs : List ℕ} {r r₂ : ℕ} {ws ws₂ left left₂ : List ℕ}
@@ -166,7 +165,7 @@ one-id a b = (a .number ∙ sym (b .number), a .values ∙ sym (b .values), a .b
 
 pub record Decodes (body t vs : List ℕ) (r : ℕ) (ws rows : List ℕ) : Type 0 where
   pub number : r ≡ decodedTold (decodeAnswer body (length t)) .number
-  pub values : ws ≡ sets vs 0 (valuesOf (decodedTold (decodeAnswer body (length t))))
+  pub values : ws ≡ handed (decodedTold (decodeAnswer body (length t))) vs
   pub table : rows ≡ decodeTable body t
 
 pub one-decode : {body t vs : List ℕ} {r r₂ : ℕ} {ws ws₂ rows rows₂ : List ℕ} → Decodes body t vs r ws rows
@@ -175,7 +174,7 @@ one-decode a b = (a .number ∙ sym (b .number), a .values ∙ sym (b .values), 
 
 pub record Walks (body : List ℕ) (at : ℕ) (vs : List ℕ) (r : ℕ) (ws : List ℕ) : Type 0 where
   pub number : r ≡ walkTold (walkStep body at) .number
-  pub values : ws ≡ sets vs 0 (valuesOf (walkTold (walkStep body at)))
+  pub values : ws ≡ handed (walkTold (walkStep body at)) vs
 
 pub one-walk : {body : List ℕ} {at : ℕ} {vs : List ℕ} {r r₂ : ℕ} {ws ws₂ : List ℕ} → Walks body at vs r ws
     → Walks body at vs r₂ ws₂ → (r ≡ r₂) × (ws ≡ ws₂)

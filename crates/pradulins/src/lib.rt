@@ -1,11 +1,14 @@
 // The library as C and Rust programs link it. Each call answers a number, 0 or the refusal's in the table of refusals; `values`, where it is lent, gets what stands
-// beside it. The node lives in NODE_SIZE bytes that the host lends, its two stores in slices. A refused call changes no buffer and no node.
+// beside it, at most four numbers, and then the place of a refusal. The node lives in NODE_SIZE bytes that the host lends, its two stores in slices. A
+// refused call changes no buffer and no node.
 ghost use mathlib.Core.Path.{_≡_};
 ghost use lib.Seq.{sets};
 ghost use Rattle.basis.specs.Told.{valuesOf};
+ghost use Rattle.pradulins.specs.Handed.{spotWords, handed};
 ghost use Rattle.pradulins.specs.Holds.{settingsTold, stateTold, versionNumber, formatNumber};
 ghost use Rattle.pradulins.specs.Unique.{Starts, Admits, Beats, Advertises, Explains, Asks, Serves, Settles, States};
 ghost use Rattle.pradulins.specs.Unique.{Encodes, Signs, Identifies, Decodes, Walks};
+use basis::Spot;
 use basis::Told;
 use basis::refusals;
 use encode::encode;
@@ -32,33 +35,61 @@ use stored::NODE_SIZE;
 use stored::load;
 use stored::store;
 
-pub const VERSION: u32 = 301;
+pub const VERSION: u32 = 400;
 
 pub const FORMAT: u32 = 2;
 
-// What a call tells: its values are handed out, its number is returned.
-fn tell(t: Told, values: &mut [u64; 4]) -> u32
-    ensures { λ r. ⌜ r ≡ t .number ⌝ }
+// Hands out the values beside a number, as many as are counted.
+fn tell_values(t: Told, values: &mut [u64; 8])
     ensures { λ _. ⌜ now (values .exit) ≡ sets (now (values .entry)) 0 (valuesOf t) ⌝ }
 {
-    let number = t.number as u32;
     if t.count == 0 {
-        return number;
+        return;
     }
     values[0] = t.first;
     if t.count == 1 {
-        return number;
+        return;
     }
     values[1] = t.second;
     if t.count == 2 {
-        return number;
+        return;
     }
     values[2] = t.third;
     if t.count == 3 {
-        return number;
+        return;
     }
     values[3] = t.fourth;
-    number
+}
+
+// Hands out the place of a refusal.
+fn tell_spot(spot: Spot, values: &mut [u64; 8])
+    ensures { λ _. ⌜ now (values .exit) ≡ sets (now (values .entry)) 4 (spotWords spot) ⌝ }
+{
+    match spot {
+        Spot::Nowhere => return,
+        Spot::At {
+            offset,
+            outer,
+            middle,
+            inner,
+        } => {
+            values[4] = offset as u64;
+            values[5] = outer;
+            values[6] = middle;
+            values[7] = inner;
+        }
+    }
+}
+
+// What a call tells: its values and its place are handed out, its number is returned.
+fn tell(t: Told, values: &mut [u64; 8]) -> u32
+    ensures { λ r. ⌜ r ≡ t .number ⌝ }
+    ensures { λ _. ⌜ now (values .exit) ≡ handed t (now (values .entry)) ⌝ }
+{
+    tell_values(t, values);
+    let spot = t.spot;
+    tell_spot(spot, values);
+    t.number as u32
 }
 
 // ---- the node
@@ -95,7 +126,7 @@ pub extern "C" fn pradulins_admit(
     index: usize,
     verified: bool,
     at: u64,
-    values: &mut [u64; 4],
+    values: &mut [u64; 8],
 ) -> u32
     ensures { λ r. ⌜ Admits (now (node .entry)) (now («seen_store» .entry)) (now («cache_store» .entry))
         (now (body .entry)) index verified at (now (values .entry)) r (now (values .exit)) (now (node .exit))
@@ -116,7 +147,7 @@ pub extern "C" fn pradulins_heartbeat(
     seen_store: &[u8],
     cache_store: &[u8],
     at: u64,
-    values: &mut [u64; 4],
+    values: &mut [u64; 8],
 ) -> u32
     ensures { λ r. ⌜ Beats (now (node .entry)) (now («seen_store» .entry)) (now («cache_store» .entry)) at
         (now (values .entry)) r (now (values .exit)) (now (node .exit)) ⌝ }
@@ -138,7 +169,7 @@ pub extern "C" fn pradulins_advertise(
     topic: &[u8],
     windows: usize,
     out: &mut [u8],
-    values: &mut [u64; 4],
+    values: &mut [u64; 8],
 ) -> u32
     ensures { λ r. ⌜ Advertises (now (node .entry)) (now («seen_store» .entry)) (now («cache_store» .entry))
         (now (topic .entry)) windows (now (out .entry)) (now (values .entry)) r (now (values .exit))
@@ -160,7 +191,7 @@ pub extern "C" fn pradulins_explain(
     id: &[u8],
     topic: &[u8],
     windows: usize,
-    values: &mut [u64; 4],
+    values: &mut [u64; 8],
 ) -> u32
     ensures { λ r. ⌜ Explains (now (node .entry)) (now («seen_store» .entry)) (now («cache_store» .entry))
         (now (id .entry)) (now (topic .entry)) windows (now (values .entry)) r (now (values .exit)) ⌝ }
@@ -179,7 +210,7 @@ pub extern "C" fn pradulins_ask(
     cache_store: &[u8],
     body: &[u8],
     out: &mut [u8],
-    values: &mut [u64; 4],
+    values: &mut [u64; 8],
 ) -> u32
     ensures { λ r. ⌜ Asks (now (node .entry)) (now («seen_store» .entry)) (now («cache_store» .entry))
         (now (body .entry)) (now (out .entry)) (now (values .entry)) r (now (values .exit)) (now (out .exit)) ⌝ }
@@ -198,7 +229,7 @@ pub extern "C" fn pradulins_serve(
     cache_store: &[u8],
     body: &[u8],
     out: &mut [u8],
-    values: &mut [u64; 4],
+    values: &mut [u64; 8],
 ) -> u32
     ensures { λ r. ⌜ Serves (now (node .entry)) (now («seen_store» .entry)) (now («cache_store» .entry))
         (now (body .entry)) (now (out .entry)) (now (values .entry)) r (now (values .exit)) (now (out .exit)) ⌝ }
@@ -243,7 +274,7 @@ fn told_state(n: Node, seen_store: &[u8], cache_store: &[u8]) -> Told
 
 // The settings that a node was started with.
 #[no_mangle]
-pub extern "C" fn pradulins_settings(node: &[u8; NODE_SIZE], values: &mut [u64; 4]) -> u32
+pub extern "C" fn pradulins_settings(node: &[u8; NODE_SIZE], values: &mut [u64; 8]) -> u32
     ensures { λ r. ⌜ Settles (now (node .entry)) (now (values .entry)) r (now (values .exit)) ⌝ }
 {
     let n = load(node);
@@ -256,7 +287,7 @@ pub extern "C" fn pradulins_state(
     node: &[u8; NODE_SIZE],
     seen_store: &[u8],
     cache_store: &[u8],
-    values: &mut [u64; 4],
+    values: &mut [u64; 8],
 ) -> u32
     ensures { λ r. ⌜ States (now (node .entry)) (now («seen_store» .entry)) (now («cache_store» .entry))
         (now (values .entry)) r (now (values .exit)) ⌝ }
@@ -269,7 +300,7 @@ pub extern "C" fn pradulins_state(
 
 // Writes a body anew in canonical bytes.
 #[no_mangle]
-pub extern "C" fn pradulins_encode(body: &[u8], out: &mut [u8], values: &mut [u64; 4]) -> u32
+pub extern "C" fn pradulins_encode(body: &[u8], out: &mut [u8], values: &mut [u64; 8]) -> u32
     ensures { λ r. ⌜ Encodes (now (body .entry)) (now (out .entry)) (now (values .entry)) r (now (values .exit))
         (now (out .exit)) ⌝ }
 {
@@ -283,7 +314,7 @@ pub extern "C" fn pradulins_sign_bytes(
     body: &[u8],
     index: usize,
     out: &mut [u8],
-    values: &mut [u64; 4],
+    values: &mut [u64; 8],
 ) -> u32
     ensures { λ r. ⌜ Signs (now (body .entry)) index (now (out .entry)) (now (values .entry)) r (now (values .exit))
         (now (out .exit)) ⌝ }
@@ -298,7 +329,7 @@ pub extern "C" fn pradulins_message_id(
     body: &[u8],
     index: usize,
     out: &mut [u8],
-    values: &mut [u64; 4],
+    values: &mut [u64; 8],
 ) -> u32
     ensures { λ r. ⌜ Identifies (now (body .entry)) index (now (out .entry)) (now (values .entry)) r
         (now (values .exit)) (now (out .exit)) ⌝ }
@@ -309,7 +340,7 @@ pub extern "C" fn pradulins_message_id(
 
 // Decodes a body into a table of records, 20 numbers each.
 #[no_mangle]
-pub extern "C" fn pradulins_decode(body: &[u8], table: &mut [u64], values: &mut [u64; 4]) -> u32
+pub extern "C" fn pradulins_decode(body: &[u8], table: &mut [u64], values: &mut [u64; 8]) -> u32
     ensures { λ r. ⌜ Decodes (now (body .entry)) (now (table .entry)) (now (values .entry)) r (now (values .exit))
         (now (table .exit)) ⌝ }
 {
@@ -319,7 +350,7 @@ pub extern "C" fn pradulins_decode(body: &[u8], table: &mut [u64], values: &mut 
 
 // The top-level field at a place of a body.
 #[no_mangle]
-pub extern "C" fn pradulins_walk(body: &[u8], at: usize, values: &mut [u64; 4]) -> u32
+pub extern "C" fn pradulins_walk(body: &[u8], at: usize, values: &mut [u64; 8]) -> u32
     ensures { λ r. ⌜ Walks (now (body .entry)) at (now (values .entry)) r (now (values .exit)) ⌝ }
 {
     let c = Cursor { at: at };

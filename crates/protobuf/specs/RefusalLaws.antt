@@ -73,7 +73,7 @@ tag-early : (s : List ℕ) (at : ℕ) (why : WireError) → tag.Refused why ≡ 
 unfolding readTag
 tag-early s at why h =
     either (leb (length s) at) (λ t. clash (let k = simp t at h in cc))
-    (λ t. let l = leb-false _ _ t in tag-after (length s) at (readUvarint (drop at s)) why (omega (arith, l)) (simp t at h))
+    (λ t. let l = leb-false (length s) at t in tag-after (length s) at (readUvarint (drop at s)) why (omega (arith, l)) (simp t at h))
 
 part-after : (s : List ℕ) (at : ℕ) (r : Uvarint) (why : WireError) → at ≤ length s → r ≡ readUvarint (drop at s)
     → part.Refused why ≡ after at part.Refused (partOf (length s)) r → Early (length s) why

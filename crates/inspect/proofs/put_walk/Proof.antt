@@ -28,7 +28,7 @@ put-walk-spec =
     (λ c. search needs)
     (λ c. puts-as (ap walk (sym (c .before .before .before .before .before .enum-told .given .1))) (omega arith) (wrote-puts (omega arith) (c .before .before .put-word .ensures)))
     (λ c. search needs)
-    (λ c. puts-as (ap walk (sym (c .before .before .before .before .before .before .w .given .1))) (omega arith) (rw (c .before .before .before .told-wire .ensures) at (wrote-puts (omega arith) (c .before .before .put-refusal .ensures))))
+    (λ c. puts-as (ap walk (sym (c .before .before .before .before .before .before .w .given .1))) (omega arith) (rw (c .before .before .before .told-refusal .ensures) at (wrote-puts (omega arith) (c .before .before .put-refusal .ensures))))
     (λ c. search needs)
     (λ c. puts-as
     (ap walk (sym

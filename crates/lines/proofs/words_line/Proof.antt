@@ -15,7 +15,7 @@ returns c = wrote-no _ _ (lt-leb _ _ (c .if1 .taken)) (wrote-nothing _ _ _)
 
 returns-2 : tie.Need-returns-2
 unfolding wordsLine
-returns-2 c = wrote-short 192 0 _ _ (c .if2 .taken)
+returns-2 c = wrote-short 256 0 _ _ (c .if2 .taken)
 
 start-line-requires : tie.Need-start-line-requires
 start-line-requires c κs = search needs

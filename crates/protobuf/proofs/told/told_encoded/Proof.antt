@@ -17,4 +17,4 @@ told-encoded-spec =
     (λ c κs. search needs)
     (λ c. c .one .ensures ∙ ap encodedTold (sym (c .before .before .answer .given .1)))
     (λ c. c .one2 .ensures ∙ ap encodedTold (sym (c .before .before .answer2 .given .1)))
-    (λ c. search needs))
+    (λ c. c .told-refusal .ensures ∙ ap encodedTold (sym (c .before .before .answer3 .given .1))))

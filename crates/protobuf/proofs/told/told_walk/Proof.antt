@@ -18,4 +18,4 @@ told-walk-spec =
     (λ c κs. search needs)
     (λ c. c .one .ensures ∙ ap walkTold (sym (c .before .enum-told .given .1)))
     (λ c. c .four .ensures ∙ ap walkTold (sym (c .before .before .answer .given .1)))
-    (λ c. search needs))
+    (λ c. c .told-refusal .ensures ∙ ap walkTold (sym (c .before .before .answer2 .given .1))))
