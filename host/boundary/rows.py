@@ -38,7 +38,7 @@ def rows():
     for body, told in REFUSED:
         for call in ("decode", "encode", "sign", "id", "walk"):
             if call != "walk" or " in " not in told:
-                yield call, body, 0, ["refused " + told]
+                yield call, body, LATER.get(body, 0) if call == "walk" else 0, ["refused " + told]
     for topic in ("eda080", "c080", "f4908080"):
         body = "0a%02x12%02x%s" % (2 + len(topic) // 2, len(topic) // 2, topic)
         for call in ("decode", "encode", "sign", "id"):
@@ -59,6 +59,10 @@ def rows():
 
 # Bodies that are refused whatever is asked of them, with the place.
 REFUSED = [(body, told.removeprefix("refused ")) for body, told in [*places.ROWS, ("8080808010", "refused 6 536870912 0 at 0"), *places.MORE_ROWS] if told]
+
+
+# Where the refused field starts, if it is not the first of its body: a walk begins there.
+LATER = {"0a000b": 2, "1a020a00" * 3 + "00": 12}
 
 
 def field(number, content):
