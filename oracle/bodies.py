@@ -10,7 +10,7 @@ Everything random comes from one seeded `random.Random`.
 
 import wire
 from oracle import NUMBER, parse_decode
-from places import MORE_ROWS, ROWS, find, with_place
+from places import MORE_ROWS, PATHS, ROWS, TEXT_PATHS, find, with_place
 from wire import EDGES, MAX_BODY, MAX_CONTENT, PLACE, blob, damaged, edge_field, then_random, varint
 
 MAX_RECORDS = 512
@@ -285,9 +285,21 @@ def named():
 
 
 def placed():
-    """The rows about the place of a refusal."""
+    """The rows about the place of a refusal; and each refusal in each message that can have it, behind a field that is taken and before one that is not."""
     for text, _ in ROWS + MORE_ROWS:
         yield bytes.fromhex(text)
+    for path in PATHS:
+        for text in ("80", "80" * 9 + "02", "8000", "0a05", "0b", "00"):
+            yield enclosed(b"\xa8\x01\x00" + bytes.fromhex(text), path)
+    for path in TEXT_PATHS:
+        yield enclosed(b"\xa8\x01\x00" + tagged({(1,): 2, (2,): 4}.get(path, 1), b"t\xff"), path)
+
+
+def enclosed(inner, path):
+    """A message in fields of these numbers."""
+    for number in reversed(path):
+        inner = tagged(number, inner) + b"\x0b"
+    return inner
 
 
 # The topics of the scope: the first three are refused.
