@@ -9,13 +9,13 @@ use lib.ListN.{length}
 use Rattle.basis.specs.declared.Told.{Told}
 use Rattle.basis.specs.Bytes.{Bytes}
 use Rattle.basis.specs.Cases.{clash}
-use Rattle.protobuf.specs.declared.WireError.{WireError}
+use Rattle.protobuf.specs.declared.Refusal.{Refusal as Placed}
 use Rattle.protobuf.specs.declared.Checked.the-variants.{Fine, Refused as Wrong}
-use Rattle.protobuf.specs.Told.{wireTold}
+use Rattle.protobuf.specs.Told.{refusalTold}
 use Rattle.protobuf.specs.Walk.{between}
 use Rattle.schema.specs.declared.Kind.the-variants as kind
-use Rattle.schema.specs.declared.Counted.{Counted}
-use Rattle.schema.specs.declared.Counted.the-variants as count
+use Rattle.schema.specs.declared.Tested.{Tested}
+use Rattle.schema.specs.declared.Tested.the-variants as tested
 use Rattle.schema.specs.Accept.{bodyRecords, checked, acceptOf}
 use Rattle.schema.specs.AcceptLaws.{gate, is-taken, taken-fine}
 use Rattle.rpc.specs.Rpc.{Rpc}
@@ -47,20 +47,20 @@ pub taken-exactly : (s : List ℕ) → Bytes s → (acceptOf s ≡ Fine) ↔ ((x
 taken-exactly s b = (only-taken s b, λ p. taken (p .1))
 
 -- and refuse it exactly where the scope does, with what it tells
-wrong-counted : (r : Counted) (why : WireError) → checked r ≡ Wrong why → r ≡ count.Refused why
-wrong-counted (count.Records n) why h = clash (cc)
-wrong-counted (count.Refused w) why h = cc
+wrong-counted : (r : Tested) (why : Placed) → checked r ≡ Wrong why → r ≡ tested.Refused why
+wrong-counted (tested.Records n) why h = clash (cc)
+wrong-counted (tested.Refused w) why h = cc
 
-refused-only : (s : List ℕ) (why : WireError) → Bytes s → acceptOf s ≡ Wrong why → Refusal s (wireTold why)
+refused-only : (s : List ℕ) (why : Placed) → Bytes s → acceptOf s ≡ Wrong why → Refusal s (refusalTold why)
 unfolding acceptOf
 refused-only s why b h = refusal-of s (bodyRecords s) why b (gate s) (wrong-counted (bodyRecords s) why h)
 
-refused-by : {s : List ℕ} {a : Told} → Refusal s a → (why : WireError) × (acceptOf s ≡ Wrong why) × (wireTold why ≡ a)
+refused-by : {s : List ℕ} {a : Told} → Refusal s a → (why : Placed) × (acceptOf s ≡ Wrong why) × (refusalTold why ≡ a)
 unfolding acceptOf
 refused-by r = let g = of-refusal r in (g .0, ap checked (g .1), g .2)
 
 pub refused-exactly : (s : List ℕ) (a : Told) → Bytes s
-    → ((why : WireError) × (acceptOf s ≡ Wrong why) × (wireTold why ≡ a)) ↔ Refusal s a
+    → ((why : Placed) × (acceptOf s ≡ Wrong why) × (refusalTold why ≡ a)) ↔ Refusal s a
 refused-exactly s a b = (λ p. subst (Refusal s) (p .2) (refused-only s (p .0) b (p .1)), refused-by)
 
 -- ---- never longer

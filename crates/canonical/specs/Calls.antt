@@ -23,10 +23,10 @@ use Rattle.basis.specs.Refusals.{no-message, missing-from, invalid-from, invali
 use Rattle.basis.specs.Told.{told, done}
 use Rattle.basis.specs.declared.Written.{Written}
 use Rattle.basis.specs.declared.Written.the-variants as wrote
-use Rattle.protobuf.specs.declared.WireError.{WireError}
+use Rattle.protobuf.specs.declared.Refusal.{Refusal as Placed}
 use Rattle.protobuf.specs.declared.Checked.{Checked}
 use Rattle.protobuf.specs.declared.Checked.the-variants.{Fine, Refused as Wrong}
-use Rattle.protobuf.specs.Told.{wireTold, encodedTold}
+use Rattle.protobuf.specs.Told.{refusalTold, encodedTold}
 use Rattle.protobuf.specs.Encode.{ofWritten}
 use Rattle.protobuf.specs.Walk.{between}
 use Rattle.protobuf.specs.WalkLaws.{between-length}
@@ -114,14 +114,14 @@ module _ (tell : Written → Told) (tell-bytes : (n : ℕ) → tell (wrote.Bytes
 
 -- ---- a call that is given a body, by what it tells and leaves for each outcome of the one test
 module _ (s out : List ℕ) (b : Bytes s) (R : Rpc → Told → List ℕ → Type 0) (tell : Checked → Told)
-    (left : Checked → List ℕ) (tell-wrong : (why : WireError) → tell (Wrong why) ≡ wireTold why)
-    (left-wrong : (why : WireError) → left (Wrong why) ≡ out)
+    (left : Checked → List ℕ) (tell-wrong : (why : Placed) → tell (Wrong why) ≡ refusalTold why)
+    (left-wrong : (why : Placed) → left (Wrong why) ≡ out)
     (fine : (x : Rpc) → Within s x → R x (tell Fine) (left Fine)) where
   given : (c : Checked) → acceptOf s ≡ c → Given s out R (tell c) (left c)
   given (Wrong why) e =
       subst (λ (a : Told). Given s out R a (left (Wrong why))) (sym (tell-wrong why))
-      (subst (λ (l : List ℕ). Given s out R (wireTold why) l) (sym (left-wrong why))
-      (refuses (refused-exactly s (wireTold why) b .0 (why, e, refl))))
+      (subst (λ (l : List ℕ). Given s out R (refusalTold why) l) (sym (left-wrong why))
+      (refuses (refused-exactly s (refusalTold why) b .0 (why, e, refl))))
   given Fine e = let w = taken-exactly s b .0 e in takes (w .1) (fine (w .0) (w .1))
 
   -- it is 0, 12 or more exactly where the body means an RPC within capacity

@@ -6,7 +6,7 @@ use native.Mathlib.Omega.{arith}
 use lib.ListN.{length, drop, length-append, length-take, length-drop}
 use Rattle.basis.specs.Writing.{answer, written}
 use Rattle.basis.specs.Unique.{Leaves}
-use Rattle.protobuf.specs.declared.WireError.{WireError}
+use Rattle.protobuf.specs.declared.Refusal.{Refusal as Placed}
 use Rattle.protobuf.specs.declared.Checked.the-variants.{Fine, Refused as Wrong}
 use Rattle.protobuf.specs.Walk.{between}
 use Rattle.schema.specs.declared.Kind.the-variants as kind
@@ -32,7 +32,7 @@ pub part-small : (s : List ℕ) (a e : ℕ) → length s ≤ 65536 → length (b
 part-small s a e h = rw (length-take (e - a) (drop a s), length-drop a s) (omega arith)
 
 -- ---- which case it is
-pub sign-refused : (s : List ℕ) (i : ℕ) (out : List ℕ) (why : WireError) → acceptOf s ≡ Wrong why → Leaves (signAnswer s i out) (signLeft s i out) (Refused why) out
+pub sign-refused : (s : List ℕ) (i : ℕ) (out : List ℕ) (why : Placed) → acceptOf s ≡ Wrong why → Leaves (signAnswer s i out) (signLeft s i out) (Refused why) out
 unfolding signAnswer signLeft
 sign-refused s i out why e = record { answer = ap (signChecked s i out) (sym e); lent = ap (signedChecked s i out) (sym e) }
 

@@ -10,6 +10,7 @@ use lib.Dec.{eqb}
 use Rattle.basis.specs.Cases.{either, clash}
 use Rattle.protobuf.specs.declared.Field.{Field}
 use Rattle.protobuf.specs.declared.WireError.{WireError}
+use Rattle.protobuf.specs.declared.Refusal.{Refusal as Placed}
 use Rattle.protobuf.specs.declared.Step.{Step}
 use Rattle.protobuf.specs.declared.Step.the-variants as step
 use Rattle.protobuf.specs.Field.{readField}
@@ -88,7 +89,7 @@ id-put pre p out a e b f o₁ o₂ o₃ i j k h l p₁ p₂ p₃ =
     (ap Bytes (sym n) ∙ sym (ap ofWritten (answer-fits (pre ++ idBytes p a e b f) out m)), r .1 ∙ sym (written-fits (pre ++ idBytes p a e b f) out m))
 
 -- ---- which case it is
-pub refused-body : (pre s : List ℕ) (i : ℕ) (out : List ℕ) (why : WireError) → acceptOf s ≡ Wrong why → (Refused why ≡ idAnswer pre s i out) × (out ≡ idLeft pre s i out)
+pub refused-body : (pre s : List ℕ) (i : ℕ) (out : List ℕ) (why : Placed) → acceptOf s ≡ Wrong why → (Refused why ≡ idAnswer pre s i out) × (out ≡ idLeft pre s i out)
 unfolding idAnswer idLeft
 refused-body pre s i out why e = (ap (answerChecked pre s i out) (sym e), ap (leftChecked pre s i out) (sym e))
 

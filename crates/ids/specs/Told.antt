@@ -3,7 +3,7 @@ use mathlib.Core.List.{[], _∷_}
 use Rattle.basis.specs.declared.Told.{Told}
 use Rattle.basis.specs.Refusals.{no-message, missing-from, invalid-from, invalid-seqno, short-room}
 use Rattle.basis.specs.Told.{told, done}
-use Rattle.protobuf.specs.Told.{wireTold}
+use Rattle.protobuf.specs.Told.{refusalTold}
 use Rattle.ids.specs.declared.MessageAt.{MessageAt}
 use Rattle.ids.specs.declared.MessageAt.the-variants as at
 use Rattle.ids.specs.declared.MessageId.{MessageId}
@@ -26,7 +26,7 @@ messageIdTold (id.Parts a e b f) = done (a ∷ e ∷ b ∷ f ∷ [])
 -- how many bytes were written
 abbrev pub messageTold : MessageBytes → Told
 messageTold (message.Bytes count) = done (count ∷ [])
-messageTold (message.Refused why) = wireTold why
+messageTold (message.Refused why) = refusalTold why
 messageTold (message.NoMessage count) = told no-message (count ∷ [])
 messageTold message.MissingFrom = told missing-from []
 messageTold (message.InvalidFrom len) = told invalid-from (len ∷ [])

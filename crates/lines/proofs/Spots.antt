@@ -1,10 +1,12 @@
 -- What the pieces of a place make together.
-use Prim.Native.Nat.{ℕ, zero, suc}
+use Prim.Native.Nat.{ℕ}
 use mathlib.Core.Path.{_≡_, refl, sym, ap, _∙_}
 use mathlib.Core.List.{List, [], _∷_, _++_}
+use mathlib.Core.Bool.{Bool, true, false, cond}
 use mathlib.Core.Logic.{_≢_}
 use native.Mathlib.Omega.{arith}
 use lib.ListN.{length, take}
+use lib.Dec.{eqb}
 use borrow.Author.Tests.{eq-eqb, ne-eqb}
 use Rattle.basis.specs.declared.Spot.{Spot}
 use Rattle.basis.specs.declared.Spot.the-variants.{Nowhere, At}
@@ -27,11 +29,16 @@ module _ (a b c : ℕ) where
   depth-three h k l = simp (ne-eqb a 0 h, ne-eqb b 0 k, ne-eqb c 0 l)
 
 -- ---- their numbers: that many of three
+kept : (p q r : Bool) (a b c : ℕ)
+    → take (length (cond p [] (a ∷ cond q [] (b ∷ cond r [] (c ∷ []))))) (a ∷ b ∷ c ∷ [])
+    ≡ cond p [] (a ∷ cond q [] (b ∷ cond r [] (c ∷ [])))
+kept true q r a b c = refl
+kept false true r a b c = refl
+kept false false true a b c = refl
+kept false false false a b c = refl
+
 counted : (a b c : ℕ) → take (length (fieldsOf (At 0 a b c))) (a ∷ b ∷ c ∷ []) ≡ fieldsOf (At 0 a b c)
-counted zero b c = refl
-counted (suc a) zero c = refl
-counted (suc a) (suc b) zero = refl
-counted (suc a) (suc b) (suc c) = refl
+counted a b c = kept (eqb a 0) (eqb b 0) (eqb c 0) a b c
 
 none : (ns : List ℕ) → length ns ≡ 0 → [] ≡ fieldsText ns
 unfolding fieldsText
@@ -62,3 +69,10 @@ pub somewhere : (spot : Spot) (n a b c : ℕ) → spot ≡ At n a b c
     → (32 ∷ 97 ∷ 116 ∷ []) ++ (number n ++ fieldsText (fieldsOf (At 0 a b c))) ≡ spotText spot
 unfolding spotText
 somewhere spot n a b c e = rw e
+
+-- ---- either way of a test
+pub in-full : (t : Bool) (xs ys : List ℕ) → t ≡ true → xs ≡ cond t xs ys
+in-full t xs ys e = rw e
+
+pub in-short : (t : Bool) (xs ys : List ℕ) → t ≡ false → ys ≡ cond t xs ys
+in-short t xs ys e = rw e

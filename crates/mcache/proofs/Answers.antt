@@ -17,7 +17,7 @@ use Rattle.rows.specs.Ids.{distinct}
 use Rattle.rows.specs.RowsLaws.{place-lt}
 use Rattle.rows.specs.Store.{inUse, idAt, idsIn, allUpTo, InStore}
 use Rattle.rows.specs.StoreLaws.{short-in}
-use Rattle.protobuf.specs.declared.WireError.{WireError}
+use Rattle.protobuf.specs.declared.Refusal.{Refusal}
 use Rattle.protobuf.specs.declared.Checked.the-variants as checked
 use Rattle.protobuf.specs.Walk.{between}
 use Rattle.ids.specs.declared.MessageAt.the-variants as at
@@ -336,7 +336,7 @@ module _ (c : MessageCache) (st body : List ℕ) (i : ℕ) where
   unfolding planned
   plan-malformed e = rw (← e)
 
-  pub plan-refused : (why : WireError) → lent.Fine ≡ lentOf c st → checked.Refused why ≡ acceptOf body → planned c st body i ≡ no (put.Refused why)
+  pub plan-refused : (why : Refusal) → lent.Fine ≡ lentOf c st → checked.Refused why ≡ acceptOf body → planned c st body i ≡ no (put.Refused why)
   unfolding planned
   plan-refused why e f = rw (← e, ← f)
 

@@ -175,7 +175,7 @@ module _ (c : MessageCache) where
   at-low body (at.At a e) = fit-low (between body a e) (admissionOf (between body a e) true)
 
   body-low : (body : List ℕ) (i : ℕ) (r : Checked) → putNumber (answered (planBody c body i r)) < bad-setting
-  body-low body i (checked.Refused why) = omega (arith, wire-range why .1)
+  body-low body i (checked.Refused why) = omega (arith, wire-range (why .why) .1)
   body-low body i checked.Fine = at-low body (messageAt body i)
 
 module _ (c : MessageCache) (st : List ℕ) (y : Typed c) where

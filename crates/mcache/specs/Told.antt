@@ -3,7 +3,7 @@ use mathlib.Core.List.{[], _∷_}
 use Rattle.basis.specs.declared.Told.{Told}
 use Rattle.basis.specs.Refusals.{bad-setting, bad-store, malformed, no-message, topic-too-long}
 use Rattle.basis.specs.Told.{told, done}
-use Rattle.protobuf.specs.Told.{wireTold}
+use Rattle.protobuf.specs.Told.{refusalTold}
 use Rattle.admission.specs.Told.{unfitTold}
 use Rattle.mcache.specs.declared.Lent.{Lent}
 use Rattle.mcache.specs.declared.Lent.the-variants as lent
@@ -31,7 +31,7 @@ putTold put.Stored = done (1 ∷ [])
 putTold put.Held = done (0 ∷ [])
 putTold put.BadStore = told bad-store []
 putTold put.Malformed = told malformed []
-putTold (put.Refused why) = wireTold why
+putTold (put.Refused why) = refusalTold why
 putTold (put.NoMessage count) = told no-message (count ∷ [])
 putTold (put.Unfit why) = unfitTold why
 

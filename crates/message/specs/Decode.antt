@@ -7,8 +7,8 @@ use lib.ListN.{length}
 use lib.Seq.{sets}
 use lib.Dec.{ltb}
 use Rattle.schema.specs.declared.Kind.the-variants as kind
-use Rattle.schema.specs.declared.Counted.{Counted}
-use Rattle.schema.specs.declared.Counted.the-variants as counted
+use Rattle.schema.specs.declared.Tested.{Tested}
+use Rattle.schema.specs.declared.Tested.the-variants as tested
 use Rattle.message.specs.declared.Decoded.{Decoded}
 use Rattle.message.specs.declared.Decoded.the-variants.{Records, Refused, Room}
 use Rattle.schema.specs.Accept.{bodyRecords}
@@ -20,9 +20,9 @@ unfoldable pub hasControl : List ℕ → Bool
 hasControl s = hasField 3 s
 
 -- with room for so many records
-abbrev pub onCount : ℕ → Bool → Counted → Decoded
-onCount room c (counted.Refused why) = Refused why
-onCount room c (counted.Records n) = cond (ltb room n) (Room n) (Records n c)
+abbrev pub onCount : ℕ → Bool → Tested → Decoded
+onCount room c (tested.Refused r) = Refused r
+onCount room c (tested.Records n) = cond (ltb room n) (Room n) (Records n c)
 
 unfoldable pub decodeAnswer : List ℕ → ℕ → Decoded
 decodeAnswer s words = onCount (words / 20) (hasControl s) (bodyRecords s)
@@ -30,7 +30,7 @@ decodeAnswer s words = onCount (words / 20) (hasControl s) (bodyRecords s)
 -- the records stand at the front of the table; a refusal changes nothing
 abbrev pub leaves : List ℕ → List ℕ → Decoded → List ℕ
 leaves s t (Records n c) = sets t 0 (wordsOfAll (rowsOf kind.Rpc 0 s))
-leaves s t (Refused why) = t
+leaves s t (Refused r) = t
 leaves s t (Room n) = t
 
 unfoldable pub decodeTable : List ℕ → List ℕ → List ℕ

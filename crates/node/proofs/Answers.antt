@@ -29,7 +29,7 @@ use Rattle.mcache.specs.Unique.{Keeps, Forms}
 use Rattle.mcache.specs.GuardLaws.{keep-usable, form-fit}
 use Rattle.mcache.specs.declared.Offer.{Offer}
 use Rattle.mcache.specs.Calls.{startAnswer as cacheStartAnswer, startCache, lentOf as cacheLentOf, keptUnder, storedUnder, shifted, offerIn}
-use Rattle.protobuf.specs.declared.WireError.{WireError}
+use Rattle.protobuf.specs.declared.Refusal.{Refusal as Placed}
 use Rattle.protobuf.specs.declared.Checked.the-variants as checked
 use Rattle.protobuf.specs.Walk.{between}
 use Rattle.ids.specs.declared.MessageAt.the-variants as found
@@ -355,7 +355,7 @@ module _ (n : Node) (ss cs body : List ℕ) (i : ℕ) (word : Bool) (at : ℕ) w
   unfolding planned
   plan-faulty why e = rw (← e)
 
-  pub plan-refused : (why : WireError) → lent.Fine ≡ lentOf n ss cs → checked.Refused why ≡ acceptOf body → planned n ss cs body i word at ≡ no (admit.Refused why)
+  pub plan-refused : (why : Placed) → lent.Fine ≡ lentOf n ss cs → checked.Refused why ≡ acceptOf body → planned n ss cs body i word at ≡ no (admit.Refused why)
   unfolding planned
   plan-refused why e f = rw (← e, ← f)
 

@@ -13,7 +13,7 @@ use Rattle.basis.specs.Lists.{answer-fits, answer-short, written-fits, written-
 use Rattle.rows.specs.Ids.{among}
 use Rattle.rows.specs.Store.{idsIn}
 use Rattle.peer_id.specs.Uvarint.{uvarint}
-use Rattle.protobuf.specs.declared.WireError.{WireError}
+use Rattle.protobuf.specs.declared.Refusal.{Refusal as Placed}
 use Rattle.protobuf.specs.declared.Checked.{Checked}
 use Rattle.protobuf.specs.declared.Checked.the-variants as checked
 use Rattle.protobuf.specs.Walk.{between}
@@ -257,7 +257,7 @@ module _ (node : Node) (ss cs body out : List ℕ) (l : Lent) (lent-is : l ≡ l
   asks-faulty why h = rw (sym lent-is ∙ h) (refl, refl)
 
   module _ (fine : l ≡ lent.Fine) (c : Checked) (body-is : c ≡ acceptOf body) where
-    pub asks-refused : (why : WireError) → c ≡ checked.Refused why → Asks (ask.Refused why) out
+    pub asks-refused : (why : Placed) → c ≡ checked.Refused why → Asks (ask.Refused why) out
     unfolding askAnswer askLeft
     asks-refused why h = rw (sym lent-is ∙ fine, sym body-is ∙ h) (refl, refl)
 

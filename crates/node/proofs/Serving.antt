@@ -16,7 +16,7 @@ use Rattle.rows.specs.RowsLaws.{length-ring, place-lt}
 use Rattle.rows.specs.Ids.{indexOf}
 use Rattle.rows.specs.Store.{idAt, idsIn, Sound}
 use Rattle.rows.specs.StoreLaws.{row-fits}
-use Rattle.protobuf.specs.declared.WireError.{WireError}
+use Rattle.protobuf.specs.declared.Refusal.{Refusal as Placed}
 use Rattle.protobuf.specs.declared.Checked.{Checked}
 use Rattle.protobuf.specs.declared.Checked.the-variants as checked
 use Rattle.protobuf.specs.Walk.{between}
@@ -202,7 +202,7 @@ module _ (node : Node) (ss cs body out : List ℕ) (l : Lent) (lent-is : l ≡ l
   serves-faulty why h = rw (sym lent-is ∙ h) (refl, refl)
 
   module _ (fine : l ≡ lent.Fine) (c : Checked) (body-is : c ≡ acceptOf body) where
-    pub serves-refused : (why : WireError) → c ≡ checked.Refused why → Serves (serve.Refused why) out
+    pub serves-refused : (why : Placed) → c ≡ checked.Refused why → Serves (serve.Refused why) out
     unfolding serveAnswer serveLeft
     serves-refused why h = rw (sym lent-is ∙ fine, sym body-is ∙ h) (refl, refl)
 

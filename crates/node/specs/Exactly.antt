@@ -174,7 +174,7 @@ module _ (n : Node) (ss cs : List ℕ) where
     at-below (found.At a e) = fit-below (between body a e) (admissionOf (between body a e) word)
 
     body-below : (r : Checked) → admitTold (admitAnswer n ss at (planBody n at word body i r)) .number < bad-setting
-    body-below (checked.Refused why) = omega (arith, wire-range why .1)
+    body-below (checked.Refused why) = omega (arith, wire-range (why .why) .1)
     body-below checked.Fine = at-below (messageAt body i)
 
     admit-faulty : (why : Fault) → lentOf n ss cs ≡ lent.Faulty why
@@ -259,7 +259,7 @@ module _ (n : Node) (ss cs : List ℕ) where
     ask-on : (r : Checked) → lentOf n ss cs ≡ lent.Fine → acceptOf body ≡ r
         → askTold (askAnswer n ss cs body out) .number < bad-setting
     unfolding askAnswer answer
-    ask-on (checked.Refused why) e a = rw (e, a) (omega (arith, wire-range why .1))
+    ask-on (checked.Refused why) e a = rw (e, a) (omega (arith, wire-range (why .why) .1))
     ask-on checked.Fine e a =
         rw (e, a) (either (leb (length (askBytes n ss body)) (length out)) (λ u. rw u (omega arith))
         (λ u. rw u (omega arith)))
@@ -280,7 +280,7 @@ module _ (n : Node) (ss cs : List ℕ) where
     serve-on : (r : Checked) → lentOf n ss cs ≡ lent.Fine → acceptOf body ≡ r
         → serveTold (serveAnswer n ss cs body out) .number < bad-setting
     unfolding serveAnswer
-    serve-on (checked.Refused why) e a = rw (e, a) (omega (arith, wire-range why .1))
+    serve-on (checked.Refused why) e a = rw (e, a) (omega (arith, wire-range (why .why) .1))
     serve-on checked.Fine e a = rw (e, a) (reply-below (replyFor (roomOf out) (cachedOf (n .cache) cs (wanted body))))
 
     pub serve-faults : (k : ℕ) → bad-setting ≤ k

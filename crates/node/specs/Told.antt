@@ -3,7 +3,7 @@ use mathlib.Core.List.{[], _∷_}
 use Rattle.basis.specs.declared.Told.{Told}
 use Rattle.basis.specs.Refusals.{bad-setting, bad-store, malformed, no-message, topic-too-long, clock-back, short-room}
 use Rattle.basis.specs.Told.{told, done}
-use Rattle.protobuf.specs.Told.{wireTold}
+use Rattle.protobuf.specs.Told.{refusalTold}
 use Rattle.admission.specs.Told.{unfitTold}
 use Rattle.node.specs.declared.Fault.{Fault}
 use Rattle.node.specs.declared.Fault.the-variants as fault
@@ -44,7 +44,7 @@ abbrev pub admitTold : Admit → Told
 admitTold admit.New = done (1 ∷ [])
 admitTold admit.Duplicate = done (0 ∷ [])
 admitTold (admit.Faulty why) = faultTold why
-admitTold (admit.Refused why) = wireTold why
+admitTold (admit.Refused why) = refusalTold why
 admitTold (admit.NoMessage count) = told no-message (count ∷ [])
 admitTold (admit.Unfit why) = unfitTold why
 admitTold (admit.ClockBack clock) = told clock-back (clock ∷ [])
@@ -77,12 +77,12 @@ explainTold (explain.TopicTooLong len) = told topic-too-long (len ∷ [])
 abbrev pub askTold : Ask → Told
 askTold (ask.Bytes count) = done (count ∷ [])
 askTold (ask.Faulty why) = faultTold why
-askTold (ask.Refused why) = wireTold why
+askTold (ask.Refused why) = refusalTold why
 askTold (ask.Room needed) = told short-room (needed ∷ [])
 
 -- how many bytes, how many messages, and how many were left
 abbrev pub serveTold : Serve → Told
 serveTold (serve.Reply bytes messages left) = done (bytes ∷ messages ∷ left ∷ [])
 serveTold (serve.Faulty why) = faultTold why
-serveTold (serve.Refused why) = wireTold why
+serveTold (serve.Refused why) = refusalTold why
 serveTold (serve.Room needed) = told short-room (needed ∷ [])

@@ -14,7 +14,7 @@ use Rattle.basis.specs.Told.{told, done}
 use Rattle.basis.specs.Refusals.{no-message, clock-back}
 use Rattle.protobuf.specs.declared.Checked.{Checked}
 use Rattle.protobuf.specs.declared.Checked.the-variants as checked
-use Rattle.protobuf.specs.Told.{wireTold}
+use Rattle.protobuf.specs.Told.{refusalTold}
 use Rattle.protobuf.specs.Walk.{between}
 use Rattle.schema.specs.Accept.{acceptOf}
 use Rattle.rpc.specs.Rpc.{RawMessage, Rpc}
@@ -171,7 +171,7 @@ module _ (n : Node) (ss cs body : List ℕ) (i : ℕ) (word : Bool) (at : ℕ) w
 
   of-body : Bytes body → lentOf n ss cs ≡ lent.Fine → (r : Checked) → acceptOf body ≡ r
       → Tells (admitTold (admitAnswer n ss at (planBody n at word body i r)))
-  of-body b fine (checked.Refused why) e = refuses fine (refused-exactly body (wireTold why) b .0 (why, e, refl))
+  of-body b fine (checked.Refused why) e = refuses fine (refused-exactly body (refusalTold why) b .0 (why, e, refl))
   of-body b fine checked.Fine e =
       let x = taken-exactly body b .0 e in of-at fine (x .0) (x .1) (messageAt body i) refl
 

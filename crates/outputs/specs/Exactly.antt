@@ -19,10 +19,10 @@ use Rattle.basis.specs.Refusals.{topic-too-long, short-room}
 use Rattle.basis.specs.Writing.{answer, written}
 use Rattle.basis.specs.Lists.{answer-fits, answer-short, written-fits, written-short}
 use Rattle.rows.specs.ListLaws.{drop-sets, put-sets}
-use Rattle.protobuf.specs.declared.WireError.{WireError}
+use Rattle.protobuf.specs.declared.Refusal.{Refusal as Placed}
 use Rattle.protobuf.specs.declared.Checked.{Checked}
 use Rattle.protobuf.specs.declared.Checked.the-variants as checked
-use Rattle.protobuf.specs.Told.{wireTold}
+use Rattle.protobuf.specs.Told.{refusalTold}
 use Rattle.protobuf.specs.Encode.{bytesField}
 use Rattle.schema.specs.Accept.{acceptOf}
 use Rattle.rpc.specs.Rpc.{Rpc}
@@ -168,7 +168,7 @@ names-exactly (i ∷ is) x out tells on-bytes on-room w =
 -- ---- a body that is refused, of a call that tells this for each outcome of the one test, and none of 10, 1 to 7 and 11
 -- where the body is taken
 module _ (body : List ℕ) (b : Bytes body) (tell : Checked → Told)
-    (on-wrong : (why : WireError) → tell (checked.Refused why) ≡ wireTold why)
+    (on-wrong : (why : Placed) → tell (checked.Refused why) ≡ refusalTold why)
     (other : Gated (tell checked.Fine .number) → ⊥) where
   refused-of : (c : Checked) → acceptOf body ≡ c → (a : Told) → tell c ≡ a → Gated (a .number) → Refusal body a
   refused-of (checked.Refused why) e a h g = refused-exactly body a b .0 (why, e, sym (on-wrong why) ∙ h)

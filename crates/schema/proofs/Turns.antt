@@ -1,12 +1,16 @@
--- One turn of the walk over a message's fields, as the loops of `count` and `slots_of` make it.
+-- One turn of the walk over a message's fields, as the loops of `count`, `spot_in` and `slots_of` make it.
 use Prim.Native.Nat.{ℕ, _+_, _≤_}
 use mathlib.Core.Path.{_≡_, refl, sym, ap, _∙_}
 use mathlib.Core.List.{List}
 use native.Mathlib.Omega.{arith}
 use lib.ListN.{length}
+use Rattle.basis.specs.declared.Spot.{Spot}
+use Rattle.basis.specs.declared.Spot.the-variants.{Nowhere, At}
+use Rattle.basis.specs.Spot.{orElse}
 use Rattle.protobuf.specs.declared.Field.{Field}
 use Rattle.protobuf.specs.declared.WireError.{WireError}
 use Rattle.protobuf.specs.declared.Step.the-variants as step
+use Rattle.protobuf.specs.Refusal.{spotOf}
 use Rattle.protobuf.specs.Field.{readField}
 use Rattle.protobuf.specs.Walk.{Fields, walkAt}
 use Rattle.protobuf.specs.WalkLaws.{walk-on, walk-end}
@@ -15,6 +19,7 @@ use Rattle.schema.specs.declared.Slots.{Slots}
 use Rattle.schema.specs.declared.Counted.{Counted}
 use Rattle.schema.specs.declared.Counted.the-variants.{Records, Refused}
 use Rattle.schema.specs.Count.{plus, andThen, countAlong, counted, fieldCount}
+use Rattle.schema.specs.Spots.{spotAlong, spotIn, fieldSpot}
 use Rattle.schema.specs.Slots.{slotsAlong, withField}
 
 -- ---- counting: n records before the place `at`
@@ -48,6 +53,37 @@ module _ (k : Kind) (s : List ℕ) (at n : ℕ) where
 
   pub count-turn : (f : Field) (m : ℕ) → step.At f ≡ readField s at → fieldCount k s f ≡ Records m → going (walkAt s at) ≡ plus (n + m) (countAlong counted k s (walkAt s (f .next)))
   count-turn f m h g = on-field f (Records m) h g ∙ plus-plus n m (countAlong counted k s (walkAt s (f .next)))
+
+-- ---- the place of a refusal, from `at` on
+module _ (k : Kind) (s : List ℕ) (at : ℕ) where
+  abbrev seeking : Fields → Spot
+  seeking w = spotAlong spotIn k s w
+
+  pub spot-done : length s ≤ at → seeking (walkAt s at) ≡ Nowhere
+  spot-done h = ap seeking (walk-end s at h)
+
+  pub spot-end : step.End ≡ readField s at → seeking (walkAt s at) ≡ Nowhere
+  spot-end h = ap seeking (walk-on s at step.End h)
+
+  pub spot-refused : (why : WireError) → step.Refused why ≡ readField s at → seeking (walkAt s at) ≡ spotOf why
+  spot-refused why h = ap seeking (walk-on s at (step.Refused why) h)
+
+  on-spot : (f : Field) (x : Spot) → step.At f ≡ readField s at → fieldSpot k s f ≡ x
+      → seeking (walkAt s at) ≡ orElse x (seeking (walkAt s (f .next)))
+  unfolding fieldSpot
+  on-spot f x h g = ap seeking (walk-on s at (step.At f) h)
+      ∙ ap (λ (y : Spot). orElse y (seeking (walkAt s (f .next)))) g
+
+  found : (x later : Spot) (o a b c : ℕ) → x ≡ At o a b c → orElse x later ≡ x
+  found x later o a b c e = rw e
+
+  pub spot-found : (f : Field) (x : Spot) (o a b c : ℕ) → step.At f ≡ readField s at → x ≡ fieldSpot k s f
+      → x ≡ At o a b c → seeking (walkAt s at) ≡ x
+  spot-found f x o a b c h g e = on-spot f x h (sym g) ∙ found x (seeking (walkAt s (f .next))) o a b c e
+
+  pub spot-turn : (f : Field) (x : Spot) → step.At f ≡ readField s at → x ≡ fieldSpot k s f → x ≡ Nowhere
+      → seeking (walkAt s at) ≡ seeking (walkAt s (f .next))
+  spot-turn f x h g e = on-spot f x h (sym g) ∙ ap (λ (y : Spot). orElse y (seeking (walkAt s (f .next)))) e
 
 -- ---- the slots: t before the place `at`
 module _ (k : Kind) (s : List ℕ) (at : ℕ) (t : Slots) where

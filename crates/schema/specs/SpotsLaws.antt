@@ -1,12 +1,12 @@
 -- Laws of places: along a message's fields, and in its submessages in the same way; and a place lies within the message.
-use Prim.Native.Nat.{ℕ, _+_, _-_, _≤_, _<_}
+use Prim.Native.Nat.{ℕ, _+_, _-_, _^_, _≤_, _<_}
 use mathlib.Core.Path.{_≡_, refl, sym, ap, ap₂, subst, _∙_}
 use mathlib.Core.List.{List}
 use native.Mathlib.Omega.{arith}
 use lib.ListN.{length, drop, length-take}
 use Rattle.basis.specs.declared.Spot.{Spot}
 use Rattle.basis.specs.declared.Spot.the-variants.{Nowhere, At}
-use Rattle.basis.specs.Spot.{at, inside, orElse, Within}
+use Rattle.basis.specs.Spot.{at, inside, orElse, Within, Reaches}
 use Rattle.basis.specs.Cases.{either}
 use Rattle.utf8.specs.Utf8.{isUtf8}
 use Rattle.protobuf.specs.declared.Field.{Field}
@@ -93,3 +93,8 @@ spot-within =
     (role-within s from f (roleOf k (f .field) (f .«wire_type»)) st
     (λ j form p q. ih j (sub-rank k j form (f .field) (f .«wire_type») q) p)) rest)
     0))
+
+-- and a place within so many bytes, after a start from which they can be counted, can be counted from there
+pub within-reaches : (n start : ℕ) (a : Spot) → Within n a → start + n < 2 ^ 64 → Reaches start a
+within-reaches n start Nowhere p l = tt
+within-reaches n start (At offset outer middle inner) p l = omega (arith, p)

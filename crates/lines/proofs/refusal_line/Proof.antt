@@ -17,20 +17,14 @@ returns-2 : tie.Need-returns-2
 unfolding refusalLine
 returns-2 c = wrote-short 256 0 _ _ (c .if2 .taken)
 
-printed-requires : tie.Need-printed-requires
-printed-requires c κs = search needs
-
 start-line-requires : tie.Need-start-line-requires
 start-line-requires c κs = search needs
 
 put-word-requires : tie.Need-put-word-requires
 put-word-requires c κs = search needs
 
-cast-put-refused : tie.Need-cast-put-refused
-cast-put-refused c = search needs
-
-put-refused-requires : tie.Need-put-refused-requires
-put-refused-requires c κs = search needs
+put-told-requires : tie.Need-put-told-requires
+put-told-requires c κs = search needs
 
 end-line-requires : tie.Need-end-line-requires
 end-line-requires c κs = search needs
@@ -40,10 +34,13 @@ same-length c = search needs
 
 returns-3 : tie.Need-returns-3
 unfolding refusalLine
-returns-3 c = wrote-yes _ _ (le-leb _ _ (c .before .before .before .before .before .before .before .before .before .before .before .before .before .before .before .before .before .before .before .if1 .left)) (puts-wrote (omega arith) (puts-as refl (omega arith)
-    (puts-then (wrote-puts (omega arith) (c .before .before .before .before .before .before .before .before .before .before .before .before .before .before .before .start-line .ensures))
-    (puts-then (puts-then (wrote-puts (omega arith) (c .before .before .before .before .before .before .before .before .before .before .before .put-word .ensures))
-    (wrote-puts (omega arith) (rw (c .before .before .before .before .before .before .before .before .before .before .before .before .before .before .before .before .before .printed .ensures) at (c .before .before .before .before .before .before .put-refused .ensures))))
+returns-3 c =
+    let q = c .before .before .before .before .before .before in
+    let p = q .before .before .before .before in
+    let s = p .before .before .before .before in
+    wrote-yes _ _ (le-leb _ _ (s .before .before .before .if1 .left)) (puts-wrote (omega arith) (puts-as refl (omega arith)
+    (puts-then (wrote-puts (omega arith) (s .start-line .ensures))
+    (puts-then (puts-then (wrote-puts (omega arith) (p .put-word .ensures)) (q .put-told .ensures))
     (wrote-puts (omega arith) (c .before .before .end-line .ensures))))))
 
 pub refusal-line-spec : {M : Type 1} → statement M
@@ -52,11 +49,9 @@ refusal-line-spec =
     (tie.spec
     returns
     returns-2
-    printed-requires
     start-line-requires
     put-word-requires
-    cast-put-refused
-    put-refused-requires
+    put-told-requires
     end-line-requires
     same-length
     returns-3)

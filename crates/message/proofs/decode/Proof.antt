@@ -9,8 +9,8 @@ use borrow.Author.Tests.{lt-ltb, le-ltb}
 use Rattle.basis.specs.Cases.{clash}
 use Rattle.basis.specs.Unique.{Leaves}
 use Rattle.schema.specs.declared.Kind.the-variants as kind
-use Rattle.schema.specs.declared.Counted.{Counted}
-use Rattle.schema.specs.declared.Counted.the-variants as counted
+use Rattle.schema.specs.declared.Tested.{Tested}
+use Rattle.schema.specs.declared.Tested.the-variants as tested
 use Rattle.schema.specs.Schema.{ownOf}
 use Rattle.schema.specs.Accept.{bodyRecords}
 use Rattle.schema.specs.AcceptLaws.{Gate, large, bad, many, passes, gate}
@@ -29,26 +29,26 @@ unfolding decodeTable
 decided s t r e = record { answer = e; lent = ap (leaves s t) e }
 
 module _ (s : List ℕ) (words : ℕ) where
-  answered : (c : Counted) → c ≡ bodyRecords s → onCount (words / 20) (hasControl s) c ≡ decodeAnswer s words
+  answered : (c : Tested) → c ≡ bodyRecords s → onCount (words / 20) (hasControl s) c ≡ decodeAnswer s words
   unfolding decodeAnswer
   answered c e = ap (onCount (words / 20) (hasControl s)) e
 
-  module _ (n : ℕ) (e : counted.Records n ≡ bodyRecords s) where
+  module _ (n : ℕ) (e : tested.Records n ≡ bodyRecords s) where
     short : words / 20 < n → Room n ≡ decodeAnswer s words
-    short r = simp (lt-ltb _ _ r) at (answered (counted.Records n) e)
+    short r = simp (lt-ltb _ _ r) at (answered (tested.Records n) e)
 
     fits : (c : Bool) → c ≡ hasControl s → n ≤ words / 20 → Records n c ≡ decodeAnswer s words
-    fits c k r = ap (Records n) k ∙ simp (le-ltb _ _ r) at (answered (counted.Records n) e)
+    fits c k r = ap (Records n) k ∙ simp (le-ltb _ _ r) at (answered (tested.Records n) e)
 
 -- a body that is taken is small, and the rows that were counted have room
-of-gate : (s t : List ℕ) (n : ℕ) (r : Counted) → Gate s r → counted.Records n ≡ r → n ≤ length t / 20 → (0 + length s ≤ 65536) × ((0 + length (rowsOf kind.Rpc 0 s)) * 20 ≤ length t)
+of-gate : (s t : List ℕ) (n : ℕ) (r : Tested) → Gate s r → tested.Records n ≡ r → n ≤ length t / 20 → (0 + length s ≤ 65536) × ((0 + length (rowsOf kind.Rpc 0 s)) * 20 ≤ length t)
 unfolding ownOf
 of-gate s t n _ (large h) e l = clash (cc)
 of-gate s t n _ (bad h why q) e l = clash (cc)
 of-gate s t n _ (many h m q x) e l = clash (cc)
 of-gate s t n _ (passes h m q x) e l = let z : n ≡ m = cc in let k = rows-length kind.Rpc 0 s m q in (omega arith, omega arith)
 
-room : (s t : List ℕ) (n : ℕ) → counted.Records n ≡ bodyRecords s → n ≤ length t / 20 → (0 + length s ≤ 65536) × ((0 + length (rowsOf kind.Rpc 0 s)) * 20 ≤ length t)
+room : (s t : List ℕ) (n : ℕ) → tested.Records n ≡ bodyRecords s → n ≤ length t / 20 → (0 + length s ≤ 65536) × ((0 + length (rowsOf kind.Rpc 0 s)) * 20 ≤ length t)
 room s t n e h = of-gate s t n (bodyRecords s) (gate s) e h
 
 body-records-requires : tie.Need-body-records-requires

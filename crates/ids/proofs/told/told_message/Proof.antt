@@ -24,7 +24,7 @@ told-message-spec =
     (λ c. search needs)
     (λ c κs. search needs)
     (λ c. c .one .ensures ∙ ap messageTold (sym (c .before .before .answer .given .1)))
-    (λ c. search needs)
+    (λ c. c .told-refusal .ensures ∙ ap messageTold (sym (c .before .before .answer2 .given .1)))
     (λ c. c .one2 .ensures ∙ ap messageTold (sym (c .before .before .answer3 .given .1)))
     (λ c. c .none .ensures ∙ ap messageTold (sym (c .before .enum-told .given .1)))
     (λ c. c .one3 .ensures ∙ ap messageTold (sym (c .before .before .answer4 .given .1)))

@@ -27,6 +27,6 @@ told-put-spec =
     (λ c. c .one2 .ensures ∙ ap putTold (sym (c .before .enum-told2 .given .1)))
     (λ c. c .none .ensures ∙ ap putTold (sym (c .before .enum-told3 .given .1)))
     (λ c. c .none2 .ensures ∙ ap putTold (sym (c .before .enum-told4 .given .1)))
-    (λ c. search needs)
+    (λ c. c .told-refusal .ensures ∙ ap putTold (sym (c .before .before .answer .given .1)))
     (λ c. c .one3 .ensures ∙ ap putTold (sym (c .before .before .answer2 .given .1)))
     (λ c. search needs))

@@ -32,5 +32,5 @@ told-decoded-spec =
     (λ c. search needs)
     (λ c κs. search needs)
     (λ c. records (c .before .before .answer .given .1) (c .two .ensures))
-    (λ c. search needs)
+    (λ c. c .told-refusal .ensures ∙ ap decodedTold (sym (c .before .before .answer2 .given .1)))
     (λ c. c .one .ensures ∙ ap decodedTold (sym (c .before .before .answer3 .given .1))))

@@ -26,7 +26,7 @@ told-admit-spec =
     (λ c. c .one .ensures ∙ ap admitTold (sym (c .before .enum-told .given .1)))
     (λ c. c .one2 .ensures ∙ ap admitTold (sym (c .before .enum-told2 .given .1)))
     (λ c. search needs)
-    (λ c. search needs)
+    (λ c. c .told-refusal .ensures ∙ ap admitTold (sym (c .before .before .answer2 .given .1)))
     (λ c. c .one3 .ensures ∙ ap admitTold (sym (c .before .before .answer3 .given .1)))
     (λ c. search needs)
     (λ c. c .one4 .ensures ∙ ap admitTold (sym (c .before .before .answer5 .given .1))))

@@ -19,5 +19,5 @@ told-ask-spec =
     (λ c κs. search needs)
     (λ c. c .one .ensures ∙ ap askTold (sym (c .before .before .answer .given .1)))
     (λ c. search needs)
-    (λ c. search needs)
+    (λ c. c .told-refusal .ensures ∙ ap askTold (sym (c .before .before .answer3 .given .1)))
     (λ c. c .one2 .ensures ∙ ap askTold (sym (c .before .before .answer4 .given .1))))
