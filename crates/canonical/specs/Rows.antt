@@ -1,6 +1,6 @@
 -- The nine rows of the scope's table "Bodies and answers" that are marked P, as one theorem over the calls: for every
 -- lent table and buffer, what `decode` and `encode` tell and leave, and in the third row also `sign_bytes` of message
--- 0. Other bodies stand apart.
+-- 0. A refusal has its place beside the Rust's own numbers. Other bodies stand apart.
 use Prim.Native.Nat.{ℕ, _+_, _/_, _≤_, _<_}
 use mathlib.Core.Path.{_≡_, refl, sym, ap, subst, _∙_}
 use mathlib.Core.Bool.{Bool, true, false, cond}
@@ -13,24 +13,26 @@ use borrow.Author.Tests.{le-ltb, lt-ltb}
 use Rattle.basis.specs.declared.Told.{Told}
 use Rattle.basis.specs.Refusals.{buffer-too-short, non-canonical, field-overflow, unsupported-wire-type}
 use Rattle.basis.specs.Refusals.{invalid-field-number, invalid-utf8, short-room}
-use Rattle.basis.specs.Told.{told, done}
+use Rattle.basis.specs.Told.{told, placed as toldAt, done}
 use Rattle.basis.specs.Writing.{answer, written}
 use Rattle.peer_id.specs.declared.VarintError.the-variants.{BufferTooShort, NonCanonical}
 use Rattle.peer_id.specs.Uvarint.{uvarint, bytesOf, readUvarint, readFrom, groupOf}
 use Rattle.utf8.specs.Utf8.{isUtf8, run}
 use Rattle.protobuf.specs.declared.WireError.{WireError}
+use Rattle.protobuf.specs.declared.Refusal.{Refusal as Placed}
 use Rattle.protobuf.specs.declared.WireError.the-variants.{Varint, FieldOverflow, UnsupportedWireType}
 use Rattle.protobuf.specs.declared.WireError.the-variants.{InvalidFieldNumber, InvalidUtf8}
-use Rattle.protobuf.specs.Told.{wireTold, encodedTold}
+use Rattle.protobuf.specs.Told.{wireTold, refusalTold, encodedTold}
 use Rattle.protobuf.specs.Field.{readTag, readLen, readVarint, skipFixed, skipField, readValue, readField}
 use Rattle.protobuf.specs.Walk.{walkFrom, walkAt, between}
 use Rattle.protobuf.specs.Encode.{tag, bytesField, varintField, ofWritten}
 use Rattle.schema.specs.declared.Kind.the-variants as kind
-use Rattle.schema.specs.declared.Counted.{Counted}
-use Rattle.schema.specs.declared.Counted.the-variants as count
+use Rattle.schema.specs.declared.Tested.{Tested}
+use Rattle.schema.specs.declared.Tested.the-variants as tested
 use Rattle.schema.specs.Schema.{roleOf, rank, ownOf}
 use Rattle.schema.specs.Kinds.{toDepth, overKinds}
 use Rattle.schema.specs.Count.{textCount, counted}
+use Rattle.schema.specs.Spots.{textSpot, spotIn}
 use Rattle.schema.specs.Accept.{bodyRecords, checked, acceptOf}
 use Rattle.schema.specs.Slots.{setPlace, withField, slotsOf, hasField}
 use Rattle.schema.specs.declared.Place.the-variants as place
@@ -43,6 +45,7 @@ use Rattle.message.specs.Decode.{hasControl, onCount, decodeAnswer, leaves, dec
 use Rattle.message.specs.Told.{decodedTold}
 use Rattle.rpc.specs.Rpc.{Rpc}
 use Rattle.rpc.specs.Encode.{signPrefix}
+use Rattle.meaning.specs.Refused.{placeAt}
 use Rattle.meaning.specs.ReadBack.{readBack}
 use Rattle.meaning.specs.Table.{rowsIn, table-back}
 use Rattle.ids.specs.declared.MessageAt.{MessageAt}
@@ -60,6 +63,10 @@ use Rattle.canonical.specs.Calls.{Writes, writes}
 pub record Refuses (s : List ℕ) (a : Told) : Type 0 where
   pub decodes : (t : List ℕ) → (decodedTold (decodeAnswer s (length t)) ≡ a) × (decodeTable s t ≡ t)
   pub encodes : (out : List ℕ) → (encodedTold (encodeAnswer s out) ≡ a) × (encodeLeft s out ≡ out)
+
+-- a refusal with its values; the offset of its place in the body, and the fields that enclose it
+abbrev pub refused : ℕ → List ℕ → ℕ → List ℕ → Told
+refused n values offset path = toldAt (placeAt offset path) (told n values)
 
 -- encode writes bs, or tells 12 with the room that they need and changes nothing
 abbrev pub EncodesAs : List ℕ → List ℕ → Type 0
@@ -115,40 +122,43 @@ pub record PRows : Type 0 where
   pub last-from : ((t : List ℕ) → OneRecord thirdBody thirdRow thirdRpc t) × EncodesAs thirdBody thirdBody
       × ((out : List ℕ) → Writes (signPrefix ++ (0x0a ∷ 0x01 ∷ 0x42 ∷ [])) out
       (messageTold (signAnswer thirdBody 0 out)) (signLeft thirdBody 0 out))
-  -- `80`: 1
-  pub varint-short : Refuses (0x80 ∷ []) (told buffer-too-short [])
-  -- `80 00`: 3
-  pub varint-long : Refuses (0x80 ∷ 0x00 ∷ []) (told non-canonical [])
-  -- `00`: 6: field 0, offset 0
-  pub field-zero : Refuses (0x00 ∷ []) (told invalid-field-number (0 ∷ 0 ∷ []))
-  -- `0b`: 5: type 3, offset 1
-  pub type-three : Refuses (0x0b ∷ []) (told unsupported-wire-type (3 ∷ 1 ∷ []))
-  -- `0a 05 08`: 4: offset 2, length 5, remaining 1
-  pub past-end : Refuses (0x0a ∷ 0x05 ∷ 0x08 ∷ []) (told field-overflow (2 ∷ 5 ∷ 1 ∷ []))
-  -- `0a 03 12 01 ff`: 7: offset 1
-  pub not-utf8 : Refuses (0x0a ∷ 0x03 ∷ 0x12 ∷ 0x01 ∷ 0xff ∷ []) (told invalid-utf8 (1 ∷ []))
+  -- `80`: 1; at 0
+  pub varint-short : Refuses (0x80 ∷ []) (refused buffer-too-short [] 0 [])
+  -- `80 00`: 3; at 0
+  pub varint-long : Refuses (0x80 ∷ 0x00 ∷ []) (refused non-canonical [] 0 [])
+  -- `00`: 6: field 0, offset 0; at 0
+  pub field-zero : Refuses (0x00 ∷ []) (refused invalid-field-number (0 ∷ 0 ∷ []) 0 [])
+  -- `0b`: 5: type 3, offset 1; at 1
+  pub type-three : Refuses (0x0b ∷ []) (refused unsupported-wire-type (3 ∷ 1 ∷ []) 1 [])
+  -- `0a 05 08`: 4: offset 2, length 5, remaining 1; at 2
+  pub past-end : Refuses (0x0a ∷ 0x05 ∷ 0x08 ∷ []) (refused field-overflow (2 ∷ 5 ∷ 1 ∷ []) 2 [])
+  -- `0a 03 12 01 ff`: 7: offset 1; at 3 in 1
+  pub not-utf8 : Refuses (0x0a ∷ 0x03 ∷ 0x12 ∷ 0x01 ∷ 0xff ∷ []) (refused invalid-utf8 (1 ∷ []) 3 (1 ∷ []))
 
 -- ---- from what is computed of a body to what the calls tell and leave
-refuses-by : (s : List ℕ) (why : WireError) → bodyRecords s ≡ count.Refused why → Refuses s (wireTold why)
+abbrev at : WireError → ℕ → List ℕ → Placed
+at why offset path = record { why = why; spot = placeAt offset path }
+
+refuses-by : (s : List ℕ) (why : Placed) → bodyRecords s ≡ tested.Refused why → Refuses s (refusalTold why)
 unfolding decodeAnswer decodeTable encodeAnswer encodeLeft acceptOf
 refuses-by s why e =
     record {
       decodes = λ t. (
-        ap (λ (r : Counted). decodedTold (onCount (length t / 20) (hasControl s) r)) e,
-        ap (λ (r : Counted). leaves s t (onCount (length t / 20) (hasControl s) r)) e,
+        ap (λ (r : Tested). decodedTold (onCount (length t / 20) (hasControl s) r)) e,
+        ap (λ (r : Tested). leaves s t (onCount (length t / 20) (hasControl s) r)) e,
       );
       encodes = λ out. (
-        ap (λ (r : Counted). encodedTold (encodeChecked s out (checked r))) e,
-        ap (λ (r : Counted). encodedChecked s out (checked r)) e,
+        ap (λ (r : Tested). encodedTold (encodeChecked s out (checked r))) e,
+        ap (λ (r : Tested). encodedChecked s out (checked r)) e,
       );
     }
 
-answers-by : (s : List ℕ) (n : ℕ) (words : ℕ) → bodyRecords s ≡ count.Records n → n ≤ words / 20
+answers-by : (s : List ℕ) (n : ℕ) (words : ℕ) → bodyRecords s ≡ tested.Records n → n ≤ words / 20
     → decodeAnswer s words ≡ Records n (hasControl s)
 unfolding decodeAnswer
 answers-by s n words e h = ap (onCount (words / 20) (hasControl s)) e ∙ simp (le-ltb (words / 20) n h)
 
-short-by : (s : List ℕ) (n : ℕ) (words : ℕ) → bodyRecords s ≡ count.Records n → words / 20 < n
+short-by : (s : List ℕ) (n : ℕ) (words : ℕ) → bodyRecords s ≡ tested.Records n → words / 20 < n
     → decodeAnswer s words ≡ Room n
 unfolding decodeAnswer
 short-by s n words e h = ap (onCount (words / 20) (hasControl s)) e ∙ simp (lt-ltb (words / 20) n h)
@@ -157,7 +167,7 @@ leaves-by : (s t : List ℕ) (d : Decoded) → decodeAnswer s (length t) ≡ d �
 unfolding decodeTable
 leaves-by s t d e = ap (leaves s t) e
 
-none-by : (s : List ℕ) (c : Bool) → bodyRecords s ≡ count.Records 0 → hasControl s ≡ c → rowsOf kind.Rpc 0 s ≡ []
+none-by : (s : List ℕ) (c : Bool) → bodyRecords s ≡ tested.Records 0 → hasControl s ≡ c → rowsOf kind.Rpc 0 s ≡ []
     → NoRecords s (cond c 1 0)
 none-by s c e h r t =
     let a = answers-by s 0 (length t) e (omega arith) in (
@@ -165,21 +175,21 @@ none-by s c e h r t =
       leaves-by s t (Records 0 (hasControl s)) a ∙ ap (λ (rs : List Record). sets t 0 (wordsOfAll rs)) r,
     )
 
-encodes-by : (s bs : List ℕ) (n : ℕ) → bodyRecords s ≡ count.Records n → canonBody s ≡ bs → EncodesAs s bs
+encodes-by : (s bs : List ℕ) (n : ℕ) → bodyRecords s ≡ tested.Records n → canonBody s ≡ bs → EncodesAs s bs
 unfolding encodeAnswer encodeLeft acceptOf
 encodes-by s bs n e h out =
     subst
-    (λ (r : Counted). Writes bs out (encodedTold (encodeChecked s out (checked r))) (encodedChecked s out (checked r)))
+    (λ (r : Tested). Writes bs out (encodedTold (encodeChecked s out (checked r))) (encodedChecked s out (checked r)))
     (sym e)
     (subst (λ (xs : List ℕ). Writes bs out (encodedTold (ofWritten (answer xs out))) (written xs out)) (sym h)
     (writes (λ z. encodedTold (ofWritten z)) (λ k. refl) (λ k. refl) bs out))
 
-signs-by : (s bs : List ℕ) (n i a e : ℕ) → bodyRecords s ≡ count.Records n → messageAt s i ≡ At a e
+signs-by : (s bs : List ℕ) (n i a e : ℕ) → bodyRecords s ≡ tested.Records n → messageAt s i ≡ At a e
     → signOf (between s a e) ≡ bs → (out : List ℕ) → Writes bs out (messageTold (signAnswer s i out)) (signLeft s i out)
 unfolding signAnswer signLeft acceptOf
 signs-by s bs n i a e q p h out =
     subst
-    (λ (r : Counted). Writes bs out (messageTold (signChecked s i out (checked r))) (signedChecked s i out (checked r)))
+    (λ (r : Tested). Writes bs out (messageTold (signChecked s i out (checked r))) (signedChecked s i out (checked r)))
     (sym q)
     (subst (λ (r : MessageAt). Writes bs out (messageTold (signAt s out r)) (signedAt s out r)) (sym p)
     (subst (λ (xs : List ℕ). Writes bs out (messageTold (message (answer xs out))) (written xs out)) (sym h)
@@ -190,7 +200,7 @@ at-front row t k h =
     let z : 0 + length row ≡ 20 = omega arith in
     sets-eq row t 0 (omega arith) ∙ ap (λ (j : ℕ). row ++ drop j t) z
 
-one-by : (s row : List ℕ) (x : Rpc) (r : Record) → bodyRecords s ≡ count.Records 1 → hasControl s ≡ false
+one-by : (s row : List ℕ) (x : Rpc) (r : Record) → bodyRecords s ≡ tested.Records 1 → hasControl s ≡ false
     → rowsOf kind.Rpc 0 s ≡ r ∷ [] → wordsOfAll (r ∷ []) ≡ row → length row ≡ 20 → readBack s (r ∷ []) false ≡ x
     → (t : List ℕ) → OneRecord s row x t
 one-by s row x r e c rs w k b t =
@@ -226,8 +236,8 @@ thirdRecord =
 
 pub rows : PRows
 unfolding uvarint bytesOf readUvarint readFrom groupOf isUtf8 run readTag readLen readVarint skipFixed skipField
-    readValue readField walkFrom walkAt tag bytesField varintField roleOf rank ownOf textCount toDepth overKinds counted
-    bodyRecords setPlace withField slotsOf hasField hasControl placed slotIn numbered ownPart heldPart canon entriesOf
+    readValue readField walkFrom walkAt tag bytesField varintField roleOf rank ownOf textCount textSpot toDepth overKinds
+    counted spotIn bodyRecords setPlace withField slotsOf hasField hasControl placed slotIn numbered ownPart heldPart canon entriesOf
     mergedOf bodyPart canonBody signOf messageAt ownRows rowsOf numberWords placeWords placesWords wordsOf kindCode
     readBack
 rows =
@@ -242,12 +252,12 @@ rows =
         encodes-by thirdBody thirdBody 1 refl refl,
         signs-by thirdBody (signPrefix ++ (0x0a ∷ 0x01 ∷ 0x42 ∷ [])) 1 0 2 8 refl refl refl,
       );
-      varint-short = refuses-by (0x80 ∷ []) (Varint BufferTooShort) refl;
-      varint-long = refuses-by (0x80 ∷ 0x00 ∷ []) (Varint NonCanonical) refl;
-      field-zero = refuses-by (0x00 ∷ []) (InvalidFieldNumber 0 0) refl;
-      type-three = refuses-by (0x0b ∷ []) (UnsupportedWireType 3 1) refl;
-      past-end = refuses-by (0x0a ∷ 0x05 ∷ 0x08 ∷ []) (FieldOverflow 2 5 1) refl;
-      not-utf8 = refuses-by (0x0a ∷ 0x03 ∷ 0x12 ∷ 0x01 ∷ 0xff ∷ []) (InvalidUtf8 1) refl;
+      varint-short = refuses-by (0x80 ∷ []) (at (Varint BufferTooShort 0) 0 []) refl;
+      varint-long = refuses-by (0x80 ∷ 0x00 ∷ []) (at (Varint NonCanonical 0) 0 []) refl;
+      field-zero = refuses-by (0x00 ∷ []) (at (InvalidFieldNumber 0 0) 0 []) refl;
+      type-three = refuses-by (0x0b ∷ []) (at (UnsupportedWireType 3 1) 1 []) refl;
+      past-end = refuses-by (0x0a ∷ 0x05 ∷ 0x08 ∷ []) (at (FieldOverflow 2 5 1) 2 []) refl;
+      not-utf8 = refuses-by (0x0a ∷ 0x03 ∷ 0x12 ∷ 0x01 ∷ 0xff ∷ []) (at (InvalidUtf8 1) 3 (1 ∷ [])) refl;
     }
 
 -- ---- other bodies
@@ -257,7 +267,7 @@ pub worked :
     × (signOf (0x22 ∷ 0x01 ∷ 0x61 ∷ 0x22 ∷ 0x01 ∷ 0x62 ∷ []) ≡ signPrefix
     ++ (0x22 ∷ 0x01 ∷ 0x61 ∷ 0x22 ∷ 0x01 ∷ 0x62 ∷ []))
 unfolding uvarint bytesOf readUvarint readFrom groupOf isUtf8 run readTag readLen readVarint skipFixed skipField
-    readValue readField walkFrom walkAt tag bytesField varintField roleOf rank ownOf textCount toDepth overKinds counted
-    bodyRecords setPlace withField slotsOf hasField hasControl decodeAnswer placed slotIn numbered ownPart heldPart
+    readValue readField walkFrom walkAt tag bytesField varintField roleOf rank ownOf textCount textSpot toDepth overKinds
+    counted spotIn bodyRecords setPlace withField slotsOf hasField hasControl decodeAnswer placed slotIn numbered ownPart heldPart
     canon entriesOf mergedOf bodyPart canonBody signOf
 worked = (refl, refl)

@@ -23,6 +23,7 @@ use Rattle.rpc.specs.Grammar.{IsMessage, is-message, IsIHave, is-ihave, IsIWant
 use Rattle.rpc.specs.Grammar.{IsPeerInfo, is-peer-info, IsPrune, is-prune, IsControl, is-control, IsRpc, is-rpc}
 use Rattle.protobuf.specs.Walk.{isBytes, valueIn}
 use Rattle.meaning.specs.Entries.{put-bytes}
+use Rattle.meaning.specs.Refused.{Some, Meant}
 use Rattle.meaning.specs.Good.{Accepted, GoodRole, Good, walked-good, good-walked, accepted-walks, each-put}
 
 -- ---- lists of bytes
@@ -39,10 +40,6 @@ all-each [] f = none-left
 all-each (d ∷ ds) f = f d and all-each ds f
 
 -- what each means
-pub record Some {X : Type 0} (R : List ℕ → X → Type 0) (d : List ℕ) : Type 0 where
-  pub value : X
-  pub means : R d value
-
 pairs-each : {X : Type 0} {R : List ℕ → X → Type 0} {ds : List (List ℕ)} → Each (Some R) ds → (xs : List X)
     × Pairs R ds xs
 pairs-each none-left = ([], no-pairs)
@@ -305,3 +302,39 @@ rpc-written (is-rpc {s = s} {es = es} g p1 p2 p3) =
 
 pub rpc-accepted : (s : List ℕ) → Some IsRpc s → Accepted kind.Rpc s
 rpc-accepted s x = rpc-written (x .means)
+
+-- the kinds of record that are no messages
+topic-good : (es : List Entry) → Good kind.Topic es
+unfolding roleOf
+topic-good es m = all-each (bytesIn m es) (λ d. tt)
+
+message-id-good : (es : List Entry) → Good kind.MessageId es
+unfolding roleOf
+message-id-good es m = all-each (bytesIn m es) (λ d. tt)
+
+-- ---- a message of any kind is accepted exactly where it means one
+pub meant : (k : Kind) (s : List ℕ) → Bytes s → Accepted k s → Meant k s
+meant kind.Rpc = rpc-means
+meant kind.SubOpts = sub-opts-means
+meant kind.RawMessage = message-means
+meant kind.Topic = λ s b a. let r = read kind.Topic s b a in record { value = r .entries; means = r .body }
+meant kind.ControlMessage = control-means
+meant kind.ControlIHave = ihave-means
+meant kind.ControlIWant = iwant-means
+meant kind.MessageId = λ s b a. let r = read kind.MessageId s b a in record { value = r .entries; means = r .body }
+meant kind.ControlGraft = graft-means
+meant kind.ControlPrune = prune-means
+meant kind.PeerInfo = peer-info-means
+
+pub meant-accepted : (k : Kind) (s : List ℕ) → Meant k s → Accepted k s
+meant-accepted kind.Rpc = rpc-accepted
+meant-accepted kind.SubOpts = sub-opts-accepted
+meant-accepted kind.RawMessage = message-accepted
+meant-accepted kind.Topic = λ s x. written kind.Topic s (x .value) (x .means) (topic-good (x .value))
+meant-accepted kind.ControlMessage = control-accepted
+meant-accepted kind.ControlIHave = ihave-accepted
+meant-accepted kind.ControlIWant = iwant-accepted
+meant-accepted kind.MessageId = λ s x. written kind.MessageId s (x .value) (x .means) (message-id-good (x .value))
+meant-accepted kind.ControlGraft = graft-accepted
+meant-accepted kind.ControlPrune = prune-accepted
+meant-accepted kind.PeerInfo = peer-info-accepted

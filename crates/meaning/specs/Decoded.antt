@@ -14,14 +14,17 @@ use lib.Dec.{ltb, eqb}
 use borrow.Author.Tests.{ltb-true, ltb-false, lt-ltb, le-ltb}
 use Rattle.basis.specs.declared.Told.{Told}
 use Rattle.basis.specs.Refusals.{too-large, too-many-records, short-room}
-use Rattle.basis.specs.Told.{told, done}
+use Rattle.basis.specs.declared.Spot.{Spot}
+use Rattle.basis.specs.Told.{told, placed, done}
 use Rattle.basis.specs.Cases.{either, clash}
 use Rattle.basis.specs.Bytes.{Bytes}
 use Rattle.utf8.specs.Utf8.{isUtf8}
 use Rattle.protobuf.specs.declared.Field.{Field}
 use Rattle.protobuf.specs.declared.WireError.{WireError}
+use Rattle.protobuf.specs.declared.Refusal.{Refusal as Placed}
+use Rattle.protobuf.specs.Refusal.{nowhere}
 use Rattle.protobuf.specs.declared.WireError.the-variants.{InvalidUtf8, TooLarge, TooManyRecords}
-use Rattle.protobuf.specs.Told.{wireTold, refusalNumber}
+use Rattle.protobuf.specs.Told.{wireTold, refusalTold, refusalNumber}
 use Rattle.protobuf.specs.RefusalLaws.{wire-range, field-early}
 use Rattle.protobuf.specs.Walk.{Fields, end, refused, _then_, fieldsOf, between}
 use Rattle.protobuf.specs.WalkLaws.{along}
@@ -33,6 +36,9 @@ use Rattle.schema.specs.declared.Role.the-variants.{Skip, Number, Text, Bytes a
 use Rattle.schema.specs.declared.Role.the-variants.{Sub}
 use Rattle.schema.specs.declared.Counted.{Counted}
 use Rattle.schema.specs.declared.Counted.the-variants as count
+use Rattle.schema.specs.declared.Tested.{Tested}
+use Rattle.schema.specs.declared.Tested.the-variants as tested
+use Rattle.schema.specs.Spots.{spotIn}
 use Rattle.schema.specs.Schema.{roleOf, rank, ownOf}
 use Rattle.schema.specs.Count.{plus, andThen, textCount, roleCount, countAlong, counted}
 use Rattle.schema.specs.SchemaLaws.{sub-rank}
@@ -40,6 +46,7 @@ use Rattle.schema.specs.Kinds.{by-rank}
 use Rattle.schema.specs.CountLaws.{count-along}
 use Rattle.schema.specs.Accept.{bodyRecords}
 use Rattle.schema.specs.AcceptLaws.{Gate, large, bad, many, passes, gate, records-taken, records-many, records-large}
+use Rattle.schema.specs.AcceptLaws.{records-wrong}
 use Rattle.message.specs.declared.Decoded.{Decoded}
 use Rattle.message.specs.declared.Decoded.the-variants.{Records, Refused, Room}
 use Rattle.message.specs.Rows.{rowsOf, wordsOfAll}
@@ -49,7 +56,9 @@ use Rattle.message.specs.Told.{decodedTold}
 use Rattle.rpc.specs.Rpc.{Rpc}
 use Rattle.rpc.specs.Grammar.{IsRpc}
 use Rattle.meaning.specs.ReadBack.{nothing, gather, readBack}
+use Rattle.meaning.specs.Refused.{RefusedAt, placeAt}
 use Rattle.meaning.specs.Accepted.{rpc-means, rpc-accepted}
+use Rattle.meaning.specs.RefusedLaws.{First, first-exactly, first-counts, refused-early}
 use Rattle.meaning.specs.Back.{read-back, one-rpc}
 use Rattle.meaning.specs.Table.{rowsIn, table-back}
 use Rattle.meaning.specs.Size.{recordsIn, rpc-records}
@@ -61,11 +70,12 @@ pub record Within (s : List ℕ) (x : Rpc) : Type 0 where
   pub small : length s ≤ 65536
   pub few : recordsIn x ≤ 512
 
--- what a body is refused with: 10 above 65,536 bytes, its length; 1 to 7, the first in reading order; 11 above 512
--- records, their number
+-- what a body is refused with: 10 above 65,536 bytes, its length; 1 to 7, the first in reading order, with its place; 11
+-- above 512 records, their number
 pub data Refusal (s : List ℕ) : Told → Type 0 where
   is-large : 65536 < length s → Refusal s (told too-large (length s ∷ []))
-  is-wrong : {why : WireError} → length s ≤ 65536 → counted kind.Rpc s ≡ count.Refused why → Refusal s (wireTold why)
+  is-wrong : {path : List ℕ} {offset : ℕ} {why : WireError} → length s ≤ 65536 → RefusedAt kind.Rpc 0 s path offset why
+      → Refusal s (placed (placeAt offset path) (wireTold why))
   has-many : {x : Rpc} → length s ≤ 65536 → IsRpc s x → 512 < recordsIn x
       → Refusal s (told too-many-records (recordsIn x ∷ []))
 
@@ -122,38 +132,40 @@ control-told {s} {x} i =
 
 -- ---- a body is refused exactly where the scope refuses it
 -- the gate's refusal
-pub refusal-of : (s : List ℕ) (r : Counted) (why : WireError) → Bytes s → Gate s r → r ≡ count.Refused why
-    → Refusal s (wireTold why)
+pub refusal-of : (s : List ℕ) (r : Tested) (why : Placed) → Bytes s → Gate s r → r ≡ tested.Refused why
+    → Refusal s (refusalTold why)
 refusal-of s _ why b (large h) e =
-    let q : TooLarge (length s) ≡ why = cc in subst (λ (w : WireError). Refusal s (wireTold w)) q (is-large h)
+    let q : nowhere (TooLarge (length s)) ≡ why = cc in
+    subst (λ (w : Placed). Refusal s (refusalTold w)) q (is-large h)
 refusal-of s _ why b (bad h w q) e =
-    let z : w ≡ why = cc in is-wrong h (q ∙ ap count.Refused z)
+    let i = first-exactly kind.Rpc s w (spotIn kind.Rpc s) b .0 (q, refl) in
+    let z : record { why = w; spot = spotIn kind.Rpc s } ≡ why = cc in
+    subst (λ (x : Placed). Refusal s (refusalTold x)) z
+    (subst (λ (x : Spot). Refusal s (placed x (wireTold w))) (sym (i .told)) (is-wrong h (i .is)))
 refusal-of s _ why b (many h n q l) e =
     let c = counts s n b q in
-    let z : TooManyRecords n ≡ why = cc in
-    subst (λ (w : WireError). Refusal s (wireTold w)) (ap TooManyRecords (c .all) ∙ z)
+    let z : nowhere (TooManyRecords n) ≡ why = cc in
+    subst (λ (w : Placed). Refusal s (refusalTold w)) (ap (λ (k : ℕ). nowhere (TooManyRecords k)) (c .all) ∙ z)
     (has-many h (c .means) (omega (arith, c .all)))
 refusal-of s _ why b (passes h n q l) e = clash (cc)
 
-records-wrong : (s : List ℕ) (why : WireError) → length s ≤ 65536 → counted kind.Rpc s ≡ count.Refused why
-    → bodyRecords s ≡ count.Refused why
-unfolding bodyRecords
-records-wrong s why h e = simp (le-ltb 65536 (length s) h, e)
-
 -- and back: by which case of the answer it is told
 pub of-refusal : {s : List ℕ} {a : Told} → Refusal s a
-    → (why : WireError) × (bodyRecords s ≡ count.Refused why) × (wireTold why ≡ a)
-of-refusal {s} (is-large h) = (TooLarge (length s), records-large s h, refl)
-of-refusal {s} (is-wrong {why} h e) = (why, records-wrong s why h e, refl)
+    → (why : Placed) × (bodyRecords s ≡ tested.Refused why) × (refusalTold why ≡ a)
+of-refusal {s} (is-large h) = (nowhere (TooLarge (length s)), records-large s h, refl)
+of-refusal {s} (is-wrong {path} {offset} {why} h i) =
+    let c = first-counts (record { path = path; offset = offset; is = i; told = refl }) in
+    (record { why = why; spot = spotIn kind.Rpc s }, records-wrong s why h (c .0),
+    ap (λ (x : Spot). placed x (wireTold why)) (c .1))
 of-refusal {s} (has-many {x} h i l) =
-    (TooManyRecords (recordsIn x), records-many s (recordsIn x) h (meant-count i) l, refl)
+    (nowhere (TooManyRecords (recordsIn x)), records-many s (recordsIn x) h (meant-count i) l, refl)
 
 -- ---- what decode tells, exactly
-of-gate : (s : List ℕ) (words : ℕ) (r : Counted) → Bytes s → Gate s r
+of-gate : (s : List ℕ) (words : ℕ) (r : Tested) → Bytes s → Gate s r
     → Decodes s words (decodedTold (onCount (words / 20) (hasControl s) r))
 of-gate s words _ b (large h) = refuses (is-large h)
-of-gate s words _ b (bad h why e) = refuses (is-wrong h e)
-of-gate s words _ b (many h n e l) = refuses (refusal-of s _ (TooManyRecords n) b (many h n e l) refl)
+of-gate s words _ b (bad h why e) = refuses (refusal-of s _ (record { why = why; spot = spotIn kind.Rpc s }) b (bad h why e) refl)
+of-gate s words _ b (many h n e l) = refuses (refusal-of s _ (nowhere (TooManyRecords n)) b (many h n e l) refl)
 of-gate s words _ b (passes h n e l) =
     let c = counts s n b e in
     let w : Within s (c .rpc) = record { means = c .means; small = h; few = omega (arith, c .all) } in
@@ -164,19 +176,19 @@ of-gate s words _ b (passes h n e l) =
     (subst (λ (k : ℕ). Decodes s words (done (recordsIn (c .rpc) ∷ k ∷ []))) (sym (control-told (c .means)))
     (reads w (omega (arith, c .all, ltb-false (words / 20) n u))))))
 
-records-within : {s : List ℕ} {x : Rpc} → Within s x → bodyRecords s ≡ count.Records (recordsIn x)
+records-within : {s : List ℕ} {x : Rpc} → Within s x → bodyRecords s ≡ tested.Records (recordsIn x)
 records-within {s} {x} w = records-taken s (recordsIn x) (w .small) (meant-count (w .means)) (w .few)
 
 told-of : {s : List ℕ} {words : ℕ} {a : Told} → Decodes s words a → decodedTold (decodeAnswer s words) ≡ a
 unfolding decodeAnswer
 told-of {s} {words} (refuses r) =
     let g = of-refusal r in
-    ap (λ (c : Counted). decodedTold (onCount (words / 20) (hasControl s) c)) (g .1) ∙ g .2
+    ap (λ (c : Tested). decodedTold (onCount (words / 20) (hasControl s) c)) (g .1) ∙ g .2
 told-of {s} {words} (short {x} w l) =
-    ap (λ (c : Counted). decodedTold (onCount (words / 20) (hasControl s) c)) (records-within w)
+    ap (λ (c : Tested). decodedTold (onCount (words / 20) (hasControl s) c)) (records-within w)
     ∙ simp (lt-ltb (words / 20) (recordsIn x) l)
 told-of {s} {words} (reads {x} w l) =
-    ap (λ (c : Counted). decodedTold (onCount (words / 20) (hasControl s) c)) (records-within w)
+    ap (λ (c : Tested). decodedTold (onCount (words / 20) (hasControl s) c)) (records-within w)
     ∙ simp (le-ltb (words / 20) (recordsIn x) l) (ap (λ (k : ℕ). done (recordsIn x ∷ k ∷ [])) (control-told (w .means)))
 
 decodes : (s : List ℕ) (words : ℕ) → Bytes s → Decodes s words (decodedTold (decodeAnswer s words))
@@ -261,7 +273,7 @@ pub data Gated : ℕ → Type 0 where
 
 pub refusal-gated : {s : List ℕ} {a : Told} → Refusal s a → Gated (a .number)
 refusal-gated (is-large h) = large-number
-refusal-gated {s} (is-wrong {why} h e) = early-number (wire-range why .0) (counted-early s why e)
+refusal-gated {s} (is-wrong {path} {offset} {why} h i) = early-number (wire-range why .0) (refused-early i)
 refusal-gated (has-many h i l) = many-number
 
 -- so 0, 12 and all above are none of them
@@ -273,7 +285,9 @@ gated-bound many-number = (omega arith, omega arith)
 -- a body that is within capacity is not refused
 pub refusal-within : {s : List ℕ} {a : Told} {x : Rpc} → Refusal s a → Within s x → ⊥
 refusal-within (is-large h) w = omega (arith, w .small)
-refusal-within (is-wrong h e) w = clash (let z = meant-count (w .means) in cc)
+refusal-within {s} (is-wrong {path} {offset} {why} h i) w =
+    let c = first-counts (record { path = path; offset = offset; is = i; told = refl }) in
+    clash (let z = meant-count (w .means) in let y = c .0 in cc)
 refusal-within {x = x} (has-many {x = y} h i l) w =
     let e : recordsIn y ≡ recordsIn x = ap recordsIn (one-rpc i (w .means)) in omega (arith, w .few)
 
@@ -288,7 +302,7 @@ pub record Accepts (s : List ℕ) (words n c : ℕ) : Type 0 where
 
 refusal-nonzero : {s : List ℕ} {a : Told} → Refusal s a → 0 < a .number
 refusal-nonzero (is-large h) = omega arith
-refusal-nonzero (is-wrong {why} h e) = wire-range why .0
+refusal-nonzero (is-wrong {path} {offset} {why} h i) = wire-range why .0
 refusal-nonzero (has-many h i l) = omega arith
 
 accepts-of : {s : List ℕ} {words : ℕ} {a : Told} (n c : ℕ) → Decodes s words a → a ≡ done (n ∷ c ∷ [])
@@ -335,10 +349,10 @@ told-records (Records m b) n c e = (
   ap (λ (k : ℕ). Records k b) (ap (λ (t : Told). t .first) e),
   ap (λ (t : Told). t .second) e,
 )
-told-records (Refused why) n c e = let z = wire-range why .0 in absurd (omega (arith, ap (λ (t : Told). t .number) e))
+told-records (Refused r) n c e = let z = wire-range (r .why) .0 in absurd (omega (arith, ap (λ (t : Told). t .number) e))
 told-records (Room m) n c e = absurd (omega (arith, ap (λ (t : Told). t .number) e))
 
-gate-reads : (s : List ℕ) (room : ℕ) (r : Counted) (n : ℕ) (b : Bool) → Gate s r
+gate-reads : (s : List ℕ) (room : ℕ) (r : Tested) (n : ℕ) (b : Bool) → Gate s r
     → onCount room (hasControl s) r ≡ Records n b → (counted kind.Rpc s ≡ count.Records n) × (n ≤ room)
     × (b ≡ hasControl s)
 gate-reads s room _ n b (large h) e = clash (cc)
@@ -393,7 +407,7 @@ table-rest s t n c e =
 
 -- ---- refusals; that one leaves the table as it was is `refused-decode` of message
 -- 10 is given exactly to a body above 65,536 bytes, with its length
-large-gate : (s : List ℕ) (room n : ℕ) (r : Counted) → Gate s r
+large-gate : (s : List ℕ) (room n : ℕ) (r : Tested) → Gate s r
     → decodedTold (onCount room (hasControl s) r) ≡ told too-large (n ∷ []) → (n ≡ length s) × (65536 < length s)
 large-gate s room n _ (large h) e = (sym (ap (λ (t : Told). t .first) e), h)
 large-gate s room n _ (bad h why q) e = let l = counted-early s why q in
@@ -426,18 +440,46 @@ wrong-exactly s words b = (λ p. forth (decodes s words b) (p .0) (p .1), λ w. 
   where
     forth : {a : Told} → Decodes s words a → 0 < a .number → a .number ≤ 7 → Wrong s
     forth (refuses (is-large h)) p q = absurd (omega arith)
-    forth (refuses (is-wrong h e)) p q =
-        record { small = h; meaningless = λ x i. clash (let z = meant-count i in cc) }
+    forth (refuses (is-wrong {path} {offset} {why} h i)) p q =
+        let c = first-counts (record { path = path; offset = offset; is = i; told = refl }) in
+        record { small = h; meaningless = λ x j. clash (let z = meant-count j in let y = c .0 in cc) }
     forth (refuses (has-many h i l)) p q = absurd (omega arith)
     forth (short w l) p q = absurd (omega arith)
     forth (reads w l) p q = absurd (omega arith)
 
     back : {a : Told} → Wrong s → Decodes s words a → (0 < a .number) × (a .number ≤ 7)
     back w (refuses (is-large h)) = absurd (omega (arith, w .small))
-    back w (refuses (is-wrong {why} h e)) = (wire-range why .0, counted-early s why e)
+    back w (refuses (is-wrong {path} {offset} {why} h i)) = (wire-range why .0, refused-early i)
     back w (refuses (has-many {x} h i l)) = absurd (w .meaningless x i)
     back w (short {x} v l) = absurd (w .meaningless x (v .means))
     back w (reads {x} v l) = absurd (w .meaningless x (v .means))
+
+-- and by this reason, at this place, exactly where its first refusal in reading order has them: the test of a body that
+-- every call makes
+place-of : (s : List ℕ) (why : WireError) (spot : Spot) (r : Tested) → Bytes s → length s ≤ 65536 → refusalNumber why ≤ 7
+    → Gate s r → r ≡ tested.Refused (record { why = why; spot = spot }) → First kind.Rpc s why spot
+place-of s why spot _ b h n (large l) e = absurd (omega arith)
+place-of s why spot _ b h n (bad l w q) e =
+    let x : _≡_ {A = Placed} (record { why = w; spot = spotIn kind.Rpc s }) (record { why = why; spot = spot }) = cc in
+    let z : w ≡ why = ap (λ (r : Placed). r .why) x in
+    let y : spotIn kind.Rpc s ≡ spot = ap (λ (r : Placed). r .spot) x in
+    first-exactly kind.Rpc s why spot b .0 (q ∙ ap count.Refused z, y)
+place-of s why spot _ b h n (many l m q g) e =
+    let x : nowhere (TooManyRecords m) ≡ record { why = why; spot = spot } = cc in
+    let z : TooManyRecords m ≡ why = ap (λ (r : Placed). r .why) x in
+    absurd (omega (arith, subst (λ (w : WireError). refusalNumber w ≤ 7) (sym z) n))
+place-of s why spot _ b h n (passes l m q g) e = clash (cc)
+
+pub place-exactly : (s : List ℕ) (why : WireError) (spot : Spot) → Bytes s → length s ≤ 65536
+    → ((bodyRecords s ≡ tested.Refused (record { why = why; spot = spot })) × (refusalNumber why ≤ 7))
+    ↔ First kind.Rpc s why spot
+place-exactly s why spot b h = (
+  λ p. place-of s why spot (bodyRecords s) b h (p .1) (gate s) (p .0),
+  λ i. let c = first-counts i in (
+    records-wrong s why h (c .0) ∙ ap (λ (x : Spot). tested.Refused (record { why = why; spot = x })) (c .1),
+    refused-early (i .is),
+  ),
+)
 
 -- 11 is given exactly to a body that is otherwise well formed and has more than 512 records, with the number of all of
 -- them
@@ -451,7 +493,7 @@ pub record TooMany (s : List ℕ) (n : ℕ) : Type 0 where
 many-of : {s : List ℕ} {words : ℕ} {a : Told} (n : ℕ) → Decodes s words a → a ≡ told too-many-records (n ∷ [])
     → TooMany s n
 many-of n (refuses (is-large h)) e = absurd (omega (arith, ap (λ (t : Told). t .number) e))
-many-of {s} n (refuses (is-wrong {why} h q)) e = let l = counted-early s why q in
+many-of n (refuses (is-wrong h i)) e = let l = refused-early i in
     absurd (omega (arith, ap (λ (t : Told). t .number) e))
 many-of n (refuses (has-many {x} h i l)) e =
     let z : n ≡ recordsIn x = sym (ap (λ (t : Told). t .first) e) in
@@ -478,7 +520,7 @@ pub record TooFewRows (s : List ℕ) (words n : ℕ) : Type 0 where
 short-of : {s : List ℕ} {words : ℕ} {a : Told} (n : ℕ) → Decodes s words a → a ≡ told short-room (n ∷ [])
     → TooFewRows s words n
 short-of n (refuses (is-large h)) e = absurd (omega (arith, ap (λ (t : Told). t .number) e))
-short-of {s} n (refuses (is-wrong {why} h q)) e = let l = counted-early s why q in
+short-of n (refuses (is-wrong h i)) e = let l = refused-early i in
     absurd (omega (arith, ap (λ (t : Told). t .number) e))
 short-of n (refuses (has-many h i l)) e = absurd (omega (arith, ap (λ (t : Told). t .number) e))
 short-of n (short {x} w l) e =

@@ -57,7 +57,7 @@ good-text : (s : List ℕ) (f : Field) (n : ℕ) → Utf8 (valueIn s f) → text
 unfolding textCount
 good-text s f n u = let t : isUtf8 (valueIn s f) ≡ true = exactly (valueIn s f) .1 u in simp t
 
-counts-good : (s : List ℕ) (f : Field) (r : Role) (m : ℕ) → roleCount counted s f r ≡ Records m
+pub counts-good : (s : List ℕ) (f : Field) (r : Role) (m : ℕ) → roleCount counted s f r ≡ Records m
     → GoodRole r (valueIn s f)
 counts-good s f Skip m h = tt
 counts-good s f (Number figure) m h = tt
@@ -69,7 +69,7 @@ counts-good s f MessageId m h = tt
 counts-good s f (Sub j form) m h = let t = plus-fits (ownOf j) m (counted j (valueIn s f)) h in
     record { records = t .0; counts = t .1 }
 
-good-counts : (s : List ℕ) (f : Field) (r : Role) → GoodRole r (valueIn s f) → (m : ℕ)
+pub good-counts : (s : List ℕ) (f : Field) (r : Role) → GoodRole r (valueIn s f) → (m : ℕ)
     × (roleCount counted s f r ≡ Records m)
 good-counts s f Skip g = (0, refl)
 good-counts s f (Number figure) g = (0, refl)
@@ -91,7 +91,7 @@ number-counts s f Topic = refl
 number-counts s f MessageId = refl
 number-counts s f (Sub k form) = refl
 
-other-counts : (k : Kind) (s : List ℕ) (f : Field) → eqb (f .«wire_type») 2 ≡ false → (m : ℕ)
+pub other-counts : (k : Kind) (s : List ℕ) (f : Field) → eqb (f .«wire_type») 2 ≡ false → (m : ℕ)
     × (roleCount counted s f (RoleAt k f) ≡ Records m)
 unfolding roleOf
 other-counts k s f t2 =

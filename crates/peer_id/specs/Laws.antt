@@ -104,7 +104,7 @@ to-last (padded p q) h n z = absurd (q (z p))
 is-last : (k b : ℕ) → b < 128 → (k ≡ 9 → b < 2) → (b ≡ 0 → k ≡ 0) → groupOf k b ≡ Last
 is-last k b h n z = to-last (says k b) h n z
 
-is-more : (k b : ℕ) → k ≢ 9 → 128 ≤ b → groupOf k b ≡ More
+pub is-more : (k b : ℕ) → k ≢ 9 → 128 ≤ b → groupOf k b ≡ More
 unfolding groupOf
 is-more k b n h = simp (ne-eqb k 9 n, le-leb 128 b h)
 

@@ -38,25 +38,30 @@ use Rattle.protobuf.specs.WalkLaws.{between-length, walk-on, walk-end}
 
 -- ---- a varint at a place, both ways
 -- what is left of s from `at` is the encoding of x, and then what is left from e
-record Spells (s : List ℕ) (at x e : ℕ) : Type 0 where
-  here : drop at s ≡ uvarint x ++ drop e s
-  bound : x < 2 ^ 64
+pub record Spells (s : List ℕ) (at x e : ℕ) : Type 0 where
+  pub here : drop at s ≡ uvarint x ++ drop e s
+  pub ends : e ≡ at + length (uvarint x)
+  pub bound : x < 2 ^ 64
 
-spelt : (s : List ℕ) (at x n : ℕ) → Bytes s → Read x n ≡ readUvarint (drop at s) → Spells s at x (at + n)
+pub spelt : (s : List ℕ) (at x n : ℕ) → Bytes s → Read x n ≡ readUvarint (drop at s) → Spells s at x (at + n)
 spelt s at x n b h =
     let t = accepted (drop at s) x n (drop-bytes at s b) (sym h) in
-    record { here = t .front ∙ ap (λ (l : List ℕ). uvarint x ++ l) (drop-drop n at s); bound = t .bound }
+    record {
+      here = t .front ∙ ap (λ (l : List ℕ). uvarint x ++ l) (drop-drop n at s);
+      ends = ap (λ (k : ℕ). at + k) (t .size);
+      bound = t .bound;
+    }
 
-reads-spelt : (s : List ℕ) (at x : ℕ) (rest : List ℕ) → x < 2 ^ 64 → drop at s ≡ uvarint x ++ rest
+pub reads-spelt : (s : List ℕ) (at x : ℕ) (rest : List ℕ) → x < 2 ^ 64 → drop at s ≡ uvarint x ++ rest
     → readUvarint (drop at s) ≡ Read x (length (uvarint x))
 reads-spelt s at x rest b h = rw h (read-written x rest b)
 
 -- past a front of what is left
-drop-front : (s : List ℕ) (at : ℕ) (xs rest : List ℕ) → drop at s ≡ xs ++ rest → drop (at + length xs) s ≡ rest
+pub drop-front : (s : List ℕ) (at : ℕ) (xs rest : List ℕ) → drop at s ≡ xs ++ rest → drop (at + length xs) s ≡ rest
 drop-front s at xs rest h = sym (drop-drop (length xs) at s) ∙ ap (drop (length xs)) h
     ∙ drop-at xs rest (length xs) refl
 
-take-front : (s : List ℕ) (at : ℕ) (xs rest : List ℕ) → drop at s ≡ xs ++ rest → take (length xs) (drop at s) ≡ xs
+pub take-front : (s : List ℕ) (at : ℕ) (xs rest : List ℕ) → drop at s ≡ xs ++ rest → take (length xs) (drop at s) ≡ xs
 take-front s at xs rest h = ap (take (length xs)) h ∙ take-at xs rest (length xs) refl
 
 split : (s : List ℕ) (a e : ℕ) → a ≤ e → drop a s ≡ between s a e ++ drop e s
@@ -97,10 +102,11 @@ part-spelt : (s : List ℕ) (at a e : ℕ) → Bytes s → part.Bytes a e ≡ re
 unfolding readLen
 part-spelt s at a e b h = part-at s at a e (readUvarint (drop at s)) b refl h
 
-record Tagged (s : List ℕ) (at n type e : ℕ) : Type 0 where
-  least : 1 ≤ n
-  most : n ≤ 536870911
-  spells : Spells s at (n * 8 + type) e
+pub record Tagged (s : List ℕ) (at n type e : ℕ) : Type 0 where
+  pub least : 1 ≤ n
+  pub most : n ≤ 536870911
+  pub bits : type < 8
+  pub spells : Spells s at (n * 8 + type) e
 
 tag-at : (s : List ℕ) (at n type e : ℕ) (r : Uvarint) → Bytes s → r ≡ readUvarint (drop at s)
     → tag.Field n type e ≡ after at tag.Refused (tagOf at) r → Tagged s at n type e
@@ -112,10 +118,10 @@ tag-at s at n type e (Read x m) b q h =
     let l : x / 8 ≤ 536870911 = ltb-false _ _ w in
     let en : n ≡ x / 8 = cc in let et : type ≡ x % 8 = cc in let ee : e ≡ at + m = cc in
     let ex : n * 8 + type ≡ x = omega arith in
-    record { least = omega arith; most = omega arith; spells = rw (ex, ee) (spelt s at x m b q) }))
+    record { least = omega arith; most = omega arith; bits = omega arith; spells = rw (ex, ee) (spelt s at x m b q) }))
 tag-at s at n type e (Unread why) b q h = clash (cc)
 
-tag-spelt : (s : List ℕ) (at n type e : ℕ) → Bytes s → tag.Field n type e ≡ readTag s at → Tagged s at n type e
+pub tag-spelt : (s : List ℕ) (at n type e : ℕ) → Bytes s → tag.Field n type e ≡ readTag s at → Tagged s at n type e
 unfolding readTag
 tag-spelt s at n type e b h =
     either (leb (length s) at) (λ t. clash (let k = simp t at h in cc))
@@ -207,17 +213,18 @@ read-valued s n type to f b h =
 record Named (n type to : ℕ) (f : Field) : Type 0 where
   number-of : f .field ≡ n
   type-of : f .«wire_type» ≡ type
+  end-of : f .«tag_end» ≡ to
 
 value-named : (n type to : ℕ) (f : Field) (r : VarintValue) → step.At f ≡ ofValue n type to r → Named n type to f
-value-named n type to f (value.Value x e) h = record { number-of = cc; type-of = cc }
+value-named n type to f (value.Value x e) h = record { number-of = cc; type-of = cc; end-of = cc }
 value-named n type to f (value.Refused why) h = clash (cc)
 
 part-named : (n type to : ℕ) (f : Field) (r : Part) → step.At f ≡ ofPart n type to r → Named n type to f
-part-named n type to f (part.Bytes a e) h = record { number-of = cc; type-of = cc }
+part-named n type to f (part.Bytes a e) h = record { number-of = cc; type-of = cc; end-of = cc }
 part-named n type to f (part.Refused why) h = clash (cc)
 
 skip-named : (n type to : ℕ) (f : Field) (r : Skip) → step.At f ≡ ofSkip n type to r → Named n type to f
-skip-named n type to f (skip.Next e) h = record { number-of = cc; type-of = cc }
+skip-named n type to f (skip.Next e) h = record { number-of = cc; type-of = cc; end-of = cc }
 skip-named n type to f (skip.Refused why) h = clash (cc)
 
 read-named : (s : List ℕ) (n type to : ℕ) (f : Field) → step.At f ≡ readValue s n type to → Named n type to f
@@ -227,28 +234,45 @@ read-named s n type to f h =
     (λ t0. either (eqb type 2) (λ t2. part-named n type to f (readLen s to) (simp (t0, t2) at h))
     (λ t2. skip-named n type to f (skipField s to type) (simp (t0, t2) at h)))
 
-tag-sound : (s : List ℕ) (at : ℕ) (f : Field) (es : List Entry) (r : Tag) → Bytes s → r ≡ readTag s at
-    → step.At f ≡ ofTag s r → Body (drop (f .next) s) es → Body (drop at s) (entryOf s f ∷ es)
-unfolding entryOf
-tag-sound s at f es tag.End b q h w = clash (cc)
-tag-sound s at f es (tag.Refused why) b q h w = clash (cc)
-tag-sound s at f es (tag.Field n type to) b q h w =
+-- a field that was read: its number, and its tag and value as the grammar has them, before what is left
+pub record Stood (s : List ℕ) (at : ℕ) (f : Field) : Type 0 where
+  pub bytes-of : List ℕ
+  pub is : Value (f .«wire_type») bytes-of (payloadOf s f)
+  pub least : 1 ≤ f .field
+  pub most : f .field ≤ 536870911
+  pub tagged : f .«tag_end» ≡ at + length (uvarint (f .field * 8 + f .«wire_type»))
+  pub here : drop at s ≡ uvarint (f .field * 8 + f .«wire_type») ++ (bytes-of ++ drop (f .next) s)
+
+tag-stood : (s : List ℕ) (at : ℕ) (f : Field) (r : Tag) → Bytes s → r ≡ readTag s at → step.At f ≡ ofTag s r
+    → Stood s at f
+tag-stood s at f tag.End b q h = clash (cc)
+tag-stood s at f (tag.Refused why) b q h = clash (cc)
+tag-stood s at f (tag.Field n type to) b q h =
     let t = tag-spelt s at n type to b q in
     let v = read-valued s n type to f b h in
     let m = read-named s n type to f h in
     let tn : uvarint (f .field * 8 + f .«wire_type») ≡ uvarint (n * 8 + type) =
     ap₂ (λ (x y : ℕ). uvarint (x * 8 + y)) (m .number-of) (m .type-of) in
-    let e : drop at s ≡ uvarint (f .field * 8 + f .«wire_type») ++ (v .bytes-of ++ drop (f .next) s) =
-    t .spells .here ∙ ap₂ (λ (x y : List ℕ). x ++ y) (sym tn) (v .here) in
-    let l : 1 ≤ f .field = omega (arith, m .number-of, t .least) in
-    let u : f .field ≤ 536870911 = omega (arith, m .number-of, t .most) in
-    subst (λ (x : List ℕ). Body x (record { field = f .field; payload = payloadOf s f } ∷ es)) (sym e)
-    (field l u (v .is) w)
+    record {
+      bytes-of = v .bytes-of;
+      is = v .is;
+      least = omega (arith, m .number-of, t .least);
+      most = omega (arith, m .number-of, t .most);
+      tagged = m .end-of ∙ t .spells .ends ∙ ap (λ (l : List ℕ). at + length l) (sym tn);
+      here = t .spells .here ∙ ap₂ (λ (x y : List ℕ). x ++ y) (sym tn) (v .here);
+    }
+
+pub field-stood : (s : List ℕ) (at : ℕ) (f : Field) → Bytes s → step.At f ≡ readField s at → Stood s at f
+unfolding readField
+field-stood s at f b h = tag-stood s at f (readTag s at) b refl h
 
 field-sound : (s : List ℕ) (at : ℕ) (f : Field) (es : List Entry) → Bytes s → step.At f ≡ readField s at
     → Body (drop (f .next) s) es → Body (drop at s) (entryOf s f ∷ es)
-unfolding readField
-field-sound s at f es b h w = tag-sound s at f es (readTag s at) b refl h w
+unfolding entryOf
+field-sound s at f es b h w =
+    let t = field-stood s at f b h in
+    subst (λ (x : List ℕ). Body x (record { field = f .field; payload = payloadOf s f } ∷ es)) (sym (t .here))
+    (field (t .least) (t .most) (t .is) w)
 
 -- the end is found only there
 past-varint : (at : ℕ) (r : Uvarint) → tag.End ≡ after at tag.Refused (tagOf at) r → ⊥
@@ -314,21 +338,23 @@ sound s (g ∷ hs) at b h =
 
 -- ---- from the grammar to the walk: each value is read where it stands
 -- a field of the grammar is read at its place, and what it holds is the grammar's
-record Found (s : List ℕ) (at n : ℕ) (p : Payload) (rest : List ℕ) : Type 0 where
-  f : Field
-  read : step.At f ≡ readField s at
-  entry : entryOf s f ≡ record { field = n; payload = p }
-  left : drop (f .next) s ≡ rest
+pub record Found (s : List ℕ) (at n type : ℕ) (p : Payload) (rest : List ℕ) : Type 0 where
+  pub f : Field
+  pub read : step.At f ≡ readField s at
+  pub tagged : f .«tag_end» ≡ at + length (uvarint (n * 8 + type))
+  pub entry : entryOf s f ≡ record { field = n; payload = p }
+  pub left : drop (f .next) s ≡ rest
 
 -- the same of a value, whose tag ends at `to`
 record Held (s : List ℕ) (n type to : ℕ) (p : Payload) (rest : List ℕ) : Type 0 where
   f : Field
   read : step.At f ≡ readValue s n type to
+  tagged : f .«tag_end» ≡ to
   entry : entryOf s f ≡ record { field = n; payload = p }
   left : drop (f .next) s ≡ rest
 
 -- what is left is no longer than all
-left-fits : (s : List ℕ) (at : ℕ) (xs rest : List ℕ) → 0 < length xs → drop at s ≡ xs ++ rest
+pub left-fits : (s : List ℕ) (at : ℕ) (xs rest : List ℕ) → 0 < length xs → drop at s ≡ xs ++ rest
     → at + length xs + length rest ≡ length s
 left-fits s at xs rest z h = let e : length s - at ≡ length xs + length rest = sym (length-drop at s) ∙ ap length h
     ∙ length-append xs rest in omega arith
@@ -341,6 +367,7 @@ varint-held s n to v rest b h =
     record {
       f = record { field = n; «wire_type» = 0; «tag_end» = to; value = v; start = e; next = e };
       read = simp (reads-spelt s to v rest b h);
+      tagged = refl;
       entry = refl;
       left = drop-front s to (uvarint v) rest h;
     }
@@ -361,6 +388,7 @@ bytes-held s n to d rest b h =
     record {
       f = record { field = n; «wire_type» = 2; «tag_end» = to; value = e - a; start = a; next = e };
       read = simp (reads-spelt s to (length d) (d ++ rest) b h1, le-ltb _ _ k);
+      tagged = refl;
       entry = ap (λ (y : List ℕ). record { field = n; payload = bytes y }) t;
       left = drop-front s a d rest h2;
     }
@@ -388,6 +416,7 @@ four-held s n to d rest g h =
     record {
       f = record { field = n; «wire_type» = 5; «tag_end» = to; value = 0; start = to; next = to + 4 };
       read = simp (fixed-reads s to d rest 4 (omega arith) g h);
+      tagged = refl;
       entry = ap (λ (y : List ℕ). record { field = n; payload = four y }) (t .0);
       left = t .1;
     }
@@ -400,6 +429,7 @@ eight-held s n to d rest g h =
     record {
       f = record { field = n; «wire_type» = 1; «tag_end» = to; value = 0; start = to; next = to + 8 };
       read = simp (fixed-reads s to d rest 8 (omega arith) g h);
+      tagged = refl;
       entry = ap (λ (y : List ℕ). record { field = n; payload = eight y }) (t .0);
       left = t .1;
     }
@@ -417,7 +447,7 @@ type-bits (i64 g) = omega arith
 type-bits (len-prefix b) = omega arith
 type-bits (i32 g) = omega arith
 
-tag-reads : (s : List ℕ) (at n type : ℕ) (rest : List ℕ) → 1 ≤ n → n ≤ 536870911 → type < 8
+pub tag-reads : (s : List ℕ) (at n type : ℕ) (rest : List ℕ) → 1 ≤ n → n ≤ 536870911 → type < 8
     → drop at s ≡ uvarint (n * 8 + type) ++ rest
     → readTag s at ≡ tag.Field n type (at + length (uvarint (n * 8 + type)))
 unfolding readTag
@@ -436,14 +466,20 @@ tag-reads s at n type rest l m b h =
       le-ltb 536870911 n m,
     )
 
-found : (s : List ℕ) (at n type : ℕ) (v rest : List ℕ) (p : Payload) → 1 ≤ n → n ≤ 536870911 → Value type v p
-    → drop at s ≡ uvarint (n * 8 + type) ++ (v ++ rest) → Found s at n p rest
+pub found : (s : List ℕ) (at n type : ℕ) (v rest : List ℕ) (p : Payload) → 1 ≤ n → n ≤ 536870911 → Value type v p
+    → drop at s ≡ uvarint (n * 8 + type) ++ (v ++ rest) → Found s at n type p rest
 unfolding readField
 found s at n type v rest p l m w h =
     let t = tag-reads s at n type (v ++ rest) l m (type-bits w) h in
     let r = held s n (at + length (uvarint (n * 8 + type))) rest w
     (drop-front s at (uvarint (n * 8 + type)) (v ++ rest) h) in
-    record { f = r .f; read = r .read ∙ ap (ofTag s) (sym t); entry = r .entry; left = r .left }
+    record {
+      f = r .f;
+      read = r .read ∙ ap (ofTag s) (sym t);
+      tagged = r .tagged;
+      entry = r .entry;
+      left = r .left;
+    }
 
 -- the walk that a body of the grammar has
 pub record Walks (s : List ℕ) (at : ℕ) (es : List Entry) : Type 0 where

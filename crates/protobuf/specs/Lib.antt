@@ -1,5 +1,5 @@
--- To be believed: Refusal, Told, Field, Grammar, Walk, Encode.
--- Theorems: Laws, RefusalLaws, WalkLaws, Exactly, Rows, Refused.
+-- To be believed: Refusal, Told, Field, Grammar, Faults, Walk, Encode.
+-- Theorems: Laws, RefusalLaws, WalkLaws, Exactly, FaultLaws, Rows, Refused.
 -- On the way to them: EncodeLaws.
 pub mod Refusal
 pub mod Told
@@ -11,6 +11,8 @@ pub mod RefusalLaws
 pub mod WalkLaws
 pub mod Exactly
 pub mod Encode
+pub mod Faults
+pub mod FaultLaws
 pub mod EncodeLaws
 pub mod Rows
 pub mod Refused

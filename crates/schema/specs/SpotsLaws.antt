@@ -1,4 +1,5 @@
--- Laws of places: along a message's fields, and in its submessages in the same way; and a place lies within the message.
+-- Laws of places: along a message's fields, and in its submessages in the same way; a place lies within the message; and
+-- a message without refusal has none.
 use Prim.Native.Nat.{ℕ, _+_, _-_, _^_, _≤_, _<_}
 use mathlib.Core.Path.{_≡_, refl, sym, ap, ap₂, subst, _∙_}
 use mathlib.Core.List.{List}
@@ -7,7 +8,7 @@ use lib.ListN.{length, drop, length-take}
 use Rattle.basis.specs.declared.Spot.{Spot}
 use Rattle.basis.specs.declared.Spot.the-variants.{Nowhere, At}
 use Rattle.basis.specs.Spot.{at, inside, orElse, Within, Reaches}
-use Rattle.basis.specs.Cases.{either}
+use Rattle.basis.specs.Cases.{either, clash}
 use Rattle.utf8.specs.Utf8.{isUtf8}
 use Rattle.protobuf.specs.declared.Field.{Field}
 use Rattle.protobuf.specs.Laws.{Stands}
@@ -18,7 +19,10 @@ use Rattle.schema.specs.declared.Kind.{Kind}
 use Rattle.schema.specs.declared.Form.{Form}
 use Rattle.schema.specs.declared.Role.{Role}
 use Rattle.schema.specs.declared.Role.the-variants.{Skip, Number, Text, Bytes, Unsigned, Topic, MessageId, Sub}
-use Rattle.schema.specs.Schema.{roleOf, rank}
+use Rattle.schema.specs.declared.Counted.the-variants.{Records}
+use Rattle.schema.specs.Schema.{roleOf, rank, ownOf}
+use Rattle.schema.specs.Count.{textCount, roleCount, countAlong, counted}
+use Rattle.schema.specs.CountLaws.{count-along, plus-fits, then-fits}
 use Rattle.schema.specs.SchemaLaws.{sub-rank}
 use Rattle.schema.specs.Kinds.{unfolds, by-rank}
 use Rattle.schema.specs.Spots.{textSpot, roleSpot, spotAlong, spotStep, spotIn, fieldSpot}
@@ -98,3 +102,44 @@ spot-within =
 pub within-reaches : (n start : ℕ) (a : Spot) → Within n a → start + n < 2 ^ 64 → Reaches start a
 within-reaches n start Nowhere p l = tt
 within-reaches n start (At offset outer middle inner) p l = omega (arith, p)
+
+-- ---- where records are counted, nothing is refused
+text-clean : (s : List ℕ) (f : Field) (n m : ℕ) → textCount s f n ≡ Records m → textSpot s f ≡ Nowhere
+unfolding textCount textSpot
+text-clean s f n m h =
+    either (isUtf8 (between s (f .start) (f .next))) (λ t. simp t) (λ t. clash (let e = simp t at h in cc))
+
+role-clean-by : (s : List ℕ) (f : Field) (r : Role) (m : ℕ) → roleCount counted s f r ≡ Records m
+    → ((j : Kind) (form : Form) (p : List ℕ) (x : ℕ) → r ≡ Sub j form → counted j p ≡ Records x → spotIn j p ≡ Nowhere)
+    → roleSpot spotIn s f r ≡ Nowhere
+role-clean-by s f Skip m h ih = refl
+role-clean-by s f (Number figure) m h ih = refl
+role-clean-by s f (Text slot) m h ih = text-clean s f 0 m h
+role-clean-by s f (Bytes slot) m h ih = refl
+role-clean-by s f (Unsigned slot) m h ih = refl
+role-clean-by s f Topic m h ih = text-clean s f 1 m h
+role-clean-by s f MessageId m h ih = refl
+role-clean-by s f (Sub k form) m h ih =
+    let t = plus-fits (ownOf k) m (counted k (between s (f .start) (f .next))) h in
+    ap (inside (f .field) (f .start)) (ih k form (between s (f .start) (f .next)) (t .0) refl (t .1))
+
+pub count-clean : (k : Kind) (s : List ℕ) (n : ℕ) → counted k s ≡ Records n → spotIn k s ≡ Nowhere
+count-clean =
+    by-rank (λ k. (s : List ℕ) (n : ℕ) → counted k s ≡ Records n → spotIn k s ≡ Nowhere)
+    (λ k ih s n h. spot-along k s
+    ∙ along s (λ (from : ℕ) (w : Fields). (m : ℕ) → countAlong counted k s w ≡ Records m → spotAlong spotIn k s w ≡ Nowhere)
+    (λ from m g. refl)
+    (λ from why e m g. clash (cc))
+    (λ from f st e rest m g.
+    let r = roleOf k (f .field) (f .«wire_type») in
+    let t = then-fits (roleCount counted s f r) (countAlong counted k s (walkAt s (f .next))) m g in
+    ap₂ orElse
+    (role-clean-by s f r (t .0) (t .2)
+    (λ j form p x q. ih j (sub-rank k j form (f .field) (f .«wire_type») q) p x))
+    (rest (t .1) (t .3)))
+    0 n (sym (count-along k s) ∙ h))
+
+-- so of a field whose records are counted
+pub role-clean : (s : List ℕ) (f : Field) (r : Role) (m : ℕ) → roleCount counted s f r ≡ Records m
+    → roleSpot spotIn s f r ≡ Nowhere
+role-clean s f r m h = role-clean-by s f r m h (λ j form p x q e. count-clean j p x e)
