@@ -1,5 +1,5 @@
--- Lines, worked out: `1 walk refused 4 2 5 1 at 2` for the scope's body `0a 05 08`, `12 varint 300 2`, `3 utf8 no`, and no
--- line for kind 9.
+-- Lines, worked out: `1 walk refused 4 2 5 1 at 2` for the scope's body `0a 05 08`, `12 varint 300 2`, `3 utf8 no`,
+-- and no line for kind 9.
 use mathlib.Core.Path.{_≡_, refl}
 use mathlib.Core.List.{[], _∷_, _++_}
 use lib.ListN.{replicate}
@@ -12,6 +12,7 @@ use Rattle.protobuf.specs.Walk.{walkFrom, walkAt}
 use Rattle.schema.specs.Schema.{roleOf, rank, ownOf}
 use Rattle.schema.specs.Kinds.{toDepth, overKinds}
 use Rattle.schema.specs.Count.{textCount, counted}
+use Rattle.schema.specs.Spots.{textSpot, spotIn}
 use Rattle.schema.specs.Accept.{bodyRecords}
 use Rattle.schema.specs.Slots.{setPlace, withField, slotsOf, hasField}
 use Rattle.message.specs.Rows.{ownRows, rowsOf}
@@ -33,13 +34,13 @@ unfolding lineOf closed answerTo walkAnswer varintAnswer utf8Answer walk varint 
     refused fieldsText spotText readUvarint readFrom groupOf isUtf8 run readTag readLen skipField walkStep
 rows = (refl, refl, refl, refl)
 
--- `1 decode refused 7 1 at 3 in 1` for the scope's body `0a 03 12 01 ff`, `2 decode ok 0 control` for `1a 00 1a 00`; and the
--- records' lines: `  message =0a01410a0142 =42 - - - -` for `12 06 0a 01 41 0a 01 42`, `  sub 1 -` and `  prune = 0`,
--- where empty is not absent
+-- `1 decode refused 7 1 at 3 in 1` for the scope's body `0a 03 12 01 ff`, `2 decode ok 0 control` for `1a 00 1a 00`;
+-- and the records' lines: `  message =0a01410a0142 =42 - - - -` for `12 06 0a 01 41 0a 01 42`, `  sub 1 -` and
+-- `  prune = 0`, where empty is not absent
 pub bodies :
     (decodeLine 1 (decodedTold (decodeAnswer (0x0a ∷ 0x03 ∷ 0x12 ∷ 0x01 ∷ 0xff ∷ []) 10240)) ≡ 49 ∷ 32 ∷ 100 ∷ 101 ∷ 99
-    ∷ 111 ∷ 100 ∷ 101 ∷ 32 ∷ 114 ∷ 101 ∷ 102 ∷ 117 ∷ 115 ∷ 101 ∷ 100 ∷ 32 ∷ 55 ∷ 32 ∷ 49 ∷ 32 ∷ 97 ∷ 116 ∷ 32 ∷ 51 ∷ 32 ∷ 105 ∷ 110
-    ∷ 32 ∷ 49 ∷ 10 ∷ [])
+    ∷ 111 ∷ 100 ∷ 101 ∷ 32 ∷ 114 ∷ 101 ∷ 102 ∷ 117 ∷ 115 ∷ 101 ∷ 100 ∷ 32 ∷ 55 ∷ 32 ∷ 49 ∷ 32 ∷ 97 ∷ 116 ∷ 32 ∷ 51
+    ∷ 32 ∷ 105 ∷ 110 ∷ 32 ∷ 49 ∷ 10 ∷ [])
     × (decodeLine 2 (decodedTold (decodeAnswer (0x1a ∷ 0x00 ∷ 0x1a ∷ 0x00 ∷ []) 10240)) ≡ 50 ∷ 32 ∷ 100 ∷ 101 ∷ 99 ∷ 111
     ∷ 100 ∷ 101 ∷ 32 ∷ 111 ∷ 107 ∷ 32 ∷ 48 ∷ 32 ∷ 99 ∷ 111 ∷ 110 ∷ 116 ∷ 114 ∷ 111 ∷ 108 ∷ 10 ∷ [])
     × (linesOf (0x12 ∷ 0x06 ∷ 0x0a ∷ 0x01 ∷ 0x41 ∷ 0x0a ∷ 0x01 ∷ 0x42 ∷ [])
@@ -49,7 +50,8 @@ pub bodies :
     ≡ (32 ∷ 32 ∷ 115 ∷ 117 ∷ 98 ∷ 32 ∷ 49 ∷ 32 ∷ 45 ∷ 10 ∷ [])
     ∷ (32 ∷ 32 ∷ 112 ∷ 114 ∷ 117 ∷ 110 ∷ 101 ∷ 32 ∷ 61 ∷ 32 ∷ 48 ∷ 10 ∷ []) ∷ [])
 unfolding decodeLine decodedText linesOf recordLine recordText subText messageText pruneText placeText bytesText
-    flagText countText hex fieldsText spotText refusalLine width decimal number numbers refused readUvarint readFrom groupOf isUtf8 run
-    readTag readLen readVarint skipFixed skipField readValue readField walkFrom walkAt roleOf rank ownOf textCount
-    toDepth overKinds counted bodyRecords setPlace withField slotsOf hasField ownRows rowsOf hasControl decodeAnswer
+    flagText countText hex fieldsText spotText refusalLine width decimal number numbers refused readUvarint readFrom
+    groupOf isUtf8 run readTag readLen readVarint skipFixed skipField readValue readField walkFrom walkAt roleOf rank
+    ownOf textCount toDepth overKinds counted textSpot spotIn bodyRecords setPlace withField slotsOf hasField ownRows
+    rowsOf hasControl decodeAnswer
 bodies = (refl, refl, refl, refl)

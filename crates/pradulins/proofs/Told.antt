@@ -6,9 +6,11 @@ use mathlib.Core.List.{List, [], _∷_}
 use native.Mathlib.Omega.{arith}
 use lib.ListN.{take, set}
 use lib.Seq.{sets}
+use Rattle.basis.specs.declared.Spot.{Spot}
+use Rattle.basis.specs.declared.Spot.the-variants.{Nowhere, At}
 use Rattle.basis.specs.declared.Told.{Told}
 use Rattle.basis.specs.Refusals.{malformed}
-use Rattle.basis.specs.Told.{told, done}
+use Rattle.basis.specs.Told.{valuesOf, told, done}
 use Rattle.node.specs.declared.Node.{Node}
 use Rattle.node.specs.declared.Fault.{Fault}
 use Rattle.node.specs.declared.Lent.the-variants as lent
@@ -41,6 +43,18 @@ all-stored (suc (suc zero)) a b d e vs h k l m = absurd (l refl)
 all-stored (suc (suc (suc zero))) a b d e vs h k l m = absurd (m refl)
 all-stored (suc (suc (suc (suc zero)))) a b d e vs h k l m = refl
 all-stored (suc (suc (suc (suc (suc n))))) a b d e vs h k l m = refl
+
+-- ---- a place
+module _ (spot : Spot) (vs : List ℕ) where
+  pub nowhere-stored : spot ≡ Nowhere → vs ≡ sets vs 4 (spotWords spot)
+  nowhere-stored e = rw e
+
+  pub spot-stored : (n a b d : ℕ) → spot ≡ At n a b d → set (set (set (set vs 4 n) 5 a) 6 b) 7 d ≡ sets vs 4 (spotWords spot)
+  spot-stored n a b d e = rw e
+
+-- ---- both
+pub told-both : (t : Told) (vs : List ℕ) {ws xs : List ℕ} → ws ≡ sets vs 0 (valuesOf t) → xs ≡ sets ws 4 (spotWords (t .spot)) → xs ≡ handed t vs
+told-both t vs e f = f ∙ ap (λ (l : List ℕ). sets l 4 (spotWords (t .spot))) e
 
 -- ---- what is told of the answer a, which is b; vs are the values before
 pub told-as : {A : Type 0} (told : A → Told) (vs : List ℕ) {a b : A} {t : Told} {r : ℕ} {ws : List ℕ} → b ≡ a → t ≡ told b → (r ≡ t .number) × (ws ≡ handed t vs)

@@ -1,5 +1,5 @@
-// Plays records on a node, as `trace` does, and shows what a trace cannot: the values beside refusals, buffers and stores of any length, a node
-// that is not well formed, full capacities. A record is its content's length (u32), its kind (u16) and its content, little-endian. Kinds: 1
+// Plays records on a node, as `trace` does, and shows what a trace cannot: the values beside refusals and their places, buffers and stores of any length, a
+// node that is not well formed, full capacities. A record is its content's length (u32), its kind (u16) and its content, little-endian. Kinds: 1
 // settings (ttl u64; max_seen, history_len, max_messages u16), 2 admit (now u64, index u16, verified u8: 1 is the host's word, body), 3 heartbeat (now u64), 4
 // advertise (room u32, windows u16, topic), 5 ask (room u32, body), 6 serve (room u32, body), 7 lend (length of the seen store u32, of the cache
 // store u32), 8 hurt (what u8, place u32, value u64), 9 contains (id), 10 lookup (id), 11 state, 12 why (windows u16, length of the id u16, id,

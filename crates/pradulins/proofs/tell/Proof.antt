@@ -1,21 +1,24 @@
--- `pradulins::tell` meets its contract: the values that the count names are stored, one after the other.
+-- `pradulins::tell` meets its contract: the values, and then the place.
+use denote.Ref.{now}
 use mathlib.Core.Path.{refl}
-use Rattle.pradulins.proofs.Told.{one-stored, two-stored, three-stored, all-stored}
+use Rattle.pradulins.proofs.Told.{told-both}
 use borrow.Author.Needs.{needs}
 use Rattle.pradulins.proofs.tell.Statement.{statement}
 use Rattle.pradulins.proofs.tell.Tie as tie
 
+tell-values-requires : tie.Need-tell-values-requires
+tell-values-requires c κs = search needs
+
+tell-spot-requires : tie.Need-tell-spot-requires
+tell-spot-requires c κs = search needs
+
+cast-result : tie.Need-cast-result
+cast-result c = search needs
+
+returns : tie.Need-returns
+returns c =
+    let a = c .before .before .before .before .before .args in
+    (refl, told-both (a .t) (now (a .values)) (c .before .before .before .tell-values .ensures) (c .before .tell-spot .ensures))
+
 pub tell-spec : {M : Type 1} → statement M
-tell-spec =
-    tie.close
-    (tie.spec
-    (λ c. search needs)
-    (λ c. search needs)
-    (λ c. search needs)
-    (λ c. (refl, one-stored _ _ _ _ _ _ (c .if2 .taken)))
-    (λ c. search needs)
-    (λ c. (refl, two-stored _ _ _ _ _ _ (c .if3 .taken)))
-    (λ c. search needs)
-    (λ c. (refl, three-stored _ _ _ _ _ _ (c .if4 .taken)))
-    (λ c. search needs)
-    (λ c. (refl, all-stored _ _ _ _ _ _ (c .before .before .before .before .before .before .if1 .left) (c .before .before .before .before .if2 .left) (c .before .before .if3 .left) (c .if4 .left))))
+tell-spec = tie.close (tie.spec tell-values-requires tell-spot-requires cast-result returns)

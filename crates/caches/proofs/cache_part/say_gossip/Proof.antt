@@ -9,7 +9,9 @@ told-gossip-requires : tie.Need-told-gossip-requires
 told-gossip-requires c κs = search needs
 
 slice-aggregate-say-ids : tie.Need-slice-aggregate-say-ids
-slice-aggregate-say-ids c = search needs
+slice-aggregate-say-ids c =
+    let start = c .before .before .before .before .before .before .before .before in
+    sym (length-unmapped ℕ (start .args .cache .«id_len») 64 (start .good .1 .0 .1 .1 .1 .1 .1 .1 .1 .1 .1 .1 .0 .1 .0 .1))
 
 slice-aggregate-say-ids-2 : tie.Need-slice-aggregate-say-ids-2
 slice-aggregate-say-ids-2 c =
