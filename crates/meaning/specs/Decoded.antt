@@ -154,9 +154,11 @@ pub of-refusal : {s : List ℕ} {a : Told} → Refusal s a
     → (why : Placed) × (bodyRecords s ≡ tested.Refused why) × (refusalTold why ≡ a)
 of-refusal {s} (is-large h) = (nowhere (TooLarge (length s)), records-large s h, refl)
 of-refusal {s} (is-wrong {path} {offset} {why} h i) =
-    let c = first-counts (record { path = path; offset = offset; is = i; told = refl }) in
-    (record { why = why; spot = spotIn kind.Rpc s }, records-wrong s why h (c .0),
-    ap (λ (x : Spot). placed x (wireTold why)) (c .1))
+    let c = first-counts (record { path = path; offset = offset; is = i; told = refl }) in (
+      record { why = why; spot = spotIn kind.Rpc s },
+      records-wrong s why h (c .0),
+      ap (λ (x : Spot). placed x (wireTold why)) (c .1),
+    )
 of-refusal {s} (has-many {x} h i l) =
     (nowhere (TooManyRecords (recordsIn x)), records-many s (recordsIn x) h (meant-count i) l, refl)
 

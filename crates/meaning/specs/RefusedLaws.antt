@@ -490,7 +490,7 @@ pub first-exactly : (k : Kind) (s : List ℕ) (why : WireError) (spot : Spot) �
     → ((counted k s ≡ count.Refused why) × (spotIn k s ≡ spot)) ↔ First k s why spot
 first-exactly k s why spot b = (
   λ h. let i = refuses k s why b (h .0) in
-  record { path = i .path; offset = i .offset; is = i .is; told = sym (h .1) ∙ i .told },
+      record { path = i .path; offset = i .offset; is = i .is; told = sym (h .1) ∙ i .told },
   first-counts,
 )
 

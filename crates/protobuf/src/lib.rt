@@ -556,10 +556,16 @@ fn check_tag(field: u64, wire_type: u8) -> Checked
     ensures { λ r. ⌜ r ≡ tagRefused field «wire_type» ⌝ }
 {
     if field == 0 {
-        return Checked::Refused(Refusal::nowhere(WireError::InvalidFieldNumber { field, offset: 0 }));
+        return Checked::Refused(Refusal::nowhere(WireError::InvalidFieldNumber {
+            field,
+            offset: 0,
+        }));
     }
     if MAX_FIELD_NUMBER < field {
-        return Checked::Refused(Refusal::nowhere(WireError::InvalidFieldNumber { field, offset: 0 }));
+        return Checked::Refused(Refusal::nowhere(WireError::InvalidFieldNumber {
+            field,
+            offset: 0,
+        }));
     }
     if 7 < wire_type {
         return Checked::Refused(Refusal::nowhere(WireError::UnsupportedWireType {

@@ -397,8 +397,8 @@ fn spot_text(input: &[u8], f: Field) -> Spot
     ensures { λ r. ⌜ r ≡ textSpot (now (input .entry)) f ⌝ }
 {
     let start = f.start;
-    let next = f.next;
-    if utf8::is_utf8(&input[start..next]) {
+    let end = f.next;
+    if utf8::is_utf8(&input[start..end]) {
         return Spot::Nowhere;
     }
     Spot::at(f.tag_end)

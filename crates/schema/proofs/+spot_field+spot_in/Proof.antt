@@ -50,9 +50,16 @@ abbrev spot-in-below : ℕ → In 1 spot-in-kinds.ps
 spot-in-below t = and 1 spot-in-kinds.ps (falls 1 spot-in-kinds.ps _<_ μ-spot-in t) spot-in.Pre
 
 abbrev spot-field-claims : ℕ → spot-field-lts.Claims
-spot-field-claims t =
-    (role-of-reads.Asked, role-of-reads.Learnt, spot-text-reads.Asked, spot-text-reads.Learnt, spot-in-below t, spot-in.Post,
-    inside-reads.Asked, inside-reads.Learnt)
+spot-field-claims t = (
+  role-of-reads.Asked,
+  role-of-reads.Learnt,
+  spot-text-reads.Asked,
+  spot-text-reads.Learnt,
+  spot-in-below t,
+  spot-in.Post,
+  inside-reads.Asked,
+  inside-reads.Learnt,
+)
 
 abbrev spot-in-claims : ℕ → spot-in-lts.Claims
 spot-in-claims t =
