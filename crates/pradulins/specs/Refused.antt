@@ -1,6 +1,6 @@
 -- A refused call of the C interface, one whose number is not 0, leaves what it was lent to write as it was: the node's
--- bytes, the stores, the buffer or the table. The values get what the scope's table returns beside the number, and the place.
--- An explain, a walk, and what tells a node's settings and state, are lent nothing else to write.
+-- bytes, the stores, the buffer or the table. The values get what the scope's table returns beside the number, and the
+-- refusal's place. An explain, a walk, and what tells a node's settings and state, are lent nothing else to write.
 use Prim.Native.Nat.{ℕ}
 use mathlib.Core.Path.{_≡_, refl, sym, ap, _∙_}
 use mathlib.Core.Bool.{Bool, true, false, cond}

@@ -1,7 +1,7 @@
 -- The contract of each function of the C interface that is lent something, as a record of what it says of the number
 -- that is returned, the values that are handed out, and every other lent byte; and that it leaves no choice: two results
--- that meet it are the same. Number and values are those of the answer, as Told of its crate has them, and with a refusal
--- of a body's bytes its place is handed out, too; the other values stay.
+-- that meet it are the same. Number and values are those of the answer, as Told of its crate has them, and a refusal
+-- of a body's bytes also hands out its place; the other values stay.
 use Prim.Native.Nat.{ℕ}
 use mathlib.Core.Path.{_≡_, sym, _∙_}
 use mathlib.Core.Bool.{Bool, cond}
