@@ -4,11 +4,13 @@ The values of every line come from the Rust's answer. For `decode` its JSON grou
 the records by kind, so the order in which the body has them is found here by
 `order`, a walk over the fields that looks at nothing but their numbers, types and
 lengths. For `encode`, `sign` and `id` the oracle's `writes` tells all at once.
+Where a refusal stands in the body, which the Rust does not tell, is from places.py.
 Everything random comes from one seeded `random.Random`.
 """
 
 import wire
 from oracle import NUMBER, parse_decode
+from places import MORE_ROWS, PATHS, ROWS, TEXT_PATHS, find, with_place
 from wire import EDGES, MAX_BODY, MAX_CONTENT, PLACE, blob, damaged, edge_field, then_random, varint
 
 MAX_RECORDS = 512
@@ -86,7 +88,7 @@ def lines_of(name, got):
 
 
 def refusal(body, told):
-    """Why a body is refused, or None, from an answer that begins `err` or `ok records=N`."""
+    """Why a body is refused, or None, from an answer that begins `err` or `ok records=N`; without its place."""
     if len(body) > MAX_BODY:
         # The Rust has no such limit, nor one of records: the scope's refusals 10 and 11.
         return "refused 10 %d" % len(body)
@@ -100,7 +102,7 @@ def refusal(body, told):
 
 def answer(body, told):
     """The lines for a body from the oracle's answer, the first without its number."""
-    refused = refusal(body, told)
+    refused = with_place(refusal(body, told), find, body)
     if refused:
         return ["decode " + refused]
     _, records, _, rpc = parse_decode(told)
@@ -116,7 +118,7 @@ def answer(body, told):
 
 def written(body, told):
     """The answer to `writes`: (why refused or None, the encoding, [(sign bytes, id)]), all of them texts."""
-    refused = refusal(body, told)
+    refused = with_place(refusal(body, told), find, body)
     if refused:
         return refused, None, []
     encoded, messages = (word.split("=")[1] for word in told.split(" ")[2:])
@@ -282,6 +284,24 @@ def named():
         yield bytes.fromhex(text.replace(" ", ""))
 
 
+def placed():
+    """The rows about the place of a refusal; and each refusal in each message that can have it, behind a field that is taken and before one that is not."""
+    for text, _ in ROWS + MORE_ROWS:
+        yield bytes.fromhex(text)
+    for path in PATHS:
+        for text in ("80", "80" * 9 + "02", "8000", "0a05", "0b", "00"):
+            yield enclosed(b"\xa8\x01\x00" + bytes.fromhex(text), path)
+    for path in TEXT_PATHS:
+        yield enclosed(b"\xa8\x01\x00" + tagged({(1,): 2, (2,): 4}.get(path, 1), b"t\xff"), path)
+
+
+def enclosed(inner, path):
+    """A message in fields of these numbers."""
+    for number in reversed(path):
+        inner = tagged(number, inner) + b"\x0b"
+    return inner
+
+
 # The topics of the scope: the first three are refused.
 TOPICS = [bytes.fromhex(text) for text in ("eda080", "c080", "f4908080", "f48fbfbf")]
 
@@ -401,4 +421,4 @@ def many(r, n):
 
 
 def bodies(r, count):
-    return then_random(r, count, (named(), enumerated(), long(r)), random_body)
+    return then_random(r, count, (named(), placed(), enumerated(), long(r)), random_body)

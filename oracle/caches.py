@@ -7,13 +7,15 @@ windows, topic), ("get", id). A history is a list of steps that starts its parts
 itself, so histories can stand one after the other in one input.
 
 `expected` takes an input as bytes. What the caches hold, and what a body says or
-why it is refused (1 to 7), is the Rust's answer. The limits that the Rust does not
+why it is refused (1 to 7), is the Rust's answer; where in the body, places.py has
+found. The limits that the Rust does not
 have (10, 11, 20 to 30, 33, 40) are the scope's and stand here, as does the form
 of the records. Everything random comes from one seeded `random.Random`.
 """
 
 from bodies import BROKEN, MAX_RECORDS, PARTS, RPC, many, other_field, random_message, refusal, tagged, within
 from oracle import hexed, parse_decode
+from places import MORE_ROWS, ROWS, find, with_place
 from records import Records
 from wire import MAX_BODY, MAX_CONTENT, TOP, blob, damaged, edge_field, header, then_random, varint
 
@@ -86,7 +88,7 @@ def unfit(message):
 
 def judged(body, index, told):
     """(why a put is refused or None, id, the message's bytes), all texts, from the oracle's answer to `decode`."""
-    refused = refusal(body, told)
+    refused = with_place(refusal(body, told), find, body)
     if refused:
         return refused, None, None
     messages = parse_decode(told)[3]["publish"]
@@ -691,6 +693,13 @@ def topic_named():
                    x_named(b"f", b"1", *[b"new%d" % n for n in range(after)])] + looks([], [b"%s%d" % (one, n) for one in (b"old", b"new") for n in range(4)], 1)
 
 
+def placed_named():
+    """The rows about the place of a refusal, alone and behind a message that may be put."""
+    x = put_step(X)[2]
+    rows = [bytes.fromhex(text) for text, told in ROWS + MORE_ROWS if told]
+    yield [("cache", 2, 4, 0)] + [("put", 0, body) for row in rows for body in (row, x + row)] + looks([b"A\x01"], [b"t"], 1)
+
+
 def named():
     """The edges of every call, each refusal, and both parts beside each other."""
     yield from seen_named()
@@ -702,4 +711,4 @@ def named():
 
 
 def histories(r, count):
-    return then_random(r, count, (named(), topic_named()), history)
+    return then_random(r, count, (named(), topic_named(), placed_named()), history)

@@ -7,7 +7,8 @@ BINARY is target/bin/caches, after `rt check caches`. The histories are fixed on
 about every edge and every refusal, and --count random ones (caches.py), many in one
 run. Then come short runs that end in `bad` or `long`: random ones, one for ten
 histories, and fixed ones whose texts are written here. Every line is compared; the
-limits that the Rust does not have are the scope's own. Prints the counts, and the
+limits that the Rust does not have are the scope's own, and the place behind a refusal
+1 to 7 is that of places.py. Prints the counts, and the
 first differences with the steps that lead to them; the exit status is 0 where there
 are none.
 """

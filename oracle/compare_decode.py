@@ -7,8 +7,11 @@ BINARY is target/bin/inspect, after `rt check inspect`. The bodies are all short
 ones, the rows of the scope, topics about every row of RFC 3629, bodies about
 the largest size and the most records, and --count random ones (bodies.py). Every
 field of every record is compared, in the order of the lent table, and every
-refusal with its values; 10 and 11 are the scope's own. Prints the counts, and
-the first differences; the exit status is 0 where there are none.
+refusal with its values; 10 and 11 are the scope's own. Of a refusal 1 to 7 the
+line goes on with its place: what stands before ` at ` is held to the Rust, the rest
+to the finder of places.py, and a place that is missing or should not be there is a
+difference. Prints the counts, and the first differences; the exit status is 0 where
+there are none. It fails, too, where a refusal was not met in each message that it can be in.
 """
 
 import collections
@@ -20,6 +23,7 @@ import sys
 import tempfile
 
 import bodies
+import places
 import wire
 from compare_wire import SHOWN, arguments
 from oracle import PATH, hexed
@@ -50,6 +54,19 @@ def groups(lines):
         yield group
 
 
+def enclosed(number, path):
+    """A refusal and the fields that enclose its place, for the counts."""
+    return "refused %s in %s" % (number, path or "the body itself")
+
+
+def met_all(counts):
+    """Asserts that each refusal was met at each place that it can have."""
+    wanted = {enclosed(number, " ".join(map(str, path))) for number in places.OF_A_BODY
+              for path in (places.TEXT_PATHS if number == places.NOT_UTF8 else places.PATHS)}
+    missing = {name for name in wanted if not counts[name]}
+    assert not missing, missing
+
+
 def compare(binary, given, folder, counts, differ):
     """One run of each side."""
     printed = groups(run(binary, (wire.record(("decode", body, 0)) for body in given), folder))
@@ -59,6 +76,8 @@ def compare(binary, given, folder, counts, differ):
         expected[0] = "%d %s" % (n, expected[0])
         words = expected[0].split(" ")
         counts[" ".join((words[2], words[-1] if words[2] == "ok" else words[3]))] += 1
+        if words[2] != "ok" and " at " in expected[0]:
+            counts[enclosed(words[3], expected[0].partition(" in ")[2])] += 1
         for line in expected[1:]:
             counts["  " + line.split(" ")[2]] += 1
         got = next(printed, [])
@@ -77,11 +96,14 @@ def endings():
     yield "a longer one", wire.header(most + 1, 1) + bytes(most + 1), "long\n"
     yield "cut after one", wire.header(2, 1) + b"\x0a\x00" + wire.header(1, 1), "1 decode ok 1 plain\n  sub - -\nbad\n"
     yield "among other calls", wire.header(2, 1) + b"\x1a\x00" + wire.header(0, 7) + wire.header(1, 1) + b"\x80", \
-        "1 decode ok 0 control\n2 utf8 yes\n3 decode refused 1\n"
+        "1 decode ok 0 control\n2 utf8 yes\n3 decode refused 1 at 0\n"
+    for text, told in places.ROWS + places.MORE_ROWS:
+        if told:
+            yield text, wire.record(("decode", bytes.fromhex(text), 0)), "1 decode %s\n" % told
 
 
-def compare_all(about, source, compare, endings):
-    """The bodies of `source` by `compare`, chunk by chunk, then the runs of `endings`; prints what it found."""
+def compare_all(about, source, compare, endings, test=lambda counts: None):
+    """The bodies of `source` by `compare`, chunk by chunk, then the runs of `endings`; prints what it found. `test` looks at the counts."""
     given = arguments(about, 400000, "inspect")
     counts, differ, n = collections.Counter(), [], 0
     source = source(random.Random(given.seed), given.count)
@@ -95,7 +117,8 @@ def compare_all(about, source, compare, endings):
         if got != expected:
             differ.append((len(text), name.encode(), expected.split("\n"), got.split("\n")))
     for what, k in sorted(counts.items()):
-        print("%-18s %8d" % (what, k))
+        print("%-28s %8d" % (what, k))
+    test(counts)
     print("%d bodies, seed %d: %d differences" % (n, given.seed, len(differ)))
     for size, body, expected, got in sorted(differ)[:SHOWN]:
         print("%d bytes: %s\n  expected %s\n  printed  %s" % (size, body[:100].hex(), str(expected)[:300], str(got)[:300]))
@@ -103,4 +126,4 @@ def compare_all(about, source, compare, endings):
 
 
 if __name__ == "__main__":
-    compare_all(__doc__, bodies.bodies, compare, endings)
+    compare_all(__doc__, bodies.bodies, compare, endings, met_all)

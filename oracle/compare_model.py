@@ -4,8 +4,10 @@
     oracle/compare_model.py [--seed N] [--count N]
 
 Two parts of nodes.py are held to the Rust: what it reads in a body, with every refusal
-and its values (10 and 11 are the scope's own), and what the node keeps. For the
-second the same histories are played on a node that keeps nothing itself but asks the
+and its values (10 and 11 are the scope's own), and what the node keeps. On the same bodies
+the finder of places.py is held to it: it must find a refusal where the Rust has one, with
+the same number, and at the Rust's own offset from where its message starts. For the
+second part the same histories are played on a node that keeps nothing itself but asks the
 Rust's caches; every line is compared. The histories are the fixed ones of traces.py and
 --count random ones, the bodies those of bodies.py, with ten random ones for each random
 history. Prints the counts, and the first differences; the exit status is 0 where there
@@ -20,6 +22,7 @@ import sys
 
 import bodies
 import nodes
+import places
 import traces
 from compare_caches import first_difference, line_at
 from compare_trace import shown, what
@@ -92,8 +95,15 @@ def rust_read(body, told):
     return records, messages, *([name for one in control[key] for name in one["message_ids"]] for key in ("ihave", "iwant"))
 
 
+def placed(expected, place):
+    """Whether the finder of places has what the Rust has: a refusal 1 to 7, or none of these."""
+    refused = isinstance(expected, str) and int(expected.split(" ")[1]) in places.OF_A_BODY
+    return places.agrees(expected, place) if refused else place is None
+
+
 def some_bodies(r, count):
     yield from bodies.named()
+    yield from bodies.placed()
     yield from itertools.islice(bodies.enumerated(), r.randrange(SHORT), None, SHORT)
     yield from bodies.long(r)
     for _ in range(10 * count):
@@ -108,6 +118,8 @@ def compare_bodies(oracle, r, count, counts, differ):
             counts["body " + (" ".join(expected.split(" ")[:2]) if isinstance(expected, str) else "read")] += 1
             if expected != got:
                 differ.append((["body " + body[:200].hex()], expected, got))
+            if len(body) <= nodes.MAX_BODY and not placed(expected, places.find(body)):
+                differ.append((["place in " + body[:200].hex()], expected, places.find(body)))
 
 
 def compare_histories(oracle, r, count, counts, differ):

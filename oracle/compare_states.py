@@ -9,7 +9,7 @@ with its values, every clause of 42 broken alone, states that look odd and are w
 of other lengths, buffers that just fit and just do not, full capacities, arrival numbers at the
 wrap; the fixed histories of `trace`, many in one run; and --count random ones, in which numbers of
 the state are set. Then come runs that end in `bad` or `long`, whose texts are written here. Every
-line is compared. Prints the counts, and the first differences with the fewest steps found that
+line is compared; the place behind a refusal 1 to 7 is that of places.py. Prints the counts, and the first differences with the fewest steps found that
 lead to them; the exit status is 0 where there are none.
 """
 

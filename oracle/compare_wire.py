@@ -5,8 +5,9 @@
 
 BINARY is target/bin/inspect, after `rt check inspect`. The inputs are all short
 ones, the rows of the scope, bodies about the largest size, and --count random
-ones (wire.py). Then come runs that end early, whose texts are written here. The
-oracle is built first if it is not there. Prints the counts, and the first
+ones (wire.py). Of a walk that is refused the place is held to the finder of places.py,
+what stands before it to the Rust; a varint alone has no place. Then come runs that end
+early, whose texts are written here. The oracle is built first if it is not there. Prints the counts, and the first
 differences; the exit status is 0 where there are none.
 """
 
@@ -113,7 +114,7 @@ def ends(binary):
         slow.stdin.write(bytes([byte]))
         slow.stdin.flush()
         time.sleep(0.002)
-    got, text = slow.communicate()[0].decode(), "1 walk refused 4 2 5 1\n2 varint 300 2\n"
+    got, text = slow.communicate()[0].decode(), "1 walk refused 4 2 5 1 at 2\n2 varint 300 2\n"
     if got != text:
         differ.append((len(given), "byte by byte", text, got))
     return n + 1, differ

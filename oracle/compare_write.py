@@ -8,8 +8,8 @@ compare_decode.py, then messages with from and seqno of lengths about the
 limits, and prunes with backoffs about the values where a varint grows by a byte,
 so that lengths of one byte to ten are written. Each body is encoded; sign bytes
 and ids are asked for message 0, message 1, the last one and the one after it.
-Refusals 10, 11 and the lengths of 22 are the scope's own. Prints the counts, and
-the first differences; the exit status is 0 where there are none.
+Refusals 10, 11 and the lengths of 22 are the scope's own; the place behind a refusal
+1 to 7 is held to the finder of places.py. Prints the counts, and the first differences; the exit status is 0 where there are none.
 """
 
 import bodies

@@ -8,9 +8,10 @@ bodies of 65,536 and 65,537 bytes and of 511 to 513 records, and random ones
 (wire.py, bodies.py, seeds below). A second part has encode, sign and id of some 700
 bodies, and the topics of the scope by every call. Those of `caches` are the fixed
 histories of caches.py and some random ones; they show every call and every refusal.
-The answers in stdout are the Rust's, from the oracle, never the program's; the
-limits that the Rust does not have are the scope's own. Each run ends with a length
-that is too long, its kind cut off.
+Both end with rows about the place of a refusal. The answers in stdout are the Rust's,
+from the oracle, never the program's; the limits that the Rust does not have are the
+scope's own, and the places are those of places.py. Each run ends with a length that
+is too long, its kind cut off.
 """
 
 import os
@@ -93,6 +94,15 @@ def long_writes():
         yield (call, bodies.filled(wire.MAX_BODY + 1, 4), 0)
 
 
+def placed_cases(there):
+    """The rows about the place of a refusal that are not there yet, by decode; and by each other call the one that stands deepest."""
+    for body in bodies.placed():
+        if ("decode", body, 0) not in there:
+            yield ("decode", body, 0)
+    deepest = bytes.fromhex("1a06220412020a05")
+    yield from [("encode", deepest, 0), ("sign", deepest, 0), ("id", deepest, 0), ("walk", deepest, 0), ("walk", deepest, 6)]
+
+
 def lines(case, asked, told):
     if case[0] == "decode":
         return bodies.answer(case[1], told)
@@ -122,6 +132,7 @@ def make_inspect(oracle):
     cases += [("decode", body, 0) for body in topics()]
     cases += write_cases(random.Random(WRITES_SEED), oracle)
     cases += long_writes()
+    cases += placed_cases({case for case in cases if case[0] == "decode"})
     commands = [wire.command(case) for case in cases]
     answers = oracle.batch(commands)
     save("inspect", [wire.record(case) for case in cases],
@@ -133,6 +144,7 @@ def make_caches(oracle):
     steps = [step for one in caches.named() for step in one]
     while len(steps) < CACHES_RECORDS:
         steps += caches.history(r)
+    steps += [step for one in caches.placed_named() for step in one]
     told = [line.split(" ", 1)[1] for line in caches.expected(oracle, caches.records(steps))]
     assert len(told) == len(steps) and {step[0] for step in steps} == set(caches.FORM)
     refused = {tuple(line.split(" ")[0:3:2]) for line in told if line.split(" ")[1] == "refused"}

@@ -13,6 +13,7 @@ import traces
 from bodies import tagged
 from caches import REFUSED, TOPIC_MESSAGES, X, grown, padded, plain, topic_message, x_with
 from nodes import MAX_BODY, MAX_MESSAGE, MAX_TOPICS, ROOM, TOP
+from places import MORE_ROWS, ROWS
 from records import header
 from states import ARRIVAL, CACHE_BYTE, CACHE_BYTES, CLOCK, COUNT, EXPIRY, HISTORY_LEN, ID_LEN, IDS, LEN, MAX_HELD, MAX_ID, MAX_IDS, MAX_MADE, \
     NEXT, ROW, SEEN_BYTE, SEEN_BYTES, SEEN_COUNT, SEEN_LEN, SEEN_START, SLOTS, START, TOPIC_COUNT, TOPIC_LEN, TOPIC_START, TTL, WINDOW, Run, \
@@ -725,6 +726,17 @@ def each_refusal():
     return play.add(*CALLS).steps
 
 
+def placed_in_few_bytes():
+    """Bodies that are refused inside a control, where the place is a path; and the same message alone, and behind one that is taken."""
+    play = turned()
+    for text, _ in ROWS[9:14] + ROWS[15:]:
+        body = bytes.fromhex(text)
+        play.add(admit(20, body), ("ask", 0, body), ("serve", 0, body))
+    for body in (named_message(9) + b"\x0b", tells(b"B") + b"\x1a\x03\x0a\x01\x80", wants(b"A\x03") + b"\x1a\x02\x12\x05"):
+        play.add(admit(20, body), ("ask", ROOM, body), ("serve", ROOM, body))
+    return play.add(STATE).steps
+
+
 def refusal_histories():
     """Every refusal of a body or a message, with its values, and nothing changed."""
     play = turned()
@@ -732,7 +744,7 @@ def refusal_histories():
     bodies = [bytes.fromhex(row) for row in REFUSED] + [
         b"\x08", b"\x0a", b"\x09", b"\x0d\x00", b"\x08" + b"\x80" * 9 + b"\x00", b"\x0a" + b"\xff" * 9 + b"\x01", b"\x03", b"\x0a\x03\x12\x02\xff",
         b"\x0a\x01\x80\x0b", b"\x0a\x00\x0b", b"\xff" * 9 + b"\x01", tagged(2, b"\x22\x02\xc0\x80"), b"\x0a\x00" * 513, b"\x0a\x00" * 600]
-    for body in bodies:
+    for body in bodies + [bytes.fromhex(text) for text, told in ROWS + MORE_ROWS if told]:
         play.add(admit(20, body), ("ask", 0, body), ("serve", 0, body))
     play.add(STATE)
     for parts in [*caches.unfit_puts()]:

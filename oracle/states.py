@@ -1,7 +1,7 @@
 """A model of the program `states`: the node of nodes.py, and how it lies in its arrays and its two stores.
 
 What a call answers is nodes.py's word. This file adds what a trace cannot show: the values
-beside a refusal, the room of the buffer, stores of any length (40, 41), the rings in which ids
+beside a refusal, where in the body it stands (places.py), the room of the buffer, stores of any length (40, 41), the rings in which ids
 and messages stand, so that every number can be set (kind 8) and every sum told (kind 11),
 and the scope's sentence "Well formed (42)", clause by clause. The layout is the one of
 crates/seen/specs/State.antt and crates/mcache/specs/State.antt. After each call the rows are
@@ -23,6 +23,7 @@ import struct
 
 import nodes
 from nodes import MAX_HISTORY, MAX_MESSAGE, MAX_MESSAGES, MAX_NAME, MAX_SEEN, MAX_TOPICS, ROOM, TOP, Refused, shown
+from places import find, with_place
 from records import Records
 
 MAX_CONTENT = 65600
@@ -274,11 +275,11 @@ class Run:
     # The calls.
 
     def answer(self, step):
-        """What a line says after its number and its call."""
+        """What a line says after its number and its call. A refusal 1 to 7 is one of the step's last bytes, and has its place in them."""
         try:
             return getattr(self, step[0])(*step[1:])
         except Refused as why:
-            return "refused " + " ".join(map(str, why.args))
+            return with_place("refused " + " ".join(map(str, why.args)), find, step[-1])
 
     def set(self, *settings):
         self.begin(*settings)

@@ -6,7 +6,8 @@ A case is (call, bytes, place): ("walk", body, place), ("varint", bytes, 0),
 Everything random comes from one seeded `random.Random`.
 """
 
-from oracle import NUMBER, hexed
+from oracle import NUMBER, hexed, unhexed
+from places import find_field, with_place
 from records import header
 
 KIND = {"decode": 1, "encode": 2, "sign": 3, "id": 4, "walk": 5, "varint": 6, "utf8": 7}
@@ -32,14 +33,15 @@ def command(case):
 
 
 def answer(asked, told):
-    """The line after its number, from the oracle's command and answer."""
+    """The line after its number, from the oracle's command and answer. Where a walk is refused comes from places.py; a varint alone has no place."""
     words, told = asked.split(" "), told.split(" ")
     call = {"uvarint": "varint"}.get(words[0], words[0])
     if call == "walk" and words[1] != "-" and len(words[1]) > 2 * MAX_BODY:
         # The Rust has no such limit: the scope's refusal 10.
         return "walk refused 10 %d" % (len(words[1]) // 2)
     if told[0] == "err":
-        return " ".join([call, "refused", str(NUMBER[told[1]])] + told[2:])
+        refused = " ".join(["refused", str(NUMBER[told[1]])] + told[2:])
+        return "%s %s" % (call, with_place(refused, find_field, unhexed(words[1]), int(words[2])) if call == "walk" else refused)
     if call == "walk":
         return "walk end" if told == ["end"] else "walk " + " ".join(told[1::2])
     if call == "varint":

@@ -1,5 +1,6 @@
 """Runs a program of this repository on records, and reads its lines. For tools/inspect and tools/why."""
 
+import collections
 import os
 import re
 import signal
@@ -7,6 +8,9 @@ import subprocess
 
 import x86
 from hextext import cut
+
+# Where in a body a refusal stands: how many bytes after its start, and the numbers of the fields around it, the outermost first.
+Place = collections.namedtuple("Place", "offset fields")
 
 
 class Failure(Exception):
@@ -42,11 +46,16 @@ def strange(text):
     return Failure("the program's answer is none that it should give: %s" % cut(text, 60))
 
 
+REFUSED = re.compile("refused((?: [0-9]{1,20})+)(?: at ([0-9]{1,20})(?: in((?: [0-9]{1,20}){1,3}))?)?")
+
+
 def refused(words):
-    """The number of a refusal and what stands beside it; None where the words are none."""
+    """The number of a refusal, what stands beside it, and its place, None where it tells none; None where the words are no refusal."""
     if words[0] != "refused":
         return None
-    if len(words) < 2 or not all(re.fullmatch("[0-9]{1,20}", word) for word in words[1:]):
+    found = REFUSED.fullmatch(" ".join(words))
+    if not found:
         raise strange(" ".join(words))
-    number, *values = map(int, words[1:])
-    return number, tuple(values)
+    number, *values = map(int, found[1].split())
+    place = Place(int(found[2]), tuple(map(int, (found[3] or "").split()))) if found[2] else None
+    return number, tuple(values), place

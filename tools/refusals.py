@@ -1,6 +1,7 @@
-"""What each refusal means, and the line that tells one; and what `why` answers. For tools/trace, tools/inspect and tools/why.
+"""What each refusal means, the line that tells one, and the lines that tell its place; and what `why` answers. For tools/trace, tools/inspect and tools/why.
 
-The words are those of `pradulins_refusal_text` in include/pradulins.h; tools/docs tests that they agree. No call of the C interface gives 33.
+The words are those of `pradulins_refusal_text` in include/pradulins.h; tools/docs tests that they agree. No call of the C interface gives 33. The names of
+fields are those of host/src/place.rs.
 """
 
 import re
@@ -42,28 +43,32 @@ VALUES = {
 }
 
 
+# What stands at the place of a refusal of a body, and what the fields around it are called, by the numbers on the way to each.
+AT = {
+    1: "where the varint was to stand", 2: "where the varint begins", 3: "where the varint begins", 4: "where its bytes were to begin", 5: "behind the tag",
+    6: "where the tag begins", 7: "where the topic's length begins",
+}
+FIELDS = {
+    (1,): "subscription", (2,): "message", (3,): "control", (3, 1): "ihave", (3, 2): "iwant", (3, 3): "graft", (3, 4): "prune", (3, 4, 2): "peer",
+}
+
+
 def some(n, one):
     return "%s %s%s" % (format(n, ","), one, "" if n == 1 else "s")
 
 
-def beside(number, values, size):
-    """What the numbers beside a refusal say; "" where they say nothing more. `size` is the body's, or None."""
+def beside(number, values):
+    """What the numbers beside a refusal say; "" where they say nothing more. The offsets among them count from the innermost field around it: `at` tells
+    the place in the whole body instead."""
     if len(values) != len(VALUES.get(number, ())):
         return ""
-    at = "(of the body, or of the submessage that it stands in)"
     if number == 4:
-        offset, length, remaining = values
-        # A submessage is shorter than its body.
-        at = at if size is None else "of the body" if offset + remaining == size else "of its submessage"
-        return "at offset %d %s it was to have %s, and %s %s" % (
-            offset, at, some(length, "byte"), format(remaining, ","), "remains" if remaining == 1 else "remain")
+        _, length, remaining = values
+        return "it was to have %s, and %s %s" % (some(length, "byte"), format(remaining, ","), "remains" if remaining == 1 else "remain")
     if number == 5:
-        return "type %d, in the tag that ends at offset %d %s" % (*values, at)
+        return "type %d" % values[0]
     if number == 6:
-        return "number %d, at offset %d %s" % (*values, at)
-    if number == 7:
-        # No topic stands in the body itself.
-        return "its length stands at offset %d of its submessage" % values
+        return "number %d" % values[0]
     if number in (10, 22, 26, 29, 30, 33):
         return "it has %s" % some(values[0], "byte")
     if number in (11, 28):
@@ -77,9 +82,21 @@ def beside(number, values, size):
     return ""
 
 
-def told(number, values=(), size=None):
-    """The line of a refusal: its number, what it means, and what the numbers beside it say."""
-    return ": ".join(filter(None, ("refused %d" % number, WORDS.get(number, ""), beside(number, values, size))))
+def told(number, values=(), _=None):
+    """The line of a refusal: its number, what it means, and what the numbers beside it say; without its place."""
+    return ": ".join(filter(None, ("refused %d" % number, WORDS.get(number, ""), beside(number, values))))
+
+
+def at(number, place, size):
+    """The lines of a refusal's place in a body of this size, in words and numbers. The first byte is byte 0."""
+    yield "at byte %s of the body, %s%s" % (format(place.offset, ","), AT[number], ": that is its end" if place.offset == size else "")
+    names = [FIELDS.get(place.fields[:n], "not known") for n in range(1, len(place.fields) + 1)]
+    yield "in " + (", ".join("%s (field %d)" % pair for pair in zip(names, place.fields)) or "the body itself")
+
+
+def in_numbers(number, values, place):
+    """A refusal as the programs print it."""
+    return " ".join(map(str, ["refused", number, *values, "at", place.offset] + (["in", *place.fields] if place.fields else [])))
 
 
 # What the program `why` says of an id, in words; in an older window its age follows.

@@ -21,6 +21,9 @@ import cases  # noqa: E402
 import scripts  # noqa: E402
 
 TOP = os.path.dirname(HERE)
+sys.path.append(os.path.join(TOP, "oracle"))
+import places  # noqa: E402
+
 SCRIPT = os.path.join(HERE, "inspect")
 PROGRAM = os.path.join(TOP, "target", "bin", "inspect")
 X = "12 4b 0a 01 41 1a 01 01 22 01 74 2a 40 00*64"
@@ -137,24 +140,76 @@ class Bodies(Case):
         self.assertEqual(self.shown("12cb01 12c801 41*200", "--sign")[-1], "  %s12c801%s" % (sign, "41" * 200))
 
     def test_refusals(self):
-        at = "(of the body, or of the submessage that it stands in)"
-        for body, line in (
-                ("80", "refused 1: a varint is cut short"),
-                ("ff*9 02", "refused 2: a varint is above 64 bits"),
-                ("8000", "refused 3: a varint is longer than it needs to be"),
-                ("0a0508", "refused 4: a field passes the end: at offset 2 of the body it was to have 5 bytes, and 1 remains"),
-                ("1203 0a0541", "refused 4: a field passes the end: at offset 2 of its submessage it was to have 5 bytes, and 1 remains"),
-                ("2100", "refused 4: a field passes the end: at offset 1 of the body it was to have 8 bytes, and 1 remains"),
-                ("0a01", "refused 4: a field passes the end: at offset 2 of the body it was to have 1 byte, and 0 remain"),
-                ("0b", "refused 5: a wire type that is not supported: type 3, in the tag that ends at offset 1 " + at),
-                ("00", "refused 6: a field number out of range: number 0, at offset 0 " + at),
-                ("8080808010", "refused 6: a field number out of range: number 536870912, at offset 0 " + at),
-                ("0a031201ff", "refused 7: a topic is not UTF-8: its length stands at offset 1 of its submessage"),
-                ("0a00*513", "refused 11: the body has above 512 records: it has 513"),
-                ("00*65536 00", "refused 10: the body has above 65,536 bytes: it has 65,537 bytes"),
-                ("00*65536 00*64", "refused 10: the body has above 65,536 bytes: it has 65,600 bytes")):
-            for more in ((), ("--sign",), ("--full",)):
-                self.assertEqual(self.shown(body, *more, status=1), [line], body)
+        for body, line, *more in (
+                ("80", "refused 1: a varint is cut short", "at byte 0 of the body, where the varint was to stand", "in the body itself"),
+                ("ff*9 02", "refused 2: a varint is above 64 bits", "at byte 0 of the body, where the varint begins", "in the body itself"),
+                ("8000", "refused 3: a varint is longer than it needs to be", "at byte 0 of the body, where the varint begins", "in the body itself"),
+                ("0a0508", "refused 4: a field passes the end: it was to have 5 bytes, and 1 remains", "at byte 2 of the body, where its bytes were to begin",
+                 "in the body itself"),
+                ("1203 0a0541", "refused 4: a field passes the end: it was to have 5 bytes, and 1 remains", "at byte 4 of the body, where its bytes were to begin",
+                 "in message (field 2)"),
+                ("2100", "refused 4: a field passes the end: it was to have 8 bytes, and 1 remains", "at byte 1 of the body, where its bytes were to begin",
+                 "in the body itself"),
+                ("0a01", "refused 4: a field passes the end: it was to have 1 byte, and 0 remain",
+                 "at byte 2 of the body, where its bytes were to begin: that is its end", "in the body itself"),
+                ("0b", "refused 5: a wire type that is not supported: type 3", "at byte 1 of the body, behind the tag: that is its end", "in the body itself"),
+                ("00", "refused 6: a field number out of range: number 0", "at byte 0 of the body, where the tag begins", "in the body itself"),
+                ("8080808010", "refused 6: a field number out of range: number 536870912", "at byte 0 of the body, where the tag begins", "in the body itself"),
+                ("0a031201ff", "refused 7: a topic is not UTF-8", "at byte 3 of the body, where the topic's length begins", "in subscription (field 1)"),
+                ("0a01800b", "refused 1: a varint is cut short", "at byte 2 of the body, where the varint was to stand", "in subscription (field 1)")):
+            for option in ((), ("--sign",), ("--full",)):
+                lines = self.shown(body, *option, status=1)
+                self.assertEqual([lines[0], *(part[2:] for part in lines[1:3])], [line, *more], body)
+                self.assertEqual(lines[3], "")
+        for body, line in (("0a00*513", "refused 11: the body has above 512 records: it has 513"),
+                           ("00*65536 00", "refused 10: the body has above 65,536 bytes: it has 65,537 bytes"),
+                           ("00*65536 00*64", "refused 10: the body has above 65,536 bytes: it has 65,600 bytes")):
+            for option in ((), ("--sign",), ("--full",)):
+                self.assertEqual(self.shown(body, *option, status=1), [line], body)
+
+    def test_places(self):
+        """The whole table: the mark stands below the byte that is told, and the last line is the program's."""
+        for text, told in places.ROWS + places.MORE_ROWS:
+            if not told:
+                continue
+            lines, body = self.shown(text, status=1), bytes.fromhex(text)
+            place = places.find(body)
+            self.assertEqual(lines[-1], "  in numbers: " + told)
+            self.assertTrue(lines[1].startswith("  at byte %d of the body, " % place.offset), lines)
+            self.assertEqual(lines[1].endswith(": that is its end"), place.offset == len(body))
+            numbers = re.findall(r"\(field ([0-9])\)", lines[2])
+            self.assertEqual(tuple(map(int, numbers)), place.fields)
+            self.assertNotIn("not known", lines[2])
+            mark = next(n for n, line in enumerate(lines) if line.strip() == "^^")
+            row, column = lines[mark - 1], lines[mark].index("^^")
+            start = int(row.split()[0])
+            self.assertEqual(column - 9, 3 * (place.offset - start), lines)
+            if place.offset < len(body):
+                self.assertEqual(row[column:column + 2], body[place.offset:place.offset + 1].hex())
+            else:
+                self.assertEqual(column, len(row) + 1)
+
+    def test_the_bytes_around_a_place(self):
+        self.assertEqual(self.shown("1a 06 22 04 12 02 0a 05", status=1), [
+            "refused 4: a field passes the end: it was to have 5 bytes, and 0 remain",
+            "  at byte 8 of the body, where its bytes were to begin: that is its end", "  in control (field 3), prune (field 4), peer (field 2)", "",
+            "      0  1a 06 22 04 12 02 0a 05", "                                 ^^", "", "  in numbers: refused 4 2 5 0 at 8 in 3 4 2"])
+        # A place in the middle: two lines before it and one behind it.
+        lines = self.shown("0a00*30 00 2000*30", status=1)
+        self.assertEqual(lines[1:3], ["  at byte 60 of the body, where the tag begins", "  in the body itself"])
+        self.assertEqual([line.split()[0] for line in lines[4:-2]], ["16", "32", "48", "^^", "64"])
+        self.assertEqual((lines[6][9 + 36:9 + 38], lines[7]), ("00", " " * (9 + 36) + "^^"))
+        full = self.shown("0a00*30 00 2000*30", "--full", status=1)
+        self.assertEqual([line.split()[0] for line in full[4:-2]], ["0", "16", "32", "48", "^^", "64", "80", "96", "112"])
+        # At the end of a whole line, and in the first byte of one.
+        lines = self.shown("0a00*7 0a 0b", status=1)
+        self.assertEqual((lines[4:6], len(lines)), (["      0  " + "0a 00 " * 7 + "0a 0b", " " * (9 + 48) + "^^"], 8))
+        lines = self.shown("0a00*8 00", status=1)
+        self.assertEqual(lines[4:7], ["      0  " + ("0a 00 " * 8).strip(), "     16  00", "         ^^"])
+        # The largest body, at its last byte.
+        lines = self.shown("2000*32767 20 80", status=1)
+        self.assertEqual((lines[1], lines[-4], lines[-3]), ("  at byte 65,535 of the body, where the varint was to stand", "  65520  " + "20 00 " * 7 + "20 80", " " * (9 + 45) + "^^"))
+        self.assertEqual(len(self.shown("2000*32767 20 80", "--full", status=1)), 4 + 4096 + 1 + 2)
 
     def test_sizes(self):
         self.assertEqual(self.shown("2000*32768")[0], "accepted: 65,536 bytes, no records")
@@ -211,9 +266,9 @@ class Bodies(Case):
         for line in examples:
             words = [word.strip("'") for word in line.split()]
             if "capture.body" not in words:
-                refused = words == ["0a", "05", "08"]
+                refused = words[-1] == "05"
                 lines = self.shown(*words, status=1 if refused else 0)
-                self.assertTrue(not refused or "`%s`" % lines[0] in out.replace("\n", " "), lines)
+                self.assertTrue(not refused or "".join(("  " + line).rstrip() + "\n" for line in lines) in out, lines)
 
     def test_as_a_command(self):
         done = subprocess.run([SCRIPT, "1a00"], capture_output=True, check=False)
@@ -235,7 +290,6 @@ class Bodies(Case):
         self.assertEqual((done.returncode, done.stderr), (2, b"inspect: cannot write standard output: No space left on device\n"))
 
     def test_bodies_of_the_oracle(self):
-        sys.path.append(os.path.join(TOP, "oracle"))
         import bodies
         r = random.Random(3)
         words, show = INSPECT.running(PROGRAM), INSPECT.Shown(False)
@@ -243,7 +297,10 @@ class Bodies(Case):
         for body in [*bodies.named(), *(bodies.random_body(r) for _ in range(40)), *(bodies.messages_body(r) for _ in range(20)), bodies.many(r, 500)]:
             lines, status = INSPECT.answer(words, body, INSPECT.ALL, show)
             self.assertTrue(lines[0].startswith("refused " if status else "accepted: "))
-            seen.update(line.split()[0] for line in lines)
+            seen.update(line.split()[0] for line in lines if line)
+            place = places.find(body)
+            if place:
+                self.assertEqual(lines[-1].partition(" at ")[2], places.words(place).removeprefix(" at "))
         for word in ("subscribe", "message", "from", "offer", "request", "graft:", "prune:", "peer", "canonical:", "sign"):
             self.assertIn(word, seen)
 
@@ -327,7 +384,10 @@ class Programs(Case):
     def test_strange_answers(self):
         for text in ("bad", "long", "1 encode 0", "2 decode ok 0 plain", "1 decode ok 0 plain\n2 encode 0\n3 encode 0", "  sub - -", "1 decode",
                      "1 decode ok 0\n2 encode 0", "1 decode ok 1 plain\n2 encode 0", "1 decode yes\n2 encode 0", "1 decode ok 0 plain\n2 encode 1",
-                     "1 decode ok 0 plain\n2 encode 2 00", "1 decode ok 0 plain\n2 encode 1 0g", "1 decode refused\n2 encode 0", "1 decode refused x\n2 encode 0"):
+                     "1 decode ok 0 plain\n2 encode 2 00", "1 decode ok 0 plain\n2 encode 1 0g", "1 decode refused\n2 encode 0", "1 decode refused x\n2 encode 0",
+                     "1 decode refused 1 at\n2 encode 0", "1 decode refused 1 at x\n2 encode 0", "1 decode refused 1 at 0 in\n2 encode 0",
+                     "1 decode refused 1 at 0 in 3 4 2 1\n2 encode 0", "1 decode refused 1 in 3\n2 encode 0", "1 decode refused 1 at 0 in 3 at 4\n2 encode 0",
+                     "1 decode refused at 0\n2 encode 0", "1 decode refused 1 at 3\n2 encode 0"):
             self.assertIn("none that it should give", self.told(self.stub(text)), text)
         for line in ("  sub -", "  sub x -", "  sub 1 00", "  rpc", "  message - - - - -", "  topic =00", "  id =00", "  peer - -", "  prune - =00", "  graft =0"):
             self.assertRegex(self.told(self.stub("1 decode ok 1 control\n%s\n2 encode 0" % line)), "should print|stands below none", line)
@@ -337,6 +397,17 @@ class Programs(Case):
         with mock.patch.object(INSPECT.x86, "running", lambda path: [path]):
             self.assertEqual(self.shown("--program", program, "1a00", status=1), ["refused 14"])
 
+    def test_a_program_without_places(self):
+        program = self.stub("1 decode refused 1\n2 encode refused 1")
+        self.assertEqual(self.told(program, "80"), "inspect: the program does not tell where the body is refused: it is of an earlier version, and `rt check inspect` "
+                         "makes it anew\n")
+
+    def test_a_field_of_a_later_edition(self):
+        program = self.stub("1 decode refused 1 at 1 in 3 5\n2 encode refused 1 at 1 in 3 5")
+        with mock.patch.object(INSPECT.x86, "running", lambda path: [path]):
+            lines = self.shown("--program", program, "1a00", status=1)
+        self.assertEqual((lines[2], lines[-1]), ("  in control (field 3), not known (field 5)", "  in numbers: refused 1 at 1 in 3 5"))
+
 
 class Words(unittest.TestCase):
     def test_each_refusal(self):
@@ -345,12 +416,26 @@ class Words(unittest.TestCase):
             values = tuple(range(1, 1 + len(INSPECT.refusals.VALUES.get(number, ()))))
             line = told(number, values)
             self.assertTrue(line.startswith("refused %d: %s" % (number, words)), line)
-            self.assertEqual(len(line) > len("refused %d: %s" % (number, words)), bool(values), line)
+            self.assertEqual(len(line) > len("refused %d: %s" % (number, words)), bool(values) and number != 7, line)
             self.assertEqual(told(number), "refused %d: %s" % (number, words))
         self.assertEqual(told(99, (1,)), "refused 99")
         self.assertEqual(told(12, (1,)), "refused 12: no room for the answer: 1 is needed")
         self.assertEqual(told(12, (1024,)), "refused 12: no room for the answer: 1,024 are needed")
         self.assertTrue(set(INSPECT.refusals.VALUES) <= set(INSPECT.refusals.WORDS))
+
+    def test_places(self):
+        refused, place = INSPECT.answers.refused, INSPECT.answers.Place
+        self.assertIsNone(refused("ok 0 plain".split()))
+        for text, told in (("refused 1 at 0", (1, (), place(0, ()))), ("refused 4 2 5 0 at 8 in 3 4 2", (4, (2, 5, 0), place(8, (3, 4, 2)))),
+                           ("refused 7 1 at 3 in 1", (7, (1,), place(3, (1,)))), ("refused 20 0", (20, (0,), None)), ("refused 23", (23, (), None))):
+            self.assertEqual(refused(text.split()), told)
+            self.assertTrue(told[2] is None or INSPECT.refusals.in_numbers(*told) == text)
+        self.assertEqual(set(INSPECT.refusals.AT), set(INSPECT.OF_A_BODY))
+        self.assertEqual(set(INSPECT.refusals.FIELDS) | {()}, set(places.PATHS))
+        # The crate calls the fields the same.
+        with open(os.path.join(TOP, "host", "src", "place.rs"), encoding="utf-8") as file:
+            names = re.findall(r'^ *\[([0-9, ]+)\] => "(\w+)",$', file.read(), re.MULTILINE)
+        self.assertEqual({tuple(map(int, path.split(", "))): name for path, name in names}, INSPECT.refusals.FIELDS)
 
 
 if __name__ == "__main__":

@@ -1,10 +1,13 @@
 #!/usr/bin/env python3
-"""Tests of what the oracle's comparisons and bench/bench say where something is missing. They need neither the Rust's files nor a program.
+"""Tests of what the oracle's comparisons and bench/bench say where something is missing, and of the finder of places. They need neither the Rust's files
+nor a program.
 
     python3 tools/test_oracle.py
 """
 
+import itertools
 import os
+import random
 import subprocess
 import sys
 import tempfile
@@ -15,7 +18,13 @@ TOP = os.path.dirname(HERE)
 ORACLE = os.path.join(TOP, "oracle")
 sys.dont_write_bytecode = True
 sys.path.insert(0, ORACLE)
+import bodies  # noqa: E402
+import nodes  # noqa: E402
+import places  # noqa: E402
 import sources  # noqa: E402
+import state_histories  # noqa: E402
+import states  # noqa: E402
+import wire  # noqa: E402
 
 RUST = ("compare_wire", "compare_decode", "compare_write", "compare_caches")
 PROGRAM = {"compare_wire": "inspect", "compare_decode": "inspect", "compare_write": "inspect", "compare_caches": "caches", "compare_trace": "trace",
@@ -114,6 +123,112 @@ class Case(unittest.TestCase):
             words = ["oracle/%s.py" % name] + (["target/bin/none"] if name in RUST else [])
             status, out, err = self.call(*words, ORACLE_BIN="/no/such")
             self.assertEqual((status, out, err), (2, "", "%s: no oracle at /no/such, which ORACLE_BIN names\n" % name))
+
+
+def model(body):
+    """Why the model's reader refuses a body, in the words of a line without a place; None where it takes it."""
+    try:
+        nodes.Body(body)
+    except nodes.Refused as why:
+        return "refused " + " ".join(map(str, why.args))
+    return None
+
+
+class Places(unittest.TestCase):
+    def test_the_rows(self):
+        for text, line in places.ROWS + places.MORE_ROWS:
+            body = bytes.fromhex(text)
+            self.assertEqual(places.with_place(model(body), places.find, body), line, text)
+        self.assertEqual(len(places.ROWS), 21)
+        self.assertEqual(len({text for text, _ in places.ROWS + places.MORE_ROWS}), len(places.ROWS + places.MORE_ROWS))
+        # Every path stands among them, and each refusal.
+        found = [places.find(body) for body in bodies.placed()]
+        self.assertEqual({place.fields for place in found if place}, set(places.PATHS))
+        self.assertEqual({place.number for place in found if place}, set(places.OF_A_BODY))
+
+    def test_varints(self):
+        for text, end, number in (("", 0, 1), ("80", 1, 1), ("8001", 1, 1), ("80" * 9, 9, 1), ("80" * 10, 9, 1), ("80" * 10, 10, 2), ("80" * 9 + "02", 10, 2),
+                                  ("ff" * 9 + "7f", 10, 2), ("80" * 9 + "00", 10, 3), ("8000", 2, 3), ("808000", 3, 3)):
+            with self.assertRaises(places.Found, msg=text) as told:
+                places.varint_at(b"\xff" + bytes.fromhex(text), 1, 1 + end)
+            self.assertEqual(told.exception.args, (number, 1), text)
+        for text, value in (("00", 0), ("7f", 127), ("8001", 128), ("80" * 9 + "01", 2**63), ("ff" * 9 + "01", 2**64 - 1), ("01ffffffffffffffffff", 1)):
+            self.assertEqual(places.varint_at(bytes.fromhex(text), 0, len(text) // 2)[0], value, text)
+
+    def test_what_follows_changes_nothing(self):
+        for body in bodies.placed():
+            place = places.find(body)
+            # A later control or message, whatever is in it; but for a refusal of the end, which more bytes put off.
+            if place and place.fields:
+                for more in (b"\x0b", b"\x1a\x00", b"\x80", bytes(9)):
+                    self.assertEqual(places.find(body + more), place, body.hex())
+
+    def test_one_more_message_around_it(self):
+        for first in (b"\x0a\x00", b"\x12\x02\x22\x00", b"\x18\x01", b"\x1a\x04\x0a\x02\x12\x00"):
+            for body in bodies.placed():
+                place, later = places.find(body), places.find(first + body)
+                moved = place and place._replace(offset=place.offset + len(first), start=place.start + (len(first) if place.fields else 0))
+                self.assertEqual(later, moved, body.hex())
+        # What is refused as a body stands in a message at the place that it had, if what it holds is not known there.
+        for text in ("80", "8000", "00", "0b", "0a0508", "08", "0a", "09", "80" * 9 + "02"):
+            body = bytes.fromhex(text)
+            for outer, path in (((2,), (2,)), ((3,), (3,)), ((3, 2), (3, 2)), ((3, 4), (3, 4)), ((3, 4, 2), (3, 4, 2)), ((3, 1), (3, 1))):
+                whole = body
+                for number in reversed(outer):
+                    whole = bodies.tagged(number, whole)
+                place = places.find(whole)
+                self.assertEqual((place.number, place.offset - place.start, place.fields), (*places.find(body)[:2], path), (text, outer))
+                self.assertEqual(place.start, len(whole) - len(body))
+
+    def test_beside_the_model(self):
+        r, met = random.Random(4), set()
+        inside = [bodies.tagged(3, bodies.tagged(4, bodies.tagged(2, inner))) for inner in bodies.each(wire.WALK_BYTES, 2)]
+        for body in itertools.chain(bodies.named(), bodies.each(wire.WALK_BYTES, 2), inside, (bodies.random_body(r) for _ in range(1500)),
+                                    (bodies.messages_body(r) for _ in range(200))):
+            told, place = model(body), places.find(body)
+            refused = told is not None and int(told.split(" ")[1]) in places.OF_A_BODY
+            self.assertEqual(place is not None, refused, body.hex())
+            if refused:
+                self.assertTrue(places.agrees(told, place), body.hex())
+                self.assertIn(place.fields, places.PATHS)
+                self.assertTrue(place.start <= place.offset <= len(body))
+                met.add(place.fields)
+        self.assertEqual(met, set(places.PATHS))
+
+    def test_walks(self):
+        body = bytes.fromhex("1a06220412020a05")
+        self.assertIsNone(places.find_field(body, 0))
+        self.assertIsNone(places.find_field(body, 8))
+        self.assertIsNone(places.find_field(body, 2**64 - 1))
+        self.assertEqual(places.find_field(body, 6), places.Place(4, 8, (), 0))
+        for asked, told, line in (("walk 0a0508 0", "err fieldoverflow 2 5 1", "walk refused 4 2 5 1 at 2"), ("walk 0a000b 2", "err wiretype 3 3", "walk refused 5 3 3 at 3"),
+                                  ("walk 0a0080 2", "err short", "walk refused 1 at 2"), ("walk - 0", "end", "walk end"), ("uvarint 80", "err short", "varint refused 1"),
+                                  ("walk %s 0" % ("00" * 65537), "err fieldnumber 0 0", "walk refused 10 65537")):
+            self.assertEqual(wire.answer(asked, told), line)
+
+    def test_what_has_none(self):
+        many = b"\x0a\x00" * 513
+        self.assertEqual(bodies.answer(many, "ok records=513 encode=- rpc={}"), ["decode refused 11 513"])
+        self.assertEqual(bodies.answer(bytes(65537), "err fieldnumber 0 0"), ["decode refused 10 65537"])
+        self.assertEqual(bodies.answer(b"\x80", "err short"), ["decode refused 1 at 0"])
+        self.assertIsNone(places.find(many))
+        self.assertIsNone(places.with_place(None, places.find, b"\x80"))
+        for number in (10, 11, 12, 20, 22, 29, 31, 33, 40, 41, 42):
+            self.assertEqual(places.with_place("refused %d 5" % number, places.find, b"\x80"), "refused %d 5" % number)
+
+    def test_a_finder_that_disagrees_is_told(self):
+        for body, refused in ((b"\x80", "refused 2"), (b"\x0a\x00", "refused 1"), (bytes.fromhex("0a031201ff"), "refused 7 3"), (b"\x0a\x00\x0b", "refused 5 3 1")):
+            with self.assertRaises(AssertionError, msg=refused):
+                places.with_place(refused, places.find, body)
+
+    def test_lines(self):
+        for line, parts in (("3 decode refused 7 1 at 3 in 1", ("3 decode refused 7 1", " at 3 in 1")), ("1 put refused 1 at 0", ("1 put refused 1", " at 0")),
+                            ("1 walk end", ("1 walk end", "")), ("2 admit refused 31 9", ("2 admit refused 31 9", ""))):
+            self.assertEqual(places.parted(line), parts)
+        lines = states.expected(states.records(state_histories.placed_in_few_bytes()))
+        told = [line for line in lines if " refused " in line]
+        self.assertTrue(told and all(" at " in line for line in told))
+        self.assertIn(" ask refused 4 2 5 0 at 8 in 3 4 2", {line[line.index(" "):] for line in told})
 
 
 if __name__ == "__main__":

@@ -56,13 +56,14 @@ static void expect(int ok, const char *what)
  */
 static void after(uint32_t number, int count, size_t bytes, size_t rows, int keeps)
 {
+    int placed = pradulins_refusal_has_place(number);
     if (number != 0) {
         count = pradulins_refusal_values(number);
         bytes = rows = 0;
         keeps = 1;
     }
     for (int i = 0; i < PRADULINS_VALUES; i++)
-        expect((i < count) == (values[i] != UNTOUCHED), "another number of values");
+        expect((i < count || (placed && i >= PRADULINS_OFFSET)) == (values[i] != UNTOUCHED), "another number of values");
     if (keeps) {
         expect(memcmp(node, node_before, sizeof node) == 0, "the node changed");
         expect(memcmp(seen, seen_before, sizeof seen) == 0, "the seen store changed");
@@ -88,11 +89,23 @@ static void put_number(uint64_t v)
     printf(" %llu", (unsigned long long)v);
 }
 
+/* A refusal; where `full`, with its values and its place. */
 static void put_refused(uint32_t number, int full)
 {
     printf(" refused %u", number);
     for (int i = 0; full && i < pradulins_refusal_values(number); i++)
         put_number(values[i]);
+    if (!full || !pradulins_refusal_has_place(number))
+        return;
+    const uint64_t *fields = values + PRADULINS_FIELDS;
+    printf(" at");
+    put_number(values[PRADULINS_OFFSET]);
+    for (int i = 0; i < PRADULINS_MAX_FIELDS && fields[i] != 0; i++) {
+        fputs(i == 0 ? " in" : "", stdout);
+        put_number(fields[i]);
+    }
+    for (int i = 1; i < PRADULINS_MAX_FIELDS; i++)
+        expect(fields[i] == 0 || fields[i - 1] != 0, "a field number behind one that is none");
 }
 
 /* The bytes that a writer made: their number and, above 0, their hex. */
@@ -235,12 +248,14 @@ static uint32_t body_call(uint64_t kind, const uint8_t *body, size_t len, size_t
 /* The same call with other room: what it answered before, with the room that it needed and with none to spare; and 12 with less. */
 static void rooms(uint64_t kind, const uint8_t *body, size_t len, size_t index, uint32_t r)
 {
-    uint64_t first = values[0];
+    uint64_t first = values[0], place[PRADULINS_VALUES - PRADULINS_OFFSET];
+    memcpy(place, values + PRADULINS_OFFSET, sizeof place);
     size_t unit = kind == 1 ? PRADULINS_RECORD_WORDS : 1, needed = r ? 0 : first * unit;
     before();
     uint32_t again = body_call(kind, body, len, index, needed);
     after(again, kind == 1 ? 2 : 1, kind == 1 || again ? 0 : values[0], kind == 1 && !again ? values[0] : 0, 1);
     expect(again == r && (pradulins_refusal_values(r) == 0 || values[0] == first), "another answer with just enough room");
+    expect(memcmp(place, values + PRADULINS_OFFSET, sizeof place) == 0, "another place with just enough room");
     if (needed > 0) {
         before();
         again = body_call(kind, body, len, index, needed - 1);

@@ -1,7 +1,7 @@
 """The rows of the scope's tables, as records of the programs `inspect` and `states`, with the lines that the scope asks for.
 
-Each line is written from the scope, not from a program. `inspect()` and `states()` give (input, lines). Refusal 33 is not here: the seen part alone has
-it, which the C interface does not lend.
+Each line is written from the scope, not from a program; those about the place of a refusal stand in oracle/places.py. `inspect()` and `states()` give
+(input, lines). Refusal 33 is not here: the seen part alone has it, which the C interface does not lend.
 """
 
 import os
@@ -9,6 +9,7 @@ import sys
 
 sys.path.insert(0, os.path.join(os.path.dirname(os.path.abspath(__file__)), "../../oracle"))
 
+import places  # noqa: E402
 import states as program  # noqa: E402
 import wire  # noqa: E402
 
@@ -36,12 +37,12 @@ def rows():
     yield "sign", x, 0, ["23 %s0a01411a0101220174" % PREFIX]
     for body, told in REFUSED:
         for call in ("decode", "encode", "sign", "id", "walk"):
-            if call != "walk" or told[0] != "7":
-                yield call, body, 0, ["refused " + told]
+            if call != "walk" or " in " not in told:
+                yield call, body, LATER.get(body, 0) if call == "walk" else 0, ["refused " + told]
     for topic in ("eda080", "c080", "f4908080"):
         body = "0a%02x12%02x%s" % (2 + len(topic) // 2, len(topic) // 2, topic)
         for call in ("decode", "encode", "sign", "id"):
-            yield call, body, 0, ["refused 7 1"]
+            yield call, body, 0, ["refused 7 1 at 3 in 1"]
     for call in ("sign", "id"):
         yield call, "", 0, ["refused 20 0"]
         yield call, x, 1, ["refused 20 1"]
@@ -56,9 +57,12 @@ def rows():
         yield call, many, 0, ["refused 11 513"]
 
 
-# Bodies that are refused whatever is asked of them.
-REFUSED = (("80", "1"), ("80808080808080808002", "2"), ("8000", "3"), ("0a0508", "4 2 5 1"), ("0b", "5 3 1"), ("00", "6 0 0"),
-           ("8080808010", "6 536870912 0"), ("0a031201ff", "7 1"))
+# Bodies that are refused whatever is asked of them, with the place.
+REFUSED = [(body, told.removeprefix("refused ")) for body, told in [*places.ROWS, ("8080808010", "refused 6 536870912 0 at 0"), *places.MORE_ROWS] if told]
+
+
+# Where the refused field starts, if it is not the first of its body: a walk begins there.
+LATER = {"0a000b": 2, "1a020a00" * 3 + "00": 12}
 
 
 def field(number, content):
@@ -179,7 +183,7 @@ def steps():
     yield SETTINGS, "set ok"
     yield ("admit", 100, 0, 1, X), "admit new"
     # Bodies.
-    for body, told in REFUSED + ((bytes(65537).hex(), "10 65537"), ("0a00" * 513, "11 513")):
+    for body, told in [*REFUSED, (bytes(65537).hex(), "10 65537"), ("0a00" * 513, "11 513")]:
         body = bytes.fromhex(body)
         yield ("admit", 100, 0, 1, body), "admit refused " + told
         yield ("ask", ROOM, body), "ask refused " + told

@@ -226,6 +226,9 @@ static void words(void)
     for (uint32_t other = last + 1; other <= 50; other++)
         expect(strcmp(pradulins_refusal_text(other), none) == 0, "words for a number that is no refusal");
     expect(strcmp(pradulins_refusal_text(PRADULINS_OK), none) != 0, "no words for 0");
+    for (uint32_t number = 0; number <= 50; number++)
+        expect(pradulins_refusal_has_place(number) == (number >= 1 && number <= 7), "a place beside another refusal than 1 to 7");
+    expect(PRADULINS_FIELDS == PRADULINS_OFFSET + 1 && PRADULINS_VALUES == PRADULINS_FIELDS + PRADULINS_MAX_FIELDS, "values that are no place");
 }
 
 int test_self(void)

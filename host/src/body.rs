@@ -198,7 +198,7 @@ pub struct Walk<'a> {
 
 /// Walks over the top-level fields of a body. What a field holds is not looked at.
 ///
-/// Refused: what is wrong with a field (1 to 6), or a body above 65,536 bytes.
+/// Refused: what is wrong with a field (1 to 6), or a body above 65,536 bytes. No field encloses the [`Place`](crate::Place) of such a refusal.
 pub fn walk(body: &[u8]) -> Walk<'_> {
     walk_from(body, 0)
 }
@@ -220,7 +220,7 @@ impl<'a> Iterator for Walk<'a> {
             self.done = true;
             return Some(Err(refusal));
         }
-        let [number, wire_type, tag_end, next] = values;
+        let [number, wire_type, tag_end, next, ..] = values;
         if number == 0 {
             self.done = true;
             return None;

@@ -101,7 +101,7 @@ impl Gateway {
     ///
     /// If the program is linked with an archive of another [`FORMAT`](crate::FORMAT). So do the calls that load a gateway.
     pub fn start(settings: Settings) -> Result<Gateway, Refusal> {
-        fits(sys::format());
+        fits(sys::format(), sys::version());
         let mut node = Box::new([0; NODE_SIZE]);
         let Settings { ttl, max_seen, history_len, max_messages } = settings;
         answered(sys::start(&mut node, ttl, max_seen, history_len, max_messages), &[0; VALUES])?;
@@ -226,7 +226,7 @@ impl Gateway {
     /// A node and what stands after it, as the library finds them: its settings (42), the lengths of the stores (41), and whether all is well formed
     /// (42).
     pub(crate) fn tested(node: &[u8], stores: &[u8]) -> Result<Gateway, Refusal> {
-        fits(sys::format());
+        fits(sys::format(), sys::version());
         let mut own = Box::new([0; NODE_SIZE]);
         own.copy_from_slice(node);
         let mut values = [0; VALUES];
@@ -278,10 +278,12 @@ mod tests {
         let mut values = [u64::MAX; VALUES];
         assert_eq!(sys::settings(&gateway.node, &mut values), 0);
         let Settings { ttl, max_seen, history_len, max_messages } = gateway.settings();
-        assert_eq!(values, [ttl, max_seen as u64, history_len as u64, max_messages as u64]);
+        assert_eq!(values[..4], [ttl, max_seen as u64, history_len as u64, max_messages as u64]);
+        assert_eq!(values[4..], [u64::MAX; VALUES - 4]);
         values = [u64::MAX; VALUES];
         assert_eq!(sys::state(&gateway.node, &gateway.seen, &gateway.cache, &mut values), 0);
-        assert_eq!(values, [gateway.clock(), gateway.seen() as u64, gateway.messages() as u64, u64::MAX]);
+        assert_eq!(values[..3], [gateway.clock(), gateway.seen() as u64, gateway.messages() as u64]);
+        assert_eq!(values[3..], [u64::MAX; VALUES - 3]);
     }
 
     #[test]

@@ -95,17 +95,31 @@
 //! # Ok::<(), Refusal>(())
 //! ```
 //!
+//! What is wrong with the bytes of a body (1 to 7) has a [`Place`]: how many bytes after the start of the whole body it stands, and which fields enclose it.
+//!
+#![cfg_attr(not(no_archive), doc = "```")]
+#![cfg_attr(no_archive, doc = "```no_run")]
+//! # use pradulins::{decode, Place};
+//! // A control, in it a prune, in it a peer: its field 1 is to have 5 bytes, and none is there.
+//! let refusal = decode(&[0x1a, 6, 0x22, 4, 0x12, 2, 0x0a, 5]).unwrap_err();
+//! let place = refusal.place().unwrap();
+//! assert_eq!((place.offset(), place.fields()), (8, &[3, 4, 2][..]));
+//! assert_eq!(refusal.to_string(), "refused 4: a field of 5 bytes passes the end, 0 remain, at byte 8 of the body, in control, prune, peer");
+//! ```
+//!
 //! # Linking
 //!
 //! The archive libpradulins.a is for x86-64 Linux. It is looked for where `rt staticlib pradulins` writes it in the repository that this crate stands
 //! in, or in the folder that the environment variable `PRADULINS_LIB_DIR` names (by its whole path: another counts from this crate's folder). Where
 //! there is none, or only one from before version 0.3.1, or for another machine, the crate can be checked and those of its tests run that call nothing of it;
-//! `tools/host` of the repository runs all tests and the example on Arm, too. An archive of another [`FORMAT`] is found when a gateway is started or
-//! loaded, which then panics.
+//! `tools/host` of the repository runs all tests and the example on Arm, too. An archive of another [`FORMAT`], or of a version that hands out other values
+//! (before 0.4.0), is found when a gateway is started or loaded, and when a call is refused, which then panics. A crate from before 0.4.0 does not find it: do
+//! not link it with an archive of this version.
 
 mod body;
 mod clock;
 mod gateway;
+mod place;
 mod refusal;
 mod saved;
 mod sys;
@@ -113,6 +127,7 @@ mod sys;
 pub use body::{decode, message_id, messages, reencode, sign_bytes, walk, walk_from, Decoded, Field, Message, Record, Walk};
 pub use clock::Clock;
 pub use gateway::{Admitted, Gateway, Offer, Reply, Served, Settings};
+pub use place::Place;
 pub use refusal::Refusal;
 pub use saved::{write_file, LoadError};
 
@@ -142,25 +157,37 @@ pub const MAX_BODY: usize = 65536;
 /// The most records that a body may have.
 pub const MAX_RECORDS: usize = 512;
 
-/// Holds the archive that the program is linked with to this crate: another format is a fault of the build.
-fn fits(archive: u32) {
+/// The archives that this crate can be linked with, by their version without its last number: in others a call hands out other values.
+const ARCHIVES: u32 = 4;
+
+/// Holds the archive that the program is linked with to this crate: another format, or a version with other values, is a fault of the build.
+fn fits(format: u32, version: u32) {
     assert!(
-        archive == FORMAT,
-        "libpradulins.a is for format {archive}, and this crate for format {FORMAT}: link the archive of the crate's own version"
+        format == FORMAT,
+        "libpradulins.a is for format {format}, and this crate for format {FORMAT}: link the archive of the crate's own version"
+    );
+    assert!(
+        version / 100 == ARCHIVES,
+        "libpradulins.a is of version {}.{}.{}, and this crate of {VERSION}: link the archive of the crate's own version",
+        version / 10000,
+        version / 100 % 100,
+        version % 100
     );
 }
 
 /// How many numbers a record takes in the table that the library fills.
 const RECORD_WORDS: usize = 20;
 
-/// How many numbers stand beside an answer.
-const VALUES: usize = 4;
+/// How many numbers stand beside an answer: four, and the place of a refusal.
+const VALUES: usize = 8;
 
 /// What a call did, or why it was refused.
 fn answered(number: u32, values: &sys::Values) -> Result<(), Refusal> {
     if number == 0 {
         return Ok(());
     }
+    // An archive of an earlier version hands out no place.
+    fits(sys::format(), sys::version());
     Err(Refusal::from_call(number, values))
 }
 
@@ -179,10 +206,23 @@ mod tests {
     use super::*;
 
     #[test]
-    #[should_panic(expected = "link the archive of the crate's own version")]
+    #[should_panic(expected = "is for format 3, and this crate for format 2: link the archive of the crate's own version")]
     fn an_archive_of_another_format() {
-        fits(FORMAT);
-        fits(FORMAT + 1);
+        fits(FORMAT, 400);
+        fits(FORMAT, 499);
+        fits(FORMAT + 1, 400);
+    }
+
+    #[test]
+    #[should_panic(expected = "is of version 0.3.1, and this crate of 0.4.")]
+    fn an_archive_of_an_earlier_version() {
+        fits(FORMAT, 301);
+    }
+
+    #[test]
+    #[should_panic(expected = "is of version 0.5.0, and this crate of 0.4.")]
+    fn an_archive_of_a_later_version() {
+        fits(FORMAT, 500);
     }
 
     #[cfg(not(no_archive))]
@@ -195,5 +235,7 @@ mod tests {
         let header = include_str!("../../include/pradulins.h");
         assert!(header.contains(&format!("#define PRADULINS_VERSION {}\n", archive_version())));
         assert!(header.contains(&format!("#define PRADULINS_FORMAT {FORMAT}\n")));
+        assert!(header.contains(&format!("#define PRADULINS_VALUES {VALUES}\n")));
+        assert_eq!(archive_version() / 100, ARCHIVES);
     }
 }

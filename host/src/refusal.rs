@@ -1,20 +1,34 @@
 //! Why a call was refused: the scope's table, with the values beside each number.
 
+use crate::{Place, VALUES};
 use std::error::Error;
 use std::fmt;
 
+/// Where the place of a refusal begins among the values of a call.
+const PLACE: usize = 4;
+
 /// Why a call was refused. A refused call has changed nothing.
 ///
-/// Offsets are counted from the start of the submessage that is refused. [`Refusal::number`] and [`Refusal::values`] give the refusal as the library's
-/// other programs print it.
+/// What is wrong with the bytes of a body, 1 to 7, has a [`Place`] in the whole body; [`Refusal::place`] gives it, too, and there is none beside the others.
+/// An `offset` is counted from the start of the innermost field that encloses it. [`Refusal::number`] and [`Refusal::values`] give the refusal as the
+/// library's other programs print it, before its place.
 #[derive(Clone, Copy, Debug, PartialEq, Eq, Hash)]
 pub enum Refusal {
     /// 1: a varint is cut short.
-    VarintShort,
+    VarintShort {
+        /// The varint's first byte, or where it was to begin.
+        place: Place,
+    },
     /// 2: a varint is above 64 bits.
-    VarintOverflow,
+    VarintOverflow {
+        /// The varint's first byte.
+        place: Place,
+    },
     /// 3: a varint is longer than it needs to be.
-    VarintNotMinimal,
+    VarintNotMinimal {
+        /// The varint's first byte.
+        place: Place,
+    },
     /// 4: a field passes the end of its message.
     FieldOverflow {
         /// Where the field's bytes were to begin.
@@ -23,25 +37,33 @@ pub enum Refusal {
         length: u64,
         /// How many there are.
         remaining: u64,
+        /// Where the field's bytes were to begin.
+        place: Place,
     },
     /// 5: a wire type other than 0, 1, 2 and 5.
     WireType {
         /// The wire type.
         wire_type: u64,
-        /// The place after the tag.
+        /// After the tag.
         offset: u64,
+        /// After the tag.
+        place: Place,
     },
     /// 6: a field number outside 1 to 536870911.
     FieldNumber {
         /// The field number.
         number: u64,
-        /// The place of the tag.
+        /// The tag's first byte.
         offset: u64,
+        /// The tag's first byte.
+        place: Place,
     },
     /// 7: a topic is not UTF-8.
     Utf8 {
-        /// The place of the topic's length.
+        /// The first byte of the topic's length.
         offset: u64,
+        /// The first byte of the topic's length.
+        place: Place,
     },
     /// 10: a body above 65,536 bytes.
     BodyTooLarge {
@@ -116,16 +138,17 @@ impl Refusal {
     pub const NUMBERS: [u32; 25] = [1, 2, 3, 4, 5, 6, 7, 10, 11, 12, 20, 21, 22, 23, 24, 25, 26, 27, 28, 29, 30, 31, 40, 41, 42];
 
     /// The refusal that a call answered. A number that no contract allows is a fault of the archive.
-    pub(crate) fn from_call(number: u32, values: &[u64; 4]) -> Refusal {
-        let [a, b, c, _] = *values;
+    pub(crate) fn from_call(number: u32, values: &[u64; VALUES]) -> Refusal {
+        let [a, b, c, ..] = *values;
+        let place = || Place::from_call(&values[PLACE..]);
         match number {
-            1 => Refusal::VarintShort,
-            2 => Refusal::VarintOverflow,
-            3 => Refusal::VarintNotMinimal,
-            4 => Refusal::FieldOverflow { offset: a, length: b, remaining: c },
-            5 => Refusal::WireType { wire_type: a, offset: b },
-            6 => Refusal::FieldNumber { number: a, offset: b },
-            7 => Refusal::Utf8 { offset: a },
+            1 => Refusal::VarintShort { place: place() },
+            2 => Refusal::VarintOverflow { place: place() },
+            3 => Refusal::VarintNotMinimal { place: place() },
+            4 => Refusal::FieldOverflow { offset: a, length: b, remaining: c, place: place() },
+            5 => Refusal::WireType { wire_type: a, offset: b, place: place() },
+            6 => Refusal::FieldNumber { number: a, offset: b, place: place() },
+            7 => Refusal::Utf8 { offset: a, place: place() },
             10 => Refusal::BodyTooLarge { length: a },
             11 => Refusal::TooManyRecords { records: a },
             12 => Refusal::Room { needed: a },
@@ -151,9 +174,9 @@ impl Refusal {
     /// The number in the table of refusals.
     pub fn number(&self) -> u32 {
         match self {
-            Refusal::VarintShort => 1,
-            Refusal::VarintOverflow => 2,
-            Refusal::VarintNotMinimal => 3,
+            Refusal::VarintShort { .. } => 1,
+            Refusal::VarintOverflow { .. } => 2,
+            Refusal::VarintNotMinimal { .. } => 3,
             Refusal::FieldOverflow { .. } => 4,
             Refusal::WireType { .. } => 5,
             Refusal::FieldNumber { .. } => 6,
@@ -179,13 +202,27 @@ impl Refusal {
         }
     }
 
+    /// Where in the body it stands: of what is wrong with a body's bytes, 1 to 7. All other refusals have no place.
+    pub fn place(&self) -> Option<Place> {
+        match *self {
+            Refusal::VarintShort { place }
+            | Refusal::VarintOverflow { place }
+            | Refusal::VarintNotMinimal { place }
+            | Refusal::FieldOverflow { place, .. }
+            | Refusal::WireType { place, .. }
+            | Refusal::FieldNumber { place, .. }
+            | Refusal::Utf8 { place, .. } => Some(place),
+            _ => None,
+        }
+    }
+
     /// The values beside the number, in the table's order.
     pub fn values(&self) -> Vec<u64> {
         match *self {
-            Refusal::FieldOverflow { offset, length, remaining } => vec![offset, length, remaining],
-            Refusal::WireType { wire_type, offset } => vec![wire_type, offset],
-            Refusal::FieldNumber { number, offset } => vec![number, offset],
-            Refusal::Utf8 { offset } => vec![offset],
+            Refusal::FieldOverflow { offset, length, remaining, .. } => vec![offset, length, remaining],
+            Refusal::WireType { wire_type, offset, .. } => vec![wire_type, offset],
+            Refusal::FieldNumber { number, offset, .. } => vec![number, offset],
+            Refusal::Utf8 { offset, .. } => vec![offset],
             Refusal::BodyTooLarge { length } => vec![length],
             Refusal::TooManyRecords { records } => vec![records],
             Refusal::Room { needed } => vec![needed],
@@ -196,9 +233,9 @@ impl Refusal {
             Refusal::TopicTooLong { length } => vec![length],
             Refusal::MessageTooLong { length } => vec![length],
             Refusal::ClockBack { clock } => vec![clock],
-            Refusal::VarintShort
-            | Refusal::VarintOverflow
-            | Refusal::VarintNotMinimal
+            Refusal::VarintShort { .. }
+            | Refusal::VarintOverflow { .. }
+            | Refusal::VarintNotMinimal { .. }
             | Refusal::MissingFrom
             | Refusal::InvalidSeqno
             | Refusal::KeyWithoutSignature
@@ -215,15 +252,15 @@ impl fmt::Display for Refusal {
     fn fmt(&self, f: &mut fmt::Formatter<'_>) -> fmt::Result {
         write!(f, "refused {}: ", self.number())?;
         match *self {
-            Refusal::VarintShort => write!(f, "a varint is cut short"),
-            Refusal::VarintOverflow => write!(f, "a varint is above 64 bits"),
-            Refusal::VarintNotMinimal => write!(f, "a varint is longer than it needs to be"),
-            Refusal::FieldOverflow { offset, length, remaining } => {
-                write!(f, "a field of {length} bytes at {offset} passes the end: {remaining} remain")
+            Refusal::VarintShort { place } => write!(f, "a varint is cut short, at {place}"),
+            Refusal::VarintOverflow { place } => write!(f, "a varint is above 64 bits, at {place}"),
+            Refusal::VarintNotMinimal { place } => write!(f, "a varint is longer than it needs to be, at {place}"),
+            Refusal::FieldOverflow { length, remaining, place, .. } => {
+                write!(f, "a field of {length} bytes passes the end, {remaining} remain, at {place}")
             }
-            Refusal::WireType { wire_type, offset } => write!(f, "wire type {wire_type} before {offset}"),
-            Refusal::FieldNumber { number, offset } => write!(f, "field number {number} at {offset}"),
-            Refusal::Utf8 { offset } => write!(f, "the topic at {offset} is not UTF-8"),
+            Refusal::WireType { wire_type, place, .. } => write!(f, "wire type {wire_type}, in the tag that ends at {place}"),
+            Refusal::FieldNumber { number, place, .. } => write!(f, "field number {number}, at {place}"),
+            Refusal::Utf8 { place, .. } => write!(f, "a topic is not UTF-8: its length stands at {place}"),
             Refusal::BodyTooLarge { length } => write!(f, "a body of {length} bytes, above 65,536"),
             Refusal::TooManyRecords { records } => write!(f, "a body of {records} records, above 512"),
             Refusal::Room { needed } => write!(f, "the buffer is too short: {needed} are needed"),
@@ -252,19 +289,50 @@ impl Error for Refusal {}
 mod tests {
     use super::*;
 
+    /// Values as a call leaves them: four, then a place.
+    const GIVEN: [u64; VALUES] = [11, 12, 13, 14, 8, 3, 4, 2];
+
     #[test]
     fn numbers_stay() {
         for number in Refusal::NUMBERS {
-            let refusal = Refusal::from_call(number, &[11, 12, 13, 14]);
+            let refusal = Refusal::from_call(number, &GIVEN);
             assert_eq!(refusal.number(), number);
             assert!(refusal.to_string().starts_with(&format!("refused {number}: ")));
         }
     }
 
+    /// What is wrong with a body's bytes has a place, and says it; nothing else does, whatever stands in the values.
+    #[test]
+    fn places() {
+        for number in Refusal::NUMBERS {
+            let refusal = Refusal::from_call(number, &GIVEN);
+            let placed = (number <= 7).then(|| Place::new(8, &[3, 4, 2]));
+            assert_eq!(refusal.place(), placed);
+            assert_eq!(refusal.to_string().ends_with(" at byte 8 of the body, in control, prune, peer"), placed.is_some());
+            assert_eq!(refusal.to_string().contains(" byte "), placed.is_some());
+            let plain = Refusal::from_call(number, &[11, 12, 13, 14, 0, 0, 0, 0]);
+            assert_eq!(plain.to_string().ends_with(" at byte 0 of the body"), placed.is_some());
+            assert_eq!((plain.number(), plain.values(), plain == refusal), (number, refusal.values(), placed.is_none()));
+        }
+    }
+
+    #[test]
+    fn words_with_a_place() {
+        let words = |number, values: [u64; 4]| {
+            let [a, b, c, d] = values;
+            Refusal::from_call(number, &[a, b, c, d, 6, 3, 4, 0]).to_string()
+        };
+        assert_eq!(words(1, [0; 4]), "refused 1: a varint is cut short, at byte 6 of the body, in control, prune");
+        assert_eq!(words(4, [2, 5, 0, 0]), "refused 4: a field of 5 bytes passes the end, 0 remain, at byte 6 of the body, in control, prune");
+        assert_eq!(words(5, [3, 1, 0, 0]), "refused 5: wire type 3, in the tag that ends at byte 6 of the body, in control, prune");
+        assert_eq!(words(6, [0; 4]), "refused 6: field number 0, at byte 6 of the body, in control, prune");
+        assert_eq!(words(7, [1, 0, 0, 0]), "refused 7: a topic is not UTF-8: its length stands at byte 6 of the body, in control, prune");
+    }
+
     #[test]
     fn values_stand_in_order() {
         for number in Refusal::NUMBERS {
-            let values = Refusal::from_call(number, &[11, 12, 13, 14]).values();
+            let values = Refusal::from_call(number, &GIVEN).values();
             let count = match number {
                 4 => 3,
                 5 | 6 => 2,
@@ -275,7 +343,7 @@ mod tests {
         }
     }
 
-    /// The words of refusals without values are those of the C header.
+    /// The words of refusals without values are those of the C header; behind them may stand a place.
     #[test]
     fn words_are_the_headers() {
         let header = include_str!("../../include/pradulins.h");
@@ -283,14 +351,15 @@ mod tests {
             let from = header.find(&start).unwrap_or_else(|| panic!("the header has no `{start}`")) + start.len();
             &header[from..from + header[from..].find(end).unwrap()]
         };
-        for refusal in Refusal::NUMBERS.map(|number| Refusal::from_call(number, &[0; 4])) {
+        for refusal in Refusal::NUMBERS.map(|number| Refusal::from_call(number, &[0; VALUES])) {
             if refusal.values().is_empty() {
                 let number = refusal.number();
                 let name = header.lines().filter_map(|line| line.strip_prefix("#define ")?.split_once(' ')).find(|(name, rest)| {
                     rest.split_whitespace().next() == Some(number.to_string().as_str()) && header.contains(&format!("case {name}: return \""))
                 });
                 let name = name.unwrap_or_else(|| panic!("the header has no refusal {number}")).0;
-                assert_eq!(refusal.to_string(), format!("refused {number}: {}", after(format!("case {name}: return \""), "\"")));
+                let place = refusal.place().map_or(String::new(), |place| format!(", at {place}"));
+                assert_eq!(refusal.to_string(), format!("refused {number}: {}{place}", after(format!("case {name}: return \""), "\"")));
             }
         }
     }
@@ -298,6 +367,6 @@ mod tests {
     #[test]
     #[should_panic(expected = "which is no refusal")]
     fn other_numbers_are_a_fault() {
-        Refusal::from_call(33, &[0; 4]);
+        Refusal::from_call(33, &[0; VALUES]);
     }
 }

@@ -2,7 +2,7 @@
 #![cfg(not(no_archive))]
 
 use pradulins::{decode, message_id, messages, reencode, sign_bytes, walk, walk_from};
-use pradulins::{Admitted, Clock, Gateway, LoadError, Message, Offer, Record, Refusal, Served, Settings, NODE_SIZE};
+use pradulins::{Admitted, Clock, Gateway, LoadError, Message, Offer, Place, Record, Refusal, Served, Settings, NODE_SIZE};
 
 const SETTINGS: Settings = Settings { ttl: 1000, max_seen: 4, history_len: 2, max_messages: 4 };
 
@@ -123,14 +123,78 @@ fn bodies() {
     assert_eq!(reencode(&vec![0; 65537]), Err(Refusal::BodyTooLarge { length: 65537 }));
     assert_eq!(decode(&[0x0a, 0].repeat(513)), Err(Refusal::TooManyRecords { records: 513 }));
     for (bytes, refusal) in [
-        (&[0x80][..], Refusal::VarintShort),
-        (&[0x80, 0], Refusal::VarintNotMinimal),
-        (&[0], Refusal::FieldNumber { number: 0, offset: 0 }),
-        (&[0x0b], Refusal::WireType { wire_type: 3, offset: 1 }),
-        (&[0x0a, 5, 8], Refusal::FieldOverflow { offset: 2, length: 5, remaining: 1 }),
-        (&[0x0a, 3, 0x12, 1, 0xff], Refusal::Utf8 { offset: 1 }),
+        (&[0x80][..], Refusal::VarintShort { place: Place::new(0, &[]) }),
+        (&[0x80, 0], Refusal::VarintNotMinimal { place: Place::new(0, &[]) }),
+        (&[0], Refusal::FieldNumber { number: 0, offset: 0, place: Place::new(0, &[]) }),
+        (&[0x0b], Refusal::WireType { wire_type: 3, offset: 1, place: Place::new(1, &[]) }),
+        (&[0x0a, 5, 8], Refusal::FieldOverflow { offset: 2, length: 5, remaining: 1, place: Place::new(2, &[]) }),
+        (&[0x0a, 3, 0x12, 1, 0xff], Refusal::Utf8 { offset: 1, place: Place::new(3, &[1]) }),
     ] {
         assert_eq!(decode(bytes), Err(refusal));
+    }
+}
+
+/// Where in a body a refusal stands: bodies, the number, the offset and the fields around it; by every call that reads a body.
+#[test]
+fn places() {
+    let long = [&[0x12, 0x80, 1, 0x12, 0x7b][..], &[0; 123], &[0x22, 1, 0xff]].concat();
+    let overflow = [&[0x80; 9][..], &[2]].concat();
+    let rows: [(&[u8], u32, usize, &[u64]); 22] = [
+        (&[0x80], 1, 0, &[]),
+        (&[0x80, 0], 3, 0, &[]),
+        (&overflow, 2, 0, &[]),
+        (&[0], 6, 0, &[]),
+        (&[0x0b], 5, 1, &[]),
+        (&[0x0a, 5, 8], 4, 2, &[]),
+        (&[0x08], 1, 1, &[]),
+        (&[0x0a], 1, 1, &[]),
+        (&[0x09], 4, 1, &[]),
+        (&[0x0a, 0, 0x0b], 5, 3, &[]),
+        (&[0x0a, 1, 0x80, 0x0b], 1, 2, &[1]),
+        (&[0x0a, 1, 0x80, 1], 1, 2, &[1]),
+        (&[0x0a, 1, 8, 0x0a, 0], 1, 3, &[1]),
+        (&[0x0a, 3, 0x12, 1, 0xff], 7, 3, &[1]),
+        (&[0x12, 3, 0x22, 1, 0xff], 7, 3, &[2]),
+        (&long, 7, 129, &[2]),
+        (&[0x1a, 0, 0x1a, 1, 0x80], 1, 4, &[3]),
+        (&[0x1a, 5, 0x0a, 3, 0x0a, 1, 0xff], 7, 5, &[3, 1]),
+        (&[0x1a, 4, 0x22, 2, 0x12, 5], 4, 6, &[3, 4]),
+        (&[0x1a, 6, 0x22, 4, 0x12, 2, 0x0a, 5], 4, 8, &[3, 4, 2]),
+        (&[0x1a, 5, 0x22, 3, 0x12, 1, 0x0b], 5, 7, &[3, 4, 2]),
+        (&[0x1a, 5, 0x22, 3, 0x12, 1, 0], 6, 6, &[3, 4, 2]),
+    ];
+    let mut gateway = Gateway::start(SETTINGS).unwrap();
+    for (bytes, number, offset, fields) in rows {
+        let refusal = decode(bytes).unwrap_err();
+        assert_eq!((refusal.number(), refusal.place()), (number, Some(Place::new(offset, fields))), "{bytes:02x?}");
+        assert!(refusal.to_string().contains(&format!(" at byte {offset} of the body")), "{refusal}");
+        assert_eq!(messages(bytes), Err(refusal));
+        assert_eq!(reencode(bytes), Err(refusal));
+        assert_eq!(sign_bytes(bytes, 0), Err(refusal));
+        assert_eq!(message_id(bytes, 0), Err(refusal));
+        assert_eq!(gateway.admit(bytes, 0, true, 5), Err(refusal));
+        assert_eq!(gateway.ask(bytes), Err(refusal));
+        assert_eq!(gateway.serve(bytes), Err(refusal));
+        assert_eq!(gateway.ask_into(bytes, &mut []), Err(refusal));
+        assert_eq!(gateway.serve_into(bytes, &mut []), Err(refusal));
+        // A walk looks at the body's own fields alone: what a field encloses it does not find.
+        let walked = walk(bytes).find_map(Result::err);
+        if fields.is_empty() {
+            assert_eq!(walked, Some(refusal), "{bytes:02x?}");
+        }
+        assert!(walked.map_or(true, |refusal| refusal.place().is_some_and(|place| place.fields().is_empty())));
+    }
+    // What is no fault of a body's bytes has no place.
+    let x = body(b'A');
+    for refusal in [
+        decode(&vec![0; 65537]).unwrap_err(),
+        decode(&[0x0a, 0].repeat(513)).unwrap_err(),
+        message_id(&x, 1).unwrap_err(),
+        gateway.admit(&x, 0, false, 5).unwrap_err(),
+        gateway.advertise(&[b't'; 1025], 1).unwrap_err(),
+    ] {
+        assert_eq!(refusal.place(), None);
+        assert!(!refusal.to_string().contains("of the body"));
     }
 }
 
@@ -178,14 +242,14 @@ fn messages_with_their_topics() {
         assert!(sign_bytes(&both, message.index).unwrap().windows(2).any(|pair| pair == [1, message.from.unwrap()[0]]));
     }
     assert_eq!(messages(&[]), Ok(vec![]));
-    assert_eq!(messages(&[0x80]), Err(Refusal::VarintShort));
+    assert_eq!(messages(&[0x80]), Err(Refusal::VarintShort { place: Place::new(0, &[]) }));
 }
 
 #[test]
 fn a_walk_ends() {
     let bytes = [0x1a, 0, 0x0a, 2, 8, 1, 0x80];
     let fields: Vec<_> = walk(&bytes).map(|field| field.map(|f| (f.number, f.wire_type, f.bytes, f.end))).collect();
-    assert_eq!(fields, [Ok((3, 2, &[0][..], 2)), Ok((1, 2, &[2, 8, 1][..], 6)), Err(Refusal::VarintShort)]);
+    assert_eq!(fields, [Ok((3, 2, &[0][..], 2)), Ok((1, 2, &[2, 8, 1][..], 6)), Err(Refusal::VarintShort { place: Place::new(6, &[]) })]);
     assert!(walk_from(&bytes, usize::MAX).next().is_none());
 }
 

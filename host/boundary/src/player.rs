@@ -27,6 +27,12 @@ fn refused(refusal: Refusal, full: bool) -> String {
     for value in refusal.values().iter().filter(|_| full) {
         let _ = write!(text, " {value}");
     }
+    if let Some(place) = refusal.place().filter(|_| full) {
+        let _ = write!(text, " at {}", place.offset());
+        for (n, field) in place.fields().iter().enumerate() {
+            let _ = write!(text, "{} {field}", if n == 0 { " in" } else { "" });
+        }
+    }
     text
 }
 

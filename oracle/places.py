@@ -1,0 +1,191 @@
+"""Where in a body a refusal stands: a finder of places that shares nothing with the readers it is held against.
+
+It is written from the encoding of Protocol Buffers and the scope's rules for reading a body. It goes over the bytes once, from the first to
+the last, and cuts nothing: each place is one in the whole body, and the messages that are open at a place are a list, each with its end.
+`find` gives the first refusal 1 to 7 of a body, `find_field` that of a walk's one step, as a Place or None. The numbers and the values beside
+them are the Rust's to say; the comparisons put a place behind the Rust's words by `with_place`, which also holds the two to each other: they
+must have the same number, and the Rust's own offset must be the place, counted from the start of the message that it stands in.
+"""
+
+import collections
+
+# The refusal's number, its place, the numbers of the fields around that, the outermost first, and where the innermost of these messages starts.
+Place = collections.namedtuple("Place", "number offset fields start")
+
+# Which fields of a message are messages, and which one is text; with a length before them, both.
+MESSAGES = {
+    "RPC": {1: "SubOpts", 2: "Message", 3: "Control"},
+    "Control": {1: "IHave", 2: "IWant", 3: "Graft", 4: "Prune"},
+    "Prune": {2: "PeerInfo"},
+}
+TEXT = {"SubOpts": 2, "Message": 4, "IHave": 1, "Graft": 1, "Prune": 1}
+
+SHORT, OVERFLOW, NOT_MINIMAL, PASSES_END, WIRE_TYPE, FIELD_NUMBER, NOT_UTF8 = range(1, 8)
+OF_A_BODY = range(SHORT, NOT_UTF8 + 1)
+VARINT, EIGHT_BYTES, LENGTH, FOUR_BYTES = 0, 1, 2, 5
+LAST_FIELD = 2**29 - 1
+
+# Which of the values beside a refusal is the Rust's own offset.
+OWN_OFFSET = {PASSES_END: 0, WIRE_TYPE: 1, FIELD_NUMBER: 1, NOT_UTF8: 0}
+
+# Every path that a place can have, and those of a text.
+PATHS = [(), (1,), (2,), (3,), (3, 1), (3, 2), (3, 3), (3, 4), (3, 4, 2)]
+TEXT_PATHS = [(1,), (2,), (3, 1), (3, 3), (3, 4)]
+
+
+class Found(Exception):
+    """A refusal, by its number and its place."""
+
+
+# --- the finder ------------------------------------------------------------------
+
+def varint_at(body, at, end):
+    """The number that starts at a place, and where it ends. It may not pass `end`."""
+    some = body[at:min(at + 10, end)]
+    size = next((n for n, byte in enumerate(some, 1) if byte < 0x80), 0)
+    if len(some) == 10 and size in (0, 10) and some[9] > 1:
+        raise Found(OVERFLOW, at)
+    if not size:
+        raise Found(SHORT, at)
+    if size > 1 and not some[size - 1]:
+        raise Found(NOT_MINIMAL, at)
+    return sum((byte & 0x7F) * 128**n for n, byte in enumerate(some[:size])), at + size
+
+
+def field_at(body, at, end):
+    """The field that starts at a place of a message which ends at `end`: (number, wire type, end of its tag, start of what it holds, its end)."""
+    tag, tag_end = varint_at(body, at, end)
+    number, wire = divmod(tag, 8)
+    if number < 1 or number > LAST_FIELD:
+        raise Found(FIELD_NUMBER, at)
+    if wire == VARINT:
+        return number, wire, tag_end, tag_end, varint_at(body, tag_end, end)[1]
+    if wire == LENGTH:
+        size, start = varint_at(body, tag_end, end)
+    elif wire in (EIGHT_BYTES, FOUR_BYTES):
+        size, start = (8 if wire == EIGHT_BYTES else 4), tag_end
+    else:
+        raise Found(WIRE_TYPE, tag_end)
+    if start + size > end:
+        raise Found(PASSES_END, start)
+    return number, wire, tag_end, start, start + size
+
+
+def is_text(data):
+    try:
+        data.decode("utf-8", "strict")
+    except UnicodeDecodeError:
+        return False
+    return True
+
+
+def find(body):
+    """The first refusal in reading order, with the fields around its place, the outermost first; None where there is none."""
+    at, path, around = 0, [], [("RPC", 0, len(body))]
+    try:
+        while around:
+            name, _, end = around[-1]
+            if at == end:
+                around.pop()
+                del path[-1:]
+                continue
+            number, wire, tag_end, start, after = field_at(body, at, end)
+            inner = MESSAGES.get(name, {}).get(number) if wire == LENGTH else None
+            if inner:
+                around.append((inner, start, after))
+                path.append(number)
+                at = start
+                continue
+            if wire == LENGTH and TEXT.get(name) == number and not is_text(body[start:after]):
+                raise Found(NOT_UTF8, tag_end)
+            at = after
+    except Found as found:
+        return Place(*found.args, tuple(path), around[-1][1])
+    return None
+
+
+def find_field(body, at):
+    """The refusal of the top-level field at a place, for a walk: no field encloses it."""
+    try:
+        if at < len(body):
+            field_at(body, at, len(body))
+    except Found as found:
+        return Place(*found.args, (), 0)
+    return None
+
+
+# --- the words of a line -----------------------------------------------------------
+
+def words(place):
+    """How a line ends that tells a place."""
+    return " at %d" % place.offset + "".join(" in" + "".join(" %d" % field for field in fields) for fields in [place.fields] if fields)
+
+
+def agrees(refused, place):
+    """Whether the words of a refusal 1 to 7, as the Rust or a model has them, and a place that was found are of one refusal."""
+    number, *values = map(int, refused.split(" ")[1:])
+    return place is not None and place.number == number and (
+        number not in OWN_OFFSET or place.start + values[OWN_OFFSET[number]] == place.offset)
+
+
+def with_place(refused, found, *given):
+    """The words of a refusal, `refused N ..`, and its place, by `find` or `find_field`; other refusals, and None, stay as they are."""
+    if refused is None or int(refused.split(" ")[1]) not in OF_A_BODY:
+        return refused
+    place = found(*given)
+    assert agrees(refused, place), "%s, and the finder has %s" % (refused, place)
+    return refused + words(place)
+
+
+def parted(line):
+    """A line without its place, and the place's words, "" where there is none."""
+    front, at, rest = line.partition(" at ")
+    return front, at + rest
+
+
+# --- rows --------------------------------------------------------------------------
+
+# Bodies and what is told of each, written by hand: the table of the scope, "Where in a body", and what stands beside it.
+ROWS = [
+    ("80", "refused 1 at 0"),
+    ("8000", "refused 3 at 0"),
+    ("80" * 9 + "02", "refused 2 at 0"),
+    ("00", "refused 6 0 0 at 0"),
+    ("0b", "refused 5 3 1 at 1"),
+    ("0a0508", "refused 4 2 5 1 at 2"),
+    ("08", "refused 1 at 1"),
+    ("0a", "refused 1 at 1"),
+    ("09", "refused 4 1 8 0 at 1"),
+    ("0a000b", "refused 5 3 3 at 3"),
+    ("0a01800b", "refused 1 at 2 in 1"),
+    ("0a01080a00", "refused 1 at 3 in 1"),
+    ("0a031201ff", "refused 7 1 at 3 in 1"),
+    ("12032201ff", "refused 7 1 at 3 in 2"),
+    ("128001127b" + "00" * 123 + "2201ff", "refused 7 126 at 129 in 2"),
+    ("1a001a0180", "refused 1 at 4 in 3"),
+    ("1a050a030a01ff", "refused 7 1 at 5 in 3 1"),
+    ("1a0422021205", "refused 4 2 5 0 at 6 in 3 4"),
+    ("1a06220412020a05", "refused 4 2 5 0 at 8 in 3 4 2"),
+    ("1a05220312010b", "refused 5 3 1 at 7 in 3 4 2"),
+    ("1a052203120100", "refused 6 0 0 at 6 in 3 4 2"),
+]
+
+# More of them: each path with other refusals, a varint of no bytes where another field begins, a field of another type that is not entered, a
+# length that passes the end of what encloses it.
+MORE_ROWS = [
+    ("0a018001", "refused 1 at 2 in 1"),
+    ("1a0212051a00", "refused 4 2 5 0 at 4 in 3"),
+    ("1a031201800a00", "refused 1 at 4 in 3 2"),
+    ("1a061a040a02c080", "refused 7 1 at 5 in 3 3"),
+    ("1a0622040a02c080", "refused 7 1 at 5 in 3 4"),
+    ("1a0522031a01800a00", None),
+    ("1a0412020d00", "refused 4 1 4 1 at 5 in 3 2"),
+    ("1a0c0a0a" + "80" * 9 + "02", "refused 2 at 4 in 3 1"),
+    ("1a0722051203" + "0a8000", "refused 3 at 7 in 3 4 2"),
+    ("1a001a030a0180", "refused 1 at 6 in 3 1"),
+    ("12000a0012020a0912", "refused 4 2 9 0 at 8 in 2"),
+    ("18001a04220218800a00", "refused 1 at 7 in 3 4"),
+    ("1a0212001a041a020c00", "refused 5 4 1 at 9 in 3 3"),
+    ("0a06" + "8080808010" + "00", "refused 6 536870912 0 at 2 in 1"),
+    ("1a020a00" * 3 + "00", "refused 6 0 12 at 12"),
+]
