@@ -11,7 +11,7 @@ ghost use lib.Dec.{leb};
 ghost use Rattle.basis.specs.Writing.{endIn, setIn};
 ghost use Rattle.basis.specs.Little.{little, bytesOf};
 ghost use Rattle.basis.specs.Told.{told, placed};
-ghost use Rattle.basis.specs.Spot.{at, inside, Reaches};
+ghost use Rattle.basis.specs.Spot.{at};
 ghost use Rattle.basis.specs.Unique.{Leaves};
 
 // Where in a body a refusal stands: how many bytes after the body's start, and the numbers of the fields that enclose it, the outermost first, 0
@@ -36,27 +36,6 @@ impl Spot {
             outer: 0,
             middle: 0,
             inner: 0,
-        }
-    }
-
-    // The same place in what encloses it: in a field of that number, whose bytes stand from start.
-    pub fn inside(self, field: u64, start: usize) -> Spot
-        requires { ⌜ Reaches start self ⌝ }
-        ensures { λ r. ⌜ r ≡ inside field start self ⌝ }
-    {
-        match self {
-            Spot::Nowhere => Spot::Nowhere,
-            Spot::At {
-                offset,
-                outer,
-                middle,
-                inner: _,
-            } => Spot::At {
-                offset: start + offset,
-                outer: field,
-                middle: outer,
-                inner: middle,
-            },
         }
     }
 }

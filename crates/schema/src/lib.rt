@@ -6,6 +6,7 @@ ghost use lib.ListN.{length};
 ghost use Rattle.schema.specs.Schema.{table, rowOf, isVarint, roleOf, formedAs, heldOf, ownOf};
 ghost use Rattle.schema.specs.Accept.{bodyRecords, acceptOf};
 ghost use Rattle.schema.specs.Count.{FieldWithin, counted, fieldCount, textCount};
+ghost use Rattle.basis.specs.Spot.{inside, Reaches};
 ghost use Rattle.schema.specs.Spots.{textSpot, fieldSpot, spotIn};
 ghost use Rattle.schema.specs.Slots.{setPlace, placeOf, withField, slotsOf, hasField};
 ghost use Rattle.schema.specs.Made.{placeFrom, numberFrom, madeFrom, indexOf, Sixes};
@@ -404,6 +405,27 @@ fn spot_text(input: &[u8], f: Field) -> Spot
     Spot::at(f.tag_end)
 }
 
+// A place in a submessage, as it stands in the message that encloses it: in a field of that number, whose bytes stand from start.
+fn enclose(spot: Spot, field: u64, start: usize) -> Spot
+    requires { ⌜ Reaches start spot ⌝ }
+    ensures { λ r. ⌜ r ≡ inside field start spot ⌝ }
+{
+    match spot {
+        Spot::Nowhere => Spot::Nowhere,
+        Spot::At {
+            offset,
+            outer,
+            middle,
+            inner: _,
+        } => Spot::At {
+            offset: start + offset,
+            outer: field,
+            middle: outer,
+            inner: middle,
+        },
+    }
+}
+
 // Where a field of a message is refused.
 fn spot_field(input: &[u8], kind: Kind, f: Field) -> Spot
     requires { ⌜ FieldWithin (now input) f ⌝ }
@@ -421,7 +443,7 @@ fn spot_field(input: &[u8], kind: Kind, f: Field) -> Spot
             let start = f.start;
             let next = f.next;
             let spot = spot_in(&input[start..next], k);
-            spot.inside(f.field, start)
+            enclose(spot, f.field, start)
         }
         Role::Unsigned(_) => Spot::Nowhere,
     }

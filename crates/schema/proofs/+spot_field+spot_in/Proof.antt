@@ -21,7 +21,7 @@ use Rattle.schema.proofs.+spot_field+spot_in.Lts-spot_field as spot-fie
 use Rattle.schema.proofs.spot_in.Reads as spot-in
 use Rattle.schema.proofs.spot_in.Kinds as spot-in-kinds
 use Rattle.schema.proofs.+spot_field+spot_in.Lts-spot_in as spot-in-lts
-use Rattle.basis.proofs.Spot.inside.Reads as inside-reads
+use Rattle.schema.proofs.enclose.Reads as enclose-reads
 use Rattle.protobuf.proofs.read_field.Reads as read-field-reads
 use Rattle.protobuf.proofs.spot_of.Reads as spot-of-reads
 use Rattle.schema.proofs.role_of.Reads as role-of-reads
@@ -57,8 +57,8 @@ spot-field-claims t = (
   spot-text-reads.Learnt,
   spot-in-below t,
   spot-in.Post,
-  inside-reads.Asked,
-  inside-reads.Learnt,
+  enclose-reads.Asked,
+  enclose-reads.Learnt,
 )
 
 abbrev spot-in-claims : ℕ → spot-in-lts.Claims
@@ -111,8 +111,8 @@ spot-field-spot-in-requires t c κs =
     let r = sub-rank (a .kind) _ _ _ _ e in
     (omega (arith, c .before .before .before .before .before .before .pre .0), tt)
 
-spot-field-inside-requires : (t : ℕ) → spot-field-lts.Need-inside-requires (spot-field-claims t) (spot-field-at t) spot-field.Post
-spot-field-inside-requires t c κs =
+spot-field-enclose-requires : (t : ℕ) → spot-field-lts.Need-enclose-requires (spot-field-claims t) (spot-field-at t) spot-field.Post
+spot-field-enclose-requires t c κs =
     let b = c .before .before .before .before .before .before .before in
     let a = b .args in
     let s = a .input .now in
@@ -152,7 +152,7 @@ spot-field-returns-7 : (t : ℕ) → spot-field-lts.Need-returns-7 (spot-field-c
 unfolding fieldSpot
 spot-field-returns-7 t c =
     let b = c .before .before .before .before in
-    simp (sym (b .before .before .role-of .ensures) ∙ b .role .given .1) (c .inside .ensures ∙ ap (inside _ _) (c .before .spot-in .ensures))
+    simp (sym (b .before .before .role-of .ensures) ∙ b .role .given .1) (c .enclose .ensures ∙ ap (inside _ _) (c .before .spot-in .ensures))
 
 spot-field-returns-8 : (t : ℕ) → spot-field-lts.Need-returns-8 (spot-field-claims t) (spot-field-at t) spot-field.Post
 unfolding fieldSpot
@@ -260,7 +260,7 @@ pub +spot-field+spot-in-spec : {M : Type 1} → statement M
     (spot-field-part-spot-in-start t)
     (spot-field-part-spot-in-end t)
     (spot-field-spot-in-requires t)
-    (spot-field-inside-requires t)
+    (spot-field-enclose-requires t)
     (spot-field-enum-told-7 t)
     (spot-field-returns t)
     (spot-field-returns-2 t)
