@@ -1,14 +1,15 @@
--- Which numbers a refusal can have, 1 to 11; which of them reading a field can give, 1 to 6; and that their place lies
--- within the bytes that are read.
+-- What a refusal with a place tells; which numbers a refusal can have, 1 to 11; which of them reading a field can give,
+-- 1 to 6; and that their place lies within the bytes that are read.
 use Prim.Native.Nat.{ℕ, _+_, _-_, _/_, _≤_, _<_}
 use mathlib.Core.Path.{_≡_, refl}
-use mathlib.Core.List.{List}
+use mathlib.Core.List.{List, [], _∷_}
 use native.Mathlib.Omega.{arith}
 use lib.ListN.{length, drop}
 use lib.Dec.{ltb, leb, eqb}
 use borrow.Author.Tests.{leb-false}
 use Rattle.basis.specs.Cases.{either, clash}
 use Rattle.basis.specs.Spot.{Within}
+use Rattle.basis.specs.Told.{valuesOf}
 use Rattle.peer_id.specs.declared.VarintError.{VarintError}
 use Rattle.peer_id.specs.declared.VarintError.the-variants.{BufferTooShort, Overflow, NonCanonical}
 use Rattle.peer_id.specs.declared.Uvarint.{Uvarint}
@@ -19,6 +20,7 @@ use Rattle.peer_id.specs.Told.{varintTold}
 use Rattle.protobuf.specs.declared.WireError.{WireError}
 use Rattle.protobuf.specs.declared.WireError.the-variants.{Varint, FieldOverflow, UnsupportedWireType}
 use Rattle.protobuf.specs.declared.WireError.the-variants.{InvalidFieldNumber, InvalidUtf8, TooLarge, TooManyRecords}
+use Rattle.protobuf.specs.declared.Refusal.{Refusal}
 use Rattle.protobuf.specs.declared.Tag.{Tag}
 use Rattle.protobuf.specs.declared.Tag.the-variants as tag
 use Rattle.protobuf.specs.declared.Part.{Part}
@@ -29,10 +31,26 @@ use Rattle.protobuf.specs.declared.Skip.{Skip}
 use Rattle.protobuf.specs.declared.Skip.the-variants as skip
 use Rattle.protobuf.specs.declared.Step.the-variants as step
 use Rattle.protobuf.specs.Refusal.{spotOf}
-use Rattle.protobuf.specs.Told.{refusalNumber}
+use Rattle.protobuf.specs.Told.{refusalNumber, refusalValues, refusalTold}
 use Rattle.protobuf.specs.Laws.{tag-moves}
 use Rattle.protobuf.specs.Field.{after, tagOf, readTag, partOf, readLen, readVarint, skipFixed, pastValue}
 use Rattle.protobuf.specs.Field.{pastPart, skipField, ofValue, ofPart, ofSkip, readValue, ofTag, readField}
+
+-- what is told of a refusal: its reason's number and values, whatever its place, and the place
+pub told-beside : (r : Refusal) → (refusalTold r .number ≡ refusalNumber (r .why))
+    × (valuesOf (refusalTold r) ≡ refusalValues (r .why)) × (refusalTold r .spot ≡ r .spot)
+told-beside r = (refl, refl, refl)
+
+-- the values of 1 to 7, as they were before there were places
+pub values-same : (error : VarintError) (offset size remaining type field : ℕ)
+    → (refusalValues (Varint error offset) ≡ [])
+    × (refusalValues (FieldOverflow offset size remaining) ≡ offset ∷ size ∷ remaining ∷ [])
+    × (refusalValues (UnsupportedWireType type offset) ≡ type ∷ offset ∷ [])
+    × (refusalValues (InvalidFieldNumber field offset) ≡ field ∷ offset ∷ [])
+    × (refusalValues (InvalidUtf8 offset) ≡ offset ∷ [])
+values-same BufferTooShort offset size remaining type field = (refl, refl, refl, refl, refl)
+values-same Overflow offset size remaining type field = (refl, refl, refl, refl, refl)
+values-same NonCanonical offset size remaining type field = (refl, refl, refl, refl, refl)
 
 pub wire-range : (why : WireError) → (0 < refusalNumber why) × (refusalNumber why ≤ 11)
 wire-range (Varint BufferTooShort offset) = (omega arith, omega arith)
