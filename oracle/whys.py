@@ -44,11 +44,14 @@ class Run(nodes.Run):
         return len(step[1]) < NODE_SIZE if step[0] == "gateway" else super().ends_at(step)
 
     def played(self, call, *given):
-        if call == "why":
-            return self.node.explain(*given)
         if call == "gateway":
             self.node = states.from_bytes(*given).lent()
             return "ok"
+        # A saved node may have a lower ttl than its ids were taken with: then an id that is taken is over before those that are held.
+        if call != "set" and any(older[1] > newer[1] for older, newer in zip(self.node.seen, self.node.seen[1:])):
+            raise nodes.Refused(42)
+        if call == "why":
+            return self.node.explain(*given)
         return super().played(call, *given)
 
 
