@@ -65,6 +65,10 @@ missing-from = 21
 abbrev pub invalid-from : ℕ
 invalid-from = 22
 
+-- from not a peer id; nothing
+abbrev pub not-peer-id : ℕ
+not-peer-id = 34
+
 -- seqno missing, 0 or above 64 bytes; nothing
 abbrev pub invalid-seqno : ℕ
 invalid-seqno = 23
@@ -80,6 +84,14 @@ missing-signature = 25
 -- signature not 64 bytes; its length
 abbrev pub invalid-signature-length : ℕ
 invalid-signature-length = 26
+
+-- a present key that does not decode; nothing
+abbrev pub invalid-key : ℕ
+invalid-key = 35
+
+-- key and from differ, or no key to be had; nothing
+abbrev pub key-mismatch : ℕ
+key-mismatch = 36
 
 -- host did not verify; nothing
 abbrev pub signature-invalid : ℕ

@@ -47,6 +47,9 @@ pub const MISSING_FROM: u8 = 21;
 // From of 0 or above 64 bytes; its length.
 pub const INVALID_FROM: u8 = 22;
 
+// From not a peer id; nothing.
+pub const NOT_PEER_ID: u8 = 34;
+
 // Seqno missing, 0 or above 64 bytes; nothing.
 pub const INVALID_SEQNO: u8 = 23;
 
@@ -58,6 +61,12 @@ pub const MISSING_SIGNATURE: u8 = 25;
 
 // Signature not 64 bytes; its length.
 pub const INVALID_SIGNATURE_LENGTH: u8 = 26;
+
+// A present key that does not decode; nothing.
+pub const INVALID_KEY: u8 = 35;
+
+// Key and from differ, or no key to be had; nothing.
+pub const KEY_MISMATCH: u8 = 36;
 
 // Host did not verify; nothing.
 pub const SIGNATURE_INVALID: u8 = 27;

@@ -1,4 +1,4 @@
-// Unsigned varints, from peer_id.rs: groups of seven bits, the low group first.
+// Unsigned varints, from peer_id.rs: groups of seven bits, the low group first. And which bytes are a peer id.
 pub mod told;
 
 ghost use mathlib.Core.Path.{_≡_};
@@ -8,6 +8,7 @@ ghost use lib.Seq.{sets};
 ghost use Rattle.basis.specs.Writing.{answer, written, endIn, setIn};
 ghost use Rattle.basis.specs.Unique.{Leaves};
 ghost use Rattle.peer_id.specs.Uvarint.{uvarint, groupOf, readUvarint};
+ghost use Rattle.peer_id.specs.PeerId.{hashOf, fromBytes};
 use basis::Written;
 use basis::has_room;
 
@@ -137,4 +138,63 @@ pub fn write_uvarint(value: u64, out: &mut [u8]) -> Written
     }
     let end = spell_uvarint(value, out, 0);
     Written::Bytes(end)
+}
+
+// The multihash codes of a peer id, the digest inline or hashed.
+pub const IDENTITY_MULTIHASH_CODE: u8 = 0x00;
+
+pub const SHA256_MULTIHASH_CODE: u8 = 0x12;
+
+// The longest key that is inlined.
+pub const MAX_INLINE_KEY_LENGTH: usize = 42;
+
+pub const SHA256_LENGTH: usize = 32;
+
+// How many bytes stand before the digest: code and size are below 128, a byte each.
+pub const DIGEST_START: usize = 2;
+
+// What bytes are as a peer id: an identity or a SHA-256 multihash, whose digest is all that stands behind the first two bytes; or none.
+pub enum PeerId {
+    Identity,
+    Sha256,
+    NotPeerId,
+}
+
+// A byte as a length.
+fn wide(b: u8) -> usize
+    ensures { λ r. ⌜ r ≡ b ⌝ }
+{
+    b as usize
+}
+
+// Which peer id a multihash of this code is, with a digest of so many bytes.
+fn hash_of(code: u8, size: usize) -> PeerId
+    ensures { λ r. ⌜ r ≡ hashOf code size ⌝ }
+{
+    if code == IDENTITY_MULTIHASH_CODE {
+        if MAX_INLINE_KEY_LENGTH < size {
+            return PeerId::NotPeerId;
+        }
+        return PeerId::Identity;
+    }
+    if code == SHA256_MULTIHASH_CODE {
+        if size == SHA256_LENGTH {
+            return PeerId::Sha256;
+        }
+    }
+    PeerId::NotPeerId
+}
+
+// Which peer id some bytes are.
+pub fn from_bytes(multihash: &[u8]) -> PeerId
+    ensures { λ r. ⌜ r ≡ fromBytes (now (multihash .entry)) ⌝ }
+{
+    if multihash.len() < DIGEST_START {
+        return PeerId::NotPeerId;
+    }
+    let size = wide(multihash[1]);
+    if size != multihash.len() - DIGEST_START {
+        return PeerId::NotPeerId;
+    }
+    hash_of(multihash[0], size)
 }
