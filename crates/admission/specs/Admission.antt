@@ -1,4 +1,5 @@
--- Which messages may be taken, from the scope's table: 21 to 30 in their order. p is the message's own bytes.
+-- Which messages may be taken, from the scope's table: 21 to 30 in its order, with 34 after 22, and 35 and 36 after 26.
+-- p is the message's own bytes. Fit says from the documents which messages are fit.
 use Prim.Native.Nat.{ℕ, _-_}
 use mathlib.Core.Path.{_≡_}
 use mathlib.Core.List.{List, [], _∷_, map}
@@ -8,8 +9,14 @@ use lib.Seq.{sets}
 use lib.Dec.{ltb, eqb}
 use Rattle.rows.specs.Rows.{tab}
 use Rattle.rows.specs.Ids.{sameBytes}
+use Rattle.peer_id.specs.declared.PeerId.{PeerId}
+use Rattle.peer_id.specs.declared.PeerId.the-variants as peer
+use Rattle.peer_id.specs.PeerId.{fromBytes, digestOf}
+use Rattle.key.specs.declared.PublicKey.{PublicKey}
+use Rattle.key.specs.declared.PublicKey.the-variants as key
+use Rattle.key.specs.Decode.{decodeProtobuf}
 use Rattle.protobuf.specs.declared.Field.{Field}
-use Rattle.protobuf.specs.Walk.{Fields, end, refused, _then_, fieldsOf, isBytes, valueIn}
+use Rattle.protobuf.specs.Walk.{Fields, end, refused, _then_, fieldsOf, isBytes, valueIn, between}
 use Rattle.schema.specs.declared.Kind.the-variants as kind
 use Rattle.schema.specs.declared.Counted.{Counted}
 use Rattle.schema.specs.declared.Counted.the-variants as count
@@ -26,6 +33,7 @@ use Rattle.admission.specs.declared.Unfit.the-variants.{MissingFrom, Inv
 use Rattle.admission.specs.declared.Unfit.the-variants.{KeyWithoutSignature, MissingSignature}
 use Rattle.admission.specs.declared.Unfit.the-variants.{InvalidSignatureLength, SignatureInvalid, TopicCount}
 use Rattle.admission.specs.declared.Unfit.the-variants.{TopicTooLong, MessageTooLong}
+use Rattle.admission.specs.declared.Unfit.the-variants.{NotPeerId, InvalidKey, KeyPeerIdMismatch}
 use Rattle.admission.specs.declared.Admission.{Admission}
 use Rattle.admission.specs.declared.Admission.the-variants as admission
 
@@ -109,20 +117,65 @@ abbrev pub onWord : Bool → Admission → Admission
 onWord true r = r
 onWord false r = admission.Unfit SignatureInvalid
 
+-- ---- 35, 36: the key. s is the sender's own bytes
+-- some bytes are a key
+abbrev pub isRead : PublicKey → Bool
+isRead (key.Key t start) = true
+isRead (key.Refused why) = false
+
+unfoldable pub isKey : List ℕ → Bool
+isKey k = isRead (decodeProtobuf k)
+
+-- one thing of an identity, another of a SHA-256 multihash
+abbrev pub byHash : PeerId → Bool → Bool → Bool
+byHash peer.Identity x y = x
+byHash peer.Sha256 x y = y
+byHash peer.NotPeerId x y = false
+
+-- a key that is there may be the sender's: an identity's digest is the key itself; that a key has this SHA-256 stays in
+-- the host's word
+unfoldable pub keyMatches : List ℕ → List ℕ → Bool
+keyMatches s k = byHash (fromBytes s) (sameBytes (digestOf s) k) true
+
+-- where none is there, the sender has one in itself: an identity's digest, if it is a key
+unfoldable pub keyInside : List ℕ → Bool
+keyInside s = byHash (fromBytes s) (isKey (digestOf s)) false
+
+abbrev pub onKey : List ℕ → List ℕ → Place → Admission → Admission
+onKey p s place.Absent r = cond (keyInside s) r (admission.Unfit KeyPeerIdMismatch)
+onKey p s (place.Present a e) r =
+    cond (isKey (between p a e)) (cond (keyMatches s (between p a e)) r (admission.Unfit KeyPeerIdMismatch))
+    (admission.Unfit InvalidKey)
+
 -- ---- 24, 25, 26: no signature, with a key or without, or one that is not 64 bytes
 abbrev pub onSignature : Place → Place → Admission → Admission
 onSignature place.Absent place.Absent r = admission.Unfit MissingSignature
 onSignature place.Absent (place.Present a e) r = admission.Unfit KeyWithoutSignature
 onSignature (place.Present a e) key r = cond (eqb (e - a) 64) r (admission.Unfit (InvalidSignatureLength (e - a)))
 
+-- ---- 34
+abbrev pub onPeer : PeerId → Admission → Admission
+onPeer peer.Identity r = r
+onPeer peer.Sha256 r = r
+onPeer peer.NotPeerId r = admission.Unfit NotPeerId
+
+-- the bytes in a place of a message, and its sender
+abbrev pub bytesAt : List ℕ → Place → List ℕ
+bytesAt p place.Absent = []
+bytesAt p (place.Present a e) = between p a e
+
+abbrev pub senderOf : List ℕ → List ℕ
+senderOf p = bytesAt p (slotsOf kind.RawMessage p .first)
+
 -- ---- 21, 22, 23
 abbrev pub onId : List ℕ → Bool → MessageId → Admission
 onId p word id.MissingFrom = admission.Unfit MissingFrom
 onId p word (id.InvalidFrom n) = admission.Unfit (InvalidFrom n)
-onId p word id.InvalidSeqno = admission.Unfit InvalidSeqno
+onId p word id.InvalidSeqno = onPeer (fromBytes (senderOf p)) (admission.Unfit InvalidSeqno)
 onId p word (id.Parts a e b f) =
-    onSignature (slotsOf kind.RawMessage p .fourth) (slotsOf kind.RawMessage p .fifth)
-    (onWord word (onLimits p (admission.Fit a e b f)))
+    onPeer (fromBytes (senderOf p))
+    (onSignature (slotsOf kind.RawMessage p .fourth) (slotsOf kind.RawMessage p .fifth)
+    (onKey p (senderOf p) (slotsOf kind.RawMessage p .fifth) (onWord word (onLimits p (admission.Fit a e b f)))))
 
 unfoldable pub admissionOf : List ℕ → Bool → Admission
 admissionOf p word = onId p word (idParts p)

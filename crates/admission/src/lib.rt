@@ -9,9 +9,16 @@ ghost use lib.ListN.{length, set};
 ghost use Rattle.protobuf.specs.Walk.{isBytes};
 ghost use Rattle.rows.specs.Ids.{sameBytes};
 ghost use Rattle.ids.specs.Ids.{idBytes};
-ghost use Rattle.admission.specs.Admission.{spansIn, sameSpans, topicsIn, FindsTopics, longAfter, onSignature, onWord, onLimits, admissionOf, idGiven, keptWith};
+ghost use Rattle.peer_id.specs.PeerId.{fromBytes};
+ghost use Rattle.schema.specs.SlotsLaws.{PlaceInside};
+ghost use Rattle.admission.specs.Admission.{spansIn, sameSpans, topicsIn, FindsTopics, longAfter, isKey, keyMatches, keyInside, onKey, onSignature, onWord, onLimits, bytesAt, admissionOf, idGiven, keptWith};
 use ids::MessageId;
 use ids::id_of;
+use key::PublicKey;
+use key::decode_protobuf;
+use peer_id::DIGEST_START;
+use peer_id::PeerId;
+use peer_id::from_bytes;
 use protobuf::Field;
 use protobuf::Step;
 use protobuf::WIRE_LEN;
@@ -32,14 +39,17 @@ pub const MAX_TOPIC_SIZE: usize = 1024;
 
 pub const MAX_MESSAGE_SIZE: usize = 4096;
 
-// Why a message is not taken: 21 to 30 of the scope's table, under verify's names where it has them.
+// Why a message is not taken: 21 to 30 and 34 to 36 of the scope's table, in its order, under verify's names where it has them.
 pub enum Unfit {
     MissingFrom,
     InvalidFrom(usize),
+    NotPeerId,
     InvalidSeqno,
     KeyWithoutSignature,
     MissingSignature,
     InvalidSignatureLength(usize),
+    InvalidKey,
+    KeyPeerIdMismatch,
     SignatureInvalid,
     TopicCount(usize),
     TopicTooLong(usize),
@@ -159,17 +169,88 @@ fn limits(part: &[u8], t: Topics, fit: Admission) -> Admission
     fit
 }
 
-// 24 or 25, 26, 27, and then the limits.
+// Whether some bytes are a public key.
+fn is_key(bytes: &[u8]) -> bool
+    ensures { λ r. ⌜ r ≡ isKey (now (bytes .entry)) ⌝ }
+{
+    let key = decode_protobuf(bytes);
+    match key {
+        PublicKey::Key { .. } => true,
+        PublicKey::Refused(_) => false,
+    }
+}
+
+// Whether a key may be the sender's: an identity's digest is the key itself, and of a SHA-256 multihash the host's word says it.
+fn key_matches(sender: &[u8], key: &[u8]) -> bool
+    ensures { λ r. ⌜ r ≡ keyMatches (now (sender .entry)) (now (key .entry)) ⌝ }
+{
+    let peer = from_bytes(sender);
+    match peer {
+        PeerId::Identity => same(&sender[DIGEST_START..], key),
+        PeerId::Sha256 => true,
+        PeerId::NotPeerId => false,
+    }
+}
+
+// Whether a sender has its key in itself: an identity's digest that is a key.
+fn key_inside(sender: &[u8]) -> bool
+    ensures { λ r. ⌜ r ≡ keyInside (now (sender .entry)) ⌝ }
+{
+    let peer = from_bytes(sender);
+    match peer {
+        PeerId::Identity => is_key(&sender[DIGEST_START..]),
+        PeerId::Sha256 => false,
+        PeerId::NotPeerId => false,
+    }
+}
+
+// 35, 36, 27, and then the limits.
+fn keyed(
+    part: &[u8],
+    t: Topics,
+    sender: &[u8],
+    key: Place,
+    verified: bool,
+    fit: Admission,
+) -> Admission
+    requires { ⌜ t ≡ topicsIn (now part) ⌝ }
+    requires { ⌜ PlaceInside (now part) key ⌝ }
+    ensures { λ r. ⌜ r ≡ onKey (now (part .entry)) (now (sender .entry)) key (onWord verified (onLimits (now (part .entry)) fit)) ⌝ }
+{
+    match key {
+        Place::Absent => {
+            if !key_inside(sender) {
+                return Admission::Unfit(Unfit::KeyPeerIdMismatch);
+            }
+        }
+        Place::Present { start: a, end: e } => {
+            if !is_key(&part[a..e]) {
+                return Admission::Unfit(Unfit::InvalidKey);
+            }
+            if !key_matches(sender, &part[a..e]) {
+                return Admission::Unfit(Unfit::KeyPeerIdMismatch);
+            }
+        }
+    }
+    if !verified {
+        return Admission::Unfit(Unfit::SignatureInvalid);
+    }
+    limits(part, t, fit)
+}
+
+// 24 or 25, 26, and then the key.
 fn signed(
     part: &[u8],
     t: Topics,
+    sender: &[u8],
     signature: Place,
     key: Place,
     verified: bool,
     fit: Admission,
 ) -> Admission
     requires { ⌜ t ≡ topicsIn (now part) ⌝ }
-    ensures { λ r. ⌜ r ≡ onSignature signature key (onWord verified (onLimits (now (part .entry)) fit)) ⌝ }
+    requires { ⌜ PlaceInside (now part) key ⌝ }
+    ensures { λ r. ⌜ r ≡ onSignature signature key (onKey (now (part .entry)) (now (sender .entry)) key (onWord verified (onLimits (now (part .entry)) fit))) ⌝ }
 {
     let Place::Present { start: a, end: e } = signature else {
         if let Place::Absent = key {
@@ -181,13 +262,21 @@ fn signed(
     if len != SIGNATURE_LEN {
         return Admission::Unfit(Unfit::InvalidSignatureLength(len));
     }
-    if !verified {
-        return Admission::Unfit(Unfit::SignatureInvalid);
-    }
-    limits(part, t, fit)
+    keyed(part, t, sender, key, verified, fit)
 }
 
-// Whether a message with these topics may be taken, given the host's word on its signature: 21 to 30, in their order.
+// 34: which peer id the sender is.
+fn peer_of(part: &[u8], from: Place) -> PeerId
+    requires { ⌜ PlaceInside (now part) from ⌝ }
+    ensures { λ r. ⌜ r ≡ fromBytes (bytesAt (now (part .entry)) from) ⌝ }
+{
+    let Place::Present { start: a, end: e } = from else {
+        return from_bytes(b"");
+    };
+    from_bytes(&part[a..e])
+}
+
+// Whether a message with these topics may be taken, given the host's word on its signature: 21 to 30, 34, 35, 36, in the table's order.
 fn weigh(part: &[u8], t: Topics, verified: bool) -> Admission
     requires { ⌜ t ≡ topicsIn (now part) ⌝ }
     ensures { λ r. ⌜ r ≡ admissionOf (now (part .entry)) verified ⌝ }
@@ -201,20 +290,38 @@ fn weigh(part: &[u8], t: Topics, verified: bool) -> Admission
     match id {
         MessageId::MissingFrom => Admission::Unfit(Unfit::MissingFrom),
         MessageId::InvalidFrom(n) => Admission::Unfit(Unfit::InvalidFrom(n)),
-        MessageId::InvalidSeqno => Admission::Unfit(Unfit::InvalidSeqno),
+        MessageId::InvalidSeqno => {
+            let peer = peer_of(part, from);
+            if let PeerId::NotPeerId = peer {
+                return Admission::Unfit(Unfit::NotPeerId);
+            }
+            Admission::Unfit(Unfit::InvalidSeqno)
+        }
         MessageId::Parts {
             from_start,
             from_end,
             seqno_start,
             seqno_end,
         } => {
+            let peer = peer_of(part, from);
+            if let PeerId::NotPeerId = peer {
+                return Admission::Unfit(Unfit::NotPeerId);
+            }
             let fit = Admission::Fit {
                 from_start,
                 from_end,
                 seqno_start,
                 seqno_end,
             };
-            signed(part, t, signature, key, verified, fit)
+            signed(
+                part,
+                t,
+                &part[from_start..from_end],
+                signature,
+                key,
+                verified,
+                fit,
+            )
         }
     }
 }
