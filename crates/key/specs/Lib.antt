@@ -4,3 +4,5 @@
 pub mod Key
 pub mod Decode
 pub mod Told
+pub mod KeyLaws
+pub mod Rows
