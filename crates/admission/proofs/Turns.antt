@@ -1,7 +1,7 @@
 -- A turn of the walk over a message's topics, and which case it is.
 use Prim.Native.Nat.{ℕ, _+_, _-_, _≤_, _<_}
-use mathlib.Core.Path.{_≡_, refl, sym, ap, ap₂, _∙_}
-use mathlib.Core.Bool.{Bool, true, false, cond, not, _&&_, and-true}
+use mathlib.Core.Path.{_≡_, refl, sym, ap, ap₂, subst, _∙_}
+use mathlib.Core.Bool.{Bool, true, false, cond, _&&_, and-true}
 use mathlib.Core.List.{List, [], _∷_, map}
 use native.Mathlib.Omega.{arith}
 use native.Mathlib.Numerals.{add-one}
@@ -26,14 +26,26 @@ use Rattle.schema.specs.declared.Counted.the-variants as count
 use Rattle.schema.specs.Count.{counted}
 use Rattle.schema.specs.declared.Slots.{Slots}
 use Rattle.schema.specs.Slots.{slotsOf}
+use Rattle.schema.specs.SlotsLaws.{PlaceInside, SlotsInside, slots-inside}
 use Rattle.ids.specs.declared.MessageId.{MessageId}
+use Rattle.ids.specs.declared.MessageId.the-variants as id
 use Rattle.ids.specs.Ids.{onFrom, idParts, idBytes}
 use Rattle.protobuf.specs.WalkLaws.{between-length}
-use Rattle.admission.specs.declared.Unfit.the-variants.{TopicCount, TopicTooLong, MessageTooLong}
+use Rattle.peer_id.specs.declared.PeerId.{PeerId}
+use Rattle.peer_id.specs.declared.PeerId.the-variants as peer
+use Rattle.peer_id.specs.PeerId.{fromBytes, digestOf}
+use Rattle.peer_id.specs.Multihash.{identity}
+use Rattle.peer_id.specs.MultihashLaws.{peer-exactly, peer-size}
+use Rattle.key.specs.declared.PublicKey.{PublicKey}
+use Rattle.key.specs.Decode.{decodeProtobuf}
+use Rattle.schema.specs.declared.Place.{Place}
+use Rattle.schema.specs.declared.Place.the-variants as place
+use Rattle.admission.specs.declared.Unfit.the-variants.{TopicCount, TopicTooLong, MessageTooLong, InvalidKey, KeyPeerIdMismatch, NotPeerId}
 use Rattle.admission.specs.declared.Topics.{Topics}
 use Rattle.admission.specs.declared.Admission.{Admission}
 use Rattle.admission.specs.declared.Admission.the-variants as admission
-use Rattle.admission.specs.Admission.{topicsAlong, topicsOf, Span, spanOf, placesAlong, topicPlaces, startsOf, sizesOf, spansIn, sameSpans, firstLong, topicsIn, longAfter, onLimits, onId, admissionOf, idGiven, givesId, keptWith}
+use Rattle.admission.specs.Admission.{topicsAlong, topicsOf, Span, spanOf, placesAlong, topicPlaces, startsOf, sizesOf, spansIn, sameSpans, firstLong, topicsIn, longAfter, onLimits, isRead, isKey, byHash, keyMatches, keyInside, onKey, onSignature, isPeerId, onPeer, bytesAt, senderOf, onId, admissionOf, idGiven, givesId, keptWith}
+use Rattle.admission.specs.AdmissionLaws.{sender-is}
 use Rattle.admission.specs.TopicLaws.{gives-few, same-spans-equal, length-spans, spans-put}
 
 -- ---- the topics from a place on
@@ -257,15 +269,6 @@ module _ (p : List ℕ) (r : Admission) (n l : ℕ) (hn : n ≡ length (topicsOf
         le-ltb 4096 (length p) m,
       )
 
--- ---- 27
-pub not-true : (v : Bool) → not v ≡ true → v ≡ false
-not-true true h = clash (cc)
-not-true false h = refl
-
-pub not-false : (v : Bool) → not v ≡ false → v ≡ true
-not-false true h = refl
-not-false false h = clash (cc)
-
 -- ---- 21, 22, 23
 pub admit-on : (p : List ℕ) (word : Bool) (t : Slots) (i j : MessageId) → t ≡ slotsOf kind.RawMessage p → i ≡ onFrom (t .first) (t .third) → i ≡ j →
     onId p word j ≡ admissionOf p word
@@ -293,3 +296,85 @@ module _ (p i : List ℕ) (a e b f : ℕ) (o : a ≤ e) (l : e ≤ length p) whe
 
   pub parts-differ : sameBytes (between p a e) (take (e - a) i) ≡ false → false ≡ sameBytes (idBytes p a e b f) i
   parts-differ h = sym (simp h at split)
+
+-- ---- 34, 35, 36: which case it is
+module _ (s : List ℕ) (r : PeerId) (e : r ≡ fromBytes s) where
+  -- an identity's digest stands behind two bytes
+  pub has-digest : r ≡ peer.Identity → 2 ≤ length s
+  has-digest h = let z = peer-size (peer-exactly s (digestOf s) identity .0 (sym e ∙ h, refl)) in omega (arith, z .0)
+
+  pub peer-case : (q : PeerId) → r ≡ q → byHash q true true ≡ isPeerId s
+  unfolding isPeerId
+  peer-case q h = ap (λ (k : PeerId). byHash k true true) (sym h ∙ e)
+
+  pub inside-case : (q : PeerId) → r ≡ q → byHash q (isKey (digestOf s)) false ≡ keyInside s
+  unfolding keyInside
+  inside-case q h = ap (λ (k : PeerId). byHash k (isKey (digestOf s)) false) (sym h ∙ e)
+
+  pub matches-case : (q : PeerId) (k : List ℕ) → r ≡ q → byHash q (sameBytes (digestOf s) k) true ≡ keyMatches s k
+  unfolding keyMatches
+  matches-case q k h = ap (λ (x : PeerId). byHash x (sameBytes (digestOf s) k) true) (sym h ∙ e)
+
+pub digest-part : (s : List ℕ) → take (length s - 2) (drop 2 s) ≡ digestOf s
+digest-part s = take-all (length s - 2) (drop 2 s) (rw (length-drop 2 s) (omega arith))
+
+pub key-case : (k : List ℕ) (r q : PublicKey) → r ≡ decodeProtobuf k → r ≡ q → isRead q ≡ isKey k
+unfolding isKey
+key-case k r q e h = ap isRead (sym h ∙ e)
+
+pub bytes-case : (p : List ℕ) (f q : Place) (r : Bool) → f ≡ q → r ≡ isPeerId (bytesAt p q) → r ≡ isPeerId (bytesAt p f)
+bytes-case p f q r h e = e ∙ ap (λ (x : Place). isPeerId (bytesAt p x)) (sym h)
+
+-- no key is there
+module _ (p s : List ℕ) (q : Place) (r : Admission) (k : Bool) (h : q ≡ place.Absent) (e : k ≡ keyInside s) where
+  pub inside-on : (a : Admission) → k ≡ true → a ≡ r → a ≡ onKey p s q r
+  inside-on a t g = g ∙ sym (ap (λ (x : Place). onKey p s x r) h ∙ rw (sym e ∙ t))
+
+  pub inside-not : k ≡ false → admission.Unfit KeyPeerIdMismatch ≡ onKey p s q r
+  inside-not t = sym (ap (λ (x : Place). onKey p s x r) h ∙ rw (sym e ∙ t))
+
+-- a key is there, from a to b
+module _ (p s : List ℕ) (q : Place) (x y : ℕ) (r : Admission) (k : Bool) (h : q ≡ place.Present x y) (e : k ≡ isKey (between p x y)) where
+  pub there-bad : k ≡ false → admission.Unfit InvalidKey ≡ onKey p s q r
+  there-bad t = sym (ap (λ (z : Place). onKey p s z r) h ∙ rw (sym e ∙ t))
+
+  module _ (m : Bool) (f : m ≡ keyMatches s (between p x y)) where
+    pub there-not : k ≡ true → m ≡ false → admission.Unfit KeyPeerIdMismatch ≡ onKey p s q r
+    there-not t u = sym (ap (λ (z : Place). onKey p s z r) h ∙ rw (sym e ∙ t, sym f ∙ u))
+
+    pub there-on : (a : Admission) → k ≡ true → m ≡ true → a ≡ r → a ≡ onKey p s q r
+    there-on a t u g = g ∙ sym (ap (λ (z : Place). onKey p s z r) h ∙ rw (sym e ∙ t, sym f ∙ u))
+
+-- ---- the slots that were found
+module _ (p : List ℕ) (t : Slots) (h : t ≡ slotsOf kind.RawMessage p) where
+  slots-good : SlotsInside p t
+  slots-good = subst (SlotsInside p) (sym h) (slots-inside kind.RawMessage p)
+
+  pub first-inside : PlaceInside p (t .first)
+  first-inside = slots-good .first
+
+  pub fifth-inside : PlaceInside p (t .fifth)
+  fifth-inside = slots-good .fifth
+
+  pub parts-of : (i : MessageId) (a e b f : ℕ) → i ≡ onFrom (t .first) (t .third) → i ≡ id.Parts a e b f → idParts p ≡ id.Parts a e b f
+  unfolding idParts
+  parts-of i a e b f k g = sym (k ∙ ap (λ (x : Slots). onFrom (x .first) (x .third)) h) ∙ g
+
+  -- the sender is tested, and what follows
+  module _ (r : Admission) (k : Bool) (e : k ≡ isPeerId (bytesAt p (t .first))) where
+    sender-tested : k ≡ isPeerId (senderOf p)
+    sender-tested = e ∙ ap (λ (x : Slots). isPeerId (bytesAt p (x .first))) h
+
+    pub peer-on : (a : Admission) → k ≡ true → a ≡ r → a ≡ onPeer (senderOf p) r
+    peer-on a u g = g ∙ sym (rw (sym sender-tested ∙ u))
+
+    pub peer-not : k ≡ false → admission.Unfit NotPeerId ≡ onPeer (senderOf p) r
+    peer-not u = sym (rw (sym sender-tested ∙ u))
+
+  -- the rest of a message that has an id
+  pub signed-on : (r a : Admission) (x y z w : ℕ) → idParts p ≡ id.Parts x y z w → a ≡ onSignature (t .fourth) (t .fifth) (onKey p (between p x y) (t .fifth) r)
+      → a ≡ onSignature (slotsOf kind.RawMessage p .fourth) (slotsOf kind.RawMessage p .fifth) (onKey p (senderOf p) (slotsOf kind.RawMessage p .fifth) r)
+  signed-on r a x y z w g e =
+      e ∙ ap (λ (s : Slots). onSignature (s .fourth) (s .fifth) (onKey p (between p x y) (s .fifth) r)) h
+      ∙ ap (λ (s : List ℕ). onSignature (slotsOf kind.RawMessage p .fourth) (slotsOf kind.RawMessage p .fifth) (onKey p s (slotsOf kind.RawMessage p .fifth) r))
+      (sym (sender-is p x y z w g))

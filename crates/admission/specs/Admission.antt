@@ -154,10 +154,11 @@ onSignature place.Absent (place.Present a e) r = admission.Unfit KeyWithoutSigna
 onSignature (place.Present a e) key r = cond (eqb (e - a) 64) r (admission.Unfit (InvalidSignatureLength (e - a)))
 
 -- ---- 34
-abbrev pub onPeer : PeerId → Admission → Admission
-onPeer peer.Identity r = r
-onPeer peer.Sha256 r = r
-onPeer peer.NotPeerId r = admission.Unfit NotPeerId
+unfoldable pub isPeerId : List ℕ → Bool
+isPeerId s = byHash (fromBytes s) true true
+
+abbrev pub onPeer : List ℕ → Admission → Admission
+onPeer s r = cond (isPeerId s) r (admission.Unfit NotPeerId)
 
 -- the bytes in a place of a message, and its sender
 abbrev pub bytesAt : List ℕ → Place → List ℕ
@@ -171,9 +172,9 @@ senderOf p = bytesAt p (slotsOf kind.RawMessage p .first)
 abbrev pub onId : List ℕ → Bool → MessageId → Admission
 onId p word id.MissingFrom = admission.Unfit MissingFrom
 onId p word (id.InvalidFrom n) = admission.Unfit (InvalidFrom n)
-onId p word id.InvalidSeqno = onPeer (fromBytes (senderOf p)) (admission.Unfit InvalidSeqno)
+onId p word id.InvalidSeqno = onPeer (senderOf p) (admission.Unfit InvalidSeqno)
 onId p word (id.Parts a e b f) =
-    onPeer (fromBytes (senderOf p))
+    onPeer (senderOf p)
     (onSignature (slotsOf kind.RawMessage p .fourth) (slotsOf kind.RawMessage p .fifth)
     (onKey p (senderOf p) (slotsOf kind.RawMessage p .fifth) (onWord word (onLimits p (admission.Fit a e b f)))))
 

@@ -2,7 +2,7 @@
 -- which id a message gives.
 use Prim.Native.Nat.{ℕ, _+_, _-_, _≤_}
 use mathlib.Core.Path.{_≡_, refl, sym, ap, ap₂, _∙_}
-use mathlib.Core.Bool.{Bool, true, false}
+use mathlib.Core.Bool.{Bool, true, false, _&&_, _||_}
 use mathlib.Core.List.{List, [], _∷_}
 use native.Mathlib.Omega.{arith}
 use lib.ListN.{length}
@@ -31,28 +31,33 @@ use Rattle.ids.specs.declared.MessageAt.the-variants.{At}
 use Rattle.ids.specs.declared.MessageId.{MessageId}
 use Rattle.ids.specs.declared.MessageId.the-variants as id
 use Rattle.schema.specs.Accept.{acceptOf}
-use Rattle.ids.specs.Ids.{messageAlong, messageAt, idParts, idBytes}
+use Rattle.ids.specs.Ids.{messageAlong, messageAt, onSeqno, onFrom, idParts, idBytes}
 use Rattle.schema.specs.AcceptLaws.{accept-records}
 use Rattle.ids.specs.IdLaws.{id-size}
 use Rattle.admission.specs.declared.Unfit.{Unfit}
 use Rattle.admission.specs.declared.Unfit.the-variants.{MissingFrom, InvalidFrom, InvalidSeqno, SignatureInvalid}
 use Rattle.admission.specs.declared.Unfit.the-variants.{KeyWithoutSignature, MissingSignature}
 use Rattle.admission.specs.declared.Unfit.the-variants.{InvalidSignatureLength, TopicCount, TopicTooLong}
-use Rattle.admission.specs.declared.Unfit.the-variants.{MessageTooLong}
+use Rattle.admission.specs.declared.Unfit.the-variants.{MessageTooLong, NotPeerId, InvalidKey}
+use Rattle.admission.specs.declared.Unfit.the-variants.{KeyPeerIdMismatch}
 use Rattle.admission.specs.declared.Admission.{Admission}
 use Rattle.admission.specs.declared.Admission.the-variants as admission
-use Rattle.admission.specs.Admission.{topicsOf, firstLong, onLimits, onWord, onSignature, onId, admissionOf}
+use Rattle.admission.specs.Admission.{topicsOf, firstLong, onLimits, onWord, isKey, keyMatches, keyInside, onKey}
+use Rattle.admission.specs.Admission.{onSignature, isPeerId, onPeer, bytesAt, senderOf, onId, admissionOf}
 use Rattle.admission.specs.Admission.{idGiven, whereRead, givesId}
 use Rattle.admission.specs.Told.{unfitTold}
 
--- ---- its refusals are 21 to 30
-pub unfit-range : (why : Unfit) → (21 ≤ unfitTold why .number) × (unfitTold why .number ≤ 30)
+-- ---- its refusals are among 21 to 36
+pub unfit-range : (why : Unfit) → (21 ≤ unfitTold why .number) × (unfitTold why .number ≤ 36)
 unfit-range MissingFrom = (omega arith, omega arith)
 unfit-range (InvalidFrom len) = (omega arith, omega arith)
+unfit-range NotPeerId = (omega arith, omega arith)
 unfit-range InvalidSeqno = (omega arith, omega arith)
 unfit-range KeyWithoutSignature = (omega arith, omega arith)
 unfit-range MissingSignature = (omega arith, omega arith)
 unfit-range (InvalidSignatureLength len) = (omega arith, omega arith)
+unfit-range InvalidKey = (omega arith, omega arith)
+unfit-range KeyPeerIdMismatch = (omega arith, omega arith)
 unfit-range SignatureInvalid = (omega arith, omega arith)
 unfit-range (TopicCount count) = (omega arith, omega arith)
 unfit-range (TopicTooLong len) = (omega arith, omega arith)
@@ -65,6 +70,26 @@ pub record Limits (p : List ℕ) : Type 0 where
   pub few : length (topicsOf p) ≤ 4
   pub short : firstLong (topicsOf p) ≡ 0
   pub small : length p ≤ 4096
+
+-- a signature of 64 bytes
+pub record Signed (s : Place) : Type 0 where
+  pub start : ℕ
+  pub next : ℕ
+  pub there : s ≡ place.Present start next
+  pub size : next - start ≡ 64
+
+-- 35 and 36 are not
+abbrev pub keyFits : List ℕ → List ℕ → Place → Bool
+keyFits p s place.Absent = keyInside s
+keyFits p s (place.Present a e) = isKey (between p a e) && keyMatches s (between p a e)
+
+-- each test behind the id's
+pub record Passes (p : List ℕ) (word : Bool) : Type 0 where
+  pub peer : isPeerId (senderOf p) ≡ true
+  pub signature : Signed (slotsOf kind.RawMessage p .fourth)
+  pub key : keyFits p (senderOf p) (slotsOf kind.RawMessage p .fifth) ≡ true
+  pub given : word ≡ true
+  pub limits : Limits p
 
 module _ (a e b f : ℕ) where
   of-limits : (p : List ℕ) (r : Admission) → onLimits p r ≡ admission.Fit a e b f → (r ≡ admission.Fit a e b f)
@@ -91,24 +116,48 @@ module _ (a e b f : ℕ) where
   of-word true r h = (refl, h)
   of-word false r h = clash (cc)
 
-  of-signature : (s k : Place) (r : Admission) → onSignature s k r ≡ admission.Fit a e b f → r ≡ admission.Fit a e b f
+  -- the key is there and may be the sender's, or the sender has it in itself
+  of-key : (p s : List ℕ) (q : Place) (r : Admission) → onKey p s q r ≡ admission.Fit a e b f
+      → (keyFits p s q ≡ true) × (r ≡ admission.Fit a e b f)
+  of-key p s place.Absent r h =
+      either (keyInside s) (λ t. (t, simp t at h)) (λ t. clash (let z = simp t at h in cc))
+  of-key p s (place.Present x y) r h =
+      either (isKey (between p x y))
+      (λ t. either (keyMatches s (between p x y)) (λ u. (rw (t, u), simp (t, u) at h))
+      (λ u. clash (let z = simp (t, u) at h in cc)))
+      (λ t. clash (let z = simp t at h in cc))
+
+  of-signature : (s k : Place) (r : Admission) → onSignature s k r ≡ admission.Fit a e b f
+      → Signed s × (r ≡ admission.Fit a e b f)
   of-signature place.Absent place.Absent r h = clash (cc)
   of-signature place.Absent (place.Present x y) r h = clash (cc)
   of-signature (place.Present x y) k r h =
-      either (eqb (y - x) 64) (λ t. simp t at h) (λ t. clash (let z = simp t at h in cc))
+      either (eqb (y - x) 64)
+      (λ t. (record { start = x; next = y; there = refl; size = eqb-true (y - x) 64 t }, simp t at h))
+      (λ t. clash (let z = simp t at h in cc))
+
+  of-peer : (s : List ℕ) (r : Admission) → onPeer s r ≡ admission.Fit a e b f
+      → (isPeerId s ≡ true) × (r ≡ admission.Fit a e b f)
+  of-peer s r h = either (isPeerId s) (λ t. (t, simp t at h)) (λ t. clash (let z = simp t at h in cc))
 
   of-id : (p : List ℕ) (word : Bool) (i : MessageId) → onId p word i ≡ admission.Fit a e b f → (i ≡ id.Parts a e b f)
-      × (word ≡ true) × Limits p
+      × Passes p word
   of-id p word id.MissingFrom h = clash (cc)
   of-id p word (id.InvalidFrom n) h = clash (cc)
-  of-id p word id.InvalidSeqno h = clash (cc)
+  of-id p word id.InvalidSeqno h =
+      let r = of-peer (senderOf p) (admission.Unfit InvalidSeqno) h in clash (let z = r .1 in cc)
   of-id p word (id.Parts x y z w) h =
-      let r = of-word word (onLimits p (admission.Fit x y z w))
-      (of-signature (slotsOf kind.RawMessage p .fourth) (slotsOf kind.RawMessage p .fifth)
-      (onWord word (onLimits p (admission.Fit x y z w))) h) in
-      let l = of-limits p (admission.Fit x y z w) (r .1) in
-      let q = l .0 in
-      (cc, r .0, l .1)
+      let q = slotsOf kind.RawMessage p .fifth in
+      let fit = admission.Fit x y z w in
+      let u = of-peer (senderOf p)
+      (onSignature (slotsOf kind.RawMessage p .fourth) q (onKey p (senderOf p) q (onWord word (onLimits p fit)))) h in
+      let s = of-signature (slotsOf kind.RawMessage p .fourth) q (onKey p (senderOf p) q (onWord word (onLimits p fit)))
+      (u .1) in
+      let k = of-key p (senderOf p) q (onWord word (onLimits p fit)) (s .1) in
+      let r = of-word word (onLimits p fit) (k .1) in
+      let l = of-limits p fit (r .1) in
+      let g = l .0 in
+      (cc, record { peer = u .0; signature = s .0; key = k .0; given = r .0; limits = l .1 })
 
 -- its id is that of idParts
 pub fit-parts : (p : List ℕ) (word : Bool) (a e b f : ℕ) → admissionOf p word ≡ admission.Fit a e b f
@@ -116,15 +165,39 @@ pub fit-parts : (p : List ℕ) (word : Bool) (a e b f : ℕ) → admissionOf p w
 unfolding admissionOf
 fit-parts p word a e b f h = of-id a e b f p word (idParts p) h .0
 
+-- and so are the sender's bytes
+seqno-starts : (x y a e b f : ℕ) (q : Place) → onSeqno x y q ≡ id.Parts a e b f → (x ≡ a) × (y ≡ e)
+seqno-starts x y a e b f place.Absent h = clash (cc)
+seqno-starts x y a e b f (place.Present c d) h =
+    either (eqb (d - c) 0 || ltb 64 (d - c)) (λ t. clash (let k = simp t at h in cc))
+    (λ t. let k = simp t at h in let p : x ≡ a = cc in let q : y ≡ e = cc in (p, q))
+
+from-there : (a e b f : ℕ) (q r : Place) → onFrom q r ≡ id.Parts a e b f → q ≡ place.Present a e
+from-there a e b f place.Absent r h = clash (cc)
+from-there a e b f (place.Present x y) r h =
+    either (eqb (y - x) 0 || ltb 64 (y - x)) (λ t. clash (let k = simp t at h in cc))
+    (λ t. let s = seqno-starts x y a e b f r (simp t at h) in rw (s .0, s .1))
+
+pub sender-is : (p : List ℕ) (a e b f : ℕ) → idParts p ≡ id.Parts a e b f → senderOf p ≡ between p a e
+unfolding idParts
+sender-is p a e b f h =
+    ap (bytesAt p)
+    (from-there a e b f (slotsOf kind.RawMessage p .first) (slotsOf kind.RawMessage p .third) h)
+
+-- it passes the tests behind that
+pub fit-passes : (p : List ℕ) (word : Bool) (a e b f : ℕ) → admissionOf p word ≡ admission.Fit a e b f → Passes p word
+unfolding admissionOf
+fit-passes p word a e b f h = of-id a e b f p word (idParts p) h .1
+
 -- it keeps the limits on topics and size
 pub fit-limits : (p : List ℕ) (word : Bool) (a e b f : ℕ) → admissionOf p word ≡ admission.Fit a e b f → Limits p
 unfolding admissionOf
-fit-limits p word a e b f h = of-id a e b f p word (idParts p) h .2
+fit-limits p word a e b f h = of-id a e b f p word (idParts p) h .1 .limits
 
 -- the host gave its word
 pub fit-word : (p : List ℕ) (word : Bool) (a e b f : ℕ) → admissionOf p word ≡ admission.Fit a e b f → word ≡ true
 unfolding admissionOf
-fit-word p word a e b f h = of-id a e b f p word (idParts p) h .1
+fit-word p word a e b f h = of-id a e b f p word (idParts p) h .1 .given
 
 -- where firstLong is 0, no topic is above 1,024 bytes
 pub topic-short : (t : List ℕ) (l : List (List ℕ)) → firstLong l ≡ 0 → among t l ≡ true → length t ≤ 1024
@@ -157,6 +230,15 @@ limits-never p a e b f h =
     (λ w. clash (let k = simp (t, u, v, w) at h in cc)))
     (λ v. clash (let k = simp (t, u, v) at h in cc))))
 
+key-never : (p s : List ℕ) (q : Place) (r : Admission) → (r ≡ admission.Unfit SignatureInvalid → ⊥)
+    → onKey p s q r ≡ admission.Unfit SignatureInvalid → ⊥
+key-never p s place.Absent r n h = either (keyInside s) (λ t. n (simp t at h)) (λ t. clash (let z = simp t at h in cc))
+key-never p s (place.Present x y) r n h =
+    either (isKey (between p x y))
+    (λ t. either (keyMatches s (between p x y)) (λ u. n (simp (t, u) at h))
+    (λ u. clash (let z = simp (t, u) at h in cc)))
+    (λ t. clash (let z = simp t at h in cc))
+
 signature-never : (s k : Place) (r : Admission) → (r ≡ admission.Unfit SignatureInvalid → ⊥)
     → onSignature s k r ≡ admission.Unfit SignatureInvalid → ⊥
 signature-never place.Absent place.Absent r n h = clash (cc)
@@ -164,13 +246,21 @@ signature-never place.Absent (place.Present x y) r n h = clash (cc)
 signature-never (place.Present x y) k r n h =
     either (eqb (y - x) 64) (λ t. n (simp t at h)) (λ t. clash (let z = simp t at h in cc))
 
+peer-never : (s : List ℕ) (r : Admission) → (r ≡ admission.Unfit SignatureInvalid → ⊥)
+    → onPeer s r ≡ admission.Unfit SignatureInvalid → ⊥
+peer-never s r n h = either (isPeerId s) (λ t. n (simp t at h)) (λ t. clash (let z = simp t at h in cc))
+
 id-never : (p : List ℕ) (i : MessageId) → onId p true i ≡ admission.Unfit SignatureInvalid → ⊥
 id-never p id.MissingFrom h = clash (cc)
 id-never p (id.InvalidFrom n) h = clash (cc)
-id-never p id.InvalidSeqno h = clash (cc)
+id-never p id.InvalidSeqno h =
+    peer-never (senderOf p) (admission.Unfit InvalidSeqno) (λ z. clash (cc)) h
 id-never p (id.Parts a e b f) h =
-    signature-never (slotsOf kind.RawMessage p .fourth) (slotsOf kind.RawMessage p .fifth)
-    (onLimits p (admission.Fit a e b f)) (limits-never p a e b f) h
+    let q = slotsOf kind.RawMessage p .fifth in
+    let r = onLimits p (admission.Fit a e b f) in
+    peer-never (senderOf p) (onSignature (slotsOf kind.RawMessage p .fourth) q (onKey p (senderOf p) q r))
+    (signature-never (slotsOf kind.RawMessage p .fourth) q (onKey p (senderOf p) q r)
+    (key-never p (senderOf p) q r (limits-never p a e b f))) h
 
 -- and with it 27 is never the answer
 pub word-only : (p : List ℕ) (why : Unfit) → admissionOf p true ≡ admission.Unfit why → why ≡ SignatureInvalid → ⊥

@@ -3,5 +3,7 @@
 pub mod Told
 pub mod Admission
 pub mod AdmissionLaws
+pub mod Fit
+pub mod FitLaws
 pub mod TopicLaws
 pub mod Rows

@@ -9,9 +9,8 @@ ghost use lib.ListN.{length, set};
 ghost use Rattle.protobuf.specs.Walk.{isBytes};
 ghost use Rattle.rows.specs.Ids.{sameBytes};
 ghost use Rattle.ids.specs.Ids.{idBytes};
-ghost use Rattle.peer_id.specs.PeerId.{fromBytes};
 ghost use Rattle.schema.specs.SlotsLaws.{PlaceInside};
-ghost use Rattle.admission.specs.Admission.{spansIn, sameSpans, topicsIn, FindsTopics, longAfter, isKey, keyMatches, keyInside, onKey, onSignature, onWord, onLimits, bytesAt, admissionOf, idGiven, keptWith};
+ghost use Rattle.admission.specs.Admission.{spansIn, sameSpans, topicsIn, FindsTopics, longAfter, isKey, keyMatches, keyInside, onKey, onSignature, onWord, onLimits, isPeerId, bytesAt, admissionOf, idGiven, keptWith};
 use ids::MessageId;
 use ids::id_of;
 use key::PublicKey;
@@ -204,7 +203,18 @@ fn key_inside(sender: &[u8]) -> bool
     }
 }
 
-// 35, 36, 27, and then the limits.
+// 27, and then the limits.
+fn worded(part: &[u8], t: Topics, verified: bool, fit: Admission) -> Admission
+    requires { ⌜ t ≡ topicsIn (now part) ⌝ }
+    ensures { λ r. ⌜ r ≡ onWord verified (onLimits (now (part .entry)) fit) ⌝ }
+{
+    if verified {
+        return limits(part, t, fit);
+    }
+    Admission::Unfit(Unfit::SignatureInvalid)
+}
+
+// 35, 36, and then the host's word.
 fn keyed(
     part: &[u8],
     t: Topics,
@@ -217,25 +227,19 @@ fn keyed(
     requires { ⌜ PlaceInside (now part) key ⌝ }
     ensures { λ r. ⌜ r ≡ onKey (now (part .entry)) (now (sender .entry)) key (onWord verified (onLimits (now (part .entry)) fit)) ⌝ }
 {
-    match key {
-        Place::Absent => {
-            if !key_inside(sender) {
-                return Admission::Unfit(Unfit::KeyPeerIdMismatch);
-            }
+    let Place::Present { start: a, end: e } = key else {
+        if key_inside(sender) {
+            return worded(part, t, verified, fit);
         }
-        Place::Present { start: a, end: e } => {
-            if !is_key(&part[a..e]) {
-                return Admission::Unfit(Unfit::InvalidKey);
-            }
-            if !key_matches(sender, &part[a..e]) {
-                return Admission::Unfit(Unfit::KeyPeerIdMismatch);
-            }
+        return Admission::Unfit(Unfit::KeyPeerIdMismatch);
+    };
+    if is_key(&part[a..e]) {
+        if key_matches(sender, &part[a..e]) {
+            return worded(part, t, verified, fit);
         }
+        return Admission::Unfit(Unfit::KeyPeerIdMismatch);
     }
-    if !verified {
-        return Admission::Unfit(Unfit::SignatureInvalid);
-    }
-    limits(part, t, fit)
+    Admission::Unfit(Unfit::InvalidKey)
 }
 
 // 24 or 25, 26, and then the key.
@@ -265,15 +269,27 @@ fn signed(
     keyed(part, t, sender, key, verified, fit)
 }
 
-// 34: which peer id the sender is.
-fn peer_of(part: &[u8], from: Place) -> PeerId
+// Whether some bytes are a peer id.
+fn is_peer_id(sender: &[u8]) -> bool
+    ensures { λ r. ⌜ r ≡ isPeerId (now (sender .entry)) ⌝ }
+{
+    let peer = from_bytes(sender);
+    match peer {
+        PeerId::Identity => true,
+        PeerId::Sha256 => true,
+        PeerId::NotPeerId => false,
+    }
+}
+
+// Whether the sender is a peer id, by where it stands.
+fn known(part: &[u8], from: Place) -> bool
     requires { ⌜ PlaceInside (now part) from ⌝ }
-    ensures { λ r. ⌜ r ≡ fromBytes (bytesAt (now (part .entry)) from) ⌝ }
+    ensures { λ r. ⌜ r ≡ isPeerId (bytesAt (now (part .entry)) from) ⌝ }
 {
     let Place::Present { start: a, end: e } = from else {
-        return from_bytes(b"");
+        return is_peer_id(b"");
     };
-    from_bytes(&part[a..e])
+    is_peer_id(&part[a..e])
 }
 
 // Whether a message with these topics may be taken, given the host's word on its signature: 21 to 30, 34, 35, 36, in the table's order.
@@ -291,11 +307,10 @@ fn weigh(part: &[u8], t: Topics, verified: bool) -> Admission
         MessageId::MissingFrom => Admission::Unfit(Unfit::MissingFrom),
         MessageId::InvalidFrom(n) => Admission::Unfit(Unfit::InvalidFrom(n)),
         MessageId::InvalidSeqno => {
-            let peer = peer_of(part, from);
-            if let PeerId::NotPeerId = peer {
-                return Admission::Unfit(Unfit::NotPeerId);
+            if known(part, from) {
+                return Admission::Unfit(Unfit::InvalidSeqno);
             }
-            Admission::Unfit(Unfit::InvalidSeqno)
+            Admission::Unfit(Unfit::NotPeerId)
         }
         MessageId::Parts {
             from_start,
@@ -303,25 +318,24 @@ fn weigh(part: &[u8], t: Topics, verified: bool) -> Admission
             seqno_start,
             seqno_end,
         } => {
-            let peer = peer_of(part, from);
-            if let PeerId::NotPeerId = peer {
-                return Admission::Unfit(Unfit::NotPeerId);
-            }
             let fit = Admission::Fit {
                 from_start,
                 from_end,
                 seqno_start,
                 seqno_end,
             };
-            signed(
-                part,
-                t,
-                &part[from_start..from_end],
-                signature,
-                key,
-                verified,
-                fit,
-            )
+            if known(part, from) {
+                return signed(
+                    part,
+                    t,
+                    &part[from_start..from_end],
+                    signature,
+                    key,
+                    verified,
+                    fit,
+                );
+            }
+            Admission::Unfit(Unfit::NotPeerId)
         }
     }
 }

@@ -5,11 +5,12 @@ use mathlib.Core.List.{List, [], _∷_, _++_}
 use mathlib.Core.Logic.{_↔_, _≢_}
 use native.Mathlib.Omega.{arith}
 use lib.ListN.{length, drop, getD, length-drop, length-append}
-use lib.Seq.{drop-cons, drop-drop, drop-at, getD-drop}
+use lib.Seq.{drop-cons, drop-drop, drop-at}
 use lib.Dec.{eqb, ltb, leb}
 use borrow.Author.Tests.{eqb-true, eqb-false, ltb-true, ltb-false, leb-true, leb-false, eq-eqb, ne-eqb, le-ltb, lt-leb}
 use Rattle.basis.specs.Cases.{either, clash}
 use Rattle.basis.specs.Bytes.{Bytes}
+use Rattle.basis.specs.Lists.{drop-bytes}
 use Rattle.peer_id.specs.declared.Uvarint.{Uvarint}
 use Rattle.peer_id.specs.declared.Uvarint.the-variants as uvarint
 use Rattle.peer_id.specs.Uvarint.{uvarint, readUvarint}
@@ -118,22 +119,19 @@ of-key s u a h =
     (λ y. clash (let k = simp (x, y) at h in cc)))
 
 -- ---- so the bytes are a key's
-bytes-drop : (s : List ℕ) (k : ℕ) → Bytes s → Bytes (drop k s)
-bytes-drop s k b i = rw (getD-drop k s i 0) (b (k + i))
-
 module _ (s : List ℕ) (u : KeyType) (a : ℕ) (b : Bytes s) (h : decodeProtobuf s ≡ Key u a) where
   made : s ≡ keyBytes u (drop a s)
   unfolding keyBytes
   made =
       let k = of-key s u a h in
       let t = k .2 in
-      let f = accepted (drop 1 s) (t .code) (t .used) (bytes-drop s 1 b) (t .read) in
+      let f = accepted (drop 1 s) (t .code) (t .used) (drop-bytes 1 s b) (t .read) in
       let n = uvarint-small (t .code) (omega (arith, t .few)) in
       let one : t .used ≡ 1 = f .size ∙ ap length n in
       let r : onData s (typeOf (t .code)) 2 ≡ Key u a = rw one at (t .rest) in
       let d = of-data s (typeOf (t .code)) u 2 a r in
       let z = d .3 in
-      let g = accepted (drop 3 s) (z .size) (z .used) (bytes-drop s 3 b) (z .read) in
+      let g = accepted (drop 3 s) (z .size) (z .used) (drop-bytes 3 s b) (z .read) in
       let l2 : 2 < length s = d .0 in
       let s0 : s ≡ getD s 0 0 ∷ drop 1 s = drop-cons s 0 0 (omega arith) in
       let s1 : drop 1 s ≡ getD s 1 0 ∷ drop 2 s = drop-cons s 1 0 (omega arith) in

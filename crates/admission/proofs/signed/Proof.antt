@@ -1,13 +1,12 @@
 -- `admission::signed` meets its contract.
 use mathlib.Core.Path.{_≡_, sym, _∙_}
 use borrow.Author.Tests.{eq-eqb, ne-eqb}
-use Rattle.admission.proofs.Turns.{not-true, not-false}
 use borrow.Author.Needs.{needs}
 use Rattle.admission.proofs.signed.Statement.{statement}
 use Rattle.admission.proofs.signed.Tie as tie
 use Rattle.admission.proofs.signed.Reads as reads
 use Rattle.admission.proofs.signed.Lts as lts
-use Rattle.admission.proofs.limits.Reads as limits-reads
+use Rattle.admission.proofs.keyed.Reads as keyed-reads
 use Rattle.ids.proofs.span.Reads as span-reads
 
 enum-known-signature : tie.Need-enum-known-signature
@@ -34,14 +33,11 @@ span-requires c κs = search needs
 returns-3 : tie.Need-returns-3
 returns-3 c = simp ((c .before .before .before .signature .given .1), (c .before .span .ensures), ne-eqb _ _ (λ z. (c .if1 .taken) ((c .before .span .ensures) ∙ z)))
 
+keyed-requires : tie.Need-keyed-requires
+keyed-requires c κs = search needs
+
 returns-4 : tie.Need-returns-4
-returns-4 c = simp ((c .before .before .before .before .signature .given .1), eq-eqb _ _ (sym (c .before .before .span .ensures) ∙ (c .before .if1 .left)), not-true (c .before .before .before .before .before .before .before .args .verified) (c .if2 .taken))
-
-limits-requires : tie.Need-limits-requires
-limits-requires c κs = search needs
-
-returns-5 : tie.Need-returns-5
-returns-5 c = (c .limits .ensures) ∙ simp ((c .before .before .before .before .before .signature .given .1), eq-eqb _ _ (sym (c .before .before .before .span .ensures) ∙ (c .before .before .if1 .left)), not-false (c .before .before .before .before .before .before .before .before .args .verified) (c .before .if2 .left))
+returns-4 c = (c .keyed .ensures) ∙ simp ((c .before .before .before .before .signature .given .1), eq-eqb _ _ (sym (c .before .before .span .ensures) ∙ (c .before .if1 .left)))
 
 pub signed-spec : {M : Type 1} → statement M
 signed-spec =
@@ -55,6 +51,5 @@ signed-spec =
     returns-2
     span-requires
     returns-3
-    returns-4
-    limits-requires
-    returns-5)
+    keyed-requires
+    returns-4)

@@ -1,15 +1,15 @@
--- `admission::weigh` meets its contract: the id's places pick the case.
+-- `admission::weigh` meets its contract: the id's places pick the case, and the sender is tested before the seqno is looked at.
 use denote.Ref.{now}
-use mathlib.Core.Path.{_≡_, ap, _∙_}
-use Rattle.schema.specs.declared.Slots.{Slots}
-use Rattle.admission.specs.declared.Admission.the-variants as admission
-use Rattle.admission.specs.Admission.{onLimits, onWord, onSignature}
-use Rattle.admission.proofs.Turns.{admit-on}
+use mathlib.Core.Path.{_≡_, refl, sym, ap, _∙_}
+use native.Mathlib.Omega.{arith}
+use Rattle.ids.specs.IdLaws.{Fits, id-fits}
+use Rattle.admission.proofs.Turns.{admit-on, first-inside, fifth-inside, parts-of, peer-on, peer-not, signed-on}
 use borrow.Author.Needs.{needs}
 use Rattle.admission.proofs.weigh.Statement.{statement}
 use Rattle.admission.proofs.weigh.Tie as tie
 use Rattle.admission.proofs.weigh.Reads as reads
 use Rattle.admission.proofs.weigh.Lts as lts
+use Rattle.admission.proofs.known.Reads as known-reads
 use Rattle.admission.proofs.signed.Reads as signed-reads
 use Rattle.ids.proofs.id_of.Reads as id-of-reads
 use Rattle.schema.proofs.slots_of.Reads as slots-of-reads
@@ -29,31 +29,51 @@ enum-known-id c = search needs
 enum-told-2 : tie.Need-enum-told-2
 enum-told-2 c = search needs
 
+known-requires : tie.Need-known-requires
+known-requires c κs = first-inside _ _ (c .before .before .before .slots-of .ensures)
+
+returns : tie.Need-returns
+returns c = peer-on _ _ (c .before .before .before .before .before .slots-of .ensures) _ _ (c .before .known .ensures) _ (c .if1 .taken) refl ∙ admit-on _ _ _ _ _ (c .before .before .before .before .before .slots-of .ensures) (c .before .before .before .before .id-of .ensures) (c .before .before .enum-told2 .given .1)
+
 enum-known-id-2 : tie.Need-enum-known-id-2
 enum-known-id-2 c = search needs
 
-signed-requires : tie.Need-signed-requires
-signed-requires c κs = search needs
+known-requires-2 : tie.Need-known-requires-2
+known-requires-2 c κs = first-inside _ _ (c .before .before .before .before .slots-of .ensures)
 
-returns : tie.Need-returns
-returns c = admit-on _ _ _ _ _ (c .before .before .before .slots-of .ensures) (c .before .before .id-of .ensures) (c .enum-told .given .1)
+-- from and seqno lie within the message
+inside : (c : tie.Then2) → Fits (now (c .before .before .before .before .before .before .before .before .args .part)) (c .before .before .before .id2 .given .0 .0) (c .before .before .before .id2 .given .0 .1 .0) (c .before .before .before .id2 .given .0 .1 .1 .0) (c .before .before .before .id2 .given .0 .1 .1 .1 .0)
+inside c = id-fits _ _ _ _ _ (parts-of _ _ (c .before .before .before .before .before .before .slots-of .ensures) _ _ _ _ _ (c .before .before .before .before .before .id-of .ensures) (c .before .before .before .id2 .given .1))
+
+sub-signed : tie.Need-sub-signed
+sub-signed c = inside c .from .0
+
+part-signed-start : tie.Need-part-signed-start
+part-signed-start c = let h = inside c .from in search needs
+
+part-signed-end : tie.Need-part-signed-end
+part-signed-end c = let h = inside c .from in search needs
+
+signed-requires : tie.Need-signed-requires
+signed-requires c κs = (c .before .before .before .before .before .before .before .before .before .pre, fifth-inside _ _ (c .before .before .before .before .before .before .before .slots-of .ensures))
 
 returns-2 : tie.Need-returns-2
-returns-2 c = admit-on _ _ _ _ _ (c .before .before .before .before .slots-of .ensures) (c .before .before .before .id-of .ensures) (c .before .id
-    .given .1)
+returns-2 c = let i = c .before .before .before .before .before .id2 .given in
+    peer-on _ _ (c .before .before .before .before .before .before .before .before .slots-of .ensures) _ _ (c .before .before .before .known2 .ensures) _ (c .before .before .if2 .taken)
+    (signed-on (now (c .before .before .before .before .before .before .before .before .before .before .args .part)) _ (c .before .before .before .before .before .before .before .before .slots-of .ensures) _ _ _ _ _ _ (parts-of _ _ (c .before .before .before .before .before .before .before .before .slots-of .ensures) _ _ _ _ _ (c .before .before .before .before .before .before .before .id-of .ensures) (i .1)) (c .signed .ensures))
+    ∙ admit-on _ _ _ _ _ (c .before .before .before .before .before .before .before .before .slots-of .ensures) (c .before .before .before .before .before .before .before .id-of .ensures) (i .1)
 
 returns-3 : tie.Need-returns-3
-returns-3 c = admit-on _ _ _ _ _ (c .before .before .before .slots-of .ensures) (c .before .before .id-of .ensures) (c .enum-told2 .given .1)
+returns-3 c = admit-on _ _ _ _ _ (c .before .before .before .slots-of .ensures) (c .before .before .id-of .ensures) (c .enum-told .given .1)
 
 returns-4 : tie.Need-returns-4
-returns-4 c =
-    let i = c .before .before .id2 .given .0 in
-    (c .signed .ensures)
-    ∙ ap (λ (s : Slots). onSignature (s .fourth) (s .fifth) (onWord (c .before .before .before .before .before .before .before .args .verified)
-    (onLimits (now (c .before .before .before .before .before .before .before .args .part)) (admission.Fit (i .0) (i .1 .0) (i .1 .1 .0) (i .1 .1
-    .1 .0)))))
-    (c .before .before .before .before .before .slots-of .ensures) ∙ admit-on _ _ _ _ _ (c .before .before .before .before .before .slots-of .ensures)
-    (c .before .before .before .before .id-of .ensures) (c .before .before .id2 .given .1)
+returns-4 c = admit-on _ _ _ _ _ (c .before .before .before .before .slots-of .ensures) (c .before .before .before .id-of .ensures) (c .before .id .given .1)
+
+returns-5 : tie.Need-returns-5
+returns-5 c = peer-not _ _ (c .before .before .before .before .before .slots-of .ensures) _ _ (c .before .known .ensures) (c .if1 .left) ∙ admit-on _ _ _ _ _ (c .before .before .before .before .before .slots-of .ensures) (c .before .before .before .before .id-of .ensures) (c .before .before .enum-told2 .given .1)
+
+returns-6 : tie.Need-returns-6
+returns-6 c = peer-not _ _ (c .before .before .before .before .before .before .slots-of .ensures) _ _ (c .before .known2 .ensures) (c .if2 .left) ∙ admit-on _ _ _ _ _ (c .before .before .before .before .before .before .slots-of .ensures) (c .before .before .before .before .before .id-of .ensures) (c .before .before .before .id2 .given .1)
 
 pub weigh-spec : {M : Type 1} → statement M
 weigh-spec =
@@ -64,9 +84,16 @@ weigh-spec =
     enum-told
     enum-known-id
     enum-told-2
-    enum-known-id-2
-    signed-requires
+    known-requires
     returns
+    enum-known-id-2
+    known-requires-2
+    sub-signed
+    part-signed-start
+    part-signed-end
+    signed-requires
     returns-2
     returns-3
-    returns-4)
+    returns-4
+    returns-5
+    returns-6)

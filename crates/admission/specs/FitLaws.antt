@@ -1,0 +1,191 @@
+-- A message is taken exactly where it is fit.
+use Prim.Native.Nat.{ℕ, _-_, _^_, _≤_, _<_}
+use mathlib.Core.Path.{_≡_, refl, sym, ap, subst, _∙_}
+use mathlib.Core.Bool.{Bool, true, false}
+use mathlib.Core.List.{List}
+use mathlib.Core.Logic.{_↔_}
+use native.Mathlib.Omega.{arith}
+use lib.ListN.{length, drop, length-take, length-drop}
+use borrow.Author.Tests.{eq-eqb, ne-eqb, le-ltb}
+use Rattle.basis.specs.Cases.{clash, both}
+use Rattle.basis.specs.Bytes.{Bytes}
+use Rattle.basis.specs.Lists.{drop-bytes, take-bytes}
+use Rattle.peer_id.specs.declared.PeerId.{PeerId}
+use Rattle.peer_id.specs.declared.PeerId.the-variants as peer
+use Rattle.peer_id.specs.PeerId.{fromBytes, digestOf}
+use Rattle.peer_id.specs.Multihash.{Hash, identity, sha-256, IsPeerId}
+use Rattle.peer_id.specs.MultihashLaws.{peer-exactly}
+use Rattle.key.specs.declared.KeyType.{KeyType}
+use Rattle.key.specs.declared.PublicKey.{PublicKey}
+use Rattle.key.specs.declared.PublicKey.the-variants as key
+use Rattle.key.specs.Key.{IsKey}
+use Rattle.key.specs.Decode.{decodeProtobuf}
+use Rattle.key.specs.KeyLaws.{key-exactly}
+use Rattle.protobuf.specs.Walk.{between}
+use Rattle.rows.specs.Ids.{sameBytes}
+use Rattle.rows.specs.IdsLaws.{same-self, same-equal}
+use Rattle.schema.specs.declared.Kind.the-variants as kind
+use Rattle.schema.specs.declared.Place.{Place}
+use Rattle.schema.specs.declared.Place.the-variants as place
+use Rattle.schema.specs.Slots.{slotsOf}
+use Rattle.ids.specs.declared.MessageId.the-variants as id
+use Rattle.ids.specs.Ids.{idParts}
+use Rattle.admission.specs.declared.Admission.{Admission}
+use Rattle.admission.specs.declared.Admission.the-variants as admission
+use Rattle.admission.specs.Admission.{topicsOf, firstLong, onLimits, onWord, isRead, isKey, byHash, keyMatches}
+use Rattle.admission.specs.Admission.{keyInside, onKey, onSignature, isPeerId, onPeer, senderOf, onId}
+use Rattle.admission.specs.Admission.{admissionOf}
+use Rattle.admission.specs.AdmissionLaws.{Limits, Signed, keyFits, fit-parts, sender-is, fit-passes}
+use Rattle.admission.specs.Fit.{KeyOf, inside, same, hashed, IsFit}
+
+-- ---- which peer id it is
+of-hash : (s : List ℕ) (r : PeerId) → fromBytes s ≡ r → byHash r true true ≡ true → (h : Hash) × IsPeerId s h (digestOf s)
+of-hash s peer.Identity e n = (identity, peer-exactly s (digestOf s) identity .0 (e, refl))
+of-hash s peer.Sha256 e n = (sha-256, peer-exactly s (digestOf s) sha-256 .0 (e, refl))
+of-hash s peer.NotPeerId e n = clash (cc)
+
+peer-is : (s : List ℕ) → isPeerId s ≡ true → (h : Hash) × IsPeerId s h (digestOf s)
+unfolding isPeerId
+peer-is s h = of-hash s (fromBytes s) refl h
+
+-- ---- bytes are a key
+is-read : (k : List ℕ) (r : PublicKey) → Bytes k → length k < 2 ^ 64 → decodeProtobuf k ≡ r → isRead r ≡ true
+    → (t : KeyType) × (d : List ℕ) × IsKey k t d
+is-read k (key.Key t a) b l e h = (t, drop a k, key-exactly k t (drop a k) b l .0 (a, e, refl))
+is-read k (key.Refused why) b l e h = clash (cc)
+
+pub key-read-exactly : (k : List ℕ) → Bytes k → length k < 2 ^ 64
+    → (isKey k ≡ true) ↔ ((t : KeyType) × (d : List ℕ) × IsKey k t d)
+unfolding isKey
+key-read-exactly k b l = (
+  is-read k (decodeProtobuf k) b l refl,
+  λ x. ap isRead (key-exactly k (x .0) (x .1) b l .1 (x .2) .1),
+)
+
+-- ---- the key clause
+module _ (p s : List ℕ) (bp : Bytes p) (bs : Bytes s) (lp : length p ≤ 4096) (ls : length s ≤ 4096) where
+  part-bytes : (a e : ℕ) → Bytes (between p a e)
+  part-bytes a e = take-bytes (e - a) (drop a p) (drop-bytes a p bp)
+
+  part-small : (a e : ℕ) → length (between p a e) < 2 ^ 64
+  part-small a e = rw (length-take (e - a) (drop a p), length-drop a p) (omega arith)
+
+  digest-small : length (digestOf s) < 2 ^ 64
+  digest-small = rw (length-drop 2 s) (omega arith)
+
+  is-inside : (r : PeerId) → fromBytes s ≡ r → byHash r (isKey (digestOf s)) false ≡ true → KeyOf p s place.Absent
+  is-inside peer.Identity e h =
+      let k = key-read-exactly (digestOf s) (drop-bytes 2 s bs) digest-small .0 h in
+      inside (peer-exactly s (digestOf s) identity .0 (e, refl)) (k .2)
+  is-inside peer.Sha256 e h = clash (cc)
+  is-inside peer.NotPeerId e h = clash (cc)
+
+  is-there : (a e : ℕ) (r : PeerId) → fromBytes s ≡ r → isKey (between p a e) ≡ true
+      → byHash r (sameBytes (digestOf s) (between p a e)) true ≡ true → KeyOf p s (place.Present a e)
+  is-there a e peer.Identity f k h =
+      let g = key-read-exactly (between p a e) (part-bytes a e) (part-small a e) .0 k in
+      same (peer-exactly s (between p a e) identity .0 (f, same-equal (digestOf s) (between p a e) h)) (g .2)
+  is-there a e peer.Sha256 f k h =
+      let g = key-read-exactly (between p a e) (part-bytes a e) (part-small a e) .0 k in
+      hashed (peer-exactly s (digestOf s) sha-256 .0 (f, refl)) (g .2)
+  is-there a e peer.NotPeerId f k h = clash (cc)
+
+  clause : (q : Place) → keyFits p s q ≡ true → KeyOf p s q
+  unfolding keyInside keyMatches
+  clause place.Absent h = is-inside (fromBytes s) refl h
+  clause (place.Present a e) h =
+      let b = both (isKey (between p a e)) (keyMatches s (between p a e)) h in
+      is-there a e (fromBytes s) refl (b .0) (b .1)
+
+  fits : {q : Place} → KeyOf p s q → keyFits p s q ≡ true
+  unfolding keyInside keyMatches
+  fits (inside {d} {k} {t} i x) =
+      let r = peer-exactly s d identity .1 i in
+      let y : isKey d ≡ true = key-read-exactly d (subst Bytes (r .1) (drop-bytes 2 s bs))
+      (subst (λ (l : List ℕ). length l < 2 ^ 64) (r .1) digest-small) .1 (t, k, x) in
+      rw (r .0, r .1) y
+  fits (same {a} {e} {k} {t} i x) =
+      let r = peer-exactly s (between p a e) identity .1 i in
+      let y = key-read-exactly (between p a e) (part-bytes a e) (part-small a e) .1 (t, k, x) in
+      rw (y, r .0, r .1) (same-self (between p a e))
+  fits (hashed {a} {e} {d} {k} {t} i x) =
+      let r = peer-exactly s d sha-256 .1 i in
+      let y = key-read-exactly (between p a e) (part-bytes a e) (part-small a e) .1 (t, k, x) in
+      rw (y, r .0)
+
+-- ---- what passes each test is handed on
+to-limits : (p : List ℕ) (r : Admission) → Limits p → onLimits p r ≡ r
+unfolding onLimits
+to-limits p r l =
+    let m = l .some in
+    simp (
+      ne-eqb (length (topicsOf p)) 0 (λ z. absurd (omega arith)),
+      le-ltb 4 (length (topicsOf p)) (l .few),
+      eq-eqb (firstLong (topicsOf p)) 0 (l .short),
+      le-ltb 4096 (length p) (l .small),
+    )
+
+to-word : (word : Bool) (r : Admission) → word ≡ true → onWord word r ≡ r
+to-word true r h = refl
+to-word false r h = clash (cc)
+
+to-key : (p s : List ℕ) (q : Place) (r : Admission) → keyFits p s q ≡ true → onKey p s q r ≡ r
+to-key p s place.Absent r h = rw h
+to-key p s (place.Present a e) r h =
+    let b = both (isKey (between p a e)) (keyMatches s (between p a e)) h in rw (b .0, b .1)
+
+to-signature : (s k : Place) (r : Admission) → Signed s → onSignature s k r ≡ r
+to-signature s k r g =
+    ap (λ (q : Place). onSignature q k r) (g .there) ∙ simp (eq-eqb (g .next - g .start) 64 (g .size))
+
+to-peer : (s : List ℕ) (h : Hash) (d : List ℕ) (r : Admission) → IsPeerId s h d → onPeer s r ≡ r
+unfolding isPeerId
+to-peer s identity d r i = rw (peer-exactly s d identity .1 i .0)
+to-peer s sha-256 d r i = rw (peer-exactly s d sha-256 .1 i .0)
+
+-- ---- both ways
+module _ (p : List ℕ) (word : Bool) (a e b f : ℕ) (bp : Bytes p) where
+  sender-bytes : Bytes (between p a e)
+  sender-bytes = take-bytes (e - a) (drop a p) (drop-bytes a p bp)
+
+  sender-small : length p ≤ 4096 → length (between p a e) ≤ 4096
+  sender-small l = rw (length-take (e - a) (drop a p), length-drop a p) (omega arith)
+
+  is-fit : admissionOf p word ≡ admission.Fit a e b f → IsFit p word a e b f
+  is-fit h =
+      let i = fit-parts p word a e b f h in
+      let g = fit-passes p word a e b f h in
+      let s : senderOf p ≡ between p a e = sender-is p a e b f i in
+      let n = peer-is (between p a e) (sym (ap isPeerId s) ∙ g .peer) in
+      let small = g .limits .small in
+      record {
+        parts = i;
+        hash = n .0;
+        digest = digestOf (between p a e);
+        peer = n .1;
+        signature = g .signature;
+        key = clause p (between p a e) bp sender-bytes small (sender-small small) (slotsOf kind.RawMessage p .fifth)
+            (sym (ap (λ (l : List ℕ). keyFits p l (slotsOf kind.RawMessage p .fifth)) s) ∙ g .key);
+        given = g .given;
+        limits = g .limits;
+      }
+
+  is-taken : IsFit p word a e b f → admissionOf p word ≡ admission.Fit a e b f
+  unfolding admissionOf
+  is-taken x =
+      let s : senderOf p ≡ between p a e = sender-is p a e b f (x .parts) in
+      let small = x .limits .small in
+      let q = slotsOf kind.RawMessage p .fifth in
+      let fit = admission.Fit a e b f in
+      let k : keyFits p (senderOf p) q ≡ true = ap (λ (l : List ℕ). keyFits p l q) s
+      ∙ fits p (between p a e) bp sender-bytes small (sender-small small) (x .key) in
+      ap (onId p word) (x .parts)
+      ∙ to-peer (senderOf p) (x .hash) (x .digest) _ (subst (λ (l : List ℕ). IsPeerId l (x .hash) (x .digest)) (sym s) (x .peer))
+      ∙ to-signature (slotsOf kind.RawMessage p .fourth) q _ (x .signature)
+      ∙ to-key p (senderOf p) q (onWord word (onLimits p fit)) k
+      ∙ to-word word (onLimits p fit) (x .given)
+      ∙ to-limits p fit (x .limits)
+
+  -- a message is taken, with from and seqno in these places, exactly where it is fit
+  pub fit-exactly : (admissionOf p word ≡ admission.Fit a e b f) ↔ IsFit p word a e b f
+  fit-exactly = (is-fit, is-taken)
