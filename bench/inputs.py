@@ -27,9 +27,14 @@ def some(n, seed):
     return bytes(out)
 
 
-def message(i, data, topics=(b"t",), who=38, seqno=8, signature=True):
+def sender(i):
+    """A peer id, 38 bytes: that of an Ed25519 key of 32."""
+    return bytes.fromhex("002408011220") + some(32, i)
+
+
+def message(i, data, topics=(b"t",), who=None, seqno=8, signature=True):
     """A message as a gateway publishes it."""
-    parts = [field(1, some(who, i)), field(2, data), field(3, i.to_bytes(seqno, "big"))] + [field(4, topic) for topic in topics]
+    parts = [field(1, who or sender(i)), field(2, data), field(3, i.to_bytes(seqno, "big"))] + [field(4, topic) for topic in topics]
     return field(2, b"".join(parts) + (field(5, some(64, i)) if signature else b""))
 
 
@@ -45,7 +50,7 @@ def unit(i, size):
     """A mixed body of this size with 8 records: a subscription, a message with its topic, an offer with an id, a graft, a prune with a peer."""
     rest = (field(1, b"\x08\x01" + field(2, b"ct/brain"))
             + field(3, field(1, field(1, b"ct/brain") + field(2, some(46, i))) + field(3, field(1, b"mr/knee"))
-                    + field(4, field(1, b"mr/hip") + field(2, field(1, some(38, i)) + field(2, some(100, i))) + b"\x18\x3c")))
+                    + field(4, field(1, b"mr/hip") + field(2, field(1, sender(i)) + field(2, some(100, i))) + b"\x18\x3c")))
     for data in range(size, 0, -1):
         made = message(i, some(data, i), (b"ct/brain",)) + rest
         if len(made) == size:
@@ -74,17 +79,20 @@ def filled(parts, size=FULL):
 
 def bodies():
     """(name, body)."""
-    yield "small-77", bytes.fromhex("124b0a01411a01012201742a40") + bytes(64)
+    # The body of the scope's trace.
+    key = bytes.fromhex("1ed1e8fae2c4a144b8be8fd4b47bf3d3b34b871c3cacf6010f0e42d474fce27e")
+    yield "small-114", bytes.fromhex("12700a26002408011220") + key + bytes.fromhex("1a01012201742a40") + bytes(64)
     for size in (1024, 2048, 4096, 8192, 16384, 32768, 65536):
         yield "mixed-%d" % size, mixed(size)
     yield "messages", filled(message(i, some(3900, i)) for i in range(16))
-    yield "short-messages", b"".join(message(i, b"", (), 1, 2, False) for i in range(MAX_RECORDS))
+    # The shortest that are read: no gateway admits them, and their senders are no peer ids.
+    yield "short-messages", b"".join(message(i, b"", (), some(1, i), 2, False) for i in range(MAX_RECORDS))
     yield "one-message", message(1, some(FULL - 132, 1))
-    yield "many-topics", field(2, field(1, b"A") + field(3, b"1") + b"".join(field(4, some_text(i)) for i in range(MAX_RECORDS - 1)))
+    yield "many-topics", field(2, field(1, sender(0)) + field(3, b"1") + b"".join(field(4, some_text(i)) for i in range(MAX_RECORDS - 1)))
     yield "offered-ids", ihave(b"t", [some(125, i) for i in range(MAX_RECORDS - 1)])
     yield "requested-ids", iwant([some(46, i) for i in range(MAX_RECORDS - 1)])
     yield "subscriptions", b"".join(field(1, b"\x08\x01" + field(2, b"topic-%04d" % i)) for i in range(MAX_RECORDS))
-    yield "prunes", b"".join(field(3, field(4, field(1, b"t") + field(2, field(1, some(38, i)) + field(2, some(70, i))))) for i in range(MAX_RECORDS // 2))
+    yield "prunes", b"".join(field(3, field(4, field(1, b"t") + field(2, field(1, sender(i)) + field(2, some(70, i))))) for i in range(MAX_RECORDS // 2))
     yield "empty-records", b"\x0a\x00" * MAX_RECORDS
     yield "unknown-fields", b"\x20\x00" * (FULL // 2)
     yield "cut", mixed(FULL)[:-1]
@@ -107,8 +115,8 @@ def write(folder):
         assert len(body) <= FULL, name
         put(name + ".bin", body)
         names.append(name + ".bin")
-    # Ids of one publisher, as a seen cache has them: a mark, a name and a number.
-    ids = [b"\x01" + some(56, 0) + i.to_bytes(8, "big") for i in range(768)]
+    # Ids of one publisher, as a seen cache has them: a mark, a peer id and a number. They have 65 bytes.
+    ids = [b"\x01" + sender(0) + i.to_bytes(26, "big") for i in range(768)]
     put("ids", b"".join(ids[:512]))
     put("others", b"".join(ids[512:]))
     for name, size, count in (("small", 100, 128), ("large", 3900, 512)):
@@ -123,4 +131,4 @@ def write(folder):
 
 
 def id_of(i):
-    return some(38, i) + i.to_bytes(8, "big")
+    return sender(i) + i.to_bytes(8, "big")

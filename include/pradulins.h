@@ -29,14 +29,16 @@ extern "C" {
 /* ---- version */
 
 /*
- * The version that this header is of, 0.4.0: 10000 times the first number, 100 times the second, and the third. pradulins_version() is that of the archive.
+ * The version that this header is of, 0.5.0: 10000 times the first number, 100 times the second, and the third. pradulins_version() is that of the archive.
  * Since 0.4.0 `values` has 8 numbers, where it had 4: a program that was made with an earlier header lends too few, and is not to be linked with this archive.
  * Make it anew, and hold pradulins_version() to PRADULINS_VERSION before the first call.
+ * Since 0.5.0 a message's from is a peer id, and pradulins_admit meets 34, 35 and 36 ("senders", below). A node that an earlier version saved is taken if the messages
+ * that it keeps pass these tests; one that keeps a message of another sender is not well formed (42): start anew, and catch up.
  * The format is that of a node's bytes and its stores: a state that was saved under another format is not to be loaded. pradulins_format() is the archive's: hold
  * it to PRADULINS_FORMAT before the first call, since a node of another format may have another length. Format 2 came with 0.3.0: a node keeps where the topics of
  * its messages stand, and has 12,432 bytes where it had 11,344. Nodes of format 1 are not taken over: start anew, and catch up.
  */
-#define PRADULINS_VERSION 400
+#define PRADULINS_VERSION 500
 #define PRADULINS_FORMAT 2
 
 /* ---- sizes */
@@ -101,6 +103,9 @@ extern "C" {
 #define PRADULINS_TOPIC_TOO_LONG 29     /* a topic above 1,024 bytes: its length */
 #define PRADULINS_MESSAGE_TOO_LONG 30   /* a message above 4,096 bytes: its length */
 #define PRADULINS_CLOCK_BACK 31         /* the reading is before the node's clock: the clock */
+#define PRADULINS_NOT_PEER_ID 34        /* from is no peer id */
+#define PRADULINS_INVALID_KEY 35        /* the message has a key, and it does not decode */
+#define PRADULINS_KEY_MISMATCH 36       /* the key is not the one that from holds; or there is none, neither in the message nor in from */
 #define PRADULINS_BAD_SETTING 40        /* a setting out of range, or a seen store shorter than max_seen rows */
 #define PRADULINS_BAD_STORE 41          /* a store whose length the settings do not say */
 #define PRADULINS_MALFORMED 42          /* node and stores are not well formed */
@@ -131,6 +136,23 @@ extern "C" {
 #define PRADULINS_KIND_PRUNE 9       /* field 0: topic_id. Number: backoff */
 #define PRADULINS_KIND_PEER_INFO 10  /* of the PRUNE before it. Fields: peer_id, signed_peer_record */
 
+/* ---- senders */
+
+/*
+ * The from of a message that is admitted is a libp2p peer id, else it is refused (34). A peer id has one of two forms:
+ *
+ *     00 n KEY      a key of n bytes, at most 42. An Ed25519 sender is 00 24 08 01 12 20 and the 32 bytes of its key, 38 bytes in all
+ *     12 20 HASH    32 bytes, the SHA-256 of a key
+ *
+ * A key is a libp2p public key: 08 TYPE 12, the length of DATA as a minimal varint, DATA, and nothing else; TYPE is 0 (RSA), 1 (Ed25519), 2 (Secp256k1) or
+ * 3 (ECDSA). What a message has as its key must be one (35). Where from is 00 n KEY, that must be KEY; a message without a key needs a KEY that is one. Where
+ * from is 12 20 HASH, the message must have a key (36).
+ *
+ * `verified` is the host's word: the signature verifies over pradulins_sign_bytes under the message's key, or where it has none, under KEY; and HASH is the SHA-256
+ * of that key. The library does no cryptography: it tests neither, nor whether DATA is fit for its TYPE. Calls on ids (pradulins_message_id, pradulins_explain)
+ * do not ask for a peer id.
+ */
+
 /* ---- the node */
 
 /*
@@ -145,8 +167,10 @@ extern "C" {
  * seen: after a short stop that means a wrong clock, so stop and ask a person.
  *
  * Saved states. Bytes that were changed on disk may still be well formed: no call finds another byte of stored data or of an id in the seen store, or a clock that
- * was moved; the newest expiry far ahead is found (42) only after the next new notice. Keep a checksum over node and stores, with PRADULINS_FORMAT and the length, and test it before they are used; write a new file beside the old one, flush
- * it, and rename it over the old one, so that a crash leaves one of the two. examples/c/gateway.c does all of this; docs/OPERATING.md says more.
+ * was moved; the newest expiry far ahead is found (42) only after the next new notice. Keep a checksum over node and stores, with PRADULINS_FORMAT and the length,
+ * and test it before they are used; write a new file beside the old one, flush it, and rename it over the old one, so that a crash leaves one of the two. Where the
+ * checksum is right and pradulins_state answers 42, a version before 0.5.0 saved it, with messages of senders that are no peer ids: start anew.
+ * examples/c/gateway.c does all of this; docs/OPERATING.md says more.
  */
 
 /*
@@ -157,10 +181,10 @@ extern "C" {
 uint32_t pradulins_start(uint8_t node[PRADULINS_NODE_SIZE], uint64_t ttl, size_t max_seen, size_t history_len, size_t max_messages);
 
 /*
- * Admits the message at `index` of `body` (from 0), where `verified` is the host's word that its signature was verified, and `at` the reading of the
+ * Admits the message at `index` of `body` (from 0), where `verified` is the host's word on its signature ("senders", above), and `at` the reading of the
  * host's clock. The node drops the ids whose time is over, and then takes the message if its id is not seen.
  * values[0]: 1 where the message is new, and was stored; 0 where it is a duplicate. Both set the clock.
- * Refused: 40, 41, 42, 10, 1 to 7, 11, 20 to 30, 31, in this order.
+ * Refused: 40, 41, 42, 10, 1 to 7, 11, 20, 21, 22, 34, 23, 24 or 25, 26, 35, 36, 27, 28, 29, 30, 31, in this order.
  */
 uint32_t pradulins_admit(uint8_t node[PRADULINS_NODE_SIZE], uint8_t *seen_store, size_t seen_store_len, uint8_t *cache_store,
                          size_t cache_store_len, const uint8_t *body, size_t body_len, size_t index, bool verified, uint64_t at,
@@ -334,6 +358,9 @@ static inline const char *pradulins_refusal_text(uint32_t number)
     case PRADULINS_TOPIC_TOO_LONG: return "a topic has above 1,024 bytes";
     case PRADULINS_MESSAGE_TOO_LONG: return "the message has above 4,096 bytes";
     case PRADULINS_CLOCK_BACK: return "the reading is before the node's clock";
+    case PRADULINS_NOT_PEER_ID: return "the sender is no peer id";
+    case PRADULINS_INVALID_KEY: return "the key does not decode";
+    case PRADULINS_KEY_MISMATCH: return "the key is not the sender's, or there is none";
     case PRADULINS_BAD_SETTING: return "a setting is out of range, or the seen store is too short";
     case PRADULINS_BAD_STORE: return "a store has not the length that the settings say";
     case PRADULINS_MALFORMED: return "node and stores are not well formed";

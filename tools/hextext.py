@@ -1,4 +1,4 @@
-"""Bytes as people write them: hex words, HEX*TIMES, $NAME, @FILE; topics as text. For tools/trace, tools/inspect and tools/why."""
+"""Bytes as people write them: hex words, HEX*TIMES, peer:KEY, $NAME, @FILE; topics as text. For tools/trace, tools/inspect and tools/why."""
 
 import os
 import re
@@ -7,6 +7,11 @@ MOST_TIMES = 65536
 MOST_BYTES = 2**24
 CUT_TEXT = 28
 TOO_MANY = "the bytes are above %d" % MOST_BYTES
+
+# The peer id of an Ed25519 key is this and the key's 32 bytes: identity, 36 bytes; type 1, 32 bytes of data.
+PEER = "peer:"
+BEFORE_KEY = bytes.fromhex("00 24 08 01 12 20")
+KEY_SIZE = 32
 
 
 class Mistake(Exception):
@@ -48,14 +53,23 @@ def file_bytes(name, folder, wanted=BESIDE):
 def hexed(word, whole):
     bad = re.search("[^0-9a-fA-F]", word)
     if bad:
-        raise Mistake("'%s' is no hex (its character %d is '%s'): expected two hex digits for each byte, HEX*TIMES, $NAME, or @FILE alone"
+        raise Mistake("'%s' is no hex (its character %d is '%s'): expected two hex digits for each byte, HEX*TIMES, peer:KEY, $NAME, or @FILE alone"
                       % (cut(whole, CUT_TEXT), bad.start() + 1, bad.group()))
     if len(word) % 2:
         raise Mistake("'%s' has an odd number of hex digits: expected two for each byte" % cut(whole, CUT_TEXT))
     return bytes.fromhex(word)
 
 
+def peer_bytes(word, names):
+    key = word_bytes(word[len(PEER):], names)
+    if len(key) != KEY_SIZE:
+        raise Mistake("the key in '%s' has the length %d: expected the %d bytes of an Ed25519 key" % (cut(word, CUT_TEXT), len(key), KEY_SIZE))
+    return BEFORE_KEY + key
+
+
 def word_bytes(word, names):
+    if word.startswith(PEER):
+        return peer_bytes(word, names)
     if word.startswith("$"):
         if word[1:] not in names:
             raise Mistake("no name '%s': expected a line `let %s BODY` before this one" % (word, word[1:] or "NAME"))

@@ -264,8 +264,8 @@ class Lines(unittest.TestCase):
         self.assertEqual(HOST.compared(["1 a", "status 1"], ["1 a"]), (1, "status 1, and not nothing"))
 
     def test_may_skip(self):
-        data = b"".join(struct.pack("<IH", len(content), kind) + content for kind, content in ((6, b"abc"), (1, b""), (7, b"x"), (9, b""), (6, b"")))
-        self.assertEqual(HOST.may_skip("inspect", data), {"1", "3", "5"})
+        data = b"".join(struct.pack("<IH", len(content), kind) + content for kind, content in ((6, b"abc"), (1, b""), (7, b"x"), (9, b""), (6, b""), (8, b"")))
+        self.assertEqual(HOST.may_skip("inspect", data), {"1", "3", "4", "5", "6"})
         self.assertEqual(HOST.may_skip("states", data), {"4"})
         self.assertEqual(HOST.may_skip("trace", data), set())
         self.assertEqual(HOST.may_skip("inspect", b"\xff\xff\xff\xff\x06\0"), {"1"})

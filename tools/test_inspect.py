@@ -26,7 +26,9 @@ import places  # noqa: E402
 
 SCRIPT = os.path.join(HERE, "inspect")
 PROGRAM = os.path.join(TOP, "target", "bin", "inspect")
-X = "12 4b 0a 01 41 1a 01 01 22 01 74 2a 40 00*64"
+KEY = "1ed1e8fae2c4a144b8be8fd4b47bf3d3b34b871c3cacf6010f0e42d474fce27e"
+SENDER = "002408011220" + KEY
+X = "12 70 0a 26 %s 1a 01 01 22 01 74 2a 40 00*64" % SENDER
 
 
 INSPECT = scripts.loaded("inspect")
@@ -80,20 +82,77 @@ class Case(cases.Case):
 class Bodies(Case):
     def test_a_message(self):
         wanted = [
-            "accepted: 77 bytes, 2 records", "message 0: 75 bytes", '  from       41 "A" (1 byte)', "  seqno      01 (1 byte)", '  topics     "t"',
-            "  data       absent", "  signature  %s.. (64 bytes)" % ("00" * 24), "  key        absent", "  id         4101 (2 bytes)", "canonical: yes"]
+            "accepted: 114 bytes, 2 records", "message 0: 112 bytes", "  from       %s (38 bytes): a peer id that holds an Ed25519 key" % SENDER,
+            "  seqno      01 (1 byte)", '  topics     "t"', "  data       absent", "  signature  %s.. (64 bytes)" % ("00" * 48), "  key        absent",
+            "  id         %s01 (39 bytes)" % SENDER, "canonical: yes"]
         self.assertEqual(self.shown(*X.split()), wanted)
         self.assertEqual(self.shown(X), wanted)
+        self.assertEqual(self.shown(X.replace(SENDER, "peer:" + KEY)), wanted)
         full = self.shown(X, "--full")
         self.assertEqual(full[6], "  signature  %s (64 bytes)" % ("00" * 64))
         self.assertEqual(full[:6] + full[7:], wanted[:6] + wanted[7:])
+
+    def test_senders_and_keys(self):
+        """What from and key of a message are; its bytes as they stand."""
+        hash = "1220" + "07" * 32
+        rows = (("41", "no peer id"), ("41*64", "no peer id"), ("41*65", "no peer id"), ("0000", "a peer id that holds no key"),
+                ("0003414243", "a peer id that holds no key"), ("000408011200", "a peer id that holds an Ed25519 key"),
+                ("000408001200", "a peer id that holds an RSA key"), ("000408021200", "a peer id that holds a Secp256k1 key"),
+                ("000408031200", "a peer id that holds an ECDSA key"), ("000408041200", "a peer id that holds no key"),
+                ("002a08011226 07*38", "a peer id that holds an Ed25519 key"), ("002b08011227 07*39", "no peer id"), (SENDER + "00", "no peer id"),
+                (hash, "a peer id, the SHA-256 of a key"), (hash[:-2], "no peer id"), (hash + "07", "no peer id"), ("800000", "no peer id"))
+        keys = (("08011220" + KEY, "an Ed25519 key"), ("0802 1220" + KEY, "a Secp256k1 key"), ("08001200", "an RSA key"), ("0803120100", "an ECDSA key"),
+                ("ff", "it does not decode"), ("08041200", "it does not decode"), ("0801120000", "it does not decode"), ("080012ac02 07*300", "an RSA key"))
+        body = b""
+        for sender, _ in rows:
+            body += field(2, field(1, INSPECT.joined([(word, "") for word in sender.split()], {})))
+        for key, _ in keys:
+            body += field(2, field(6, INSPECT.joined([(word, "") for word in key.split()], {})))
+        lines = self.shown("-", given=body)
+        told = [line.partition("): ")[2] for line in lines if line.startswith("  from ")]
+        self.assertEqual(told, [words for _, words in rows] + [""] * len(keys))
+        told = [line.partition("): ")[2] for line in lines if line.startswith("  key ")]
+        self.assertEqual(told, [""] * len(rows) + [words for _, words in keys])
+        self.assertEqual([line for line in lines if line.startswith("  from ")][-1], "  from       absent")
+
+    def test_a_key(self):
+        for key, *wanted in (
+                ("08011220" + KEY, "an Ed25519 key: 36 bytes", "  type       1, Ed25519", "  data       %s (32 bytes)" % KEY),
+                ("08001200", "an RSA key: 4 bytes", "  type       0, RSA", "  data       empty"),
+                ("08021201 41", "a Secp256k1 key: 5 bytes", "  type       2, Secp256k1", "  data       41 (1 byte)"),
+                ("0803120100", "an ECDSA key: 5 bytes", "  type       3, ECDSA", "  data       00 (1 byte)"),
+                ("080012ac02 07*300", "an RSA key: 305 bytes", "  type       0, RSA", "  data       %s.. (300 bytes)" % ("07" * 48)),
+                ("080012fbff03 00*65531", "an RSA key: 65,537 bytes", "  type       0, RSA", "  data       %s.. (65,531 bytes)" % ("00" * 48))):
+            self.assertEqual(self.shown("--key", key), wanted)
+        for key in ("", "08", "08041200", "0881001200", "12000801", "0801120000", "08011201", "080108011200", "ff", "080112 ff*9 01", SENDER):
+            self.assertEqual(self.shown("--key", key, status=1), ["refused 35: the key does not decode"])
+        self.assertEqual(self.shown("08011200", "--key"), ["an Ed25519 key: 4 bytes", "  type       1, Ed25519", "  data       empty"])
+        self.assertEqual(self.shown("--key", self.file("key", bytes.fromhex("08001200")))[0], "an RSA key: 4 bytes")
+        self.assertEqual(self.shown("--key", "-", "--hex", given=b"0800 1200\n")[0], "an RSA key: 4 bytes")
+        self.assertEqual(self.wrong("--key", "00*65536 00*65"), "inspect: the key has 65,601 bytes, and the program takes at most 65,600.\n")
+
+    def test_a_peer_id(self):
+        held = ["  hash       identity", "  digest     08011220%s (36 bytes)" % KEY, "  key        Ed25519, data %s (32 bytes)" % KEY]
+        self.assertEqual(self.shown("--peer", SENDER), ["a peer id: 38 bytes", *held])
+        self.assertEqual(self.shown("--peer", "peer:" + KEY), ["a peer id: 38 bytes", *held])
+        for peer, *wanted in (
+                ("0000", "a peer id: 2 bytes", "  hash       identity", "  digest     empty", "  key        none: refused 35: the key does not decode"),
+                ("0003414243", "a peer id: 5 bytes", "  hash       identity", "  digest     414243 (3 bytes)",
+                 "  key        none: refused 35: the key does not decode"),
+                ("000408031200", "a peer id: 6 bytes", "  hash       identity", "  digest     08031200 (4 bytes)", "  key        ECDSA, data empty"),
+                ("1220 07*32", "a peer id: 34 bytes", "  hash       SHA-256", "  digest     %s (32 bytes)" % ("07" * 32), "  key        not in it"),
+                ("12200801121c 41*28", "a peer id: 34 bytes", "  hash       SHA-256", "  digest     0801121c%s (32 bytes)" % ("41" * 28), "  key        not in it")):
+            self.assertEqual(self.shown("--peer", peer), wanted)
+        for peer in ("", "41", "67617465", "41*64", "002b 00*43", SENDER + "00", SENDER[:-2], "1220 07*31", "1220 07*33", "1221 07*33", "1114 07*20", "800000", "008000"):
+            self.assertEqual(self.shown("--peer", peer, status=1), ["refused 34: the sender is no peer id"])
 
     def test_absent_and_empty(self):
         lines = self.shown("120a 0a00 1200 1a00 2200 2a00", "120c 0a0141 120142 1a00 2200 3200", "1200")
         self.assertEqual([line[13:] for line in lines[2:9]], ["empty", "empty", "empty", "empty", "empty", "absent", "none: refused 22: from has 0 or above 64 bytes: it has 0 bytes"])
         self.assertEqual(lines[9], "message 1: 12 bytes")
         self.assertEqual([line[13:] for line in lines[10:17]],
-                         ['41 "A" (1 byte)', "empty", "empty", '42 "B" (1 byte)', "absent", "empty", "none: refused 23: seqno is missing, or has 0 or above 64 bytes"])
+                         ['41 "A" (1 byte): no peer id', "empty", "empty", '42 "B" (1 byte)', "absent", "empty: it does not decode",
+                          "none: refused 23: seqno is missing, or has 0 or above 64 bytes"])
         self.assertEqual([line[13:] for line in lines[18:25]], ["absent", "absent", "none", "absent", "absent", "absent", "none: refused 21: the message has no from"])
         self.assertIn("from has 0 or above 64 bytes: it has 65 bytes", self.shown("1246 0a41 41*65 1a0101")[8])
 
@@ -105,14 +164,14 @@ class Bodies(Case):
             "neither subscribe nor unsubscribe (the flag is absent): no topic"])
 
     def test_a_control(self):
-        offer = field(1, field(1, b"t") + field(2, b"A\x01") + field(2, b"gate") + field(2, b"") + field(2, bytes(30)))
+        offer = field(1, field(1, b"t") + field(2, b"A\x01") + field(2, b"gate") + field(2, b"") + field(2, bytes(49)))
         request = field(2, field(1, b"A\x01"))
         prune = field(4, field(1, b"ct") + field(2, field(1, b"peer") + field(2, b"\x00")) + field(2, b"") + b"\x18\x3c")
         body = field(3, offer + request) + field(2, b"") + field(3, field(3, field(1, b"t")) + prune + field(4, b"") + field(1, b"") + field(2, b"") + field(3, b""))
         lines = self.shown(body.hex())
         self.assertEqual(lines[1], "message 0: 0 bytes")
         self.assertEqual(lines[9:-2], [
-            "control", '  offer (IHAVE) of topic "t": 4 ids', "    4101", '    67617465 "gate"', "    empty", "    %s.. (30 bytes)" % ("00" * 24),
+            "control", '  offer (IHAVE) of topic "t": 4 ids', "    4101", '    67617465 "gate"', "    empty", "    %s.. (49 bytes)" % ("00" * 48),
             "  request (IWANT): 1 id", "    4101", '  graft: topic "t"', '  prune: topic "ct", backoff 60 s, 2 peers',
             '    peer 70656572 "peer" (4 bytes), signed record 00 (1 byte)', "    peer absent, signed record absent", "  prune: no topic, no backoff, no peers",
             "  offer (IHAVE) of no topic: no ids", "  request (IWANT): no ids", "  graft: no topic"])
@@ -124,7 +183,7 @@ class Bodies(Case):
         self.assertEqual(self.shown("2000*3"), ["accepted: 6 bytes, no records", "canonical: no; in canonical form it has 0 bytes, 6 saved"])
         self.assertEqual(self.shown("12000a00")[-2:], ["canonical: no; in canonical form it has 4 bytes, none saved:", "  0a001200"])
         self.assertEqual(self.shown(""), ["accepted: 0 bytes, no records", "canonical: yes"])
-        self.assertEqual(len(self.shown("0a00*40 2000")[-1]), 2 + 48 + 2)
+        self.assertEqual(len(self.shown("0a00*40 2000")[-1]), 2 + 96 + 2)
         self.assertEqual(len(self.shown("0a00*40 2000", "--full")[-1]), 2 + 160)
 
     def test_sign_bytes(self):
@@ -260,7 +319,7 @@ class Bodies(Case):
         status, out, err = self.call("-h")
         self.assertEqual((status, err), (0, ""))
         examples = re.findall(r"^  tools/inspect (.*)$", out, re.MULTILINE)
-        self.assertEqual(len(examples), 5)
+        self.assertEqual(len(examples), 7)
         self.addCleanup(os.chdir, os.getcwd())
         os.chdir(TOP)
         for line in examples:
@@ -328,6 +387,20 @@ MISTAKES = [
     (("1a00", "--sign=65536"), "'65536' is no message's index, 0 to 65535"),
     (("1a00", "--sign=-1"), "'-1' is no message's index"),
     (("--ful", "1a00"), "unrecognized arguments: --ful"),
+    (("peer:41",), "the key in 'peer:41' has the length 1: expected the 32 bytes of an Ed25519 key"),
+    (("peer:41*33",), "the key in 'peer:41*33' has the length 33"),
+    (("peer:",), "the key in 'peer:' has the length 0"),
+    (("peer:zz",), "'zz' is no hex"),
+    (("00", "peer:4"), "word 2: '4' has an odd number of hex digits"),
+    (("peer:$K",), "no name '$K': --names TRACE takes names from a trace"),
+    (("Peer:" + "41" * 32,), "its character 1 is 'P'"),
+    (("--key",), "no key: expected hex, a file, or - for standard input ('' is the empty key)"),
+    (("--peer",), "no peer id: expected hex"),
+    (("--key", "0g"), "'0g' is no hex (its character 2 is 'g')"),
+    (("--key", "080"), "'080' has an odd number of hex digits"),
+    (("--peer", "00", "0"), "word 2: '0' has an odd number of hex digits"),
+    (("--key", "--peer", "00"), "argument --peer: not allowed with argument --key"),
+    (("--key", "--sign", "--", "00"), "argument --sign: not allowed with argument --key"),
 ]
 
 
@@ -391,6 +464,21 @@ class Programs(Case):
             self.assertIn("none that it should give", self.told(self.stub(text)), text)
         for line in ("  sub -", "  sub x -", "  sub 1 00", "  rpc", "  message - - - - -", "  topic =00", "  id =00", "  peer - -", "  prune - =00", "  graft =0"):
             self.assertRegex(self.told(self.stub("1 decode ok 1 control\n%s\n2 encode 0" % line)), "should print|stands below none", line)
+
+    def test_strange_keys_and_peers(self):
+        for text in ("1 key 4 =", "1 key 01 =", "1 key 1", "1 key 1 00", "1 key 1 =0", "1 key 1 = =", "1 key =", "1 key refused 34", "1 peer identity =", "2 key 1 =",
+                     "1 key refused", "1 key 1 =\n2 key 1 ="):
+            self.assertIn("none that it should give", self.told(self.stub(text), "--key", "08011200"), text)
+        for text in ("1 peer 1 =", "1 peer identity", "1 peer sha512 =", "1 peer identity 00", "1 peer refused 35", "1 key 1 ="):
+            self.assertIn("none that it should give", self.told(self.stub(text), "--peer", "0000"), text)
+        silent = self.file("silent", "#!/bin/sh\ncat >/dev/null\n")
+        os.chmod(silent, 0o755)
+        self.assertIn("the program gave 0 of 1 answer", self.told(silent, "--key", ""))
+
+    def test_a_program_without_keys(self):
+        for words in (("--key", "00"), ("--peer", "00")):
+            self.assertEqual(self.told(self.stub("bad"), *words), "inspect: the program does not know keys and peer ids: it is of an earlier version, and "
+                             "`rt check inspect` makes it anew\n")
 
     def test_refusals_of_later_numbers(self):
         program = self.stub("1 decode refused 14 3\n2 encode refused 14 3")

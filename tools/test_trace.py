@@ -23,7 +23,9 @@ import scripts  # noqa: E402
 TOP = os.path.dirname(HERE)
 SCRIPT = os.path.join(HERE, "trace")
 ZEROS = bytes(64)
-X = bytes.fromhex("124b0a01411a01012201742a40") + ZEROS
+KEY = "1ed1e8fae2c4a144b8be8fd4b47bf3d3b34b871c3cacf6010f0e42d474fce27e"
+SENDER = "002408011220" + KEY
+X = bytes.fromhex("12700a26%s1a01012201742a40" % SENDER) + ZEROS
 
 MODEL = """\
 import sys
@@ -123,13 +125,16 @@ class Records(Case):
         self.file("with blank", b"\x05")
         for text, body in (
                 ("", b""), ("-", b""), ("1A0b", b"\x1a\x0b"), ("1a  0b\t0c", b"\x1a\x0b\x0c"), ("00*64", ZEROS), ("00*0", b""),
-                ("0a0b*2 0c", b"\x0a\x0b\x0a\x0b\x0c"), ("@x.body", X), ("@with blank", b"\x05"), ("12 4b 0a01411a01012201742a40 00*64", X),
-                ("05 # five", b"\x05"), ("# none", b"")):
+                ("0a0b*2 0c", b"\x0a\x0b\x0a\x0b\x0c"), ("@x.body", X), ("@with blank", b"\x05"), ("12 70 0a26 %s 1a01012201742a40 00*64" % SENDER, X),
+                ("12700a26 peer:%s 1a01012201742a40 00*64" % KEY, X), ("peer:41*32", bytes.fromhex("002408011220") + b"A" * 32),
+                ("01 peer:%s 02" % KEY.upper(), bytes.fromhex("01%s02" % SENDER)), ("05 # five", b"\x05"), ("# none", b"")):
             self.assertEqual(self.records("ask " + text), record(5, body), text)
 
     def test_names(self):
         text = "let a 01\nlet b2_ $a 02 $a\nask $b2_\nlet a 03*2\nask $a $b2_\nlet e\nask $e"
         self.assertEqual(self.records(text), record(5, b"\x01\x02\x01") + record(5, b"\x03\x03\x01\x02\x01") + record(5, b""))
+        text = "let K %s\nlet ID peer:$K\nask $ID\nwhy 1 peer:$K t" % KEY
+        self.assertEqual(self.records(text), record(5, bytes.fromhex(SENDER)) + record(12, b"\x01\x00\x26\x00" + bytes.fromhex(SENDER) + b"t"))
 
     def test_ids(self):
         self.file("id", b"\xff\xfe")
@@ -207,6 +212,13 @@ MISTAKES = [
     ("ask 0*2", "'0*2' has an odd number"),
     ("ask g*2", "'g*2' is no hex"),
     ("ask $none", "no name '$none'", "let none BODY"),
+    ("ask peer:" + KEY[2:], "the key in 'peer:d1e8fae2c4a144b8be8fd4b..' has the length 31: expected the 32 bytes of an Ed25519 key"),
+    ("ask peer:", "the key in 'peer:' has the length 0: expected the 32 bytes"),
+    ("ask 00 peer:41*33", "the key in 'peer:41*33' has the length 33"),
+    ("ask peer:$none", "no name '$none'", "let none BODY"),
+    ("ask peer:4", "'4' has an odd number of hex digits"),
+    ("ask peer:gate", "'gate' is no hex"),
+    ("ask peer", "'peer' is no hex", "peer:KEY"),
     ("ask @none.body", "no file 'none.body' in "),
     ("ask @/no/such", "no file '/no/such': expected @FILE"),
     ("ask @a\0b", "the file's name 'a\ufffdb' has a zero byte"),
@@ -300,7 +312,7 @@ class Playing(Case):
         status, out, err = self.call("--program", self.model, path)
         self.assertEqual((status, err), (0, ""))
         self.assertEqual(list(self.answers(out.decode()).values()), [
-            "77 bytes", "ok", "new", "11 bytes  1a090a070a017412024101", "dup", "ok", "0 bytes",
+            "32 bytes", "114 bytes", "ok", "new", "48 bytes  1a2e0a2c0a017412270024080112201ed1e8fae2..", "dup", "ok", "0 bytes",
             "refused 31: the reading is before the node's clock", "new"])
         self.assertIn("     # At 1100 the id has expired", out.decode())
 
@@ -324,6 +336,15 @@ class Playing(Case):
                 if name in ("OFFER", "REQUEST", "REPLY"):
                     self.assertIn(names[name].hex(), told)
 
+    def test_senders(self):
+        path = os.path.join(TOP, "examples", "senders.trace")
+        status, out, err = self.call("--program", self.model, path)
+        self.assertEqual((status, err), (0, ""))
+        no_peer, no_key = "refused 34: the sender is no peer id", "refused 35: the key does not decode"
+        other = "refused 36: the key is not the sender's, or there is none"
+        told = [answer for answer in self.answers(out.decode()).values() if not answer.endswith(" bytes")]
+        self.assertEqual(told, ["ok", no_peer, no_peer, other, no_key, no_key, other, "refused 27: the host did not verify the signature", "new", "dup", other, "new"])
+
     def test_why(self):
         """The example, each answer beside what its text says."""
         path = os.path.join(TOP, "examples", "why.trace")
@@ -336,7 +357,8 @@ class Playing(Case):
             "in the cache, in a window of age 1", "listed", "in the cache, in a window of age 0", "in the cache, without that topic",
             "listed", "listed", "not in the cache", "listed", "refused 29: a topic has above 1,024 bytes"])
         # What is advertised just before is listed, and nothing else is.
-        names = {"$IDX": "4101", "$IDY": "4102"}
+        names = {"$IDX": "002408011220" + "41" * 32 + "01", "$IDY": "002408011220" + "41" * 32 + "02"}
+        out = self.call("--full", "--program", asks, path)[1]
         for line in out.decode().split("\n"):
             if " advertise " in line:
                 offered, asked = line.split()[-1], line.split()[2:4]
@@ -361,11 +383,11 @@ class Playing(Case):
 
     def test_answers(self):
         status, out = self.play(
-            "let X 124b0a01411a01012201742a40 00*64\nset 10 4 2 4\nadmit 5 0 1 $X\nserve 1a0612040a024101\nserve\nask 1a0512030a0142\n"
+            "let X 12700a26 peer:41*32 1a01012201742a40 00*64\nset 10 4 2 4\nadmit 5 0 1 $X\nserve 1a2b12290a27 peer:41*32 01\nserve\nask 1a0512030a0142\n"
             "ask 1a070a0512014212014212\nask 1a050a0312014212\nask 1a050a03120142\nset 1 1 0 1\nbeat 4\nadvertise 1 =74*1025\nadmit 5 0 1 -")
         self.assertEqual(status, 0)
         self.assertEqual(self.answers(out), {
-            1: "77 bytes", 2: "ok", 3: "new", 4: "1 message, 0 left, 77 bytes  124b0a01411a01012201742a4000000000000000..",
+            1: "114 bytes", 2: "ok", 3: "new", 4: "1 message, 0 left, 114 bytes  12700a2600240801122041414141414141414141..",
             5: "0 messages, 0 left, 0 bytes",
             6: "0 bytes", 7: "refused 4: a field passes the end", 8: "refused 1: a varint is cut short", 9: "7 bytes  1a0512030a0142",
             10: "refused 40: a setting is out of range, or the seen store is too short", 11: "refused 31: the reading is before the node's clock",
@@ -385,11 +407,11 @@ class Playing(Case):
         self.assertEqual((status, out), (0, "  1  set 1 1 1 1           ok\n  2  advertise 1 a\ufffd[1m b   0 bytes\n"))
 
     def test_full(self):
-        text = "let X %s\nset 10 4 2 4\nadmit 5 0 1 %s\nserve 1a0612040a024101" % (X.hex(), X.hex())
+        text = "let X %s\nset 10 4 2 4\nadmit 5 0 1 %s\nserve 1a2b12290a27%s01" % (X.hex(), X.hex(), SENDER)
         status, out = self.play(text, "--full")
         self.assertEqual((status, out.count(X.hex())), (0, 3))
         self.assertNotIn("..", out)
-        self.assertIn("\n                              new\n", out)
+        self.assertIn("\n                    new\n", out)
         self.assertNotIn(X.hex(), self.play(text)[1])
 
     def test_nothing(self):
@@ -404,10 +426,10 @@ class Playing(Case):
         status, out, err = self.call("-h")
         self.assertEqual((status, err), (0, ""))
         example = out.decode().split("Example:\n")[1].split("More stand")[0]
-        wanted = re.findall(r"# (new|dup|11 bytes|refused 31)", example)
+        wanted = re.findall(r"# (new|dup|48 bytes|refused 31)", example)
         status, played = self.play(example)
         self.assertEqual(status, 0)
-        told = [answer for answer in self.answers(played).values() if answer not in ("77 bytes", "ok")]
+        told = [answer for answer in self.answers(played).values() if answer not in ("114 bytes", "ok")]
         self.assertEqual([answer[:len(want)] for answer, want in zip(told, wanted)], wanted)
         self.assertEqual(len(told), 4)
 

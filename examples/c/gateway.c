@@ -311,12 +311,20 @@ static int save(const struct gateway *g, const char *path)
 
 /* ---- a notice */
 
-/* The body of a notice: from `C`, seqno 1, topic `ct`, data `study 17`, and 64 bytes where a real one has its signature. */
-static const uint8_t BUILT_IN[88] = {0x12, 86, 0x0a, 1, 'C', 0x12, 8, 's', 't', 'u', 'd', 'y', ' ', '1', '7', 0x1a, 1, 1, 0x22, 2, 'c', 't', 0x2a, 64};
+/* An Ed25519 key has 32 bytes. Where a real one stands, this has 32 times `C`. */
+#define FOUR 'C', 'C', 'C', 'C'
+#define KEY FOUR, FOUR, FOUR, FOUR, FOUR, FOUR, FOUR, FOUR
+
+/* Its peer id, 38 bytes: 00 and the length of the rest, 36; then the key as libp2p writes it, which is its type, 1, its length, 32, and its bytes. */
+#define PEER_ID 0x00, 36, 0x08, 1, 0x12, 32, KEY
+
+/* The body of a notice: from a peer id, seqno 1, topic `ct`, data `study 17`, and 64 bytes where a real one has its signature. */
+static const uint8_t BUILT_IN[125] = {0x12, 123, 0x0a, 38, PEER_ID, 0x12, 8, 's', 't', 'u', 'd', 'y', ' ', '1', '7', 0x1a, 1, 1, 0x22, 2, 'c', 't', 0x2a, 64};
 
 /*
  * The host's word on a message. `sign` holds the bytes that its signature is made over; a real gateway tests the signature in the record against
- * them, with the key of the sender, by a library for that. This one believes everybody.
+ * them, by a library for that: with the key in the sender's peer id; or, where that is a SHA-256, with the message's own key, and it tests that the key
+ * has this SHA-256. This one believes everybody.
  */
 static bool verified(const uint8_t *sign, size_t sign_len, const uint64_t *record, const uint8_t *body)
 {

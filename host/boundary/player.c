@@ -1,6 +1,6 @@
 /*
  * Plays the records of the programs `inspect`, `trace`, `states` and `why` through pradulins.h, and prints their lines: on the same input the same lines are
- * expected. For what the interface does not have (kinds 6 and 7 of `inspect`, 9 and 10 of `states`) the line is the record's number and `-`. Beside that
+ * expected. For what the interface does not have (kinds 6 to 9 of `inspect`, 9 and 10 of `states`) the line is the record's number and `-`. Beside that
  * it watches the memory of each call: a refused one changes none but `values`, one that succeeds writes only what it counts, and `values` gets as many
  * numbers as the header says. Each call on a body is made again with room that just suffices and with one byte or number less. Before each call on a
  * node, pradulins_settings and pradulins_state are asked: they tell what stands in the node's bytes, or the refusal that the call then answers.
@@ -322,6 +322,8 @@ static int inspect(uint64_t kind, size_t len)
         return 1;
     case 6:
     case 7:
+    case 8:
+    case 9:
         return not_there();
     default:
         return 0;

@@ -33,8 +33,14 @@ def rows():
     yield "walk", "1a001a00", 2**64 - 1, ["end"]
     yield "walk", "f8ffffff0f00", 0, ["536870911 0 5 6"]
     x = X.hex()
-    yield "id", x, 0, ["2 4101"]
-    yield "sign", x, 0, ["23 %s0a01411a0101220174" % PREFIX]
+    yield "id", x, 0, ["39 %s01" % SENDER.hex()]
+    yield "sign", x, 0, ["60 %s0a26%s1a0101220174" % (PREFIX, SENDER.hex())]
+    # Ids and sign bytes are of any sender, and of any key.
+    for who in (b"A", b"gate", bytes(64)):
+        for key in (None, b"\xff"):
+            other = message(who=who, key=key).hex()
+            yield "id", other, 0, ["%d %s01" % (len(who) + 1, who.hex())]
+            yield "sign", other, 0, ["%d %s0a%02x%s1a0101220174" % (22 + len(who), PREFIX, len(who), who.hex())]
     for body, told in REFUSED:
         for call in ("decode", "encode", "sign", "id", "walk"):
             if call != "walk" or " in " not in told:
@@ -69,23 +75,40 @@ def field(number, content):
     return bytes([number * 8 + 2]) + wire.varint(len(content)) + content
 
 
-def message(who=b"A", seqno=b"\x01", topics=(b"t",), signature=bytes(64), key=None, data=None):
+# The key of the scope's trace, as libp2p writes an Ed25519 key, and the peer id that holds it.
+KEY = bytes.fromhex("1ed1e8fae2c4a144b8be8fd4b47bf3d3b34b871c3cacf6010f0e42d474fce27e")
+
+
+def key_of(kind, data=KEY):
+    return bytes([8, kind, 18]) + wire.varint(len(data)) + data
+
+
+def identity(digest):
+    return bytes([0, len(digest)]) + digest
+
+
+SENDER = identity(key_of(1))
+HASH = bytes.fromhex("1220") + b"\x07" * 32
+
+
+def message(who=SENDER, seqno=b"\x01", topics=(b"t",), signature=bytes(64), key=None, data=None):
     """A body with one message."""
     parts = [(1, who), (2, data), (3, seqno)] + [(4, topic) for topic in topics] + [(5, signature), (6, key)]
     return field(2, b"".join(field(number, content) for number, content in parts if content is not None))
 
 
 X = message()
+ID = SENDER + b"\x01"
 
 # Messages with the id of X's, and where the topics of each stand in it: (start, length).
 TOPIC_MESSAGES = (
-    (X[2:], [(8, 1)]),
-    (bytes.fromhex("22002200") + X[2:], [(2, 0), (4, 0), (12, 1)]),
-    (bytes.fromhex("2005") + X[2:], [(10, 1)]),
-    (bytes.fromhex("aa0103220174") + X[2:], [(14, 1)]),
-    (message(topics=(b"t", b"t", b"u", b""))[2:], [(8, 1), (11, 1), (14, 1), (17, 0)]),
-    (message(topics=(b"t" * 1024,))[3:], [(9, 1024)]),
-    (message(topics=(), data=bytes(4096 - 77))[3:] + field(4, b""), [(4096, 0)]),
+    (X[2:], [(45, 1)]),
+    (bytes.fromhex("22002200") + X[2:], [(2, 0), (4, 0), (49, 1)]),
+    (bytes.fromhex("2005") + X[2:], [(47, 1)]),
+    (bytes.fromhex("aa0103220174") + X[2:], [(51, 1)]),
+    (message(topics=(b"t", b"t", b"u", b""))[2:], [(45, 1), (48, 1), (51, 1), (54, 0)]),
+    (message(topics=(b"t" * 1024,))[3:], [(46, 1024)]),
+    (message(topics=(), data=bytes(4096 - 114))[3:] + field(4, b""), [(4096, 0)]),
 )
 
 
@@ -99,8 +122,9 @@ def inspect():
 
 # ---- refusals, and the trace with the values beside them
 
-OFFER = bytes.fromhex("1a090a070a017412024101")
-REQUEST = bytes.fromhex("1a0612040a024101")
+OFFER = bytes.fromhex("1a2e0a2c0a01741227") + ID
+REQUEST = bytes.fromhex("1a2b12290a27") + ID
+OTHER = identity(key_of(1, bytes(32))) + b"\x01"
 SETTINGS = ("set", 1000, 4, 2, 4)
 
 
@@ -111,15 +135,34 @@ def calls(told):
     yield ("advertise", ROOM, 1, b"t"), "advertise refused " + told
     yield ("ask", ROOM, OFFER), "ask refused " + told
     yield ("serve", ROOM, REQUEST), "serve refused " + told
-    yield ("why", 1, b"A\x01", b"t"), "why refused " + told
+    yield ("why", 1, ID, b"t"), "why refused " + told
 
 
 # Windows, id and topic, and what is said where X is in the newest window but one of two.
-QUESTIONS = ((2, b"A\x01", b"t", "listed"), (3, b"A\x01", b"t", "listed"), (65535, b"A\x01", b"t", "listed"), (1, b"A\x01", b"t", "window 1"),
-             (0, b"A\x01", b"t", "window 1"), (2, b"A\x01", b"u", "topic"), (0, b"A\x01", b"u", "topic"), (2, b"A\x01", b"", "topic"),
-             (2, b"A\x01", b"\xff", "topic"), (2, b"A\x01", b"t" * 1024, "topic"), (2, b"A\x02", b"t", "missing"), (2, b"", b"t", "missing"),
-             (2, b"A", b"t", "missing"), (2, b"\x01A\x01", b"t", "missing"), (2, bytes(128), b"t", "missing"), (2, bytes(129), b"t", "missing"),
-             (2, b"A\x02", b"\xff", "missing"), (2, b"A\x01", b"t" * 1025, "refused 29 1025"), (2, b"", b"\xff" * 1026, "refused 29 1026"))
+QUESTIONS = ((2, ID, b"t", "listed"), (3, ID, b"t", "listed"), (65535, ID, b"t", "listed"), (1, ID, b"t", "window 1"),
+             (0, ID, b"t", "window 1"), (2, ID, b"u", "topic"), (0, ID, b"u", "topic"), (2, ID, b"", "topic"),
+             (2, ID, b"\xff", "topic"), (2, ID, b"t" * 1024, "topic"), (2, SENDER + b"\x02", b"t", "missing"), (2, b"", b"t", "missing"),
+             (2, SENDER, b"t", "missing"), (2, b"\x01" + ID, b"t", "missing"), (2, b"A\x01", b"t", "missing"), (2, bytes(128), b"t", "missing"),
+             (2, bytes(129), b"t", "missing"), (2, SENDER + b"\x02", b"\xff", "missing"), (2, ID, b"t" * 1025, "refused 29 1025"),
+             (2, b"", b"\xff" * 1026, "refused 29 1026"))
+
+# X with one change, and what is told of it with the host's word.
+SENDERS = (
+    (X, "new"), (message(who=b"A"), "34"), (message(who=b"gate"), "34"), (message(who=b"A" * 64), "34"), (message(who=b"A" * 65), "22 65"),
+    (message(who=b""), "22 0"), (message(who=b"A", seqno=None), "34"), (message(seqno=None), "23"), (message(who=b"A", signature=None), "34"),
+    (message(who=identity(b"")), "36"), (message(who=identity(b"ABC")), "36"), (message(who=identity(b"ABC"), key=b"ABC"), "35"),
+    (message(who=identity(key_of(1, b""))), "new"), (message(who=identity(key_of(1, bytes(38)))), "new"),
+    (message(who=identity(key_of(1, bytes(39)))), "34"), (message(who=SENDER + b"\0"), "34"), (message(who=SENDER[:-1]), "34"),
+    (message(who=identity(key_of(4))), "36"), (message(who=HASH[:-1]), "34"), (message(who=HASH + b"\x07"), "34"),
+    (message(who=b"\x12\x21" + bytes(33)), "34"), (message(who=b"\x11\x14" + bytes(20)), "34"), (message(who=bytes.fromhex("800000")), "34"),
+    (message(who=bytes.fromhex("008000")), "34"), (message(key=key_of(1)), "new"), (message(key=key_of(2)), "36"), (message(key=b"\xff"), "35"),
+    (message(key=b""), "35"), (message(key=key_of(1)[:-1]), "35"), (message(key=key_of(1, b"")), "36"),
+    (message(key=b"\xff", signature=bytes(63)), "26 63"), (message(key=b"\xff", signature=None), "24"),
+    (message(who=identity(b"ABC"), signature=None), "25"), (message(who=HASH), "36"), (message(who=HASH, key=b"\xff"), "35"),
+    (message(who=HASH, key=key_of(1)), "new"), (message(who=HASH, key=key_of(0, bytes(300))), "new"),
+    (message(who=bytes.fromhex("1220") + key_of(1, b"A" * 28)), "36"), (message(topics=(b"t",) * 5, key=key_of(2)), "36"),
+    (message(topics=(b"t",) * 5, key=key_of(1)), "28 5"), (message(topics=(bytes(1025),), key=b"\xff"), "35"),
+)
 
 
 def steps():
@@ -129,13 +172,13 @@ def steps():
     # The trace of the scope.
     yield SETTINGS, "set ok"
     yield ("admit", 100, 0, 1, X), "admit new"
-    yield ("advertise", ROOM, 1, b"t"), "advertise 11 " + OFFER.hex()
+    yield ("advertise", ROOM, 1, b"t"), "advertise 48 " + OFFER.hex()
     yield ("admit", 100, 0, 1, X), "admit dup"
-    yield ("serve", ROOM, REQUEST), "serve 77 %s 1 0" % X.hex()
+    yield ("serve", ROOM, REQUEST), "serve 114 %s 1 0" % X.hex()
     yield ("ask", ROOM, OFFER), "ask 0"
     yield ("beat", 1100), "beat ok"
     yield ("advertise", ROOM, 1, b"t"), "advertise 0"
-    yield ("ask", ROOM, OFFER), "ask 8 " + REQUEST.hex()
+    yield ("ask", ROOM, OFFER), "ask 45 " + REQUEST.hex()
     yield ("admit", 1099, 0, 1, X), "admit refused 31 1100"
     yield ("beat", 1099), "beat refused 31 1100"
     # Why it is not offered.
@@ -143,9 +186,9 @@ def steps():
         yield ("why", windows, name, topic), "why " + told
     yield ("admit", 1100, 0, 1, X), "admit new"
     # New once more, it is still the cached one, in its old window.
-    yield ("why", 1, b"A\x01", b"t"), "why window 1"
+    yield ("why", 1, ID, b"t"), "why window 1"
     yield ("beat", 1100), "beat ok"
-    yield ("why", 65535, b"A\x01", b"t"), "why missing"
+    yield ("why", 65535, ID, b"t"), "why missing"
     # Lent stores of other lengths, and a node that is not well formed.
     yield SETTINGS, "set ok"
     yield ("admit", 100, 0, 1, X), "admit new"
@@ -156,9 +199,9 @@ def steps():
         yield from calls("41")
     yield ("lend", 4 * 129, 4 * 4096), "lend ok"
     for what, place, bad, right in ((program.SEEN_COUNT, 0, 5, 1), (program.COUNT, 0, 5, 1), (program.WINDOW, 0, 2, 0), (program.ARRIVAL, 0, 1, 0),
-                                    (program.LEN, 0, 74, 75), (program.ID_LEN, 0, 1, 2), (program.IDS, 0, 66, 65), (program.HISTORY_LEN, 0, 0, 2),
+                                    (program.LEN, 0, 111, 112), (program.ID_LEN, 0, 38, 39), (program.IDS, 0, 1, 0), (program.HISTORY_LEN, 0, 0, 2),
                                     (program.TOPIC_COUNT, 0, 0, 1), (program.TOPIC_COUNT, 0, 2, 1), (program.TOPIC_COUNT, 0, 5, 1),
-                                    (program.TOPIC_START, 0, 7, 8), (program.TOPIC_START, 0, 65535, 8), (program.TOPIC_LEN, 0, 2, 1),
+                                    (program.TOPIC_START, 0, 44, 45), (program.TOPIC_START, 0, 65535, 45), (program.TOPIC_LEN, 0, 2, 1),
                                     (program.TOPIC_LEN, 0, 65535, 1)):
         yield ("hurt", what, place, bad), "hurt ok"
         yield from calls("42")
@@ -166,7 +209,14 @@ def steps():
     # Slots past the topics that a message has, and rows that are not in use.
     for what, place in ((program.TOPIC_START, 1), (program.TOPIC_LEN, 3), (program.TOPIC_COUNT, 1), (program.TOPIC_START, 4)):
         yield ("hurt", what, place, 65535), "hurt ok"
-        yield ("advertise", ROOM, 1, b"t"), "advertise 11 " + OFFER.hex()
+        yield ("advertise", ROOM, 1, b"t"), "advertise 48 " + OFFER.hex()
+    # A cached message of another sender, as states of before may have it: in its place and in its id. What is no peer id, or holds no key, is not well formed.
+    for at, byte, told in ((37, 0, "ok"), (0, 110, "refused 42"), (0, 18, "refused 42"), (1, 35, "refused 42"), (3, 2, "ok"), (3, 4, "refused 42")):
+        yield SETTINGS, "set ok"
+        yield ("admit", 100, 0, 1, X), "admit new"
+        yield ("hurt", program.CACHE_BYTE, 2 + at, byte), "hurt ok"
+        yield ("hurt", program.IDS, at, byte), "hurt ok"
+        yield ("beat", 100), "beat " + told
     # Where the topics of a message stand: as told, and not a place beside it.
     for raw, kept in TOPIC_MESSAGES:
         yield SETTINGS, "set ok"
@@ -194,16 +244,27 @@ def steps():
                        (message(seqno=b""), "23"), (message(seqno=bytes(65)), "23"), (message(signature=None, key=b"k"), "24"),
                        (message(signature=None), "25"), (message(signature=bytes(63)), "26 63"), (message(topics=()), "28 0"),
                        (message(topics=(b"t",) * 5), "28 5"), (message(topics=(b"t", bytes(1025))), "29 1025"),
-                       (message(data=bytes(4097 - 75 - 3)), "30 4097")):
+                       (message(data=bytes(4097 - 112 - 3)), "30 4097")):
         yield ("admit", 100, 0, 1, body), "admit refused " + told
     yield ("admit", 100, 0, 0, X), "admit refused 27"
+    # Senders and keys: 34 to 36 are told without the host's word, too, and where the reading is before the clock. 27 comes before 28, and 31 is last.
+    for body, told in SENDERS:
+        fit = told == "new"
+        yield SETTINGS, "set ok"
+        yield ("beat", 100), "beat ok"
+        yield ("admit", 100, 0, 0, body), "admit refused " + ("27" if fit or told == "28 5" else told)
+        yield ("admit", 99, 0, 1, body), "admit refused " + ("31 100" if fit else told)
+        yield ("admit", 100, 0, 1, body), "admit new" if fit else "admit refused " + told
+        yield ("admit", 100, 0, 1, body), "admit dup" if fit else "admit refused " + told
+    yield SETTINGS, "set ok"
+    yield ("admit", 100, 0, 1, X), "admit new"
     yield ("advertise", ROOM, 1, bytes(1025)), "advertise refused 29 1025"
     # Room.
-    yield ("advertise", 10, 1, b"t"), "advertise refused 12 11"
-    yield ("serve", 76, REQUEST), "serve refused 12 77"
-    yield ("serve", 77, REQUEST), "serve 77 %s 1 0" % X.hex()
-    yield ("ask", 6, OFFER.replace(b"A\x01", b"B\x01")), "ask refused 12 8"
-    yield ("ask", 8, OFFER.replace(b"A\x01", b"B\x01")), "ask 8 1a0612040a024201"
+    yield ("advertise", 47, 1, b"t"), "advertise refused 12 48"
+    yield ("serve", 113, REQUEST), "serve refused 12 114"
+    yield ("serve", 114, REQUEST), "serve 114 %s 1 0" % X.hex()
+    yield ("ask", 44, OFFER.replace(ID, OTHER)), "ask refused 12 45"
+    yield ("ask", 45, OFFER.replace(ID, OTHER)), "ask 45 " + REQUEST.replace(ID, OTHER).hex()
     # Nothing was changed by all that.
     yield ("admit", 100, 0, 1, X), "admit dup"
 

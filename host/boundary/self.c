@@ -89,10 +89,14 @@ static void state_is_refused(size_t seen_len, size_t cache_len, uint32_t number)
 
 /* ---- nodes */
 
-/* A body with one message. */
-static void admit(uint8_t from, uint64_t at, size_t seen_len, size_t cache_len)
+/* A body with one message. Its sender is the peer id of an Ed25519 key, 32 equal bytes. */
+static void admit(uint8_t key, uint64_t at, size_t seen_len, size_t cache_len)
 {
-    uint8_t body[77] = {0x12, 0x4b, 0x0a, 1, from, 0x1a, 1, 1, 0x22, 1, 't', 0x2a, 0x40};
+    static const uint8_t head[10] = {0x12, 0x70, 0x0a, 0x26, 0, 0x24, 8, 1, 0x12, 0x20}, rest[8] = {0x1a, 1, 1, 0x22, 1, 't', 0x2a, 0x40};
+    uint8_t body[114] = {0};
+    memcpy(body, head, sizeof head);
+    memset(body + 10, key, 32);
+    memcpy(body + 42, rest, sizeof rest);
     expect(pradulins_admit(node, seen, seen_len, cache, cache_len, body, sizeof body, 0, true, at, values) == PRADULINS_OK && values[0] == 1,
            "a notice is not new");
 }
@@ -110,7 +114,17 @@ static void with_number(size_t at, uint64_t value, void (*test)(void))
 
 /* Where the numbers stand: crates/stored/specs/Layout.antt. */
 enum { TTL_AT = 0, MAX_SEEN_AT = 8, CLOCK_AT = 16, SEEN_COUNT_AT = 32, HISTORY_AT = 40, MAX_MESSAGES_AT = 48, COUNT_AT = 72, EXPIRIES_AT = 80 };
-enum { TOPIC_COUNTS_AT = 11344, TOPIC_STARTS_AT = 11408, TOPIC_LENGTHS_AT = 11920 };
+enum { IDS_AT = 3152, TOPIC_COUNTS_AT = 11344, TOPIC_STARTS_AT = 11408, TOPIC_LENGTHS_AT = 11920 };
+
+/* Sets a byte of the newest message's sender, in its place and in its id, tests, and sets it back. Both rings begin anew with the fourth message. */
+static void with_sender(size_t at, uint8_t value, void (*test)(void))
+{
+    uint8_t *in_place = cache + 2 + at, *in_id = node + IDS_AT + at, kept = *in_place;
+    expect(*in_id == kept, "the newest message's id stands elsewhere");
+    *in_place = *in_id = value;
+    test();
+    *in_place = *in_id = kept;
+}
 
 static void refused_42(void)
 {
@@ -176,16 +190,23 @@ static void nodes(void)
     with_number(SEEN_COUNT_AT, UINT64_MAX, refused_42);
     with_number(COUNT_AT, 4, refused_42);
     with_number(EXPIRIES_AT, UINT64_MAX, refused_42);
-    /* The places of topics. Each message has one, of 1 byte from the 8th on; 8 bytes are the four slots of a row, or the counts of eight rows. */
+    /* Senders: another peer id is taken; what is none, or holds no key, is not. */
+    with_sender(37, 'Z', taken);
+    with_sender(0, 'n', refused_42);
+    with_sender(0, 0x12, refused_42);
+    with_sender(1, 0x23, refused_42);
+    with_sender(3, 3, taken);
+    with_sender(3, 4, refused_42);
+    /* The places of topics. Each message has one, of 1 byte from the 45th on; 8 bytes are the four slots of a row, or the counts of eight rows. */
     with_number(TOPIC_COUNTS_AT, 0x000101, refused_42);
     with_number(TOPIC_COUNTS_AT, 0x010201, refused_42);
     with_number(TOPIC_COUNTS_AT, 0x050101, refused_42);
     with_number(TOPIC_COUNTS_AT, UINT64_MAX, refused_42);
     with_number(TOPIC_COUNTS_AT, 0xffffffffff010101, taken);
-    with_number(TOPIC_STARTS_AT, 7, refused_42);
-    with_number(TOPIC_STARTS_AT + 8, 9, refused_42);
+    with_number(TOPIC_STARTS_AT, 44, refused_42);
+    with_number(TOPIC_STARTS_AT + 8, 46, refused_42);
     with_number(TOPIC_STARTS_AT + 16, 0xffff, refused_42);
-    with_number(TOPIC_STARTS_AT, 0xffffffffffff0008, taken);
+    with_number(TOPIC_STARTS_AT, 0xffffffffffff002d, taken);
     with_number(TOPIC_STARTS_AT + 24, UINT64_MAX, taken);
     with_number(TOPIC_LENGTHS_AT, 2, refused_42);
     with_number(TOPIC_LENGTHS_AT + 8, 0, refused_42);

@@ -46,7 +46,7 @@ pub enum Record<'a> {
     Message {
         /// All its bytes.
         raw: &'a [u8],
-        /// Who published it.
+        /// Who published it: a peer id, if it is to be admitted.
         from: Option<&'a [u8]>,
         /// What it says.
         data: Option<&'a [u8]>,
@@ -139,7 +139,7 @@ pub struct Message<'a> {
     pub index: usize,
     /// All its bytes.
     pub raw: &'a [u8],
-    /// Who published it.
+    /// Who published it: a peer id, if it is to be admitted.
     pub from: Option<&'a [u8]>,
     /// What it says.
     pub data: Option<&'a [u8]>,

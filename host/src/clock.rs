@@ -255,7 +255,7 @@ mod tests {
     #[cfg(not(no_archive))]
     mod gateways {
         use super::*;
-        use crate::{Admitted, Refusal, Settings};
+        use crate::{body_of, Admitted, Refusal, Settings};
 
         /// Half an hour: less than the wall clock steps by.
         const SETTINGS: Settings = Settings { ttl: HOUR / 2, max_seen: 256, history_len: 4, max_messages: 4 };
@@ -263,9 +263,7 @@ mod tests {
 
         /// A body with one message.
         fn notice(seqno: u8) -> Vec<u8> {
-            let mut body = vec![0x12, 0x4b, 0x0a, 1, b'A', 0x1a, 1, seqno, 0x22, 1, b't', 0x2a, 0x40];
-            body.extend([0; 64]);
-            body
+            body_of(b'A', &[0x1a, 1, seqno, 0x22, 1, b't'])
         }
 
         /// What went wrong in a story.

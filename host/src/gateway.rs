@@ -108,10 +108,10 @@ impl Gateway {
         Ok(Gateway { node, seen: vec![0; max_seen * SEEN_ROW], cache: vec![0; max_messages * CACHE_PLACE] })
     }
 
-    /// Admits the message at `index` of `body` (from 0). `verified` is the host's word that its signature was verified; `now` is the host's clock
-    /// ([`Clock::now`](crate::Clock::now)).
+    /// Admits the message at `index` of `body` (from 0). `verified` is the host's word that its signature was verified, and of a sender that is a SHA-256,
+    /// that the message's key maps to it ([Senders](crate#senders)); `now` is the host's clock ([`Clock::now`](crate::Clock::now)).
     ///
-    /// Refused: what is wrong with the body (1 to 7, 10, 11), the index (20) or the message (21 to 30), in this order, and then
+    /// Refused: what is wrong with the body (1 to 7, 10, 11), the index (20) or the message (21, 22, 34, 23 to 26, 35, 36, 27 to 30), in this order, and then
     /// [`Refusal::ClockBack`].
     pub fn admit(&mut self, body: &[u8], index: usize, verified: bool, now: u64) -> Result<Admitted, Refusal> {
         let mut values = [0; VALUES];
@@ -272,6 +272,7 @@ impl std::fmt::Debug for Gateway {
 #[cfg(all(test, not(no_archive)))]
 mod tests {
     use super::*;
+    use crate::body_of;
 
     /// What the library says of a gateway, beside what is read in its bytes.
     fn agree(gateway: &Gateway) {
@@ -294,10 +295,8 @@ mod tests {
             agree(&gateway);
             assert_eq!((gateway.settings(), gateway.clock(), gateway.seen(), gateway.messages()), (settings, 0, 0, 0));
             for from in 1..=7 {
-                let mut body = vec![0x12, 0x4b, 0x0a, 1, from, 0x1a, 1, 1, 0x22, 1, b't', 0x2a, 0x40];
-                body.extend([0; 64]);
                 let now = 1 << (9 * u64::from(from) - 1);
-                gateway.admit(&body, 0, true, now).unwrap();
+                gateway.admit(&body_of(from, &[0x1a, 1, 1, 0x22, 1, b't']), 0, true, now).unwrap();
                 agree(&gateway);
                 assert_eq!((gateway.clock(), gateway.messages()), (now, usize::from(from).min(max_messages)));
             }

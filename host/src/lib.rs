@@ -11,8 +11,8 @@
 //! use std::io::ErrorKind;
 //! # fn verify(_message: &Message, _signed: &[u8]) -> bool { true }
 //! # fn file(_message: &Message) {}
-//! # let mut body = vec![0x12, 0x4b, 0x0a, 1, b'A', 0x1a, 1, 1, 0x22, 1, b't', 0x2a, 0x40];
-//! # body.extend([0; 64]);
+//! # let sender = [&[0, 0x24, 8, 1, 0x12, 0x20][..], &[b'A'; 32]].concat();
+//! # let body = [&[0x12, 0x70, 0x0a, 0x26][..], &sender, &[0x1a, 1, 1, 0x22, 1, b't', 0x2a, 0x40], &[0; 64]].concat();
 //! # let path = std::env::temp_dir().join(format!("pradulins-page-{}", std::process::id()));
 //!
 //! let settings = Settings { ttl: 3_600_000, max_seen: 256, history_len: 4, max_messages: 64 };
@@ -44,8 +44,8 @@
 //! # use pradulins::{Admitted, Gateway, Settings};
 //! # let settings = Settings { ttl: 3_600_000, max_seen: 256, history_len: 4, max_messages: 64 };
 //! # let (mut first, mut second) = (Gateway::start(settings)?, Gateway::start(settings)?);
-//! # let mut body = vec![0x12, 0x4b, 0x0a, 1, b'A', 0x1a, 1, 1, 0x22, 1, b't', 0x2a, 0x40];
-//! # body.extend([0; 64]);
+//! # let sender = [&[0, 0x24, 8, 1, 0x12, 0x20][..], &[b'A'; 32]].concat();
+//! # let body = [&[0x12, 0x70, 0x0a, 0x26][..], &sender, &[0x1a, 1, 1, 0x22, 1, b't', 0x2a, 0x40], &[0; 64]].concat();
 //! # first.admit(&body, 0, true, 100)?;
 //! let offer = first.advertise(b"t", 4)?;
 //! let request = second.ask(&offer)?;
@@ -63,16 +63,37 @@
 //!
 //! - Framing: how bodies are parted on the wire. The example in host/examples/catch_up has one way.
 //! - The check of signatures: over [`sign_bytes`] of a message, with its key or that of its sender. What came of it is passed to [`Gateway::admit`],
-//!   which takes it at its word.
+//!   which takes it at its word; see "Senders".
 //! - Readings of a clock, by [`Clock`], which does not step when the wall clock does.
 //! - A heartbeat at regular times ([`Gateway::heartbeat`]), and saving ([`Gateway::save_to`]).
+//!
+//! # Senders
+//!
+//! `from` of a message is a libp2p peer id, and any other is refused ([`Refusal::NotPeerId`]). It holds a key of at most 42 bytes (`00`, the key's length, the
+//! key), or it is the SHA-256 of a key (`12 20` and 32 bytes). The peer id of an Ed25519 key has 38 bytes:
+//!
+//! ```
+//! fn peer_id(key: [u8; 32]) -> [u8; 38] {
+//!     let mut id = [0; 38];
+//!     id[..6].copy_from_slice(&[0x00, 0x24, 0x08, 0x01, 0x12, 0x20]);
+//!     id[6..].copy_from_slice(&key);
+//!     id
+//! }
+//! # assert_eq!(peer_id([7; 32])[4..8], [0x12, 0x20, 7, 7]);
+//! ```
+//!
+//! The bytes from the third on are the key as libp2p writes it: its type (RSA 0, Ed25519 1, Secp256k1 2, ECDSA 3), the length of its data, its data. A message
+//! need not have a key of its own then; one that it has must decode ([`Refusal::InvalidKey`]) and be that of its sender ([`Refusal::KeyPeerIdMismatch`]). Where
+//! the sender is a SHA-256, the message must have a key, and `verified` says two things: that the signature verifies under this key, and that the key's SHA-256
+//! is the sender. The library does no cryptography: it takes the host's word for both.
 //!
 //! # Saved states
 //!
 //! [`Gateway::save`] writes a name, a format, a length and a checksum before the state, and [`Gateway::load`] says which of them is wrong, in a
 //! [`LoadError`]. The checksum is there since damaged bytes may still be well formed. [`Gateway::save_to`] and [`Gateway::load_from`] do the same
 //! with a file, written so that a crash leaves the old state or the new; [`write_file`] does that for any bytes. At the next start load it, make the
-//! clock by [`Clock::after`], and look at [`Clock::ahead_of`]: a gateway that is started anew has seen nothing.
+//! clock by [`Clock::after`], and look at [`Clock::ahead_of`]: a gateway that is started anew has seen nothing. A state that a version before 0.5.0 saved is
+//! refused ([`Refusal::Malformed`]) where it keeps messages of senders that are no peer ids: start a new gateway then.
 //!
 //! # Sizes
 //!
@@ -112,9 +133,9 @@
 //! The archive libpradulins.a is for x86-64 Linux. It is looked for where `rt staticlib pradulins` writes it in the repository that this crate stands
 //! in, or in the folder that the environment variable `PRADULINS_LIB_DIR` names (by its whole path: another counts from this crate's folder). Where
 //! there is none, or only one from before version 0.3.1, or for another machine, the crate can be checked and those of its tests run that call nothing of it;
-//! `tools/host` of the repository runs all tests and the example on Arm, too. An archive of another [`FORMAT`], or of a version that hands out other values
-//! (before 0.4.0), is found when a gateway is started or loaded, and when a call is refused, which then panics. A crate from before 0.4.0 does not find it: do
-//! not link it with an archive of this version.
+//! `tools/host` of the repository runs all tests and the example on Arm, too. An archive of another [`FORMAT`], or of a version with other values or other
+//! refusals (before 0.5.0), is found when a gateway is started or loaded, and when a call is refused, which then panics. A crate from before 0.4.0 does not find
+//! it: do not link it with an archive of this version.
 
 mod body;
 mod clock;
@@ -157,10 +178,10 @@ pub const MAX_BODY: usize = 65536;
 /// The most records that a body may have.
 pub const MAX_RECORDS: usize = 512;
 
-/// The archives that this crate can be linked with, by their version without its last number: in others a call hands out other values.
-const ARCHIVES: u32 = 4;
+/// The archives that this crate can be linked with, by their version without its last number: in others a call hands out other values or other refusals.
+const ARCHIVES: u32 = 5;
 
-/// Holds the archive that the program is linked with to this crate: another format, or a version with other values, is a fault of the build.
+/// Holds the archive that the program is linked with to this crate: another format, or a version with other answers, is a fault of the build.
 fn fits(format: u32, version: u32) {
     assert!(
         format == FORMAT,
@@ -186,7 +207,7 @@ fn answered(number: u32, values: &sys::Values) -> Result<(), Refusal> {
     if number == 0 {
         return Ok(());
     }
-    // An archive of an earlier version hands out no place.
+    // An archive of an earlier version hands out no place, or knows fewer refusals.
     fits(sys::format(), sys::version());
     Err(Refusal::from_call(number, values))
 }
@@ -201,6 +222,13 @@ fn made(room: usize, write: impl FnOnce(&mut [u8], &mut sys::Values) -> u32) -> 
     Ok(out)
 }
 
+/// A body with one message, for tests. Its sender is the peer id of an Ed25519 key, 32 times the same byte; what the message has between sender and signature is given.
+#[cfg(all(test, not(no_archive)))]
+fn body_of(key: u8, fields: &[u8]) -> Vec<u8> {
+    let message = [&[0x0a, 0x26, 0, 0x24, 8, 1, 0x12, 0x20], &[key; 32][..], fields, &[0x2a, 0x40], &[0; 64]].concat();
+    [&[0x12, message.len() as u8], &message[..]].concat()
+}
+
 #[cfg(test)]
 mod tests {
     use super::*;
@@ -208,21 +236,21 @@ mod tests {
     #[test]
     #[should_panic(expected = "is for format 3, and this crate for format 2: link the archive of the crate's own version")]
     fn an_archive_of_another_format() {
-        fits(FORMAT, 400);
-        fits(FORMAT, 499);
-        fits(FORMAT + 1, 400);
-    }
-
-    #[test]
-    #[should_panic(expected = "is of version 0.3.1, and this crate of 0.4.")]
-    fn an_archive_of_an_earlier_version() {
-        fits(FORMAT, 301);
-    }
-
-    #[test]
-    #[should_panic(expected = "is of version 0.5.0, and this crate of 0.4.")]
-    fn an_archive_of_a_later_version() {
         fits(FORMAT, 500);
+        fits(FORMAT, 599);
+        fits(FORMAT + 1, 500);
+    }
+
+    #[test]
+    #[should_panic(expected = "is of version 0.4.0, and this crate of 0.5.")]
+    fn an_archive_of_an_earlier_version() {
+        fits(FORMAT, 400);
+    }
+
+    #[test]
+    #[should_panic(expected = "is of version 0.6.0, and this crate of 0.5.")]
+    fn an_archive_of_a_later_version() {
+        fits(FORMAT, 600);
     }
 
     #[cfg(not(no_archive))]

@@ -125,6 +125,12 @@ pub enum Refusal {
         /// The gateway's clock.
         clock: u64,
     },
+    /// 34: the sender, from, is no peer id.
+    NotPeerId,
+    /// 35: the message has a key, and it does not decode.
+    InvalidKey,
+    /// 36: the key is not the one that the sender's peer id holds; or there is none, neither in the message nor in the peer id.
+    KeyPeerIdMismatch,
     /// 40: a setting out of range, or a seen store shorter than the settings say.
     BadSetting,
     /// 41: a store whose length the settings do not say.
@@ -135,7 +141,7 @@ pub enum Refusal {
 
 impl Refusal {
     /// All numbers of refusals that a call of this crate can meet.
-    pub const NUMBERS: [u32; 25] = [1, 2, 3, 4, 5, 6, 7, 10, 11, 12, 20, 21, 22, 23, 24, 25, 26, 27, 28, 29, 30, 31, 40, 41, 42];
+    pub const NUMBERS: [u32; 28] = [1, 2, 3, 4, 5, 6, 7, 10, 11, 12, 20, 21, 22, 23, 24, 25, 26, 27, 28, 29, 30, 31, 34, 35, 36, 40, 41, 42];
 
     /// The refusal that a call answered. A number that no contract allows is a fault of the archive.
     pub(crate) fn from_call(number: u32, values: &[u64; VALUES]) -> Refusal {
@@ -164,6 +170,9 @@ impl Refusal {
             29 => Refusal::TopicTooLong { length: a },
             30 => Refusal::MessageTooLong { length: a },
             31 => Refusal::ClockBack { clock: a },
+            34 => Refusal::NotPeerId,
+            35 => Refusal::InvalidKey,
+            36 => Refusal::KeyPeerIdMismatch,
             40 => Refusal::BadSetting,
             41 => Refusal::BadStore,
             42 => Refusal::Malformed,
@@ -196,6 +205,9 @@ impl Refusal {
             Refusal::TopicTooLong { .. } => 29,
             Refusal::MessageTooLong { .. } => 30,
             Refusal::ClockBack { .. } => 31,
+            Refusal::NotPeerId => 34,
+            Refusal::InvalidKey => 35,
+            Refusal::KeyPeerIdMismatch => 36,
             Refusal::BadSetting => 40,
             Refusal::BadStore => 41,
             Refusal::Malformed => 42,
@@ -241,6 +253,9 @@ impl Refusal {
             | Refusal::KeyWithoutSignature
             | Refusal::MissingSignature
             | Refusal::NotVerified
+            | Refusal::NotPeerId
+            | Refusal::InvalidKey
+            | Refusal::KeyPeerIdMismatch
             | Refusal::BadSetting
             | Refusal::BadStore
             | Refusal::Malformed => vec![],
@@ -276,6 +291,9 @@ impl fmt::Display for Refusal {
             Refusal::TopicTooLong { length } => write!(f, "a topic of {length} bytes, above 1,024"),
             Refusal::MessageTooLong { length } => write!(f, "a message of {length} bytes, above 4,096"),
             Refusal::ClockBack { clock } => write!(f, "the reading is before the clock, {clock}"),
+            Refusal::NotPeerId => write!(f, "the sender is no peer id"),
+            Refusal::InvalidKey => write!(f, "the key does not decode"),
+            Refusal::KeyPeerIdMismatch => write!(f, "the key is not the sender's, or there is none"),
             Refusal::BadSetting => write!(f, "a setting is out of range, or the seen store is too short"),
             Refusal::BadStore => write!(f, "a store has not the length that the settings say"),
             Refusal::Malformed => write!(f, "node and stores are not well formed"),
@@ -336,7 +354,7 @@ mod tests {
             let count = match number {
                 4 => 3,
                 5 | 6 => 2,
-                1 | 2 | 3 | 21 | 23 | 24 | 25 | 27 | 40 | 41 | 42 => 0,
+                1 | 2 | 3 | 21 | 23 | 24 | 25 | 27 | 34 | 35 | 36 | 40 | 41 | 42 => 0,
                 _ => 1,
             };
             assert_eq!(values, [11, 12, 13][..count]);

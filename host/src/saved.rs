@@ -49,7 +49,7 @@ pub enum LoadError {
     /// The bytes after the header are not those that were saved.
     Checksum,
     /// The bytes are as they were saved, and they are no node with its stores. [`Gateway::save`] writes no such bytes of a gateway that no damaged
-    /// state was loaded into.
+    /// state was loaded into; one of a version before 0.5.0 may have, of messages whose senders are no peer ids ([`Refusal::Malformed`]).
     Refused(Refusal),
 }
 
@@ -167,8 +167,9 @@ impl Gateway {
     /// fewer bytes than a node has, and for settings that no gateway is started with; [`Refusal::BadStore`] (41) where the stores are not as long as the
     /// settings say; then [`Refusal::Malformed`] where node and stores are not well formed. `load(&[])` is `Err(LoadError::Short { found: 0 })`.
     ///
-    /// What an earlier version saved is not loaded: a state of 0.2.0 is of format 1 ([`LoadError::Format`]), and one of 0.1.0 has no header
-    /// ([`LoadError::Name`]). Start a new gateway then, and let it catch up; docs/OPERATING.md of the repository says what that means.
+    /// What a version before 0.3.0 saved is not loaded: a state of 0.2.0 is of format 1 ([`LoadError::Format`]), and one of 0.1.0 has no header
+    /// ([`LoadError::Name`]). One of 0.3 and 0.4 is loaded, unless it keeps a message that is refused since 0.5.0, as that of a sender which is no peer id
+    /// ([`Refusal::Malformed`]). Start a new gateway then, and let it catch up; docs/OPERATING.md of the repository says what that means.
     ///
     /// The checksum finds bytes that were damaged. It is not a signature: who can write the file can write any state with a right checksum.
     pub fn load(bytes: &[u8]) -> Result<Gateway, LoadError> {
@@ -479,7 +480,7 @@ mod tests {
     #[cfg(not(no_archive))]
     mod states {
         use super::*;
-        use crate::{Admitted, Settings};
+        use crate::{body_of, Admitted, Settings};
 
         const SETTINGS: Settings = Settings { ttl: 1000, max_seen: 4, history_len: 2, max_messages: 2 };
 
@@ -487,18 +488,17 @@ mod tests {
         const EXPIRIES: usize = 80;
         const SEEN: usize = NODE_SIZE;
         const CACHE: usize = SEEN + 4 * 129;
+        const DATA: usize = 42; // of a message
 
         /// A body with one message, whose data is `data`.
-        fn body(from: u8) -> Vec<u8> {
-            let mut body = vec![0x12, 0x51, 0x0a, 1, from, 0x12, 4, b'd', b'a', b't', b'a', 0x1a, 1, 1, 0x22, 1, b't', 0x2a, 0x40];
-            body.extend([0; 64]);
-            body
+        fn body(key: u8) -> Vec<u8> {
+            body_of(key, b"\x12\x04data\x1a\x01\x01\x22\x01t")
         }
 
         fn filled() -> Gateway {
             let mut gateway = Gateway::start(SETTINGS).unwrap();
-            for from in b'A'..b'D' {
-                assert_eq!(gateway.admit(&body(from), 0, true, 5), Ok(Admitted::New));
+            for key in b'A'..b'D' {
+                assert_eq!(gateway.admit(&body(key), 0, true, 5), Ok(Admitted::New));
             }
             gateway
         }
@@ -536,6 +536,29 @@ mod tests {
             assert_eq!(word(Gateway::load(&old[HEADER..])), "Name");
             old[FORMAT_AT] = 2;
             assert_eq!(word(Gateway::load(&old)), "Refused(BadStore)");
+        }
+
+        /// A sender is a peer id since 0.5.0: states of before have the same bytes, but for messages of others.
+        #[test]
+        fn senders_of_before() {
+            let gateway = filled();
+            // The sender of the newest message is replaced wherever it stands: in the message, in its id, in the list of seen ids.
+            let sender = &body(b'C')[4..42];
+            let with = |other: &[u8]| {
+                word(Gateway::load(&resealed(&gateway, |rest| {
+                    let places: Vec<_> = (0..rest.len() - 37).filter(|at| rest[*at..*at + 38] == *sender).collect();
+                    assert_eq!(places.len(), 3);
+                    places.iter().for_each(|at| rest[*at..*at + 38].copy_from_slice(other));
+                })))
+            };
+            assert_eq!(with(&body(b'Z')[4..42]), "loaded");
+            // A host's name, as a site sent it; a byte of the multihash; a key of a type that there is not.
+            assert_eq!(with(b"gateway-17.north.radiology.example.org"), "Refused(Malformed)");
+            let changed = |at: usize, byte: u8| with(&[&sender[..at], &[byte], &sender[at + 1..]].concat());
+            assert_eq!(changed(0, 0x12), "Refused(Malformed)");
+            assert_eq!(changed(1, 0x23), "Refused(Malformed)");
+            assert_eq!(changed(3, 3), "loaded");
+            assert_eq!(changed(3, 4), "Refused(Malformed)");
         }
 
         #[test]
@@ -601,7 +624,7 @@ mod tests {
             let gateway = filled();
             let request = Gateway::start(SETTINGS).unwrap().ask(&gateway.advertise(b"t", 2).unwrap()).unwrap();
             // A byte of a message's data: it is served as it now stands.
-            let damaged = Gateway::load(&resealed(&gateway, |rest| rest[CACHE + 5] = b'D')).unwrap();
+            let damaged = Gateway::load(&resealed(&gateway, |rest| rest[CACHE + DATA] = b'D')).unwrap();
             let (right, wrong) = (gateway.serve(&request).unwrap().body, damaged.serve(&request).unwrap().body);
             assert_eq!(right.iter().zip(&wrong).filter(|(a, b)| a != b).map(|(_, b)| *b).collect::<Vec<_>>(), b"D");
             // A byte of an id that was seen: the notice is new again.

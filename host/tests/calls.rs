@@ -6,19 +6,89 @@ use pradulins::{Admitted, Clock, Gateway, LoadError, Message, Offer, Place, Reco
 
 const SETTINGS: Settings = Settings { ttl: 1000, max_seen: 4, history_len: 2, max_messages: 4 };
 
-/// The body of the scope's trace, with another name.
-fn body(from: u8) -> Vec<u8> {
-    let mut body = vec![0x12, 0x4b, 0x0a, 1, from, 0x1a, 1, 1, 0x22, 1, b't', 0x2a, 0x40];
-    body.extend([0; 64]);
-    body
+/// The key of the scope's trace.
+const KEY: [u8; 32] = [
+    0x1e, 0xd1, 0xe8, 0xfa, 0xe2, 0xc4, 0xa1, 0x44, 0xb8, 0xbe, 0x8f, 0xd4, 0xb4, 0x7b, 0xf3, 0xd3, 0xb3, 0x4b, 0x87, 0x1c, 0x3c, 0xac, 0xf6, 0x01,
+    0x0f, 0x0e, 0x42, 0xd4, 0x74, 0xfc, 0xe2, 0x7e,
+];
+
+/// The peer id of an Ed25519 key: 00, how long the rest is, and the key as libp2p writes it, which is its type, how long it is, and its bytes.
+fn peer_id(key: [u8; 32]) -> [u8; 38] {
+    let mut id = [0; 38];
+    id[..6].copy_from_slice(&[0x00, 0x24, 0x08, 0x01, 0x12, 0x20]);
+    id[6..].copy_from_slice(&key);
+    id
+}
+
+/// The id of a message: its sender, whose key is so many equal bytes, and its seqno.
+fn id(key: u8, seqno: u8) -> Vec<u8> {
+    [&peer_id([key; 32])[..], &[seqno]].concat()
+}
+
+/// A field of a message or a body.
+fn field(number: u8, bytes: &[u8]) -> Vec<u8> {
+    let length = match bytes.len() {
+        n @ 0..=0x7f => vec![n as u8],
+        n => vec![n as u8 | 0x80, (n >> 7) as u8],
+    };
+    [&[number << 3 | 2], &length[..], bytes].concat()
+}
+
+/// A message: the fields that it has, in their order.
+#[derive(Clone)]
+struct Notice {
+    from: Option<Vec<u8>>,
+    seqno: Option<Vec<u8>>,
+    topics: Vec<Vec<u8>>,
+    signature: Option<Vec<u8>>,
+    key: Option<Vec<u8>>,
+}
+
+/// The message of the scope's trace, with another sender.
+fn notice(from: &[u8]) -> Notice {
+    Notice { from: Some(from.to_vec()), seqno: Some(vec![1]), topics: vec![b"t".to_vec()], signature: Some(vec![0; 64]), key: None }
+}
+
+impl Notice {
+    /// A body with this message alone.
+    fn body(&self) -> Vec<u8> {
+        let one = |number, bytes: &Option<Vec<u8>>| bytes.iter().map(move |bytes| field(number, bytes)).collect::<Vec<_>>();
+        let topics = self.topics.iter().map(|topic| field(4, topic)).collect();
+        let parts = [one(1, &self.from), one(3, &self.seqno), topics, one(5, &self.signature), one(6, &self.key)];
+        field(2, &parts.concat().concat())
+    }
+
+    fn key(&self, key: &[u8]) -> Notice {
+        Notice { key: Some(key.to_vec()), ..self.clone() }
+    }
+
+    fn seqno(&self, seqno: Option<&[u8]>) -> Notice {
+        Notice { seqno: seqno.map(<[u8]>::to_vec), ..self.clone() }
+    }
+
+    fn signature(&self, signature: Option<&[u8]>) -> Notice {
+        Notice { signature: signature.map(<[u8]>::to_vec), ..self.clone() }
+    }
+
+    fn topics(&self, topic: &[u8], times: usize) -> Notice {
+        Notice { topics: vec![topic.to_vec(); times], ..self.clone() }
+    }
+}
+
+/// The body of the scope's trace, with another sender, whose key is so many equal bytes.
+fn body(key: u8) -> Vec<u8> {
+    notice(&peer_id([key; 32])).body()
 }
 
 #[test]
 fn the_trace_of_the_scope() {
-    let x = body(b'A');
+    let sender = peer_id(KEY);
+    let x = [&[0x12, 0x70, 0x0a, 0x26][..], &sender, &[0x1a, 1, 1, 0x22, 1, b't', 0x2a, 0x40], &[0; 64]].concat();
+    assert_eq!((x.len(), &x), (114, &notice(&sender).body()));
     let mut gateway = Gateway::start(SETTINGS).unwrap();
     assert_eq!(gateway.admit(&x, 0, true, 100), Ok(Admitted::New));
-    assert_eq!(gateway.advertise(b"t", 1).unwrap(), [0x1a, 9, 0x0a, 7, 0x0a, 1, b't', 0x12, 2, b'A', 1]);
+    let offer = [&[0x1a, 0x2e, 0x0a, 0x2c, 0x0a, 1, b't', 0x12, 0x27][..], &sender, &[1]].concat();
+    assert_eq!((gateway.advertise(b"t", 1), offer.len()), (Ok(offer), 48));
     assert_eq!(gateway.admit(&x, 0, true, 100), Ok(Admitted::Duplicate));
     assert_eq!(gateway.heartbeat(1100), Ok(()));
     assert_eq!(gateway.advertise(b"t", 1), Ok(vec![]));
@@ -41,10 +111,8 @@ fn settings_are_tested() {
 fn the_257th_notice() {
     let mut gateway = Gateway::start(Settings { ttl: 1_000_000, max_seen: 256, history_len: 4, max_messages: 64 }).unwrap();
     let notice = |n: u16| {
-        let [high, low] = n.to_be_bytes();
-        let mut body = vec![0x12, 0x4c, 0x0a, 1, b'A', 0x1a, 2, high, low, 0x22, 1, b't', 0x2a, 0x40];
-        body.extend([0; 64]);
-        body
+        let sender = notice(&peer_id([b'A'; 32]));
+        sender.seqno(Some(&n.to_be_bytes())).body()
     };
     for n in 1..=256 {
         assert_eq!(gateway.admit(&notice(n), 0, true, u64::from(n)), Ok(Admitted::New));
@@ -62,37 +130,39 @@ fn the_257th_notice() {
 #[test]
 fn why_a_notice_is_not_offered() {
     let mut gateway = Gateway::start(SETTINGS).unwrap();
+    let (a, b) = (&id(b'A', 1)[..], &id(b'B', 1)[..]);
     let older = |age| Ok::<_, Refusal>(Offer::OlderWindow { age });
-    assert_eq!(gateway.explain(b"A\x01", b"t", 1), Ok(Offer::NotCached));
+    assert_eq!(gateway.explain(a, b"t", 1), Ok(Offer::NotCached));
     gateway.admit(&body(b'A'), 0, true, 100).unwrap();
-    assert_eq!(gateway.explain(b"A\x01", b"t", 1), Ok(Offer::Listed));
-    assert_eq!(gateway.explain(b"A\x01", b"t", usize::MAX), Ok(Offer::Listed));
-    assert_eq!(gateway.explain(b"A\x01", b"t", 0), older(0));
+    assert_eq!(gateway.explain(a, b"t", 1), Ok(Offer::Listed));
+    assert_eq!(gateway.explain(a, b"t", usize::MAX), Ok(Offer::Listed));
+    assert_eq!(gateway.explain(a, b"t", 0), older(0));
     for topic in [&b"u"[..], b"", b"tt", b"\xff", &[b't'; 1024]] {
-        assert_eq!(gateway.explain(b"A\x01", topic, 0), Ok(Offer::WithoutTopic));
-        assert_eq!(gateway.explain(b"A\x02", topic, 1), Ok(Offer::NotCached));
+        assert_eq!(gateway.explain(a, topic, 0), Ok(Offer::WithoutTopic));
+        assert_eq!(gateway.explain(&id(b'A', 2), topic, 1), Ok(Offer::NotCached));
     }
-    for id in [&b""[..], b"A", b"\x01", b"A\x01\x00", b"\x01A\x01", &[b'A'; 128], &[b'A'; 129], &[0; 1000]] {
+    let (longer, marked) = ([a, &[0]].concat(), [&[1], a].concat());
+    for id in [&b""[..], b"A\x01", &a[..38], &a[1..], &longer, &marked, &[b'A'; 128], &[b'A'; 129], &[0; 1000]] {
         assert_eq!(gateway.explain(id, b"t", 1), Ok(Offer::NotCached));
         assert_eq!(gateway.explain(id, &[b't'; 1025], 1), Err(Refusal::TopicTooLong { length: 1025 }));
     }
-    assert_eq!(gateway.explain(b"A\x01", &[b't'; 1025], 1), Err(Refusal::TopicTooLong { length: 1025 }));
+    assert_eq!(gateway.explain(a, &[b't'; 1025], 1), Err(Refusal::TopicTooLong { length: 1025 }));
     gateway.heartbeat(200).unwrap();
     gateway.admit(&body(b'B'), 0, true, 200).unwrap();
-    assert_eq!((gateway.explain(b"A\x01", b"t", 1), gateway.explain(b"B\x01", b"t", 1)), (older(1), Ok(Offer::Listed)));
-    assert_eq!(gateway.explain(b"A\x01", b"t", 0), older(1));
-    assert_eq!(gateway.explain(b"A\x01", b"u", 0), Ok(Offer::WithoutTopic));
+    assert_eq!((gateway.explain(a, b"t", 1), gateway.explain(b, b"t", 1)), (older(1), Ok(Offer::Listed)));
+    assert_eq!(gateway.explain(a, b"t", 0), older(1));
+    assert_eq!(gateway.explain(a, b"u", 0), Ok(Offer::WithoutTopic));
     for (topic, windows) in [(b"t", 0), (b"t", 1), (b"t", 2), (b"t", 9), (b"u", 2)] {
         let offer = gateway.advertise(topic, windows).unwrap();
         let records = decode(&offer).unwrap().records;
-        for id in [&b"A\x01"[..], b"B\x01", b"C\x01", b"A", b""] {
+        for id in [a, b, &id(b'C', 1), &a[..38], b""] {
             assert_eq!(gateway.explain(id, topic, windows) == Ok(Offer::Listed), records.contains(&Record::MessageId(id)));
         }
     }
     // It leaves the cache by its age, though it is still seen.
     gateway.heartbeat(201).unwrap();
-    assert_eq!((gateway.seen(), gateway.explain(b"A\x01", b"t", 2)), (2, Ok(Offer::NotCached)));
-    assert_eq!(gateway.explain(b"B\x01", b"t", 1), older(1));
+    assert_eq!((gateway.seen(), gateway.explain(a, b"t", 2)), (2, Ok(Offer::NotCached)));
+    assert_eq!(gateway.explain(b, b"t", 1), older(1));
 }
 
 #[test]
@@ -100,16 +170,16 @@ fn lent_buffers_may_be_too_short() {
     let x = body(b'A');
     let mut gateway = Gateway::start(SETTINGS).unwrap();
     gateway.admit(&x, 0, true, 100).unwrap();
-    let mut out = [7; 80];
-    assert_eq!(gateway.advertise_into(b"t", 1, &mut out[..10]), Err(Refusal::Room { needed: 11 }));
-    let request = [0x1a, 6, 0x12, 4, 0x0a, 2, b'A', 1];
-    assert_eq!(gateway.serve_into(&request, &mut out[..76]), Err(Refusal::Room { needed: 77 }));
-    assert_eq!(out, [7; 80]);
-    assert_eq!(gateway.serve_into(&request, &mut out), Ok(Served { bytes: 77, messages: 1, left: 0 }));
-    assert_eq!((&out[..77], &out[77..]), (&x[..], &[7; 3][..]));
+    let mut out = [7; 117];
+    assert_eq!(gateway.advertise_into(b"t", 1, &mut out[..47]), Err(Refusal::Room { needed: 48 }));
+    let request = [&[0x1a, 0x2b, 0x12, 0x29, 0x0a, 0x27], &id(b'A', 1)[..]].concat();
+    assert_eq!(gateway.serve_into(&request, &mut out[..113]), Err(Refusal::Room { needed: 114 }));
+    assert_eq!(out, [7; 117]);
+    assert_eq!(gateway.serve_into(&request, &mut out), Ok(Served { bytes: 114, messages: 1, left: 0 }));
+    assert_eq!((&out[..114], &out[114..]), (&x[..], &[7; 3][..]));
     let fresh = Gateway::start(SETTINGS).unwrap();
-    assert_eq!(fresh.ask_into(&gateway.advertise(b"t", 1).unwrap(), &mut out), Ok(8));
-    assert_eq!(out[..8], request);
+    assert_eq!(fresh.ask_into(&gateway.advertise(b"t", 1).unwrap(), &mut out), Ok(45));
+    assert_eq!(out[..45], request);
 }
 
 #[test]
@@ -117,7 +187,9 @@ fn bodies() {
     let x = body(b'A');
     assert_eq!(reencode(&[0x1a, 0, 0x1a, 0]), Ok(vec![0x1a, 0]));
     assert_eq!(reencode(&x).as_ref(), Ok(&x));
-    assert_eq!(message_id(&x, 0), Ok(vec![b'A', 1]));
+    assert_eq!(message_id(&x, 0), Ok(id(b'A', 1)));
+    // Ids are of any sender: that it is a peer id is asked where a message is admitted.
+    assert_eq!(message_id(&notice(b"A").body(), 0), Ok(vec![b'A', 1]));
     assert_eq!(message_id(&x, 1), Err(Refusal::NoMessage { messages: 1 }));
     assert_eq!(sign_bytes(&[0x12, 6, 0x0a, 1, 0x41, 0x0a, 1, 0x42], 0).unwrap(), b"libp2p-pubsub:\x0a\x01\x42");
     assert_eq!(reencode(&vec![0; 65537]), Err(Refusal::BodyTooLarge { length: 65537 }));
@@ -198,29 +270,120 @@ fn places() {
     }
 }
 
+/// Who may send, and with which key: the scope's message with one change. None is new; a refusal by its number and values.
+#[test]
+fn senders() {
+    let sender = peer_id(KEY);
+    let x = notice(&sender);
+    let key = |kind: u8| [&[8, kind, 0x12, 0x20][..], &KEY].concat();
+    let with = |head: &[u8], byte: u8, times: usize| notice(&[head, &vec![byte; times]].concat());
+    let hash = with(&[0x12, 0x20], 7, 32);
+    let abc = notice(b"\x00\x03ABC");
+    let name = notice(b"A");
+    type Row = (Notice, Option<(u32, &'static [u64])>);
+    let rows: [Row; 46] = [
+        (x.clone(), None),
+        // Host names, and what is too long or too short for any sender.
+        (name.clone(), Some((34, &[]))),
+        (notice(b"gate"), Some((34, &[]))),
+        (notice(&[b'A'; 64]), Some((34, &[]))),
+        (notice(&[b'A'; 65]), Some((22, &[65]))),
+        (notice(b""), Some((22, &[0]))),
+        (Notice { from: None, ..x.clone() }, Some((21, &[]))),
+        // 34 comes after 22 and before 23.
+        (name.seqno(None), Some((34, &[]))),
+        (x.seqno(None), Some((23, &[]))),
+        (x.seqno(Some(b"")), Some((23, &[]))),
+        (name.signature(None), Some((34, &[]))),
+        (name.key(b"\xff"), Some((34, &[]))),
+        // Identities: of no key, of what is no key, of the shortest and the longest key.
+        (notice(&[0, 0]), Some((36, &[]))),
+        (abc.clone(), Some((36, &[]))),
+        (abc.key(b"ABC"), Some((35, &[]))),
+        (notice(&[0, 4, 8, 1, 0x12, 0]), None),
+        (with(&[0, 0x2a, 8, 1, 0x12, 0x26], 7, 38), None),
+        (with(&[0, 0x2b, 8, 1, 0x12, 0x27], 7, 39), Some((34, &[]))),
+        (with(&sender, 0, 1), Some((34, &[]))),
+        (notice(&sender[..37]), Some((34, &[]))),
+        (with(&[0, 0x24, 8, 4, 0x12, 0x20], 7, 32), Some((36, &[]))),
+        // Hashes: SHA-256 with 32 bytes, and no other.
+        (with(&[0x12, 0x20], 7, 31), Some((34, &[]))),
+        (with(&[0x12, 0x20], 7, 33), Some((34, &[]))),
+        (with(&[0x12, 0x21], 7, 33), Some((34, &[]))),
+        (with(&[0x11, 0x14], 7, 20), Some((34, &[]))),
+        (notice(&[0x80, 0, 0]), Some((34, &[]))),
+        (notice(&[0, 0x80, 0]), Some((34, &[]))),
+        (notice(&[0]), Some((34, &[]))),
+        // A key beside an identity: the same, another, or none that decodes.
+        (x.key(&key(1)), None),
+        (x.key(&key(2)), Some((36, &[]))),
+        (x.key(&key(1)[..35]), Some((35, &[]))),
+        (x.key(b"\xff"), Some((35, &[]))),
+        (x.key(b""), Some((35, &[]))),
+        (x.key(&[8, 1, 0x12, 0]), Some((36, &[]))),
+        // They come after 24, 25 and 26.
+        (x.key(b"\xff").signature(Some(&[0; 63])), Some((26, &[63]))),
+        (x.key(b"\xff").signature(None), Some((24, &[]))),
+        (abc.signature(None), Some((25, &[]))),
+        // A hash needs a key. Whether it maps to the hash is the host's word.
+        (hash.clone(), Some((36, &[]))),
+        (hash.key(b"\xff"), Some((35, &[]))),
+        (hash.key(&key(1)), None),
+        (hash.key(&[8, 0, 0x12, 0]), None),
+        (hash.key(&[&[8, 0, 0x12, 0xac, 2][..], &[7; 300]].concat()), None),
+        (with(&[0x12, 0x20, 8, 1, 0x12, 0x1c], b'A', 28), Some((36, &[]))),
+        // They come before 28 to 30.
+        (x.topics(b"t", 5), Some((28, &[5]))),
+        (x.topics(b"t", 5).key(&key(2)), Some((36, &[]))),
+        (x.topics(&[b't'; 1025], 1).key(b"\xff"), Some((35, &[]))),
+    ];
+    for (n, (notice, refused)) in rows.into_iter().enumerate() {
+        let body = notice.body();
+        let mut gateway = Gateway::start(SETTINGS).unwrap();
+        gateway.heartbeat(100).unwrap();
+        let before = gateway.clone();
+        let told = |answer: Result<Admitted, Refusal>| answer.map_err(|refusal| (refusal.number(), refusal.values(), refusal.place()));
+        // Without the host's word, 34, 35 and 36 are told all the same, and also where the reading is before the clock.
+        for (verified, now, fit) in [(false, 100, Some((27, &[][..]))), (true, 99, Some((31, &[100][..]))), (true, 100, None)] {
+            let wanted = match (refused, fit) {
+                (Some((number, _)), Some((27, _))) if matches!(number, 28..=30) => fit,
+                _ => refused.or(fit),
+            };
+            let answer = told(gateway.admit(&body, 0, verified, now));
+            assert_eq!(answer, wanted.map_or(Ok(Admitted::New), |(number, values)| Err((number, values.to_vec(), None))), "row {n}");
+            assert_eq!(gateway == before, answer.is_err());
+        }
+        // What is admitted can be kept and loaded.
+        assert!(Gateway::load(&gateway.save()).is_ok_and(|loaded| loaded == gateway));
+    }
+}
+
 #[test]
 fn records() {
     let x = body(b'A');
     let decoded = decode(&x).unwrap();
     assert!(!decoded.control);
-    let message = Record::Message { raw: &x[2..], from: Some(b"A"), data: None, seqno: Some(&[1]), signature: Some(&[0; 64]), key: None };
+    let sender = peer_id([b'A'; 32]);
+    let message = Record::Message { raw: &x[2..], from: Some(&sender), data: None, seqno: Some(&[1]), signature: Some(&[0; 64]), key: None };
     assert_eq!(decoded.records, [message, Record::Topic("t")]);
-    let offer = [0x1a, 9, 0x0a, 7, 0x0a, 1, b't', 0x12, 2, b'A', 1];
+    let id = id(b'A', 1);
+    let offer = [&[0x1a, 0x2e, 0x0a, 0x2c, 0x0a, 1, b't', 0x12, 0x27], &id[..]].concat();
     let decoded = decode(&offer).unwrap();
     assert!(decoded.control);
-    assert_eq!(decoded.records, [Record::IHave { topic_id: Some("t") }, Record::MessageId(b"A\x01")]);
+    assert_eq!(decoded.records, [Record::IHave { topic_id: Some("t") }, Record::MessageId(&id)]);
 }
 
 #[test]
 fn messages_with_their_topics() {
-    // Two messages with a subscription between them; the second has two topics and no signature.
+    // Two messages with a subscription between them; the second has two topics, a key that is none, and no signature.
     let first = body(b'A');
-    let second = [0x12, 0x0e, 0x0a, 1, b'B', 0x12, 0, 0x22, 1, b't', 0x22, 1, b'u', 0x32, 1, b'k'];
+    let (a, b) = (peer_id([b'A'; 32]), peer_id([b'B'; 32]));
+    let second = [&[0x12, 0x33, 0x0a, 0x26][..], &b, &[0x12, 0, 0x22, 1, b't', 0x22, 1, b'u', 0x32, 1, b'k']].concat();
     let both = [&first[..], &[0x0a, 2, 8, 1], &second].concat();
     let one = Message {
         index: 0,
         raw: &first[2..],
-        from: Some(b"A"),
+        from: Some(&a),
         data: None,
         seqno: Some(&[1]),
         signature: Some(&[0; 64]),
@@ -230,7 +393,7 @@ fn messages_with_their_topics() {
     let other = Message {
         index: 1,
         raw: &second[2..],
-        from: Some(b"B"),
+        from: Some(&b),
         data: Some(b""),
         seqno: None,
         signature: None,
@@ -239,7 +402,7 @@ fn messages_with_their_topics() {
     };
     assert_eq!(messages(&both), Ok(vec![one, other]));
     for message in messages(&both).unwrap() {
-        assert!(sign_bytes(&both, message.index).unwrap().windows(2).any(|pair| pair == [1, message.from.unwrap()[0]]));
+        assert_eq!(sign_bytes(&both, message.index).unwrap()[16..54], *message.from.unwrap());
     }
     assert_eq!(messages(&[]), Ok(vec![]));
     assert_eq!(messages(&[0x80]), Err(Refusal::VarintShort { place: Place::new(0, &[]) }));
@@ -258,14 +421,14 @@ fn a_walk_ends() {
 fn a_state_is_saved_and_loaded() {
     let mut gateway = Gateway::start(Settings { ttl: 3_600_000, ..SETTINGS }).unwrap();
     let mut clock = Clock::after(&gateway);
-    for from in b'A'..b'H' {
-        assert_eq!(gateway.admit(&body(from), 0, true, clock.now()), Ok(Admitted::New));
+    for key in b'A'..b'H' {
+        assert_eq!(gateway.admit(&body(key), 0, true, clock.now()), Ok(Admitted::New));
         let loaded = Gateway::load(&gateway.save()).unwrap();
         assert!(loaded == gateway);
         assert_eq!(loaded.advertise(b"t", 2), gateway.advertise(b"t", 2));
         gateway = loaded;
         clock = Clock::after(&gateway);
-        assert_eq!(gateway.admit(&body(from), 0, true, clock.now()), Ok(Admitted::Duplicate));
+        assert_eq!(gateway.admit(&body(key), 0, true, clock.now()), Ok(Admitted::Duplicate));
     }
     let saved = gateway.save();
     assert!(matches!(Gateway::load(&[]), Err(LoadError::Short { found: 0 })));
@@ -279,8 +442,8 @@ fn a_state_is_saved_and_loaded() {
 #[test]
 fn damage_is_refused_or_harmless() {
     let mut gateway = Gateway::start(SETTINGS).unwrap();
-    for from in b'A'..b'D' {
-        gateway.admit(&body(from), 0, true, 5).unwrap();
+    for key in b'A'..b'D' {
+        gateway.admit(&body(key), 0, true, 5).unwrap();
     }
     let (node, seen, cache) = gateway.parts();
     let whole = [&node[..], seen, cache].concat();
@@ -293,7 +456,7 @@ fn damage_is_refused_or_harmless() {
         let mut other = Gateway::from_parts(Box::new(node.try_into().unwrap()), seen.to_vec(), cache.to_vec());
         let (before, clock) = (other.clone(), other.clock());
         let loaded = Gateway::load(&other.save());
-        assert_eq!(other.explain(b"A\x01", b"t", 1).is_err(), loaded.is_err());
+        assert_eq!(other.explain(&id(b'A', 1), b"t", 1).is_err(), loaded.is_err());
         match other.admit(&body(b'Z'), 0, true, clock) {
             Err(refusal) => {
                 assert!(matches!(refusal.number(), 40..=42));

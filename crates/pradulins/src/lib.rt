@@ -35,7 +35,7 @@ use stored::NODE_SIZE;
 use stored::load;
 use stored::store;
 
-pub const VERSION: u32 = 400;
+pub const VERSION: u32 = 500;
 
 pub const FORMAT: u32 = 2;
 

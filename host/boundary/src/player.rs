@@ -98,7 +98,7 @@ fn inspect(kind: u64, content: &[u8], n: u64) -> std::result::Result<String, ()>
                 .map_or(Ok("end".to_string()), |field| field.map(|f| format!("{} {} {} {}", f.number, f.wire_type, f.end - f.bytes.len(), f.end)));
             format!("{n} walk {}", said(answer, true))
         }
-        6 | 7 => format!("{n} -"),
+        6..=9 => format!("{n} -"),
         _ => return Err(()),
     };
     Ok(line)

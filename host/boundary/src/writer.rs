@@ -9,7 +9,10 @@ const SETTINGS: Settings = Settings { ttl: u64::MAX, max_seen: 256, history_len:
 
 /// A body with one message, whose seqno is a number.
 fn notice(number: u64) -> Vec<u8> {
-    let mut body = vec![0x12, 0x52, 0x0a, 1, b'A', 0x1a, 8];
+    // Its sender is the peer id of an Ed25519 key of 32 equal bytes.
+    let mut body = vec![0x12, 0x77, 0x0a, 0x26, 0, 0x24, 8, 1, 0x12, 0x20];
+    body.extend([b'A'; 32]);
+    body.extend([0x1a, 8]);
     body.extend(number.to_be_bytes());
     body.extend([0x22, 1, b't', 0x2a, 0x40]);
     body.extend([0; 64]);

@@ -1,4 +1,4 @@
-//! Notices: bodies with one message each. The signature is a stand-in, to show where a host's own stands: anybody can make it.
+//! Notices: bodies with one message each. Key and signature are stand-ins, to show where a host's own stand: anybody can make them.
 
 use pradulins::{decode, sign_bytes, Message, Record, Refusal};
 
@@ -19,10 +19,26 @@ fn stand_in(signed: &[u8]) -> [u8; 64] {
     out
 }
 
-/// A body with one message, signed.
-pub fn notice(from: &str, seqno: u64, topic: &str, data: &[u8]) -> Result<Vec<u8>, Refusal> {
+/// The public key of a site. A host has the one that belongs to its secret key instead.
+fn key_of(site: &str) -> [u8; 32] {
+    let mut key = [0; 32];
+    key[..site.len()].copy_from_slice(site.as_bytes());
+    key
+}
+
+/// The peer id of an Ed25519 key, by which a site is known as the sender of its notices. It holds the key: 00 and the length of the rest, 36; then the key as
+/// libp2p writes it, which is its type, 1 for Ed25519, its length, 32, and its bytes.
+fn peer_id(key: [u8; 32]) -> [u8; 38] {
+    let mut id = [0; 38];
+    id[..6].copy_from_slice(&[0x00, 36, 0x08, 1, 0x12, 32]);
+    id[6..].copy_from_slice(&key);
+    id
+}
+
+/// A body with one message of a site, signed.
+pub fn notice(site: &str, seqno: u64, topic: &str, data: &[u8]) -> Result<Vec<u8>, Refusal> {
     let mut message = Vec::new();
-    put_field(&mut message, 1, from.as_bytes());
+    put_field(&mut message, 1, &peer_id(key_of(site)));
     put_field(&mut message, 2, data);
     put_field(&mut message, 3, &seqno.to_be_bytes());
     put_field(&mut message, 4, topic.as_bytes());
@@ -35,7 +51,8 @@ pub fn notice(from: &str, seqno: u64, topic: &str, data: &[u8]) -> Result<Vec<u8
     Ok(body)
 }
 
-/// The host's word on a message of a body: whether its signature is right.
+/// The host's word on a message of a body: whether its signature is right. A host verifies it with the key in the sender's peer id; or, where that is a hash,
+/// with the message's own key, and tests that the key has this hash.
 pub fn verified(body: &[u8], message: &Message) -> Result<bool, Refusal> {
     Ok(message.signature == Some(&stand_in(&sign_bytes(body, message.index)?)[..]))
 }
