@@ -4,7 +4,7 @@
 use Prim.Native.Nat.{ℕ, zero, suc, _+_, _-_, _*_, _^_, _≤_, _<_}
 use mathlib.Core.Path.{_≡_, refl, sym, ap, subst, _∙_}
 use mathlib.Core.Bool.{true}
-use mathlib.Core.List.{List, [], _∷_}
+use mathlib.Core.List.{List, [], _∷_, _++_}
 use native.Mathlib.Omega.{arith}
 use lib.ListN.{length, getD, replicate, length-replicate}
 use lib.Dec.{leb}
@@ -22,7 +22,9 @@ use Rattle.schema.specs.Count.{textCount, counted}
 use Rattle.schema.specs.Slots.{setPlace, withField, slotsOf}
 use Rattle.schema.specs.Accept.{bodyRecords, acceptOf}
 use Rattle.ids.specs.Ids.{messageAt, idParts}
-use Rattle.admission.specs.Admission.{topicsOf, firstLong, onLimits, admissionOf, givesId}
+use Rattle.peer_id.specs.PeerId.{hashOf, fromBytes}
+use Rattle.key.specs.Decode.{typeOf, onTotal, onData, decodeProtobuf}
+use Rattle.admission.specs.Admission.{topicsOf, firstLong, onLimits, isKey, keyInside, isPeerId, admissionOf, givesId}
 use Rattle.admission.specs.AdmissionLaws.{one-id}
 use Rattle.rows.specs.Rows.{newest}
 use Rattle.rows.specs.Ids.{sameBytes, among}
@@ -56,48 +58,63 @@ signature =
     0x31 ∷ 0x32 ∷ 0x33 ∷ 0x34 ∷ 0x35 ∷ 0x36 ∷ 0x37 ∷ 0x38 ∷ 0x39 ∷ 0x3a ∷ 0x3b ∷ 0x3c ∷ 0x3d ∷ 0x3e ∷ 0x3f ∷ 0x40 ∷
     []
 
--- from `A`, data `hello`, seqno 1, topic `t`
+-- the senders: identities over the keys of two Ed25519 pairs
+abbrev pub first-sender : List ℕ
+first-sender =
+    0x00 ∷ 0x24 ∷ 0x08 ∷ 0x01 ∷ 0x12 ∷ 0x20 ∷
+    0x1e ∷ 0xd1 ∷ 0xe8 ∷ 0xfa ∷ 0xe2 ∷ 0xc4 ∷ 0xa1 ∷ 0x44 ∷ 0xb8 ∷ 0xbe ∷ 0x8f ∷ 0xd4 ∷ 0xb4 ∷ 0x7b ∷ 0xf3 ∷ 0xd3 ∷
+    0xb3 ∷ 0x4b ∷ 0x87 ∷ 0x1c ∷ 0x3c ∷ 0xac ∷ 0xf6 ∷ 0x01 ∷ 0x0f ∷ 0x0e ∷ 0x42 ∷ 0xd4 ∷ 0x74 ∷ 0xfc ∷ 0xe2 ∷ 0x7e ∷ []
+
+abbrev pub second-sender : List ℕ
+second-sender =
+    0x00 ∷ 0x24 ∷ 0x08 ∷ 0x01 ∷ 0x12 ∷ 0x20 ∷
+    0xd7 ∷ 0x5a ∷ 0x98 ∷ 0x01 ∷ 0x82 ∷ 0xb1 ∷ 0x0a ∷ 0xb7 ∷ 0xd5 ∷ 0x4b ∷ 0xfe ∷ 0xd3 ∷ 0xc9 ∷ 0x64 ∷ 0x07 ∷ 0x3a ∷
+    0x0e ∷ 0xe1 ∷ 0x72 ∷ 0xf3 ∷ 0xda ∷ 0xa6 ∷ 0x23 ∷ 0x25 ∷ 0xaf ∷ 0x02 ∷ 0x1a ∷ 0x68 ∷ 0xf7 ∷ 0x07 ∷ 0x51 ∷ 0x1a ∷ []
+
+-- data `hello`, seqno 1, topic `t`
 unfoldable pub first : List ℕ
 first =
-    0x0a ∷ 0x01 ∷ 0x41 ∷ 0x12 ∷ 0x05 ∷ 0x68 ∷ 0x65 ∷ 0x6c ∷ 0x6c ∷ 0x6f ∷ 0x1a ∷ 0x01 ∷ 0x01 ∷ 0x22 ∷ 0x01 ∷ 0x74 ∷ 0x2a
-    ∷ 0x40 ∷ signature
+    0x0a ∷ 0x26 ∷ (first-sender ++ (0x12 ∷ 0x05 ∷ 0x68 ∷ 0x65 ∷ 0x6c ∷ 0x6c ∷ 0x6f ∷ 0x1a ∷ 0x01 ∷ 0x01 ∷ 0x22 ∷ 0x01 ∷
+    0x74 ∷ 0x2a ∷ 0x40 ∷ signature))
 
--- from `B`, data `bye`, seqno 2, topic `t`
+-- data `bye`, seqno 2, topic `t`
 unfoldable pub second : List ℕ
 second =
-    0x0a ∷ 0x01 ∷ 0x42 ∷ 0x12 ∷ 0x03 ∷ 0x62 ∷ 0x79 ∷ 0x65 ∷ 0x1a ∷ 0x01 ∷ 0x02 ∷ 0x22 ∷ 0x01 ∷ 0x74 ∷ 0x2a ∷ 0x40
-    ∷ signature
+    0x0a ∷ 0x26 ∷ (second-sender ++ (0x12 ∷ 0x03 ∷ 0x62 ∷ 0x79 ∷ 0x65 ∷ 0x1a ∷ 0x01 ∷ 0x02 ∷ 0x22 ∷ 0x01 ∷ 0x74 ∷ 0x2a ∷
+    0x40 ∷ signature))
 
 unfoldable pub messages : List (List ℕ)
 messages = first ∷ second ∷ []
 
 -- their ids, from and seqno
 abbrev pub first-id : List ℕ
-first-id = 0x41 ∷ 0x01 ∷ []
+first-id = first-sender ++ (0x01 ∷ [])
 
 abbrev pub second-id : List ℕ
-second-id = 0x42 ∷ 0x02 ∷ []
+second-id = second-sender ++ (0x02 ∷ [])
 
 -- the bodies in which they come: an RPC with one message
 unfoldable pub first-body : List ℕ
-first-body = 0x12 ∷ 0x52 ∷ first
+first-body = 0x12 ∷ 0x77 ∷ first
 
 unfoldable pub second-body : List ℕ
-second-body = 0x12 ∷ 0x50 ∷ second
+second-body = 0x12 ∷ 0x75 ∷ second
 
 pub first-carried : Carries first-body first first-id
 unfolding signature first first-body acceptOf bodyRecords counted overKinds toDepth textCount roleOf rank ownOf isUtf8
     run walkAt walkFrom readField readValue skipField skipFixed readVarint readLen readTag readUvarint readFrom groupOf
-    messageAt givesId admissionOf onLimits topicsOf firstLong idParts slotsOf withField setPlace sameBytes
+    messageAt givesId admissionOf onLimits topicsOf firstLong idParts slotsOf withField setPlace sameBytes isPeerId
+    keyInside isKey fromBytes hashOf decodeProtobuf typeOf onData onTotal
 first-carried =
-    record { accepted = refl; placed = record { start = 2; next = 84; found = refl; bytes = refl }; own = refl }
+    record { accepted = refl; placed = record { start = 2; next = 121; found = refl; bytes = refl }; own = refl }
 
 pub second-carried : Carries second-body second second-id
 unfolding signature second second-body acceptOf bodyRecords counted overKinds toDepth textCount roleOf rank ownOf isUtf8
     run walkAt walkFrom readField readValue skipField skipFixed readVarint readLen readTag readUvarint readFrom groupOf
-    messageAt givesId admissionOf onLimits topicsOf firstLong idParts slotsOf withField setPlace sameBytes
+    messageAt givesId admissionOf onLimits topicsOf firstLong idParts slotsOf withField setPlace sameBytes isPeerId
+    keyInside isKey fromBytes hashOf decodeProtobuf typeOf onData onTotal
 second-carried =
-    record { accepted = refl; placed = record { start = 2; next = 82; found = refl; bytes = refl }; own = refl }
+    record { accepted = refl; placed = record { start = 2; next = 119; found = refl; bytes = refl }; own = refl }
 
 -- ---- what a test of all numbers of a list says of each
 upto-each : (most : ℕ) (l : List ℕ) → allUpTo most l ≡ true → (i : ℕ) → getD l i 0 ≤ most
@@ -130,7 +147,7 @@ not-both : {A : Type 0} (id : List ℕ) → givesId first id ≡ true → givesI
 not-both id g h =
     let e : first-id ≡ second-id = sym (one-id first id first-id g (first-carried .own))
     ∙ one-id second id second-id h (second-carried .own) in
-    let z : _≡_ {A = ℕ} 0x41 0x42 = ap (λ (l : List ℕ). getD l 0 0) e in
+    let z : _≡_ {A = ℕ} 0x1e 0xd7 = ap (λ (l : List ℕ). getD l 6 0) e in
     absurd (omega arith)
 
 pub first-in : among first messages ≡ true

@@ -3,7 +3,7 @@
 use Prim.Native.Nat.{ℕ}
 use mathlib.Core.Path.{_≡_, refl, sym, ap, ap₂, subst, _∙_}
 use mathlib.Core.Bool.{true}
-use mathlib.Core.List.{List, [], _∷_}
+use mathlib.Core.List.{List, [], _∷_, _++_}
 use native.Mathlib.Omega.{arith}
 use lib.ListN.{length}
 use Rattle.basis.specs.Cases.{either, clash}
@@ -131,12 +131,12 @@ a-wants = refl
 wanted-is : lacking (gatewayOf at-a) (toldOf topic 3 (gatewayOf at-b)) ≡ second-id ∷ []
 wanted-is = ap₂ (λ (g h : Gateway). lacking g (toldOf topic 3 h)) a-is b-is ∙ ap (lacking gateway-a) b-tells ∙ a-wants
 
--- 26 and 6: the control. 18 and 4: the IWANT. 10 and 2: the id, which is `B` and 2
-request-written : bytesFor (second-id ∷ []) (request (second-id ∷ [])) ≡ 26 ∷ 6 ∷ 18 ∷ 4 ∷ 10 ∷ 2 ∷ 66 ∷ 2 ∷ []
+-- 26 and 43: the control. 18 and 41: the IWANT. 10 and 39: the id
+request-written : bytesFor (second-id ∷ []) (request (second-id ∷ [])) ≡ 26 ∷ 43 ∷ 18 ∷ 41 ∷ 10 ∷ 39 ∷ second-id
 unfolding encodeRpc encodeControl encodeIWant encodeIHave bytesField tag uvarint bytesOf request advertisement
 request-written = refl
 
-pub request-bytes : requestOf play at-a at-b ≡ 26 ∷ 6 ∷ 18 ∷ 4 ∷ 10 ∷ 2 ∷ 66 ∷ 2 ∷ []
+pub request-bytes : requestOf play at-a at-b ≡ 26 ∷ 43 ∷ 18 ∷ 41 ∷ 10 ∷ 39 ∷ second-id
 request-bytes =
     requested holding-a holding-b play fair
     ∙ request-is (at-b .node) (at-b .ids) (at-b .messages) topic 3 (fine holding-b topic 3 (fair .windows-y))
@@ -305,9 +305,9 @@ same-bytes =
     a-lacks-nothing-then b-lacks-nothing-then 2 3 (omega arith) (omega arith) (buffer 5 1) (buffer 0 2)
     (buffer-full 5 1) (buffer-full 0 2)
 
--- 26 and 13: the control. 10 and 11: the IHAVE. 10 and 1: the topic `t`. 18 and 2: each id, `A` and 1, `B` and 2
+-- 26 and 87: the control. 10 and 85: the IHAVE. 10 and 1: the topic `t`. 18 and 39: each id
 advert-written : bytesFor (first-id ∷ second-id ∷ []) (advertisement topic (first-id ∷ second-id ∷ []))
-    ≡ 26 ∷ 13 ∷ 10 ∷ 11 ∷ 10 ∷ 1 ∷ 116 ∷ 18 ∷ 2 ∷ 65 ∷ 1 ∷ 18 ∷ 2 ∷ 66 ∷ 2 ∷ []
+    ≡ 26 ∷ 87 ∷ 10 ∷ 85 ∷ 10 ∷ 1 ∷ 116 ∷ 18 ∷ 39 ∷ (first-id ++ (18 ∷ 39 ∷ second-id))
 unfolding encodeRpc encodeControl encodeIWant encodeIHave bytesField tag uvarint bytesOf request advertisement
 advert-written = refl
 
@@ -321,7 +321,7 @@ unfolding advertiseBytes
 told-bytes s ids e = ap (λ (l : List (List ℕ)). bytesFor l (advertisement topic l)) e
 
 pub advert-bytes-b : advertBy topic 3 (buffer 0 2) later-b
-    ≡ 26 ∷ 13 ∷ 10 ∷ 11 ∷ 10 ∷ 1 ∷ 116 ∷ 18 ∷ 2 ∷ 65 ∷ 1 ∷ 18 ∷ 2 ∷ 66 ∷ 2 ∷ []
+    ≡ 26 ∷ 87 ∷ 10 ∷ 85 ∷ 10 ∷ 1 ∷ 116 ∷ 18 ∷ 39 ∷ (first-id ++ (18 ∷ 39 ∷ second-id))
 advert-bytes-b =
     advertise-is later-holding-b topic (fair .topic-short) 3 (buffer 0 2) (buffer-full 0 2)
     ∙ told-bytes later-b (first-id ∷ second-id ∷ [])
@@ -330,5 +330,5 @@ advert-bytes-b =
     ∙ advert-written
 
 pub advert-bytes-a : advertBy topic 2 (buffer 5 1) later-a
-    ≡ 26 ∷ 13 ∷ 10 ∷ 11 ∷ 10 ∷ 1 ∷ 116 ∷ 18 ∷ 2 ∷ 65 ∷ 1 ∷ 18 ∷ 2 ∷ 66 ∷ 2 ∷ []
+    ≡ 26 ∷ 87 ∷ 10 ∷ 85 ∷ 10 ∷ 1 ∷ 116 ∷ 18 ∷ 39 ∷ (first-id ++ (18 ∷ 39 ∷ second-id))
 advert-bytes-a = same-bytes .same ∙ advert-bytes-b

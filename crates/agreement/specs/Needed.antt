@@ -5,13 +5,15 @@
 use Prim.Native.Nat.{ℕ, _-_, _^_, _≤_, _<_, min}
 use mathlib.Core.Path.{_≡_, refl, ap, _∙_}
 use mathlib.Core.Bool.{Bool, true, false}
-use mathlib.Core.List.{List, [], _∷_}
+use mathlib.Core.List.{List, [], _∷_, _++_}
 use native.Mathlib.Omega.{arith}
 use lib.ListN.{length, getD, replicate, length-replicate, getD-replicate}
 use borrow.Author.Tests.{lt-ltb, le-ltb, lt-leb}
 use Rattle.basis.specs.Cases.{either}
 use Rattle.basis.specs.Writing.{answer}
 use Rattle.peer_id.specs.Uvarint.{readUvarint, readFrom, groupOf}
+use Rattle.peer_id.specs.PeerId.{hashOf, fromBytes}
+use Rattle.key.specs.Decode.{typeOf, onTotal, onData, decodeProtobuf}
 use Rattle.protobuf.specs.Field.{readTag, readLen, readVarint, skipFixed, skipField, readValue, readField}
 use Rattle.protobuf.specs.Walk.{walkFrom, walkAt, between}
 use Rattle.protobuf.specs.declared.Checked.the-variants as checked
@@ -26,7 +28,7 @@ use Rattle.ids.specs.Ids.{messageAt, idParts}
 use Rattle.admission.specs.declared.Unfit.{Unfit}
 use Rattle.admission.specs.declared.Unfit.the-variants.{MissingSignature}
 use Rattle.admission.specs.declared.Admission.the-variants as admission
-use Rattle.admission.specs.Admission.{topicsOf, firstLong, onLimits, admissionOf, givesId}
+use Rattle.admission.specs.Admission.{topicsOf, firstLong, onLimits, isKey, keyInside, isPeerId, admissionOf, givesId}
 use Rattle.rows.specs.Ids.{sameBytes, among}
 use Rattle.rows.specs.Rows.{newest}
 use Rattle.node.specs.Parts.{fitting}
@@ -52,23 +54,24 @@ use Rattle.history.specs.History.{timesNew}
 use Rattle.history.specs.Laws.{history-keeps, brings-exactly}
 use Rattle.agreement.specs.Round.{missing}
 use Rattle.agreement.specs.Fifteen.{longest-field, some-fit, longest-fit}
-use Rattle.agreement.specs.Example.{signature}
+use Rattle.agreement.specs.Example.{signature, first-sender}
 
--- ---- small messages: from `A`, a seqno, the topic `t`, a signature
+-- ---- small messages: a sender, a seqno, the topic `t`, a signature
 abbrev pub topic : List ℕ
 topic = 116 ∷ []
 
 abbrev pub message : ℕ → List ℕ
-message n = 10 ∷ 1 ∷ 65 ∷ 26 ∷ 1 ∷ n ∷ 34 ∷ 1 ∷ 116 ∷ 42 ∷ 64 ∷ signature
+message n = 10 ∷ 38 ∷ (first-sender ++ (26 ∷ 1 ∷ n ∷ 34 ∷ 1 ∷ 116 ∷ 42 ∷ 64 ∷ signature))
 
 abbrev pub idOf : ℕ → List ℕ
-idOf n = 65 ∷ n ∷ []
+idOf n = first-sender ++ (n ∷ [])
 
 -- they pass admission, under these ids
 pub admissible : (givesId (message 1) (idOf 1) ≡ true) × (givesId (message 2) (idOf 2) ≡ true)
 unfolding signature counted overKinds toDepth textCount roleOf rank ownOf isUtf8 run walkAt walkFrom readField readValue
     skipField skipFixed readVarint readLen readTag readUvarint readFrom groupOf givesId admissionOf onLimits topicsOf
-    firstLong idParts slotsOf withField setPlace sameBytes
+    firstLong idParts slotsOf withField setPlace sameBytes isPeerId keyInside isKey fromBytes hashOf decodeProtobuf
+    typeOf onData onTotal
 admissible = (refl, refl)
 
 -- a gateway, and one of these messages admitted at a reading
@@ -125,7 +128,7 @@ needs-fresh = refl
 -- ---- different messages of the set have different ids
 -- the same from and seqno, and data beside them: another message with the same id
 abbrev pub otherMessage : List ℕ
-otherMessage = 10 ∷ 1 ∷ 65 ∷ 18 ∷ 1 ∷ 7 ∷ 26 ∷ 1 ∷ 1 ∷ 34 ∷ 1 ∷ 116 ∷ 42 ∷ 64 ∷ signature
+otherMessage = 10 ∷ 38 ∷ (first-sender ++ (18 ∷ 1 ∷ 7 ∷ 26 ∷ 1 ∷ 1 ∷ 34 ∷ 1 ∷ 116 ∷ 42 ∷ 64 ∷ signature))
 
 -- it is not new, and the first is what is served in its place
 pub record NeverNew (m k id : List ℕ) (g : Gateway) : Type 0 where
@@ -139,20 +142,20 @@ pub needs-ids-differ : NeverNew (message 1) otherMessage (idOf 1) (started 100 4
 unfolding signature started isNew afterAdmit holds among live inserted newest until held put having get counted
     overKinds toDepth textCount roleOf rank ownOf isUtf8 run walkAt walkFrom readField readValue skipField skipFixed
     readVarint readLen readTag readUvarint readFrom groupOf givesId admissionOf onLimits topicsOf firstLong idParts
-    slotsOf withField setPlace sameBytes
+    slotsOf withField setPlace sameBytes isPeerId keyInside isKey fromBytes hashOf decodeProtobuf typeOf onData onTotal
 needs-ids-differ = record { differ = refl; one-id = refl; same-id = refl; not-new = refl; not-kept = refl }
 
 -- ---- every one passes admission
--- from `A`, seqno 1, topic `t`, and no signature; and a body with it
+-- the same sender, seqno 1, topic `t`, and no signature; and a body with it
 abbrev pub unsigned : List ℕ
-unsigned = 10 ∷ 1 ∷ 65 ∷ 26 ∷ 1 ∷ 1 ∷ 34 ∷ 1 ∷ 116 ∷ []
+unsigned = 10 ∷ 38 ∷ (first-sender ++ (26 ∷ 1 ∷ 1 ∷ 34 ∷ 1 ∷ 116 ∷ []))
 
 abbrev pub unsignedBody : List ℕ
-unsignedBody = 18 ∷ 9 ∷ unsigned
+unsignedBody = 18 ∷ 46 ∷ unsigned
 
 unsigned-unfit : admissionOf unsigned true ≡ admission.Unfit MissingSignature
 unfolding admissionOf idParts slotsOf withField setPlace walkAt walkFrom readField readValue skipField skipFixed
-    readVarint readLen readTag readUvarint readFrom groupOf roleOf
+    readVarint readLen readTag readUvarint readFrom groupOf roleOf isPeerId fromBytes hashOf
 unsigned-unfit = refl
 
 -- a message that does not pass is answered new in no state
