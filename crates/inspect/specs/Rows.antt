@@ -37,15 +37,21 @@ unfolding lineOf closed answerTo walkAnswer varintAnswer utf8Answer walk varint 
     refused fieldsText spotText readUvarint readFrom groupOf isUtf8 run readTag readLen skipField walkStep
 rows = (refl, refl, refl, refl)
 
--- keys and peer ids: `1 key 0 =` for `08 00 12 00`, `2 key 3 =00` for `08 03 12 01 00`, `3 key refused 35` for a byte too
--- many; `4 peer identity =414243` for `00 03 414243`, `5 peer sha256 =` and 32 times `07`, `6 peer refused 34` for `80 00 00`
+-- keys and peer ids: `1 key 0 =` for `08 00 12 00`, `2 key 3 =00` for `08 03 12 01 00`, `3 key refused 35` for a byte
+-- too many; `4 peer identity =414243` for `00 03 414243`, `5 peer sha256 =` and 32 times `33`, `6 peer refused 34` for
+-- `80 00 00`
 pub senders :
     (lineOf 1 8 (0x08 ∷ 0x00 ∷ 0x12 ∷ 0x00 ∷ []) ≡ 49 ∷ 32 ∷ 107 ∷ 101 ∷ 121 ∷ 32 ∷ 48 ∷ 32 ∷ 61 ∷ 10 ∷ [])
-    × (lineOf 2 8 (0x08 ∷ 0x03 ∷ 0x12 ∷ 0x01 ∷ 0x00 ∷ []) ≡ 50 ∷ 32 ∷ 107 ∷ 101 ∷ 121 ∷ 32 ∷ 51 ∷ 32 ∷ 61 ∷ 48 ∷ 48 ∷ 10 ∷ [])
-    × (lineOf 3 8 (0x08 ∷ 0x01 ∷ 0x12 ∷ 0x00 ∷ 0x00 ∷ []) ≡ 51 ∷ 32 ∷ 107 ∷ 101 ∷ 121 ∷ 32 ∷ 114 ∷ 101 ∷ 102 ∷ 117 ∷ 115 ∷ 101 ∷ 100 ∷ 32 ∷ 51 ∷ 53 ∷ 10 ∷ [])
-    × (lineOf 4 9 (0x00 ∷ 0x03 ∷ 0x41 ∷ 0x42 ∷ 0x43 ∷ []) ≡ 52 ∷ 32 ∷ 112 ∷ 101 ∷ 101 ∷ 114 ∷ 32 ∷ 105 ∷ 100 ∷ 101 ∷ 110 ∷ 116 ∷ 105 ∷ 116 ∷ 121 ∷ 32 ∷ 61 ∷ 52 ∷ 49 ∷ 52 ∷ 50 ∷ 52 ∷ 51 ∷ 10 ∷ [])
-    × (lineOf 5 9 (0x12 ∷ 0x20 ∷ replicate 32 0x07) ≡ 53 ∷ 32 ∷ 112 ∷ 101 ∷ 101 ∷ 114 ∷ 32 ∷ 115 ∷ 104 ∷ 97 ∷ 50 ∷ 53 ∷ 54 ∷ 32 ∷ 61 ∷ 48 ∷ 55 ∷ 48 ∷ 55 ∷ 48 ∷ 55 ∷ 48 ∷ 55 ∷ 48 ∷ 55 ∷ 48 ∷ 55 ∷ 48 ∷ 55 ∷ 48 ∷ 55 ∷ 48 ∷ 55 ∷ 48 ∷ 55 ∷ 48 ∷ 55 ∷ 48 ∷ 55 ∷ 48 ∷ 55 ∷ 48 ∷ 55 ∷ 48 ∷ 55 ∷ 48 ∷ 55 ∷ 48 ∷ 55 ∷ 48 ∷ 55 ∷ 48 ∷ 55 ∷ 48 ∷ 55 ∷ 48 ∷ 55 ∷ 48 ∷ 55 ∷ 48 ∷ 55 ∷ 48 ∷ 55 ∷ 48 ∷ 55 ∷ 48 ∷ 55 ∷ 48 ∷ 55 ∷ 48 ∷ 55 ∷ 48 ∷ 55 ∷ 48 ∷ 55 ∷ 48 ∷ 55 ∷ 48 ∷ 55 ∷ 10 ∷ [])
-    × (lineOf 6 9 (0x80 ∷ 0x00 ∷ 0x00 ∷ []) ≡ 54 ∷ 32 ∷ 112 ∷ 101 ∷ 101 ∷ 114 ∷ 32 ∷ 114 ∷ 101 ∷ 102 ∷ 117 ∷ 115 ∷ 101 ∷ 100 ∷ 32 ∷ 51 ∷ 52 ∷ 10 ∷ [])
+    × (lineOf 2 8 (0x08 ∷ 0x03 ∷ 0x12 ∷ 0x01 ∷ 0x00 ∷ []) ≡ 50 ∷ 32 ∷ 107 ∷ 101 ∷ 121 ∷ 32 ∷ 51 ∷ 32 ∷ 61 ∷ 48 ∷ 48 ∷ 10
+    ∷ [])
+    × (lineOf 3 8 (0x08 ∷ 0x01 ∷ 0x12 ∷ 0x00 ∷ 0x00 ∷ []) ≡ 51 ∷ 32 ∷ 107 ∷ 101 ∷ 121 ∷ 32 ∷ 114 ∷ 101 ∷ 102 ∷ 117 ∷ 115
+    ∷ 101 ∷ 100 ∷ 32 ∷ 51 ∷ 53 ∷ 10 ∷ [])
+    × (lineOf 4 9 (0x00 ∷ 0x03 ∷ 0x41 ∷ 0x42 ∷ 0x43 ∷ []) ≡ 52 ∷ 32 ∷ 112 ∷ 101 ∷ 101 ∷ 114 ∷ 32 ∷ 105 ∷ 100 ∷ 101 ∷ 110
+    ∷ 116 ∷ 105 ∷ 116 ∷ 121 ∷ 32 ∷ 61 ∷ 52 ∷ 49 ∷ 52 ∷ 50 ∷ 52 ∷ 51 ∷ 10 ∷ [])
+    × (lineOf 5 9 (0x12 ∷ 0x20 ∷ replicate 32 0x33) ≡ 53 ∷ 32 ∷ 112 ∷ 101 ∷ 101 ∷ 114 ∷ 32 ∷ 115 ∷ 104 ∷ 97 ∷ 50 ∷ 53
+    ∷ 54 ∷ 32 ∷ 61 ∷ (replicate 64 51 ++ (10 ∷ [])))
+    × (lineOf 6 9 (0x80 ∷ 0x00 ∷ 0x00 ∷ []) ≡ 54 ∷ 32 ∷ 112 ∷ 101 ∷ 101 ∷ 114 ∷ 32 ∷ 114 ∷ 101 ∷ 102 ∷ 117 ∷ 115 ∷ 101
+    ∷ 100 ∷ 32 ∷ 51 ∷ 52 ∷ 10 ∷ [])
 unfolding lineOf closed answerTo keyAnswer peerAnswer keyText peerIdText bytesText hex width decimal number numbers
     refused spotText readUvarint readFrom groupOf typeOf onTotal onData decodeProtobuf hashOf fromBytes
 senders = (refl, refl, refl, refl, refl, refl)

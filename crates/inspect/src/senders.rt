@@ -1,7 +1,9 @@
-// Which key and which peer id some bytes are. A line takes at most ` key`, a number, ` =` and the hex of 65,600 bytes: 131,227 bytes.
+// Which key and which peer id some bytes are. An answer takes at most 131,227 bytes: ` key`, a number, ` =` and the hex of 65,600.
 ghost use Prim.Native.Nat.{_+_, _≤_};
+ghost use mathlib.Core.List.{_++_};
 ghost use lib.ListN.{length, drop};
 ghost use Rattle.text.specs.Line.{Puts};
+ghost use Rattle.peer_id.specs.PeerId.{digestOf};
 ghost use Rattle.inspect.specs.Records.{bytesText};
 ghost use Rattle.inspect.specs.Senders.{keyText, peerIdText, keyAnswer, peerAnswer};
 use super::records::put_bytes;
@@ -43,21 +45,25 @@ fn put_key(out: &mut [u8], at: usize, s: &[u8], key: PublicKey) -> usize
     }
 }
 
-// The peer id that s was read as: its hash and its digest.
+// A hash and the digest of the peer id s.
+fn put_digest(out: &mut [u8], at: usize, word: &[u8], s: &[u8]) -> usize
+    requires { ⌜ length (now s) ≤ 65600 ⌝ }
+    requires { ⌜ at + (length (now word) + 131202) ≤ length (now out) ⌝ }
+    ensures { λ r. ⌜ Puts (length (now (word .entry)) + 131202) (now (word .entry) ++ bytesText (digestOf (now (s .entry)))) (now (out .entry)) at (now (out .exit)) r ⌝ }
+{
+    let i = put_word(out, at, word);
+    put_rest(out, i, s, DIGEST_START)
+}
+
+// The peer id that s was read as.
 fn put_peer_id(out: &mut [u8], at: usize, s: &[u8], peer: PeerId) -> usize
     requires { ⌜ length (now s) ≤ 65600 ⌝ }
     requires { ⌜ at + 131211 ≤ length (now out) ⌝ }
     ensures { λ r. ⌜ Puts 131211 (peerIdText (now (s .entry)) peer) (now (out .entry)) at (now (out .exit)) r ⌝ }
 {
     match peer {
-        PeerId::Identity => {
-            let i = put_word(out, at, b" identity");
-            put_rest(out, i, s, DIGEST_START)
-        }
-        PeerId::Sha256 => {
-            let i = put_word(out, at, b" sha256");
-            put_rest(out, i, s, DIGEST_START)
-        }
+        PeerId::Identity => put_digest(out, at, b" identity", s),
+        PeerId::Sha256 => put_digest(out, at, b" sha256", s),
         PeerId::NotPeerId => put_refusal(out, at, Told::none(refusals::NOT_PEER_ID)),
     }
 }

@@ -1,7 +1,7 @@
 -- `inspect::senders::put_peer_id` meets its contract: the case says what is put.
 use mathlib.Core.Path.{sym, ap}
 use native.Mathlib.Omega.{arith}
-use Rattle.text.specs.Laws.{puts-then, puts-as}
+use Rattle.text.specs.Laws.{puts-as}
 use Rattle.lines.specs.Laws.{wrote-puts}
 use Rattle.inspect.specs.Senders.{peerIdText}
 use borrow.Author.Needs.{needs}
@@ -11,26 +11,20 @@ use Rattle.inspect.proofs.senders.put_peer_id.Tie as tie
 enum-told : tie.Need-enum-told
 enum-told c = search needs
 
-slice-aggregate-put-word : tie.Need-slice-aggregate-put-word
-slice-aggregate-put-word c = search needs
+slice-aggregate-put-digest : tie.Need-slice-aggregate-put-digest
+slice-aggregate-put-digest c = search needs
 
-put-word-requires : tie.Need-put-word-requires
-put-word-requires c κs = search needs
-
-put-rest-requires : tie.Need-put-rest-requires
-put-rest-requires c κs = search needs
+put-digest-requires : tie.Need-put-digest-requires
+put-digest-requires c κs = search needs
 
 enum-told-2 : tie.Need-enum-told-2
 enum-told-2 c = search needs
 
-slice-aggregate-put-word-2 : tie.Need-slice-aggregate-put-word-2
-slice-aggregate-put-word-2 c = search needs
+slice-aggregate-put-digest-2 : tie.Need-slice-aggregate-put-digest-2
+slice-aggregate-put-digest-2 c = search needs
 
-put-word-requires-2 : tie.Need-put-word-requires-2
-put-word-requires-2 c κs = search needs
-
-put-rest-requires-2 : tie.Need-put-rest-requires-2
-put-rest-requires-2 c κs = search needs
+put-digest-requires-2 : tie.Need-put-digest-requires-2
+put-digest-requires-2 c κs = search needs
 
 enum-told-3 : tie.Need-enum-told-3
 enum-told-3 c = search needs
@@ -46,40 +40,32 @@ same-length c = search needs
 
 returns : tie.Need-returns
 unfolding peerIdText
-returns c =
-    puts-as (ap (peerIdText (c .before .before .before .before .before .before .before .before .before .before .before .before .before .args .s .now)) (sym (c .before .before .before .before .before .before .before .before .before .enum-told .given .1))) (omega arith)
-    (puts-then (wrote-puts (omega arith) (c .before .before .before .before .before .before .put-word .ensures)) (c .before .before .put-rest .ensures))
+returns c = puts-as (ap (peerIdText (c .before .before .before .before .before .before .before .before .before .args .s .now)) (sym (c .before .before .before .before .before .enum-told .given .1))) (omega arith) (c .before .before .put-digest .ensures)
 
 same-length-2 : tie.Need-same-length-2
 same-length-2 c = search needs
 
 returns-2 : tie.Need-returns-2
 unfolding peerIdText
-returns-2 c =
-    puts-as (ap (peerIdText (c .before .before .before .before .before .before .before .before .before .before .before .before .before .args .s .now)) (sym (c .before .before .before .before .before .before .before .before .before .enum-told2 .given .1))) (omega arith)
-    (puts-then (wrote-puts (omega arith) (c .before .before .before .before .before .before .put-word2 .ensures)) (c .before .before .put-rest2 .ensures))
+returns-2 c = puts-as (ap (peerIdText (c .before .before .before .before .before .before .before .before .before .args .s .now)) (sym (c .before .before .before .before .before .enum-told2 .given .1))) (omega arith) (c .before .before .put-digest2 .ensures)
 
 same-length-3 : tie.Need-same-length-3
 same-length-3 c = search needs
 
 returns-3 : tie.Need-returns-3
 unfolding peerIdText
-returns-3 c =
-    puts-as (ap (peerIdText (c .before .before .before .before .before .before .before .before .before .args .s .now)) (sym (c .before .before .before .before .before .enum-told3 .given .1))) (omega arith)
-    (rw (c .before .before .before .none .ensures) at (wrote-puts (omega arith) (c .before .before .put-refusal .ensures)))
+returns-3 c = puts-as (ap (peerIdText (c .before .before .before .before .before .before .before .before .before .args .s .now)) (sym (c .before .before .before .before .before .enum-told3 .given .1))) (omega arith) (rw (c .before .before .before .none .ensures) at (wrote-puts (omega arith) (c .before .before .put-refusal .ensures)))
 
 pub put-peer-id-spec : {M : Type 1} → statement M
 put-peer-id-spec =
     tie.close
     (tie.spec
     enum-told
-    slice-aggregate-put-word
-    put-word-requires
-    put-rest-requires
+    slice-aggregate-put-digest
+    put-digest-requires
     enum-told-2
-    slice-aggregate-put-word-2
-    put-word-requires-2
-    put-rest-requires-2
+    slice-aggregate-put-digest-2
+    put-digest-requires-2
     enum-told-3
     none-requires
     put-refusal-requires
