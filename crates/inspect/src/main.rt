@@ -1,7 +1,7 @@
 // Answers records from standard input, a line for each: the record's number from 1, the call, the answer. A record is its content's length
 // (u32), its kind (u16) and its content, little-endian. Kinds: 1 decode (body), 2 encode (body), 3 sign (index u16, body),
-// 4 id (index u16, body), 5 walk (place u64, body), 6 varint (bytes), 7 utf8 (bytes), 8 key (bytes), 9 peer (bytes). After the line of kind 1 come those of the
-// body's records.
+// 4 id (index u16, body), 5 walk (place u64, body), 6 varint (bytes), 7 utf8 (bytes), 8 key (bytes), 9 peer (bytes).
+// After the line of kind 1 come those of the body's records.
 mod made;
 mod records;
 mod senders;

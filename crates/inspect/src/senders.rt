@@ -18,7 +18,7 @@ use lines::put_word;
 use peer_id::DIGEST_START;
 use peer_id::PeerId;
 
-// The bytes from `start` on.
+// The bytes from `start` on; a key of no data has none there.
 fn put_rest(out: &mut [u8], at: usize, s: &[u8], start: usize) -> usize
     requires { ⌜ length (now s) ≤ 65600 ⌝ }
     requires { ⌜ at + 131202 ≤ length (now out) ⌝ }
