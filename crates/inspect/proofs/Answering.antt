@@ -5,21 +5,33 @@ use mathlib.Core.List.{List, [], _∷_, _++_}
 use mathlib.Core.Logic.{_≢_}
 use mathlib.Core.Bool.{true, false}
 use native.Mathlib.Omega.{arith}
-use lib.ListN.{length, take, drop, length-drop, length-take}
+use lib.ListN.{length, take, drop, length-drop, length-take, drop-of-length-le}
 use lib.Seq.{take-all}
 use lib.Dec.{leb, ltb}
 use borrow.Author.Tests.{ltb-true, ltb-false, lt-ltb, le-ltb, le-leb, lt-leb, ne-eqb}
 use Rattle.basis.specs.Cases.{either}
 use Rattle.basis.specs.Little.{little}
-use Rattle.text.specs.Line.{Puts, decimal}
+use Rattle.basis.specs.declared.Told.{Told}
+use Rattle.text.specs.Line.{Puts, decimal, number, hex}
 use Rattle.text.specs.Laws.{puts-then, puts-as}
 use Rattle.peer_id.specs.declared.Uvarint.{Uvarint}
 use Rattle.peer_id.specs.Uvarint.{readUvarint}
+use Rattle.peer_id.specs.declared.PeerId.{PeerId}
+use Rattle.peer_id.specs.PeerId.{fromBytes}
+use Rattle.key.specs.declared.KeyType.{KeyType}
+use Rattle.key.specs.declared.PublicKeyError.{PublicKeyError}
+use Rattle.key.specs.declared.PublicKey.{PublicKey}
+use Rattle.key.specs.declared.PublicKey.the-variants.{Key, Refused as NoKey}
+use Rattle.key.specs.Key.{codeOf}
+use Rattle.key.specs.Told.{keyTold}
+use Rattle.key.specs.Decode.{decodeProtobuf}
 use Rattle.utf8.specs.Utf8.{isUtf8}
 use Rattle.protobuf.specs.declared.Walk.{Walk}
 use Rattle.protobuf.specs.Field.{walkStep}
-use Rattle.lines.specs.Lines.{Wrote}
+use Rattle.lines.specs.Lines.{Wrote, refusal}
 use Rattle.lines.specs.Laws.{wrote-as, puts-wrote}
+use Rattle.inspect.specs.Records.{bytesText}
+use Rattle.inspect.specs.Senders.{keyText, peerIdText, keyAnswer, peerAnswer}
 use Rattle.inspect.specs.Answers.{walk, varint, walkAnswer, varintAnswer, utf8Answer, answerTo, closed, lineOf}
 
 -- ---- an answer
@@ -45,6 +57,30 @@ pub utf8-no : (s : List ℕ) → isUtf8 s ≡ false → 32 ∷ 117 ∷ 116 ∷ 1
 unfolding utf8Answer
 utf8-no s e = rw e
 
+pub key-answer : (s : List ℕ) (k : PublicKey) → k ≡ decodeProtobuf s → (32 ∷ 107 ∷ 101 ∷ 121 ∷ []) ++ keyText s k ≡ keyAnswer s
+unfolding keyAnswer
+key-answer s k e = rw e
+
+pub peer-answer : (s : List ℕ) (p : PeerId) → p ≡ fromBytes s → (32 ∷ 112 ∷ 101 ∷ 101 ∷ 114 ∷ []) ++ peerIdText s p ≡ peerAnswer s
+unfolding peerAnswer
+peer-answer s p e = rw e
+
+pub key-there : (s : List ℕ) (k : PublicKey) (t : KeyType) (start code : ℕ) → k ≡ Key t start → code ≡ codeOf t → number code ++ bytesText (drop start s) ≡ keyText s k
+unfolding keyText
+key-there s k t start code e f = rw (e, f)
+
+pub key-refused : (s : List ℕ) (k : PublicKey) (why : PublicKeyError) (t : Told) → k ≡ NoKey why → t ≡ keyTold k → refusal t ≡ keyText s k
+unfolding keyText
+key-refused s k why t e f = rw (f, e)
+
+-- the bytes from a place on
+pub rest-none : (s : List ℕ) (start : ℕ) → length s ≤ start → 32 ∷ 61 ∷ [] ≡ bytesText (drop start s)
+unfolding bytesText hex
+rest-none s start h = rw (drop-of-length-le s h)
+
+pub rest-some : (s : List ℕ) (start : ℕ) → bytesText (take (length s - start) (drop start s)) ≡ bytesText (drop start s)
+rest-some s start = rw (take-all (length s - start) (drop start s) (rw (length-drop start s) (omega arith)))
+
 -- ---- a kind
 pub kind-walk : (kind : ℕ) (s : List ℕ) → kind ≡ 5 → walkAnswer s ≡ answerTo kind s
 unfolding answerTo
@@ -58,9 +94,17 @@ pub kind-utf8 : (kind : ℕ) (s : List ℕ) → kind ≡ 7 → utf8Answer s ≡ 
 unfolding answerTo
 kind-utf8 kind s e = rw e
 
-pub kind-unknown : (kind : ℕ) (s : List ℕ) → kind ≢ 5 → kind ≢ 6 → kind ≢ 7 → [] ≡ answerTo kind s
+pub kind-key : (kind : ℕ) (s : List ℕ) → kind ≡ 8 → keyAnswer s ≡ answerTo kind s
 unfolding answerTo
-kind-unknown kind s a b c = simp (ne-eqb _ _ a, ne-eqb _ _ b, ne-eqb _ _ c)
+kind-key kind s e = rw e
+
+pub kind-peer : (kind : ℕ) (s : List ℕ) → kind ≡ 9 → peerAnswer s ≡ answerTo kind s
+unfolding answerTo
+kind-peer kind s e = rw e
+
+pub kind-unknown : (kind : ℕ) (s : List ℕ) → kind ≢ 5 → kind ≢ 6 → kind ≢ 7 → kind ≢ 8 → kind ≢ 9 → [] ≡ answerTo kind s
+unfolding answerTo
+kind-unknown kind s a b c d e = simp (ne-eqb _ _ a, ne-eqb _ _ b, ne-eqb _ _ c, ne-eqb _ _ d, ne-eqb _ _ e)
 
 -- ---- whether there is an answer
 walk-some : (s : List ℕ) → 8 ≤ length s → 0 < length (walkAnswer s)
@@ -84,8 +128,16 @@ pub has-utf8 : (kind : ℕ) (s : List ℕ) → kind ≡ 7 → true ≡ ltb 0 (le
 unfolding utf8Answer
 has-utf8 kind s e = rw (← kind-utf8 kind s e) (sym (lt-ltb 0 (length (utf8Answer s)) (omega arith)))
 
-pub has-none : (kind : ℕ) (s : List ℕ) → kind ≢ 5 → kind ≢ 6 → kind ≢ 7 → false ≡ ltb 0 (length (answerTo kind s))
-has-none kind s a b c = rw (← kind-unknown kind s a b c)
+pub has-key : (kind : ℕ) (s : List ℕ) → kind ≡ 8 → true ≡ ltb 0 (length (answerTo kind s))
+unfolding keyAnswer
+has-key kind s e = rw (← kind-key kind s e) (sym (lt-ltb 0 (length (keyAnswer s)) (omega arith)))
+
+pub has-peer : (kind : ℕ) (s : List ℕ) → kind ≡ 9 → true ≡ ltb 0 (length (answerTo kind s))
+unfolding peerAnswer
+has-peer kind s e = rw (← kind-peer kind s e) (sym (lt-ltb 0 (length (peerAnswer s)) (omega arith)))
+
+pub has-none : (kind : ℕ) (s : List ℕ) → kind ≢ 5 → kind ≢ 6 → kind ≢ 7 → kind ≢ 8 → kind ≢ 9 → false ≡ ltb 0 (length (answerTo kind s))
+has-none kind s a b c d e = rw (← kind-unknown kind s a b c d e)
 
 -- ---- a line
 closed-some : (n : ℕ) (xs : List ℕ) → 0 < length xs → decimal n ++ (xs ++ (10 ∷ [])) ≡ closed n xs

@@ -16,6 +16,7 @@ use Rattle.protobuf.specs.declared.Walk.{Walk}
 use Rattle.protobuf.specs.declared.Walk.the-variants.{End, Field, Refused}
 use Rattle.protobuf.specs.Told.{refusalTold}
 use Rattle.protobuf.specs.Field.{walkStep}
+use Rattle.inspect.specs.Senders.{keyAnswer, peerAnswer}
 
 -- ` end`; or the field, its wire type, the place after its tag and the next place
 unfoldable pub walk : Walk → List ℕ
@@ -46,7 +47,9 @@ unfoldable pub answerTo : ℕ → List ℕ → List ℕ
 answerTo kind s =
     cond (eqb kind 5) (walkAnswer s)
     (cond (eqb kind 6) (varintAnswer s)
-    (cond (eqb kind 7) (utf8Answer s) []))
+    (cond (eqb kind 7) (utf8Answer s)
+    (cond (eqb kind 8) (keyAnswer s)
+    (cond (eqb kind 9) (peerAnswer s) []))))
 
 -- record n's line, with its newline
 unfoldable pub closed : ℕ → List ℕ → List ℕ

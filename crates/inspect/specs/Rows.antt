@@ -1,11 +1,13 @@
 -- Lines, worked out: `1 walk refused 4 2 5 1 at 2` for the scope's body `0a 05 08`, `12 varint 300 2`, `3 utf8 no`,
--- and no line for kind 9.
+-- and no line for kind 10.
 use mathlib.Core.Path.{_≡_, refl}
 use mathlib.Core.List.{[], _∷_, _++_}
 use lib.ListN.{replicate}
 use Rattle.basis.specs.Little.{little}
 use Rattle.text.specs.Line.{width, decimal, number, numbers, refused, hex}
 use Rattle.peer_id.specs.Uvarint.{readUvarint, readFrom, groupOf}
+use Rattle.peer_id.specs.PeerId.{hashOf, fromBytes}
+use Rattle.key.specs.Decode.{typeOf, onTotal, onData, decodeProtobuf}
 use Rattle.utf8.specs.Utf8.{isUtf8, run}
 use Rattle.protobuf.specs.Field.{readTag, readLen, readVarint, skipFixed, skipField, readValue, readField, walkStep}
 use Rattle.protobuf.specs.Walk.{walkFrom, walkAt}
@@ -21,6 +23,7 @@ use Rattle.message.specs.Decode.{hasControl, decodeAnswer}
 use Rattle.lines.specs.Lines.{fieldsText, spotText, refusalLine}
 use Rattle.inspect.specs.Records.{bytesText, placeText, countText, flagText, subText, messageText, pruneText}
 use Rattle.inspect.specs.Records.{recordText, recordLine, linesOf, decodedText, decodeLine}
+use Rattle.inspect.specs.Senders.{keyText, peerIdText, keyAnswer, peerAnswer}
 use Rattle.inspect.specs.Answers.{walk, varint, walkAnswer, varintAnswer, utf8Answer, answerTo, closed, lineOf}
 
 pub rows :
@@ -29,10 +32,29 @@ pub rows :
     × (lineOf 12 6 (0xac ∷ 0x02 ∷ []) ≡ 49 ∷ 50 ∷ 32 ∷ 118 ∷ 97 ∷ 114 ∷ 105 ∷ 110 ∷ 116 ∷ 32 ∷ 51 ∷ 48 ∷ 48 ∷ 32 ∷ 50
     ∷ 10 ∷ [])
     × (lineOf 3 7 (0xc0 ∷ 0x80 ∷ []) ≡ 51 ∷ 32 ∷ 117 ∷ 116 ∷ 102 ∷ 56 ∷ 32 ∷ 110 ∷ 111 ∷ 10 ∷ [])
-    × (lineOf 4 9 [] ≡ [])
+    × (lineOf 4 10 [] ≡ [])
 unfolding lineOf closed answerTo walkAnswer varintAnswer utf8Answer walk varint little width decimal number numbers
     refused fieldsText spotText readUvarint readFrom groupOf isUtf8 run readTag readLen skipField walkStep
 rows = (refl, refl, refl, refl)
+
+-- keys and peer ids: `1 key 0 =` for `08 00 12 00`, `2 key 3 =00` for `08 03 12 01 00`, `3 key refused 35` for a byte
+-- too many; `4 peer identity =414243` for `00 03 414243`, `5 peer sha256 =` and 32 times `33`, `6 peer refused 34` for
+-- `80 00 00`
+pub senders :
+    (lineOf 1 8 (0x08 ∷ 0x00 ∷ 0x12 ∷ 0x00 ∷ []) ≡ 49 ∷ 32 ∷ 107 ∷ 101 ∷ 121 ∷ 32 ∷ 48 ∷ 32 ∷ 61 ∷ 10 ∷ [])
+    × (lineOf 2 8 (0x08 ∷ 0x03 ∷ 0x12 ∷ 0x01 ∷ 0x00 ∷ []) ≡ 50 ∷ 32 ∷ 107 ∷ 101 ∷ 121 ∷ 32 ∷ 51 ∷ 32 ∷ 61 ∷ 48 ∷ 48 ∷ 10
+    ∷ [])
+    × (lineOf 3 8 (0x08 ∷ 0x01 ∷ 0x12 ∷ 0x00 ∷ 0x00 ∷ []) ≡ 51 ∷ 32 ∷ 107 ∷ 101 ∷ 121 ∷ 32 ∷ 114 ∷ 101 ∷ 102 ∷ 117 ∷ 115
+    ∷ 101 ∷ 100 ∷ 32 ∷ 51 ∷ 53 ∷ 10 ∷ [])
+    × (lineOf 4 9 (0x00 ∷ 0x03 ∷ 0x41 ∷ 0x42 ∷ 0x43 ∷ []) ≡ 52 ∷ 32 ∷ 112 ∷ 101 ∷ 101 ∷ 114 ∷ 32 ∷ 105 ∷ 100 ∷ 101 ∷ 110
+    ∷ 116 ∷ 105 ∷ 116 ∷ 121 ∷ 32 ∷ 61 ∷ 52 ∷ 49 ∷ 52 ∷ 50 ∷ 52 ∷ 51 ∷ 10 ∷ [])
+    × (lineOf 5 9 (0x12 ∷ 0x20 ∷ replicate 32 0x33) ≡ 53 ∷ 32 ∷ 112 ∷ 101 ∷ 101 ∷ 114 ∷ 32 ∷ 115 ∷ 104 ∷ 97 ∷ 50 ∷ 53
+    ∷ 54 ∷ 32 ∷ 61 ∷ (replicate 64 51 ++ (10 ∷ [])))
+    × (lineOf 6 9 (0x80 ∷ 0x00 ∷ 0x00 ∷ []) ≡ 54 ∷ 32 ∷ 112 ∷ 101 ∷ 101 ∷ 114 ∷ 32 ∷ 114 ∷ 101 ∷ 102 ∷ 117 ∷ 115 ∷ 101
+    ∷ 100 ∷ 32 ∷ 51 ∷ 52 ∷ 10 ∷ [])
+unfolding lineOf closed answerTo keyAnswer peerAnswer keyText peerIdText bytesText hex width decimal number numbers
+    refused spotText readUvarint readFrom groupOf typeOf onTotal onData decodeProtobuf hashOf fromBytes
+senders = (refl, refl, refl, refl, refl, refl)
 
 -- `1 decode refused 7 1 at 3 in 1` for the scope's body `0a 03 12 01 ff`, `2 decode ok 0 control` for `1a 00 1a 00`;
 -- and the records' lines: `  message =0a01410a0142 =42 - - - -` for `12 06 0a 01 41 0a 01 42`, `  sub 1 -` and

@@ -1,8 +1,10 @@
 // Answers records from standard input, a line for each: the record's number from 1, the call, the answer. A record is its content's length
 // (u32), its kind (u16) and its content, little-endian. Kinds: 1 decode (body), 2 encode (body), 3 sign (index u16, body),
-// 4 id (index u16, body), 5 walk (place u64, body), 6 varint (bytes), 7 utf8 (bytes). After the line of kind 1 come those of the body's records.
+// 4 id (index u16, body), 5 walk (place u64, body), 6 varint (bytes), 7 utf8 (bytes), 8 key (bytes), 9 peer (bytes).
+// After the line of kind 1 come those of the body's records.
 mod made;
 mod records;
+mod senders;
 
 ghost use Prim.Native.Nat.{_+_, _≤_, _<_};
 ghost use mathlib.Core.Path.{_≡_};
@@ -30,6 +32,8 @@ use protobuf::told::told_refusal;
 use records::decode_line;
 use records::records_in;
 use records::row_line;
+use senders::answer_key;
+use senders::answer_peer;
 use text::Header;
 use text::next_header;
 
@@ -71,8 +75,8 @@ fn put_varint(out: &mut [u8], at: usize, v: Uvarint) -> usize
 
 // Kind 5: the place, and then the body.
 fn answer_walk(content: &[u8], out: &mut [u8], at: usize) -> usize
-    requires { ⌜ at + 131200 ≤ length (now out) ⌝ }
-    ensures { λ r. ⌜ Puts 131200 (walkAnswer (now (content .entry))) (now (out .entry)) at (now (out .exit)) r ⌝ }
+    requires { ⌜ at + 131227 ≤ length (now out) ⌝ }
+    ensures { λ r. ⌜ Puts 131227 (walkAnswer (now (content .entry))) (now (out .entry)) at (now (out .exit)) r ⌝ }
 {
     if content.len() < 8 {
         return at;
@@ -86,8 +90,8 @@ fn answer_walk(content: &[u8], out: &mut [u8], at: usize) -> usize
 
 // Kind 6.
 fn answer_varint(content: &[u8], out: &mut [u8], at: usize) -> usize
-    requires { ⌜ at + 131200 ≤ length (now out) ⌝ }
-    ensures { λ r. ⌜ Puts 131200 (varintAnswer (now (content .entry))) (now (out .entry)) at (now (out .exit)) r ⌝ }
+    requires { ⌜ at + 131227 ≤ length (now out) ⌝ }
+    ensures { λ r. ⌜ Puts 131227 (varintAnswer (now (content .entry))) (now (out .entry)) at (now (out .exit)) r ⌝ }
 {
     let v = peer_id::read_uvarint(content);
     let i = put_word(out, at, b" varint");
@@ -96,8 +100,8 @@ fn answer_varint(content: &[u8], out: &mut [u8], at: usize) -> usize
 
 // Kind 7.
 fn answer_utf8(content: &[u8], out: &mut [u8], at: usize) -> usize
-    requires { ⌜ at + 131200 ≤ length (now out) ⌝ }
-    ensures { λ r. ⌜ Puts 131200 (utf8Answer (now (content .entry))) (now (out .entry)) at (now (out .exit)) r ⌝ }
+    requires { ⌜ at + 131227 ≤ length (now out) ⌝ }
+    ensures { λ r. ⌜ Puts 131227 (utf8Answer (now (content .entry))) (now (out .entry)) at (now (out .exit)) r ⌝ }
 {
     if utf8::is_utf8(content) {
         return put_word(out, at, b" utf8 yes");
@@ -107,13 +111,16 @@ fn answer_utf8(content: &[u8], out: &mut [u8], at: usize) -> usize
 
 // The call and the answer; nothing where the record is bad.
 fn answer(kind: u64, content: &[u8], out: &mut [u8], at: usize) -> usize
-    requires { ⌜ at + 131200 ≤ length (now out) ⌝ }
-    ensures { λ r. ⌜ Puts 131200 (answerTo kind (now (content .entry))) (now (out .entry)) at (now (out .exit)) r ⌝ }
+    requires { ⌜ length (now content) ≤ 65600 ⌝ }
+    requires { ⌜ at + 131227 ≤ length (now out) ⌝ }
+    ensures { λ r. ⌜ Puts 131227 (answerTo kind (now (content .entry))) (now (out .entry)) at (now (out .exit)) r ⌝ }
 {
     match kind {
         5 => answer_walk(content, out, at),
         6 => answer_varint(content, out, at),
         7 => answer_utf8(content, out, at),
+        8 => answer_key(content, out, at),
+        9 => answer_peer(content, out, at),
         _ => at,
     }
 }
@@ -126,6 +133,8 @@ fn has_answer(kind: u64, content: &[u8]) -> bool
         5 => 8 <= content.len(),
         6 => true,
         7 => true,
+        8 => true,
+        9 => true,
         _ => false,
     }
 }
@@ -133,6 +142,7 @@ fn has_answer(kind: u64, content: &[u8]) -> bool
 // Puts the line of record n at the front of out and says how long it is.
 fn line(n: u64, kind: u64, content: &[u8], out: &mut [u8]) -> usize
     requires { ⌜ 0 < length (answerTo kind (now content)) ⌝ }
+    requires { ⌜ length (now content) ≤ 65600 ⌝ }
     requires { ⌜ 131328 ≤ length (now out) ⌝ }
     ensures { λ r. ⌜ Wrote 131328 (lineOf n kind (now (content .entry))) (now (out .entry)) 0 (now (out .exit)) r ⌝ }
 {
@@ -225,6 +235,7 @@ fn reply_id(n: u64, content: &[u8], made: &mut [u8], out: &mut [u8]) -> bool
 
 // The kinds that write bytes, each with its buffer, and then the others.
 fn reply_line(n: u64, kind: u64, content: &[u8], made: &mut [u8], out: &mut [u8]) -> bool
+    requires { ⌜ length (now content) ≤ 65600 ⌝ }
     requires { ⌜ 65600 ≤ length (now made) ⌝ }
     requires { ⌜ 787456 ≤ length (now out) ⌝ }
 {

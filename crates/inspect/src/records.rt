@@ -22,7 +22,7 @@ use schema::Place;
 use schema::Slots;
 
 // A blank, `=` and hex.
-fn put_bytes(out: &mut [u8], at: usize, s: &[u8]) -> usize
+pub(crate) fn put_bytes(out: &mut [u8], at: usize, s: &[u8]) -> usize
     requires { ⌜ at + (2 + 2 * length (now s)) ≤ length (now out) ⌝ }
     ensures { λ r. ⌜ Puts (2 + 2 * length (now (s .entry))) (bytesText (now (s .entry))) (now (out .entry)) at (now (out .exit)) r ⌝ }
 {

@@ -2,7 +2,7 @@
 use borrow.Author.Needs.{needs}
 use native.Mathlib.Omega.{arith}
 use Rattle.text.specs.Laws.{puts-none, puts-as}
-use Rattle.inspect.proofs.Answering.{kind-walk, kind-varint, kind-utf8, kind-unknown}
+use Rattle.inspect.proofs.Answering.{kind-walk, kind-varint, kind-utf8, kind-key, kind-peer, kind-unknown}
 use Rattle.inspect.proofs.answer.Statement.{statement}
 use Rattle.inspect.proofs.answer.Tie as tie
 
@@ -14,6 +14,12 @@ answer-varint-requires c κs = search needs
 
 answer-utf8-requires : tie.Need-answer-utf8-requires
 answer-utf8-requires c κs = search needs
+
+answer-key-requires : tie.Need-answer-key-requires
+answer-key-requires c κs = search needs
+
+answer-peer-requires : tie.Need-answer-peer-requires
+answer-peer-requires c κs = search needs
 
 same-length : tie.Need-same-length
 same-length c = search needs
@@ -33,8 +39,20 @@ same-length-3 c = search needs
 returns-3 : tie.Need-returns-3
 returns-3 c = puts-as (kind-utf8 _ _ (c .before .before .before .before .match .keys3)) (omega arith) (c .before .before .answer-utf8 .ensures)
 
+same-length-4 : tie.Need-same-length-4
+same-length-4 c = search needs
+
 returns-4 : tie.Need-returns-4
-returns-4 c = puts-as (kind-unknown _ _ (λ e. omega arith) (λ e. omega arith) (λ e. omega arith)) (omega arith) (puts-none _ _)
+returns-4 c = puts-as (kind-key _ _ (c .before .before .before .before .match .keys4)) (omega arith) (c .before .before .answer-key .ensures)
+
+same-length-5 : tie.Need-same-length-5
+same-length-5 c = search needs
+
+returns-5 : tie.Need-returns-5
+returns-5 c = puts-as (kind-peer _ _ (c .before .before .before .before .match .keys5)) (omega arith) (c .before .before .answer-peer .ensures)
+
+returns-6 : tie.Need-returns-6
+returns-6 c = puts-as (kind-unknown _ _ (λ e. omega arith) (λ e. omega arith) (λ e. omega arith) (λ e. omega arith) (λ e. omega arith)) (omega arith) (puts-none _ _)
 
 pub answer-spec : {M : Type 1} → statement M
 answer-spec =
@@ -43,10 +61,16 @@ answer-spec =
     answer-walk-requires
     answer-varint-requires
     answer-utf8-requires
+    answer-key-requires
+    answer-peer-requires
     same-length
     returns
     same-length-2
     returns-2
     same-length-3
     returns-3
-    returns-4)
+    same-length-4
+    returns-4
+    same-length-5
+    returns-5
+    returns-6)

@@ -1,6 +1,6 @@
 -- `inspect::has_answer` meets its contract: the kind picks the call.
 use native.Mathlib.Omega.{arith}
-use Rattle.inspect.proofs.Answering.{has-walk, has-varint, has-utf8, has-none}
+use Rattle.inspect.proofs.Answering.{has-walk, has-varint, has-utf8, has-key, has-peer, has-none}
 use Rattle.inspect.proofs.has_answer.Statement.{statement}
 use Rattle.inspect.proofs.has_answer.Tie as tie
 
@@ -14,7 +14,13 @@ returns-3 : tie.Need-returns-3
 returns-3 c = has-utf8 _ _ (c .match .keys3)
 
 returns-4 : tie.Need-returns-4
-returns-4 c = has-none _ _ (λ e. omega arith) (λ e. omega arith) (λ e. omega arith)
+returns-4 c = has-key _ _ (c .match .keys4)
+
+returns-5 : tie.Need-returns-5
+returns-5 c = has-peer _ _ (c .match .keys5)
+
+returns-6 : tie.Need-returns-6
+returns-6 c = has-none _ _ (λ e. omega arith) (λ e. omega arith) (λ e. omega arith) (λ e. omega arith) (λ e. omega arith)
 
 pub has-answer-spec : {M : Type 1} → statement M
-has-answer-spec = tie.close (tie.spec returns returns-2 returns-3 returns-4)
+has-answer-spec = tie.close (tie.spec returns returns-2 returns-3 returns-4 returns-5 returns-6)

@@ -24,7 +24,7 @@ returns c = let a = c .before .before .before .before .before .before .before .b
     (c .before .before .before .before .before .before .before .before .before .before .before .before .before .before .pre .0) (wrote-puts
     (omega arith) (c .before .before .before .before .before .before .before .before .before .before .start-line .ensures))
     (c .before .before .before .before .before .before .answer .ensures) (wrote-puts (omega arith) (c .before .before .end-line .ensures))
-    (omega arith) (c .before .before .before .before .before .before .before .before .before .before .before .before .before .before .pre .1)
+    (omega arith) (c .before .before .before .before .before .before .before .before .before .before .before .before .before .before .pre .1 .1)
 
 pub line-spec : {M : Type 1} → statement M
 line-spec = tie.close (tie.spec start-line-requires answer-requires end-line-requires same-length returns)

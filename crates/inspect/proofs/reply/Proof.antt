@@ -61,7 +61,7 @@ slice-aggregate-reply-line : tie.Need-slice-aggregate-reply-line
 slice-aggregate-reply-line c = prefix _ _ (search needs)
 
 reply-line-requires : tie.Need-reply-line-requires
-reply-line-requires c κs = search needs
+reply-line-requires c κs = (front-small (c .before .before .before .before .before .before .before .before .before .before .before .before .before .args .len) _ _ (omega arith), (omega arith, omega arith))
 
 same-length-5 : tie.Need-same-length-5
 same-length-5 c = search needs

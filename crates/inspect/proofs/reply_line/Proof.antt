@@ -66,7 +66,7 @@ has-answer-requires : tie.Need-has-answer-requires
 has-answer-requires c κs = search needs
 
 line-requires : tie.Need-line-requires
-line-requires c κs = (ltb-true _ _ (sym (c .before .before .has-answer .ensures) ∙ c .before .if4 .taken), omega arith)
+line-requires c κs = (ltb-true _ _ (sym (c .before .before .has-answer .ensures) ∙ c .before .if4 .taken), (omega arith, omega arith))
 
 print-requires : tie.Need-print-requires
 print-requires c κs = search needs
