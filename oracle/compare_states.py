@@ -21,13 +21,12 @@ import sys
 import peers
 import state_histories
 import states
-from caches import x_with
 from compare_wire import arguments
 from differences import Model, first_difference, line_at, printed_by, sort_of
 from records import header
 from state_histories import STATE, cut_why
 from states import MAX_CONTENT, record, records
-from traces import admit, beat, body_of
+from traces import beat, senders
 
 CHUNK = 400
 COUNT = 2000
@@ -100,11 +99,9 @@ def endings():
         yield "why of an id of %d bytes in %d" % (size, rest), begun + cut_why(size, rest) + begun, ok + "bad\n"
     yield "why of the longest id and topic", begun + records([("why", 0, bytes(65535), b"t"), ("why", 0, b"", b"t" * (most - 4)), ("why", 0, b"", b"")]), \
         ok + "2 why missing\n3 why refused 29 65596\n4 why missing\n"
-    # No id is kept, so nothing is a duplicate.
     rows = peers.ROWS + peers.MORE_ROWS
-    for verified, answer in ((1, str), (0, peers.without_word)):
-        yield "senders, word %d" % verified, records([("set", 10, 0, 1, 0)] + [admit(5, body_of(x_with(**change)), 0, verified) for change, _ in rows]), \
-            ok + "".join("%d admit %s\n" % (n, answer(told)) for n, (_, told) in enumerate(rows, 2))
+    for word, answer in ((1, str), (0, peers.without_word)):
+        yield "senders, word %d" % word, records(senders(rows, word)), ok + "".join("%d admit %s\n" % (n, answer(told)) for n, (_, told) in enumerate(rows, 2))
     for call, (kind, _, rest) in states.FORM.items():
         least = states.RECORDS.least(call)
         for n in range(least):

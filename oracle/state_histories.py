@@ -796,6 +796,24 @@ def placed_in_few_bytes():
     return play.add(STATE).steps
 
 
+def senders_in_few_bytes():
+    """The rows about senders and their keys, with the word and without; then cached messages whose sender or key is no longer one, 42, and whose key
+    may be another, well formed."""
+    play = Play(*traces.senders(peers.ROWS, 1), *traces.senders(peers.ROWS[20:], 0)[1:], STATE)
+    made = keyed()
+    play.add(*made.steps, STATE)
+    looks = [admit(20, named_message(1)), ("lookup", id_of(1))]
+    for at, value in ((0, 0x41), (1, 0x25), (3, 4)):
+        step = hurt(CACHE_BYTE, value, 2 + at)
+        play.add(step, *looks, *healing(made.run, [step]))
+    for find in (key_breaks, odd_keyed):
+        for steps in find(made):
+            steps = steps[1] if find is key_breaks else steps
+            if len(steps) == 1:
+                play.add(*steps, *looks, *healing(made.run, steps))
+    return play.add(STATE, *looks, beat(21), STATE).steps
+
+
 def refusal_histories():
     """Every refusal of a body or a message, with its values, and nothing changed."""
     play = turned()

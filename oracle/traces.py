@@ -323,6 +323,11 @@ def each_refusal():
     return steps + [admit(10, x), beat(10), ("set", 5, 4, 2, 9)] + LOOKS
 
 
+def senders(rows, *words):
+    """Rows about senders and their keys (peers.py), with each word. No id is kept, so nothing is a duplicate."""
+    return [("set", 10, 0, 1, 0)] + [admit(5, body_of(x_with(**change)), 0, word) for word in words or (1, 0) for change, _ in rows]
+
+
 def setting_histories():
     x = body_of(X)
     yield [("set", 5, *bad) for bad in BAD_SETTINGS] + [("set", 5, 4, 2, 4)] + LOOKS
@@ -617,10 +622,9 @@ def endings():
     yield "bad in a text", b"set 1000 4 2 4\n", "long\n"
     yield "the scope's sample", records(sample()), \
         "1 set ok\n2 admit new\n3 advertise 48 1a2e0a2c0a01741227%s01\n4 admit dup\n5 beat ok\n6 advertise 0\n7 admit refused 31\n8 admit new\n" % ID.hex()
-    # No id is kept, so nothing is a duplicate.
     rows = peers.ROWS + peers.MORE_ROWS
-    for verified, answer in ((1, str), (0, peers.without_word)):
-        yield "senders, word %d" % verified, records([("set", 10, 0, 1, 0)] + [admit(5, body_of(x_with(**change)), 0, verified) for change, _ in rows]), \
+    for word, answer in ((1, str), (0, peers.without_word)):
+        yield "senders, word %d" % word, records(senders(rows, word)), \
             ok + "".join("%d admit %s\n" % (n, " ".join(answer(told).split(" ")[:2])) for n, (_, told) in enumerate(rows, 2))
     served = "0a26%s1a01012201742a40" % ID.hex() + "00" * 64
     yield "each answer", records([
