@@ -17,11 +17,11 @@ HOW = {"0": "identity", "18": "sha256"}
 # --- the lines -----------------------------------------------------------------------------
 
 def answer(call, data, told):
-    """The line after its number, from the oracle's answer. What it encodes again must be what it was given."""
+    """The line after its number, from the oracle's answer. What it encodes again must be what it was given, or was read as."""
     words = told.split(" ")
     if words[0] == "err":
         return "%s refused %d" % (call, 35 if call == "key" else 34)
-    assert words[0] == "ok" and unhexed(words[3].split("=")[1]) == data, told
+    assert words[0] == "ok" and unhexed(words[3].split("=")[1]) in (data, call == "peer" and published(data)), told
     return "%s %s =%s" % (call, TYPES[words[1]] if call == "key" else HOW[words[1]], unhexed(words[2]).hex())
 
 
@@ -32,6 +32,26 @@ def model(call, data):
         return "key refused 35" if got is None else "key %d =%s" % (got[0], got[1].hex())
     got = peers.peer_of(data)
     return "peer refused 34" if got is None else "peer %s =%s" % (got[0], got[1].hex())
+
+
+def published(data):
+    """What the published crate multihash takes bytes for that have a code or a length of ten bytes: of the tenth it keeps one bit. None for all others, which
+    it reads as they are."""
+    out, rest = b"", data
+    for _ in range(2):
+        size = next((n for n, byte in enumerate(rest[:10], 1) if byte < 128), None)
+        if size is None or (size > 1 and rest[size - 1] == 0):
+            return None
+        out += varint(sum(byte % 128 << 7 * n for n, byte in enumerate(rest[:size])) % 2**64)
+        rest = rest[size:]
+    return out + rest if out + rest != data else None
+
+
+def listed(call, data, told):
+    """Whether a peer id that is refused here, and what the Rust says of it, are on the list of docs/DIFFERENCES.md: the published crate reads another one in
+    it. The harness's own multihash refuses those."""
+    other = published(data) if call == "peer" else None
+    return other is not None and told in (model("peer", other), "peer refused 34")
 
 
 # --- fixed inputs ----------------------------------------------------------------------------
@@ -123,6 +143,23 @@ def edges():
             yield ("key", bytes([0x08, kind, tag, 0]), 0)
 
 
+def tenths():
+    """Peer ids with a code or a length of ten bytes, of which the tenth is anything."""
+    for tenth in range(256):
+        for low, rest in ((0, b"\x00"), (0, b"\x04" + key_bytes(1, b"")), (0x12, sha256(b"\x07" * DIGEST)[1:]), (0x12, b"\x20"), (0x11, b"\x00")):
+            yield ("peer", ten(low, tenth) + rest, 0)
+        for code, low, rest in ((b"\x00", 0, b""), (b"\x00", 4, key_bytes(1, b"")), (b"\x12", 0x20, b"\x07" * DIGEST), (b"\x00", 43, bytes(43))):
+            yield ("peer", code + ten(low, tenth) + rest, 0)
+            yield ("peer", ten(code[0], 2) + ten(low, tenth) + rest, 0)
+        yield ("key", b"\x08" + ten(1, tenth) + b"\x12\x00", 0)
+        yield ("key", b"\x08\x01\x12" + ten(0, tenth), 0)
+        yield ("key", b"\x08\x01\x12" + ten(1, tenth) + b"\x00", 0)
+
+
+def ten(low, tenth):
+    return bytes([low + 128]) + b"\x80" * 8 + bytes([tenth])
+
+
 def each(call, alphabet, length):
     rows = [b""]
     for _ in range(length):
@@ -189,8 +226,8 @@ def peer_case(r):
         data = damaged(r, r.choice((ID, identity(blob(r, r.randrange(MAX_INLINE + 1))), sha256(blob(r, DIGEST)))))
     elif how == 7:  # other codes and lengths
         rest = blob(r, r.choice((0, 1, 20, 32, 32, 36, 42, 43, 63, 64, 65)))
-        size = r.choice((varint(len(rest)), varint(len(rest)), varint(max(0, len(rest) + r.choice((-1, 1)))), nine(r)))
-        data = r.choice((b"\x00", b"\x12", bytes([r.randrange(256)]), varint(r.choice(EDGES)), nine(r))) + size + rest
+        size = r.choice((varint(len(rest)), varint(len(rest)), varint(max(0, len(rest) + r.choice((-1, 1)))), some_varint(r)))
+        data = r.choice((b"\x00", b"\x12", bytes([r.randrange(256)]), varint(r.choice(EDGES)), some_varint(r))) + size + rest
     elif how == 8:
         data = r.choice((b"\x00", b"\x12\x20", b"")) + blob(r, r.randrange(64))
     else:
@@ -198,25 +235,9 @@ def peer_case(r):
     return ("peer", data, 0)
 
 
-def nine(r):
-    """A varint of at most nine bytes, and of any sort: what a tenth byte means to a multihash is the oracle's own (README.md)."""
-    return some_varint(r)[:9]
-
-
 def random_case(r):
     return key_case(r) if r.randrange(2) else peer_case(r)
 
 
-def long_tenth(data):
-    """Whether a code or a length of a peer id has ten bytes or more."""
-    for _ in range(2):
-        size = next((n for n, byte in enumerate(data) if byte < 128), len(data)) + 1
-        if size > 9 and len(data) > 9:
-            return True
-        data = data[size:]
-    return False
-
-
 def cases(r, count):
-    return (case for case in then_random(r, count, (named(), edges(), enumerated()), random_case)
-            if case[0] == "key" or not long_tenth(case[1]))
+    return then_random(r, count, (named(), edges(), tenths(), enumerated()), random_case)

@@ -34,6 +34,7 @@ RANDOM_WRITES = 400
 RANDOM_MESSAGES = 60
 KEYS_SEED = 25
 SOME_EDGES = 120
+SOME_TENTHS = 40
 RANDOM_KEYS = 200
 CACHES_SEED = 23
 CACHES_RECORDS = 1950
@@ -112,15 +113,17 @@ def chosen_keys(r):
     """The rows of the scope and what else is fixed, the longest key, some of the edges and random ones."""
     yield from keys.named()
     yield ("key", keys.key_bytes(0, bytes(wire.MAX_CONTENT - 6)), 0)
-    short = [case for case in keys.edges() if len(case[1]) <= 400 and not keys.long_tenth(case[1])]
-    yield from r.sample(short, SOME_EDGES)
+    yield from r.sample([case for case in keys.edges() if len(case[1]) <= 400], SOME_EDGES)
+    yield from r.sample(list(keys.tenths()), SOME_TENTHS)
     for _ in range(RANDOM_KEYS):
         yield keys.random_case(r)
 
 
 def lines(case, asked, told):
     if case[0] in ("key", "peer"):
-        return [keys.answer(case[0], case[1], told)]
+        line = keys.answer(case[0], case[1], told)
+        # Of ten bytes, where the published crate multihash loses some bits, the scope's answer stands (docs/DIFFERENCES.md).
+        return [keys.model(*case[:2]) if keys.listed(*case[:2], line) else line]
     if case[0] == "decode":
         return bodies.answer(case[1], told)
     if case[0] in bodies.ROOM:
