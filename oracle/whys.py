@@ -22,7 +22,7 @@ import traces
 from bodies import BROKEN, tagged
 from caches import LONG_TOPICS, LONGEST_TOPICS, NAME, TOPICS, X
 from nodes import MAX_CONTENT, TOP
-from peers import A, B, F, HASHES, KEY, LONGEST, SENDERS, identity, key_bytes
+from peers import A, B, F, HASHED, HASHES, KEY, LONGEST, SENDERS, identity, key_bytes
 from records import Records, header
 from state_histories import Play, cut_why, id_of, named_message, some_why, why
 from states import CLOCK, COUNT, MAX_HELD, MAX_IDS, MAX_MESSAGE, NODE_SIZE, ROW, gateway_bytes
@@ -212,7 +212,7 @@ def gateway_histories():
     """Saved nodes: taken, cut, longer, hurt. One that is refused leaves the node that was there."""
     held = [named_message(n, b"t", b"u") for n in (1, 9)]
     start = [("set", 50, 4, 2, 4), admit(5, held[0]), beat(6), admit(7, held[1])]
-    names = [id_of(n) for n in range(10)]
+    names = [id_of(n) for n in range(10)] + [HASHED + b"\x01"]
     few = asked(names, [b"t"], (0, 1))
     looks = few + asked(names, [b"t", b"u", b"topic", b""], (4,))
     for play in (state_histories.turned(), state_histories.straight(), state_histories.topical(), state_histories.empty(), Play(("set", 1, 0, 1, 0)),
