@@ -100,8 +100,16 @@ class Message:
         return peer_of(self.sender) is not None and peer_of(self.sender)[0] == "sha256" and self.key is not None and key_of(self.key) is not None
 
     def signing_key(self):
-        """The key that signs, as (type, data): the one beside the sender, or the one in it."""
-        return key_of(self.key if self.key is not None else peer_of(self.sender)[1])
+        """The key that signs, as (type, data): the one beside the sender, or the one in it; None where the sender is not its peer id."""
+        if peer_of(self.sender) is None:
+            return None
+        key = self.key if self.key is not None else peer_of(self.sender)[1]
+        return key_of(key) if own_peer_id(key) == self.sender else None
+
+    def signs(self):
+        """Whether the Rust can check a signature by its key."""
+        found = self.signing_key()
+        return found is not None and found[0] == 1 and len(found[1]) == 32
 
     def over(self):
         """Which limit it passes that the Rust does not have, or None."""
@@ -144,9 +152,9 @@ LIST = [
     ("a key beside the SHA-256 of another", is_other_hash, after_word, "KeyPeerIdMismatch"),
     ("a key of another type than Ed25519", is_other_type, lambda m, word: word and after_word(m, word), "SignatureInvalid"),
     ("an Ed25519 key of other than 32 bytes", is_other_length, lambda m, word: word and after_word(m, word), "SignatureInvalid"),
-    ("no topic, or more than four", lambda m: m.over() == 28, lambda m, word: word and 28, TAKEN),
-    ("a topic above 1,024 bytes", lambda m: m.over() == 29, lambda m, word: word and 29, TAKEN),
-    ("a message above 4,096 bytes", lambda m: m.over() == 30, lambda m, word: word and 30, TAKEN),
+    ("no topic, or more than four", lambda m: m.signs() and m.over() == 28, lambda m, word: word and 28, TAKEN),
+    ("a topic above 1,024 bytes", lambda m: m.signs() and m.over() == 29, lambda m, word: word and 29, TAKEN),
+    ("a message above 4,096 bytes", lambda m: m.signs() and m.over() == 30, lambda m, word: word and 30, TAKEN),
     ("a message that is not signed", lambda m: m.signature is None and m.key is None, lambda m, word: 25, "unsigned"),
 ]
 # Where the oracle is built with the published crate multihash.
