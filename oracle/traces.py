@@ -317,7 +317,8 @@ def each_refusal():
     steps += [admit(20, x, 1)]
     for parts in (x_with(from_=[]), x_with(from_=[b""]), x_with(from_=[b"f" * 65]), x_with(from_=[b"A"]), x_with(from_=[b"gate"]), x_with(seqno=[]),
                   x_with(seqno=[b"s" * 65]), x_with(signature=[], key=[b"k"]), x_with(signature=[]), x_with(signature=[bytes(63)]),
-                  x_with(key=[b"\xff"]), x_with(from_=[b"\x00\x00"]), x_with(from_=[HASHED]), x_with(key=[F[2:]]), x_with(topic=[]), x_with(topic=[b"t"] * 5), x_with(topic=[b"t" * 1025]), grown(X, 4097)):
+                  x_with(key=[b"\xff"]), x_with(from_=[b"\x00\x00"]), x_with(from_=[HASHED]), x_with(key=[F[2:]]),
+                  x_with(topic=[]), x_with(topic=[b"t"] * 5), x_with(topic=[b"t" * 1025]), grown(X, 4097)):
         steps.append(admit(20, body_of(parts)))
     steps += [admit(20, x, 0, 0), admit(9, x), beat(9), advertise(1, b"t" * 1025)] + LOOKS
     return steps + [admit(10, x), beat(10), ("set", 5, 4, 2, 9)] + LOOKS

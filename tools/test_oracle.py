@@ -338,7 +338,8 @@ class Senders(unittest.TestCase):
 
     def test_ten_bytes(self):
         for text, other in (("80" * 9 + "02" + "00", "0000"), ("00" + "80" * 9 + "02", "0000"), ("80" * 9 + "7e" + "80" * 9 + "04", "0000"),
-                            ("80" * 9 + "01" + "00", None), ("80" * 9 + "03" + "00", "80" * 9 + "01" + "00"), ("80" * 9 + "00" + "00", None), ("0000", None), ("8000", None),
+                            ("80" * 9 + "01" + "00", None), ("80" * 9 + "03" + "00", "80" * 9 + "01" + "00"), ("80" * 9 + "00" + "00", None), ("0000", None),
+                            ("8000", None),
                             ("92" + "80" * 8 + "02" + "20", "1220"), ("80" * 10 + "01", None), ("", None), ("00", None)):
             self.assertEqual(keys.published(bytes.fromhex(text)), other if other is None else bytes.fromhex(other), text)
             self.assertTrue(keys.published(bytes.fromhex(text)) is None or keys.model("peer", bytes.fromhex(text)) == "peer refused 34")
