@@ -62,7 +62,7 @@ def write(name, data, lines):
 
 def make_long():
     r = random.Random(SEED)
-    steps = traces.sample() + traces.each_refusal() + traces.senders(peers.ROWS)
+    steps = traces.sample() + traces.each_refusal() + traces.senders(peers.SHORT_ROWS)
     for one in list(traces.named())[2:]:
         steps += one if len(nodes.records(one)) <= SHORT else []
     while len(nodes.records(steps)) < LONG_BYTES:

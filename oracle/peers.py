@@ -188,6 +188,10 @@ MORE_ROWS = [
 ]
 
 
+# For stored runs.
+SHORT_ROWS = [row for row in ROWS + MORE_ROWS if "data" not in row[0]]
+
+
 def without_word(answer):
     """The answer of a row where the word is withheld."""
     return "refused 27" if answer == "new" else answer

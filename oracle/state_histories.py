@@ -799,7 +799,7 @@ def placed_in_few_bytes():
 def senders_in_few_bytes():
     """The rows about senders and their keys, with the word and without; then cached messages whose sender or key is no longer one, 42, and whose key
     may be another, well formed."""
-    play = Play(*traces.senders(peers.ROWS, 1), *traces.senders(peers.ROWS[20:], 0)[1:], STATE)
+    play = Play(*traces.senders(peers.SHORT_ROWS, 1), *traces.senders(peers.ROWS[20:], 0)[1:], STATE)
     made = keyed()
     play.add(*made.steps, STATE)
     looks = [admit(20, named_message(1)), ("lookup", id_of(1))]
