@@ -10,11 +10,14 @@ itself, so histories can stand one after the other in one input.
 why it is refused (1 to 7), is the Rust's answer; where in the body, places.py has
 found. The limits that the Rust does not
 have (10, 11, 20 to 30, 33, 40) are the scope's and stand here, as does the form
-of the records. Everything random comes from one seeded `random.Random`.
+of the records; what a sender and its key must be (34 to 36) stands in peers.py.
+Everything random comes from one seeded `random.Random`.
 """
 
+import peers
 from bodies import BROKEN, MAX_RECORDS, PARTS, RPC, many, other_field, random_message, refusal, tagged, within
 from oracle import hexed, parse_decode
+from peers import A, B, ECDSA, F, HASHES, KEYLESS, KEYS, LONGEST, NO_KEYS, NO_PEERS, RSA, SENDERS, identity, key_bytes, mismatch, peer_of
 from places import MORE_ROWS, ROWS, find, with_place
 from records import Records
 from wire import MAX_BODY, MAX_CONTENT, TOP, blob, damaged, edge_field, header, then_random, varint
@@ -37,7 +40,7 @@ MAX_MESSAGE = 4096
 
 # Every refusal that the program can show.
 REFUSALS = {"insert": {33, 40}, "contains": {33}, "cache": {40}, "gossip": {29},
-            "put": {1, 2, 3, 4, 5, 6, 7, 10, 11, 20, 21, 22, 23, 24, 25, 26, 28, 29, 30}}
+            "put": {1, 2, 3, 4, 5, 6, 7, 10, 11, 20, 21, 22, 23, 24, 25, 26, 28, 29, 30, 34, 35, 36}}
 
 
 # --- records -------------------------------------------------------------------
@@ -65,19 +68,24 @@ def steps_of(data):
 # --- the lines, from the Rust's answers ------------------------------------------
 
 def unfit(message):
-    """Why the Rust's message may not be put: the scope's 21 to 30 without 27, or None."""
+    """Why the Rust's message may not be put: the scope's 21 to 30 without 27, and 34 to 36, or None."""
+    sender, key = (None if message[name] is None else bytes.fromhex(message[name]) for name in ("from", "key"))
     size = {name: None if message[name] is None else len(message[name]) // 2 for name in ("raw", "from", "seqno", "signature")}
     topics = [len(topic) // 2 for topic in message["topic_ids"]]
     if size["from"] is None:
         return "refused 21"
     if not 1 <= size["from"] <= MAX_PART:
         return "refused 22 %d" % size["from"]
+    if peer_of(sender) is None:
+        return "refused 34"
     if size["seqno"] is None or not 1 <= size["seqno"] <= MAX_PART:
         return "refused 23"
     if size["signature"] is None:
         return "refused 25" if message["key"] is None else "refused 24"
     if size["signature"] != SIGNATURE:
         return "refused 26 %d" % size["signature"]
+    if unlike := mismatch(sender, key):
+        return "refused %d" % unlike
     if not 1 <= len(topics) <= MAX_TOPICS:
         return "refused 28 %d" % len(topics)
     for n in topics:
@@ -279,16 +287,26 @@ BAD_SETTINGS = [(0, 4), (17, 4), (18, 0), (255, 1), (256, 4), (257, 64), (65535,
                 (3, 257), (4, 65535), (0, 0), (0, 65), (17, 65)]
 
 
+def some_sender(r):
+    """A sender that may be taken, with a key beside it where its own is not in it."""
+    how = r.randrange(12)
+    if how < 5:
+        return A
+    if how == 5:
+        return identity(key_bytes(1, blob(r, 32)))
+    if how == 6:
+        return identity(key_bytes(r.randrange(4), blob(r, r.choice((0, 1, 2, 33, 37, 38)))))
+    return r.choice(r.choice((SENDERS, SENDERS, HASHES, [B, F])))
+
+
 def names(r):
-    """Pairs of from and seqno; some make one id by different splits, and ids are prefixes of one another."""
-    base = r.choice((b"abcdef", bytes(6), blob(r, 6))) + blob(r, 2 * MAX_PART - 6)
-    sizes = r.choices((2, 3, 3, 4, 4, 5, 6), k=r.randrange(2, 6)) + ([] if r.randrange(8) else [65, 127, 128])
-    pool = [(blob(r, r.choice((1, 1, 8))), blob(r, r.choice((1, 1, 8)))) for _ in range(r.randrange(3))]
-    for size in sizes:
-        least, most = max(1, size - MAX_PART), min(MAX_PART, size - 1)
-        for at in r.sample(range(least, most + 1), min(most - least + 1, r.choice((1, 1, 2)))):
-            pool.append((base[:at], base[at:size]))
-    return pool
+    """Pairs of from and seqno: of few senders, with ids that are prefixes of one another. No id is that of two senders: no peer id is a prefix of another."""
+    base = r.choice((b"abcdef", bytes(6), blob(r, 6))) + blob(r, MAX_PART - 6)
+    senders = [some_sender(r) for _ in range(r.choice((1, 1, 2, 3)))]
+    pool = [(some_sender(r), blob(r, r.choice((1, 1, 8)))) for _ in range(r.randrange(3))]
+    for size in r.choices((1, 1, 2, 2, 3, 4, 5), k=r.randrange(2, 6)) + ([] if r.randrange(8) else [20, 63, 64]):
+        pool.append((r.choice(senders), base[:size]))
+    return pool + [(who, base[:1]) for who in senders[:r.choice((0, 1, 3))]]
 
 
 def without(parts, *fields):
@@ -309,14 +327,31 @@ FAULTS = {
     21: lambda r, parts: without(parts, 1),
     22: lambda r, parts: without(parts, 1) + [(1, bytes(r.choice((0, 0, 65, 65, 66, 256, 257, 320))))],
     23: lambda r, parts: without(parts, 3) + [(3, bytes(n)) for n in [r.choice((None, 0, 65, 66, 256, 257, 320))] if n is not None],
-    24: lambda r, parts: without(parts, 5, 6) + [(6, blob(r, r.choice((0, 1, 36))))],
+    34: lambda r, parts: without(parts, 1) + [(1, r.choice((r.choice(NO_PEERS), blob(r, r.choice((1, 2, 34, 38, 45, 64))))))],
+    24: lambda r, parts: without(parts, 5, 6) + [(6, r.choice((blob(r, r.choice((0, 1, 36))), r.choice(KEYS))))],
     25: lambda r, parts: without(parts, 5, 6),
     26: lambda r, parts: without(parts, 5) + [(5, bytes(r.choice((0, 1, 63, 65, 128, 256, 320))))],
+    35: lambda r, parts: without(parts, 6) + [(6, r.choice((r.choice(NO_KEYS), damaged(r, r.choice(KEYS)), blob(r, r.choice((1, 4, 36))))))],
+    36: lambda r, parts: unmatched(r, parts),
     28: lambda r, parts: without(parts, 4) + [(4, r.choice(TOPICS))] * r.choice((0, 0, 5, 5, 6, 9, 256, 257, 260)),
     29: lambda r, parts: without(parts, 4) + [(4, r.choice(TOPICS + LONGEST_TOPICS + LONG_TOPICS[:4])) for _ in range(r.randrange(3))]
         + [(4, r.choice(LONG_TOPICS[:4]))],
     30: lambda r, parts: grown(parts, r.choice((4097, 4097, 4098, 5000, 8192))),
 }
+
+
+def unmatched(r, parts):
+    """Another key, or none to be had: a sender whose digest is none, with a key or without; one that is hashed, without."""
+    how = r.randrange(4)
+    if how == 0:
+        return without(parts, 6) + [(6, r.choice((*KEYS, key_bytes(r.randrange(4), blob(r, 32)))))]
+    return without(parts, 1, 6) + [(1, r.choice(HASHES if how == 1 else KEYLESS))] + ([(6, r.choice(KEYS))] if how == 2 else [])
+
+
+def some_key(r, sender):
+    """The keys that a message of this sender has: one where it is hashed; else sometimes its own."""
+    how, digest = peer_of(sender)
+    return [r.choice(KEYS)] if how == "sha256" else [digest] if r.randrange(4) == 0 else []
 
 
 def fields_of(r, who, topics):
@@ -325,9 +360,7 @@ def fields_of(r, who, topics):
     parts += [(4, r.choice(topics)) for _ in range(r.choice((1, 1, 1, 2, 2, 3, 4)))]
     if r.randrange(3):
         parts.append((2, blob(r, r.randrange(6))))
-    if r.randrange(4) == 0:
-        parts.append((6, blob(r, r.randrange(4))))
-    return parts
+    return parts + [(6, key) for key in some_key(r, who[0])]
 
 
 def plain(parts):
@@ -349,12 +382,12 @@ def topic_message(r, who):
     """A message with none to five topics, among them empty and repeated ones, beside fields 4 of other types and fields that hold one; some as long as
     a message may be, some with an empty topic at the end."""
     pool = r.sample(TOPICS, 2) + [b"", b"t"] + ([] if r.randrange(8) else LONGEST_TOPICS[1:2])
-    out = [tagged(1, who[0]), tagged(3, who[1]), tagged(5, blob(r, 1) * SIGNATURE)]
+    out = [tagged(1, who[0]), tagged(3, who[1]), tagged(5, blob(r, 1) * SIGNATURE)] + [tagged(6, key) for key in some_key(r, who[0])]
     topics = [tagged(4, r.choice(pool)) for _ in range(r.choice((0, 1, 1, 2, 2, 3, 3, 4, 4, 4, 5)))]
     out = r.sample(out + topics, len(out) + len(topics)) if r.randrange(2) else out[:2] + topics + out[2:]
     for _ in range(r.choice((0, 0, 1, 1, 2))):
         out.insert(r.randrange(len(out) + 1), r.choice((
-            b"\x20\x05", b"\x20\xff\x01", b"\x25\x22\x01t\x00", b"\x21\x22\x01t\x22\x01t\x22\x00", tagged(2, tagged(4, b"t")), tagged(6, tagged(4, b"")),
+            b"\x20\x05", b"\x20\xff\x01", b"\x25\x22\x01t\x00", b"\x21\x22\x01t\x22\x01t\x22\x00", tagged(2, tagged(4, b"t")), tagged(2, tagged(4, b"")),
             tagged(21, tagged(4, b"t")), tagged(21, tagged(4, b"t") * 3 + tagged(4, b"")), tagged(15, b""))))
     size = MAX_MESSAGE - sum(map(len, out)) - 4
     if r.randrange(12) == 0 and size > 127:
@@ -468,7 +501,7 @@ def full_cache(r):
     """As many messages as a large cache takes, and more, over many windows."""
     history, most = r.choice((1, 4, 15, 16, 16)), r.choice((31, 32, 63, 64, 64))
     topics = r.sample(TOPICS, 2)
-    pool = [(r.choice((b"f", b"fr", b"from")), n.to_bytes(r.choice((1, 2)), "big")) for n in range(most + 20)]
+    pool = [(r.choice((F, F, A, B)), n.to_bytes(r.choice((1, 2)), "big")) for n in range(most + 20)]
     steps = [("cache", history, most, r.choice(ARRIVALS + [TOP - 60]))]
     for who in pool[:r.randrange(most - 2, len(pool))]:
         steps.append(("put", 0, tagged(2, message(r, fields_of(r, who, topics)))))
@@ -543,8 +576,9 @@ def ending(r):
 
 # --- fixed histories --------------------------------------------------------------------
 
-# The message of the scope's trace.
-X = [(1, b"A"), (3, b"\x01"), (4, b"t"), (5, bytes(SIGNATURE))]
+# The message of the scope's trace, and its id.
+X = [(1, A), (3, b"\x01"), (4, b"t"), (5, bytes(SIGNATURE))]
+NAME = A + b"\x01"
 
 
 def put_step(parts, index=0):
@@ -552,7 +586,7 @@ def put_step(parts, index=0):
 
 
 def x_with(**other):
-    """X with other contents of a field, none or several: x_with(from_=[b"B"])."""
+    """X with other contents of a field, none or several: x_with(from_=[B])."""
     fields = {"from_": 1, "data": 2, "seqno": 3, "topic": 4, "signature": 5, "key": 6}
     other = {fields[name]: contents for name, contents in other.items()}
     return sorted([part for part in X if part[0] not in other] + [(field, one) for field in other for one in other[field]],
@@ -565,13 +599,13 @@ def x_named(who, seqno, *topics):
 
 # Messages with the id of X, and where the topics of each stand in it: (start, length), counted from its own start.
 TOPIC_MESSAGES = [
-    (plain(X), [(8, 1)]),
-    (bytes.fromhex("22002200") + plain(X), [(2, 0), (4, 0), (12, 1)]),
-    (bytes.fromhex("2005") + plain(X), [(10, 1)]),
-    (bytes.fromhex("aa0103220174") + plain(X), [(14, 1)]),
-    (plain(x_with(topic=[b"t", b"t", b"u", b""])), [(8, 1), (11, 1), (14, 1), (17, 0)]),
-    (plain(x_with(topic=[b"t" * MAX_TOPIC])), [(9, MAX_TOPIC)]),
-    (plain(without(X, 4) + [(2, bytes(MAX_MESSAGE - 77)), (4, b"")]), [(MAX_MESSAGE, 0)]),
+    (plain(X), [(45, 1)]),
+    (bytes.fromhex("22002200") + plain(X), [(2, 0), (4, 0), (49, 1)]),
+    (bytes.fromhex("2005") + plain(X), [(47, 1)]),
+    (bytes.fromhex("aa0103220174") + plain(X), [(51, 1)]),
+    (plain(x_with(topic=[b"t", b"t", b"u", b""])), [(45, 1), (48, 1), (51, 1), (54, 0)]),
+    (plain(x_with(topic=[b"t" * MAX_TOPIC])), [(46, MAX_TOPIC)]),
+    (plain(without(X, 4) + [(2, bytes(MAX_MESSAGE - 114)), (4, b"")]), [(MAX_MESSAGE, 0)]),
 ]
 
 
@@ -615,7 +649,7 @@ def unfit_puts():
     for name in ("from_", "seqno"):
         for lengths in ((), (0,), (1,), (64,), (65,), (256,), (257,), (65, 1), (1, 65), (1, 0)):
             yield x_with(**{name: [b"n" * n for n in lengths]})
-    yield x_with(from_=[b"f" * 64], seqno=[b"s" * 64])
+    yield x_with(from_=[LONGEST], seqno=[b"s" * 64])
     for lengths in ((), (0,), (63,), (65,), (320,), (63, 64), (64, 63)):
         yield x_with(signature=[bytes(n) for n in lengths])
     for key in ([], [b""], [b"key"]):
@@ -635,6 +669,18 @@ def unfit_puts():
     yield x_with(signature=[bytes(63)], topic=[])
     yield x_with(topic=[b"t" * 1025] * 5)
     yield grown(x_with(topic=[b"t" * 1025]), 4097)
+    yield from unfit_senders()
+
+
+def unfit_senders():
+    """The rows about senders and their keys, and whatever else is no peer id or no key."""
+    for change, _ in peers.ROWS + peers.MORE_ROWS:
+        yield x_with(**change)
+    for who in NO_PEERS + KEYLESS:
+        yield x_with(from_=[who])
+    for key in NO_KEYS + KEYS:
+        yield x_with(key=[key])
+        yield x_with(from_=[HASHES[0]], key=[key])
 
 
 def cache_named():
@@ -642,42 +688,47 @@ def cache_named():
     for history, most in BAD_SETTINGS:
         yield [("cache", history, most, 0)]
     for history in (1, 2, 3, 15, 16):
-        yield [("cache", history, MAX_MESSAGES, TOP), put_step(X)] + [("shift",)] * (history - 1) + looks([b"A\x01"], [b"t"], history - 1, history) \
-            + [("shift",)] + looks([b"A\x01"], [b"t"], history, 65535)
+        yield [("cache", history, MAX_MESSAGES, TOP), put_step(X)] + [("shift",)] * (history - 1) + looks([NAME], [b"t"], history - 1, history) \
+            + [("shift",)] + looks([NAME], [b"t"], history, 65535)
     for most in (0, 1, 2, 64):
-        yield [("cache", 3, most, 0), put_step(X), put_step(X), x_named(b"A", b"\x02"), put_step(X), x_named(b"A", b"\x03")] \
-            + looks([b"A\x01", b"A\x02", b"A\x03"], [b"t"], 1)
+        yield [("cache", 3, most, 0), put_step(X), put_step(X), x_named(A, b"\x02"), put_step(X), x_named(A, b"\x03")] \
+            + looks([NAME, A + b"\x02", A + b"\x03"], [b"t"], 1)
     # Refused puts change nothing; each message that is taken is looked at.
     yield [("cache", 2, 4, 0), put_step(X)] + [step for parts in unfit_puts() for step in (put_step(parts), ("gossip", 1, b"t"))]
     yield [("cache", 2, 4, 0), put_step(x_with(data=[b"first"])), put_step(x_with(data=[b"second"], topic=[b"u"]))] \
-        + looks([b"A\x01"], [b"t", b"u"], 1)
+        + looks([NAME], [b"t", b"u"], 1)
     many_records = b"\x0a\x00" * (MAX_RECORDS - 2)
     yield [("cache", 2, 4, 0)] + [("put", index, body) for body in (b"", x, x + x) for index in (0, 1, 2, 255, 256, 65535)] \
         + [("put", 0, part) for row in REFUSED for part in (bytes.fromhex(row), x + bytes.fromhex(row), tagged(2, plain(X) + bytes.fromhex(row)))] \
         + [("put", 0, bytes.fromhex("f8ffffff0f00") + x), ("put", 0, x[:-1]), ("put", 1, tagged(2, b"") + x), ("put", 0, tagged(2, b"") + x),
            ("put", 0, many_records + x), ("put", 0, b"\x0a\x00" + many_records + x), ("put", 9, many_records + x + x),
            ("put", 9, many_records + x + x + b"\x0b"), ("put", 0, padded(x, MAX_BODY)), ("put", 0, padded(x, MAX_BODY + 1)),
-           ("put", 9, b"\x0b" * (MAX_CONTENT - 2))] + looks([b"A\x01"], [b"t"], 1)
-    # One id by different splits, prefixes, and the order of bytes.
+           ("put", 9, b"\x0b" * (MAX_CONTENT - 2))] + looks([NAME], [b"t"], 1)
+    # Prefixes, the order of bytes, and splits at which no peer id ends.
     yield [("cache", 2, 8, TOP - 2)] + [x_named(*who) for who in (
-        (b"ab", b"c"), (b"a", b"bc"), (b"abc", b"d"), (b"a", b"b"), (b"\x80", b"\x00"), (b"\x7f", b"\xff"), (b"a", b"b\x00"), (b"ab", b"cd"))] \
-        + looks([b"ab", b"abc", b"abcd", b"ab\x00", b"a", b"", b"abcde", b"\x80\x00", b"x" * 128, b"x" * 129, b"x" * 1000], [b"t"], 0, 1, 2)
-    longest = b"f" * MAX_PART + b"s" * MAX_PART
-    yield [("cache", 2, 2, 0), x_named(longest[:MAX_PART], longest[MAX_PART:]), x_named(longest[:MAX_PART], longest[MAX_PART:-1])] \
-        + looks([longest, longest[:127], longest[:126], longest + b"s", longest + bytes(256), longest * 3], [b"t"], 1)
+        (A, b"bc"), (A + b"b", b"c"), (A[:-1], A[-1:] + b"bc"), (A, b"b"), (B, b"\x00"), (F, b"\xff"), (A, b"b\x00"), (A, b"bcd"), (ECDSA, b"\x00"),
+        (RSA, b"\x80"))] \
+        + looks([A + b"b", A + b"bc", A + b"bcd", A + b"b\x00", A, b"", A + b"bcde", B + b"\x00", b"x" * 128, b"x" * 129, b"x" * 1000], [b"t"], 0, 1, 2)
+    longest = LONGEST + b"s" * MAX_PART
+    yield [("cache", 2, 2, 0), x_named(LONGEST, longest[44:]), x_named(LONGEST, longest[44:-1])] \
+        + looks([longest, longest[:-1], longest[:-2], longest + b"s", longest + bytes(20), longest + bytes(256), longest * 3], [b"t"], 1)
+    # Senders of every sort, with their keys beside them and without.
+    yield [("cache", 2, 64, 0)] + [step for who in SENDERS for step in (put_step(x_with(from_=[who])), put_step(x_with(from_=[who], seqno=[b"2"], key=[who[2:]])))] \
+        + [put_step(x_with(from_=[who], key=keys)) for who in HASHES for keys in ([], [KEYS[0]], [KEYS[1]])] \
+        + looks([who + seqno for who in SENDERS + HASHES for seqno in (b"\x01", b"2")], [b"t"], 1)
     # Places that are used again, by shorter messages.
     yield [("cache", 2, 2, 0)] + [step for n, size in enumerate((4096, 4095, 200, 100, 4096)) for step in
-                                  (put_step(grown(x_with(seqno=[b"%d" % n]), size)), ("get", b"A%d" % n), ("get", b"A%d" % max(0, n - 1)))]
+                                  (put_step(grown(x_with(seqno=[b"%d" % n]), size)), ("get", A + b"%d" % n), ("get", A + b"%d" % max(0, n - 1)))]
     # Arrival numbers over the wrap; the oldest go first.
     for arrival in (0, TOP - 1, TOP):
-        yield [("cache", 3, 3, arrival)] + [step for n in range(7) for step in (x_named(b"f", b"%d" % n), ("gossip", 3, b"t"))] \
-            + [("shift",), x_named(b"f", b"5"), x_named(b"f", b"0"), ("gossip", 1, b"t")] + [("shift",), ("gossip", 3, b"t")] * 2
+        yield [("cache", 3, 3, arrival)] + [step for n in range(7) for step in (x_named(F, b"%d" % n), ("gossip", 3, b"t"))] \
+            + [("shift",), x_named(F, b"5"), x_named(F, b"0"), ("gossip", 1, b"t")] + [("shift",), ("gossip", 3, b"t")] * 2
     # Windows; a held id stays in its own.
-    yield [("cache", 3, 8, 0)] + [step for n in range(4) for step in [x_named(b"f", b"%d" % n), x_named(b"f", b"0")]
-                                  + looks([b"f0"], [b"t"], 0, 1, 2, 3, 4, 256, 65535) + [("shift",)]] + [x_named(b"f", b"0"), ("gossip", 1, b"t")]
+    yield [("cache", 3, 8, 0)] + [step for n in range(4) for step in [x_named(F, b"%d" % n), x_named(F, b"0")]
+                                  + looks([F + b"0"], [b"t"], 0, 1, 2, 3, 4, 256, 65535) + [("shift",)]] + [x_named(F, b"0"), ("gossip", 1, b"t")]
     # Topics: repeated, prefixes of one another, the longest, not UTF-8, too long.
-    yield [("cache", 2, 4, 7), x_named(b"f", b"1", b"t", b"to", b"t", b""), x_named(b"f", b"2", b"top", "\u20ac".encode()),
-           x_named(b"f", b"3", b"t" * 1024)] + looks([], TOPICS + LONGEST_TOPICS + LONG_TOPICS + BROKEN + [bytes(MAX_CONTENT - 2)], 1) \
+    yield [("cache", 2, 4, 7), x_named(F, b"1", b"t", b"to", b"t", b""), x_named(F, b"2", b"top", "\u20ac".encode()),
+           x_named(F, b"3", b"t" * 1024)] + looks([], TOPICS + LONGEST_TOPICS + LONG_TOPICS + BROKEN + [bytes(MAX_CONTENT - 2)], 1) \
         + looks([], [b"\xe2\x82", b"t\xff"], 0)
 
 
@@ -685,28 +736,28 @@ def topic_named():
     """Where topics stand in a message: every topic that a message has, and what stands beside it."""
     for raw, places in TOPIC_MESSAGES:
         topics = {raw[start + a:start + size + b] for start, size in places for a, b in ((0, 0), (-2, 0), (-1, 0), (0, 1), (1, 0)) if size + b >= a}
-        yield [("cache", 2, 2, 0), ("put", 0, tagged(2, raw))] + looks([b"A\x01"], sorted(topics | {b"t", b"u", b""}), 1)
+        yield [("cache", 2, 2, 0), ("put", 0, tagged(2, raw))] + looks([NAME], sorted(topics | {b"t", b"u", b""}), 1)
     # A place used again, by a message with more topics or with fewer.
     for before in range(1, MAX_TOPICS + 1):
         for after in range(1, MAX_TOPICS + 1):
-            yield [("cache", 2, 1, 0), x_named(b"f", b"0", *[b"old%d" % n for n in range(before)]),
-                   x_named(b"f", b"1", *[b"new%d" % n for n in range(after)])] + looks([], [b"%s%d" % (one, n) for one in (b"old", b"new") for n in range(4)], 1)
+            yield [("cache", 2, 1, 0), x_named(F, b"0", *[b"old%d" % n for n in range(before)]),
+                   x_named(F, b"1", *[b"new%d" % n for n in range(after)])] + looks([], [b"%s%d" % (one, n) for one in (b"old", b"new") for n in range(4)], 1)
 
 
 def placed_named():
     """The rows about the place of a refusal, alone and behind a message that may be put."""
     x = put_step(X)[2]
     rows = [bytes.fromhex(text) for text, told in ROWS + MORE_ROWS if told]
-    yield [("cache", 2, 4, 0)] + [("put", 0, body) for row in rows for body in (row, x + row)] + looks([b"A\x01"], [b"t"], 1)
+    yield [("cache", 2, 4, 0)] + [("put", 0, body) for row in rows for body in (row, x + row)] + looks([NAME], [b"t"], 1)
 
 
 def named():
     """The edges of every call, each refusal, and both parts beside each other."""
     yield from seen_named()
     yield from cache_named()
-    name, held = b"A\x01", [("get", b"A\x01"), ("contains", b"A\x01"), ("next",), ("gossip", 1, b"t")]
-    yield [("cache", 0, 0, 0), ("seen", 2), ("cache", 2, 2, 5), ("insert", 1, 2, 2, name), put_step(X)] + held + [("cache", 17, 2, 0)] + held \
-        + [("cache", 2, 65, 0)] + held + [("seen", 1)] + held + [("insert", 3, 4, 1, name), ("cache", 1, 1, 0)] + held \
+    held = [("get", NAME), ("contains", NAME), ("next",), ("gossip", 1, b"t")]
+    yield [("cache", 0, 0, 0), ("seen", 2), ("cache", 2, 2, 5), ("insert", 1, 2, 2, NAME), put_step(X)] + held + [("cache", 17, 2, 0)] + held \
+        + [("cache", 2, 65, 0)] + held + [("seen", 1)] + held + [("insert", 3, 4, 1, NAME), ("cache", 1, 1, 0)] + held \
         + [put_step(X), ("seen", 0), ("shift",)] + held
 
 

@@ -22,11 +22,13 @@ import tempfile
 import time
 
 import caches
+import peers
 import wire
 from compare_decode import run
 from compare_wire import SHOWN, arguments
 from differences import first_difference, line_at, printed_by, sort_of
 from oracle import Oracle
+from peers import ID
 
 CHUNK = 400
 COUNT = 12000
@@ -124,17 +126,21 @@ def endings():
     yield "refused settings", refused + refused, "1 cache refused 40\n2 cache refused 40\n"
     put = caches.put_step(caches.X)
     steps = [("seen", 1), ("insert", 5, 0, 1, b""), ("next",), ("clean", 4), ("contains", b""), ("insert", 6, 1, 1, b"a"), ("clean", 7),
-             ("cache", 1, 0, wire.TOP), put, put, ("cache", 1, 1, wire.TOP), put, put, ("gossip", 1, b"t"), ("get", b"A\x01"), ("shift",),
-             ("gossip", 1, b"t"), ("get", b"A\x01")]
+             ("cache", 1, 0, wire.TOP), put, put, ("cache", 1, 1, wire.TOP), put, put, ("gossip", 1, b"t"), ("get", caches.NAME), ("shift",),
+             ("gossip", 1, b"t"), ("get", caches.NAME)]
     yield "each call", caches.records(steps), \
         "1 seen ok\n2 insert fresh\n3 next 5\n4 clean 1\n5 contains yes\n6 insert fresh\n7 clean 0\n8 cache ok\n9 put stored\n" \
-        "10 put stored\n11 cache ok\n12 put stored\n13 put held\n14 gossip 1 =4101\n15 get =0a01411a01012201742a40%s\n" \
-        "16 shift ok\n17 gossip 0\n18 get -\n" % ("00" * 64)
+        "10 put stored\n11 cache ok\n12 put stored\n13 put held\n14 gossip 1 =%s01\n15 get =0a26%s1a01012201742a40%s\n" \
+        "16 shift ok\n17 gossip 0\n18 get -\n" % (ID.hex(), ID.hex(), "00" * 64)
+    # Nothing is kept, so nothing is held. The part has no word, and tells no values here but those beside 22 and 26.
+    rows = peers.ROWS + peers.MORE_ROWS
+    yield "senders", caches.records([("cache", 1, 0, 0)] + [caches.put_step(caches.x_with(**change)) for change, _ in rows]), \
+        "1 cache ok\n" + "".join("%d put %s\n" % (n, told.replace("new", "stored")) for n, (_, told) in enumerate(rows, 2))
 
 
 def slowly(binary, oracle, counts, differ):
     """Byte by byte, so that every read is short."""
-    data = caches.records([("seen", 1), ("insert", 1, 2, 1, b"a"), ("cache", 1, 1, 0), caches.put_step(caches.X), ("get", b"A\x01")])
+    data = caches.records([("seen", 1), ("insert", 1, 2, 1, b"a"), ("cache", 1, 1, 0), caches.put_step(caches.X), ("get", caches.NAME)])
     program = subprocess.Popen(binary, stdin=subprocess.PIPE, stdout=subprocess.PIPE)
     for byte in data:
         program.stdin.write(bytes([byte]))

@@ -8,10 +8,12 @@ and its values (10 and 11 are the scope's own), and what the node keeps. On the 
 the finder of places.py is held to it: it must find a refusal where the Rust has one, with
 the same number, and at the Rust's own offset from where its message starts. For the
 second part the same histories are played on a node that keeps nothing itself but asks the
-Rust's caches; every line is compared. The histories are the fixed ones of traces.py and
+Rust's caches; every line is compared. Third, what is a key and a peer id (peers.py) on those of keys.py,
+and what admission answers beside the Rust's `verify` on messages of admissions.py, with its list of
+differences. The histories are the fixed ones of traces.py and
 --count random ones, the bodies those of bodies.py, with ten random ones for each random
-history. Prints the counts, and the first differences; the exit status is 0 where there
-are none.
+history; of the messages every so-manieth fixed one is taken. Prints the counts, and the first differences; the exit status is 0 where there
+are none that are not on the list.
 """
 
 import argparse
@@ -20,10 +22,13 @@ import itertools
 import random
 import sys
 
+import admissions
 import bodies
+import keys
 import nodes
 import places
 import traces
+import wire
 from compare_caches import first_difference, line_at
 from compare_trace import shown, what
 from compare_wire import SHOWN
@@ -33,6 +38,7 @@ from programs import build
 CHUNK = 4000
 COUNT = 2000
 SHORT = 40  # one of so many short bodies and short histories is taken
+FEW = 7  # and one of so many fixed messages
 
 
 class RustNode(nodes.Node):
@@ -133,6 +139,24 @@ def compare_histories(oracle, r, count, counts, differ):
             differ.append((list(map(shown, steps[:n + 1])), line_at(expected, n), line_at(got, n)))
 
 
+def compare_keys(oracle, r, count, counts, differ):
+    cases = [*keys.named(), *keys.edges(), *keys.tenths()] + [keys.random_case(r) for _ in range(10 * count)]
+    for (call, data, _), told in zip(cases, oracle.batch(map(wire.command, cases))):
+        rust, model = keys.answer(call, data, told), keys.model(call, data)
+        counts[" ".join(rust.split(" ")[:3 if " refused " in rust else 2])] += 1
+        if rust != model and not keys.listed(call, data, rust):
+            differ.append((["%s %s" % (call, data[:200].hex())], rust, model))
+
+
+def compare_admissions(oracle, r, count, counts, differ):
+    cases = [*itertools.islice(admissions.admits(r, 0), r.randrange(FEW), None, FEW), *(one for one in admissions.admits(r, count, ()))]
+    beside = admissions.Beside()
+    for (_, _, raw, known), word, rust in admissions.verified(oracle, cases):
+        beside.look(raw, known, word, admissions.modelled(raw, known, word), rust)
+    counts.update({"admission: " + name: k for name, k in beside.counts.items()})
+    differ.extend(([raw[:400]], rust, ours) for _, raw, rust, ours in beside.differ)
+
+
 def main():
     parser = argparse.ArgumentParser(description=__doc__.split("\n")[0])
     parser.add_argument("--seed", type=int, default=1)
@@ -143,9 +167,11 @@ def main():
     with Oracle() as oracle:
         compare_bodies(oracle, r, given.count, counts, differ)
         compare_histories(oracle, r, given.count, counts, differ)
+        compare_keys(oracle, r, given.count, counts, differ)
+        compare_admissions(oracle, r, given.count, counts, differ)
     for name, k in sorted(counts.items()):
         print("%-20s %8d" % (name, k))
-    print("%d bodies and lines, seed %d: %d differences" % (sum(counts.values()), given.seed, len(differ)))
+    print("%d bodies, lines, keys and messages, seed %d: %d differences" % (sum(counts.values()), given.seed, len(differ)))
     for steps, expected, got in sorted(differ, key=lambda one: len(one[0]))[:SHOWN]:
         for step in steps:
             print("    " + step)

@@ -18,6 +18,7 @@ import itertools
 import random
 import sys
 
+import peers
 import state_histories
 import states
 from compare_wire import arguments
@@ -25,7 +26,7 @@ from differences import Model, first_difference, line_at, printed_by, sort_of
 from records import header
 from state_histories import STATE, cut_why
 from states import MAX_CONTENT, record, records
-from traces import beat
+from traces import beat, senders
 
 CHUNK = 400
 COUNT = 2000
@@ -98,6 +99,9 @@ def endings():
         yield "why of an id of %d bytes in %d" % (size, rest), begun + cut_why(size, rest) + begun, ok + "bad\n"
     yield "why of the longest id and topic", begun + records([("why", 0, bytes(65535), b"t"), ("why", 0, b"", b"t" * (most - 4)), ("why", 0, b"", b"")]), \
         ok + "2 why missing\n3 why refused 29 65596\n4 why missing\n"
+    rows = peers.ROWS + peers.MORE_ROWS
+    for word, answer in ((1, str), (0, peers.without_word)):
+        yield "senders, word %d" % word, records(senders(rows, word)), ok + "".join("%d admit %s\n" % (n, answer(told)) for n, (_, told) in enumerate(rows, 2))
     for call, (kind, _, rest) in states.FORM.items():
         least = states.RECORDS.least(call)
         for n in range(least):

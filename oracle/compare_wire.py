@@ -84,18 +84,24 @@ def endings():
     yield "the largest length, kind cut", wire.header(2**32 - 1, 7)[:4], "long\n"
     yield "the longest content", wire.header(most, 7) + b"a" * most, "1 utf8 yes\n"
     yield "the longest content, cut", wire.header(most, 7) + b"a" * (most - 1), "bad\n"
-    yield "the longest content, of no kind", wire.header(most, 8) + b"a" * most, "bad\n"
+    yield "the longest content, of no kind", wire.header(most, 10) + b"a" * most, "bad\n"
     yield "content missing", wire.header(1, 7), "bad\n"
     yield "content cut", wire.header(3, 6) + b"\x80\x80", "bad\n"
-    for kind in (0, 8, 255, 0x0105, 0x0500, 65535):
+    for kind in (0, 10, 255, 0x0105, 0x0108, 0x0500, 65535):
         yield "kind %d" % kind, wire.header(1, kind) + b"a", "bad\n"
         yield "kind %d, empty" % kind, wire.header(0, kind), "bad\n"
     for n in range(8):
         yield "walk with %d bytes" % n, wire.header(n, 5) + bytes(n), "bad\n"
     yield "walk with 8 bytes", wire.header(8, 5) + bytes(8), "1 walk end\n"
-    yield "empty contents", wire.header(0, 6) + wire.header(0, 7), "1 varint refused 1\n2 utf8 yes\n"
+    yield "empty contents", b"".join(wire.header(0, kind) for kind in (6, 7, 8, 9)), "1 varint refused 1\n2 utf8 yes\n3 key refused 35\n4 peer refused 34\n"
+    for kind, told in ((8, "key refused 35"), (9, "peer refused 34")):
+        yield "the longest content of kind %d" % kind, wire.header(most, kind) + bytes(most), "1 %s\n" % told
+        yield "a longer one of kind %d" % kind, wire.header(most + 1, kind) + bytes(most + 1), "long\n"
+        yield "kind %d, cut" % kind, wire.header(4, kind) + bytes(3), "bad\n"
+    longest = wire.varint(most - 6) + b"k" * (most - 6)
+    yield "the longest key", wire.header(most, 8) + b"\x08\x03\x12" + longest, "1 key 3 =%s\n" % ("6b" * (most - 6))
     yield "bad after two", yes + yes + b"\x01", "1 utf8 yes\n2 utf8 yes\nbad\n"
-    yield "bad before one", wire.header(0, 9) + yes, "bad\n"
+    yield "bad before one", wire.header(0, 11) + yes, "bad\n"
     yield "long after one", yes + wire.header(most + 1, 7) + yes, "1 utf8 yes\nlong\n"
     yield "short walk after one", yes + wire.header(7, 5) + bytes(7) + yes, "1 utf8 yes\nbad\n"
 

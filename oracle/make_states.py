@@ -6,8 +6,8 @@
 The input meets every refusal that the program can show (10 once, by ask), breaks every clause of
 42 alone, and has states that look odd and are well formed, stores of other lengths, buffers
 that just fit and just do not, full capacities, arrival numbers at the wrap, rows that left and come
-back, maxima of 0, messages with topics of every sort, each answer of `why`, and refusals in each
-message of a body, with their places (state_histories.py).
+back, maxima of 0, messages with topics of every sort, each answer of `why`, refusals in each
+message of a body, with their places, and senders and keys of every sort (state_histories.py).
 A reply about 65,536 bytes would be too long for it: compare_states.py has those. The answers in
 stdout are the model's (states.py), never the program's; `rt check` holds the program to them. With
 BINARY, target/bin/states, they are compared at once.
@@ -26,8 +26,8 @@ from nodes import MAX_BODY, ROOM
 from oracle import HERE
 from state_histories import STATE, admit, tells, turned
 
-# Of both files together, so that the gate stays quick. It was 300,000 before refusals had places: the records that stood there stay, and their lines grew.
-MOST_BYTES = 310000
+# Of both files together, so that the gate stays quick. It was 310,000 before senders were peer ids: the records that stood there stay, and ids grew.
+MOST_BYTES = 400000
 
 
 def histories():
@@ -54,6 +54,8 @@ def histories():
     yield state_histories.why_in_few_bytes()
     # Where in a body a refusal stands.
     yield state_histories.placed_in_few_bytes()
+    # What a sender and its key must be.
+    yield state_histories.senders_in_few_bytes()
 
 
 def main():

@@ -8,7 +8,8 @@ bodies of 65,536 and 65,537 bytes and of 511 to 513 records, and random ones
 (wire.py, bodies.py, seeds below). A second part has encode, sign and id of some 700
 bodies, and the topics of the scope by every call. Those of `caches` are the fixed
 histories of caches.py and some random ones; they show every call and every refusal.
-Both end with rows about the place of a refusal. The answers in stdout are the Rust's,
+Both end with rows about the place of a refusal; after them `inspect` has public keys
+and peer ids (keys.py). The answers in stdout are the Rust's,
 from the oracle, never the program's; the limits that the Rust does not have are the
 scope's own, and the places are those of places.py. Each run ends with a length that
 is too long, its kind cut off.
@@ -19,6 +20,7 @@ import random
 
 import bodies
 import caches
+import keys
 import wire
 from oracle import HERE, Oracle
 from programs import build
@@ -30,8 +32,12 @@ RANDOM_BODIES = 320
 WRITES_SEED = 22
 RANDOM_WRITES = 400
 RANDOM_MESSAGES = 60
+KEYS_SEED = 25
+SOME_EDGES = 120
+SOME_TENTHS = 40
+RANDOM_KEYS = 200
 CACHES_SEED = 23
-CACHES_RECORDS = 1550
+CACHES_RECORDS = 1950
 
 
 def chosen(r):
@@ -103,7 +109,21 @@ def placed_cases(there):
     yield from [("encode", deepest, 0), ("sign", deepest, 0), ("id", deepest, 0), ("walk", deepest, 0), ("walk", deepest, 6)]
 
 
+def chosen_keys(r):
+    """The rows of the scope and what else is fixed, the longest key, some of the edges and random ones."""
+    yield from keys.named()
+    yield ("key", keys.key_bytes(0, bytes(wire.MAX_CONTENT - 6)), 0)
+    yield from r.sample([case for case in keys.edges() if len(case[1]) <= 400], SOME_EDGES)
+    yield from r.sample(list(keys.tenths()), SOME_TENTHS)
+    for _ in range(RANDOM_KEYS):
+        yield keys.random_case(r)
+
+
 def lines(case, asked, told):
+    if case[0] in ("key", "peer"):
+        line = keys.answer(case[0], case[1], told)
+        # Of ten bytes, where the published crate multihash loses some bits, the scope's answer stands (docs/DIFFERENCES.md).
+        return [keys.model(*case[:2]) if keys.listed(*case[:2], line) else line]
     if case[0] == "decode":
         return bodies.answer(case[1], told)
     if case[0] in bodies.ROOM:
@@ -133,6 +153,7 @@ def make_inspect(oracle):
     cases += write_cases(random.Random(WRITES_SEED), oracle)
     cases += long_writes()
     cases += placed_cases({case for case in cases if case[0] == "decode"})
+    cases += chosen_keys(random.Random(KEYS_SEED))
     commands = [wire.command(case) for case in cases]
     answers = oracle.batch(commands)
     save("inspect", [wire.record(case) for case in cases],

@@ -13,9 +13,10 @@ import sys
 
 import nodes
 import programs
-from caches import X, plain
+from caches import NAME, X, plain, x_with
 from compare_states import printed_by
 from oracle import HERE
+from peers import ID
 from records import Records
 from traces import admit, advertise, beat, body_of
 
@@ -25,10 +26,9 @@ NODE_SIZE = 12432
 MAX_CONTENT = NODE_SIZE + MAX_SEEN * SEEN_ROW + MAX_MESSAGES * CACHE_ROW
 
 RECORDS = Records({**nodes.FORM, "why": (12, (2, 2), True), "gateway": (13, (), True)}, MAX_CONTENT)
-ID = b"A\x01"
 
 
-def why(windows, name=ID, topic=b"t"):
+def why(windows, name=NAME, topic=b"t"):
     return ("why", windows, len(name), name + topic)
 
 
@@ -63,10 +63,9 @@ def gateway(ttl, max_seen, clock, history_len, max_messages, seen=(), cached=())
     return node + rows_of([name for name, _ in seen], SEEN_ROW, max_seen) + rows_of([raw for _, raw, *_ in cached], CACHE_ROW, max_messages)
 
 
-def holding(age):
-    """A gateway of four windows that holds X in the window of this age."""
-    raw = plain(X)
-    return gateway(1000, 2, 500, 4, 2, [(b"\x01" + ID, 1400)], [(ID, raw, age, raw.index(b"\x22\x01t") + 2, 1)])
+def holding(age, raw=plain(X), name=NAME):
+    """A gateway of four windows that holds a message, X, in the window of this age."""
+    return gateway(1000, 2, 500, 4, 2, [(b"\x01" + name, 1400)], [(name, raw, age, raw.index(b"\x22\x01t") + 2, 1)])
 
 
 # --- the records and their lines -----------------------------------------------------
@@ -78,7 +77,7 @@ STARTED = [
     (why(0), "window 0"),
     (why(1, topic=b"u"), "topic"),
     (why(0, topic=b"u"), "topic"),
-    (why(1, b"\x01" + ID), "missing"),
+    (why(1, b"\x01" + NAME), "missing"),
     (why(1, b""), "missing"),
     (why(1, topic=b"\xff"), "topic"),
     (why(1, topic=b""), "topic"),
@@ -105,18 +104,32 @@ GIVEN = [
     (why(3), "listed"),
     (why(3, topic=b"u"), "topic"),
     (advertise(2), "0"),
-    (advertise(3), "11 1a090a070a017412024101"),
+    (advertise(3), "48 1a2e0a2c0a01741227%s01" % ID.hex()),
     (admit(501, body_of(X)), "dup"),
     (("gateway", gateway(0, 0, 0, 1, 0)), "ok"),
     (why(3), "missing"),
 ]
 
+# A gateway that was saved when any sender was taken, and holds a message of one that is no peer id. What it has seen is not looked at so.
+OLD = b"A\x01"
+SAVED_BEFORE = [
+    (("gateway", holding(2, plain(x_with(from_=[b"A"])), OLD)), "refused 42"),
+    (why(3), "missing"),
+    (admit(1, body_of(x_with(from_=[b"A"]))), "refused 34"),
+    (admit(1, body_of(x_with(key=[b"\xff"]))), "refused 35"),
+    (admit(1, body_of(x_with(from_=[b"\x00\x00"]))), "refused 36"),
+    (("gateway", gateway(1000, 2, 500, 4, 2, [(b"\x01" + OLD, 1400)])), "ok"),
+    (why(3, OLD), "missing"),
+    (admit(501, body_of(X)), "new"),
+    (why(3), "listed"),
+]
+
 # The id is longer than what follows.
-CUT = ("why", 1, 3, ID)
+CUT = ("why", 1, 3, NAME[-2:])
 
 
 def main():
-    rows = STARTED + GIVEN
+    rows = STARTED + GIVEN + SAVED_BEFORE
     data = RECORDS.records([step for step, _ in rows] + [CUT])
     lines = ["%d %s %s" % (n, step[0], answer) for n, (step, answer) in enumerate(rows, 1)] + ["bad"]
     if len(sys.argv) > 1:

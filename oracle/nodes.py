@@ -11,6 +11,7 @@ and gives the lines of the run.
 """
 
 from bodies import PARTS, RPC, tagged
+from peers import NOT_PEER_ID, mismatch, peer_of
 from records import Records
 
 TOP = 2**64 - 1
@@ -37,7 +38,8 @@ record, records = RECORDS.record, RECORDS.records
 
 # Every refusal that a trace can show.
 BODY = set(range(1, 8)) | {11}
-REFUSALS = {"set": {40}, "admit": BODY | set(range(20, 32)), "beat": {31}, "advertise": {29}, "ask": BODY, "serve": BODY}
+ADMISSION = set(range(20, 32)) | {34, 35, 36}
+REFUSALS = {"set": {40}, "admit": BODY | ADMISSION, "beat": {31}, "advertise": {29}, "ask": BODY, "serve": BODY}
 
 
 class Refused(Exception):
@@ -137,7 +139,7 @@ class Body:
 # --- the node --------------------------------------------------------------------
 
 def admission(message, verified):
-    """(id, topics) of a message that may be taken: 21 to 30 are met here."""
+    """(id, topics) of a message that may be taken: 21 to 30 are met here, and 34 to 36."""
     raw, known = message
     last = dict(known)
     topics = [content for field, content in known if field == 4]
@@ -145,12 +147,16 @@ def admission(message, verified):
         raise Refused(21)
     if not 1 <= len(last[1]) <= MAX_NAME:
         raise Refused(22, len(last[1]))
+    if peer_of(last[1]) is None:
+        raise Refused(NOT_PEER_ID)
     if 3 not in last or not 1 <= len(last[3]) <= MAX_NAME:
         raise Refused(23)
     if 5 not in last:
         raise Refused(24 if 6 in last else 25)
     if len(last[5]) != SIGNATURE:
         raise Refused(26, len(last[5]))
+    if unlike := mismatch(last[1], last.get(6)):
+        raise Refused(unlike)
     if not verified:
         raise Refused(27)
     if not 1 <= len(topics) <= MAX_TOPICS:

@@ -8,11 +8,13 @@ one seeded `random.Random`.
 """
 
 import caches
+import peers
 import states
 import traces
 from bodies import tagged
 from caches import REFUSED, TOPIC_MESSAGES, X, grown, padded, plain, topic_message, x_with
 from nodes import MAX_BODY, MAX_MESSAGE, MAX_TOPICS, ROOM, TOP
+from peers import A, B, F, HASHED, KEY, LONGEST, RSA_KEY, identity, key_bytes
 from places import MORE_ROWS, ROWS
 from records import header
 from states import ARRIVAL, CACHE_BYTE, CACHE_BYTES, CLOCK, COUNT, EXPIRY, HISTORY_LEN, ID_LEN, IDS, LEN, MAX_HELD, MAX_ID, MAX_IDS, MAX_MADE, \
@@ -46,7 +48,12 @@ def serve(*names, room=ROOM):
     return ("serve", room, wants(*names))
 
 
-def why(windows=65535, name=b"A\x03", topic=b"t"):
+def id_of(n):
+    """The id of X with this seqno."""
+    return A + bytes([n])
+
+
+def why(windows=65535, name=id_of(3), topic=b"t"):
     return ("why", windows, name, topic)
 
 
@@ -174,17 +181,30 @@ def topical():
     return Play(("set", 100, 4, 4, 3), *[admit(10 + n, named_message(n, *each)) for n, each in enumerate(topics)])
 
 
+KEYED = bytes([6 * 8 + 2, len(KEY)])  # what stands before a key
+
+
+def keyed():
+    """Two messages with their keys beside them: of a sender that has it in it, and of one that is hashed."""
+    return Play(("set", 100, 4, 4, 3), *[admit(10, body_of(x_with(from_=[who], key=[KEY]))) for who in (A, HASHED)])
+
+
+def held_bytes(play):
+    """The places of the messages, and their bytes."""
+    return [(place, play.run.cache.message_at(play.run.cache_store, place)) for place in play.messages()]
+
+
 def empty(*settings):
     return Play(("set", *(settings or (100, 4, 4, 3))))
 
 
-FEW = [("contains", b"\x01A\x03"), ("lookup", b"A\x03"), advertise(), serve(b"A\x03", b"A\x04"), STATE]
-CALLS = [STATE, admit(20, named_message(9)), admit(20, named_message(4)), beat(20), advertise(), ask(b"A\x01", b"A\x04", b"B"),
-         serve(b"A\x02", b"A\x04"), ("contains", b"\x01A\x04"), ("lookup", b"A\x03"), STATE]
+FEW = [("contains", b"\x01" + id_of(3)), ("lookup", id_of(3)), advertise(), serve(id_of(3), id_of(4)), STATE]
+CALLS = [STATE, admit(20, named_message(9)), admit(20, named_message(4)), beat(20), advertise(), ask(id_of(1), id_of(4), b"B"),
+         serve(id_of(2), id_of(4)), ("contains", b"\x01" + id_of(4)), ("lookup", id_of(3)), STATE]
 # Refused for themselves, too: what is tested first is told.
-POOR = [admit(1, named_message(4)), admit(20, b"\x80"), beat(1), advertise(9, b"t" * 1025), ("ask", 0, b"\x0b"), ("serve", 0, wants(b"A\x03") + b"\x00"),
+POOR = [admit(1, named_message(4)), admit(20, b"\x80"), beat(1), advertise(9, b"t" * 1025), ("ask", 0, b"\x0b"), ("serve", 0, wants(id_of(3)) + b"\x00"),
         ("contains", bytes(130)), ("lookup", bytes(130))]
-WHYS = [why(), why(0), why(1), why(2), why(1, b"A\x04"), why(9, b"A\x01"), why(0, topic=b"u"), why(0, b""), why(9, bytes(129)), why(9, topic=b"t" * 1025)]
+WHYS = [why(), why(0), why(1), why(2), why(1, id_of(4)), why(9, id_of(1)), why(0, topic=b"u"), why(0, b""), why(9, bytes(129)), why(9, topic=b"t" * 1025)]
 
 
 # --- each clause of 42 ----------------------------------------------------------------------
@@ -195,6 +215,9 @@ def unfit_messages():
                   x_with(signature=[], key=[b"k"]), x_with(signature=[]), x_with(signature=[bytes(63)]), x_with(signature=[bytes(65)]),
                   x_with(topic=[]), x_with(topic=[b"t"] * 5), x_with(topic=[b"t" * 1025])):
         yield plain(parts)
+    for change, told in peers.ROWS + peers.MORE_ROWS:
+        if told.startswith("refused 3") and "data" not in change:  # 34 to 36; the others are too long for a place
+            yield plain(x_with(**change))
     for row in REFUSED[:-1]:
         yield plain(X) + bytes.fromhex(row)
     yield plain(x_with(topic=[b"\xff"]))
@@ -255,11 +278,16 @@ def breaks(play):
         yield "message not admissible", [hurt(LEN, cache.len[place] - 1, place)]
         yield "message not admissible", [hurt(LEN, cache.len[place] + 1, place)]
         yield "message not admissible", [hurt(LEN, MAX_MESSAGE, place)]
+        # The code, the length and the key of the sender, which stands from byte 2 on.
+        for at, value in ((0, 0x41), (0, 0x12), (1, 0x23), (1, 0x25), (2, 0x0A), (3, 4), (4, 0x22), (5, 0x21)):
+            yield "message not admissible", [hurt(CACHE_BYTE, value, place * MAX_MESSAGE + 2 + at)]
         yield "message of another id", [hurt(IDS, 0x42, place * MAX_ID)]
-        yield "message of another id", [hurt(ID_LEN, 1, place)]
-        yield "message of another id", [hurt(ID_LEN, 3, place)]
-        yield "message of another id", [hurt(CACHE_BYTE, 0x42, place * MAX_MESSAGE + 2)]
-        yield "message of another id", other_message(run, place, plain(x_with(from_=[b"A\x00"], seqno=[bytes([run.cache.ids[place * MAX_ID + 1]])])))
+        for value in (1, len(A), len(A) + 2):
+            yield "message of another id", [hurt(ID_LEN, value, place)]
+        # Another type, another key, another seqno.
+        for at, value in ((3, 2), (6, 0x42), (len(A) + 2, 0x42)):
+            yield "message of another id", [hurt(CACHE_BYTE, value, place * MAX_MESSAGE + 2 + at)]
+        yield "message of another id", other_message(run, place, plain(x_with(from_=[B], seqno=[bytes([run.cache.ids[place * MAX_ID + len(A)]])])))
     yield "message of another id", [hurt(ID_LEN, 0, held[0])]
 
 
@@ -301,7 +329,23 @@ def topic_breaks(play):
     yield "topic count", [hurt(TOPIC_COUNT, 4, last)]
 
 
-BROKEN_FINDERS = ((turned, breaks), (empty, lambda play: broken_empty()), (topical, topic_breaks))
+def key_breaks(play):
+    """(clause, steps) for a state made by `keyed`: messages with keys that no longer decode, are others, or are gone."""
+    for place, raw in held_bytes(play):
+        at = place * MAX_MESSAGE + raw.index(KEYED) + len(KEYED)
+        tag, size = at - 2, at - 1
+        for where, value in ((at, 0x09), (at + 1, 4), (at + 1, 0x81), (at + 2, 0x1A), (at + 3, 0x1F), (at + 3, 0x21), (size, 0x23)):
+            yield "message not admissible", [hurt(CACHE_BYTE, value, where)]
+        if raw[2]:  # hashed: without a key there is none to be had
+            yield "message not admissible", [hurt(CACHE_BYTE, 0x3A, tag)]
+        else:
+            for where, value in ((at + 1, 0), (at + 4, 0x42), (at + 35, 0x42)):
+                yield "message not admissible", [hurt(CACHE_BYTE, value, where)]
+            for where, value in ((0, 0x12), (2, 0x42)):
+                yield "message not admissible", [hurt(CACHE_BYTE, value, place * MAX_MESSAGE + 2 + where)]
+
+
+BROKEN_FINDERS = ((turned, breaks), (empty, lambda play: broken_empty()), (topical, topic_breaks), (keyed, key_breaks))
 
 
 def harmed(play, clause, steps, *calls):
@@ -320,9 +364,9 @@ def broken_histories():
 
 
 def broken_once():
-    """Each clause broken alone, once, one after the other: a history for each state to start from."""
+    """Each clause broken alone, once, one after the other: a history for each state to start from, but for the last, which breaks none that was not."""
     got = set()
-    for make, find in BROKEN_FINDERS:
+    for make, find in BROKEN_FINDERS[:3]:
         play = make()
         for clause, steps in find(make()):
             if clause not in got and len(steps) <= 8:
@@ -361,12 +405,13 @@ def odd_turned(play):
     yield [hurt(SEEN_LEN, 0, ids[0])]
     yield [hurt(SEEN_LEN, 129, ids[1])]
     yield [hurt(SEEN_BYTE, 0, ids[3] * ROW)]
-    yield other_seen(run, ids[2], b"\x01A\x09")
-    yield other_seen(run, ids[2], b"\x01A")
+    yield other_seen(run, ids[2], b"\x01" + id_of(9))
+    yield other_seen(run, ids[2], b"\x01" + A)
     # Messages with other bytes and the same id.
     for raw in (plain(x_with(seqno=[b"\x03"], data=[b"other"])), plain(x_with(seqno=[b"\x03"], topic=[b"u", b"t"])),
                 plain(x_with(seqno=[b"\x03"])) + b"\x7a\x00", b"\x38\x01" + plain(x_with(seqno=[b"\x03"])),
-                plain(x_with(from_=[b"Z"], seqno=[b"\x09"])) + tagged(1, b"A") + tagged(3, b"\x03")):
+                plain(x_with(seqno=[b"\x03"], key=[KEY])),
+                plain(x_with(from_=[b"Z"], seqno=[b"\x09"], key=[b"\xff"])) + tagged(1, A) + tagged(3, b"\x03") + tagged(6, KEY)):
         yield other_message(run, held[1], raw)
     yield longest(run, held[1])
     # What is in no row is not looked at.
@@ -376,8 +421,8 @@ def odd_turned(play):
     yield [hurt(SEEN_COUNT, 3), hurt(SEEN_LEN, 200, ids[3]), hurt(EXPIRY, 0, ids[3])]
     # The mark's value, places beyond the arrays and beyond what is lent, and values above a byte.
     yield [hurt(EXPIRY, 0, 256), hurt(SEEN_LEN, 255, 256), hurt(SEEN_BYTE, 1, 4 * ROW), hurt(CACHE_BYTE, 1, 3 * MAX_MESSAGE),
-           hurt(WINDOW, 256, held[2] + 64), hurt(LEN, 65536 + 77, 9), hurt(ID_LEN, 256 + 2, held[1]), hurt(SEEN_LEN, 2**32 + 3, ids[0]),
-           hurt(IDS, 0x141, 8192 + held[0] * MAX_ID), hurt(SEEN_BYTE, 0x101, ids[0] * ROW)]
+           hurt(WINDOW, 256, held[2] + 64), hurt(LEN, 65536 + 112, 9), hurt(ID_LEN, 256 + len(id_of(3)), held[1]), hurt(SEEN_LEN, 2**32 + 1 + len(id_of(3)), ids[0]),
+           hurt(IDS, 0x100, 8192 + held[0] * MAX_ID), hurt(SEEN_BYTE, 0x101, ids[0] * ROW)]
 
 
 def longest(run, place):
@@ -437,17 +482,31 @@ def odd_topical(play):
         yield other_message(run, held[0], raw)
     # A number above 21 is that of the ids.
     for what in (TOPIC_LEN + 1, 23, 128, 255):
-        yield [hurt(what, 0x41, place * MAX_ID), hurt(what, 9, 8192 + 3 * MAX_ID)]
+        yield [hurt(what, 0x100, place * MAX_ID), hurt(what, 9, 8192 + 3 * MAX_ID)]
 
 
-ODD_FINDERS = ((turned, odd_turned), (straight, odd_straight), (empty, odd_empty), (topical, odd_topical))
+def odd_keyed(play):
+    """Keys that are not asked for, and others beside a sender that is hashed."""
+    for place, raw in held_bytes(play):
+        at = place * MAX_MESSAGE + raw.index(KEYED) + len(KEYED)
+        if raw[2]:
+            for where, value in ((at + 1, 0), (at + 1, 2), (at + 1, 3), (at + 4, 0x42), (at + 35, 0x42)):
+                yield [hurt(CACHE_BYTE, value, where)]
+            yield other_message(play.run, place, plain(x_with(from_=[HASHED], key=[key_bytes(1, b"")])))
+            yield other_message(play.run, place, plain(x_with(from_=[HASHED], key=[RSA_KEY])))
+        else:
+            yield [hurt(CACHE_BYTE, 0x3A, at - 2)]
+            yield other_message(play.run, place, plain(X))
+
+
+ODD_FINDERS = ((turned, odd_turned), (straight, odd_straight), (empty, odd_empty), (topical, odd_topical), (keyed, odd_keyed))
 
 
 def odd_histories(few=False, finders=ODD_FINDERS):
-    more = [admit(21, named_message(n)) for n in (10, 11, 12, 13)] + [beat(22), advertise(), serve(*[b"A" + bytes([n]) for n in range(14)]),
-                                                                     ask(*[b"A" + bytes([n]) for n in range(14)]), STATE]
+    more = [admit(21, named_message(n)) for n in (10, 11, 12, 13)] + [beat(22), advertise(), serve(*[id_of(n) for n in range(14)]),
+                                                                     ask(*[id_of(n) for n in range(14)]), STATE]
     if few:
-        more = [more[0], beat(22), ask(*[b"A" + bytes([n]) for n in range(4)]), STATE]
+        more = [more[0], beat(22), ask(*[id_of(n) for n in range(4)]), STATE]
     for make, find in finders:
         for n, steps in enumerate(find(make())):
             if few and (n % 5 or len(steps) > 4):
@@ -464,7 +523,7 @@ def kept_histories(few=False):
     hold anything."""
     for raw, kept in TOPIC_MESSAGES:
         looks = [advertise(topic=topic) for topic in sorted({raw[start:start + size] for start, size in kept})]
-        play = Play(("set", 100, 4, 2, 2), admit(10, tagged(2, raw)), *looks, *topics_set(0, kept), ("lookup", b"A\x01"), *([] if few else looks))
+        play = Play(("set", 100, 4, 2, 2), admit(10, tagged(2, raw)), *looks, *topics_set(0, kept), ("lookup", id_of(1)), *([] if few else looks))
         assert play.run.broken() == [] and other_topics(play.run, 0, kept) == []
         for step in topics_set(0, kept):
             _, what, slot, right = step
@@ -475,7 +534,7 @@ def kept_histories(few=False):
             play.add(step)
         others = [slot for slot in range(len(kept), 8) if not few or slot in (len(kept), 3, 4)]
         yield play.add(*[hurt(what, 65535, slot) for slot in others for what in (TOPIC_START, TOPIC_LEN)], hurt(TOPIC_COUNT, 255, 1),
-                       ("lookup", b"A\x01"), beat(11), *looks, *([] if few else [serve(b"A\x01")]), STATE).steps
+                       ("lookup", id_of(1)), beat(11), *looks, *([] if few else [serve(id_of(1))]), STATE).steps
 
 
 def reuse_histories():
@@ -486,7 +545,7 @@ def reuse_histories():
         for after in range(1, MAX_TOPICS + 1):
             play = Play(("set", 100, 4, 2, 1), admit(10, named_message(0, *topics[0][:before])), *looks, admit(11, named_message(1, *topics[1][:after])), *looks)
             assert play.run.cache.topic_count[0] == after
-            yield play.add(hurt(TOPIC_COUNT, before), *FEW, ("lookup", b"A\x01"), hurt(TOPIC_COUNT, after), *looks, beat(12), *looks, beat(13), *looks,
+            yield play.add(hurt(TOPIC_COUNT, before), *FEW, ("lookup", id_of(1)), hurt(TOPIC_COUNT, after), *looks, beat(12), *looks, beat(13), *looks,
                            admit(14, named_message(2, *topics[0])), *looks, STATE).steps
 
 
@@ -537,13 +596,13 @@ def lent_histories(few=False):
 
 def buffer_histories(few=False):
     """Buffers that just fit and just do not, in a buffer that is full of other bytes; and what is left of a reply."""
-    for sizes in ((90, 200, 131), (77, 4096, 129)) if not few else ((90, 200, 131),):
+    for sizes in ((130, 240, 171), (115, 4096, 169)) if not few else ((130, 240, 171),):
         play = Play(("set", 100, 8, 4, 4), *[admit(1, named_message(n, b"t", b"u", size=size)) for n, size in enumerate(sizes)])
-        names = [b"A" + bytes([n]) for n in range(3)]
+        names = [id_of(n) for n in range(3)]
         fields = [len(tagged(2, play.run.cache.message_at(play.run.cache_store, p))) for p in play.messages()]
         play.add(serve(*names), STATE)
-        steps = [("advertise", 1, b"t"), ("advertise", 1, b"none"), ("ask", tells(b"A\x00", b"B", b"BC", b"B")), ("ask", tells(b"A\x01")),
-                 ("serve", wants(b"A\x01")), ("serve", wants(b"B"))]
+        steps = [("advertise", 1, b"t"), ("advertise", 1, b"none"), ("ask", tells(id_of(0), b"B", b"BC", b"B")), ("ask", tells(id_of(1))),
+                 ("serve", wants(id_of(1))), ("serve", wants(b"B"))]
         for step in steps:
             size = play.needed(step)
             for room in sorted({0, 1, size - 1, size, size + 1, ROOM, MAX_MADE} if not few else {0, size - 1, size} | {MAX_MADE} if size else {0}):
@@ -563,42 +622,42 @@ def buffer_histories(few=False):
 
 def full_histories():
     # 256 ids, and 64 messages of 4,096 bytes.
-    names = [b"f" + n.to_bytes(2, "big") for n in range(259)]
-    big = [body_of(filled(x_with(from_=[b"f"], seqno=[name[1:]]), MAX_MESSAGE)) for name in names]
-    play = Play(("set", 1000, 256, 16, 64), *[admit(n, x_body(b"f", name[1:])) for n, name in enumerate(names[:190])], STATE)
+    names = [F + n.to_bytes(2, "big") for n in range(259)]
+    big = [body_of(filled(x_with(from_=[F], seqno=[name[len(F):]]), MAX_MESSAGE)) for name in names]
+    play = Play(("set", 1000, 256, 16, 64), *[admit(n, x_body(F, name[len(F):])) for n, name in enumerate(names[:190])], STATE)
     play.add(*[admit(200, body) for body in big[190:]], STATE, *full_looks(names))
     yield play.add(*[beat(201)] * 15, STATE, advertise(15), advertise(16), beat(201), STATE, advertise(16), serve(names[258])).steps
     # As many bytes as a reply may have, with 16 messages.
     for last, rooms in ((4047, (ROOM,)), (4048, (ROOM - 1, ROOM, ROOM + 1, MAX_MADE)), (4049, (ROOM, ROOM + 1, MAX_MADE)),
                         (4096, (ROOM, 65584, MAX_MADE))):
         play = Play(("set", 1000, 16, 4, 16), *[admit(1, big[n]) for n in range(15)], admit(1, body_of(filled(
-            x_with(from_=[b"f"], seqno=[names[15][1:]]), last))))
+            x_with(from_=[F], seqno=[names[15][len(F):]]), last))))
         for room in rooms:
             play.add(serve(*names[:16], room=room), STATE)
         yield play.steps
-    # The longest ids and the longest topic: 9,417 bytes.
+    # The longest ids, of 108 bytes, and the longest topic: 8,073 bytes.
     topic = b"t" * 1024
-    bodies = [x_body(b"f" * 64, b"s" * 62 + n.to_bytes(2, "big"), topic) for n in range(64)]
+    bodies = [x_body(LONGEST, b"s" * 62 + n.to_bytes(2, "big"), topic) for n in range(64)]
     play = Play(("set", 1000, 64, 16, 64), *[admit(1, body) for body in bodies], advertise(1, topic), STATE)
     size = play.needed(("advertise", 1, topic))
-    assert size == 9417
+    assert size == 8073
     told = bytes.fromhex(play.run.answer(advertise(1, topic)).split(" ")[1])
     play.add(advertise(1, topic, size), advertise(1, topic, size - 1), ("ask", ROOM, told), STATE)
     other = Play(("set", 1000, 64, 16, 64))
     size = other.needed(("ask", told))
     other.add(("ask", size, told), STATE, ("ask", size - 1, told), STATE)
     wanted = bytes.fromhex(other.run.answer(("ask", ROOM, told)).split(" ")[1])
-    assert size == 8390
+    assert size == 7046
     yield play.add(("serve", ROOM, wanted), ("serve", 1024, wanted)).steps
     yield other.steps
     # As many records as a body may have, and one more; bodies about the largest size.
     for n in (510, 511, 512):
         others = [b"%d" % k for k in range(n)]
-        yield turned().add(ask(*others), serve(*others[3:], b"A\x02", b"A\x03", b"A\x04"), ask(*[b"A\x04"] * n), ask(*others, room=100), STATE).steps
+        yield turned().add(ask(*others), serve(*others[3:], id_of(2), id_of(3), id_of(4)), ask(*[id_of(4)] * n), ask(*others, room=100), STATE).steps
     x = named_message(9)
     for size in (MAX_BODY - 1, MAX_BODY, MAX_BODY + 1, MAX_BODY + 50):
-        yield turned().add(admit(20, padded(x, size)), ("ask", ROOM, padded(tells(b"A\x04", b"B"), size)),
-                           ("serve", ROOM, padded(wants(b"A\x04", b"B"), size)), ("ask", ROOM, b"\x80" * size), STATE).steps
+        yield turned().add(admit(20, padded(x, size)), ("ask", ROOM, padded(tells(id_of(4), b"B"), size)),
+                           ("serve", ROOM, padded(wants(id_of(4), b"B"), size)), ("ask", ROOM, b"\x80" * size), STATE).steps
     # An offer of one id that fills a body, and of many.
     yield turned().add(("ask", ROOM, control(ihave([b"x" * (MAX_BODY - 16)], None))), STATE,
                        ask(*[bytes([n % 256, n // 256]) * 62 for n in range(500)]), STATE,
@@ -607,8 +666,8 @@ def full_histories():
 
 def full_in_few_bytes():
     """256 ids and 64 messages of 4,096 bytes, which are made longer where they are; 511 ids named in one body; 16 windows."""
-    names = [b"f" + n.to_bytes(2, "big") for n in range(259)]
-    play = Play(("set", 1000, 256, 16, 64), *[admit(n, x_body(b"f", name[1:])) for n, name in enumerate(names)], STATE)
+    names = [F + n.to_bytes(2, "big") for n in range(259)]
+    play = Play(("set", 1000, 256, 16, 64), *[admit(n, x_body(F, name[len(F):])) for n, name in enumerate(names)], STATE)
     for place in play.messages():
         play.add(*longest(play.run, place))
     every = names[3:]
@@ -617,7 +676,7 @@ def full_in_few_bytes():
     others = [b"%d" % n for n in range(512)]
     play.add(ask(*others[:511]), ask(*others), serve(*others[:510], names[0]), serve(*others), STATE)
     return play.add(*[beat(300)] * 15, advertise(15), advertise(16, room=20), STATE, beat(300), advertise(16), STATE,
-                    admit(300, named_message(1)), ("lookup", b"A\x01"), STATE).steps
+                    admit(300, named_message(1)), ("lookup", id_of(1)), STATE).steps
 
 
 def full_looks(names):
@@ -629,7 +688,7 @@ def full_looks(names):
 
 def wrap_histories():
     """Arrival numbers at the wrap, from an empty cache."""
-    names = [b"A" + bytes([n]) for n in range(8)]
+    names = [id_of(n) for n in range(8)]
     for first in (TOP - 3, TOP - 1, TOP, 0):
         for most in (0, 1, 3, 4):
             play = Play(("set", 100, 8, 3, most), hurt(NEXT, first), STATE)
@@ -644,11 +703,11 @@ def unused_histories():
     for beats in (2, 3, 4, 15, 16, 255, 256, 257, 258, 300):
         play = Play(("set", 1000, 4, 2, 3), admit(1, named_message(0)), *[beat(2)] * beats, STATE, hurt(START, 0), hurt(COUNT, 1))
         for history_len in (beats - 1, beats, beats + 1, 16):
-            play.add(hurt(HISTORY_LEN, history_len), ("lookup", b"A\x00"), beat(2) if history_len == 16 else advertise(beats), advertise(beats + 1))
+            play.add(hurt(HISTORY_LEN, history_len), ("lookup", id_of(0)), beat(2) if history_len == 16 else advertise(beats), advertise(beats + 1))
         yield play.add(STATE).steps
     turns = [hurt(SEEN_START, 3), hurt(START, 3), STATE]
     for step in (beat(13), admit(13, named_message(2)), admit(13, named_message(9)), admit(9, named_message(9)), admit(112, named_message(2))):
-        yield straight().add(*turns, serve(b"A\x00"), step, STATE, serve(b"A\x02", b"A\x01"), STATE).steps
+        yield straight().add(*turns, serve(id_of(0)), step, STATE, serve(id_of(2), id_of(1)), STATE).steps
         yield straight().add(*turns, hurt(SEEN_COUNT, 1), hurt(COUNT, 1), hurt(NEXT, 1), step, STATE, *FEW, step, STATE).steps
 
 
@@ -657,7 +716,7 @@ def small_histories():
     for seen, most in ((0, 0), (0, 3), (3, 0), (1, 1), (0, 1), (1, 0)):
         play = Play(("set", 5, seen, 1, most), STATE)
         for n in (0, 1, 0, 1, 2):
-            play.add(admit(n or play.run.clock, named_message(n)), ask(b"A\x00", b"A\x01"), serve(b"A\x00", b"A\x01"), STATE)
+            play.add(admit(n or play.run.clock, named_message(n)), ask(id_of(0), id_of(1)), serve(id_of(0), id_of(1)), STATE)
         yield play.add(beat(3), *FEW, beat(9), *FEW, ("lend", 1, 0), *FEW, ("lend", 0, 1), *FEW, ("lend", seen * ROW, most * MAX_MESSAGE),
                        hurt(SEEN_COUNT, seen + 1), *FEW, hurt(SEEN_COUNT, 0), hurt(COUNT, most + 1), *FEW).steps
 
@@ -667,21 +726,21 @@ def contains_histories():
     for size in (0, 1, 128, 129, 130, 131, 255, 256, 257, 1000, 65600):
         play.add(("contains", b"\x01" * size), ("lookup", b"\x01" * size))
     for n in range(6):
-        play.add(("contains", b"\x01A" + bytes([n])), ("contains", b"A" + bytes([n])), ("lookup", b"A" + bytes([n])), ("lookup", b"\x01A" + bytes([n])))
+        play.add(("contains", b"\x01" + id_of(n)), ("contains", id_of(n)), ("lookup", id_of(n)), ("lookup", b"\x01" + id_of(n)))
     yield play.add(*other_seen(play.run, 0, b"y" * 129), ("contains", b"y" * 129), ("contains", b"y" * 128), ("contains", b"y" * 130),
                    hurt(SEEN_LEN, 128, 0), ("contains", b"y" * 129), ("contains", b"y" * 128), hurt(SEEN_LEN, 0, 0), ("contains", b""),
-                   hurt(EXPIRY, 0, 3), ("contains", b"\x01A\x04"), beat(20), STATE).steps  # alone, no expiry is looked at
+                   hurt(EXPIRY, 0, 3), ("contains", b"\x01" + id_of(4)), beat(20), STATE).steps  # alone, no expiry is looked at
 
 
 def why_histories():
     """Every answer of `why`, on rings that have turned and that have not: each id, topic and number of windows; then 40, 41 and 42 before 29. Nothing is
     changed."""
-    names, long = [b"A" + bytes([n]) for n in range(6)], b"t" * 1025
+    names, long = [id_of(n) for n in range(6)], b"t" * 1025
     for make in (turned, straight, topical, empty):
         play = make()
         for topic in (b"t", b"u", b"", b"topi", b"topic", b"\xff", b"t" * 1024, long):
             play.add(*[why(n, name, topic) for n in (0, 1, 2, 3, 4, 5, 65535) for name in names])
-        play.add(STATE, *[why(9, name) for name in (b"", b"A", b"\x01A\x03", b"A\x03\x00", b"\x03", bytes(128), bytes(129), bytes(1000))],
+        play.add(STATE, *[why(9, name) for name in (b"", A, b"\x01" + id_of(3), id_of(3) + b"\x00", b"\x03", bytes(128), bytes(129), bytes(1000))],
                  why(9, b"", b"\xff"), why(9, b"", long), why(0, topic=b"\xff" * 1025), STATE)
         lent = play.run.seen_len, play.run.cache_len
         for other in ((lent[0] - 1, lent[1]), (lent[0] + 1, lent[1]), (lent[0], lent[1] - 1), (0, 0)):
@@ -697,14 +756,14 @@ def why_histories():
 def why_in_few_bytes():
     """Each answer of `why` and each of its refusals, a few times."""
     long = b"t" * 1025
-    play = turned().add(*[why(n, name) for n in range(4) for name in (b"A\x01", b"A\x02", b"A\x03", b"A\x04")], why(65535, b"A\x02"))
+    play = turned().add(*[why(n, name) for n in range(4) for name in (id_of(1), id_of(2), id_of(3), id_of(4))], why(65535, id_of(2)))
     play.add(*[why(n, topic=topic) for n in (0, 2) for topic in (b"u", b"", b"tt", b"\xff")], why(9, topic=b"t" * 1024), why(9, topic=long), why(9, b"", long))
-    play.add(*[why(9, name) for name in (b"", b"A", b"\x01A\x03", b"A\x03\x00", bytes(128), bytes(129))], STATE)
+    play.add(*[why(9, name) for name in (b"", A, b"\x01" + id_of(3), id_of(3) + b"\x00", bytes(128), bytes(129))], STATE)
     for other in ((515, 12288), (517, 12288), (516, 12287)):
         play.add(("lend", *other), why(9))
     play.add(("lend", 515, 12288), why(9, topic=long), ("lend", 516, 12288), hurt(COUNT, 9), why(9), why(9, topic=long), hurt(COUNT, 3), STATE)
     # A message leaves the cache; it is seen, and nothing of it is told.
-    return play.add(beat(20), why(2), beat(20), why(3), why(4), beat(20), why(65535), why(65535, b"A\x04"), admit(20, named_message(3)), STATE).steps
+    return play.add(beat(20), why(2), beat(20), why(3), why(4), beat(20), why(65535), why(65535, id_of(4)), admit(20, named_message(3)), STATE).steps
 
 
 def each_refusal():
@@ -715,13 +774,13 @@ def each_refusal():
         play.add(admit(20, body), ("ask", 0, body), ("serve", 0, body))
     many = b"\x0a\x00" * 513
     play.add(admit(20, many), ("ask", ROOM, many), ("serve", ROOM, many), STATE)
-    for parts in (x_with(from_=[]), x_with(from_=[b""]), x_with(from_=[b"f" * 65]), x_with(seqno=[]), x_with(seqno=[b"s" * 65]),
-                  x_with(signature=[], key=[b"k"]), x_with(signature=[]), x_with(signature=[bytes(63)]),
+    for parts in (x_with(from_=[]), x_with(from_=[b""]), x_with(from_=[b"f" * 65]), x_with(from_=[b"A"]), x_with(seqno=[]), x_with(seqno=[b"s" * 65]),
+                  x_with(signature=[], key=[b"k"]), x_with(signature=[]), x_with(signature=[bytes(63)]), x_with(key=[b"\xff"]), x_with(key=[F[2:]]),
                   x_with(topic=[]), x_with(topic=[b"t"] * 5), x_with(topic=[b"t" * 1025]), grown(X, 4097)):
         play.add(admit(20, body_of(parts)))
     play.add(admit(20, named_message(9), 1), admit(20, named_message(9), 65535), admit(20, named_message(9), 0, 0), admit(20, named_message(9), 0, 2),
              admit(15, named_message(9)), beat(15), advertise(1, b"t" * 1025), advertise(1, b"t" * 1024), advertise(room=14), ask(b"B", room=4),
-             serve(b"A\x03", room=76), ("contains", bytes(129)), ("contains", bytes(130)), ("lookup", bytes(130)), STATE)
+             serve(id_of(3), room=113), ("contains", bytes(129)), ("contains", bytes(130)), ("lookup", bytes(130)), STATE)
     play.add(("set", 1, 257, 4, 3), ("set", 1, 4, 0, 3), ("set", 1, 4, 17, 3), ("set", 1, 4, 4, 65), ("set", 1, 65535, 65535, 65535))
     return play.add(*CALLS).steps
 
@@ -732,9 +791,27 @@ def placed_in_few_bytes():
     for text, _ in ROWS[9:14] + ROWS[15:]:
         body = bytes.fromhex(text)
         play.add(admit(20, body), ("ask", 0, body), ("serve", 0, body))
-    for body in (named_message(9) + b"\x0b", tells(b"B") + b"\x1a\x03\x0a\x01\x80", wants(b"A\x03") + b"\x1a\x02\x12\x05"):
+    for body in (named_message(9) + b"\x0b", tells(b"B") + b"\x1a\x03\x0a\x01\x80", wants(id_of(3)) + b"\x1a\x02\x12\x05"):
         play.add(admit(20, body), ("ask", ROOM, body), ("serve", ROOM, body))
     return play.add(STATE).steps
+
+
+def senders_in_few_bytes():
+    """The rows about senders and their keys, with the word and without; then cached messages whose sender or key is no longer one, 42, and whose key
+    may be another, well formed."""
+    play = Play(*traces.senders(peers.SHORT_ROWS, 1), *traces.senders(peers.ROWS[20:], 0)[1:], STATE)
+    made = keyed()
+    play.add(*made.steps, STATE)
+    looks = [admit(20, named_message(1)), ("lookup", id_of(1))]
+    for at, value in ((0, 0x41), (1, 0x25), (3, 4)):
+        step = hurt(CACHE_BYTE, value, 2 + at)
+        play.add(step, *looks, *healing(made.run, [step]))
+    for find in (key_breaks, odd_keyed):
+        for steps in find(made):
+            steps = steps[1] if find is key_breaks else steps
+            if len(steps) == 1:
+                play.add(*steps, *looks, *healing(made.run, steps))
+    return play.add(STATE, *looks, beat(21), STATE).steps
 
 
 def refusal_histories():
@@ -866,10 +943,12 @@ def harm(r, play, calls):
 
 def some_topics(r, play):
     """Messages with topics of every sort, and what is told of some topics."""
-    raws = [topic_message(r, r.choice(((b"a", b"b"), (b"ab", b"c"), (b"t", b"\x22\x01")))) for _ in range(r.choice((1, 2, 3)))]
+    # The last sender has fields 4 in its key.
+    senders = ((A, b"b"), (HASHED, b"c"), (identity(key_bytes(1, b"\x22\x01t\x22\x00")), b"\x22\x01"))
+    raws = [topic_message(r, r.choice(senders)) for _ in range(r.choice((1, 2, 3)))]
     topics = [b"", b"t"] + [raw[start:start + size] for raw in raws if taken(raw) for start, size in topic_places(raw)]
     return [admit(play.run.clock, tagged(2, raw)) for raw in raws] + [advertise(topic=topic) for topic in r.sample(topics, 2)] \
-        + [why(r.randrange(2), name, topic) for name in (b"ab", b"abc", b"t\x22\x01") for topic in topics[-2:]]
+        + [why(r.randrange(2), who + seqno, topic) for who, seqno in senders for topic in topics[-2:]]
 
 
 def history(r):
@@ -878,7 +957,7 @@ def history(r):
     steps = traces.some_calls(r, names, topics)
     settings = list(steps[0])
     settings[4] = r.choice((settings[4], settings[4], 16, 63, 64))
-    pool = [(who[:1], who[1:2]) for who in (b"ab", b"abc")] + caches.names(r)
+    pool = [(A, b"b"), (HASHED, b"c")] + names
     play = Play(tuple(settings))
 
     def calls(n):

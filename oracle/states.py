@@ -49,7 +49,7 @@ TTL, MAX_IDS, CLOCK, SEEN_START, SEEN_COUNT, EXPIRY, SEEN_LEN, HISTORY_LEN, MAX_
 # Every refusal that the program can show.
 LENT = {40, 41, 42}
 BODY = set(range(1, 8)) | {10, 11}
-REFUSALS = {"set": {40}, "admit": LENT | BODY | set(range(20, 32)), "beat": LENT | {31}, "advertise": LENT | {29, 12}, "ask": LENT | BODY | {12},
+REFUSALS = {"set": {40}, "admit": LENT | BODY | nodes.ADMISSION, "beat": LENT | {31}, "advertise": LENT | {29, 12}, "ask": LENT | BODY | {12},
             "serve": LENT | BODY | {12}, "contains": {41, 42, 33}, "lookup": {41, 42}, "why": LENT | {29}}
 
 # The clauses of 42, in the order of the sentence.

@@ -9,10 +9,12 @@ import itertools
 
 import caches
 import nodes
+import peers
 from bodies import BROKEN, PARTS, many, other_field, random_body, tagged
-from caches import LONG_TOPICS, LONGEST_TOPICS, REFUSED, TOPICS, X
+from caches import LONG_TOPICS, LONGEST_TOPICS, NAME, REFUSED, TOPICS, X
 from caches import clipped, fields_of, grown, message, padded, plain, some_put, unfit_puts, x_with
 from nodes import MAX_CONTENT, MAX_RECORDS, TOP, Run, made, record, records
+from peers import A, B, ECDSA, F, HASHED, ID, KEY, LONGEST
 from records import header
 from wire import blob, damaged, then_random
 
@@ -215,7 +217,7 @@ def some_calls(r, pool, topics):
 def full_node(r):
     """More ids than a node sees, over many beats."""
     most, clock, topics = r.choice((63, 64, 255, 256, 256)), readings(r), r.sample(TOPICS, 2)
-    pool = [(r.choice((b"f", b"fr")), n.to_bytes(2, "big")) for n in range(most + 12)]
+    pool = [(r.choice((F, F, A, HASHED)), n.to_bytes(2, "big")) for n in range(most + 12)]
     steps = [("set", r.choice((0, 100, 1000, TOP, TOP)), most, r.choice((1, 4, 16)), r.choice((1, 8, 8)))]
     for who in pool[:r.randrange(most - 2, len(pool))]:
         now = next(clock)
@@ -254,7 +256,7 @@ def both_ways(one, other, topic, windows, now):
 def catch_up(r):
     """Two nodes with messages of one set, and rounds both ways."""
     topics, ttl = some_topics(r), r.choice((50, 1000, TOP))
-    pool = r.sample([(who, bytes([n])) for who in (b"a", b"b", b"ab") for n in range(6)], r.randrange(1, 9))
+    pool = r.sample([(who, bytes([n])) for who in (A, F, HASHED) for n in range(6)], r.randrange(1, 9))
     size = (ADMIT_BODY // 8 - 3) if r.randrange(10) == 0 else None
     messages = []
     for who in pool:
@@ -277,26 +279,26 @@ def catch_up(r):
 
 # --- all short histories -------------------------------------------------------------------
 
-SMALL = [("admit", 0, b"A\x01"), ("admit", 1, b"A\x02"), ("admit", 0, b"A\x02"), ("admit", 2, b"A\x01"), ("admit", -1, b"A\x03"),
-         ("beat", 0), ("beat", 1)]
+SMALL = [("admit", 0, 1), ("admit", 1, 2), ("admit", 0, 2), ("admit", 2, 1), ("admit", -1, 3), ("beat", 0), ("beat", 1)]
 
 
 def short_histories(length=4):
     """Every history of so many calls out of SMALL, whose numbers are added to the reading, for small settings; and looks after it."""
-    bodies = {name: x_body(name[:1], name[1:]) for name in (b"A\x01", b"A\x02", b"A\x03")}
-    looks = [ask(*bodies), serve(*bodies), advertise(1), advertise(2)]
+    bodies = {n: x_body(A, bytes([n])) for n in (1, 2, 3)}
+    names = [A + bytes([n]) for n in bodies]
+    looks = [ask(*names), serve(*names), advertise(1), advertise(2)]
     for most in ((0, 1, 1), (1, 1, 1), (1, 2, 2), (2, 1, 2), (2, 2, 1), (3, 2, 0)):
         for chosen in itertools.product(SMALL, repeat=length):
             steps, now = [("set", 2, *most)], 5
-            for call, more, *name in chosen:
+            for call, more, *which in chosen:
                 now += max(0, more)
-                steps.append(admit(now + min(0, more), bodies[name[0]]) if name else (call, now))
+                steps.append(admit(now + min(0, more), bodies[which[0]]) if which else (call, now))
             yield steps + looks
 
 
 # --- fixed histories -------------------------------------------------------------------------
 
-NAME, NEXT = b"A\x01", b"A\x02"
+NEXT = A + b"\x02"
 LOOKS = [advertise(65535), ask(NAME, NEXT), serve(NAME, NEXT)]
 
 
@@ -313,12 +315,18 @@ def each_refusal():
     for row in [bytes.fromhex(row) for row in REFUSED] + [b"\x0a\x00" * (MAX_RECORDS + 1)]:
         steps += [admit(10, row), ("ask", row), ("serve", row)]
     steps += [admit(20, x, 1)]
-    for parts in (x_with(from_=[]), x_with(from_=[b""]), x_with(from_=[b"f" * 65]), x_with(seqno=[]), x_with(seqno=[b"s" * 65]),
-                  x_with(signature=[], key=[b"k"]), x_with(signature=[]), x_with(signature=[bytes(63)]),
+    for parts in (x_with(from_=[]), x_with(from_=[b""]), x_with(from_=[b"f" * 65]), x_with(from_=[b"A"]), x_with(from_=[b"gate"]), x_with(seqno=[]),
+                  x_with(seqno=[b"s" * 65]), x_with(signature=[], key=[b"k"]), x_with(signature=[]), x_with(signature=[bytes(63)]),
+                  x_with(key=[b"\xff"]), x_with(from_=[b"\x00\x00"]), x_with(from_=[HASHED]), x_with(key=[F[2:]]),
                   x_with(topic=[]), x_with(topic=[b"t"] * 5), x_with(topic=[b"t" * 1025]), grown(X, 4097)):
         steps.append(admit(20, body_of(parts)))
     steps += [admit(20, x, 0, 0), admit(9, x), beat(9), advertise(1, b"t" * 1025)] + LOOKS
     return steps + [admit(10, x), beat(10), ("set", 5, 4, 2, 9)] + LOOKS
+
+
+def senders(rows, *words):
+    """Rows about senders and their keys (peers.py), with each word. No id is kept, so nothing is a duplicate."""
+    return [("set", 10, 0, 1, 0)] + [admit(5, body_of(x_with(**change)), 0, word) for word in words or (1, 0) for change, _ in rows]
 
 
 def setting_histories():
@@ -335,7 +343,7 @@ def setting_histories():
 def message_refusals():
     """Each reason, what is just taken, and two reasons at once; with the host's word and without, and at a reading before the clock."""
     for now, verified in ((10, 1), (10, 0), (9, 1), (9, 0)):
-        steps = [("set", 1000, 8, 4, 4), admit(10, x_body(b"A", b"\x02"))]
+        steps = [("set", 1000, 8, 4, 4), admit(10, x_body(A, b"\x02"))]
         for parts in unfit_puts():
             steps += [admit(now, body_of(parts), 0, verified), advertise(65535)]
         yield steps + LOOKS + [beat(9), beat(10)] + LOOKS
@@ -375,7 +383,7 @@ def body_refusals():
 
 
 def clock_histories():
-    x, y = body_of(X), x_body(b"A", b"\x02")
+    x, y = body_of(X), x_body(A, b"\x02")
     # Both answers and a beat set the clock; no refusal does.
     yield [("set", 100, 4, 4, 4), admit(0, x), admit(50, x), admit(49, y), beat(49), admit(50, y), beat(60), admit(59, x), beat(59),
            admit(70, x, 0, 0), admit(70, x, 1), admit(70, b"\x80"), admit(60, x), beat(60), advertise(9), beat(0), admit(0, y)]
@@ -395,33 +403,34 @@ def clock_histories():
 
 
 def store_histories():
-    bodies = [x_body(b"A", bytes([n])) for n in range(12)]
-    names = [b"A" + bytes([n]) for n in range(12)]
+    bodies = [x_body(A, bytes([n])) for n in range(12)]
+    names = [A + bytes([n]) for n in range(12)]
     for seen in (0, 1, 2, 3, 11, 12):
         for most in (0, 1, 2, 7, 8):
             steps = [("set", 100, seen, 3, most)]
             for n, body in enumerate(bodies):
                 steps += [admit(n, body), admit(n, bodies[max(0, n - 1)]), ask(*names), advertise(1)]
             yield steps + [serve(*reversed(names))] + [admit(20, body) for body in bodies[:4]] + [ask(*names), serve(*names)]
-    every = [b"f" + n.to_bytes(2, "big") for n in range(258)]
+    every = [F + n.to_bytes(2, "big") for n in range(258)]
     for seen in (255, 256):
-        yield [("set", 1000, seen, 16, 8)] + [admit(n, x_body(b"f", name[1:])) for n, name in enumerate(every)] \
-            + [ask(*every), serve(*every), admit(258, x_body(b"f", b"\x00\x01")), admit(258, x_body(b"f", b"\x01\x00")), ask(*every),
-               beat(1100), ask(*every), beat(5000), ask(*every), admit(5000, x_body(b"f", b"\x01\x00"))]
+        yield [("set", 1000, seen, 16, 8)] + [admit(n, x_body(F, name[len(F):])) for n, name in enumerate(every)] \
+            + [ask(*every), serve(*every), admit(258, x_body(F, b"\x00\x01")), admit(258, x_body(F, b"\x01\x00")), ask(*every),
+               beat(1100), ask(*every), beat(5000), ask(*every), admit(5000, x_body(F, b"\x01\x00"))]
     for history_len in (1, 2, 3, 15, 16):
         steps = [("set", 1000, 256, history_len, 8)]
         for n in range(20):
-            steps += [admit(n, x_body(b"A", bytes([n]))), beat(n)]
+            steps += [admit(n, x_body(A, bytes([n]))), beat(n)]
             steps += map(advertise, (0, 1, 2, history_len - 1, history_len, 65535))
-        yield steps + [serve(*[b"A" + bytes([n]) for n in range(20)])]
+        yield steps + [serve(*[A + bytes([n]) for n in range(20)])]
     # Held though no longer seen: new, and the old bytes stay, in their window. Seen though no longer held: not asked for.
-    old, new = x_body(b"A", b"\x01", data=b"old"), x_body(b"A", b"\x01", b"u", data=b"new")
+    old, new = x_body(A, b"\x01", data=b"old"), x_body(A, b"\x01", b"u", data=b"new")
     looks = [ask(NAME), serve(NAME), advertise(1), advertise(2), advertise(9, b"u")]
     yield [("set", 10, 4, 4, 4), admit(0, old), beat(10)] + looks + [admit(10, new)] + looks + [beat(11)] * 2 + looks \
         + [beat(12)] + looks + [admit(12, new)] + looks
     yield [("set", 100, 4, 1, 4), admit(0, old)] + looks + [beat(1)] + looks + [admit(1, new)] + looks + [beat(100), admit(100, new)] + looks
-    # One id by different splits.
-    yield [("set", 100, 4, 4, 4), admit(0, x_body(b"ab", b"c")), admit(0, x_body(b"a", b"bc")), serve(b"abc"), ask(b"abc", b"ab", b"bc", b"abcd")]
+    # An id split where no peer id ends.
+    yield [("set", 100, 4, 4, 4), admit(0, x_body(A, b"bc")), admit(0, x_body(A + b"b", b"c")), admit(0, x_body(A[:-1], A[-1:] + b"bc")), serve(A + b"bc"),
+           ask(A + b"bc", A + b"b", b"bc", A + b"bcd", A)]
     # Places that are used again, by shorter and by longer messages.
     for most in (1, 2, 8):
         steps = [("set", 100, 4, 4, most)]
@@ -432,7 +441,7 @@ def store_histories():
     yield [("set", 100, 16, 4, 8)] + [admit(0, body) for body in largest] + [serve(*names), serve(*reversed(names)), advertise(1)]
     yield [("set", 100, 16, 4, 8)] + [admit(0, body_of(grown(X, size))) for size in (4097, 4098, 8192, 32000)] + LOOKS
     # The longest ids.
-    who, seqno = b"f" * 64, b"s" * 64
+    who, seqno = LONGEST, b"s" * 64
     yield [("set", 100, 16, 4, 8), admit(0, x_body(who, seqno)), admit(0, x_body(who, seqno[1:])), admit(0, x_body(who, seqno)),
            ask(who + seqno, who + seqno[1:], who + seqno[2:], who + seqno + b"s", bytes(1000), who + seqno + b"s"),
            serve(who + seqno + b"s", who + seqno, who + seqno[1:], who, bytes(1000)), advertise(1)]
@@ -440,7 +449,7 @@ def store_histories():
 
 def naming_bodies():
     """Bodies that name ids, for a node that has seen the first three."""
-    a, n1, n2, n3, no, other = x_body(b"A", b"\x01"), b"A\x01", b"A\x02", b"A\x03", b"B\x01", b"B\x02"
+    a, n1, n2, n3, no, other = x_body(A, b"\x01"), NAME, NEXT, A + b"\x03", b"B\x01", b"B\x02"
     yield from (b"", control(), control(ihave([])), control(iwant([])), tells(b""), wants(b""), tells(no), wants(no), tells(n1), wants(n1))
     # Twice, in several entries and in several controls.
     yield from (tells(no, no), wants(n1, n1), tells(no, other, no, n1, other), wants(n2, n1, no, n2, n3, n1))
@@ -448,7 +457,7 @@ def naming_bodies():
     yield from (tells(no) + tells(other, no) + wants(n1) + tells(b"C"), wants(n3) + tells(no) + wants(n1, n3) + control() + wants(n2))
     yield from (control(iwant([n1, no]), ihave([other, n1])), control(ihave([no]), iwant([n2]), ihave([no, b"C"]), iwant([n1])))
     # About the longest ids, and ids easily taken for one that is seen.
-    long = [bytes(129), b"\x01" * 129, n1 + bytes(127), bytes(1000)]
+    long = [bytes(129), b"\x01" * 129, n1 + bytes(129 - len(n1)), bytes(1000)]
     yield from (tells(*long), wants(*long), tells(*long, *long, no), wants(*long, n1, *long), tells(bytes(127), bytes(128), bytes(129), bytes(128)))
     for make in (tells, wants):
         yield make(n1[:1], n1 + b"\x00", b"\x01" + n1, n1[1:])
@@ -464,33 +473,32 @@ def naming_bodies():
 
 
 def naming_histories():
-    a, b, c = x_body(b"A", b"\x01"), x_body(b"A", b"\x02"), x_body(b"A", b"\x03", b"u")
+    a, b, c = x_body(A, b"\x01"), x_body(A, b"\x02"), x_body(A, b"\x03", b"u")
     for most in (8, 2, 0):
         steps = [("set", 100, 16, 4, most), admit(0, a), admit(0, b), admit(0, c), beat(1)]
         for body in naming_bodies():
             steps += [("ask", body), ("serve", body)]
         yield steps
     # Ids in byte order, a prefix first.
-    names = [(b"\x80", b"\x00"), (b"\x7f", b"\xff"), (b"a", b"b\x00"), (b"a", b"b"), (b"a", b"bc"), (b"ab", b"cd"), (b"\x00", b"\x00"),
-             (b"\xff", b"\xff")]
+    names = [(B, b"\x00"), (LONGEST, b"\xff"), (A, b"b\x00"), (A, b"b"), (A, b"bc"), (A, b"\x80"), (ECDSA, b"\x00"), (F, b"\xff")]
     yield [("set", 100, 16, 4, 8)] + [admit(0, x_body(*who)) for who in names] + list(map(advertise, (0, 1, 2, 256, 65535)))
     # Topics: repeated, prefixes of one another, the longest, not UTF-8, too long.
-    steps = [("set", 100, 16, 4, 8), admit(0, x_body(b"f", b"1", b"t", b"to", b"t", b"")), admit(0, x_body(b"f", b"2", b"top", "\u20ac".encode())),
-             admit(0, x_body(b"f", b"3", *LONGEST_TOPICS[:2])), admit(0, x_body(b"f", b"4", LONGEST_TOPICS[2], b"t\x00"))]
+    steps = [("set", 100, 16, 4, 8), admit(0, x_body(F, b"1", b"t", b"to", b"t", b"")), admit(0, x_body(F, b"2", b"top", "\u20ac".encode())),
+             admit(0, x_body(F, b"3", *LONGEST_TOPICS[:2])), admit(0, x_body(F, b"4", LONGEST_TOPICS[2], b"t\x00"))]
     for topic in TOPICS + LONGEST_TOPICS + LONG_TOPICS + BROKEN + [b"t\xff", b"\xe2\x82", b"T"]:
         steps += [advertise(1, topic), advertise(0, topic)]
     yield steps
     # Of several messages in a body each has its own fields; of a field that is given twice the last counts.
     several = a + tagged(2, b"") + b + tagged(2, tagged(1, b"Z") + plain(x_with(seqno=[b"\x04"])) + tagged(3, b"\x05") + tagged(4, b"u"))
     yield [("set", 100, 16, 4, 8)] + [admit(0, several, n) for n in (0, 1, 2, 3, 4)] \
-        + [advertise(1), advertise(1, b"u"), serve(b"A\x05", b"A\x04", b"Z\x04", b"A\x02", NAME), ask(b"A\x05", b"A\x04")]
+        + [advertise(1), advertise(1, b"u"), serve(A + b"\x05", A + b"\x04", b"Z\x04", NEXT, NAME), ask(A + b"\x05", A + b"\x04")]
     # A message is kept with the fields that are skipped.
-    spoken = tagged(2, b"\x7a\x02ab" + plain(X) + b"\x08\x01\x1d" + bytes(4) + b"\x29" + bytes(8) + b"\x32\x03key")
+    spoken = tagged(2, b"\x7a\x02ab" + plain(X) + b"\x08\x01\x1d" + bytes(4) + b"\x29" + bytes(8) + tagged(6, KEY))
     yield [("set", 100, 16, 4, 8), admit(0, spoken), serve(NAME), advertise(1), admit(0, a)]
 
 
 def catch_up_histories():
-    messages = [x_body(b"gate", bytes([n]), b"t", data=b"notice %d" % n) for n in range(8)]
+    messages = [x_body(B, bytes([n]), b"t", data=b"notice %d" % n) for n in range(8)]
 
     def node(*numbers, ttl=1000, seen=8, history_len=3, most=8):
         return [("set", ttl, seen, history_len, most)] + [admit(100 + n, messages[n]) for n in numbers]
@@ -614,10 +622,14 @@ def endings():
     yield "all zero", bytes(60), "bad\n"
     yield "bad in a text", b"set 1000 4 2 4\n", "long\n"
     yield "the scope's sample", records(sample()), \
-        "1 set ok\n2 admit new\n3 advertise 11 1a090a070a017412024101\n4 admit dup\n5 beat ok\n6 advertise 0\n7 admit refused 31\n8 admit new\n"
-    served = "0a01411a01012201742a40" + "00" * 64
+        "1 set ok\n2 admit new\n3 advertise 48 1a2e0a2c0a01741227%s01\n4 admit dup\n5 beat ok\n6 advertise 0\n7 admit refused 31\n8 admit new\n" % ID.hex()
+    rows = peers.ROWS + peers.MORE_ROWS
+    for word, answer in ((1, str), (0, peers.without_word)):
+        yield "senders, word %d" % word, records(senders(rows, word)), \
+            ok + "".join("%d admit %s\n" % (n, " ".join(answer(told).split(" ")[:2])) for n, (_, told) in enumerate(rows, 2))
+    served = "0a26%s1a01012201742a40" % ID.hex() + "00" * 64
     yield "each answer", records([
         ("set", 10, 4, 2, 4), admit(5, x), ask(NAME, b"B", b"B"), serve(b"B", NAME, NAME), ("serve", tells(NAME)), ("ask", wants(b"B")), beat(14),
         ask(NAME), beat(15), ask(NAME), serve(NAME), beat(14)]), \
-        "1 set ok\n2 admit new\n3 ask 7 1a0512030a0142\n4 serve 77 124b%s 1 0\n5 serve 0 0 0\n6 ask 0\n7 beat ok\n8 ask 0\n9 beat ok\n" \
-        "10 ask 8 1a0612040a024101\n11 serve 0 0 0\n12 beat refused 31\n" % served
+        "1 set ok\n2 admit new\n3 ask 7 1a0512030a0142\n4 serve 114 1270%s 1 0\n5 serve 0 0 0\n6 ask 0\n7 beat ok\n8 ask 0\n9 beat ok\n" \
+        "10 ask 45 1a2b12290a27%s01\n11 serve 0 0 0\n12 beat refused 31\n" % (served, ID.hex())

@@ -20,12 +20,13 @@ import state_histories
 import states
 import traces
 from bodies import BROKEN, tagged
-from caches import LONG_TOPICS, LONGEST_TOPICS, TOPICS, X
+from caches import LONG_TOPICS, LONGEST_TOPICS, NAME, TOPICS, X
 from nodes import MAX_CONTENT, TOP
+from peers import A, B, F, HASHED, HASHES, KEY, LONGEST, SENDERS, identity, key_bytes
 from records import Records, header
-from state_histories import Play, cut_why, named_message, some_why, why
+from state_histories import Play, cut_why, id_of, named_message, some_why, why
 from states import CLOCK, COUNT, MAX_HELD, MAX_IDS, MAX_MESSAGE, NODE_SIZE, ROW, gateway_bytes
-from traces import admit, advertise, beat, body_of, x_body
+from traces import NEXT, admit, advertise, beat, body_of, x_body
 from wire import then_random
 
 MAX_GATEWAY = 307600
@@ -67,7 +68,7 @@ def asked(names, topics, windows):
 
 def mistaken(name):
     """Ids that are easily taken for this one, and ids that no message has."""
-    return [name[:-1], name + b"\x00", b"\x01" + name, name[1:], b"", bytes(128), bytes(129), name + bytes(127)]
+    return [name[:-1], name + b"\x00", b"\x01" + name, name[1:], b"", bytes(128), bytes(129), (name + bytes(128))[:128], (name + bytes(129))[:129]]
 
 
 def all_windows(history_len):
@@ -79,7 +80,7 @@ def questions(r, steps, pool=(), topics=()):
     beginnings, and of others."""
     node = Run(steps).node
     held = [name for name, *_ in node.cache]
-    names = sorted({*held, *traces.named_by(pool)}) or [b"A\x01"]
+    names = sorted({*held, *traces.named_by(pool)}) or [NAME]
     names += [traces.near(r, r.choice(names)), r.choice(mistaken(r.choice(names))), b"\x01" + r.choice(names), b""]
     carried = sorted({topic for entry in node.cache for topic in entry[2]})
     some = r.sample(carried, min(len(carried), 3)) + r.sample(topics, min(len(topics), 1)) + [r.choice(carried)[:-1] if carried else b"t"]
@@ -131,62 +132,66 @@ def some_history(r):
 
 # --- fixed histories -----------------------------------------------------------------------
 
-NAME, NEXT = b"A\x01", b"A\x02"
-
-
 def window_histories():
     """Messages of every age, and every number of windows."""
     for history_len in (1, 2, 3, 16):
         for beats in range(history_len + 1):
-            yield [("set", 100, 4, history_len, 4), admit(1, x_body(b"A", b"\x01", b"t"))] + [beat(1)] * beats + asked(
+            yield [("set", 100, 4, history_len, 4), admit(1, x_body(A, b"\x01", b"t"))] + [beat(1)] * beats + asked(
                 [NAME, NEXT, *mistaken(NAME)], [b"t", b"u", b""], [*all_windows(history_len), 255, 256, 257])
     for history_len in (4, 8, 16):
         steps = [("set", 100, 64, history_len, 8)]
         for n in range(8):
-            steps += [admit(1, x_body(b"A", bytes([n]), *(b"t", b"u", b"v")[n % 3:])), beat(1)]
-        yield steps + asked([b"A" + bytes([n]) for n in range(9)], [b"t", b"u", b"v", b"w"], all_windows(history_len))
+            steps += [admit(1, x_body(A, bytes([n]), *(b"t", b"u", b"v")[n % 3:])), beat(1)]
+        yield steps + asked([id_of(n) for n in range(9)], [b"t", b"u", b"v", b"w"], all_windows(history_len))
 
 
 def topic_histories():
     """Topics that are repeated, empty, prefixes of one another, the longest, not UTF-8, and too long."""
-    bodies = [x_body(b"f", b"1", b"t", b"to", b"t", b""), x_body(b"f", b"2", b"top", "\u20ac".encode()), x_body(b"f", b"3", *LONGEST_TOPICS[:2]),
-              x_body(b"f", b"4", LONGEST_TOPICS[2], b"t\x00"), x_body(b"f", b"5", b"t", b"t", b"t", b"u")]
-    names = [b"f%d" % n for n in range(7)]
+    bodies = [x_body(F, b"1", b"t", b"to", b"t", b""), x_body(F, b"2", b"top", "\u20ac".encode()), x_body(F, b"3", *LONGEST_TOPICS[:2]),
+              x_body(F, b"4", LONGEST_TOPICS[2], b"t\x00"), x_body(F, b"5", b"t", b"t", b"t", b"u")]
+    names = [F + b"%d" % n for n in range(7)]
     every = TOPICS + LONGEST_TOPICS + LONG_TOPICS + BROKEN + [b"t\xff", b"\xe2\x82", b"T"]
     yield [("set", 100, 16, 4, 8)] + [admit(0, body) for body in bodies] + asked(names, every, (0, 1)) + [beat(1)] + asked(names, every, (0, 1, 2))
     # The longest content, and topics far above the longest.
-    yield [("set", 100, 16, 4, 8), admit(0, bodies[0])] + [why(1, name, b"t" * (MAX_CONTENT - 4 - len(name))) for name in (b"f1", b"", b"none")] \
-        + asked([b"f1", bytes(MAX_CONTENT - 5)], [b"t"], (1,)) + [why(1, bytes(MAX_CONTENT - 4), b"")]
+    yield [("set", 100, 16, 4, 8), admit(0, bodies[0])] + [why(1, name, b"t" * (MAX_CONTENT - 4 - len(name))) for name in (names[1], b"", b"none")] \
+        + asked([names[1], bytes(MAX_CONTENT - 5)], [b"t"], (1,)) + [why(1, bytes(MAX_CONTENT - 4), b"")]
     for raw, kept in caches.TOPIC_MESSAGES:
         yield [("set", 100, 16, 4, 8), admit(0, tagged(2, raw))] + asked(
             [NAME], [b"", b"t", b"u", *[raw[start:start + size] for start, size in kept], *[raw[start:start + size + 1] for start, size in kept]], (0, 1))
 
 
 def id_histories():
-    """Ids of every length about the longest, prefixes, marks, and one id by different splits."""
-    who, seqno = b"f" * 64, b"s" * 64
+    """Ids of every length about the longest, prefixes, marks, senders of every sort, and ids split where no peer id ends."""
+    who, seqno = LONGEST, b"s" * 64
     whole = who + seqno
-    yield [("set", 100, 16, 4, 8), admit(0, x_body(who, seqno)), admit(0, x_body(who, seqno[1:])), admit(0, x_body(b"f", b"s"))] + asked(
-        [whole, whole[:-1], whole[1:], whole + b"s", who + seqno[2:], b"fs", *mistaken(whole), *[bytes(n) for n in (127, 128, 129, 130, 256, 1000)]],
+    yield [("set", 100, 16, 4, 8), admit(0, x_body(who, seqno)), admit(0, x_body(who, seqno[1:])), admit(0, x_body(F, b"s"))] + asked(
+        [whole, whole[:-1], whole[1:], whole + b"s", who + seqno[2:], F + b"s", *mistaken(whole), *[bytes(n) for n in (127, 128, 129, 130, 256, 1000)]],
         [b"t", b"u"], (0, 1, 5))
-    yield [("set", 100, 4, 4, 4), admit(0, x_body(b"ab", b"c")), admit(0, x_body(b"a", b"bc")), admit(0, x_body(b"\x01", b"abc"))] + asked(
-        [b"abc", b"ab", b"bc", b"abcd", b"\x01abc", b"\x01\x01abc", b"\x01ab"], [b"t"], (0, 1))
-    # An id that begins with the mark is cached, and the same without it is not; and both.
-    yield [("set", 100, 4, 4, 4), admit(0, x_body(b"\x01a", b"b"))] + asked([b"\x01ab", b"ab"], [b"t"], (0, 1)) \
-        + [admit(0, x_body(b"a", b"b", b"u"))] + asked([b"\x01ab", b"ab"], [b"t", b"u"], (0, 1))
+    yield [("set", 100, 4, 4, 4), admit(0, x_body(A, b"bc")), admit(0, x_body(A + b"b", b"c")), admit(0, x_body(B, b"bc"))] + asked(
+        [A + b"bc", A + b"b", b"bc", A + b"bcd", b"\x01" + A + b"bc", b"\x01\x01" + A + b"bc", A, B + b"bc", B + b"b", A + B + b"bc"], [b"t"], (0, 1))
+    # Senders of every sort; a sender that is not taken has no id here.
+    senders = SENDERS + HASHES
+    bodies = [body_of(caches.x_with(from_=[who], key=[KEY] if who in HASHES else [])) for who in senders]
+    for some in (slice(0, 7), slice(3, 10)):
+        yield [("set", 100, 16, 4, 8)] + [admit(0, body) for body in bodies[some]] + [admit(0, x_body(b"gate", b"\x01"))] + asked(
+            [who + b"\x01" for who in senders + [b"gate"]] + senders[:2], [b"t", b"u"], (0, 1))
+    # An id that has another in it.
+    inner = identity(key_bytes(1, NAME[:30]))
+    yield [("set", 100, 4, 4, 4), admit(0, x_body(inner, b"\x01"))] + asked([inner + b"\x01", NAME, inner, NAME[:30]], [b"t"], (0, 1)) \
+        + [admit(0, x_body(A, b"\x01", b"u"))] + asked([inner + b"\x01", NAME], [b"t", b"u"], (0, 1))
 
 
 def left_histories():
     """Messages that left: by max_messages, by their windows, with their node; and what is seen says nothing."""
-    bodies = [x_body(b"A", bytes([n])) for n in range(12)]
-    names = [b"A" + bytes([n]) for n in range(13)]
+    bodies = [x_body(A, bytes([n])) for n in range(12)]
+    names = [id_of(n) for n in range(13)]
     for seen, most in itertools.product((0, 1, 12), (0, 1, 2, 8)):
         steps = [("set", 100, seen, 3, most)]
         for n, body in enumerate(bodies):
             steps += [admit(n, body)] + asked(names[max(0, n - most - 1):n + 2], [b"t"], (0, 1)) + ([beat(n)] if n % 4 == 3 else [])
         yield steps + asked(names, [b"t", b"u"], (0, 1, 2, 3, 4))
     # Held though no longer seen: the old topics and the old window count. Seen though no longer held.
-    old, new = x_body(b"A", b"\x01", data=b"old"), x_body(b"A", b"\x01", b"u", data=b"new")
+    old, new = x_body(A, b"\x01", data=b"old"), x_body(A, b"\x01", b"u", data=b"new")
     looks = asked([NAME, b"\x01" + NAME], [b"t", b"u"], (0, 1, 2, 3, 9))
     yield [("set", 10, 4, 4, 4), admit(0, old), beat(10)] + looks + [admit(10, new)] + looks + [beat(11)] * 2 + looks + [beat(12)] + looks \
         + [admit(12, new)] + looks
@@ -199,7 +204,7 @@ def full_play():
     """256 ids and 64 messages, four of an age, with topics of every number."""
     play = Play(("set", 1000, 256, 16, 64))
     for n in range(259):
-        play.add(admit(n, x_body(b"f", n.to_bytes(2, "big"), *[b"%d" % (n % 3), b"t", b"", b"u"][:1 + n % 4])), *([beat(n)] if n % 4 == 3 else []))
+        play.add(admit(n, x_body(F, n.to_bytes(2, "big"), *[b"%d" % (n % 3), b"t", b"", b"u"][:1 + n % 4])), *([beat(n)] if n % 4 == 3 else []))
     return play
 
 
@@ -207,7 +212,7 @@ def gateway_histories():
     """Saved nodes: taken, cut, longer, hurt. One that is refused leaves the node that was there."""
     held = [named_message(n, b"t", b"u") for n in (1, 9)]
     start = [("set", 50, 4, 2, 4), admit(5, held[0]), beat(6), admit(7, held[1])]
-    names = [b"A" + bytes([n]) for n in range(10)]
+    names = [id_of(n) for n in range(10)] + [HASHED + b"\x01"]
     few = asked(names, [b"t"], (0, 1))
     looks = few + asked(names, [b"t", b"u", b"topic", b""], (4,))
     for play in (state_histories.turned(), state_histories.straight(), state_histories.topical(), state_histories.empty(), Play(("set", 1, 0, 1, 0)),
@@ -219,7 +224,7 @@ def gateway_histories():
         yield start + [step for other in others if NODE_SIZE <= len(other) <= MAX_GATEWAY for step in [("gateway", other), *few]]
     full = full_play()
     yield start + [("gateway", gateway_bytes(full.run))] + asked(
-        [b"f" + n.to_bytes(2, "big") for n in range(190, 261)] + [b"f\x00\x00"], [b"t", b"0", b"u", b"v"], (0, 1, 15, 16))
+        [F + n.to_bytes(2, "big") for n in range(190, 261)] + [F + b"\x00\x00"], [b"t", b"0", b"u", b"v"], (0, 1, 15, 16))
     # Each clause of 42 broken, and states that look odd and are well formed.
     for make, find in state_histories.BROKEN_FINDERS + state_histories.ODD_FINDERS:
         steps = list(start)
@@ -272,12 +277,12 @@ def endings():
         "1 set ok\n2 admit new\n3 why listed\n4 why missing\n5 why topic\n6 why window 0\n7 why topic\n8 why missing\n9 beat ok\n" \
         "10 why window 1\n11 why window 1\n12 why topic\n13 why listed\n14 why listed\n15 why listed\n16 beat ok\n17 why missing\n18 why missing\n"
     yield "ids", records([
-        ("set", 10, 4, 2, 4), admit(5, x), why(1, b""), why(1, bytes(128)), why(1, bytes(129)), why(1, b"\x01" + NAME), why(1, b"A"), why(1, NAME + b"\x00"),
-        admit(5, x_body(b"f" * 64, b"s" * 64)), why(1, b"f" * 64 + b"s" * 64), why(1, b"f" * 64 + b"s" * 65), why(1, b"f" * 64 + b"s" * 63)]), \
+        ("set", 10, 4, 2, 4), admit(5, x), why(1, b""), why(1, bytes(128)), why(1, bytes(129)), why(1, b"\x01" + NAME), why(1, A), why(1, NAME + b"\x00"),
+        admit(5, x_body(LONGEST, b"s" * 64)), why(1, LONGEST + b"s" * 64), why(1, LONGEST + b"s" * 65), why(1, LONGEST + b"s" * 63)]), \
         "1 set ok\n2 admit new\n3 why missing\n4 why missing\n5 why missing\n6 why missing\n7 why missing\n8 why missing\n9 admit new\n10 why listed\n" \
         "11 why missing\n12 why missing\n"
     yield "topics", records([
-        ("set", 10, 4, 2, 4), admit(5, x), admit(5, x_body(b"A", b"\x02", b"", b"t" * 1024)), why(1, NAME, b"t" * 1024), why(1, NAME, b"t" * 1025),
+        ("set", 10, 4, 2, 4), admit(5, x), admit(5, x_body(A, b"\x02", b"", b"t" * 1024)), why(1, NAME, b"t" * 1024), why(1, NAME, b"t" * 1025),
         why(1, NEXT, b"t" * 1024), why(1, b"", b"t" * 1025), why(1, NAME, b"\xff"), why(1, b"none", b"\xff"), why(1, NAME, b""), why(1, NEXT, b""),
         why(1, NAME, b"\xff" * 1025), why(1, NAME, b"tt"), why(1, NEXT, b"t" * 1023)]), \
         "1 set ok\n2 admit new\n3 admit new\n4 why topic\n5 why refused 29\n6 why listed\n7 why refused 29\n8 why topic\n9 why missing\n10 why topic\n" \

@@ -2,7 +2,8 @@
 
 A case is (call, bytes, place): ("walk", body, place), ("varint", bytes, 0),
 ("utf8", bytes, 0), or one whose bodies and lines are those of bodies.py:
-("decode", body, 0), ("encode", body, 0), ("sign", body, index), ("id", body, index).
+("decode", body, 0), ("encode", body, 0), ("sign", body, index), ("id", body, index);
+or one of keys.py: ("key", bytes, 0), ("peer", bytes, 0).
 Everything random comes from one seeded `random.Random`.
 """
 
@@ -10,7 +11,7 @@ from oracle import NUMBER, hexed, unhexed
 from places import find_field, with_place
 from records import header
 
-KIND = {"decode": 1, "encode": 2, "sign": 3, "id": 4, "walk": 5, "varint": 6, "utf8": 7}
+KIND = {"decode": 1, "encode": 2, "sign": 3, "id": 4, "walk": 5, "varint": 6, "utf8": 7, "key": 8, "peer": 9}
 PLACE = {"sign": 2, "id": 2, "walk": 8}  # bytes of the number before the body
 MAX_CONTENT = 65600
 MAX_BODY = 65536
@@ -29,7 +30,7 @@ def command(case):
     call, data, place = case
     if call == "walk":
         return "walk %s %d" % (hexed(data), place)
-    return {"decode": "decode ", "varint": "uvarint ", "utf8": "utf8 "}.get(call, "writes ") + hexed(data)
+    return {"decode": "decode ", "varint": "uvarint ", "utf8": "utf8 ", "key": "key ", "peer": "peerid "}.get(call, "writes ") + hexed(data)
 
 
 def answer(asked, told):

@@ -1,6 +1,6 @@
 #!/usr/bin/env python3
-"""Tests of what the oracle's comparisons and bench/bench say where something is missing, and of the finder of places. They need neither the Rust's files
-nor a program.
+"""Tests of what the oracle's comparisons and bench/bench say where something is missing, of the finder of places, and of the models' peer ids, keys and
+admission. They need neither the Rust's files nor a program.
 
     python3 tools/test_oracle.py
 """
@@ -18,17 +18,23 @@ TOP = os.path.dirname(HERE)
 ORACLE = os.path.join(TOP, "oracle")
 sys.dont_write_bytecode = True
 sys.path.insert(0, ORACLE)
+import admissions  # noqa: E402
 import bodies  # noqa: E402
+import caches  # noqa: E402
+import keys  # noqa: E402
 import nodes  # noqa: E402
+import peers  # noqa: E402
 import places  # noqa: E402
 import sources  # noqa: E402
 import state_histories  # noqa: E402
 import states  # noqa: E402
+import traces  # noqa: E402
 import wire  # noqa: E402
 
-RUST = ("compare_wire", "compare_decode", "compare_write", "compare_caches")
+RUST = ("compare_wire", "compare_decode", "compare_write", "compare_caches", "compare_keys", "compare_admission")
 PROGRAM = {"compare_wire": "inspect", "compare_decode": "inspect", "compare_write": "inspect", "compare_caches": "caches", "compare_trace": "trace",
-           "compare_states": "states", "make_states": "states", "compare_why": "why", "make_why": "why"}
+           "compare_states": "states", "make_states": "states", "compare_why": "why", "make_why": "why", "compare_keys": "inspect",
+           "compare_admission": "states"}
 
 
 class Case(unittest.TestCase):
@@ -123,6 +129,18 @@ class Case(unittest.TestCase):
             words = ["oracle/%s.py" % name] + (["target/bin/none"] if name in RUST else [])
             status, out, err = self.call(*words, ORACLE_BIN="/no/such")
             self.assertEqual((status, out, err), (2, "", "%s: no oracle at /no/such, which ORACLE_BIN names\n" % name))
+        status, out, err = self.call("oracle/compare_multihash.py", "/no/such", ORACLE_BIN=sys.executable)
+        self.assertEqual((status, out, err), (2, "", "compare_multihash: no oracle at /no/such\n"))
+
+    def test_no_multihash(self):
+        for name in sources.FILES:
+            self.put(name)
+        # The harness stands there, with the Rust's files; the crate does not, so nothing is compiled.
+        build = os.path.join(self.folder, "build")
+        status, out, err = self.call("oracle/build.sh", ORACLE_BUILD=build, ORACLE_MULTIHASH=self.folder)
+        self.assertEqual((status, out), (1, ""))
+        self.assertEqual(err, "oracle: no unsigned-varint-0.8 in %s, which ORACLE_MULTIHASH names\n" % self.folder)
+        self.assertFalse(os.path.exists(os.path.join(build, "target")))
 
 
 def model(body):
@@ -229,6 +247,148 @@ class Places(unittest.TestCase):
         told = [line for line in lines if " refused " in line]
         self.assertTrue(told and all(" at " in line for line in told))
         self.assertIn(" ask refused 4 2 5 0 at 8 in 3 4 2", {line[line.index(" "):] for line in told})
+
+
+def field(number, data):
+    return b"" if data is None else bytes([number * 8 + 2]) + wire.varint(len(data)) + data
+
+
+class Senders(unittest.TestCase):
+    def test_keys_by_the_document(self):
+        """By a reader that goes over the bytes once, beside peers.py, which encodes."""
+        def read(data):
+            if data[:1] != b"\x08" or len(data) < 4 or data[1] > 3 or data[2] != 0x12:
+                return None
+            size, at, shift = 0, 3, 0
+            while at < len(data) and shift < 70:
+                size += data[at] % 128 << shift
+                at, shift = at + 1, shift + 7
+                if data[at - 1] < 128:
+                    minimal = at == 4 or data[at - 1] != 0
+                    return (data[1], data[at:]) if minimal and size == len(data) - at else None
+            return None
+
+        r, taken = random.Random(6), 0
+        for call, data, _ in itertools.chain(keys.named(), keys.edges(), keys.tenths(), (keys.key_case(r) for _ in range(3000))):
+            if call == "key":
+                self.assertEqual(peers.key_of(data), read(data), data.hex())
+                taken += read(data) is not None
+        self.assertGreater(taken, 1000)
+
+    def test_peer_ids_by_the_document(self):
+        r, taken = random.Random(6), 0
+        for call, data, _ in itertools.chain(keys.named(), keys.edges(), keys.tenths(), (keys.peer_case(r) for _ in range(3000))):
+            if call == "peer":
+                inline = data[:1] == b"\x00" and len(data) >= 2 and data[1] == len(data) - 2 <= 42
+                hashed = data[:2] == b"\x12\x20" and len(data) == 34
+                self.assertEqual(peers.peer_of(data), ("identity", data[2:]) if inline else ("sha256", data[2:]) if hashed else None, data.hex())
+                taken += inline or hashed
+        self.assertGreater(taken, 1000)
+        # No peer id is a prefix of another, so an id has one sender.
+        every = peers.SENDERS + peers.HASHES + peers.KEYLESS
+        self.assertFalse([(one, two) for one in every for two in every if one != two and two.startswith(one)])
+
+    def test_the_rows(self):
+        for call, text, line in keys.ROWS:
+            self.assertEqual(keys.model(call, bytes.fromhex(text)), line, text)
+        for change, told in peers.ROWS + peers.MORE_ROWS:
+            raw = caches.plain(caches.x_with(**change))
+            message = raw, nodes.read(raw, "message")[0]
+            for word, answer in ((1, told), (0, peers.without_word(told))):
+                try:
+                    got = nodes.admission(message, word == 1) and "new"
+                except nodes.Refused as why:
+                    got = "refused " + " ".join(map(str, why.args))
+                self.assertEqual(got, answer, change)
+            # The other model, of `put`, from the fields as the Rust tells them.
+            known, last = message[1], dict(message[1])
+            theirs = {"raw": raw.hex(), "topic_ids": [one.hex() for number, one in known if number == 4]}
+            theirs.update({name: last[number].hex() if number in last else None for number, name in ((1, "from"), (3, "seqno"), (5, "signature"), (6, "key"))})
+            self.assertEqual(caches.unfit(theirs), None if told == "new" else told, change)
+
+    def test_the_order(self):
+        """Each of 21 to 30 with what is refused later beside it: the scope's order."""
+        faults = [({"from_": None}, 21), ({"from_": b""}, 22), ({"from_": b"A"}, 34), ({"seqno": None}, 23), ({"signature": None}, 25),
+                  ({"signature": bytes(63)}, 26), ({"key": b"\xff"}, 35), ({"key": peers.F[2:]}, 36)]
+        numbers = {"from_": 1, "seqno": 3, "signature": 5, "key": 6}
+        whole = {"from_": peers.ID, "seqno": b"s", "signature": bytes(64), "key": None}
+        for some in itertools.product((False, True), repeat=len(faults)):
+            given, first = dict(whole), None
+            for (change, number), there in zip(faults, some):
+                name, value = next(iter(change.items()))
+                if there and given[name] == whole[name]:
+                    given[name] = value
+                    first = first or number
+            if given["signature"] is None and given["key"] is not None and first == 25:
+                first = 24
+            raw = b"".join(field(numbers[name], given[name]) for name in numbers)
+            # Without the word and with no topic: 27 and 28 come after all of these.
+            self.assertEqual(admissions.modelled(raw, nodes.read(raw, "message")[0], 0), first or 27, raw.hex())
+            self.assertEqual(admissions.modelled(raw, nodes.read(raw, "message")[0], 1), first or 28, raw.hex())
+
+    def test_the_sample(self):
+        x = caches.put_step(caches.X)[2]
+        self.assertEqual(x.hex(), "12700a26" + peers.ID.hex() + "1a01012201742a40" + "00" * 64)
+        self.assertEqual(len(x), 114)
+        folder = os.path.join(TOP, "crates", "trace")
+        with open(os.path.join(folder, "stdin"), "rb") as stdin, open(os.path.join(folder, "stdout"), encoding="utf-8") as stdout:
+            data = stdin.read()
+            self.assertEqual(data, nodes.records(traces.sample()))
+            self.assertEqual(stdout.read().splitlines(), nodes.expected(data))
+
+    def test_ten_bytes(self):
+        for text, other in (("80" * 9 + "02" + "00", "0000"), ("00" + "80" * 9 + "02", "0000"), ("80" * 9 + "7e" + "80" * 9 + "04", "0000"),
+                            ("80" * 9 + "01" + "00", None), ("80" * 9 + "03" + "00", "80" * 9 + "01" + "00"), ("80" * 9 + "00" + "00", None), ("0000", None),
+                            ("8000", None),
+                            ("92" + "80" * 8 + "02" + "20", "1220"), ("80" * 10 + "01", None), ("", None), ("00", None)):
+            self.assertEqual(keys.published(bytes.fromhex(text)), other if other is None else bytes.fromhex(other), text)
+            self.assertTrue(keys.published(bytes.fromhex(text)) is None or keys.model("peer", bytes.fromhex(text)) == "peer refused 34")
+        data = bytes.fromhex("80" * 9 + "02" + "00")
+        self.assertTrue(keys.listed("peer", data, "peer identity ="))
+        self.assertTrue(keys.listed("peer", data, "peer refused 34"))
+        self.assertFalse(keys.listed("peer", data, "peer identity =00"))
+        self.assertFalse(keys.listed("peer", b"\x00\x00", "peer refused 34"))
+        self.assertFalse(keys.listed("key", data, "key refused 35"))
+        self.assertEqual(keys.answer("peer", data, "ok 0 - bytes=0000"), "peer identity =")
+        with self.assertRaises(AssertionError):
+            keys.answer("peer", b"\x00\x01A", "ok 0 - bytes=0000")
+
+    def test_the_list_of_differences(self):
+        self.assertEqual(list(admissions.SMALLEST), admissions.NAMED)
+        with open(os.path.join(TOP, "docs", "DIFFERENCES.md"), encoding="utf-8") as file:
+            text = file.read()
+        for name, (change, word, ours, rust) in admissions.SMALLEST.items():
+            raw = caches.plain(caches.x_with(**change))
+            known = nodes.read(raw, "message")[0]
+            self.assertEqual(admissions.modelled(raw, known, word), ours, name)
+            self.assertFalse(admissions.agree(ours, rust))
+            self.assertEqual(admissions.listed(raw, known, word, ours, rust), name)
+            self.assertTrue("| %s | %s bytes: " % (name, format(len(raw), ",")) in text, name)
+            # The other pairs that such a message could have are on no list.
+            for other in {"ok", "unsigned", *admissions.NAMES.values()} - {rust}:
+                if not admissions.agree(ours, other):
+                    self.assertIsNone(admissions.listed(raw, known, word, ours, other), (name, other))
+
+    def test_a_difference_that_is_not_listed_is_told(self):
+        raw = caches.plain(caches.X)
+        known = nodes.read(raw, "message")[0]
+        for word, ours, rust in ((1, "new", "KeyPeerIdMismatch"), (1, "new", "SignatureInvalid"), (1, 27, "ok"), (0, "new", "SignatureInvalid"), (1, 28, "ok"),
+                                 (1, 34, "ok"), (1, 36, "SignatureInvalid"), (0, 23, "InvalidFrom"), (1, 25, "unsigned")):
+            beside = admissions.Beside()
+            beside.look(raw, known, word, ours, rust)
+            self.assertEqual((len(beside.differ), beside.found), (1, {}), (ours, rust))
+        beside = admissions.Beside()
+        beside.look(raw, known, 1, "new", "ok")
+        beside.look(raw, known, 0, 27, "SignatureInvalid")
+        self.assertEqual((beside.differ, beside.found), ([], {}))
+
+    def test_random_messages_are_mostly_taken(self):
+        r, met = random.Random(9), []
+        for _ in range(400):
+            met += [line.split(" ", 2)[2] for line in nodes.expected(nodes.records(traces.history(r))) if line.split(" ")[1] == "admit"]
+        self.assertGreater(2 * sum(one in ("new", "dup") for one in met), len(met))
+        for number in (34, 35, 36):
+            self.assertGreater(met.count("refused %d" % number), 20)
 
 
 if __name__ == "__main__":

@@ -50,6 +50,14 @@ impl<'a> Words<'a> {
         usize::try_from(self.number()?).map_err(|_| String::from("bad number"))
     }
 
+    fn flag(&mut self) -> Res<bool> {
+        match self.number()? {
+            0 => Ok(false),
+            1 => Ok(true),
+            _ => Err(String::from("bad flag")),
+        }
+    }
+
     fn end(&self) -> Res<()> {
         if self.at < self.words.len() {
             return Err(String::from("bad: too many words"));
@@ -140,6 +148,27 @@ fn run(state: &mut State, line: &str) -> Res<String> {
                 hex(&signed),
                 hex(&seen_message_id(from, seqno, false))
             ))
+        }
+
+        "verify" => {
+            let message = message_of(&mut w)?;
+            let allow_unsigned = w.flag()?;
+            w.end()?;
+            match message.verify(allow_unsigned) {
+                Ok((from, seqno, signed)) => Ok(format!(
+                    "ok {} {} {}",
+                    hex(&from.to_bytes()),
+                    hex(&seqno),
+                    u8::from(signed)
+                )),
+                Err(error) => Err(format!("err {error:?}")),
+            }
+        }
+        "word" => {
+            let word = w.flag()?;
+            w.end()?;
+            ed25519_dalek::set_word(word);
+            ok()
         }
 
         // --- varints, text, fields ---
