@@ -1,5 +1,5 @@
--- To be believed: Admission, Told.
--- Theorems: AdmissionLaws, TopicLaws, Rows.
+-- To be believed: Admission, Fit, Told.
+-- Theorems: AdmissionLaws, FitLaws, TopicLaws, Rows.
 pub mod Told
 pub mod Admission
 pub mod AdmissionLaws

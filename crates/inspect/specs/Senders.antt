@@ -2,13 +2,12 @@
 use Prim.Native.Nat.{ℕ}
 use mathlib.Core.List.{List, [], _∷_, _++_}
 use lib.ListN.{drop}
-use Rattle.basis.specs.Refusals.{not-peer-id}
-use Rattle.basis.specs.Told.{told}
 use Rattle.text.specs.Line.{number}
 use Rattle.lines.specs.Lines.{refusal}
 use Rattle.peer_id.specs.declared.PeerId.{PeerId}
 use Rattle.peer_id.specs.declared.PeerId.the-variants as peer
 use Rattle.peer_id.specs.PeerId.{fromBytes, digestOf}
+use Rattle.peer_id.specs.Told.{peerIdTold}
 use Rattle.key.specs.declared.PublicKey.{PublicKey}
 use Rattle.key.specs.declared.PublicKey.the-variants as key
 use Rattle.key.specs.Key.{codeOf}
@@ -25,7 +24,7 @@ keyText s (key.Refused why) = refusal (keyTold (key.Refused why))
 unfoldable pub peerIdText : List ℕ → PeerId → List ℕ
 peerIdText s peer.Identity = (32 ∷ 105 ∷ 100 ∷ 101 ∷ 110 ∷ 116 ∷ 105 ∷ 116 ∷ 121 ∷ []) ++ bytesText (digestOf s)
 peerIdText s peer.Sha256 = (32 ∷ 115 ∷ 104 ∷ 97 ∷ 50 ∷ 53 ∷ 54 ∷ []) ++ bytesText (digestOf s)
-peerIdText s peer.NotPeerId = refusal (told not-peer-id [])
+peerIdText s peer.NotPeerId = refusal (peerIdTold peer.NotPeerId)
 
 -- ---- the call and the answer to a content
 -- ` key`

@@ -7,8 +7,6 @@ ghost use Rattle.peer_id.specs.PeerId.{digestOf};
 ghost use Rattle.inspect.specs.Records.{bytesText};
 ghost use Rattle.inspect.specs.Senders.{keyText, peerIdText, keyAnswer, peerAnswer};
 use super::records::put_bytes;
-use basis::Told;
-use basis::refusals;
 use key::PublicKey;
 use key::told::code_of;
 use key::told::told_key;
@@ -17,6 +15,7 @@ use lines::put_value;
 use lines::put_word;
 use peer_id::DIGEST_START;
 use peer_id::PeerId;
+use peer_id::told::told_peer_id;
 
 // The bytes from `start` on; a key of no data has none there.
 fn put_rest(out: &mut [u8], at: usize, s: &[u8], start: usize) -> usize
@@ -64,7 +63,7 @@ fn put_peer_id(out: &mut [u8], at: usize, s: &[u8], peer: PeerId) -> usize
     match peer {
         PeerId::Identity => put_digest(out, at, b" identity", s),
         PeerId::Sha256 => put_digest(out, at, b" sha256", s),
-        PeerId::NotPeerId => put_refusal(out, at, Told::none(refusals::NOT_PEER_ID)),
+        PeerId::NotPeerId => put_refusal(out, at, told_peer_id(peer)),
     }
 }
 

@@ -28,7 +28,7 @@ sub-if2 c = search needs
 
 returns-2 : tie.Need-returns-2
 returns-2 c = no-multihash (now (c .before .before .before .before .before .args .multihash))
-    (λ z. c .if2 .taken (c .before .wide .ensures ∙ omega arith))
+    (λ z. omega (arith, c .before .wide .ensures, c .if2 .taken))
 
 shared-slice-read-hash-of : tie.Need-shared-slice-read-hash-of
 shared-slice-read-hash-of c = search needs

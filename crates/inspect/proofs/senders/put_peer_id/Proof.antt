@@ -1,8 +1,9 @@
 -- `inspect::senders::put_peer_id` meets its contract: the case says what is put.
-use mathlib.Core.Path.{sym, ap}
+use mathlib.Core.Path.{sym, ap, _∙_}
 use native.Mathlib.Omega.{arith}
 use Rattle.text.specs.Laws.{puts-as}
 use Rattle.lines.specs.Laws.{wrote-puts}
+use Rattle.peer_id.specs.Told.{peerIdTold}
 use Rattle.inspect.specs.Senders.{peerIdText}
 use borrow.Author.Needs.{needs}
 use Rattle.inspect.proofs.senders.put_peer_id.Statement.{statement}
@@ -29,8 +30,8 @@ put-digest-requires-2 c κs = search needs
 enum-told-3 : tie.Need-enum-told-3
 enum-told-3 c = search needs
 
-none-requires : tie.Need-none-requires
-none-requires c κs = search needs
+told-peer-id-requires : tie.Need-told-peer-id-requires
+told-peer-id-requires c κs = search needs
 
 put-refusal-requires : tie.Need-put-refusal-requires
 put-refusal-requires c κs = search needs
@@ -54,7 +55,7 @@ same-length-3 c = search needs
 
 returns-3 : tie.Need-returns-3
 unfolding peerIdText
-returns-3 c = puts-as (ap (peerIdText (c .before .before .before .before .before .before .before .before .before .args .s .now)) (sym (c .before .before .before .before .before .enum-told3 .given .1))) (omega arith) (rw (c .before .before .before .none .ensures) at (wrote-puts (omega arith) (c .before .before .put-refusal .ensures)))
+returns-3 c = puts-as (ap (peerIdText (c .before .before .before .before .before .before .before .before .before .args .s .now)) (sym (c .before .before .before .before .before .enum-told3 .given .1))) (omega arith) (rw (c .before .before .before .told-peer-id .ensures ∙ ap peerIdTold (c .before .before .before .before .before .enum-told3 .given .1)) at (wrote-puts (omega arith) (c .before .before .put-refusal .ensures)))
 
 pub put-peer-id-spec : {M : Type 1} → statement M
 put-peer-id-spec =
@@ -67,7 +68,7 @@ put-peer-id-spec =
     slice-aggregate-put-digest-2
     put-digest-requires-2
     enum-told-3
-    none-requires
+    told-peer-id-requires
     put-refusal-requires
     same-length
     returns
