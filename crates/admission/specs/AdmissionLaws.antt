@@ -166,23 +166,29 @@ unfolding admissionOf
 fit-parts p word a e b f h = of-id a e b f p word (idParts p) h .0
 
 -- and so are the sender's bytes
-seqno-starts : (x y a e b f : ℕ) (q : Place) → onSeqno x y q ≡ id.Parts a e b f → (x ≡ a) × (y ≡ e)
-seqno-starts x y a e b f place.Absent h = clash (cc)
-seqno-starts x y a e b f (place.Present c d) h =
+seqno-there : (x y a e b f : ℕ) (q : Place) → onSeqno x y q ≡ id.Parts a e b f → (x ≡ a) × (y ≡ e)
+    × (q ≡ place.Present b f)
+seqno-there x y a e b f place.Absent h = clash (cc)
+seqno-there x y a e b f (place.Present c d) h =
     either (eqb (d - c) 0 || ltb 64 (d - c)) (λ t. clash (let k = simp t at h in cc))
-    (λ t. let k = simp t at h in let p : x ≡ a = cc in let q : y ≡ e = cc in (p, q))
+    (λ t. let k = simp t at h in let p : x ≡ a = cc in let q : y ≡ e = cc in let r : b ≡ c = cc in let s : f ≡ d = cc in
+    (p, q, rw (r, s)))
 
-from-there : (a e b f : ℕ) (q r : Place) → onFrom q r ≡ id.Parts a e b f → q ≡ place.Present a e
+from-there : (a e b f : ℕ) (q r : Place) → onFrom q r ≡ id.Parts a e b f → (q ≡ place.Present a e)
+    × (r ≡ place.Present b f)
 from-there a e b f place.Absent r h = clash (cc)
 from-there a e b f (place.Present x y) r h =
     either (eqb (y - x) 0 || ltb 64 (y - x)) (λ t. clash (let k = simp t at h in cc))
-    (λ t. let s = seqno-starts x y a e b f r (simp t at h) in rw (s .0, s .1))
+    (λ t. let s = seqno-there x y a e b f r (simp t at h) in (rw (s .0, s .1), s .2))
+
+pub parts-there : (p : List ℕ) (a e b f : ℕ) → idParts p ≡ id.Parts a e b f
+    → (slotsOf kind.RawMessage p .first ≡ place.Present a e) × (slotsOf kind.RawMessage p .third ≡ place.Present b f)
+unfolding idParts
+parts-there p a e b f h =
+    from-there a e b f (slotsOf kind.RawMessage p .first) (slotsOf kind.RawMessage p .third) h
 
 pub sender-is : (p : List ℕ) (a e b f : ℕ) → idParts p ≡ id.Parts a e b f → senderOf p ≡ between p a e
-unfolding idParts
-sender-is p a e b f h =
-    ap (bytesAt p)
-    (from-there a e b f (slotsOf kind.RawMessage p .first) (slotsOf kind.RawMessage p .third) h)
+sender-is p a e b f h = ap (bytesAt p) (parts-there p a e b f h .0)
 
 -- it passes the tests behind that
 pub fit-passes : (p : List ℕ) (word : Bool) (a e b f : ℕ) → admissionOf p word ≡ admission.Fit a e b f → Passes p word

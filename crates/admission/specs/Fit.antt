@@ -5,6 +5,7 @@ use Prim.Native.Nat.{ℕ}
 use mathlib.Core.Path.{_≡_}
 use mathlib.Core.Bool.{Bool, true}
 use mathlib.Core.List.{List}
+use mathlib.Core.Option.{Option, none, some}
 use Rattle.peer_id.specs.Multihash.{Hash, identity, sha-256, IsPeerId}
 use Rattle.key.specs.declared.KeyType.{KeyType}
 use Rattle.key.specs.Key.{IsKey}
@@ -17,16 +18,19 @@ use Rattle.ids.specs.declared.MessageId.the-variants as id
 use Rattle.ids.specs.Ids.{idParts}
 use Rattle.admission.specs.AdmissionLaws.{Signed, Limits}
 
--- the key of a message p whose sender is s, by where it stands
-pub data KeyOf (p s : List ℕ) : Place → Type 0 where
+-- the key of a message whose sender is s
+pub data KeyOf (s : List ℕ) : Option (List ℕ) → Type 0 where
   -- there is none, and the sender is an identity over one
-  inside : {d k : List ℕ} {t : KeyType} → IsPeerId s identity d → IsKey d t k → KeyOf p s place.Absent
+  inside : {d k : List ℕ} {t : KeyType} → IsPeerId s identity d → IsKey d t k → KeyOf s none
   -- the sender is an identity over it
-  same : {a e : ℕ} {k : List ℕ} {t : KeyType} → IsPeerId s identity (between p a e) → IsKey (between p a e) t k
-      → KeyOf p s (place.Present a e)
+  same : {d k : List ℕ} {t : KeyType} → IsPeerId s identity d → IsKey d t k → KeyOf s (some d)
   -- the sender is a SHA-256 multihash; that the key has this hash is in the host's word
-  hashed : {a e : ℕ} {d k : List ℕ} {t : KeyType} → IsPeerId s sha-256 d → IsKey (between p a e) t k
-      → KeyOf p s (place.Present a e)
+  hashed : {c d k : List ℕ} {t : KeyType} → IsPeerId s sha-256 d → IsKey c t k → KeyOf s (some c)
+
+-- what stands in a place of a message
+abbrev pub givenAt : List ℕ → Place → Option (List ℕ)
+givenAt p place.Absent = none
+givenAt p (place.Present a e) = some (between p a e)
 
 -- from stands from a to e, seqno from b to f
 pub record IsFit (p : List ℕ) (word : Bool) (a e b f : ℕ) : Type 0 where
@@ -35,6 +39,6 @@ pub record IsFit (p : List ℕ) (word : Bool) (a e b f : ℕ) : Type 0 where
   pub digest : List ℕ
   pub peer : IsPeerId (between p a e) hash digest
   pub signature : Signed (slotsOf kind.RawMessage p .fourth)
-  pub key : KeyOf p (between p a e) (slotsOf kind.RawMessage p .fifth)
+  pub key : KeyOf (between p a e) (givenAt p (slotsOf kind.RawMessage p .fifth))
   pub given : word ≡ true
   pub limits : Limits p

@@ -3,6 +3,7 @@ use Prim.Native.Nat.{ℕ, _-_, _^_, _≤_, _<_}
 use mathlib.Core.Path.{_≡_, refl, sym, ap, subst, _∙_}
 use mathlib.Core.Bool.{Bool, true, false}
 use mathlib.Core.List.{List}
+use mathlib.Core.Option.{Option, none, some}
 use mathlib.Core.Logic.{_↔_}
 use native.Mathlib.Omega.{arith}
 use lib.ListN.{length, drop, length-take, length-drop}
@@ -36,7 +37,7 @@ use Rattle.admission.specs.Admission.{topicsOf, firstLong, onLimits, onW
 use Rattle.admission.specs.Admission.{keyInside, onKey, onSignature, isPeerId, onPeer, senderOf, onId}
 use Rattle.admission.specs.Admission.{admissionOf}
 use Rattle.admission.specs.AdmissionLaws.{Limits, Signed, keyFits, fit-parts, sender-is, fit-passes}
-use Rattle.admission.specs.Fit.{KeyOf, inside, same, hashed, IsFit}
+use Rattle.admission.specs.Fit.{KeyOf, inside, same, hashed, givenAt, IsFit}
 
 -- ---- which peer id it is
 of-hash : (s : List ℕ) (r : PeerId) → fromBytes s ≡ r → byHash r true true ≡ true → (h : Hash) × IsPeerId s h (digestOf s)
@@ -73,7 +74,7 @@ module _ (p s : List ℕ) (bp : Bytes p) (bs : Bytes s) (lp : length p ≤ 4096)
   digest-small : length (digestOf s) < 2 ^ 64
   digest-small = rw (length-drop 2 s) (omega arith)
 
-  is-inside : (r : PeerId) → fromBytes s ≡ r → byHash r (isKey (digestOf s)) false ≡ true → KeyOf p s place.Absent
+  is-inside : (r : PeerId) → fromBytes s ≡ r → byHash r (isKey (digestOf s)) false ≡ true → KeyOf s none
   is-inside peer.Identity e h =
       let k = key-read-exactly (digestOf s) (drop-bytes 2 s bs) digest-small .0 h in
       inside (peer-exactly s (digestOf s) identity .0 (e, refl)) (k .2)
@@ -81,7 +82,7 @@ module _ (p s : List ℕ) (bp : Bytes p) (bs : Bytes s) (lp : length p ≤ 4096)
   is-inside peer.NotPeerId e h = clash (cc)
 
   is-there : (a e : ℕ) (r : PeerId) → fromBytes s ≡ r → isKey (between p a e) ≡ true
-      → byHash r (sameBytes (digestOf s) (between p a e)) true ≡ true → KeyOf p s (place.Present a e)
+      → byHash r (sameBytes (digestOf s) (between p a e)) true ≡ true → KeyOf s (some (between p a e))
   is-there a e peer.Identity f k h =
       let g = key-read-exactly (between p a e) (part-bytes a e) (part-small a e) .0 k in
       same (peer-exactly s (between p a e) identity .0 (f, same-equal (digestOf s) (between p a e) h)) (g .2)
@@ -90,28 +91,43 @@ module _ (p s : List ℕ) (bp : Bytes p) (bs : Bytes s) (lp : length p ≤ 4096)
       hashed (peer-exactly s (digestOf s) sha-256 .0 (f, refl)) (g .2)
   is-there a e peer.NotPeerId f k h = clash (cc)
 
-  clause : (q : Place) → keyFits p s q ≡ true → KeyOf p s q
+  clause : (q : Place) → keyFits p s q ≡ true → KeyOf s (givenAt p q)
   unfolding keyInside keyMatches
   clause place.Absent h = is-inside (fromBytes s) refl h
   clause (place.Present a e) h =
       let b = both (isKey (between p a e)) (keyMatches s (between p a e)) h in
       is-there a e (fromBytes s) refl (b .0) (b .1)
 
-  fits : {q : Place} → KeyOf p s q → keyFits p s q ≡ true
-  unfolding keyInside keyMatches
-  fits (inside {d} {k} {t} i x) =
+  fits-inside : {o : Option (List ℕ)} → KeyOf s o → o ≡ none → keyInside s ≡ true
+  unfolding keyInside
+  fits-inside (inside {d} {k} {t} i x) z =
       let r = peer-exactly s d identity .1 i in
       let y : isKey d ≡ true = key-read-exactly d (subst Bytes (r .1) (drop-bytes 2 s bs))
       (subst (λ (l : List ℕ). length l < 2 ^ 64) (r .1) digest-small) .1 (t, k, x) in
       rw (r .0, r .1) y
-  fits (same {a} {e} {k} {t} i x) =
-      let r = peer-exactly s (between p a e) identity .1 i in
-      let y = key-read-exactly (between p a e) (part-bytes a e) (part-small a e) .1 (t, k, x) in
-      rw (y, r .0, r .1) (same-self (between p a e))
-  fits (hashed {a} {e} {d} {k} {t} i x) =
+  fits-inside (same {d} {k} {t} i x) z = clash (cc)
+  fits-inside (hashed {c} {d} {k} {t} i x) z = clash (cc)
+
+  fits-there : {o : Option (List ℕ)} (c : List ℕ) → KeyOf s o → o ≡ some c → Bytes c → length c < 2 ^ 64
+      → (isKey c ≡ true) × (keyMatches s c ≡ true)
+  unfolding keyMatches
+  fits-there c (inside {d} {k} {t} i x) z bc lc = clash (cc)
+  fits-there c (same {d} {k} {t} i x) z bc lc =
+      let e : d ≡ c = cc in
+      let r = peer-exactly s d identity .1 i in
+      (
+        key-read-exactly c bc lc .1 (t, k, subst (λ (l : List ℕ). IsKey l t k) e x),
+        rw (r .0, r .1, e) (same-self c),
+      )
+  fits-there c (hashed {c = b} {d} {k} {t} i x) z bc lc =
+      let e : b ≡ c = cc in
       let r = peer-exactly s d sha-256 .1 i in
-      let y = key-read-exactly (between p a e) (part-bytes a e) (part-small a e) .1 (t, k, x) in
-      rw (y, r .0)
+      (key-read-exactly c bc lc .1 (t, k, subst (λ (l : List ℕ). IsKey l t k) e x), rw (r .0))
+
+  fits : (q : Place) → KeyOf s (givenAt p q) → keyFits p s q ≡ true
+  fits place.Absent k = fits-inside k refl
+  fits (place.Present a e) k =
+      let y = fits-there (between p a e) k refl (part-bytes a e) (part-small a e) in rw (y .0, y .1)
 
 -- ---- what passes each test is handed on
 to-limits : (p : List ℕ) (r : Admission) → Limits p → onLimits p r ≡ r
@@ -178,7 +194,7 @@ module _ (p : List ℕ) (word : Bool) (a e b f : ℕ) (bp : Bytes p) where
       let q = slotsOf kind.RawMessage p .fifth in
       let fit = admission.Fit a e b f in
       let k : keyFits p (senderOf p) q ≡ true = ap (λ (l : List ℕ). keyFits p l q) s
-      ∙ fits p (between p a e) bp sender-bytes small (sender-small small) (x .key) in
+      ∙ fits p (between p a e) bp sender-bytes small (sender-small small) q (x .key) in
       ap (onId p word) (x .parts)
       ∙ to-peer (senderOf p) (x .hash) (x .digest) _ (subst (λ (l : List ℕ). IsPeerId l (x .hash) (x .digest)) (sym s) (x .peer))
       ∙ to-signature (slotsOf kind.RawMessage p .fourth) q _ (x .signature)

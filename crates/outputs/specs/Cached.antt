@@ -50,7 +50,7 @@ topics-values p end = refl
 topics-values p (refused why) = refl
 topics-values p (f then w) = rw (topics-values p w)
 
-topics-mean : {p : List ℕ} {m : RawMessage} → IsMessage p m → (m .«topic_ids» ≡ topicsOf p) × Each Utf8 (topicsOf p)
+pub topics-mean : {p : List ℕ} {m : RawMessage} → IsMessage p m → (m .«topic_ids» ≡ topicsOf p) × Each Utf8 (topicsOf p)
 unfolding topicsOf
 topics-mean (is-message {s = p} {es = es} g u) =
     let e = topics-values p (fieldsOf p) ∙ values-body 4 p es g in

@@ -1,5 +1,5 @@
--- To be believed: Named, Outcomes, Replied (`Replies`, `Counts`), Admitted (`AdmitTakes`, `AdmitTells`).
--- Theorems: Exactly, Offered, Replied, Requested, Advertised, Adverts, Admitted.
+-- To be believed: Named, Outcomes, Fits, Replied (`Replies`, `Counts`), Admitted (`AdmitTakes`, `AdmitTells`).
+-- Theorems: Exactly, Offered, Replied, Requested, Advertised, Adverts, Admitted, FitsLaws.
 -- On the way to them: Bodies, Cached.
 pub mod Named
 pub mod Offered
@@ -12,3 +12,5 @@ pub mod Adverts
 pub mod Outcomes
 pub mod Exactly
 pub mod Admitted
+pub mod Fits
+pub mod FitsLaws

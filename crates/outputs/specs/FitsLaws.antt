@@ -1,0 +1,183 @@
+-- A message of an RPC is taken exactly where it is fit, by its fields.
+use Prim.Native.Nat.{ℕ, _+_, _-_, _≤_}
+use mathlib.Core.Path.{_≡_, refl, sym, ap, ap₂, subst, _∙_}
+use mathlib.Core.Bool.{Bool, true}
+use mathlib.Core.List.{List, [], _∷_}
+use mathlib.Core.Logic.{_↔_}
+use mathlib.Core.Option.{Option, none, some}
+use native.Mathlib.Omega.{arith}
+use native.Mathlib.Nat.{zero-add}
+use lib.ListN.{length}
+use lib.Dec.{ltb}
+use borrow.Author.Tests.{ltb-true, ltb-false, le-ltb, ne-eqb}
+use Rattle.basis.specs.Cases.{either, clash}
+use Rattle.basis.specs.Bytes.{Bytes}
+use Rattle.peer_id.specs.MultihashLaws.{peer-size}
+use Rattle.peer_id.specs.Multihash.{IsPeerId}
+use Rattle.protobuf.specs.Walk.{between}
+use Rattle.protobuf.specs.WalkLaws.{between-length}
+use Rattle.protobuf.specs.Exactly.{body-walks}
+use Rattle.schema.specs.declared.Kind.the-variants as kind
+use Rattle.schema.specs.declared.Place.{Place}
+use Rattle.schema.specs.declared.Place.the-variants as place
+use Rattle.schema.specs.Slots.{slotsOf}
+use Rattle.schema.specs.SlotsLaws.{PlaceInside, slots-inside}
+use Rattle.rpc.specs.Rpc.{RawMessage}
+use Rattle.rpc.specs.Grammar.{IsMessage, is-message, Each, none-left, _and_}
+use Rattle.meaning.specs.ReadBack.{bytesAt}
+use Rattle.meaning.specs.Back.{message-from, message-seqno, message-signature, message-key, slot-value, whole-part}
+use Rattle.canon.specs.Messages.{raw-is}
+use Rattle.ids.specs.declared.MessageId.the-variants as id
+use Rattle.ids.specs.Ids.{onFrom, idParts}
+use Rattle.ids.specs.IdLaws.{id-fits, id-some}
+use Rattle.admission.specs.declared.Admission.the-variants as admission
+use Rattle.admission.specs.Admission.{firstLong, topicsOf, admissionOf}
+use Rattle.admission.specs.AdmissionLaws.{parts-there}
+use Rattle.admission.specs.Fit.{KeyOf, givenAt, IsFit}
+use Rattle.admission.specs.FitLaws.{fit-exactly}
+use Rattle.outputs.specs.Cached.{topics-mean}
+use Rattle.outputs.specs.Fits.{FitMessage}
+
+-- ---- what stands in the places of a message's fields is what the bytes mean
+given-bytes : (p : List ℕ) (q : Place) → givenAt p q ≡ bytesAt p 0 q
+given-bytes p place.Absent = refl
+given-bytes p (place.Present a e) = sym (ap₂ (λ (x y : ℕ). some (between p x y)) (zero-add a) (zero-add e))
+
+pub record Given (p : List ℕ) (m : RawMessage) : Type 0 where
+  pub from : givenAt p (slotsOf kind.RawMessage p .first) ≡ m .from
+  pub seqno : givenAt p (slotsOf kind.RawMessage p .third) ≡ m .seqno
+  pub signature : givenAt p (slotsOf kind.RawMessage p .fourth) ≡ m .signature
+  pub key : givenAt p (slotsOf kind.RawMessage p .fifth) ≡ m .key
+
+pub fields-given : {p : List ℕ} {m : RawMessage} → IsMessage p m → Given p m
+fields-given (is-message {s = p} {es = es} g u) =
+    let w = body-walks p es g in
+    let s = slotsOf kind.RawMessage p in
+    record {
+      from = given-bytes p (s .first)
+          ∙ slot-value p 0 p kind.RawMessage (λ t. t .first) 1 (w .fields) es (whole-part p) message-from (w .walked)
+          (w .entries) refl;
+      seqno = given-bytes p (s .third)
+          ∙ slot-value p 0 p kind.RawMessage (λ t. t .third) 3 (w .fields) es (whole-part p) message-seqno (w .walked)
+          (w .entries) refl;
+      signature = given-bytes p (s .fourth)
+          ∙ slot-value p 0 p kind.RawMessage (λ t. t .fourth) 5 (w .fields) es (whole-part p) message-signature
+          (w .walked) (w .entries) refl;
+      key = given-bytes p (s .fifth)
+          ∙ slot-value p 0 p kind.RawMessage (λ t. t .fifth) 6 (w .fields) es (whole-part p) message-key (w .walked)
+          (w .entries) refl;
+    }
+
+-- a field that is there has its place, and as many bytes
+record Stands (p : List ℕ) (q : Place) (d : List ℕ) : Type 0 where
+  start : ℕ
+  next : ℕ
+  there : q ≡ place.Present start next
+  bytes : between p start next ≡ d
+  size : next - start ≡ length d
+
+stands : (p : List ℕ) (q : Place) (d : List ℕ) → PlaceInside p q → givenAt p q ≡ some d → Stands p q d
+stands p place.Absent d i h = clash (cc)
+stands p (place.Present a e) d i h =
+    let x : between p a e ≡ d = cc in
+    record {
+      start = a;
+      next = e;
+      there = refl;
+      bytes = x;
+      size = sym (between-length p a e (i a e refl .1)) ∙ ap length x;
+    }
+
+-- ---- no topic is long
+all-short : (l : List (List ℕ)) → firstLong l ≡ 0 → Each (λ (t : List ℕ). length t ≤ 1024) l
+unfolding firstLong
+all-short [] h = none-left
+all-short (t ∷ l) h =
+    either (ltb 1024 (length t))
+    (λ u. let z : length t ≡ 0 = simp u at h in let w = ltb-true 1024 (length t) u in absurd (omega arith))
+    (λ u. ltb-false 1024 (length t) u and all-short l (simp u at h))
+
+none-long : {l : List (List ℕ)} → Each (λ (t : List ℕ). length t ≤ 1024) l → firstLong l ≡ 0
+unfolding firstLong
+none-long none-left = refl
+none-long (_and_ {x = t} {xs = l} h r) = rw (le-ltb 1024 (length t) h) (none-long r)
+
+module _ {p : List ℕ} {m : RawMessage} (i : IsMessage p m) (bp : Bytes p) (word : Bool) where
+  by-fields : (a e b f : ℕ) → admissionOf p word ≡ admission.Fit a e b f → FitMessage m word
+  by-fields a e b f h =
+      let x = fit-exactly p word a e b f bp .0 h in
+      let g = fields-given i in
+      let s = slots-inside kind.RawMessage p in
+      let t = parts-there p a e b f (x .parts) in
+      let n = id-fits p a e b f (x .parts) in
+      let o = id-some p a e b f (x .parts) in
+      let l = between-length p b f (n .seqno .1) in
+      let y = x .signature in
+      let z = s .fourth (y .start) (y .next) (y .there) in
+      let k = topics-mean i .0 in
+      record {
+        sender = between p a e;
+        from = sym (g .from) ∙ ap (givenAt p) (t .0);
+        hash = x .hash;
+        digest = x .digest;
+        peer = x .peer;
+        number = between p b f;
+        seqno = sym (g .seqno) ∙ ap (givenAt p) (t .1);
+        number-some = omega (arith, o .1);
+        number-short = omega (arith, n .seqno-short);
+        signature = between p (y .start) (y .next);
+        signed = sym (g .signature) ∙ ap (givenAt p) (y .there);
+        whole = between-length p (y .start) (y .next) (z .1) ∙ y .size;
+        key = subst (KeyOf (between p a e)) (g .key) (x .key);
+        given = x .given;
+        topic = rw k (x .limits .some);
+        few = rw k (x .limits .few);
+        short = rw k (all-short (topicsOf p) (x .limits .short));
+        small = rw (raw-is i) (x .limits .small);
+      }
+
+  by-places : FitMessage m word → (a : ℕ) × (e : ℕ) × (b : ℕ) × (f : ℕ) × (admissionOf p word ≡ admission.Fit a e b f)
+  unfolding idParts
+  by-places x =
+      let g = fields-given i in
+      let s = slots-inside kind.RawMessage p in
+      let u = stands p (slotsOf kind.RawMessage p .first) (x .sender) (s .first) (g .from ∙ x .from) in
+      let v = stands p (slotsOf kind.RawMessage p .third) (x .number) (s .third) (g .seqno ∙ x .seqno) in
+      let w = stands p (slotsOf kind.RawMessage p .fourth) (x .signature) (s .fourth) (g .signature ∙ x .signed) in
+      let z = peer-size (x .peer) in
+      let k = topics-mean i .0 in
+      let parts : idParts p ≡ id.Parts (u .start) (u .next) (v .start) (v .next) =
+      ap₂ onFrom (u .there) (v .there)
+      ∙ simp (
+        ne-eqb (u .next - u .start) 0 (λ q. absurd (omega (arith, u .size, z .0))),
+        le-ltb 64 (u .next - u .start) (omega (arith, u .size, z .1)),
+        ne-eqb (v .next - v .start) 0 (λ q. absurd (omega (arith, v .size, x .number-some))),
+        le-ltb 64 (v .next - v .start) (omega (arith, v .size, x .number-short)),
+      ) in
+      (
+        u .start,
+        u .next,
+        v .start,
+        v .next,
+        fit-exactly p word (u .start) (u .next) (v .start) (v .next) bp .1
+            (record {
+              parts = parts;
+              hash = x .hash;
+              digest = x .digest;
+              peer = subst (λ (l : List ℕ). IsPeerId l (x .hash) (x .digest)) (sym (u .bytes)) (x .peer);
+              signature = record { start = w .start; next = w .next; there = w .there; size = w .size ∙ x .whole };
+              key = subst (λ (l : List ℕ). KeyOf l (givenAt p (slotsOf kind.RawMessage p .fifth))) (sym (u .bytes))
+                  (subst (KeyOf (x .sender)) (sym (g .key)) (x .key));
+              given = x .given;
+              limits = record {
+                some = rw k at (x .topic);
+                few = rw k at (x .few);
+                short = none-long (rw k at (x .short));
+                small = rw (raw-is i) at (x .small);
+              };
+            }),
+      )
+
+  -- the bytes of a message are taken exactly where the message that they mean is fit
+  pub fit-message : ((a : ℕ) × (e : ℕ) × (b : ℕ) × (f : ℕ) × (admissionOf p word ≡ admission.Fit a e b f)) ↔ FitMessage m word
+  fit-message = (λ x. by-fields (x .0) (x .1) (x .2) (x .3) (x .4), by-places)
