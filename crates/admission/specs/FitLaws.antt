@@ -114,8 +114,7 @@ module _ (p s : List ℕ) (bp : Bytes p) (bs : Bytes s) (lp : length p ≤ 4096)
   fits-there c (inside {d} {k} {t} i x) z bc lc = clash (cc)
   fits-there c (same {d} {k} {t} i x) z bc lc =
       let e : d ≡ c = cc in
-      let r = peer-exactly s d identity .1 i in
-      (
+      let r = peer-exactly s d identity .1 i in (
         key-read-exactly c bc lc .1 (t, k, subst (λ (l : List ℕ). IsKey l t k) e x),
         rw (r .0, r .1, e) (same-self c),
       )

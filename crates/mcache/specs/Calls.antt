@@ -1,5 +1,5 @@
 -- What each call on the message cache answers and leaves. Refusals come in the order of the scope's table: 40 at the
--- start; 41, 42; then for `put` 10, 1 to 7, 11, 20, 21 to 26, 28, 29, 30, and for `gossip_ids` 29. A refused call
+-- start; 41, 42; then for `put` 10, 1 to 7, 11, 20, 21, 22, 34, 23 to 26, 35, 36, 28, 29, 30, and for `gossip_ids` 29. A refused call
 -- leaves the cache and the store as they were.
 use Prim.Native.Nat.{ℕ, _+_, _-_, _*_}
 use mathlib.Core.List.{List, [], _∷_, _++_}
@@ -178,7 +178,7 @@ formCount part a e b f out = cond (formable (length part) a e b f (length out)) 
 unfoldable pub formLeft : List ℕ → ℕ → ℕ → ℕ → ℕ → List ℕ → List ℕ
 formLeft part a e b f out = cond (formable (length part) a e b f (length out)) (sets out 0 (idBytes part a e b f)) out
 
--- a message p: 21 to 30 without 27
+-- a message p: 21 to 30 and 34 to 36 without 27
 abbrev pub planFit : MessageCache → List ℕ → Admission → Plan
 planFit c p (admission.Unfit why) = no (put.Unfit why)
 planFit c p (admission.Fit a e b f) = planUnder c p (idBytes p a e b f)

@@ -116,7 +116,7 @@ pub data Plan : Type 0 where
   no : Admit → Plan
   taken : List ℕ → List ℕ → Plan
 
--- 21 to 30, and then 31
+-- 21 to 30 and 34 to 36, and then 31
 abbrev pub planFit : Node → ℕ → List ℕ → Admission → Plan
 planFit n at p (admission.Unfit why) = no (admit.Unfit why)
 planFit n at p (admission.Fit a e b f) =

@@ -509,7 +509,7 @@ impl Node {
         }
     }
 
-    // Admits the message in a part, where the state was tested: 21 to 30, 31.
+    // Admits the message in a part, where the state was tested: 21 to 30, 34 to 36 in their places, 31.
     fn admit_part(
         self,
         seen_store: &mut [u8],

@@ -71,7 +71,7 @@ pub data AdmitTells (n : Node) (ss cs body : List ℕ) (i : ℕ) (word : Bool) (
   -- 20: no message at that index, with the number of messages
   no-such : {x : Rpc} → lentOf n ss cs ≡ lent.Fine → Within body x → length (x .publish) ≤ i
       → AdmitTells n ss cs body i word at (told no-message (length (x .publish) ∷ []))
-  -- 21 to 30
+  -- 21 to 30 and 34 to 36
   unfit : {x : Rpc} {m : RawMessage} {why : Unfit} → lentOf n ss cs ≡ lent.Fine → Within body x → Nth i (x .publish) m
       → admissionOf (m .raw) word ≡ admission.Unfit why → AdmitTells n ss cs body i word at (unfitTold why)
   -- 31: now below the clock, with the clock

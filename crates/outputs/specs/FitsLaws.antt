@@ -153,8 +153,7 @@ module _ {p : List ℕ} {m : RawMessage} (i : IsMessage p m) (bp : Bytes p) (wor
         le-ltb 64 (u .next - u .start) (omega (arith, u .size, z .1)),
         ne-eqb (v .next - v .start) 0 (λ q. absurd (omega (arith, v .size, x .number-some))),
         le-ltb 64 (v .next - v .start) (omega (arith, v .size, x .number-short)),
-      ) in
-      (
+      ) in (
         u .start,
         u .next,
         v .start,
