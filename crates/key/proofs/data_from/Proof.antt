@@ -17,10 +17,10 @@ add-total : tie.Need-add-total
 add-total c = search needs
 
 returns-2 : tie.Need-returns-2
-returns-2 c = total-other _ _ _ _ (omega arith) (c .if2 .taken)
+returns-2 c = total-other _ _ _ _ (omega arith) (λ z. omega (arith, c .if2 .taken))
 
 returns-3 : tie.Need-returns-3
-returns-3 c = total-same _ _ _ _ (omega arith) (c .if2 .left)
+returns-3 c = total-same _ _ _ _ (omega arith) (omega (arith, c .if2 .left))
 
 pub data-from-spec : {M : Type 1} → statement M
 data-from-spec = tie.close (tie.spec sub-most returns add-total returns-2 returns-3)
