@@ -29,8 +29,6 @@ use Rattle.schema.specs.declared.Kind.the-variants as kind
 use Rattle.schema.specs.declared.Place.{Place}
 use Rattle.schema.specs.declared.Place.the-variants as place
 use Rattle.schema.specs.Slots.{slotsOf}
-use Rattle.ids.specs.declared.MessageId.the-variants as id
-use Rattle.ids.specs.Ids.{idParts}
 use Rattle.admission.specs.declared.Admission.{Admission}
 use Rattle.admission.specs.declared.Admission.the-variants as admission
 use Rattle.admission.specs.Admission.{topicsOf, firstLong, onLimits, onWord, isRead, isKey, byHash, keyMatches}

@@ -1,6 +1,6 @@
 -- What `decode_protobuf` answers, in the Rust's reading order: KeyLaws joins it to the document.
 use Prim.Native.Nat.{ℕ, _+_}
-use mathlib.Core.List.{List, [], _∷_}
+use mathlib.Core.List.{List}
 use mathlib.Core.Bool.{cond}
 use lib.ListN.{length, drop, getD}
 use lib.Dec.{eqb, ltb, leb}

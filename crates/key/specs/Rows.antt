@@ -1,6 +1,6 @@
 -- Keys and what is answered: those that are taken, of each type, and each of the six errors with its values.
 use mathlib.Core.Path.{_≡_, refl}
-use mathlib.Core.List.{List, [], _∷_, _++_}
+use mathlib.Core.List.{[], _∷_, _++_}
 use lib.ListN.{replicate}
 use Rattle.peer_id.specs.declared.VarintError.the-variants.{BufferTooShort, NonCanonical}
 use Rattle.peer_id.specs.Uvarint.{readUvarint, readFrom, groupOf}

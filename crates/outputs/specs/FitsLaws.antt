@@ -1,10 +1,10 @@
 -- A message of an RPC is taken exactly where it is fit, by its fields.
-use Prim.Native.Nat.{ℕ, _+_, _-_, _≤_}
+use Prim.Native.Nat.{ℕ, _-_, _≤_}
 use mathlib.Core.Path.{_≡_, refl, sym, ap, ap₂, subst, _∙_}
-use mathlib.Core.Bool.{Bool, true}
+use mathlib.Core.Bool.{Bool}
 use mathlib.Core.List.{List, [], _∷_}
 use mathlib.Core.Logic.{_↔_}
-use mathlib.Core.Option.{Option, none, some}
+use mathlib.Core.Option.{some}
 use native.Mathlib.Omega.{arith}
 use native.Mathlib.Nat.{zero-add}
 use lib.ListN.{length}
@@ -33,7 +33,7 @@ use Rattle.ids.specs.IdLaws.{id-fits, id-some}
 use Rattle.admission.specs.declared.Admission.the-variants as admission
 use Rattle.admission.specs.Admission.{firstLong, topicsOf, admissionOf}
 use Rattle.admission.specs.AdmissionLaws.{parts-there}
-use Rattle.admission.specs.Fit.{KeyOf, givenAt, IsFit}
+use Rattle.admission.specs.Fit.{KeyOf, givenAt}
 use Rattle.admission.specs.FitLaws.{fit-exactly}
 use Rattle.outputs.specs.Cached.{topics-mean}
 use Rattle.outputs.specs.Fits.{FitMessage}

@@ -1,17 +1,17 @@
 -- Bytes are read as a peer id exactly where they are one by the document, and as the same one.
-use Prim.Native.Nat.{ℕ, suc, _+_, _≤_, _<_}
-use mathlib.Core.Path.{_≡_, refl, sym, ap, subst, _∙_}
+use Prim.Native.Nat.{ℕ, _+_, _≤_, _<_}
+use mathlib.Core.Path.{_≡_, refl, sym, ap, ap₂, subst, _∙_}
 use mathlib.Core.List.{List, [], _∷_, _++_}
 use mathlib.Core.Bool.{Bool, cond}
 use mathlib.Core.Logic.{_↔_}
 use native.Mathlib.Omega.{arith}
-use lib.ListN.{length, drop, getD}
+use lib.ListN.{length, take, drop, getD}
+use lib.Seq.{take-at, drop-at}
 use lib.Dec.{eqb, ltb}
 use borrow.Author.Tests.{eqb-true, eqb-false, ltb-true, ltb-false, eq-eqb, le-ltb}
 use Rattle.basis.specs.Cases.{either, clash}
 use Rattle.peer_id.specs.declared.PeerId.{PeerId}
 use Rattle.peer_id.specs.declared.PeerId.the-variants.{Identity, Sha256, NotPeerId}
-use Rattle.peer_id.specs.Uvarint.{uvarint}
 use Rattle.peer_id.specs.Laws.{uvarint-small}
 use Rattle.peer_id.specs.Multihash.{multihash, Hash, identity, sha-256, IsPeerId, inlined, hashed}
 use Rattle.peer_id.specs.PeerId.{hashOf, fromBytes, digestOf}
@@ -125,3 +125,27 @@ one-peer x y = (sym (is-read x .0) ∙ is-read y .0, sym (is-read x .1) ∙ is-r
 pub peer-size : {s d : List ℕ} {h : Hash} → IsPeerId s h d → (length s ≡ 2 + length d) × (length s ≤ 44)
 peer-size (inlined d k) = let b = ap length (multihash-bytes 0x00 d (omega arith) (omega arith)) in (b ∙ omega arith, omega arith)
 peer-size (hashed d k) = let b = ap length (multihash-bytes 0x12 d (omega arith) (omega arith)) in (b ∙ omega arith, omega arith)
+
+-- ---- a peer id says where it ends: none is the front of another. So an id, which is a sender and a seqno, tells both
+peer-bytes : {s d : List ℕ} {h : Hash} → IsPeerId s h d → s ≡ getD s 0 0 ∷ length d ∷ d
+peer-bytes (inlined d k) =
+    let b = multihash-bytes 0x00 d (omega arith) (omega arith) in
+    b ∙ sym (ap (λ (l : List ℕ). getD l 0 0 ∷ length d ∷ d) b)
+peer-bytes (hashed d k) =
+    let b = multihash-bytes 0x12 d (omega arith) (omega arith) in
+    b ∙ sym (ap (λ (l : List ℕ). getD l 0 0 ∷ length d ∷ d) b)
+
+pub peer-delimits : {s t c d x y : List ℕ} {g h : Hash} → IsPeerId s g c → IsPeerId t h d → s ++ x ≡ t ++ y
+    → (s ≡ t) × (x ≡ y)
+peer-delimits {s} {t} {c} {d} {x} {y} p q e =
+    let a = peer-bytes p in
+    let b = peer-bytes q in
+    let f : getD s 0 0 ∷ length c ∷ (c ++ x) ≡ getD t 0 0 ∷ length d ∷ (d ++ y) =
+    sym (ap (λ (l : List ℕ). l ++ x) a) ∙ e ∙ ap (λ (l : List ℕ). l ++ y) b in
+    let k : getD s 0 0 ≡ getD t 0 0 = ap (λ (l : List ℕ). getD l 0 0) f in
+    let n : length c ≡ length d = ap (λ (l : List ℕ). getD l 1 0) f in
+    let r : c ++ x ≡ d ++ y = ap (drop 2) f in
+    let m : c ≡ d = sym (take-at c x (length c) refl) ∙ ap (take (length c)) r ∙ take-at d y (length c) (sym n) in (
+      a ∙ ap₂ (λ (i : ℕ) (l : List ℕ). i ∷ length l ∷ l) k m ∙ sym b,
+      sym (drop-at c x (length c) refl) ∙ ap (drop (length c)) r ∙ drop-at d y (length c) (sym n),
+    )

@@ -1,7 +1,6 @@
 -- `admission::key_inside` meets its contract.
 use denote.Ref.{now}
-use mathlib.Core.Path.{_≡_, ap, _∙_}
-use native.Mathlib.Omega.{arith}
+use mathlib.Core.Path.{ap, _∙_}
 use Rattle.admission.specs.Admission.{isKey}
 use Rattle.admission.proofs.Turns.{has-digest, inside-case, digest-part}
 use borrow.Author.Needs.{needs}

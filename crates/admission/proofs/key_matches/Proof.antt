@@ -1,9 +1,8 @@
 -- `admission::key_matches` meets its contract.
 use denote.Ref.{now}
-use mathlib.Core.Path.{_≡_, ap, _∙_}
+use mathlib.Core.Path.{ap, _∙_}
 use mathlib.Core.List.{List}
 use Prim.Native.Nat.{ℕ}
-use native.Mathlib.Omega.{arith}
 use Rattle.rows.specs.Ids.{sameBytes}
 use Rattle.admission.proofs.Turns.{has-digest, matches-case, digest-part}
 use borrow.Author.Needs.{needs}

@@ -1,6 +1,4 @@
 -- `admission::keyed` meets its contract.
-use mathlib.Core.Path.{_≡_, refl}
-use native.Mathlib.Omega.{arith}
 use Rattle.admission.proofs.Turns.{inside-on, inside-not, there-bad, there-not, there-on}
 use borrow.Author.Needs.{needs}
 use Rattle.admission.proofs.keyed.Statement.{statement}

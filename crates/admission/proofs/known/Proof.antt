@@ -1,5 +1,4 @@
 -- `admission::known` meets its contract.
-use native.Mathlib.Omega.{arith}
 use Rattle.admission.proofs.Turns.{bytes-case}
 use borrow.Author.Needs.{needs}
 use Rattle.admission.proofs.known.Statement.{statement}

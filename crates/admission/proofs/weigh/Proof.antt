@@ -1,7 +1,6 @@
 -- `admission::weigh` meets its contract: the id's places pick the case, and the sender is tested before the seqno is looked at.
 use denote.Ref.{now}
-use mathlib.Core.Path.{_≡_, refl, sym, ap, _∙_}
-use native.Mathlib.Omega.{arith}
+use mathlib.Core.Path.{refl, _∙_}
 use Rattle.ids.specs.IdLaws.{Fits, id-fits}
 use Rattle.admission.proofs.Turns.{admit-on, first-inside, fifth-inside, parts-of, peer-on, peer-not, signed-on}
 use borrow.Author.Needs.{needs}

@@ -1,6 +1,6 @@
 -- `admission::worded` meets its contract.
 use denote.Ref.{now}
-use mathlib.Core.Path.{_≡_, sym, ap, _∙_}
+use mathlib.Core.Path.{sym, ap, _∙_}
 use mathlib.Core.Bool.{Bool}
 use Rattle.admission.specs.Admission.{onWord, onLimits}
 use borrow.Author.Needs.{needs}

@@ -1,7 +1,7 @@
 -- `key::decode_data` meets its contract.
 use denote.Ref.{now}
 use Prim.Native.Nat.{_+_}
-use mathlib.Core.Path.{_≡_, refl, _∙_}
+use mathlib.Core.Path.{refl}
 use native.Mathlib.Omega.{arith}
 use Rattle.key.proofs.Steps.{read-rest, read-within, data-none, data-other, data-read}
 use borrow.Author.Needs.{needs}

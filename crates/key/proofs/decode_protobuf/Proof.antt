@@ -1,7 +1,7 @@
 -- `key::decode_protobuf` meets its contract.
 use denote.Ref.{now}
 use Prim.Native.Nat.{_+_}
-use mathlib.Core.Path.{_≡_, refl, ap, _∙_}
+use mathlib.Core.Path.{refl, ap, _∙_}
 use native.Mathlib.Omega.{arith}
 use borrow.Author.Tests.{lt-ltb, le-ltb}
 use Rattle.key.specs.declared.KeyType.{KeyType}

@@ -1,5 +1,4 @@
 -- `key::type_of` meets its contract.
-use native.Mathlib.Omega.{arith}
 use Rattle.key.specs.Decode.{typeOf}
 use Rattle.key.proofs.Steps.{type-rest}
 use Rattle.key.proofs.type_of.Statement.{statement}

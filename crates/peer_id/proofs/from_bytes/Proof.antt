@@ -1,6 +1,6 @@
 -- `peer_id::from_bytes` meets its contract: two bytes and just so many more, or no peer id.
 use denote.Ref.{now}
-use mathlib.Core.Path.{_≡_, sym, ap, _∙_}
+use mathlib.Core.Path.{ap, _∙_}
 use native.Mathlib.Omega.{arith}
 use Prim.Native.Nat.{ℕ}
 use lib.ListN.{getD}
