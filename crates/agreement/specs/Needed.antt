@@ -26,7 +26,7 @@ use Rattle.ids.specs.declared.MessageAt.the-variants as found
 use Rattle.schema.specs.Accept.{bodyRecords, acceptOf}
 use Rattle.ids.specs.Ids.{messageAt, idParts}
 use Rattle.admission.specs.declared.Unfit.{Unfit}
-use Rattle.admission.specs.declared.Unfit.the-variants.{MissingSignature}
+use Rattle.admission.specs.declared.Unfit.the-variants.{MissingSignature, NotPeerId}
 use Rattle.admission.specs.declared.Admission.the-variants as admission
 use Rattle.admission.specs.Admission.{topicsOf, firstLong, onLimits, isKey, keyInside, isPeerId, admissionOf, givesId}
 use Rattle.rows.specs.Ids.{sameBytes, among}
@@ -188,19 +188,19 @@ module _ (m : List ℕ) (why : Unfit) (u : admissionOf m true ≡ admission.Unfi
   never-new (serve body out ∷ cs) s = rw (never-new cs (after (serve body out) s))
   never-new (explain id name windows ∷ cs) s = rw (never-new cs (after (explain id name windows) s))
 
--- it comes in, is called new in no history, and is refused by 25 each time
-pub record Unanswered (m body : List ℕ) : Type 0 where
+-- it comes in, is called new in no history, and is refused by this number each time
+pub record Unanswered (number : ℕ) (m body : List ℕ) : Type 0 where
   pub comes-in : (at : ℕ) → brings m (admit body 0 true at) ≡ true
   pub never-new : (calls : List Call) (s : State) → timesNew m calls s ≡ 0
   pub refused : {x : Settings} {s : State} → Fresh x s → (before : List Call) (at : ℕ)
-      → refusalAt (afterAll before s) (admit body 0 true at) ≡ 25
+      → refusalAt (afterAll before s) (admit body 0 true at) ≡ number
 
 unsigned-brought : (at : ℕ) → brings unsigned (admit unsignedBody 0 true at) ≡ true
 unfolding brought acceptOf bodyRecords counted overKinds toDepth textCount roleOf rank ownOf isUtf8 run walkAt walkFrom
     readField readValue skipField skipFixed readVarint readLen readTag readUvarint readFrom groupOf messageAt sameBytes
 unsigned-brought at = refl
 
-pub needs-admissible : Unanswered unsigned unsignedBody
+pub needs-admissible : Unanswered 25 unsigned unsignedBody
 needs-admissible =
     record {
       comes-in = unsigned-brought;
@@ -208,6 +208,35 @@ needs-admissible =
       refused = λ {x} {s} f before at.
           let e = unfit-plan unsigned MissingSignature unsigned-unfit (afterAll before s) unsignedBody 0 true at
           (unsigned-brought at) in
+          rw (e, history-keeps before f .fine);
+    }
+
+-- the same of a host's name, `gate`, as the sender of a message that is else as the others are, by 34
+abbrev pub stranger : List ℕ
+stranger = 10 ∷ 4 ∷ 103 ∷ 97 ∷ 116 ∷ 101 ∷ 26 ∷ 1 ∷ 1 ∷ 34 ∷ 1 ∷ 116 ∷ 42 ∷ 64 ∷ signature
+
+abbrev pub strangerBody : List ℕ
+strangerBody = 18 ∷ 78 ∷ stranger
+
+stranger-unfit : admissionOf stranger true ≡ admission.Unfit NotPeerId
+unfolding signature admissionOf idParts slotsOf withField setPlace walkAt walkFrom readField readValue skipField
+    skipFixed readVarint readLen readTag readUvarint readFrom groupOf roleOf isPeerId fromBytes hashOf
+stranger-unfit = refl
+
+stranger-brought : (at : ℕ) → brings stranger (admit strangerBody 0 true at) ≡ true
+unfolding signature brought acceptOf bodyRecords counted overKinds toDepth textCount roleOf rank ownOf isUtf8 run walkAt
+    walkFrom readField readValue skipField skipFixed readVarint readLen readTag readUvarint readFrom groupOf messageAt
+    sameBytes
+stranger-brought at = refl
+
+pub needs-peer-id : Unanswered 34 stranger strangerBody
+needs-peer-id =
+    record {
+      comes-in = stranger-brought;
+      never-new = never-new stranger NotPeerId stranger-unfit;
+      refused = λ {x} {s} f before at.
+          let e = unfit-plan stranger NotPeerId stranger-unfit (afterAll before s) strangerBody 0 true at
+          (stranger-brought at) in
           rw (e, history-keeps before f .fine);
     }
 
