@@ -57,10 +57,13 @@ signed-requires : tie.Need-signed-requires
 signed-requires c κs = (c .before .before .before .before .before .before .before .before .before .pre, fifth-inside _ _ (c .before .before .before .before .before .before .before .slots-of .ensures))
 
 returns-2 : tie.Need-returns-2
-returns-2 c = let i = c .before .before .before .before .before .id2 .given in
-    peer-on _ _ (c .before .before .before .before .before .before .before .before .slots-of .ensures) _ _ (c .before .before .before .known2 .ensures) _ (c .before .before .if2 .taken)
-    (signed-on (now (c .before .before .before .before .before .before .before .before .before .before .args .part)) _ (c .before .before .before .before .before .before .before .before .slots-of .ensures) _ _ _ _ _ _ (parts-of _ _ (c .before .before .before .before .before .before .before .before .slots-of .ensures) _ _ _ _ _ (c .before .before .before .before .before .before .before .id-of .ensures) (i .1)) (c .signed .ensures))
-    ∙ admit-on _ _ _ _ _ (c .before .before .before .before .before .before .before .before .slots-of .ensures) (c .before .before .before .before .before .before .before .id-of .ensures) (i .1)
+returns-2 c =
+    let p = c .before .before .before .before .before in
+    let q = p .before .before .before in
+    peer-on _ _ (q .slots-of .ensures) _ _ (c .before .before .before .known2 .ensures) _ (c .before .before .if2 .taken)
+    (signed-on (now (q .before .before .args .part)) _ (q .slots-of .ensures) _ _ _ _ _ _
+    (parts-of _ _ (q .slots-of .ensures) _ _ _ _ _ (p .before .before .id-of .ensures) (p .id2 .given .1)) (c .signed .ensures))
+    ∙ admit-on _ _ _ _ _ (q .slots-of .ensures) (p .before .before .id-of .ensures) (p .id2 .given .1)
 
 returns-3 : tie.Need-returns-3
 returns-3 c = admit-on _ _ _ _ _ (c .before .before .before .slots-of .ensures) (c .before .before .id-of .ensures) (c .enum-told .given .1)

@@ -43,19 +43,26 @@ enum-known-size-2 : tie.Need-enum-known-size-2
 enum-known-size-2 c = search needs
 
 add-data-from : tie.Need-add-data-from
-add-data-from c = let w = read-within (now (c .before .before .before .before .before .before .before .before .before .args .input)) ((c .before .before .before .before .before .before .before .before .before .args .at) + 1) _ _ (read-rest (now (c .before .before .before .before .before .before .before .before .before .args .input)) ((c .before .before .before .before .before .before .before .before .before .args .at) + 1) _ _ (c .before .before .before .read-uvarint .ensures) (c .before .size2 .given .1)) in
+add-data-from c =
+    let a = c .before .before .before .before .before .before .before .before .before .args in
+    let w = read-within (now (a .input)) (a .at + 1) _ _
+    (read-rest (now (a .input)) (a .at + 1) _ _ (c .before .before .before .read-uvarint .ensures) (c .before .size2 .given .1)) in
     omega arith
 
 data-from-requires : tie.Need-data-from-requires
 data-from-requires c κs = search needs
 
 returns-3 : tie.Need-returns-3
-returns-3 c = data-read _ _ _ _ _ (c .before .before .before .before .before .before .before .if1 .left) (c .before .before .before .before .before .if2 .left)
-    (read-rest (now (c .before .before .before .before .before .before .before .before .before .args .input)) ((c .before .before .before .before .before .before .before .before .before .args .at) + 1) _ _ (c .before .before .before .read-uvarint .ensures) (c .before .size .given .1)) refl
+returns-3 c =
+    let a = c .before .before .before .before .before .before .before .before .before .args in
+    data-read _ _ _ _ _ (c .before .before .before .before .before .before .before .if1 .left) (c .before .before .before .before .before .if2 .left)
+    (read-rest (now (a .input)) (a .at + 1) _ _ (c .before .before .before .read-uvarint .ensures) (c .before .size .given .1)) refl
 
 returns-4 : tie.Need-returns-4
-returns-4 c = data-read _ _ _ _ _ (c .before .before .before .before .before .before .before .before .if1 .left) (c .before .before .before .before .before .before .if2 .left)
-    (read-rest (now (c .before .before .before .before .before .before .before .before .before .before .args .input)) ((c .before .before .before .before .before .before .before .before .before .before .args .at) + 1) _ _ (c .before .before .before .before .read-uvarint .ensures) (c .before .before .size2 .given .1)) (c .data-from .ensures)
+returns-4 c =
+    let a = c .before .before .before .before .before .before .before .before .before .before .args in
+    data-read _ _ _ _ _ (c .before .before .before .before .before .before .before .before .if1 .left) (c .before .before .before .before .before .before .if2 .left)
+    (read-rest (now (a .input)) (a .at + 1) _ _ (c .before .before .before .before .read-uvarint .ensures) (c .before .before .size2 .given .1)) (c .data-from .ensures)
 
 pub decode-data-spec : {M : Type 1} → statement M
 decode-data-spec =

@@ -44,26 +44,36 @@ enum-known-raw-2 : tie.Need-enum-known-raw-2
 enum-known-raw-2 c = search needs
 
 returns-3 : tie.Need-returns-3
-returns-3 c = key-read _ _ _ (c .before .before .before .before .before .before .before .before .if1 .left) (c .before .before .before .before .before .before .if2 .left)
-    (read-rest (now (c .before .before .before .before .before .before .before .before .before .before .args .input)) 1 _ _ (c .before .before .before .before .read-uvarint .ensures) (c .before .before .raw2 .given .1)) (simp (lt-ltb _ _ (c .if3 .taken)))
+returns-3 c =
+    let s = now (c .before .before .before .before .before .before .before .before .before .before .args .input) in
+    key-read _ _ _ (c .before .before .before .before .before .before .before .before .if1 .left) (c .before .before .before .before .before .before .if2 .left)
+    (read-rest s 1 _ _ (c .before .before .before .before .read-uvarint .ensures) (c .before .before .raw2 .given .1)) (simp (lt-ltb _ _ (c .if3 .taken)))
 
 type-of-requires : tie.Need-type-of-requires
 type-of-requires c κs = search needs
 
 add-decode-data : tie.Need-add-decode-data
-add-decode-data c = let w = read-within (now (c .before .before .before .before .before .before .before .before .before .before .before .args .input)) 1 _ _ (read-rest (now (c .before .before .before .before .before .before .before .before .before .before .before .args .input)) 1 _ _ (c .before .before .before .before .before .read-uvarint .ensures) (c .before .before .before .raw2 .given .1)) in omega arith
+add-decode-data c =
+    let s = now (c .before .before .before .before .before .before .before .before .before .before .before .args .input) in
+    let w = read-within s 1 _ _ (read-rest s 1 _ _ (c .before .before .before .before .before .read-uvarint .ensures) (c .before .before .before .raw2 .given .1)) in
+    omega arith
 
 decode-data-requires : tie.Need-decode-data-requires
 decode-data-requires c κs = search needs
 
 returns-4 : tie.Need-returns-4
-returns-4 c = key-read _ _ _ (c .before .before .before .before .before .before .before .if1 .left) (c .before .before .before .before .before .if2 .left)
-    (read-rest (now (c .before .before .before .before .before .before .before .before .before .args .input)) 1 _ _ (c .before .before .before .read-uvarint .ensures) (c .before .raw .given .1)) refl
+returns-4 c =
+    let s = now (c .before .before .before .before .before .before .before .before .before .args .input) in
+    key-read _ _ _ (c .before .before .before .before .before .before .before .if1 .left) (c .before .before .before .before .before .if2 .left)
+    (read-rest s 1 _ _ (c .before .before .before .read-uvarint .ensures) (c .before .raw .given .1)) refl
 
 returns-5 : tie.Need-returns-5
-returns-5 c = key-read _ _ _ (c .before .before .before .before .before .before .before .before .before .before .if1 .left) (c .before .before .before .before .before .before .before .before .if2 .left)
-    (read-rest (now (c .before .before .before .before .before .before .before .before .before .before .before .before .args .input)) 1 _ _ (c .before .before .before .before .before .before .read-uvarint .ensures) (c .before .before .before .before .raw2 .given .1))
-    ((c .decode-data .ensures) ∙ ap (λ (t : KeyType). onData (now (c .before .before .before .before .before .before .before .before .before .before .before .before .args .input)) t (1 + c .before .before .before .before .raw2 .given .0 .1 .0)) (c .before .type-of .ensures) ∙ simp (le-ltb _ _ (c .before .before .if3 .left)))
+returns-5 c =
+    let s = now (c .before .before .before .before .before .before .before .before .before .before .before .before .args .input) in
+    let r = c .before .before .before .before .raw2 .given in
+    key-read _ _ _ (c .before .before .before .before .before .before .before .before .before .before .if1 .left) (c .before .before .before .before .before .before .before .before .if2 .left) (read-rest s 1 _ _ (c .before .before .before .before .before .before .read-uvarint .ensures) (r .1))
+    ((c .decode-data .ensures) ∙ ap (λ (t : KeyType). onData s t (1 + r .0 .1 .0)) (c .before .type-of .ensures)
+    ∙ simp (le-ltb _ _ (c .before .before .if3 .left)))
 
 pub decode-protobuf-spec : {M : Type 1} → statement M
 decode-protobuf-spec =

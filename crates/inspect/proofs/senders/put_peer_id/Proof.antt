@@ -55,7 +55,10 @@ same-length-3 c = search needs
 
 returns-3 : tie.Need-returns-3
 unfolding peerIdText
-returns-3 c = puts-as (ap (peerIdText (c .before .before .before .before .before .before .before .before .before .args .s .now)) (sym (c .before .before .before .before .before .enum-told3 .given .1))) (omega arith) (rw (c .before .before .before .told-peer-id .ensures ∙ ap peerIdTold (c .before .before .before .before .before .enum-told3 .given .1)) at (wrote-puts (omega arith) (c .before .before .put-refusal .ensures)))
+returns-3 c =
+    let e = c .before .before .before .before .before .enum-told3 .given .1 in
+    puts-as (ap (peerIdText (c .before .before .before .before .before .before .before .before .before .args .s .now)) (sym e)) (omega arith)
+    (rw (c .before .before .before .told-peer-id .ensures ∙ ap peerIdTold e) at (wrote-puts (omega arith) (c .before .before .put-refusal .ensures)))
 
 pub put-peer-id-spec : {M : Type 1} → statement M
 put-peer-id-spec =
