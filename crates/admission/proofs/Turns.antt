@@ -44,7 +44,7 @@ use Rattle.admission.specs.declared.Unfit.the-variants.{TopicCount, Topi
 use Rattle.admission.specs.declared.Topics.{Topics}
 use Rattle.admission.specs.declared.Admission.{Admission}
 use Rattle.admission.specs.declared.Admission.the-variants as admission
-use Rattle.admission.specs.Admission.{topicsAlong, topicsOf, Span, spanOf, placesAlong, topicPlaces, startsOf, sizesOf, spansIn, sameSpans, firstLong, topicsIn, longAfter, onLimits, isRead, isKey, byHash, keyMatches, keyInside, onKey, onSignature, isPeerId, onPeer, bytesAt, senderOf, onId, admissionOf, idGiven, givesId, keptWith}
+use Rattle.admission.specs.Admission.{topicsAlong, topicsOf, Span, spanOf, placesAlong, topicPlaces, startsOf, sizesOf, spansIn, sameSpans, firstLong, topicsIn, longAfter, onLimits, isRead, isKey, byHash, keyMatches, keyInside, onKey, onSignature, isPeerId, onPeer, partAt, senderOf, onId, admissionOf, idGiven, givesId, keptWith}
 use Rattle.admission.specs.AdmissionLaws.{sender-is}
 use Rattle.admission.specs.TopicLaws.{gives-few, same-spans-equal, length-spans, spans-put}
 
@@ -322,8 +322,8 @@ pub key-case : (k : List ℕ) (r q : PublicKey) → r ≡ decodeProtobuf k → r
 unfolding isKey
 key-case k r q e h = ap isRead (sym h ∙ e)
 
-pub bytes-case : (p : List ℕ) (f q : Place) (r : Bool) → f ≡ q → r ≡ isPeerId (bytesAt p q) → r ≡ isPeerId (bytesAt p f)
-bytes-case p f q r h e = e ∙ ap (λ (x : Place). isPeerId (bytesAt p x)) (sym h)
+pub bytes-case : (p : List ℕ) (f q : Place) (r : Bool) → f ≡ q → r ≡ isPeerId (partAt p q) → r ≡ isPeerId (partAt p f)
+bytes-case p f q r h e = e ∙ ap (λ (x : Place). isPeerId (partAt p x)) (sym h)
 
 -- no key is there
 module _ (p s : List ℕ) (q : Place) (r : Admission) (k : Bool) (h : q ≡ place.Absent) (e : k ≡ keyInside s) where
@@ -361,9 +361,9 @@ module _ (p : List ℕ) (t : Slots) (h : t ≡ slotsOf kind.RawMessage p) where
   parts-of i a e b f k g = sym (k ∙ ap (λ (x : Slots). onFrom (x .first) (x .third)) h) ∙ g
 
   -- the sender is tested, and what follows
-  module _ (r : Admission) (k : Bool) (e : k ≡ isPeerId (bytesAt p (t .first))) where
+  module _ (r : Admission) (k : Bool) (e : k ≡ isPeerId (partAt p (t .first))) where
     sender-tested : k ≡ isPeerId (senderOf p)
-    sender-tested = e ∙ ap (λ (x : Slots). isPeerId (bytesAt p (x .first))) h
+    sender-tested = e ∙ ap (λ (x : Slots). isPeerId (partAt p (x .first))) h
 
     pub peer-on : (a : Admission) → k ≡ true → a ≡ r → a ≡ onPeer (senderOf p) r
     peer-on a u g = g ∙ sym (rw (sym sender-tested ∙ u))

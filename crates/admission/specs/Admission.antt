@@ -161,12 +161,12 @@ abbrev pub onPeer : List ℕ → Admission → Admission
 onPeer s r = cond (isPeerId s) r (admission.Unfit NotPeerId)
 
 -- the bytes in a place of a message, and its sender
-abbrev pub bytesAt : List ℕ → Place → List ℕ
-bytesAt p place.Absent = []
-bytesAt p (place.Present a e) = between p a e
+abbrev pub partAt : List ℕ → Place → List ℕ
+partAt p place.Absent = []
+partAt p (place.Present a e) = between p a e
 
 abbrev pub senderOf : List ℕ → List ℕ
-senderOf p = bytesAt p (slotsOf kind.RawMessage p .first)
+senderOf p = partAt p (slotsOf kind.RawMessage p .first)
 
 -- ---- 21, 22, 23
 abbrev pub onId : List ℕ → Bool → MessageId → Admission

@@ -2,7 +2,7 @@
 -- which id a message gives.
 use Prim.Native.Nat.{ℕ, _+_, _-_, _≤_}
 use mathlib.Core.Path.{_≡_, refl, sym, ap, ap₂, _∙_}
-use mathlib.Core.Bool.{Bool, true, false, _&&_, _||_}
+use mathlib.Core.Bool.{Bool, true, false, _&&_}
 use mathlib.Core.List.{List, [], _∷_}
 use native.Mathlib.Omega.{arith}
 use lib.ListN.{length}
@@ -31,9 +31,9 @@ use Rattle.ids.specs.declared.MessageAt.the-variants.{At}
 use Rattle.ids.specs.declared.MessageId.{MessageId}
 use Rattle.ids.specs.declared.MessageId.the-variants as id
 use Rattle.schema.specs.Accept.{acceptOf}
-use Rattle.ids.specs.Ids.{messageAlong, messageAt, onSeqno, onFrom, idParts, idBytes}
+use Rattle.ids.specs.Ids.{messageAlong, messageAt, idParts, idBytes}
 use Rattle.schema.specs.AcceptLaws.{accept-records}
-use Rattle.ids.specs.IdLaws.{id-size}
+use Rattle.ids.specs.IdLaws.{id-size, parts-there}
 use Rattle.admission.specs.declared.Unfit.{Unfit}
 use Rattle.admission.specs.declared.Unfit.the-variants.{MissingFrom, InvalidFrom, InvalidSeqno, SignatureInvalid}
 use Rattle.admission.specs.declared.Unfit.the-variants.{KeyWithoutSignature, MissingSignature}
@@ -43,9 +43,10 @@ use Rattle.admission.specs.declared.Unfit.the-variants.{KeyPeerIdMismatc
 use Rattle.admission.specs.declared.Admission.{Admission}
 use Rattle.admission.specs.declared.Admission.the-variants as admission
 use Rattle.admission.specs.Admission.{topicsOf, firstLong, onLimits, onWord, isKey, keyMatches, keyInside, onKey}
-use Rattle.admission.specs.Admission.{onSignature, isPeerId, onPeer, bytesAt, senderOf, onId, admissionOf}
+use Rattle.admission.specs.Admission.{onSignature, isPeerId, onPeer, partAt, senderOf, onId, admissionOf}
 use Rattle.admission.specs.Admission.{idGiven, whereRead, givesId}
 use Rattle.admission.specs.Told.{unfitTold}
+use Rattle.admission.specs.Fit.{Limits, Signed}
 
 -- ---- its refusals are among 21 to 36
 pub unfit-range : (why : Unfit) → (21 ≤ unfitTold why .number) × (unfitTold why .number ≤ 36)
@@ -64,20 +65,6 @@ unfit-range (TopicTooLong len) = (omega arith, omega arith)
 unfit-range (MessageTooLong len) = (omega arith, omega arith)
 
 -- ---- a message that is taken
--- 28, 29, 30 are none of its
-pub record Limits (p : List ℕ) : Type 0 where
-  pub some : 1 ≤ length (topicsOf p)
-  pub few : length (topicsOf p) ≤ 4
-  pub short : firstLong (topicsOf p) ≡ 0
-  pub small : length p ≤ 4096
-
--- a signature of 64 bytes
-pub record Signed (s : Place) : Type 0 where
-  pub start : ℕ
-  pub next : ℕ
-  pub there : s ≡ place.Present start next
-  pub size : next - start ≡ 64
-
 -- 35 and 36 are not
 abbrev pub keyFits : List ℕ → List ℕ → Place → Bool
 keyFits p s place.Absent = keyInside s
@@ -166,29 +153,8 @@ unfolding admissionOf
 fit-parts p word a e b f h = of-id a e b f p word (idParts p) h .0
 
 -- and so are the sender's bytes
-seqno-there : (x y a e b f : ℕ) (q : Place) → onSeqno x y q ≡ id.Parts a e b f → (x ≡ a) × (y ≡ e)
-    × (q ≡ place.Present b f)
-seqno-there x y a e b f place.Absent h = clash (cc)
-seqno-there x y a e b f (place.Present c d) h =
-    either (eqb (d - c) 0 || ltb 64 (d - c)) (λ t. clash (let k = simp t at h in cc))
-    (λ t. let k = simp t at h in let p : x ≡ a = cc in let q : y ≡ e = cc in let r : b ≡ c = cc in let s : f ≡ d = cc in
-    (p, q, rw (r, s)))
-
-from-there : (a e b f : ℕ) (q r : Place) → onFrom q r ≡ id.Parts a e b f → (q ≡ place.Present a e)
-    × (r ≡ place.Present b f)
-from-there a e b f place.Absent r h = clash (cc)
-from-there a e b f (place.Present x y) r h =
-    either (eqb (y - x) 0 || ltb 64 (y - x)) (λ t. clash (let k = simp t at h in cc))
-    (λ t. let s = seqno-there x y a e b f r (simp t at h) in (rw (s .0, s .1), s .2))
-
-pub parts-there : (p : List ℕ) (a e b f : ℕ) → idParts p ≡ id.Parts a e b f
-    → (slotsOf kind.RawMessage p .first ≡ place.Present a e) × (slotsOf kind.RawMessage p .third ≡ place.Present b f)
-unfolding idParts
-parts-there p a e b f h =
-    from-there a e b f (slotsOf kind.RawMessage p .first) (slotsOf kind.RawMessage p .third) h
-
 pub sender-is : (p : List ℕ) (a e b f : ℕ) → idParts p ≡ id.Parts a e b f → senderOf p ≡ between p a e
-sender-is p a e b f h = ap (bytesAt p) (parts-there p a e b f h .0)
+sender-is p a e b f h = ap (partAt p) (parts-there p a e b f h .0)
 
 -- it passes the tests behind that
 pub fit-passes : (p : List ℕ) (word : Bool) (a e b f : ℕ) → admissionOf p word ≡ admission.Fit a e b f → Passes p word

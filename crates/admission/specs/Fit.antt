@@ -1,11 +1,12 @@
 -- Which messages are fit, from the documents and the scope's table: the sender is a peer id; there is a signature of 64
 -- bytes; the key is the sender's, as far as the bytes tell; the host gave its word; the limits are kept. FitLaws: a message
 -- is taken exactly then.
-use Prim.Native.Nat.{ℕ}
+use Prim.Native.Nat.{ℕ, _-_, _≤_}
 use mathlib.Core.Path.{_≡_}
 use mathlib.Core.Bool.{Bool, true}
 use mathlib.Core.List.{List}
 use mathlib.Core.Option.{Option, none, some}
+use lib.ListN.{length}
 use Rattle.peer_id.specs.Multihash.{Hash, identity, sha-256, IsPeerId}
 use Rattle.key.specs.declared.KeyType.{KeyType}
 use Rattle.key.specs.Key.{IsKey}
@@ -16,7 +17,7 @@ use Rattle.schema.specs.declared.Place.the-variants as place
 use Rattle.schema.specs.Slots.{slotsOf}
 use Rattle.ids.specs.declared.MessageId.the-variants as id
 use Rattle.ids.specs.Ids.{idParts}
-use Rattle.admission.specs.AdmissionLaws.{Signed, Limits}
+use Rattle.admission.specs.Admission.{topicsOf, firstLong}
 
 -- the key of a message whose sender is s
 pub data KeyOf (s : List ℕ) : Option (List ℕ) → Type 0 where
@@ -31,6 +32,20 @@ pub data KeyOf (s : List ℕ) : Option (List ℕ) → Type 0 where
 abbrev pub givenAt : List ℕ → Place → Option (List ℕ)
 givenAt p place.Absent = none
 givenAt p (place.Present a e) = some (between p a e)
+
+-- a signature of 64 bytes
+pub record Signed (s : Place) : Type 0 where
+  pub start : ℕ
+  pub next : ℕ
+  pub there : s ≡ place.Present start next
+  pub size : next - start ≡ 64
+
+-- 1 to 4 topics of at most 1,024 bytes, and at most 4,096 bytes in all
+pub record Limits (p : List ℕ) : Type 0 where
+  pub some : 1 ≤ length (topicsOf p)
+  pub few : length (topicsOf p) ≤ 4
+  pub short : firstLong (topicsOf p) ≡ 0
+  pub small : length p ≤ 4096
 
 -- from stands from a to e, seqno from b to f
 pub record IsFit (p : List ℕ) (word : Bool) (a e b f : ℕ) : Type 0 where

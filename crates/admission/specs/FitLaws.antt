@@ -34,8 +34,8 @@ use Rattle.admission.specs.declared.Admission.the-variants as admission
 use Rattle.admission.specs.Admission.{topicsOf, firstLong, onLimits, onWord, isRead, isKey, byHash, keyMatches}
 use Rattle.admission.specs.Admission.{keyInside, onKey, onSignature, isPeerId, onPeer, senderOf, onId}
 use Rattle.admission.specs.Admission.{admissionOf}
-use Rattle.admission.specs.AdmissionLaws.{Limits, Signed, keyFits, fit-parts, sender-is, fit-passes}
-use Rattle.admission.specs.Fit.{KeyOf, inside, same, hashed, givenAt, IsFit}
+use Rattle.admission.specs.AdmissionLaws.{keyFits, fit-parts, sender-is, fit-passes}
+use Rattle.admission.specs.Fit.{KeyOf, inside, same, hashed, givenAt, Signed, Limits, IsFit}
 
 -- ---- which peer id it is
 of-hash : (s : List ℕ) (r : PeerId) → fromBytes s ≡ r → byHash r true true ≡ true → (h : Hash) × IsPeerId s h (digestOf s)

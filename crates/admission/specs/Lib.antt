@@ -2,8 +2,8 @@
 -- Theorems: AdmissionLaws, FitLaws, TopicLaws, Rows.
 pub mod Told
 pub mod Admission
-pub mod AdmissionLaws
 pub mod Fit
+pub mod AdmissionLaws
 pub mod FitLaws
 pub mod TopicLaws
 pub mod Rows

@@ -10,7 +10,7 @@ ghost use Rattle.protobuf.specs.Walk.{isBytes};
 ghost use Rattle.rows.specs.Ids.{sameBytes};
 ghost use Rattle.ids.specs.Ids.{idBytes};
 ghost use Rattle.schema.specs.SlotsLaws.{PlaceInside};
-ghost use Rattle.admission.specs.Admission.{spansIn, sameSpans, topicsIn, FindsTopics, longAfter, isKey, keyMatches, keyInside, onKey, onSignature, onWord, onLimits, isPeerId, bytesAt, admissionOf, idGiven, keptWith};
+ghost use Rattle.admission.specs.Admission.{spansIn, sameSpans, topicsIn, FindsTopics, longAfter, isKey, keyMatches, keyInside, onKey, onSignature, onWord, onLimits, isPeerId, partAt, admissionOf, idGiven, keptWith};
 use ids::MessageId;
 use ids::id_of;
 use key::PublicKey;
@@ -284,7 +284,7 @@ fn is_peer_id(sender: &[u8]) -> bool
 // Whether the sender is a peer id, by where it stands.
 fn known(part: &[u8], from: Place) -> bool
     requires { ⌜ PlaceInside (now part) from ⌝ }
-    ensures { λ r. ⌜ r ≡ isPeerId (bytesAt (now (part .entry)) from) ⌝ }
+    ensures { λ r. ⌜ r ≡ isPeerId (partAt (now (part .entry)) from) ⌝ }
 {
     let Place::Present { start: a, end: e } = from else {
         return is_peer_id(b"");

@@ -1,6 +1,7 @@
 -- Laws of messages and ids: they stand within the bytes.
 use Prim.Native.Nat.{ℕ, _+_, _-_, _≤_}
 use mathlib.Core.Path.{_≡_, refl}
+use mathlib.Core.Bool.{_||_}
 use mathlib.Core.List.{List}
 use native.Mathlib.Omega.{arith}
 use lib.ListN.{length, length-append}
@@ -77,6 +78,28 @@ unfolding idParts
 id-fits p a e b f h =
     let g = slots-inside kind.RawMessage p in
     of-from p a e b f (slotsOf kind.RawMessage p .first) (slotsOf kind.RawMessage p .third) (g .first) (g .third) h
+
+-- and stand where these fields of the message do
+seqno-there : (x y a e b f : ℕ) (q : Place) → onSeqno x y q ≡ id.Parts a e b f → (x ≡ a) × (y ≡ e)
+    × (q ≡ place.Present b f)
+seqno-there x y a e b f place.Absent h = clash (cc)
+seqno-there x y a e b f (place.Present c d) h =
+    either (eqb (d - c) 0 || ltb 64 (d - c)) (λ t. clash (let k = simp t at h in cc))
+    (λ t. let k = simp t at h in let p : x ≡ a = cc in let q : y ≡ e = cc in let r : b ≡ c = cc in let s : f ≡ d = cc in
+    (p, q, rw (r, s)))
+
+from-there : (a e b f : ℕ) (q r : Place) → onFrom q r ≡ id.Parts a e b f → (q ≡ place.Present a e)
+    × (r ≡ place.Present b f)
+from-there a e b f place.Absent r h = clash (cc)
+from-there a e b f (place.Present x y) r h =
+    either (eqb (y - x) 0 || ltb 64 (y - x)) (λ t. clash (let k = simp t at h in cc))
+    (λ t. let s = seqno-there x y a e b f r (simp t at h) in (rw (s .0, s .1), s .2))
+
+pub parts-there : (p : List ℕ) (a e b f : ℕ) → idParts p ≡ id.Parts a e b f
+    → (slotsOf kind.RawMessage p .first ≡ place.Present a e) × (slotsOf kind.RawMessage p .third ≡ place.Present b f)
+unfolding idParts
+parts-there p a e b f h =
+    from-there a e b f (slotsOf kind.RawMessage p .first) (slotsOf kind.RawMessage p .third) h
 
 -- from and seqno are not empty
 some-seqno : (x y a e b f : ℕ) (q : Place) → onSeqno x y q ≡ id.Parts a e b f → (x ≡ a) × (y ≡ e) × (1 ≤ f - b)

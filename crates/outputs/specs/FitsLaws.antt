@@ -29,27 +29,26 @@ use Rattle.meaning.specs.Back.{message-from, message-seqno, message-signature, 
 use Rattle.canon.specs.Messages.{raw-is}
 use Rattle.ids.specs.declared.MessageId.the-variants as id
 use Rattle.ids.specs.Ids.{onFrom, idParts}
-use Rattle.ids.specs.IdLaws.{id-fits, id-some}
+use Rattle.ids.specs.IdLaws.{id-fits, id-some, parts-there}
 use Rattle.admission.specs.declared.Admission.the-variants as admission
 use Rattle.admission.specs.Admission.{firstLong, topicsOf, admissionOf}
-use Rattle.admission.specs.AdmissionLaws.{parts-there}
 use Rattle.admission.specs.Fit.{KeyOf, givenAt}
 use Rattle.admission.specs.FitLaws.{fit-exactly}
 use Rattle.outputs.specs.Cached.{topics-mean}
 use Rattle.outputs.specs.Fits.{FitMessage}
 
--- ---- what stands in the places of a message's fields is what the bytes mean
+-- ---- what field-at in the places of a message's fields is what the bytes mean
 given-bytes : (p : List ℕ) (q : Place) → givenAt p q ≡ bytesAt p 0 q
 given-bytes p place.Absent = refl
 given-bytes p (place.Present a e) = sym (ap₂ (λ (x y : ℕ). some (between p x y)) (zero-add a) (zero-add e))
 
-pub record Given (p : List ℕ) (m : RawMessage) : Type 0 where
+pub record FieldsGiven (p : List ℕ) (m : RawMessage) : Type 0 where
   pub from : givenAt p (slotsOf kind.RawMessage p .first) ≡ m .from
   pub seqno : givenAt p (slotsOf kind.RawMessage p .third) ≡ m .seqno
   pub signature : givenAt p (slotsOf kind.RawMessage p .fourth) ≡ m .signature
   pub key : givenAt p (slotsOf kind.RawMessage p .fifth) ≡ m .key
 
-pub fields-given : {p : List ℕ} {m : RawMessage} → IsMessage p m → Given p m
+pub fields-given : {p : List ℕ} {m : RawMessage} → IsMessage p m → FieldsGiven p m
 fields-given (is-message {s = p} {es = es} g u) =
     let w = body-walks p es g in
     let s = slotsOf kind.RawMessage p in
@@ -69,16 +68,16 @@ fields-given (is-message {s = p} {es = es} g u) =
     }
 
 -- a field that is there has its place, and as many bytes
-record Stands (p : List ℕ) (q : Place) (d : List ℕ) : Type 0 where
+record FieldAt (p : List ℕ) (q : Place) (d : List ℕ) : Type 0 where
   start : ℕ
   next : ℕ
   there : q ≡ place.Present start next
   bytes : between p start next ≡ d
   size : next - start ≡ length d
 
-stands : (p : List ℕ) (q : Place) (d : List ℕ) → PlaceInside p q → givenAt p q ≡ some d → Stands p q d
-stands p place.Absent d i h = clash (cc)
-stands p (place.Present a e) d i h =
+field-at : (p : List ℕ) (q : Place) (d : List ℕ) → PlaceInside p q → givenAt p q ≡ some d → FieldAt p q d
+field-at p place.Absent d i h = clash (cc)
+field-at p (place.Present a e) d i h =
     let x : between p a e ≡ d = cc in
     record {
       start = a;
@@ -141,9 +140,9 @@ module _ {p : List ℕ} {m : RawMessage} (i : IsMessage p m) (bp : Bytes p) (wor
   by-places x =
       let g = fields-given i in
       let s = slots-inside kind.RawMessage p in
-      let u = stands p (slotsOf kind.RawMessage p .first) (x .sender) (s .first) (g .from ∙ x .from) in
-      let v = stands p (slotsOf kind.RawMessage p .third) (x .number) (s .third) (g .seqno ∙ x .seqno) in
-      let w = stands p (slotsOf kind.RawMessage p .fourth) (x .signature) (s .fourth) (g .signature ∙ x .signed) in
+      let u = field-at p (slotsOf kind.RawMessage p .first) (x .sender) (s .first) (g .from ∙ x .from) in
+      let v = field-at p (slotsOf kind.RawMessage p .third) (x .number) (s .third) (g .seqno ∙ x .seqno) in
+      let w = field-at p (slotsOf kind.RawMessage p .fourth) (x .signature) (s .fourth) (g .signature ∙ x .signed) in
       let z = peer-size (x .peer) in
       let k = topics-mean i .0 in
       let parts : idParts p ≡ id.Parts (u .start) (u .next) (v .start) (v .next) =

@@ -22,12 +22,12 @@ unfolding multihash
 multihash-bytes code d h k = rw (uvarint-small code h, uvarint-small (length d) k)
 
 -- which answer a hash is
-abbrev pub answerOf : Hash → PeerId
-answerOf identity = Identity
-answerOf sha-256 = Sha256
+abbrev pub readAs : Hash → PeerId
+readAs identity = Identity
+readAs sha-256 = Sha256
 
 -- ---- what is read is a peer id
-pub data Reads (code size : ℕ) : PeerId → Type 0 where
+data Reads (code size : ℕ) : PeerId → Type 0 where
   as-identity : code ≡ 0x00 → size ≤ 42 → Reads code size Identity
   as-sha-256 : code ≡ 0x12 → size ≡ 32 → Reads code size Sha256
   as-none : (code ≡ 0x00 → size ≤ 42 → ⊥) → (code ≡ 0x12 → size ≡ 32 → ⊥) → Reads code size NotPeerId
@@ -63,15 +63,15 @@ module _ (code : ℕ) (d : List ℕ) where
       subst (λ (s : List ℕ). IsPeerId s sha-256 d)
       (multihash-bytes 0x12 d (omega arith) (omega arith) ∙ ap (λ (n : ℕ). n ∷ length d ∷ d) (sym p)) (hashed d q)
 
-  made : (h : Hash) → Reads code (length d) (answerOf h) → IsPeerId (code ∷ length d ∷ d) h d
+  made : (h : Hash) → Reads code (length d) (readAs h) → IsPeerId (code ∷ length d ∷ d) h d
   made identity r = is-inlined r
   made sha-256 r = is-hashed r
 
-not-none : {A : Type 0} (h : Hash) → NotPeerId ≡ answerOf h → A
+not-none : {A : Type 0} (h : Hash) → NotPeerId ≡ readAs h → A
 not-none identity e = clash (cc)
 not-none sha-256 e = clash (cc)
 
-of-read : (s : List ℕ) (h : Hash) → fromBytes s ≡ answerOf h → IsPeerId s h (digestOf s)
+of-read : (s : List ℕ) (h : Hash) → fromBytes s ≡ readAs h → IsPeerId s h (digestOf s)
 unfolding fromBytes
 of-read s h e =
     either (eqb (2 + getD s 1 0) (length s))
@@ -92,7 +92,7 @@ read-as code d =
     ap (λ (t : Bool). cond t (hashOf code (length d)) NotPeerId) (eq-eqb (2 + length d)
     (length (code ∷ length d ∷ d)) (omega arith))
 
-is-read : {s d : List ℕ} {h : Hash} → IsPeerId s h d → (fromBytes s ≡ answerOf h) × (digestOf s ≡ d)
+is-read : {s d : List ℕ} {h : Hash} → IsPeerId s h d → (fromBytes s ≡ readAs h) × (digestOf s ≡ d)
 unfolding hashOf
 is-read (inlined d k) =
     let b = multihash-bytes 0x00 d (omega arith) (omega arith) in
@@ -102,11 +102,11 @@ is-read (hashed d k) =
     (ap fromBytes b ∙ read-as 0x12 d ∙ simp (eq-eqb (length d) 32 k), ap digestOf b)
 
 -- bytes are read as this peer id, with this digest, exactly where they are it
-pub peer-exactly : (s d : List ℕ) (h : Hash) → ((fromBytes s ≡ answerOf h) × (digestOf s ≡ d)) ↔ IsPeerId s h d
+pub peer-exactly : (s d : List ℕ) (h : Hash) → ((fromBytes s ≡ readAs h) × (digestOf s ≡ d)) ↔ IsPeerId s h d
 peer-exactly s d h = (λ x. subst (IsPeerId s h) (x .1) (of-read s h (x .0)), is-read)
 
 -- and are refused exactly where they are none
-of-answer : (r : PeerId) → ((h : Hash) → r ≡ answerOf h → ⊥) → r ≡ NotPeerId
+of-answer : (r : PeerId) → ((h : Hash) → r ≡ readAs h → ⊥) → r ≡ NotPeerId
 of-answer Identity n = absurd (n identity refl)
 of-answer Sha256 n = absurd (n sha-256 refl)
 of-answer NotPeerId n = refl
@@ -118,8 +118,14 @@ no-peer-exactly s = (
 )
 
 -- never two readings
-pub one-peer : {s c d : List ℕ} {g h : Hash} → IsPeerId s g c → IsPeerId s h d → (answerOf g ≡ answerOf h) × (c ≡ d)
-one-peer x y = (sym (is-read x .0) ∙ is-read y .0, sym (is-read x .1) ∙ is-read y .1)
+one-hash : (g h : Hash) → readAs g ≡ readAs h → g ≡ h
+one-hash identity identity e = refl
+one-hash identity sha-256 e = clash (cc)
+one-hash sha-256 identity e = clash (cc)
+one-hash sha-256 sha-256 e = refl
+
+pub one-peer : {s c d : List ℕ} {g h : Hash} → IsPeerId s g c → IsPeerId s h d → (g ≡ h) × (c ≡ d)
+one-peer {g = g} {h = h} x y = (one-hash g h (sym (is-read x .0) ∙ is-read y .0), sym (is-read x .1) ∙ is-read y .1)
 
 -- a peer id has 2 bytes before its digest, and 44 at most
 pub peer-size : {s d : List ℕ} {h : Hash} → IsPeerId s h d → (length s ≡ 2 + length d) × (length s ≤ 44)
