@@ -169,7 +169,7 @@ fn limits(part: &[u8], t: Topics, fit: Admission) -> Admission
 }
 
 // Whether some bytes are a public key.
-fn is_key(bytes: &[u8]) -> bool
+pub fn is_key(bytes: &[u8]) -> bool
     ensures { λ r. ⌜ r ≡ isKey (now (bytes .entry)) ⌝ }
 {
     let key = decode_protobuf(bytes);
@@ -180,7 +180,7 @@ fn is_key(bytes: &[u8]) -> bool
 }
 
 // Whether a key may be the sender's: an identity's digest is the key itself, and of a SHA-256 multihash the host's word says it.
-fn key_matches(sender: &[u8], key: &[u8]) -> bool
+pub fn key_matches(sender: &[u8], key: &[u8]) -> bool
     ensures { λ r. ⌜ r ≡ keyMatches (now (sender .entry)) (now (key .entry)) ⌝ }
 {
     let peer = from_bytes(sender);
@@ -192,7 +192,7 @@ fn key_matches(sender: &[u8], key: &[u8]) -> bool
 }
 
 // Whether a sender has its key in itself: an identity's digest that is a key.
-fn key_inside(sender: &[u8]) -> bool
+pub fn key_inside(sender: &[u8]) -> bool
     ensures { λ r. ⌜ r ≡ keyInside (now (sender .entry)) ⌝ }
 {
     let peer = from_bytes(sender);
@@ -270,7 +270,7 @@ fn signed(
 }
 
 // Whether some bytes are a peer id.
-fn is_peer_id(sender: &[u8]) -> bool
+pub fn is_peer_id(sender: &[u8]) -> bool
     ensures { λ r. ⌜ r ≡ isPeerId (now (sender .entry)) ⌝ }
 {
     let peer = from_bytes(sender);

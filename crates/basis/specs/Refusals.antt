@@ -113,6 +113,10 @@ message-too-long = 30
 abbrev pub clock-back : ℕ
 clock-back = 31
 
+-- an RPC to be written above 65,536 bytes; its length
+abbrev pub rpc-too-long : ℕ
+rpc-too-long = 13
+
 -- room short: record table, tested first, then output, or serve's first message; room needed, of the one found short
 abbrev pub short-room : ℕ
 short-room = 12

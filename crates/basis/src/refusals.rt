@@ -83,5 +83,8 @@ pub const MESSAGE_TOO_LONG: u8 = 30;
 // Now below the clock; the clock.
 pub const CLOCK_BACK: u8 = 31;
 
+// An RPC to be written above 65,536 bytes; its length.
+pub const RPC_TOO_LONG: u8 = 13;
+
 // Room short: record table, tested first, then output, or serve's first message; room needed, of the one found short.
 pub const SHORT_ROOM: u8 = 12;

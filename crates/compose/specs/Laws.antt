@@ -1,0 +1,1 @@
+-- Laws of lent rows and of what they say, for the writers and for composed.
