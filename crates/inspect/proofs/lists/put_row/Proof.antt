@@ -33,16 +33,28 @@ same-length : tie.Need-same-length
 same-length c = search needs
 
 returns-2 : tie.Need-returns-2
-returns-2 c = row-bad _ _ _ _ _ (row-past _ _ _ _ (room-there _ _ _ (c .before .before .before .before .before .before .before .before .has-room .ensures) (c .before .before .before .before .before .before .before .if1 .taken)) (c .before .before .before .before .before .before .little-at .ensures) (c .before .before .before .before .before .if2 .left) (c .before .before .before .put-words .ensures .0) (c .if3 .taken))
+returns-2 c =
+    let w = c .before .before .before in
+    let t = w .before .before in
+    let h = t .before .before in
+    row-bad _ _ _ _ _
+    (row-past _ _ _ _ (room-there _ _ _ (h .before .has-room .ensures) (h .if1 .taken)) (t .before .little-at .ensures) (t .if2 .left)
+    (w .put-words .ensures .0) (c .if3 .taken))
 
 same-length-2 : tie.Need-same-length-2
 same-length-2 c = search needs
 
 returns-3 : tie.Need-returns-3
 returns-3 c =
-    let m = c .before .before .before .before .before .before .little-at .ensures in
-    let w = c .before .before .before .put-words .ensures in
-    record { answer = row-there _ _ _ _ (room-there _ _ _ (c .before .before .before .before .before .before .before .before .has-room .ensures) (c .before .before .before .before .before .before .before .if1 .taken)) m (c .before .before .before .before .before .if2 .left) (w .0) (c .if3 .left); words = λ p h. rw (← m) (w .1) }
+    let w = c .before .before .before in
+    let t = w .before .before in
+    let h = t .before .before in
+    let m = t .before .little-at .ensures in
+    record {
+      answer =
+          row-there _ _ _ _ (room-there _ _ _ (h .before .has-room .ensures) (h .if1 .taken)) m (t .if2 .left) (w .put-words .ensures .0) (c .if3 .left);
+      words = λ p k. rw (← m) (w .put-words .ensures .1);
+    }
 
 returns-4 : tie.Need-returns-4
 returns-4 c = row-bad _ _ _ _ _ (row-cut _ _ (room-short _ _ _ (c .before .has-room .ensures) (c .if1 .left)))

@@ -36,13 +36,22 @@ same-length : tie.Need-same-length
 same-length c = search needs
 
 returns-4 : tie.Need-returns-4
-returns-4 c = lists-bad _ _ (lists-cut _ _ _ (c .before .before .before .before .before .before .before .before .before .before .if1 .left) (c .before .before .before .before .before .before .before .before .before .little-at .ensures) (c .before .before .before .before .before .before .before .before .if2 .left) (c .before .before .before .before .before .before .before .little-at2 .ensures) (c .before .before .before .before .before .before .if3 .left) (sym (c .enum-told .given .1) ∙ c .before .before .before .before .put-rows .ensures .answer))
+returns-4 c =
+    let r = c .before .before .before .before in
+    let t = r .before .before in
+    lists-bad _ _
+    (lists-cut _ _ _ (t .before .before .before .before .if1 .left) (t .before .before .before .little-at .ensures) (t .before .before .if2 .left)
+    (t .before .little-at2 .ensures) (t .if3 .left) (sym (c .enum-told .given .1) ∙ r .put-rows .ensures .answer))
 
 same-length-2 : tie.Need-same-length-2
 same-length-2 c = search needs
 
 returns-5 : tie.Need-returns-5
-returns-5 c = lists-there _ _ _ _ _ (c .before .before .before .before .before .before .before .before .before .before .before .if1 .left) (c .before .before .before .before .before .before .before .before .before .before .little-at .ensures) (c .before .before .before .before .before .before .before .before .before .if2 .left) (c .before .before .before .before .before .before .before .before .little-at2 .ensures) (c .before .before .before .before .before .before .before .if3 .left) (rw (c .before .ends .given .1) at (c .before .before .before .before .before .put-rows .ensures))
+returns-5 c =
+    let r = c .before .before .before .before .before in
+    let t = r .before .before in
+    lists-there _ _ _ _ _ (t .before .before .before .before .if1 .left) (t .before .before .before .little-at .ensures) (t .before .before .if2 .left)
+    (t .before .little-at2 .ensures) (t .if3 .left) (rw (c .before .ends .given .1) at (r .put-rows .ensures))
 
 pub read-lists-spec : {M : Type 1} → statement M
 read-lists-spec =
