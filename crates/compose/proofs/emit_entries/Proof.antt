@@ -1,0 +1,26 @@
+use borrow.Author.Needs.{needs}
+use Rattle.compose.proofs.emit_entries.Statement.{statement}
+use Rattle.compose.proofs.emit_entries.Tie as tie
+use Rattle.compose.proofs.emit_entries.Reads as reads
+use Rattle.compose.proofs.emit_entries.Lts as lts
+use Rattle.compose.proofs.emit_rows.Reads as emit-rows-reads
+
+-- src/lib.rt:674:9
+emit-rows-requires : tie.Need-emit-rows-requires
+emit-rows-requires c κs = ?
+
+-- src/lib.rt:675:5
+emit-rows-requires-2 : tie.Need-emit-rows-requires-2
+emit-rows-requires-2 c κs = ?
+
+-- src/lib.rt:670:1
+same-length : tie.Need-same-length
+same-length c = search needs
+
+-- src/lib.rt:670:1
+returns : tie.Need-returns
+returns c = ?
+
+pub emit-entries-spec : {M : Type 1} → statement M
+emit-entries-spec =
+    tie.close (tie.spec emit-rows-requires emit-rows-requires-2 same-length returns)

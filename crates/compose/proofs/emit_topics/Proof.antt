@@ -1,0 +1,80 @@
+use Rattle.compose.proofs.emit_topics.Statement.{statement}
+use Rattle.compose.proofs.emit_topics.Tie as tie
+use Rattle.compose.proofs.emit_topics.Reads as reads
+use Rattle.compose.proofs.emit_topics.Lts as lts
+use Rattle.compose.proofs.emit_part.Reads as emit-part-reads
+use Rattle.compose.proofs.is_code.Reads as is-code-reads
+use Rattle.compose.proofs.row_at.Reads as row-at-reads
+
+abbrev Inv-loop : tie.InvT-loop
+Inv-loop records bytes from out₀ at n i₀ end₀ out i end = ?
+
+abbrev μ-loop : tie.MeasureT-loop
+μ-loop records bytes from out₀ at n i₀ end₀ out i end = ?
+
+-- src/lib.rt:536:5
+loop-holds : tie.Need-loop-holds Inv-loop μ-loop
+loop-holds c = ?
+
+-- src/lib.rt:537:12
+is-code-requires : tie.Need-is-code-requires Inv-loop μ-loop
+is-code-requires c κs = ?
+
+-- src/lib.rt:538:13
+same-length : tie.Need-same-length Inv-loop μ-loop
+same-length c = ?
+
+-- src/lib.rt:538:13
+returns : tie.Need-returns Inv-loop μ-loop
+returns c = ?
+
+-- src/lib.rt:540:12
+is-code-requires-2 : tie.Need-is-code-requires-2 Inv-loop μ-loop
+is-code-requires-2 c κs = ?
+
+-- src/lib.rt:541:17
+row-at-requires : tie.Need-row-at-requires Inv-loop μ-loop
+row-at-requires c κs = ?
+
+-- src/lib.rt:542:13
+emit-part-requires : tie.Need-emit-part-requires Inv-loop μ-loop
+emit-part-requires c κs = ?
+
+-- src/lib.rt:544:9
+add-i : tie.Need-add-i Inv-loop μ-loop
+add-i c = ?
+
+-- src/lib.rt:536:5
+loop-less : tie.Need-loop-less Inv-loop μ-loop
+loop-less c = ?
+
+-- src/lib.rt:536:5
+loop-again : tie.Need-loop-again Inv-loop μ-loop
+loop-again c = ?
+
+-- src/lib.rt:529:1
+same-length-2 : tie.Need-same-length-2 Inv-loop μ-loop
+same-length-2 c = ?
+
+-- src/lib.rt:529:1
+returns-2 : tie.Need-returns-2 Inv-loop μ-loop
+returns-2 c = ?
+
+pub emit-topics-spec : {M : Type 1} → statement M
+emit-topics-spec =
+    tie.close
+    (tie.spec
+    Inv-loop
+    μ-loop
+    loop-holds
+    is-code-requires
+    same-length
+    returns
+    is-code-requires-2
+    row-at-requires
+    emit-part-requires
+    add-i
+    loop-less
+    loop-again
+    same-length-2
+    returns-2)
