@@ -125,9 +125,10 @@ message-inside-is n at t h =
     let d = both (insideAt n at (t .fourth)) _ (c .1) in
     record { from = a .0; «data» = b .0; seqno = c .0; signature = d .0; key = d .1 }
 
-pub message-row : (n : ℕ) (r : Record) → rowInside n r ≡ true → isCode 2 r ≡ true → MessageInside n (r .start) (r .slots)
+pub message-row : (n : ℕ) (r x : Record) → r ≡ x → rowInside n x ≡ true → isCode 2 x ≡ true → MessageInside n (r .start) (r .slots)
 unfolding kindFrom
-message-row n r h k = message-inside-is n (r .start) (r .slots) (fields-are n 2 r h k)
+message-row n r x e h k =
+    subst (λ (y : Record). MessageInside n (y .start) (y .slots)) (sym e) (message-inside-is n (x .start) (x .slots) (fields-are n 2 x h k))
 
 pub sub-opts-inside : (n at : ℕ) (t : Slots) → fieldsInside n at kind.SubOpts t ≡ true → insideAt n at (t .first) ≡ true
 unfolding fieldsInside
@@ -137,21 +138,24 @@ pub graft-inside : (n at : ℕ) (t : Slots) → fieldsInside n at kind.ControlGr
 unfolding fieldsInside
 graft-inside n at t h = h
 
-pub prune-row : (n : ℕ) (r : Record) → rowInside n r ≡ true → isCode 9 r ≡ true → insideAt n (r .start) (r .slots .first) ≡ true
+pub prune-row : (n : ℕ) (r x : Record) → r ≡ x → rowInside n x ≡ true → isCode 9 x ≡ true → insideAt n (r .start) (r .slots .first) ≡ true
 unfolding kindFrom fieldsInside
-prune-row n r h k = fields-are n 9 r h k
+prune-row n r x e h k = subst (λ (y : Record). insideAt n (y .start) (y .slots .first) ≡ true) (sym e) (fields-are n 9 x h k)
 
-pub sub-opts-row : (n : ℕ) (r : Record) → rowInside n r ≡ true → isCode 1 r ≡ true → fieldsInside n (r .start) kind.SubOpts (r .slots) ≡ true
+pub sub-opts-row : (n : ℕ) (r x : Record) → r ≡ x → rowInside n x ≡ true → isCode 1 x ≡ true
+    → fieldsInside n (r .start) kind.SubOpts (r .slots) ≡ true
 unfolding kindFrom
-sub-opts-row n r h k = fields-are n 1 r h k
+sub-opts-row n r x e h k = subst (λ (y : Record). fieldsInside n (y .start) kind.SubOpts (y .slots) ≡ true) (sym e) (fields-are n 1 x h k)
 
-pub graft-row : (n : ℕ) (r : Record) → rowInside n r ≡ true → isCode 8 r ≡ true → fieldsInside n (r .start) kind.ControlGraft (r .slots) ≡ true
+pub graft-row : (n : ℕ) (r x : Record) → r ≡ x → rowInside n x ≡ true → isCode 8 x ≡ true
+    → fieldsInside n (r .start) kind.ControlGraft (r .slots) ≡ true
 unfolding kindFrom
-graft-row n r h k = fields-are n 8 r h k
+graft-row n r x e h k = subst (λ (y : Record). fieldsInside n (y .start) kind.ControlGraft (y .slots) ≡ true) (sym e) (fields-are n 8 x h k)
 
-pub peer-row : (n : ℕ) (r : Record) → rowInside n r ≡ true → isCode 10 r ≡ true → fieldsInside n (r .start) kind.PeerInfo (r .slots) ≡ true
+pub peer-row : (n : ℕ) (r x : Record) → r ≡ x → rowInside n x ≡ true → isCode 10 x ≡ true
+    → fieldsInside n (r .start) kind.PeerInfo (r .slots) ≡ true
 unfolding kindFrom
-peer-row n r h k = fields-are n 10 r h k
+peer-row n r x e h k = subst (λ (y : Record). fieldsInside n (y .start) kind.PeerInfo (y .slots) ≡ true) (sym e) (fields-are n 10 x h k)
 
 pub peer-inside : (n at : ℕ) (t : Slots) → fieldsInside n at kind.PeerInfo t ≡ true
     → (insideAt n at (t .first) ≡ true) × (insideAt n at (t .second) ≡ true)
@@ -185,11 +189,14 @@ written-code of-message = (omega arith, omega arith)
 written-code of-graft = (omega arith, omega arith)
 written-code of-prune = (omega arith, omega arith)
 
-pub last-code : {c : ℕ} → Written c → eqb c 1 ≡ false → eqb c 2 ≡ false → eqb c 8 ≡ false → c ≡ 9
-last-code of-sub-opts e f g = clash (cc)
-last-code of-message e f g = clash (cc)
-last-code of-graft e f g = clash (cc)
+pub last-code : {c : ℕ} → Written c → (c ≡ 1 → ⊥) → (c ≡ 2 → ⊥) → (c ≡ 8 → ⊥) → c ≡ 9
+last-code of-sub-opts e f g = absurd (e refl)
+last-code of-message e f g = absurd (f refl)
+last-code of-graft e f g = absurd (g refl)
 last-code of-prune e f g = refl
+
+pub of-code : {c d : ℕ} (r : Record) → c ≡ d → isCode c r ≡ true → isCode d r ≡ true
+of-code r e h = sym (ap (λ (k : ℕ). isCode k r) e) ∙ h
 
 -- ---- a field that was measured
 pub measured : (out after d : List ℕ) (len : ℕ) → Puts out 0 d after len → len ≡ capped (length d)
@@ -238,27 +245,29 @@ pub peer-is : (b : List ℕ) (r : Record)
 unfolding encodePeerInfo
 peer-is b r = refl
 
-pub prune-is : (b : List ℕ) (r : Record) (rs : List Record)
+pub prune-at : (b : List ℕ) (r x : Record) (rs : List Record) → r ≡ x
     → optional (bytesField 1) (bytesAt b (r .start) (r .slots .first))
     ++ (repeated (λ p. bytesField 2 (encodePeerInfo p)) (peersFrom b rs) ++ optional (varintField 3) (numberAt (r .slots .number)))
-    ≡ encodePrune (pruneOf b r rs)
+    ≡ encodePrune (pruneOf b x rs)
 unfolding encodePrune
-prune-is b r rs = refl
+prune-at b r x rs e = ap (λ (y : Record). encodePrune (pruneOf b y rs)) e
 
-pub fields-is : (b : List ℕ) (r : Record) (rs : List Record)
+pub fields-at : (b : List ℕ) (r x : Record) (rs : List Record) → r ≡ x
     → optional (bytesField 1) (bytesAt b (r .start) (r .slots .first))
     ++ (optional (bytesField 2) (bytesAt b (r .start) (r .slots .second))
     ++ (optional (bytesField 3) (bytesAt b (r .start) (r .slots .third)) ++ repeated (bytesField 4) (topicsFrom b rs)))
-    ≡ encodeFields (messageOf b r rs)
+    ≡ encodeFields (messageOf b x rs)
 unfolding encodeFields
-fields-is b r rs = refl
+fields-at b r x rs e = ap (λ (y : Record). encodeFields (messageOf b y rs)) e
 
-pub message-is : (b : List ℕ) (r : Record) (rs : List Record)
-    → encodeFields (messageOf b r rs)
+pub message-at : (b : List ℕ) (r x : Record) (rs : List Record) → r ≡ x
+    → encodeFields (messageOf b x rs)
     ++ (optional (bytesField 5) (bytesAt b (r .start) (r .slots .fourth)) ++ optional (bytesField 6) (bytesAt b (r .start) (r .slots .fifth)))
-    ≡ encodeMessage (messageOf b r rs)
+    ≡ encodeMessage (messageOf b x rs)
 unfolding encodeMessage
-message-is b r rs = refl
+message-at b r x rs e =
+    ap (λ (y : Record). encodeFields (messageOf b x rs)
+    ++ (optional (bytesField 5) (bytesAt b (y .start) (y .slots .fourth)) ++ optional (bytesField 6) (bytesAt b (y .start) (y .slots .fifth)))) e
 
 pub signed-is : (b : List ℕ) (r : Record) (rs : List Record) → signPrefix ++ encodeFields (messageOf b r rs) ≡ signBytes (messageOf b r rs)
 unfolding signBytes encodeFields
@@ -312,24 +321,38 @@ module _ (t b : List ℕ) (i : ℕ) where
         ≡ rowPart c n b (recordFrom t (i * 20)) (rowsFrom t (i + 1)) ++ eachRow c n b (rowsFrom t (i + 1))
     each-next c n = ap (eachRow c n b) (rows-step t i h)
 
-    pub has-next : hasRow (rowsFrom t i) ≡ (isCode 8 (recordFrom t (i * 20)) || isCode 9 (recordFrom t (i * 20))) || hasRow (rowsFrom t (i + 1))
-    has-next = ap hasRow (rows-step t i h)
-
+-- ---- a graft or a prune
+module _ (t : List ℕ) (i : ℕ) where
   pub has-over : length t / 20 ≤ i → hasRow (rowsFrom t i) ≡ false
   has-over h = ap hasRow (rows-end t i h)
 
+  module _ (h : i < length t / 20) where
+    has-next : hasRow (rowsFrom t i)
+        ≡ (isCode 8 (recordFrom t (i * 20)) || isCode 9 (recordFrom t (i * 20))) || hasRow (rowsFrom t (i + 1))
+    has-next = ap hasRow (rows-step t i h)
+
+    pub has-graft : isCode 8 (recordFrom t (i * 20)) ≡ true → hasRow (rowsFrom t i) ≡ true
+    has-graft e = has-next ∙ simp e
+
+    pub has-prune : isCode 8 (recordFrom t (i * 20)) ≡ false → isCode 9 (recordFrom t (i * 20)) ≡ true → hasRow (rowsFrom t i) ≡ true
+    has-prune e f = has-next ∙ simp (e, f)
+
+    pub has-other : isCode 8 (recordFrom t (i * 20)) ≡ false → isCode 9 (recordFrom t (i * 20)) ≡ false
+        → hasRow (rowsFrom t i) ≡ hasRow (rowsFrom t (i + 1))
+    has-other e f = has-next ∙ simp (e, f)
+
 -- ---- rows by their codes
-pub row-sub-opts : (c : ℕ) (b : List ℕ) (r : Record) (rs : List Record) → c ≡ 1 → encodeSubOpts (subOptsOf b r) ≡ rowBytes c b r rs
+pub row-sub-opts : (c : ℕ) (b : List ℕ) (r x : Record) (rs : List Record) → r ≡ x → c ≡ 1 → encodeSubOpts (subOptsOf b r) ≡ rowBytes c b x rs
 unfolding rowBytes
-row-sub-opts c b r rs e = rw e
+row-sub-opts c b r x rs q e = ap (λ (y : Record). encodeSubOpts (subOptsOf b y)) q ∙ rw e
 
 pub row-message : (c : ℕ) (b : List ℕ) (r : Record) (rs : List Record) → c ≡ 2 → encodeMessage (messageOf b r rs) ≡ rowBytes c b r rs
 unfolding rowBytes
 row-message c b r rs e = rw e
 
-pub row-graft : (c : ℕ) (b : List ℕ) (r : Record) (rs : List Record) → c ≡ 8 → encodeGraft (graftOf b r) ≡ rowBytes c b r rs
+pub row-graft : (c : ℕ) (b : List ℕ) (r x : Record) (rs : List Record) → r ≡ x → c ≡ 8 → encodeGraft (graftOf b r) ≡ rowBytes c b x rs
 unfolding rowBytes
-row-graft c b r rs e = rw e
+row-graft c b r x rs q e = ap (λ (y : Record). encodeGraft (graftOf b y)) q ∙ rw e
 
 pub row-prune : (c : ℕ) (b : List ℕ) (r : Record) (rs : List Record) → c ≡ 9 → encodePrune (pruneOf b r rs) ≡ rowBytes c b r rs
 unfolding rowBytes
@@ -355,3 +378,25 @@ flag-zero x v e z = rw (e, z)
 pub flag-one : (x : Number) (v : ℕ) → x ≡ number.Present v → (v ≡ 0 → ⊥) → number.Present 1 ≡ flagged x
 unfolding flagged
 flag-one x v e z = simp (e, ne-eqb v 0 z)
+
+-- ---- a row that adds something, or nothing
+pub peer-yes : (b : List ℕ) (r x : Record) → r ≡ x → isCode 10 x ≡ true → bytesField 2 (encodePeerInfo (peerOf b r)) ≡ peerPart b x
+peer-yes b r x e h = ap (λ (y : Record). bytesField 2 (encodePeerInfo (peerOf b y))) e ∙ sym (ap (λ (t : Bool). cond t (bytesField 2 (encodePeerInfo (peerOf b x))) []) h)
+
+pub peer-no : (b : List ℕ) (x : Record) → isCode 10 x ≡ false → [] ≡ peerPart b x
+peer-no b x h = sym (ap (λ (t : Bool). cond t (bytesField 2 (encodePeerInfo (peerOf b x))) []) h)
+
+pub topic-yes : (b : List ℕ) (r x : Record) → r ≡ x → isCode 3 x ≡ true → bytesField 4 (rawOf b r) ≡ topicPart b x
+topic-yes b r x e h = ap (λ (y : Record). bytesField 4 (rawOf b y)) e ∙ sym (ap (λ (t : Bool). cond t (bytesField 4 (rawOf b x)) []) h)
+
+pub topic-no : (b : List ℕ) (x : Record) → isCode 3 x ≡ false → [] ≡ topicPart b x
+topic-no b x h = sym (ap (λ (t : Bool). cond t (bytesField 4 (rawOf b x)) []) h)
+
+pub topic-row : (n : ℕ) (r x : Record) → r ≡ x → rowInside n x ≡ true → (r .start ≤ r .end) × (r .end ≤ n)
+topic-row n r x e h = let z = row-inside-is n x h in subst (λ (y : Record). (y .start ≤ y .end) × (y .end ≤ n)) (sym e) (z .0, z .1)
+
+pub row-yes : (c n : ℕ) (b : List ℕ) (x : Record) (rs : List Record) → isCode c x ≡ true → bytesField n (rowBytes c b x rs) ≡ rowPart c n b x rs
+row-yes c n b x rs h = sym (ap (λ (t : Bool). cond t (bytesField n (rowBytes c b x rs)) []) h)
+
+pub row-no : (c n : ℕ) (b : List ℕ) (x : Record) (rs : List Record) → isCode c x ≡ false → [] ≡ rowPart c n b x rs
+row-no c n b x rs h = sym (ap (λ (t : Bool). cond t (bytesField n (rowBytes c b x rs)) []) h)

@@ -1,3 +1,4 @@
+use Rattle.compose.specs.Puts.{puts-set}
 use borrow.Author.Needs.{needs}
 use Rattle.compose.proofs.emit_bytes.Statement.{statement}
 use Rattle.compose.proofs.emit_bytes.Tie as tie
@@ -20,7 +21,8 @@ same-length c = search needs
 
 -- src/lib.rt:374:1
 returns : tie.Need-returns
-returns c = ?
+returns c =
+    let a = c .before .before .before .before .before .before .before .args in puts-set (a .out .now) (a .at) (a .part .now) _ _ (c .past .ensures) (c .before .before .before .put-bytes .ensures .lent)
 
 pub emit-bytes-spec : {M : Type 1} → statement M
 emit-bytes-spec = tie.close (tie.spec put-bytes-requires past-requires same-length returns)

@@ -1,3 +1,5 @@
+use Rattle.compose.specs.Puts.{puts-same, puts-append}
+use Rattle.compose.proofs.Parts.{head-is}
 use borrow.Author.Needs.{needs}
 use Rattle.compose.proofs.emit_head.Statement.{statement}
 use Rattle.compose.proofs.emit_head.Tie as tie
@@ -27,7 +29,10 @@ same-length c = search needs
 
 -- src/lib.rt:382:1
 returns : tie.Need-returns
-returns c = ?
+returns c =
+    let a = c .before .before .before .before .before .before .before .before .before .args in
+    puts-same (a .out .now) (a .at) _ _ _ _ (head-is (a .n) (a .len))
+    (puts-append (a .out .now) _ _ (a .at) _ _ _ _ (c .before .before .before .before .before .before .emit-varint .ensures) (c .before .before .emit-varint2 .ensures))
 
 pub emit-head-spec : {M : Type 1} → statement M
 emit-head-spec =

@@ -1,3 +1,7 @@
+use mathlib.Core.Path.{sym}
+use native.Mathlib.Omega.{arith}
+use Rattle.compose.specs.Puts.{puts-none, puts-same, puts-append}
+use Rattle.compose.proofs.Parts.{number-none, number-is}
 use borrow.Author.Needs.{needs}
 use Rattle.compose.proofs.emit_number.Statement.{statement}
 use Rattle.compose.proofs.emit_number.Tie as tie
@@ -27,7 +31,9 @@ emit-varint-requires-2 c κs = search needs
 
 -- src/lib.rt:411:1
 returns : tie.Need-returns
-returns c = ?
+returns c =
+    let a = c .before .before .before .args in
+    puts-same (a .out .now) (a .at) _ _ _ _ (sym (number-none (a .n) (a .number) (c .enum-told .given .1))) (puts-none (a .out .now) (a .at) (omega (arith, c .before .before .before .fits .at .fits)))
 
 -- src/lib.rt:411:1
 same-length : tie.Need-same-length
@@ -35,7 +41,9 @@ same-length c = search needs
 
 -- src/lib.rt:411:1
 returns-2 : tie.Need-returns-2
-returns-2 c = ?
+returns-2 c =
+    let a = c .before .before .before .before .before .before .before .before .before .before .before .before .args in
+    puts-same (a .out .now) (a .at) _ _ _ _ (sym (number-is (a .n) _ (a .number) (c .before .before .before .before .before .before .before .before .before .number .given .1))) (puts-append (a .out .now) _ _ (a .at) _ _ _ _ (c .before .before .before .before .before .before .emit-varint .ensures) (c .before .before .emit-varint2 .ensures))
 
 pub emit-number-spec : {M : Type 1} → statement M
 emit-number-spec =

@@ -1,3 +1,7 @@
+use native.Mathlib.Omega.{arith}
+use Rattle.protobuf.specs.Walk.{between}
+use Rattle.compose.specs.Puts.{puts-field}
+use Rattle.compose.proofs.Parts.{part-size}
 use borrow.Author.Needs.{needs}
 use Rattle.compose.proofs.emit_part.Statement.{statement}
 use Rattle.compose.proofs.emit_part.Tie as tie
@@ -36,7 +40,10 @@ same-length c = search needs
 
 -- src/lib.rt:391:1
 returns : tie.Need-returns
-returns c = ?
+returns c =
+    let a = c .before .before .before .before .before .before .before .before .before .before .before .args in
+    let p = c .before .before .before .before .before .before .before .before .before .before .before .pre in
+    puts-field (a .out .now) _ _ (a .at) _ _ _ (a .n) (between (a .bytes .now) (a .a) (a .e)) (part-size (a .bytes .now) (a .a) (a .e) (p .1) (p .2) (omega arith)) (c .before .before .before .before .before .before .before .emit-head .ensures) (c .before .before .emit-bytes .ensures)
 
 pub emit-part-spec : {M : Type 1} → statement M
 emit-part-spec =

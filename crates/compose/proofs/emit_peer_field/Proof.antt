@@ -1,3 +1,6 @@
+use Rattle.rpc.specs.Encode.{encodePeerInfo}
+use Rattle.compose.specs.Said.{peerOf}
+use Rattle.compose.proofs.Parts.{field-puts, field-short}
 use borrow.Author.Needs.{needs}
 use Rattle.compose.proofs.emit_peer_field.Statement.{statement}
 use Rattle.compose.proofs.emit_peer_field.Tie as tie
@@ -29,7 +32,9 @@ same-length c = search needs
 
 -- src/lib.rt:486:9
 returns : tie.Need-returns
-returns c = ?
+returns c =
+    let a = c .before .before .before .before .before .before .before .before .before .before .before .args in
+    field-short _ _ (a .out .now) _ (a .at) _ _ _ 2 (encodePeerInfo (peerOf (a .bytes .now) (a .r))) (c .before .before .before .before .before .before .before .emit-peer .ensures) (c .before .before .before .before .emit-head .ensures) (c .before .past .ensures) (c .if1 .taken)
 
 -- src/lib.rt:488:5
 emit-peer-requires-2 : tie.Need-emit-peer-requires-2
@@ -41,7 +46,9 @@ same-length-2 c = search needs
 
 -- src/lib.rt:477:1
 returns-2 : tie.Need-returns-2
-returns-2 c = ?
+returns-2 c =
+    let a = c .before .before .before .before .before .before .before .before .before .before .before .before .before .before .before .args in
+    field-puts _ _ (a .out .now) _ _ (a .at) _ _ _ 2 (encodePeerInfo (peerOf (a .bytes .now) (a .r))) (c .before .before .before .before .before .before .before .before .before .before .before .emit-peer .ensures) (c .before .before .before .before .before .before .before .before .emit-head .ensures) (c .before .before .emit-peer2 .ensures)
 
 pub emit-peer-field-spec : {M : Type 1} → statement M
 emit-peer-field-spec =

@@ -1,3 +1,8 @@
+use Prim.Native.Nat.{_+_, _*_}
+use Rattle.message.specs.Rows.{recordFrom}
+use Rattle.compose.specs.Lent.{rowsFrom}
+use Rattle.compose.specs.Puts.{rowBytes}
+use Rattle.compose.proofs.Parts.{field-puts, field-short}
 use borrow.Author.Needs.{needs}
 use Rattle.compose.proofs.emit_row_field.Statement.{statement}
 use Rattle.compose.proofs.emit_row_field.Tie as tie
@@ -29,7 +34,9 @@ same-length c = search needs
 
 -- src/lib.rt:626:9
 returns : tie.Need-returns
-returns c = ?
+returns c =
+    let a = c .before .before .before .before .before .before .before .before .before .before .before .before .args in
+    field-short _ _ (a .out .now) _ (a .at) _ _ _ (a .n) (rowBytes (a .code) (a .bytes .now) (recordFrom (a .records .now) (a .i * 20)) (rowsFrom (a .records .now) (a .i + 1))) (c .before .before .before .before .before .before .before .emit-row .ensures) (c .before .before .before .before .emit-head .ensures) (c .before .past .ensures) (c .if1 .taken)
 
 -- src/lib.rt:628:5
 emit-row-requires-2 : tie.Need-emit-row-requires-2
@@ -41,7 +48,9 @@ same-length-2 c = search needs
 
 -- src/lib.rt:606:1
 returns-2 : tie.Need-returns-2
-returns-2 c = ?
+returns-2 c =
+    let a = c .before .before .before .before .before .before .before .before .before .before .before .before .before .before .before .before .args in
+    field-puts _ _ (a .out .now) _ _ (a .at) _ _ _ (a .n) (rowBytes (a .code) (a .bytes .now) (recordFrom (a .records .now) (a .i * 20)) (rowsFrom (a .records .now) (a .i + 1))) (c .before .before .before .before .before .before .before .before .before .before .before .emit-row .ensures) (c .before .before .before .before .before .before .before .before .emit-head .ensures) (c .before .before .emit-row2 .ensures)
 
 pub emit-row-field-spec : {M : Type 1} → statement M
 emit-row-field-spec =

@@ -1,3 +1,6 @@
+use native.Mathlib.Omega.{arith}
+use Rattle.compose.specs.Puts.{puts-same, puts-append}
+use Rattle.compose.proofs.Parts.{sub-opts-inside, sub-opts-is}
 use borrow.Author.Needs.{needs}
 use Rattle.compose.proofs.emit_sub_opts.Statement.{statement}
 use Rattle.compose.proofs.emit_sub_opts.Tie as tie
@@ -17,7 +20,8 @@ emit-number-requires c κs = search needs
 
 -- src/lib.rt:451:5
 emit-place-requires : tie.Need-emit-place-requires
-emit-place-requires c κs = ?
+emit-place-requires c κs =
+    (omega arith, sub-opts-inside _ _ _ (c .before .before .before .before .before .before .before .before .before .pre))
 
 -- src/lib.rt:442:1
 same-length : tie.Need-same-length
@@ -25,7 +29,10 @@ same-length c = search needs
 
 -- src/lib.rt:442:1
 returns : tie.Need-returns
-returns c = ?
+returns c =
+    let a = c .before .before .before .before .before .before .before .before .before .before .before .before .args in
+    puts-same (a .out .now) (a .at) _ _ _ _ (sub-opts-is (a .bytes .now) (a .r) _ (c .before .before .before .before .before .before .before .before .flag .ensures))
+    (puts-append (a .out .now) _ _ (a .at) _ _ _ _ (c .before .before .before .before .before .before .emit-number .ensures) (c .before .before .emit-place .ensures))
 
 pub emit-sub-opts-spec : {M : Type 1} → statement M
 emit-sub-opts-spec =

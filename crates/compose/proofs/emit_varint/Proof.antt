@@ -1,3 +1,8 @@
+use Prim.Native.Nat.{ℕ, _+_}
+use mathlib.Core.Path.{ap, _∙_}
+use Rattle.peer_id.specs.Uvarint.{uvarint}
+use Rattle.compose.specs.Weighed.{capped}
+use Rattle.compose.specs.Puts.{puts-set}
 use borrow.Author.Needs.{needs}
 use Rattle.compose.proofs.emit_varint.Statement.{statement}
 use Rattle.compose.proofs.emit_varint.Tie as tie
@@ -25,7 +30,9 @@ same-length c = search needs
 
 -- src/lib.rt:366:1
 returns : tie.Need-returns
-returns c = ?
+returns c =
+    let a = c .before .before .before .before .before .before .before .args in
+    puts-set (a .out .now) (a .at) (uvarint (a .value)) _ _ (c .past .ensures ∙ ap (λ (x : ℕ). capped (a .at + x)) (c .before .uvarint-len .ensures)) (c .before .before .before .before .put-uvarint .ensures .lent)
 
 pub emit-varint-spec : {M : Type 1} → statement M
 emit-varint-spec =

@@ -1,3 +1,4 @@
+use Rattle.compose.proofs.Parts.{row-code}
 use borrow.Author.Needs.{needs}
 use Rattle.compose.proofs.is_code.Statement.{statement}
 use Rattle.compose.proofs.is_code.Tie as tie
@@ -18,7 +19,8 @@ shared-slice-read-result c = search needs
 
 -- src/lib.rt:130:1
 returns : tie.Need-returns
-returns c = ?
+returns c =
+    let a = c .before .args in row-code (a .records .now) (a .i) (a .code) (c .before .pre .1) (c .before .pre .2)
 
 pub is-code-spec : {M : Type 1} → statement M
 is-code-spec = tie.close (tie.spec mul-result mul-result-2 shared-slice-read-result returns)
