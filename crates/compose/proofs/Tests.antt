@@ -1,19 +1,32 @@
 -- The tests of lent rows, case by case: places and kinds; topics; messages.
 use Prim.Native.Nat.{ℕ, _+_, _-_, _*_, _/_, _%_, _≤_, _<_}
-use mathlib.Core.Path.{_≡_, refl, sym, ap, _∙_}
+use mathlib.Core.Path.{_≡_, refl, sym, ap, ap₂, _∙_}
 use mathlib.Core.Bool.{Bool, true, false, cond, not, _&&_, _||_}
 use mathlib.Core.List.{List, [], _∷_}
 use native.Mathlib.Omega.{arith}
 use lib.ListN.{length}
 use lib.Dec.{ltb, leb, eqb}
-use borrow.Author.Tests.{leb-true, leb-false, not-true, not-false, le-leb, lt-leb, eq-eqb, ne-eqb}
-use Rattle.basis.specs.Cases.{either, clash}
+use borrow.Author.Tests.{eqb-true, leb-true, leb-false, lt-ltb, le-ltb, le-leb, lt-leb, eq-eqb, ne-eqb}
+use Rattle.basis.specs.Cases.{either, both}
+use Rattle.schema.specs.declared.Kind.{Kind}
 use Rattle.schema.specs.declared.Place.{Place}
 use Rattle.schema.specs.declared.Place.the-variants as place
+use Rattle.protobuf.specs.Walk.{between}
+use Rattle.protobuf.specs.WalkLaws.{between-length}
 use Rattle.message.specs.declared.Record.{Record}
 use Rattle.message.specs.Rows.{kindCode, recordFrom}
-use Rattle.compose.specs.Lent.{rowsFrom, lentRows, isCode, insideAt, fieldsInside, rowInside, heldBy, lentFrom, lentWell}
-use Rattle.compose.specs.Laws.{rows-step, rows-end}
+use Rattle.meaning.specs.ReadBack.{rawOf}
+use Rattle.admission.specs.declared.Topics.{Topics}
+use Rattle.admission.specs.Admission.{firstLong}
+use Rattle.compose.specs.Lent.{rowsFrom, lentRows, isCode, insideAt, fieldsInside, rowInside, heldBy, lentFrom, lentWell, Inside}
+use Rattle.compose.specs.declared.Wrong.{Wrong}
+use Rattle.compose.specs.declared.Wrong.the-variants.{NotLent, TooManyRecords}
+use Rattle.compose.specs.declared.Lists.{Lists}
+use Rattle.compose.specs.declared.Lists.the-variants.{Fine, Refused}
+use Rattle.compose.specs.Said.{topicsFrom}
+use Rattle.compose.specs.Weighed.{andThen, inTopics}
+use Rattle.compose.specs.Compose.{textOf, textFine, textsFine, countFine, listsOf}
+use Rattle.compose.specs.Laws.{rows-step, rows-end, topics-step, no-topics}
 
 -- ---- tests one after the other
 pub and-no : {a x : Bool} (b : Bool) → a ≡ x → a ≡ false → false ≡ x && b
@@ -21,6 +34,18 @@ and-no b e h = simp (sym e ∙ h)
 
 pub and-on : {a x : Bool} (b : Bool) → a ≡ x → a ≡ true → b ≡ x && b
 and-on b e h = simp (sym e ∙ h)
+
+pub cond-yes : {A : Type 0} {r x : Bool} (y z : A) → r ≡ x → r ≡ true → y ≡ cond x y z
+cond-yes y z e h = simp (sym e ∙ h)
+
+pub cond-no : {A : Type 0} {r x : Bool} (y z : A) → r ≡ x → r ≡ false → z ≡ cond x y z
+cond-no y z e h = simp (sym e ∙ h)
+
+pub then-on : {x y : Lists} (z : Lists) → x ≡ y → x ≡ Fine → z ≡ andThen y z
+then-on z e h = simp (sym e ∙ h)
+
+pub then-stop : {x y : Lists} {why : Wrong} (z : Lists) → x ≡ y → x ≡ Refused why → Refused why ≡ andThen y z
+then-stop z e h = simp (sym e ∙ h)
 
 -- what was found, and what is found now
 pub or-now : (m : Bool) {r x n : Bool} → r ≡ x → r ≡ true → n ≡ true → n ≡ m || x
@@ -48,6 +73,13 @@ module _ (n at : ℕ) where
       (either (leb e (n - at)) (λ t. t ∙ sym (le-leb (at + e) n (let l = leb-true e (n - at) t in omega arith)))
       (λ t. t ∙ sym (lt-leb (at + e) n (let l = leb-false e (n - at) t in omega arith))))
 
+  -- where it stands
+  pub inside-fits : (p : Place) (a e : ℕ) → insideAt n at p ≡ true → p ≡ place.Present a e → (a ≤ e) × (at + e ≤ n)
+  unfolding insideAt
+  inside-fits p a e h g =
+      let k = both (leb a e) (leb (at + e) n) (ap (insideAt n at) (sym g) ∙ h) in
+      (leb-true a e (k .0), leb-true (at + e) n (k .1))
+
 -- ---- a row within n bytes
 module _ (n : ℕ) (r : Record) where
   pub row-back : r .end < r .start → false ≡ rowInside n r
@@ -61,6 +93,21 @@ module _ (n : ℕ) (r : Record) where
   pub row-is : r .start ≤ r .end → r .end ≤ n → fieldsInside n (r .start) (r .kind) (r .slots) ≡ rowInside n r
   unfolding rowInside
   row-is h g = and-on _ refl (le-leb (r .end) n g) ∙ and-on _ refl (le-leb (r .start) (r .end) h)
+
+  module _ (h : rowInside n r ≡ true) where
+    row-parts : (leb (r .start) (r .end) ≡ true) × (leb (r .end) n && fieldsInside n (r .start) (r .kind) (r .slots) ≡ true)
+    unfolding rowInside
+    row-parts = both (leb (r .start) (r .end)) (leb (r .end) n && fieldsInside n (r .start) (r .kind) (r .slots)) h
+
+    pub row-fits : (r .start ≤ r .end) × (r .end ≤ n)
+    row-fits =
+        (leb-true (r .start) (r .end) (row-parts .0),
+        leb-true (r .end) n (both (leb (r .end) n) (fieldsInside n (r .start) (r .kind) (r .slots)) (row-parts .1) .0))
+
+    pub row-fields : (k : Kind) → r .kind ≡ k → fieldsInside n (r .start) k (r .slots) ≡ true
+    row-fields k e =
+        ap (λ (x : Kind). fieldsInside n (r .start) x (r .slots)) (sym e)
+        ∙ both (leb (r .end) n) (fieldsInside n (r .start) (r .kind) (r .slots)) (row-parts .1) .1
 
 -- ---- rows that are lent well: what the rows from one on say is what all of them do
 module _ (t b : List ℕ) where
@@ -91,3 +138,112 @@ module _ (t b : List ℕ) (i : ℕ) (m p : Bool) (r : Record) (inv : lentFrom (l
     pub lent-on : y ≡ true → {m' p' : Bool} → m' ≡ m || isCode 2 (recordFrom t (i * 20)) → p' ≡ p || isCode 9 (recordFrom t (i * 20))
         → lentFrom (length b) m' p' (rowsFrom t (i + 1)) ≡ lentWell t b
     lent-on l u v = rw (u, v, ← e) (and-on _ k l ∙ and-on _ g f ∙ lent-here)
+
+-- ---- a row of a table whose rows lie within the bytes
+pub inside-row : (t b : List ℕ) (i : ℕ) (r : Record) → Inside t b → i < length t / 20 → r ≡ recordFrom t (i * 20) → rowInside (length b) r ≡ true
+inside-row t b i r h l e = ap (rowInside (length b)) e ∙ h .each i l
+
+-- ---- topics that are text: what the rows from one on say is what all of them do
+module _ (t b : List ℕ) (i : ℕ) (inv : textsFine b (rowsFrom t i) ≡ textsFine b (lentRows t)) where
+  pub texts-end : length t / 20 ≤ i → Fine ≡ textsFine b (lentRows t)
+  texts-end h = sym (ap (textsFine b) (rows-end t i h)) ∙ inv
+
+  module _ (r : Record) (h : i < length t / 20) (e : r ≡ recordFrom t (i * 20)) {x : Lists} (f : x ≡ textFine b (textOf r)) where
+    texts-here : andThen (textFine b (textOf r)) (textsFine b (rowsFrom t (i + 1))) ≡ textsFine b (lentRows t)
+    texts-here = sym (ap (textsFine b) (rows-step t i h ∙ ap (λ (y : Record). y ∷ rowsFrom t (i + 1)) (sym e))) ∙ inv
+
+    pub texts-on : x ≡ Fine → textsFine b (rowsFrom t (i + 1)) ≡ textsFine b (lentRows t)
+    texts-on k = then-on _ f k ∙ texts-here
+
+    pub texts-stop : {why : Wrong} → x ≡ Refused why → Refused why ≡ textsFine b (lentRows t)
+    texts-stop k = then-stop _ f k ∙ texts-here
+
+-- ---- 42, 7, 11
+module _ (t b : List ℕ) {w : Bool} (e : w ≡ lentWell t b) where
+  pub lists-not-lent : w ≡ false → Refused NotLent ≡ listsOf t b
+  unfolding listsOf
+  lists-not-lent h = cond-no _ _ e h
+
+  module _ (h : w ≡ true) {x : Lists} (f : x ≡ textsFine b (lentRows t)) where
+    pub lists-text : {why : Wrong} → x ≡ Refused why → Refused why ≡ listsOf t b
+    unfolding listsOf
+    lists-text k = then-stop _ f k ∙ cond-yes _ _ e h
+
+    pub lists-many : x ≡ Fine → 512 < length t / 20 → Refused (TooManyRecords (length t / 20)) ≡ listsOf t b
+    unfolding listsOf countFine
+    lists-many k l = cond-yes _ _ refl (lt-ltb 512 (length t / 20) l) ∙ then-on _ f k ∙ cond-yes _ _ e h
+
+    pub lists-fine : x ≡ Fine → length t / 20 ≤ 512 → Fine ≡ listsOf t b
+    unfolding listsOf countFine
+    lists-fine k l = cond-no _ _ refl (le-ltb 512 (length t / 20) l) ∙ then-on _ f k ∙ cond-yes _ _ e h
+
+-- ---- the topics of a message: those that were counted, and those from a row on
+-- the first long topic, where `long` is that of the topics passed
+abbrev longFrom : ℕ → List (List ℕ) → ℕ
+longFrom long l = cond (eqb long 0) (firstLong l) long
+
+module _ (v : List ℕ) (l : List (List ℕ)) (len : ℕ) (s : length v ≡ len) (long m : ℕ) where
+  pub long-now : long ≡ 0 → 1024 < len → m ≡ len → longFrom m l ≡ longFrom long (v ∷ l)
+  unfolding firstLong
+  long-now z h q =
+      let k : longFrom m l ≡ len = rw q (simp (ne-eqb len 0 (λ x. absurd (omega arith)))) in
+      k ∙ simp (z, s, lt-ltb 1024 len h)
+
+  pub long-later : long ≡ 0 → len ≤ 1024 → m ≡ long → longFrom m l ≡ longFrom long (v ∷ l)
+  unfolding firstLong
+  long-later z h q = simp (q, z, s, le-ltb 1024 len h)
+
+  pub long-before : (long ≡ 0 → ⊥) → m ≡ long → longFrom m l ≡ longFrom long (v ∷ l)
+  long-before z q = simp (q, ne-eqb long 0 z)
+
+pub record Counted (ts : List (List ℕ)) (count long : ℕ) (rest : List (List ℕ)) : Type 0 where
+  pub number : count + length rest ≡ length ts
+  pub first : longFrom long rest ≡ firstLong ts
+
+pub counted-all : (ts : List (List ℕ)) → Counted ts 0 0 ts
+counted-all ts = record { number = omega arith; first = refl }
+
+abbrev topicsMade : ℕ → ℕ → Topics
+topicsMade n long = record { count = n; long = long }
+
+module _ (ts : List (List ℕ)) (count long : ℕ) (rest : List (List ℕ)) (g : Counted ts count long rest) where
+  pub counted-done : rest ≡ [] → topicsMade count long ≡ inTopics ts
+  unfolding firstLong
+  counted-done e =
+      let z = ap length e in
+      let l : longFrom long [] ≡ long = either (eqb long 0) (λ t. simp t (sym (eqb-true long 0 t))) (λ t. simp t) in
+      ap₂ topicsMade (omega (arith, g .number)) (sym l ∙ ap (longFrom long) (sym e) ∙ g .first)
+
+  pub counted-same : (l : List (List ℕ)) (n m : ℕ) → rest ≡ l → n ≡ count → m ≡ long → Counted ts n m l
+  counted-same l n m e p q =
+      record {
+        number = rw p (ap (λ (x : List (List ℕ)). count + length x) (sym e) ∙ g .number);
+        first = rw q (ap (longFrom long) (sym e) ∙ g .first);
+      }
+
+  pub counted-more : (v : List ℕ) (l : List (List ℕ)) (n m : ℕ) → rest ≡ v ∷ l → n ≡ count + 1 → longFrom m l ≡ longFrom long (v ∷ l) → Counted ts n m l
+  counted-more v l n m e p f =
+      record { number = (let z = ap length e in omega (arith, g .number)); first = f ∙ ap (longFrom long) (sym e) ∙ g .first }
+
+-- the topics from a row on, by the row
+module _ (t b : List ℕ) (i : ℕ) where
+  pub topics-end : length t / 20 ≤ i → topicsFrom b (rowsFrom t i) ≡ []
+  topics-end h = ap (topicsFrom b) (rows-end t i h) ∙ no-topics b
+
+  module _ (h : i < length t / 20) where
+    topics-here : topicsFrom b (rowsFrom t i) ≡ cond (isCode 2 (recordFrom t (i * 20))) []
+        (cond (isCode 3 (recordFrom t (i * 20))) (rawOf b (recordFrom t (i * 20)) ∷ topicsFrom b (rowsFrom t (i + 1))) (topicsFrom b (rowsFrom t (i + 1))))
+    topics-here = ap (topicsFrom b) (rows-step t i h) ∙ topics-step b (recordFrom t (i * 20)) (rowsFrom t (i + 1))
+
+    pub topics-stop : {x : Bool} → x ≡ isCode 2 (recordFrom t (i * 20)) → x ≡ true → topicsFrom b (rowsFrom t i) ≡ []
+    topics-stop e k = topics-here ∙ sym (cond-yes _ _ e k)
+
+    module _ {x y : Bool} (e : x ≡ isCode 2 (recordFrom t (i * 20))) (k : x ≡ false) (f : y ≡ isCode 3 (recordFrom t (i * 20))) where
+      pub topics-skip : y ≡ false → topicsFrom b (rowsFrom t i) ≡ topicsFrom b (rowsFrom t (i + 1))
+      topics-skip l = topics-here ∙ sym (cond-no _ _ f l ∙ cond-no _ _ e k)
+
+      pub topics-one : y ≡ true → (r : Record) → r ≡ recordFrom t (i * 20) → topicsFrom b (rowsFrom t i) ≡ rawOf b r ∷ topicsFrom b (rowsFrom t (i + 1))
+      topics-one l r q = rw q (topics-here ∙ sym (cond-yes _ _ f l ∙ cond-no _ _ e k))
+
+    pub raw-length : (r : Record) → Inside t b → r ≡ recordFrom t (i * 20) → length (rawOf b r) ≡ r .end - r .start
+    raw-length r inside q = between-length b (r .start) (r .end) (row-fits (length b) r (inside-row t b i r inside h q) .1)
