@@ -3,6 +3,7 @@ use Prim.Native.Nat.{ℕ, _+_, _-_, _*_, _/_, _%_, _≤_, _<_}
 use mathlib.Core.Path.{_≡_, refl, sym, ap, ap₂, _∙_}
 use mathlib.Core.Bool.{Bool, true, false, cond, not, _&&_, _||_}
 use mathlib.Core.List.{List, [], _∷_}
+use mathlib.Core.Option.{none, some}
 use native.Mathlib.Omega.{arith}
 use lib.ListN.{length}
 use lib.Dec.{ltb, leb, eqb}
@@ -15,17 +16,21 @@ use Rattle.protobuf.specs.Walk.{between}
 use Rattle.protobuf.specs.WalkLaws.{between-length}
 use Rattle.message.specs.declared.Record.{Record}
 use Rattle.message.specs.Rows.{kindCode, recordFrom}
-use Rattle.meaning.specs.ReadBack.{rawOf}
+use Rattle.meaning.specs.ReadBack.{bytesAt, rawOf}
+use Rattle.rpc.specs.Rpc.{RawMessage}
 use Rattle.admission.specs.declared.Topics.{Topics}
-use Rattle.admission.specs.Admission.{firstLong}
+use Rattle.admission.specs.declared.Unfit.the-variants.{InvalidFrom, NotPeerId, InvalidSeqno, InvalidSignatureLength, TopicCount, TopicTooLong, MessageTooLong}
+use Rattle.admission.specs.Admission.{firstLong, isPeerId}
+use Rattle.rpc.specs.Id.{unfit}
 use Rattle.compose.specs.Lent.{rowsFrom, lentRows, isCode, insideAt, fieldsInside, rowInside, heldBy, lentFrom, lentWell, Inside}
 use Rattle.compose.specs.declared.Wrong.{Wrong}
-use Rattle.compose.specs.declared.Wrong.the-variants.{NotLent, TooManyRecords}
+use Rattle.compose.specs.declared.Wrong.the-variants.{NotLent, TooManyRecords, Unfit}
 use Rattle.compose.specs.declared.Lists.{Lists}
 use Rattle.compose.specs.declared.Lists.the-variants.{Fine, Refused}
-use Rattle.compose.specs.Said.{topicsFrom}
-use Rattle.compose.specs.Weighed.{andThen, inTopics}
+use Rattle.compose.specs.Said.{encodeMessage, topicsFrom}
+use Rattle.compose.specs.Weighed.{capped, andThen, given, fromFine, seqnoFine, signatureFine, inTopics, topicsFine, sizeFine, limitsFine}
 use Rattle.compose.specs.Compose.{textOf, textFine, textsFine, countFine, listsOf}
+use Rattle.compose.specs.Puts.{Puts, capped-small, capped-bound, capped-below}
 use Rattle.compose.specs.Laws.{rows-step, rows-end, topics-step, no-topics}
 
 -- ---- tests one after the other
@@ -247,3 +252,100 @@ module _ (t b : List ℕ) (i : ℕ) where
 
     pub raw-length : (r : Record) → Inside t b → r ≡ recordFrom t (i * 20) → length (rawOf b r) ≡ r .end - r .start
     raw-length r inside q = between-length b (r .start) (r .end) (row-fits (length b) r (inside-row t b i r inside h q) .1)
+
+-- ---- a message's topics and size: 28, 29, 30
+-- where bytes that are put at the front end
+pub measured : (out xs after : List ℕ) (end : ℕ) → Puts out 0 xs after end → end ≡ capped (length xs)
+measured out xs after end p = p .ends ∙ ap capped {x = 0 + length xs} {y = length xs} (omega arith)
+
+module _ (m : RawMessage) (t : Topics) (e : t ≡ inTopics (m .«topic_ids»)) where
+  counts : t .count ≡ length (m .«topic_ids»)
+  counts = ap (λ (x : Topics). x .count) e
+
+  longs : t .long ≡ firstLong (m .«topic_ids»)
+  longs = ap (λ (x : Topics). x .long) e
+
+  pub limits-none : t .count ≡ 0 → Refused (Unfit (TopicCount (t .count))) ≡ limitsFine m
+  unfolding limitsFine topicsFine
+  limits-none h = simp (← counts, eq-eqb (t .count) 0 h)
+
+  pub limits-many : (t .count ≡ 0 → ⊥) → 4 < t .count → Refused (Unfit (TopicCount (t .count))) ≡ limitsFine m
+  unfolding limitsFine topicsFine
+  limits-many n h = simp (← counts, ne-eqb (t .count) 0 n, lt-ltb 4 (t .count) h)
+
+  module _ (n : t .count ≡ 0 → ⊥) (h : t .count ≤ 4) where
+    pub limits-long : (t .long ≡ 0 → ⊥) → Refused (Unfit (TopicTooLong (t .long))) ≡ limitsFine m
+    unfolding limitsFine topicsFine
+    limits-long l = simp (← counts, ← longs, ne-eqb (t .count) 0 n, le-ltb 4 (t .count) h, ne-eqb (t .long) 0 l)
+
+    module _ (l : t .long ≡ 0) where
+      limits-size : limitsFine m ≡ sizeFine (length (encodeMessage m))
+      unfolding limitsFine topicsFine
+      limits-size = simp (← counts, ← longs, ne-eqb (t .count) 0 n, le-ltb 4 (t .count) h, eq-eqb (t .long) 0 l)
+
+      module _ (len : ℕ) (f : len ≡ capped (length (encodeMessage m))) where
+        pub limits-large : 4096 < len → Refused (Unfit (MessageTooLong len)) ≡ limitsFine m
+        unfolding sizeFine
+        limits-large k =
+            let c = capped-bound (length (encodeMessage m)) in
+            sym (limits-size ∙ simp (lt-ltb 4096 (length (encodeMessage m)) (omega arith), f))
+
+        pub limits-fit : len ≤ 4096 → Fine ≡ limitsFine m
+        unfolding sizeFine
+        limits-fit k =
+            let c = capped-below (length (encodeMessage m)) 4096 (omega arith) (omega arith) in
+            sym (limits-size ∙ simp (le-ltb 4096 (length (encodeMessage m)) (omega arith)))
+
+-- ---- a field's bytes, by their number: 22, 23, 26
+-- those at a place
+pub given-length : (b : List ℕ) (at : ℕ) (p : Place) (a e : ℕ) → insideAt (length b) at p ≡ true → p ≡ place.Present a e → length (given (bytesAt b at p)) ≡ e - a
+given-length b at p a e h g =
+    let k = inside-fits (length b) at p a e h g in
+    ap (λ (x : Place). length (given (bytesAt b at x))) g ∙ between-length b (at + a) (at + e) (k .1) ∙ omega arith
+
+module _ (d : List ℕ) (len : ℕ) (e : len ≡ length d) where
+  unfit-none : len ≡ 0 → unfit d ≡ true
+  unfit-none h = simp (eq-eqb (length d) 0 (omega arith))
+
+  unfit-many : (len ≡ 0 → ⊥) → 64 < len → unfit d ≡ true
+  unfit-many n h = simp (ne-eqb (length d) 0 (λ x. n (omega arith)), lt-ltb 64 (length d) (omega arith))
+
+  unfit-not : (len ≡ 0 → ⊥) → len ≤ 64 → unfit d ≡ false
+  unfit-not n h = simp (ne-eqb (length d) 0 (λ x. n (omega arith)), le-ltb 64 (length d) (omega arith))
+
+  pub signature-fit : len ≡ 64 → Fine ≡ signatureFine d
+  unfolding signatureFine
+  signature-fit h = cond-yes _ _ refl (eq-eqb (length d) 64 (omega arith))
+
+  pub signature-unfit : (len ≡ 64 → ⊥) → Refused (Unfit (InvalidSignatureLength len)) ≡ signatureFine d
+  unfolding signatureFine
+  signature-unfit h = rw e (cond-no _ _ refl (ne-eqb (length d) 64 (λ x. h (omega arith))))
+
+  pub seqno-none : len ≡ 0 → Refused (Unfit InvalidSeqno) ≡ seqnoFine d
+  unfolding seqnoFine
+  seqno-none h = cond-yes _ _ refl (unfit-none h)
+
+  pub seqno-long : (len ≡ 0 → ⊥) → 64 < len → Refused (Unfit InvalidSeqno) ≡ seqnoFine d
+  unfolding seqnoFine
+  seqno-long n h = cond-yes _ _ refl (unfit-many n h)
+
+  pub seqno-fit : (len ≡ 0 → ⊥) → len ≤ 64 → Fine ≡ seqnoFine d
+  unfolding seqnoFine
+  seqno-fit n h = cond-no _ _ refl (unfit-not n h)
+
+  pub from-none : len ≡ 0 → Refused (Unfit (InvalidFrom len)) ≡ fromFine (some d)
+  unfolding fromFine
+  from-none h = rw e (cond-yes _ _ refl (unfit-none h))
+
+  pub from-long : (len ≡ 0 → ⊥) → 64 < len → Refused (Unfit (InvalidFrom len)) ≡ fromFine (some d)
+  unfolding fromFine
+  from-long n h = rw e (cond-yes _ _ refl (unfit-many n h))
+
+  module _ (n : len ≡ 0 → ⊥) (h : len ≤ 64) {x : Bool} (f : x ≡ isPeerId d) where
+    pub from-fit : x ≡ true → Fine ≡ fromFine (some d)
+    unfolding fromFine
+    from-fit k = cond-yes _ _ f k ∙ cond-no _ _ refl (unfit-not n h)
+
+    pub from-other : x ≡ false → Refused (Unfit NotPeerId) ≡ fromFine (some d)
+    unfolding fromFine
+    from-other k = cond-no _ _ f k ∙ cond-no _ _ refl (unfit-not n h)
