@@ -18,11 +18,12 @@ use Rattle.schema.specs.declared.Number.{Number}
 use Rattle.schema.specs.declared.Number.the-variants as number
 use Rattle.message.specs.declared.Record.{Record}
 use Rattle.message.specs.Rows.{recordFrom}
-use Rattle.rpc.specs.Encode.{encodeSubOpts, encodeGraft, encodePrune}
+use Rattle.meaning.specs.ReadBack.{rawOf}
+use Rattle.rpc.specs.Encode.{encodeSubOpts, encodeGraft, encodePeerInfo, encodePrune}
 use Rattle.compose.specs.declared.Row.{Row}
 use Rattle.compose.specs.declared.Row.the-variants as row
 use Rattle.compose.specs.Lent.{rowsFrom, lentRows, isCode}
-use Rattle.compose.specs.Said.{encodeMessage, subOptsOf, graftOf, pruneOf, messageOf, messagesIn}
+use Rattle.compose.specs.Said.{encodeMessage, subOptsOf, graftOf, peerOf, pruneOf, messageOf, messagesIn}
 use Rattle.compose.specs.Weighed.{capped}
 
 -- xs were written at `at` of the bytes `out`, which are `after` then; they end at `end`
@@ -169,9 +170,19 @@ rowBytes c b r rs =
     (cond (eqb c 8) (encodeGraft (graftOf b r)) (encodePrune (pruneOf b r rs))))
 
 -- each of them as a field n
+abbrev pub rowPart : ℕ → ℕ → List ℕ → Record → List Record → List ℕ
+rowPart c n b r rs = cond (isCode c r) (bytesField n (rowBytes c b r rs)) []
+
 abbrev pub eachRow : ℕ → ℕ → List ℕ → List Record → List ℕ
 eachRow c n b [] = []
-eachRow c n b (r ∷ rs) = cond (isCode c r) (bytesField n (rowBytes c b r rs)) [] ++ eachRow c n b rs
+eachRow c n b (r ∷ rs) = rowPart c n b r rs ++ eachRow c n b rs
+
+-- what a row adds to the topics of the message, and to the peers of the prune, before it
+abbrev pub topicPart : List ℕ → Record → List ℕ
+topicPart b r = cond (isCode 3 r) (bytesField 4 (rawOf b r)) []
+
+abbrev pub peerPart : List ℕ → Record → List ℕ
+peerPart b r = cond (isCode 10 r) (bytesField 2 (encodePeerInfo (peerOf b r))) []
 
 -- the kinds that are written so
 pub data Written : ℕ → Type 0 where

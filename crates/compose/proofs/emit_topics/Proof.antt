@@ -2,9 +2,8 @@ use Rattle.compose.proofs.emit_topics.Statement.{statement}
 use Rattle.compose.proofs.emit_topics.Tie as tie
 use Rattle.compose.proofs.emit_topics.Reads as reads
 use Rattle.compose.proofs.emit_topics.Lts as lts
-use Rattle.compose.proofs.emit_part.Reads as emit-part-reads
+use Rattle.compose.proofs.emit_topic_at.Reads as emit-topic-at-reads
 use Rattle.compose.proofs.is_code.Reads as is-code-reads
-use Rattle.compose.proofs.row_at.Reads as row-at-reads
 
 abbrev Inv-loop : tie.InvT-loop
 Inv-loop records bytes from out₀ at n i₀ end₀ out i end = ?
@@ -12,51 +11,43 @@ Inv-loop records bytes from out₀ at n i₀ end₀ out i end = ?
 abbrev μ-loop : tie.MeasureT-loop
 μ-loop records bytes from out₀ at n i₀ end₀ out i end = ?
 
--- src/lib.rt:536:5
+-- src/lib.rt:559:5
 loop-holds : tie.Need-loop-holds Inv-loop μ-loop
 loop-holds c = ?
 
--- src/lib.rt:537:12
+-- src/lib.rt:560:12
 is-code-requires : tie.Need-is-code-requires Inv-loop μ-loop
 is-code-requires c κs = ?
 
--- src/lib.rt:538:13
+-- src/lib.rt:561:13
 same-length : tie.Need-same-length Inv-loop μ-loop
 same-length c = ?
 
--- src/lib.rt:538:13
+-- src/lib.rt:561:13
 returns : tie.Need-returns Inv-loop μ-loop
 returns c = ?
 
--- src/lib.rt:540:12
-is-code-requires-2 : tie.Need-is-code-requires-2 Inv-loop μ-loop
-is-code-requires-2 c κs = ?
+-- src/lib.rt:563:9
+emit-topic-at-requires : tie.Need-emit-topic-at-requires Inv-loop μ-loop
+emit-topic-at-requires c κs = ?
 
--- src/lib.rt:541:17
-row-at-requires : tie.Need-row-at-requires Inv-loop μ-loop
-row-at-requires c κs = ?
-
--- src/lib.rt:542:13
-emit-part-requires : tie.Need-emit-part-requires Inv-loop μ-loop
-emit-part-requires c κs = ?
-
--- src/lib.rt:544:9
+-- src/lib.rt:564:9
 add-i : tie.Need-add-i Inv-loop μ-loop
 add-i c = ?
 
--- src/lib.rt:536:5
+-- src/lib.rt:559:5
 loop-less : tie.Need-loop-less Inv-loop μ-loop
 loop-less c = ?
 
--- src/lib.rt:536:5
+-- src/lib.rt:559:5
 loop-again : tie.Need-loop-again Inv-loop μ-loop
 loop-again c = ?
 
--- src/lib.rt:529:1
+-- src/lib.rt:552:1
 same-length-2 : tie.Need-same-length-2 Inv-loop μ-loop
 same-length-2 c = ?
 
--- src/lib.rt:529:1
+-- src/lib.rt:552:1
 returns-2 : tie.Need-returns-2 Inv-loop μ-loop
 returns-2 c = ?
 
@@ -70,9 +61,7 @@ emit-topics-spec =
     is-code-requires
     same-length
     returns
-    is-code-requires-2
-    row-at-requires
-    emit-part-requires
+    emit-topic-at-requires
     add-i
     loop-less
     loop-again
