@@ -8,7 +8,7 @@ use native.Mathlib.Omega.{arith}
 use lib.ListN.{length}
 use lib.Dec.{ltb, leb, eqb}
 use borrow.Author.Tests.{eqb-true, leb-true, leb-false, lt-ltb, le-ltb, le-leb, lt-leb, eq-eqb, ne-eqb}
-use Rattle.basis.specs.Cases.{either, both}
+use Rattle.basis.specs.Cases.{either}
 use Rattle.schema.specs.declared.Kind.{Kind}
 use Rattle.schema.specs.declared.Place.{Place}
 use Rattle.schema.specs.declared.Place.the-variants as place
@@ -27,11 +27,12 @@ use Rattle.compose.specs.declared.Wrong.{Wrong}
 use Rattle.compose.specs.declared.Wrong.the-variants.{NotLent, TooManyRecords, Unfit}
 use Rattle.compose.specs.declared.Lists.{Lists}
 use Rattle.compose.specs.declared.Lists.the-variants.{Fine, Refused}
-use Rattle.compose.specs.Said.{encodeMessage, topicsFrom}
-use Rattle.compose.specs.Weighed.{capped, andThen, given, fromFine, seqnoFine, signatureFine, inTopics, topicsFine, sizeFine, limitsFine}
+use Rattle.compose.specs.Said.{encodeMessage, topicsFrom, messageOf}
+use Rattle.compose.specs.Weighed.{capped, andThen, given, fromFine, seqnoFine, signatureFine, keyFine, inTopics, topicsFine, sizeFine, limitsFine, weighed}
 use Rattle.compose.specs.Compose.{textOf, textFine, textsFine, countFine, listsOf}
-use Rattle.compose.specs.Puts.{Puts, capped-small, capped-bound, capped-below}
+use Rattle.compose.specs.Puts.{capped-bound, capped-below}
 use Rattle.compose.specs.Laws.{rows-step, rows-end, topics-step, no-topics}
+use Rattle.compose.proofs.Parts.{place-inside, row-inside-is, MessageInside, message-row}
 
 -- ---- tests one after the other
 pub and-no : {a x : Bool} (b : Bool) → a ≡ x → a ≡ false → false ≡ x && b
@@ -78,13 +79,6 @@ module _ (n at : ℕ) where
       (either (leb e (n - at)) (λ t. t ∙ sym (le-leb (at + e) n (let l = leb-true e (n - at) t in omega arith)))
       (λ t. t ∙ sym (lt-leb (at + e) n (let l = leb-false e (n - at) t in omega arith))))
 
-  -- where it stands
-  pub inside-fits : (p : Place) (a e : ℕ) → insideAt n at p ≡ true → p ≡ place.Present a e → (a ≤ e) × (at + e ≤ n)
-  unfolding insideAt
-  inside-fits p a e h g =
-      let k = both (leb a e) (leb (at + e) n) (ap (insideAt n at) (sym g) ∙ h) in
-      (leb-true a e (k .0), leb-true (at + e) n (k .1))
-
 -- ---- a row within n bytes
 module _ (n : ℕ) (r : Record) where
   pub row-back : r .end < r .start → false ≡ rowInside n r
@@ -99,20 +93,9 @@ module _ (n : ℕ) (r : Record) where
   unfolding rowInside
   row-is h g = and-on _ refl (le-leb (r .end) n g) ∙ and-on _ refl (le-leb (r .start) (r .end) h)
 
-  module _ (h : rowInside n r ≡ true) where
-    row-parts : (leb (r .start) (r .end) ≡ true) × (leb (r .end) n && fieldsInside n (r .start) (r .kind) (r .slots) ≡ true)
-    unfolding rowInside
-    row-parts = both (leb (r .start) (r .end)) (leb (r .end) n && fieldsInside n (r .start) (r .kind) (r .slots)) h
-
-    pub row-fits : (r .start ≤ r .end) × (r .end ≤ n)
-    row-fits =
-        (leb-true (r .start) (r .end) (row-parts .0),
-        leb-true (r .end) n (both (leb (r .end) n) (fieldsInside n (r .start) (r .kind) (r .slots)) (row-parts .1) .0))
-
-    pub row-fields : (k : Kind) → r .kind ≡ k → fieldsInside n (r .start) k (r .slots) ≡ true
-    row-fields k e =
-        ap (λ (x : Kind). fieldsInside n (r .start) x (r .slots)) (sym e)
-        ∙ both (leb (r .end) n) (fieldsInside n (r .start) (r .kind) (r .slots)) (row-parts .1) .1
+  -- the fields that its kind has
+  pub row-fields : rowInside n r ≡ true → (k : Kind) → r .kind ≡ k → fieldsInside n (r .start) k (r .slots) ≡ true
+  row-fields h k e = ap (λ (x : Kind). fieldsInside n (r .start) x (r .slots)) (sym e) ∙ row-inside-is n r h .2
 
 -- ---- rows that are lent well: what the rows from one on say is what all of them do
 module _ (t b : List ℕ) where
@@ -251,13 +234,9 @@ module _ (t b : List ℕ) (i : ℕ) where
       topics-one l r q = rw q (topics-here ∙ sym (cond-yes _ _ f l ∙ cond-no _ _ e k))
 
     pub raw-length : (r : Record) → Inside t b → r ≡ recordFrom t (i * 20) → length (rawOf b r) ≡ r .end - r .start
-    raw-length r inside q = between-length b (r .start) (r .end) (row-fits (length b) r (inside-row t b i r inside h q) .1)
+    raw-length r inside q = between-length b (r .start) (r .end) (row-inside-is (length b) r (inside-row t b i r inside h q) .1)
 
 -- ---- a message's topics and size: 28, 29, 30
--- where bytes that are put at the front end
-pub measured : (out xs after : List ℕ) (end : ℕ) → Puts out 0 xs after end → end ≡ capped (length xs)
-measured out xs after end p = p .ends ∙ ap capped {x = 0 + length xs} {y = length xs} (omega arith)
-
 module _ (m : RawMessage) (t : Topics) (e : t ≡ inTopics (m .«topic_ids»)) where
   counts : t .count ≡ length (m .«topic_ids»)
   counts = ap (λ (x : Topics). x .count) e
@@ -300,7 +279,7 @@ module _ (m : RawMessage) (t : Topics) (e : t ≡ inTopics (m .«topic_ids»)) w
 -- those at a place
 pub given-length : (b : List ℕ) (at : ℕ) (p : Place) (a e : ℕ) → insideAt (length b) at p ≡ true → p ≡ place.Present a e → length (given (bytesAt b at p)) ≡ e - a
 given-length b at p a e h g =
-    let k = inside-fits (length b) at p a e h g in
+    let k = place-inside (length b) at a e p h g in
     ap (λ (x : Place). length (given (bytesAt b at x))) g ∙ between-length b (at + a) (at + e) (k .1) ∙ omega arith
 
 module _ (d : List ℕ) (len : ℕ) (e : len ≡ length d) where
@@ -349,3 +328,22 @@ module _ (d : List ℕ) (len : ℕ) (e : len ≡ length d) where
     pub from-other : x ≡ false → Refused (Unfit NotPeerId) ≡ fromFine (some d)
     unfolding fromFine
     from-other k = cond-no _ _ f k ∙ cond-no _ _ refl (unfit-not n h)
+
+-- ---- a message
+-- its places lie within the bytes
+pub message-places : (t b : List ℕ) (i : ℕ) (r : Record) → Inside t b → i < length t / 20 → isCode 2 (recordFrom t (i * 20)) ≡ true
+    → r ≡ recordFrom t (i * 20) → MessageInside (length b) (r .start) (r .slots)
+message-places t b i r h l k e = message-row (length b) r (inside-row t b i r h l e) (ap (isCode 2) e ∙ k)
+
+-- one test after the other
+pub weighed-by : (b : List ℕ) (r s : Record) (rs : List Record) (from seqno signature key limits x y z w : Lists) → r ≡ s
+    → from ≡ fromFine (bytesAt b (r .start) (r .slots .first))
+    → seqno ≡ seqnoFine (given (bytesAt b (r .start) (r .slots .third)))
+    → signature ≡ signatureFine (given (bytesAt b (r .start) (r .slots .fourth)))
+    → key ≡ keyFine (given (bytesAt b (r .start) (r .slots .first))) (bytesAt b (r .start) (r .slots .fifth))
+    → limits ≡ limitsFine (messageOf b s rs)
+    → x ≡ andThen key limits → y ≡ andThen signature x → z ≡ andThen seqno y → w ≡ andThen from z
+    → w ≡ weighed (messageOf b s rs)
+unfolding weighed
+weighed-by b r s rs from seqno signature key limits x y z w e f g h k l p q u v =
+    rw (v, u, q, p, f, g, h, k, l, e)

@@ -5,7 +5,8 @@ use lib.ListN.{length}
 use Rattle.schema.specs.declared.Place.{Place}
 use Rattle.meaning.specs.ReadBack.{bytesAt}
 use Rattle.compose.specs.Weighed.{given, fromFine}
-use Rattle.compose.proofs.Tests.{inside-fits, given-length, from-none, from-long, from-fit, from-other}
+use Rattle.compose.proofs.Parts.{place-inside}
+use Rattle.compose.proofs.Tests.{given-length, from-none, from-long, from-fit, from-other}
 use borrow.Author.Needs.{needs}
 use Rattle.compose.proofs.from_fine.Statement.{statement}
 use Rattle.compose.proofs.from_fine.Tie as tie
@@ -24,7 +25,7 @@ unfolding fromFine
 returns c = let a = c .before .before .before .args in ap (λ (p : Place). fromFine (bytesAt (now (a .bytes)) (a .base) p)) (sym (c .enum-told .given .1))
 
 sub-len : tie.Need-sub-len
-sub-len c = let a = c .before .before .before .before .args in let h = inside-fits (length (now (a .bytes))) (a .base) _ _ _ (c .before .before .before .before .pre) (c .before .from .given .1) in search needs
+sub-len c = let a = c .before .before .before .before .args in let h = place-inside (length (now (a .bytes))) (a .base) _ _ _ (c .before .before .before .before .pre) (c .before .from .given .1) in search needs
 
 returns-2 : tie.Need-returns-2
 returns-2 c = let a = c .before .before .before .before .before .args in from-none _ _ (sym (given-length (now (a .bytes)) (a .base) _ _ _ (c .before .before .before .before .before .pre) (c .before .before .from .given .1)) ∙ ap (λ (p : Place). length (given (bytesAt (now (a .bytes)) (a .base) p))) (c .before .before .from .given .1)) (c .if1 .taken) ∙ ap (λ (p : Place). fromFine (bytesAt (now (a .bytes)) (a .base) p)) (sym (c .before .before .from .given .1))
@@ -33,10 +34,10 @@ returns-3 : tie.Need-returns-3
 returns-3 c = let a = c .before .before .before .before .before .before .args in from-long _ _ (sym (given-length (now (a .bytes)) (a .base) _ _ _ (c .before .before .before .before .before .before .pre) (c .before .before .before .from .given .1)) ∙ ap (λ (p : Place). length (given (bytesAt (now (a .bytes)) (a .base) p))) (c .before .before .before .from .given .1)) (c .before .if1 .left) (c .if2 .taken) ∙ ap (λ (p : Place). fromFine (bytesAt (now (a .bytes)) (a .base) p)) (sym (c .before .before .before .from .given .1))
 
 add-is-peer-id : tie.Need-add-is-peer-id
-add-is-peer-id c = let a = c .before .before .before .before .before .before .args in let h = inside-fits (length (now (a .bytes))) (a .base) _ _ _ (c .before .before .before .before .before .before .pre) (c .before .before .before .from .given .1) in search needs
+add-is-peer-id c = let a = c .before .before .before .before .before .before .args in let h = place-inside (length (now (a .bytes))) (a .base) _ _ _ (c .before .before .before .before .before .before .pre) (c .before .before .before .from .given .1) in search needs
 
 add-is-peer-id-2 : tie.Need-add-is-peer-id-2
-add-is-peer-id-2 c = let a = c .before .before .before .before .before .before .args in let h = inside-fits (length (now (a .bytes))) (a .base) _ _ _ (c .before .before .before .before .before .before .pre) (c .before .before .before .from .given .1) in search needs
+add-is-peer-id-2 c = let a = c .before .before .before .before .before .before .args in let h = place-inside (length (now (a .bytes))) (a .base) _ _ _ (c .before .before .before .before .before .before .pre) (c .before .before .before .from .given .1) in search needs
 
 sub-is-peer-id : tie.Need-sub-is-peer-id
 sub-is-peer-id c = search needs
@@ -45,7 +46,7 @@ part-is-peer-id-start : tie.Need-part-is-peer-id-start
 part-is-peer-id-start c = search needs
 
 part-is-peer-id-end : tie.Need-part-is-peer-id-end
-part-is-peer-id-end c = let a = c .before .before .before .before .before .before .args in let h = inside-fits (length (now (a .bytes))) (a .base) _ _ _ (c .before .before .before .before .before .before .pre) (c .before .before .before .from .given .1) in search needs
+part-is-peer-id-end c = let a = c .before .before .before .before .before .before .args in let h = place-inside (length (now (a .bytes))) (a .base) _ _ _ (c .before .before .before .before .before .before .pre) (c .before .before .before .from .given .1) in search needs
 
 is-peer-id-requires : tie.Need-is-peer-id-requires
 is-peer-id-requires c κs = search needs

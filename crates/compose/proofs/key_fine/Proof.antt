@@ -5,7 +5,8 @@ use lib.ListN.{length}
 use Rattle.schema.specs.declared.Place.{Place}
 use Rattle.meaning.specs.ReadBack.{bytesAt}
 use Rattle.compose.specs.Weighed.{keyFine}
-use Rattle.compose.proofs.Tests.{cond-yes, cond-no, inside-fits}
+use Rattle.compose.proofs.Parts.{place-inside}
+use Rattle.compose.proofs.Tests.{cond-yes, cond-no}
 use borrow.Author.Needs.{needs}
 use Rattle.compose.proofs.key_fine.Statement.{statement}
 use Rattle.compose.proofs.key_fine.Tie as tie
@@ -33,37 +34,37 @@ unfolding keyFine
 returns-2 c = let a = c .before .before .before .before .before .before .args in cond-no _ _ (c .before .key-inside .ensures) (c .if1 .left) ∙ ap (λ (p : Place). keyFine (now (a .sender)) (bytesAt (now (a .bytes)) (a .base) p)) (sym (c .before .before .enum-told .given .1))
 
 add-is-key : tie.Need-add-is-key
-add-is-key c = let a = c .before .before .before .before .before .args in let h = inside-fits (length (now (a .bytes))) (a .base) _ _ _ (c .before .before .before .before .before .pre) (c .before .key .given .1) in search needs
+add-is-key c = let a = c .before .before .before .before .before .args in let h = place-inside (length (now (a .bytes))) (a .base) _ _ _ (c .before .before .before .before .before .pre) (c .before .key .given .1) in search needs
 
 add-is-key-2 : tie.Need-add-is-key-2
-add-is-key-2 c = let a = c .before .before .before .before .before .args in let h = inside-fits (length (now (a .bytes))) (a .base) _ _ _ (c .before .before .before .before .before .pre) (c .before .key .given .1) in search needs
+add-is-key-2 c = let a = c .before .before .before .before .before .args in let h = place-inside (length (now (a .bytes))) (a .base) _ _ _ (c .before .before .before .before .before .pre) (c .before .key .given .1) in search needs
 
 sub-is-key : tie.Need-sub-is-key
-sub-is-key c = let a = c .before .before .before .before .before .args in let h = inside-fits (length (now (a .bytes))) (a .base) _ _ _ (c .before .before .before .before .before .pre) (c .before .key .given .1) in search needs
+sub-is-key c = let a = c .before .before .before .before .before .args in let h = place-inside (length (now (a .bytes))) (a .base) _ _ _ (c .before .before .before .before .before .pre) (c .before .key .given .1) in search needs
 
 part-is-key-start : tie.Need-part-is-key-start
-part-is-key-start c = let a = c .before .before .before .before .before .args in let h = inside-fits (length (now (a .bytes))) (a .base) _ _ _ (c .before .before .before .before .before .pre) (c .before .key .given .1) in search needs
+part-is-key-start c = let a = c .before .before .before .before .before .args in let h = place-inside (length (now (a .bytes))) (a .base) _ _ _ (c .before .before .before .before .before .pre) (c .before .key .given .1) in search needs
 
 part-is-key-end : tie.Need-part-is-key-end
-part-is-key-end c = let a = c .before .before .before .before .before .args in let h = inside-fits (length (now (a .bytes))) (a .base) _ _ _ (c .before .before .before .before .before .pre) (c .before .key .given .1) in search needs
+part-is-key-end c = let a = c .before .before .before .before .before .args in let h = place-inside (length (now (a .bytes))) (a .base) _ _ _ (c .before .before .before .before .before .pre) (c .before .key .given .1) in search needs
 
 is-key-requires : tie.Need-is-key-requires
 is-key-requires c κs = search needs
 
 add-key-matches : tie.Need-add-key-matches
-add-key-matches c = let a = c .before .before .before .before .before .before .before .before .args in let h = inside-fits (length (now (a .bytes))) (a .base) _ _ _ (c .before .before .before .before .before .before .before .before .pre) (c .before .before .before .before .key .given .1) in search needs
+add-key-matches c = let a = c .before .before .before .before .before .before .before .before .args in let h = place-inside (length (now (a .bytes))) (a .base) _ _ _ (c .before .before .before .before .before .before .before .before .pre) (c .before .before .before .before .key .given .1) in search needs
 
 add-key-matches-2 : tie.Need-add-key-matches-2
-add-key-matches-2 c = let a = c .before .before .before .before .before .before .before .before .args in let h = inside-fits (length (now (a .bytes))) (a .base) _ _ _ (c .before .before .before .before .before .before .before .before .pre) (c .before .before .before .before .key .given .1) in search needs
+add-key-matches-2 c = let a = c .before .before .before .before .before .before .before .before .args in let h = place-inside (length (now (a .bytes))) (a .base) _ _ _ (c .before .before .before .before .before .before .before .before .pre) (c .before .before .before .before .key .given .1) in search needs
 
 sub-key-matches : tie.Need-sub-key-matches
-sub-key-matches c = let a = c .before .before .before .before .before .before .before .before .args in let h = inside-fits (length (now (a .bytes))) (a .base) _ _ _ (c .before .before .before .before .before .before .before .before .pre) (c .before .before .before .before .key .given .1) in search needs
+sub-key-matches c = let a = c .before .before .before .before .before .before .before .before .args in let h = place-inside (length (now (a .bytes))) (a .base) _ _ _ (c .before .before .before .before .before .before .before .before .pre) (c .before .before .before .before .key .given .1) in search needs
 
 part-key-matches-start : tie.Need-part-key-matches-start
-part-key-matches-start c = let a = c .before .before .before .before .before .before .before .before .args in let h = inside-fits (length (now (a .bytes))) (a .base) _ _ _ (c .before .before .before .before .before .before .before .before .pre) (c .before .before .before .before .key .given .1) in search needs
+part-key-matches-start c = let a = c .before .before .before .before .before .before .before .before .args in let h = place-inside (length (now (a .bytes))) (a .base) _ _ _ (c .before .before .before .before .before .before .before .before .pre) (c .before .before .before .before .key .given .1) in search needs
 
 part-key-matches-end : tie.Need-part-key-matches-end
-part-key-matches-end c = let a = c .before .before .before .before .before .before .before .before .args in let h = inside-fits (length (now (a .bytes))) (a .base) _ _ _ (c .before .before .before .before .before .before .before .before .pre) (c .before .before .before .before .key .given .1) in search needs
+part-key-matches-end c = let a = c .before .before .before .before .before .before .before .before .args in let h = place-inside (length (now (a .bytes))) (a .base) _ _ _ (c .before .before .before .before .before .before .before .before .pre) (c .before .before .before .before .key .given .1) in search needs
 
 key-matches-requires : tie.Need-key-matches-requires
 key-matches-requires c κs = search needs

@@ -5,7 +5,8 @@ use lib.ListN.{length}
 use Rattle.schema.specs.declared.Place.{Place}
 use Rattle.meaning.specs.ReadBack.{bytesAt}
 use Rattle.compose.specs.Weighed.{given}
-use Rattle.compose.proofs.Tests.{inside-fits, given-length}
+use Rattle.compose.proofs.Parts.{place-inside}
+use Rattle.compose.proofs.Tests.{given-length}
 use borrow.Author.Needs.{needs}
 use Rattle.compose.proofs.len_at.Statement.{statement}
 use Rattle.compose.proofs.len_at.Tie as tie
@@ -19,7 +20,7 @@ enum-known-place : tie.Need-enum-known-place
 enum-known-place c = search needs
 
 sub-result : tie.Need-sub-result
-sub-result c = let a = c .before .before .before .args in inside-fits (length (now (a .bytes))) (a .base) _ _ _ (c .before .before .before .pre) (c .before .place .given .1) .0
+sub-result c = let a = c .before .before .before .args in place-inside (length (now (a .bytes))) (a .base) _ _ _ (c .before .before .before .pre) (c .before .place .given .1) .0
 
 returns : tie.Need-returns
 returns c = let a = c .before .before .args in ap (λ (p : Place). length (given (bytesAt (now (a .bytes)) (a .base) p))) (sym (c .enum-told .given .1))

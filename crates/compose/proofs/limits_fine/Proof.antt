@@ -1,5 +1,6 @@
 -- `compose::limits_fine` meets its contract.
-use Rattle.compose.proofs.Tests.{measured, limits-none, limits-many, limits-long, limits-large, limits-fit}
+use Rattle.compose.proofs.Parts.{measured}
+use Rattle.compose.proofs.Tests.{limits-none, limits-many, limits-long, limits-large, limits-fit}
 use borrow.Author.Needs.{needs}
 use Rattle.compose.proofs.limits_fine.Statement.{statement}
 use Rattle.compose.proofs.limits_fine.Tie as tie

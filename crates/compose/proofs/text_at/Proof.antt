@@ -4,7 +4,7 @@ use mathlib.Core.Path.{_≡_, sym, ap, _∙_}
 use lib.ListN.{length}
 use Rattle.schema.specs.declared.Place.{Place}
 use Rattle.compose.specs.Compose.{moved, textFine}
-use Rattle.compose.proofs.Tests.{inside-fits}
+use Rattle.compose.proofs.Parts.{place-inside}
 use borrow.Author.Needs.{needs}
 use Rattle.compose.proofs.text_at.Statement.{statement}
 use Rattle.compose.proofs.text_at.Tie as tie
@@ -19,13 +19,13 @@ enum-known-place : tie.Need-enum-known-place
 enum-known-place c = search needs
 
 add-utf8-at : tie.Need-add-utf8-at
-add-utf8-at c = let s = c .before .before .before .before in let h = inside-fits (length (now (s .args .bytes))) (s .args .at) _ _ _ (s .pre) (c .before .place .given .1) in search needs
+add-utf8-at c = let s = c .before .before .before .before in let h = place-inside (length (now (s .args .bytes))) (s .args .at) _ _ _ (s .pre) (c .before .place .given .1) in search needs
 
 add-utf8-at-2 : tie.Need-add-utf8-at-2
-add-utf8-at-2 c = let s = c .before .before .before .before in let h = inside-fits (length (now (s .args .bytes))) (s .args .at) _ _ _ (s .pre) (c .before .place .given .1) in search needs
+add-utf8-at-2 c = let s = c .before .before .before .before in let h = place-inside (length (now (s .args .bytes))) (s .args .at) _ _ _ (s .pre) (c .before .place .given .1) in search needs
 
 utf8-at-requires : tie.Need-utf8-at-requires
-utf8-at-requires c κs = let s = c .before .before .before .before in let h = inside-fits (length (now (s .args .bytes))) (s .args .at) _ _ _ (s .pre) (c .before .place .given .1) in search needs
+utf8-at-requires c κs = let s = c .before .before .before .before in let h = place-inside (length (now (s .args .bytes))) (s .args .at) _ _ _ (s .pre) (c .before .place .given .1) in search needs
 
 returns : tie.Need-returns
 unfolding textFine

@@ -6,7 +6,8 @@ use Rattle.schema.specs.declared.Kind.{Kind}
 use Rattle.schema.specs.declared.Kind.the-variants as kind
 use Rattle.compose.specs.Lent.{fieldsInside}
 use Rattle.compose.specs.Compose.{textIn, textOf, textFine}
-use Rattle.compose.proofs.Tests.{row-fits, row-fields}
+use Rattle.compose.proofs.Parts.{row-inside-is}
+use Rattle.compose.proofs.Tests.{row-fields}
 use borrow.Author.Needs.{needs}
 use Rattle.compose.proofs.text_fine.Statement.{statement}
 use Rattle.compose.proofs.text_fine.Tie as tie
@@ -21,7 +22,7 @@ text-fine-spec =
     (λ c κs. let s = c .before .before .before .before in row-fields (length (now (s .args .bytes))) (s .args .r) (s .pre) kind.SubOpts (c .enum-told2 .given .1))
     (λ c. search needs)
     (λ c. search needs)
-    (λ c κs. let s = c .before .before .before .before in row-fits (length (now (s .args .bytes))) (s .args .r) (s .pre))
+    (λ c κs. let s = c .before .before .before .before in let h = row-inside-is (length (now (s .args .bytes))) (s .args .r) (s .pre) in (h .0, h .1))
     (λ c. search needs)
     (λ c. search needs)
     (λ c. search needs)

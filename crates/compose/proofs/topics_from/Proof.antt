@@ -8,7 +8,8 @@ use borrow.Author.Needs.{needs}
 use Rattle.meaning.specs.ReadBack.{rawOf}
 use Rattle.compose.specs.Lent.{rowsFrom}
 use Rattle.compose.specs.Said.{topicsFrom}
-use Rattle.compose.proofs.Tests.{inside-row, row-fits, long-now, long-later, long-before, Counted, counted-all, counted-done, counted-same, counted-more}
+use Rattle.compose.proofs.Parts.{row-inside-is}
+use Rattle.compose.proofs.Tests.{inside-row, long-now, long-later, long-before, Counted, counted-all, counted-done, counted-same, counted-more}
 use Rattle.compose.proofs.Tests.{topics-end, topics-stop, topics-skip, topics-one, raw-length}
 use Rattle.compose.proofs.topics_from.Statement.{statement}
 use Rattle.compose.proofs.topics_from.Tie as tie
@@ -41,7 +42,7 @@ row-at-requires c κs = search needs
 sub-len : tie.Need-sub-len Inv-loop μ-loop
 sub-len c = 
     let s = c .before .before .before .before .before .before .before .before .before .before in
-    row-fits (length (now (s .args .bytes))) _ (inside-row (now (s .args .records)) (now (s .args .bytes)) (c .before .before .before .before .before .before .before .loop .i) _ (s .pre) (c .before .before .before .before .before .before .loop-test .taken) (c .before .row-at .ensures)) .0
+    row-inside-is (length (now (s .args .bytes))) _ (inside-row (now (s .args .records)) (now (s .args .bytes)) (c .before .before .before .before .before .before .before .loop .i) _ (s .pre) (c .before .before .before .before .before .before .loop-test .taken) (c .before .row-at .ensures)) .0
 
 add-count : tie.Need-add-count Inv-loop μ-loop
 add-count c = search needs
