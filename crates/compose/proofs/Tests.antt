@@ -5,7 +5,8 @@ use mathlib.Core.Bool.{Bool, true, false, cond, not, _&&_, _||_}
 use mathlib.Core.List.{List, [], _∷_}
 use mathlib.Core.Option.{none, some}
 use native.Mathlib.Omega.{arith}
-use lib.ListN.{length}
+use lib.ListN.{length, drop}
+use lib.Seq.{drop-drop}
 use lib.Dec.{ltb, leb, eqb}
 use borrow.Author.Tests.{eqb-true, leb-true, leb-false, lt-ltb, le-ltb, le-leb, lt-leb, eq-eqb, ne-eqb}
 use Rattle.basis.specs.Cases.{either}
@@ -27,11 +28,13 @@ use Rattle.compose.specs.declared.Wrong.{Wrong}
 use Rattle.compose.specs.declared.Wrong.the-variants.{NotLent, TooManyRecords, Unfit}
 use Rattle.compose.specs.declared.Lists.{Lists}
 use Rattle.compose.specs.declared.Lists.the-variants.{Fine, Refused}
-use Rattle.compose.specs.Said.{encodeMessage, topicsFrom, messageOf}
-use Rattle.compose.specs.Weighed.{capped, andThen, given, fromFine, seqnoFine, signatureFine, keyFine, inTopics, topicsFine, sizeFine, limitsFine, weighed}
+use Rattle.compose.specs.Said.{encodeMessage, messagesIn, topicsFrom, messageOf}
+use Rattle.compose.specs.Weighed.{capped, andThen, given, fromFine, seqnoFine, signatureFine, keyFine, inTopics, topicsFine, sizeFine, limitsFine, weighed, firstUnfit}
 use Rattle.compose.specs.Compose.{textOf, textFine, textsFine, countFine, listsOf}
 use Rattle.compose.specs.Puts.{capped-bound, capped-below}
-use Rattle.compose.specs.Laws.{rows-step, rows-end, topics-step, no-topics}
+use Rattle.compose.specs.Laws.{rows-step, rows-end, messages-step, topics-step, no-messages, no-topics}
+use Rattle.compose.specs.declared.Row.the-variants as row
+use Rattle.compose.specs.Puts.{FindsRow, found, missing}
 use Rattle.compose.proofs.Parts.{place-inside, row-inside-is, MessageInside, message-row}
 
 -- ---- tests one after the other
@@ -347,3 +350,71 @@ pub weighed-by : (b : List ℕ) (r s : Record) (rs : List Record) (from seqno si
 unfolding weighed
 weighed-by b r s rs from seqno signature key limits x y z w e f g h k l p q u v =
     rw (v, u, q, p, f, g, h, k, l, e)
+
+-- ---- the messages from a row on
+module _ (t b : List ℕ) (i : ℕ) where
+  messages-end : length t / 20 ≤ i → messagesIn b (rowsFrom t i) ≡ []
+  messages-end h = ap (messagesIn b) (rows-end t i h) ∙ no-messages b
+
+  module _ (h : i < length t / 20) where
+    messages-here : messagesIn b (rowsFrom t i) ≡ cond (isCode 2 (recordFrom t (i * 20)))
+        (messageOf b (recordFrom t (i * 20)) (rowsFrom t (i + 1)) ∷ messagesIn b (rowsFrom t (i + 1))) (messagesIn b (rowsFrom t (i + 1)))
+    messages-here = ap (messagesIn b) (rows-step t i h) ∙ messages-step b (recordFrom t (i * 20)) (rowsFrom t (i + 1))
+
+    module _ {x : Bool} (e : x ≡ isCode 2 (recordFrom t (i * 20))) where
+      messages-one : x ≡ true → messagesIn b (rowsFrom t i) ≡ messageOf b (recordFrom t (i * 20)) (rowsFrom t (i + 1)) ∷ messagesIn b (rowsFrom t (i + 1))
+      messages-one k = messages-here ∙ sym (cond-yes _ _ e k)
+
+      messages-skip : x ≡ false → messagesIn b (rowsFrom t i) ≡ messagesIn b (rowsFrom t (i + 1))
+      messages-skip k = messages-here ∙ sym (cond-no _ _ e k)
+
+-- the first that may not be written: what those from a row on say is what all of them do
+module _ (t b : List ℕ) (i : ℕ) (inv : firstUnfit (messagesIn b (rowsFrom t i)) ≡ firstUnfit (messagesIn b (lentRows t))) where
+  pub unfit-end : length t / 20 ≤ i → Fine ≡ firstUnfit (messagesIn b (lentRows t))
+  unfit-end h = sym (ap firstUnfit (messages-end t b i h)) ∙ inv
+
+  module _ (h : i < length t / 20) {x : Bool} (e : x ≡ isCode 2 (recordFrom t (i * 20))) where
+    pub unfit-skip : x ≡ false → firstUnfit (messagesIn b (rowsFrom t (i + 1))) ≡ firstUnfit (messagesIn b (lentRows t))
+    unfit-skip k = sym (ap firstUnfit (messages-skip t b i h e k)) ∙ inv
+
+    module _ (k : x ≡ true) {w : Lists} (f : w ≡ weighed (messageOf b (recordFrom t (i * 20)) (rowsFrom t (i + 1)))) where
+      unfit-here : andThen (weighed (messageOf b (recordFrom t (i * 20)) (rowsFrom t (i + 1)))) (firstUnfit (messagesIn b (rowsFrom t (i + 1))))
+          ≡ firstUnfit (messagesIn b (lentRows t))
+      unfit-here = sym (ap firstUnfit (messages-one t b i h e k)) ∙ inv
+
+      pub unfit-on : w ≡ Fine → firstUnfit (messagesIn b (rowsFrom t (i + 1))) ≡ firstUnfit (messagesIn b (lentRows t))
+      unfit-on l = then-on _ f l ∙ unfit-here
+
+      pub unfit-stop : {why : Wrong} → w ≡ Refused why → Refused why ≡ firstUnfit (messagesIn b (lentRows t))
+      unfit-stop l = then-stop _ f l ∙ unfit-here
+
+-- so many were passed before a row
+pub record Passed (t b : List ℕ) (count i : ℕ) : Type 0 where
+  pub number : count + length (messagesIn b (rowsFrom t i)) ≡ length (messagesIn b (lentRows t))
+  pub rest : drop count (messagesIn b (lentRows t)) ≡ messagesIn b (rowsFrom t i)
+
+pub passed-none : (t b : List ℕ) → Passed t b 0 0
+passed-none t b = record { number = omega arith; rest = refl }
+
+module _ (t b : List ℕ) (count i index : ℕ) (g : Passed t b count i) where
+  pub passed-all : length t / 20 ≤ i → count ≤ index → FindsRow t b index (row.Count count)
+  passed-all h l = let z = ap length (messages-end t b i h) in missing {n = count} (omega (arith, g .number)) l
+
+  module _ (h : i < length t / 20) {x : Bool} (e : x ≡ isCode 2 (recordFrom t (i * 20))) where
+    pub passed-skip : x ≡ false → {n : ℕ} → n ≡ count → Passed t b n (i + 1)
+    passed-skip k p =
+        let m = messages-skip t b i h e k in
+        rw p (record { number = ap (λ (l : List RawMessage). count + length l) (sym m) ∙ g .number; rest = g .rest ∙ m })
+
+    pub passed-one : x ≡ true → {n : ℕ} → n ≡ count + 1 → Passed t b n (i + 1)
+    passed-one k p =
+        let m = messages-one t b i h e k in
+        let z = ap length m in
+        record {
+          number = omega (arith, g .number);
+          rest = rw p (sym (drop-drop 1 count (messagesIn b (lentRows t))) ∙ ap (drop 1) (g .rest ∙ m));
+        }
+
+    pub passed-found : x ≡ true → count ≡ index → FindsRow t b index (row.At i)
+    passed-found k p =
+        found h (sym e ∙ k) (ap (λ (n : ℕ). drop n (messagesIn b (lentRows t))) (sym p) ∙ g .rest ∙ messages-one t b i h e k)
