@@ -22,8 +22,8 @@ use Rattle.compose.specs.declared.Row.{Row}
 use Rattle.compose.specs.declared.Row.the-variants as row
 use Rattle.compose.specs.Lent.{rowsFrom, lentRows, isCode, lentWell, Inside}
 use Rattle.compose.specs.Said.{messagesIn, messageOf, said}
-use Rattle.compose.specs.Weighed.{capped, andThen, firstUnfit}
-use Rattle.compose.specs.Compose.{listsOf, putAnswer, answering, leaving, lengthFine, writeTested, writeAnswer, writeLeft, signAt, signedAt, signAnswer, signLeft}
+use Rattle.compose.specs.Weighed.{capped, firstUnfit}
+use Rattle.compose.specs.Compose.{listsOf, putAnswer, answering, leaving, lengthFine, writeTested, writeAnswer, writeLeft, signAnswer, signLeft}
 use Rattle.compose.specs.Puts.{Puts, capped-small, capped-bound, capped-below, FindsRow, found, missing}
 use Rattle.compose.specs.Laws.{lent-inside}
 use Rattle.compose.proofs.Tests.{cond-no, then-on, then-stop}

@@ -1,22 +1,21 @@
 -- The tests of lent rows, case by case: places and kinds; topics; messages.
 use Prim.Native.Nat.{ℕ, _+_, _-_, _*_, _/_, _%_, _≤_, _<_}
 use mathlib.Core.Path.{_≡_, refl, sym, ap, ap₂, _∙_}
-use mathlib.Core.Bool.{Bool, true, false, cond, not, _&&_, _||_}
+use mathlib.Core.Bool.{Bool, true, false, cond, _&&_, _||_}
 use mathlib.Core.List.{List, [], _∷_}
-use mathlib.Core.Option.{none, some}
+use mathlib.Core.Option.{some}
 use native.Mathlib.Omega.{arith}
 use lib.ListN.{length, drop}
 use lib.Seq.{drop-drop}
-use lib.Dec.{ltb, leb, eqb}
+use lib.Dec.{leb, eqb}
 use borrow.Author.Tests.{eqb-true, leb-true, leb-false, lt-ltb, le-ltb, le-leb, lt-leb, eq-eqb, ne-eqb}
 use Rattle.basis.specs.Cases.{either}
 use Rattle.schema.specs.declared.Kind.{Kind}
 use Rattle.schema.specs.declared.Place.{Place}
 use Rattle.schema.specs.declared.Place.the-variants as place
-use Rattle.protobuf.specs.Walk.{between}
 use Rattle.protobuf.specs.WalkLaws.{between-length}
 use Rattle.message.specs.declared.Record.{Record}
-use Rattle.message.specs.Rows.{kindCode, recordFrom}
+use Rattle.message.specs.Rows.{recordFrom}
 use Rattle.meaning.specs.ReadBack.{bytesAt, rawOf}
 use Rattle.rpc.specs.Rpc.{RawMessage}
 use Rattle.admission.specs.declared.Topics.{Topics}

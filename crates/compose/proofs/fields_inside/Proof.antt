@@ -1,5 +1,5 @@
 -- `compose::fields_inside` meets its contract: in each arm the kind is the one that was matched.
-use mathlib.Core.Path.{_≡_, sym, ap, _∙_}
+use mathlib.Core.Path.{sym, ap, _∙_}
 use Rattle.schema.specs.declared.Kind.{Kind}
 use Rattle.compose.specs.Lent.{fieldsInside}
 use Rattle.compose.proofs.Tests.{and-no, and-on}

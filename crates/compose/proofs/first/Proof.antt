@@ -1,12 +1,10 @@
 -- `compose::first` meets its contract.
-use mathlib.Core.Path.{_≡_, sym, ap}
+use mathlib.Core.Path.{sym, ap}
 use Rattle.compose.specs.declared.Lists.{Lists}
 use Rattle.compose.specs.Weighed.{andThen}
 use borrow.Author.Needs.{needs}
 use Rattle.compose.proofs.first.Statement.{statement}
 use Rattle.compose.proofs.first.Tie as tie
-use Rattle.compose.proofs.first.Reads as reads
-use Rattle.compose.proofs.first.Lts as lts
 
 enum-told : tie.Need-enum-told
 enum-told c = search needs

@@ -1,6 +1,6 @@
 -- `compose::from_fine` meets its contract.
 use denote.Ref.{now}
-use mathlib.Core.Path.{_≡_, sym, ap, _∙_}
+use mathlib.Core.Path.{sym, ap, _∙_}
 use lib.ListN.{length}
 use Rattle.schema.specs.declared.Place.{Place}
 use Rattle.meaning.specs.ReadBack.{bytesAt}
@@ -10,9 +10,6 @@ use Rattle.compose.proofs.Tests.{given-length, from-none, from-long, fr
 use borrow.Author.Needs.{needs}
 use Rattle.compose.proofs.from_fine.Statement.{statement}
 use Rattle.compose.proofs.from_fine.Tie as tie
-use Rattle.compose.proofs.from_fine.Reads as reads
-use Rattle.compose.proofs.from_fine.Lts as lts
-use Rattle.admission.proofs.is_peer_id.Reads as is-peer-id-reads
 
 enum-known-from : tie.Need-enum-known-from
 enum-known-from c = search needs

@@ -1,6 +1,5 @@
 -- `compose::held_by` meets its contract: in each arm the kind is the one that was matched.
-use mathlib.Core.Path.{_≡_, sym, ap}
-use Rattle.schema.specs.declared.Kind.{Kind}
+use mathlib.Core.Path.{sym, ap}
 use Rattle.compose.specs.Lent.{heldBy}
 use borrow.Author.Needs.{needs}
 use Rattle.compose.proofs.held_by.Statement.{statement}

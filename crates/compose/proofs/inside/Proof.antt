@@ -5,8 +5,6 @@ use Rattle.compose.proofs.Tests.{inside-back, inside-far, inside-is}
 use borrow.Author.Needs.{needs}
 use Rattle.compose.proofs.inside.Statement.{statement}
 use Rattle.compose.proofs.inside.Tie as tie
-use Rattle.compose.proofs.inside.Reads as reads
-use Rattle.compose.proofs.inside.Lts as lts
 
 enum-told : tie.Need-enum-told
 enum-told c = search needs

@@ -1,6 +1,6 @@
 -- `compose::key_fine` meets its contract.
 use denote.Ref.{now}
-use mathlib.Core.Path.{_≡_, sym, ap, _∙_}
+use mathlib.Core.Path.{sym, ap, _∙_}
 use lib.ListN.{length}
 use Rattle.schema.specs.declared.Place.{Place}
 use Rattle.meaning.specs.ReadBack.{bytesAt}
@@ -10,11 +10,6 @@ use Rattle.compose.proofs.Tests.{cond-yes, cond-no}
 use borrow.Author.Needs.{needs}
 use Rattle.compose.proofs.key_fine.Statement.{statement}
 use Rattle.compose.proofs.key_fine.Tie as tie
-use Rattle.compose.proofs.key_fine.Reads as reads
-use Rattle.compose.proofs.key_fine.Lts as lts
-use Rattle.admission.proofs.is_key.Reads as is-key-reads
-use Rattle.admission.proofs.key_inside.Reads as key-inside-reads
-use Rattle.admission.proofs.key_matches.Reads as key-matches-reads
 
 enum-known-key : tie.Need-enum-known-key
 enum-known-key c = search needs

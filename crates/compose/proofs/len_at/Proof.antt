@@ -1,6 +1,6 @@
 -- `compose::len_at` meets its contract.
 use denote.Ref.{now}
-use mathlib.Core.Path.{_≡_, sym, ap}
+use mathlib.Core.Path.{sym, ap}
 use lib.ListN.{length}
 use Rattle.schema.specs.declared.Place.{Place}
 use Rattle.meaning.specs.ReadBack.{bytesAt}
@@ -10,8 +10,6 @@ use Rattle.compose.proofs.Tests.{given-length}
 use borrow.Author.Needs.{needs}
 use Rattle.compose.proofs.len_at.Statement.{statement}
 use Rattle.compose.proofs.len_at.Tie as tie
-use Rattle.compose.proofs.len_at.Reads as reads
-use Rattle.compose.proofs.len_at.Lts as lts
 
 enum-told : tie.Need-enum-told
 enum-told c = search needs

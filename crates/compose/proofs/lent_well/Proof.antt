@@ -9,12 +9,6 @@ use Rattle.compose.specs.Lent.{rowsFrom, lentFrom, lentWell}
 use Rattle.compose.proofs.Tests.{or-now, or-then, lent-parts, lent-all, lent-end, lent-kind, lent-row, lent-on}
 use Rattle.compose.proofs.lent_well.Statement.{statement}
 use Rattle.compose.proofs.lent_well.Tie as tie
-use Rattle.compose.proofs.lent_well.Reads as reads
-use Rattle.compose.proofs.lent_well.Lts as lts
-use Rattle.compose.proofs.held_by.Reads as held-by-reads
-use Rattle.compose.proofs.is_code.Reads as is-code-reads
-use Rattle.compose.proofs.row_at.Reads as row-at-reads
-use Rattle.compose.proofs.row_inside.Reads as row-inside-reads
 
 abbrev Inv-loop : tie.InvT-loop
 Inv-loop records bytes n i₀ message₀ prune₀ i message prune = lentFrom (length bytes) message prune (rowsFrom records i) ≡ lentWell records bytes
@@ -35,7 +29,7 @@ held-by-requires : tie.Need-held-by-requires Inv-loop μ-loop
 held-by-requires c κs = search needs
 
 returns-2 : tie.Need-returns-2 Inv-loop μ-loop
-returns-2 c = 
+returns-2 c =
     let l = c .before .before .before .before .loop in
     lent-kind _ _ (l .i) (l .message) (l .prune) _ (l .inv) (c .before .before .before .loop-test .taken) (c .before .before .row-at .ensures) (c .before .held-by .ensures) (not-true _ (c .if2 .taken))
 
@@ -43,7 +37,7 @@ row-inside-requires : tie.Need-row-inside-requires Inv-loop μ-loop
 row-inside-requires c κs = search needs
 
 returns-3 : tie.Need-returns-3 Inv-loop μ-loop
-returns-3 c = 
+returns-3 c =
     let l = c .before .before .before .before .before .before .loop in
     lent-row _ _ (l .i) (l .message) (l .prune) _ (l .inv) (c .before .before .before .before .before .loop-test .taken) (c .before .before .before .before .row-at .ensures) (c .before .before .before .held-by .ensures) (not-false _ (c .before .before .if2 .left))
     (c .before .row-inside .ensures) (not-true _ (c .if3 .taken))
@@ -61,7 +55,7 @@ loop-less : tie.Need-loop-less Inv-loop μ-loop
 loop-less c = search needs
 
 loop-again : tie.Need-loop-again Inv-loop μ-loop
-loop-again c = 
+loop-again c =
     let l = c .before .before .before .before .before .before .before .before .before .before .loop in
     lent-on _ _ (l .i) (l .message) (l .prune) _ (l .inv) (c .before .before .before .before .before .before .before .before .before .loop-test .taken) (c .before .before .before .before .before .before .before .before .row-at .ensures) (c .before .before .before .before .before .before .before .held-by .ensures) (not-false _ (c .before .before .before .before .before .before .if2 .left))
     (c .before .before .before .before .before .row-inside .ensures) (not-false _ (c .before .before .before .before .if3 .left))

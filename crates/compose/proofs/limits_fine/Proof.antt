@@ -4,10 +4,6 @@ use Rattle.compose.proofs.Tests.{limits-none, limits-many, limits-long,
 use borrow.Author.Needs.{needs}
 use Rattle.compose.proofs.limits_fine.Statement.{statement}
 use Rattle.compose.proofs.limits_fine.Tie as tie
-use Rattle.compose.proofs.limits_fine.Reads as reads
-use Rattle.compose.proofs.limits_fine.Lts as lts
-use Rattle.compose.proofs.emit_message.Reads as emit-message-reads
-use Rattle.compose.proofs.topics_from.Reads as topics-from-reads
 
 add-topics-from : tie.Need-add-topics-from
 add-topics-from c = search needs

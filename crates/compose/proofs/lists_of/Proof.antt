@@ -5,10 +5,6 @@ use Rattle.compose.proofs.Tests.{lists-not-lent, lists-text, lists-many
 use borrow.Author.Needs.{needs}
 use Rattle.compose.proofs.lists_of.Statement.{statement}
 use Rattle.compose.proofs.lists_of.Tie as tie
-use Rattle.compose.proofs.lists_of.Reads as reads
-use Rattle.compose.proofs.lists_of.Lts as lts
-use Rattle.compose.proofs.lent_well.Reads as lent-well-reads
-use Rattle.compose.proofs.texts_fine.Reads as texts-fine-reads
 
 lent-well-requires : tie.Need-lent-well-requires
 lent-well-requires c κs = search needs

@@ -6,9 +6,6 @@ use Rattle.compose.proofs.Tests.{and-no, and-on}
 use borrow.Author.Needs.{needs}
 use Rattle.compose.proofs.message_inside.Statement.{statement}
 use Rattle.compose.proofs.message_inside.Tie as tie
-use Rattle.compose.proofs.message_inside.Reads as reads
-use Rattle.compose.proofs.message_inside.Lts as lts
-use Rattle.compose.proofs.inside.Reads as inside-reads
 
 inside-requires : tie.Need-inside-requires
 inside-requires c κs = search needs

@@ -8,9 +8,6 @@ use borrow.Author.Needs.{needs}
 use Rattle.compose.proofs.Tests.{Passed, passed-none, passed-all, passed-skip, passed-one, passed-found}
 use Rattle.compose.proofs.message_row.Statement.{statement}
 use Rattle.compose.proofs.message_row.Tie as tie
-use Rattle.compose.proofs.message_row.Reads as reads
-use Rattle.compose.proofs.message_row.Lts as lts
-use Rattle.compose.proofs.is_code.Reads as is-code-reads
 
 abbrev Inv-loop : tie.InvT-loop
 Inv-loop records bytes index n i₀ count₀ i count = (count ≤ i) × (count ≤ index) × Passed records bytes count i
@@ -37,14 +34,20 @@ loop-less : tie.Need-loop-less Inv-loop μ-loop
 loop-less c = search needs
 
 loop-again : tie.Need-loop-again Inv-loop μ-loop
-loop-again c = 
+loop-again c =
     let a = c .before .before .before .before .before .before .args in
     let l = c .before .before .before .loop in
     ⊎-elim
-    (λ w. let n = w .1 .left in let v = l .inv .1 in (omega arith, omega arith,
-    passed-one (now (a .records)) (now (a .bytes)) (l .count) (l .i) (a .index) (l .inv .2) (c .before .before .loop-test .taken) (c .before .is-code .ensures) (w .0 .taken) (w .2)))
-    (λ w. (omega arith, omega arith,
-    passed-skip (now (a .records)) (now (a .bytes)) (l .count) (l .i) (a .index) (l .inv .2) (c .before .before .loop-test .taken) (c .before .is-code .ensures) (w .0 .left) (w .1)))
+    (λ w. let n = w .1 .left in let v = l .inv .1 in (
+      omega arith,
+      omega arith,
+      passed-one (now (a .records)) (now (a .bytes)) (l .count) (l .i) (a .index) (l .inv .2) (c .before .before .loop-test .taken) (c .before .is-code .ensures) (w .0 .taken) (w .2),
+    ))
+    (λ w. (
+      omega arith,
+      omega arith,
+      passed-skip (now (a .records)) (now (a .bytes)) (l .count) (l .i) (a .index) (l .inv .2) (c .before .before .loop-test .taken) (c .before .is-code .ensures) (w .0 .left) (w .1),
+    ))
     (c .if1 .came)
 
 returns-2 : tie.Need-returns-2 Inv-loop μ-loop

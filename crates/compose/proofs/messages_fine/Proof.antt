@@ -11,10 +11,6 @@ use Rattle.compose.specs.Weighed.{firstUnfit}
 use Rattle.compose.proofs.Tests.{unfit-end, unfit-skip, unfit-on, unfit-stop}
 use Rattle.compose.proofs.messages_fine.Statement.{statement}
 use Rattle.compose.proofs.messages_fine.Tie as tie
-use Rattle.compose.proofs.messages_fine.Reads as reads
-use Rattle.compose.proofs.messages_fine.Lts as lts
-use Rattle.compose.proofs.is_code.Reads as is-code-reads
-use Rattle.compose.proofs.weigh.Reads as weigh-reads
 
 abbrev Inv-loop : tie.InvT-loop
 Inv-loop records bytes n i₀ i = firstUnfit (messagesIn bytes (rowsFrom records i)) ≡ firstUnfit (messagesIn bytes (lentRows records))
@@ -47,7 +43,7 @@ loop-less : tie.Need-loop-less Inv-loop μ-loop
 loop-less c = search needs
 
 loop-again : tie.Need-loop-again Inv-loop μ-loop
-loop-again c = 
+loop-again c =
     let a = c .before .before .before .before .before .before .args in
     let l = c .before .before .before .loop in
     ⊎-elim

@@ -1,6 +1,6 @@
 -- `compose::sender_key_fine` meets its contract.
 use denote.Ref.{now}
-use mathlib.Core.Path.{_≡_, sym, ap, _∙_}
+use mathlib.Core.Path.{sym, ap, _∙_}
 use lib.ListN.{length}
 use Rattle.schema.specs.declared.Place.{Place}
 use Rattle.meaning.specs.ReadBack.{bytesAt}
@@ -9,9 +9,6 @@ use Rattle.compose.proofs.Parts.{place-inside}
 use borrow.Author.Needs.{needs}
 use Rattle.compose.proofs.sender_key_fine.Statement.{statement}
 use Rattle.compose.proofs.sender_key_fine.Tie as tie
-use Rattle.compose.proofs.sender_key_fine.Reads as reads
-use Rattle.compose.proofs.sender_key_fine.Lts as lts
-use Rattle.compose.proofs.key_fine.Reads as key-fine-reads
 
 enum-known-from : tie.Need-enum-known-from
 enum-known-from c = search needs

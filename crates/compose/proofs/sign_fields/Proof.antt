@@ -4,11 +4,6 @@ use Rattle.compose.proofs.Answers.{lists-inside, row-found, sign-lists,
 use borrow.Author.Needs.{needs}
 use Rattle.compose.proofs.sign_fields.Statement.{statement}
 use Rattle.compose.proofs.sign_fields.Tie as tie
-use Rattle.compose.proofs.sign_fields.Reads as reads
-use Rattle.compose.proofs.sign_fields.Lts as lts
-use Rattle.compose.proofs.lists_of.Reads as lists-of-reads
-use Rattle.compose.proofs.message_row.Reads as message-row-reads
-use Rattle.compose.proofs.sign_row.Reads as sign-row-reads
 
 lists-of-requires : tie.Need-lists-of-requires
 lists-of-requires c κs = search needs

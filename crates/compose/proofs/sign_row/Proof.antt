@@ -6,9 +6,6 @@ use Rattle.compose.proofs.Answers.{too-short, all-put}
 use borrow.Author.Needs.{needs}
 use Rattle.compose.proofs.sign_row.Statement.{statement}
 use Rattle.compose.proofs.sign_row.Tie as tie
-use Rattle.compose.proofs.sign_row.Reads as reads
-use Rattle.compose.proofs.sign_row.Lts as lts
-use Rattle.compose.proofs.emit_signed.Reads as emit-signed-reads
 
 slice-aggregate-emit-signed : tie.Need-slice-aggregate-emit-signed
 slice-aggregate-emit-signed c = search needs

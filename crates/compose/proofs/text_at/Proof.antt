@@ -1,6 +1,6 @@
 -- `compose::text_at` meets its contract.
 use denote.Ref.{now}
-use mathlib.Core.Path.{_≡_, sym, ap, _∙_}
+use mathlib.Core.Path.{sym, ap, _∙_}
 use lib.ListN.{length}
 use Rattle.schema.specs.declared.Place.{Place}
 use Rattle.compose.specs.Compose.{moved, textFine}
@@ -8,9 +8,6 @@ use Rattle.compose.proofs.Parts.{place-inside}
 use borrow.Author.Needs.{needs}
 use Rattle.compose.proofs.text_at.Statement.{statement}
 use Rattle.compose.proofs.text_at.Tie as tie
-use Rattle.compose.proofs.text_at.Reads as reads
-use Rattle.compose.proofs.text_at.Lts as lts
-use Rattle.compose.proofs.utf8_at.Reads as utf8-at-reads
 
 enum-told : tie.Need-enum-told
 enum-told c = search needs

@@ -9,10 +9,6 @@ use Rattle.compose.specs.Compose.{textsFine}
 use Rattle.compose.proofs.Tests.{inside-row, texts-on, texts-stop, texts-end}
 use Rattle.compose.proofs.texts_fine.Statement.{statement}
 use Rattle.compose.proofs.texts_fine.Tie as tie
-use Rattle.compose.proofs.texts_fine.Reads as reads
-use Rattle.compose.proofs.texts_fine.Lts as lts
-use Rattle.compose.proofs.row_at.Reads as row-at-reads
-use Rattle.compose.proofs.text_fine.Reads as text-fine-reads
 
 abbrev Inv-loop : tie.InvT-loop
 Inv-loop records bytes n i₀ i = textsFine bytes (rowsFrom records i) ≡ textsFine bytes (lentRows records)

@@ -1,6 +1,6 @@
 -- `compose::topics_from` meets its contract: the topics that were counted, and those from row i on, are those from the first row on.
 use denote.Ref.{now}
-use Prim.Native.Nat.{ℕ, _+_, _-_, _/_, _≤_}
+use Prim.Native.Nat.{_+_, _-_, _/_, _≤_}
 use mathlib.Core.Logic.{⊎-elim}
 use native.Mathlib.Omega.{arith}
 use lib.ListN.{length}
@@ -13,10 +13,6 @@ use Rattle.compose.proofs.Tests.{inside-row, long-now, long-later, long
 use Rattle.compose.proofs.Tests.{topics-end, topics-stop, topics-skip, topics-one, raw-length}
 use Rattle.compose.proofs.topics_from.Statement.{statement}
 use Rattle.compose.proofs.topics_from.Tie as tie
-use Rattle.compose.proofs.topics_from.Reads as reads
-use Rattle.compose.proofs.topics_from.Lts as lts
-use Rattle.compose.proofs.is_code.Reads as is-code-reads
-use Rattle.compose.proofs.row_at.Reads as row-at-reads
 
 abbrev Inv-loop : tie.InvT-loop
 Inv-loop records bytes from n i₀ count₀ long₀ i count long = (count ≤ i) × Counted (topicsFrom bytes (rowsFrom records from)) count long (topicsFrom bytes (rowsFrom records i))
@@ -40,7 +36,7 @@ row-at-requires : tie.Need-row-at-requires Inv-loop μ-loop
 row-at-requires c κs = search needs
 
 sub-len : tie.Need-sub-len Inv-loop μ-loop
-sub-len c = 
+sub-len c =
     let s = c .before .before .before .before .before .before .before .before .before .before in
     row-inside-is (length (now (s .args .bytes))) _ (inside-row (now (s .args .records)) (now (s .args .bytes)) (c .before .before .before .before .before .before .before .loop .i) _ (s .pre) (c .before .before .before .before .before .before .loop-test .taken) (c .before .row-at .ensures)) .0
 
@@ -54,7 +50,7 @@ loop-less : tie.Need-loop-less Inv-loop μ-loop
 loop-less c = search needs
 
 loop-again : tie.Need-loop-again Inv-loop μ-loop
-loop-again c = 
+loop-again c =
     let s = c .before .before .before .before .before .before .before .before in
     let t = s .args .records .now in
     let b = s .args .bytes .now in
@@ -63,17 +59,26 @@ loop-again c =
     let g = l .inv .1 in
     let rest = topicsFrom b (rowsFrom t (l .i + 1)) in
     ⊎-elim
-    (λ w. (omega arith, counted-more _ _ _ _ g (rawOf b (w .1 .result)) rest _ _
-    (topics-one t b (l .i) h (c .before .before .before .is-code .ensures) (c .before .before .if1 .left) (c .before .is-code2 .ensures) (w .0 .taken) (w .1 .result) (w .1 .ensures)) (w .5)
-    (long-now _ rest _ (raw-length t b (l .i) h (w .1 .result) (s .pre) (w .1 .ensures)) _ _ (w .3 .taken) (w .4 .taken) (w .6))))
+    (λ w. (
+      omega arith,
+      counted-more _ _ _ _ g (rawOf b (w .1 .result)) rest _ _
+          (topics-one t b (l .i) h (c .before .before .before .is-code .ensures) (c .before .before .if1 .left) (c .before .is-code2 .ensures) (w .0 .taken) (w .1 .result) (w .1 .ensures)) (w .5)
+          (long-now _ rest _ (raw-length t b (l .i) h (w .1 .result) (s .pre) (w .1 .ensures)) _ _ (w .3 .taken) (w .4 .taken) (w .6)),
+    ))
     (⊎-elim
-    (λ w. (omega arith, counted-more _ _ _ _ g (rawOf b (w .1 .result)) rest _ _
-    (topics-one t b (l .i) h (c .before .before .before .is-code .ensures) (c .before .before .if1 .left) (c .before .is-code2 .ensures) (w .0 .taken) (w .1 .result) (w .1 .ensures)) (w .5)
-    (long-later _ rest _ (raw-length t b (l .i) h (w .1 .result) (s .pre) (w .1 .ensures)) _ _ (w .3 .taken) (w .4 .left) (w .6))))
+    (λ w. (
+      omega arith,
+      counted-more _ _ _ _ g (rawOf b (w .1 .result)) rest _ _
+          (topics-one t b (l .i) h (c .before .before .before .is-code .ensures) (c .before .before .if1 .left) (c .before .is-code2 .ensures) (w .0 .taken) (w .1 .result) (w .1 .ensures)) (w .5)
+          (long-later _ rest _ (raw-length t b (l .i) h (w .1 .result) (s .pre) (w .1 .ensures)) _ _ (w .3 .taken) (w .4 .left) (w .6)),
+    ))
     (⊎-elim
-    (λ w. (omega arith, counted-more _ _ _ _ g (rawOf b (w .1 .result)) rest _ _
-    (topics-one t b (l .i) h (c .before .before .before .is-code .ensures) (c .before .before .if1 .left) (c .before .is-code2 .ensures) (w .0 .taken) (w .1 .result) (w .1 .ensures)) (w .4)
-    (long-before _ rest _ (raw-length t b (l .i) h (w .1 .result) (s .pre) (w .1 .ensures)) _ _ (w .3 .left) (w .5))))
+    (λ w. (
+      omega arith,
+      counted-more _ _ _ _ g (rawOf b (w .1 .result)) rest _ _
+          (topics-one t b (l .i) h (c .before .before .before .is-code .ensures) (c .before .before .if1 .left) (c .before .is-code2 .ensures) (w .0 .taken) (w .1 .result) (w .1 .ensures)) (w .4)
+          (long-before _ rest _ (raw-length t b (l .i) h (w .1 .result) (s .pre) (w .1 .ensures)) _ _ (w .3 .left) (w .5)),
+    ))
     (λ w. (omega arith, counted-same _ _ _ _ g rest _ _ (topics-skip t b (l .i) h (c .before .before .before .is-code .ensures) (c .before .before .if1 .left) (c .before .is-code2 .ensures) (w .0 .left)) (w .1) (w .2)))))
     (c .if2 .came)
 

@@ -4,9 +4,6 @@ use Rattle.compose.proofs.Tests.{cond-yes, cond-no}
 use borrow.Author.Needs.{needs}
 use Rattle.compose.proofs.utf8_at.Statement.{statement}
 use Rattle.compose.proofs.utf8_at.Tie as tie
-use Rattle.compose.proofs.utf8_at.Reads as reads
-use Rattle.compose.proofs.utf8_at.Lts as lts
-use Rattle.utf8.proofs.is_utf8.Reads as is-utf8-reads
 
 sub-is-utf8 : tie.Need-sub-is-utf8
 sub-is-utf8 c = search needs

@@ -4,15 +4,6 @@ use Rattle.compose.proofs.Tests.{message-places, weighed-by}
 use borrow.Author.Needs.{needs}
 use Rattle.compose.proofs.weigh.Statement.{statement}
 use Rattle.compose.proofs.weigh.Tie as tie
-use Rattle.compose.proofs.weigh.Reads as reads
-use Rattle.compose.proofs.weigh.Lts as lts
-use Rattle.compose.proofs.first.Reads as first-reads
-use Rattle.compose.proofs.from_fine.Reads as from-fine-reads
-use Rattle.compose.proofs.limits_fine.Reads as limits-fine-reads
-use Rattle.compose.proofs.row_at.Reads as row-at-reads
-use Rattle.compose.proofs.sender_key_fine.Reads as sender-key-fine-reads
-use Rattle.compose.proofs.seqno_fine.Reads as seqno-fine-reads
-use Rattle.compose.proofs.signature_fine.Reads as signature-fine-reads
 
 row-at-requires : tie.Need-row-at-requires
 row-at-requires c κs = search needs
@@ -45,7 +36,7 @@ first-requires-4 : tie.Need-first-requires-4
 first-requires-4 c κs = search needs
 
 returns : tie.Need-returns
-returns c = 
+returns c =
     let a = c .before .before .before .before .before .before .before .before .before .before .before .before .before .args in
     weighed-by (now (a .bytes)) _ _ _ _ _ _ _ _ _ _ _ _ (c .before .before .before .before .before .before .before .before .before .before .row-at .ensures) (c .before .before .before .before .before .before .before .before .from-fine .ensures) (c .before .before .before .before .before .before .before .seqno-fine .ensures) (c .before .before .before .before .before .before .signature-fine .ensures)
     (c .before .before .before .before .before .sender-key-fine .ensures) (c .before .before .before .before .limits-fine .ensures) (c .before .before .before .first .ensures) (c .before .before .first2 .ensures) (c .before .first3 .ensures) (c .first4 .ensures)

@@ -1,14 +1,8 @@
 -- `compose::write_rpc` meets its contract: one test after the other.
-use denote.Ref.{now}
 use Rattle.compose.proofs.Answers.{lists-inside, write-lists, write-unfit, write-fit}
 use borrow.Author.Needs.{needs}
 use Rattle.compose.proofs.write_rpc.Statement.{statement}
 use Rattle.compose.proofs.write_rpc.Tie as tie
-use Rattle.compose.proofs.write_rpc.Reads as reads
-use Rattle.compose.proofs.write_rpc.Lts as lts
-use Rattle.compose.proofs.lists_of.Reads as lists-of-reads
-use Rattle.compose.proofs.messages_fine.Reads as messages-fine-reads
-use Rattle.compose.proofs.write_tested.Reads as write-tested-reads
 
 lists-of-requires : tie.Need-lists-of-requires
 lists-of-requires c κs = search needs

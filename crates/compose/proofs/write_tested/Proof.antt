@@ -6,9 +6,6 @@ use Rattle.compose.proofs.Answers.{too-short, all-put, too-long, not-lo
 use borrow.Author.Needs.{needs}
 use Rattle.compose.proofs.write_tested.Statement.{statement}
 use Rattle.compose.proofs.write_tested.Tie as tie
-use Rattle.compose.proofs.write_tested.Reads as reads
-use Rattle.compose.proofs.write_tested.Lts as lts
-use Rattle.compose.proofs.emit_rpc.Reads as emit-rpc-reads
 
 slice-aggregate-emit-rpc : tie.Need-slice-aggregate-emit-rpc
 slice-aggregate-emit-rpc c = search needs
