@@ -13,6 +13,7 @@ use Rattle.basis.specs.Cases.{either}
 use Rattle.schema.specs.declared.Kind.{Kind}
 use Rattle.schema.specs.declared.Place.{Place}
 use Rattle.schema.specs.declared.Place.the-variants as place
+use Rattle.protobuf.specs.Walk.{between}
 use Rattle.protobuf.specs.WalkLaws.{between-length}
 use Rattle.message.specs.declared.Record.{Record}
 use Rattle.message.specs.Rows.{recordFrom}
@@ -277,7 +278,7 @@ module _ (m : RawMessage) (t : Topics) (e : t ≡ inTopics (m .«topic_ids»)) w
             let c = capped-below (length (encodeMessage m)) 4096 (omega arith) (omega arith) in
             sym (limits-size ∙ simp (le-ltb 4096 (length (encodeMessage m)) (omega arith)))
 
--- ---- a field's bytes, by their number: 22, 23, 26
+-- ---- a field's bytes, by their number: 23, 26
 -- those at a place
 pub given-length : (b : List ℕ) (at : ℕ) (p : Place) (a e : ℕ) → insideAt (length b) at p ≡ true → p ≡ place.Present a e → length (given (bytesAt b at p)) ≡ e - a
 given-length b at p a e h g =
@@ -314,22 +315,36 @@ module _ (d : List ℕ) (len : ℕ) (e : len ≡ length d) where
   unfolding seqnoFine
   seqno-fit n h = cond-no _ _ refl (unfit-not n h)
 
-  pub from-none : len ≡ 0 → Refused (Unfit (InvalidFrom len)) ≡ fromFine (some d)
+-- ---- 22, 34: the sender, by where it stands
+module _ (b : List ℕ) (at : ℕ) (p : Place) (a e : ℕ) (inside : insideAt (length b) at p ≡ true) (is : p ≡ place.Present a e) where
+  sender-length : e - a ≡ length (between b (at + a) (at + e))
+  sender-length =
+      sym (sym (ap (λ (x : Place). length (given (bytesAt b at x))) is) ∙ given-length b at p a e inside is)
+
+  sender-is : fromFine (some (between b (at + a) (at + e))) ≡ fromFine (bytesAt b at p)
+  sender-is = ap (λ (x : Place). fromFine (bytesAt b at x)) (sym is)
+
+  from-unfit : unfit (between b (at + a) (at + e)) ≡ true → Refused (Unfit (InvalidFrom (e - a))) ≡ fromFine (bytesAt b at p)
   unfolding fromFine
-  from-none h = rw e (cond-yes _ _ refl (unfit-none h))
+  from-unfit t = rw sender-length (cond-yes _ _ refl t ∙ sender-is)
 
-  pub from-long : (len ≡ 0 → ⊥) → 64 < len → Refused (Unfit (InvalidFrom len)) ≡ fromFine (some d)
-  unfolding fromFine
-  from-long n h = rw e (cond-yes _ _ refl (unfit-many n h))
+  pub from-none : e - a ≡ 0 → Refused (Unfit (InvalidFrom (e - a))) ≡ fromFine (bytesAt b at p)
+  from-none h = from-unfit (unfit-none (between b (at + a) (at + e)) (e - a) sender-length h)
 
-  module _ (n : len ≡ 0 → ⊥) (h : len ≤ 64) {x : Bool} (f : x ≡ isPeerId d) where
-    pub from-fit : x ≡ true → Fine ≡ fromFine (some d)
-    unfolding fromFine
-    from-fit k = cond-yes _ _ f k ∙ cond-no _ _ refl (unfit-not n h)
+  module _ (n : e - a ≡ 0 → ⊥) where
+    pub from-long : 64 < e - a → Refused (Unfit (InvalidFrom (e - a))) ≡ fromFine (bytesAt b at p)
+    from-long h = from-unfit (unfit-many (between b (at + a) (at + e)) (e - a) sender-length n h)
 
-    pub from-other : x ≡ false → Refused (Unfit NotPeerId) ≡ fromFine (some d)
-    unfolding fromFine
-    from-other k = cond-no _ _ f k ∙ cond-no _ _ refl (unfit-not n h)
+    module _ (h : e - a ≤ 64) {x : Bool} (f : x ≡ isPeerId (between b (at + a) (at + e))) where
+      from-fine : cond x Fine (Refused (Unfit NotPeerId)) ≡ fromFine (bytesAt b at p)
+      unfolding fromFine
+      from-fine = rw f (cond-no _ _ refl (unfit-not (between b (at + a) (at + e)) (e - a) sender-length n h) ∙ sender-is)
+
+      pub from-fit : x ≡ true → Fine ≡ fromFine (bytesAt b at p)
+      from-fit k = cond-yes _ _ refl k ∙ from-fine
+
+      pub from-other : x ≡ false → Refused (Unfit NotPeerId) ≡ fromFine (bytesAt b at p)
+      from-other k = cond-no _ _ refl k ∙ from-fine
 
 -- ---- a message
 -- its places lie within the bytes

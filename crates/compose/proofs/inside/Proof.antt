@@ -28,8 +28,10 @@ returns-3 c = let a = c .before .before .args in ap (insideAt (a .len) (a .at)) 
 
 returns-4 : tie.Need-returns-4
 returns-4 c =
-    let a = c .before .before .before .before .before .args in
-    inside-is (a .len) (a .at) _ _ (c .before .if1 .left) (c .if2 .left) ∙ ap (insideAt (a .len) (a .at)) (sym (c .before .before .before .place .given .1))
+    let p = c .before .before .before .before in
+    let a = p .before .args in
+    inside-is (a .len) (a .at) _ _ (c .before .if1 .left) (c .if2 .left)
+    ∙ ap (insideAt (a .len) (a .at)) (sym (c .before .before .before .place .given .1))
 
 pub inside-spec : {M : Type 1} → statement M
 inside-spec = tie.close (tie.spec enum-told enum-known-place returns returns-2 returns-3 returns-4)

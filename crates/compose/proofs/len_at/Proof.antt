@@ -18,13 +18,19 @@ enum-known-place : tie.Need-enum-known-place
 enum-known-place c = search needs
 
 sub-result : tie.Need-sub-result
-sub-result c = let a = c .before .before .before .args in place-inside (length (now (a .bytes))) (a .base) _ _ _ (c .before .before .before .pre) (c .before .place .given .1) .0
+sub-result c =
+    let a = c .before .before .before .args in
+    place-inside (length (now (a .bytes))) (a .base) _ _ _ (c .before .before .before .pre) (c .before .place .given .1) .0
 
 returns : tie.Need-returns
-returns c = let a = c .before .before .args in ap (λ (p : Place). length (given (bytesAt (now (a .bytes)) (a .base) p))) (sym (c .enum-told .given .1))
+returns c =
+    let a = c .before .before .args in
+    ap (λ (p : Place). length (given (bytesAt (now (a .bytes)) (a .base) p))) (sym (c .enum-told .given .1))
 
 returns-2 : tie.Need-returns-2
-returns-2 c = let a = c .before .before .before .args in sym (given-length (now (a .bytes)) (a .base) _ _ _ (c .before .before .before .pre) (c .before .place .given .1))
+returns-2 c =
+    let a = c .before .before .before .args in
+    sym (given-length (now (a .bytes)) (a .base) _ _ _ (c .before .before .before .pre) (c .before .place .given .1))
 
 pub len-at-spec : {M : Type 1} → statement M
 len-at-spec = tie.close (tie.spec enum-told enum-known-place sub-result returns returns-2)

@@ -31,16 +31,19 @@ held-by-requires c κs = search needs
 returns-2 : tie.Need-returns-2 Inv-loop μ-loop
 returns-2 c =
     let l = c .before .before .before .before .loop in
-    lent-kind _ _ (l .i) (l .message) (l .prune) _ (l .inv) (c .before .before .before .loop-test .taken) (c .before .before .row-at .ensures) (c .before .held-by .ensures) (not-true _ (c .if2 .taken))
+    lent-kind _ _ (l .i) (l .message) (l .prune) _ (l .inv) (c .before .before .before .loop-test .taken) (c .before .before .row-at .ensures)
+    (c .before .held-by .ensures) (not-true _ (c .if2 .taken))
 
 row-inside-requires : tie.Need-row-inside-requires Inv-loop μ-loop
 row-inside-requires c κs = search needs
 
 returns-3 : tie.Need-returns-3 Inv-loop μ-loop
 returns-3 c =
-    let l = c .before .before .before .before .before .before .loop in
-    lent-row _ _ (l .i) (l .message) (l .prune) _ (l .inv) (c .before .before .before .before .before .loop-test .taken) (c .before .before .before .before .row-at .ensures) (c .before .before .before .held-by .ensures) (not-false _ (c .before .before .if2 .left))
-    (c .before .row-inside .ensures) (not-true _ (c .if3 .taken))
+    let p = c .before .before .before .before in
+    let l = p .before .before .loop in
+    lent-row _ _ (l .i) (l .message) (l .prune) _ (l .inv) (p .before .loop-test .taken) (p .row-at .ensures)
+    (c .before .before .before .held-by .ensures) (not-false _ (c .before .before .if2 .left)) (c .before .row-inside .ensures)
+    (not-true _ (c .if3 .taken))
 
 is-code-requires : tie.Need-is-code-requires Inv-loop μ-loop
 is-code-requires c κs = search needs

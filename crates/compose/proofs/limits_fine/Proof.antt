@@ -18,7 +18,9 @@ returns-2 : tie.Need-returns-2
 returns-2 c = limits-many _ _ (c .before .before .before .before .topics-from .ensures) (c .before .before .if1 .left) (c .if2 .taken)
 
 returns-3 : tie.Need-returns-3
-returns-3 c = limits-long _ _ (c .before .before .before .before .before .before .topics-from .ensures) (c .before .before .before .before .if1 .left) (c .before .before .if2 .left) (c .if3 .taken)
+returns-3 c =
+    let p = c .before .before .before .before in
+    limits-long _ _ (p .before .before .topics-from .ensures) (p .if1 .left) (c .before .before .if2 .left) (c .if3 .taken)
 
 slice-aggregate-emit-message : tie.Need-slice-aggregate-emit-message
 slice-aggregate-emit-message c = search needs
@@ -27,10 +29,18 @@ emit-message-requires : tie.Need-emit-message-requires
 emit-message-requires c κs = search needs
 
 returns-4 : tie.Need-returns-4
-returns-4 c = limits-large _ _ (c .before .before .before .before .before .before .before .before .before .before .topics-from .ensures) (c .before .before .before .before .before .before .before .before .if1 .left) (c .before .before .before .before .before .before .if2 .left) (c .before .before .before .before .if3 .left) _ (measured _ _ _ _ (c .before .before .emit-message .ensures)) (c .if4 .taken)
+returns-4 c =
+    let p = c .before .before .before .before in
+    let q = p .before .before .before .before in
+    limits-large _ _ (q .before .before .topics-from .ensures) (q .if1 .left) (p .before .before .if2 .left) (p .if3 .left) _
+    (measured _ _ _ _ (c .before .before .emit-message .ensures)) (c .if4 .taken)
 
 returns-5 : tie.Need-returns-5
-returns-5 c = limits-fit _ _ (c .before .before .before .before .before .before .before .before .before .before .topics-from .ensures) (c .before .before .before .before .before .before .before .before .if1 .left) (c .before .before .before .before .before .before .if2 .left) (c .before .before .before .before .if3 .left) _ (measured _ _ _ _ (c .before .before .emit-message .ensures)) (c .if4 .left)
+returns-5 c =
+    let p = c .before .before .before .before in
+    let q = p .before .before .before .before in
+    limits-fit _ _ (q .before .before .topics-from .ensures) (q .if1 .left) (p .before .before .if2 .left) (p .if3 .left) _
+    (measured _ _ _ _ (c .before .before .emit-message .ensures)) (c .if4 .left)
 
 pub limits-fine-spec : {M : Type 1} → statement M
 limits-fine-spec =

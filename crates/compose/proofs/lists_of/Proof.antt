@@ -16,16 +16,24 @@ enum-known-fine : tie.Need-enum-known-fine
 enum-known-fine c = search needs
 
 returns : tie.Need-returns
-returns c = lists-text _ _ (c .before .before .before .before .before .lent-well .ensures) (c .before .before .before .before .if1 .taken) (c .before .before .before .texts-fine .ensures) (c .before .fine .given .1)
+returns c =
+    let p = c .before .before .before .before in
+    lists-text _ _ (p .before .lent-well .ensures) (p .if1 .taken) (c .before .before .before .texts-fine .ensures) (c .before .fine .given .1)
 
 enum-told : tie.Need-enum-told
 enum-told c = search needs
 
 returns-2 : tie.Need-returns-2
-returns-2 c = lists-many _ _ (c .before .before .before .before .before .lent-well .ensures) (c .before .before .before .before .if1 .taken) (c .before .before .before .texts-fine .ensures) (c .before .enum-told .given .1) (c .if2 .taken)
+returns-2 c =
+    let p = c .before .before .before .before in
+    lists-many _ _ (p .before .lent-well .ensures) (p .if1 .taken) (c .before .before .before .texts-fine .ensures) (c .before .enum-told .given .1)
+    (c .if2 .taken)
 
 returns-3 : tie.Need-returns-3
-returns-3 c = lists-fine _ _ (c .before .before .before .before .before .lent-well .ensures) (c .before .before .before .before .if1 .taken) (c .before .before .before .texts-fine .ensures) (c .before .enum-told .given .1) (c .if2 .left)
+returns-3 c =
+    let p = c .before .before .before .before in
+    lists-fine _ _ (p .before .lent-well .ensures) (p .if1 .taken) (c .before .before .before .texts-fine .ensures) (c .before .enum-told .given .1)
+    (c .if2 .left)
 
 returns-4 : tie.Need-returns-4
 returns-4 c = lists-not-lent _ _ (c .before .lent-well .ensures) (c .if1 .left)

@@ -40,10 +40,11 @@ inside-requires-4 c κs = search needs
 returns-4 : tie.Need-returns-4
 unfolding fieldsInside
 returns-4 c =
+    let p = c .before .before .before .before in
     and-no _ (c .before .inside4 .ensures) (not-true _ (c .if4 .taken))
     ∙ and-on _ (c .before .before .before .inside3 .ensures) (not-false _ (c .before .before .if3 .left))
-    ∙ and-on _ (c .before .before .before .before .before .inside2 .ensures) (not-false _ (c .before .before .before .before .if2 .left))
-    ∙ and-on _ (c .before .before .before .before .before .before .before .inside .ensures) (not-false _ (c .before .before .before .before .before .before .if1 .left))
+    ∙ and-on _ (p .before .inside2 .ensures) (not-false _ (p .if2 .left))
+    ∙ and-on _ (p .before .before .before .inside .ensures) (not-false _ (p .before .before .if1 .left))
 
 inside-requires-5 : tie.Need-inside-requires-5
 inside-requires-5 c κs = search needs
@@ -51,11 +52,12 @@ inside-requires-5 c κs = search needs
 returns-5 : tie.Need-returns-5
 unfolding fieldsInside
 returns-5 c =
-    c .inside5 .ensures
-    ∙ and-on _ (c .before .before .inside4 .ensures) (not-false _ (c .before .if4 .left))
-    ∙ and-on _ (c .before .before .before .before .inside3 .ensures) (not-false _ (c .before .before .before .if3 .left))
-    ∙ and-on _ (c .before .before .before .before .before .before .inside2 .ensures) (not-false _ (c .before .before .before .before .before .if2 .left))
-    ∙ and-on _ (c .before .before .before .before .before .before .before .before .inside .ensures) (not-false _ (c .before .before .before .before .before .before .before .if1 .left))
+    let p = c .before .before .before .before in
+    let q = p .before .before .before .before in
+    c .inside5 .ensures ∙ and-on _ (c .before .before .inside4 .ensures) (not-false _ (c .before .if4 .left))
+    ∙ and-on _ (p .inside3 .ensures) (not-false _ (c .before .before .before .if3 .left))
+    ∙ and-on _ (p .before .before .inside2 .ensures) (not-false _ (p .before .if2 .left))
+    ∙ and-on _ (q .inside .ensures) (not-false _ (p .before .before .before .if1 .left))
 
 pub message-inside-spec : {M : Type 1} → statement M
 message-inside-spec =

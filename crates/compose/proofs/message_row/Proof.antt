@@ -22,7 +22,11 @@ is-code-requires : tie.Need-is-code-requires Inv-loop μ-loop
 is-code-requires c κs = search needs
 
 returns : tie.Need-returns Inv-loop μ-loop
-returns c = let a = c .before .before .before .before .before .before .before .args in passed-found (now (a .records)) (now (a .bytes)) (c .before .before .before .before .loop .count) (c .before .before .before .before .loop .i) (a .index) (c .before .before .before .before .loop .inv .2) (c .before .before .before .loop-test .taken) (c .before .before .is-code .ensures) (c .before .if1 .taken) (c .if2 .taken)
+returns c =
+    let p = c .before .before .before .before in
+    let a = p .before .before .before .args in
+    passed-found (now (a .records)) (now (a .bytes)) (p .loop .count) (p .loop .i) (a .index) (p .loop .inv .2)
+    (c .before .before .before .loop-test .taken) (c .before .before .is-code .ensures) (c .before .if1 .taken) (c .if2 .taken)
 
 add-count : tie.Need-add-count Inv-loop μ-loop
 add-count c = search needs
@@ -51,7 +55,10 @@ loop-again c =
     (c .if1 .came)
 
 returns-2 : tie.Need-returns-2 Inv-loop μ-loop
-returns-2 c = let a = c .before .before .before .before .args in passed-all (now (a .records)) (now (a .bytes)) (c .before .loop .count) (c .before .loop .i) (a .index) (c .before .loop .inv .2) (c .loop-test .left) (c .before .loop .inv .1)
+returns-2 c =
+    let a = c .before .before .before .before .args in
+    passed-all (now (a .records)) (now (a .bytes)) (c .before .loop .count) (c .before .loop .i) (a .index) (c .before .loop .inv .2)
+    (c .loop-test .left) (c .before .loop .inv .1)
 
 pub message-row-spec : {M : Type 1} → statement M
 message-row-spec =

@@ -25,13 +25,21 @@ is-code-requires : tie.Need-is-code-requires Inv-loop μ-loop
 is-code-requires c κs = search needs
 
 weigh-requires : tie.Need-weigh-requires Inv-loop μ-loop
-weigh-requires c κs = (c .before .before .before .before .before .before .pre, (c .before .before .loop-test .taken, sym (c .before .is-code .ensures) ∙ c .if1 .taken))
+weigh-requires c κs =
+    let p = c .before .before .before .before in
+    (p .before .before .pre, (c .before .before .loop-test .taken, sym (c .before .is-code .ensures) ∙ c .if1 .taken))
 
 enum-known-fine : tie.Need-enum-known-fine Inv-loop μ-loop
 enum-known-fine c = search needs
 
 returns : tie.Need-returns Inv-loop μ-loop
-returns c = let a = c .before .before .before .before .before .before .before .before .before .before .args in unfit-stop (now (a .records)) (now (a .bytes)) (c .before .before .before .before .before .before .before .loop .i) (c .before .before .before .before .before .before .before .loop .inv) (c .before .before .before .before .before .before .loop-test .taken) (c .before .before .before .before .before .is-code .ensures) (c .before .before .before .before .if1 .taken) (c .before .before .before .weigh .ensures) (c .before .fine .given .1)
+returns c =
+    let p = c .before .before .before .before in
+    let q = p .before .before .before .before in
+    let a = q .before .before .args in
+    unfit-stop (now (a .records)) (now (a .bytes)) (p .before .before .before .loop .i) (p .before .before .before .loop .inv)
+    (p .before .before .loop-test .taken) (p .before .is-code .ensures) (p .if1 .taken) (c .before .before .before .weigh .ensures)
+    (c .before .fine .given .1)
 
 enum-told : tie.Need-enum-told Inv-loop μ-loop
 enum-told c = search needs
@@ -52,7 +60,9 @@ loop-again c =
     (c .if1 .came)
 
 returns-2 : tie.Need-returns-2 Inv-loop μ-loop
-returns-2 c = let a = c .before .before .before .before .args in unfit-end (now (a .records)) (now (a .bytes)) (c .before .loop .i) (c .before .loop .inv) (c .loop-test .left)
+returns-2 c =
+    let a = c .before .before .before .before .args in
+    unfit-end (now (a .records)) (now (a .bytes)) (c .before .loop .i) (c .before .loop .inv) (c .loop-test .left)
 
 pub messages-fine-spec : {M : Type 1} → statement M
 messages-fine-spec =

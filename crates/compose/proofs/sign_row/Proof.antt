@@ -23,7 +23,11 @@ same-length : tie.Need-same-length
 same-length c = search needs
 
 returns-2 : tie.Need-returns-2
-returns-2 c = all-put _ (now (c .before .before .before .before .before .before .before .before .before .before .before .args .out)) _ (measured _ _ _ _ (c .before .before .before .before .before .before .emit-signed .ensures)) _ _ (c .before .before .before .before .if1 .left) (omega (arith, c .before .before .before .before .before .before .before .before .before .before .before .good .1 .1 .1 .0 .1)) (c .before .before .emit-signed2 .ensures)
+returns-2 c =
+    let p = c .before .before .before .before in
+    let q = p .before .before .before .before in
+    all-put _ (now (q .before .before .before .args .out)) _ (measured _ _ _ _ (p .before .before .emit-signed .ensures)) _ _ (p .if1 .left)
+    (omega (arith, q .before .before .before .good .1 .1 .1 .0 .1)) (c .before .before .emit-signed2 .ensures)
 
 pub sign-row-spec : {M : Type 1} → statement M
 sign-row-spec =

@@ -16,20 +16,32 @@ enum-known-place : tie.Need-enum-known-place
 enum-known-place c = search needs
 
 add-utf8-at : tie.Need-add-utf8-at
-add-utf8-at c = let s = c .before .before .before .before in let h = place-inside (length (now (s .args .bytes))) (s .args .at) _ _ _ (s .pre) (c .before .place .given .1) in search needs
+add-utf8-at c =
+    let s = c .before .before .before .before in
+    let h = place-inside (length (now (s .args .bytes))) (s .args .at) _ _ _ (s .pre) (c .before .place .given .1) in
+    search needs
 
 add-utf8-at-2 : tie.Need-add-utf8-at-2
-add-utf8-at-2 c = let s = c .before .before .before .before in let h = place-inside (length (now (s .args .bytes))) (s .args .at) _ _ _ (s .pre) (c .before .place .given .1) in search needs
+add-utf8-at-2 c =
+    let s = c .before .before .before .before in
+    let h = place-inside (length (now (s .args .bytes))) (s .args .at) _ _ _ (s .pre) (c .before .place .given .1) in
+    search needs
 
 utf8-at-requires : tie.Need-utf8-at-requires
-utf8-at-requires c κs = let s = c .before .before .before .before in let h = place-inside (length (now (s .args .bytes))) (s .args .at) _ _ _ (s .pre) (c .before .place .given .1) in search needs
+utf8-at-requires c κs =
+    let s = c .before .before .before .before in
+    let h = place-inside (length (now (s .args .bytes))) (s .args .at) _ _ _ (s .pre) (c .before .place .given .1) in
+    search needs
 
 returns : tie.Need-returns
 unfolding textFine
 returns c = let a = c .before .before .before .args in ap (λ (p : Place). textFine (now (a .bytes)) (moved (a .at) p)) (sym (c .enum-told .given .1))
 
 returns-2 : tie.Need-returns-2
-returns-2 c = let a = c .before .before .before .before .before .args in c .utf8-at .ensures ∙ ap (λ (p : Place). textFine (now (a .bytes)) (moved (a .at) p)) (sym (c .before .before .place .given .1))
+returns-2 c =
+    let p = c .before .before .before .before in
+    let a = p .before .args in
+    c .utf8-at .ensures ∙ ap (λ (p : Place). textFine (now (a .bytes)) (moved (a .at) p)) (sym (c .before .before .place .given .1))
 
 pub text-at-spec : {M : Type 1} → statement M
 text-at-spec =

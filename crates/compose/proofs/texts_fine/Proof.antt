@@ -23,7 +23,11 @@ row-at-requires : tie.Need-row-at-requires Inv-loop μ-loop
 row-at-requires c κs = search needs
 
 text-fine-requires : tie.Need-text-fine-requires Inv-loop μ-loop
-text-fine-requires c κs = let s = c .before .before .before .before .before in inside-row (now (s .args .records)) (now (s .args .bytes)) (c .before .before .loop .i) _ (s .pre) (c .before .loop-test .taken) (c .row-at .ensures)
+text-fine-requires c κs =
+    let p = c .before .before .before .before in
+    let s = p .before in
+    inside-row (now (s .args .records)) (now (s .args .bytes)) (c .before .before .loop .i) _ (s .pre) (c .before .loop-test .taken)
+    (c .row-at .ensures)
 
 enum-told : tie.Need-enum-told Inv-loop μ-loop
 enum-told c = search needs
@@ -35,16 +39,28 @@ loop-less : tie.Need-loop-less Inv-loop μ-loop
 loop-less c = search needs
 
 loop-again : tie.Need-loop-again Inv-loop μ-loop
-loop-again c = let a = c .before .before .before .before .before .before .before .before .args in texts-on (now (a .records)) (now (a .bytes)) (c .before .before .before .before .before .loop .i) (c .before .before .before .before .before .loop .inv) _ (c .before .before .before .before .loop-test .taken) (c .before .before .before .row-at .ensures) (c .before .before .text-fine .ensures) (c .enum-told .given .1)
+loop-again c =
+    let p = c .before .before .before .before in
+    let q = p .before .before .before .before in
+    let a = q .args in
+    texts-on (now (a .records)) (now (a .bytes)) (p .before .loop .i) (p .before .loop .inv) _ (p .loop-test .taken)
+    (c .before .before .before .row-at .ensures) (c .before .before .text-fine .ensures) (c .enum-told .given .1)
 
 enum-known-fine : tie.Need-enum-known-fine Inv-loop μ-loop
 enum-known-fine c = search needs
 
 returns : tie.Need-returns Inv-loop μ-loop
-returns c = let a = c .before .before .before .before .before .before .before .before .before .args in texts-stop (now (a .records)) (now (a .bytes)) (c .before .before .before .before .before .before .loop .i) (c .before .before .before .before .before .before .loop .inv) _ (c .before .before .before .before .before .loop-test .taken) (c .before .before .before .before .row-at .ensures) (c .before .before .before .text-fine .ensures) (c .before .fine .given .1)
+returns c =
+    let p = c .before .before .before .before in
+    let q = p .before .before .before .before in
+    let a = q .before .args in
+    texts-stop (now (a .records)) (now (a .bytes)) (p .before .before .loop .i) (p .before .before .loop .inv) _ (p .before .loop-test .taken)
+    (p .row-at .ensures) (c .before .before .before .text-fine .ensures) (c .before .fine .given .1)
 
 returns-2 : tie.Need-returns-2 Inv-loop μ-loop
-returns-2 c = let a = c .before .before .before .before .args in texts-end (now (a .records)) (now (a .bytes)) (c .before .loop .i) (c .before .loop .inv) (c .loop-test .left)
+returns-2 c =
+    let a = c .before .before .before .before .args in
+    texts-end (now (a .records)) (now (a .bytes)) (c .before .loop .i) (c .before .loop .inv) (c .loop-test .left)
 
 pub texts-fine-spec : {M : Type 1} → statement M
 texts-fine-spec =

@@ -27,7 +27,11 @@ is-code-requires : tie.Need-is-code-requires Inv-loop μ-loop
 is-code-requires c κs = search needs
 
 returns : tie.Need-returns Inv-loop μ-loop
-returns c = let a = c .before .before .before .before .before .before .args in counted-done _ _ _ _ (c .before .before .before .loop .inv .1) (topics-stop (now (a .records)) (now (a .bytes)) (c .before .before .before .loop .i) (c .before .before .loop-test .taken) (c .before .is-code .ensures) (c .if1 .taken))
+returns c =
+    let p = c .before .before .before .before in
+    let a = p .before .before .args in
+    counted-done _ _ _ _ (c .before .before .before .loop .inv .1)
+    (topics-stop (now (a .records)) (now (a .bytes)) (c .before .before .before .loop .i) (c .before .before .loop-test .taken) (c .before .is-code .ensures) (c .if1 .taken))
 
 is-code-requires-2 : tie.Need-is-code-requires-2 Inv-loop μ-loop
 is-code-requires-2 c κs = search needs
@@ -37,8 +41,11 @@ row-at-requires c κs = search needs
 
 sub-len : tie.Need-sub-len Inv-loop μ-loop
 sub-len c =
-    let s = c .before .before .before .before .before .before .before .before .before .before in
-    row-inside-is (length (now (s .args .bytes))) _ (inside-row (now (s .args .records)) (now (s .args .bytes)) (c .before .before .before .before .before .before .before .loop .i) _ (s .pre) (c .before .before .before .before .before .before .loop-test .taken) (c .before .row-at .ensures)) .0
+    let p = c .before .before .before .before in
+    let q = p .before .before .before .before in
+    let s = q .before .before in
+    row-inside-is (length (now (s .args .bytes))) _
+    (inside-row (now (s .args .records)) (now (s .args .bytes)) (p .before .before .before .loop .i) _ (s .pre) (p .before .before .loop-test .taken) (c .before .row-at .ensures)) .0
 
 add-count : tie.Need-add-count Inv-loop μ-loop
 add-count c = search needs
@@ -83,7 +90,9 @@ loop-again c =
     (c .if2 .came)
 
 returns-2 : tie.Need-returns-2 Inv-loop μ-loop
-returns-2 c = let a = c .before .before .before .before .args in counted-done _ _ _ _ (c .before .loop .inv .1) (topics-end (now (a .records)) (now (a .bytes)) (c .before .loop .i) (c .loop-test .left))
+returns-2 c =
+    let a = c .before .before .before .before .args in
+    counted-done _ _ _ _ (c .before .loop .inv .1) (topics-end (now (a .records)) (now (a .bytes)) (c .before .loop .i) (c .loop-test .left))
 
 pub topics-from-spec : {M : Type 1} → statement M
 topics-from-spec =

@@ -9,16 +9,32 @@ row-at-requires : tie.Need-row-at-requires
 row-at-requires c κs = search needs
 
 from-fine-requires : tie.Need-from-fine-requires
-from-fine-requires c κs = let a = c .before .before .before .before .args in message-places (now (a .records)) (now (a .bytes)) (a .i) _ (c .before .before .before .before .pre .0) (c .before .before .before .before .pre .1 .0) (c .before .before .before .before .pre .1 .1) (c .before .row-at .ensures) .from
+from-fine-requires c κs =
+    let a = c .before .before .before .before .args in
+    message-places (now (a .records)) (now (a .bytes)) (a .i) _ (c .before .before .before .before .pre .0)
+    (c .before .before .before .before .pre .1 .0) (c .before .before .before .before .pre .1 .1) (c .before .row-at .ensures) .from
 
 seqno-fine-requires : tie.Need-seqno-fine-requires
-seqno-fine-requires c κs = let a = c .before .before .before .before .before .args in message-places (now (a .records)) (now (a .bytes)) (a .i) _ (c .before .before .before .before .before .pre .0) (c .before .before .before .before .before .pre .1 .0) (c .before .before .before .before .before .pre .1 .1) (c .before .before .row-at .ensures) .seqno
+seqno-fine-requires c κs =
+    let p = c .before .before .before .before in
+    let a = p .before .args in
+    message-places (now (a .records)) (now (a .bytes)) (a .i) _ (p .before .pre .0) (p .before .pre .1 .0) (p .before .pre .1 .1)
+    (c .before .before .row-at .ensures) .seqno
 
 signature-fine-requires : tie.Need-signature-fine-requires
-signature-fine-requires c κs = let a = c .before .before .before .before .before .before .args in message-places (now (a .records)) (now (a .bytes)) (a .i) _ (c .before .before .before .before .before .before .pre .0) (c .before .before .before .before .before .before .pre .1 .0) (c .before .before .before .before .before .before .pre .1 .1) (c .before .before .before .row-at .ensures) .signature
+signature-fine-requires c κs =
+    let p = c .before .before .before .before in
+    let a = p .before .before .args in
+    message-places (now (a .records)) (now (a .bytes)) (a .i) _ (p .before .before .pre .0) (p .before .before .pre .1 .0)
+    (p .before .before .pre .1 .1) (c .before .before .before .row-at .ensures) .signature
 
 sender-key-fine-requires : tie.Need-sender-key-fine-requires
-sender-key-fine-requires c κs = let a = c .before .before .before .before .before .before .before .args in let m = message-places (now (a .records)) (now (a .bytes)) (a .i) _ (c .before .before .before .before .before .before .before .pre .0) (c .before .before .before .before .before .before .before .pre .1 .0) (c .before .before .before .before .before .before .before .pre .1 .1) (c .before .before .before .before .row-at .ensures) in (m .from, m .key)
+sender-key-fine-requires c κs =
+    let p = c .before .before .before .before in
+    let a = p .before .before .before .args in
+    let m = message-places (now (a .records)) (now (a .bytes)) (a .i) _ (p .before .before .before .pre .0) (p .before .before .before .pre .1 .0)
+    (p .before .before .before .pre .1 .1) (p .row-at .ensures) in
+    (m .from, m .key)
 
 limits-fine-requires : tie.Need-limits-fine-requires
 limits-fine-requires c κs = search needs
@@ -37,9 +53,14 @@ first-requires-4 c κs = search needs
 
 returns : tie.Need-returns
 returns c =
-    let a = c .before .before .before .before .before .before .before .before .before .before .before .before .before .args in
-    weighed-by (now (a .bytes)) _ _ _ _ _ _ _ _ _ _ _ _ (c .before .before .before .before .before .before .before .before .before .before .row-at .ensures) (c .before .before .before .before .before .before .before .before .from-fine .ensures) (c .before .before .before .before .before .before .before .seqno-fine .ensures) (c .before .before .before .before .before .before .signature-fine .ensures)
-    (c .before .before .before .before .before .sender-key-fine .ensures) (c .before .before .before .before .limits-fine .ensures) (c .before .before .before .first .ensures) (c .before .before .first2 .ensures) (c .before .first3 .ensures) (c .first4 .ensures)
+    let p = c .before .before .before .before in
+    let q = p .before .before .before .before in
+    let u = q .before .before .before .before in
+    let a = u .before .args in
+    weighed-by (now (a .bytes)) _ _ _ _ _ _ _ _ _ _ _ _ (q .before .before .row-at .ensures) (q .from-fine .ensures)
+    (p .before .before .before .seqno-fine .ensures) (p .before .before .signature-fine .ensures) (p .before .sender-key-fine .ensures)
+    (p .limits-fine .ensures) (c .before .before .before .first .ensures) (c .before .before .first2 .ensures) (c .before .first3 .ensures)
+    (c .first4 .ensures)
 
 pub weigh-spec : {M : Type 1} → statement M
 weigh-spec =

@@ -23,19 +23,28 @@ enum-told-2 : tie.Need-enum-told-2
 enum-told-2 c = search needs
 
 write-tested-requires : tie.Need-write-tested-requires
-write-tested-requires c κs = lists-inside _ _ (c .before .before .before .before .before .before .lists-of .ensures) (c .before .before .before .before .enum-told .given .1)
+write-tested-requires c κs =
+    let p = c .before .before .before .before in
+    lists-inside _ _ (p .before .before .lists-of .ensures) (p .enum-told .given .1)
 
 returns : tie.Need-returns
 returns c = write-lists _ _ _ (c .before .before .before .lists-of .ensures) (c .before .lists .given .1)
 
 returns-2 : tie.Need-returns-2
-returns-2 c = write-unfit _ _ _ (c .before .before .before .before .before .before .lists-of .ensures) (c .before .before .before .before .enum-told .given .1) (c .before .before .before .messages-fine .ensures) (c .before .fine .given .1)
+returns-2 c =
+    let p = c .before .before .before .before in
+    write-unfit _ _ _ (p .before .before .lists-of .ensures) (p .enum-told .given .1) (c .before .before .before .messages-fine .ensures)
+    (c .before .fine .given .1)
 
 same-length : tie.Need-same-length
 same-length c = search needs
 
 returns-3 : tie.Need-returns-3
-returns-3 c = write-fit _ _ _ (c .before .before .before .before .before .before .before .before .before .lists-of .ensures) (c .before .before .before .before .before .before .before .enum-told .given .1) (c .before .before .before .before .before .before .messages-fine .ensures) (c .before .before .before .before .enum-told2 .given .1) _ _ (c .before .before .write-tested .ensures)
+returns-3 c =
+    let p = c .before .before .before .before in
+    let q = p .before .before .before .before in
+    write-fit _ _ _ (q .before .lists-of .ensures) (p .before .before .before .enum-told .given .1) (p .before .before .messages-fine .ensures)
+    (p .enum-told2 .given .1) _ _ (c .before .before .write-tested .ensures)
 
 pub write-rpc-spec : {M : Type 1} → statement M
 write-rpc-spec =

@@ -17,7 +17,9 @@ returns : tie.Need-returns
 returns c = too-long _ _ _ (measured _ _ _ _ (c .before .before .emit-rpc .ensures)) (c .if1 .taken)
 
 returns-2 : tie.Need-returns-2
-returns-2 c = let e = measured _ _ _ _ (c .before .before .before .emit-rpc .ensures) in not-long _ _ _ e (c .before .if1 .left) _ _ (too-short _ _ _ e (c .if2 .taken))
+returns-2 c =
+    let e = measured _ _ _ _ (c .before .before .before .emit-rpc .ensures) in
+    not-long _ _ _ e (c .before .if1 .left) _ _ (too-short _ _ _ e (c .if2 .taken))
 
 emit-rpc-requires-2 : tie.Need-emit-rpc-requires-2
 emit-rpc-requires-2 c κs = search needs
@@ -26,7 +28,13 @@ same-length : tie.Need-same-length
 same-length c = search needs
 
 returns-3 : tie.Need-returns-3
-returns-3 c = let e = measured _ _ _ _ (c .before .before .before .before .before .before .before .emit-rpc .ensures) in not-long _ _ _ e (c .before .before .before .before .before .if1 .left) _ _ (all-put _ (now (c .before .before .before .before .before .before .before .before .before .before .before .before .args .out)) _ e _ _ (c .before .before .before .before .if2 .left) (omega (arith, c .before .before .before .before .before .before .before .before .before .before .before .before .good .1 .1 .0 .1)) (c .before .before .emit-rpc2 .ensures))
+returns-3 c =
+    let p = c .before .before .before .before in
+    let q = p .before .before .before .before in
+    let u = q .before .before .before .before in
+    let e = measured _ _ _ _ (p .before .before .before .emit-rpc .ensures) in
+    not-long _ _ _ e (p .before .if1 .left) _ _
+    (all-put _ (now (u .args .out)) _ e _ _ (p .if2 .left) (omega (arith, u .good .1 .1 .0 .1)) (c .before .before .emit-rpc2 .ensures))
 
 pub write-tested-spec : {M : Type 1} → statement M
 write-tested-spec =
