@@ -28,13 +28,12 @@ use Rattle.compose.specs.declared.Wrong.{Wrong}
 use Rattle.compose.specs.declared.Wrong.the-variants.{NotLent, TooManyRecords, Unfit}
 use Rattle.compose.specs.declared.Lists.{Lists}
 use Rattle.compose.specs.declared.Lists.the-variants.{Fine, Refused}
+use Rattle.compose.specs.declared.Row.the-variants as row
 use Rattle.compose.specs.Said.{encodeMessage, messagesIn, topicsFrom, messageOf}
 use Rattle.compose.specs.Weighed.{capped, andThen, given, fromFine, seqnoFine, signatureFine, keyFine, inTopics, topicsFine, sizeFine, limitsFine, weighed, firstUnfit}
 use Rattle.compose.specs.Compose.{textOf, textFine, textsFine, countFine, listsOf}
-use Rattle.compose.specs.Puts.{capped-bound, capped-below}
+use Rattle.compose.specs.Puts.{capped-bound, capped-below, FindsRow, found, missing}
 use Rattle.compose.specs.Laws.{rows-step, rows-end, messages-step, topics-step, no-messages, no-topics}
-use Rattle.compose.specs.declared.Row.the-variants as row
-use Rattle.compose.specs.Puts.{FindsRow, found, missing}
 use Rattle.compose.proofs.Parts.{place-inside, row-inside-is, MessageInside, message-row}
 
 -- ---- tests one after the other
@@ -278,8 +277,7 @@ module _ (m : RawMessage) (t : Topics) (e : t ≡ inTopics (m .«topic_ids»)) w
             let c = capped-below (length (encodeMessage m)) 4096 (omega arith) (omega arith) in
             sym (limits-size ∙ simp (le-ltb 4096 (length (encodeMessage m)) (omega arith)))
 
--- ---- a field's bytes, by their number: 23, 26
--- those at a place
+-- ---- a field's bytes, by their number
 pub given-length : (b : List ℕ) (at : ℕ) (p : Place) (a e : ℕ) → insideAt (length b) at p ≡ true → p ≡ place.Present a e → length (given (bytesAt b at p)) ≡ e - a
 given-length b at p a e h g =
     let k = place-inside (length b) at a e p h g in
@@ -295,6 +293,7 @@ module _ (d : List ℕ) (len : ℕ) (e : len ≡ length d) where
   unfit-not : (len ≡ 0 → ⊥) → len ≤ 64 → unfit d ≡ false
   unfit-not n h = simp (ne-eqb (length d) 0 (λ x. n (omega arith)), le-ltb 64 (length d) (omega arith))
 
+  -- 26
   pub signature-fit : len ≡ 64 → Fine ≡ signatureFine d
   unfolding signatureFine
   signature-fit h = cond-yes _ _ refl (eq-eqb (length d) 64 (omega arith))
@@ -303,6 +302,7 @@ module _ (d : List ℕ) (len : ℕ) (e : len ≡ length d) where
   unfolding signatureFine
   signature-unfit h = rw e (cond-no _ _ refl (ne-eqb (length d) 64 (λ x. h (omega arith))))
 
+  -- 23
   pub seqno-none : len ≡ 0 → Refused (Unfit InvalidSeqno) ≡ seqnoFine d
   unfolding seqnoFine
   seqno-none h = cond-yes _ _ refl (unfit-none h)

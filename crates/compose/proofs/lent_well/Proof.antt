@@ -59,11 +59,16 @@ loop-less c = search needs
 
 loop-again : tie.Need-loop-again Inv-loop μ-loop
 loop-again c =
-    let l = c .before .before .before .before .before .before .before .before .before .before .loop in
-    lent-on _ _ (l .i) (l .message) (l .prune) _ (l .inv) (c .before .before .before .before .before .before .before .before .before .loop-test .taken) (c .before .before .before .before .before .before .before .before .row-at .ensures) (c .before .before .before .before .before .before .before .held-by .ensures) (not-false _ (c .before .before .before .before .before .before .if2 .left))
-    (c .before .before .before .before .before .row-inside .ensures) (not-false _ (c .before .before .before .before .if3 .left))
-    (⊎-elim (λ w. or-now (l .message) (c .before .before .before .is-code .ensures) (w .0 .taken) (w .1)) (λ w. or-then _ (c .before .before .before .is-code .ensures) (w .0 .left) (w .1)) (c .before .before .if4 .came))
-    (⊎-elim (λ w. or-now (l .prune) (c .before .is-code2 .ensures) (w .0 .taken) (w .1)) (λ w. or-then _ (c .before .is-code2 .ensures) (w .0 .left) (w .1)) (c .if5 .came))
+    let p = c .before .before .before .before in
+    let q = p .before .before .before .before in
+    let l = q .before .before .loop in
+    let m = c .before .before .before .is-code .ensures in
+    let n = c .before .is-code2 .ensures in
+    lent-on _ _ (l .i) (l .message) (l .prune) _ (l .inv) (q .before .loop-test .taken) (q .row-at .ensures)
+    (p .before .before .before .held-by .ensures) (not-false _ (p .before .before .if2 .left)) (p .before .row-inside .ensures)
+    (not-false _ (p .if3 .left))
+    (⊎-elim (λ w. or-now (l .message) m (w .0 .taken) (w .1)) (λ w. or-then _ m (w .0 .left) (w .1)) (c .before .before .if4 .came))
+    (⊎-elim (λ w. or-now (l .prune) n (w .0 .taken) (w .1)) (λ w. or-then _ n (w .0 .left) (w .1)) (c .if5 .came))
 
 returns-4 : tie.Need-returns-4 Inv-loop μ-loop
 returns-4 c = let l = c .before .loop in lent-end _ _ (l .i) (l .message) (l .prune) (l .inv) (c .loop-test .left)

@@ -63,30 +63,32 @@ loop-again c =
     let b = s .args .bytes .now in
     let l = c .before .before .before .before .before .loop in
     let h = c .before .before .before .before .loop-test .taken in
+    let e = c .before .before .before .is-code .ensures in
+    let f = c .before .is-code2 .ensures in
     let g = l .inv .1 in
     let rest = topicsFrom b (rowsFrom t (l .i + 1)) in
     ⊎-elim
     (λ w. (
       omega arith,
       counted-more _ _ _ _ g (rawOf b (w .1 .result)) rest _ _
-          (topics-one t b (l .i) h (c .before .before .before .is-code .ensures) (c .before .before .if1 .left) (c .before .is-code2 .ensures) (w .0 .taken) (w .1 .result) (w .1 .ensures)) (w .5)
+          (topics-one t b (l .i) h e (c .before .before .if1 .left) f (w .0 .taken) (w .1 .result) (w .1 .ensures)) (w .5)
           (long-now _ rest _ (raw-length t b (l .i) h (w .1 .result) (s .pre) (w .1 .ensures)) _ _ (w .3 .taken) (w .4 .taken) (w .6)),
     ))
     (⊎-elim
     (λ w. (
       omega arith,
       counted-more _ _ _ _ g (rawOf b (w .1 .result)) rest _ _
-          (topics-one t b (l .i) h (c .before .before .before .is-code .ensures) (c .before .before .if1 .left) (c .before .is-code2 .ensures) (w .0 .taken) (w .1 .result) (w .1 .ensures)) (w .5)
+          (topics-one t b (l .i) h e (c .before .before .if1 .left) f (w .0 .taken) (w .1 .result) (w .1 .ensures)) (w .5)
           (long-later _ rest _ (raw-length t b (l .i) h (w .1 .result) (s .pre) (w .1 .ensures)) _ _ (w .3 .taken) (w .4 .left) (w .6)),
     ))
     (⊎-elim
     (λ w. (
       omega arith,
       counted-more _ _ _ _ g (rawOf b (w .1 .result)) rest _ _
-          (topics-one t b (l .i) h (c .before .before .before .is-code .ensures) (c .before .before .if1 .left) (c .before .is-code2 .ensures) (w .0 .taken) (w .1 .result) (w .1 .ensures)) (w .4)
+          (topics-one t b (l .i) h e (c .before .before .if1 .left) f (w .0 .taken) (w .1 .result) (w .1 .ensures)) (w .4)
           (long-before _ rest _ (raw-length t b (l .i) h (w .1 .result) (s .pre) (w .1 .ensures)) _ _ (w .3 .left) (w .5)),
     ))
-    (λ w. (omega arith, counted-same _ _ _ _ g rest _ _ (topics-skip t b (l .i) h (c .before .before .before .is-code .ensures) (c .before .before .if1 .left) (c .before .is-code2 .ensures) (w .0 .left)) (w .1) (w .2)))))
+    (λ w. (omega arith, counted-same _ _ _ _ g rest _ _ (topics-skip t b (l .i) h e (c .before .before .if1 .left) f (w .0 .left)) (w .1) (w .2)))))
     (c .if2 .came)
 
 returns-2 : tie.Need-returns-2 Inv-loop μ-loop
