@@ -11,12 +11,13 @@ use lib.Dec.{leb, eqb}
 use borrow.Author.Tests.{eqb-true, leb-true, leb-false, lt-ltb, le-ltb, le-leb, lt-leb, eq-eqb, ne-eqb}
 use Rattle.basis.specs.Cases.{either}
 use Rattle.schema.specs.declared.Kind.{Kind}
+use Rattle.schema.specs.declared.Kind.the-variants as kind
 use Rattle.schema.specs.declared.Place.{Place}
 use Rattle.schema.specs.declared.Place.the-variants as place
 use Rattle.protobuf.specs.Walk.{between}
 use Rattle.protobuf.specs.WalkLaws.{between-length}
 use Rattle.message.specs.declared.Record.{Record}
-use Rattle.message.specs.Rows.{recordFrom}
+use Rattle.message.specs.Rows.{kindFrom, recordFrom}
 use Rattle.meaning.specs.ReadBack.{bytesAt, rawOf}
 use Rattle.rpc.specs.Rpc.{RawMessage}
 use Rattle.admission.specs.declared.Topics.{Topics}
@@ -34,7 +35,7 @@ use Rattle.compose.specs.Weighed.{capped, andThen, given, fromFine, seqn
 use Rattle.compose.specs.Compose.{textOf, textFine, textsFine, countFine, listsOf}
 use Rattle.compose.specs.Puts.{capped-bound, capped-below, FindsRow, found, missing}
 use Rattle.compose.specs.Laws.{rows-step, rows-end, messages-step, topics-step, no-messages, no-topics}
-use Rattle.compose.proofs.Parts.{place-inside, row-inside-is, MessageInside, message-row}
+use Rattle.compose.proofs.Parts.{code-kind, place-inside, row-inside-is, MessageInside, message-inside-is}
 
 -- ---- tests one after the other
 pub and-no : {a x : Bool} (b : Bool) → a ≡ x → a ≡ false → false ≡ x && b
@@ -350,7 +351,10 @@ module _ (b : List ℕ) (at : ℕ) (p : Place) (a e : ℕ) (inside : insideAt (l
 -- its places lie within the bytes
 pub message-places : (t b : List ℕ) (i : ℕ) (r : Record) → Inside t b → i < length t / 20 → isCode 2 (recordFrom t (i * 20)) ≡ true
     → r ≡ recordFrom t (i * 20) → MessageInside (length b) (r .start) (r .slots)
-message-places t b i r h l k e = message-row (length b) r (inside-row t b i r h l e) (ap (isCode 2) e ∙ k)
+unfolding kindFrom
+message-places t b i r h l k e =
+    message-inside-is (length b) (r .start) (r .slots)
+    (row-fields (length b) r (inside-row t b i r h l e) kind.RawMessage (code-kind (r .kind) 2 (ap (isCode 2) e ∙ k)))
 
 -- one test after the other
 pub weighed-by : (b : List ℕ) (r s : Record) (rs : List Record) (from seqno signature key limits x y z w : Lists) → r ≡ s
