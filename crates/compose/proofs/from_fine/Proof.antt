@@ -1,65 +1,91 @@
+-- `compose::from_fine` meets its contract.
+use denote.Ref.{now}
+use mathlib.Core.Path.{sym, ap}
+use lib.ListN.{length}
+use Rattle.schema.specs.declared.Place.{Place}
+use Rattle.meaning.specs.ReadBack.{bytesAt}
+use Rattle.compose.specs.Weighed.{fromFine}
+use Rattle.compose.proofs.Parts.{place-inside}
+use Rattle.compose.proofs.Tests.{from-none, from-long, from-fit, from-other}
 use borrow.Author.Needs.{needs}
 use Rattle.compose.proofs.from_fine.Statement.{statement}
 use Rattle.compose.proofs.from_fine.Tie as tie
-use Rattle.compose.proofs.from_fine.Reads as reads
-use Rattle.compose.proofs.from_fine.Lts as lts
-use Rattle.admission.proofs.is_peer_id.Reads as is-peer-id-reads
 
--- src/lib.rt:835:33
 enum-known-from : tie.Need-enum-known-from
 enum-known-from c = search needs
 
--- src/lib.rt:836:44
 enum-told : tie.Need-enum-told
 enum-told c = search needs
 
--- src/lib.rt:836:9
 returns : tie.Need-returns
-returns c = ?
+unfolding fromFine
+returns c =
+    let a = c .before .before .before .args in
+    ap (λ (p : Place). fromFine (bytesAt (now (a .bytes)) (a .base) p)) (sym (c .enum-told .given .1))
 
--- src/lib.rt:838:15
 sub-len : tie.Need-sub-len
-sub-len c = ?
+sub-len c =
+    let a = c .before .before .before .before .args in
+    let h = place-inside (length (now (a .bytes))) (a .base) _ _ _ (c .before .before .before .before .pre) (c .before .from .given .1) in
+    search needs
 
--- src/lib.rt:840:9
 returns-2 : tie.Need-returns-2
-returns-2 c = ?
+returns-2 c =
+    let a = c .before .before .before .before .before .args in
+    from-none (now (a .bytes)) (a .base) _ _ _ (c .before .before .before .before .before .pre) (c .before .before .from .given .1) (c .if1 .taken)
 
--- src/lib.rt:843:9
 returns-3 : tie.Need-returns-3
-returns-3 c = ?
+returns-3 c =
+    let p = c .before .before .before .before in
+    let a = p .before .before .args in
+    from-long (now (a .bytes)) (a .base) _ _ _ (p .before .before .pre) (c .before .before .before .from .given .1) (c .before .if1 .left)
+    (c .if2 .taken)
 
--- src/lib.rt:845:26
 add-is-peer-id : tie.Need-add-is-peer-id
-add-is-peer-id c = ?
+add-is-peer-id c =
+    let p = c .before .before .before .before in
+    let a = p .before .before .args in
+    let h = place-inside (length (now (a .bytes))) (a .base) _ _ _ (p .before .before .pre) (c .before .before .before .from .given .1) in
+    search needs
 
--- src/lib.rt:845:36
 add-is-peer-id-2 : tie.Need-add-is-peer-id-2
-add-is-peer-id-2 c = ?
+add-is-peer-id-2 c =
+    let p = c .before .before .before .before in
+    let a = p .before .before .args in
+    let h = place-inside (length (now (a .bytes))) (a .base) _ _ _ (p .before .before .pre) (c .before .before .before .from .given .1) in
+    search needs
 
--- src/lib.rt:845:19
 sub-is-peer-id : tie.Need-sub-is-peer-id
 sub-is-peer-id c = search needs
 
--- src/lib.rt:845:19
 part-is-peer-id-start : tie.Need-part-is-peer-id-start
 part-is-peer-id-start c = search needs
 
--- src/lib.rt:845:19
 part-is-peer-id-end : tie.Need-part-is-peer-id-end
-part-is-peer-id-end c = ?
+part-is-peer-id-end c =
+    let p = c .before .before .before .before in
+    let a = p .before .before .args in
+    let h = place-inside (length (now (a .bytes))) (a .base) _ _ _ (p .before .before .pre) (c .before .before .before .from .given .1) in
+    search needs
 
--- src/lib.rt:845:8
 is-peer-id-requires : tie.Need-is-peer-id-requires
 is-peer-id-requires c κs = search needs
 
--- src/lib.rt:846:9
 returns-4 : tie.Need-returns-4
-returns-4 c = ?
+returns-4 c =
+    let p = c .before .before .before .before in
+    let q = p .before .before .before .before in
+    let a = q .before .args in
+    from-fit (now (a .bytes)) (a .base) _ _ _ (q .before .pre) (p .before .before .from .given .1) (p .if1 .left)
+    (c .before .before .before .if2 .left) (c .before .is-peer-id .ensures) (c .if3 .taken)
 
--- src/lib.rt:831:1
 returns-5 : tie.Need-returns-5
-returns-5 c = ?
+returns-5 c =
+    let p = c .before .before .before .before in
+    let q = p .before .before .before .before in
+    let a = q .before .args in
+    from-other (now (a .bytes)) (a .base) _ _ _ (q .before .pre) (p .before .before .from .given .1) (p .if1 .left)
+    (c .before .before .before .if2 .left) (c .before .is-peer-id .ensures) (c .if3 .left)
 
 pub from-fine-spec : {M : Type 1} → statement M
 from-fine-spec =

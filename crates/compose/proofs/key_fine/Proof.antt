@@ -1,91 +1,149 @@
+-- `compose::key_fine` meets its contract.
+use denote.Ref.{now}
+use mathlib.Core.Path.{sym, ap, _∙_}
+use lib.ListN.{length}
+use Rattle.schema.specs.declared.Place.{Place}
+use Rattle.meaning.specs.ReadBack.{bytesAt}
+use Rattle.compose.specs.Weighed.{keyFine}
+use Rattle.compose.proofs.Parts.{place-inside}
+use Rattle.compose.proofs.Tests.{cond-yes, cond-no}
 use borrow.Author.Needs.{needs}
 use Rattle.compose.proofs.key_fine.Statement.{statement}
 use Rattle.compose.proofs.key_fine.Tie as tie
-use Rattle.compose.proofs.key_fine.Reads as reads
-use Rattle.compose.proofs.key_fine.Lts as lts
-use Rattle.admission.proofs.is_key.Reads as is-key-reads
-use Rattle.admission.proofs.key_inside.Reads as key-inside-reads
-use Rattle.admission.proofs.key_matches.Reads as key-matches-reads
 
--- src/lib.rt:766:33
 enum-known-key : tie.Need-enum-known-key
 enum-known-key c = search needs
 
--- src/lib.rt:767:12
 enum-told : tie.Need-enum-told
 enum-told c = search needs
 
--- src/lib.rt:767:12
 key-inside-requires : tie.Need-key-inside-requires
 key-inside-requires c κs = search needs
 
--- src/lib.rt:768:13
 returns : tie.Need-returns
-returns c = ?
+unfolding keyFine
+returns c =
+    let p = c .before .before .before .before in
+    let a = p .before .before .args in
+    cond-yes _ _ (c .before .key-inside .ensures) (c .if1 .taken)
+    ∙ ap (λ (p : Place). keyFine (now (a .sender)) (bytesAt (now (a .bytes)) (a .base) p)) (sym (c .before .before .enum-told .given .1))
 
--- src/lib.rt:770:9
 returns-2 : tie.Need-returns-2
-returns-2 c = ?
+unfolding keyFine
+returns-2 c =
+    let p = c .before .before .before .before in
+    let a = p .before .before .args in
+    cond-no _ _ (c .before .key-inside .ensures) (c .if1 .left) ∙ ap (λ (p : Place). keyFine (now (a .sender)) (bytesAt (now (a .bytes)) (a .base) p))
+    (sym (c .before .before .enum-told .given .1))
 
--- src/lib.rt:772:22
 add-is-key : tie.Need-add-is-key
-add-is-key c = ?
+add-is-key c =
+    let p = c .before .before .before .before in
+    let a = p .before .args in
+    let h = place-inside (length (now (a .bytes))) (a .base) _ _ _ (p .before .pre) (c .before .key .given .1) in
+    search needs
 
--- src/lib.rt:772:32
 add-is-key-2 : tie.Need-add-is-key-2
-add-is-key-2 c = ?
+add-is-key-2 c =
+    let p = c .before .before .before .before in
+    let a = p .before .args in
+    let h = place-inside (length (now (a .bytes))) (a .base) _ _ _ (p .before .pre) (c .before .key .given .1) in
+    search needs
 
--- src/lib.rt:772:15
 sub-is-key : tie.Need-sub-is-key
-sub-is-key c = ?
+sub-is-key c =
+    let p = c .before .before .before .before in
+    let a = p .before .args in
+    let h = place-inside (length (now (a .bytes))) (a .base) _ _ _ (p .before .pre) (c .before .key .given .1) in
+    search needs
 
--- src/lib.rt:772:15
 part-is-key-start : tie.Need-part-is-key-start
-part-is-key-start c = ?
+part-is-key-start c =
+    let p = c .before .before .before .before in
+    let a = p .before .args in
+    let h = place-inside (length (now (a .bytes))) (a .base) _ _ _ (p .before .pre) (c .before .key .given .1) in
+    search needs
 
--- src/lib.rt:772:15
 part-is-key-end : tie.Need-part-is-key-end
-part-is-key-end c = ?
+part-is-key-end c =
+    let p = c .before .before .before .before in
+    let a = p .before .args in
+    let h = place-inside (length (now (a .bytes))) (a .base) _ _ _ (p .before .pre) (c .before .key .given .1) in
+    search needs
 
--- src/lib.rt:772:8
 is-key-requires : tie.Need-is-key-requires
 is-key-requires c κs = search needs
 
--- src/lib.rt:773:39
 add-key-matches : tie.Need-add-key-matches
-add-key-matches c = ?
+add-key-matches c =
+    let p = c .before .before .before .before in
+    let q = p .before .before .before .before in
+    let a = q .args in
+    let h = place-inside (length (now (a .bytes))) (a .base) _ _ _ (q .pre) (p .key .given .1) in
+    search needs
 
--- src/lib.rt:773:49
 add-key-matches-2 : tie.Need-add-key-matches-2
-add-key-matches-2 c = ?
+add-key-matches-2 c =
+    let p = c .before .before .before .before in
+    let q = p .before .before .before .before in
+    let a = q .args in
+    let h = place-inside (length (now (a .bytes))) (a .base) _ _ _ (q .pre) (p .key .given .1) in
+    search needs
 
--- src/lib.rt:773:32
 sub-key-matches : tie.Need-sub-key-matches
-sub-key-matches c = ?
+sub-key-matches c =
+    let p = c .before .before .before .before in
+    let q = p .before .before .before .before in
+    let a = q .args in
+    let h = place-inside (length (now (a .bytes))) (a .base) _ _ _ (q .pre) (p .key .given .1) in
+    search needs
 
--- src/lib.rt:773:32
 part-key-matches-start : tie.Need-part-key-matches-start
-part-key-matches-start c = ?
+part-key-matches-start c =
+    let p = c .before .before .before .before in
+    let q = p .before .before .before .before in
+    let a = q .args in
+    let h = place-inside (length (now (a .bytes))) (a .base) _ _ _ (q .pre) (p .key .given .1) in
+    search needs
 
--- src/lib.rt:773:32
 part-key-matches-end : tie.Need-part-key-matches-end
-part-key-matches-end c = ?
+part-key-matches-end c =
+    let p = c .before .before .before .before in
+    let q = p .before .before .before .before in
+    let a = q .args in
+    let h = place-inside (length (now (a .bytes))) (a .base) _ _ _ (q .pre) (p .key .given .1) in
+    search needs
 
--- src/lib.rt:773:12
 key-matches-requires : tie.Need-key-matches-requires
 key-matches-requires c κs = search needs
 
--- src/lib.rt:774:13
 returns-3 : tie.Need-returns-3
-returns-3 c = ?
+unfolding keyFine
+returns-3 c =
+    let p = c .before .before .before .before in
+    let q = p .before .before .before .before in
+    let a = q .before .before .before .args in
+    cond-yes _ _ (c .before .key-matches .ensures) (c .if3 .taken)
+    ∙ cond-yes _ _ (p .is-key .ensures) (c .before .before .before .if2 .taken)
+    ∙ ap (λ (p : Place). keyFine (now (a .sender)) (bytesAt (now (a .bytes)) (a .base) p)) (sym (p .before .before .before .key .given .1))
 
--- src/lib.rt:776:9
 returns-4 : tie.Need-returns-4
-returns-4 c = ?
+unfolding keyFine
+returns-4 c =
+    let p = c .before .before .before .before in
+    let q = p .before .before .before .before in
+    let a = q .before .before .before .args in
+    cond-no _ _ (c .before .key-matches .ensures) (c .if3 .left) ∙ cond-yes _ _ (p .is-key .ensures) (c .before .before .before .if2 .taken)
+    ∙ ap (λ (p : Place). keyFine (now (a .sender)) (bytesAt (now (a .bytes)) (a .base) p)) (sym (p .before .before .before .key .given .1))
 
--- src/lib.rt:762:1
 returns-5 : tie.Need-returns-5
-returns-5 c = ?
+unfolding keyFine
+returns-5 c =
+    let p = c .before .before .before .before in
+    let q = p .before .before .before .before in
+    let a = q .args in
+    cond-no _ _ (c .before .is-key .ensures) (c .if2 .left) ∙ ap (λ (p : Place). keyFine (now (a .sender)) (bytesAt (now (a .bytes)) (a .base) p))
+    (sym (p .key .given .1))
 
 pub key-fine-spec : {M : Type 1} → statement M
 key-fine-spec =

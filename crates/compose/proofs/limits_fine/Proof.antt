@@ -1,46 +1,46 @@
+-- `compose::limits_fine` meets its contract.
+use Rattle.compose.proofs.Parts.{measured}
+use Rattle.compose.proofs.Tests.{limits-none, limits-many, limits-long, limits-large, limits-fit}
 use borrow.Author.Needs.{needs}
 use Rattle.compose.proofs.limits_fine.Statement.{statement}
 use Rattle.compose.proofs.limits_fine.Tie as tie
-use Rattle.compose.proofs.limits_fine.Reads as reads
-use Rattle.compose.proofs.limits_fine.Lts as lts
-use Rattle.compose.proofs.emit_message.Reads as emit-message-reads
-use Rattle.compose.proofs.topics_from.Reads as topics-from-reads
 
--- src/lib.rt:743:41
 add-topics-from : tie.Need-add-topics-from
 add-topics-from c = search needs
 
--- src/lib.rt:743:9
 topics-from-requires : tie.Need-topics-from-requires
 topics-from-requires c κs = search needs
 
--- src/lib.rt:745:9
 returns : tie.Need-returns
-returns c = ?
+returns c = limits-none _ _ (c .before .before .topics-from .ensures) (c .if1 .taken)
 
--- src/lib.rt:748:9
 returns-2 : tie.Need-returns-2
-returns-2 c = ?
+returns-2 c = limits-many _ _ (c .before .before .before .before .topics-from .ensures) (c .before .before .if1 .left) (c .if2 .taken)
 
--- src/lib.rt:751:9
 returns-3 : tie.Need-returns-3
-returns-3 c = ?
+returns-3 c =
+    let p = c .before .before .before .before in
+    limits-long _ _ (p .before .before .topics-from .ensures) (p .if1 .left) (c .before .before .if2 .left) (c .if3 .taken)
 
--- src/lib.rt:754:47
 slice-aggregate-emit-message : tie.Need-slice-aggregate-emit-message
 slice-aggregate-emit-message c = search needs
 
--- src/lib.rt:754:9
 emit-message-requires : tie.Need-emit-message-requires
 emit-message-requires c κs = search needs
 
--- src/lib.rt:756:9
 returns-4 : tie.Need-returns-4
-returns-4 c = ?
+returns-4 c =
+    let p = c .before .before .before .before in
+    let q = p .before .before .before .before in
+    limits-large _ _ (q .before .before .topics-from .ensures) (q .if1 .left) (p .before .before .if2 .left) (p .if3 .left) _
+    (measured _ _ _ _ (c .before .before .emit-message .ensures)) (c .if4 .taken)
 
--- src/lib.rt:737:1
 returns-5 : tie.Need-returns-5
-returns-5 c = ?
+returns-5 c =
+    let p = c .before .before .before .before in
+    let q = p .before .before .before .before in
+    limits-fit _ _ (q .before .before .topics-from .ensures) (q .if1 .left) (p .before .before .if2 .left) (p .if3 .left) _
+    (measured _ _ _ _ (c .before .before .emit-message .ensures)) (c .if4 .left)
 
 pub limits-fine-spec : {M : Type 1} → statement M
 limits-fine-spec =

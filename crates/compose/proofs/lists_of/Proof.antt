@@ -1,42 +1,42 @@
+-- `compose::lists_of` meets its contract: one test after the other.
+use mathlib.Core.Path.{sym, _∙_}
+use Rattle.compose.specs.Laws.{lent-inside}
+use Rattle.compose.proofs.Tests.{lists-not-lent, lists-text, lists-many, lists-fine}
 use borrow.Author.Needs.{needs}
 use Rattle.compose.proofs.lists_of.Statement.{statement}
 use Rattle.compose.proofs.lists_of.Tie as tie
-use Rattle.compose.proofs.lists_of.Reads as reads
-use Rattle.compose.proofs.lists_of.Lts as lts
-use Rattle.compose.proofs.lent_well.Reads as lent-well-reads
-use Rattle.compose.proofs.texts_fine.Reads as texts-fine-reads
 
--- src/lib.rt:345:8
 lent-well-requires : tie.Need-lent-well-requires
 lent-well-requires c κs = search needs
 
--- src/lib.rt:346:13
 texts-fine-requires : tie.Need-texts-fine-requires
-texts-fine-requires c κs = ?
+texts-fine-requires c κs = lent-inside _ _ (sym (c .before .lent-well .ensures) ∙ c .if1 .taken)
 
--- src/lib.rt:348:28
 enum-known-fine : tie.Need-enum-known-fine
 enum-known-fine c = search needs
 
--- src/lib.rt:349:17
 returns : tie.Need-returns
-returns c = ?
+returns c =
+    let p = c .before .before .before .before in
+    lists-text _ _ (p .before .lent-well .ensures) (p .if1 .taken) (c .before .before .before .texts-fine .ensures) (c .before .fine .given .1)
 
--- src/lib.rt:352:25
 enum-told : tie.Need-enum-told
 enum-told c = search needs
 
--- src/lib.rt:354:21
 returns-2 : tie.Need-returns-2
-returns-2 c = ?
+returns-2 c =
+    let p = c .before .before .before .before in
+    lists-many _ _ (p .before .lent-well .ensures) (p .if1 .taken) (c .before .before .before .texts-fine .ensures) (c .before .enum-told .given .1)
+    (c .if2 .taken)
 
--- src/lib.rt:356:17
 returns-3 : tie.Need-returns-3
-returns-3 c = ?
+returns-3 c =
+    let p = c .before .before .before .before in
+    lists-fine _ _ (p .before .lent-well .ensures) (p .if1 .taken) (c .before .before .before .texts-fine .ensures) (c .before .enum-told .given .1)
+    (c .if2 .left)
 
--- src/lib.rt:342:1
 returns-4 : tie.Need-returns-4
-returns-4 c = ?
+returns-4 c = lists-not-lent _ _ (c .before .lent-well .ensures) (c .if1 .left)
 
 pub lists-of-spec : {M : Type 1} → statement M
 lists-of-spec =

@@ -1,49 +1,63 @@
+-- `compose::message_inside` meets its contract: one field after the other.
+use mathlib.Core.Path.{_∙_}
+use borrow.Author.Tests.{not-true, not-false}
+use Rattle.compose.specs.Lent.{fieldsInside}
+use Rattle.compose.proofs.Tests.{and-no, and-on}
 use borrow.Author.Needs.{needs}
 use Rattle.compose.proofs.message_inside.Statement.{statement}
 use Rattle.compose.proofs.message_inside.Tie as tie
-use Rattle.compose.proofs.message_inside.Reads as reads
-use Rattle.compose.proofs.message_inside.Lts as lts
-use Rattle.compose.proofs.inside.Reads as inside-reads
 
--- src/lib.rt:166:9
 inside-requires : tie.Need-inside-requires
 inside-requires c κs = search needs
 
--- src/lib.rt:167:9
 returns : tie.Need-returns
-returns c = ?
+unfolding fieldsInside
+returns c =
+    and-no _ (c .before .inside .ensures) (not-true _ (c .if1 .taken))
 
--- src/lib.rt:169:9
 inside-requires-2 : tie.Need-inside-requires-2
 inside-requires-2 c κs = search needs
 
--- src/lib.rt:170:9
 returns-2 : tie.Need-returns-2
-returns-2 c = ?
+unfolding fieldsInside
+returns-2 c =
+    and-no _ (c .before .inside2 .ensures) (not-true _ (c .if2 .taken))
+    ∙ and-on _ (c .before .before .before .inside .ensures) (not-false _ (c .before .before .if1 .left))
 
--- src/lib.rt:172:9
 inside-requires-3 : tie.Need-inside-requires-3
 inside-requires-3 c κs = search needs
 
--- src/lib.rt:173:9
 returns-3 : tie.Need-returns-3
-returns-3 c = ?
+unfolding fieldsInside
+returns-3 c =
+    and-no _ (c .before .inside3 .ensures) (not-true _ (c .if3 .taken))
+    ∙ and-on _ (c .before .before .before .inside2 .ensures) (not-false _ (c .before .before .if2 .left))
+    ∙ and-on _ (c .before .before .before .before .before .inside .ensures) (not-false _ (c .before .before .before .before .if1 .left))
 
--- src/lib.rt:175:9
 inside-requires-4 : tie.Need-inside-requires-4
 inside-requires-4 c κs = search needs
 
--- src/lib.rt:176:9
 returns-4 : tie.Need-returns-4
-returns-4 c = ?
+unfolding fieldsInside
+returns-4 c =
+    let p = c .before .before .before .before in
+    and-no _ (c .before .inside4 .ensures) (not-true _ (c .if4 .taken))
+    ∙ and-on _ (c .before .before .before .inside3 .ensures) (not-false _ (c .before .before .if3 .left))
+    ∙ and-on _ (p .before .inside2 .ensures) (not-false _ (p .if2 .left))
+    ∙ and-on _ (p .before .before .before .inside .ensures) (not-false _ (p .before .before .if1 .left))
 
--- src/lib.rt:178:5
 inside-requires-5 : tie.Need-inside-requires-5
 inside-requires-5 c κs = search needs
 
--- src/lib.rt:158:1
 returns-5 : tie.Need-returns-5
-returns-5 c = ?
+unfolding fieldsInside
+returns-5 c =
+    let p = c .before .before .before .before in
+    let q = p .before .before .before .before in
+    c .inside5 .ensures ∙ and-on _ (c .before .before .inside4 .ensures) (not-false _ (c .before .if4 .left))
+    ∙ and-on _ (p .inside3 .ensures) (not-false _ (c .before .before .before .if3 .left))
+    ∙ and-on _ (p .before .before .inside2 .ensures) (not-false _ (p .before .if2 .left))
+    ∙ and-on _ (q .inside .ensures) (not-false _ (p .before .before .before .if1 .left))
 
 pub message-inside-spec : {M : Type 1} → statement M
 message-inside-spec =

@@ -1,25 +1,21 @@
+-- `compose::row_inside` meets its contract.
+use mathlib.Core.Path.{_∙_}
+use Rattle.compose.proofs.Tests.{row-back, row-past, row-is}
 use borrow.Author.Needs.{needs}
 use Rattle.compose.proofs.row_inside.Statement.{statement}
 use Rattle.compose.proofs.row_inside.Tie as tie
-use Rattle.compose.proofs.row_inside.Reads as reads
-use Rattle.compose.proofs.row_inside.Lts as lts
-use Rattle.compose.proofs.fields_inside.Reads as fields-inside-reads
 
--- src/lib.rt:212:9
 returns : tie.Need-returns
-returns c = ?
+returns c = row-back _ _ (c .if1 .taken)
 
--- src/lib.rt:215:9
 returns-2 : tie.Need-returns-2
-returns-2 c = ?
+returns-2 c = row-past _ _ (c .before .before .if1 .left) (c .if2 .taken)
 
--- src/lib.rt:219:5
 fields-inside-requires : tie.Need-fields-inside-requires
 fields-inside-requires c κs = search needs
 
--- src/lib.rt:208:1
 returns-3 : tie.Need-returns-3
-returns-3 c = ?
+returns-3 c = c .fields-inside .ensures ∙ row-is _ _ (c .before .before .before .before .if1 .left) (c .before .before .if2 .left)
 
 pub row-inside-spec : {M : Type 1} → statement M
 row-inside-spec = tie.close (tie.spec returns returns-2 fields-inside-requires returns-3)

@@ -1,57 +1,73 @@
+-- `compose::sender_key_fine` meets its contract.
+use denote.Ref.{now}
+use mathlib.Core.Path.{sym, ap, _∙_}
+use lib.ListN.{length}
+use Rattle.schema.specs.declared.Place.{Place}
+use Rattle.meaning.specs.ReadBack.{bytesAt}
+use Rattle.compose.specs.Weighed.{given, keyFine}
+use Rattle.compose.proofs.Parts.{place-inside}
 use borrow.Author.Needs.{needs}
 use Rattle.compose.proofs.sender_key_fine.Statement.{statement}
 use Rattle.compose.proofs.sender_key_fine.Tie as tie
-use Rattle.compose.proofs.sender_key_fine.Reads as reads
-use Rattle.compose.proofs.sender_key_fine.Lts as lts
-use Rattle.compose.proofs.key_fine.Reads as key-fine-reads
 
--- src/lib.rt:786:33
 enum-known-from : tie.Need-enum-known-from
 enum-known-from c = search needs
 
--- src/lib.rt:787:32
 enum-told : tie.Need-enum-told
 enum-told c = search needs
 
--- src/lib.rt:787:32
 slice-aggregate-key-fine : tie.Need-slice-aggregate-key-fine
 slice-aggregate-key-fine c = search needs
 
--- src/lib.rt:787:9
 key-fine-requires : tie.Need-key-fine-requires
 key-fine-requires c κs = search needs
 
--- src/lib.rt:787:9
 returns : tie.Need-returns
-returns c = ?
+returns c =
+    let p = c .before .before .before .before in
+    let a = p .before .args in
+    c .key-fine .ensures ∙ ap (λ (p : Place). keyFine (given (bytesAt (now (a .bytes)) (a .base) p)) (bytesAt (now (a .bytes)) (a .base) (a .key)))
+    (sym (c .before .before .enum-told .given .1))
 
--- src/lib.rt:789:28
 add-key-fine : tie.Need-add-key-fine
-add-key-fine c = ?
+add-key-fine c =
+    let a = c .before .before .before .before .args in
+    let h = place-inside (length (now (a .bytes))) (a .base) _ _ _ (c .before .before .before .before .pre .0) (c .before .from .given .1) in
+    search needs
 
--- src/lib.rt:789:38
 add-key-fine-2 : tie.Need-add-key-fine-2
-add-key-fine-2 c = ?
+add-key-fine-2 c =
+    let a = c .before .before .before .before .args in
+    let h = place-inside (length (now (a .bytes))) (a .base) _ _ _ (c .before .before .before .before .pre .0) (c .before .from .given .1) in
+    search needs
 
--- src/lib.rt:789:21
 sub-key-fine : tie.Need-sub-key-fine
-sub-key-fine c = ?
+sub-key-fine c =
+    let a = c .before .before .before .before .args in
+    let h = place-inside (length (now (a .bytes))) (a .base) _ _ _ (c .before .before .before .before .pre .0) (c .before .from .given .1) in
+    search needs
 
--- src/lib.rt:789:21
 part-key-fine-start : tie.Need-part-key-fine-start
-part-key-fine-start c = ?
+part-key-fine-start c =
+    let a = c .before .before .before .before .args in
+    let h = place-inside (length (now (a .bytes))) (a .base) _ _ _ (c .before .before .before .before .pre .0) (c .before .from .given .1) in
+    search needs
 
--- src/lib.rt:789:21
 part-key-fine-end : tie.Need-part-key-fine-end
-part-key-fine-end c = ?
+part-key-fine-end c =
+    let a = c .before .before .before .before .args in
+    let h = place-inside (length (now (a .bytes))) (a .base) _ _ _ (c .before .before .before .before .pre .0) (c .before .from .given .1) in
+    search needs
 
--- src/lib.rt:789:5
 key-fine-requires-2 : tie.Need-key-fine-requires-2
 key-fine-requires-2 c κs = search needs
 
--- src/lib.rt:782:1
 returns-2 : tie.Need-returns-2
-returns-2 c = ?
+returns-2 c =
+    let p = c .before .before .before .before in
+    let a = p .before .before .args in
+    c .key-fine2 .ensures ∙ ap (λ (p : Place). keyFine (given (bytesAt (now (a .bytes)) (a .base) p)) (bytesAt (now (a .bytes)) (a .base) (a .key)))
+    (sym (c .before .before .before .from .given .1))
 
 pub sender-key-fine-spec : {M : Type 1} → statement M
 sender-key-fine-spec =

@@ -1,33 +1,33 @@
+-- `compose::sign_row` meets its contract: measured, and written where there is room.
+use denote.Ref.{now}
+use native.Mathlib.Omega.{arith}
+use Rattle.compose.proofs.Parts.{measured}
+use Rattle.compose.proofs.Answers.{too-short, all-put}
 use borrow.Author.Needs.{needs}
 use Rattle.compose.proofs.sign_row.Statement.{statement}
 use Rattle.compose.proofs.sign_row.Tie as tie
-use Rattle.compose.proofs.sign_row.Reads as reads
-use Rattle.compose.proofs.sign_row.Lts as lts
-use Rattle.compose.proofs.emit_signed.Reads as emit-signed-reads
 
--- src/lib.rt:980:46
 slice-aggregate-emit-signed : tie.Need-slice-aggregate-emit-signed
 slice-aggregate-emit-signed c = search needs
 
--- src/lib.rt:980:9
 emit-signed-requires : tie.Need-emit-signed-requires
 emit-signed-requires c κs = search needs
 
--- src/lib.rt:982:9
 returns : tie.Need-returns
-returns c = ?
+returns c = too-short _ _ _ (measured _ _ _ _ (c .before .before .emit-signed .ensures)) (c .if1 .taken)
 
--- src/lib.rt:984:5
 emit-signed-requires-2 : tie.Need-emit-signed-requires-2
 emit-signed-requires-2 c κs = search needs
 
--- src/lib.rt:972:1
 same-length : tie.Need-same-length
 same-length c = search needs
 
--- src/lib.rt:972:1
 returns-2 : tie.Need-returns-2
-returns-2 c = ?
+returns-2 c =
+    let p = c .before .before .before .before in
+    let q = p .before .before .before .before in
+    all-put _ (now (q .before .before .before .args .out)) _ (measured _ _ _ _ (p .before .before .emit-signed .ensures)) _ _ (p .if1 .left)
+    (omega (arith, q .before .before .before .good .1 .1 .1 .0 .1)) (c .before .before .emit-signed2 .ensures)
 
 pub sign-row-spec : {M : Type 1} → statement M
 sign-row-spec =

@@ -1,59 +1,100 @@
+-- `compose::topics_from` meets its contract: the topics that were counted, and those from row i on, are those from the first row on.
+use denote.Ref.{now}
+use Prim.Native.Nat.{_+_, _-_, _/_, _≤_}
+use mathlib.Core.Logic.{⊎-elim}
+use native.Mathlib.Omega.{arith}
+use lib.ListN.{length}
+use borrow.Author.Needs.{needs}
+use Rattle.meaning.specs.ReadBack.{rawOf}
+use Rattle.compose.specs.Lent.{rowsFrom}
+use Rattle.compose.specs.Said.{topicsFrom}
+use Rattle.compose.proofs.Parts.{row-inside-is}
+use Rattle.compose.proofs.Tests.{inside-row, long-now, long-later, long-before, Counted, counted-all, counted-done, counted-same, counted-more}
+use Rattle.compose.proofs.Tests.{topics-end, topics-stop, topics-skip, topics-one, raw-length}
 use Rattle.compose.proofs.topics_from.Statement.{statement}
 use Rattle.compose.proofs.topics_from.Tie as tie
-use Rattle.compose.proofs.topics_from.Reads as reads
-use Rattle.compose.proofs.topics_from.Lts as lts
-use Rattle.compose.proofs.is_code.Reads as is-code-reads
-use Rattle.compose.proofs.row_at.Reads as row-at-reads
 
 abbrev Inv-loop : tie.InvT-loop
-Inv-loop records bytes from n i₀ count₀ long₀ i count long = ?
+Inv-loop records bytes from n i₀ count₀ long₀ i count long = (count ≤ i) × Counted (topicsFrom bytes (rowsFrom records from)) count long (topicsFrom bytes (rowsFrom records i))
 
 abbrev μ-loop : tie.MeasureT-loop
-μ-loop records bytes from n i₀ count₀ long₀ i count long = ?
+μ-loop records bytes from n i₀ count₀ long₀ i count long = length records / 20 - i
 
--- src/lib.rt:717:5
 loop-holds : tie.Need-loop-holds Inv-loop μ-loop
-loop-holds c = ?
+loop-holds c = (search needs, counted-all _)
 
--- src/lib.rt:718:12
 is-code-requires : tie.Need-is-code-requires Inv-loop μ-loop
-is-code-requires c κs = ?
+is-code-requires c κs = search needs
 
--- src/lib.rt:719:13
 returns : tie.Need-returns Inv-loop μ-loop
-returns c = ?
+returns c =
+    let p = c .before .before .before .before in
+    let a = p .before .before .args in
+    counted-done _ _ _ _ (c .before .before .before .loop .inv .1)
+    (topics-stop (now (a .records)) (now (a .bytes)) (c .before .before .before .loop .i) (c .before .before .loop-test .taken) (c .before .is-code .ensures) (c .if1 .taken))
 
--- src/lib.rt:721:12
 is-code-requires-2 : tie.Need-is-code-requires-2 Inv-loop μ-loop
-is-code-requires-2 c κs = ?
+is-code-requires-2 c κs = search needs
 
--- src/lib.rt:722:17
 row-at-requires : tie.Need-row-at-requires Inv-loop μ-loop
-row-at-requires c κs = ?
+row-at-requires c κs = search needs
 
--- src/lib.rt:723:23
 sub-len : tie.Need-sub-len Inv-loop μ-loop
-sub-len c = ?
+sub-len c =
+    let p = c .before .before .before .before in
+    let q = p .before .before .before .before in
+    let s = q .before .before in
+    row-inside-is (length (now (s .args .bytes))) _
+    (inside-row (now (s .args .records)) (now (s .args .bytes)) (p .before .before .before .loop .i) _ (s .pre) (p .before .before .loop-test .taken) (c .before .row-at .ensures)) .0
 
--- src/lib.rt:724:13
 add-count : tie.Need-add-count Inv-loop μ-loop
-add-count c = ?
+add-count c = search needs
 
--- src/lib.rt:731:9
 add-i : tie.Need-add-i Inv-loop μ-loop
-add-i c = ?
+add-i c = search needs
 
--- src/lib.rt:717:5
 loop-less : tie.Need-loop-less Inv-loop μ-loop
-loop-less c = ?
+loop-less c = search needs
 
--- src/lib.rt:717:5
 loop-again : tie.Need-loop-again Inv-loop μ-loop
-loop-again c = ?
+loop-again c =
+    let s = c .before .before .before .before .before .before .before .before in
+    let t = s .args .records .now in
+    let b = s .args .bytes .now in
+    let l = c .before .before .before .before .before .loop in
+    let h = c .before .before .before .before .loop-test .taken in
+    let e = c .before .before .before .is-code .ensures in
+    let f = c .before .is-code2 .ensures in
+    let g = l .inv .1 in
+    let rest = topicsFrom b (rowsFrom t (l .i + 1)) in
+    ⊎-elim
+    (λ w. (
+      omega arith,
+      counted-more _ _ _ _ g (rawOf b (w .1 .result)) rest _ _
+          (topics-one t b (l .i) h e (c .before .before .if1 .left) f (w .0 .taken) (w .1 .result) (w .1 .ensures)) (w .5)
+          (long-now _ rest _ (raw-length t b (l .i) h (w .1 .result) (s .pre) (w .1 .ensures)) _ _ (w .3 .taken) (w .4 .taken) (w .6)),
+    ))
+    (⊎-elim
+    (λ w. (
+      omega arith,
+      counted-more _ _ _ _ g (rawOf b (w .1 .result)) rest _ _
+          (topics-one t b (l .i) h e (c .before .before .if1 .left) f (w .0 .taken) (w .1 .result) (w .1 .ensures)) (w .5)
+          (long-later _ rest _ (raw-length t b (l .i) h (w .1 .result) (s .pre) (w .1 .ensures)) _ _ (w .3 .taken) (w .4 .left) (w .6)),
+    ))
+    (⊎-elim
+    (λ w. (
+      omega arith,
+      counted-more _ _ _ _ g (rawOf b (w .1 .result)) rest _ _
+          (topics-one t b (l .i) h e (c .before .before .if1 .left) f (w .0 .taken) (w .1 .result) (w .1 .ensures)) (w .4)
+          (long-before _ rest _ (raw-length t b (l .i) h (w .1 .result) (s .pre) (w .1 .ensures)) _ _ (w .3 .left) (w .5)),
+    ))
+    (λ w. (omega arith, counted-same _ _ _ _ g rest _ _ (topics-skip t b (l .i) h e (c .before .before .if1 .left) f (w .0 .left)) (w .1) (w .2)))))
+    (c .if2 .came)
 
--- src/lib.rt:709:1
 returns-2 : tie.Need-returns-2 Inv-loop μ-loop
-returns-2 c = ?
+returns-2 c =
+    let a = c .before .before .before .before .args in
+    counted-done _ _ _ _ (c .before .loop .inv .1) (topics-end (now (a .records)) (now (a .bytes)) (c .before .loop .i) (c .loop-test .left))
 
 pub topics-from-spec : {M : Type 1} → statement M
 topics-from-spec =
