@@ -35,7 +35,7 @@ use Rattle.compose.specs.Said.{encodeFields, encodeMessage, topicsFrom, 
 use Rattle.compose.specs.Weighed.{capped}
 use Rattle.compose.specs.Puts.{Puts, capped-small, capped-add, puts-none, puts-same, puts-short, puts-append, puts-field, flagged}
 use Rattle.compose.specs.Puts.{Written, of-sub-opts, of-message, of-graft, of-prune, rowBytes, rowPart, eachRow, topicPart, peerPart}
-use Rattle.compose.specs.Puts.{hasRow, controlBytes}
+use Rattle.compose.specs.Puts.{slotAt, fieldPart, hasRow, controlBytes}
 use Rattle.compose.specs.Laws.{rows-step, rows-end, peers-step, topics-step, no-peers, no-topics}
 
 -- ---- codes and kinds
@@ -183,6 +183,17 @@ flagged-is number.Absent = refl
 flagged-is (number.Present v) = either (eqb v 0) (λ t. simp t) (λ t. simp t)
 
 -- ---- a code that is written
+-- decided, so that a caller need not name it
+abbrev isWritten : ℕ → Bool
+isWritten c = (eqb c 1 || eqb c 2) || (eqb c 8 || eqb c 9)
+
+pub is-written : (c : ℕ) → isWritten c ≡ true → Written c
+is-written c h =
+    either (eqb c 1) (λ t. subst Written (sym (eqb-true c 1 t)) of-sub-opts)
+    (λ t1. either (eqb c 2) (λ t. subst Written (sym (eqb-true c 2 t)) of-message)
+    (λ t2. either (eqb c 8) (λ t. subst Written (sym (eqb-true c 8 t)) of-graft)
+    (λ t8. subst Written (sym (eqb-true c 9 (simp (t1, t2, t8) at h))) of-prune)))
+
 pub written-code : {c : ℕ} → Written c → (1 ≤ c) × (c ≤ 10)
 written-code of-sub-opts = (omega arith, omega arith)
 written-code of-message = (omega arith, omega arith)
@@ -252,22 +263,55 @@ pub prune-at : (b : List ℕ) (r x : Record) (rs : List Record) → r ≡ x
 unfolding encodePrune
 prune-at b r x rs e = ap (λ (y : Record). encodePrune (pruneOf b y rs)) e
 
+-- the fields of a message, by their numbers
+pub slot-inside : (n at k : ℕ) (t : Slots) → MessageInside n at t → insideAt n at (slotAt k t) ≡ true
+unfolding slotAt
+slot-inside n at k t m =
+    either (eqb k 1) (λ u. simp u (m .from))
+    (λ u1. either (eqb k 2) (λ u. simp (u1, u) (m .«data»))
+    (λ u2. either (eqb k 3) (λ u. simp (u1, u2, u) (m .seqno))
+    (λ u3. either (eqb k 5) (λ u. simp (u1, u2, u3, u) (m .signature)) (λ u5. simp (u1, u2, u3, u5) (m .key)))))
+
+module _ (n : ℕ) (t : Slots) where
+  pub slot-from : n ≡ 1 → t .first ≡ slotAt n t
+  unfolding slotAt
+  slot-from e = rw e
+
+  pub slot-data : n ≡ 2 → t .second ≡ slotAt n t
+  unfolding slotAt
+  slot-data e = rw e
+
+  pub slot-seqno : n ≡ 3 → t .third ≡ slotAt n t
+  unfolding slotAt
+  slot-seqno e = rw e
+
+  pub slot-signature : n ≡ 5 → t .fourth ≡ slotAt n t
+  unfolding slotAt
+  slot-signature e = rw e
+
+  pub slot-key : (n ≡ 1 → ⊥) → (n ≡ 2 → ⊥) → (n ≡ 3 → ⊥) → (n ≡ 5 → ⊥) → t .fifth ≡ slotAt n t
+  unfolding slotAt
+  slot-key a b c d = simp (ne-eqb n 1 a, ne-eqb n 2 b, ne-eqb n 3 c, ne-eqb n 5 d)
+
+module _ (n : ℕ) (b : List ℕ) (r : Record) (rs : List Record) where
+  pub part-topics : n ≡ 4 → repeated (bytesField 4) (topicsFrom b rs) ≡ fieldPart n b r rs
+  unfolding fieldPart
+  part-topics e = rw e
+
+  pub part-other : (n ≡ 4 → ⊥) → (p : Place) → p ≡ slotAt n (r .slots)
+      → optional (bytesField n) (bytesAt b (r .start) p) ≡ fieldPart n b r rs
+  unfolding fieldPart
+  part-other e p q = ap (λ (x : Place). optional (bytesField n) (bytesAt b (r .start) x)) q ∙ simp (ne-eqb n 4 e)
+
 pub fields-at : (b : List ℕ) (r x : Record) (rs : List Record) → r ≡ x
-    → optional (bytesField 1) (bytesAt b (r .start) (r .slots .first))
-    ++ (optional (bytesField 2) (bytesAt b (r .start) (r .slots .second))
-    ++ (optional (bytesField 3) (bytesAt b (r .start) (r .slots .third)) ++ repeated (bytesField 4) (topicsFrom b rs)))
-    ≡ encodeFields (messageOf b x rs)
-unfolding encodeFields
+    → fieldPart 1 b r rs ++ (fieldPart 2 b r rs ++ (fieldPart 3 b r rs ++ fieldPart 4 b r rs)) ≡ encodeFields (messageOf b x rs)
+unfolding encodeFields fieldPart slotAt
 fields-at b r x rs e = ap (λ (y : Record). encodeFields (messageOf b y rs)) e
 
 pub message-at : (b : List ℕ) (r x : Record) (rs : List Record) → r ≡ x
-    → encodeFields (messageOf b x rs)
-    ++ (optional (bytesField 5) (bytesAt b (r .start) (r .slots .fourth)) ++ optional (bytesField 6) (bytesAt b (r .start) (r .slots .fifth)))
-    ≡ encodeMessage (messageOf b x rs)
-unfolding encodeMessage
-message-at b r x rs e =
-    ap (λ (y : Record). encodeFields (messageOf b x rs)
-    ++ (optional (bytesField 5) (bytesAt b (y .start) (y .slots .fourth)) ++ optional (bytesField 6) (bytesAt b (y .start) (y .slots .fifth)))) e
+    → encodeFields (messageOf b x rs) ++ (fieldPart 5 b r rs ++ fieldPart 6 b r rs) ≡ encodeMessage (messageOf b x rs)
+unfolding encodeMessage fieldPart slotAt
+message-at b r x rs e = ap (λ (y : Record). encodeFields (messageOf b x rs) ++ (fieldPart 5 b y rs ++ fieldPart 6 b y rs)) e
 
 pub signed-is : (b : List ℕ) (r : Record) (rs : List Record) → signPrefix ++ encodeFields (messageOf b r rs) ≡ signBytes (messageOf b r rs)
 unfolding signBytes encodeFields

@@ -14,16 +14,18 @@ use Rattle.basis.specs.Writing.{setIn}
 use Rattle.basis.specs.Lists.{sets-append, set-fits}
 use Rattle.peer_id.specs.Uvarint.{uvarint}
 use Rattle.protobuf.specs.Encode.{tag, bytesField}
+use Rattle.schema.specs.declared.Place.{Place}
 use Rattle.schema.specs.declared.Number.{Number}
 use Rattle.schema.specs.declared.Number.the-variants as number
+use Rattle.schema.specs.declared.Slots.{Slots}
 use Rattle.message.specs.declared.Record.{Record}
 use Rattle.message.specs.Rows.{recordFrom}
-use Rattle.meaning.specs.ReadBack.{rawOf}
-use Rattle.rpc.specs.Encode.{encodeSubOpts, encodeGraft, encodePeerInfo, encodePrune}
+use Rattle.meaning.specs.ReadBack.{bytesAt, rawOf}
+use Rattle.rpc.specs.Encode.{optional, repeated, encodeSubOpts, encodeGraft, encodePeerInfo, encodePrune}
 use Rattle.compose.specs.declared.Row.{Row}
 use Rattle.compose.specs.declared.Row.the-variants as row
 use Rattle.compose.specs.Lent.{rowsFrom, lentRows, isCode}
-use Rattle.compose.specs.Said.{encodeMessage, subOptsOf, graftOf, peerOf, pruneOf, messageOf, messagesIn}
+use Rattle.compose.specs.Said.{encodeMessage, topicsFrom, subOptsOf, graftOf, peerOf, pruneOf, messageOf, messagesIn}
 use Rattle.compose.specs.Weighed.{capped}
 
 -- xs were written at `at` of the bytes `out`, which are `after` then; they end at `end`
@@ -160,6 +162,23 @@ module _ (out₀ : List ℕ) (at : ℕ) (all out : List ℕ) (end : ℕ) (rest :
 unfoldable pub flagged : Number → Number
 flagged number.Absent = number.Absent
 flagged (number.Present v) = number.Present (cond (eqb v 0) 0 1)
+
+-- ---- the fields of a message
+-- a row of the table that is one
+abbrev pub IsMessageRow : List ℕ → ℕ → Type 0
+IsMessageRow t i = (i < length t / 20) × (isCode 2 (recordFrom t (i * 20)) ≡ true)
+
+-- the place of its singular field n
+unfoldable pub slotAt : ℕ → Slots → Place
+slotAt n t =
+    cond (eqb n 1) (t .first)
+    (cond (eqb n 2) (t .second) (cond (eqb n 3) (t .third) (cond (eqb n 5) (t .fourth) (t .fifth))))
+
+-- what is written of the field n, before the rows rs
+unfoldable pub fieldPart : ℕ → List ℕ → Record → List Record → List ℕ
+fieldPart n b r rs =
+    cond (eqb n 4) (repeated (bytesField 4) (topicsFrom b rs))
+    (optional (bytesField n) (bytesAt b (r .start) (slotAt n (r .slots))))
 
 -- ---- the walk over rows of one kind
 -- the bytes of a row of the kind with that code, before the rows rs

@@ -1,5 +1,7 @@
+use mathlib.Core.Path.{refl}
 use native.Mathlib.Omega.{arith}
-use Rattle.compose.specs.Puts.{puts-append, of-graft, of-prune}
+use Rattle.compose.specs.Puts.{puts-append}
+use Rattle.compose.proofs.Parts.{is-written}
 use borrow.Author.Needs.{needs}
 use Rattle.compose.proofs.emit_entries.Statement.{statement}
 use Rattle.compose.proofs.emit_entries.Tie as tie
@@ -10,12 +12,12 @@ use Rattle.compose.proofs.emit_rows.Reads as emit-rows-reads
 -- src/lib.rt:674:9
 emit-rows-requires : tie.Need-emit-rows-requires
 emit-rows-requires c κs =
-    (c .before .before .before .before .pre, (of-graft, omega arith))
+    (c .before .before .before .before .pre, (is-written _ refl, omega arith))
 
 -- src/lib.rt:675:5
 emit-rows-requires-2 : tie.Need-emit-rows-requires-2
 emit-rows-requires-2 c κs =
-    (c .before .before .before .before .before .before .before .before .pre, (of-prune, omega arith))
+    (c .before .before .before .before .before .before .before .before .pre, (is-written _ refl, omega arith))
 
 -- src/lib.rt:670:1
 same-length : tie.Need-same-length

@@ -1,8 +1,9 @@
-use mathlib.Core.Path.{sym}
+use mathlib.Core.Path.{refl, sym}
 use native.Mathlib.Omega.{arith}
 use Rattle.compose.specs.Lent.{lentRows}
 use Rattle.compose.specs.Laws.{said-written}
-use Rattle.compose.specs.Puts.{puts-same, puts-append, of-sub-opts, of-message}
+use Rattle.compose.specs.Puts.{puts-same, puts-append}
+use Rattle.compose.proofs.Parts.{is-written}
 use borrow.Author.Needs.{needs}
 use Rattle.compose.proofs.emit_rpc.Statement.{statement}
 use Rattle.compose.proofs.emit_rpc.Tie as tie
@@ -14,12 +15,12 @@ use Rattle.compose.proofs.emit_rows.Reads as emit-rows-reads
 -- src/lib.rt:701:9
 emit-rows-requires : tie.Need-emit-rows-requires
 emit-rows-requires c κs =
-    (c .before .before .before .before .pre, (of-sub-opts, omega arith))
+    (c .before .before .before .before .pre, (is-written _ refl, omega arith))
 
 -- src/lib.rt:702:9
 emit-rows-requires-2 : tie.Need-emit-rows-requires-2
 emit-rows-requires-2 c κs =
-    (c .before .before .before .before .before .before .before .before .pre, (of-message, omega arith))
+    (c .before .before .before .before .before .before .before .before .pre, (is-written _ refl, omega arith))
 
 -- src/lib.rt:703:5
 emit-control-requires : tie.Need-emit-control-requires
