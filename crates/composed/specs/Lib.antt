@@ -1,0 +1,4 @@
+-- To be believed: Written.
+-- Theorems: Means.
+pub mod Written
+pub mod Means
