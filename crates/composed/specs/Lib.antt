@@ -1,4 +1,8 @@
 -- To be believed: Written.
--- Theorems: Means.
+-- Theorems: Means, MeansBytes, WrittenLaws.
+-- On the way to them: WrittenRows.
 pub mod Written
 pub mod Means
+pub mod MeansBytes
+pub mod WrittenRows
+pub mod WrittenLaws

@@ -1,13 +1,24 @@
 -- What the theorems about written RPCs suppose of what is lent and of an RPC.
 use Prim.Native.Nat.{ℕ, _+_, _^_, _<_}
 use mathlib.Core.Path.{_≡_}
-use mathlib.Core.List.{List, []}
-use lib.ListN.{length, getD}
+use mathlib.Core.List.{List, [], _∷_, _++_}
+use lib.ListN.{length, drop, getD}
+use lib.Dec.{eqb}
+use Rattle.basis.specs.Told.{done}
 use Rattle.utf8.specs.Grammar.{Utf8}
+use Rattle.message.specs.Decode.{decodeAnswer, decodeTable}
+use Rattle.message.specs.Told.{decodedTold}
 use Rattle.rpc.specs.Rpc.{ControlPrune, ControlMessage, Rpc}
 use Rattle.rpc.specs.Grammar.{Each}
+use Rattle.rpc.specs.Encode.{encodeRpc}
+use Rattle.meaning.specs.ReadBack.{readBack}
+use Rattle.meaning.specs.Table.{rowsIn}
+use Rattle.meaning.specs.Decoded.{present}
 use Rattle.canonical.specs.Means.{opt, Small}
-use Rattle.compose.specs.Said.{encodeMessage}
+use Rattle.compose.specs.declared.Lists.the-variants.{Fine}
+use Rattle.compose.specs.Lent.{lentRows}
+use Rattle.compose.specs.Said.{encodeMessage, said}
+use Rattle.compose.specs.Compose.{writeTested, writeLeft}
 
 -- each word of a lent table is below 2^64
 abbrev pub Words : List ℕ → Type 0
@@ -36,3 +47,22 @@ pub record Spoken (c : ControlMessage) : Type 0 where
 pub record Sayable (x : Rpc) : Type 0 where
   pub raws : Each (λ m. m .raw ≡ encodeMessage m) (x .publish)
   pub control : Each Spoken (opt (x .control))
+
+-- ---- what is lent, and what is written of it
+-- the RPC that lists say, and its bytes
+abbrev pub saidOf : List ℕ → List ℕ → Rpc
+saidOf t b = said b (lentRows t)
+
+abbrev pub bodyOf : List ℕ → List ℕ → List ℕ
+bodyOf t b = encodeRpc (saidOf t b)
+
+-- n bytes were written: every test was passed, they are those of the RPC, and nothing else of the buffer changed
+pub record Wrote (t b out : List ℕ) (n : ℕ) : Type 0 where
+  pub tested : writeTested t b ≡ Fine
+  pub count : n ≡ length (bodyOf t b)
+  pub left : writeLeft t b out ≡ bodyOf t b ++ drop n out
+
+-- decode takes a body, lent that table: it tells n records and whether there is a control, and they read back as the RPC
+pub record Reads (s : List ℕ) (x : Rpc) (n : ℕ) (table : List ℕ) : Type 0 where
+  pub told : decodedTold (decodeAnswer s (length table)) ≡ done (n ∷ present (x .control) ∷ [])
+  pub says : readBack s (rowsIn (decodeTable s table) 0 n) (eqb (present (x .control)) 1) ≡ x
