@@ -136,7 +136,7 @@ each-opt-step : {A : Type 0} {P : A → Type 0} (o : Option A) (x : A) → P x �
 each-opt-step none x p ps = p and none-left
 each-opt-step (some y) x p ps = ps
 
-each-last : {A : Type 0} {P : A → Type 0} {xs : List A} → Each P xs → Each P (opt (last xs))
+pub each-last : {A : Type 0} {P : A → Type 0} {xs : List A} → Each P xs → Each P (opt (last xs))
 each-last none-left = none-left
 each-last (_and_ {x = x} {xs = xs} p ps) = each-opt-step (last xs) x p (each-last ps)
 
@@ -173,7 +173,7 @@ value-small t vs (i64 g) h = h
 value-small t vs (len-prefix b) h = h
 value-small t vs (i32 g) h = h
 
-numbers-small : {s : List ℕ} {es : List Entry} (m : ℕ) → Body s es → Each Small (numbersIn m es)
+pub numbers-small : {s : List ℕ} {es : List Entry} (m : ℕ) → Body s es → Each Small (numbersIn m es)
 numbers-small m no-fields = none-left
 numbers-small m (field {n = n} {es = es} l k w r) = value-small (eqb n m) (numbersIn m es) w (numbers-small m r)
 

@@ -6,3 +6,6 @@ pub mod Means
 pub mod MeansBytes
 pub mod WrittenRows
 pub mod WrittenLaws
+pub mod LendingRows
+pub mod LendingTexts
+pub mod LendingWords

@@ -156,8 +156,8 @@ control-of c p q k =
     let x4 = repeated (λ p. bytesField 4 (encodePrune p)) (c .prune) in
     let l1 = length-append x1 (x2 ++ (x3 ++ x4)) in let l2 = length-append x2 (x3 ++ x4) in let l3 = length-append x3 x4 in
     record {
-      ihaves = no-entries IsIHave encodeIHave (c .ihave) (q .ihave);
-      iwants = no-entries IsIWant encodeIWant (c .iwant) (q .iwant);
+      ihaves = no-entries IsIHave encodeIHave (c .ihave) (q .quiet .ihave);
+      iwants = no-entries IsIWant encodeIWant (c .iwant) (q .quiet .iwant);
       grafts = entries-of IsGraft encodeGraft 3 graft-of (p .grafts) (omega arith);
       prunes = entries-of IsPrune encodePrune 4 prune-of (p .prunes) (omega arith);
     }

@@ -1,9 +1,11 @@
 -- What the theorems about written RPCs suppose of what is lent and of an RPC.
 use Prim.Native.Nat.{ℕ, _+_, _^_, _<_}
 use mathlib.Core.Path.{_≡_}
-use mathlib.Core.List.{List, [], _∷_, _++_}
+use mathlib.Core.List.{List, [], _∷_, _++_, map}
+use mathlib.Core.Option.{Option, none, some}
 use lib.ListN.{length, drop, getD}
 use lib.Dec.{eqb}
+use Rattle.basis.specs.Bytes.{Bytes}
 use Rattle.basis.specs.Told.{done}
 use Rattle.utf8.specs.Grammar.{Utf8}
 use Rattle.message.specs.Decode.{decodeAnswer, decodeTable}
@@ -17,8 +19,8 @@ use Rattle.meaning.specs.Decoded.{present}
 use Rattle.canonical.specs.Means.{opt, Small}
 use Rattle.compose.specs.declared.Lists.the-variants.{Fine}
 use Rattle.compose.specs.Lent.{lentRows}
-use Rattle.compose.specs.Said.{encodeMessage, said}
-use Rattle.compose.specs.Compose.{writeTested, writeLeft}
+use Rattle.compose.specs.Said.{encodeMessage, renewed, controlOf, said}
+use Rattle.compose.specs.Compose.{listsOf, writeTested, writeLeft}
 
 -- each word of a lent table is below 2^64
 abbrev pub Words : List ℕ → Type 0
@@ -39,14 +41,30 @@ pub record Plain (x : Rpc) : Type 0 where
   pub control : Each PlainControl (opt (x .control))
 
 -- ---- what lists can say: no IHAVE and no IWANT, no empty control, and each message stands as its fields are encoded
-pub record Spoken (c : ControlMessage) : Type 0 where
+pub record Quiet (c : ControlMessage) : Type 0 where
   pub ihave : c .ihave ≡ []
   pub iwant : c .iwant ≡ []
+
+pub record Spoken (c : ControlMessage) : Type 0 where
+  pub quiet : Quiet c
   pub there : 0 < length (c .graft) + length (c .prune)
 
 pub record Sayable (x : Rpc) : Type 0 where
   pub raws : Each (λ m. m .raw ≡ encodeMessage m) (x .publish)
   pub control : Each Spoken (opt (x .control))
+
+-- what they say of an RPC that was read: each message made anew, and no empty control
+abbrev pub controlAnew : Option ControlMessage → Option ControlMessage
+controlAnew none = none
+controlAnew (some c) = controlOf (c .graft) (c .prune)
+
+abbrev pub anew : Rpc → Rpc
+anew x =
+    record {
+      subscriptions = x .subscriptions;
+      publish = map renewed (x .publish);
+      control = controlAnew (x .control);
+    }
 
 -- ---- what is lent, and what is written of it
 -- the RPC that lists say, and its bytes
@@ -66,3 +84,16 @@ pub record Wrote (t b out : List ℕ) (n : ℕ) : Type 0 where
 pub record Reads (s : List ℕ) (x : Rpc) (n : ℕ) (table : List ℕ) : Type 0 where
   pub told : decodedTold (decodeAnswer s (length table)) ≡ done (n ∷ present (x .control) ∷ [])
   pub says : readBack s (rowsIn (decodeTable s table) 0 n) (eqb (present (x .control)) 1) ≡ x
+
+-- lists that are lent well, of at most 512 rows with UTF-8 in topics, and say an RPC
+pub record Lends (t b : List ℕ) (x : Rpc) : Type 0 where
+  pub fine : listsOf t b ≡ Fine
+  pub says : saidOf t b ≡ x
+
+-- lists that can be lent and say an RPC
+pub record CanSay (x : Rpc) : Type 0 where
+  pub table : List ℕ
+  pub bytes : List ℕ
+  pub words : Words table
+  pub octets : Bytes bytes
+  pub lends : Lends table bytes x

@@ -124,12 +124,12 @@ small-numbers t w i zero = none-left
 small-numbers t w i (suc n) = record-number t (i * 20) w and small-numbers t w (i + 1) n
 
 -- ---- what is gathered has UTF-8 in texts, and numbers below 2^64
-record Texts (g : Gathered) : Type 0 where
-  topics : Each Utf8 (g .topics)
-  subscriptions : Each (λ o. Each Utf8 (opt (o .«topic_id»))) (g .subscriptions)
-  publish : Each (λ m. Each Utf8 (m .«topic_ids»)) (g .publish)
-  grafts : Each (λ x. Each Utf8 (opt (x .«topic_id»))) (g .control .graft)
-  prunes : Each PlainPrune (g .control .prune)
+pub record Texts (g : Gathered) : Type 0 where
+  pub topics : Each Utf8 (g .topics)
+  pub subscriptions : Each (λ o. Each Utf8 (opt (o .«topic_id»))) (g .subscriptions)
+  pub publish : Each (λ m. Each Utf8 (m .«topic_ids»)) (g .publish)
+  pub grafts : Each (λ x. Each Utf8 (opt (x .«topic_id»))) (g .control .graft)
+  pub prunes : Each PlainPrune (g .control .prune)
 
 -- the same in what is gathered of a row that has no text
 texts-kind : (k : Kind) (b : List ℕ) (r : Record) (g : Gathered) → textFine b (textIn k r) ≡ Fine → SmallNumber r → Texts g
@@ -224,11 +224,11 @@ spoken-control : (gs : List ControlGraft) (ps : List ControlPrune) → Each Spok
 spoken-control [] [] = none-left
 spoken-control [] (x ∷ ps) =
     let c : Spoken (record { ihave = []; iwant = []; graft = []; prune = x ∷ ps }) =
-    record { ihave = refl; iwant = refl; there = omega arith } in
+    record { quiet = record { ihave = refl; iwant = refl }; there = omega arith } in
     c and none-left
 spoken-control (g ∷ gs) ps =
     let c : Spoken (record { ihave = []; iwant = []; graft = g ∷ gs; prune = ps }) =
-    record { ihave = refl; iwant = refl; there = omega arith } in
+    record { quiet = record { ihave = refl; iwant = refl }; there = omega arith } in
     c and none-left
 
 pub said-sayable : (b : List ℕ) (rs : List Record) → Sayable (said b rs)
