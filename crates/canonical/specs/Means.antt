@@ -231,6 +231,7 @@ flags-written : (o : Option Bool) → repeated (varintField 1) (opt (flags o)) �
 flags-written none = refl
 flags-written (some b) = append-nil (varintField 1 (flag b))
 
+-- the encoding of a value means it where its texts are UTF-8, its bytes fit a length and its numbers are below 2^64; so it does where a body means the value
 pub sub-opts-means : (x : SubOpts) → Each Sized (opt (x .«topic_id»)) → Each Utf8 (opt (x .«topic_id»)) → IsSubOpts (encodeSubOpts x) x
 unfolding encodeSubOpts
 sub-opts-means x z u =

@@ -1,16 +1,15 @@
 -- On the way to what can be lent: the records of a body lie within it, and each is of a kind that is a record.
-use Prim.Native.Nat.{ℕ, _+_, _-_, _≤_, _<_}
-use mathlib.Core.Path.{_≡_, refl, sym, ap, subst, _∙_}
-use mathlib.Core.Bool.{Bool, true, false, _&&_}
-use mathlib.Core.List.{List, [], _∷_, _++_}
+use Prim.Native.Nat.{ℕ, _+_, _≤_, _<_}
+use mathlib.Core.Path.{_≡_, refl, sym, subst}
+use mathlib.Core.Bool.{Bool, true, _&&_}
+use mathlib.Core.List.{List}
 use native.Mathlib.Omega.{arith}
 use lib.ListN.{length}
 use lib.Dec.{leb, eqb}
 use borrow.Author.Tests.{eqb-false, le-leb}
 use Rattle.basis.specs.Cases.{either}
 use Rattle.protobuf.specs.declared.Field.{Field}
-use Rattle.protobuf.specs.Laws.{Stands}
-use Rattle.protobuf.specs.Walk.{Fields, fieldsOf, between, walkAt}
+use Rattle.protobuf.specs.Walk.{Fields, fieldsOf, between}
 use Rattle.protobuf.specs.WalkLaws.{along, between-length}
 use Rattle.schema.specs.declared.Kind.{Kind}
 use Rattle.schema.specs.declared.Kind.the-variants as kind
@@ -27,10 +26,11 @@ use Rattle.schema.specs.CountLaws.{own-one}
 use Rattle.schema.specs.Slots.{noSlots, slotsOf}
 use Rattle.schema.specs.SlotsLaws.{PlaceInside, SlotsInside, slots-inside}
 use Rattle.message.specs.declared.Record.{Record}
-use Rattle.message.specs.Rows.{leafRow, roleRows, rowsAlong, ownRows, rowsOf}
+use Rattle.message.specs.Rows.{roleRows, rowsAlong, ownRows, rowsOf}
 use Rattle.message.specs.RowsLaws.{rows-along}
 use Rattle.rpc.specs.Grammar.{Each, none-left, _and_}
 use Rattle.compose.specs.Lent.{insideAt, fieldsInside, rowInside}
+use Rattle.composed.specs.Means.{each-append}
 
 -- ---- a row within n bytes, of a kind that is a record
 pub record Stood (n : ℕ) (r : Record) : Type 0 where
@@ -39,10 +39,6 @@ pub record Stood (n : ℕ) (r : Record) : Type 0 where
 
 pub and-both : (a b : Bool) → a ≡ true → b ≡ true → (a && b) ≡ true
 and-both a b e f = rw (e, f)
-
-pub each-append : {A : Type 0} {P : A → Type 0} {xs ys : List A} → Each P xs → Each P ys → Each P (xs ++ ys)
-each-append none-left q = q
-each-append (p and ps) q = p and each-append ps q
 
 module _ (s : List ℕ) (n at : ℕ) (l : at + length s ≤ n) where
   place-inside : (p : Place) → PlaceInside s p → insideAt n at p ≡ true

@@ -1,12 +1,11 @@
 -- On the way to what can be lent: of what is gathered it is seen that each row is held, and that its text is UTF-8; and an RPC that is meant has UTF-8 in texts and numbers below 2^64.
-use Prim.Native.Nat.{ℕ, _+_, _≤_, _<_}
-use mathlib.Core.Path.{_≡_, refl, sym, ap, subst, _∙_}
-use mathlib.Core.Bool.{Bool, true, false, _&&_, _||_, or-false, or-true}
-use mathlib.Core.List.{List, [], _∷_, _++_}
+use Prim.Native.Nat.{ℕ, _+_}
+use mathlib.Core.Path.{_≡_, refl, sym, _∙_}
+use mathlib.Core.Bool.{Bool, true, _&&_, _||_, or-false, or-true}
+use mathlib.Core.List.{List, [], _∷_}
 use lib.Dec.{eqb}
 use Rattle.basis.specs.Cases.{either, clash}
 use Rattle.utf8.specs.Grammar.{Utf8}
-use Rattle.utf8.specs.Utf8.{isUtf8}
 use Rattle.utf8.specs.Laws.{exactly}
 use Rattle.protobuf.specs.Walk.{between}
 use Rattle.schema.specs.declared.Kind.{Kind}
@@ -18,17 +17,17 @@ use Rattle.message.specs.declared.Record.{Record}
 use Rattle.message.specs.Rows.{kindCode}
 use Rattle.rpc.specs.Rpc.{SubOpts, RawMessage, ControlIHave, ControlIWant, ControlGraft, PeerInfo, ControlPrune, ControlMessage}
 use Rattle.rpc.specs.Grammar.{Each, none-left, _and_, Pairs, no-pairs, _paired_}
-use Rattle.rpc.specs.Grammar.{IsSubOpts, is-sub-opts, IsMessage, is-message, IsGraft, is-graft, IsPrune, is-prune, IsControl, is-control, join}
-use Rattle.meaning.specs.ReadBack.{bytesAt, rawOf, Gathered, nothing, gatherKind, gather}
+use Rattle.rpc.specs.Grammar.{IsSubOpts, is-sub-opts, IsMessage, is-message, IsGraft, is-graft, IsPrune, is-prune, IsControl, is-control}
+use Rattle.meaning.specs.ReadBack.{bytesAt, Gathered, nothing, gatherKind, gather}
 use Rattle.meaning.specs.Back.{state, flat}
 use Rattle.canonical.specs.Means.{opt, each-last, numbers-small}
-use Rattle.compose.specs.declared.Lists.{Lists}
-use Rattle.compose.specs.declared.Lists.the-variants.{Fine, Refused}
+use Rattle.compose.specs.declared.Lists.the-variants.{Fine}
 use Rattle.compose.specs.Lent.{isCode, rowInside, heldBy, lentFrom}
 use Rattle.compose.specs.Compose.{moved, textIn, textOf, textFine, textsFine}
 use Rattle.composed.specs.Written.{PlainPrune, PlainControl}
+use Rattle.composed.specs.Means.{each-append}
 use Rattle.composed.specs.WrittenRows.{fine-both, Texts, Waits}
-use Rattle.composed.specs.LendingRows.{Stood, and-both, each-append}
+use Rattle.composed.specs.LendingRows.{Stood, and-both}
 
 -- ---- held
 record Held (k : Kind) (m p : Bool) (g : Gathered) : Type 0 where

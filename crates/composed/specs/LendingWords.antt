@@ -1,10 +1,9 @@
 -- On the way to what can be lent: the words of a body's records are below 2^64.
 use Prim.Native.Nat.{ℕ, zero, suc, _+_, _-_, _^_, _≤_, _<_}
-use mathlib.Core.Path.{_≡_, refl, sym, ap, subst, _∙_}
-use mathlib.Core.Bool.{Bool, true, false}
-use mathlib.Core.List.{List, [], _∷_, _++_}
+use mathlib.Core.Path.{_≡_, refl, sym, subst}
+use mathlib.Core.List.{List, [], _∷_}
 use native.Mathlib.Omega.{arith}
-use lib.ListN.{length, drop, getD}
+use lib.ListN.{length, drop}
 use lib.Dec.{eqb}
 use Rattle.basis.specs.Cases.{either, clash}
 use Rattle.basis.specs.Bytes.{Bytes}
@@ -24,13 +23,12 @@ use Rattle.protobuf.specs.declared.Step.the-variants as step
 use Rattle.protobuf.specs.Field.{after, readTag, readLen, readVarint, skipField, ofValue, ofPart, ofSkip, readValue, ofTag, readField}
 use Rattle.protobuf.specs.Laws.{part-fits}
 use Rattle.protobuf.specs.Exactly.{spelt}
-use Rattle.protobuf.specs.Walk.{Fields, fieldsOf, between, walkAt}
+use Rattle.protobuf.specs.Walk.{Fields, fieldsOf, between}
 use Rattle.protobuf.specs.WalkLaws.{along, between-length}
 use Rattle.schema.specs.declared.Kind.{Kind}
 use Rattle.schema.specs.declared.Kind.the-variants as kind
 use Rattle.schema.specs.declared.Form.{Form}
 use Rattle.schema.specs.declared.Number.{Number as Num}
-use Rattle.schema.specs.declared.Number.the-variants as number
 use Rattle.schema.specs.declared.Place.{Place}
 use Rattle.schema.specs.declared.Place.the-variants as place
 use Rattle.schema.specs.declared.Slots.{Slots}
@@ -47,7 +45,7 @@ use Rattle.message.specs.RowsLaws.{rows-along}
 use Rattle.rpc.specs.Grammar.{Each, none-left, _and_}
 use Rattle.canonical.specs.Means.{Small}
 use Rattle.composed.specs.Written.{Words}
-use Rattle.composed.specs.LendingRows.{each-append}
+use Rattle.composed.specs.Means.{each-append}
 
 -- ---- a field's value
 module _ (s : List ℕ) (b : Bytes s) (l : length s < 2 ^ 64) (f : Field) where

@@ -1,6 +1,6 @@
--- To be believed: Written.
--- Theorems: Means, MeansBytes, WrittenLaws.
--- On the way to them: WrittenRows.
+-- To be believed: Written; and canonical's `opt` and `Small`.
+-- Theorems: Means, MeansBytes, WrittenLaws, Lending.
+-- On the way to them: WrittenRows, LendingRows, LendingTexts, LendingWords.
 pub mod Written
 pub mod Means
 pub mod MeansBytes
@@ -9,3 +9,4 @@ pub mod WrittenLaws
 pub mod LendingRows
 pub mod LendingTexts
 pub mod LendingWords
+pub mod Lending

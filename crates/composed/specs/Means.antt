@@ -13,17 +13,21 @@ use Rattle.utf8.specs.Grammar.{Utf8}
 use Rattle.protobuf.specs.Grammar.{Entry}
 use Rattle.protobuf.specs.Encode.{varintField, bytesField}
 use Rattle.protobuf.specs.EncodeLaws.{field-holds}
-use Rattle.rpc.specs.Rpc.{SubOpts, RawMessage, ControlIHave, ControlIWant, ControlGraft, PeerInfo, ControlPrune, ControlMessage, Rpc}
-use Rattle.rpc.specs.Grammar.{bytesIn, last, Each, none-left, _and_, Pairs, no-pairs, _paired_}
-use Rattle.rpc.specs.Grammar.{IsSubOpts, IsMessage, is-message, IsIHave, IsIWant, IsGraft, IsPeerInfo, IsPrune, IsControl, IsRpc}
+use Rattle.rpc.specs.Rpc.{SubOpts, RawMessage, ControlGraft, PeerInfo, ControlPrune, ControlMessage, Rpc}
+use Rattle.rpc.specs.Grammar.{bytesIn, last, Each, none-left, _and_, no-pairs, _paired_}
+use Rattle.rpc.specs.Grammar.{IsSubOpts, IsMessage, is-message, IsIHave, IsIWant, IsGraft, IsPeerInfo, IsPrune, IsRpc}
 use Rattle.rpc.specs.Encode.{optional, repeated, flag, encodeSubOpts, encodeIHave, encodeIWant, encodeGraft, encodePeerInfo, encodePrune, encodeControl, encodeRpc}
 use Rattle.meaning.specs.Back.{mkMessage, same-message}
 use Rattle.meaning.specs.Size.{recordsIn}
 use Rattle.meaning.specs.Decoded.{Within}
-use Rattle.canonical.specs.Means.{Sized, opt, encodings, bytesEntries, body-append, bytes-body, bytes-here, bytes-there, found, optional-opt, last-opt, means-as}
+use Rattle.canonical.specs.Means.{Sized, opt, bytesEntries, body-append, bytes-body, bytes-here, bytes-there, found, optional-opt, last-opt, means-as}
 use Rattle.canonical.specs.Means.{fields-sized, field-sized, Entries, Sound, sub-opts-means, graft-means, peer-info-means, prune-means, rpc-sound}
 use Rattle.compose.specs.Said.{encodeFields, encodeMessage, renewed}
 use Rattle.composed.specs.Written.{PlainPrune, PlainControl, Plain, Spoken, Sayable}
+
+pub each-append : {A : Type 0} {P : A → Type 0} {xs ys : List A} → Each P xs → Each P ys → Each P (xs ++ ys)
+each-append none-left q = q
+each-append (p and ps) q = p and each-append ps q
 
 -- ---- entries whose encodings mean them, one by one
 entries-of : {X : Type 0} {P : X → Type 0} (R : List ℕ → X → Type 0) (enc : X → List ℕ) (n : ℕ)

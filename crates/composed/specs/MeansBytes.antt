@@ -1,11 +1,10 @@
 -- What is written is bytes where what is lent is.
 use Prim.Native.Nat.{ℕ, zero, suc, _+_, _*_, _/_, _%_, _-_, _≤_, _<_}
-use mathlib.Core.Path.{_≡_, refl, sym, ap, subst, _∙_}
-use mathlib.Core.Bool.{true, false}
-use mathlib.Core.List.{List, [], _∷_, _++_, map}
+use mathlib.Core.Path.{sym, subst}
+use mathlib.Core.List.{List, [], _∷_, map}
 use mathlib.Core.Option.{Option, none, some}
 use native.Mathlib.Omega.{arith}
-use lib.ListN.{length, drop, getD}
+use lib.ListN.{length, drop}
 use lib.Dec.{ltb}
 use borrow.Author.Tests.{ltb-true, ltb-false}
 use Rattle.basis.specs.Cases.{either}
@@ -23,9 +22,10 @@ use Rattle.message.specs.declared.Record.{Record}
 use Rattle.rpc.specs.Rpc.{RawMessage, ControlGraft, ControlPrune, ControlMessage}
 use Rattle.rpc.specs.Grammar.{Each, none-left, _and_, nonzero}
 use Rattle.rpc.specs.Encode.{optional, repeated, flag, encodeSubOpts, encodeGraft, encodePeerInfo, encodePrune, encodeControl, encodeRpc}
-use Rattle.meaning.specs.ReadBack.{bytesAt, numberAt, rawOf, Gathered, nothing, gatherKind, gather}
+use Rattle.meaning.specs.ReadBack.{bytesAt, numberAt, Gathered, nothing, gatherKind, gather}
 use Rattle.canonical.specs.Means.{opt}
 use Rattle.compose.specs.Said.{encodeFields, encodeMessage, renewed, subscriptionsIn, messagesIn, graftsIn, prunesIn, controlOf, said}
+use Rattle.composed.specs.Means.{each-append}
 
 -- ---- each of a list is a byte
 abbrev Low : List ℕ → Type 0
@@ -39,10 +39,6 @@ low-bytes : {s : List ℕ} → Low s → Bytes s
 low-bytes none-left i = omega arith
 low-bytes (p and ps) zero = p
 low-bytes (p and ps) (suc i) = low-bytes ps i
-
-append-low : {xs ys : List ℕ} → Low xs → Low ys → Low (xs ++ ys)
-append-low none-left q = q
-append-low (p and ps) q = p and append-low ps q
 
 uvarint-from : (f n : ℕ) → n ≤ f → Low (uvarint n)
 uvarint-from zero n h = subst Low (sym (uvarint-small n (omega arith))) (let k : n < 256 = omega arith in k and none-left)
@@ -58,13 +54,13 @@ uvarint-low n = uvarint-from n n (omega arith)
 -- ---- fields
 varint-low : (n v : ℕ) → Low (varintField n v)
 unfolding varintField tag
-varint-low n v = append-low (uvarint-low (n * 8 + 0)) (uvarint-low v)
+varint-low n v = each-append (uvarint-low (n * 8 + 0)) (uvarint-low v)
 
 field-low : (n : ℕ) (d : List ℕ) → Low d → Low (bytesField n d)
 unfolding bytesField tag
 field-low n d h =
-    append-low (uvarint-low (n * 8 + 2))
-    (append-low (uvarint-low (length d)) h)
+    each-append (uvarint-low (n * 8 + 2))
+    (each-append (uvarint-low (length d)) h)
 
 optional-low : (n : ℕ) (o : Option (List ℕ)) → Each Low (opt o) → Low (optional (bytesField n) o)
 optional-low n none h = none-left
@@ -78,7 +74,7 @@ repeated-low : {X : Type 0} (n : ℕ) (enc : X → List ℕ) (xs : List X) → E
     → Low (repeated (λ x. bytesField n (enc x)) xs)
 repeated-low n enc [] none-left = none-left
 repeated-low n enc (x ∷ xs) (p and ps) =
-    append-low (field-low n (enc x) p)
+    each-append (field-low n (enc x) p)
     (repeated-low n enc xs ps)
 
 -- ---- what rows say
@@ -109,7 +105,7 @@ module _ (b : List ℕ) (h : Bytes b) where
       record {
         topics = o .topics;
         peers = o .peers;
-        subscriptions = append-low (number-low 1 flag (nonzero (numberAt (r .slots .number)))) (place-field 2 (r .start) (r .slots .first)) and o .subscriptions;
+        subscriptions = each-append (number-low 1 flag (nonzero (numberAt (r .slots .number)))) (place-field 2 (r .start) (r .slots .first)) and o .subscriptions;
         publish = o .publish;
         grafts = o .grafts;
         prunes = o .prunes;
@@ -120,11 +116,11 @@ module _ (b : List ℕ) (h : Bytes b) where
         peers = o .peers;
         subscriptions = o .subscriptions;
         publish =
-            append-low
-            (append-low (place-field 1 (r .start) (r .slots .first))
-            (append-low (place-field 2 (r .start) (r .slots .second))
-            (append-low (place-field 3 (r .start) (r .slots .third)) (repeated-low 4 (λ d. d) (g .topics) (o .topics)))))
-            (append-low (place-field 5 (r .start) (r .slots .fourth)) (place-field 6 (r .start) (r .slots .fifth)))
+            each-append
+            (each-append (place-field 1 (r .start) (r .slots .first))
+            (each-append (place-field 2 (r .start) (r .slots .second))
+            (each-append (place-field 3 (r .start) (r .slots .third)) (repeated-low 4 (λ d. d) (g .topics) (o .topics)))))
+            (each-append (place-field 5 (r .start) (r .slots .fourth)) (place-field 6 (r .start) (r .slots .fifth)))
             and o .publish;
         grafts = o .grafts;
         prunes = o .prunes;
@@ -159,14 +155,14 @@ module _ (b : List ℕ) (h : Bytes b) where
         publish = o .publish;
         grafts = o .grafts;
         prunes =
-            append-low (place-field 1 (r .start) (r .slots .first))
-            (append-low (repeated-low 2 encodePeerInfo (g .peers) (o .peers)) (number-low 3 (λ v. v) (numberAt (r .slots .number))))
+            each-append (place-field 1 (r .start) (r .slots .first))
+            (each-append (repeated-low 2 encodePeerInfo (g .peers) (o .peers)) (number-low 3 (λ v. v) (numberAt (r .slots .number))))
             and o .prunes;
       }
   octets-kind kind.PeerInfo r g o =
       record {
         topics = o .topics;
-        peers = append-low (place-field 1 (r .start) (r .slots .first)) (place-field 2 (r .start) (r .slots .second)) and o .peers;
+        peers = each-append (place-field 1 (r .start) (r .slots .first)) (place-field 2 (r .start) (r .slots .second)) and o .peers;
         subscriptions = o .subscriptions;
         publish = o .publish;
         grafts = o .grafts;
@@ -195,14 +191,14 @@ unfolding encodeControl
 control-low [] [] p q = none-left
 control-low [] (x ∷ ps) p q = field-low 3 _ (repeated-low 4 encodePrune (x ∷ ps) q)
 control-low (g ∷ gs) ps p q =
-    field-low 3 _ (append-low (repeated-low 3 encodeGraft (g ∷ gs) p) (repeated-low 4 encodePrune ps q))
+    field-low 3 _ (each-append (repeated-low 3 encodeGraft (g ∷ gs) p) (repeated-low 4 encodePrune ps q))
 
 said-low : (b : List ℕ) (rs : List Record) → Bytes b → Low (encodeRpc (said b rs))
 unfolding encodeRpc said subscriptionsIn messagesIn graftsIn prunesIn
 said-low b rs h =
     let o = octets b h rs in
-    append-low (repeated-low 1 encodeSubOpts (gather b rs nothing .subscriptions) (o .subscriptions))
-    (append-low (repeated-low 2 (λ m. m .raw) (map renewed (gather b rs nothing .publish)) (raw-low (o .publish)))
+    each-append (repeated-low 1 encodeSubOpts (gather b rs nothing .subscriptions) (o .subscriptions))
+    (each-append (repeated-low 2 (λ m. m .raw) (map renewed (gather b rs nothing .publish)) (raw-low (o .publish)))
     (control-low (gather b rs nothing .control .graft) (gather b rs nothing .control .prune) (o .grafts) (o .prunes)))
 
 pub said-bytes : (b : List ℕ) (rs : List Record) → Bytes b → Bytes (encodeRpc (said b rs))

@@ -20,7 +20,7 @@ use Rattle.canonical.specs.Means.{opt, Small}
 use Rattle.compose.specs.declared.Lists.the-variants.{Fine}
 use Rattle.compose.specs.Lent.{lentRows}
 use Rattle.compose.specs.Said.{encodeMessage, renewed, controlOf, said}
-use Rattle.compose.specs.Compose.{listsOf, writeTested, writeLeft}
+use Rattle.compose.specs.Compose.{listsOf, writeTested, writeAnswer, writeLeft}
 
 -- each word of a lent table is below 2^64
 abbrev pub Words : List ℕ → Type 0
@@ -84,6 +84,13 @@ pub record Wrote (t b out : List ℕ) (n : ℕ) : Type 0 where
 pub record Reads (s : List ℕ) (x : Rpc) (n : ℕ) (table : List ℕ) : Type 0 where
   pub told : decodedTold (decodeAnswer s (length table)) ≡ done (n ∷ present (x .control) ∷ [])
   pub says : readBack s (rowsIn (decodeTable s table) 0 n) (eqb (present (x .control)) 1) ≡ x
+
+-- lists u over c say the same RPC as t over b, and are written alike
+pub record Alike (t b u c : List ℕ) : Type 0 where
+  pub tested : writeTested u c ≡ Fine
+  pub says : saidOf u c ≡ saidOf t b
+  pub answers : (out : List ℕ) → writeAnswer u c out ≡ writeAnswer t b out
+  pub leaves : (out : List ℕ) → writeLeft u c out ≡ writeLeft t b out
 
 -- lists that are lent well, of at most 512 rows with UTF-8 in topics, and say an RPC
 pub record Lends (t b : List ℕ) (x : Rpc) : Type 0 where

@@ -1,17 +1,16 @@
 -- A write that is not refused leaves the encoding of the RPC that the lists say; these bytes are accepted and mean that RPC, and decode's records of them read back as it.
-use Prim.Native.Nat.{ℕ, _+_, _/_, _%_, _≤_}
-use mathlib.Core.Path.{_≡_, refl, sym, ap, ap₂, subst, _∙_}
-use mathlib.Core.Bool.{Bool, true, false, cond, _&&_}
-use mathlib.Core.List.{List, [], _∷_, _++_}
+use Prim.Native.Nat.{ℕ, _/_, _%_, _≤_}
+use mathlib.Core.Path.{_≡_, refl, sym, ap, _∙_}
+use mathlib.Core.Bool.{true, false}
+use mathlib.Core.List.{List, _++_}
 use native.Mathlib.Omega.{arith}
 use lib.ListN.{length, drop}
 use lib.Dec.{leb, eqb}
 use Rattle.basis.specs.Cases.{either, clash, both}
 use Rattle.basis.specs.Bytes.{Bytes}
 use Rattle.basis.specs.Writing.{written}
-use Rattle.rpc.specs.Rpc.{Rpc}
 use Rattle.meaning.specs.Size.{recordsIn}
-use Rattle.meaning.specs.Decoded.{present, Within, Accepts, accepted-exactly, table-means}
+use Rattle.meaning.specs.Decoded.{present, Within, accepted-exactly, table-means}
 use Rattle.compose.specs.declared.Lists.{Lists}
 use Rattle.compose.specs.declared.Lists.the-variants as lists
 use Rattle.compose.specs.declared.Composed.the-variants.{Bytes as Count}
@@ -21,7 +20,7 @@ use Rattle.compose.specs.Laws.{rows-length}
 use Rattle.composed.specs.Written.{Words, saidOf, bodyOf, Wrote, Reads}
 use Rattle.composed.specs.Means.{plain-within}
 use Rattle.composed.specs.MeansBytes.{said-bytes}
-use Rattle.composed.specs.WrittenRows.{Taken, Passed, passed-of, said-plain, said-sayable, said-records}
+use Rattle.composed.specs.WrittenRows.{passed-of, said-plain, said-sayable, said-records}
 
 -- ---- what a write leaves
 put-count : (xs out : List ℕ) (n : ℕ) → putAnswer xs out ≡ Count n → (n ≡ length xs) × (written xs out ≡ xs ++ drop n out)

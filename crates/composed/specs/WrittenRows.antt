@@ -1,13 +1,12 @@
 -- On the way to what is written: what rows say that pass the tests. Its texts are UTF-8 and its numbers are below 2^64; each row is one record; nothing waits for a holder.
-use Prim.Native.Nat.{ℕ, zero, suc, _+_, _-_, _*_, _/_, _%_, _^_, _≤_, _<_}
-use mathlib.Core.Path.{_≡_, refl, sym, ap, subst, _∙_}
-use mathlib.Core.Bool.{Bool, true, false, cond, _&&_, _||_, or-false}
+use Prim.Native.Nat.{ℕ, zero, suc, _+_, _-_, _*_, _/_, _≤_}
+use mathlib.Core.Path.{_≡_, refl, ap, _∙_}
+use mathlib.Core.Bool.{Bool, true, false, _&&_, _||_, or-false}
 use mathlib.Core.List.{List, [], _∷_, map}
-use mathlib.Core.Option.{Option, none, some}
 use native.Mathlib.Omega.{arith}
 use lib.ListN.{length, getD}
-use lib.Dec.{ltb, leb, eqb}
-use borrow.Author.Tests.{ltb-false, le-ltb, eqb-true}
+use lib.Dec.{ltb, eqb}
+use borrow.Author.Tests.{ltb-false, le-ltb}
 use Rattle.basis.specs.Cases.{either, clash, both}
 use Rattle.utf8.specs.Grammar.{Utf8}
 use Rattle.utf8.specs.Utf8.{isUtf8}
@@ -24,9 +23,9 @@ use Rattle.message.specs.Rows.{kindCode, recordFrom}
 use Rattle.rpc.specs.Rpc.{RawMessage, ControlGraft, ControlPrune, ControlMessage}
 use Rattle.rpc.specs.Grammar.{Each, none-left, _and_}
 use Rattle.rpc.specs.Encode.{encodeRpc}
-use Rattle.meaning.specs.ReadBack.{bytesAt, numberAt, rawOf, Gathered, nothing, gatherKind, gather}
+use Rattle.meaning.specs.ReadBack.{bytesAt, numberAt, Gathered, nothing, gatherKind, gather}
 use Rattle.meaning.specs.Table.{rowsIn}
-use Rattle.meaning.specs.Size.{sumOf, controlRecords, someRecords, recordsIn, size, weight, size-gather}
+use Rattle.meaning.specs.Size.{sumOf, someRecords, recordsIn, weight, size-gather}
 use Rattle.canonical.specs.Means.{opt, Small}
 use Rattle.compose.specs.declared.Lists.{Lists}
 use Rattle.compose.specs.declared.Lists.the-variants.{Fine, Refused}
