@@ -1,5 +1,5 @@
 -- What the theorems about written RPCs suppose of what is lent and of an RPC.
-use Prim.Native.Nat.{ℕ, _+_, _^_, _<_}
+use Prim.Native.Nat.{ℕ, _+_, _^_, _≤_, _<_}
 use mathlib.Core.Path.{_≡_}
 use mathlib.Core.List.{List, [], _∷_, _++_, map}
 use mathlib.Core.Option.{Option, none, some}
@@ -74,10 +74,11 @@ saidOf t b = said b (lentRows t)
 abbrev pub bodyOf : List ℕ → List ℕ → List ℕ
 bodyOf t b = encodeRpc (saidOf t b)
 
--- n bytes were written: every test was passed, they are those of the RPC, and nothing else of the buffer changed
+-- n bytes were written: every test was passed, they are those of the RPC, they fit, and nothing else of the buffer changed
 pub record Wrote (t b out : List ℕ) (n : ℕ) : Type 0 where
   pub tested : writeTested t b ≡ Fine
   pub count : n ≡ length (bodyOf t b)
+  pub fits : n ≤ length out
   pub left : writeLeft t b out ≡ bodyOf t b ++ drop n out
 
 -- decode takes a body, lent that table: it tells n records and whether there is a control, and they read back as the RPC

@@ -6,6 +6,7 @@ use mathlib.Core.List.{List, _++_}
 use native.Mathlib.Omega.{arith}
 use lib.ListN.{length, drop}
 use lib.Dec.{leb, eqb}
+use borrow.Author.Tests.{leb-true}
 use Rattle.basis.specs.Cases.{either, clash, both}
 use Rattle.basis.specs.Bytes.{Bytes}
 use Rattle.basis.specs.Writing.{written}
@@ -23,19 +24,22 @@ use Rattle.composed.specs.MeansBytes.{said-bytes}
 use Rattle.composed.specs.WrittenRows.{passed-of, said-plain, said-sayable, said-records}
 
 -- ---- what a write leaves
-put-count : (xs out : List ℕ) (n : ℕ) → putAnswer xs out ≡ Count n → (n ≡ length xs) × (written xs out ≡ xs ++ drop n out)
+put-count : (xs out : List ℕ) (n : ℕ) → putAnswer xs out ≡ Count n
+    → (n ≡ length xs) × (n ≤ length out) × (written xs out ≡ xs ++ drop n out)
 unfolding putAnswer written
 put-count xs out n h =
     either (leb (length xs) (length out))
-    (λ t. let z = simp t at h in let e : length xs ≡ n = cc in (sym e, simp t (ap (λ (k : ℕ). xs ++ drop k out) e)))
+    (λ t. let z = simp t at h in let e : length xs ≡ n = cc in let l = leb-true (length xs) (length out) t in
+    (sym e, omega arith, simp t (ap (λ (k : ℕ). xs ++ drop k out) e)))
     (λ t. clash (let z = simp t at h in cc))
 
-wrote-of : (t b out : List ℕ) (n : ℕ) (r : Lists) → writeTested t b ≡ r → answering (putAnswer (bodyOf t b) out) r ≡ Count n
+wrote-of : (t b out : List ℕ) (n : ℕ) (r : Lists) → writeTested t b ≡ r
+    → answering (putAnswer (bodyOf t b) out) r ≡ Count n
     → Wrote t b out n
 unfolding writeLeft
 wrote-of t b out n lists.Fine e h =
     let g = put-count (bodyOf t b) out n h in
-    record { tested = e; count = g .0; left = ap (leaving out (written (bodyOf t b) out)) e ∙ g .1 }
+    record { tested = e; count = g .0; fits = g .1; left = ap (leaving out (written (bodyOf t b) out)) e ∙ g .2 }
 wrote-of t b out n (lists.Refused why) e h = clash (cc)
 
 pub write-leaves : (t b out : List ℕ) (n : ℕ) → writeAnswer t b out ≡ Count n → Wrote t b out n
