@@ -1,0 +1,1 @@
+// Theorems about RPCs that are written from lent lists: what the bytes mean, what is read back from them, and what can be lent. There is no function here.
