@@ -1,0 +1,3 @@
+-- To be believed: Admitted (`ofAdmission`).
+-- Theorems: Admitted.
+pub mod Admitted
