@@ -222,13 +222,22 @@ each-taken [] h none-left = none-left
 each-taken (m ∷ ms) h (i and r) =
     let a = both-fine (weighed m) (firstUnfit ms) h in weighed-taken m i (a .0) and each-taken ms (a .1) r
 
+-- every test of a write but the room's is passed
+pub tested : (t b : List ℕ) → writeTested t b ≡ Fine → (listsOf t b ≡ Fine)
+    × (firstUnfit (messagesIn b (lentRows t)) ≡ Fine) × (lengthFine (encodeRpc (said b (lentRows t))) ≡ Fine)
+unfolding writeTested
+tested t b h =
+    let ms = firstUnfit (messagesIn b (lentRows t)) in
+    let len = lengthFine (encodeRpc (said b (lentRows t))) in
+    let a = both-fine (listsOf t b) (andThen ms len) h in
+    let c = both-fine ms len (a .1) in
+    (a .0, c .0, c .1)
+
+-- each message of the RPC that lists say is taken, where they are written
 pub written-admitted : (t b w : List ℕ) → writeTested t b ≡ Fine → Within w (said b (lentRows t))
     → Each (λ (m : RawMessage). Taken (m .raw)) (said b (lentRows t) .publish)
-unfolding writeTested said
-written-admitted t b w h i =
-    let a = both-fine (listsOf t b) (andThen (firstUnfit (messagesIn b (lentRows t))) (lengthFine (encodeRpc (said b (lentRows t))))) h in
-    let c = both-fine (firstUnfit (messagesIn b (lentRows t))) (lengthFine (encodeRpc (said b (lentRows t)))) (a .1) in
-    each-taken (messagesIn b (lentRows t)) (c .0) (publish-means (i .means))
+unfolding said
+written-admitted t b w h i = each-taken (messagesIn b (lentRows t)) (tested t b h .1) (publish-means (i .means))
 
 -- ---- a message without a signature: 21, 22, 34, 23, or 26 with 0
 pub data Unsigned : Unfit → Type 0 where

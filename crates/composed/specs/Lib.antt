@@ -1,3 +1,4 @@
--- To be believed: Admitted (`ofAdmission`).
--- Theorems: Admitted.
+-- To be believed: Admitted (`ofAdmission`, `Taken`, `Unsigned`), Signed (`SameFields`).
+-- Theorems: Admitted, Signed.
 pub mod Admitted
+pub mod Signed
