@@ -2,3 +2,4 @@
 -- Theorems: Admitted, Signed.
 pub mod Admitted
 pub mod Signed
+pub mod Exactly
