@@ -1,7 +1,7 @@
 -- What `write_rpc` and `sign_fields` tell and leave, as the scope has it, both ways: bytes are written where no refusal holds, and each refusal is given exactly
 -- where the earlier ones do not hold. First the scope's words: which lists are lent well, which is the first topic that is no text, which message is the first
 -- that may not be written. Numbers are without bound; nothing wraps.
-use Prim.Native.Nat.{ℕ, _+_, _/_, _%_, _≤_, _<_}
+use Prim.Native.Nat.{ℕ, zero, suc, _+_, _/_, _%_, _≤_, _<_}
 use mathlib.Core.Path.{_≡_, refl, sym, ap, ap₂, subst, _∙_}
 use mathlib.Core.Bool.{Bool, true, false, cond, _&&_, _||_}
 use mathlib.Core.List.{List, [], _∷_, _++_}
@@ -43,6 +43,7 @@ use Rattle.compose.specs.Compose.{moved, textIn, textOf, textFine, textsFine, c
 use Rattle.compose.specs.Compose.{lengthFine, writeTested, writeAnswer, writeLeft, signAt, signedAt, signAnswer, signLeft}
 use Rattle.compose.specs.Told.{wrongTold, composedTold}
 use Rattle.compose.specs.Puts.{capped-small}
+use Rattle.composed.specs.Signed.{nth-drop}
 
 -- ---- 42: which lists are lent well
 -- a place of a row that begins at `at`, within n lent bytes
@@ -366,3 +367,225 @@ unfolding textFine
 none-only b r a e t n =
     ap (textFine b) (topic-is t)
     ∙ either (isUtf8 (between b a e)) (λ u. absurd (n (utf8-exactly (between b a e) .0 u))) (λ u. simp u)
+
+-- ---- all topics, 42 and 11, both ways
+data TextsSay (b : List ℕ) (rs : List Record) : Lists → Type 0 where
+  texts : Each (IsText b) rs → TextsSay b rs Fine
+  none : {a : ℕ} → FirstBad b rs a → TextsSay b rs (Refused (InvalidUtf8 a))
+
+texts-step : {b : List ℕ} {r : Record} {rs : List Record} {x y : Lists} → TextSays b r x → TextsSay b rs y
+    → TextsSay b (r ∷ rs) (andThen x y)
+texts-step (text t) (texts u) = texts (t and u)
+texts-step (text t) (none u) = none (past t u)
+texts-step (none t n) u = none (bad t n)
+
+texts-say : (b : List ℕ) (rs : List Record) → TextsSay b rs (textsFine b rs)
+texts-say b [] = texts none-left
+texts-say b (r ∷ rs) = texts-step (text-at b r (textOf r) refl) (texts-say b rs)
+
+texts-only : (b : List ℕ) {rs : List Record} → Each (IsText b) rs → textsFine b rs ≡ Fine
+texts-only b none-left = refl
+texts-only b (_and_ {x = r} t u) = rw (text-only b r (textOf r) refl t) (texts-only b u)
+
+bad-only : {b : List ℕ} {rs : List Record} {a : ℕ} → FirstBad b rs a → textsFine b rs ≡ Refused (InvalidUtf8 a)
+bad-only {b} (bad {r = r} {rs = rs} {a = a} {e = e} t n) = ap (λ (x : Lists). andThen x (textsFine b rs)) (none-only b r a e t n)
+bad-only {b} (past {r = r} {rs = rs} t u) =
+    ap (λ (x : Lists). andThen x (textsFine b rs)) (text-only b r (textOf r) refl t) ∙ bad-only u
+
+data ListsSay (t b : List ℕ) : Lists → Type 0 where
+  fine : ListsFine t b → ListsSay t b Fine
+  refused : {w : Wrong} → ListsRefused t b (wrongTold w) → ListsSay t b (Refused w)
+
+module _ (t b : List ℕ) where
+  counts-say : Lent t b → Each (IsText b) (lentRows t) → ListsSay t b (countFine (length t / 20))
+  unfolding countFine
+  counts-say l u =
+      either (ltb 512 (length t / 20)) (λ c. simp c (refused (too-many l u (ltb-true 512 (length t / 20) c))))
+      (λ c. simp c (fine (record { lent = l; texts = u; few = ltb-false 512 (length t / 20) c })))
+
+  lent-say : Lent t b → {r : Lists} → TextsSay b (lentRows t) r → ListsSay t b (andThen r (countFine (length t / 20)))
+  lent-say l (texts u) = counts-say l u
+  lent-say l (none u) = refused (bad-topic l u)
+
+  lists-say : ListsSay t b (listsOf t b)
+  unfolding listsOf
+  lists-say =
+      either (lentWell t b) (λ c. simp c (lent-say (lent-exactly t b .0 c) (texts-say b (lentRows t))))
+      (λ c. simp c (refused (not-lent (λ l. let z = lent-exactly t b .1 l in clash (cc)))))
+
+  pub fine-only : ListsFine t b → listsOf t b ≡ Fine
+  unfolding listsOf countFine
+  fine-only f = simp (lent-exactly t b .1 (f .lent), texts-only b (f .texts), le-ltb 512 (length t / 20) (f .few))
+
+  pub refused-only : {a : Told} → ListsRefused t b a → (w : Wrong) × (listsOf t b ≡ Refused w) × (wrongTold w ≡ a)
+  unfolding listsOf countFine
+  refused-only (not-lent n) = (
+    NotLent,
+    either (lentWell t b) (λ c. absurd (n (lent-exactly t b .0 c))) (λ c. simp c),
+    refl,
+  )
+  refused-only (bad-topic {a = a} l u) = (InvalidUtf8 a, simp (lent-exactly t b .1 l, bad-only u), refl)
+  refused-only (too-many l u h) = (
+    TooManyRecords (length t / 20),
+    simp (lent-exactly t b .1 l, texts-only b u, lt-ltb 512 (length t / 20) h),
+    refl,
+  )
+
+-- ---- messages, both ways
+data UnfitSays (ms : List RawMessage) : Lists → Type 0 where
+  all-fit : AllFit ms → UnfitSays ms Fine
+  none : {w : Wrong} → FirstUnfit ms (wrongTold w) → UnfitSays ms (Refused w)
+
+unfit-step : {m : RawMessage} {ms : List RawMessage} {y : Lists} (x : Lists) → weighed m ≡ x → UnfitSays ms y
+    → UnfitSays (m ∷ ms) (andThen x y)
+unfit-step Fine h (all-fit u) = all-fit (h and u)
+unfit-step Fine h (none u) = none (past h u)
+unfit-step (Refused w) h u = none (unfit h)
+
+unfit-say : (ms : List RawMessage) → UnfitSays ms (firstUnfit ms)
+unfit-say [] = all-fit none-left
+unfit-say (m ∷ ms) = unfit-step (weighed m) refl (unfit-say ms)
+
+pub fit-only : {ms : List RawMessage} → AllFit ms → firstUnfit ms ≡ Fine
+fit-only none-left = refl
+fit-only (_and_ {x = m} {xs = ms} h u) = ap (λ (x : Lists). andThen x (firstUnfit ms)) h ∙ fit-only u
+
+unfit-only : {ms : List RawMessage} {a : Told} → FirstUnfit ms a → (w : Wrong) × (firstUnfit ms ≡ Refused w)
+    × (wrongTold w ≡ a)
+unfit-only (unfit {ms = ms} {w = w} h) = (w, ap (λ (x : Lists). andThen x (firstUnfit ms)) h, refl)
+unfit-only (past {ms = ms} h u) =
+    let r = unfit-only u in (r .0, ap (λ (x : Lists). andThen x (firstUnfit ms)) h ∙ r .1, r .2)
+
+-- ---- write_rpc
+-- a writer of bytes that a number of the machine counts
+put-writes : (xs out : List ℕ) → length xs ≤ 65536 → Writes xs out (composedTold (putAnswer xs out)) (written xs out)
+unfolding putAnswer written
+put-writes xs out h =
+    either (leb (length xs) (length out)) (λ t. simp t (fits (leb-true _ _ t)))
+    (λ t. simp (t, capped-small (length xs) (omega arith)) (short (leb-false _ _ t)))
+
+put-only : {xs out : List ℕ} {a : Told} {l : List ℕ} → length xs ≤ 65536 → Writes xs out a l
+    → (composedTold (putAnswer xs out) ≡ a) × (written xs out ≡ l)
+unfolding putAnswer written
+put-only h (fits k) = (simp (le-leb _ _ k), simp (le-leb _ _ k))
+put-only {xs} h (short k) = (simp (lt-leb _ _ k, capped-small (length xs) (omega arith)), simp (lt-leb _ _ k))
+
+module _ (t b out : List ℕ) where
+  answer-by : Lists → Told
+  answer-by r = composedTold (answering (putAnswer (encodeRpc (said b (lentRows t))) out) r)
+
+  left-by : Lists → List ℕ
+  left-by r = leaving out (written (encodeRpc (said b (lentRows t))) out) r
+
+  long-say : ListsFine t b → AllFit (messagesIn b (lentRows t))
+      → WritesRpc t b out (answer-by (lengthFine (encodeRpc (said b (lentRows t)))))
+      (left-by (lengthFine (encodeRpc (said b (lentRows t)))))
+  unfolding lengthFine answer-by left-by
+  long-say f u =
+      let xs = encodeRpc (said b (lentRows t)) in
+      either (ltb 65536 (length xs)) (λ c. simp c (too-long f u (ltb-true 65536 (length xs) c)))
+      (λ c. let n = ltb-false 65536 (length xs) c in simp c (writes f u n (put-writes xs out n)))
+
+  messages-say : ListsFine t b → {r : Lists} → UnfitSays (messagesIn b (lentRows t)) r
+      → WritesRpc t b out (answer-by (andThen r (lengthFine (encodeRpc (said b (lentRows t))))))
+      (left-by (andThen r (lengthFine (encodeRpc (said b (lentRows t))))))
+  unfolding answer-by left-by
+  messages-say f (all-fit u) = long-say f u
+  messages-say f (none u) = message-refused f u
+
+  write-say : {r : Lists} → ListsSay t b r
+      → WritesRpc t b out
+      (answer-by (andThen r (andThen (firstUnfit (messagesIn b (lentRows t))) (lengthFine (encodeRpc (said b (lentRows t)))))))
+      (left-by (andThen r (andThen (firstUnfit (messagesIn b (lentRows t))) (lengthFine (encodeRpc (said b (lentRows t)))))))
+  unfolding answer-by left-by
+  write-say (fine f) = messages-say f (unfit-say (messagesIn b (lentRows t)))
+  write-say (refused u) = lists-refused u
+
+  pub write-says : WritesRpc t b out (composedTold (writeAnswer t b out)) (writeLeft t b out)
+  unfolding writeAnswer writeLeft writeTested answer-by left-by
+  write-says = write-say (lists-say t b)
+
+  write-only : {a : Told} {l : List ℕ} → WritesRpc t b out a l
+      → (composedTold (writeAnswer t b out) ≡ a) × (writeLeft t b out ≡ l)
+  unfolding writeAnswer writeLeft writeTested lengthFine
+  write-only (lists-refused u) = let r = refused-only t b u in (simp (r .1) (r .2), simp (r .1))
+  write-only (message-refused f u) =
+      let r = unfit-only u in (simp (fine-only t b f, r .1) (r .2), simp (fine-only t b f, r .1))
+  write-only (too-long f u h) =
+      let c = lt-ltb 65536 (length (encodeRpc (said b (lentRows t)))) h in
+      (simp (fine-only t b f, fit-only u, c), simp (fine-only t b f, fit-only u, c))
+  write-only (writes f u h w) =
+      let c = le-ltb 65536 (length (encodeRpc (said b (lentRows t)))) h in
+      let p = put-only h w in
+      (simp (fine-only t b f, fit-only u, c) (p .0), simp (fine-only t b f, fit-only u, c) (p .1))
+
+-- write_rpc tells a and leaves l exactly where the scope has it do so
+pub write-exactly : (t b out : List ℕ) (a : Told) (l : List ℕ)
+    → ((composedTold (writeAnswer t b out) ≡ a) × (writeLeft t b out ≡ l)) ↔ WritesRpc t b out a l
+write-exactly t b out a l = (
+  λ p. subst (λ (z : Told). WritesRpc t b out z l) (p .0)
+      (subst (λ (z : List ℕ). WritesRpc t b out (composedTold (writeAnswer t b out)) z) (p .1) (write-says t b out)),
+  write-only t b out,
+)
+
+-- ---- sign_fields
+-- the messages from an index on
+data From (i : ℕ) (ms : List RawMessage) : List RawMessage → Type 0 where
+  such : {m : RawMessage} {rs : List RawMessage} → Nth i ms m → From i ms (m ∷ rs)
+  none : length ms ≤ i → From i ms []
+
+from-there : {i : ℕ} {x : RawMessage} {ms rs : List RawMessage} → From i ms rs → From (suc i) (x ∷ ms) rs
+from-there (such n) = such (there n)
+from-there (none h) = none (omega arith)
+
+from-index : (i : ℕ) (ms : List RawMessage) → From i ms (drop i ms)
+from-index zero [] = none (omega arith)
+from-index zero (m ∷ ms) = such here
+from-index (suc i) [] = none (omega arith)
+from-index (suc i) (m ∷ ms) = from-there (from-index i ms)
+
+past-all : (i : ℕ) (ms : List RawMessage) → length ms ≤ i → drop i ms ≡ []
+past-all zero [] h = refl
+past-all zero (m ∷ ms) h = absurd (omega arith)
+past-all (suc i) [] h = refl
+past-all (suc i) (m ∷ ms) h = past-all i ms (omega arith)
+
+module _ (t b : List ℕ) (i : ℕ) (out : List ℕ) where
+  message-say : ListsFine t b → {rs : List RawMessage} → From i (messagesIn b (lentRows t)) rs
+      → SignsFields t b i out (composedTold (signAt (length (messagesIn b (lentRows t))) rs out)) (signedAt rs out)
+  unfolding putAnswer written
+  message-say f (such {m = m} n) =
+      either (leb (length (signBytes m)) (length out)) (λ c. simp c (signs f n (leb-true _ _ c)))
+      (λ c. simp c (short-of f n (leb-false _ _ c)))
+  message-say f (none h) = no-such f h
+
+  sign-say : {r : Lists} → ListsSay t b r
+      → SignsFields t b i out
+      (composedTold (answering (signAt (length (messagesIn b (lentRows t))) (drop i (messagesIn b (lentRows t))) out) r))
+      (leaving out (signedAt (drop i (messagesIn b (lentRows t))) out) r)
+  sign-say (fine f) = message-say f (from-index i (messagesIn b (lentRows t)))
+  sign-say (refused u) = lists-refused u
+
+  pub sign-says : SignsFields t b i out (composedTold (signAnswer t b i out)) (signLeft t b i out)
+  unfolding signAnswer signLeft
+  sign-says = sign-say (lists-say t b)
+
+  sign-only : {a : Told} {l : List ℕ} → SignsFields t b i out a l
+      → (composedTold (signAnswer t b i out) ≡ a) × (signLeft t b i out ≡ l)
+  unfolding signAnswer signLeft putAnswer written
+  sign-only (lists-refused u) = let r = refused-only t b u in (simp (r .1) (r .2), simp (r .1))
+  sign-only (no-such f h) =
+      let e = past-all i (messagesIn b (lentRows t)) h in (simp (fine-only t b f, e), simp (fine-only t b f, e))
+  sign-only (signs f n h) =
+      let d = nth-drop n in (simp (fine-only t b f, d .1, le-leb _ _ h), simp (fine-only t b f, d .1, le-leb _ _ h))
+  sign-only (short-of f n h) =
+      let d = nth-drop n in (simp (fine-only t b f, d .1, lt-leb _ _ h), simp (fine-only t b f, d .1, lt-leb _ _ h))
+
+-- sign_fields tells a and leaves l exactly where the scope has it do so
+pub sign-fields-exactly : (t b : List ℕ) (i : ℕ) (out : List ℕ) (a : Told) (l : List ℕ)
+    → ((composedTold (signAnswer t b i out) ≡ a) × (signLeft t b i out ≡ l)) ↔ SignsFields t b i out a l
+sign-fields-exactly t b i out a l = (
+  λ p. subst (λ (z : Told). SignsFields t b i out z l) (p .0)
+      (subst (λ (z : List ℕ). SignsFields t b i out (composedTold (signAnswer t b i out)) z) (p .1) (sign-says t b i out)),
+  sign-only t b i out,
+)

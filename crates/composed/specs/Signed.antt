@@ -56,7 +56,7 @@ unfolding signBytes
 renewed-signed m = refl
 
 -- ---- sign_fields, of message i of lists that are fine
-nth-drop : {i : ℕ} {ms : List RawMessage} {m : RawMessage} → Nth i ms m → (r : List RawMessage) × (drop i ms ≡ m ∷ r)
+pub nth-drop : {i : ℕ} {ms : List RawMessage} {m : RawMessage} → Nth i ms m → (r : List RawMessage) × (drop i ms ≡ m ∷ r)
 nth-drop (here {xs = xs}) = (xs, refl)
 nth-drop (there n) = nth-drop n
 
