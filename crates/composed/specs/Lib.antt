@@ -3,3 +3,4 @@
 pub mod Admitted
 pub mod Signed
 pub mod Exactly
+pub mod Refused
