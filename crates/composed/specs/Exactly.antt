@@ -458,7 +458,7 @@ unfit-only (past {ms = ms} h u) =
 
 -- ---- write_rpc
 -- a writer of bytes that a number of the machine counts
-put-writes : (xs out : List ℕ) → length xs ≤ 65536 → Writes xs out (composedTold (putAnswer xs out)) (written xs out)
+pub put-writes : (xs out : List ℕ) → length xs ≤ 65536 → Writes xs out (composedTold (putAnswer xs out)) (written xs out)
 unfolding putAnswer written
 put-writes xs out h =
     either (leb (length xs) (length out)) (λ t. simp t (fits (leb-true _ _ t)))

@@ -4,3 +4,4 @@ pub mod Admitted
 pub mod Signed
 pub mod Exactly
 pub mod Refused
+pub mod Rows
