@@ -1,12 +1,14 @@
 -- As in admission: a message with a signature is refused exactly as admission refuses its bytes, the host's word given; so every message of what is written is
 -- admitted. A message without a signature is refused by 21, 22, 34, 23, or by 26 with 0; 24, 25 and 27 are never given.
 use Prim.Native.Nat.{ℕ, _-_}
-use mathlib.Core.Path.{_≡_, refl, sym, ap, ap₂, _∙_}
+use mathlib.Core.Path.{_≡_, refl, sym, ap, _∙_}
 use mathlib.Core.Bool.{Bool, true, false, cond, _||_}
 use mathlib.Core.List.{List, [], _∷_, map}
 use mathlib.Core.Option.{Option, none, some}
+use mathlib.Core.Logic.{_↔_}
 use lib.ListN.{length}
 use lib.Dec.{ltb, eqb}
+use Rattle.basis.specs.Bytes.{Bytes}
 use Rattle.basis.specs.Cases.{either, clash}
 use Rattle.basis.specs.Refusals.{missing-from, invalid-from, not-peer-id, invalid-seqno, invalid-signature-length, invalid-key}
 use Rattle.basis.specs.Refusals.{key-mismatch, topic-count, topic-too-long, message-too-long}
@@ -28,13 +30,14 @@ use Rattle.admission.specs.declared.Unfit.{Unfit}
 use Rattle.admission.specs.declared.Unfit.the-variants as why
 use Rattle.admission.specs.declared.Admission.{Admission}
 use Rattle.admission.specs.declared.Admission.the-variants as admission
-use Rattle.admission.specs.Admission.{topicsOf, firstLong, onLimits, onWord, isKey, keyMatches, keyInside, onKey, onSignature}
+use Rattle.admission.specs.Admission.{topicsOf, firstLong, onLimits, isKey, keyMatches, keyInside, onKey, onSignature}
 use Rattle.admission.specs.Admission.{isPeerId, onPeer, partAt, senderOf, onId, admissionOf}
 use Rattle.admission.specs.Fit.{givenAt}
 use Rattle.admission.specs.Told.{unfitTold}
 use Rattle.meaning.specs.Decoded.{Within}
 use Rattle.outputs.specs.Cached.{topics-mean}
-use Rattle.outputs.specs.FitsLaws.{fields-given}
+use Rattle.outputs.specs.Fits.{FitMessage}
+use Rattle.outputs.specs.FitsLaws.{fields-given, fit-message}
 use Rattle.compose.specs.declared.Wrong.{Wrong}
 use Rattle.compose.specs.declared.Wrong.the-variants as wrong
 use Rattle.compose.specs.declared.Lists.{Lists}
@@ -238,6 +241,14 @@ pub written-admitted : (t b w : List ℕ) → writeTested t b ≡ Fine → Withi
     → Each (λ (m : RawMessage). Taken (m .raw)) (said b (lentRows t) .publish)
 unfolding said
 written-admitted t b w h i = each-taken (messagesIn b (lentRows t)) (tested t b h .1) (publish-means (i .means))
+
+-- by its fields, as the documents have it: a message may be written exactly where it is fit
+pub weighed-exactly : (m : RawMessage) → IsMessage (encodeMessage m) (renewed m) → Bytes (encodeMessage m)
+    → (weighed m ≡ Fine) ↔ FitMessage (renewed m) true
+weighed-exactly m i b = (
+  λ h. fit-message i b true .0 (weighed-taken m i h),
+  λ x. let t = fit-message i b true .1 x in as-admission m (x .signature) i (x .signed) ∙ ap ofAdmission (t .4),
+)
 
 -- ---- a message without a signature: 21, 22, 34, 23, or 26 with 0
 pub data Unsigned : Unfit → Type 0 where

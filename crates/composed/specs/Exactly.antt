@@ -3,7 +3,7 @@
 -- that may not be written. Numbers are without bound; nothing wraps.
 use Prim.Native.Nat.{ℕ, zero, suc, _+_, _/_, _%_, _≤_, _<_}
 use mathlib.Core.Path.{_≡_, refl, sym, ap, ap₂, subst, _∙_}
-use mathlib.Core.Bool.{Bool, true, false, cond, _&&_, _||_}
+use mathlib.Core.Bool.{Bool, true, false, _&&_, _||_}
 use mathlib.Core.List.{List, [], _∷_, _++_}
 use mathlib.Core.Logic.{_↔_}
 use native.Mathlib.Omega.{arith}
@@ -29,13 +29,12 @@ use Rattle.message.specs.Rows.{kindCode, kindFrom}
 use Rattle.rpc.specs.Rpc.{RawMessage}
 use Rattle.rpc.specs.Grammar.{Each, none-left, _and_}
 use Rattle.rpc.specs.Encode.{encodeRpc, signBytes}
-use Rattle.canon.specs.Messages.{Nth, here, there, nth-bound}
+use Rattle.canon.specs.Messages.{Nth, here, there}
 use Rattle.canonical.specs.Calls.{Writes, fits, short}
 use Rattle.compose.specs.declared.Wrong.{Wrong}
-use Rattle.compose.specs.declared.Wrong.the-variants.{NotLent, InvalidUtf8, TooManyRecords, NoMessage, TooLong}
+use Rattle.compose.specs.declared.Wrong.the-variants.{NotLent, InvalidUtf8, TooManyRecords}
 use Rattle.compose.specs.declared.Lists.{Lists}
 use Rattle.compose.specs.declared.Lists.the-variants.{Fine, Refused}
-use Rattle.compose.specs.declared.Composed.{Composed}
 use Rattle.compose.specs.Lent.{lentRows, isCode, insideAt, fieldsInside, rowInside, heldBy, lentFrom, lentWell}
 use Rattle.compose.specs.Said.{messagesIn, said}
 use Rattle.compose.specs.Weighed.{capped, andThen, weighed, firstUnfit}

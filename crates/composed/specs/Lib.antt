@@ -1,5 +1,6 @@
--- To be believed: Admitted (`ofAdmission`, `Taken`, `Unsigned`), Signed (`SameFields`).
--- Theorems: Admitted, Signed.
+-- To be believed: Exactly (`Lent`, `TopicAt`, `ListsRefused`, `ListsFine`, `FirstUnfit`; `WritesRpc`, `SignsFields`), Admitted (`ofAdmission`, `Taken`, `Unsigned`,
+-- `messageNumbers`), Signed (`SameFields`), Refused (`writeNumbers`, `signNumbers`, `Writable`), Rows (`SmallRows`, `MessageRows`, `LargeRows`).
+-- Theorems: Admitted, Signed, Exactly, Refused, Rows.
 pub mod Admitted
 pub mod Signed
 pub mod Exactly

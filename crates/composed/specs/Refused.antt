@@ -1,5 +1,5 @@
--- A refused call leaves the lent bytes as they were. Which numbers the calls tell: write_rpc never tells 24, 25 or 27. The lengths beside 13, 12 and 30 are exact
--- where they are below 2^64. And two results that meet a contract are the same.
+-- A refused call leaves the lent bytes as they were. Which numbers the calls tell: write_rpc never tells 24, 25 or 27; it tells 0 exactly where no refusal holds.
+-- The lengths beside 13 and 30 are exact where they are below 2^64.
 use Prim.Native.Nat.{ℕ, _^_, _≤_, _<_}
 use mathlib.Core.Path.{_≡_, refl, ap, subst, _∙_}
 use mathlib.Core.Bool.{Bool, true, false, cond, _||_}
@@ -7,32 +7,29 @@ use mathlib.Core.List.{List, [], _∷_, _++_}
 use mathlib.Core.Logic.{_↔_}
 use native.Mathlib.Omega.{arith}
 use lib.ListN.{length, drop}
-use lib.Dec.{ltb, leb, eqb}
+use lib.Dec.{ltb, eqb}
 use Rattle.basis.specs.Cases.{either, clash}
 use Rattle.basis.specs.declared.Told.{Told}
 use Rattle.basis.specs.Refusals.{malformed, invalid-utf8, too-many-records, no-message, rpc-too-long, short-room}
 use Rattle.basis.specs.Refusals.{key-without-signature, missing-signature, signature-invalid}
 use Rattle.basis.specs.Told.{done}
 use Rattle.rpc.specs.Rpc.{RawMessage}
-use Rattle.rpc.specs.Encode.{encodeRpc, signBytes}
-use Rattle.canon.specs.Messages.{Nth}
+use Rattle.rpc.specs.Encode.{encodeRpc}
 use Rattle.canonical.specs.Calls.{Writes, fits, short}
 use Rattle.admission.specs.declared.Unfit.the-variants.{MessageTooLong}
 use Rattle.compose.specs.declared.Wrong.{Wrong}
 use Rattle.compose.specs.declared.Wrong.the-variants.{Unfit}
-use Rattle.compose.specs.declared.Lists.{Lists}
 use Rattle.compose.specs.declared.Lists.the-variants.{Fine, Refused}
-use Rattle.compose.specs.declared.Composed.{Composed}
 use Rattle.compose.specs.Lent.{lentRows}
 use Rattle.compose.specs.Said.{messagesIn, said}
 use Rattle.compose.specs.Weighed.{capped, sizeFine}
-use Rattle.compose.specs.Compose.{listsOf, putAnswer, answering, leaving, writeTested, writeAnswer, writeLeft, signAt, signedAt, signAnswer, signLeft}
+use Rattle.compose.specs.Compose.{writeAnswer, writeLeft, signAnswer, signLeft}
 use Rattle.compose.specs.Told.{wrongTold, composedTold}
 use Rattle.compose.specs.Puts.{capped-small}
 use Rattle.composed.specs.Admitted.{oneOf, messageNumbers, weighed-number}
 use Rattle.composed.specs.Exactly.{ListsRefused, not-lent, bad-topic, too-many, ListsFine, FirstUnfit, unfit, past, AllFit}
 use Rattle.composed.specs.Exactly.{WritesRpc, lists-refused, message-refused, too-long, writes, SignsFields, no-such, signs, short-of}
-use Rattle.composed.specs.Exactly.{write-says, sign-says, write-exactly, sign-fields-exactly}
+use Rattle.composed.specs.Exactly.{write-says, sign-says, write-exactly}
 
 -- ---- the numbers that are told: 0, or a refusal in its order
 abbrev pub writeNumbers : List ℕ

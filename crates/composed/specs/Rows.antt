@@ -1,11 +1,14 @@
--- The request's table of lists and answers, as one theorem over the calls: for every lent buffer, what `write_rpc` and `sign_fields` tell and leave.
-use Prim.Native.Nat.{ℕ, zero, suc, _+_, _-_, _*_, _/_, _%_, _≤_, _<_}
-use mathlib.Core.Path.{_≡_, refl, sym, ap, ap₂, subst, _∙_}
-use mathlib.Core.Bool.{Bool, true, false, cond, _&&_}
-use mathlib.Core.List.{List, [], _∷_, _++_}
+-- Lists and answers, worked out, as one theorem over the calls: for every lent buffer, what `write_rpc` and `sign_fields` tell and leave. Each row is computed.
+use Prim.Native.Nat.{ℕ, zero, suc, _+_, _-_, _/_, _%_, _<_}
+use mathlib.Core.Path.{_≡_, refl, sym, ap, _∙_}
+use mathlib.Core.Bool.{true, false, cond}
+use mathlib.Core.List.{List, [], _∷_, _++_, append-nil}
 use native.Mathlib.Omega.{arith}
-use lib.ListN.{length, drop, replicate}
-use lib.Dec.{ltb, leb, eqb}
+use lib.ListN.{length, drop, replicate, drop-of-length-le}
+use lib.Seq.{sets, sets-eq}
+use Rattle.message.specs.RowsLaws.{all-length}
+use Rattle.meaning.specs.Table.{rowsIn, table-back}
+use lib.Dec.{leb}
 use borrow.Author.Tests.{leb-true}
 use Rattle.basis.specs.declared.Told.{Told}
 use Rattle.basis.specs.Refusals.{malformed, invalid-utf8, too-many-records, invalid-signature-length, message-too-long, rpc-too-long, short-room}
@@ -32,14 +35,14 @@ use Rattle.admission.specs.declared.Unfit.the-variants.{InvalidSignatureLength,
 use Rattle.rpc.specs.Rpc.{RawMessage}
 use Rattle.canonical.specs.Calls.{Writes, fits, short}
 use Rattle.compose.specs.declared.Wrong.{Wrong}
-use Rattle.compose.specs.declared.Wrong.the-variants.{NotLent, InvalidUtf8, TooManyRecords, Unfit}
+use Rattle.compose.specs.declared.Wrong.the-variants.{NotLent, InvalidUtf8, TooManyRecords, Unfit, TooLong}
 use Rattle.compose.specs.declared.Lists.{Lists}
 use Rattle.compose.specs.declared.Lists.the-variants.{Fine, Refused}
 use Rattle.compose.specs.Lent.{lentRows, insideAt, fieldsInside, rowInside, heldBy, lentFrom, lentWell}
 use Rattle.compose.specs.Said.{encodeFields, encodeMessage, subscriptionsIn, messagesIn, graftsIn, prunesIn, topicsFrom, peersFrom, said}
 use Rattle.compose.specs.Weighed.{capped, andThen, fromFine, seqnoFine, signatureFine, keyFine, topicsFine, sizeFine, limitsFine, weighed, firstUnfit}
-use Rattle.compose.specs.Compose.{textOf, textFine, textsFine, countFine, listsOf, putAnswer, answering, leaving, lengthFine, writeTested, writeAnswer, writeLeft}
-use Rattle.compose.specs.Compose.{signAt, signedAt, signAnswer, signLeft}
+use Rattle.compose.specs.Compose.{textOf, textFine, textsFine, countFine, listsOf, lengthFine, writeTested, writeAnswer, writeLeft}
+use Rattle.compose.specs.Compose.{signAnswer, signLeft}
 use Rattle.compose.specs.Told.{wrongTold, composedTold}
 use Rattle.composed.specs.Exactly.{put-writes}
 
@@ -131,7 +134,7 @@ subscription n = sub-opts (number.Present n) (at 0 1) ∷ []
 abbrev subscribed : List ℕ
 subscribed = 0x0a ∷ 0x05 ∷ 0x08 ∷ 0x01 ∷ 0x12 ∷ 0x01 ∷ 0x74 ∷ []
 
-pub record Small : Type 0 where
+pub record SmallRows : Type 0 where
   -- none: 0 bytes
   pub nothing : (b : List ℕ) → WritesAs [] b []
   -- SubOpts, number 1, topic 0..1; `t` (number 7: the same)
@@ -168,7 +171,7 @@ room-by : {xs out : List ℕ} {a : Told} {l : List ℕ} → Writes xs out a l �
 room-by (fits h) k = absurd (omega arith)
 room-by (short h) k = (refl, refl)
 
-small : Small
+small : SmallRows
 unfolding uvarint bytesOf isUtf8 run tag bytesField varintField numberFrom placeFrom kindCode numberWords placeWords placesWords wordsOf kindFrom recordFrom
     encodeSubOpts encodeGraft encodePeerInfo encodePrune encodeControl encodeRpc insideAt fieldsInside rowInside heldBy lentWell
     subscriptionsIn messagesIn graftsIn prunesIn topicsFrom peersFrom said textOf textFine countFine listsOf lengthFine writeTested
@@ -186,7 +189,7 @@ small =
     }
 
 -- ---- the message of the table
-pub record Messages : Type 0 where
+pub record MessageRows : Type 0 where
   -- X, and the 60 bytes to sign
   pub written : WritesAs (wordsOfAll signed) fields x × SignsAs (wordsOfAll signed) fields 0 (signPrefix ++ head)
   -- without the signature: 26 with 0; the bytes to sign are the same
@@ -198,7 +201,7 @@ pub record Messages : Type 0 where
       (wordsOfAll (message (at 0 38) (at 104 4104) (at 38 39) (at 40 104) no ∷ topic 39 40 ∷ message no no no no no ∷ []))
       (fields ++ replicate 4000 0) (told message-too-long (4115 ∷ []))
 
-messages : Messages
+messages : MessageRows
 unfolding readUvarint readFrom groupOf hashOf fromBytes typeOf onTotal onData decodeProtobuf isKey keyMatches keyInside isPeerId sameBytes firstLong
     uvarint bytesOf isUtf8 run tag bytesField varintField numberFrom placeFrom kindCode numberWords placeWords placesWords wordsOf kindFrom recordFrom
     encodeSubOpts encodeGraft encodePeerInfo encodePrune encodeControl encodeRpc signBytes insideAt fieldsInside rowInside heldBy lentWell
@@ -213,3 +216,82 @@ messages =
       );
       long = refuses-by _ _ (Unfit (MessageTooLong 4115)) refl;
     }
+
+-- ---- many rows, and long ones: by the rows, and not by the words of the table
+words-back : (rs : List Record) → lentRows (wordsOfAll rs) ≡ rs
+words-back rs =
+    let t = wordsOfAll rs in
+    let l = all-length rs in
+    let n : length t / 20 - 0 ≡ length rs = omega arith in
+    let s : sets t 0 t ≡ t =
+    sets-eq t t 0 (omega arith) ∙ ap (λ (z : List ℕ). t ++ z) (drop-of-length-le t {i = 0 + length t} (omega arith)) ∙ append-nil t in
+    ap (rowsIn t 0) n ∙ ap (λ (z : List ℕ). rowsIn z 0 (length rs)) (sym s) ∙ table-back t rs (omega arith)
+
+listsBy : List Record → List ℕ → ℕ → Lists
+listsBy rs b n = cond (lentFrom (length b) false false rs) (andThen (textsFine b rs) (countFine n)) (Refused NotLent)
+
+module _ (rs : List Record) (b : List ℕ) (n : ℕ) (h : length rs ≡ n) where
+  lists-by : listsOf (wordsOfAll rs) b ≡ listsBy rs b n
+  unfolding listsOf lentWell listsBy
+  lists-by =
+      let l = all-length rs in
+      let m : length (wordsOfAll rs) % 20 ≡ 0 = omega arith in
+      let k : length (wordsOfAll rs) / 20 ≡ n = omega arith in
+      rw (words-back rs, m, k)
+
+  tested-by : writeTested (wordsOfAll rs) b
+      ≡ andThen (listsBy rs b n) (andThen (firstUnfit (messagesIn b rs)) (lengthFine (encodeRpc (said b rs))))
+  unfolding writeTested
+  tested-by = rw (lists-by, words-back rs)
+
+abbrev pairs : ℕ → List ℕ
+pairs zero = []
+pairs (suc n) = 0x1a ∷ 0x00 ∷ pairs n
+
+pub record LargeRows : Type 0 where
+  -- 513 GRAFTs without topic: 11 with 513; 512: 1,027 bytes
+  pub grafts : RefusesAs (wordsOfAll (replicate 513 (graft no))) [] (told too-many-records (513 ∷ []))
+      × WritesAs (wordsOfAll (replicate 512 (graft no))) [] (0x1a ∷ 0x80 ∷ 0x08 ∷ pairs 512)
+      × (length (0x1a ∷ 0x80 ∷ 0x08 ∷ pairs 512) ≡ 1027)
+  -- 513 messages, all absent: 11 with 513
+  pub messages : RefusesAs (wordsOfAll (replicate 513 (message no no no no no))) [] (told too-many-records (513 ∷ []))
+  -- one GRAFT, topic of 65,524 bytes: 65,536 bytes; of 65,525: 13 with 65537
+  pub longest : WritesAs (wordsOfAll (graft (at 0 65524) ∷ [])) (replicate 65524 0x74)
+      (0x1a ∷ 0xfc ∷ 0xff ∷ 0x03 ∷ 0x1a ∷ 0xf8 ∷ 0xff ∷ 0x03 ∷ 0x0a ∷ 0xf4 ∷ 0xff ∷ 0x03 ∷ replicate 65524 0x74)
+      × RefusesAs (wordsOfAll (graft (at 0 65525) ∷ [])) (replicate 65525 0x74) (told rpc-too-long (65537 ∷ []))
+  -- 66 GRAFTs on the same 1,000 bytes: 13 with 66400
+  pub same-bytes : RefusesAs (wordsOfAll (replicate 66 (graft (at 0 1000)))) (replicate 1000 0x74)
+      (told rpc-too-long (66400 ∷ []))
+
+large-by : (rs : List Record) (b xs : List ℕ) (n : ℕ) → length rs ≡ n
+    → andThen (listsBy rs b n) (andThen (firstUnfit (messagesIn b rs)) (lengthFine (encodeRpc (said b rs)))) ≡ Fine
+    → encodeRpc (said b rs) ≡ xs → leb (length xs) 65536 ≡ true → WritesAs (wordsOfAll rs) b xs
+large-by rs b xs n h k e l =
+    writes-by (wordsOfAll rs) b xs (tested-by rs b n h ∙ k)
+    (ap (λ (z : List Record). encodeRpc (said b z)) (words-back rs) ∙ e) l
+
+large-refused : (rs : List Record) (b : List ℕ) (n : ℕ) (w : Wrong) → length rs ≡ n
+    → andThen (listsBy rs b n) (andThen (firstUnfit (messagesIn b rs)) (lengthFine (encodeRpc (said b rs)))) ≡ Refused w
+    → RefusesAs (wordsOfAll rs) b (wrongTold w)
+large-refused rs b n w h k = refuses-by (wordsOfAll rs) b w (tested-by rs b n h ∙ k)
+
+large : LargeRows
+unfolding listsBy uvarint bytesOf isUtf8 run tag bytesField varintField kindCode encodeGraft encodeControl encodeRpc insideAt fieldsInside rowInside
+    heldBy subscriptionsIn messagesIn graftsIn prunesIn topicsFrom peersFrom said textOf textFine countFine lengthFine capped
+large =
+    record {
+      grafts = (
+        large-refused (replicate 513 (graft no)) [] 513 (TooManyRecords 513) refl refl,
+        large-by (replicate 512 (graft no)) [] _ 512 refl refl refl refl,
+        refl,
+      );
+      messages = large-refused (replicate 513 (message no no no no no)) [] 513 (TooManyRecords 513) refl refl;
+      longest = (
+        large-by (graft (at 0 65524) ∷ []) (replicate 65524 0x74) _ 1 refl refl refl refl,
+        large-refused (graft (at 0 65525) ∷ []) (replicate 65525 0x74) 1 (TooLong 65537) refl refl,
+      );
+      same-bytes = large-refused (replicate 66 (graft (at 0 1000))) (replicate 1000 0x74) 66 (TooLong 66400) refl refl;
+    }
+
+pub rows : SmallRows × MessageRows × LargeRows
+rows = (small, messages, large)

@@ -1,31 +1,25 @@
 -- What is signed of a message that lists say: the prefix and the fields 1 to 4; a signature and a key, there or not, change nothing. So the bytes to sign that
 -- `sign_fields` gives before there is a signature are those that `sign_bytes` finds in a body written with any.
-use Prim.Native.Nat.{ℕ, _+_, _≤_}
+use Prim.Native.Nat.{ℕ, _≤_}
 use mathlib.Core.Path.{_≡_, refl, sym, ap, _∙_}
-use mathlib.Core.List.{List, [], _∷_, _++_, map}
+use mathlib.Core.List.{List, _∷_, _++_, map}
 use native.Mathlib.Omega.{arith}
 use lib.ListN.{length, drop, length-append}
 use lib.Dec.{ltb, leb}
 use borrow.Author.Tests.{ltb-false}
 use Rattle.basis.specs.Cases.{either, clash}
 use Rattle.basis.specs.Writing.{answer, written}
-use Rattle.protobuf.specs.declared.Checked.{Checked}
-use Rattle.protobuf.specs.Walk.{between}
-use Rattle.ids.specs.declared.MessageAt.{MessageAt}
 use Rattle.ids.specs.Ids.{messageAt, ofWritten}
 use Rattle.ids.specs.Told.{messageTold}
 use Rattle.rpc.specs.Rpc.{RawMessage, Rpc}
 use Rattle.rpc.specs.Encode.{signPrefix, signBytes}
 use Rattle.meaning.specs.Decoded.{Within}
-use Rattle.canon.specs.Canon.{signOf}
 use Rattle.canon.specs.Taken.{taken}
 use Rattle.canon.specs.Written.{sign-written}
 use Rattle.canon.specs.Messages.{Nth, here, there}
 use Rattle.canonical.specs.Calls.{found-in}
 use Rattle.encode.specs.Sign as body
-use Rattle.compose.specs.declared.Composed.{Composed}
-use Rattle.compose.specs.declared.Lists.{Lists}
-use Rattle.compose.specs.declared.Lists.the-variants.{Fine, Refused}
+use Rattle.compose.specs.declared.Lists.the-variants.{Fine}
 use Rattle.compose.specs.Lent.{lentRows}
 use Rattle.compose.specs.Said.{encodeFields, encodeMessage, renewed, messagesIn, said}
 use Rattle.compose.specs.Weighed.{andThen, given, fromFine, seqnoFine, signatureFine, keyFine, topicsFine, sizeFine, limitsFine, weighed, firstUnfit}
