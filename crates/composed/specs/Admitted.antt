@@ -1,11 +1,12 @@
 -- As in admission: a message with a signature is refused exactly as admission refuses its bytes, the host's word given; so every message of what is written is
 -- admitted. A message without a signature is refused by 21, 22, 34, 23, or by 26 with 0; 24, 25 and 27 are never given.
-use Prim.Native.Nat.{ℕ, _-_}
-use mathlib.Core.Path.{_≡_, refl, sym, ap, _∙_}
+use Prim.Native.Nat.{ℕ, _-_, _^_, _<_}
+use mathlib.Core.Path.{_≡_, refl, sym, ap, subst, _∙_}
 use mathlib.Core.Bool.{Bool, true, false, cond, _||_}
 use mathlib.Core.List.{List, [], _∷_, map}
 use mathlib.Core.Option.{Option, none, some}
 use mathlib.Core.Logic.{_↔_}
+use native.Mathlib.Omega.{arith}
 use lib.ListN.{length}
 use lib.Dec.{ltb, eqb}
 use Rattle.basis.specs.Bytes.{Bytes}
@@ -33,7 +34,7 @@ use Rattle.admission.specs.declared.Admission.the-variants as admission
 use Rattle.admission.specs.Admission.{topicsOf, firstLong, onLimits, isKey, keyMatches, keyInside, onKey, onSignature}
 use Rattle.admission.specs.Admission.{isPeerId, onPeer, partAt, senderOf, onId, admissionOf}
 use Rattle.admission.specs.Fit.{givenAt}
-use Rattle.admission.specs.Told.{unfitTold}
+use Rattle.admission.specs.Told.{unfitTold, admissionTold}
 use Rattle.meaning.specs.Decoded.{Within}
 use Rattle.outputs.specs.Cached.{topics-mean}
 use Rattle.outputs.specs.Fits.{FitMessage}
@@ -46,6 +47,8 @@ use Rattle.compose.specs.Lent.{lentRows}
 use Rattle.compose.specs.Said.{encodeMessage, renewed, messagesIn, said}
 use Rattle.compose.specs.Weighed.{capped, andThen, given, fromFine, seqnoFine, signatureFine, keyFine, topicsFine, sizeFine, limitsFine, weighed, firstUnfit}
 use Rattle.compose.specs.Compose.{listsOf, lengthFine, writeTested}
+use Rattle.compose.specs.Told.{wrongTold}
+use Rattle.compose.specs.Puts.{capped-small}
 
 -- ---- what admission says, said of a list: only the length beside 30 may differ, which stops at 2^64 - 1
 abbrev pub stopped : Unfit → Unfit
@@ -172,6 +175,78 @@ as-admission m d i h =
     sym (ap ofAdmission (on-parts p (idParts p))
     ∙ of-from p (s .fourth) (s .fifth) d (n .fourth) (g .signature ∙ h) (s .first) (s .third) (n .first) (n .third)
     ∙ rw (g .from, g .seqno, g .signature, g .key, t))
+
+-- ---- told alike: below 2^64 bytes no length is stopped
+-- only 30 tells the length of the bytes
+data Sized (p : List ℕ) : Admission → Type 0 where
+  taken : {a e b f : ℕ} → Sized p (admission.Fit a e b f)
+  early : {w : Unfit} → eqb (unfitTold w .number) message-too-long ≡ false → Sized p (admission.Unfit w)
+  long : Sized p (admission.Unfit (why.MessageTooLong (length p)))
+
+module _ (p : List ℕ) where
+  cond-sized : (t : Bool) {a b : Admission} → Sized p a → Sized p b → Sized p (cond t a b)
+  cond-sized true x y = x
+  cond-sized false x y = y
+
+  limits-sized : {r : Admission} → Sized p r → Sized p (onLimits p r)
+  unfolding onLimits
+  limits-sized x =
+      cond-sized (eqb (length (topicsOf p)) 0 || ltb 4 (length (topicsOf p))) (early refl)
+      (cond-sized (eqb (firstLong (topicsOf p)) 0) (cond-sized (ltb 4096 (length p)) long x) (early refl))
+
+  key-sized : (s : List ℕ) (q : Place) {r : Admission} → Sized p r → Sized p (onKey p s q r)
+  key-sized s place.Absent x = cond-sized (keyInside s) x (early refl)
+  key-sized s (place.Present a e) x =
+      cond-sized (isKey (between p a e)) (cond-sized (keyMatches s (between p a e)) x (early refl)) (early refl)
+
+  signature-sized : (g k : Place) {r : Admission} → Sized p r → Sized p (onSignature g k r)
+  signature-sized place.Absent place.Absent x = early refl
+  signature-sized place.Absent (place.Present a e) x = early refl
+  signature-sized (place.Present a e) k x = cond-sized (eqb (e - a) 64) x (early refl)
+
+  parts-sized : (s : List ℕ) (g k : Place) (x : MessageId) → Sized p (onParts p s g k x)
+  parts-sized s g k id.MissingFrom = early refl
+  parts-sized s g k (id.InvalidFrom n) = early refl
+  parts-sized s g k id.InvalidSeqno = cond-sized (isPeerId s) (early refl) (early refl)
+  parts-sized s g k (id.Parts a e b f) =
+      cond-sized (isPeerId s) (signature-sized g k (key-sized s k (limits-sized taken))) (early refl)
+
+  admission-sized : Sized p (admissionOf p true)
+  unfolding admissionOf
+  admission-sized =
+      subst (Sized p) (sym (on-parts p (idParts p)))
+      (parts-sized (senderOf p) (slotsOf kind.RawMessage p .fourth) (slotsOf kind.RawMessage p .fifth) (idParts p))
+
+  early-same : (w : Unfit) → eqb (unfitTold w .number) message-too-long ≡ false → stopped w ≡ w
+  early-same why.MissingFrom h = refl
+  early-same (why.InvalidFrom n) h = refl
+  early-same why.NotPeerId h = refl
+  early-same why.InvalidSeqno h = refl
+  early-same why.KeyWithoutSignature h = refl
+  early-same why.MissingSignature h = refl
+  early-same (why.InvalidSignatureLength n) h = refl
+  early-same why.InvalidKey h = refl
+  early-same why.KeyPeerIdMismatch h = refl
+  early-same why.SignatureInvalid h = refl
+  early-same (why.TopicCount n) h = refl
+  early-same (why.TopicTooLong n) h = refl
+  early-same (why.MessageTooLong n) h = clash (cc)
+
+  told-alike : {r : Admission} (w : Wrong) → length p < 2 ^ 64 → Sized p r → ofAdmission r ≡ Refused w
+      → wrongTold w ≡ admissionTold r
+  told-alike w l taken h = clash (cc)
+  told-alike w l (early {w = u} k) h =
+      let e : w ≡ wrong.Unfit (stopped u) = cc in ap wrongTold e ∙ ap unfitTold (early-same u k)
+  told-alike w l long h =
+      let e : w ≡ wrong.Unfit (why.MessageTooLong (capped (length p))) = cc in
+      ap wrongTold e ∙ ap (λ (n : ℕ). unfitTold (why.MessageTooLong n)) (capped-small (length p) (omega arith))
+
+-- a message with a signature, below 2^64 bytes: its refusal is told as admission tells it
+pub told-as-admission : (m : RawMessage) (d : List ℕ) (w : Wrong) → IsMessage (encodeMessage m) (renewed m)
+    → m .signature ≡ some d → length (encodeMessage m) < 2 ^ 64 → weighed m ≡ Refused w
+    → wrongTold w ≡ admissionTold (admissionOf (encodeMessage m) true)
+told-as-admission m d w i h l k =
+    told-alike (encodeMessage m) w l (admission-sized (encodeMessage m)) (sym (as-admission m d i h) ∙ k)
 
 -- ---- so what is written is admitted
 -- bytes of a message that admission takes, the host's word given
@@ -335,10 +410,3 @@ of-ten w (ten {w = u} k) h = record { unfit = u; is = cc; among = k }
 
 pub weighed-number : (m : RawMessage) (w : Wrong) → weighed m ≡ Refused w → OfTen w
 weighed-number m w h = of-ten w (weighed-ten m) h
-
-all-ten : (ms : List RawMessage) → Ten (firstUnfit ms)
-all-ten [] = fine
-all-ten (m ∷ ms) = then-ten (weighed-ten m) (all-ten ms)
-
-pub unfit-number : (ms : List RawMessage) (w : Wrong) → firstUnfit ms ≡ Refused w → OfTen w
-unfit-number ms w h = of-ten w (all-ten ms) h

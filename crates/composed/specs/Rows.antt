@@ -59,13 +59,13 @@ abbrev pub RefusesAs : List ℕ → List ℕ → Told → Type 0
 RefusesAs t b a = (out : List ℕ) → (composedTold (writeAnswer t b out) ≡ a) × (writeLeft t b out ≡ out)
 
 -- ---- rows by hand: start and end are 0, and places are counted from 0
-abbrev no : Place
+abbrev pub no : Place
 no = place.Absent
 
-abbrev at : ℕ → ℕ → Place
+abbrev pub at : ℕ → ℕ → Place
 at a e = place.Present a e
 
-abbrev by-hand : Kind → Number → Place → Place → Place → Place → Place → Record
+abbrev pub by-hand : Kind → Number → Place → Place → Place → Place → Place → Record
 by-hand k n p₁ p₂ p₃ p₄ p₅ =
     record {
       kind = k;
@@ -93,7 +93,7 @@ abbrev pub peer-info : Place → Place → Record
 peer-info p q = by-hand kind.PeerInfo number.Absent p q no no no
 
 -- the same row, with another start
-abbrev from : ℕ → Record → Record
+abbrev pub from : ℕ → Record → Record
 from a r = record { kind = r .kind; start = a; end = a; slots = r .slots }
 
 -- ---- from what is computed of lists to what the calls tell and leave
@@ -114,7 +114,7 @@ signs-by t b xs i m r h d e l out = rw (h, d, e) (put-writes xs out (leb-true (l
 
 -- ---- the rows
 -- `t`
-abbrev text-t : List ℕ
+abbrev pub text-t : List ℕ
 text-t = 0x74 ∷ []
 
 -- the sender, the sequence number 1, the topic t and a signature of zeros; the rows that say this message; and X
@@ -131,7 +131,7 @@ x = 0x12 ∷ 0x70 ∷ (head ++ signature)
 abbrev pub subscription : ℕ → List Record
 subscription n = sub-opts (number.Present n) (at 0 1) ∷ []
 
-abbrev subscribed : List ℕ
+abbrev pub subscribed : List ℕ
 subscribed = 0x0a ∷ 0x05 ∷ 0x08 ∷ 0x01 ∷ 0x12 ∷ 0x01 ∷ 0x74 ∷ []
 
 pub record SmallRows : Type 0 where
@@ -192,6 +192,7 @@ small =
 pub record MessageRows : Type 0 where
   -- X, and the 60 bytes to sign
   pub written : WritesAs (wordsOfAll signed) fields x × SignsAs (wordsOfAll signed) fields 0 (signPrefix ++ head)
+      × (length (signPrefix ++ head) ≡ 60)
   -- without the signature: 26 with 0; the bytes to sign are the same
   pub unsigned : RefusesAs (wordsOfAll (message (at 0 38) no (at 38 39) no no ∷ topic 39 40 ∷ [])) fields
       (told invalid-signature-length (0 ∷ []))
@@ -209,7 +210,7 @@ unfolding readUvarint readFrom groupOf hashOf fromBytes typeOf onTotal onData de
     capped fromFine seqnoFine signatureFine keyFine topicsFine sizeFine limitsFine weighed
 messages =
     record {
-      written = (writes-by _ fields _ refl refl refl, signs-by _ fields _ 0 _ [] refl refl refl refl);
+      written = (writes-by _ fields _ refl refl refl, signs-by _ fields _ 0 _ [] refl refl refl refl, refl);
       unsigned = (
         refuses-by _ fields (Unfit (InvalidSignatureLength 0)) refl,
         signs-by _ fields _ 0 _ [] refl refl refl refl,
@@ -244,9 +245,14 @@ module _ (rs : List Record) (b : List ℕ) (n : ℕ) (h : length rs ≡ n) where
   unfolding writeTested
   tested-by = rw (lists-by, words-back rs)
 
-abbrev pairs : ℕ → List ℕ
+-- GRAFTs without topic
+abbrev pub pairs : ℕ → List ℕ
 pairs zero = []
 pairs (suc n) = 0x1a ∷ 0x00 ∷ pairs n
+
+-- a control with one GRAFT of that topic, of 65,524 bytes
+abbrev pub whole : List ℕ → List ℕ
+whole d = 0x1a ∷ 0xfc ∷ 0xff ∷ 0x03 ∷ 0x1a ∷ 0xf8 ∷ 0xff ∷ 0x03 ∷ 0x0a ∷ 0xf4 ∷ 0xff ∷ 0x03 ∷ d
 
 pub record LargeRows : Type 0 where
   -- 513 GRAFTs without topic: 11 with 513; 512: 1,027 bytes
@@ -256,8 +262,8 @@ pub record LargeRows : Type 0 where
   -- 513 messages, all absent: 11 with 513
   pub messages : RefusesAs (wordsOfAll (replicate 513 (message no no no no no))) [] (told too-many-records (513 ∷ []))
   -- one GRAFT, topic of 65,524 bytes: 65,536 bytes; of 65,525: 13 with 65537
-  pub longest : WritesAs (wordsOfAll (graft (at 0 65524) ∷ [])) (replicate 65524 0x74)
-      (0x1a ∷ 0xfc ∷ 0xff ∷ 0x03 ∷ 0x1a ∷ 0xf8 ∷ 0xff ∷ 0x03 ∷ 0x0a ∷ 0xf4 ∷ 0xff ∷ 0x03 ∷ replicate 65524 0x74)
+  pub longest : WritesAs (wordsOfAll (graft (at 0 65524) ∷ [])) (replicate 65524 0x74) (whole (replicate 65524 0x74))
+      × (length (whole (replicate 65524 0x74)) ≡ 65536)
       × RefusesAs (wordsOfAll (graft (at 0 65525) ∷ [])) (replicate 65525 0x74) (told rpc-too-long (65537 ∷ []))
   -- 66 GRAFTs on the same 1,000 bytes: 13 with 66400
   pub same-bytes : RefusesAs (wordsOfAll (replicate 66 (graft (at 0 1000)))) (replicate 1000 0x74)
@@ -288,6 +294,7 @@ large =
       messages = large-refused (replicate 513 (message no no no no no)) [] 513 (TooManyRecords 513) refl refl;
       longest = (
         large-by (graft (at 0 65524) ∷ []) (replicate 65524 0x74) _ 1 refl refl refl refl,
+        refl,
         large-refused (graft (at 0 65525) ∷ []) (replicate 65525 0x74) 1 (TooLong 65537) refl refl,
       );
       same-bytes = large-refused (replicate 66 (graft (at 0 1000))) (replicate 1000 0x74) 66 (TooLong 66400) refl refl;
