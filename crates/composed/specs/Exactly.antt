@@ -111,7 +111,7 @@ pub data ListsRefused (t b : List ℕ) : Told → Type 0 where
   too-many : Lent t b → Each (IsText b) (lentRows t) → 512 < length t / 20
       → ListsRefused t b (told too-many-records (length t / 20 ∷ []))
 
--- or neither
+-- or none of these
 pub record ListsFine (t b : List ℕ) : Type 0 where
   pub lent : Lent t b
   pub texts : Each (IsText b) (lentRows t)
@@ -125,7 +125,7 @@ pub data FirstUnfit : List RawMessage → Told → Type 0 where
 abbrev pub AllFit : List RawMessage → Type 0
 AllFit = Each (λ (m : RawMessage). weighed m ≡ Fine)
 
--- ---- write_rpc tells and leaves: xs are the bytes of the RPC that the lists say
+-- ---- what write_rpc tells and leaves: `encodeRpc (said ..)` are the bytes of the RPC that the lists say
 pub data WritesRpc (t b out : List ℕ) : Told → List ℕ → Type 0 where
   -- 42, 7, 11
   lists-refused : {a : Told} → ListsRefused t b a → WritesRpc t b out a out
@@ -139,7 +139,7 @@ pub data WritesRpc (t b out : List ℕ) : Told → List ℕ → Type 0 where
       → length (encodeRpc (said b (lentRows t))) ≤ 65536 → Writes (encodeRpc (said b (lentRows t))) out a l
       → WritesRpc t b out a l
 
--- ---- sign_fields, of message i
+-- ---- what sign_fields tells and leaves, of message i
 pub data SignsFields (t b : List ℕ) (i : ℕ) (out : List ℕ) : Told → List ℕ → Type 0 where
   -- 42, 7, 11
   lists-refused : {a : Told} → ListsRefused t b a → SignsFields t b i out a out

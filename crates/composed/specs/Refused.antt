@@ -1,4 +1,4 @@
--- A refused call leaves the lent bytes as they were. Which numbers the calls tell: write_rpc never tells 24, 25 or 27; it tells 0 exactly where no refusal holds.
+-- A refused call leaves the lent bytes as they were. Which numbers the calls tell: write_rpc never tells 24, 25 or 27; and 0 is told exactly where no refusal holds.
 -- The lengths beside 13 and 30 are exact where they are below 2^64.
 use Prim.Native.Nat.{ℕ, _^_, _≤_, _<_}
 use mathlib.Core.Path.{_≡_, refl, ap, subst, _∙_}
@@ -14,7 +14,8 @@ use Rattle.basis.specs.Refusals.{malformed, invalid-utf8, too-many-records, no-
 use Rattle.basis.specs.Refusals.{key-without-signature, missing-signature, signature-invalid}
 use Rattle.basis.specs.Told.{done}
 use Rattle.rpc.specs.Rpc.{RawMessage}
-use Rattle.rpc.specs.Encode.{encodeRpc}
+use Rattle.rpc.specs.Encode.{encodeRpc, signBytes}
+use Rattle.canon.specs.Messages.{Nth}
 use Rattle.canonical.specs.Calls.{Writes, fits, short}
 use Rattle.admission.specs.declared.Unfit.the-variants.{MessageTooLong}
 use Rattle.compose.specs.declared.Wrong.{Wrong}
@@ -29,7 +30,7 @@ use Rattle.compose.specs.Puts.{capped-small}
 use Rattle.composed.specs.Admitted.{oneOf, messageNumbers, weighed-number}
 use Rattle.composed.specs.Exactly.{ListsRefused, not-lent, bad-topic, too-many, ListsFine, FirstUnfit, unfit, past, AllFit}
 use Rattle.composed.specs.Exactly.{WritesRpc, lists-refused, message-refused, too-long, writes, SignsFields, no-such, signs, short-of}
-use Rattle.composed.specs.Exactly.{write-says, sign-says, write-exactly}
+use Rattle.composed.specs.Exactly.{write-says, sign-says, write-exactly, sign-fields-exactly}
 
 -- ---- the numbers that are told: 0, or a refusal in its order
 abbrev pub writeNumbers : List ℕ
@@ -137,6 +138,31 @@ written-exactly t b out = (
       let xs = encodeRpc (said b (lentRows t)) in
       let p = write-exactly t b out (done (length xs ∷ [])) (xs ++ drop (length xs) out) .1
       (writes (w .lists) (w .fit) (w .small) (fits (w .room))) in
+      ap (λ (a : Told). a .number) (p .0),
+)
+
+-- and bytes to sign, where the lists are fine and there is a message i and the room
+pub record Signable (t b : List ℕ) (i : ℕ) (out : List ℕ) : Type 0 where
+  pub lists : ListsFine t b
+  pub message : RawMessage
+  pub index : Nth i (messagesIn b (lentRows t)) message
+  pub room : length (signBytes message) ≤ length out
+
+sign-room : {t b : List ℕ} {i : ℕ} {out : List ℕ} {a : Told} {l : List ℕ} → SignsFields t b i out a l → a .number ≡ 0
+    → Signable t b i out
+sign-room (lists-refused u) e = absurd (lists-other u e)
+sign-room (no-such f h) e = absurd (omega arith)
+sign-room (signs {m = m} f n h) e = record { lists = f; message = m; index = n; room = h }
+sign-room (short-of f n h) e = absurd (omega arith)
+
+pub signed-exactly : (t b : List ℕ) (i : ℕ) (out : List ℕ)
+    → (composedTold (signAnswer t b i out) .number ≡ 0) ↔ Signable t b i out
+signed-exactly t b i out = (
+  sign-room (sign-says t b i out),
+  λ s.
+      let xs = signBytes (s .message) in
+      let p = sign-fields-exactly t b i out (done (length xs ∷ [])) (xs ++ drop (length xs) out) .1
+      (signs (s .lists) (s .index) (s .room)) in
       ap (λ (a : Told). a .number) (p .0),
 )
 
