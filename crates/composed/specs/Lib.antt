@@ -1,5 +1,6 @@
--- To be believed: Written; and canonical's `opt` and `Small`.
--- Theorems: Means, MeansBytes, WrittenLaws, Lending.
+-- To be believed: Written; Exactly (`Lent`, `TopicAt`, `ListsRefused`, `ListsFine`, `FirstUnfit`; `WritesRpc`, `SignsFields`), Admitted (`ofAdmission`, `Taken`, `Unsigned`,
+-- `messageNumbers`), Signed (`SameFields`), Refused (`writeNumbers`, `signNumbers`, `Writable`, `Signable`), Rows (`SmallRows`, `MessageRows`, `LargeRows`); and canonical's `opt` and `Small`.
+-- Theorems: Means, MeansBytes, WrittenLaws, Lending, Admitted, Signed, Exactly, Refused, Rows.
 -- On the way to them: WrittenRows, LendingRows, LendingTexts, LendingWords.
 pub mod Written
 pub mod Means
@@ -10,3 +11,8 @@ pub mod LendingRows
 pub mod LendingTexts
 pub mod LendingWords
 pub mod Lending
+pub mod Admitted
+pub mod Signed
+pub mod Exactly
+pub mod Refused
+pub mod Rows
