@@ -24,7 +24,6 @@ use Rattle.ids.specs.declared.MessageId.{MessageId}
 use Rattle.ids.specs.declared.MessageId.the-variants as id
 use Rattle.ids.specs.Ids.{onSeqno, onFrom, idParts}
 use Rattle.rpc.specs.Rpc.{RawMessage, Rpc}
-use Rattle.rpc.specs.Encode.{encodeRpc}
 use Rattle.rpc.specs.Grammar.{Each, none-left, _and_, Pairs, no-pairs, _paired_, IsMessage, is-message, IsRpc, is-rpc}
 use Rattle.rpc.specs.Id.{unfit}
 use Rattle.admission.specs.declared.Unfit.{Unfit}
@@ -46,9 +45,10 @@ use Rattle.compose.specs.declared.Lists.the-variants.{Fine, Refused}
 use Rattle.compose.specs.Lent.{lentRows}
 use Rattle.compose.specs.Said.{encodeMessage, renewed, messagesIn, said}
 use Rattle.compose.specs.Weighed.{capped, andThen, given, fromFine, seqnoFine, signatureFine, keyFine, topicsFine, sizeFine, limitsFine, weighed, firstUnfit}
-use Rattle.compose.specs.Compose.{listsOf, lengthFine, writeTested}
+use Rattle.compose.specs.Compose.{writeTested}
 use Rattle.compose.specs.Told.{wrongTold}
 use Rattle.compose.specs.Puts.{capped-small}
+use Rattle.composed.specs.WrittenRows.{both-fine, passed-of}
 
 -- ---- what admission says, said of a list: only the length beside 30 may differ, which stops at 2^64 - 1
 abbrev pub stopped : Unfit → Unfit
@@ -253,10 +253,6 @@ told-as-admission m d w i h l k =
 abbrev pub Taken : List ℕ → Type 0
 Taken p = (a : ℕ) × (e : ℕ) × (b : ℕ) × (f : ℕ) × (admissionOf p true ≡ admission.Fit a e b f)
 
-pub both-fine : (a b : Lists) → andThen a b ≡ Fine → (a ≡ Fine) × (b ≡ Fine)
-both-fine Fine b h = (refl, h)
-both-fine (Refused w) b h = clash (cc)
-
 -- it has a signature
 has-signature : (o : Option (List ℕ)) → signatureFine (given o) ≡ Fine → (d : List ℕ) × (o ≡ some d)
 unfolding signatureFine
@@ -300,22 +296,11 @@ each-taken [] h none-left = none-left
 each-taken (m ∷ ms) h (i and r) =
     let a = both-fine (weighed m) (firstUnfit ms) h in weighed-taken m i (a .0) and each-taken ms (a .1) r
 
--- every test of a write but the room's is passed
-pub tested : (t b : List ℕ) → writeTested t b ≡ Fine → (listsOf t b ≡ Fine)
-    × (firstUnfit (messagesIn b (lentRows t)) ≡ Fine) × (lengthFine (encodeRpc (said b (lentRows t))) ≡ Fine)
-unfolding writeTested
-tested t b h =
-    let ms = firstUnfit (messagesIn b (lentRows t)) in
-    let len = lengthFine (encodeRpc (said b (lentRows t))) in
-    let a = both-fine (listsOf t b) (andThen ms len) h in
-    let c = both-fine ms len (a .1) in
-    (a .0, c .0, c .1)
-
 -- each message of the RPC that lists say is taken, where they are written
 pub written-admitted : (t b w : List ℕ) → writeTested t b ≡ Fine → Within w (said b (lentRows t))
     → Each (λ (m : RawMessage). Taken (m .raw)) (said b (lentRows t) .publish)
 unfolding said
-written-admitted t b w h i = each-taken (messagesIn b (lentRows t)) (tested t b h .1) (publish-means (i .means))
+written-admitted t b w h i = each-taken (messagesIn b (lentRows t)) (passed-of t b h .fit) (publish-means (i .means))
 
 -- by its fields, as the documents have it: a message may be written exactly where it is fit
 pub weighed-exactly : (m : RawMessage) → IsMessage (encodeMessage m) (renewed m) → Bytes (encodeMessage m)

@@ -26,6 +26,7 @@ use Rattle.schema.specs.declared.Place.the-variants as place
 use Rattle.schema.specs.declared.Slots.{Slots}
 use Rattle.message.specs.declared.Record.{Record}
 use Rattle.message.specs.Rows.{kindCode, kindFrom}
+use Rattle.meaning.specs.Table.{kind-back}
 use Rattle.rpc.specs.Rpc.{RawMessage}
 use Rattle.rpc.specs.Grammar.{Each, none-left, _and_}
 use Rattle.rpc.specs.Encode.{encodeRpc, signBytes}
@@ -170,20 +171,6 @@ all-true : {a b : Bool} → a ≡ true → b ≡ true → a && b ≡ true
 all-true {a} {b} h k = rw (h, k)
 
 -- a kind by its code
-kind-back : (k : Kind) → kindFrom (kindCode k) ≡ k
-unfolding kindFrom kindCode
-kind-back kind.Rpc = refl
-kind-back kind.SubOpts = refl
-kind-back kind.RawMessage = refl
-kind-back kind.Topic = refl
-kind-back kind.ControlMessage = refl
-kind-back kind.ControlIHave = refl
-kind-back kind.ControlIWant = refl
-kind-back kind.MessageId = refl
-kind-back kind.ControlGraft = refl
-kind-back kind.ControlPrune = refl
-kind-back kind.PeerInfo = refl
-
 by-code : (k j : Kind) (c : ℕ) → kindCode j ≡ c → eqb (kindCode k) c ≡ true → k ≡ j
 by-code k j c e h = sym (kind-back k) ∙ ap kindFrom (eqb-true (kindCode k) c h ∙ sym e) ∙ kind-back j
 

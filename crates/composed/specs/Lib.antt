@@ -1,6 +1,6 @@
 -- To be believed: Written; Exactly (`Lent`, `TopicAt`, `ListsRefused`, `ListsFine`, `FirstUnfit`; `WritesRpc`, `SignsFields`), Admitted (`ofAdmission`, `Taken`, `Unsigned`,
--- `messageNumbers`), Signed (`SameFields`), Refused (`writeNumbers`, `signNumbers`, `Writable`, `Signable`), Rows (`SmallRows`, `MessageRows`, `LargeRows`); and canonical's `opt` and `Small`.
--- Theorems: Means, MeansBytes, WrittenLaws, Lending, Admitted, Signed, Exactly, Refused, Rows.
+-- `messageNumbers`), Signed (`SameFields`), Spoken (`AsAdmission`), Refused (`writeNumbers`, `signNumbers`, `Writable`, `Signable`), Rows (`SmallRows`, `MessageRows`, `LargeRows`); and canonical's `opt` and `Small`.
+-- Theorems: Means, MeansBytes, WrittenLaws, Lending, Admitted, Signed, Spoken, Exactly, Refused, Rows.
 -- On the way to them: WrittenRows, LendingRows, LendingTexts, LendingWords.
 pub mod Written
 pub mod Means
@@ -15,4 +15,5 @@ pub mod Admitted
 pub mod Signed
 pub mod Exactly
 pub mod Refused
+pub mod Spoken
 pub mod Rows

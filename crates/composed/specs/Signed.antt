@@ -26,7 +26,7 @@ use Rattle.compose.specs.Weighed.{andThen, given, fromFine, seqnoFine, signatur
 use Rattle.compose.specs.Compose.{listsOf, putAnswer, answering, leaving, writeTested, signAt, signedAt, signAnswer, signLeft}
 use Rattle.compose.specs.Told.{composedTold}
 use Rattle.compose.specs.Puts.{capped-small}
-use Rattle.composed.specs.Admitted.{both-fine, tested}
+use Rattle.composed.specs.WrittenRows.{both-fine, passed-of}
 
 -- ---- what is signed
 pub sign-bytes-are : (m : RawMessage) → signBytes m ≡ signPrefix ++ encodeFields m
@@ -130,7 +130,7 @@ pub signs-alike : (t₁ b₁ t₂ b₂ w : List ℕ) (i : ℕ) (m₁ m₂ : RawM
 unfolding said
 signs-alike t₁ b₁ t₂ b₂ w i m₁ m₂ h₁ n₁ h₂ n₂ s k out =
     let e : signBytes m₁ ≡ signBytes (renewed m₂) = same-signed s ∙ renewed-signed m₂ in
-    let l = sign-small m₂ (weighed-small m₂ (nth-weighed n₂ (tested t₂ b₂ h₂ .1))) in
+    let l = sign-small m₂ (weighed-small m₂ (nth-weighed n₂ (passed-of t₂ b₂ h₂ .fit))) in
     let l' : length (signBytes m₁) ≤ 18446744073709551615 = rw (same-signed s) l in
     let n = nth-renewed n₂ in (
       ap composedTold (sign-tells t₁ b₁ i m₁ h₁ n₁ out) ∙ put-told (signBytes m₁) out l'
