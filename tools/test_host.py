@@ -270,6 +270,9 @@ class Lines(unittest.TestCase):
         self.assertEqual(HOST.may_skip("trace", data), set())
         self.assertEqual(HOST.may_skip("inspect", b"\xff\xff\xff\xff\x06\0"), {"1"})
         self.assertEqual(HOST.may_skip("inspect", b"\xff"), set())
+        rows = b"".join(struct.pack("<IH", 0, kind) for kind in (10, 1, 11, 9, 12))
+        self.assertEqual((HOST.may_skip("inspect", rows), HOST.may_skip("inspect", rows, "Rust")), ({"4"}, {"1", "3", "4"}))
+        self.assertEqual(HOST.may_skip("states", rows, "Rust"), {"1", "4"})
 
 
 # A writer that does as its name says, and what loads its file.
