@@ -14,6 +14,7 @@ pradulins-sign-fields-spec =
     (λ c κs. search needs)
     (λ c κs. search needs)
     (λ c. search needs)
-    (λ c. let did = c .before .before .before .before .before .sign-fields .ensures in
-    let t = told-as composedTold (now (c .before .before .before .before .before .before .before .before .before .args .values)) (did .answer) (c .before .before .told-composed .ensures) (c .tell .ensures) in
+    (λ c. let p = c .before .before .before .before .before in
+    let did = p .sign-fields .ensures in
+    let t = told-as composedTold (now (p .before .before .before .before .before .args .values)) (did .answer) (c .before .before .told-composed .ensures) (c .tell .ensures) in
     record { number = t .0; values = t .1; buffer = did .lent }))
