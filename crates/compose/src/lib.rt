@@ -21,7 +21,7 @@ ghost use Rattle.compose.specs.Lent.{rowsFrom, lentRows, insideAt, field
 ghost use Rattle.compose.specs.Said.{encodeFields, encodeMessage, subOptsOf, graftOf, peerOf, messageOf, pruneOf, topicsFrom, peersFrom, messagesIn, said};
 ghost use Rattle.compose.specs.Weighed.{capped, given, inTopics, andThen, fromFine, seqnoFine, signatureFine, keyFine, limitsFine, weighed, firstUnfit};
 ghost use Rattle.compose.specs.Compose.{moved, textOf, textFine, textsFine, lengthFine, listsOf, putAnswer, answering, leaving, writeAnswer, writeLeft, signAnswer, signLeft};
-ghost use Rattle.compose.specs.Puts.{Puts, flagged, Written, rowBytes, eachRow, hasRow, controlBytes, FindsRow};
+ghost use Rattle.compose.specs.Puts.{Puts, flagged, Written, topicPart, peerPart, rowBytes, rowPart, eachRow, hasRow, controlBytes, FindsRow};
 use admission::MAX_MESSAGE_SIZE;
 use admission::MAX_TOPIC_SIZE;
 use admission::MAX_TOPICS;
@@ -488,6 +488,19 @@ fn emit_peer_field(bytes: &[u8], r: Record, out: &mut [u8], at: usize) -> usize
     emit_peer(bytes, r, out, i)
 }
 
+// The row, where it is a peer.
+fn emit_peer_at(records: &[u64], bytes: &[u8], i: usize, out: &mut [u8], at: usize) -> usize
+    requires { ⌜ Inside (now records) (now bytes) ⌝ }
+    requires { ⌜ i < length (now records) / 20 ⌝ }
+    ensures { λ r. ⌜ Puts (now (out .entry)) at (peerPart (now (bytes .entry)) (recordFrom (now (records .entry)) (i * 20))) (now (out .exit)) r ⌝ }
+{
+    if is_code(records, i, PEER_INFO) {
+        let r = row_at(records, i);
+        return emit_peer_field(bytes, r, out, at);
+    }
+    at
+}
+
 // The peers from a row on, up to the next prune.
 fn emit_peers(records: &[u64], bytes: &[u8], from: usize, out: &mut [u8], at: usize) -> usize
     requires { ⌜ Inside (now records) (now bytes) ⌝ }
@@ -500,10 +513,7 @@ fn emit_peers(records: &[u64], bytes: &[u8], from: usize, out: &mut [u8], at: us
         if is_code(records, i, CONTROL_PRUNE) {
             return end;
         }
-        if is_code(records, i, PEER_INFO) {
-            let r = row_at(records, i);
-            end = emit_peer_field(bytes, r, out, end);
-        }
+        end = emit_peer_at(records, bytes, i, out, end);
         i += 1;
     }
     end
@@ -525,6 +535,19 @@ fn emit_prune(records: &[u64], bytes: &[u8], i: usize, out: &mut [u8], at: usize
     emit_number(3, backoff, out, k)
 }
 
+// The row, where it is a topic.
+fn emit_topic_at(records: &[u64], bytes: &[u8], i: usize, out: &mut [u8], at: usize) -> usize
+    requires { ⌜ Inside (now records) (now bytes) ⌝ }
+    requires { ⌜ i < length (now records) / 20 ⌝ }
+    ensures { λ r. ⌜ Puts (now (out .entry)) at (topicPart (now (bytes .entry)) (recordFrom (now (records .entry)) (i * 20))) (now (out .exit)) r ⌝ }
+{
+    if is_code(records, i, TOPIC) {
+        let r = row_at(records, i);
+        return emit_part(4, bytes, r.start, r.end, out, at);
+    }
+    at
+}
+
 // The topics from a row on, up to the next message.
 fn emit_topics(records: &[u64], bytes: &[u8], from: usize, out: &mut [u8], at: usize) -> usize
     requires { ⌜ Inside (now records) (now bytes) ⌝ }
@@ -537,10 +560,7 @@ fn emit_topics(records: &[u64], bytes: &[u8], from: usize, out: &mut [u8], at: u
         if is_code(records, i, RAW_MESSAGE) {
             return end;
         }
-        if is_code(records, i, TOPIC) {
-            let r = row_at(records, i);
-            end = emit_part(4, bytes, r.start, r.end, out, end);
-        }
+        end = emit_topic_at(records, bytes, i, out, end);
         i += 1;
     }
     end
@@ -628,6 +648,27 @@ fn emit_row_field(
     emit_row(records, bytes, i, code, out, j)
 }
 
+// The row, where it is of the kind with that code.
+fn emit_row_at(
+    records: &[u64],
+    bytes: &[u8],
+    i: usize,
+    code: u64,
+    n: u64,
+    out: &mut [u8],
+    at: usize,
+) -> usize
+    requires { ⌜ Inside (now records) (now bytes) ⌝ }
+    requires { ⌜ i < length (now records) / 20 ⌝ }
+    requires { ⌜ Written code × (n ≤ 6) ⌝ }
+    ensures { λ r. ⌜ Puts (now (out .entry)) at (rowPart code n (now (bytes .entry)) (recordFrom (now (records .entry)) (i * 20)) (rowsFrom (now (records .entry)) (i + 1))) (now (out .exit)) r ⌝ }
+{
+    if is_code(records, i, code) {
+        return emit_row_field(records, bytes, i, code, n, out, at);
+    }
+    at
+}
+
 // Each row of the kind with that code, as a field n.
 fn emit_rows(records: &[u64], bytes: &[u8], code: u64, n: u64, out: &mut [u8], at: usize) -> usize
     requires { ⌜ Inside (now records) (now bytes) ⌝ }
@@ -638,9 +679,7 @@ fn emit_rows(records: &[u64], bytes: &[u8], code: u64, n: u64, out: &mut [u8], a
     let mut i = 0;
     let mut end = at;
     while i < rows {
-        if is_code(records, i, code) {
-            end = emit_row_field(records, bytes, i, code, n, out, end);
-        }
+        end = emit_row_at(records, bytes, i, code, n, out, end);
         i += 1;
     }
     end
