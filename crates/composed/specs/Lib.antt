@@ -1,5 +1,5 @@
 -- To be believed: Written; Exactly (`Lent`, `TopicAt`, `ListsRefused`, `ListsFine`, `FirstUnfit`; `WritesRpc`, `SignsFields`), Admitted (`ofAdmission`, `Taken`, `Unsigned`,
--- `messageNumbers`), Signed (`SameFields`), Spoken (`AsAdmission`), Refused (`writeNumbers`, `signNumbers`, `Writable`, `Signable`), Rows (`SmallRows`, `MessageRows`, `LargeRows`); and canonical's `opt` and `Small`.
+-- `messageNumbers`), Signed (`SameFields`), Spoken (`AsAdmission`), Refused (`writeNumbers`, `signNumbers`, `Writable`, `Signable`), Rows (`SmallRows`, `MessageRows`, `LargeRows`).
 -- Theorems: Means, MeansBytes, WrittenLaws, Lending, Admitted, Signed, Spoken, Exactly, Refused, Rows.
 -- On the way to them: WrittenRows, LendingRows, LendingTexts, LendingWords.
 pub mod Written
