@@ -4,8 +4,8 @@
 use std::path::PathBuf;
 use std::{env, fs};
 
-/// What an archive has since version 0.3.1.
-const SINCE: &[u8] = b"pradulins_explain";
+/// What an archive has since version 0.6.0.
+const SINCE: &[u8] = b"pradulins_write_rpc";
 
 fn main() {
     println!("cargo:rerun-if-env-changed=PRADULINS_LIB_DIR");

@@ -3,9 +3,9 @@
  * `rt staticlib pradulins` (target/staticlib/libpradulins.a, x86-64 Linux).
  *
  * Every call but those of "the archive", below, returns 0 or the number of a refusal (PRADULINS_..., below); where it is lent `values`, it hands numbers out in
- * them, from the first on: what it did, or what stands beside the refusal. A refusal 1 to 7 also says where in the body it stands, from values[4] on ("sizes",
- * below). Entries of `values` that a call does not name are left as they were. A refused call changes no other memory: not the node, not the stores, not the
- * buffer or the table. A call that succeeds writes only the bytes or records that it counts.
+ * them, from the first on: what it did, or what stands beside the refusal. A refusal 1 to 7 of a body also says where in the body it stands, from values[4] on
+ * ("sizes", below). Entries of `values` that a call does not name are left as they were. A refused call changes no other memory: not the node, not the stores, not
+ * the buffer or the table. A call that succeeds writes only the bytes or records that it counts.
  *
  * The library keeps nothing itself and allocates nothing. A node lives in PRADULINS_NODE_SIZE bytes and two stores, all three the host's own; they may
  * be copied, saved and loaded as bytes. Every call that is lent all three tests them anew, so bytes that are no node are refused and harm nothing. What calls make
@@ -29,16 +29,17 @@ extern "C" {
 /* ---- version */
 
 /*
- * The version that this header is of, 0.5.0: 10000 times the first number, 100 times the second, and the third. pradulins_version() is that of the archive.
+ * The version that this header is of, 0.6.0: 10000 times the first number, 100 times the second, and the third. pradulins_version() is that of the archive.
  * Since 0.4.0 `values` has 8 numbers, where it had 4: a program that was made with an earlier header lends too few, and is not to be linked with this archive.
  * Make it anew, and hold pradulins_version() to PRADULINS_VERSION before the first call.
  * Since 0.5.0 a message's from is a peer id, and pradulins_admit meets 34, 35 and 36 ("senders", below). A node that an earlier version saved is taken if the messages
  * that it keeps pass these tests; one that keeps a message of another sender is not well formed (42): start anew, and catch up.
+ * Since 0.6.0 a host speaks first: pradulins_write_rpc and pradulins_sign_fields ("speaking first", below), and the refusal 13. No other answer changed.
  * The format is that of a node's bytes and its stores: a state that was saved under another format is not to be loaded. pradulins_format() is the archive's: hold
  * it to PRADULINS_FORMAT before the first call, since a node of another format may have another length. Format 2 came with 0.3.0: a node keeps where the topics of
  * its messages stand, and has 12,432 bytes where it had 11,344. Nodes of format 1 are not taken over: start anew, and catch up.
  */
-#define PRADULINS_VERSION 500
+#define PRADULINS_VERSION 600
 #define PRADULINS_FORMAT 2
 
 /* ---- sizes */
@@ -61,7 +62,7 @@ extern "C" {
 #define PRADULINS_MAX_BODY 65536
 #define PRADULINS_MAX_RECORDS 512
 
-/* Room that is always enough: for advertise, ask, serve and encode; for sign_bytes; for message_id. */
+/* Room that is always enough: for advertise, ask, serve, encode and write_rpc; for sign_bytes (and sign_fields, see there); for message_id. */
 #define PRADULINS_OUT_SIZE 65536
 #define PRADULINS_SIGN_SIZE 65550
 #define PRADULINS_ID_SIZE 128
@@ -87,10 +88,11 @@ extern "C" {
 #define PRADULINS_FIELD_OVERFLOW 4      /* a field passes the end: offset, length, remaining */
 #define PRADULINS_WIRE_TYPE 5           /* a wire type other than 0, 1, 2, 5: type, offset */
 #define PRADULINS_FIELD_NUMBER 6        /* a field number outside 1 to 536870911: number, offset */
-#define PRADULINS_UTF8 7                /* a topic is not UTF-8: offset */
+#define PRADULINS_UTF8 7                /* a topic is not UTF-8: offset; of rows that are lent, where it begins in their bytes */
 #define PRADULINS_BODY_TOO_LARGE 10     /* a body above PRADULINS_MAX_BODY bytes: its length */
-#define PRADULINS_TOO_MANY_RECORDS 11   /* above PRADULINS_MAX_RECORDS records: their number */
+#define PRADULINS_TOO_MANY_RECORDS 11   /* above PRADULINS_MAX_RECORDS records, or rows: their number */
 #define PRADULINS_ROOM 12               /* the table or the buffer is too short: the room needed, in records or bytes */
+#define PRADULINS_RPC_TOO_LONG 13       /* an RPC to be written above PRADULINS_MAX_BODY bytes: its length */
 #define PRADULINS_NO_MESSAGE 20         /* no message at that index: the number of messages */
 #define PRADULINS_MISSING_FROM 21       /* the message has no from */
 #define PRADULINS_INVALID_FROM 22       /* from has 0 or above 64 bytes: its length */
@@ -108,9 +110,9 @@ extern "C" {
 #define PRADULINS_KEY_MISMATCH 36       /* the key is not the one that from holds; or there is none, neither in the message nor in from */
 #define PRADULINS_BAD_SETTING 40        /* a setting out of range, or a seen store shorter than max_seen rows */
 #define PRADULINS_BAD_STORE 41          /* a store whose length the settings do not say */
-#define PRADULINS_MALFORMED 42          /* node and stores are not well formed */
+#define PRADULINS_MALFORMED 42          /* node and stores, or the rows of an RPC, are not well formed */
 
-/* ---- records: what pradulins_decode writes for each, in 20 numbers */
+/* ---- records: what pradulins_decode writes for each, and what pradulins_write_rpc reads, in 20 numbers */
 
 #define PRADULINS_RECORD_WORDS 20
 #define PRADULINS_TABLE_WORDS (PRADULINS_MAX_RECORDS * PRADULINS_RECORD_WORDS)
@@ -295,6 +297,73 @@ uint32_t pradulins_decode(const uint8_t *body, size_t body_len, uint64_t *table,
  */
 uint32_t pradulins_walk(const uint8_t *body, size_t body_len, size_t at, uint64_t values[PRADULINS_VALUES]);
 
+/* ---- speaking first */
+
+/*
+ * An RPC of the host's own is written from rows: records as pradulins_decode writes them, 20 numbers each, over bytes that the host lends. What pradulins_decode
+ * gave of a body without IHAVE and IWANT can be lent as it is, beside that body. A row that is made by hand (pradulins_row, below) has start = end = 0; then the
+ * places of its fields count from the start of the lent bytes. Places may overlap, and rows may share them.
+ *
+ *     PRADULINS_KIND_SUB_OPTS    number: 1 subscribes and 0 ends it; any other is written as 1. Field 0: topic_id
+ *     PRADULINS_KIND_MESSAGE     fields: from, data, seqno, signature, key
+ *     PRADULINS_KIND_TOPIC       a topic of the last message before it: the bytes from the row's start to its end, no field
+ *     PRADULINS_KIND_GRAFT       field 0: topic_id
+ *     PRADULINS_KIND_PRUNE       number: backoff. Field 0: topic_id
+ *     PRADULINS_KIND_PEER_INFO   a peer of the last PRUNE before it. Fields: peer_id, signed_peer_record
+ *
+ * Rows come in any mixture; within a kind their order is kept. A number or a field is there where its flag is not 0: absent is not empty. Fields that a kind does
+ * not have are not looked at. A message is made of its fields alone: what else stood in its bytes is not written again.
+ *
+ * Refused are: rows that are not well formed (42), which is where a place passes the lent bytes or a start its end, also of the row itself, where
+ * `records_len` is no number of whole rows, where a kind is none of these six, where a topic has no message before it or a peer no PRUNE; a topic that is not
+ * UTF-8 (7), the first in the order of the rows, with where it begins in the lent bytes and no place in a body; more than PRADULINS_MAX_RECORDS rows (11).
+ */
+
+/*
+ * Writes to `out` the RPC that the rows say. `records_len` counts numbers, as `table_len` of pradulins_decode does. What is written is read back as these rows,
+ * and each of its messages is admitted if its signature verifies: what admission would refuse is not written.
+ * values[0]: how many bytes were written; 0 where there are no rows.
+ * Refused: 42, 7, 11; then message by message 21, 22, 34, 23, 26, 35, 36, 28, 29, 30; then 13, 12. A message without a signature is 26 with 0. Beside 13 and 30
+ * stands a length that stops at 2^64 - 1.
+ */
+uint32_t pradulins_write_rpc(const uint64_t *records, size_t records_len, const uint8_t *bytes, size_t bytes_len, uint8_t *out, size_t out_len,
+                             uint64_t values[PRADULINS_VALUES]);
+
+/*
+ * Writes to `out` the bytes that the signature of message `index` of the rows is made over (from 0, in the order of the rows): those that pradulins_sign_bytes
+ * gives of the body that is written from them. The message may be without a signature still; one that is there, and a key, change nothing. PRADULINS_SIGN_SIZE is
+ * room enough for each message that can be written.
+ * values[0]: how many bytes were written.
+ * Refused: 42, 7, 11, 20, 12. What stands beside 12 stops at 2^64 - 1.
+ */
+uint32_t pradulins_sign_fields(const uint64_t *records, size_t records_len, const uint8_t *bytes, size_t bytes_len, size_t index, uint8_t *out,
+                               size_t out_len, uint64_t values[PRADULINS_VALUES]);
+
+/* Makes a row of a kind by hand: everything in it is absent. For PRADULINS_KIND_TOPIC, `start` and `end` are where the topic stands; for others both are 0. */
+static inline void pradulins_row(uint64_t row[PRADULINS_RECORD_WORDS], uint64_t kind, uint64_t start, uint64_t end)
+{
+    for (int i = 0; i < PRADULINS_RECORD_WORDS; i++)
+        row[i] = 0;
+    row[PRADULINS_RECORD_KIND] = kind;
+    row[PRADULINS_RECORD_START] = start;
+    row[PRADULINS_RECORD_END] = end;
+}
+
+/* Sets the number of a row: subscribe, or backoff. */
+static inline void pradulins_row_number(uint64_t row[PRADULINS_RECORD_WORDS], uint64_t number)
+{
+    row[PRADULINS_RECORD_HAS_NUMBER] = 1;
+    row[PRADULINS_RECORD_NUMBER] = number;
+}
+
+/* Sets field i of a row, 0 to 4: where it begins and ends, counted from the row's start. */
+static inline void pradulins_row_field(uint64_t row[PRADULINS_RECORD_WORDS], int i, uint64_t start, uint64_t end)
+{
+    row[PRADULINS_RECORD_FIELD(i)] = 1;
+    row[PRADULINS_RECORD_FIELD(i) + 1] = start;
+    row[PRADULINS_RECORD_FIELD(i) + 2] = end;
+}
+
 /* ---- the archive */
 
 /* PRADULINS_VERSION and PRADULINS_FORMAT as they were when the archive was made. */
@@ -314,6 +383,7 @@ static inline int pradulins_refusal_values(uint32_t number)
     case PRADULINS_BODY_TOO_LARGE:
     case PRADULINS_TOO_MANY_RECORDS:
     case PRADULINS_ROOM:
+    case PRADULINS_RPC_TOO_LONG:
     case PRADULINS_NO_MESSAGE:
     case PRADULINS_INVALID_FROM:
     case PRADULINS_SIGNATURE_LENGTH:
@@ -325,7 +395,7 @@ static inline int pradulins_refusal_values(uint32_t number)
     }
 }
 
-/* Whether `values` also gets the place of a refusal in the body. */
+/* Whether `values` also gets the place of a refusal in the body. A 7 of pradulins_write_rpc and pradulins_sign_fields, which read no body, has none. */
 static inline bool pradulins_refusal_has_place(uint32_t number)
 {
     return PRADULINS_VARINT_SHORT <= number && number <= PRADULINS_UTF8;
@@ -346,6 +416,7 @@ static inline const char *pradulins_refusal_text(uint32_t number)
     case PRADULINS_BODY_TOO_LARGE: return "the body has above 65,536 bytes";
     case PRADULINS_TOO_MANY_RECORDS: return "the body has above 512 records";
     case PRADULINS_ROOM: return "no room for the answer";
+    case PRADULINS_RPC_TOO_LONG: return "the RPC has above 65,536 bytes";
     case PRADULINS_NO_MESSAGE: return "no message at that index";
     case PRADULINS_MISSING_FROM: return "the message has no from";
     case PRADULINS_INVALID_FROM: return "from has 0 or above 64 bytes";
@@ -363,7 +434,7 @@ static inline const char *pradulins_refusal_text(uint32_t number)
     case PRADULINS_KEY_MISMATCH: return "the key is not the sender's, or there is none";
     case PRADULINS_BAD_SETTING: return "a setting is out of range, or the seen store is too short";
     case PRADULINS_BAD_STORE: return "a store has not the length that the settings say";
-    case PRADULINS_MALFORMED: return "node and stores are not well formed";
+    case PRADULINS_MALFORMED: return "node and stores, or the rows of an RPC, are not well formed";
     default: return "no refusal has this number";
     }
 }

@@ -17,6 +17,7 @@ WORDS = {
     10: "the body has above 65,536 bytes",
     11: "the body has above 512 records",
     12: "no room for the answer",
+    13: "the RPC has above 65,536 bytes",
     20: "no message at that index",
     21: "the message has no from",
     22: "from has 0 or above 64 bytes",
@@ -35,13 +36,13 @@ WORDS = {
     36: "the key is not the sender's, or there is none",
     40: "a setting is out of range, or the seen store is too short",
     41: "a store has not the length that the settings say",
-    42: "node and stores are not well formed",
+    42: "node and stores, or the rows of an RPC, are not well formed",
 }
 
 # Which numbers stand beside each refusal; beside the others none does.
 VALUES = {
     4: ("offset", "length", "remaining"), 5: ("type", "offset"), 6: ("number", "offset"), 7: ("offset",),
-    10: ("length",), 11: ("number",), 12: ("needed",), 20: ("number",), 22: ("length",), 26: ("length",), 28: ("number",), 29: ("length",),
+    10: ("length",), 11: ("number",), 12: ("needed",), 13: ("length",), 20: ("number",), 22: ("length",), 26: ("length",), 28: ("number",), 29: ("length",),
     30: ("length",), 31: ("clock",), 33: ("length",),
 }
 
@@ -72,7 +73,7 @@ def beside(number, values):
         return "type %d" % values[0]
     if number == 6:
         return "number %d" % values[0]
-    if number in (10, 22, 26, 29, 30, 33):
+    if number in (10, 13, 22, 26, 29, 30, 33):
         return "it has %s" % some(values[0], "byte")
     if number in (11, 28):
         return "it has %s" % format(values[0], ",")

@@ -244,6 +244,9 @@ class Case(unittest.TestCase):
         self.tells("crates.txt:7: the crate ring is not in the table", contributing=("| state | `ring` | places |\n", ""))
         self.tells("CONTRIBUTING.md:3: the crate varints is not in crates.txt", contributing=("| varint |", "| varints |"))
         self.tells("in the group wire here and in state", contributing=("| state |", "| wire |"))
+        two_words = ("# state", "# kept state")
+        self.assertEqual(self.wrong(crates=two_words, contributing=("| state |", "| kept state |")), [])
+        self.tells("in the group state here and in kept state", crates=two_words)
         self.tells("the folder crates/ring is not listed", crates=("ring: varint\n", ""))
         self.tells("there is no folder crates/rings", crates=("ring: varint", "ring: varint\nrings: varint"))
 

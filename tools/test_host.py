@@ -270,6 +270,9 @@ class Lines(unittest.TestCase):
         self.assertEqual(HOST.may_skip("trace", data), set())
         self.assertEqual(HOST.may_skip("inspect", b"\xff\xff\xff\xff\x06\0"), {"1"})
         self.assertEqual(HOST.may_skip("inspect", b"\xff"), set())
+        lines = ["11 write refused 42", "12 write refused 7 1", "13 tosign refused 7 0", "14 write refused 12 7", "15 write 0", "16 write refused 26 0",
+                 "17 write refused 7", "18 decode refused 7 1", "19 sub refused 42", "20 tosign refused 42"]
+        self.assertEqual(HOST.may_skip("inspect", data[:9], lines), {"1", "11", "12", "13", "20"})
 
 
 # A writer that does as its name says, and what loads its file.

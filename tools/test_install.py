@@ -22,7 +22,7 @@ import scripts  # noqa: E402
 
 TOP = os.path.dirname(HERE)
 SCRIPT = os.path.join(HERE, "install")
-ARCHIVE = b"!<arch>\nstand-in, with pradulins_explain\0"
+ARCHIVE = b"!<arch>\nstand-in, with pradulins_write_rpc\0"
 TRUE_ARCHIVE = os.path.join(TOP, "target", "staticlib")
 PROGRAM = """\
 #include <pradulins.h>
@@ -183,10 +183,10 @@ class Case(unittest.TestCase):
         self.assertIn("no rt", err)
         self.write(os.path.join(self.made, "libpradulins.a"), b"text")
         self.assertIn("libpradulins.a is no archive", self.wrong(self.prefix, "--archive", self.made))
-        # That of 0.3.0 has not all that the header names.
+        # That of 0.5.0 has not all that the header names.
         self.write(os.path.join(self.made, "libpradulins.a"), b"!<arch>\npradulins_start\0pradulins_format\0")
         self.assertEqual(self.wrong(self.prefix, "--archive", self.made),
-                         "install: %s/libpradulins.a has no pradulins_explain: it is of an earlier version than the header, which is of %s. "
+                         "install: %s/libpradulins.a has no pradulins_write_rpc: it is of an earlier version than the header, which is of %s. "
                          "`rt staticlib pradulins` makes it anew\n" % (self.made, INSTALL.version()))
         self.assertEqual(self.files(self.prefix), [])
 

@@ -96,7 +96,7 @@ class Answers(Case):
     def test_refusals(self):
         self.assertEqual(self.told(A04, "=74*1025", 1, 1), "refused 29: a topic has above 1,024 bytes: it has 1,025 bytes\n")
         self.assertEqual(self.told("", "=74*1025", 1, 1), "refused 29: a topic has above 1,024 bytes: it has 1,025 bytes\n")
-        malformed = "the saved state is refused 42: node and stores are not well formed\n"
+        malformed = "the saved state is refused 42: node and stores, or the rows of an RPC, are not well formed\n"
         for rest, line in ((TURNED[:-1], "the saved state is refused 41: a store has not the length that the settings say\n"),
                            (TURNED + b"\x00", "the saved state is refused 41: a store has not the length that the settings say\n"),
                            (TURNED[:32] + b"\x09" + TURNED[33:], malformed), (TURNED[:40] + b"\x00" + TURNED[41:], malformed),
@@ -110,7 +110,7 @@ class Answers(Case):
                             (sender[:3] + b"\x04" + sender[4:], None)):
             self.assertEqual(len(other), 38)
             path = self.file("other", saved.sealed(TURNED.replace(sender, other)))
-            wanted = line or "the saved state is refused 42: node and stores are not well formed\n"
+            wanted = line or "the saved state is refused 42: node and stores, or the rows of an RPC, are not well formed\n"
             self.assertEqual(self.told(A04, "t", 1, 0 if line else 1, path), wanted)
 
     def test_the_state_is_not_changed(self):
@@ -139,7 +139,7 @@ class Answers(Case):
             self.assertEqual((done.returncode, done.stdout, done.stderr), (status, line + "\n", ""))
         other = self.file("other", saved.sealed(TURNED[:40] + b"\x00" + TURNED[41:]))
         done = subprocess.run([SCRIPT, other, A04, "t", "1"], capture_output=True, text=True, check=False)
-        self.assertEqual((done.returncode, done.stdout), (1, "the saved state is refused 42: node and stores are not well formed\n"))
+        self.assertEqual((done.returncode, done.stdout), (1, "the saved state is refused 42: node and stores, or the rows of an RPC, are not well formed\n"))
 
 
 class Files(Case):

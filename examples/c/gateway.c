@@ -1,10 +1,11 @@
 /*
- * A small gateway in C, to copy from: a clock that does not step, a state that is kept in a file, and a notice that is admitted.
+ * A small gateway in C, to copy from: a clock that does not step, a state that is kept in a file, a notice that is published, and one that is admitted.
  *
  *     gateway STATE [NOTICE] [--forget]
  *
- * loads the gateway of the file STATE, or starts a new one where there is no such file; admits each message of the body in the file NOTICE, or of a
- * notice that is built in; prints for each `new`, `duplicate`, or why it is refused; opens a window; offers what it has; and saves itself to STATE.
+ * loads the gateway of the file STATE, or starts a new one where there is no such file; admits each message of the body in the file NOTICE, or, where none is
+ * named, of what it says by itself, as its neighbours will: that it joins a topic, and a notice. It prints for each message `new`, `duplicate`, or why it is
+ * refused; opens a window; offers what it has; and saves itself to STATE.
  * Run it twice on one file: the notice is first new, then a duplicate. A file that was damaged is never replaced by a new gateway, which would have
  * seen nothing: the program says what is wrong. Where the clock is so far after the state that all it has seen would be forgotten, the program stops,
  * too, unless it is told to go on by `--forget`: after a short stop, a clock is wrong.
@@ -62,13 +63,13 @@ static int failed(const char *what, const char *why)
     return 1;
 }
 
-/* A refusal in words, with its values, and where in the body it stands. */
-static void put_refusal(FILE *out, uint32_t number, const uint64_t values[PRADULINS_VALUES])
+/* A refusal in words, with its values, and, by a call that reads a body, where in the body it stands. */
+static void put_refusal(FILE *out, uint32_t number, const uint64_t values[PRADULINS_VALUES], bool of_a_body)
 {
     fprintf(out, "refused %" PRIu32 ": %s", number, pradulins_refusal_text(number));
     for (int i = 0; i < pradulins_refusal_values(number); i++)
         fprintf(out, "%s %" PRIu64, i == 0 ? ":" : ",", values[i]);
-    if (pradulins_refusal_has_place(number)) {
+    if (of_a_body && pradulins_refusal_has_place(number)) {
         const uint64_t *fields = values + PRADULINS_FIELDS;
         fprintf(out, "; at byte %" PRIu64 " of the body", values[PRADULINS_OFFSET]);
         for (int i = 0; i < PRADULINS_MAX_FIELDS && fields[i] != 0; i++)
@@ -80,7 +81,7 @@ static void put_refusal(FILE *out, uint32_t number, const uint64_t values[PRADUL
 static int refused(const char *what, uint32_t number, const uint64_t values[PRADULINS_VALUES])
 {
     fprintf(stderr, "gateway: %s: ", what);
-    put_refusal(stderr, number, values);
+    put_refusal(stderr, number, values, false);
     return 1;
 }
 
@@ -309,7 +310,7 @@ static int save(const struct gateway *g, const char *path)
     return flush_folder(path) != 0 ? failed(path, strerror(errno)) : 0;
 }
 
-/* ---- a notice */
+/* ---- what it says by itself */
 
 /* An Ed25519 key has 32 bytes. Where a real one stands, this has 32 times `C`. */
 #define FOUR 'C', 'C', 'C', 'C'
@@ -318,8 +319,49 @@ static int save(const struct gateway *g, const char *path)
 /* Its peer id, 38 bytes: 00 and the length of the rest, 36; then the key as libp2p writes it, which is its type, 1, its length, 32, and its bytes. */
 #define PEER_ID 0x00, 36, 0x08, 1, 0x12, 32, KEY
 
-/* The body of a notice: from a peer id, seqno 1, topic `ct`, data `study 17`, and 64 bytes where a real one has its signature. */
-static const uint8_t BUILT_IN[125] = {0x12, 123, 0x0a, 38, PEER_ID, 0x12, 8, 's', 't', 'u', 'd', 'y', ' ', '1', '7', 0x1a, 1, 1, 0x22, 2, 'c', 't', 0x2a, 64};
+/* The bytes that are said, one after the other, and where each part begins. The notice's number, its seqno, is always 1: a real gateway counts them up. */
+enum { FROM_AT = 0, DATA_AT = 38, SEQNO_AT = 46, TOPIC_AT = 47, SIGNATURE_AT = 49, END_AT = 113 };
+static uint8_t parts[END_AT] = {PEER_ID, 's', 't', 'u', 'd', 'y', ' ', '1', '7', 1, 'c', 't'};
+
+/* The signature of a notice over the bytes to sign. A real gateway makes it with its secret key, by a library for that; this one has 64 bytes 00. */
+static void put_signature(uint8_t signature[64], const uint8_t *sign, size_t sign_len)
+{
+    (void)sign, (void)sign_len;
+    memset(signature, 0, 64);
+}
+
+/* Writes the body: the gateway joins the topic, is to be taken into its mesh, and publishes a notice. `*len` is then how long it is. */
+static int speak(uint8_t body[PRADULINS_OUT_SIZE], size_t *len)
+{
+    enum { SUBSCRIBE, GRAFT, NOTICE, TOPIC, COUNT };
+    static uint8_t sign[PRADULINS_SIGN_SIZE];
+    uint64_t rows[COUNT][PRADULINS_RECORD_WORDS], values[PRADULINS_VALUES];
+    pradulins_row(rows[SUBSCRIBE], PRADULINS_KIND_SUB_OPTS, 0, 0);
+    pradulins_row_number(rows[SUBSCRIBE], 1);
+    pradulins_row_field(rows[SUBSCRIBE], 0, TOPIC_AT, SIGNATURE_AT);
+    pradulins_row(rows[GRAFT], PRADULINS_KIND_GRAFT, 0, 0);
+    pradulins_row_field(rows[GRAFT], 0, TOPIC_AT, SIGNATURE_AT);
+    pradulins_row(rows[NOTICE], PRADULINS_KIND_MESSAGE, 0, 0);
+    pradulins_row_field(rows[NOTICE], 0, FROM_AT, DATA_AT);
+    pradulins_row_field(rows[NOTICE], 1, DATA_AT, SEQNO_AT);
+    pradulins_row_field(rows[NOTICE], 2, SEQNO_AT, TOPIC_AT);
+    pradulins_row_field(rows[NOTICE], 3, SIGNATURE_AT, END_AT);
+    pradulins_row(rows[TOPIC], PRADULINS_KIND_TOPIC, TOPIC_AT, SIGNATURE_AT);
+
+    /* First what is to be signed of message 0, which the signature is no part of; then the whole. */
+    uint32_t r = pradulins_sign_fields(rows[0], COUNT * PRADULINS_RECORD_WORDS, parts, sizeof parts, 0, sign, sizeof sign, values);
+    if (r)
+        return refused("the notice", r, values);
+    put_signature(parts + SIGNATURE_AT, sign, values[0]);
+    r = pradulins_write_rpc(rows[0], COUNT * PRADULINS_RECORD_WORDS, parts, sizeof parts, body, PRADULINS_OUT_SIZE, values);
+    if (r)
+        return refused("the notice", r, values);
+    *len = values[0];
+    printf("says that it joins ct, and publishes: %zu bytes\n", *len);
+    return 0;
+}
+
+/* ---- what comes in */
 
 /*
  * The host's word on a message. `sign` holds the bytes that its signature is made over; a real gateway tests the signature in the record against
@@ -342,7 +384,7 @@ static int admit_all(struct gateway *g, const struct clock *clock, const uint8_t
     uint32_t r = pradulins_decode(body, body_len, table, PRADULINS_TABLE_WORDS, values);
     if (r) {
         printf("the body is ");
-        put_refusal(stdout, r, values);
+        put_refusal(stdout, r, values, true);
         return 1;
     }
     size_t records = values[0], index = 0;
@@ -357,7 +399,7 @@ static int admit_all(struct gateway *g, const struct clock *clock, const uint8_t
         }
         printf("message %zu: ", index);
         if (r)
-            put_refusal(stdout, r, values);
+            put_refusal(stdout, r, values, true);
         else
             puts(values[0] ? "new" : "duplicate");
         bad |= r != 0;
@@ -413,9 +455,8 @@ static int run(struct gateway *g, const char *path, const uint8_t *body, size_t 
 int main(int argc, char **argv)
 {
     static struct gateway g;
-    static uint8_t notice[PRADULINS_MAX_BODY];
-    const uint8_t *body = BUILT_IN;
-    size_t body_len = sizeof BUILT_IN;
+    static uint8_t body[PRADULINS_MAX_BODY];
+    size_t body_len;
     bool forget = argc > 1 && strcmp(argv[argc - 1], "--forget") == 0;
     argc -= forget;
     if (argc != 2 && argc != 3) {
@@ -425,11 +466,8 @@ int main(int argc, char **argv)
     fill_sums();
     if (pradulins_version() != PRADULINS_VERSION || pradulins_format() != PRADULINS_FORMAT)
         return failed("libpradulins.a", "it is of another version than pradulins.h");
-    if (argc == 3) {
-        if (read_all(argv[2], notice, sizeof notice, &body_len))
-            return 1;
-        body = notice;
-    }
+    if (argc == 3 && read_all(argv[2], body, sizeof body, &body_len))
+        return 1;
     if (access(argv[1], F_OK) == 0) {
         if (load(&g, argv[1]))
             return 1;
@@ -444,6 +482,8 @@ int main(int argc, char **argv)
     } else {
         return failed(argv[1], strerror(errno));
     }
+    if (argc == 2 && speak(body, &body_len))
+        return 1;
     int status = run(&g, argv[1], body, body_len, forget);
     free(g.seen);
     return status;

@@ -2,7 +2,7 @@
  * Plays the records of the programs `inspect`, `trace`, `states` and `why` through pradulins.h, and prints their lines: on the same input the same lines are
  * expected. For what the interface does not have (kinds 6 to 9 of `inspect`, 9 and 10 of `states`) the line is the record's number and `-`. Beside that
  * it watches the memory of each call: a refused one changes none but `values`, one that succeeds writes only what it counts, and `values` gets as many
- * numbers as the header says. Each call on a body is made again with room that just suffices and with one byte or number less. Before each call on a
+ * numbers as the header says. Each call on a body or on rows is made again with room that just suffices and with one byte or number less. Before each call on a
  * node, pradulins_settings and pradulins_state are asked: they tell what stands in the node's bytes, or the refusal that the call then answers.
  */
 #include "player.h"
@@ -14,7 +14,7 @@
 #include "pradulins.h"
 
 /* The lengths of the programs' own buffers. */
-enum { CONTENT = 307600, SEEN = 33282, CACHE = 266240, MADE = 65600 };
+enum { CONTENT = 307600, SEEN = 33282, CACHE = 266240, MADE = 65600, ROWS = 640 };
 
 #define UNTOUCHED 0x5e5e5e5e5e5e5e5eu
 
@@ -24,9 +24,10 @@ static uint8_t seen[SEEN], seen_before[SEEN];
 static uint8_t cache[CACHE], cache_before[CACHE];
 static uint8_t made[MADE], made_before[MADE];
 static uint64_t table[PRADULINS_TABLE_WORDS], table_before[PRADULINS_TABLE_WORDS];
+static uint64_t rows[ROWS * PRADULINS_RECORD_WORDS], rows_before[ROWS * PRADULINS_RECORD_WORDS];
 static uint64_t values[PRADULINS_VALUES];
 static size_t seen_len, cache_len;
-static int started;
+static int started, on_rows;
 static uint64_t n;
 static const char *fault;
 
@@ -39,6 +40,7 @@ static void before(void)
     memcpy(cache_before, cache, sizeof cache);
     memcpy(made_before, made, sizeof made);
     memcpy(table_before, table, sizeof table);
+    memcpy(rows_before, rows, sizeof rows);
     for (int i = 0; i < PRADULINS_VALUES; i++)
         values[i] = UNTOUCHED;
 }
@@ -51,15 +53,21 @@ static void expect(int ok, const char *what)
     }
 }
 
-/*
- * After a call. `count` is how many values a success hands out, `bytes` and `rows` how much it wrote; a call that `keeps` leaves node and stores.
- */
-static void after(uint32_t number, int count, size_t bytes, size_t rows, int keeps)
+/* Whether a refusal has a place. A call on rows reads no body: its 7 has none. */
+static int has_place(uint32_t number)
 {
-    int placed = pradulins_refusal_has_place(number);
+    return !on_rows && pradulins_refusal_has_place(number);
+}
+
+/*
+ * After a call. `count` is how many values a success hands out, `bytes` and `records` how much it wrote; a call that `keeps` leaves node and stores.
+ */
+static void after(uint32_t number, int count, size_t bytes, size_t records, int keeps)
+{
+    int placed = has_place(number);
     if (number != 0) {
         count = pradulins_refusal_values(number);
-        bytes = rows = 0;
+        bytes = records = 0;
         keeps = 1;
     }
     for (int i = 0; i < PRADULINS_VALUES; i++)
@@ -72,8 +80,9 @@ static void after(uint32_t number, int count, size_t bytes, size_t rows, int kee
     expect(memcmp(seen + seen_len, seen_before + seen_len, sizeof seen - seen_len) == 0, "bytes after the seen store changed");
     expect(memcmp(cache + cache_len, cache_before + cache_len, sizeof cache - cache_len) == 0, "bytes after the cache store changed");
     expect(bytes <= sizeof made && memcmp(made + bytes, made_before + bytes, sizeof made - bytes) == 0, "the buffer changed");
-    size_t words = rows * PRADULINS_RECORD_WORDS;
+    size_t words = records * PRADULINS_RECORD_WORDS;
     expect(words <= PRADULINS_TABLE_WORDS && memcmp(table + words, table_before + words, sizeof table - words * 8) == 0, "the table changed");
+    expect(memcmp(rows, rows_before, sizeof rows) == 0, "the rows changed");
 }
 
 /* ---- lines */
@@ -95,7 +104,7 @@ static void put_refused(uint32_t number, int full)
     printf(" refused %u", number);
     for (int i = 0; full && i < pradulins_refusal_values(number); i++)
         put_number(values[i]);
-    if (!full || !pradulins_refusal_has_place(number))
+    if (!full || !has_place(number))
         return;
     const uint64_t *fields = values + PRADULINS_FIELDS;
     printf(" at");
@@ -299,6 +308,76 @@ static void inspect_walk(const uint8_t *body, size_t len, size_t at)
     putchar('\n');
 }
 
+/* ---- rows, kinds 10 and 11 of inspect */
+
+/* The rows of a record from `at` on: 0, or 1 where there are `count` of them, with `*end` behind them. */
+static int read_rows(size_t at, size_t len, size_t count, size_t *end)
+{
+    memset(rows, 0, sizeof rows);
+    for (size_t i = 0; i < count; i++) {
+        uint64_t *row = rows + i * PRADULINS_RECORD_WORDS;
+        if (len - at < 18 || content[at + 1] > 63)
+            return 0;
+        int mask = content[at + 1];
+        pradulins_row(row, content[at], number_at(content, at + 2, 8), number_at(content, at + 10, 8));
+        at += 18;
+        for (int bit = 0; bit < 6; bit++) {
+            if (!(mask >> bit & 1))
+                continue;
+            size_t size = bit ? 16 : 8;
+            if (len - at < size)
+                return 0;
+            if (bit)
+                pradulins_row_field(row, bit - 1, number_at(content, at, 8), number_at(content, at + 8, 8));
+            else
+                pradulins_row_number(row, number_at(content, at, 8));
+            at += size;
+        }
+    }
+    *end = at;
+    return 1;
+}
+
+static uint32_t rows_call(uint64_t kind, size_t count, const uint8_t *bytes, size_t len, size_t index, size_t room)
+{
+    size_t words = count * PRADULINS_RECORD_WORDS;
+    before();
+    uint32_t r = kind == 10 ? pradulins_write_rpc(rows, words, bytes, len, made, room, values)
+                            : pradulins_sign_fields(rows, words, bytes, len, index, made, room, values);
+    after(r, 1, r ? 0 : values[0], 0, 1);
+    return r;
+}
+
+/* room, count, so many rows, and the bytes that they are over; before that, of kind 11, an index. */
+static int inspect_rows(uint64_t kind, size_t len)
+{
+    size_t at = kind == 10 ? 0 : 2, index = number_at(content, 0, at), end = 0;
+    if (len < at + 6)
+        return 0;
+    size_t room = number_at(content, at, 4), count = number_at(content, at + 4, 2);
+    if (room > MADE || count > ROWS || !read_rows(at + 6, len, count, &end))
+        return 0;
+    on_rows = 1;
+    uint32_t r = rows_call(kind, count, content + end, len - end, index, room);
+    uint64_t first = values[0];
+    start_line(kind == 10 ? "write" : "tosign");
+    if (r)
+        put_refused(r, 1);
+    else
+        put_made();
+    putchar('\n');
+    /* The same answer with room that just suffices, and with none where it is refused; 12 with less. */
+    int made_it = r == 0 || (r == PRADULINS_ROOM && first <= MADE);
+    size_t needed = made_it ? first : 0;
+    uint32_t again = rows_call(kind, count, content + end, len - end, index, needed);
+    expect(again == (made_it ? 0 : r) && ((r && pradulins_refusal_values(r) == 0) || values[0] == first), "another answer with just enough room");
+    if (needed > 0)
+        expect(rows_call(kind, count, content + end, len - end, index, needed - 1) == PRADULINS_ROOM && values[0] == first,
+               "no refusal 12 with too little room");
+    on_rows = 0;
+    return 1;
+}
+
 static int inspect(uint64_t kind, size_t len)
 {
     before();
@@ -325,6 +404,9 @@ static int inspect(uint64_t kind, size_t len)
     case 8:
     case 9:
         return not_there();
+    case 10:
+    case 11:
+        return inspect_rows(kind, len);
     default:
         return 0;
     }

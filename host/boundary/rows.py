@@ -1,6 +1,6 @@
 """The rows of the scope's tables, as records of the programs `inspect` and `states`, with the lines that the scope asks for.
 
-Each line is written from the scope, not from a program; those about the place of a refusal stand in oracle/places.py. `inspect()` and `states()` give
+Each line is written from the scope, not from a program; those about the place of a refusal stand in oracle/places.py. `inspect()`, `lists()` and `states()` give
 (input, lines). Refusal 33 is not here: the seen part alone has it, which the C interface does not lend.
 """
 
@@ -12,6 +12,7 @@ sys.path.insert(0, os.path.join(os.path.dirname(os.path.abspath(__file__)), "../
 import places  # noqa: E402
 import states as program  # noqa: E402
 import wire  # noqa: E402
+from records import header  # noqa: E402
 
 ROOM = 65536
 PREFIX = b"libp2p-pubsub:".hex()
@@ -118,6 +119,165 @@ def inspect():
         records += wire.record((call, bytes.fromhex(body), place))
         lines += ["%d %s %s" % (n, call, told[0])] + told[1:]
     return records, lines
+
+
+# ---- what a host says by itself: rows over lent bytes
+
+SUB_OPTS, MESSAGE, TOPIC, GRAFT, PRUNE, PEER_INFO = 1, 2, 3, 8, 9, 10
+TOP = 2**64 - 1
+
+
+def row(kind, number=None, fields=(), own=(0, 0)):
+    """A row as `inspect` reads it: kind, which of number and fields are there, its own start and end, and what is there."""
+    fields = [*fields] + [None] * (5 - len(fields))
+    mask = sum(1 << i for i, part in enumerate([number, *fields]) if part is not None)
+    words = [*own] + [number] * (number is not None) + [word for field in fields if field is not None for word in field]
+    return bytes([kind, mask]) + b"".join(word.to_bytes(8, "little") for word in words)
+
+
+def lent(rows, data=b"", room=ROOM, index=None, count=None):
+    """A record of rows over bytes: of kind 10, or with an index, of kind 11."""
+    content = b"" if index is None else index.to_bytes(2, "little")
+    content += room.to_bytes(4, "little") + (len(rows) if count is None else count).to_bytes(2, "little") + b"".join(rows) + data
+    return header(len(content), 10 if index is None else 11) + content
+
+
+def topic_at(start, end):
+    return row(TOPIC, own=(start, end))
+
+
+def message_of(who=SENDER, data=None, seqno=b"\x01", signature=bytes(64), key=None, topics=(b"t",)):
+    """The rows of a message and its topics, and the bytes that they are over."""
+    fields, over = [], b""
+    for content in (who, data, seqno, signature, key):
+        fields.append(None if content is None else (len(over), len(over) + len(content)))
+        over += content or b""
+    rows = [row(MESSAGE, fields=fields)]
+    for topic in topics:
+        rows.append(topic_at(len(over), len(over) + len(topic)))
+        over += topic
+    return rows, over
+
+
+def whole(body):
+    return "%d %s" % (len(body), body.hex())
+
+
+SIGNED = "60 %s0a26%s1a0101220174" % (PREFIX, SENDER.hex())
+
+# Rows, the bytes that they are over, and what is written.
+SAID = (
+    ([], b"", "0"), ([], b"not looked at", "0"),
+    ([row(SUB_OPTS, 1, [(0, 1)])], b"t", "7 0a050801120174"),
+    ([row(SUB_OPTS, 7, [(0, 1)])], b"t", "7 0a050801120174"),
+    ([row(SUB_OPTS, TOP, [(0, 1)])], b"t", "7 0a050801120174"),
+    ([row(SUB_OPTS, 0, [(0, 1)])], b"t", "7 0a050800120174"),
+    ([row(SUB_OPTS), row(SUB_OPTS, fields=[(0, 0)])], b"", "6 0a000a021200"),
+    ([row(PRUNE, 60, [(1, 2)]), row(PEER_INFO, fields=[(2, 4)]), row(GRAFT, fields=[(0, 1)])], b"tu\x01\x02",
+     "20 1a121a030a0174220b0a017512040a020102183c"),
+    ([row(PRUNE, TOP)], b"", "15 1a0d220b18ffffffffffffffffff01"),
+    ([row(PRUNE), row(GRAFT), row(PEER_INFO, fields=[None, (0, 0)])], b"", "10 1a081a00220412021200"),
+    # Peer ids and signed records may be any bytes.
+    ([row(PRUNE), row(PEER_INFO, fields=[(0, 1), (1, 2)])], b"\xff\xff", "12 1a0a220812060a01ff1201ff"),
+    # Fields that a kind does not have are not looked at, nor a number that it has not.
+    ([row(GRAFT, fields=[(0, 1), (5, 9)])], b"t", "7 1a051a030a0174"),
+    ([row(GRAFT, 9, [(0, 1)])], b"t", "7 1a051a030a0174"),
+    ([row(GRAFT), row(SUB_OPTS, fields=[None, (9, 1)])], b"", "6 0a001a021a00"),
+    # Places count from the row's start, and may overlap.
+    ([row(GRAFT, fields=[(0, 1)], own=(1, 2)), row(GRAFT, fields=[(1, 2)]), row(SUB_OPTS, fields=[(0, 2)])], b"tu",
+     "18 0a041202" + b"tu".hex() + "1a0a1a030a01751a030a0175"),
+    (*message_of(), "114 " + X.hex()),
+    (*message_of(key=key_of(1)), whole(message(key=key_of(1)))),
+    (*message_of(data=b"", topics=(b"", b"u")), whole(message(data=b"", topics=(b"", b"u")))),
+    ([row(GRAFT)] * 512, b"", "1027 1a8008" + "1a00" * 512),
+    ([row(GRAFT, fields=[(0, 65524)])], b"t" * 65524, "65536 1afcff031af8ff030af4ff03" + "74" * 65524),
+)
+
+# The same, refused.
+NOT_SAID = (
+    ([row(GRAFT, fields=[(0, 2)])], b"t", "42"), ([row(GRAFT, fields=[(1, 0)])], b"t", "42"),
+    ([row(GRAFT, fields=[(0, TOP)], own=(1, 1))], b"t", "42"), ([row(GRAFT, fields=[(TOP, TOP)], own=(1, 1))], b"t", "42"),
+    ([row(GRAFT, own=(0, 2))], b"t", "42"), ([row(GRAFT, own=(1, 0))], b"t", "42"), ([row(GRAFT, own=(2, 2))], b"t", "42"),
+    ([row(MESSAGE, fields=[None, None, None, None, (0, 1)])], b"", "42"), ([row(PRUNE), row(PEER_INFO, fields=[None, (0, 1)])], b"", "42"),
+    *(([row(kind)], b"", "42") for kind in (0, 4, 5, 6, 7, 11, 255)),
+    ([topic_at(0, 0)], b"", "42"), ([topic_at(0, 0), row(MESSAGE)], b"", "42"), ([row(PRUNE), topic_at(0, 0)], b"", "42"),
+    ([row(PEER_INFO)], b"", "42"), ([row(PEER_INFO), row(PRUNE)], b"", "42"), ([row(MESSAGE), row(PEER_INFO)], b"", "42"),
+    # 7 carries where the topic begins in the lent bytes; 42 anywhere comes first.
+    ([row(GRAFT, fields=[(0, 1)]), row(SUB_OPTS, fields=[(1, 2)])], b"t\xff", "7 1"),
+    ([row(GRAFT, fields=[(0, 1)], own=(1, 2))], b"t\xff", "7 1"),
+    ([row(PRUNE, fields=[(1, 2)]), row(GRAFT, fields=[(2, 3)])], b"t\xff\xc0", "7 1"),
+    ([row(MESSAGE), topic_at(1, 3)], b"t\xc0\x80", "7 1"),
+    ([row(GRAFT, fields=[(0, 1)]), row(SUB_OPTS, fields=[(1, 2)]), row(GRAFT, fields=[(0, 3)])], b"t\xff", "42"),
+    ([row(GRAFT, fields=[(0, 1)])] * 512 + [row(GRAFT, fields=[(1, 2)])], b"t\xff", "7 1"),
+    ([row(GRAFT)] * 512 + [row(4)], b"", "42"),
+    ([row(GRAFT)] * 513, b"", "11 513"), ([row(MESSAGE)] * 513, b"", "11 513"), ([row(GRAFT)] * 640, b"", "11 640"),
+    (*message_of(signature=None), "26 0"), (*message_of(signature=b""), "26 0"), (*message_of(signature=bytes(65)), "26 65"),
+    (*message_of(signature=None, key=b"k"), "26 0"),
+    (message_of(data=bytes(4000))[0] + [row(MESSAGE)], message_of(data=bytes(4000))[1], "30 4115"),
+    (message_of()[0] + [row(MESSAGE)], message_of()[1], "21"), ([row(MESSAGE), *message_of(data=bytes(4000))[0]], message_of(data=bytes(4000))[1], "21"),
+    # A message's refusal comes before 13, and 13 before 12.
+    ([row(MESSAGE)] + [row(GRAFT, fields=[(0, 1000)])] * 66, b"t" * 1000, "21"),
+    ([row(GRAFT, fields=[(0, 1000)])] * 66, b"t" * 1000, "13 66400"),
+    ([row(GRAFT, fields=[(0, 65525)])], b"t" * 65525, "13 65537"),
+)
+
+
+def said():
+    """(record, the line without its number)."""
+    for rows, data, told in SAID:
+        yield lent(rows, data), "write " + told
+        size = int(told.split(" ")[0])
+        if size:
+            yield lent(rows, data, room=size), "write " + told
+            yield lent(rows, data, room=size - 1), "write refused 12 %d" % size
+    for rows, data, told in NOT_SAID:
+        for room in (ROOM, 0):
+            yield lent(rows, data, room=room), "write refused " + told
+        if told.split(" ")[0] in ("42", "7", "11"):
+            yield lent(rows, data, index=0), "tosign refused " + told
+    # A message with its signature, as admission has it: 24 and 25 are never given.
+    for body, told in SENDERS:
+        told = "26 0" if told in ("24", "25") else told
+        rows, data = rows_in(body)
+        yield lent(rows, data), "write " + (whole(body) if told == "new" else "refused " + told)
+    # The bytes to sign: with or without a signature and a key.
+    for signature in (None, bytes(64), bytes(3)):
+        for key in (None, key_of(1), b"k"):
+            rows, data = message_of(signature=signature, key=key)
+            yield lent(rows, data, index=0), "tosign " + SIGNED
+            yield lent([row(MESSAGE), row(GRAFT), *rows], data, index=1), "tosign " + SIGNED
+            yield lent(rows, data, room=60, index=0), "tosign " + SIGNED
+            yield lent(rows, data, room=59, index=0), "tosign refused 12 60"
+            yield lent(rows, data, room=0, index=1), "tosign refused 20 1"
+    yield lent([row(MESSAGE)], index=0), "tosign 14 " + PREFIX
+    yield lent([], index=65535), "tosign refused 20 0"
+    rows, data = message_of(data=bytes(5000), topics=(b"t",) * 5)
+    yield lent(rows, data, index=0), "tosign 5075 %s0a26%s128827%s1a0101%s" % (PREFIX, SENDER.hex(), "00" * 5000, "220174" * 5)
+
+
+def rows_in(body):
+    """The rows of a body with one message, as decode gives them."""
+    start = 2 if body[1] < 128 else 3
+    at, fields, topics = start, {}, []
+    while at < len(body):
+        number, at = body[at] // 8, at + 1
+        size, at = (body[at], at + 1) if body[at] < 128 else (body[at] % 128 + 128 * body[at + 1], at + 2)
+        if number == 4:
+            topics.append(topic_at(at, at + size))
+        else:
+            fields[number] = (at - start, at + size - start)
+        at += size
+    return [row(MESSAGE, fields=[fields.get(number) for number in (1, 2, 3, 5, 6)], own=(start, len(body))), *topics], body
+
+
+# Records that end a run with `bad`: rows that are cut, a mask above 63, more room or more rows than there may be, and one that is too short.
+BAD = (lent([row(GRAFT, 1, [(0, 1)])[:-1]]), lent([row(GRAFT)[:17]]), lent([], count=1), lent([bytes([GRAFT, 64]) + bytes(16)]), lent([], room=65601),
+       lent([row(GRAFT)] * 641), header(5, 10) + bytes(5), header(7, 11) + bytes(7), lent([row(GRAFT, 1)[:-1]], index=0))
+
+
+def lists():
+    played = list(said())
+    return b"".join(record for record, _ in played), ["%d %s" % (n, line) for n, (_, line) in enumerate(played, 1)]
 
 
 # ---- refusals, and the trace with the values beside them

@@ -1,7 +1,8 @@
 /*
  * The calls of pradulins.h that no program has a line for: settings and state of a node, version and format, and the words for refusals. They are
  * made on nodes that are fresh, filled and damaged, and on stores of other lengths. Each time the answer and the values are tested, that values which
- * are not named stay, and that no byte of the node and the stores changed.
+ * are not named stay, and that no byte of the node and the stores changed. And rows that no record of a program can say: flags that are neither 0 nor 1, numbers
+ * where nothing is to be looked at, a table that is no whole rows, and the table that decode wrote.
  */
 #include "player.h"
 
@@ -90,13 +91,21 @@ static void state_is_refused(size_t seen_len, size_t cache_len, uint32_t number)
 /* ---- nodes */
 
 /* A body with one message. Its sender is the peer id of an Ed25519 key, 32 equal bytes. */
-static void admit(uint8_t key, uint64_t at, size_t seen_len, size_t cache_len)
+enum { NOTICE = 114 };
+
+static void put_notice(uint8_t body[NOTICE], uint8_t key)
 {
     static const uint8_t head[10] = {0x12, 0x70, 0x0a, 0x26, 0, 0x24, 8, 1, 0x12, 0x20}, rest[8] = {0x1a, 1, 1, 0x22, 1, 't', 0x2a, 0x40};
-    uint8_t body[114] = {0};
+    memset(body, 0, NOTICE);
     memcpy(body, head, sizeof head);
     memset(body + 10, key, 32);
     memcpy(body + 42, rest, sizeof rest);
+}
+
+static void admit(uint8_t key, uint64_t at, size_t seen_len, size_t cache_len)
+{
+    uint8_t body[NOTICE];
+    put_notice(body, key);
     expect(pradulins_admit(node, seen, seen_len, cache, cache_len, body, sizeof body, 0, true, at, values) == PRADULINS_OK && values[0] == 1,
            "a notice is not new");
 }
@@ -225,6 +234,110 @@ static void nodes(void)
     state_is_refused(4 * 129, 3 * 4096, PRADULINS_BAD_SETTING);
 }
 
+/* ---- rows */
+
+enum { ROWS = 8 };
+static uint64_t rows[ROWS * PRADULINS_RECORD_WORDS];
+static uint8_t out[200];
+
+static void before_rows(void)
+{
+    memset(out, 0x5e, sizeof out);
+    before();
+}
+
+/* So many numbers of rows, over bytes, say this body. */
+static void rows_say(size_t words, const uint8_t *bytes, size_t len, const uint8_t *body, size_t body_len)
+{
+    const uint64_t wanted[] = {body_len};
+    before_rows();
+    expect(pradulins_write_rpc(rows, words, bytes, len, out, sizeof out, values) == PRADULINS_OK, "rows are refused");
+    after(1, wanted, "another number of bytes");
+    expect(memcmp(out, body, body_len) == 0, "another body");
+    for (size_t i = body_len; i < sizeof out; i++)
+        expect(out[i] == 0x5e, "a byte behind the body changed");
+}
+
+/* They are refused by both calls, as not well formed, and nothing is written. */
+static void rows_are_none(size_t words, const uint8_t *bytes, size_t len)
+{
+    before_rows();
+    expect(pradulins_write_rpc(rows, words, bytes, len, out, sizeof out, values) == PRADULINS_MALFORMED, "rows that are none are written");
+    after(0, NULL, "values beside 42");
+    expect(pradulins_sign_fields(rows, words, bytes, len, 0, out, sizeof out, values) == PRADULINS_MALFORMED, "rows that are none are signed");
+    after(0, NULL, "values beside 42");
+    for (size_t i = 0; i < sizeof out; i++)
+        expect(out[i] == 0x5e, "a byte changed beside 42");
+}
+
+static void lists(void)
+{
+    static const uint8_t t[] = {'t'}, graft[] = {0x1a, 5, 0x1a, 3, 0x0a, 1, 't'}, sub[] = {0x0a, 5, 8, 1, 0x12, 1, 't'};
+    uint64_t *row = rows;
+
+    /* A flag is set where it is not 0. */
+    pradulins_row(row, PRADULINS_KIND_GRAFT, 0, 0);
+    pradulins_row_field(row, 0, 0, 1);
+    rows_say(20, t, 1, graft, sizeof graft);
+    row[PRADULINS_RECORD_FIELD(0)] = 2;
+    rows_say(20, t, 1, graft, sizeof graft);
+    row[PRADULINS_RECORD_FIELD(0)] = UINT64_MAX;
+    rows_say(20, t, 1, graft, sizeof graft);
+    /* What the kind does not have may be anything. */
+    for (int i = PRADULINS_RECORD_FIELD(1); i < PRADULINS_RECORD_WORDS; i++)
+        row[i] = UINT64_MAX - (uint64_t)i;
+    row[PRADULINS_RECORD_HAS_NUMBER] = row[PRADULINS_RECORD_NUMBER] = UINT64_MAX;
+    rows_say(20, t, 1, graft, sizeof graft);
+    row[PRADULINS_RECORD_KIND] = PRADULINS_KIND_SUB_OPTS;
+    rows_say(20, t, 1, sub, sizeof sub);
+    row[PRADULINS_RECORD_HAS_NUMBER] = UINT64_C(1) << 63;
+    row[PRADULINS_RECORD_NUMBER] = UINT64_C(1) << 32;
+    rows_say(20, t, 1, sub, sizeof sub);
+    /* Where the flag is 0, no number is looked at. */
+    row[PRADULINS_RECORD_FIELD(0)] = row[PRADULINS_RECORD_HAS_NUMBER] = 0;
+    row[PRADULINS_RECORD_FIELD(0) + 1] = row[PRADULINS_RECORD_FIELD(0) + 2] = UINT64_MAX;
+    rows_say(20, t, 1, (const uint8_t *)"\x0a\x00", 2);
+
+    /* A kind is looked at whole. */
+    row[PRADULINS_RECORD_KIND] = PRADULINS_KIND_SUB_OPTS + (UINT64_C(1) << 32);
+    rows_are_none(20, t, 1);
+    row[PRADULINS_RECORD_KIND] = UINT64_MAX;
+    rows_are_none(20, t, 1);
+
+    /* Whole rows. */
+    pradulins_row(row, PRADULINS_KIND_GRAFT, 0, 0);
+    pradulins_row(row + PRADULINS_RECORD_WORDS, PRADULINS_KIND_GRAFT, 0, 0);
+    for (size_t words = 0; words <= 2 * PRADULINS_RECORD_WORDS; words++)
+        if (words % PRADULINS_RECORD_WORDS != 0)
+            rows_are_none(words, t, 1);
+    rows_say(0, t, 0, t, 0);
+    rows_say(20, t, 0, (const uint8_t *)"\x1a\x02\x1a\x00", 4);
+    rows_say(40, t, 0, (const uint8_t *)"\x1a\x04\x1a\x00\x1a\x00", 6);
+}
+
+/* What decode wrote of a body is lent as it is, beside the body: it is written again, and what was read with it is signed. */
+static void read_and_said(void)
+{
+    static const uint8_t more[] = {0x0a, 2, 0x12, 0, 0x1a, 12, 0x1a, 0, 0x22, 8, 0x12, 4, 0x0a, 2, 1, 2, 0x18, 60};
+    uint8_t body[NOTICE + sizeof more], in_order[sizeof body], sign[80];
+    put_notice(body, 'A');
+    memcpy(body + NOTICE, more, sizeof more);
+    /* The subscription comes first when it is written. */
+    memcpy(in_order, more, 4);
+    memcpy(in_order + 4, body, NOTICE);
+    memcpy(in_order + 4 + NOTICE, more + 4, sizeof more - 4);
+
+    before();
+    expect(pradulins_decode(body, sizeof body, rows, ROWS * PRADULINS_RECORD_WORDS, values) == PRADULINS_OK && values[0] == 6, "a body is not read");
+    size_t words = values[0] * PRADULINS_RECORD_WORDS;
+    rows_say(words, body, sizeof body, in_order, sizeof in_order);
+    before_rows();
+    expect(pradulins_sign_fields(rows, words, body, sizeof body, 0, out, sizeof out, values) == PRADULINS_OK && values[0] == 60, "nothing to sign");
+    before();
+    expect(pradulins_sign_bytes(body, sizeof body, 0, sign, sizeof sign, values) == PRADULINS_OK && values[0] == 60, "no sign bytes");
+    expect(memcmp(sign, out, 60) == 0, "other bytes to sign than are verified");
+}
+
 /* ---- words */
 
 static void words(void)
@@ -258,6 +371,8 @@ int test_self(void)
     expect(pradulins_format() == PRADULINS_FORMAT, "another format");
     words();
     nodes();
+    lists();
+    read_and_said();
     printf("%d checks, %d failed\n", checks, faults);
     return faults ? 1 : 0;
 }

@@ -56,12 +56,33 @@
 //! # Ok::<(), pradulins::Refusal>(())
 //! ```
 //!
+//! A host speaks first, too: it joins a topic, leaves it, publishes. [`Rpc`] is what it says, and [`Draft`] a message that it signs before it is said; `sign` is
+//! the host's own. What is written is what a neighbour reads, and a message that was written is admitted there, if its signature verifies.
+//!
+#![cfg_attr(not(no_archive), doc = "```")]
+#![cfg_attr(no_archive, doc = "```no_run")]
+//! use pradulins::{Draft, Rpc};
+//! # use pradulins::{Admitted, Gateway, Settings};
+//! # fn sign(_bytes: &[u8]) -> [u8; 64] { [0; 64] }
+//! # let sender = [&[0, 0x24, 8, 1, 0x12, 0x20][..], &[b'A'; 32]].concat();
+//! # let mut neighbour = Gateway::start(Settings { ttl: 3_600_000, max_seen: 256, history_len: 4, max_messages: 64 })?;
+//!
+//! let draft = Draft { from: &sender, seqno: &17u64.to_be_bytes(), data: Some(b"study 17"), topics: &["ct"], key: None };
+//! let signature = sign(&draft.sign_fields()?);
+//! let body = Rpc::new().subscribe("ct").graft("ct").publish(&draft, &signature).write()?;
+//! # assert_eq!(neighbour.admit(&body, 0, true, 1)?, Admitted::New);
+//! # Ok::<(), pradulins::Refusal>(())
+//! ```
+//!
+//! [`write_rpc`] and [`sign_fields`] do the same on [`Record`]s, as [`decode`] gives them.
+//!
 //! Where somebody asks why a notice is not offered, [`Gateway::explain`] says it by the notice's id: that it is not in the cache, that it is there without
 //! the topic, or how old its window is ([`Offer`]). What a gateway that was saved would say, `tools/why` of the repository tells.
 //!
 //! # What the host does
 //!
 //! - Framing: how bodies are parted on the wire. The example in host/examples/catch_up has one way.
+//! - The making of signatures: over [`Draft::sign_fields`], before a message is published.
 //! - The check of signatures: over [`sign_bytes`] of a message, with its key or that of its sender. What came of it is passed to [`Gateway::admit`],
 //!   which takes it at its word; see "Senders".
 //! - Readings of a clock, by [`Clock`], which does not step when the wall clock does.
@@ -132,13 +153,14 @@
 //!
 //! The archive libpradulins.a is for x86-64 Linux. It is looked for where `rt staticlib pradulins` writes it in the repository that this crate stands
 //! in, or in the folder that the environment variable `PRADULINS_LIB_DIR` names (by its whole path: another counts from this crate's folder). Where
-//! there is none, or only one from before version 0.3.1, or for another machine, the crate can be checked and those of its tests run that call nothing of it;
+//! there is none, or only one from before version 0.6.0, or for another machine, the crate can be checked and those of its tests run that call nothing of it;
 //! `tools/host` of the repository runs all tests and the example on Arm, too. An archive of another [`FORMAT`], or of a version with other values or other
-//! refusals (before 0.5.0), is found when a gateway is started or loaded, and when a call is refused, which then panics. A crate from before 0.4.0 does not find
+//! refusals, is found when a gateway is started or loaded, and when a call is refused, which then panics. A crate from before 0.4.0 does not find
 //! it: do not link it with an archive of this version.
 
 mod body;
 mod clock;
+mod compose;
 mod gateway;
 mod place;
 mod refusal;
@@ -147,6 +169,7 @@ mod sys;
 
 pub use body::{decode, message_id, messages, reencode, sign_bytes, walk, walk_from, Decoded, Field, Message, Record, Walk};
 pub use clock::Clock;
+pub use compose::{sign_fields, sign_fields_into, write_rpc, write_rpc_into, Draft, Rpc};
 pub use gateway::{Admitted, Gateway, Offer, Reply, Served, Settings};
 pub use place::Place;
 pub use refusal::Refusal;
@@ -179,7 +202,7 @@ pub const MAX_BODY: usize = 65536;
 pub const MAX_RECORDS: usize = 512;
 
 /// The archives that this crate can be linked with, by their version without its last number: in others a call hands out other values or other refusals.
-const ARCHIVES: u32 = 5;
+const ARCHIVES: u32 = 6;
 
 /// Holds the archive that the program is linked with to this crate: another format, or a version with other answers, is a fault of the build.
 fn fits(format: u32, version: u32) {
@@ -236,21 +259,21 @@ mod tests {
     #[test]
     #[should_panic(expected = "is for format 3, and this crate for format 2: link the archive of the crate's own version")]
     fn an_archive_of_another_format() {
-        fits(FORMAT, 500);
-        fits(FORMAT, 599);
-        fits(FORMAT + 1, 500);
-    }
-
-    #[test]
-    #[should_panic(expected = "is of version 0.4.0, and this crate of 0.5.")]
-    fn an_archive_of_an_earlier_version() {
-        fits(FORMAT, 400);
-    }
-
-    #[test]
-    #[should_panic(expected = "is of version 0.6.0, and this crate of 0.5.")]
-    fn an_archive_of_a_later_version() {
         fits(FORMAT, 600);
+        fits(FORMAT, 699);
+        fits(FORMAT + 1, 600);
+    }
+
+    #[test]
+    #[should_panic(expected = "is of version 0.5.0, and this crate of 0.6.")]
+    fn an_archive_of_an_earlier_version() {
+        fits(FORMAT, 500);
+    }
+
+    #[test]
+    #[should_panic(expected = "is of version 0.7.0, and this crate of 0.6.")]
+    fn an_archive_of_a_later_version() {
+        fits(FORMAT, 700);
     }
 
     #[cfg(not(no_archive))]

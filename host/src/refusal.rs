@@ -80,6 +80,11 @@ pub enum Refusal {
         /// How many bytes are needed.
         needed: u64,
     },
+    /// 13: an RPC to be written would have above 65,536 bytes.
+    RpcTooLong {
+        /// How many it would have.
+        length: u64,
+    },
     /// 20: the body has no message at that index.
     NoMessage {
         /// How many messages it has.
@@ -135,13 +140,14 @@ pub enum Refusal {
     BadSetting,
     /// 41: a store whose length the settings do not say.
     BadStore,
-    /// 42: node and stores are not well formed.
+    /// 42: node and stores are not well formed; or of an RPC to be written, its records are not: a topic that no message stands before, a peer that no prune
+    /// does, or an offer or a request.
     Malformed,
 }
 
 impl Refusal {
     /// All numbers of refusals that a call of this crate can meet.
-    pub const NUMBERS: [u32; 28] = [1, 2, 3, 4, 5, 6, 7, 10, 11, 12, 20, 21, 22, 23, 24, 25, 26, 27, 28, 29, 30, 31, 34, 35, 36, 40, 41, 42];
+    pub const NUMBERS: [u32; 29] = [1, 2, 3, 4, 5, 6, 7, 10, 11, 12, 13, 20, 21, 22, 23, 24, 25, 26, 27, 28, 29, 30, 31, 34, 35, 36, 40, 41, 42];
 
     /// The refusal that a call answered. A number that no contract allows is a fault of the archive.
     pub(crate) fn from_call(number: u32, values: &[u64; VALUES]) -> Refusal {
@@ -158,6 +164,7 @@ impl Refusal {
             10 => Refusal::BodyTooLarge { length: a },
             11 => Refusal::TooManyRecords { records: a },
             12 => Refusal::Room { needed: a },
+            13 => Refusal::RpcTooLong { length: a },
             20 => Refusal::NoMessage { messages: a },
             21 => Refusal::MissingFrom,
             22 => Refusal::InvalidFrom { length: a },
@@ -193,6 +200,7 @@ impl Refusal {
             Refusal::BodyTooLarge { .. } => 10,
             Refusal::TooManyRecords { .. } => 11,
             Refusal::Room { .. } => 12,
+            Refusal::RpcTooLong { .. } => 13,
             Refusal::NoMessage { .. } => 20,
             Refusal::MissingFrom => 21,
             Refusal::InvalidFrom { .. } => 22,
@@ -238,6 +246,7 @@ impl Refusal {
             Refusal::BodyTooLarge { length } => vec![length],
             Refusal::TooManyRecords { records } => vec![records],
             Refusal::Room { needed } => vec![needed],
+            Refusal::RpcTooLong { length } => vec![length],
             Refusal::NoMessage { messages } => vec![messages],
             Refusal::InvalidFrom { length } => vec![length],
             Refusal::SignatureLength { length } => vec![length],
@@ -279,6 +288,7 @@ impl fmt::Display for Refusal {
             Refusal::BodyTooLarge { length } => write!(f, "a body of {length} bytes, above 65,536"),
             Refusal::TooManyRecords { records } => write!(f, "a body of {records} records, above 512"),
             Refusal::Room { needed } => write!(f, "the buffer is too short: {needed} are needed"),
+            Refusal::RpcTooLong { length } => write!(f, "an RPC of {length} bytes, above 65,536"),
             Refusal::NoMessage { messages } => write!(f, "no message at that index: there are {messages}"),
             Refusal::MissingFrom => write!(f, "the message has no from"),
             Refusal::InvalidFrom { length } => write!(f, "from has {length} bytes, not 1 to 64"),
@@ -296,7 +306,7 @@ impl fmt::Display for Refusal {
             Refusal::KeyPeerIdMismatch => write!(f, "the key is not the sender's, or there is none"),
             Refusal::BadSetting => write!(f, "a setting is out of range, or the seen store is too short"),
             Refusal::BadStore => write!(f, "a store has not the length that the settings say"),
-            Refusal::Malformed => write!(f, "node and stores are not well formed"),
+            Refusal::Malformed => write!(f, "node and stores, or the rows of an RPC, are not well formed"),
         }
     }
 }

@@ -414,7 +414,7 @@ mod tests {
             (LoadError::Length { said: 9, found: 8 }, "the saved state has 8 bytes after its header, which says 9"),
             (LoadError::Length { said: 400_000, found: 400_000 }, "the saved state has 400000 bytes after its header, and the largest has 307600"),
             (LoadError::Checksum, "the saved state was damaged: its checksum is another"),
-            (LoadError::Refused(Refusal::Malformed), "the saved state is refused 42: node and stores are not well formed"),
+            (LoadError::Refused(Refusal::Malformed), "the saved state is refused 42: node and stores, or the rows of an RPC, are not well formed"),
         ] {
             assert_eq!(why.to_string(), words);
             assert_eq!(why.source().is_some(), matches!(why, LoadError::Read(_) | LoadError::Refused(_)));

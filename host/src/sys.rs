@@ -96,6 +96,25 @@ mod calls {
         pub fn pradulins_message_id(body: *const u8, body_len: usize, index: usize, out: *mut u8, out_len: usize, values: *mut u64) -> u32;
         pub fn pradulins_decode(body: *const u8, body_len: usize, table: *mut u64, table_len: usize, values: *mut u64) -> u32;
         pub fn pradulins_walk(body: *const u8, body_len: usize, at: usize, values: *mut u64) -> u32;
+        pub fn pradulins_write_rpc(
+            records: *const u64,
+            records_len: usize,
+            bytes: *const u8,
+            bytes_len: usize,
+            out: *mut u8,
+            out_len: usize,
+            values: *mut u64,
+        ) -> u32;
+        pub fn pradulins_sign_fields(
+            records: *const u64,
+            records_len: usize,
+            bytes: *const u8,
+            bytes_len: usize,
+            index: usize,
+            out: *mut u8,
+            out_len: usize,
+            values: *mut u64,
+        ) -> u32;
         pub fn pradulins_version() -> u32;
         pub fn pradulins_format() -> u32;
     }
@@ -124,6 +143,8 @@ mod calls {
         pradulins_message_id(*const u8, usize, usize, *mut u8, usize, *mut u64);
         pradulins_decode(*const u8, usize, *mut u64, usize, *mut u64);
         pradulins_walk(*const u8, usize, usize, *mut u64);
+        pradulins_write_rpc(*const u64, usize, *const u8, usize, *mut u8, usize, *mut u64);
+        pradulins_sign_fields(*const u64, usize, *const u8, usize, usize, *mut u8, usize, *mut u64);
         pradulins_version();
         pradulins_format();
     }
@@ -263,6 +284,27 @@ pub(crate) fn decode(body: &[u8], table: &mut [u64], values: &mut Values) -> u32
 
 pub(crate) fn walk(body: &[u8], at: usize, values: &mut Values) -> u32 {
     unsafe { calls::pradulins_walk(body.as_ptr(), body.len(), at, values.as_mut_ptr()) }
+}
+
+pub(crate) fn write_rpc(records: &[u64], bytes: &[u8], out: &mut [u8], values: &mut Values) -> u32 {
+    unsafe {
+        calls::pradulins_write_rpc(records.as_ptr(), records.len(), bytes.as_ptr(), bytes.len(), out.as_mut_ptr(), out.len(), values.as_mut_ptr())
+    }
+}
+
+pub(crate) fn sign_fields(records: &[u64], bytes: &[u8], index: usize, out: &mut [u8], values: &mut Values) -> u32 {
+    unsafe {
+        calls::pradulins_sign_fields(
+            records.as_ptr(),
+            records.len(),
+            bytes.as_ptr(),
+            bytes.len(),
+            index,
+            out.as_mut_ptr(),
+            out.len(),
+            values.as_mut_ptr(),
+        )
+    }
 }
 
 pub(crate) fn version() -> u32 {

@@ -1,8 +1,8 @@
 //! The crate's calls with the archive: answers and refusals by their types, states saved, loaded and damaged.
 #![cfg(not(no_archive))]
 
-use pradulins::{decode, message_id, messages, reencode, sign_bytes, walk, walk_from};
-use pradulins::{Admitted, Clock, Gateway, LoadError, Message, Offer, Place, Record, Refusal, Served, Settings, NODE_SIZE};
+use pradulins::{decode, message_id, messages, reencode, sign_bytes, sign_fields, sign_fields_into, walk, walk_from, write_rpc, write_rpc_into};
+use pradulins::{Admitted, Clock, Draft, Gateway, LoadError, Message, Offer, Place, Record, Refusal, Rpc, Served, Settings, NODE_SIZE};
 
 const SETTINGS: Settings = Settings { ttl: 1000, max_seen: 4, history_len: 2, max_messages: 4 };
 
@@ -355,6 +355,13 @@ fn senders() {
         }
         // What is admitted can be kept and loaded.
         assert!(Gateway::load(&gateway.save()).is_ok_and(|loaded| loaded == gateway));
+        // And it can be written; what is not admitted cannot, and is refused by the same number. A message that is not signed is one with a signature of 0 bytes.
+        let refused = match refused {
+            Some((24 | 25, _)) => Some((26, &[0][..])),
+            refused => refused,
+        };
+        let written = write_rpc(&decode(&body).unwrap().records).map_err(|refusal| (refusal.number(), refusal.values()));
+        assert_eq!(written, refused.map_or(Ok(body), |(number, values)| Err((number, values.to_vec()))), "row {n}");
     }
 }
 
@@ -406,6 +413,117 @@ fn messages_with_their_topics() {
     }
     assert_eq!(messages(&[]), Ok(vec![]));
     assert_eq!(messages(&[0x80]), Err(Refusal::VarintShort { place: Place::new(0, &[]) }));
+}
+
+/// A subscription, a message that is absent in every field, and a graft.
+const SUB: Record = Record::SubOpts { subscribe: None, topic_id: None };
+const EMPTY: Record = Record::Message { raw: b"", from: None, data: None, seqno: None, signature: None, key: None };
+
+fn graft(topic: &str) -> Record<'_> {
+    Record::Graft { topic_id: Some(topic) }
+}
+
+/// The scope's rows of what a host says by itself, as far as records can say them.
+#[test]
+fn speaking_first() {
+    let subscribe = Record::SubOpts { subscribe: Some(true), topic_id: Some("t") };
+    let prune = Record::Prune { topic_id: Some("u"), backoff: Some(60) };
+    let peer = Record::PeerInfo { peer_id: Some(&[1, 2]), signed_peer_record: None };
+    let rows: [(&[Record], &[u8]); 6] = [
+        (&[], &[]),
+        (&[subscribe], &[0x0a, 5, 8, 1, 0x12, 1, b't']),
+        (&[Record::SubOpts { subscribe: Some(false), topic_id: None }], &[0x0a, 2, 8, 0]),
+        (&[SUB, Record::SubOpts { subscribe: None, topic_id: Some("") }], &[0x0a, 0, 0x0a, 2, 0x12, 0]),
+        (&[prune, peer, graft("t")], &[0x1a, 0x12, 0x1a, 3, 0x0a, 1, b't', 0x22, 0x0b, 0x0a, 1, b'u', 0x12, 4, 0x0a, 2, 1, 2, 0x18, 0x3c]),
+        (&[graft("t"), subscribe, graft("u")], &[0x0a, 5, 8, 1, 0x12, 1, b't', 0x1a, 10, 0x1a, 3, 0x0a, 1, b't', 0x1a, 3, 0x0a, 1, b'u']),
+    ];
+    for (records, body) in rows {
+        assert_eq!(write_rpc(records).as_deref(), Ok(body));
+        let mut out = [7; 40];
+        assert_eq!(write_rpc_into(records, &mut out), Ok(body.len()));
+        assert_eq!((&out[..body.len()], &out[body.len()..]), (body, &[7; 40][body.len()..]));
+        if !body.is_empty() {
+            let mut out = [7; 40];
+            assert_eq!(write_rpc_into(records, &mut out[..body.len() - 1]), Err(Refusal::Room { needed: body.len() as u64 }));
+            assert_eq!(out, [7; 40]);
+        }
+    }
+    // How much: records, a body.
+    assert_eq!(write_rpc(&vec![Record::Graft { topic_id: None }; 512]).map(|body| body.len()), Ok(1027));
+    assert_eq!(write_rpc(&vec![Record::Graft { topic_id: None }; 513]), Err(Refusal::TooManyRecords { records: 513 }));
+    assert_eq!(write_rpc(&vec![EMPTY; 513]), Err(Refusal::TooManyRecords { records: 513 }));
+    let long = "t".repeat(65_525);
+    assert_eq!(write_rpc(&[graft(&long[1..])]).map(|body| body.len()), Ok(65_536));
+    assert_eq!(write_rpc(&[graft(&long)]), Err(Refusal::RpcTooLong { length: 65_537 }));
+    assert_eq!(write_rpc_into(&[graft(&long)], &mut []), Err(Refusal::RpcTooLong { length: 65_537 }));
+    assert_eq!(write_rpc(&vec![graft(&long[..1000]); 66]), Err(Refusal::RpcTooLong { length: 66_400 }));
+    // What stands before all that it could belong to; offers and requests.
+    let ihave = Record::IHave { topic_id: Some("t") };
+    for records in [&[Record::Topic("t"), EMPTY][..], &[peer, prune], &[EMPTY, peer], &[prune, Record::Topic("t")], &[ihave], &[Record::IWant]] {
+        assert_eq!(write_rpc(records), Err(Refusal::Malformed));
+        assert_eq!(sign_fields(records, 0), Err(Refusal::Malformed));
+    }
+    assert_eq!(write_rpc(&[Record::IWant, Record::MessageId(b"A\x01")]), Err(Refusal::Malformed));
+    // A refusal of the whole before one of a message, and the first message's before the second's.
+    assert_eq!(write_rpc(&[EMPTY, graft(&long), graft(&long)]), Err(Refusal::MissingFrom));
+}
+
+/// A message is signed over what a neighbour then verifies, whatever signature and key it has; and the neighbour admits it.
+#[test]
+fn published_messages() {
+    let (sender, key) = (peer_id(KEY), [&[8, 1, 0x12, 0x20], &KEY[..]].concat());
+    let draft = Draft { from: &sender, seqno: &[1], data: None, topics: &["t"], key: None };
+    let prefix = b"libp2p-pubsub:\x0a\x26";
+    let signed = [&prefix[..], &sender, &[0x1a, 1, 1, 0x22, 1, b't']].concat();
+    assert_eq!((draft.sign_fields(), signed.len()), (Ok(signed.clone()), 60));
+    let rpc = Rpc::new().publish(&draft, &[0; 64]);
+    assert_eq!(rpc.write(), Ok(notice(&sender).body()));
+    let unsigned = [EMPTY, Rpc::new().publish(&draft, &[]).records()[0], Record::Topic("t")];
+    assert_eq!(sign_fields(&unsigned, 1), Ok(signed.clone()));
+    assert_eq!(sign_fields(&unsigned, 0).as_deref(), Ok(&prefix[..14]));
+    assert_eq!(sign_fields(&unsigned, 2), Err(Refusal::NoMessage { messages: 2 }));
+    assert_eq!(sign_fields(&[], 0), Err(Refusal::NoMessage { messages: 0 }));
+    let mut out = [7; 64];
+    assert_eq!(sign_fields_into(&unsigned, 1, &mut out[..59]), Err(Refusal::Room { needed: 60 }));
+    assert_eq!(out, [7; 64]);
+    assert_eq!(sign_fields_into(&unsigned, 1, &mut out), Ok(60));
+    assert_eq!((&out[..60], &out[60..]), (&signed[..], &[7; 4][..]));
+
+    // Two messages, one with a key, among other entries. Each is signed as the neighbour reads it.
+    let other = Draft { seqno: &[2; 64], data: Some(b"study 17"), topics: &["t", "", "t"], key: Some(&key), ..draft };
+    let rpc = Rpc::new().graft("t").publish(&other, &[9; 64]).subscribe("t").publish(&draft, &[8; 64]).prune("u", None, &[&sender]);
+    let body = rpc.write().unwrap();
+    let mut neighbour = Gateway::start(SETTINGS).unwrap();
+    for (index, draft, signature) in [(0, other, [9; 64]), (1, draft, [8; 64])] {
+        assert_eq!(sign_bytes(&body, index), draft.sign_fields());
+        assert_eq!(sign_fields(rpc.records(), index), draft.sign_fields());
+        let message = &messages(&body).unwrap()[index];
+        assert_eq!((message.from, message.seqno, message.data), (Some(draft.from), Some(draft.seqno), draft.data));
+        assert_eq!((&message.topics[..], message.signature, message.key), (draft.topics, Some(&signature[..]), draft.key));
+        assert_eq!(neighbour.admit(&body, index, true, 5), Ok(Admitted::New));
+    }
+    // What was read can be said again: it comes out as it was read, for it is in order.
+    assert_eq!(write_rpc(&decode(&body).unwrap().records), Ok(body));
+
+    // What admission would refuse.
+    let refused = |draft: &Draft, signature: &[u8]| Rpc::new().publish(draft, signature).write().unwrap_err();
+    assert_eq!(refused(&Draft { from: b"", ..draft }, &[0; 64]), Refusal::InvalidFrom { length: 0 });
+    assert_eq!(refused(&Draft { from: b"gate", ..draft }, &[0; 64]), Refusal::NotPeerId);
+    assert_eq!(refused(&Draft { seqno: b"", ..draft }, &[0; 64]), Refusal::InvalidSeqno);
+    assert_eq!(refused(&draft, &[]), Refusal::SignatureLength { length: 0 });
+    assert_eq!(refused(&draft, &[0; 63]), Refusal::SignatureLength { length: 63 });
+    assert_eq!(refused(&Draft { key: Some(&KEY), ..draft }, &[0; 64]), Refusal::InvalidKey);
+    assert_eq!(refused(&Draft { key: Some(&[8, 1, 0x12, 0]), ..draft }, &[0; 64]), Refusal::KeyPeerIdMismatch);
+    assert_eq!(refused(&Draft { topics: &[], ..draft }, &[0; 64]), Refusal::TopicCount { topics: 0 });
+    assert_eq!(refused(&Draft { topics: &["t"; 5], ..draft }, &[0; 64]), Refusal::TopicCount { topics: 5 });
+    assert_eq!(refused(&Draft { topics: &["t", &"t".repeat(1025)], ..draft }, &[0; 64]), Refusal::TopicTooLong { length: 1025 });
+    let large = Draft { data: Some(&[0; 4000]), ..draft };
+    let two = Rpc::new().publish(&large, &[0; 64]).push(EMPTY);
+    assert_eq!(two.write(), Err(Refusal::MessageTooLong { length: 4115 }));
+    // Whether it can be written is not asked where the bytes to sign are.
+    assert_eq!(large.sign_fields().map(|bytes| bytes.len()), Ok(60 + 4003));
+    assert_eq!(Draft { topics: &["t"; 512], ..draft }.sign_fields(), Err(Refusal::TooManyRecords { records: 513 }));
+    assert_eq!(Draft { topics: &["t"; 511], ..draft }.sign_fields().map(|bytes| bytes.len()), Ok(57 + 3 * 511));
 }
 
 #[test]

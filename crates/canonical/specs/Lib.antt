@@ -1,4 +1,4 @@
--- To be believed: Calls (`Writes`, `Given`, `OfMessage`, `WritesId`; `Encodes`, `Signs`, `Identifies`), Rows (`PRows`,
+-- To be believed: Means (`opt`, `Small`, cited by composed), Calls (`Writes`, `Given`, `OfMessage`, `WritesId`; `Encodes`, `Signs`, `Identifies`), Rows (`PRows`,
 -- and the records in which it is said).
 -- Theorems: Means, Canonical, Calls, Rows.
 pub mod Means

@@ -13,7 +13,7 @@ use Rattle.utf8.specs.Grammar.{Utf8}
 use Rattle.protobuf.specs.Grammar.{Payload, number, eight, bytes, four, Entry, Value, varint, i64, len-prefix, i32}
 use Rattle.protobuf.specs.Grammar.{Body, none as no-fields, field}
 use Rattle.protobuf.specs.Encode.{tag, varintField, bytesField}
-use Rattle.protobuf.specs.EncodeLaws.{bytes-field-length}
+use Rattle.protobuf.specs.EncodeLaws.{bytes-field-length, field-holds}
 use Rattle.meaning.specs.Back.{mkPrune, same-prune}
 use Rattle.rpc.specs.Rpc.{SubOpts, RawMessage, ControlIHave, ControlIWant, ControlGraft, PeerInfo, ControlPrune}
 use Rattle.rpc.specs.Rpc.{ControlMessage, Rpc}
@@ -46,7 +46,7 @@ one-body {type} {v} {p} n l m w =
 abbrev pub Sized : List ℕ → Type 0
 Sized d = length d < 2 ^ 64
 
-abbrev Small : ℕ → Type 0
+abbrev pub Small : ℕ → Type 0
 Small v = v < 2 ^ 64
 
 abbrev pub bytesEntries : ℕ → List (List ℕ) → List Entry
@@ -120,15 +120,15 @@ no-numbers n m [] = refl
 no-numbers n m (d ∷ ds) = no-numbers n m ds
 
 -- ---- an optional field is a list of at most one
-abbrev opt : {A : Type 0} → Option A → List A
+abbrev pub opt : {A : Type 0} → Option A → List A
 opt none = []
 opt (some x) = x ∷ []
 
-optional-opt : {A : Type 0} (f : A → List ℕ) (o : Option A) → repeated f (opt o) ≡ optional f o
+pub optional-opt : {A : Type 0} (f : A → List ℕ) (o : Option A) → repeated f (opt o) ≡ optional f o
 optional-opt f none = refl
 optional-opt f (some x) = append-nil (f x)
 
-last-opt : {A : Type 0} (o : Option A) → last (opt o) ≡ o
+pub last-opt : {A : Type 0} (o : Option A) → last (opt o) ≡ o
 last-opt none = refl
 last-opt (some x) = refl
 
@@ -136,9 +136,21 @@ each-opt-step : {A : Type 0} {P : A → Type 0} (o : Option A) (x : A) → P x �
 each-opt-step none x p ps = p and none-left
 each-opt-step (some y) x p ps = ps
 
-each-last : {A : Type 0} {P : A → Type 0} {xs : List A} → Each P xs → Each P (opt (last xs))
+pub each-last : {A : Type 0} {P : A → Type 0} {xs : List A} → Each P xs → Each P (opt (last xs))
 each-last none-left = none-left
 each-last (_and_ {x = x} {xs = xs} p ps) = each-opt-step (last xs) x p (each-last ps)
+
+-- ---- what stands in fields fits a length where they do
+pub fields-sized : (n : ℕ) (ds : List (List ℕ)) → length (repeated (bytesField n) ds) < 2 ^ 64 → Each Sized ds
+fields-sized n [] h = none-left
+fields-sized n (d ∷ ds) h =
+    let l = length-append (bytesField n d) (repeated (bytesField n) ds) in
+    let f = field-holds n d in
+    let k : Sized d = omega arith in
+    k and fields-sized n ds (omega arith)
+
+pub field-sized : (n : ℕ) (o : Option (List ℕ)) → length (optional (bytesField n) o) < 2 ^ 64 → Each Sized (opt o)
+field-sized n o h = fields-sized n (opt o) (omega (arith, ap length (optional-opt (bytesField n) o)))
 
 -- ---- what stands in a body fits a length
 value-sized : {type : ℕ} {v : List ℕ} {p : Payload} (t : Bool) (ds : List (List ℕ)) → Value type v p → Each Sized ds
@@ -161,12 +173,12 @@ value-small t vs (i64 g) h = h
 value-small t vs (len-prefix b) h = h
 value-small t vs (i32 g) h = h
 
-numbers-small : {s : List ℕ} {es : List Entry} (m : ℕ) → Body s es → Each Small (numbersIn m es)
+pub numbers-small : {s : List ℕ} {es : List Entry} (m : ℕ) → Body s es → Each Small (numbersIn m es)
 numbers-small m no-fields = none-left
 numbers-small m (field {n = n} {es = es} l k w r) = value-small (eqb n m) (numbersIn m es) w (numbers-small m r)
 
 -- ---- submessages, each as its canonical bytes
-abbrev encodings : {X : Type 0} → (X → List ℕ) → List X → List (List ℕ)
+abbrev pub encodings : {X : Type 0} → (X → List ℕ) → List X → List (List ℕ)
 encodings enc [] = []
 encodings enc (x ∷ xs) = enc x ∷ encodings enc xs
 
@@ -189,7 +201,7 @@ subs-sized enc f (_paired_ {x = d} {y = x} p ps) (q and qs) = let l = f d x p in
 
 -- ---- each message
 -- bytes that are equal to a body's mean what it means
-means-as : {X : Type 0} (R : List ℕ → X → Type 0) {b c : List ℕ} {x y : X} → b ≡ c → x ≡ y → R b x → R c y
+pub means-as : {X : Type 0} (R : List ℕ → X → Type 0) {b c : List ℕ} {x y : X} → b ≡ c → x ≡ y → R b x → R c y
 means-as R {c = c} {x = x} e f r = subst (R c) f (subst (λ (l : List ℕ). R l x) e r)
 
 -- a field found in two groups of fields
@@ -219,15 +231,16 @@ flags-written : (o : Option Bool) → repeated (varintField 1) (opt (flags o)) �
 flags-written none = refl
 flags-written (some b) = append-nil (varintField 1 (flag b))
 
-pub sub-opts-canonical : (s : List ℕ) (x : SubOpts) → IsSubOpts s x → IsSubOpts (encodeSubOpts x) x
+-- the encoding of a value means it where its texts are UTF-8, its bytes fit a length and its numbers are below 2^64; so it does where a body means the value
+pub sub-opts-means : (x : SubOpts) → Each Sized (opt (x .«topic_id»)) → Each Utf8 (opt (x .«topic_id»)) → IsSubOpts (encodeSubOpts x) x
 unfolding encodeSubOpts
-sub-opts-canonical _ _ (is-sub-opts {s = s} {es = es} g u) =
-    let r = nonzero (last (numbersIn 1 es)) in
-    let t = last (bytesIn 2 es) in
+sub-opts-means x z u =
+    let r = x .subscribe in
+    let t = x .«topic_id» in
     let a = numberEntries 1 (opt (flags r)) in
     let b = bytesEntries 2 (opt t) in
     let w = body-append (number-body 1 (omega arith) (omega arith) (opt (flags r)) (flags-small r))
-    (bytes-body 2 (omega arith) (omega arith) (opt t) (each-last (bytes-sized 2 g))) in
+    (bytes-body 2 (omega arith) (omega arith) (opt t) z) in
     let n : numbersIn 1 (a ++ b) ≡ opt (flags r) ++ [] =
     counted 1 a b (opt (flags r)) [] (numbers-here 1 (opt (flags r))) (no-numbers 2 1 (opt t)) in
     let d : bytesIn 2 (a ++ b) ≡ [] ++ opt t =
@@ -238,7 +251,10 @@ sub-opts-canonical _ _ (is-sub-opts {s = s} {es = es} g u) =
     let v2 : last (bytesIn 2 (a ++ b)) ≡ t = ap last d ∙ last-opt t in
     means-as IsSubOpts (ap₂ (λ (y z : List ℕ). y ++ z) (flags-written r) (optional-opt (bytesField 2) t))
     (ap₂ (λ (y : Option Bool) (z : Option (List ℕ)). record { subscribe = y; «topic_id» = z }) v1 v2)
-    (is-sub-opts w (subst (Each Utf8) (sym d) (each-last u)))
+    (is-sub-opts w (subst (Each Utf8) (sym d) u))
+
+pub sub-opts-canonical : (s : List ℕ) (x : SubOpts) → IsSubOpts s x → IsSubOpts (encodeSubOpts x) x
+sub-opts-canonical _ x (is-sub-opts g u) = sub-opts-means x (each-last (bytes-sized 2 g)) (each-last u)
 
 pub iwant-canonical : (s : List ℕ) (x : ControlIWant) → IsIWant s x → IsIWant (encodeIWant x) x
 unfolding encodeIWant
@@ -247,14 +263,16 @@ iwant-canonical _ _ (is-iwant {s = s} {es = es} g) =
     means-as IsIWant refl (ap (λ (y : List (List ℕ)). record { «message_ids» = y }) (bytes-here 1 ds))
     (is-iwant (bytes-body 1 (omega arith) (omega arith) ds (bytes-sized 1 g)))
 
-pub graft-canonical : (s : List ℕ) (x : ControlGraft) → IsGraft s x → IsGraft (encodeGraft x) x
+pub graft-means : (x : ControlGraft) → Each Sized (opt (x .«topic_id»)) → Each Utf8 (opt (x .«topic_id»)) → IsGraft (encodeGraft x) x
 unfolding encodeGraft
-graft-canonical _ _ (is-graft {s = s} {es = es} g u) =
-    let t = last (bytesIn 1 es) in
+graft-means x z u =
+    let t = x .«topic_id» in
     means-as IsGraft (optional-opt (bytesField 1) t)
     (ap (λ (y : Option (List ℕ)). record { «topic_id» = y }) (ap last (bytes-here 1 (opt t)) ∙ last-opt t))
-    (is-graft (bytes-body 1 (omega arith) (omega arith) (opt t) (each-last (bytes-sized 1 g)))
-    (subst (Each Utf8) (sym (bytes-here 1 (opt t))) (each-last u)))
+    (is-graft (bytes-body 1 (omega arith) (omega arith) (opt t) z) (subst (Each Utf8) (sym (bytes-here 1 (opt t))) u))
+
+pub graft-canonical : (s : List ℕ) (x : ControlGraft) → IsGraft s x → IsGraft (encodeGraft x) x
+graft-canonical _ x (is-graft g u) = graft-means x (each-last (bytes-sized 1 g)) (each-last u)
 
 pub ihave-canonical : (s : List ℕ) (x : ControlIHave) → IsIHave s x → IsIHave (encodeIHave x) x
 unfolding encodeIHave
@@ -273,15 +291,16 @@ ihave-canonical _ _ (is-ihave {s = s} {es = es} g u) =
     (ap last d1 ∙ last-opt t) d2)
     (is-ihave w (subst (Each Utf8) (sym d1) (each-last u)))
 
-pub peer-info-canonical : (s : List ℕ) (x : PeerInfo) → IsPeerInfo s x → IsPeerInfo (encodePeerInfo x) x
+pub peer-info-means : (x : PeerInfo) → Each Sized (opt (x .«peer_id»)) → Each Sized (opt (x .«signed_peer_record»))
+    → IsPeerInfo (encodePeerInfo x) x
 unfolding encodePeerInfo
-peer-info-canonical _ _ (is-peer-info {s = s} {es = es} g) =
-    let t = last (bytesIn 1 es) in
-    let q = last (bytesIn 2 es) in
+peer-info-means x z y =
+    let t = x .«peer_id» in
+    let q = x .«signed_peer_record» in
     let a = bytesEntries 1 (opt t) in
     let b = bytesEntries 2 (opt q) in
-    let w = body-append (bytes-body 1 (omega arith) (omega arith) (opt t) (each-last (bytes-sized 1 g)))
-    (bytes-body 2 (omega arith) (omega arith) (opt q) (each-last (bytes-sized 2 g))) in
+    let w = body-append (bytes-body 1 (omega arith) (omega arith) (opt t) z)
+    (bytes-body 2 (omega arith) (omega arith) (opt q) y) in
     let d1 : bytesIn 1 (a ++ b) ≡ opt t = found 1 a b (opt t) [] (bytes-here 1 (opt t)) (bytes-there 2 1 refl (opt q))
     ∙ append-nil (opt t) in
     let d2 : bytesIn 2 (a ++ b) ≡ opt q =
@@ -290,19 +309,28 @@ peer-info-canonical _ _ (is-peer-info {s = s} {es = es} g) =
     (ap₂ (λ (y z : Option (List ℕ)). record { «peer_id» = y; «signed_peer_record» = z }) (ap last d1 ∙ last-opt t)
     (ap last d2 ∙ last-opt q)) (is-peer-info w)
 
-pub prune-canonical : (s : List ℕ) (x : ControlPrune) → IsPrune s x → IsPrune (encodePrune x) x
+pub peer-info-canonical : (s : List ℕ) (x : PeerInfo) → IsPeerInfo s x → IsPeerInfo (encodePeerInfo x) x
+peer-info-canonical _ x (is-peer-info g) = peer-info-means x (each-last (bytes-sized 1 g)) (each-last (bytes-sized 2 g))
+
+-- submessages whose encodings mean them and fit a length
+pub record Entries {X : Type 0} (R : List ℕ → X → Type 0) (enc : X → List ℕ) (xs : List X) : Type 0 where
+  pub mean : Pairs R (encodings enc xs) xs
+  pub sized : Each Sized (encodings enc xs)
+
+pub prune-means : (x : ControlPrune) → Each Sized (opt (x .«topic_id»)) → Each Utf8 (opt (x .«topic_id»))
+    → Entries IsPeerInfo encodePeerInfo (x .peers) → Each Small (opt (x .backoff)) → IsPrune (encodePrune x) x
 unfolding encodePrune mkPrune
-prune-canonical _ _ (is-prune {s = s} {es = es} {ps = ps} g u h) =
-    let t = last (bytesIn 1 es) in
-    let q = last (numbersIn 3 es) in
+prune-means x z u h m =
+    let t = x .«topic_id» in
+    let q = x .backoff in
+    let ps = x .peers in
     let ds = encodings encodePeerInfo ps in
     let a = bytesEntries 1 (opt t) in
     let b = bytesEntries 2 ds in
     let c = numberEntries 3 (opt q) in
-    let w = body-append (bytes-body 1 (omega arith) (omega arith) (opt t) (each-last (bytes-sized 1 g)))
-    (body-append (bytes-body 2 (omega arith) (omega arith) ds
-    (subs-sized encodePeerInfo peer-info-shorter h (bytes-sized 2 g)))
-    (number-body 3 (omega arith) (omega arith) (opt q) (each-last (numbers-small 3 g)))) in
+    let w = body-append (bytes-body 1 (omega arith) (omega arith) (opt t) z)
+    (body-append (bytes-body 2 (omega arith) (omega arith) ds (h .sized))
+    (number-body 3 (omega arith) (omega arith) (opt q) m)) in
     let d1 : bytesIn 1 (a ++ (b ++ c)) ≡ opt t =
     found 1 a (b ++ c) (opt t) [] (bytes-here 1 (opt t))
     (found 1 b c [] [] (bytes-there 2 1 refl ds) (no-bytes 3 1 (opt q))) ∙ append-nil (opt t) in
@@ -318,15 +346,19 @@ prune-canonical _ _ (is-prune {s = s} {es = es} {ps = ps} g u h) =
     ap₂ (λ (y z : List ℕ). y ++ z) (optional-opt (bytesField 1) t)
     (ap₂ (λ (y z : List ℕ). y ++ z) (repeated-encodings 2 encodePeerInfo ps) (optional-opt (varintField 3) q)) in
     means-as IsPrune e (same-prune {ps = ps} (ap last d1 ∙ last-opt t) refl (ap last d3 ∙ last-opt q))
-    (is-prune w (subst (Each Utf8) (sym d1) (each-last u))
-    (subst (λ (l : List (List ℕ)). Pairs IsPeerInfo l ps) (sym d2)
-    (subs-mean encodePeerInfo peer-info-canonical h)))
+    (is-prune w (subst (Each Utf8) (sym d1) u)
+    (subst (λ (l : List (List ℕ)). Pairs IsPeerInfo l ps) (sym d2) (h .mean)))
+
+pub prune-canonical : (s : List ℕ) (x : ControlPrune) → IsPrune s x → IsPrune (encodePrune x) x
+prune-canonical _ x (is-prune g u h) =
+    prune-means x (each-last (bytes-sized 1 g)) (each-last u)
+    (record {
+      mean = subs-mean encodePeerInfo peer-info-canonical h;
+      sized = subs-sized encodePeerInfo peer-info-shorter h (bytes-sized 2 g);
+    })
+    (each-last (numbers-small 3 g))
 
 -- ---- a control: its entries mean themselves, and so do those of two controls
-record Entries {X : Type 0} (R : List ℕ → X → Type 0) (enc : X → List ℕ) (xs : List X) : Type 0 where
-  mean : Pairs R (encodings enc xs) xs
-  sized : Each Sized (encodings enc xs)
-
 pairs-join : {X : Type 0} {R : List ℕ → X → Type 0} (enc : X → List ℕ) {xs ys : List X} → Pairs R (encodings enc xs) xs
     → Pairs R (encodings enc ys) ys → Pairs R (encodings enc (xs ++ ys)) (xs ++ ys)
 pairs-join enc {xs = []} p q = q
@@ -342,11 +374,11 @@ entries-join : {X : Type 0} {R : List ℕ → X → Type 0} {enc : X → List �
 entries-join {enc = enc} {xs = xs} {ys = ys} a b =
     record { mean = pairs-join enc (a .mean) (b .mean); sized = each-join enc xs ys (a .sized) (b .sized) }
 
-record Sound (c : ControlMessage) : Type 0 where
-  ihaves : Entries IsIHave encodeIHave (c .ihave)
-  iwants : Entries IsIWant encodeIWant (c .iwant)
-  grafts : Entries IsGraft encodeGraft (c .graft)
-  prunes : Entries IsPrune encodePrune (c .prune)
+pub record Sound (c : ControlMessage) : Type 0 where
+  pub ihaves : Entries IsIHave encodeIHave (c .ihave)
+  pub iwants : Entries IsIWant encodeIWant (c .iwant)
+  pub grafts : Entries IsGraft encodeGraft (c .graft)
+  pub prunes : Entries IsPrune encodePrune (c .prune)
 
 sound-of : (s : List ℕ) (x : ControlMessage) → IsControl s x → Sound x
 sound-of _ _ (is-control {s = s} {es = es} g h1 h2 h3 h4) =
@@ -446,11 +478,12 @@ control-sized (some c) h = let k : Sized (encodeControl c) = omega (arith, bytes
 last-part : (a b c : List ℕ) → length c ≤ length (a ++ (b ++ c))
 last-part a b c = omega (arith, length-append a (b ++ c), length-append b c)
 
-rpc-canonical : {s : List ℕ} {x : Rpc} → length s < 2 ^ 64 → length (encodeRpc x) ≤ length s → IsRpc s x
-    → IsRpc (encodeRpc x) x
+-- an RPC whose parts mean themselves
+pub rpc-sound : (x : Rpc) → Entries IsSubOpts encodeSubOpts (x .subscriptions) → Entries IsMessage (λ m. m .raw) (x .publish)
+    → Each Sound (opt (x .control)) → length (encodeRpc x) < 2 ^ 64 → IsRpc (encodeRpc x) x
 unfolding encodeRpc
-rpc-canonical k short (is-rpc {s = s} {es = es} {ss = ss} {ms = ms} {cs = cs} g h1 h2 h3) =
-    let o = joined cs in
+rpc-sound x h1 h2 h3 k =
+    let ss = x .subscriptions in let ms = x .publish in let o = x .control in
     let e1 = encodings encodeSubOpts ss in let e2 = encodings (λ m. m .raw) ms in
     let e3 = encodings encodeControl (opt o) in
     let a = bytesEntries 1 e1 in let b = bytesEntries 2 e2 in let c = bytesEntries 3 e3 in
@@ -458,10 +491,9 @@ rpc-canonical k short (is-rpc {s = s} {es = es} {ss = ss} {ms = ms} {cs = cs} g 
     let x3 = optional (λ c. bytesField 3 (encodeControl c)) o in
     let z = last-part x1 x2 x3 in
     let s3 = control-sized o (omega arith) in
-    let w = body-append
-    (bytes-body 1 (omega arith) (omega arith) e1 (subs-sized encodeSubOpts sub-opts-shorter h1 (bytes-sized 1 g)))
-    (body-append (bytes-body 2 (omega arith) (omega arith) e2
-    (subs-sized (λ m. m .raw) raw-same h2 (bytes-sized 2 g))) (bytes-body 3 (omega arith) (omega arith) e3 s3)) in
+    let w = body-append (bytes-body 1 (omega arith) (omega arith) e1 (h1 .sized))
+    (body-append (bytes-body 2 (omega arith) (omega arith) e2 (h2 .sized))
+    (bytes-body 3 (omega arith) (omega arith) e3 s3)) in
     let d1 : bytesIn 1 (a ++ (b ++ c)) ≡ e1 =
     found 1 a (b ++ c) e1 [] (bytes-here 1 e1)
     (found 1 b c [] [] (bytes-there 2 1 refl e2) (bytes-there 3 1 refl e3)) ∙ append-nil e1 in
@@ -476,10 +508,23 @@ rpc-canonical k short (is-rpc {s = s} {es = es} {ss = ss} {ms = ms} {cs = cs} g 
     (repeated-encodings 3 encodeControl (opt o) ∙ optional-opt (λ c. bytesField 3 (encodeControl c)) o)) in
     means-as IsRpc e (ap (λ (y : Option ControlMessage). record { subscriptions = ss; publish = ms; control = y })
     (joined-opt o))
-    (is-rpc w (subst (λ (l : List (List ℕ)). Pairs IsSubOpts l ss) (sym d1)
-    (subs-mean encodeSubOpts sub-opts-canonical h1)) (subst (λ (l : List (List ℕ)). Pairs IsMessage l ms) (sym d2)
-    (subs-mean (λ m. m .raw) message-canonical h2)) (subst (λ (l : List (List ℕ)). Pairs IsControl l (opt o))
-    (sym d3) (pairs-sound o (sound-joined h3))))
+    (is-rpc w (subst (λ (l : List (List ℕ)). Pairs IsSubOpts l ss) (sym d1) (h1 .mean))
+    (subst (λ (l : List (List ℕ)). Pairs IsMessage l ms) (sym d2) (h2 .mean))
+    (subst (λ (l : List (List ℕ)). Pairs IsControl l (opt o)) (sym d3) (pairs-sound o h3)))
+
+rpc-canonical : {s : List ℕ} {x : Rpc} → length s < 2 ^ 64 → length (encodeRpc x) ≤ length s → IsRpc s x
+    → IsRpc (encodeRpc x) x
+rpc-canonical k short (is-rpc {ss = ss} {ms = ms} {cs = cs} g h1 h2 h3) =
+    rpc-sound (record { subscriptions = ss; publish = ms; control = joined cs })
+    (record {
+      mean = subs-mean encodeSubOpts sub-opts-canonical h1;
+      sized = subs-sized encodeSubOpts sub-opts-shorter h1 (bytes-sized 1 g);
+    })
+    (record {
+      mean = subs-mean (λ m. m .raw) message-canonical h2;
+      sized = subs-sized (λ m. m .raw) raw-same h2 (bytes-sized 2 g);
+    })
+    (sound-joined h3) (omega arith)
 
 -- the canonical bytes of an RPC mean it
 pub canonical-means : {s : List ℕ} {x : Rpc} → length s < 2 ^ 64 → IsRpc s x → IsRpc (encodeRpc x) x

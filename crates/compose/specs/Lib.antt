@@ -1,6 +1,6 @@
 -- To be believed: Lent (which lists are lent well), Said (the RPC that they say), Weighed (which messages may be written), Compose (what the calls answer and
 -- leave), Told.
--- Cited by contracts of writers inside the crate: Puts. Theorems about all of it stand in composed; on the way to them: Laws.
+-- Cited by contracts of writers inside the crate: Puts. On the way to the theorems, which stand in composed: Laws.
 pub mod Lent
 pub mod Said
 pub mod Weighed

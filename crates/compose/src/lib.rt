@@ -21,7 +21,7 @@ ghost use Rattle.compose.specs.Lent.{rowsFrom, lentRows, insideAt, field
 ghost use Rattle.compose.specs.Said.{encodeFields, encodeMessage, subOptsOf, graftOf, peerOf, messageOf, pruneOf, topicsFrom, peersFrom, messagesIn, said};
 ghost use Rattle.compose.specs.Weighed.{capped, given, inTopics, andThen, fromFine, seqnoFine, signatureFine, keyFine, limitsFine, weighed, firstUnfit};
 ghost use Rattle.compose.specs.Compose.{moved, textOf, textFine, textsFine, lengthFine, listsOf, putAnswer, answering, leaving, writeAnswer, writeLeft, signAnswer, signLeft};
-ghost use Rattle.compose.specs.Puts.{Puts, flagged, Written, rowBytes, eachRow, hasRow, controlBytes, FindsRow};
+ghost use Rattle.compose.specs.Puts.{Puts, flagged, Written, IsMessageRow, topicPart, peerPart, slotAt, fieldPart, rowBytes, rowPart, eachRow, hasRow, controlBytes, FindsRow};
 use admission::MAX_MESSAGE_SIZE;
 use admission::MAX_TOPIC_SIZE;
 use admission::MAX_TOPICS;
@@ -488,6 +488,19 @@ fn emit_peer_field(bytes: &[u8], r: Record, out: &mut [u8], at: usize) -> usize
     emit_peer(bytes, r, out, i)
 }
 
+// The row, where it is a peer.
+fn emit_peer_at(records: &[u64], bytes: &[u8], i: usize, out: &mut [u8], at: usize) -> usize
+    requires { ⌜ Inside (now records) (now bytes) ⌝ }
+    requires { ⌜ i < length (now records) / 20 ⌝ }
+    ensures { λ r. ⌜ Puts (now (out .entry)) at (peerPart (now (bytes .entry)) (recordFrom (now (records .entry)) (i * 20))) (now (out .exit)) r ⌝ }
+{
+    if is_code(records, i, PEER_INFO) {
+        let r = row_at(records, i);
+        return emit_peer_field(bytes, r, out, at);
+    }
+    at
+}
+
 // The peers from a row on, up to the next prune.
 fn emit_peers(records: &[u64], bytes: &[u8], from: usize, out: &mut [u8], at: usize) -> usize
     requires { ⌜ Inside (now records) (now bytes) ⌝ }
@@ -500,10 +513,7 @@ fn emit_peers(records: &[u64], bytes: &[u8], from: usize, out: &mut [u8], at: us
         if is_code(records, i, CONTROL_PRUNE) {
             return end;
         }
-        if is_code(records, i, PEER_INFO) {
-            let r = row_at(records, i);
-            end = emit_peer_field(bytes, r, out, end);
-        }
+        end = emit_peer_at(records, bytes, i, out, end);
         i += 1;
     }
     end
@@ -525,6 +535,19 @@ fn emit_prune(records: &[u64], bytes: &[u8], i: usize, out: &mut [u8], at: usize
     emit_number(3, backoff, out, k)
 }
 
+// The row, where it is a topic.
+fn emit_topic_at(records: &[u64], bytes: &[u8], i: usize, out: &mut [u8], at: usize) -> usize
+    requires { ⌜ Inside (now records) (now bytes) ⌝ }
+    requires { ⌜ i < length (now records) / 20 ⌝ }
+    ensures { λ r. ⌜ Puts (now (out .entry)) at (topicPart (now (bytes .entry)) (recordFrom (now (records .entry)) (i * 20))) (now (out .exit)) r ⌝ }
+{
+    if is_code(records, i, TOPIC) {
+        let r = row_at(records, i);
+        return emit_part(4, bytes, r.start, r.end, out, at);
+    }
+    at
+}
+
 // The topics from a row on, up to the next message.
 fn emit_topics(records: &[u64], bytes: &[u8], from: usize, out: &mut [u8], at: usize) -> usize
     requires { ⌜ Inside (now records) (now bytes) ⌝ }
@@ -537,47 +560,82 @@ fn emit_topics(records: &[u64], bytes: &[u8], from: usize, out: &mut [u8], at: u
         if is_code(records, i, RAW_MESSAGE) {
             return end;
         }
-        if is_code(records, i, TOPIC) {
-            let r = row_at(records, i);
-            end = emit_part(4, bytes, r.start, r.end, out, end);
-        }
+        end = emit_topic_at(records, bytes, i, out, end);
         i += 1;
     }
     end
 }
 
-// What is signed of a message at a row, after the prefix.
-fn emit_fields(records: &[u64], bytes: &[u8], i: usize, out: &mut [u8], at: usize) -> usize
-    requires { ⌜ Inside (now records) (now bytes) ⌝ }
-    requires { ⌜ i < length (now records) / 20 ⌝ }
-    requires { ⌜ eqb (kindCode (recordFrom (now records) (i * 20) .kind)) 2 ≡ true ⌝ }
-    ensures { λ r. ⌜ Puts (now (out .entry)) at (encodeFields (messageOf (now (bytes .entry)) (recordFrom (now (records .entry)) (i * 20)) (rowsFrom (now (records .entry)) (i + 1)))) (now (out .exit)) r ⌝ }
+// The place of a message's singular field n.
+fn slot_at(n: u64, slots: Slots) -> Place
+    ensures { λ r. ⌜ r ≡ slotAt n slots ⌝ }
 {
-    let r = row_at(records, i);
-    let slots = r.slots;
     let from = slots.first;
     let data = slots.second;
     let seqno = slots.third;
-    let j = emit_place(1, bytes, r.start, from, out, at);
-    let k = emit_place(2, bytes, r.start, data, out, j);
-    let l = emit_place(3, bytes, r.start, seqno, out, k);
-    emit_topics(records, bytes, i + 1, out, l)
+    let signature = slots.fourth;
+    let key = slots.fifth;
+    if n == 1 {
+        return from;
+    }
+    if n == 2 {
+        return data;
+    }
+    if n == 3 {
+        return seqno;
+    }
+    if n == 5 {
+        return signature;
+    }
+    key
 }
 
-// A message at a row.
+// The field n of the message r at a row: its topics are those after it.
+fn emit_field(
+    records: &[u64],
+    bytes: &[u8],
+    i: usize,
+    r: Record,
+    n: u64,
+    out: &mut [u8],
+    at: usize,
+) -> usize
+    requires { ⌜ Inside (now records) (now bytes) ⌝ }
+    requires { ⌜ IsMessageRow (now records) i ⌝ }
+    requires { ⌜ (r ≡ recordFrom (now records) (i * 20)) × (n ≤ 6) ⌝ }
+    ensures { λ e. ⌜ Puts (now (out .entry)) at (fieldPart n (now (bytes .entry)) r (rowsFrom (now (records .entry)) (i + 1))) (now (out .exit)) e ⌝ }
+{
+    if n == 4 {
+        return emit_topics(records, bytes, i + 1, out, at);
+    }
+    let slots = r.slots;
+    let place = slot_at(n, slots);
+    emit_place(n, bytes, r.start, place, out, at)
+}
+
+// What is signed of a message at a row, after the prefix: from, data, seqno and its topics.
+fn emit_fields(records: &[u64], bytes: &[u8], i: usize, out: &mut [u8], at: usize) -> usize
+    requires { ⌜ Inside (now records) (now bytes) ⌝ }
+    requires { ⌜ IsMessageRow (now records) i ⌝ }
+    ensures { λ r. ⌜ Puts (now (out .entry)) at (encodeFields (messageOf (now (bytes .entry)) (recordFrom (now (records .entry)) (i * 20)) (rowsFrom (now (records .entry)) (i + 1)))) (now (out .exit)) r ⌝ }
+{
+    let r = row_at(records, i);
+    let j = emit_field(records, bytes, i, r, 1, out, at);
+    let k = emit_field(records, bytes, i, r, 2, out, j);
+    let l = emit_field(records, bytes, i, r, 3, out, k);
+    emit_field(records, bytes, i, r, 4, out, l)
+}
+
+// A message at a row: these, signature and key.
 fn emit_message(records: &[u64], bytes: &[u8], i: usize, out: &mut [u8], at: usize) -> usize
     requires { ⌜ Inside (now records) (now bytes) ⌝ }
-    requires { ⌜ i < length (now records) / 20 ⌝ }
-    requires { ⌜ eqb (kindCode (recordFrom (now records) (i * 20) .kind)) 2 ≡ true ⌝ }
+    requires { ⌜ IsMessageRow (now records) i ⌝ }
     ensures { λ r. ⌜ Puts (now (out .entry)) at (encodeMessage (messageOf (now (bytes .entry)) (recordFrom (now (records .entry)) (i * 20)) (rowsFrom (now (records .entry)) (i + 1)))) (now (out .exit)) r ⌝ }
 {
     let r = row_at(records, i);
-    let slots = r.slots;
-    let signature = slots.fourth;
-    let key = slots.fifth;
     let j = emit_fields(records, bytes, i, out, at);
-    let k = emit_place(5, bytes, r.start, signature, out, j);
-    emit_place(6, bytes, r.start, key, out, k)
+    let k = emit_field(records, bytes, i, r, 5, out, j);
+    emit_field(records, bytes, i, r, 6, out, k)
 }
 
 // A row of the kind with that code: a SubOpts, a message, a GRAFT or a PRUNE.
@@ -628,6 +686,27 @@ fn emit_row_field(
     emit_row(records, bytes, i, code, out, j)
 }
 
+// The row, where it is of the kind with that code.
+fn emit_row_at(
+    records: &[u64],
+    bytes: &[u8],
+    i: usize,
+    code: u64,
+    n: u64,
+    out: &mut [u8],
+    at: usize,
+) -> usize
+    requires { ⌜ Inside (now records) (now bytes) ⌝ }
+    requires { ⌜ i < length (now records) / 20 ⌝ }
+    requires { ⌜ Written code × (n ≤ 6) ⌝ }
+    ensures { λ r. ⌜ Puts (now (out .entry)) at (rowPart code n (now (bytes .entry)) (recordFrom (now (records .entry)) (i * 20)) (rowsFrom (now (records .entry)) (i + 1))) (now (out .exit)) r ⌝ }
+{
+    if is_code(records, i, code) {
+        return emit_row_field(records, bytes, i, code, n, out, at);
+    }
+    at
+}
+
 // Each row of the kind with that code, as a field n.
 fn emit_rows(records: &[u64], bytes: &[u8], code: u64, n: u64, out: &mut [u8], at: usize) -> usize
     requires { ⌜ Inside (now records) (now bytes) ⌝ }
@@ -638,9 +717,7 @@ fn emit_rows(records: &[u64], bytes: &[u8], code: u64, n: u64, out: &mut [u8], a
     let mut i = 0;
     let mut end = at;
     while i < rows {
-        if is_code(records, i, code) {
-            end = emit_row_field(records, bytes, i, code, n, out, end);
-        }
+        end = emit_row_at(records, bytes, i, code, n, out, end);
         i += 1;
     }
     end
@@ -736,8 +813,7 @@ fn topics_from(records: &[u64], bytes: &[u8], from: usize) -> Topics
 // 28, 29, 30.
 fn limits_fine(records: &[u64], bytes: &[u8], i: usize) -> Lists
     requires { ⌜ Inside (now records) (now bytes) ⌝ }
-    requires { ⌜ i < length (now records) / 20 ⌝ }
-    requires { ⌜ eqb (kindCode (recordFrom (now records) (i * 20) .kind)) 2 ≡ true ⌝ }
+    requires { ⌜ IsMessageRow (now records) i ⌝ }
     ensures { λ r. ⌜ r ≡ limitsFine (messageOf (now (bytes .entry)) (recordFrom (now (records .entry)) (i * 20)) (rowsFrom (now (records .entry)) (i + 1))) ⌝ }
 {
     let t = topics_from(records, bytes, i + 1);
@@ -861,8 +937,7 @@ fn first(a: Lists, b: Lists) -> Lists
 // Whether the message at a row may be written.
 fn weigh(records: &[u64], bytes: &[u8], i: usize) -> Lists
     requires { ⌜ Inside (now records) (now bytes) ⌝ }
-    requires { ⌜ i < length (now records) / 20 ⌝ }
-    requires { ⌜ eqb (kindCode (recordFrom (now records) (i * 20) .kind)) 2 ≡ true ⌝ }
+    requires { ⌜ IsMessageRow (now records) i ⌝ }
     ensures { λ r. ⌜ r ≡ weighed (messageOf (now (bytes .entry)) (recordFrom (now (records .entry)) (i * 20)) (rowsFrom (now (records .entry)) (i + 1))) ⌝ }
 {
     let r = row_at(records, i);
@@ -960,8 +1035,7 @@ fn message_row(records: &[u64], bytes: &[u8], index: usize) -> Row
 // The bytes to sign of the message at a row: the prefix, then its fields.
 fn emit_signed(records: &[u64], bytes: &[u8], i: usize, out: &mut [u8]) -> usize
     requires { ⌜ Inside (now records) (now bytes) ⌝ }
-    requires { ⌜ i < length (now records) / 20 ⌝ }
-    requires { ⌜ eqb (kindCode (recordFrom (now records) (i * 20) .kind)) 2 ≡ true ⌝ }
+    requires { ⌜ IsMessageRow (now records) i ⌝ }
     ensures { λ r. ⌜ Puts (now (out .entry)) 0 (signBytes (messageOf (now (bytes .entry)) (recordFrom (now (records .entry)) (i * 20)) (rowsFrom (now (records .entry)) (i + 1)))) (now (out .exit)) r ⌝ }
 {
     let j = emit_bytes(b"libp2p-pubsub:", out, 0);
@@ -971,18 +1045,17 @@ fn emit_signed(records: &[u64], bytes: &[u8], i: usize, out: &mut [u8]) -> usize
 // Writes them at the front of out: 12.
 fn sign_row(records: &[u64], bytes: &[u8], i: usize, out: &mut [u8]) -> Composed
     requires { ⌜ Inside (now records) (now bytes) ⌝ }
-    requires { ⌜ i < length (now records) / 20 ⌝ }
-    requires { ⌜ eqb (kindCode (recordFrom (now records) (i * 20) .kind)) 2 ≡ true ⌝ }
+    requires { ⌜ IsMessageRow (now records) i ⌝ }
     ensures { λ r. ⌜ Leaves (putAnswer (signBytes (messageOf (now (bytes .entry)) (recordFrom (now (records .entry)) (i * 20)) (rowsFrom (now (records .entry)) (i + 1)))) (now (out .entry)))
         (written (signBytes (messageOf (now (bytes .entry)) (recordFrom (now (records .entry)) (i * 20)) (rowsFrom (now (records .entry)) (i + 1)))) (now (out .entry))) r (now (out .exit)) ⌝ }
 {
     let mut none = [0u8; 1];
-    let len = emit_signed(records, bytes, i, &mut none);
-    if out.len() < len {
-        return Composed::Room(len);
+    let needed = emit_signed(records, bytes, i, &mut none);
+    if out.len() < needed {
+        return Composed::Room(needed);
     }
     emit_signed(records, bytes, i, out);
-    Composed::Bytes(len)
+    Composed::Bytes(needed)
 }
 
 // Writes the bytes to sign of the message at an index of the lists: the prefix, then from, data, seqno and every topic. A signature and a key, there or not,

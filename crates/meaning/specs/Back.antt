@@ -414,11 +414,11 @@ put-ids [] ts is ps ss ms c = refl
 put-ids (d ∷ ds) ts is ps ss ms c = ap (putId d) (put-ids ds ts is ps ss ms c)
 
 -- RawMessage
-mkMessage : List ℕ → Option (List ℕ) → Option (List ℕ) → Option (List ℕ) → List (List ℕ) → Option (List ℕ)
+unfoldable pub mkMessage : List ℕ → Option (List ℕ) → Option (List ℕ) → Option (List ℕ) → List (List ℕ) → Option (List ℕ)
     → Option (List ℕ) → RawMessage
 mkMessage r f d q ts s k = record { raw = r; from = f; «data» = d; seqno = q; «topic_ids» = ts; signature = s; key = k }
 
-same-message : {r r' : List ℕ} {f f' d d' q q' s s' k k' : Option (List ℕ)} {ts ts' : List (List ℕ)} → r ≡ r' → f ≡ f'
+pub same-message : {r r' : List ℕ} {f f' d d' q q' s s' k k' : Option (List ℕ)} {ts ts' : List (List ℕ)} → r ≡ r' → f ≡ f'
     → d ≡ d' → q ≡ q' → ts ≡ ts' → s ≡ s' → k ≡ k' → mkMessage r f d q ts s k ≡ mkMessage r' f' d' q' ts' s' k'
 same-message e1 e2 e3 e4 e5 e6 e7 = cc
 

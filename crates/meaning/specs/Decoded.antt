@@ -178,7 +178,7 @@ of-gate s words _ b (passes h n e l) =
     (subst (λ (k : ℕ). Decodes s words (done (recordsIn (c .rpc) ∷ k ∷ []))) (sym (control-told (c .means)))
     (reads w (omega (arith, c .all, ltb-false (words / 20) n u))))))
 
-records-within : {s : List ℕ} {x : Rpc} → Within s x → bodyRecords s ≡ tested.Records (recordsIn x)
+pub records-within : {s : List ℕ} {x : Rpc} → Within s x → bodyRecords s ≡ tested.Records (recordsIn x)
 records-within {s} {x} w = records-taken s (recordsIn x) (w .small) (meant-count (w .means)) (w .few)
 
 told-of : {s : List ℕ} {words : ℕ} {a : Told} → Decodes s words a → decodedTold (decodeAnswer s words) ≡ a

@@ -50,7 +50,7 @@ recordsIn x = length (x .subscriptions) + sumOf (λ m. 1 + length (m .«topic_id
     (x .control)
 
 -- ---- each record that is gathered counts once
-abbrev size : Gathered → ℕ
+abbrev pub size : Gathered → ℕ
 size g =
     length (g .topics) + length (g .ids) + length (g .peers) + length (g .subscriptions)
     + sumOf (λ m. 1 + length (m .«topic_ids»)) (g .publish)
@@ -70,10 +70,10 @@ size-kind kind.ControlGraft b r g = omega arith
 size-kind kind.ControlPrune b r g = omega arith
 size-kind kind.PeerInfo b r g = omega arith
 
-abbrev weight : List Record → ℕ
+abbrev pub weight : List Record → ℕ
 weight rs = sumOf (λ r. ownOf (r .kind)) rs
 
-size-gather : (b : List ℕ) (rs : List Record) (g : Gathered) → size (gather b rs g) ≡ weight rs + size g
+pub size-gather : (b : List ℕ) (rs : List Record) (g : Gathered) → size (gather b rs g) ≡ weight rs + size g
 size-gather b [] g = omega arith
 size-gather b (r ∷ rs) g = size-kind (r .kind) b r (gather b rs g) ∙ omega (arith, size-gather b rs g)
 

@@ -21,7 +21,7 @@ use Rattle.schema.specs.Made.{numberFrom, placeFrom}
 use Rattle.message.specs.RowsLaws.{number-length, place-length, words-length, all-length}
 
 -- ---- each part of a record
-kind-back : (k : Kind) → kindFrom (kindCode k) ≡ k
+pub kind-back : (k : Kind) → kindFrom (kindCode k) ≡ k
 unfolding kindFrom kindCode
 kind-back kind.Rpc = refl
 kind-back kind.SubOpts = refl

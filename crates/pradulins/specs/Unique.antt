@@ -16,6 +16,8 @@ use Rattle.ids.specs.Told.{messageTold}
 use Rattle.ids.specs.Ids.{idAnswer, idLeft}
 use Rattle.encode.specs.Encode.{encodeAnswer, encodeLeft}
 use Rattle.encode.specs.Sign.{signAnswer, signLeft}
+use Rattle.compose.specs.Told.{composedTold}
+use Rattle.compose.specs.Compose.{writeAnswer, writeLeft, signAnswer as fieldsAnswer, signLeft as fieldsLeft}
 use Rattle.node.specs.State.{legalSettings, freshNode}
 use Rattle.node.specs.Told.{startTold, admitTold, beatTold, advertiseTold, explainTold, askTold, serveTold}
 use Rattle.node.specs.Calls.{startAnswer, planned, admitAnswer, admitNode, admitSeen, admitCache, beatAnswer, beatNode}
@@ -179,3 +181,23 @@ pub record Walks (body : List ℕ) (at : ℕ) (vs : List ℕ) (r : ℕ) (ws : Li
 pub one-walk : {body : List ℕ} {at : ℕ} {vs : List ℕ} {r r₂ : ℕ} {ws ws₂ : List ℕ} → Walks body at vs r ws
     → Walks body at vs r₂ ws₂ → (r ≡ r₂) × (ws ≡ ws₂)
 one-walk a b = (a .number ∙ sym (b .number), a .values ∙ sym (b .values))
+
+-- ---- speaking first: the rows t over the bytes b
+pub record Writes (t b out vs : List ℕ) (r : ℕ) (ws left : List ℕ) : Type 0 where
+  pub number : r ≡ composedTold (writeAnswer t b out) .number
+  pub values : ws ≡ handed (composedTold (writeAnswer t b out)) vs
+  pub buffer : left ≡ writeLeft t b out
+
+pub one-write : {t b out vs : List ℕ} {r r₂ : ℕ} {ws ws₂ left left₂ : List ℕ} → Writes t b out vs r ws left
+    → Writes t b out vs r₂ ws₂ left₂ → (r ≡ r₂) × (ws ≡ ws₂) × (left ≡ left₂)
+one-write a b = (a .number ∙ sym (b .number), a .values ∙ sym (b .values), a .buffer ∙ sym (b .buffer))
+
+pub record SignsFields (t b : List ℕ) (i : ℕ) (out vs : List ℕ) (r : ℕ) (ws left : List ℕ) : Type 0 where
+  pub number : r ≡ composedTold (fieldsAnswer t b i out) .number
+  pub values : ws ≡ handed (composedTold (fieldsAnswer t b i out)) vs
+  pub buffer : left ≡ fieldsLeft t b i out
+
+pub one-sign-fields : {t b : List ℕ} {i : ℕ} {out vs : List ℕ} {r r₂ : ℕ} {ws ws₂ left left₂ : List ℕ}
+    → SignsFields t b i out vs r ws left → SignsFields t b i out vs r₂ ws₂ left₂
+    → (r ≡ r₂) × (ws ≡ ws₂) × (left ≡ left₂)
+one-sign-fields a b = (a .number ∙ sym (b .number), a .values ∙ sym (b .values), a .buffer ∙ sym (b .buffer))

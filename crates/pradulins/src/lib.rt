@@ -7,10 +7,13 @@ ghost use Rattle.basis.specs.Told.{valuesOf};
 ghost use Rattle.pradulins.specs.Handed.{spotWords, handed};
 ghost use Rattle.pradulins.specs.Holds.{settingsTold, stateTold, versionNumber, formatNumber};
 ghost use Rattle.pradulins.specs.Unique.{Starts, Admits, Beats, Advertises, Explains, Asks, Serves, Settles, States};
-ghost use Rattle.pradulins.specs.Unique.{Encodes, Signs, Identifies, Decodes, Walks};
+ghost use Rattle.pradulins.specs.Unique.{Encodes, Signs, Identifies, Decodes, Walks, Writes, SignsFields};
 use basis::Spot;
 use basis::Told;
 use basis::refusals;
+use compose::sign_fields;
+use compose::told::told_composed;
+use compose::write_rpc;
 use encode::encode;
 use encode::sign_bytes;
 use ids::message_id;
@@ -35,7 +38,7 @@ use stored::NODE_SIZE;
 use stored::load;
 use stored::store;
 
-pub const VERSION: u32 = 500;
+pub const VERSION: u32 = 600;
 
 pub const FORMAT: u32 = 2;
 
@@ -356,6 +359,39 @@ pub extern "C" fn pradulins_walk(body: &[u8], at: usize, values: &mut [u64; 8]) 
     let c = Cursor { at: at };
     let answer = c.step(body);
     tell(told_walk(answer), values)
+}
+
+// ---- speaking first
+
+// Writes the RPC that rows of a table of records say, over lent bytes.
+#[no_mangle]
+pub extern "C" fn pradulins_write_rpc(
+    records: &[u64],
+    bytes: &[u8],
+    out: &mut [u8],
+    values: &mut [u64; 8],
+) -> u32
+    ensures { λ r. ⌜ Writes (now (records .entry)) (now (bytes .entry)) (now (out .entry)) (now (values .entry)) r
+        (now (values .exit)) (now (out .exit)) ⌝ }
+{
+    let answer = write_rpc(records, bytes, out);
+    tell(told_composed(answer), values)
+}
+
+// Writes the bytes to sign of the message at an index of such rows.
+#[no_mangle]
+pub extern "C" fn pradulins_sign_fields(
+    records: &[u64],
+    bytes: &[u8],
+    index: usize,
+    out: &mut [u8],
+    values: &mut [u64; 8],
+) -> u32
+    ensures { λ r. ⌜ SignsFields (now (records .entry)) (now (bytes .entry)) index (now (out .entry))
+        (now (values .entry)) r (now (values .exit)) (now (out .exit)) ⌝ }
+{
+    let answer = sign_fields(records, bytes, index, out);
+    tell(told_composed(answer), values)
 }
 
 // ---- the archive

@@ -1,10 +1,13 @@
 //! What a main in C calls: the example, a player of records over the crate's safe interface, and a writer of saved states.
 
 mod player;
+mod rows;
 mod writer;
 
 #[path = "../../examples/catch_up/frame.rs"]
 mod frame;
+#[path = "../../examples/catch_up/join.rs"]
+mod join;
 #[path = "../../examples/catch_up/notice.rs"]
 mod notice;
 #[path = "../../examples/catch_up/rounds.rs"]

@@ -1,9 +1,10 @@
 //! Plays the records of the programs `inspect`, `trace`, `states` and `why` through the crate, and prints their lines; where the crate does not have the
-//! call, the record's number and `-`. In `trace` and `why` the gateway is saved and loaded again before each call. In `states` it is made before each call
+//! call, or has no records for its rows, the record's number and `-`. In `trace` and `why` the gateway is saved and loaded again before each call. In `states` it is made before each call
 //! of bytes that nothing has tested, since a damaged state would not be loaded.
 
-use pradulins::{decode, message_id, reencode, sign_bytes, walk_from, Admitted, Gateway, Offer, Record, Refusal, Settings};
-use pradulins::{CACHE_PLACE, NODE_SIZE, SEEN_ROW};
+use crate::rows::lists;
+use pradulins::{decode, message_id, reencode, sign_bytes, sign_fields, sign_fields_into, walk_from, write_rpc, write_rpc_into};
+use pradulins::{Admitted, Gateway, Offer, Record, Refusal, Settings, CACHE_PLACE, NODE_SIZE, SEEN_ROW};
 use std::fmt::Write as _;
 use std::io::{Result, Write};
 
@@ -68,6 +69,23 @@ fn record(record: &Record) -> String {
     }
 }
 
+/// A call on rows, by the crate's records: what it writes into the room that is lent. The same without a lent buffer has room for all.
+fn on_rows(records: &[Record], room: usize, index: Option<usize>) -> std::result::Result<String, Refusal> {
+    let mut out = vec![7; 65600];
+    let (answer, whole) = match index {
+        None => (write_rpc_into(records, &mut out[..room]), write_rpc(records)),
+        Some(index) => (sign_fields_into(records, index, &mut out[..room]), sign_fields(records, index)),
+    };
+    match &answer {
+        Ok(count) => assert!(whole.is_ok_and(|bytes| bytes == out[..*count]) && out[*count..].iter().all(|byte| *byte == 7)),
+        Err(refusal) => {
+            let needed = whole.map(|bytes| Refusal::Room { needed: bytes.len() as u64 }).unwrap_or_else(|refusal| refusal);
+            assert!(*refusal == needed && out.iter().all(|byte| *byte == 7));
+        }
+    }
+    answer.map(|count| made(&out[..count]))
+}
+
 /// The line of a call on a body; an error where the record ends the run.
 fn inspect(kind: u64, content: &[u8], n: u64) -> std::result::Result<String, ()> {
     let indexed = |least| if content.len() < least { Err(()) } else { Ok(content.split_at(least)) };
@@ -99,6 +117,15 @@ fn inspect(kind: u64, content: &[u8], n: u64) -> std::result::Result<String, ()>
             format!("{n} walk {}", said(answer, true))
         }
         6..=9 => format!("{n} -"),
+        10 | 11 => {
+            let (index, content) = indexed(if kind == 10 { 0 } else { 2 })?;
+            let lists = lists(content).ok_or(())?;
+            match lists.records() {
+                Some(records) if kind == 10 => format!("{n} write {}", said(on_rows(&records, lists.room, None), true)),
+                Some(records) => format!("{n} tosign {}", said(on_rows(&records, lists.room, Some(number(index) as usize)), true)),
+                None => format!("{n} -"),
+            }
+        }
         _ => return Err(()),
     };
     Ok(line)

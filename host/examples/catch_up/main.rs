@@ -1,10 +1,13 @@
-//! Two gateways in one process. Notices are passed on over a link that loses some; then the gateways catch up with each other, round by round. Then
-//! it is told what a wall clock that steps by an hour would do, and a gateway is saved and loaded again.
+//! Two gateways in one process. One speaks first: it joins a topic and publishes; the other takes its notice, and prunes it from the mesh of the topic. Notices
+//! are passed on over a link that loses some; then the gateways catch up with each other, round by round. Then it is told what a wall clock that steps by an hour
+//! would do, and a gateway is saved and loaded again.
 //!
 //!     cargo run --example catch_up
 
 #[cfg(not(no_archive))]
 mod frame;
+#[cfg(not(no_archive))]
+mod join;
 #[cfg(not(no_archive))]
 mod notice;
 #[cfg(not(no_archive))]

@@ -1,12 +1,6 @@
 //! Notices: bodies with one message each. Key and signature are stand-ins, to show where a host's own stand: anybody can make them.
 
-use pradulins::{decode, sign_bytes, Message, Record, Refusal};
-
-/// Puts a length-delimited field at the end of `out`. Its number is below 16.
-fn put_field(out: &mut Vec<u8>, number: u8, bytes: &[u8]) {
-    out.push(number << 3 | 2);
-    super::frame::put_frame(out, bytes);
-}
+use pradulins::{decode, sign_bytes, Draft, Message, Record, Refusal, Rpc};
 
 /// 64 bytes over what is to be signed. A host signs with its key instead.
 fn stand_in(signed: &[u8]) -> [u8; 64] {
@@ -26,8 +20,8 @@ fn key_of(site: &str) -> [u8; 32] {
     key
 }
 
-/// The peer id of an Ed25519 key, by which a site is known as the sender of its notices. It holds the key: 00 and the length of the rest, 36; then the key as
-/// libp2p writes it, which is its type, 1 for Ed25519, its length, 32, and its bytes.
+/// The peer id of an Ed25519 key. It holds the key: 00 and the length of the rest, 36; then the key as libp2p writes it, which is its type, 1 for Ed25519, its
+/// length, 32, and its bytes.
 fn peer_id(key: [u8; 32]) -> [u8; 38] {
     let mut id = [0; 38];
     id[..6].copy_from_slice(&[0x00, 36, 0x08, 1, 0x12, 32]);
@@ -35,20 +29,22 @@ fn peer_id(key: [u8; 32]) -> [u8; 38] {
     id
 }
 
+/// The peer id by which a site is known as the sender of its notices.
+pub fn sender(site: &str) -> [u8; 38] {
+    peer_id(key_of(site))
+}
+
+/// What a site says, and a notice of its own behind it, signed.
+pub fn said_with(rpc: Rpc, site: &str, seqno: u64, topic: &str, data: &[u8]) -> Result<Vec<u8>, Refusal> {
+    let (from, seqno) = (sender(site), seqno.to_be_bytes());
+    let draft = Draft { from: &from, seqno: &seqno, data: Some(data), topics: &[topic], key: None };
+    let signature = stand_in(&draft.sign_fields()?);
+    rpc.publish(&draft, &signature).write()
+}
+
 /// A body with one message of a site, signed.
 pub fn notice(site: &str, seqno: u64, topic: &str, data: &[u8]) -> Result<Vec<u8>, Refusal> {
-    let mut message = Vec::new();
-    put_field(&mut message, 1, &peer_id(key_of(site)));
-    put_field(&mut message, 2, data);
-    put_field(&mut message, 3, &seqno.to_be_bytes());
-    put_field(&mut message, 4, topic.as_bytes());
-    let mut body = Vec::new();
-    put_field(&mut body, 2, &message);
-    let signature = stand_in(&sign_bytes(&body, 0)?);
-    put_field(&mut message, 5, &signature);
-    body.clear();
-    put_field(&mut body, 2, &message);
-    Ok(body)
+    said_with(Rpc::new(), site, seqno, topic, data)
 }
 
 /// The host's word on a message of a body: whether its signature is right. A host verifies it with the key in the sender's peer id; or, where that is a hash,

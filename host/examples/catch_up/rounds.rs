@@ -1,6 +1,7 @@
 //! The story, as a function, so that a program in C can call it too.
 
 use super::frame::{put_frame, Frames};
+use super::join;
 use super::notice::{ids, notice, verified};
 use pradulins::{messages, Admitted, Clock, Gateway, Settings};
 use std::error::Error;
@@ -13,8 +14,9 @@ const WINDOWS: usize = 4;
 const HOUR: u64 = 3_600_000;
 
 /// A gateway, and what came in for it.
-struct Site {
-    name: &'static str,
+pub struct Site {
+    /// Its name.
+    pub name: &'static str,
     gateway: Gateway,
     link: Frames,
     clock: Clock,
@@ -26,7 +28,7 @@ impl Site {
     }
 
     /// A frame comes in, in pieces.
-    fn receive(&mut self, body: &[u8]) {
+    pub fn receive(&mut self, body: &[u8]) {
         let mut wire = Vec::new();
         put_frame(&mut wire, body);
         for piece in wire.chunks(1000) {
@@ -35,12 +37,12 @@ impl Site {
     }
 
     /// The next body that came in whole.
-    fn body(&mut self) -> Result<Vec<u8>, Box<dyn Error>> {
+    pub fn body(&mut self) -> Result<Vec<u8>, Box<dyn Error>> {
         Ok(self.link.pop()?.unwrap_or_default())
     }
 
     /// Admits every message of a body; how many were new.
-    fn admit_all(&mut self, body: &[u8]) -> Result<usize, Box<dyn Error>> {
+    pub fn admit_all(&mut self, body: &[u8]) -> Result<usize, Box<dyn Error>> {
         let mut new = 0;
         for message in messages(body)? {
             let admitted = self.gateway.admit(body, message.index, verified(body, &message)?, self.clock.now())?;
@@ -116,6 +118,8 @@ pub fn run(out: &mut dyn Write) -> Result<(), Box<dyn Error>> {
     let settings = Settings { ttl: HOUR, max_seen: 256, history_len: WINDOWS, max_messages: 64 };
     let mut north = Site::new("north", settings)?;
     let mut south = Site::new("south", settings)?;
+
+    join::run(&mut north, &mut south, TOPIC, out)?;
 
     // North publishes 40 notices, and the link loses three of four; south publishes 10 and loses one of five.
     for seqno in 1..=40 {

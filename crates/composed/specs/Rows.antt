@@ -1,0 +1,304 @@
+-- Lists and answers, worked out, as one theorem over the calls: for every lent buffer, what `write_rpc` and `sign_fields` tell and leave. Each row is computed.
+use Prim.Native.Nat.{ℕ, zero, suc, _+_, _-_, _/_, _%_, _<_}
+use mathlib.Core.Path.{_≡_, refl, sym, ap, _∙_}
+use mathlib.Core.Bool.{true, false, cond}
+use mathlib.Core.List.{List, [], _∷_, _++_, append-nil}
+use native.Mathlib.Omega.{arith}
+use lib.ListN.{length, drop, replicate, drop-of-length-le}
+use lib.Seq.{sets, sets-eq}
+use Rattle.message.specs.RowsLaws.{all-length}
+use Rattle.meaning.specs.Table.{rowsIn, table-back}
+use lib.Dec.{leb}
+use borrow.Author.Tests.{leb-true}
+use Rattle.basis.specs.declared.Told.{Told}
+use Rattle.basis.specs.Refusals.{malformed, invalid-utf8, too-many-records, invalid-signature-length, message-too-long, rpc-too-long, short-room}
+use Rattle.basis.specs.Told.{told}
+use Rattle.peer_id.specs.Uvarint.{uvarint, bytesOf, readUvarint, readFrom, groupOf}
+use Rattle.peer_id.specs.PeerId.{hashOf, fromBytes}
+use Rattle.key.specs.Decode.{typeOf, onTotal, onData, decodeProtobuf}
+use Rattle.rows.specs.Ids.{sameBytes}
+use Rattle.utf8.specs.Utf8.{isUtf8, run}
+use Rattle.protobuf.specs.Encode.{tag, bytesField, varintField}
+use Rattle.schema.specs.declared.Kind.{Kind}
+use Rattle.schema.specs.declared.Kind.the-variants as kind
+use Rattle.schema.specs.declared.Place.{Place}
+use Rattle.schema.specs.declared.Place.the-variants as place
+use Rattle.schema.specs.declared.Number.{Number}
+use Rattle.schema.specs.declared.Number.the-variants as number
+use Rattle.schema.specs.Made.{numberFrom, placeFrom}
+use Rattle.message.specs.declared.Record.{Record}
+use Rattle.message.specs.Rows.{bareRow, kindCode, numberWords, placeWords, placesWords, wordsOf, wordsOfAll, kindFrom, recordFrom}
+use Rattle.rpc.specs.Encode.{encodeSubOpts, encodeGraft, encodePeerInfo, encodePrune, encodeControl, encodeRpc, signPrefix, signBytes}
+use Rattle.admission.specs.Admission.{firstLong, isKey, keyMatches, keyInside, isPeerId}
+use Rattle.admission.specs.Rows.{zeros, peer, head, signature}
+use Rattle.admission.specs.declared.Unfit.the-variants.{InvalidSignatureLength, MessageTooLong}
+use Rattle.rpc.specs.Rpc.{RawMessage}
+use Rattle.canonical.specs.Calls.{Writes, fits, short}
+use Rattle.compose.specs.declared.Wrong.{Wrong}
+use Rattle.compose.specs.declared.Wrong.the-variants.{NotLent, InvalidUtf8, TooManyRecords, Unfit, TooLong}
+use Rattle.compose.specs.declared.Lists.{Lists}
+use Rattle.compose.specs.declared.Lists.the-variants.{Fine, Refused}
+use Rattle.compose.specs.Lent.{lentRows, insideAt, fieldsInside, rowInside, heldBy, lentFrom, lentWell}
+use Rattle.compose.specs.Said.{encodeFields, encodeMessage, subscriptionsIn, messagesIn, graftsIn, prunesIn, topicsFrom, peersFrom, said}
+use Rattle.compose.specs.Weighed.{capped, andThen, fromFine, seqnoFine, signatureFine, keyFine, topicsFine, sizeFine, limitsFine, weighed, firstUnfit}
+use Rattle.compose.specs.Compose.{textOf, textFine, textsFine, countFine, listsOf, lengthFine, writeTested, writeAnswer, writeLeft}
+use Rattle.compose.specs.Compose.{signAnswer, signLeft}
+use Rattle.compose.specs.Told.{wrongTold, composedTold}
+use Rattle.composed.specs.Exactly.{put-writes}
+
+-- ---- what a row of the table says
+-- the bytes xs are written, or 12 is told with the room that they need, and nothing changes
+abbrev pub WritesAs : List ℕ → List ℕ → List ℕ → Type 0
+WritesAs t b xs = (out : List ℕ) → Writes xs out (composedTold (writeAnswer t b out)) (writeLeft t b out)
+
+abbrev pub SignsAs : List ℕ → List ℕ → ℕ → List ℕ → Type 0
+SignsAs t b i xs = (out : List ℕ) → Writes xs out (composedTold (signAnswer t b i out)) (signLeft t b i out)
+
+-- a is told, and nothing changes
+abbrev pub RefusesAs : List ℕ → List ℕ → Told → Type 0
+RefusesAs t b a = (out : List ℕ) → (composedTold (writeAnswer t b out) ≡ a) × (writeLeft t b out ≡ out)
+
+-- ---- rows by hand: start and end are 0, and places are counted from 0
+abbrev pub no : Place
+no = place.Absent
+
+abbrev pub at : ℕ → ℕ → Place
+at a e = place.Present a e
+
+abbrev pub by-hand : Kind → Number → Place → Place → Place → Place → Place → Record
+by-hand k n p₁ p₂ p₃ p₄ p₅ =
+    record {
+      kind = k;
+      start = 0;
+      end = 0;
+      slots = record { number = n; first = p₁; second = p₂; third = p₃; fourth = p₄; fifth = p₅ };
+    }
+
+abbrev pub sub-opts : Number → Place → Record
+sub-opts n p = by-hand kind.SubOpts n p no no no no
+
+abbrev pub message : Place → Place → Place → Place → Place → Record
+message f d q s k = by-hand kind.RawMessage number.Absent f d q s k
+
+abbrev pub topic : ℕ → ℕ → Record
+topic a e = bareRow kind.Topic a e
+
+abbrev pub graft : Place → Record
+graft p = by-hand kind.ControlGraft number.Absent p no no no no
+
+abbrev pub prune : Number → Place → Record
+prune n p = by-hand kind.ControlPrune n p no no no no
+
+abbrev pub peer-info : Place → Place → Record
+peer-info p q = by-hand kind.PeerInfo number.Absent p q no no no
+
+-- the same row, with another start
+abbrev pub from : ℕ → Record → Record
+from a r = record { kind = r .kind; start = a; end = a; slots = r .slots }
+
+-- ---- from what is computed of lists to what the calls tell and leave
+writes-by : (t b xs : List ℕ) → writeTested t b ≡ Fine → encodeRpc (said b (lentRows t)) ≡ xs → leb (length xs) 65536 ≡ true
+    → WritesAs t b xs
+unfolding writeAnswer writeLeft
+writes-by t b xs h e l out =
+    rw (h, e) (put-writes xs out (leb-true (length xs) 65536 l))
+
+refuses-by : (t b : List ℕ) (w : Wrong) → writeTested t b ≡ Refused w → RefusesAs t b (wrongTold w)
+unfolding writeAnswer writeLeft
+refuses-by t b w h out = (rw h, rw h)
+
+signs-by : (t b xs : List ℕ) (i : ℕ) (m : RawMessage) (r : List RawMessage) → listsOf t b ≡ Fine
+    → drop i (messagesIn b (lentRows t)) ≡ m ∷ r → signBytes m ≡ xs → leb (length xs) 65536 ≡ true → SignsAs t b i xs
+unfolding signAnswer signLeft
+signs-by t b xs i m r h d e l out = rw (h, d, e) (put-writes xs out (leb-true (length xs) 65536 l))
+
+-- ---- the rows
+-- `t`
+abbrev pub text-t : List ℕ
+text-t = 0x74 ∷ []
+
+-- the sender, the sequence number 1, the topic t and a signature of zeros; the rows that say this message; and X
+abbrev pub fields : List ℕ
+fields = peer ++ (0x01 ∷ 0x74 ∷ zeros 64)
+
+abbrev pub signed : List Record
+signed = message (at 0 38) no (at 38 39) (at 40 104) no ∷ topic 39 40 ∷ []
+
+abbrev pub x : List ℕ
+x = 0x12 ∷ 0x70 ∷ (head ++ signature)
+
+-- 1, topic 0..1; a number that is not 0 is written as 1
+abbrev pub subscription : ℕ → List Record
+subscription n = sub-opts (number.Present n) (at 0 1) ∷ []
+
+abbrev pub subscribed : List ℕ
+subscribed = 0x0a ∷ 0x05 ∷ 0x08 ∷ 0x01 ∷ 0x12 ∷ 0x01 ∷ 0x74 ∷ []
+
+pub record SmallRows : Type 0 where
+  -- none: 0 bytes
+  pub nothing : (b : List ℕ) → WritesAs [] b []
+  -- SubOpts, number 1, topic 0..1; `t` (number 7: the same)
+  pub subscribes : WritesAs (wordsOfAll (subscription 1)) text-t subscribed
+      × WritesAs (wordsOfAll (subscription 7)) text-t subscribed
+  -- SubOpts all absent; SubOpts with topic 0..0
+  pub absent : WritesAs (wordsOfAll (sub-opts number.Absent no ∷ sub-opts number.Absent (at 0 0) ∷ [])) []
+      (0x0a ∷ 0x00 ∷ 0x0a ∷ 0x02 ∷ 0x12 ∷ 0x00 ∷ [])
+  -- PRUNE number 60 topic 1..2; PeerInfo peer_id 2..4; GRAFT topic 0..1; `74 75 01 02`
+  pub control : WritesAs
+      (wordsOfAll (prune (number.Present 60) (at 1 2) ∷ peer-info (at 2 4) no ∷ graft (at 0 1) ∷ []))
+      (0x74 ∷ 0x75 ∷ 0x01 ∷ 0x02 ∷ [])
+      (0x1a ∷ 0x12 ∷ 0x1a ∷ 0x03 ∷ 0x0a ∷ 0x01 ∷ 0x74 ∷ 0x22 ∷ 0x0b ∷ 0x0a ∷ 0x01 ∷ 0x75 ∷ 0x12 ∷ 0x04 ∷ 0x0a ∷ 0x02
+      ∷ 0x01 ∷ 0x02 ∷ 0x18 ∷ 0x3c ∷ [])
+  -- GRAFT topic 0..2 over `t`; topic 1..0; row start 1 and topic 0..2^64 - 1
+  pub outside : RefusesAs (wordsOfAll (graft (at 0 2) ∷ [])) text-t (told malformed [])
+      × RefusesAs (wordsOfAll (graft (at 1 0) ∷ [])) text-t (told malformed [])
+      × RefusesAs (wordsOfAll (from 1 (graft (at 0 18446744073709551615)) ∷ [])) text-t (told malformed [])
+  -- GRAFT topic 0..1 and a second field 5..9; `t`
+  pub not-looked-at : WritesAs (wordsOfAll (by-hand kind.ControlGraft number.Absent (at 0 1) (at 5 9) no no no ∷ [])) text-t
+      (0x1a ∷ 0x05 ∷ 0x1a ∷ 0x03 ∷ 0x0a ∷ 0x01 ∷ 0x74 ∷ [])
+  -- GRAFT `t`, SubOpts topic 1..2; `74 ff`: 7 with 1; with a later row out of bounds: 42
+  pub no-text : RefusesAs (wordsOfAll (graft (at 0 1) ∷ sub-opts number.Absent (at 1 2) ∷ [])) (0x74 ∷ 0xff ∷ [])
+      (told invalid-utf8 (1 ∷ []))
+      × RefusesAs (wordsOfAll (graft (at 0 1) ∷ sub-opts number.Absent (at 1 2) ∷ graft (at 0 3) ∷ [])) (0x74 ∷ 0xff ∷ [])
+      (told malformed [])
+  -- row 2, room 6: 12 with 7
+  pub short : (out : List ℕ) → length out ≡ 6
+      → (composedTold (writeAnswer (wordsOfAll (subscription 1)) text-t out) ≡ told short-room (7 ∷ []))
+      × (writeLeft (wordsOfAll (subscription 1)) text-t out ≡ out)
+
+room-by : {xs out : List ℕ} {a : Told} {l : List ℕ} → Writes xs out a l → length out < length xs
+    → (a ≡ told short-room (length xs ∷ [])) × (l ≡ out)
+room-by (fits h) k = absurd (omega arith)
+room-by (short h) k = (refl, refl)
+
+small : SmallRows
+unfolding uvarint bytesOf isUtf8 run tag bytesField varintField numberFrom placeFrom kindCode numberWords placeWords placesWords wordsOf kindFrom recordFrom
+    encodeSubOpts encodeGraft encodePeerInfo encodePrune encodeControl encodeRpc insideAt fieldsInside rowInside heldBy lentWell
+    subscriptionsIn messagesIn graftsIn prunesIn topicsFrom peersFrom said textOf textFine countFine listsOf lengthFine writeTested
+small =
+    let sub : WritesAs (wordsOfAll (subscription 1)) text-t subscribed = writes-by _ text-t _ refl refl refl in
+    record {
+      nothing = λ b. writes-by [] b [] refl refl refl;
+      subscribes = (sub, writes-by _ text-t _ refl refl refl);
+      absent = writes-by _ [] _ refl refl refl;
+      control = writes-by _ _ _ refl refl refl;
+      outside = (refuses-by _ text-t NotLent refl, refuses-by _ text-t NotLent refl, refuses-by _ text-t NotLent refl);
+      not-looked-at = writes-by _ text-t _ refl refl refl;
+      no-text = (refuses-by _ (0x74 ∷ 0xff ∷ []) (InvalidUtf8 1) refl, refuses-by _ (0x74 ∷ 0xff ∷ []) NotLent refl);
+      short = λ out h. room-by (sub out) (omega arith);
+    }
+
+-- ---- the message of the table
+pub record MessageRows : Type 0 where
+  -- X, and the 60 bytes to sign
+  pub written : WritesAs (wordsOfAll signed) fields x × SignsAs (wordsOfAll signed) fields 0 (signPrefix ++ head)
+      × (length (signPrefix ++ head) ≡ 60)
+  -- without the signature: 26 with 0; the bytes to sign are the same
+  pub unsigned : RefusesAs (wordsOfAll (message (at 0 38) no (at 38 39) no no ∷ topic 39 40 ∷ [])) fields
+      (told invalid-signature-length (0 ∷ []))
+      × SignsAs (wordsOfAll (message (at 0 38) no (at 38 39) no no ∷ topic 39 40 ∷ [])) fields 0 (signPrefix ++ head)
+  -- with 4,000 bytes of data, and then an empty one: 30 with 4115
+  pub long : RefusesAs
+      (wordsOfAll (message (at 0 38) (at 104 4104) (at 38 39) (at 40 104) no ∷ topic 39 40 ∷ message no no no no no ∷ []))
+      (fields ++ replicate 4000 0) (told message-too-long (4115 ∷ []))
+
+messages : MessageRows
+unfolding readUvarint readFrom groupOf hashOf fromBytes typeOf onTotal onData decodeProtobuf isKey keyMatches keyInside isPeerId sameBytes firstLong
+    uvarint bytesOf isUtf8 run tag bytesField varintField numberFrom placeFrom kindCode numberWords placeWords placesWords wordsOf kindFrom recordFrom
+    encodeSubOpts encodeGraft encodePeerInfo encodePrune encodeControl encodeRpc signBytes insideAt fieldsInside rowInside heldBy lentWell
+    encodeFields encodeMessage subscriptionsIn messagesIn graftsIn prunesIn topicsFrom peersFrom said textOf textFine countFine listsOf lengthFine writeTested
+    capped fromFine seqnoFine signatureFine keyFine topicsFine sizeFine limitsFine weighed
+messages =
+    record {
+      written = (writes-by _ fields _ refl refl refl, signs-by _ fields _ 0 _ [] refl refl refl refl, refl);
+      unsigned = (
+        refuses-by _ fields (Unfit (InvalidSignatureLength 0)) refl,
+        signs-by _ fields _ 0 _ [] refl refl refl refl,
+      );
+      long = refuses-by _ _ (Unfit (MessageTooLong 4115)) refl;
+    }
+
+-- ---- many rows, and long ones: by the rows, and not by the words of the table
+words-back : (rs : List Record) → lentRows (wordsOfAll rs) ≡ rs
+words-back rs =
+    let t = wordsOfAll rs in
+    let l = all-length rs in
+    let n : length t / 20 - 0 ≡ length rs = omega arith in
+    let s : sets t 0 t ≡ t =
+    sets-eq t t 0 (omega arith) ∙ ap (λ (z : List ℕ). t ++ z) (drop-of-length-le t {i = 0 + length t} (omega arith)) ∙ append-nil t in
+    ap (rowsIn t 0) n ∙ ap (λ (z : List ℕ). rowsIn z 0 (length rs)) (sym s) ∙ table-back t rs (omega arith)
+
+listsBy : List Record → List ℕ → ℕ → Lists
+listsBy rs b n = cond (lentFrom (length b) false false rs) (andThen (textsFine b rs) (countFine n)) (Refused NotLent)
+
+module _ (rs : List Record) (b : List ℕ) (n : ℕ) (h : length rs ≡ n) where
+  lists-by : listsOf (wordsOfAll rs) b ≡ listsBy rs b n
+  unfolding listsOf lentWell listsBy
+  lists-by =
+      let l = all-length rs in
+      let m : length (wordsOfAll rs) % 20 ≡ 0 = omega arith in
+      let k : length (wordsOfAll rs) / 20 ≡ n = omega arith in
+      rw (words-back rs, m, k)
+
+  tested-by : writeTested (wordsOfAll rs) b
+      ≡ andThen (listsBy rs b n) (andThen (firstUnfit (messagesIn b rs)) (lengthFine (encodeRpc (said b rs))))
+  unfolding writeTested
+  tested-by = rw (lists-by, words-back rs)
+
+-- GRAFTs without topic
+abbrev pub pairs : ℕ → List ℕ
+pairs zero = []
+pairs (suc n) = 0x1a ∷ 0x00 ∷ pairs n
+
+-- a control with one GRAFT of that topic, of 65,524 bytes
+abbrev pub whole : List ℕ → List ℕ
+whole d = 0x1a ∷ 0xfc ∷ 0xff ∷ 0x03 ∷ 0x1a ∷ 0xf8 ∷ 0xff ∷ 0x03 ∷ 0x0a ∷ 0xf4 ∷ 0xff ∷ 0x03 ∷ d
+
+pub record LargeRows : Type 0 where
+  -- 513 GRAFTs without topic: 11 with 513; 512: 1,027 bytes
+  pub grafts : RefusesAs (wordsOfAll (replicate 513 (graft no))) [] (told too-many-records (513 ∷ []))
+      × WritesAs (wordsOfAll (replicate 512 (graft no))) [] (0x1a ∷ 0x80 ∷ 0x08 ∷ pairs 512)
+      × (length (0x1a ∷ 0x80 ∷ 0x08 ∷ pairs 512) ≡ 1027)
+  -- 513 messages, all absent: 11 with 513
+  pub messages : RefusesAs (wordsOfAll (replicate 513 (message no no no no no))) [] (told too-many-records (513 ∷ []))
+  -- one GRAFT, topic of 65,524 bytes: 65,536 bytes; of 65,525: 13 with 65537
+  pub longest : WritesAs (wordsOfAll (graft (at 0 65524) ∷ [])) (replicate 65524 0x74) (whole (replicate 65524 0x74))
+      × (length (whole (replicate 65524 0x74)) ≡ 65536)
+      × RefusesAs (wordsOfAll (graft (at 0 65525) ∷ [])) (replicate 65525 0x74) (told rpc-too-long (65537 ∷ []))
+  -- 66 GRAFTs on the same 1,000 bytes: 13 with 66400
+  pub same-bytes : RefusesAs (wordsOfAll (replicate 66 (graft (at 0 1000)))) (replicate 1000 0x74)
+      (told rpc-too-long (66400 ∷ []))
+
+large-by : (rs : List Record) (b xs : List ℕ) (n : ℕ) → length rs ≡ n
+    → andThen (listsBy rs b n) (andThen (firstUnfit (messagesIn b rs)) (lengthFine (encodeRpc (said b rs)))) ≡ Fine
+    → encodeRpc (said b rs) ≡ xs → leb (length xs) 65536 ≡ true → WritesAs (wordsOfAll rs) b xs
+large-by rs b xs n h k e l =
+    writes-by (wordsOfAll rs) b xs (tested-by rs b n h ∙ k)
+    (ap (λ (z : List Record). encodeRpc (said b z)) (words-back rs) ∙ e) l
+
+large-refused : (rs : List Record) (b : List ℕ) (n : ℕ) (w : Wrong) → length rs ≡ n
+    → andThen (listsBy rs b n) (andThen (firstUnfit (messagesIn b rs)) (lengthFine (encodeRpc (said b rs)))) ≡ Refused w
+    → RefusesAs (wordsOfAll rs) b (wrongTold w)
+large-refused rs b n w h k = refuses-by (wordsOfAll rs) b w (tested-by rs b n h ∙ k)
+
+large : LargeRows
+unfolding listsBy uvarint bytesOf isUtf8 run tag bytesField varintField kindCode encodeGraft encodeControl encodeRpc insideAt fieldsInside rowInside
+    heldBy subscriptionsIn messagesIn graftsIn prunesIn topicsFrom peersFrom said textOf textFine countFine lengthFine capped
+large =
+    record {
+      grafts = (
+        large-refused (replicate 513 (graft no)) [] 513 (TooManyRecords 513) refl refl,
+        large-by (replicate 512 (graft no)) [] _ 512 refl refl refl refl,
+        refl,
+      );
+      messages = large-refused (replicate 513 (message no no no no no)) [] 513 (TooManyRecords 513) refl refl;
+      longest = (
+        large-by (graft (at 0 65524) ∷ []) (replicate 65524 0x74) _ 1 refl refl refl refl,
+        refl,
+        large-refused (graft (at 0 65525) ∷ []) (replicate 65525 0x74) 1 (TooLong 65537) refl refl,
+      );
+      same-bytes = large-refused (replicate 66 (graft (at 0 1000))) (replicate 1000 0x74) 66 (TooLong 66400) refl refl;
+    }
+
+pub rows : SmallRows × MessageRows × LargeRows
+rows = (small, messages, large)
