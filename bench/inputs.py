@@ -1,4 +1,4 @@
-"""The benchmark's inputs: bodies of several sizes and kinds, ids, and what fills a cache and a node. Nothing is random."""
+"""The benchmark's inputs: bodies of several sizes and kinds, lists to write from, ids, and what fills a cache and a node. Nothing is random."""
 
 import os
 
@@ -102,8 +102,50 @@ def some_text(i):
     return ("topic-%04d-" % i * 12)[:118].encode()
 
 
+class Lists:
+    """Rows of the library's table, 20 numbers each, over bytes."""
+
+    def __init__(self):
+        self.words, self.data = [], b""
+
+    def put(self, part):
+        start = len(self.data)
+        self.data += part
+        return [start, len(self.data)]
+
+    def add(self, kind, *fields, number=None, own=None):
+        self.words += [kind, *(self.put(own) if own is not None else (0, 0)), *((0, 0) if number is None else (1, number))]
+        for i in range(5):
+            self.words += [1, *self.put(fields[i])] if i < len(fields) and fields[i] is not None else [0, 0, 0]
+
+    def file(self):
+        """How many numbers, the numbers, and the bytes."""
+        return b"".join(word.to_bytes(8, "little") for word in [len(self.words), *self.words]) + self.data
+
+
+SUB_OPTS, MESSAGE, TOPIC, GRAFT, PRUNE, PEER_INFO = 1, 2, 3, 8, 9, 10
+LISTS = ("subscriptions", "grafts", "prunes", "messages", "mixed")
+ROWS = (8, 64, 512)
+
+
+def lists(name, rows):
+    """So many rows: subscriptions; grafts; prunes, each with a peer; messages, each with a topic; or all of these in turn, topics and peers not beside what
+    they belong to."""
+    made = Lists()
+    topics = [b"ct/%04d" % i for i in range(rows)]
+    add = {"sub": lambda i: made.add(SUB_OPTS, topics[i], number=1), "graft": lambda i: made.add(GRAFT, topics[i]),
+           "prune": lambda i: made.add(PRUNE, topics[i], number=60), "peer": lambda i: made.add(PEER_INFO, sender(i), some(70, i)),
+           "message": lambda i: made.add(MESSAGE, sender(i), some(100, i), i.to_bytes(8, "big"), some(64, i)), "topic": lambda i: made.add(TOPIC, own=topics[i])}
+    unit = {"subscriptions": ["sub"], "grafts": ["graft"], "prunes": ["prune", "peer"], "messages": ["message", "topic"],
+            "mixed": ["sub", "message", "graft", "topic", "prune", "sub", "peer", "graft"]}[name]
+    for i in range(rows):
+        add[unit[i % len(unit)]](i)
+    assert len(made.words) == 20 * rows
+    return made
+
+
 def write(folder):
-    """Writes the inputs, and gives the bodies' file names."""
+    """Writes the inputs, and gives the file names of the bodies and of the lists."""
     os.makedirs(folder, exist_ok=True)
 
     def put(name, data):
@@ -115,6 +157,10 @@ def write(folder):
         assert len(body) <= FULL, name
         put(name + ".bin", body)
         names.append(name + ".bin")
+    for name in LISTS:
+        for rows in ROWS:
+            names.append("%s-%d.rows" % (name, rows))
+            put(names[-1], lists(name, rows).file())
     # Ids of one publisher, as a seen cache has them: a mark, a peer id and a number. They have 65 bytes.
     ids = [b"\x01" + sender(0) + i.to_bytes(26, "big") for i in range(768)]
     put("ids", b"".join(ids[:512]))

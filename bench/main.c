@@ -2,10 +2,12 @@
  * Times calls of this library and of the Rust on the same inputs, in one run, one after the other in turn. `bench` makes the inputs and reads
  * what this prints.
  *
- *     compare time|count REPETITIONS CLEAR FOLDER BODY...
+ *     compare time|count REPETITIONS CLEAR FOLDER FILE...
  *
+ * A FILE is a body (.bin) or lists (.rows).
  * For each case a line: its name, and then for each repetition the nanoseconds per call of ours and of the Rust's (0 where the Rust has no such call).
- * With `count`, the line has the number of calls, and each loop stands between system calls `getppid`, which the counting plugin of the emulator looks for.
+ * With `count`, the line has the number of calls, and each loop stands between marks: system calls `getppid`, which the counting plugin of the emulator looks for,
+ * and requests to write down what was counted, which valgrind takes.
  * CLEAR 1 has the lent buffers filled with zeros before each of our calls.
  */
 #define _POSIX_C_SOURCE 200809L
@@ -17,6 +19,12 @@
 #include <sys/syscall.h>
 #include <time.h>
 #include <unistd.h>
+
+#if __has_include(<valgrind/callgrind.h>)
+#include <valgrind/callgrind.h>
+#else
+#define CALLGRIND_DUMP_STATS
+#endif
 
 #include "pradulins.h"
 
@@ -37,6 +45,9 @@ uint64_t theirs_decode(const uint8_t *body, size_t len, uint64_t times);
 uint64_t theirs_encode(const uint8_t *body, size_t len, uint64_t times);
 uint64_t theirs_sign(const uint8_t *body, size_t len, size_t index, uint64_t times);
 uint64_t theirs_made(const uint8_t *body, size_t len, size_t index, bool sign, uint8_t *out, size_t room);
+uint64_t theirs_write(const uint8_t *body, size_t len, uint64_t times);
+uint64_t theirs_sign_fields(const uint8_t *body, size_t len, size_t index, uint64_t times);
+uint64_t theirs_written(const uint8_t *body, size_t len, size_t index, bool sign, uint8_t *out, size_t room);
 uint64_t theirs_seen_insert(const uint8_t *ids, size_t len, size_t size, size_t max, uint64_t times);
 uint64_t theirs_seen_contains(const uint8_t *ids, size_t len, const uint8_t *asked, size_t asked_len, size_t size, size_t max, uint64_t times);
 uint64_t theirs_cache_put(const uint8_t *bodies, size_t len, size_t size, size_t max, uint64_t times);
@@ -137,6 +148,42 @@ static uint64_t their_encode(uint64_t times)
 static uint64_t their_sign(uint64_t times)
 {
     return theirs_sign(body.at, body.len, message_index, times);
+}
+
+/* ---- lists: rows over bytes; the Rust has the RPC that they say */
+
+static const uint64_t *records;
+static size_t words;
+static struct bytes lent;
+
+static uint64_t our_write(uint64_t times)
+{
+    uint64_t sum = 0;
+    while (times-- > 0) {
+        clear_out();
+        sum += pradulins_write_rpc(records, words, lent.at, lent.len, out, PRADULINS_OUT_SIZE, values) + values[0];
+    }
+    return sum;
+}
+
+static uint64_t our_sign_fields(uint64_t times)
+{
+    uint64_t sum = 0;
+    while (times-- > 0) {
+        clear_out();
+        sum += pradulins_sign_fields(records, words, lent.at, lent.len, message_index, out, sizeof out, values) + values[0];
+    }
+    return sum;
+}
+
+static uint64_t their_write(uint64_t times)
+{
+    return theirs_write(body.at, body.len, times);
+}
+
+static uint64_t their_sign_fields(uint64_t times)
+{
+    return theirs_sign_fields(body.at, body.len, message_index, times);
 }
 
 /* ---- the seen cache: `rows` ids of 65 bytes are held; `others` are not */
@@ -363,10 +410,16 @@ static double now(void)
     return t.tv_sec * 1e9 + t.tv_nsec;
 }
 
+static void mark(void)
+{
+    syscall(SYS_getppid);
+    CALLGRIND_DUMP_STATS;
+}
+
 static void run(loop *f, uint64_t times)
 {
     if (counting)
-        syscall(SYS_getppid);
+        mark();
     sink += f(times);
 }
 
@@ -412,7 +465,7 @@ static void measure(const char *name, loop *ours, loop *theirs, uint64_t base, u
                 continue;
             run(f, base + times);
             run(f, base);
-            syscall(SYS_getppid);
+            mark();
             printf("%s %s %llu\n", name, side ? "theirs" : "ours", (unsigned long long)times);
         }
         return;
@@ -458,6 +511,46 @@ static void body_cases(const char *folder, const char *file)
         measure(name, our_sign, their_sign, 0, 8);
     }
     free(body.at);
+}
+
+/* Both make the same bytes of the same fields. */
+static void agree_on_lists(const char *name, uint32_t number, bool sign)
+{
+    uint64_t len = theirs_written(body.at, body.len, message_index, sign, wanted, sizeof wanted);
+    if (number != 0 || len != values[0] || memcmp(out, wanted, len) != 0)
+        fail("other bytes than the Rust's", name);
+}
+
+static void list_cases(const char *folder, const char *file)
+{
+    char name[256];
+    struct bytes all = read_file(folder, file);
+    size_t stem = strlen(file) - 5;
+    records = (const uint64_t *)all.at + 1;
+    words = *(const uint64_t *)all.at;
+    lent.at = all.at + 8 * (1 + words);
+    lent.len = all.len - 8 * (1 + words);
+    uint32_t number = pradulins_write_rpc(records, words, lent.at, lent.len, out, PRADULINS_OUT_SIZE, values);
+    body = (struct bytes){malloc(PRADULINS_OUT_SIZE), values[0]};
+    memcpy(body.at, out, number ? 0 : body.len);
+    agree_on_lists(file, number, false);
+    snprintf(name, sizeof name, "write/%.*s", (int)stem, file);
+    measure(name, our_write, their_write, 1, 8);
+    /* of the last message */
+    if (pradulins_sign_fields(records, words, lent.at, lent.len, (size_t)-1, out, sizeof out, values) == PRADULINS_NO_MESSAGE && values[0] > 0) {
+        message_index = values[0] - 1;
+        agree_on_lists(file, pradulins_sign_fields(records, words, lent.at, lent.len, message_index, out, sizeof out, values), true);
+        snprintf(name, sizeof name, "tosign/%.*s", (int)stem, file);
+        measure(name, our_sign_fields, their_sign_fields, 1, 8);
+    }
+    free(body.at);
+    free(all.at);
+}
+
+static bool is_lists(const char *file)
+{
+    size_t len = strlen(file);
+    return len > 5 && strcmp(file + len - 5, ".rows") == 0;
 }
 
 static void seen_cases(size_t count)
@@ -513,13 +606,17 @@ static void node_cases(void)
 int main(int argc, char **argv)
 {
     if (argc < 5)
-        fail("usage", "compare time|count REPETITIONS CLEAR FOLDER BODY...");
+        fail("usage", "compare time|count REPETITIONS CLEAR FOLDER FILE...");
     counting = strcmp(argv[1], "count") == 0;
     repetitions = atoi(argv[2]);
     clear = atoi(argv[3]);
     const char *folder = argv[4];
-    for (int i = 5; i < argc; i++)
-        body_cases(folder, argv[i]);
+    for (int i = 5; i < argc; i++) {
+        if (is_lists(argv[i]))
+            list_cases(folder, argv[i]);
+        else
+            body_cases(folder, argv[i]);
+    }
     ids = read_file(folder, "ids");
     others = read_file(folder, "others");
     seen_cases(16);

@@ -52,6 +52,37 @@ pub unsafe extern "C" fn theirs_made(body: *const u8, len: usize, index: usize, 
     made.len() as u64
 }
 
+/// The RPC of a body, whose messages are to be made anew from their fields.
+fn anew(body: &[u8]) -> Rpc {
+    let mut rpc = Rpc::decode(body).unwrap_or_default();
+    for message in &mut rpc.publish {
+        message.raw.clear();
+    }
+    rpc
+}
+
+#[unsafe(no_mangle)]
+pub unsafe extern "C" fn theirs_write(body: *const u8, len: usize, times: u64) -> u64 {
+    let rpc = anew(unsafe { slice(body, len) });
+    (0..times).map(|_| black_box(black_box(&rpc).encode()).len() as u64).sum()
+}
+
+#[unsafe(no_mangle)]
+pub unsafe extern "C" fn theirs_sign_fields(body: *const u8, len: usize, index: usize, times: u64) -> u64 {
+    let rpc = anew(unsafe { slice(body, len) });
+    (0..times).map(|_| black_box(black_box(&rpc).publish[index].sign_bytes()).len() as u64).sum()
+}
+
+/// What the Rust makes of the fields of a body, to compare: an encoding, or the bytes to sign of a message.
+#[unsafe(no_mangle)]
+pub unsafe extern "C" fn theirs_written(body: *const u8, len: usize, index: usize, sign: bool, out: *mut u8, room: usize) -> u64 {
+    let rpc = anew(unsafe { slice(body, len) });
+    let made = if sign { rpc.publish[index].sign_bytes() } else { rpc.encode() };
+    let out = unsafe { std::slice::from_raw_parts_mut(out, room) };
+    out[..made.len()].copy_from_slice(&made);
+    made.len() as u64
+}
+
 fn parts(bytes: &[u8], size: usize) -> Vec<Vec<u8>> {
     bytes.chunks_exact(size).map(<[u8]>::to_vec).collect()
 }
