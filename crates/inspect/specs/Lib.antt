@@ -1,6 +1,7 @@
--- To be believed: Answers, Made, Records, Senders.
+-- To be believed: Answers, Lists, Made, Records, Senders.
 -- Theorems: Rows.
 pub mod Answers
+pub mod Lists
 pub mod Made
 pub mod Records
 pub mod Rows

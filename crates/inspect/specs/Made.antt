@@ -17,3 +17,11 @@ signLine n s t = madeLine n (32 ∷ 115 ∷ 105 ∷ 103 ∷ 110 ∷ []) true s t
 -- ` id`; s is the buffer afterwards
 abbrev pub idLine : ℕ → List ℕ → Told → List ℕ
 idLine n s t = madeLine n (32 ∷ 105 ∷ 100 ∷ []) true s t
+
+-- ` write`; s is the buffer afterwards
+abbrev pub writeLine : ℕ → List ℕ → Told → List ℕ
+writeLine n s t = madeLine n (32 ∷ 119 ∷ 114 ∷ 105 ∷ 116 ∷ 101 ∷ []) true s t
+
+-- ` tosign`; s is the buffer afterwards
+abbrev pub tosignLine : ℕ → List ℕ → Told → List ℕ
+tosignLine n s t = madeLine n (32 ∷ 116 ∷ 111 ∷ 115 ∷ 105 ∷ 103 ∷ 110 ∷ []) true s t

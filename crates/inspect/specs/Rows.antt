@@ -1,8 +1,11 @@
 -- Lines, worked out: `1 walk refused 4 2 5 1 at 2` for the scope's body `0a 05 08`, `12 varint 300 2`, `3 utf8 no`,
--- and no line for kind 10.
+-- and no line for kind 12.
 use mathlib.Core.Path.{_≡_, refl}
 use mathlib.Core.List.{[], _∷_, _++_}
+use mathlib.Core.Option.{none, some}
 use lib.ListN.{replicate}
+use Rattle.basis.specs.Refusals.{malformed, invalid-utf8}
+use Rattle.basis.specs.Told.{told, done}
 use Rattle.basis.specs.Little.{little}
 use Rattle.text.specs.Line.{width, decimal, number, numbers, refused, hex}
 use Rattle.peer_id.specs.Uvarint.{readUvarint, readFrom, groupOf}
@@ -20,7 +23,9 @@ use Rattle.schema.specs.Slots.{setPlace, withField, slotsOf, hasField}
 use Rattle.message.specs.Rows.{ownRows, rowsOf}
 use Rattle.message.specs.Told.{decodedTold}
 use Rattle.message.specs.Decode.{hasControl, decodeAnswer}
-use Rattle.lines.specs.Lines.{fieldsText, spotText, refusalLine}
+use Rattle.lines.specs.Lines.{fieldsText, spotText, refusalLine, shownText, bytesLine, madeLine}
+use Rattle.inspect.specs.Lists.{wordIf, fieldsWords, fieldsEnd, wordsBy, wordsEnd, rowEnd, rowsEnd, rowsWords, listsIn}
+use Rattle.inspect.specs.Made.{writeLine, tosignLine}
 use Rattle.inspect.specs.Records.{bytesText, placeText, countText, flagText, subText, messageText, pruneText}
 use Rattle.inspect.specs.Records.{recordText, recordLine, linesOf, decodedText, decodeLine}
 use Rattle.inspect.specs.Senders.{keyText, peerIdText, keyAnswer, peerAnswer}
@@ -32,7 +37,7 @@ pub rows :
     × (lineOf 12 6 (0xac ∷ 0x02 ∷ []) ≡ 49 ∷ 50 ∷ 32 ∷ 118 ∷ 97 ∷ 114 ∷ 105 ∷ 110 ∷ 116 ∷ 32 ∷ 51 ∷ 48 ∷ 48 ∷ 32 ∷ 50
     ∷ 10 ∷ [])
     × (lineOf 3 7 (0xc0 ∷ 0x80 ∷ []) ≡ 51 ∷ 32 ∷ 117 ∷ 116 ∷ 102 ∷ 56 ∷ 32 ∷ 110 ∷ 111 ∷ 10 ∷ [])
-    × (lineOf 4 10 [] ≡ [])
+    × (lineOf 4 12 [] ≡ [])
 unfolding lineOf closed answerTo walkAnswer varintAnswer utf8Answer walk varint little width decimal number numbers
     refused fieldsText spotText readUvarint readFrom groupOf isUtf8 run readTag readLen skipField walkStep
 rows = (refl, refl, refl, refl)
@@ -77,3 +82,29 @@ unfolding decodeLine decodedText linesOf recordLine recordText subText messageTe
     ownOf textCount toDepth overKinds counted textSpot spotIn bodyRecords setPlace withField slotsOf hasField ownRows
     rowsOf hasControl decodeAnswer
 bodies = (refl, refl, refl, refl)
+
+-- lists: a subscription with its number and its topic over `t`, with room for 7 bytes; no row and no bytes; and what is
+-- bad: a mask of 64, a row that lacks a byte, room for 65,601 bytes, 641 rows
+pub lists :
+    (listsIn ((7 ∷ 0 ∷ 0 ∷ 0 ∷ 1 ∷ 0 ∷ 1 ∷ 3 ∷ [])
+    ++ (replicate 16 0 ++ ((1 ∷ replicate 7 0) ++ (replicate 8 0 ++ ((1 ∷ replicate 7 0) ++ (116 ∷ []))))))
+    ≡ some (record { room = 7; words = 1 ∷ 0 ∷ 0 ∷ 1 ∷ 1 ∷ 1 ∷ 0 ∷ 1 ∷ replicate 12 0; bytes = 116 ∷ [] }))
+    × (listsIn (replicate 6 0) ≡ some (record { room = 0; words = []; bytes = [] }))
+    × (listsIn ((7 ∷ 0 ∷ 0 ∷ 0 ∷ 1 ∷ 0 ∷ 8 ∷ 64 ∷ []) ++ replicate 40 0) ≡ none)
+    × (listsIn ((7 ∷ 0 ∷ 0 ∷ 0 ∷ 1 ∷ 0 ∷ 8 ∷ 2 ∷ []) ++ replicate 31 0) ≡ none)
+    × (listsIn (0x41 ∷ 0 ∷ 1 ∷ 0 ∷ 0 ∷ 0 ∷ []) ≡ none)
+    × (listsIn (0 ∷ 0 ∷ 0 ∷ 0 ∷ 0x81 ∷ 2 ∷ []) ≡ none)
+unfolding listsIn rowsEnd rowsWords rowEnd wordsBy wordsEnd fieldsWords fieldsEnd wordIf little
+lists = (refl, refl, refl, refl, refl, refl)
+
+-- their lines: `1 write 7 0a050801120174`, `2 write 0`, `3 write refused 42`, `4 tosign refused 7 1`
+pub written :
+    (writeLine 1 (0x0a ∷ 0x05 ∷ 0x08 ∷ 0x01 ∷ 0x12 ∷ 0x01 ∷ 0x74 ∷ []) (done (7 ∷ [])) ≡ 49 ∷ 32 ∷ 119 ∷ 114 ∷ 105 ∷ 116
+    ∷ 101 ∷ 32 ∷ 55 ∷ 32 ∷ 48 ∷ 97 ∷ 48 ∷ 53 ∷ 48 ∷ 56 ∷ 48 ∷ 49 ∷ 49 ∷ 50 ∷ 48 ∷ 49 ∷ 55 ∷ 52 ∷ 10 ∷ [])
+    × (writeLine 2 [] (done (0 ∷ [])) ≡ 50 ∷ 32 ∷ 119 ∷ 114 ∷ 105 ∷ 116 ∷ 101 ∷ 32 ∷ 48 ∷ 10 ∷ [])
+    × (writeLine 3 [] (told malformed []) ≡ 51 ∷ 32 ∷ 119 ∷ 114 ∷ 105 ∷ 116 ∷ 101 ∷ 32 ∷ 114 ∷ 101 ∷ 102 ∷ 117 ∷ 115 ∷ 101
+    ∷ 100 ∷ 32 ∷ 52 ∷ 50 ∷ 10 ∷ [])
+    × (tosignLine 4 [] (told invalid-utf8 (1 ∷ [])) ≡ 52 ∷ 32 ∷ 116 ∷ 111 ∷ 115 ∷ 105 ∷ 103 ∷ 110 ∷ 32 ∷ 114 ∷ 101 ∷ 102
+    ∷ 117 ∷ 115 ∷ 101 ∷ 100 ∷ 32 ∷ 55 ∷ 32 ∷ 49 ∷ 10 ∷ [])
+unfolding madeLine bytesLine shownText refusalLine spotText hex width decimal number numbers refused
+written = (refl, refl, refl, refl)

@@ -1,7 +1,9 @@
 // Answers records from standard input, a line for each: the record's number from 1, the call, the answer. A record is its content's length
 // (u32), its kind (u16) and its content, little-endian. Kinds: 1 decode (body), 2 encode (body), 3 sign (index u16, body),
-// 4 id (index u16, body), 5 walk (place u64, body), 6 varint (bytes), 7 utf8 (bytes), 8 key (bytes), 9 peer (bytes).
+// 4 id (index u16, body), 5 walk (place u64, body), 6 varint (bytes), 7 utf8 (bytes), 8 key (bytes), 9 peer (bytes),
+// 10 write (lists), 11 tosign (index u16, lists); what lists are stands in specs/Lists.antt.
 // After the line of kind 1 come those of the body's records.
+mod lists;
 mod made;
 mod records;
 mod senders;
@@ -13,15 +15,22 @@ ghost use lib.Dec.{ltb};
 ghost use Rattle.text.specs.Line.{Puts};
 ghost use Rattle.lines.specs.Lines.{Wrote};
 ghost use Rattle.inspect.specs.Answers.{walk, varint, walkAnswer, varintAnswer, utf8Answer, answerTo, lineOf};
+use compose::sign_fields;
+use compose::told::told_composed;
+use compose::write_rpc;
 use ids::told::told_message;
 use lines::end_line;
 use lines::put_refusal;
 use lines::put_value;
 use lines::put_word;
 use lines::start_line;
+use lists::Lent;
+use lists::read_lists;
 use made::encode_line;
 use made::id_line;
 use made::sign_line;
+use made::tosign_line;
+use made::write_line;
 use message::told::told_decoded;
 use peer_id::Uvarint;
 use peer_id::told::told_varint;
@@ -233,6 +242,105 @@ fn reply_id(n: u64, content: &[u8], made: &mut [u8], out: &mut [u8]) -> bool
     print(out, k)
 }
 
+// The line of an RPC that is written from lists, in all of `made`.
+fn write_lists(n: u64, records: &[u64], bytes: &[u8], made: &mut [u8], out: &mut [u8]) -> bool
+    requires { ⌜ length (now made) ≤ 65600 ⌝ }
+    requires { ⌜ 787456 ≤ length (now out) ⌝ }
+{
+    let r = write_rpc(records, bytes, made);
+    let k = write_line(n, made, told_composed(r), out);
+    print(out, k)
+}
+
+// Kind 10: as many bytes of the buffer are lent as the room says.
+fn reply_write(n: u64, content: &[u8], table: &mut [u64], made: &mut [u8], out: &mut [u8]) -> bool
+    requires { ⌜ length (now content) ≤ 65600 ⌝ }
+    requires { ⌜ 12800 ≤ length (now table) ⌝ }
+    requires { ⌜ 65600 ≤ length (now made) ⌝ }
+    requires { ⌜ 787456 ≤ length (now out) ⌝ }
+{
+    let given = read_lists(content, table);
+    match given {
+        Lent::Bad => last(b"bad\n"),
+        Lent::Lists { room, words, start } => write_lists(
+            n,
+            &table[..words],
+            &content[start..],
+            &mut made[..room],
+            out,
+        ),
+    }
+}
+
+// The line of the bytes to sign of a message of lists, in all of `made`.
+fn sign_lists(
+    n: u64,
+    records: &[u64],
+    bytes: &[u8],
+    index: usize,
+    made: &mut [u8],
+    out: &mut [u8],
+) -> bool
+    requires { ⌜ length (now made) ≤ 65600 ⌝ }
+    requires { ⌜ 787456 ≤ length (now out) ⌝ }
+{
+    let r = sign_fields(records, bytes, index, made);
+    let k = tosign_line(n, made, told_composed(r), out);
+    print(out, k)
+}
+
+// The same, from the content behind the index.
+fn reply_tosign(
+    n: u64,
+    index: usize,
+    content: &[u8],
+    table: &mut [u64],
+    made: &mut [u8],
+    out: &mut [u8],
+) -> bool
+    requires { ⌜ length (now content) ≤ 65600 ⌝ }
+    requires { ⌜ 12800 ≤ length (now table) ⌝ }
+    requires { ⌜ 65600 ≤ length (now made) ⌝ }
+    requires { ⌜ 787456 ≤ length (now out) ⌝ }
+{
+    let given = read_lists(content, table);
+    match given {
+        Lent::Bad => last(b"bad\n"),
+        Lent::Lists { room, words, start } => sign_lists(
+            n,
+            &table[..words],
+            &content[start..],
+            index,
+            &mut made[..room],
+            out,
+        ),
+    }
+}
+
+// The kinds that take lists. Kind 11: the index, and then as kind 10.
+fn reply_lists(
+    n: u64,
+    kind: u64,
+    content: &[u8],
+    table: &mut [u64],
+    made: &mut [u8],
+    out: &mut [u8],
+) -> bool
+    requires { ⌜ length (now content) ≤ 65600 ⌝ }
+    requires { ⌜ 12800 ≤ length (now table) ⌝ }
+    requires { ⌜ 65600 ≤ length (now made) ⌝ }
+    requires { ⌜ 787456 ≤ length (now out) ⌝ }
+{
+    if kind == 10 {
+        return reply_write(n, content, table, made, out);
+    }
+    if content.len() < 2 {
+        return last(b"bad\n");
+    }
+    let index = basis::little_at(content, 0, 2);
+    reply_tosign(n, index as usize, &content[2..], table, made, out)
+}
+
 // The kinds that write bytes, each with its buffer, and then the others.
 fn reply_line(n: u64, kind: u64, content: &[u8], made: &mut [u8], out: &mut [u8]) -> bool
     requires { ⌜ length (now content) ≤ 65600 ⌝ }
@@ -267,6 +375,7 @@ fn reply(
 ) -> bool
     requires { ⌜ len ≤ length (now content) ⌝ }
     requires { ⌜ len ≤ 65600 ⌝ }
+    requires { ⌜ 12800 ≤ length (now table) ⌝ }
     requires { ⌜ 65600 ≤ length (now made) ⌝ }
     requires { ⌜ 787456 ≤ length (now out) ⌝ }
 {
@@ -277,12 +386,16 @@ fn reply(
     if kind == 1 {
         return reply_decode(n, &content[..len], table, out);
     }
-    reply_line(n, kind, &content[..len], made, out)
+    match kind {
+        10 | 11 => reply_lists(n, kind, &content[..len], table, made, out),
+        _ => reply_line(n, kind, &content[..len], made, out),
+    }
 }
 
 // Reads a record and prints its line, or the word that ends the run. Answers whether to go on.
 fn turn(n: u64, content: &mut [u8], table: &mut [u64], made: &mut [u8], out: &mut [u8]) -> bool
     requires { ⌜ 65600 ≤ length (now content) ⌝ }
+    requires { ⌜ 12800 ≤ length (now table) ⌝ }
     requires { ⌜ 65600 ≤ length (now made) ⌝ }
     requires { ⌜ 787456 ≤ length (now out) ⌝ }
 {
@@ -298,7 +411,7 @@ fn turn(n: u64, content: &mut [u8], table: &mut [u64], made: &mut [u8], out: &mu
 // The count of records only bounds the loop: no run uses it up.
 fn main() {
     let mut content = [0u8; 65600];
-    let mut table = [0u64; 10240];
+    let mut table = [0u64; 12800];
     let mut made = [0u8; 65600];
     let mut out = [0u8; 787456];
     let mut n: u64 = 1;

@@ -8,13 +8,13 @@ use Rattle.inspect.proofs.main.Statement.{statement}
 use Rattle.inspect.proofs.main.Tie as tie
 
 abbrev Inv-loop : tie.InvT-loop
-Inv-loop content₀ table₀ made₀ out₀ n₀ content table made out n = (65600 ≡ length content) × (10240 ≡ length table) × (65600 ≡ length made) × (787456 ≡ length out)
+Inv-loop content₀ table₀ made₀ out₀ n₀ content table made out n = (65600 ≡ length content) × (12800 ≡ length table) × (65600 ≡ length made) × (787456 ≡ length out)
 
 abbrev μ-loop : tie.MeasureT-loop
 μ-loop content₀ table₀ made₀ out₀ n₀ content table made out n = 2 ^ 64 - n
 
 loop-holds : tie.Need-loop-holds Inv-loop μ-loop
-loop-holds c = (filled 65600, filled 10240, filled 65600, filled 787456)
+loop-holds c = (filled 65600, filled 12800, filled 65600, filled 787456)
 
 slice-aggregate-turn : tie.Need-slice-aggregate-turn Inv-loop μ-loop
 slice-aggregate-turn c = search needs

@@ -5,12 +5,6 @@ use Rattle.inspect.proofs.Answering.{front-small}
 use borrow.Author.Needs.{needs}
 use Rattle.inspect.proofs.reply.Statement.{statement}
 use Rattle.inspect.proofs.reply.Tie as tie
-use Rattle.inspect.proofs.reply.Reads as reads
-use Rattle.inspect.proofs.reply.Lts as lts
-use Rattle.inspect.proofs.last.Reads as last-reads
-use Rattle.inspect.proofs.reply_decode.Reads as reply-decode-reads
-use Rattle.inspect.proofs.reply_line.Reads as reply-line-reads
-use Rattle.io.proofs.read_full.Reads as read-full-reads
 
 slice-relend-prefix-read-full : tie.Need-slice-relend-prefix-read-full
 slice-relend-prefix-read-full c = search needs
@@ -40,7 +34,7 @@ slice-aggregate-reply-decode : tie.Need-slice-aggregate-reply-decode
 slice-aggregate-reply-decode c = prefix _ _ (search needs)
 
 reply-decode-requires : tie.Need-reply-decode-requires
-reply-decode-requires c κs = (front-small (c .before .before .before .before .before .before .before .before .before .before .before .before .before .args .len) _ _ (omega arith), omega arith)
+reply-decode-requires c κs = (front-small (c .before .before .before .before .before .before .before .before .before .before .before .before .before .args .len) _ _ (omega arith), search needs)
 
 same-length-2 : tie.Need-same-length-2
 same-length-2 c = search needs
@@ -54,6 +48,15 @@ same-length-4 c = search needs
 returns-2 : tie.Need-returns-2
 returns-2 c = search needs
 
+slice-reshare-prefix-reply-lists : tie.Need-slice-reshare-prefix-reply-lists
+slice-reshare-prefix-reply-lists c = search needs
+
+slice-aggregate-reply-lists : tie.Need-slice-aggregate-reply-lists
+slice-aggregate-reply-lists c = prefix _ _ (search needs)
+
+reply-lists-requires : tie.Need-reply-lists-requires
+reply-lists-requires c κs = (front-small (c .before .before .before .before .before .before .before .before .before .before .before .before .before .before .before .before .args .len) _ _ (omega arith), search needs)
+
 slice-reshare-prefix-reply-line : tie.Need-slice-reshare-prefix-reply-line
 slice-reshare-prefix-reply-line c = search needs
 
@@ -61,7 +64,7 @@ slice-aggregate-reply-line : tie.Need-slice-aggregate-reply-line
 slice-aggregate-reply-line c = prefix _ _ (search needs)
 
 reply-line-requires : tie.Need-reply-line-requires
-reply-line-requires c κs = (front-small (c .before .before .before .before .before .before .before .before .before .before .before .before .before .args .len) _ _ (omega arith), (omega arith, omega arith))
+reply-line-requires c κs = (front-small (c .before .before .before .before .before .before .before .before .before .before .before .before .before .before .args .len) _ _ (omega arith), search needs)
 
 same-length-5 : tie.Need-same-length-5
 same-length-5 c = search needs
@@ -72,8 +75,23 @@ same-length-6 c = search needs
 same-length-7 : tie.Need-same-length-7
 same-length-7 c = search needs
 
+same-length-8 : tie.Need-same-length-8
+same-length-8 c = search needs
+
 returns-3 : tie.Need-returns-3
 returns-3 c = search needs
+
+same-length-9 : tie.Need-same-length-9
+same-length-9 c = search needs
+
+same-length-10 : tie.Need-same-length-10
+same-length-10 c = search needs
+
+same-length-11 : tie.Need-same-length-11
+same-length-11 c = search needs
+
+returns-4 : tie.Need-returns-4
+returns-4 c = search needs
 
 pub reply-spec : {M : Type 1} → statement M
 reply-spec =
@@ -93,10 +111,18 @@ reply-spec =
     same-length-3
     same-length-4
     returns-2
+    slice-reshare-prefix-reply-lists
+    slice-aggregate-reply-lists
+    reply-lists-requires
     slice-reshare-prefix-reply-line
     slice-aggregate-reply-line
     reply-line-requires
     same-length-5
     same-length-6
     same-length-7
-    returns-3)
+    same-length-8
+    returns-3
+    same-length-9
+    same-length-10
+    same-length-11
+    returns-4)

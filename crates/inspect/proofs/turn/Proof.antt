@@ -33,7 +33,7 @@ enum-known-h : tie.Need-enum-known-h
 enum-known-h c = search needs
 
 reply-requires : tie.Need-reply-requires
-reply-requires c κs = let l = content-fits _ _ _ (c .before .before .before .before .before .h .given .1) (c .before .before .before .before .before .before .before .next-header .ensures) in (omega arith, (omega arith, (omega arith, omega arith)))
+reply-requires c κs = let l = content-fits _ _ _ (c .before .before .before .before .before .h .given .1) (c .before .before .before .before .before .before .before .next-header .ensures) in (omega arith, (omega arith, (omega arith, (omega arith, omega arith))))
 
 returns : tie.Need-returns
 returns c = search needs
