@@ -84,10 +84,10 @@ def endings():
     yield "the largest length, kind cut", wire.header(2**32 - 1, 7)[:4], "long\n"
     yield "the longest content", wire.header(most, 7) + b"a" * most, "1 utf8 yes\n"
     yield "the longest content, cut", wire.header(most, 7) + b"a" * (most - 1), "bad\n"
-    yield "the longest content, of no kind", wire.header(most, 10) + b"a" * most, "bad\n"
+    yield "the longest content, of no kind", wire.header(most, 12) + b"a" * most, "bad\n"
     yield "content missing", wire.header(1, 7), "bad\n"
     yield "content cut", wire.header(3, 6) + b"\x80\x80", "bad\n"
-    for kind in (0, 10, 255, 0x0105, 0x0108, 0x0500, 65535):
+    for kind in (0, 12, 255, 0x0105, 0x0108, 0x0500, 65535):
         yield "kind %d" % kind, wire.header(1, kind) + b"a", "bad\n"
         yield "kind %d, empty" % kind, wire.header(0, kind), "bad\n"
     for n in range(8):
@@ -101,7 +101,7 @@ def endings():
     longest = wire.varint(most - 6) + b"k" * (most - 6)
     yield "the longest key", wire.header(most, 8) + b"\x08\x03\x12" + longest, "1 key 3 =%s\n" % ("6b" * (most - 6))
     yield "bad after two", yes + yes + b"\x01", "1 utf8 yes\n2 utf8 yes\nbad\n"
-    yield "bad before one", wire.header(0, 11) + yes, "bad\n"
+    yield "bad before one", wire.header(0, 12) + yes, "bad\n"
     yield "long after one", yes + wire.header(most + 1, 7) + yes, "1 utf8 yes\nlong\n"
     yield "short walk after one", yes + wire.header(7, 5) + bytes(7) + yes, "1 utf8 yes\nbad\n"
 

@@ -9,7 +9,8 @@ bodies of 65,536 and 65,537 bytes and of 511 to 513 records, and random ones
 bodies, and the topics of the scope by every call. Those of `caches` are the fixed
 histories of caches.py and some random ones; they show every call and every refusal.
 Both end with rows about the place of a refusal; after them `inspect` has public keys
-and peer ids (keys.py). The answers in stdout are the Rust's,
+and peer ids (keys.py), and lists to write from (lists.py): the rows of the scope, some
+of the fixed ones and random ones. The answers in stdout are the Rust's,
 from the oracle, never the program's; the limits that the Rust does not have are the
 scope's own, and the places are those of places.py. Each run ends with a length that
 is too long, its kind cut off.
@@ -21,6 +22,7 @@ import random
 import bodies
 import caches
 import keys
+import lists
 import wire
 from oracle import HERE, Oracle
 from programs import build
@@ -36,6 +38,10 @@ KEYS_SEED = 25
 SOME_EDGES = 120
 SOME_TENTHS = 40
 RANDOM_KEYS = 200
+LISTS_SEED = 26
+SOME_LISTS = 150
+RANDOM_LISTS = 150
+SHORT_LISTS = 800
 CACHES_SEED = 23
 CACHES_RECORDS = 1950
 
@@ -119,6 +125,31 @@ def chosen_keys(r):
         yield keys.random_case(r)
 
 
+def chosen_lists(r):
+    """The rows of the scope, the shortest fixed case of each refusal, and some fixed and random ones that are short."""
+    scope = [case for case, _ in lists.scope()]
+    yield from scope
+    others = list(lists.fixed_cases(r))[len(scope):]
+    shortest = {}
+    for case in sorted(others, key=lambda case: len(lists.record(case))):
+        if refused := lists.judged(case)[1]:
+            shortest.setdefault((case[0], refused.split(" ")[1]), case)
+    yield from shortest.values()
+
+    def short(cases):
+        return [case for case in cases if len(lists.record(case)) <= SHORT_LISTS]
+    yield from r.sample(short(others), SOME_LISTS)
+    yield from short(lists.random_cases(r, RANDOM_LISTS))
+
+
+def list_lines(oracle, cases):
+    """The lines of cases of lists, without their numbers."""
+    told = [lists.answer(case, oracle.ask) for case in cases]
+    met = {(words[0], int(words[2])) for words in (line.split(" ") for line in told) if words[1] == "refused"}
+    assert met == {(call, number) for call, numbers in lists.REFUSALS.items() for number in numbers}, met
+    return told
+
+
 def lines(case, asked, told):
     if case[0] in ("key", "peer"):
         line = keys.answer(case[0], case[1], told)
@@ -156,8 +187,9 @@ def make_inspect(oracle):
     cases += chosen_keys(random.Random(KEYS_SEED))
     commands = [wire.command(case) for case in cases]
     answers = oracle.batch(commands)
-    save("inspect", [wire.record(case) for case in cases],
-         ["\n".join(lines(*one)) for one in zip(cases, commands, answers)])
+    of_lists = list(chosen_lists(random.Random(LISTS_SEED)))
+    save("inspect", [wire.record(case) for case in cases] + [lists.record(case) for case in of_lists],
+         ["\n".join(lines(*one)) for one in zip(cases, commands, answers)] + list_lines(oracle, of_lists))
 
 
 def make_caches(oracle):

@@ -3,7 +3,8 @@
 A case is (call, bytes, place): ("walk", body, place), ("varint", bytes, 0),
 ("utf8", bytes, 0), or one whose bodies and lines are those of bodies.py:
 ("decode", body, 0), ("encode", body, 0), ("sign", body, index), ("id", body, index);
-or one of keys.py: ("key", bytes, 0), ("peer", bytes, 0).
+or one of keys.py: ("key", bytes, 0), ("peer", bytes, 0); or the content of one of
+lists.py: ("write", content, 0), ("tosign", content, index).
 Everything random comes from one seeded `random.Random`.
 """
 
@@ -11,8 +12,8 @@ from oracle import NUMBER, hexed, unhexed
 from places import find_field, with_place
 from records import header
 
-KIND = {"decode": 1, "encode": 2, "sign": 3, "id": 4, "walk": 5, "varint": 6, "utf8": 7, "key": 8, "peer": 9}
-PLACE = {"sign": 2, "id": 2, "walk": 8}  # bytes of the number before the body
+KIND = {"decode": 1, "encode": 2, "sign": 3, "id": 4, "walk": 5, "varint": 6, "utf8": 7, "key": 8, "peer": 9, "write": 10, "tosign": 11}
+PLACE = {"sign": 2, "id": 2, "walk": 8, "tosign": 2}  # bytes of the number before the body or the lists
 MAX_CONTENT = 65600
 MAX_BODY = 65536
 TOP = 2**64 - 1

@@ -1,10 +1,11 @@
 #!/usr/bin/env python3
-"""Tests of what the oracle's comparisons and bench/bench say where something is missing, of the finder of places, and of the models' peer ids, keys and
-admission. They need neither the Rust's files nor a program.
+"""Tests of what the oracle's comparisons and bench/bench say where something is missing, of the finder of places, of the models' peer ids, keys and
+admission, and of the model of lists. They need neither the Rust's files nor a program.
 
     python3 tools/test_oracle.py
 """
 
+import collections
 import itertools
 import os
 import random
@@ -22,6 +23,7 @@ import admissions  # noqa: E402
 import bodies  # noqa: E402
 import caches  # noqa: E402
 import keys  # noqa: E402
+import lists  # noqa: E402
 import nodes  # noqa: E402
 import peers  # noqa: E402
 import places  # noqa: E402
@@ -31,10 +33,10 @@ import states  # noqa: E402
 import traces  # noqa: E402
 import wire  # noqa: E402
 
-RUST = ("compare_wire", "compare_decode", "compare_write", "compare_caches", "compare_keys", "compare_admission")
+RUST = ("compare_wire", "compare_decode", "compare_write", "compare_caches", "compare_keys", "compare_admission", "compare_lists")
 PROGRAM = {"compare_wire": "inspect", "compare_decode": "inspect", "compare_write": "inspect", "compare_caches": "caches", "compare_trace": "trace",
            "compare_states": "states", "make_states": "states", "compare_why": "why", "make_why": "why", "compare_keys": "inspect",
-           "compare_admission": "states"}
+           "compare_admission": "states", "compare_lists": "inspect"}
 
 
 class Case(unittest.TestCase):
@@ -389,6 +391,73 @@ class Senders(unittest.TestCase):
         self.assertGreater(2 * sum(one in ("new", "dup") for one in met), len(met))
         for number in (34, 35, 36):
             self.assertGreater(met.count("refused %d" % number), 20)
+
+
+def written(rpc):
+    """The bytes of an RPC by another way: each part made and joined."""
+    def part(number, fields):
+        return field(number, b"".join(fields))
+
+    def number(n, value):
+        return [] if value is None else [bytes([n * 8]) + wire.varint(int(value))]
+    out = [part(1, number(1, one["subscribe"]) + [field(2, one["topic_id"])]) for one in rpc["subscriptions"]]
+    out += [field(2, lists.raw_of(one)) for one in rpc["publish"]]
+    if rpc["control"] is not None:
+        entries = [part(3, [field(1, one["topic_id"])]) for one in rpc["control"]["graft"]]
+        for one in rpc["control"]["prune"]:
+            peers_of = [part(2, [field(1, peer["peer_id"]), field(2, peer["signed_peer_record"])]) for peer in one["peers"]]
+            entries.append(part(4, [field(1, one["topic_id"])] + peers_of + number(3, one["backoff"])))
+        out.append(part(3, entries))
+    return b"".join(out)
+
+
+class Lists(unittest.TestCase):
+    def line(self, case):
+        """The model's line, with bytes made here and not by the Rust."""
+        rpc, refused = lists.judged(case)
+        if refused:
+            return "%s %s" % (case[0], refused)
+        made = written(rpc) if case[0] == "write" else b"libp2p-pubsub:" + lists.raw_of(dict(rpc["publish"][0], signature=None, key=None))
+        return " ".join([case[0], str(len(made))] + [made.hex()] * (made != b""))
+
+    def test_the_rows(self):
+        for case, line in lists.scope():
+            self.assertEqual(self.line(case), line)
+        x = caches.put_step(caches.X)[2]
+        self.assertEqual((lists.X, len(lists.X_DATA)), (x.hex(), 104))
+
+    def test_records(self):
+        one = lists.row(lists.PRUNE, 60, (1, 2), None, None, None, (3, 2**64 - 1), own=(4, 5))
+        self.assertEqual(lists.row_bytes(one).hex(), "0923" + "0400000000000000" + "0500000000000000" + "3c00000000000000" + "0100000000000000"
+                         + "0200000000000000" + "0300000000000000" + "ff" * 8)
+        self.assertEqual(lists.content(6, [lists.row(lists.SUB)], b"t").hex(), "06000000" + "0100" + "0100" + "00" * 16 + "74")
+        self.assertEqual(lists.record(("tosign", 0, [], b"", 258))[:14].hex(), "08000000" + "0b00" + "0201" + "00" * 6)
+
+    def test_sizes(self):
+        r, made = random.Random(8), 0
+        for call, room, rows, data, _ in itertools.chain(lists.fixed_cases(r), lists.random_cases(r, 1500)):
+            rpc, _ = lists.judged((call, room, rows, data, 0))
+            if rpc is not None and call == "write":
+                body = written(rpc)
+                self.assertEqual(lists.size_of(rpc), len(body))
+                made += 1
+                # What is written is read back by the other model, and each message is admitted; as decode leaves it, it can be lent again.
+                got = nodes.Body(body)
+                self.assertEqual(got.records, len(rows))
+                for message in got.messages:
+                    nodes.admission(message, True)
+                self.assertEqual(lists.said(lists.rows_of(body), body), rpc)
+        self.assertGreater(made, 2000)
+
+    def test_random_lists_are_mostly_written(self):
+        r, met = random.Random(9), collections.Counter()
+        for case in lists.random_cases(r, 3000):
+            rpc, refused = lists.judged(case)
+            met["%s %s" % (case[0], refused.split(" ")[1] if refused else "bytes")] += 1
+        self.assertGreater(met["write bytes"], 2200)
+        self.assertGreater(met["tosign bytes"], 900)
+        for number in lists.REFUSALS["write"] - {13}:
+            self.assertGreater(met["write %d" % number], 3, number)
 
 
 if __name__ == "__main__":
