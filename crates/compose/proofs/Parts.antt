@@ -1,6 +1,6 @@
 -- What the writers need of rows and places: codes and kinds, places that lie within the bytes, a field by its place.
 use Prim.Native.Nat.{ℕ, zero, suc, _+_, _-_, _*_, _/_, _≤_, _<_}
-use mathlib.Core.Path.{_≡_, refl, sym, ap, ap₂, subst, _∙_}
+use mathlib.Core.Path.{_≡_, refl, sym, ap, subst, _∙_}
 use mathlib.Core.Bool.{Bool, true, false, cond, _&&_, _||_}
 use mathlib.Core.List.{List, [], _∷_, _++_}
 use mathlib.Core.Option.{none, some}
@@ -9,7 +9,7 @@ use native.Mathlib.Nat.{zero-add}
 use lib.ListN.{length, getD}
 use lib.Dec.{ltb, eqb, leb}
 use borrow.Author.Tests.{eqb-true, ne-eqb, leb-true, ltb-true, ltb-false}
-use Rattle.basis.specs.Cases.{either, clash, both}
+use Rattle.basis.specs.Cases.{either, both}
 use Rattle.peer_id.specs.Uvarint.{uvarint}
 use Rattle.protobuf.specs.Walk.{between}
 use Rattle.protobuf.specs.WalkLaws.{between-length}
@@ -23,17 +23,15 @@ use Rattle.schema.specs.declared.Number.{Number}
 use Rattle.schema.specs.declared.Number.the-variants as number
 use Rattle.schema.specs.declared.Slots.{Slots}
 use Rattle.message.specs.declared.Record.{Record}
-use Rattle.message.specs.declared.RecordAt.{RecordAt}
-use Rattle.message.specs.declared.RecordAt.the-variants as found
-use Rattle.message.specs.Rows.{kindCode, kindFrom, recordFrom, recordAt}
+use Rattle.message.specs.Rows.{kindCode, kindFrom, recordFrom}
 use Rattle.meaning.specs.ReadBack.{bytesAt, numberAt, rawOf}
-use Rattle.meaning.specs.Table.{kind-back, record-at-row}
+use Rattle.meaning.specs.Table.{kind-back}
 use Rattle.rpc.specs.Grammar.{nonzero}
 use Rattle.rpc.specs.Encode.{optional, repeated, flag, encodeSubOpts, encodeGraft, encodePeerInfo, encodePrune, signPrefix, signBytes}
 use Rattle.compose.specs.Lent.{rowsFrom, isCode, insideAt, fieldsInside, rowInside}
 use Rattle.compose.specs.Said.{encodeFields, encodeMessage, topicsFrom, peersFrom, subOptsOf, graftOf, peerOf, pruneOf, messageOf}
 use Rattle.compose.specs.Weighed.{capped}
-use Rattle.compose.specs.Puts.{Puts, capped-small, capped-add, puts-none, puts-same, puts-short, puts-append, puts-field, flagged}
+use Rattle.compose.specs.Puts.{Puts, capped-small, capped-add, puts-short, puts-field, flagged}
 use Rattle.compose.specs.Puts.{Written, of-sub-opts, of-message, of-graft, of-prune, rowBytes, rowPart, eachRow, topicPart, peerPart}
 use Rattle.compose.specs.Puts.{slotAt, fieldPart, hasRow, controlBytes}
 use Rattle.compose.specs.Laws.{rows-step, rows-end, peers-step, topics-step, no-peers, no-topics}

@@ -1,10 +1,12 @@
 -- To be believed: Lent (which lists are lent well), Said (the RPC that they say), Weighed (which messages may be written), Compose (what the calls answer and
 -- leave), Told.
--- Cited by contracts of writers inside the crate: Puts. On the way to the theorems, which stand in composed: Laws.
+-- Theorems: Refused.
+-- Cited by contracts of writers inside the crate: Puts. On the way to those of composed: Laws.
 pub mod Lent
 pub mod Said
 pub mod Weighed
 pub mod Compose
 pub mod Told
 pub mod Puts
+pub mod Refused
 pub mod Laws

@@ -1,4 +1,4 @@
--- A refused call leaves the lent bytes as they were. Which numbers the calls tell: write_rpc never tells 24, 25 or 27; and 0 is told exactly where no refusal holds.
+-- Which numbers the calls tell: write_rpc never tells 24, 25 or 27; and 0 is told exactly where no refusal holds.
 -- The lengths beside 13 and 30 are exact where they are below 2^64.
 use Prim.Native.Nat.{ℕ, _^_, _≤_, _<_}
 use mathlib.Core.Path.{_≡_, refl, ap, subst, _∙_}
@@ -24,7 +24,7 @@ use Rattle.compose.specs.declared.Lists.the-variants.{Fine, Refused}
 use Rattle.compose.specs.Lent.{lentRows}
 use Rattle.compose.specs.Said.{messagesIn, said}
 use Rattle.compose.specs.Weighed.{capped, sizeFine}
-use Rattle.compose.specs.Compose.{writeAnswer, writeLeft, signAnswer, signLeft}
+use Rattle.compose.specs.Compose.{writeAnswer, signAnswer}
 use Rattle.compose.specs.Told.{wrongTold, composedTold}
 use Rattle.compose.specs.Puts.{capped-small}
 use Rattle.composed.specs.Admitted.{oneOf, messageNumbers, weighed-number}
@@ -165,32 +165,6 @@ signed-exactly t b i out = (
       (signs (s .lists) (s .index) (s .room)) in
       ap (λ (a : Told). a .number) (p .0),
 )
-
--- ---- a refusal leaves the lent bytes as they were
-put-left : {xs out : List ℕ} {a : Told} {l : List ℕ} → Writes xs out a l → (a .number ≡ 0 → ⊥) → l ≡ out
-put-left (fits h) n = absurd (n refl)
-put-left (short h) n = refl
-
-write-left : {t b out : List ℕ} {a : Told} {l : List ℕ} → WritesRpc t b out a l → (a .number ≡ 0 → ⊥) → l ≡ out
-write-left (lists-refused u) n = refl
-write-left (message-refused f u) n = refl
-write-left (too-long f u h) n = refl
-write-left (writes f u h w) n = put-left w n
-
-pub refused-write-rpc : (t b out : List ℕ) → (composedTold (writeAnswer t b out) .number ≡ 0 → ⊥)
-    → writeLeft t b out ≡ out
-refused-write-rpc t b out n = write-left (write-says t b out) n
-
-sign-left : {t b : List ℕ} {i : ℕ} {out : List ℕ} {a : Told} {l : List ℕ} → SignsFields t b i out a l
-    → (a .number ≡ 0 → ⊥) → l ≡ out
-sign-left (lists-refused u) n = refl
-sign-left (no-such f h) n = refl
-sign-left (signs f m h) n = absurd (n refl)
-sign-left (short-of f m h) n = refl
-
-pub refused-sign-fields : (t b : List ℕ) (i : ℕ) (out : List ℕ)
-    → (composedTold (signAnswer t b i out) .number ≡ 0 → ⊥) → signLeft t b i out ≡ out
-refused-sign-fields t b i out n = sign-left (sign-says t b i out) n
 
 -- ---- the lengths beside 13, and beside 30
 long-first : {t b out : List ℕ} {a : Told} {l : List ℕ} → WritesRpc t b out a l → a .number ≡ rpc-too-long

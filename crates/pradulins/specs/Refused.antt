@@ -2,27 +2,15 @@
 -- bytes, the stores, the buffer or the table. The values get what the scope's table returns beside the number, and the
 -- refusal's place. An explain, a walk, and what tells a node's settings and state, are lent nothing else to write.
 use Prim.Native.Nat.{ℕ}
-use mathlib.Core.Path.{_≡_, refl, sym, ap, _∙_}
+use mathlib.Core.Path.{_≡_, refl, ap, _∙_}
 use mathlib.Core.Bool.{Bool, true, false, cond}
-use mathlib.Core.List.{List, [], _∷_}
-use lib.ListN.{length, drop}
-use lib.Dec.{leb}
-use Rattle.basis.specs.Cases.{either}
-use Rattle.basis.specs.Writing.{written}
+use mathlib.Core.List.{List}
+use lib.ListN.{length}
 use Rattle.basis.specs.Bytes.{Bytes}
 use Rattle.message.specs.Refused.{refused-decode as decode-refused}
 use Rattle.ids.specs.Refused.{refused-id as id-refused}
 use Rattle.encode.specs.Refused.{refused-encode as encode-refused, refused-sign as sign-refused}
-use Rattle.rpc.specs.Rpc.{RawMessage}
-use Rattle.rpc.specs.Encode.{encodeRpc, signBytes}
-use Rattle.compose.specs.declared.Lists.{Lists}
-use Rattle.compose.specs.declared.Lists.the-variants.{Fine, Refused}
-use Rattle.compose.specs.declared.Composed.{Composed}
-use Rattle.compose.specs.Told.{composedTold}
-use Rattle.compose.specs.Lent.{lentRows}
-use Rattle.compose.specs.Said.{messagesIn, said}
-use Rattle.compose.specs.Compose.{putAnswer, answering, leaving, listsOf, writeTested, writeAnswer, writeLeft}
-use Rattle.compose.specs.Compose.{signAt, signedAt, signAnswer, signLeft}
+use Rattle.compose.specs.Refused.{refused-write-rpc as write-refused, refused-sign-fields as fields-refused}
 use Rattle.node.specs.declared.Start.the-variants as start
 use Rattle.node.specs.Told.{startTold}
 use Rattle.node.specs.State.{legalSettings, freshNode}
@@ -88,35 +76,6 @@ module _ {body vs : List ℕ} {r : ℕ} {ws : List ℕ} where
   refused-decode {t} a h = a .table ∙ decode-refused body t (λ z. h (a .number ∙ z))
 
 -- ---- speaking first
-put-refused : (xs out : List ℕ) → (composedTold (putAnswer xs out) .number ≡ 0 → ⊥) → written xs out ≡ out
-unfolding putAnswer written
-put-refused xs out h = either (leb (length xs) (length out)) (λ t. absurd (h (simp t))) (λ t. simp t)
-
-tested-refused : (a : Composed) (new out : List ℕ) (l : Lists)
-    → ((composedTold a .number ≡ 0 → ⊥) → new ≡ out)
-    → (composedTold (answering a l) .number ≡ 0 → ⊥) → leaving out new l ≡ out
-tested-refused a new out Fine k h = k h
-tested-refused a new out (Refused why) k h = refl
-
-sign-at-refused : (n : ℕ) (ms : List RawMessage) (out : List ℕ)
-    → (composedTold (signAt n ms out) .number ≡ 0 → ⊥) → signedAt ms out ≡ out
-sign-at-refused n [] out h = refl
-sign-at-refused n (m ∷ ms) out h = put-refused (signBytes m) out h
-
-write-refused : (t b out : List ℕ) → (composedTold (writeAnswer t b out) .number ≡ 0 → ⊥) → writeLeft t b out ≡ out
-unfolding writeAnswer writeLeft
-write-refused t b out h =
-    tested-refused (putAnswer (encodeRpc (said b (lentRows t))) out) (written (encodeRpc (said b (lentRows t))) out) out
-    (writeTested t b) (put-refused (encodeRpc (said b (lentRows t))) out) h
-
-fields-refused : (t b : List ℕ) (i : ℕ) (out : List ℕ)
-    → (composedTold (signAnswer t b i out) .number ≡ 0 → ⊥) → signLeft t b i out ≡ out
-unfolding signAnswer signLeft
-fields-refused t b i out h =
-    let ms = messagesIn b (lentRows t) in
-    tested-refused (signAt (length ms) (drop i ms) out) (signedAt (drop i ms) out) out (listsOf t b)
-    (sign-at-refused (length ms) (drop i ms) out) h
-
 module _ {t b vs : List ℕ} {r : ℕ} {ws out left : List ℕ} where
   pub refused-write : Writes t b out vs r ws left → (r ≡ 0 → ⊥) → left ≡ out
   refused-write a h = a .buffer ∙ write-refused t b out (λ z. h (a .number ∙ z))

@@ -1,3 +1,4 @@
+-- `compose::emit_control` meets its contract: nothing, or measured, a head, and then the entries where there is room.
 use mathlib.Core.List.{_++_}
 use mathlib.Core.Path.{sym, _∙_}
 use native.Mathlib.Omega.{arith}
@@ -7,38 +8,25 @@ use Rattle.compose.proofs.Parts.{field-puts, field-short, control-none,
 use borrow.Author.Needs.{needs}
 use Rattle.compose.proofs.emit_control.Statement.{statement}
 use Rattle.compose.proofs.emit_control.Tie as tie
-use Rattle.compose.proofs.emit_control.Reads as reads
-use Rattle.compose.proofs.emit_control.Lts as lts
-use Rattle.compose.proofs.emit_entries.Reads as emit-entries-reads
-use Rattle.compose.proofs.emit_head.Reads as emit-head-reads
-use Rattle.compose.proofs.has_control.Reads as has-control-reads
-use Rattle.compose.proofs.past.Reads as past-reads
 
--- src/lib.rt:683:8
 has-control-requires : tie.Need-has-control-requires
 has-control-requires c κs = search needs
 
--- src/lib.rt:685:48
 slice-aggregate-emit-entries : tie.Need-slice-aggregate-emit-entries
 slice-aggregate-emit-entries c = search needs
 
--- src/lib.rt:685:13
 emit-entries-requires : tie.Need-emit-entries-requires
 emit-entries-requires c κs = search needs
 
--- src/lib.rt:686:13
 emit-head-requires : tie.Need-emit-head-requires
 emit-head-requires c κs = search needs
 
--- src/lib.rt:687:13
 past-requires : tie.Need-past-requires
 past-requires c κs = search needs
 
--- src/lib.rt:689:13
 same-length : tie.Need-same-length
 same-length c = search needs
 
--- src/lib.rt:689:13
 returns : tie.Need-returns
 returns c =
     let a = c .before .before .before .before .before .before .before .before .before .before .before .before .before .before .args in
@@ -47,15 +35,12 @@ returns c =
     puts-same (a .out .now) (a .at) _ _ _ _ (control-some b rs (sym (c .before .before .before .before .before .before .before .before .before .before .has-control .ensures) ∙ c .before .before .before .before .before .before .before .before .before .if1 .taken))
     (field-short _ _ (a .out .now) _ (a .at) _ _ _ 3 (eachRow 8 3 b rs ++ eachRow 9 4 b rs) (c .before .before .before .before .before .before .before .emit-entries .ensures) (c .before .before .before .before .emit-head .ensures) (c .before .past .ensures) (c .if2 .taken))
 
--- src/lib.rt:691:9
 emit-entries-requires-2 : tie.Need-emit-entries-requires-2
 emit-entries-requires-2 c κs = search needs
 
--- src/lib.rt:691:9
 same-length-2 : tie.Need-same-length-2
 same-length-2 c = search needs
 
--- src/lib.rt:691:9
 returns-2 : tie.Need-returns-2
 returns-2 c =
     let a = c .before .before .before .before .before .before .before .before .before .before .before .before .before .before .before .before .before .before .args in
@@ -64,7 +49,6 @@ returns-2 c =
     puts-same (a .out .now) (a .at) _ _ _ _ (control-some b rs (sym (c .before .before .before .before .before .before .before .before .before .before .before .before .before .before .has-control .ensures) ∙ c .before .before .before .before .before .before .before .before .before .before .before .before .before .if1 .taken))
     (field-puts _ _ (a .out .now) _ _ (a .at) _ _ _ 3 (eachRow 8 3 b rs ++ eachRow 9 4 b rs) (c .before .before .before .before .before .before .before .before .before .before .before .emit-entries .ensures) (c .before .before .before .before .before .before .before .before .emit-head .ensures) (c .before .before .emit-entries2 .ensures))
 
--- src/lib.rt:679:1
 returns-3 : tie.Need-returns-3
 returns-3 c =
     let a = c .before .before .before .before .before .args in

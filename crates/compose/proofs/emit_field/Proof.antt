@@ -1,3 +1,4 @@
+-- `compose::emit_field` meets its contract: the topics, or the place of the field, by its number.
 use Prim.Native.Nat.{_+_, _*_}
 use mathlib.Core.Bool.{true}
 use mathlib.Core.Path.{_≡_, sym, subst}
@@ -10,35 +11,24 @@ use Rattle.compose.proofs.Parts.{message-row, slot-inside, part-topics,
 use borrow.Author.Needs.{needs}
 use Rattle.compose.proofs.emit_field.Statement.{statement}
 use Rattle.compose.proofs.emit_field.Tie as tie
-use Rattle.compose.proofs.emit_field.Reads as reads
-use Rattle.compose.proofs.emit_field.Lts as lts
-use Rattle.compose.proofs.emit_place.Reads as emit-place-reads
-use Rattle.compose.proofs.emit_topics.Reads as emit-topics-reads
-use Rattle.compose.proofs.slot_at.Reads as slot-at-reads
 
--- src/lib.rt:601:44
 add-emit-topics : tie.Need-add-emit-topics
 add-emit-topics c = search needs
 
--- src/lib.rt:601:9
 emit-topics-requires : tie.Need-emit-topics-requires
 emit-topics-requires c κs = search needs
 
--- src/lib.rt:601:9
 same-length : tie.Need-same-length
 same-length c = search needs
 
--- src/lib.rt:601:9
 returns : tie.Need-returns
 returns c =
     let a = c .before .before .before .before .before .before .before .before .args in
     puts-same (a .out .now) (a .at) _ _ _ _ (part-topics (a .n) (a .bytes .now) (a .r) (rowsFrom (a .records .now) (a .i + 1)) (c .before .before .before .before .if1 .taken)) (c .before .before .emit-topics .ensures)
 
--- src/lib.rt:604:9
 slot-at-requires : tie.Need-slot-at-requires
 slot-at-requires c κs = search needs
 
--- src/lib.rt:605:5
 emit-place-requires : tie.Need-emit-place-requires
 emit-place-requires c κs =
     let a = c .before .before .before .before .before .before .before .args in
@@ -47,11 +37,9 @@ emit-place-requires c κs =
     let m = message-row n (a .r) (recordFrom (a .records .now) (a .i * 20)) (p .1 .1 .0) (p .0 .each (a .i) (p .1 .0 .0)) (p .1 .0 .1) in
     (p .1 .1 .1, subst (λ (x : Place). insideAt n (a .r .start) x ≡ true) (sym (c .before .slot-at .ensures)) (slot-inside n (a .r .start) (a .n) (a .r .slots) m))
 
--- src/lib.rt:594:1
 same-length-2 : tie.Need-same-length-2
 same-length-2 c = search needs
 
--- src/lib.rt:594:1
 returns-2 : tie.Need-returns-2
 returns-2 c =
     let a = c .before .before .before .before .before .before .before .before .before .before .args in

@@ -1,3 +1,4 @@
+-- `compose::emit_fields` meets its contract: fields 1 to 4, in their order.
 use Prim.Native.Nat.{_+_, _*_}
 use native.Mathlib.Omega.{arith}
 use Rattle.message.specs.Rows.{recordFrom}
@@ -7,42 +8,33 @@ use Rattle.compose.proofs.Parts.{fields-at}
 use borrow.Author.Needs.{needs}
 use Rattle.compose.proofs.emit_fields.Statement.{statement}
 use Rattle.compose.proofs.emit_fields.Tie as tie
-use Rattle.compose.proofs.emit_fields.Reads as reads
-use Rattle.compose.proofs.emit_fields.Lts as lts
-use Rattle.compose.proofs.emit_field.Reads as emit-field-reads
-use Rattle.compose.proofs.row_at.Reads as row-at-reads
 
--- src/lib.rt:614:9
 row-at-requires : tie.Need-row-at-requires
 row-at-requires c κs = search needs
 
--- src/lib.rt:615:9
 emit-field-requires : tie.Need-emit-field-requires
 emit-field-requires c κs = search needs
 
--- src/lib.rt:616:9
 emit-field-requires-2 : tie.Need-emit-field-requires-2
 emit-field-requires-2 c κs = search needs
 
--- src/lib.rt:617:9
 emit-field-requires-3 : tie.Need-emit-field-requires-3
 emit-field-requires-3 c κs = search needs
 
--- src/lib.rt:618:5
 emit-field-requires-4 : tie.Need-emit-field-requires-4
 emit-field-requires-4 c κs =
     let p = c .before .before .before .before .before .before .before .before .before .before .before .before .before .before .before .before .before .pre in (p .0, (p .1, (c .before .before .before .before .before .before .before .before .before .before .before .before .before .row-at .ensures, omega arith)))
 
--- src/lib.rt:609:1
 same-length : tie.Need-same-length
 same-length c = search needs
 
--- src/lib.rt:609:1
 returns : tie.Need-returns
 returns c =
     let a = c .before .before .before .before .before .before .before .before .before .before .before .before .before .before .before .before .before .before .before .before .args in
     puts-same (a .out .now) (a .at) _ _ _ _ (fields-at (a .bytes .now) _ (recordFrom (a .records .now) (a .i * 20)) (rowsFrom (a .records .now) (a .i + 1)) (c .before .before .before .before .before .before .before .before .before .before .before .before .before .before .before .before .row-at .ensures))
-    (puts-append (a .out .now) _ _ (a .at) _ _ _ _ (c .before .before .before .before .before .before .before .before .before .before .before .before .before .before .emit-field .ensures) (puts-append _ _ _ _ _ _ _ _ (c .before .before .before .before .before .before .before .before .before .before .emit-field2 .ensures) (puts-append _ _ _ _ _ _ _ _ (c .before .before .before .before .before .before .emit-field3 .ensures) (c .before .before .emit-field4 .ensures))))
+    (puts-append (a .out .now) _ _ (a .at) _ _ _ _ (c .before .before .before .before .before .before .before .before .before .before .before .before .before .before .emit-field .ensures)
+    (puts-append _ _ _ _ _ _ _ _ (c .before .before .before .before .before .before .before .before .before .before .emit-field2 .ensures)
+    (puts-append _ _ _ _ _ _ _ _ (c .before .before .before .before .before .before .emit-field3 .ensures) (c .before .before .emit-field4 .ensures))))
 
 pub emit-fields-spec : {M : Type 1} → statement M
 emit-fields-spec =

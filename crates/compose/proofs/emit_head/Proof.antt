@@ -1,33 +1,25 @@
+-- `compose::emit_head` meets its contract: two varints, one after the other.
 use Rattle.compose.specs.Puts.{puts-same, puts-append}
 use Rattle.compose.proofs.Parts.{head-is}
 use borrow.Author.Needs.{needs}
 use Rattle.compose.proofs.emit_head.Statement.{statement}
 use Rattle.compose.proofs.emit_head.Tie as tie
-use Rattle.compose.proofs.emit_head.Reads as reads
-use Rattle.compose.proofs.emit_head.Lts as lts
-use Rattle.compose.proofs.emit_varint.Reads as emit-varint-reads
 
--- src/lib.rt:386:25
 mul-emit-varint : tie.Need-mul-emit-varint
 mul-emit-varint c = search needs
 
--- src/lib.rt:386:25
 add-emit-varint : tie.Need-add-emit-varint
 add-emit-varint c = search needs
 
--- src/lib.rt:386:9
 emit-varint-requires : tie.Need-emit-varint-requires
 emit-varint-requires c κs = search needs
 
--- src/lib.rt:387:5
 emit-varint-requires-2 : tie.Need-emit-varint-requires-2
 emit-varint-requires-2 c κs = search needs
 
--- src/lib.rt:382:1
 same-length : tie.Need-same-length
 same-length c = search needs
 
--- src/lib.rt:382:1
 returns : tie.Need-returns
 returns c =
     let a = c .before .before .before .before .before .before .before .before .before .args in

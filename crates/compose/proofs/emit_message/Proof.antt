@@ -1,3 +1,4 @@
+-- `compose::emit_message` meets its contract: these, and then fields 5 and 6.
 use Prim.Native.Nat.{_+_, _*_}
 use Rattle.message.specs.Rows.{recordFrom}
 use Rattle.compose.specs.Lent.{rowsFrom}
@@ -6,33 +7,22 @@ use Rattle.compose.proofs.Parts.{message-at}
 use borrow.Author.Needs.{needs}
 use Rattle.compose.proofs.emit_message.Statement.{statement}
 use Rattle.compose.proofs.emit_message.Tie as tie
-use Rattle.compose.proofs.emit_message.Reads as reads
-use Rattle.compose.proofs.emit_message.Lts as lts
-use Rattle.compose.proofs.emit_field.Reads as emit-field-reads
-use Rattle.compose.proofs.emit_fields.Reads as emit-fields-reads
-use Rattle.compose.proofs.row_at.Reads as row-at-reads
 
--- src/lib.rt:627:9
 row-at-requires : tie.Need-row-at-requires
 row-at-requires c κs = search needs
 
--- src/lib.rt:628:9
 emit-fields-requires : tie.Need-emit-fields-requires
 emit-fields-requires c κs = search needs
 
--- src/lib.rt:629:9
 emit-field-requires : tie.Need-emit-field-requires
 emit-field-requires c κs = search needs
 
--- src/lib.rt:630:5
 emit-field-requires-2 : tie.Need-emit-field-requires-2
 emit-field-requires-2 c κs = search needs
 
--- src/lib.rt:622:1
 same-length : tie.Need-same-length
 same-length c = search needs
 
--- src/lib.rt:622:1
 returns : tie.Need-returns
 returns c =
     let a = c .before .before .before .before .before .before .before .before .before .before .before .before .before .before .before .before .args in

@@ -1,3 +1,4 @@
+-- `compose::emit_number` meets its contract: nothing, or a tag and the number.
 use mathlib.Core.Path.{sym}
 use native.Mathlib.Omega.{arith}
 use Rattle.compose.specs.Puts.{puts-none, puts-same, puts-append}
@@ -5,41 +6,30 @@ use Rattle.compose.proofs.Parts.{number-none, number-is}
 use borrow.Author.Needs.{needs}
 use Rattle.compose.proofs.emit_number.Statement.{statement}
 use Rattle.compose.proofs.emit_number.Tie as tie
-use Rattle.compose.proofs.emit_number.Reads as reads
-use Rattle.compose.proofs.emit_number.Lts as lts
-use Rattle.compose.proofs.emit_varint.Reads as emit-varint-reads
 
--- src/lib.rt:416:27
 enum-told : tie.Need-enum-told
 enum-told c = search needs
 
--- src/lib.rt:417:25
 enum-known-number : tie.Need-enum-known-number
 enum-known-number c = search needs
 
--- src/lib.rt:418:33
 mul-emit-varint : tie.Need-mul-emit-varint
 mul-emit-varint c = search needs
 
--- src/lib.rt:418:17
 emit-varint-requires : tie.Need-emit-varint-requires
 emit-varint-requires c κs = search needs
 
--- src/lib.rt:419:13
 emit-varint-requires-2 : tie.Need-emit-varint-requires-2
 emit-varint-requires-2 c κs = search needs
 
--- src/lib.rt:411:1
 returns : tie.Need-returns
 returns c =
     let a = c .before .before .before .args in
     puts-same (a .out .now) (a .at) _ _ _ _ (sym (number-none (a .n) (a .number) (c .enum-told .given .1))) (puts-none (a .out .now) (a .at) (omega (arith, c .before .before .before .fits .at .fits)))
 
--- src/lib.rt:411:1
 same-length : tie.Need-same-length
 same-length c = search needs
 
--- src/lib.rt:411:1
 returns-2 : tie.Need-returns-2
 returns-2 c =
     let a = c .before .before .before .before .before .before .before .before .before .before .before .before .args in

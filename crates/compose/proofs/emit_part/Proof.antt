@@ -1,3 +1,4 @@
+-- `compose::emit_part` meets its contract: a head with their number, and the bytes.
 use native.Mathlib.Omega.{arith}
 use Rattle.protobuf.specs.Walk.{between}
 use Rattle.compose.specs.Puts.{puts-field}
@@ -5,40 +6,28 @@ use Rattle.compose.proofs.Parts.{part-size}
 use borrow.Author.Needs.{needs}
 use Rattle.compose.proofs.emit_part.Statement.{statement}
 use Rattle.compose.proofs.emit_part.Tie as tie
-use Rattle.compose.proofs.emit_part.Reads as reads
-use Rattle.compose.proofs.emit_part.Lts as lts
-use Rattle.compose.proofs.emit_bytes.Reads as emit-bytes-reads
-use Rattle.compose.proofs.emit_head.Reads as emit-head-reads
 
--- src/lib.rt:395:26
 sub-emit-head : tie.Need-sub-emit-head
 sub-emit-head c = search needs
 
--- src/lib.rt:395:9
 emit-head-requires : tie.Need-emit-head-requires
 emit-head-requires c κs = search needs
 
--- src/lib.rt:396:16
 sub-emit-bytes : tie.Need-sub-emit-bytes
 sub-emit-bytes c = search needs
 
--- src/lib.rt:396:16
 part-emit-bytes-start : tie.Need-part-emit-bytes-start
 part-emit-bytes-start c = search needs
 
--- src/lib.rt:396:16
 part-emit-bytes-end : tie.Need-part-emit-bytes-end
 part-emit-bytes-end c = search needs
 
--- src/lib.rt:396:5
 emit-bytes-requires : tie.Need-emit-bytes-requires
 emit-bytes-requires c κs = search needs
 
--- src/lib.rt:391:1
 same-length : tie.Need-same-length
 same-length c = search needs
 
--- src/lib.rt:391:1
 returns : tie.Need-returns
 returns c =
     let a = c .before .before .before .before .before .before .before .before .before .before .before .args in

@@ -1,28 +1,22 @@
+-- `compose::emit_peer` meets its contract: its id, and then its record.
 use native.Mathlib.Omega.{arith}
 use Rattle.compose.specs.Puts.{puts-same, puts-append}
 use Rattle.compose.proofs.Parts.{peer-inside, peer-is}
 use borrow.Author.Needs.{needs}
 use Rattle.compose.proofs.emit_peer.Statement.{statement}
 use Rattle.compose.proofs.emit_peer.Tie as tie
-use Rattle.compose.proofs.emit_peer.Reads as reads
-use Rattle.compose.proofs.emit_peer.Lts as lts
-use Rattle.compose.proofs.emit_place.Reads as emit-place-reads
 
--- src/lib.rt:472:9
 emit-place-requires : tie.Need-emit-place-requires
 emit-place-requires c κs =
     (omega arith, peer-inside _ _ _ (c .before .before .before .before .pre) .0)
 
--- src/lib.rt:473:5
 emit-place-requires-2 : tie.Need-emit-place-requires-2
 emit-place-requires-2 c κs =
     (omega arith, peer-inside _ _ _ (c .before .before .before .before .before .before .before .before .pre) .1)
 
--- src/lib.rt:465:1
 same-length : tie.Need-same-length
 same-length c = search needs
 
--- src/lib.rt:465:1
 returns : tie.Need-returns
 returns c =
     let a = c .before .before .before .before .before .before .before .before .before .before .before .args in

@@ -1,4 +1,5 @@
-use Prim.Native.Nat.{_+_, _*_}
+-- `compose::emit_peer_at` meets its contract: a peer or nothing, by the code.
+use Prim.Native.Nat.{_*_}
 use mathlib.Core.Path.{sym, _∙_}
 use native.Mathlib.Omega.{arith}
 use lib.ListN.{length}
@@ -8,38 +9,27 @@ use Rattle.compose.proofs.Parts.{peer-row, peer-yes, peer-no}
 use borrow.Author.Needs.{needs}
 use Rattle.compose.proofs.emit_peer_at.Statement.{statement}
 use Rattle.compose.proofs.emit_peer_at.Tie as tie
-use Rattle.compose.proofs.emit_peer_at.Reads as reads
-use Rattle.compose.proofs.emit_peer_at.Lts as lts
-use Rattle.compose.proofs.emit_peer_field.Reads as emit-peer-field-reads
-use Rattle.compose.proofs.is_code.Reads as is-code-reads
-use Rattle.compose.proofs.row_at.Reads as row-at-reads
 
--- src/lib.rt:497:8
 is-code-requires : tie.Need-is-code-requires
 is-code-requires c κs = search needs
 
--- src/lib.rt:498:13
 row-at-requires : tie.Need-row-at-requires
 row-at-requires c κs = search needs
 
--- src/lib.rt:499:9
 emit-peer-field-requires : tie.Need-emit-peer-field-requires
 emit-peer-field-requires c κs =
     let a = c .before .before .before .before .before .before .before .args in
     let p = c .before .before .before .before .before .before .before .pre in
     peer-row (length (a .bytes .now)) _ (recordFrom (a .records .now) (a .i * 20)) (c .before .row-at .ensures) (p .0 .each (a .i) (p .1)) (sym (c .before .before .before .is-code .ensures) ∙ c .before .before .if1 .taken)
 
--- src/lib.rt:499:9
 same-length : tie.Need-same-length
 same-length c = search needs
 
--- src/lib.rt:499:9
 returns : tie.Need-returns
 returns c =
     let a = c .before .before .before .before .before .before .before .before .before .before .args in
     puts-same (a .out .now) (a .at) _ _ _ _ (peer-yes (a .bytes .now) _ (recordFrom (a .records .now) (a .i * 20)) (c .before .before .before .before .row-at .ensures) (sym (c .before .before .before .before .before .before .is-code .ensures) ∙ c .before .before .before .before .before .if1 .taken)) (c .before .before .emit-peer-field .ensures)
 
--- src/lib.rt:492:1
 returns-2 : tie.Need-returns-2
 returns-2 c =
     let a = c .before .before .before .before .before .args in

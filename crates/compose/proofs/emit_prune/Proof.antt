@@ -1,5 +1,5 @@
+-- `compose::emit_prune` meets its contract: its topic, its peers, its backoff.
 use Prim.Native.Nat.{_+_, _*_}
-use mathlib.Core.Path.{sym, _∙_}
 use native.Mathlib.Omega.{arith}
 use lib.ListN.{length}
 use Rattle.message.specs.Rows.{recordFrom}
@@ -9,41 +9,28 @@ use Rattle.compose.proofs.Parts.{prune-row, prune-at}
 use borrow.Author.Needs.{needs}
 use Rattle.compose.proofs.emit_prune.Statement.{statement}
 use Rattle.compose.proofs.emit_prune.Tie as tie
-use Rattle.compose.proofs.emit_prune.Reads as reads
-use Rattle.compose.proofs.emit_prune.Lts as lts
-use Rattle.compose.proofs.emit_number.Reads as emit-number-reads
-use Rattle.compose.proofs.emit_peers.Reads as emit-peers-reads
-use Rattle.compose.proofs.emit_place.Reads as emit-place-reads
-use Rattle.compose.proofs.row_at.Reads as row-at-reads
 
--- src/lib.rt:519:9
 row-at-requires : tie.Need-row-at-requires
 row-at-requires c κs = search needs
 
--- src/lib.rt:523:9
 emit-place-requires : tie.Need-emit-place-requires
 emit-place-requires c κs =
     let a = c .before .before .before .before .before .before .args in
     let p = c .before .before .before .before .before .before .pre in
     (omega arith, prune-row (length (a .bytes .now)) _ (recordFrom (a .records .now) (a .i * 20)) (c .before .before .row-at .ensures) (p .0 .each (a .i) (p .1 .0)) (p .1 .1))
 
--- src/lib.rt:524:40
 add-emit-peers : tie.Need-add-emit-peers
 add-emit-peers c = search needs
 
--- src/lib.rt:524:9
 emit-peers-requires : tie.Need-emit-peers-requires
 emit-peers-requires c κs = search needs
 
--- src/lib.rt:525:5
 emit-number-requires : tie.Need-emit-number-requires
 emit-number-requires c κs = search needs
 
--- src/lib.rt:513:1
 same-length : tie.Need-same-length
 same-length c = search needs
 
--- src/lib.rt:513:1
 returns : tie.Need-returns
 returns c =
     let a = c .before .before .before .before .before .before .before .before .before .before .before .before .before .before .before .before .before .args in

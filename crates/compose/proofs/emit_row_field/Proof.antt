@@ -1,3 +1,4 @@
+-- `compose::emit_row_field` meets its contract: measured, a head, and then the row where there is room.
 use Prim.Native.Nat.{_+_, _*_}
 use Rattle.message.specs.Rows.{recordFrom}
 use Rattle.compose.specs.Lent.{rowsFrom}
@@ -6,51 +7,39 @@ use Rattle.compose.proofs.Parts.{field-puts, field-short}
 use borrow.Author.Needs.{needs}
 use Rattle.compose.proofs.emit_row_field.Statement.{statement}
 use Rattle.compose.proofs.emit_row_field.Tie as tie
-use Rattle.compose.proofs.emit_row_field.Reads as reads
-use Rattle.compose.proofs.emit_row_field.Lts as lts
-use Rattle.compose.proofs.emit_head.Reads as emit-head-reads
-use Rattle.compose.proofs.emit_row.Reads as emit-row-reads
-use Rattle.compose.proofs.past.Reads as past-reads
 
--- src/lib.rt:622:49
 slice-aggregate-emit-row : tie.Need-slice-aggregate-emit-row
 slice-aggregate-emit-row c = search needs
 
--- src/lib.rt:622:9
 emit-row-requires : tie.Need-emit-row-requires
 emit-row-requires c κs = search needs
 
--- src/lib.rt:623:9
 emit-head-requires : tie.Need-emit-head-requires
 emit-head-requires c κs = search needs
 
--- src/lib.rt:624:9
 past-requires : tie.Need-past-requires
 past-requires c κs = search needs
 
--- src/lib.rt:626:9
 same-length : tie.Need-same-length
 same-length c = search needs
 
--- src/lib.rt:626:9
 returns : tie.Need-returns
 returns c =
     let a = c .before .before .before .before .before .before .before .before .before .before .before .before .args in
-    field-short _ _ (a .out .now) _ (a .at) _ _ _ (a .n) (rowBytes (a .code) (a .bytes .now) (recordFrom (a .records .now) (a .i * 20)) (rowsFrom (a .records .now) (a .i + 1))) (c .before .before .before .before .before .before .before .emit-row .ensures) (c .before .before .before .before .emit-head .ensures) (c .before .past .ensures) (c .if1 .taken)
+    field-short _ _ (a .out .now) _ (a .at) _ _ _ (a .n) (rowBytes (a .code) (a .bytes .now) (recordFrom (a .records .now) (a .i * 20)) (rowsFrom (a .records .now) (a .i + 1)))
+    (c .before .before .before .before .before .before .before .emit-row .ensures) (c .before .before .before .before .emit-head .ensures) (c .before .past .ensures) (c .if1 .taken)
 
--- src/lib.rt:628:5
 emit-row-requires-2 : tie.Need-emit-row-requires-2
 emit-row-requires-2 c κs = search needs
 
--- src/lib.rt:606:1
 same-length-2 : tie.Need-same-length-2
 same-length-2 c = search needs
 
--- src/lib.rt:606:1
 returns-2 : tie.Need-returns-2
 returns-2 c =
     let a = c .before .before .before .before .before .before .before .before .before .before .before .before .before .before .before .before .args in
-    field-puts _ _ (a .out .now) _ _ (a .at) _ _ _ (a .n) (rowBytes (a .code) (a .bytes .now) (recordFrom (a .records .now) (a .i * 20)) (rowsFrom (a .records .now) (a .i + 1))) (c .before .before .before .before .before .before .before .before .before .before .before .emit-row .ensures) (c .before .before .before .before .before .before .before .before .emit-head .ensures) (c .before .before .emit-row2 .ensures)
+    field-puts _ _ (a .out .now) _ _ (a .at) _ _ _ (a .n) (rowBytes (a .code) (a .bytes .now) (recordFrom (a .records .now) (a .i * 20)) (rowsFrom (a .records .now) (a .i + 1)))
+    (c .before .before .before .before .before .before .before .before .before .before .before .emit-row .ensures) (c .before .before .before .before .before .before .before .before .emit-head .ensures) (c .before .before .emit-row2 .ensures)
 
 pub emit-row-field-spec : {M : Type 1} → statement M
 emit-row-field-spec =

@@ -1,3 +1,4 @@
+-- `compose::emit_rpc` meets its contract: subscriptions, messages, the control: the encoding of the RPC that the rows say.
 use mathlib.Core.Path.{refl, sym}
 use native.Mathlib.Omega.{arith}
 use Rattle.compose.specs.Lent.{lentRows}
@@ -7,30 +8,21 @@ use Rattle.compose.proofs.Parts.{is-written}
 use borrow.Author.Needs.{needs}
 use Rattle.compose.proofs.emit_rpc.Statement.{statement}
 use Rattle.compose.proofs.emit_rpc.Tie as tie
-use Rattle.compose.proofs.emit_rpc.Reads as reads
-use Rattle.compose.proofs.emit_rpc.Lts as lts
-use Rattle.compose.proofs.emit_control.Reads as emit-control-reads
-use Rattle.compose.proofs.emit_rows.Reads as emit-rows-reads
 
--- src/lib.rt:701:9
 emit-rows-requires : tie.Need-emit-rows-requires
 emit-rows-requires c κs =
     (c .before .before .before .before .pre, (is-written _ refl, omega arith))
 
--- src/lib.rt:702:9
 emit-rows-requires-2 : tie.Need-emit-rows-requires-2
 emit-rows-requires-2 c κs =
     (c .before .before .before .before .before .before .before .before .pre, (is-written _ refl, omega arith))
 
--- src/lib.rt:703:5
 emit-control-requires : tie.Need-emit-control-requires
 emit-control-requires c κs = search needs
 
--- src/lib.rt:697:1
 same-length : tie.Need-same-length
 same-length c = search needs
 
--- src/lib.rt:697:1
 returns : tie.Need-returns
 returns c =
     let a = c .before .before .before .before .before .before .before .before .before .before .before .before .before .before .before .args in

@@ -1,7 +1,5 @@
+-- `compose::emit_signed` meets its contract: the prefix, and then the fields.
 use Prim.Native.Nat.{_+_, _*_}
-use mathlib.Core.Path.{sym, _∙_}
-use native.Mathlib.Omega.{arith}
-use lib.ListN.{length}
 use Rattle.message.specs.Rows.{recordFrom}
 use Rattle.compose.specs.Lent.{rowsFrom}
 use Rattle.compose.specs.Puts.{puts-same, puts-append}
@@ -9,28 +7,19 @@ use Rattle.compose.proofs.Parts.{signed-is}
 use borrow.Author.Needs.{needs}
 use Rattle.compose.proofs.emit_signed.Statement.{statement}
 use Rattle.compose.proofs.emit_signed.Tie as tie
-use Rattle.compose.proofs.emit_signed.Reads as reads
-use Rattle.compose.proofs.emit_signed.Lts as lts
-use Rattle.compose.proofs.emit_bytes.Reads as emit-bytes-reads
-use Rattle.compose.proofs.emit_fields.Reads as emit-fields-reads
 
--- src/lib.rt:967:24
 slice-aggregate-emit-bytes : tie.Need-slice-aggregate-emit-bytes
 slice-aggregate-emit-bytes c = search needs
 
--- src/lib.rt:967:9
 emit-bytes-requires : tie.Need-emit-bytes-requires
 emit-bytes-requires c κs = search needs
 
--- src/lib.rt:968:5
 emit-fields-requires : tie.Need-emit-fields-requires
 emit-fields-requires c κs = search needs
 
--- src/lib.rt:961:1
 same-length : tie.Need-same-length
 same-length c = search needs
 
--- src/lib.rt:961:1
 returns : tie.Need-returns
 returns c =
     let a = c .before .before .before .before .before .before .before .before .before .before .before .before .args in

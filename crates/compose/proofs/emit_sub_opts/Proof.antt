@@ -1,33 +1,24 @@
+-- `compose::emit_sub_opts` meets its contract: the flag, and then the topic.
 use native.Mathlib.Omega.{arith}
 use Rattle.compose.specs.Puts.{puts-same, puts-append}
 use Rattle.compose.proofs.Parts.{sub-opts-inside, sub-opts-is}
 use borrow.Author.Needs.{needs}
 use Rattle.compose.proofs.emit_sub_opts.Statement.{statement}
 use Rattle.compose.proofs.emit_sub_opts.Tie as tie
-use Rattle.compose.proofs.emit_sub_opts.Reads as reads
-use Rattle.compose.proofs.emit_sub_opts.Lts as lts
-use Rattle.compose.proofs.emit_number.Reads as emit-number-reads
-use Rattle.compose.proofs.emit_place.Reads as emit-place-reads
-use Rattle.compose.proofs.flag.Reads as flag-reads
 
--- src/lib.rt:449:9
 flag-requires : tie.Need-flag-requires
 flag-requires c κs = search needs
 
--- src/lib.rt:450:9
 emit-number-requires : tie.Need-emit-number-requires
 emit-number-requires c κs = search needs
 
--- src/lib.rt:451:5
 emit-place-requires : tie.Need-emit-place-requires
 emit-place-requires c κs =
     (omega arith, sub-opts-inside _ _ _ (c .before .before .before .before .before .before .before .before .before .pre))
 
--- src/lib.rt:442:1
 same-length : tie.Need-same-length
 same-length c = search needs
 
--- src/lib.rt:442:1
 returns : tie.Need-returns
 returns c =
     let a = c .before .before .before .before .before .before .before .before .before .before .before .before .args in

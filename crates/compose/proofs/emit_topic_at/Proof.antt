@@ -1,4 +1,5 @@
-use Prim.Native.Nat.{_+_, _*_}
+-- `compose::emit_topic_at` meets its contract: a topic or nothing, by the code.
+use Prim.Native.Nat.{_*_}
 use mathlib.Core.Path.{sym, _∙_}
 use native.Mathlib.Omega.{arith}
 use lib.ListN.{length}
@@ -8,21 +9,13 @@ use Rattle.compose.proofs.Parts.{topic-row, topic-yes, topic-no}
 use borrow.Author.Needs.{needs}
 use Rattle.compose.proofs.emit_topic_at.Statement.{statement}
 use Rattle.compose.proofs.emit_topic_at.Tie as tie
-use Rattle.compose.proofs.emit_topic_at.Reads as reads
-use Rattle.compose.proofs.emit_topic_at.Lts as lts
-use Rattle.compose.proofs.emit_part.Reads as emit-part-reads
-use Rattle.compose.proofs.is_code.Reads as is-code-reads
-use Rattle.compose.proofs.row_at.Reads as row-at-reads
 
--- src/lib.rt:544:8
 is-code-requires : tie.Need-is-code-requires
 is-code-requires c κs = search needs
 
--- src/lib.rt:545:13
 row-at-requires : tie.Need-row-at-requires
 row-at-requires c κs = search needs
 
--- src/lib.rt:546:9
 emit-part-requires : tie.Need-emit-part-requires
 emit-part-requires c κs =
     let a = c .before .before .before .before .before .before .before .args in
@@ -30,17 +23,14 @@ emit-part-requires c κs =
     let z = topic-row (length (a .bytes .now)) _ (recordFrom (a .records .now) (a .i * 20)) (c .before .row-at .ensures) (p .0 .each (a .i) (p .1)) in
     (omega arith, z .0, z .1)
 
--- src/lib.rt:546:9
 same-length : tie.Need-same-length
 same-length c = search needs
 
--- src/lib.rt:546:9
 returns : tie.Need-returns
 returns c =
     let a = c .before .before .before .before .before .before .before .before .before .before .args in
     puts-same (a .out .now) (a .at) _ _ _ _ (topic-yes (a .bytes .now) _ (recordFrom (a .records .now) (a .i * 20)) (c .before .before .before .before .row-at .ensures) (sym (c .before .before .before .before .before .before .is-code .ensures) ∙ c .before .before .before .before .before .if1 .taken)) (c .before .before .emit-part .ensures)
 
--- src/lib.rt:539:1
 returns-2 : tie.Need-returns-2
 returns-2 c =
     let a = c .before .before .before .before .before .args in

@@ -1,3 +1,4 @@
+-- `compose::past` meets its contract: where the sum would pass 2^64 - 1 it stops there.
 use Prim.Native.Nat.{_+_}
 use mathlib.Core.Path.{sym}
 use native.Mathlib.Omega.{arith}
@@ -5,23 +6,17 @@ use Rattle.compose.specs.Puts.{capped-small, capped-most}
 use borrow.Author.Needs.{needs}
 use Rattle.compose.proofs.past.Statement.{statement}
 use Rattle.compose.proofs.past.Tie as tie
-use Rattle.compose.proofs.past.Reads as reads
-use Rattle.compose.proofs.past.Lts as lts
 
--- src/lib.rt:96:16
 sub-left : tie.Need-sub-left
 sub-left c = search needs
 
--- src/lib.rt:98:9
 returns : tie.Need-returns
 returns c =
     let a = c .before .args in sym (capped-most (a .at + a .len) (omega arith))
 
--- src/lib.rt:100:5
 add-result : tie.Need-add-result
 add-result c = search needs
 
--- src/lib.rt:93:1
 returns-2 : tie.Need-returns-2
 returns-2 c =
     let a = c .before .args in sym (capped-small (a .at + a .len) (omega arith))

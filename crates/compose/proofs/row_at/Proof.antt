@@ -1,3 +1,4 @@
+-- `compose::row_at` meets its contract: the table has the row, so it is found.
 use Prim.Native.Nat.{_*_}
 use mathlib.Core.Path.{_≡_, sym, _∙_}
 use Rattle.basis.specs.Cases.{clash}
@@ -7,30 +8,22 @@ use Rattle.meaning.specs.Table.{record-at-row}
 use borrow.Author.Needs.{needs}
 use Rattle.compose.proofs.row_at.Statement.{statement}
 use Rattle.compose.proofs.row_at.Tie as tie
-use Rattle.compose.proofs.row_at.Reads as reads
-use Rattle.compose.proofs.row_at.Lts as lts
-use Rattle.message.proofs.record_at.Reads as record-at-reads
 
--- src/lib.rt:110:9
 record-at-requires : tie.Need-record-at-requires
 record-at-requires c κs = search needs
 
--- src/lib.rt:112:26
 enum-known-found : tie.Need-enum-known-found
 enum-known-found c = search needs
 
--- src/lib.rt:114:19
 enum-told : tie.Need-enum-told
 enum-told c = search needs
 
--- src/lib.rt:106:1
 returns : tie.Need-returns
 returns c =
     let a = c .before .before .before .before .before .args in
     let e : found.Record _ ≡ found.Record (recordFrom (a .records .now) (a .i * 20)) = sym (c .before .found .given .1) ∙ c .before .before .before .record-at .ensures ∙ record-at-row (a .records .now) (a .i) (c .before .before .before .before .before .pre) in
     cc
 
--- src/lib.rt:106:1
 returns-2 : tie.Need-returns-2
 returns-2 c =
     let a = c .before .before .before .before .args in
