@@ -19,7 +19,7 @@ use Rattle.rpc.specs.Grammar.{IsIHave, is-ihave, IsIWant, is-iwant, IsGraft, Is
 use Rattle.rpc.specs.Grammar.{is-rpc}
 use Rattle.rpc.specs.Encode.{encodeRpc, repeated}
 use Rattle.meaning.specs.Size.{recordsIn}
-use Rattle.canonical.specs.Means.{body-append, Sized, bytesEntries, bytes-body, bytes-here, bytes-there, found}
+use Rattle.canonical.specs.Means.{body-append, Sized, bytesEntries, bytes-body, bytes-here, bytes-there, fields-sized, found}
 use Rattle.canon.specs.Taken.{Within}
 use Rattle.node.specs.Gateway.{controlled, advertisement, request}
 use Rattle.node.specs.Calls.{bytesFor}
@@ -123,14 +123,6 @@ no-bytes ids x e = rw e
 pub some-bytes : (ids : List (List ℕ)) (x : Rpc) → (ids ≡ [] → ⊥) → bytesFor ids x ≡ encodeRpc x
 some-bytes [] x there = absurd (there refl)
 some-bytes (i ∷ is) x there = refl
-
-fields-sized : (n : ℕ) (ds : List (List ℕ)) → length (repeated (bytesField n) ds) < 2 ^ 64 → Each Sized ds
-fields-sized n [] h = none-left
-fields-sized n (d ∷ ds) h =
-    let l = length-append (bytesField n d) (repeated (bytesField n) ds) in
-    let f = field-holds n d in
-    let k : Sized d = omega arith in
-    k and fields-sized n ds (omega arith)
 
 pub advertisement-means : (topic : List ℕ) (ids : List (List ℕ)) → Utf8 topic
     → length (encodeRpc (advertisement topic ids)) < 2 ^ 64
