@@ -206,25 +206,25 @@ module _ (a b c d : List ℕ) (n i : ℕ) where
     spans-all h = rw (spans-end a b h, spans-end c d h) at inv
 
 -- ---- a message with its id and its kept places
-module _ (p i : List ℕ) (ts : List Span) where
-  pub kept-not : false ≡ givesId p i → false ≡ keptWith p i ts
+module _ (flags : ℕ) (p i : List ℕ) (ts : List Span) where
+  pub kept-not : false ≡ givesId flags p i → false ≡ keptWith flags p i ts
   unfolding keptWith
   kept-not h = rw (← h)
 
-  pub kept-other : sameSpans (topicPlaces p) ts ≡ false → false ≡ keptWith p i ts
+  pub kept-other : sameSpans (topicPlaces p) ts ≡ false → false ≡ keptWith flags p i ts
   unfolding keptWith
-  kept-other h = either (givesId p i) (λ t. rw (t, h)) (λ t. rw t)
+  kept-other h = either (givesId flags p i) (λ t. rw (t, h)) (λ t. rw t)
 
-  pub kept-count : (length (topicPlaces p) ≡ length ts → ⊥) → false ≡ keptWith p i ts
+  pub kept-count : (length (topicPlaces p) ≡ length ts → ⊥) → false ≡ keptWith flags p i ts
   kept-count h = kept-other (either (sameSpans (topicPlaces p) ts) (λ t. absurd (h (ap length (same-spans-equal (topicPlaces p) ts t)))) (λ t. t))
 
-  pub kept-many : 4 < length (topicPlaces p) → false ≡ keptWith p i ts
-  kept-many h = kept-not (either (givesId p i) (λ t. let k = gives-few p i t in absurd (omega arith)) (λ t. sym t))
+  pub kept-many : 4 < length (topicPlaces p) → false ≡ keptWith flags p i ts
+  kept-many h = kept-not (either (givesId flags p i) (λ t. let k = gives-few flags p i t in absurd (omega arith)) (λ t. sym t))
 
   pub kept-names : (n : ℕ) (r : Bool) → counted kind.RawMessage p ≡ count.Records n → sameSpans (topicPlaces p) ts ≡ true → r ≡ idGiven p i
-      (admissionOf p true) → r ≡ keptWith p i ts
+      (admissionOf flags p true) → r ≡ keptWith flags p i ts
   unfolding keptWith givesId
-  kept-names n r h s g = rw (h, s) (g ∙ sym (and-true (idGiven p i (admissionOf p true))))
+  kept-names n r h s g = rw (h, s) (g ∙ sym (and-true (idGiven p i (admissionOf flags p true))))
 
 -- ---- 28, 29, 30
 module _ (p : List ℕ) (r : Admission) (n l : ℕ) (hn : n ≡ length (topicsOf p)) (hl : l ≡ firstLong (topicsOf p)) where
@@ -270,10 +270,10 @@ module _ (p : List ℕ) (r : Admission) (n l : ℕ) (hn : n ≡ length (topicsOf
       )
 
 -- ---- 21, 22, 23
-pub admit-on : (p : List ℕ) (word : Bool) (t : Slots) (i j : MessageId) → t ≡ slotsOf kind.RawMessage p → i ≡ onFrom (t .first) (t .third) → i ≡ j →
-    onId p word j ≡ admissionOf p word
+pub admit-on : (flags : ℕ) (p : List ℕ) (word : Bool) (t : Slots) (i j : MessageId) → t ≡ slotsOf kind.RawMessage p
+    → i ≡ onFrom (t .first) (t .third) → i ≡ j → onId flags p word j ≡ admissionOf flags p word
 unfolding admissionOf idParts
-admit-on p word t i j h k e = ap (onId p word) (sym e ∙ k ∙ ap (λ (x : Slots). onFrom (x .first) (x .third)) h)
+admit-on flags p word t i j h k e = ap (onId flags p word) (sym e ∙ k ∙ ap (λ (x : Slots). onFrom (x .first) (x .third)) h)
 
 -- ---- from and then seqno
 module _ (p i : List ℕ) (a e b f : ℕ) (o : a ≤ e) (l : e ≤ length p) where
@@ -372,9 +372,10 @@ module _ (p : List ℕ) (t : Slots) (h : t ≡ slotsOf kind.RawMessage p) where
     peer-not u = sym (rw (sym sender-tested ∙ u))
 
   -- the rest of a message that has an id
-  pub signed-on : (r a : Admission) (x y z w : ℕ) → idParts p ≡ id.Parts x y z w → a ≡ onSignature (t .fourth) (t .fifth) (onKey p (between p x y) (t .fifth) r)
-      → a ≡ onSignature (slotsOf kind.RawMessage p .fourth) (slotsOf kind.RawMessage p .fifth) (onKey p (senderOf p) (slotsOf kind.RawMessage p .fifth) r)
-  signed-on r a x y z w g e =
-      e ∙ ap (λ (s : Slots). onSignature (s .fourth) (s .fifth) (onKey p (between p x y) (s .fifth) r)) h
-      ∙ ap (λ (s : List ℕ). onSignature (slotsOf kind.RawMessage p .fourth) (slotsOf kind.RawMessage p .fifth) (onKey p s (slotsOf kind.RawMessage p .fifth) r))
+  pub signed-on : (u v : Bool) (r l a : Admission) (x y z w : ℕ) → idParts p ≡ id.Parts x y z w → u ≡ v
+      → a ≡ onSignature u (t .fourth) (t .fifth) (onKey p (between p x y) (t .fifth) r) l
+      → a ≡ onSignature v (slotsOf kind.RawMessage p .fourth) (slotsOf kind.RawMessage p .fifth) (onKey p (senderOf p) (slotsOf kind.RawMessage p .fifth) r) l
+  signed-on u v r l a x y z w g o e =
+      e ∙ ap₂ (λ (b : Bool) (s : Slots). onSignature b (s .fourth) (s .fifth) (onKey p (between p x y) (s .fifth) r) l) o h
+      ∙ ap (λ (s : List ℕ). onSignature v (slotsOf kind.RawMessage p .fourth) (slotsOf kind.RawMessage p .fifth) (onKey p s (slotsOf kind.RawMessage p .fifth) r) l)
       (sym (sender-is p x y z w g))

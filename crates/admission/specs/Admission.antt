@@ -1,9 +1,9 @@
 -- Which messages may be taken, from the scope's table: 21 to 30 in its order, with 34 after 22, and 35 and 36 after 26.
--- p is the message's own bytes. Fit says from the documents which messages are fit.
+-- p is the message's own bytes; `flags` are a gateway's. Fit says from the documents which messages are fit.
 use Prim.Native.Nat.{ℕ, _-_}
 use mathlib.Core.Path.{_≡_}
 use mathlib.Core.List.{List, [], _∷_, map}
-use mathlib.Core.Bool.{Bool, true, false, cond, _&&_, _||_}
+use mathlib.Core.Bool.{Bool, true, false, cond, not, _&&_, _||_}
 use lib.ListN.{length, take, drop, getD}
 use lib.Seq.{sets}
 use lib.Dec.{ltb, eqb}
@@ -36,6 +36,7 @@ use Rattle.admission.specs.declared.Unfit.the-variants.{TopicTooLong, Me
 use Rattle.admission.specs.declared.Unfit.the-variants.{NotPeerId, InvalidKey, KeyPeerIdMismatch}
 use Rattle.admission.specs.declared.Admission.{Admission}
 use Rattle.admission.specs.declared.Admission.the-variants as admission
+use Rattle.admission.specs.Flags.{allowsUnsigned}
 
 -- ---- the topics of a message, in the order of its bytes: its length-delimited fields 4
 abbrev pub topicsAlong : List ℕ → Fields → List (List ℕ)
@@ -147,11 +148,13 @@ onKey p s (place.Present a e) r =
     cond (isKey (between p a e)) (cond (keyMatches s (between p a e)) r (admission.Unfit KeyPeerIdMismatch))
     (admission.Unfit InvalidKey)
 
--- ---- 24, 25, 26: no signature, with a key or without, or one that is not 64 bytes
-abbrev pub onSignature : Place → Place → Admission → Admission
-onSignature place.Absent place.Absent r = admission.Unfit MissingSignature
-onSignature place.Absent (place.Present a e) r = admission.Unfit KeyWithoutSignature
-onSignature (place.Present a e) key r = cond (eqb (e - a) 64) r (admission.Unfit (InvalidSignatureLength (e - a)))
+-- ---- 24, 25, 26: no signature, with a key or without, or one that is not 64 bytes. r is what is said of a message with
+-- a signature, u of one with neither, where these are allowed
+abbrev pub onSignature : Bool → Place → Place → Admission → Admission → Admission
+onSignature unsigned place.Absent place.Absent r u = cond unsigned u (admission.Unfit MissingSignature)
+onSignature unsigned place.Absent (place.Present a e) r u = admission.Unfit KeyWithoutSignature
+onSignature unsigned (place.Present a e) key r u =
+    cond (eqb (e - a) 64) r (admission.Unfit (InvalidSignatureLength (e - a)))
 
 -- ---- 34
 unfoldable pub isPeerId : List ℕ → Bool
@@ -169,17 +172,30 @@ abbrev pub senderOf : List ℕ → List ℕ
 senderOf p = partAt p (slotsOf kind.RawMessage p .first)
 
 -- ---- 21, 22, 23
-abbrev pub onId : List ℕ → Bool → MessageId → Admission
-onId p word id.MissingFrom = admission.Unfit MissingFrom
-onId p word (id.InvalidFrom n) = admission.Unfit (InvalidFrom n)
-onId p word id.InvalidSeqno = onPeer (senderOf p) (admission.Unfit InvalidSeqno)
-onId p word (id.Parts a e b f) =
+abbrev pub onId : ℕ → List ℕ → Bool → MessageId → Admission
+onId flags p word id.MissingFrom = admission.Unfit MissingFrom
+onId flags p word (id.InvalidFrom n) = admission.Unfit (InvalidFrom n)
+onId flags p word id.InvalidSeqno = onPeer (senderOf p) (admission.Unfit InvalidSeqno)
+onId flags p word (id.Parts a e b f) =
     onPeer (senderOf p)
-    (onSignature (slotsOf kind.RawMessage p .fourth) (slotsOf kind.RawMessage p .fifth)
-    (onKey p (senderOf p) (slotsOf kind.RawMessage p .fifth) (onWord word (onLimits p (admission.Fit a e b f)))))
+    (onSignature (allowsUnsigned flags) (slotsOf kind.RawMessage p .fourth) (slotsOf kind.RawMessage p .fifth)
+    (onKey p (senderOf p) (slotsOf kind.RawMessage p .fifth) (onWord word (onLimits p (admission.Fit a e b f))))
+    (onLimits p (admission.Fit a e b f)))
 
-unfoldable pub admissionOf : List ℕ → Bool → Admission
-admissionOf p word = onId p word (idParts p)
+unfoldable pub admissionOf : ℕ → List ℕ → Bool → Admission
+admissionOf flags p word = onId flags p word (idParts p)
+
+-- ---- a message has a signature: this alone is told by the mark under which its id is seen
+abbrev pub isThere : Place → Bool
+isThere place.Absent = false
+isThere (place.Present a e) = true
+
+unfoldable pub isSigned : List ℕ → Bool
+isSigned p = isThere (slotsOf kind.RawMessage p .fourth)
+
+-- one that has, needs the host's word; where unsigned messages are allowed, one that has not, needs none
+unfoldable pub vouched : ℕ → List ℕ → Bool → Bool
+vouched flags p word = word || (allowsUnsigned flags && not (isSigned p))
 
 -- ---- a message that may be taken, with its id: what the scope asks of each cached message. The host's word was
 -- given when it came.
@@ -191,9 +207,9 @@ abbrev pub whereRead : Counted → Bool → Bool
 whereRead (count.Refused why) t = false
 whereRead (count.Records n) t = t
 
-unfoldable pub givesId : List ℕ → List ℕ → Bool
-givesId p i = whereRead (counted kind.RawMessage p) (idGiven p i (admissionOf p true))
+unfoldable pub givesId : ℕ → List ℕ → List ℕ → Bool
+givesId flags p i = whereRead (counted kind.RawMessage p) (idGiven p i (admissionOf flags p true))
 
 -- and with the places of its topics, as they are kept beside it
-unfoldable pub keptWith : List ℕ → List ℕ → List Span → Bool
-keptWith p i ts = givesId p i && sameSpans (topicPlaces p) ts
+unfoldable pub keptWith : ℕ → List ℕ → List ℕ → List Span → Bool
+keptWith flags p i ts = givesId flags p i && sameSpans (topicPlaces p) ts

@@ -1,8 +1,8 @@
--- Laws of admission: a message that is taken has an id and keeps the limits; 27 comes from the host's word alone; and
--- which id a message gives.
+-- Laws of admission, under all flags: a message that is taken has an id and keeps the limits; 27 comes from the host's
+-- word alone; and which id a message gives.
 use Prim.Native.Nat.{ℕ, _+_, _-_, _≤_}
-use mathlib.Core.Path.{_≡_, refl, sym, ap, ap₂, _∙_}
-use mathlib.Core.Bool.{Bool, true, false, _&&_}
+use mathlib.Core.Path.{_≡_, refl, sym, ap, ap₂, subst, _∙_}
+use mathlib.Core.Bool.{Bool, true, false, not, _&&_, _||_, or-true}
 use mathlib.Core.List.{List, [], _∷_}
 use native.Mathlib.Omega.{arith}
 use lib.ListN.{length}
@@ -44,7 +44,8 @@ use Rattle.admission.specs.declared.Admission.{Admission}
 use Rattle.admission.specs.declared.Admission.the-variants as admission
 use Rattle.admission.specs.Admission.{topicsOf, firstLong, onLimits, onWord, isKey, keyMatches, keyInside, onKey}
 use Rattle.admission.specs.Admission.{onSignature, isPeerId, onPeer, partAt, senderOf, onId, admissionOf}
-use Rattle.admission.specs.Admission.{idGiven, whereRead, givesId}
+use Rattle.admission.specs.Admission.{isThere, isSigned, vouched, idGiven, whereRead, givesId}
+use Rattle.admission.specs.Flags.{allowsUnsigned}
 use Rattle.admission.specs.Told.{unfitTold}
 use Rattle.admission.specs.Fit.{Limits, Signed}
 
@@ -70,12 +71,16 @@ abbrev pub keyFits : List ℕ → List ℕ → Place → Bool
 keyFits p s place.Absent = keyInside s
 keyFits p s (place.Present a e) = isKey (between p a e) && keyMatches s (between p a e)
 
+-- the tests of a signature, a key and the host's word; or none of them
+pub data Stood (unsigned : Bool) (p s : List ℕ) (word : Bool) : Place → Place → Type 0 where
+  signed : {q k : Place} → Signed q → keyFits p s k ≡ true → word ≡ true → Stood unsigned p s word q k
+  bare : unsigned ≡ true → Stood unsigned p s word place.Absent place.Absent
+
 -- each test behind the id's
-pub record Passes (p : List ℕ) (word : Bool) : Type 0 where
+pub record Passes (flags : ℕ) (p : List ℕ) (word : Bool) : Type 0 where
   pub peer : isPeerId (senderOf p) ≡ true
-  pub signature : Signed (slotsOf kind.RawMessage p .fourth)
-  pub key : keyFits p (senderOf p) (slotsOf kind.RawMessage p .fifth) ≡ true
-  pub given : word ≡ true
+  pub stood : Stood (allowsUnsigned flags) p (senderOf p) word (slotsOf kind.RawMessage p .fourth)
+      (slotsOf kind.RawMessage p .fifth)
   pub limits : Limits p
 
 module _ (a e b f : ℕ) where
@@ -114,62 +119,80 @@ module _ (a e b f : ℕ) where
       (λ u. clash (let z = simp (t, u) at h in cc)))
       (λ t. clash (let z = simp t at h in cc))
 
-  of-signature : (s k : Place) (r : Admission) → onSignature s k r ≡ admission.Fit a e b f
-      → Signed s × (r ≡ admission.Fit a e b f)
-  of-signature place.Absent place.Absent r h = clash (cc)
-  of-signature place.Absent (place.Present x y) r h = clash (cc)
-  of-signature (place.Present x y) k r h =
-      either (eqb (y - x) 64)
-      (λ t. (record { start = x; next = y; there = refl; size = eqb-true (y - x) 64 t }, simp t at h))
-      (λ t. clash (let z = simp t at h in cc))
+  module _ (u : Bool) (p s : List ℕ) (word : Bool) (l : Admission) where
+    of-signature : (q k : Place) → onSignature u q k (onKey p s k (onWord word l)) l ≡ admission.Fit a e b f
+        → Stood u p s word q k × (l ≡ admission.Fit a e b f)
+    of-signature place.Absent place.Absent h =
+        either u (λ t. (bare t, simp t at h)) (λ t. clash (let z = simp t at h in cc))
+    of-signature place.Absent (place.Present x y) h = clash (cc)
+    of-signature (place.Present x y) k h =
+        either (eqb (y - x) 64)
+        (λ t.
+        let g = of-key p s k (onWord word l) (simp t at h) in
+        let w = of-word word l (g .1) in
+        (signed (record { start = x; next = y; there = refl; size = eqb-true (y - x) 64 t }) (g .0) (w .0), w .1))
+        (λ t. clash (let z = simp t at h in cc))
 
   of-peer : (s : List ℕ) (r : Admission) → onPeer s r ≡ admission.Fit a e b f
       → (isPeerId s ≡ true) × (r ≡ admission.Fit a e b f)
   of-peer s r h = either (isPeerId s) (λ t. (t, simp t at h)) (λ t. clash (let z = simp t at h in cc))
 
-  of-id : (p : List ℕ) (word : Bool) (i : MessageId) → onId p word i ≡ admission.Fit a e b f → (i ≡ id.Parts a e b f)
-      × Passes p word
-  of-id p word id.MissingFrom h = clash (cc)
-  of-id p word (id.InvalidFrom n) h = clash (cc)
-  of-id p word id.InvalidSeqno h =
+  of-id : (flags : ℕ) (p : List ℕ) (word : Bool) (i : MessageId) → onId flags p word i ≡ admission.Fit a e b f
+      → (i ≡ id.Parts a e b f) × Passes flags p word
+  of-id flags p word id.MissingFrom h = clash (cc)
+  of-id flags p word (id.InvalidFrom n) h = clash (cc)
+  of-id flags p word id.InvalidSeqno h =
       let r = of-peer (senderOf p) (admission.Unfit InvalidSeqno) h in clash (let z = r .1 in cc)
-  of-id p word (id.Parts x y z w) h =
-      let q = slotsOf kind.RawMessage p .fifth in
-      let fit = admission.Fit x y z w in
-      let u = of-peer (senderOf p)
-      (onSignature (slotsOf kind.RawMessage p .fourth) q (onKey p (senderOf p) q (onWord word (onLimits p fit)))) h in
-      let s = of-signature (slotsOf kind.RawMessage p .fourth) q (onKey p (senderOf p) q (onWord word (onLimits p fit)))
-      (u .1) in
-      let k = of-key p (senderOf p) q (onWord word (onLimits p fit)) (s .1) in
-      let r = of-word word (onLimits p fit) (k .1) in
-      let l = of-limits p fit (r .1) in
+  of-id flags p word (id.Parts x y z w) h =
+      let u = of-peer (senderOf p) _ h in
+      let s = of-signature (allowsUnsigned flags) p (senderOf p) word (onLimits p (admission.Fit x y z w))
+      (slotsOf kind.RawMessage p .fourth) (slotsOf kind.RawMessage p .fifth) (u .1) in
+      let l = of-limits p (admission.Fit x y z w) (s .1) in
       let g = l .0 in
-      (cc, record { peer = u .0; signature = s .0; key = k .0; given = r .0; limits = l .1 })
+      (cc, record { peer = u .0; stood = s .0; limits = l .1 })
 
 -- its id is that of idParts
-pub fit-parts : (p : List ℕ) (word : Bool) (a e b f : ℕ) → admissionOf p word ≡ admission.Fit a e b f
+pub fit-parts : (flags : ℕ) (p : List ℕ) (word : Bool) (a e b f : ℕ) → admissionOf flags p word ≡ admission.Fit a e b f
     → idParts p ≡ id.Parts a e b f
 unfolding admissionOf
-fit-parts p word a e b f h = of-id a e b f p word (idParts p) h .0
+fit-parts flags p word a e b f h = of-id a e b f flags p word (idParts p) h .0
 
 -- and so are the sender's bytes
 pub sender-is : (p : List ℕ) (a e b f : ℕ) → idParts p ≡ id.Parts a e b f → senderOf p ≡ between p a e
 sender-is p a e b f h = ap (partAt p) (parts-there p a e b f h .0)
 
 -- it passes the tests behind that
-pub fit-passes : (p : List ℕ) (word : Bool) (a e b f : ℕ) → admissionOf p word ≡ admission.Fit a e b f → Passes p word
+pub fit-passes : (flags : ℕ) (p : List ℕ) (word : Bool) (a e b f : ℕ) → admissionOf flags p word ≡ admission.Fit a e b f
+    → Passes flags p word
 unfolding admissionOf
-fit-passes p word a e b f h = of-id a e b f p word (idParts p) h .1
+fit-passes flags p word a e b f h = of-id a e b f flags p word (idParts p) h .1
 
 -- it keeps the limits on topics and size
-pub fit-limits : (p : List ℕ) (word : Bool) (a e b f : ℕ) → admissionOf p word ≡ admission.Fit a e b f → Limits p
-unfolding admissionOf
-fit-limits p word a e b f h = of-id a e b f p word (idParts p) h .1 .limits
+pub fit-limits : (flags : ℕ) (p : List ℕ) (word : Bool) (a e b f : ℕ) → admissionOf flags p word ≡ admission.Fit a e b f
+    → Limits p
+fit-limits flags p word a e b f h = fit-passes flags p word a e b f h .limits
 
--- the host gave its word
-pub fit-word : (p : List ℕ) (word : Bool) (a e b f : ℕ) → admissionOf p word ≡ admission.Fit a e b f → word ≡ true
-unfolding admissionOf
-fit-word p word a e b f h = of-id a e b f p word (idParts p) h .1 .given
+-- it is vouched for: the host gave its word, or it has no signature and that is allowed
+stood-vouched : {u : Bool} {p s : List ℕ} {word : Bool} {q k : Place} → Stood u p s word q k
+    → (word || (u && not (isThere q))) ≡ true
+stood-vouched {u} (signed {q} g key w) = rw w
+stood-vouched {word} (bare t) = rw t (or-true word)
+
+pub fit-vouched : (flags : ℕ) (p : List ℕ) (word : Bool) (a e b f : ℕ) → admissionOf flags p word ≡ admission.Fit a e b f
+    → vouched flags p word ≡ true
+unfolding vouched isSigned
+fit-vouched flags p word a e b f h = stood-vouched (fit-passes flags p word a e b f h .stood)
+
+-- where no unsigned message is allowed, it has a signature
+stood-signed : {u : Bool} {p s : List ℕ} {word : Bool} {q k : Place} → Stood u p s word q k → u ≡ false
+    → isThere q ≡ true
+stood-signed (signed g key w) off = ap isThere (g .there)
+stood-signed (bare t) off = clash (cc)
+
+pub fit-signed : (flags : ℕ) (p : List ℕ) (word : Bool) (a e b f : ℕ) → admissionOf flags p word ≡ admission.Fit a e b f
+    → allowsUnsigned flags ≡ false → isSigned p ≡ true
+unfolding isSigned
+fit-signed flags p word a e b f h off = stood-signed (fit-passes flags p word a e b f h .stood) off
 
 -- where firstLong is 0, no topic is above 1,024 bytes
 pub topic-short : (t : List ℕ) (l : List (List ℕ)) → firstLong l ≡ 0 → among t l ≡ true → length t ≤ 1024
@@ -183,14 +206,46 @@ topic-short t (j ∷ l) h k =
     (λ v. topic-short t l (simp u at h) (simp v at k)))
 
 -- its id has 2 to 128 bytes
-pub fit-id : (p : List ℕ) (word : Bool) (a e b f : ℕ) → admissionOf p word ≡ admission.Fit a e b f
+pub fit-id : (flags : ℕ) (p : List ℕ) (word : Bool) (a e b f : ℕ) → admissionOf flags p word ≡ admission.Fit a e b f
     → (2 ≤ length (idBytes p a e b f)) × (length (idBytes p a e b f) ≤ 128)
-fit-id p word a e b f h = id-size p a e b f (fit-parts p word a e b f h)
+fit-id flags p word a e b f h = id-size p a e b f (fit-parts flags p word a e b f h)
+
+-- ---- the host's word matters for a message with a signature alone
+-- a message that is vouched for is answered as with the word
+word-same : (u : Bool) (q k : Place) (p s : List ℕ) (word : Bool) (l : Admission) → (word || (u && not (isThere q))) ≡ true
+    → onSignature u q k (onKey p s k (onWord word l)) l ≡ onSignature u q k (onKey p s k (onWord true l)) l
+word-same u q k p s true l h = refl
+word-same u place.Absent place.Absent p s false l h = refl
+word-same u place.Absent (place.Present x y) p s false l h = refl
+word-same u (place.Present x y) k p s false l h = either u (λ t. clash (let z = rw t at h in cc)) (λ t. clash (let z = rw t at h in cc))
+
+id-vouched : (flags : ℕ) (p : List ℕ) (word : Bool) (i : MessageId) → vouched flags p word ≡ true
+    → onId flags p word i ≡ onId flags p true i
+unfolding vouched isSigned
+id-vouched flags p word id.MissingFrom h = refl
+id-vouched flags p word (id.InvalidFrom n) h = refl
+id-vouched flags p word id.InvalidSeqno h = refl
+id-vouched flags p word (id.Parts a e b f) h =
+    ap (onPeer (senderOf p)) (word-same (allowsUnsigned flags) (slotsOf kind.RawMessage p .fourth)
+    (slotsOf kind.RawMessage p .fifth) p (senderOf p) word (onLimits p (admission.Fit a e b f)) h)
+
+pub vouched-same : (flags : ℕ) (p : List ℕ) (word : Bool) → vouched flags p word ≡ true
+    → admissionOf flags p word ≡ admissionOf flags p true
+unfolding admissionOf
+vouched-same flags p word h = id-vouched flags p word (idParts p) h
+
+-- so one that is taken is taken with it
+pub fit-true : (flags : ℕ) (p : List ℕ) (word : Bool) (a e b f : ℕ) → admissionOf flags p word ≡ admission.Fit a e b f
+    → admissionOf flags p true ≡ admission.Fit a e b f
+fit-true flags p word a e b f h = sym (vouched-same flags p word (fit-vouched flags p word a e b f h)) ∙ h
 
 -- ---- 27 comes from the host's word alone
--- without it no message is taken
-pub no-word : (p : List ℕ) (a e b f : ℕ) → admissionOf p false ≡ admission.Fit a e b f → ⊥
-no-word p a e b f h = let z = fit-word p false a e b f h in clash (cc)
+-- without it no message with a signature is taken
+pub no-word : (flags : ℕ) (p : List ℕ) (a e b f : ℕ) → isSigned p ≡ true → admissionOf flags p false ≡ admission.Fit a e b f → ⊥
+unfolding vouched
+no-word flags p a e b f there h =
+    let z : (allowsUnsigned flags && not (isSigned p)) ≡ true = fit-vouched flags p false a e b f h in
+    either (allowsUnsigned flags) (λ t. clash (let y = rw (t, there) at z in cc)) (λ t. clash (let y = rw t at z in cc))
 
 limits-never : (p : List ℕ) (a e b f : ℕ) → onLimits p (admission.Fit a e b f) ≡ admission.Unfit SignatureInvalid → ⊥
 unfolding onLimits
@@ -211,67 +266,70 @@ key-never p s (place.Present x y) r n h =
     (λ u. clash (let z = simp (t, u) at h in cc)))
     (λ t. clash (let z = simp t at h in cc))
 
-signature-never : (s k : Place) (r : Admission) → (r ≡ admission.Unfit SignatureInvalid → ⊥)
-    → onSignature s k r ≡ admission.Unfit SignatureInvalid → ⊥
-signature-never place.Absent place.Absent r n h = clash (cc)
-signature-never place.Absent (place.Present x y) r n h = clash (cc)
-signature-never (place.Present x y) k r n h =
+signature-never : (u : Bool) (s k : Place) (r l : Admission) → (r ≡ admission.Unfit SignatureInvalid → ⊥)
+    → (l ≡ admission.Unfit SignatureInvalid → ⊥) → onSignature u s k r l ≡ admission.Unfit SignatureInvalid → ⊥
+signature-never u place.Absent place.Absent r l n m h =
+    either u (λ t. m (simp t at h)) (λ t. clash (let z = simp t at h in cc))
+signature-never u place.Absent (place.Present x y) r l n m h = clash (cc)
+signature-never u (place.Present x y) k r l n m h =
     either (eqb (y - x) 64) (λ t. n (simp t at h)) (λ t. clash (let z = simp t at h in cc))
 
 peer-never : (s : List ℕ) (r : Admission) → (r ≡ admission.Unfit SignatureInvalid → ⊥)
     → onPeer s r ≡ admission.Unfit SignatureInvalid → ⊥
 peer-never s r n h = either (isPeerId s) (λ t. n (simp t at h)) (λ t. clash (let z = simp t at h in cc))
 
-id-never : (p : List ℕ) (i : MessageId) → onId p true i ≡ admission.Unfit SignatureInvalid → ⊥
-id-never p id.MissingFrom h = clash (cc)
-id-never p (id.InvalidFrom n) h = clash (cc)
-id-never p id.InvalidSeqno h =
+id-never : (flags : ℕ) (p : List ℕ) (i : MessageId) → onId flags p true i ≡ admission.Unfit SignatureInvalid → ⊥
+id-never flags p id.MissingFrom h = clash (cc)
+id-never flags p (id.InvalidFrom n) h = clash (cc)
+id-never flags p id.InvalidSeqno h =
     peer-never (senderOf p) (admission.Unfit InvalidSeqno) (λ z. clash (cc)) h
-id-never p (id.Parts a e b f) h =
+id-never flags p (id.Parts a e b f) h =
     let q = slotsOf kind.RawMessage p .fifth in
     let r = onLimits p (admission.Fit a e b f) in
-    peer-never (senderOf p) (onSignature (slotsOf kind.RawMessage p .fourth) q (onKey p (senderOf p) q r))
-    (signature-never (slotsOf kind.RawMessage p .fourth) q (onKey p (senderOf p) q r)
-    (key-never p (senderOf p) q r (limits-never p a e b f))) h
+    peer-never (senderOf p)
+    (onSignature (allowsUnsigned flags) (slotsOf kind.RawMessage p .fourth) q (onKey p (senderOf p) q r) r)
+    (signature-never (allowsUnsigned flags) (slotsOf kind.RawMessage p .fourth) q (onKey p (senderOf p) q r) r
+    (key-never p (senderOf p) q r (limits-never p a e b f)) (limits-never p a e b f)) h
 
 -- and with it 27 is never the answer
-pub word-only : (p : List ℕ) (why : Unfit) → admissionOf p true ≡ admission.Unfit why → why ≡ SignatureInvalid → ⊥
+pub word-only : (flags : ℕ) (p : List ℕ) (why : Unfit) → admissionOf flags p true ≡ admission.Unfit why
+    → why ≡ SignatureInvalid → ⊥
 unfolding admissionOf
-word-only p why h e = id-never p (idParts p) (h ∙ ap admission.Unfit e)
+word-only flags p why h e = id-never flags p (idParts p) (h ∙ ap admission.Unfit e)
 
 -- ---- which id a message gives
-pub gives-refused : (p i : List ℕ) (why : WireError) → counted kind.RawMessage p ≡ count.Refused why
-    → false ≡ givesId p i
+pub gives-refused : (flags : ℕ) (p i : List ℕ) (why : WireError) → counted kind.RawMessage p ≡ count.Refused why
+    → false ≡ givesId flags p i
 unfolding givesId
-gives-refused p i why h = ap (λ c. whereRead c (idGiven p i (admissionOf p true))) (sym h)
+gives-refused flags p i why h = ap (λ c. whereRead c (idGiven p i (admissionOf flags p true))) (sym h)
 
-pub gives-fit : (p i : List ℕ) (n a e b f : ℕ) (r : Bool) → counted kind.RawMessage p ≡ count.Records n
-    → admissionOf p true ≡ admission.Fit a e b f → r ≡ sameBytes (idBytes p a e b f) i → r ≡ givesId p i
+pub gives-fit : (flags : ℕ) (p i : List ℕ) (n a e b f : ℕ) (r : Bool) → counted kind.RawMessage p ≡ count.Records n
+    → admissionOf flags p true ≡ admission.Fit a e b f → r ≡ sameBytes (idBytes p a e b f) i → r ≡ givesId flags p i
 unfolding givesId
-gives-fit p i n a e b f r h k g = g ∙ ap (idGiven p i) (sym k)
-    ∙ ap (λ c. whereRead c (idGiven p i (admissionOf p true))) (sym h)
+gives-fit flags p i n a e b f r h k g = g ∙ ap (idGiven p i) (sym k)
+    ∙ ap (λ c. whereRead c (idGiven p i (admissionOf flags p true))) (sym h)
 
 -- its own
-pub gives-own : (p : List ℕ) (n a e b f : ℕ) → counted kind.RawMessage p ≡ count.Records n
-    → admissionOf p true ≡ admission.Fit a e b f → givesId p (idBytes p a e b f) ≡ true
-gives-own p n a e b f h k =
-    sym (gives-fit p (idBytes p a e b f) n a e b f true h k (sym (same-self (idBytes p a e b f))))
+pub gives-own : (flags : ℕ) (p : List ℕ) (n a e b f : ℕ) → counted kind.RawMessage p ≡ count.Records n
+    → admissionOf flags p true ≡ admission.Fit a e b f → givesId flags p (idBytes p a e b f) ≡ true
+gives-own flags p n a e b f h k =
+    sym (gives-fit flags p (idBytes p a e b f) n a e b f true h k (sym (same-self (idBytes p a e b f))))
 
 -- and no other
-pub record Gives (p i : List ℕ) : Type 0 where
+pub record Gives (flags : ℕ) (p i : List ℕ) : Type 0 where
   pub records : ℕ
   pub from-start : ℕ
   pub from-end : ℕ
   pub seqno-start : ℕ
   pub seqno-end : ℕ
   pub read : counted kind.RawMessage p ≡ count.Records records
-  pub taken : admissionOf p true ≡ admission.Fit from-start from-end seqno-start seqno-end
+  pub taken : admissionOf flags p true ≡ admission.Fit from-start from-end seqno-start seqno-end
   pub named : i ≡ idBytes p from-start from-end seqno-start seqno-end
 
-of-fit : (p i : List ℕ) (n : ℕ) (r : Admission) → counted kind.RawMessage p ≡ count.Records n → admissionOf p true ≡ r
-    → idGiven p i r ≡ true → Gives p i
-of-fit p i n (admission.Unfit why) h k g = clash (cc)
-of-fit p i n (admission.Fit a e b f) h k g =
+of-fit : (flags : ℕ) (p i : List ℕ) (n : ℕ) (r : Admission) → counted kind.RawMessage p ≡ count.Records n
+    → admissionOf flags p true ≡ r → idGiven p i r ≡ true → Gives flags p i
+of-fit flags p i n (admission.Unfit why) h k g = clash (cc)
+of-fit flags p i n (admission.Fit a e b f) h k g =
     record {
       records = n;
       from-start = a;
@@ -283,20 +341,26 @@ of-fit p i n (admission.Fit a e b f) h k g =
       named = sym (same-equal (idBytes p a e b f) i g);
     }
 
-of-read : (p i : List ℕ) (c : Counted) → counted kind.RawMessage p ≡ c → whereRead c (idGiven p i (admissionOf p true))
-    ≡ true → Gives p i
-of-read p i (count.Refused why) h g = clash (cc)
-of-read p i (count.Records n) h g = of-fit p i n (admissionOf p true) h refl g
+of-read : (flags : ℕ) (p i : List ℕ) (c : Counted) → counted kind.RawMessage p ≡ c
+    → whereRead c (idGiven p i (admissionOf flags p true)) ≡ true → Gives flags p i
+of-read flags p i (count.Refused why) h g = clash (cc)
+of-read flags p i (count.Records n) h g = of-fit flags p i n (admissionOf flags p true) h refl g
 
-pub gives-only : (p i : List ℕ) → givesId p i ≡ true → Gives p i
+pub gives-only : (flags : ℕ) (p i : List ℕ) → givesId flags p i ≡ true → Gives flags p i
 unfolding givesId
-gives-only p i g = of-read p i (counted kind.RawMessage p) refl g
+gives-only flags p i g = of-read flags p i (counted kind.RawMessage p) refl g
+
+-- where no unsigned message is allowed, it has a signature
+pub gives-signed : (flags : ℕ) (p i : List ℕ) → givesId flags p i ≡ true → allowsUnsigned flags ≡ false → isSigned p ≡ true
+gives-signed flags p i g off =
+    let r = gives-only flags p i g in
+    fit-signed flags p true (r .from-start) (r .from-end) (r .seqno-start) (r .seqno-end) (r .taken) off
 
 -- a message gives one id
-pub one-id : (m i j : List ℕ) → givesId m i ≡ true → givesId m j ≡ true → i ≡ j
-one-id m i j g h =
-    let a = gives-only m i g in
-    let b = gives-only m j h in
+pub one-id : (flags : ℕ) (m i j : List ℕ) → givesId flags m i ≡ true → givesId flags m j ≡ true → i ≡ j
+one-id flags m i j g h =
+    let a = gives-only flags m i g in
+    let b = gives-only flags m j h in
     let e : admission.Fit (a .from-start) (a .from-end) (a .seqno-start) (a .seqno-end) ≡ admission.Fit (b .from-start)
     (b .from-end) (b .seqno-start) (b .seqno-end) = sym (a .taken) ∙ b .taken in
     let p : a .from-start ≡ b .from-start = cc in

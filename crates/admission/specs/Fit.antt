@@ -1,6 +1,6 @@
 -- Which messages are fit, from the documents and the scope's table: the sender is a peer id; there is a signature of 64
--- bytes; the key is the sender's, as far as the bytes tell; the host gave its word; the limits are kept. FitLaws: a message
--- is taken exactly then.
+-- bytes, the key is the sender's, as far as the bytes tell, and the host gave its word; or there is neither signature nor
+-- key, and the flags allow that; the limits are kept. FitLaws: a message is taken exactly then.
 use Prim.Native.Nat.{ℕ, _-_, _≤_}
 use mathlib.Core.Path.{_≡_}
 use mathlib.Core.Bool.{Bool, true}
@@ -17,6 +17,7 @@ use Rattle.schema.specs.declared.Place.the-variants as place
 use Rattle.schema.specs.Slots.{slotsOf}
 use Rattle.ids.specs.declared.MessageId.the-variants as id
 use Rattle.ids.specs.Ids.{idParts}
+use Rattle.admission.specs.Flags.{allowsUnsigned}
 use Rattle.admission.specs.Admission.{topicsOf, firstLong}
 
 -- the key of a message whose sender is s
@@ -47,13 +48,19 @@ pub record Limits (p : List ℕ) : Type 0 where
   pub short : firstLong (topicsOf p) ≡ 0
   pub small : length p ≤ 4096
 
+-- what stands behind a message whose sender is s
+pub data Backed (flags : ℕ) (p : List ℕ) (word : Bool) (s : List ℕ) : Type 0 where
+  signed : Signed (slotsOf kind.RawMessage p .fourth) → KeyOf s (givenAt p (slotsOf kind.RawMessage p .fifth)) → word ≡ true
+      → Backed flags p word s
+  -- neither signature nor key; the host's word does not matter
+  unsigned : allowsUnsigned flags ≡ true → slotsOf kind.RawMessage p .fourth ≡ place.Absent
+      → slotsOf kind.RawMessage p .fifth ≡ place.Absent → Backed flags p word s
+
 -- from stands from a to e, seqno from b to f
-pub record IsFit (p : List ℕ) (word : Bool) (a e b f : ℕ) : Type 0 where
+pub record IsFit (flags : ℕ) (p : List ℕ) (word : Bool) (a e b f : ℕ) : Type 0 where
   pub parts : idParts p ≡ id.Parts a e b f
   pub hash : Hash
   pub digest : List ℕ
   pub peer : IsPeerId (between p a e) hash digest
-  pub signature : Signed (slotsOf kind.RawMessage p .fourth)
-  pub key : KeyOf (between p a e) (givenAt p (slotsOf kind.RawMessage p .fifth))
-  pub given : word ≡ true
+  pub backed : Backed flags p word (between p a e)
   pub limits : Limits p

@@ -1,6 +1,6 @@
 -- A message is taken exactly where it is fit.
 use Prim.Native.Nat.{ℕ, _-_, _^_, _≤_, _<_}
-use mathlib.Core.Path.{_≡_, refl, sym, ap, subst, _∙_}
+use mathlib.Core.Path.{_≡_, refl, sym, ap, ap₂, subst, _∙_}
 use mathlib.Core.Bool.{Bool, true, false}
 use mathlib.Core.List.{List}
 use mathlib.Core.Option.{Option, none, some}
@@ -33,9 +33,14 @@ use Rattle.admission.specs.declared.Admission.{Admission}
 use Rattle.admission.specs.declared.Admission.the-variants as admission
 use Rattle.admission.specs.Admission.{topicsOf, firstLong, onLimits, onWord, isRead, isKey, byHash, keyMatches}
 use Rattle.admission.specs.Admission.{keyInside, onKey, onSignature, isPeerId, onPeer, senderOf, onId}
-use Rattle.admission.specs.Admission.{admissionOf}
-use Rattle.admission.specs.AdmissionLaws.{keyFits, fit-parts, sender-is, fit-passes}
-use Rattle.admission.specs.Fit.{KeyOf, inside, same, hashed, givenAt, Signed, Limits, IsFit}
+use Rattle.admission.specs.Admission.{admissionOf, isThere, isSigned}
+use Rattle.admission.specs.Flags.{allowsUnsigned}
+use Rattle.admission.specs.AdmissionLaws.{keyFits, Stood, fit-parts, sender-is, fit-passes}
+use Rattle.admission.specs.AdmissionLaws as stood
+use Rattle.admission.specs.Fit.{KeyOf, inside, same, hashed, givenAt, Signed, Limits, Backed, IsFit}
+use Rattle.admission.specs.Fit as fit
+use Rattle.ids.specs.declared.MessageId.the-variants as id
+use Rattle.ids.specs.Ids.{idParts}
 
 -- ---- which peer id it is
 of-hash : (s : List ℕ) (r : PeerId) → fromBytes s ≡ r → byHash r true true ≡ true → (h : Hash) × IsPeerId s h (digestOf s)
@@ -147,9 +152,9 @@ to-key p s place.Absent r h = rw h
 to-key p s (place.Present a e) r h =
     let b = both (isKey (between p a e)) (keyMatches s (between p a e)) h in rw (b .0, b .1)
 
-to-signature : (s k : Place) (r : Admission) → Signed s → onSignature s k r ≡ r
-to-signature s k r g =
-    ap (λ (q : Place). onSignature q k r) (g .there) ∙ simp (eq-eqb (g .next - g .start) 64 (g .size))
+to-signature : (u : Bool) (s k : Place) (r l : Admission) → Signed s → onSignature u s k r l ≡ r
+to-signature u s k r l g =
+    ap (λ (q : Place). onSignature u q k r l) (g .there) ∙ simp (eq-eqb (g .next - g .start) 64 (g .size))
 
 to-peer : (s : List ℕ) (h : Hash) (d : List ℕ) (r : Admission) → IsPeerId s h d → onPeer s r ≡ r
 unfolding isPeerId
@@ -157,48 +162,110 @@ to-peer s identity d r i = rw (peer-exactly s d identity .1 i .0)
 to-peer s sha-256 d r i = rw (peer-exactly s d sha-256 .1 i .0)
 
 -- ---- both ways
-module _ (p : List ℕ) (word : Bool) (a e b f : ℕ) (bp : Bytes p) where
+module _ (p : List ℕ) (a e b f : ℕ) (bp : Bytes p) where
   sender-bytes : Bytes (between p a e)
   sender-bytes = take-bytes (e - a) (drop a p) (drop-bytes a p bp)
 
   sender-small : length p ≤ 4096 → length (between p a e) ≤ 4096
   sender-small l = rw (length-take (e - a) (drop a p), length-drop a p) (omega arith)
 
-  is-fit : admissionOf p word ≡ admission.Fit a e b f → IsFit p word a e b f
+module _ (flags : ℕ) (p : List ℕ) (word : Bool) (a e b f : ℕ) (bp : Bytes p) where
+  abbrev fourth : Place
+  fourth = slotsOf kind.RawMessage p .fourth
+
+  abbrev fifth : Place
+  fifth = slotsOf kind.RawMessage p .fifth
+
+  is-backed : {q k : Place} → Stood (allowsUnsigned flags) p (senderOf p) word q k → fourth ≡ q → fifth ≡ k
+      → senderOf p ≡ between p a e → length p ≤ 4096 → Backed flags p word (between p a e)
+  is-backed (stood.signed {q} {k} g key w) f4 f5 s small =
+      fit.signed (subst Signed (sym f4) g)
+      (clause p (between p a e) bp (sender-bytes p a e b f bp) small (sender-small p a e b f bp small) fifth
+      (ap (keyFits p (between p a e)) f5 ∙ sym (ap (λ (l : List ℕ). keyFits p l k) s) ∙ key)) w
+  is-backed (stood.bare t) f4 f5 s small = fit.unsigned t f4 f5
+
+  is-fit : admissionOf flags p word ≡ admission.Fit a e b f → IsFit flags p word a e b f
   is-fit h =
-      let i = fit-parts p word a e b f h in
-      let g = fit-passes p word a e b f h in
+      let i = fit-parts flags p word a e b f h in
+      let g = fit-passes flags p word a e b f h in
       let s : senderOf p ≡ between p a e = sender-is p a e b f i in
       let n = peer-is (between p a e) (sym (ap isPeerId s) ∙ g .peer) in
-      let small = g .limits .small in
       record {
         parts = i;
         hash = n .0;
         digest = digestOf (between p a e);
         peer = n .1;
-        signature = g .signature;
-        key = clause p (between p a e) bp sender-bytes small (sender-small small) (slotsOf kind.RawMessage p .fifth)
-            (sym (ap (λ (l : List ℕ). keyFits p l (slotsOf kind.RawMessage p .fifth)) s) ∙ g .key);
-        given = g .given;
+        backed = is-backed (g .stood) refl refl s (g .limits .small);
         limits = g .limits;
       }
 
-  is-taken : IsFit p word a e b f → admissionOf p word ≡ admission.Fit a e b f
+  backed-on : {s : List ℕ} (l : Admission) → Backed flags p word s → s ≡ between p a e → senderOf p ≡ s → length p ≤ 4096
+      → onSignature (allowsUnsigned flags) fourth fifth (onKey p (senderOf p) fifth (onWord word l)) l ≡ l
+  backed-on l (fit.signed g k w) c s small =
+      let y : keyFits p (senderOf p) fifth ≡ true = ap (λ (x : List ℕ). keyFits p x fifth) (s ∙ c)
+      ∙ fits p (between p a e) bp (sender-bytes p a e b f bp) small (sender-small p a e b f bp small) fifth
+      (subst (λ (x : List ℕ). KeyOf x (givenAt p fifth)) c k) in
+      to-signature (allowsUnsigned flags) fourth fifth (onKey p (senderOf p) fifth (onWord word l)) l g
+      ∙ to-key p (senderOf p) fifth (onWord word l) y
+      ∙ to-word word l w
+  backed-on l (fit.unsigned t f4 f5) c s small =
+      ap₂ (λ (q k : Place). onSignature (allowsUnsigned flags) q k (onKey p (senderOf p) k (onWord word l)) l) f4 f5 ∙ rw t
+
+  is-taken : IsFit flags p word a e b f → admissionOf flags p word ≡ admission.Fit a e b f
   unfolding admissionOf
   is-taken x =
       let s : senderOf p ≡ between p a e = sender-is p a e b f (x .parts) in
-      let small = x .limits .small in
-      let q = slotsOf kind.RawMessage p .fifth in
       let fit = admission.Fit a e b f in
-      let k : keyFits p (senderOf p) q ≡ true = ap (λ (l : List ℕ). keyFits p l q) s
-      ∙ fits p (between p a e) bp sender-bytes small (sender-small small) q (x .key) in
-      ap (onId p word) (x .parts)
+      ap (onId flags p word) (x .parts)
       ∙ to-peer (senderOf p) (x .hash) (x .digest) _ (subst (λ (l : List ℕ). IsPeerId l (x .hash) (x .digest)) (sym s) (x .peer))
-      ∙ to-signature (slotsOf kind.RawMessage p .fourth) q _ (x .signature)
-      ∙ to-key p (senderOf p) q (onWord word (onLimits p fit)) k
-      ∙ to-word word (onLimits p fit) (x .given)
+      ∙ backed-on (onLimits p fit) (x .backed) refl s (x .limits .small)
       ∙ to-limits p fit (x .limits)
 
   -- a message is taken, with from and seqno in these places, exactly where it is fit
-  pub fit-exactly : (admissionOf p word ≡ admission.Fit a e b f) ↔ IsFit p word a e b f
+  pub fit-exactly : (admissionOf flags p word ≡ admission.Fit a e b f) ↔ IsFit flags p word a e b f
   fit-exactly = (is-fit, is-taken)
+
+  -- one without a signature exactly where that is allowed, there is no key, the sender is a peer id, it has an id and
+  -- keeps the limits: for either word
+  pub record FitUnsigned : Type 0 where
+    pub allowed : allowsUnsigned flags ≡ true
+    pub no-key : slotsOf kind.RawMessage p .fifth ≡ place.Absent
+    pub parts : idParts p ≡ id.Parts a e b f
+    pub hash : Hash
+    pub digest : List ℕ
+    pub peer : IsPeerId (between p a e) hash digest
+    pub limits : Limits p
+
+  backed-unsigned : {s : List ℕ} → Backed flags p word s → isThere fourth ≡ false → (allowsUnsigned flags ≡ true) × (fifth ≡ place.Absent)
+  backed-unsigned (fit.signed g k w) h = clash (let z = ap isThere (g .there) in cc)
+  backed-unsigned (fit.unsigned t f4 f5) h = (t, f5)
+
+  not-there : (q : Place) → isThere q ≡ false → q ≡ place.Absent
+  not-there place.Absent h = refl
+  not-there (place.Present x y) h = clash (cc)
+
+  pub unsigned-exactly : isSigned p ≡ false → (admissionOf flags p word ≡ admission.Fit a e b f) ↔ FitUnsigned
+  unfolding isSigned
+  unsigned-exactly n = (
+    λ h.
+        let x = is-fit h in
+        let u = backed-unsigned (x .backed) n in
+        record {
+          allowed = u .0;
+          no-key = u .1;
+          parts = x .parts;
+          hash = x .hash;
+          digest = x .digest;
+          peer = x .peer;
+          limits = x .limits;
+        },
+    λ (x : FitUnsigned).
+        is-taken (record {
+          parts = x .parts;
+          hash = x .hash;
+          digest = x .digest;
+          peer = x .peer;
+          backed = fit.unsigned (x .allowed) (not-there fourth n) (x .no-key);
+          limits = x .limits;
+        }),
+  )

@@ -19,6 +19,7 @@ use Rattle.admission.specs.declared.Unfit.the-variants.{InvalidSignature
 use Rattle.admission.specs.declared.Unfit.the-variants.{NotPeerId, InvalidKey, KeyPeerIdMismatch}
 use Rattle.admission.specs.declared.Admission.the-variants.{Unfit, Fit}
 use Rattle.admission.specs.Admission.{topicsOf, Span, topicPlaces, sameSpans, firstLong, onLimits, admissionOf}
+use Rattle.admission.specs.Flags.{allowsUnsigned}
 use Rattle.admission.specs.Admission.{isKey, keyMatches, keyInside, isPeerId}
 
 abbrev pub zeros : ℕ → List ℕ
@@ -62,88 +63,106 @@ of s = from s ++ (seqno ++ (topic ++ signature))
 
 -- it is taken where the host says that the signature verified; else 27
 pub taken :
-    (admissionOf (head ++ signature) true ≡ Fit 2 40 42 43)
-    × (admissionOf (head ++ signature) false ≡ Unfit SignatureInvalid)
+    (admissionOf 0 (head ++ signature) true ≡ Fit 2 40 42 43)
+    × (admissionOf 0 (head ++ signature) false ≡ Unfit SignatureInvalid)
 unfolding readUvarint readFrom groupOf readTag readLen readVarint skipFixed skipField readValue readField walkFrom
-    walkAt roleOf setPlace withField slotsOf idParts topicsOf firstLong onLimits admissionOf hashOf fromBytes typeOf
+    walkAt roleOf setPlace withField slotsOf idParts topicsOf firstLong onLimits allowsUnsigned admissionOf hashOf fromBytes typeOf
     onTotal onData decodeProtobuf isKey keyMatches keyInside isPeerId sameBytes
 taken = (refl, refl)
 
 -- 21, 22, 34, 23: no sender, an empty one, one that is no peer id, also where there is no seqno, and no seqno
 pub no-id :
-    (admissionOf ([]) true ≡ Unfit MissingFrom)
-    × (admissionOf (from []) true ≡ Unfit (InvalidFrom 0))
-    × (admissionOf (from (replicate 65 0x41)) true ≡ Unfit (InvalidFrom 65))
-    × (admissionOf (of (0x41 ∷ [])) true ≡ Unfit NotPeerId)
-    × (admissionOf (from (0x41 ∷ [])) true ≡ Unfit NotPeerId)
-    × (admissionOf (from peer) true ≡ Unfit InvalidSeqno)
+    (admissionOf 0 ([]) true ≡ Unfit MissingFrom)
+    × (admissionOf 0 (from []) true ≡ Unfit (InvalidFrom 0))
+    × (admissionOf 0 (from (replicate 65 0x41)) true ≡ Unfit (InvalidFrom 65))
+    × (admissionOf 0 (of (0x41 ∷ [])) true ≡ Unfit NotPeerId)
+    × (admissionOf 0 (from (0x41 ∷ [])) true ≡ Unfit NotPeerId)
+    × (admissionOf 0 (from peer) true ≡ Unfit InvalidSeqno)
 unfolding readUvarint readFrom groupOf readTag readLen readVarint skipFixed skipField readValue readField walkFrom
-    walkAt roleOf setPlace withField slotsOf idParts topicsOf firstLong onLimits admissionOf hashOf fromBytes typeOf
+    walkAt roleOf setPlace withField slotsOf idParts topicsOf firstLong onLimits allowsUnsigned admissionOf hashOf fromBytes typeOf
     onTotal onData decodeProtobuf isKey keyMatches keyInside isPeerId sameBytes
 no-id = (refl, refl, refl, refl, refl, refl)
 
 -- 34: host names, a digest of 43 bytes, a byte too many, SHA-256 digests of 31 and 33 bytes, SHA-1, two bytes for a code
 pub peer-ids :
-    (admissionOf (of (0x67 ∷ 0x61 ∷ 0x74 ∷ 0x65 ∷ [])) true ≡ Unfit NotPeerId)
-    × (admissionOf (of (replicate 64 0x41)) true ≡ Unfit NotPeerId)
-    × (admissionOf (of (0x00 ∷ 0x2b ∷ 0x08 ∷ 0x01 ∷ 0x12 ∷ 0x27 ∷ zeros 39)) true ≡ Unfit NotPeerId)
-    × (admissionOf (of (peer ++ (0x00 ∷ []))) true ≡ Unfit NotPeerId)
-    × (admissionOf (of (0x12 ∷ 0x20 ∷ zeros 31)) true ≡ Unfit NotPeerId)
-    × (admissionOf (of (0x12 ∷ 0x20 ∷ zeros 33)) true ≡ Unfit NotPeerId)
-    × (admissionOf (of (0x12 ∷ 0x21 ∷ zeros 33)) true ≡ Unfit NotPeerId)
-    × (admissionOf (of (0x11 ∷ 0x14 ∷ zeros 20)) true ≡ Unfit NotPeerId)
-    × (admissionOf (of (0x80 ∷ 0x00 ∷ 0x00 ∷ [])) true ≡ Unfit NotPeerId)
+    (admissionOf 0 (of (0x67 ∷ 0x61 ∷ 0x74 ∷ 0x65 ∷ [])) true ≡ Unfit NotPeerId)
+    × (admissionOf 0 (of (replicate 64 0x41)) true ≡ Unfit NotPeerId)
+    × (admissionOf 0 (of (0x00 ∷ 0x2b ∷ 0x08 ∷ 0x01 ∷ 0x12 ∷ 0x27 ∷ zeros 39)) true ≡ Unfit NotPeerId)
+    × (admissionOf 0 (of (peer ++ (0x00 ∷ []))) true ≡ Unfit NotPeerId)
+    × (admissionOf 0 (of (0x12 ∷ 0x20 ∷ zeros 31)) true ≡ Unfit NotPeerId)
+    × (admissionOf 0 (of (0x12 ∷ 0x20 ∷ zeros 33)) true ≡ Unfit NotPeerId)
+    × (admissionOf 0 (of (0x12 ∷ 0x21 ∷ zeros 33)) true ≡ Unfit NotPeerId)
+    × (admissionOf 0 (of (0x11 ∷ 0x14 ∷ zeros 20)) true ≡ Unfit NotPeerId)
+    × (admissionOf 0 (of (0x80 ∷ 0x00 ∷ 0x00 ∷ [])) true ≡ Unfit NotPeerId)
 unfolding readUvarint readFrom groupOf readTag readLen readVarint skipFixed skipField readValue readField walkFrom
-    walkAt roleOf setPlace withField slotsOf idParts topicsOf firstLong onLimits admissionOf hashOf fromBytes typeOf
+    walkAt roleOf setPlace withField slotsOf idParts topicsOf firstLong onLimits allowsUnsigned admissionOf hashOf fromBytes typeOf
     onTotal onData decodeProtobuf isKey keyMatches keyInside isPeerId sameBytes
 peer-ids = (refl, refl, refl, refl, refl, refl, refl, refl, refl)
 
 -- 24, 25, 26: no signature, with a key and without, and one of 63 bytes; they come before 35 and 27
 pub not-signed :
-    (admissionOf (head ++ key (0x6b ∷ [])) true ≡ Unfit KeyWithoutSignature)
-    × (admissionOf (head) true ≡ Unfit MissingSignature)
-    × (admissionOf (head ++ short) false ≡ Unfit (InvalidSignatureLength 63))
-    × (admissionOf (head ++ (short ++ key (0xff ∷ []))) true ≡ Unfit (InvalidSignatureLength 63))
+    (admissionOf 0 (head ++ key (0x6b ∷ [])) true ≡ Unfit KeyWithoutSignature)
+    × (admissionOf 0 (head) true ≡ Unfit MissingSignature)
+    × (admissionOf 0 (head ++ short) false ≡ Unfit (InvalidSignatureLength 63))
+    × (admissionOf 0 (head ++ (short ++ key (0xff ∷ []))) true ≡ Unfit (InvalidSignatureLength 63))
 unfolding readUvarint readFrom groupOf readTag readLen readVarint skipFixed skipField readValue readField walkFrom
-    walkAt roleOf setPlace withField slotsOf idParts topicsOf firstLong onLimits admissionOf hashOf fromBytes typeOf
+    walkAt roleOf setPlace withField slotsOf idParts topicsOf firstLong onLimits allowsUnsigned admissionOf hashOf fromBytes typeOf
     onTotal onData decodeProtobuf isKey keyMatches keyInside isPeerId sameBytes
 not-signed = (refl, refl, refl, refl)
 
+-- where unsigned messages are allowed, neither signature nor key is taken with the word or without: also of an identity
+-- over nothing and of a SHA-256 sender; 24, an empty signature, 34 and 27 of a signature stay
+pub unsigned-allowed :
+    (admissionOf 1 (head) false ≡ Fit 2 40 42 43)
+    × (admissionOf 1 (head) true ≡ Fit 2 40 42 43)
+    × (admissionOf 1 (from (0x00 ∷ 0x00 ∷ []) ++ (seqno ++ topic)) false ≡ Fit 2 4 6 7)
+    × (admissionOf 1 (from (0x12 ∷ 0x20 ∷ zeros 32) ++ (seqno ++ topic)) false ≡ Fit 2 36 38 39)
+    × (admissionOf 1 (from (0x41 ∷ []) ++ (seqno ++ topic)) true ≡ Unfit NotPeerId)
+    × (admissionOf 1 (head ++ key []) true ≡ Unfit KeyWithoutSignature)
+    × (admissionOf 1 (head ++ (0x2a ∷ 0x00 ∷ [])) true ≡ Unfit (InvalidSignatureLength 0))
+    × (admissionOf 1 (head ++ signature) false ≡ Unfit SignatureInvalid)
+    × (admissionOf 1 (head ++ signature) true ≡ Fit 2 40 42 43)
+    × (admissionOf 1 (from peer ++ seqno) true ≡ Unfit (TopicCount 0))
+unfolding readUvarint readFrom groupOf readTag readLen readVarint skipFixed skipField readValue readField walkFrom
+    walkAt roleOf setPlace withField slotsOf idParts topicsOf firstLong onLimits allowsUnsigned admissionOf hashOf fromBytes typeOf
+    onTotal onData decodeProtobuf isKey keyMatches keyInside isPeerId sameBytes
+unsigned-allowed = (refl, refl, refl, refl, refl, refl, refl, refl, refl, refl)
+
 -- 35, 36 of an identity: its key again, another, none, none that decodes; the shortest and the longest; with the word or without
 pub identities :
-    (admissionOf (head ++ (signature ++ key (0x08 ∷ 0x01 ∷ 0x12 ∷ 0x20 ∷ key-data))) true ≡ Fit 2 40 42 43)
-    × (admissionOf (head ++ (signature ++ key (0x08 ∷ 0x01 ∷ 0x12 ∷ 0x20 ∷ key-data))) false ≡ Unfit SignatureInvalid)
-    × (admissionOf (head ++ (signature ++ key (0x08 ∷ 0x02 ∷ 0x12 ∷ 0x20 ∷ key-data))) false ≡ Unfit KeyPeerIdMismatch)
-    × (admissionOf (head ++ (signature ++ key (0xff ∷ []))) false ≡ Unfit InvalidKey)
-    × (admissionOf (head ++ (signature ++ key [])) true ≡ Unfit InvalidKey)
-    × (admissionOf (of (0x00 ∷ 0x00 ∷ [])) true ≡ Unfit KeyPeerIdMismatch)
-    × (admissionOf (of (0x00 ∷ 0x03 ∷ 0x41 ∷ 0x42 ∷ 0x43 ∷ [])) true ≡ Unfit KeyPeerIdMismatch)
-    × (admissionOf (of (0x00 ∷ 0x03 ∷ 0x41 ∷ 0x42 ∷ 0x43 ∷ []) ++ key (0x41 ∷ 0x42 ∷ 0x43 ∷ [])) true ≡ Unfit InvalidKey)
-    × (admissionOf (of (0x00 ∷ 0x04 ∷ 0x08 ∷ 0x01 ∷ 0x12 ∷ 0x00 ∷ [])) true ≡ Fit 2 8 10 11)
-    × (admissionOf (of (0x00 ∷ 0x2a ∷ 0x08 ∷ 0x01 ∷ 0x12 ∷ 0x26 ∷ zeros 38)) true ≡ Fit 2 46 48 49)
+    (admissionOf 0 (head ++ (signature ++ key (0x08 ∷ 0x01 ∷ 0x12 ∷ 0x20 ∷ key-data))) true ≡ Fit 2 40 42 43)
+    × (admissionOf 0 (head ++ (signature ++ key (0x08 ∷ 0x01 ∷ 0x12 ∷ 0x20 ∷ key-data))) false ≡ Unfit SignatureInvalid)
+    × (admissionOf 0 (head ++ (signature ++ key (0x08 ∷ 0x02 ∷ 0x12 ∷ 0x20 ∷ key-data))) false ≡ Unfit KeyPeerIdMismatch)
+    × (admissionOf 0 (head ++ (signature ++ key (0xff ∷ []))) false ≡ Unfit InvalidKey)
+    × (admissionOf 0 (head ++ (signature ++ key [])) true ≡ Unfit InvalidKey)
+    × (admissionOf 0 (of (0x00 ∷ 0x00 ∷ [])) true ≡ Unfit KeyPeerIdMismatch)
+    × (admissionOf 0 (of (0x00 ∷ 0x03 ∷ 0x41 ∷ 0x42 ∷ 0x43 ∷ [])) true ≡ Unfit KeyPeerIdMismatch)
+    × (admissionOf 0 (of (0x00 ∷ 0x03 ∷ 0x41 ∷ 0x42 ∷ 0x43 ∷ []) ++ key (0x41 ∷ 0x42 ∷ 0x43 ∷ [])) true ≡ Unfit InvalidKey)
+    × (admissionOf 0 (of (0x00 ∷ 0x04 ∷ 0x08 ∷ 0x01 ∷ 0x12 ∷ 0x00 ∷ [])) true ≡ Fit 2 8 10 11)
+    × (admissionOf 0 (of (0x00 ∷ 0x2a ∷ 0x08 ∷ 0x01 ∷ 0x12 ∷ 0x26 ∷ zeros 38)) true ≡ Fit 2 46 48 49)
 unfolding readUvarint readFrom groupOf readTag readLen readVarint skipFixed skipField readValue readField walkFrom
-    walkAt roleOf setPlace withField slotsOf idParts topicsOf firstLong onLimits admissionOf hashOf fromBytes typeOf
+    walkAt roleOf setPlace withField slotsOf idParts topicsOf firstLong onLimits allowsUnsigned admissionOf hashOf fromBytes typeOf
     onTotal onData decodeProtobuf isKey keyMatches keyInside isPeerId sameBytes
 identities = (refl, refl, refl, refl, refl, refl, refl, refl, refl, refl)
 
 -- of a SHA-256 sender: no key, one that is none, one; a digest that would decode is no key
 pub hashes :
-    (admissionOf (of (0x12 ∷ 0x20 ∷ replicate 32 7)) true ≡ Unfit KeyPeerIdMismatch)
-    × (admissionOf (of (0x12 ∷ 0x20 ∷ replicate 32 7) ++ key (0xff ∷ [])) true ≡ Unfit InvalidKey)
-    × (admissionOf (of (0x12 ∷ 0x20 ∷ replicate 32 7) ++ key (0x08 ∷ 0x01 ∷ 0x12 ∷ 0x20 ∷ key-data)) true ≡ Fit 2 36 38 39)
-    × (admissionOf (of (0x12 ∷ 0x20 ∷ 0x08 ∷ 0x01 ∷ 0x12 ∷ 0x1c ∷ replicate 28 0x41)) true ≡ Unfit KeyPeerIdMismatch)
+    (admissionOf 0 (of (0x12 ∷ 0x20 ∷ replicate 32 7)) true ≡ Unfit KeyPeerIdMismatch)
+    × (admissionOf 0 (of (0x12 ∷ 0x20 ∷ replicate 32 7) ++ key (0xff ∷ [])) true ≡ Unfit InvalidKey)
+    × (admissionOf 0 (of (0x12 ∷ 0x20 ∷ replicate 32 7) ++ key (0x08 ∷ 0x01 ∷ 0x12 ∷ 0x20 ∷ key-data)) true ≡ Fit 2 36 38 39)
+    × (admissionOf 0 (of (0x12 ∷ 0x20 ∷ 0x08 ∷ 0x01 ∷ 0x12 ∷ 0x1c ∷ replicate 28 0x41)) true ≡ Unfit KeyPeerIdMismatch)
 unfolding readUvarint readFrom groupOf readTag readLen readVarint skipFixed skipField readValue readField walkFrom
-    walkAt roleOf setPlace withField slotsOf idParts topicsOf firstLong onLimits admissionOf hashOf fromBytes typeOf
+    walkAt roleOf setPlace withField slotsOf idParts topicsOf firstLong onLimits allowsUnsigned admissionOf hashOf fromBytes typeOf
     onTotal onData decodeProtobuf isKey keyMatches keyInside isPeerId sameBytes
 hashes = (refl, refl, refl, refl)
 
 -- 28: four topics are taken, five are not; 36 comes first
 pub five-topics :
-    (admissionOf (head ++ (topic ++ (topic ++ (topic ++ signature)))) true ≡ Fit 2 40 42 43)
-    × (admissionOf (head ++ (topic ++ (topic ++ (topic ++ (topic ++ signature))))) true ≡ Unfit (TopicCount 5))
-    × (admissionOf (head ++ (topic ++ (topic ++ (topic ++ (topic ++ (signature ++ key (0x08 ∷ 0x02 ∷ 0x12 ∷ 0x20 ∷ key-data))))))) true ≡ Unfit KeyPeerIdMismatch)
+    (admissionOf 0 (head ++ (topic ++ (topic ++ (topic ++ signature)))) true ≡ Fit 2 40 42 43)
+    × (admissionOf 0 (head ++ (topic ++ (topic ++ (topic ++ (topic ++ signature))))) true ≡ Unfit (TopicCount 5))
+    × (admissionOf 0 (head ++ (topic ++ (topic ++ (topic ++ (topic ++ (signature ++ key (0x08 ∷ 0x02 ∷ 0x12 ∷ 0x20 ∷ key-data))))))) true ≡ Unfit KeyPeerIdMismatch)
 unfolding readUvarint readFrom groupOf readTag readLen readVarint skipFixed skipField readValue readField walkFrom
-    walkAt roleOf setPlace withField slotsOf idParts topicsOf firstLong onLimits admissionOf hashOf fromBytes typeOf
+    walkAt roleOf setPlace withField slotsOf idParts topicsOf firstLong onLimits allowsUnsigned admissionOf hashOf fromBytes typeOf
     onTotal onData decodeProtobuf isKey keyMatches keyInside isPeerId sameBytes
 five-topics = (refl, refl, refl)
 

@@ -48,10 +48,10 @@ one-topics p a b r s a2 b2 a3 b3 x y = (
 )
 
 -- a message that gives an id has at most four
-pub gives-few : (p i : List ℕ) → givesId p i ≡ true → length (topicPlaces p) ≤ 4
-gives-few p i h =
-    let g = gives-only p i h in
-    let l = fit-limits p true (g .from-start) (g .from-end) (g .seqno-start) (g .seqno-end) (g .taken) in
+pub gives-few : (flags : ℕ) (p i : List ℕ) → givesId flags p i ≡ true → length (topicPlaces p) ≤ 4
+gives-few flags p i h =
+    let g = gives-only flags p i h in
+    let l = fit-limits flags p true (g .from-start) (g .from-end) (g .seqno-start) (g .seqno-end) (g .taken) in
     omega (arith, places-count p, l .few)
 
 -- each lies within the message
@@ -145,10 +145,12 @@ spans-put a b k l h g =
     ∙ spans-of l
 
 -- ---- a message with its id and its topics' places
-pub kept-only : (p i : List ℕ) (ts : List Span) → keptWith p i ts ≡ true → (givesId p i ≡ true) × (ts ≡ topicPlaces p)
+pub kept-only : (flags : ℕ) (p i : List ℕ) (ts : List Span) → keptWith flags p i ts ≡ true
+    → (givesId flags p i ≡ true) × (ts ≡ topicPlaces p)
 unfolding keptWith
-kept-only p i ts h = let b = both _ _ h in (b .0, sym (same-spans-equal (topicPlaces p) ts (b .1)))
+kept-only flags p i ts h = let b = both _ _ h in (b .0, sym (same-spans-equal (topicPlaces p) ts (b .1)))
 
-pub kept-own : (p i : List ℕ) (ts : List Span) → givesId p i ≡ true → ts ≡ topicPlaces p → keptWith p i ts ≡ true
+pub kept-own : (flags : ℕ) (p i : List ℕ) (ts : List Span) → givesId flags p i ≡ true → ts ≡ topicPlaces p
+    → keptWith flags p i ts ≡ true
 unfolding keptWith
-kept-own p i ts g e = rw (g, e) (same-spans-self (topicPlaces p))
+kept-own flags p i ts g e = rw (g, e) (same-spans-self (topicPlaces p))

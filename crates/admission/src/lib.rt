@@ -10,7 +10,8 @@ ghost use Rattle.protobuf.specs.Walk.{isBytes};
 ghost use Rattle.rows.specs.Ids.{sameBytes};
 ghost use Rattle.ids.specs.Ids.{idBytes};
 ghost use Rattle.schema.specs.SlotsLaws.{PlaceInside};
-ghost use Rattle.admission.specs.Admission.{spansIn, sameSpans, topicsIn, FindsTopics, longAfter, isKey, keyMatches, keyInside, onKey, onSignature, onWord, onLimits, isPeerId, partAt, admissionOf, idGiven, keptWith};
+ghost use Rattle.admission.specs.Flags.{knownFlags, allowsUnsigned};
+ghost use Rattle.admission.specs.Admission.{spansIn, sameSpans, topicsIn, FindsTopics, longAfter, isKey, keyMatches, keyInside, onKey, onSignature, onWord, onLimits, isPeerId, partAt, admissionOf, isSigned, idGiven, keptWith};
 use ids::MessageId;
 use ids::id_of;
 use key::PublicKey;
@@ -37,6 +38,12 @@ pub const MAX_TOPICS: usize = 4;
 pub const MAX_TOPIC_SIZE: usize = 1024;
 
 pub const MAX_MESSAGE_SIZE: usize = 4096;
+
+// A setting: messages without a signature and without a key may be taken.
+pub const ALLOW_UNSIGNED: usize = 1;
+
+// The highest number that the known flags make.
+pub const MAX_FLAGS: usize = 1;
 
 // Why a message is not taken: 21 to 30 and 34 to 36 of the scope's table, in its order, under verify's names where it has them.
 pub enum Unfit {
@@ -70,6 +77,20 @@ pub enum Admission {
 pub struct Topics {
     pub count: usize,
     pub long: usize,
+}
+
+// Whether flags are known ones.
+pub fn known_flags(flags: usize) -> bool
+    ensures { λ r. ⌜ r ≡ knownFlags flags ⌝ }
+{
+    flags <= MAX_FLAGS
+}
+
+// Whether flags allow messages without a signature and without a key.
+pub fn allows_unsigned(flags: usize) -> bool
+    ensures { λ r. ⌜ r ≡ allowsUnsigned flags ⌝ }
+{
+    flags % 2 == ALLOW_UNSIGNED
 }
 
 // Whether a field of a message is a topic.
@@ -242,7 +263,7 @@ fn keyed(
     Admission::Unfit(Unfit::InvalidKey)
 }
 
-// 24 or 25, 26, and then the key.
+// 24 or 25, 26, and then the key; where unsigned messages are allowed, the limits alone of one with neither signature nor key.
 fn signed(
     part: &[u8],
     t: Topics,
@@ -250,14 +271,18 @@ fn signed(
     signature: Place,
     key: Place,
     verified: bool,
+    unsigned: bool,
     fit: Admission,
 ) -> Admission
     requires { ⌜ t ≡ topicsIn (now part) ⌝ }
     requires { ⌜ PlaceInside (now part) key ⌝ }
-    ensures { λ r. ⌜ r ≡ onSignature signature key (onKey (now (part .entry)) (now (sender .entry)) key (onWord verified (onLimits (now (part .entry)) fit))) ⌝ }
+    ensures { λ r. ⌜ r ≡ onSignature unsigned signature key (onKey (now (part .entry)) (now (sender .entry)) key (onWord verified (onLimits (now (part .entry)) fit))) (onLimits (now (part .entry)) fit) ⌝ }
 {
     let Place::Present { start: a, end: e } = signature else {
         if let Place::Absent = key {
+            if unsigned {
+                return limits(part, t, fit);
+            }
             return Admission::Unfit(Unfit::MissingSignature);
         }
         return Admission::Unfit(Unfit::KeyWithoutSignature);
@@ -293,9 +318,9 @@ fn known(part: &[u8], from: Place) -> bool
 }
 
 // Whether a message with these topics may be taken, given the host's word on its signature: 21 to 30, 34, 35, 36, in the table's order.
-fn weigh(part: &[u8], t: Topics, verified: bool) -> Admission
+fn weigh(part: &[u8], t: Topics, verified: bool, flags: usize) -> Admission
     requires { ⌜ t ≡ topicsIn (now part) ⌝ }
-    ensures { λ r. ⌜ r ≡ admissionOf (now (part .entry)) verified ⌝ }
+    ensures { λ r. ⌜ r ≡ admissionOf flags (now (part .entry)) verified ⌝ }
 {
     let slots = slots_of(part, Kind::RawMessage);
     let from = slots.first;
@@ -332,6 +357,7 @@ fn weigh(part: &[u8], t: Topics, verified: bool) -> Admission
                     signature,
                     key,
                     verified,
+                    allows_unsigned(flags),
                     fit,
                 );
             }
@@ -340,14 +366,26 @@ fn weigh(part: &[u8], t: Topics, verified: bool) -> Admission
     }
 }
 
-// Whether a message may be taken, given the host's word on its signature.
-pub fn admit(part: &[u8], verified: bool) -> Admission
-    ensures { λ r. ⌜ r ≡ admissionOf (now (part .entry)) verified ⌝ }
+// Whether a message may be taken under a gateway's flags, given the host's word on its signature.
+pub fn admit(part: &[u8], verified: bool, flags: usize) -> Admission
+    ensures { λ r. ⌜ r ≡ admissionOf flags (now (part .entry)) verified ⌝ }
 {
     let mut starts = [0usize; MAX_TOPICS];
     let mut sizes = [0usize; MAX_TOPICS];
     let t = topics_of(part, &mut starts, &mut sizes);
-    weigh(part, t, verified)
+    weigh(part, t, verified, flags)
+}
+
+// Whether a message has a signature.
+pub fn is_signed(part: &[u8]) -> bool
+    ensures { λ r. ⌜ r ≡ isSigned (now (part .entry)) ⌝ }
+{
+    let slots = slots_of(part, Kind::RawMessage);
+    let signature = slots.fourth;
+    if let Place::Absent = signature {
+        return false;
+    }
+    true
 }
 
 // Whether an id is that of the message in a part: from and then seqno.
@@ -390,11 +428,11 @@ fn same_spans(
 }
 
 // Whether a message with these topics may be taken and its id is this one.
-fn names(part: &[u8], t: Topics, id: &[u8]) -> bool
+fn names(part: &[u8], t: Topics, id: &[u8], flags: usize) -> bool
     requires { ⌜ t ≡ topicsIn (now part) ⌝ }
-    ensures { λ r. ⌜ r ≡ idGiven (now (part .entry)) (now (id .entry)) (admissionOf (now (part .entry)) true) ⌝ }
+    ensures { λ r. ⌜ r ≡ idGiven (now (part .entry)) (now (id .entry)) (admissionOf flags (now (part .entry)) true) ⌝ }
 {
-    let r = weigh(part, t, true);
+    let r = weigh(part, t, true, flags);
     match r {
         Admission::Unfit(_) => false,
         Admission::Fit {
@@ -406,9 +444,17 @@ fn names(part: &[u8], t: Topics, id: &[u8]) -> bool
     }
 }
 
-// Whether some bytes are a message that may be taken, its id is this one, and its topics stand in the n places that are kept beside it.
-pub fn kept_with(part: &[u8], id: &[u8], n: usize, kept_starts: &[u16], kept_sizes: &[u16]) -> bool
-    ensures { λ r. ⌜ r ≡ keptWith (now (part .entry)) (now (id .entry)) (spansIn (now («kept_starts» .entry)) (now («kept_sizes» .entry)) n) ⌝ }
+// Whether some bytes are a message that may be taken under a gateway's flags, its id is this one, and its topics stand in the n places that are kept
+// beside it.
+pub fn kept_with(
+    part: &[u8],
+    id: &[u8],
+    n: usize,
+    kept_starts: &[u16],
+    kept_sizes: &[u16],
+    flags: usize,
+) -> bool
+    ensures { λ r. ⌜ r ≡ keptWith flags (now (part .entry)) (now (id .entry)) (spansIn (now («kept_starts» .entry)) (now («kept_sizes» .entry)) n) ⌝ }
 {
     let c = count(part, Kind::RawMessage);
     match c {
@@ -424,7 +470,7 @@ pub fn kept_with(part: &[u8], id: &[u8], n: usize, kept_starts: &[u16], kept_siz
                 return false;
             }
             if same_spans(&starts, &sizes, n, kept_starts, kept_sizes) {
-                return names(part, t, id);
+                return names(part, t, id, flags);
             }
             false
         }

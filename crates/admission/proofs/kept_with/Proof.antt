@@ -35,7 +35,7 @@ topics-of-requires : tie.Need-topics-of-requires
 topics-of-requires c κs = search needs
 
 returns : tie.Need-returns
-returns c = kept-count (now (c .before .before .before .before .before .before .before .before .before .before .before .before .before .before .args
+returns c = kept-count _ (now (c .before .before .before .before .before .before .before .before .before .before .before .before .before .before .args
     .part)) (now (c .before .before .before .before .before .before .before .before .before .before .before .before .before .before .args .id))
     (spansIn (now (c .before .before .before .before .before .before .before .before .before .before .before .before .before .before .args
     .kept-starts)) (now (c .before .before .before .before .before .before .before .before .before .before .before .before .before .before .args
@@ -44,7 +44,7 @@ returns c = kept-count (now (c .before .before .before .before .before .before .
     .before .args .part)) (c .before .before .before .before .topics-of .ensures .topics) ∙ z ∙ length-spans _ _ _))
 
 returns-2 : tie.Need-returns-2
-returns-2 c = kept-many (now (c .before .before .before .before .before .before .before .before .before .before .before .before .before .before
+returns-2 c = kept-many _ (now (c .before .before .before .before .before .before .before .before .before .before .before .before .before .before
     .before .args .part)) (now (c .before .before .before .before .before .before .before .before .before .before .before .before .before .before
     .before .args .id)) (spansIn (now (c .before .before .before .before .before .before .before .before .before .before .before .before .before
     .before .before .args .kept-starts)) (now (c .before .before .before .before .before .before .before .before .before .before .before .before
@@ -71,7 +71,7 @@ names-requires : tie.Need-names-requires
 names-requires c κs = search needs
 
 returns-3 : tie.Need-returns-3
-returns-3 c = kept-names (now (c .before .before .before .before .before .before .before .before .before .before .before .before .before .before
+returns-3 c = kept-names _ (now (c .before .before .before .before .before .before .before .before .before .before .before .before .before .before
     .before .before .before .before .before .before .args .part)) (now (c .before .before .before .before .before .before .before .before .before
     .before .before .before .before .before .before .before .before .before .before .before .args .id)) (spansIn (now (c .before .before .before
     .before .before .before .before .before .before .before .before .before .before .before .before .before .before .before .before .before .args
@@ -89,13 +89,13 @@ returns-3 c = kept-names (now (c .before .before .before .before .before .before
     ∙ (c .before .if3 .taken)) (c .names .ensures)
 
 returns-4 : tie.Need-returns-4
-returns-4 c = kept-not (now (c .before .before .before .before .before .before .before .args .part)) (now (c .before .before .before .before .before
+returns-4 c = kept-not _ (now (c .before .before .before .before .before .before .before .args .part)) (now (c .before .before .before .before .before
     .before .before .args .id)) (spansIn (now (c .before .before .before .before .before .before .before .args .kept-starts)) (now (c .before .before
-    .before .before .before .before .before .args .kept-sizes)) (c .before .before .before .before .before .before .before .args .n)) (gives-refused _
+    .before .before .before .before .before .args .kept-sizes)) (c .before .before .before .before .before .before .before .args .n)) (gives-refused _ _
     _ _ (sym (c .before .before .count .ensures) ∙ (c .enum-told .given .1)))
 
 returns-5 : tie.Need-returns-5
-returns-5 c = kept-other (now (c .before .before .before .before .before .before .before .before .before .before .before .before .before .before
+returns-5 c = kept-other _ (now (c .before .before .before .before .before .before .before .before .before .before .before .before .before .before
     .before .before .before .before .before .args .part)) (now (c .before .before .before .before .before .before .before .before .before .before
     .before .before .before .before .before .before .before .before .before .args .id)) (spansIn (now (c .before .before .before .before .before
     .before .before .before .before .before .before .before .before .before .before .before .before .before .before .args .kept-starts)) (now (c

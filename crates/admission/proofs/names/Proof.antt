@@ -23,7 +23,7 @@ enum-known-r : tie.Need-enum-known-r
 enum-known-r c = search needs
 
 same-parts-requires : tie.Need-same-parts-requires
-same-parts-requires c κs = let g = id-fits (now (c .before .before .before .before .before .before .args .part)) _ _ _ _ (fit-parts (now (c .before
+same-parts-requires c κs = let g = id-fits (now (c .before .before .before .before .before .before .args .part)) _ _ _ _ (fit-parts _ (now (c .before
     .before .before .before .before .before .args .part)) true _ _ _ _ (sym (c .before .before .before .weigh .ensures) ∙ (c .before .r .given .1)))
     in
     (g .from .0, g .from .1, g .seqno .0, g .seqno .1)

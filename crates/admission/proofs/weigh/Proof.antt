@@ -10,6 +10,7 @@ use Rattle.admission.proofs.weigh.Reads as reads
 use Rattle.admission.proofs.weigh.Lts as lts
 use Rattle.admission.proofs.known.Reads as known-reads
 use Rattle.admission.proofs.signed.Reads as signed-reads
+use Rattle.admission.proofs.allows_unsigned.Reads as allows-unsigned-reads
 use Rattle.ids.proofs.id_of.Reads as id-of-reads
 use Rattle.schema.proofs.slots_of.Reads as slots-of-reads
 
@@ -32,7 +33,7 @@ known-requires : tie.Need-known-requires
 known-requires c κs = first-inside _ _ (c .before .before .before .slots-of .ensures)
 
 returns : tie.Need-returns
-returns c = peer-on _ _ (c .before .before .before .before .before .slots-of .ensures) _ _ (c .before .known .ensures) _ (c .if1 .taken) refl ∙ admit-on _ _ _ _ _ (c .before .before .before .before .before .slots-of .ensures) (c .before .before .before .before .id-of .ensures) (c .before .before .enum-told2 .given .1)
+returns c = peer-on _ _ (c .before .before .before .before .before .slots-of .ensures) _ _ (c .before .known .ensures) _ (c .if1 .taken) refl ∙ admit-on _ _ _ _ _ _ (c .before .before .before .before .before .slots-of .ensures) (c .before .before .before .before .id-of .ensures) (c .before .before .enum-told2 .given .1)
 
 enum-known-id-2 : tie.Need-enum-known-id-2
 enum-known-id-2 c = search needs
@@ -53,29 +54,35 @@ part-signed-start c = let h = inside c .from in search needs
 part-signed-end : tie.Need-part-signed-end
 part-signed-end c = let h = inside c .from in search needs
 
+allows-unsigned-requires : tie.Need-allows-unsigned-requires
+allows-unsigned-requires c κs = search needs
+
 signed-requires : tie.Need-signed-requires
-signed-requires c κs = (c .before .before .before .before .before .before .before .before .before .pre, fifth-inside _ _ (c .before .before .before .before .before .before .before .slots-of .ensures))
+signed-requires c κs =
+    let q = c .before .before .before .before .before .before .before .before in
+    (q .before .before .pre, fifth-inside _ _ (q .slots-of .ensures))
 
 returns-2 : tie.Need-returns-2
 returns-2 c =
-    let p = c .before .before .before .before .before in
+    let p = c .before .before .before .before .before .before in
     let q = p .before .before .before in
-    peer-on _ _ (q .slots-of .ensures) _ _ (c .before .before .before .known2 .ensures) _ (c .before .before .if2 .taken)
-    (signed-on (now (q .before .before .args .part)) _ (q .slots-of .ensures) _ _ _ _ _ _
-    (parts-of _ _ (q .slots-of .ensures) _ _ _ _ _ (p .before .before .id-of .ensures) (p .id2 .given .1)) (c .signed .ensures))
-    ∙ admit-on _ _ _ _ _ (q .slots-of .ensures) (p .before .before .id-of .ensures) (p .id2 .given .1)
+    peer-on _ _ (q .slots-of .ensures) _ _ (c .before .before .before .before .known2 .ensures) _ (c .before .before .before .if2 .taken)
+    (signed-on (now (q .before .before .args .part)) _ (q .slots-of .ensures) _ _ _ _ _ _ _ _ _
+    (parts-of _ _ (q .slots-of .ensures) _ _ _ _ _ (p .before .before .id-of .ensures) (p .id2 .given .1)) (c .before .allows-unsigned .ensures)
+    (c .signed .ensures))
+    ∙ admit-on _ _ _ _ _ _ (q .slots-of .ensures) (p .before .before .id-of .ensures) (p .id2 .given .1)
 
 returns-3 : tie.Need-returns-3
-returns-3 c = admit-on _ _ _ _ _ (c .before .before .before .slots-of .ensures) (c .before .before .id-of .ensures) (c .enum-told .given .1)
+returns-3 c = admit-on _ _ _ _ _ _ (c .before .before .before .slots-of .ensures) (c .before .before .id-of .ensures) (c .enum-told .given .1)
 
 returns-4 : tie.Need-returns-4
-returns-4 c = admit-on _ _ _ _ _ (c .before .before .before .before .slots-of .ensures) (c .before .before .before .id-of .ensures) (c .before .id .given .1)
+returns-4 c = admit-on _ _ _ _ _ _ (c .before .before .before .before .slots-of .ensures) (c .before .before .before .id-of .ensures) (c .before .id .given .1)
 
 returns-5 : tie.Need-returns-5
-returns-5 c = peer-not _ _ (c .before .before .before .before .before .slots-of .ensures) _ _ (c .before .known .ensures) (c .if1 .left) ∙ admit-on _ _ _ _ _ (c .before .before .before .before .before .slots-of .ensures) (c .before .before .before .before .id-of .ensures) (c .before .before .enum-told2 .given .1)
+returns-5 c = peer-not _ _ (c .before .before .before .before .before .slots-of .ensures) _ _ (c .before .known .ensures) (c .if1 .left) ∙ admit-on _ _ _ _ _ _ (c .before .before .before .before .before .slots-of .ensures) (c .before .before .before .before .id-of .ensures) (c .before .before .enum-told2 .given .1)
 
 returns-6 : tie.Need-returns-6
-returns-6 c = peer-not _ _ (c .before .before .before .before .before .before .slots-of .ensures) _ _ (c .before .known2 .ensures) (c .if2 .left) ∙ admit-on _ _ _ _ _ (c .before .before .before .before .before .before .slots-of .ensures) (c .before .before .before .before .before .id-of .ensures) (c .before .before .before .id2 .given .1)
+returns-6 c = peer-not _ _ (c .before .before .before .before .before .before .slots-of .ensures) _ _ (c .before .known2 .ensures) (c .if2 .left) ∙ admit-on _ _ _ _ _ _ (c .before .before .before .before .before .before .slots-of .ensures) (c .before .before .before .before .before .id-of .ensures) (c .before .before .before .id2 .given .1)
 
 pub weigh-spec : {M : Type 1} → statement M
 weigh-spec =
@@ -93,6 +100,7 @@ weigh-spec =
     sub-signed
     part-signed-start
     part-signed-end
+    allows-unsigned-requires
     signed-requires
     returns-2
     returns-3

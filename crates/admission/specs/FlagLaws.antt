@@ -1,0 +1,111 @@
+-- What the flag that allows unsigned messages changes: with it off, nothing of what admission was before there were
+-- flags; with a signature, nothing; and what is taken with it off is taken with it on.
+use Prim.Native.Nat.{ℕ, _-_}
+use mathlib.Core.Path.{_≡_, refl, sym, ap, _∙_}
+use mathlib.Core.Bool.{Bool, true, false, cond, _&&_, and-true}
+use mathlib.Core.List.{List}
+use lib.Dec.{eqb}
+use Rattle.basis.specs.Cases.{either, clash, both}
+use Rattle.schema.specs.declared.Kind.the-variants as kind
+use Rattle.schema.specs.declared.Place.{Place}
+use Rattle.schema.specs.declared.Place.the-variants as place
+use Rattle.schema.specs.Count.{counted}
+use Rattle.schema.specs.Slots.{slotsOf}
+use Rattle.ids.specs.declared.MessageId.{MessageId}
+use Rattle.ids.specs.declared.MessageId.the-variants as id
+use Rattle.ids.specs.Ids.{idParts}
+use Rattle.admission.specs.declared.Unfit.the-variants.{MissingFrom, InvalidFrom, InvalidSeqno}
+use Rattle.admission.specs.declared.Unfit.the-variants.{KeyWithoutSignature, MissingSignature}
+use Rattle.admission.specs.declared.Unfit.the-variants.{InvalidSignatureLength}
+use Rattle.admission.specs.declared.Admission.{Admission}
+use Rattle.admission.specs.declared.Admission.the-variants as admission
+use Rattle.admission.specs.Flags.{allowsUnsigned}
+use Rattle.admission.specs.Admission.{Span, topicPlaces, sameSpans, onLimits, onWord, onKey, onSignature, onPeer}
+use Rattle.admission.specs.Admission.{senderOf, onId, admissionOf, isThere, isSigned, idGiven, whereRead, givesId}
+use Rattle.admission.specs.Admission.{keptWith}
+use Rattle.admission.specs.AdmissionLaws.{Gives, gives-only, gives-own, gives-signed}
+
+-- ---- admission as it was: every message has a signature
+abbrev pub signatureWas : Place → Place → Admission → Admission
+signatureWas place.Absent place.Absent r = admission.Unfit MissingSignature
+signatureWas place.Absent (place.Present a e) r = admission.Unfit KeyWithoutSignature
+signatureWas (place.Present a e) key r = cond (eqb (e - a) 64) r (admission.Unfit (InvalidSignatureLength (e - a)))
+
+abbrev pub idWas : List ℕ → Bool → MessageId → Admission
+idWas p word id.MissingFrom = admission.Unfit MissingFrom
+idWas p word (id.InvalidFrom n) = admission.Unfit (InvalidFrom n)
+idWas p word id.InvalidSeqno = onPeer (senderOf p) (admission.Unfit InvalidSeqno)
+idWas p word (id.Parts a e b f) =
+    onPeer (senderOf p)
+    (signatureWas (slotsOf kind.RawMessage p .fourth) (slotsOf kind.RawMessage p .fifth)
+    (onKey p (senderOf p) (slotsOf kind.RawMessage p .fifth) (onWord word (onLimits p (admission.Fit a e b f)))))
+
+unfoldable pub admissionWas : List ℕ → Bool → Admission
+admissionWas p word = idWas p word (idParts p)
+
+unfoldable pub givesWas : List ℕ → List ℕ → Bool
+givesWas p i = whereRead (counted kind.RawMessage p) (idGiven p i (admissionWas p true))
+
+unfoldable pub keptWas : List ℕ → List ℕ → List Span → Bool
+keptWas p i ts = givesWas p i && sameSpans (topicPlaces p) ts
+
+-- ---- with a signature, or with the flag off, it is that
+signature-same : (u : Bool) (q k : Place) (r l : Admission) → (isThere q ≡ true) → onSignature u q k r l ≡ signatureWas q k r
+signature-same u place.Absent k r l h = clash (cc)
+signature-same u (place.Present a e) k r l h = refl
+
+signature-off : (u : Bool) (q k : Place) (r l : Admission) → u ≡ false → onSignature u q k r l ≡ signatureWas q k r
+signature-off u place.Absent place.Absent r l h = rw h
+signature-off u place.Absent (place.Present a e) r l h = refl
+signature-off u (place.Present a e) k r l h = refl
+
+module _ (flags : ℕ) (p : List ℕ) (word : Bool) where
+  id-was : (i : MessageId) → ((k : Place) (r l : Admission)
+      → onSignature (allowsUnsigned flags) (slotsOf kind.RawMessage p .fourth) k r l ≡ signatureWas (slotsOf kind.RawMessage p .fourth) k r)
+      → onId flags p word i ≡ idWas p word i
+  id-was id.MissingFrom h = refl
+  id-was (id.InvalidFrom n) h = refl
+  id-was id.InvalidSeqno h = refl
+  id-was (id.Parts a e b f) h = ap (onPeer (senderOf p)) (h (slotsOf kind.RawMessage p .fifth) _ _)
+
+  pub admission-off : allowsUnsigned flags ≡ false → admissionOf flags p word ≡ admissionWas p word
+  unfolding admissionOf admissionWas
+  admission-off h =
+      id-was (idParts p) (λ k r l. signature-off (allowsUnsigned flags) (slotsOf kind.RawMessage p .fourth) k r l h)
+
+  pub admission-signed : isSigned p ≡ true → admissionOf flags p word ≡ admissionWas p word
+  unfolding admissionOf admissionWas isSigned
+  admission-signed h =
+      id-was (idParts p) (λ k r l. signature-same (allowsUnsigned flags) (slotsOf kind.RawMessage p .fourth) k r l h)
+
+module _ (flags : ℕ) (p i : List ℕ) where
+  pub gives-off : allowsUnsigned flags ≡ false → givesId flags p i ≡ givesWas p i
+  unfolding givesId givesWas
+  gives-off h = rw (admission-off flags p true h)
+
+  pub kept-off : (ts : List Span) → allowsUnsigned flags ≡ false → keptWith flags p i ts ≡ keptWas p i ts
+  unfolding keptWith keptWas
+  kept-off ts h = rw (gives-off h)
+
+  -- ---- under any flags a message with a signature gives the id that it gave
+  pub gives-as-was : isSigned p ≡ true → givesId flags p i ≡ givesWas p i
+  unfolding givesId givesWas
+  gives-as-was h = rw (admission-signed flags p true h)
+
+-- so what is cached with the flag off may be taken with it on: a setting that is turned on from outside is not found out
+pub gives-on : (off flags : ℕ) (p i : List ℕ) → allowsUnsigned off ≡ false → givesId off p i ≡ true
+    → givesId flags p i ≡ true
+gives-on off flags p i h g =
+    gives-as-was flags p i (gives-signed off p i g h) ∙ sym (gives-off off p i h) ∙ g
+
+pub kept-on : (off flags : ℕ) (p i : List ℕ) (ts : List Span) → allowsUnsigned off ≡ false → keptWith off p i ts ≡ true
+    → keptWith flags p i ts ≡ true
+unfolding keptWith
+kept-on off flags p i ts h k =
+    let b = both (givesId off p i) (sameSpans (topicPlaces p) ts) k in
+    rw (gives-on off flags p i h (b .0)) (b .1)
+
+-- and one without a signature may not be taken once the flag is off
+pub gives-not : (flags : ℕ) (p i : List ℕ) → allowsUnsigned flags ≡ false → isSigned p ≡ false → givesId flags p i ≡ false
+gives-not flags p i h n =
+    either (givesId flags p i) (λ t. clash (let z = gives-signed flags p i t h in cc)) (λ t. t)
