@@ -11,21 +11,21 @@ use Rattle.node.specs.State.{risesFrom}
 use Rattle.history.specs.History.{State, Settings, Fresh, Call, readings, beats, brings}
 
 -- ---- the set of messages; a message is the bytes of the submessage
-pub record MessageSet (set : List (List ℕ)) : Type 0 where
+pub record MessageSet (flags : ℕ) (set : List (List ℕ)) : Type 0 where
   pub bytes : (m : List ℕ) → among m set ≡ true → Bytes m
-  -- every one passes admission with the host's word
-  pub admissible : (m : List ℕ) → among m set ≡ true → (id : List ℕ) × (givesId m id ≡ true)
+  -- every one passes admission under the flags, with the host's word
+  pub admissible : (m : List ℕ) → among m set ≡ true → (id : List ℕ) × (givesId flags m id ≡ true)
   -- different messages of the set have different ids
-  pub ids-differ : (m k id : List ℕ) → among m set ≡ true → among k set ≡ true → givesId m id ≡ true
-      → givesId k id ≡ true → m ≡ k
+  pub ids-differ : (m k id : List ℕ) → among m set ≡ true → among k set ≡ true → givesId flags m id ≡ true
+      → givesId flags k id ≡ true → m ≡ k
 
 -- ---- admitting set members only; where the body is refused or the host's word withheld, the node gets nothing
-abbrev pub MemberAt : List (List ℕ) → Call → Type 0
-MemberAt set c = (m : List ℕ) → brings m c ≡ true → among m set ≡ true
+abbrev pub MemberAt : ℕ → List (List ℕ) → Call → Type 0
+MemberAt flags set c = (m : List ℕ) → brings flags m c ≡ true → among m set ≡ true
 
-pub data Members (set : List (List ℕ)) : List Call → Type 0 where
-  none-left : Members set []
-  member : {c : Call} {cs : List Call} → MemberAt set c → Members set cs → Members set (c ∷ cs)
+pub data Members (flags : ℕ) (set : List (List ℕ)) : List Call → Type 0 where
+  none-left : Members flags set []
+  member : {c : Call} {cs : List Call} → MemberAt flags set c → Members flags set cs → Members flags set (c ∷ cs)
 
 -- ---- the clock
 pub record Clock (x : Settings) (rs : List ℕ) : Type 0 where
@@ -39,7 +39,7 @@ pub record Clock (x : Settings) (rs : List ℕ) : Type 0 where
 -- ---- a history under the premises
 pub record Premises (set : List (List ℕ)) (x : Settings) (calls : List Call) (s : State) : Type 0 where
   pub fresh : Fresh x s
-  pub members : Members set calls
+  pub members : Members (x .flags) set calls
   -- the set is no larger than max_seen or max_messages
   pub set-seen : length set ≤ x .max-seen
   pub set-cached : length set ≤ x .max-messages

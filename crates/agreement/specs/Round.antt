@@ -5,19 +5,18 @@ use mathlib.Core.Bool.{cond, not, _&&_}
 use mathlib.Core.List.{List, [], _∷_, _++_}
 use lib.ListN.{length}
 use Rattle.rows.specs.Ids.{among}
-use Rattle.seen.specs.Entries.{holds}
 use Rattle.mcache.specs.Messages.{Cached, topics}
 use Rattle.node.specs.declared.Serve.{Serve}
-use Rattle.node.specs.Gateway.{Gateway, marked}
+use Rattle.node.specs.Gateway.{Gateway, knows}
 use Rattle.node.specs.Calls.{advertiseAnswer, advertiseLeft, askAnswer, askLeft, serveAnswer, serveLeft, maxRpcSize}
 use Rattle.history.specs.History.{State, gatewayOf, Settings, Call, advertise, ask, serve, afterAll, toldBytes}
 use Rattle.history.specs.History.{askedBytes, servedBytes, servedMessages, admits}
 
--- ---- "lacks": the messages of a topic that are cached at one gateway and not seen by the asker
+-- ---- "lacks": the messages of a topic that are cached at one gateway and not held by the asker
 unfoldable pub missing : List ℕ → Gateway → List Cached → List Cached
 missing topic asker [] = []
 missing topic asker (c ∷ cs) =
-    cond (among topic (topics c) && not (holds (marked (c .id)) (asker .seen))) (c ∷ missing topic asker cs) (missing topic asker cs)
+    cond (among topic (topics c) && not (knows asker (c .id))) (c ∷ missing topic asker cs) (missing topic asker cs)
 
 -- what a lacks of b
 abbrev pub lacked : List ℕ → State → State → List Cached

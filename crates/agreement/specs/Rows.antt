@@ -20,9 +20,9 @@ use Rattle.agreement.specs.Premises.{MessageSet}
 
 -- a message got, its marked id as it is seen and the message as it is cached: the expiry is at least `least`, the
 -- window at most `most`
-pub record Row (least most : ℕ) (m : List ℕ) (e : Entry) (c : Cached) : Type 0 where
-  pub own : givesId m (c .id) ≡ true
-  pub seen : e .id ≡ marked (c .id)
+pub record Row (flags least most : ℕ) (m : List ℕ) (e : Entry) (c : Cached) : Type 0 where
+  pub own : givesId flags m (c .id) ≡ true
+  pub seen : e .id ≡ formOf m (c .id)
   pub message : c .message ≡ m
   pub lasts : least ≤ e .expiry
   pub young : c .window ≤ most

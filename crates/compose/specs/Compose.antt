@@ -1,6 +1,6 @@
 -- What `write_rpc` and `sign_fields` answer and leave, from the scope: the bytes stand at the front of the lent buffer, or nothing changes. Refusals of
--- write_rpc in their order: 42; 7, the first in the order of the rows, with where the topic begins in the lent bytes; 11, the number of rows; then message by
--- message; 13; 12. sign_fields meets 42, 7, 11, 20 and 12.
+-- write_rpc in their order: 40, flags that are not known; 42; 7, the first in the order of the rows, with where the topic begins in the lent bytes; 11, the number
+-- of rows; then message by message; 13; 12. sign_fields meets 42, 7, 11, 20 and 12.
 use Prim.Native.Nat.{ℕ, _+_, _/_}
 use mathlib.Core.Bool.{cond}
 use mathlib.Core.List.{List, [], _∷_}
@@ -16,7 +16,8 @@ use Rattle.schema.specs.declared.Place.the-variants as place
 use Rattle.message.specs.declared.Record.{Record}
 use Rattle.rpc.specs.Rpc.{RawMessage}
 use Rattle.rpc.specs.Encode.{encodeRpc, signBytes}
-use Rattle.compose.specs.declared.Wrong.the-variants.{NotLent, InvalidUtf8, TooManyRecords, TooLong, NoMessage}
+use Rattle.admission.specs.Flags.{knownFlags}
+use Rattle.compose.specs.declared.Wrong.the-variants.{BadSetting, NotLent, InvalidUtf8, TooManyRecords, TooLong, NoMessage}
 use Rattle.compose.specs.declared.Lists.{Lists}
 use Rattle.compose.specs.declared.Lists.the-variants as lists
 use Rattle.compose.specs.declared.Composed.{Composed}
@@ -82,17 +83,22 @@ leaving out l (lists.Refused why) = out
 unfoldable pub lengthFine : List ℕ → Lists
 lengthFine xs = cond (ltb 65536 (length xs)) (lists.Refused (TooLong (capped (length xs)))) lists.Fine
 
+-- 40
+unfoldable pub flagsFine : ℕ → Lists
+flagsFine flags = cond (knownFlags flags) lists.Fine (lists.Refused BadSetting)
+
 -- every test but the room's
-unfoldable pub writeTested : List ℕ → List ℕ → Lists
-writeTested t b =
-    andThen (listsOf t b)
-    (andThen (firstUnfit (messagesIn b (lentRows t))) (lengthFine (encodeRpc (said b (lentRows t)))))
+unfoldable pub writeTested : ℕ → List ℕ → List ℕ → Lists
+writeTested flags t b =
+    andThen (flagsFine flags)
+    (andThen (listsOf t b)
+    (andThen (firstUnfit flags (messagesIn b (lentRows t))) (lengthFine (encodeRpc (said b (lentRows t))))))
 
-unfoldable pub writeAnswer : List ℕ → List ℕ → List ℕ → Composed
-writeAnswer t b out = answering (putAnswer (encodeRpc (said b (lentRows t))) out) (writeTested t b)
+unfoldable pub writeAnswer : ℕ → List ℕ → List ℕ → List ℕ → Composed
+writeAnswer flags t b out = answering (putAnswer (encodeRpc (said b (lentRows t))) out) (writeTested flags t b)
 
-unfoldable pub writeLeft : List ℕ → List ℕ → List ℕ → List ℕ
-writeLeft t b out = leaving out (written (encodeRpc (said b (lentRows t))) out) (writeTested t b)
+unfoldable pub writeLeft : ℕ → List ℕ → List ℕ → List ℕ → List ℕ
+writeLeft flags t b out = leaving out (written (encodeRpc (said b (lentRows t))) out) (writeTested flags t b)
 
 -- ---- sign_fields: the messages from the index on, of so many
 abbrev pub signAt : ℕ → List RawMessage → List ℕ → Composed

@@ -2,7 +2,7 @@
 -- place in a body.
 use mathlib.Core.List.{[], _∷_}
 use Rattle.basis.specs.declared.Told.{Told}
-use Rattle.basis.specs.Refusals.{malformed, invalid-utf8, too-many-records, no-message, rpc-too-long, short-room}
+use Rattle.basis.specs.Refusals.{bad-setting, malformed, invalid-utf8, too-many-records, no-message, rpc-too-long, short-room}
 use Rattle.basis.specs.Told.{told, done}
 use Rattle.admission.specs.Told.{unfitTold}
 use Rattle.compose.specs.declared.Wrong.{Wrong}
@@ -11,6 +11,7 @@ use Rattle.compose.specs.declared.Composed.{Composed}
 use Rattle.compose.specs.declared.Composed.the-variants as composed
 
 abbrev pub wrongTold : Wrong → Told
+wrongTold wrong.BadSetting = told bad-setting []
 wrongTold wrong.NotLent = told malformed []
 wrongTold (wrong.InvalidUtf8 start) = told invalid-utf8 (start ∷ [])
 wrongTold (wrong.TooManyRecords records) = told too-many-records (records ∷ [])

@@ -1,15 +1,18 @@
 -- Which messages may be written, by their fields: 21, 22, 34, 23, 26, 35, 36, 28, 29, 30 of the scope's table, in this order. An absent signature is one of 0
--- bytes. composed: for a message with a signature this is what admission says of the bytes.
+-- bytes; where the flags allow unsigned messages, one with neither signature nor key is written as it is, and a key alone is 24. composed: for a message with a
+-- signature this is what admission says of the bytes.
 use Prim.Native.Nat.{ℕ}
-use mathlib.Core.Bool.{cond, _||_}
+use mathlib.Core.Bool.{Bool, cond, _||_}
 use mathlib.Core.List.{List, [], _∷_}
 use mathlib.Core.Option.{Option, none, some}
 use lib.ListN.{length}
 use lib.Dec.{ltb, eqb}
 use Rattle.admission.specs.declared.Topics.{Topics}
 use Rattle.admission.specs.declared.Unfit.the-variants.{MissingFrom, InvalidFrom, NotPeerId, InvalidSeqno}
-use Rattle.admission.specs.declared.Unfit.the-variants.{InvalidSignatureLength, InvalidKey, KeyPeerIdMismatch}
+use Rattle.admission.specs.declared.Unfit.the-variants.{KeyWithoutSignature, InvalidSignatureLength, InvalidKey}
+use Rattle.admission.specs.declared.Unfit.the-variants.{KeyPeerIdMismatch}
 use Rattle.admission.specs.declared.Unfit.the-variants.{TopicCount, TopicTooLong, MessageTooLong}
+use Rattle.admission.specs.Flags.{allowsUnsigned}
 use Rattle.admission.specs.Admission.{firstLong, isKey, keyMatches, keyInside, isPeerId}
 use Rattle.rpc.specs.Rpc.{RawMessage}
 use Rattle.rpc.specs.Id.{unfit}
@@ -52,6 +55,20 @@ keyFine s none = cond (keyInside s) Fine (Refused (Unfit KeyPeerIdMismatch))
 keyFine s (some k) =
     cond (isKey k) (cond (keyMatches s k) Fine (Refused (Unfit KeyPeerIdMismatch))) (Refused (Unfit InvalidKey))
 
+-- both, of a sender, a signature and a key
+abbrev pub signedFine : List ℕ → List ℕ → Option (List ℕ) → Lists
+signedFine s d k = andThen (signatureFine d) (keyFine s k)
+
+-- 24, where there is no signature and none is asked for
+abbrev pub bareFine : Option (List ℕ) → Lists
+bareFine none = Fine
+bareFine (some k) = Refused (Unfit KeyWithoutSignature)
+
+-- a sender, a signature and a key, where unsigned messages are allowed or not
+unfoldable pub backedFine : Bool → List ℕ → Option (List ℕ) → Option (List ℕ) → Lists
+backedFine unsigned s none k = cond unsigned (bareFine k) (signedFine s [] k)
+backedFine unsigned s (some d) k = signedFine s d k
+
 -- 28, 29
 unfoldable pub topicsFine : List (List ℕ) → Lists
 topicsFine ts =
@@ -69,14 +86,13 @@ unfoldable pub limitsFine : RawMessage → Lists
 limitsFine m = andThen (topicsFine (m .«topic_ids»)) (sizeFine (length (encodeMessage m)))
 
 -- a message
-unfoldable pub weighed : RawMessage → Lists
-weighed m =
+unfoldable pub weighed : ℕ → RawMessage → Lists
+weighed flags m =
     andThen (fromFine (m .from))
     (andThen (seqnoFine (given (m .seqno)))
-    (andThen (signatureFine (given (m .signature)))
-    (andThen (keyFine (given (m .from)) (m .key)) (limitsFine m))))
+    (andThen (backedFine (allowsUnsigned flags) (given (m .from)) (m .signature) (m .key)) (limitsFine m)))
 
 -- message by message: the first that may not be written
-abbrev pub firstUnfit : List RawMessage → Lists
-firstUnfit [] = Fine
-firstUnfit (m ∷ ms) = andThen (weighed m) (firstUnfit ms)
+abbrev pub firstUnfit : ℕ → List RawMessage → Lists
+firstUnfit flags [] = Fine
+firstUnfit flags (m ∷ ms) = andThen (weighed flags m) (firstUnfit flags ms)

@@ -19,7 +19,7 @@ ghost use Rattle.meaning.specs.ReadBack.{bytesAt, numberAt};
 ghost use Rattle.rpc.specs.Encode.{optional, repeated, encodeSubOpts, encodeGraft, encodePeerInfo, encodePrune, encodeRpc, signBytes};
 ghost use Rattle.compose.specs.Lent.{rowsFrom, lentRows, insideAt, fieldsInside, rowInside, heldBy, lentWell, Inside};
 ghost use Rattle.compose.specs.Said.{encodeFields, encodeMessage, subOptsOf, graftOf, peerOf, messageOf, pruneOf, topicsFrom, peersFrom, messagesIn, said};
-ghost use Rattle.compose.specs.Weighed.{capped, given, inTopics, andThen, fromFine, seqnoFine, signatureFine, keyFine, limitsFine, weighed, firstUnfit};
+ghost use Rattle.compose.specs.Weighed.{capped, given, inTopics, andThen, fromFine, seqnoFine, signatureFine, keyFine, backedFine, limitsFine, weighed, firstUnfit};
 ghost use Rattle.compose.specs.Compose.{moved, textOf, textFine, textsFine, lengthFine, listsOf, putAnswer, answering, leaving, writeAnswer, writeLeft, signAnswer, signLeft};
 ghost use Rattle.compose.specs.Puts.{Puts, flagged, Written, IsMessageRow, topicPart, peerPart, slotAt, fieldPart, rowBytes, rowPart, eachRow, hasRow, controlBytes, FindsRow};
 use admission::MAX_MESSAGE_SIZE;
@@ -28,10 +28,12 @@ use admission::MAX_TOPICS;
 use admission::SIGNATURE_LEN;
 use admission::Topics;
 use admission::Unfit;
+use admission::allows_unsigned;
 use admission::is_key;
 use admission::is_peer_id;
 use admission::key_inside;
 use admission::key_matches;
+use admission::known_flags;
 use message::RECORD_WORDS;
 use message::Record;
 use message::RecordAt;
@@ -60,8 +62,9 @@ const CONTROL_PRUNE: u64 = 9;
 
 const PEER_INFO: u64 = 10;
 
-// Why nothing is written: 42, 7 with where the topic begins in the lent bytes, 11 with the number of rows, 20, a message's refusal, 13 with the length.
+// Why nothing is written: 40, 42, 7 with where the topic begins in the lent bytes, 11 with the number of rows, 20, a message's refusal, 13 with the length.
 pub enum Wrong {
+    BadSetting,
     NotLent,
     InvalidUtf8(usize),
     TooManyRecords(usize),
@@ -934,11 +937,36 @@ fn first(a: Lists, b: Lists) -> Lists
     }
 }
 
-// Whether the message at a row may be written.
-fn weigh(records: &[u64], bytes: &[u8], i: usize) -> Lists
+// 24 or 26, 35, 36; where unsigned messages are allowed, nothing of one with neither signature nor key.
+fn backed_fine(
+    bytes: &[u8],
+    base: usize,
+    from: Place,
+    signature: Place,
+    key: Place,
+    unsigned: bool,
+) -> Lists
+    requires { ⌜ (insideAt (length (now bytes)) base from ≡ true) × (insideAt (length (now bytes)) base signature ≡ true) × (insideAt (length (now bytes)) base key ≡ true) ⌝ }
+    ensures { λ r. ⌜ r ≡ backedFine unsigned (given (bytesAt (now (bytes .entry)) base from)) (bytesAt (now (bytes .entry)) base signature) (bytesAt (now (bytes .entry)) base key) ⌝ }
+{
+    if let Place::Absent = signature {
+        if unsigned {
+            if let Place::Absent = key {
+                return Lists::Fine;
+            }
+            return Lists::Refused(Wrong::Unfit(Unfit::KeyWithoutSignature));
+        }
+    }
+    let c = signature_fine(bytes, base, signature);
+    let d = sender_key_fine(bytes, base, from, key);
+    first(c, d)
+}
+
+// Whether the message at a row may be written under some flags.
+fn weigh(records: &[u64], bytes: &[u8], flags: usize, i: usize) -> Lists
     requires { ⌜ Inside (now records) (now bytes) ⌝ }
     requires { ⌜ IsMessageRow (now records) i ⌝ }
-    ensures { λ r. ⌜ r ≡ weighed (messageOf (now (bytes .entry)) (recordFrom (now (records .entry)) (i * 20)) (rowsFrom (now (records .entry)) (i + 1))) ⌝ }
+    ensures { λ r. ⌜ r ≡ weighed flags (messageOf (now (bytes .entry)) (recordFrom (now (records .entry)) (i * 20)) (rowsFrom (now (records .entry)) (i + 1))) ⌝ }
 {
     let r = row_at(records, i);
     let base = r.start;
@@ -949,22 +977,21 @@ fn weigh(records: &[u64], bytes: &[u8], i: usize) -> Lists
     let key = slots.fifth;
     let a = from_fine(bytes, base, from);
     let b = seqno_fine(bytes, base, seqno);
-    let c = signature_fine(bytes, base, signature);
-    let d = sender_key_fine(bytes, base, from, key);
-    let e = limits_fine(records, bytes, i);
-    first(a, first(b, first(c, first(d, e))))
+    let c = backed_fine(bytes, base, from, signature, key, allows_unsigned(flags));
+    let d = limits_fine(records, bytes, i);
+    first(a, first(b, first(c, d)))
 }
 
 // Message by message: the first that may not be written.
-fn messages_fine(records: &[u64], bytes: &[u8]) -> Lists
+fn messages_fine(records: &[u64], bytes: &[u8], flags: usize) -> Lists
     requires { ⌜ Inside (now records) (now bytes) ⌝ }
-    ensures { λ r. ⌜ r ≡ firstUnfit (messagesIn (now (bytes .entry)) (lentRows (now (records .entry)))) ⌝ }
+    ensures { λ r. ⌜ r ≡ firstUnfit flags (messagesIn (now (bytes .entry)) (lentRows (now (records .entry)))) ⌝ }
 {
     let n = records.len() / RECORD_WORDS;
     let mut i = 0;
     while i < n {
         if is_code(records, i, RAW_MESSAGE) {
-            let fine = weigh(records, bytes, i);
+            let fine = weigh(records, bytes, flags, i);
             if let Lists::Refused(why) = fine {
                 return Lists::Refused(why);
             }
@@ -995,16 +1022,19 @@ fn write_tested(records: &[u64], bytes: &[u8], out: &mut [u8]) -> Composed
     Composed::Bytes(len)
 }
 
-// Writes the RPC that the lists say at the front of the lent bytes. A refusal, and a lack of room, leave them as they were.
-pub fn write_rpc(records: &[u64], bytes: &[u8], out: &mut [u8]) -> Composed
-    ensures { λ r. ⌜ Leaves (writeAnswer (now (records .entry)) (now (bytes .entry)) (now (out .entry)))
-        (writeLeft (now (records .entry)) (now (bytes .entry)) (now (out .entry))) r (now (out .exit)) ⌝ }
+// Writes the RPC that the lists say at the front of the lent bytes, each of its messages as the flags allow it. A refusal, and a lack of room, leave them as they were.
+pub fn write_rpc(records: &[u64], bytes: &[u8], flags: usize, out: &mut [u8]) -> Composed
+    ensures { λ r. ⌜ Leaves (writeAnswer flags (now (records .entry)) (now (bytes .entry)) (now (out .entry)))
+        (writeLeft flags (now (records .entry)) (now (bytes .entry)) (now (out .entry))) r (now (out .exit)) ⌝ }
 {
+    if !known_flags(flags) {
+        return Composed::Refused(Wrong::BadSetting);
+    }
     let lists = lists_of(records, bytes);
     match lists {
         Lists::Refused(why) => Composed::Refused(why),
         Lists::Fine => {
-            let fine = messages_fine(records, bytes);
+            let fine = messages_fine(records, bytes, flags);
             match fine {
                 Lists::Refused(why) => Composed::Refused(why),
                 Lists::Fine => write_tested(records, bytes, out),

@@ -11,6 +11,7 @@ pub fn told_wrong(why: Wrong) -> Told
     ensures { λ r. ⌜ r ≡ wrongTold why ⌝ }
 {
     match why {
+        Wrong::BadSetting => Told::none(refusals::BAD_SETTING),
         Wrong::NotLent => Told::none(refusals::MALFORMED),
         Wrong::InvalidUtf8(start) => Told::one(refusals::INVALID_UTF8, start as u64),
         Wrong::TooManyRecords(records) => Told::one(refusals::TOO_MANY_RECORDS, records as u64),

@@ -16,6 +16,7 @@ use Rattle.schema.specs.Accept.{acceptOf}
 use Rattle.ids.specs.declared.MessageAt.{MessageAt}
 use Rattle.ids.specs.declared.MessageAt.the-variants.{At, Count}
 use Rattle.ids.specs.Ids.{messageAt}
+use Rattle.admission.specs.Admission.{vouched}
 use Rattle.node.specs.declared.Node.{Node}
 use Rattle.node.specs.declared.Admit.{Admit}
 use Rattle.node.specs.declared.Admit.the-variants as answer
@@ -47,11 +48,12 @@ pub record Settings : Type 0 where
   pub max-seen : ℕ
   pub history-len : ℕ
   pub max-messages : ℕ
+  pub flags : ℕ
 
 pub record Fresh (x : Settings) (s : State) : Type 0 where
   pub small : x .ttl < 2 ^ 64
-  pub legal : legalSettings (x .max-seen) (x .history-len) (x .max-messages) ≡ true
-  pub node : s .node ≡ freshNode (x .ttl) (x .max-seen) (x .history-len) (x .max-messages)
+  pub legal : legalSettings (x .max-seen) (x .history-len) (x .max-messages) (x .flags) ≡ true
+  pub node : s .node ≡ freshNode (x .ttl) (x .max-seen) (x .history-len) (x .max-messages) (x .flags)
   pub ids : length (s .ids) ≡ x .max-seen * 129
   pub messages : length (s .messages) ≡ x .max-messages * 4096
   pub bytes : Bytes (s .messages)
@@ -173,36 +175,37 @@ pub record Placed (s : List ℕ) (i : ℕ) (m : List ℕ) : Type 0 where
   pub found : messageAt s i ≡ At start next
   pub bytes : between s start next ≡ m
 
--- ---- what comes in, by the call alone and whatever the node does with it: an admit brings the message at its index.
--- If the body is refused or the host's word is not given, the node gets nothing by it.
-abbrev pub standing : List ℕ → MessageAt → Option (List ℕ)
-standing body (At a e) = some (between body a e)
-standing body (Count n) = none
+-- ---- what comes in, by the call and the flags alone and whatever the node does with it: an admit brings the message at
+-- its index. If the body is refused, the node gets nothing by it; nor if the host's word is not given, unless the message
+-- has no signature and the flags allow that.
+abbrev pub standing : ℕ → Bool → List ℕ → MessageAt → Option (List ℕ)
+standing flags word body (At a e) = cond (vouched flags (between body a e) word) (some (between body a e)) none
+standing flags word body (Count n) = none
 
 abbrev pub whereAccepted : Checked → Option (List ℕ) → Option (List ℕ)
 whereAccepted checked.Fine m = m
 whereAccepted (checked.Refused why) m = none
 
-unfoldable pub brought : Call → Option (List ℕ)
-brought (admit body i word at) = cond word (whereAccepted (acceptOf body) (standing body (messageAt body i))) none
-brought (heartbeat at) = none
-brought (advertise topic windows out) = none
-brought (ask body out) = none
-brought (serve body out) = none
-brought (explain id topic windows) = none
+unfoldable pub brought : ℕ → Call → Option (List ℕ)
+brought flags (admit body i word at) = whereAccepted (acceptOf body) (standing flags word body (messageAt body i))
+brought flags (heartbeat at) = none
+brought flags (advertise topic windows out) = none
+brought flags (ask body out) = none
+brought flags (serve body out) = none
+brought flags (explain id topic windows) = none
 
 abbrev pub isThat : List ℕ → Option (List ℕ) → Bool
 isThat m none = false
 isThat m (some k) = sameBytes k m
 
 -- a call brings the message m, byte for byte
-abbrev pub brings : List ℕ → Call → Bool
-brings m c = isThat m (brought c)
+abbrev pub brings : ℕ → List ℕ → Call → Bool
+brings flags m c = isThat m (brought flags c)
 
 -- ---- how often a message is got
-unfoldable pub timesGot : List ℕ → List Call → ℕ
-timesGot m [] = 0
-timesGot m (c ∷ cs) = cond (brings m c) 1 0 + timesGot m cs
+unfoldable pub timesGot : ℕ → List ℕ → List Call → ℕ
+timesGot flags m [] = 0
+timesGot flags m (c ∷ cs) = cond (brings flags m c) 1 0 + timesGot flags m cs
 
 -- ---- and how often it is answered new, and duplicate
 abbrev pub isNew : Admit → ℕ
@@ -224,23 +227,24 @@ isDuplicate (answer.Unfit why) = 0
 isDuplicate (answer.ClockBack clock) = 0
 
 -- an admit that brings the message counts as its answer counts, and no other call does
-abbrev pub countAt : (Admit → ℕ) → List ℕ → State → Call → ℕ
-countAt f m s (admit body i word at) = cond (brings m (admit body i word at)) (f (answerIn s body i word at)) 0
-countAt f m s (heartbeat at) = 0
-countAt f m s (advertise topic windows out) = 0
-countAt f m s (ask body out) = 0
-countAt f m s (serve body out) = 0
-countAt f m s (explain id topic windows) = 0
+abbrev pub countAt : (Admit → ℕ) → ℕ → List ℕ → State → Call → ℕ
+countAt f flags m s (admit body i word at) =
+    cond (brings flags m (admit body i word at)) (f (answerIn s body i word at)) 0
+countAt f flags m s (heartbeat at) = 0
+countAt f flags m s (advertise topic windows out) = 0
+countAt f flags m s (ask body out) = 0
+countAt f flags m s (serve body out) = 0
+countAt f flags m s (explain id topic windows) = 0
 
-unfoldable pub times : (Admit → ℕ) → List ℕ → List Call → State → ℕ
-times f m [] s = 0
-times f m (c ∷ cs) s = countAt f m s c + times f m cs (after c s)
+unfoldable pub times : (Admit → ℕ) → ℕ → List ℕ → List Call → State → ℕ
+times f flags m [] s = 0
+times f flags m (c ∷ cs) s = countAt f flags m s c + times f flags m cs (after c s)
 
-abbrev pub timesNew : List ℕ → List Call → State → ℕ
-timesNew m calls s = times isNew m calls s
+abbrev pub timesNew : ℕ → List ℕ → List Call → State → ℕ
+timesNew flags m calls s = times isNew flags m calls s
 
-abbrev pub timesDuplicate : List ℕ → List Call → State → ℕ
-timesDuplicate m calls s = times isDuplicate m calls s
+abbrev pub timesDuplicate : ℕ → List ℕ → List Call → State → ℕ
+timesDuplicate flags m calls s = times isDuplicate flags m calls s
 
 -- ---- admits of k messages of a body, from an index on, each with the host's word and at its reading
 unfoldable pub admits : List ℕ → (ℕ → ℕ) → ℕ → ℕ → List Call

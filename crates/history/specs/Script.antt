@@ -11,11 +11,11 @@ use Rattle.admission.specs.Admission.{givesId}
 use Rattle.node.specs.Gateway.{Gateway, isNew, afterAdmit, afterBeat}
 use Rattle.history.specs.History.{Call, admit, heartbeat, ask, Placed}
 
--- a body that is taken, and whose first message is m, which gives that id
-pub record Carries (body m id : List ℕ) : Type 0 where
+-- a body that is taken, and whose first message is m, which gives that id under some flags
+pub record Carries (flags : ℕ) (body m id : List ℕ) : Type 0 where
   pub accepted : acceptOf body ≡ checked.Fine
   pub placed : Placed body 0 m
-  pub own : givesId m id ≡ true
+  pub own : givesId flags m id ≡ true
 
 -- ---- calls
 pub data Act : Type 0 where
@@ -54,7 +54,7 @@ gotIn m [] = 0
 gotIn m (x ∷ xs) = gotBy m x + gotIn m xs
 
 abbrev pub newBy : List ℕ → Act → Gateway → ℕ
-newBy m (gets body k id at) g = cond (sameBytes k m) (cond (isNew at id g) 1 0) 0
+newBy m (gets body k id at) g = cond (sameBytes k m) (cond (isNew at k id g) 1 0) 0
 newBy m (beats at) g = 0
 newBy m (asks body out) g = 0
 
@@ -63,9 +63,10 @@ newIn m [] g = 0
 newIn m (x ∷ xs) g = newBy m x g + newIn m xs (gatewayBy x g)
 
 -- ---- they are what they say, and their clock, which is this before them, does not fall
-pub data Written : ℕ → List Act → Type 0 where
-  nothing : {clock : ℕ} → Written clock []
-  got : (clock at : ℕ) {body m id : List ℕ} {xs : List Act} → Carries body m id → clock ≤ at → Written at xs
-      → Written clock (gets body m id at ∷ xs)
-  beaten : (clock at : ℕ) {xs : List Act} → clock ≤ at → Written at xs → Written clock (beats at ∷ xs)
-  asked : {clock : ℕ} {body out : List ℕ} {xs : List Act} → Written clock xs → Written clock (asks body out ∷ xs)
+pub data Written (flags : ℕ) : ℕ → List Act → Type 0 where
+  nothing : {clock : ℕ} → Written flags clock []
+  got : (clock at : ℕ) {body m id : List ℕ} {xs : List Act} → Carries flags body m id → clock ≤ at → Written flags at xs
+      → Written flags clock (gets body m id at ∷ xs)
+  beaten : (clock at : ℕ) {xs : List Act} → clock ≤ at → Written flags at xs → Written flags clock (beats at ∷ xs)
+  asked : {clock : ℕ} {body out : List ℕ} {xs : List Act} → Written flags clock xs
+      → Written flags clock (asks body out ∷ xs)

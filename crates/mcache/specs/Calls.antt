@@ -56,12 +56,12 @@ abbrev pub gossipNumber : Gossip → ℕ
 gossipNumber r = gossipTold r .number
 
 -- ---- start: 40
-unfoldable pub startAnswer : ℕ → ℕ → Start
-startAnswer history max = cond (legal history max) start.Started start.BadSetting
+unfoldable pub startAnswer : ℕ → ℕ → ℕ → Start
+startAnswer history max flags = cond (legal history max flags) start.Started start.BadSetting
 
 -- where the settings are refused, a cache that keeps nothing
-unfoldable pub startCache : ℕ → ℕ → MessageCache
-startCache history max = cond (legal history max) (fresh history max) (fresh 1 0)
+unfoldable pub startCache : ℕ → ℕ → ℕ → MessageCache
+startCache history max flags = cond (legal history max flags) (fresh history max flags) (fresh 1 0 0)
 
 -- ---- the lent state: 41, 42
 unfoldable pub lentOf : MessageCache → List ℕ → Lent
@@ -178,7 +178,7 @@ formCount part a e b f out = cond (formable (length part) a e b f (length out)) 
 unfoldable pub formLeft : List ℕ → ℕ → ℕ → ℕ → ℕ → List ℕ → List ℕ
 formLeft part a e b f out = cond (formable (length part) a e b f (length out)) (sets out 0 (idBytes part a e b f)) out
 
--- a message p: 21 to 30 and 34 to 36 without 27
+-- a message p: 21 to 30 and 34 to 36 without 27; 25 where the flags do not allow unsigned messages
 abbrev pub planFit : MessageCache → List ℕ → Admission → Plan
 planFit c p (admission.Unfit why) = no (put.Unfit why)
 planFit c p (admission.Fit a e b f) = planUnder c p (idBytes p a e b f)
@@ -186,7 +186,7 @@ planFit c p (admission.Fit a e b f) = planUnder c p (idBytes p a e b f)
 -- 20
 abbrev pub planAt : MessageCache → List ℕ → MessageAt → Plan
 planAt c body (at.Count n) = no (put.NoMessage n)
-planAt c body (at.At a e) = planFit c (between body a e) (admissionOf (between body a e) true)
+planAt c body (at.At a e) = planFit c (between body a e) (admissionOf (c .flags) (between body a e) true)
 
 -- 10, 1 to 7, 11
 abbrev pub planBody : MessageCache → List ℕ → ℕ → Checked → Plan

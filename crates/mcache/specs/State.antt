@@ -12,6 +12,7 @@ use Rattle.rows.specs.declared.Ring.{Ring}
 use Rattle.rows.specs.Rows.{placeOf, rowsIn}
 use Rattle.rows.specs.Ids.{precedesBytes, among, distinct}
 use Rattle.rows.specs.Store.{idAt, idsIn, inUse, allUpTo}
+use Rattle.admission.specs.Flags.{knownFlags}
 use Rattle.admission.specs.Admission.{Span, topicPlaces, cut, startsOf, sizesOf, spansIn, keptWith}
 use Rattle.mcache.specs.declared.MessageCache.{MessageCache}
 use Rattle.mcache.specs.Messages.{Cached}
@@ -109,23 +110,23 @@ unfoldable pub runsTo : ℕ → List ℕ → Bool
 runsTo next [] = true
 runsTo next (g ∷ gs) = eqb ((g + length (g ∷ gs)) % 2 ^ 64) next && runsTo next gs
 
--- a message fits its place, may be taken, gives its stored id, and has its topics where they are kept
-unfoldable pub givesAt : List ℕ → List ℕ → List ℕ → Table → List ℕ → ℕ → Bool
-givesAt lens ilens ids table st p =
+-- a message fits its place, may be taken under the flags, gives its stored id, and has its topics where they are kept
+unfoldable pub givesAt : ℕ → List ℕ → List ℕ → List ℕ → Table → List ℕ → ℕ → Bool
+givesAt flags lens ilens ids table st p =
     leb (getD lens p 0) messageSize
-    && keptWith (messageIn lens st p) (idAt messageIdSize ilens ids p) (topicsAt table p)
+    && keptWith flags (messageIn lens st p) (idAt messageIdSize ilens ids p) (topicsAt table p)
 
 unfoldable pub allTrue : List Bool → Bool
 allTrue [] = true
 allTrue (b ∷ bs) = b && allTrue bs
 
-unfoldable pub givesIn : Ring → List ℕ → List ℕ → List ℕ → Table → List ℕ → Bool
-givesIn ring lens ilens ids table st = allTrue (rowsIn (givesAt lens ilens ids table st) ring)
+unfoldable pub givesIn : ℕ → Ring → List ℕ → List ℕ → List ℕ → Table → List ℕ → Bool
+givesIn flags ring lens ilens ids table st = allTrue (rowsIn (givesAt flags lens ilens ids table st) ring)
 
 unfoldable pub idsFit : MessageCache → List ℕ → Bool
 idsFit c st =
     allUpTo messageIdSize (inUse (ringOf c) (c .«id_len»))
-    && (givesIn (ringOf c) (c .len) (c .«id_len») (c .ids) (tableOf c) st
+    && (givesIn (c .flags) (ringOf c) (c .len) (c .«id_len») (c .ids) (tableOf c) st
     && distinct (idsIn messageIdSize (ringOf c) (c .«id_len») (c .ids)))
 
 unfoldable pub rowsFit : MessageCache → List ℕ → Bool
@@ -134,13 +135,13 @@ rowsFit c st =
     && (runsTo (c .«next_generation») (inUse (ringOf c) (c .generation))
     && idsFit c st)
 
--- settings: history_len 1 to 16, max_messages 0 to 64
-unfoldable pub legal : ℕ → ℕ → Bool
-legal history max = leb 1 history && (leb history maxHistory && leb max maxMessages)
+-- settings: history_len 1 to 16, max_messages 0 to 64, known flags
+unfoldable pub legal : ℕ → ℕ → ℕ → Bool
+legal history max flags = leb 1 history && (leb history maxHistory && (leb max maxMessages && knownFlags flags))
 
 unfoldable pub wellFormed : MessageCache → List ℕ → Bool
 wellFormed c st =
-    legal (c .«history_len») (c .«max_messages»)
+    legal (c .«history_len») (c .«max_messages») (c .flags)
     && (leb (c .start) (c .«max_messages») && (leb (c .count) (c .«max_messages») && rowsFit c st))
 
 -- ---- what the rows need of the arrays and the store
@@ -180,8 +181,8 @@ pub record Usable (c : MessageCache) (st : List ℕ) : Type 0 where
   pub generations : length (c .generation) ≡ maxMessages
 
 -- ---- the steps on the rows
-unfoldable pub fresh : ℕ → ℕ → MessageCache
-fresh history max =
+unfoldable pub fresh : ℕ → ℕ → ℕ → MessageCache
+fresh history max flags =
     record {
       «history_len» = history;
       «max_messages» = max;
@@ -196,6 +197,7 @@ fresh history max =
       «topic_count» = replicate maxMessages 0;
       «topic_start» = replicate topicsSize 0;
       «topic_len» = replicate topicsSize 0;
+      flags = flags;
     }
 
 unfoldable pub dropped : ℕ → MessageCache → MessageCache
@@ -214,6 +216,7 @@ dropped k c =
       «topic_count» = c .«topic_count»;
       «topic_start» = c .«topic_start»;
       «topic_len» = c .«topic_len»;
+      flags = c .flags;
     }
 
 -- a message m more, in the newest window, with the next arrival number
@@ -235,6 +238,7 @@ appended m id c =
       «topic_count» = t .counts;
       «topic_start» = t .starts;
       «topic_len» = t .sizes;
+      flags = c .flags;
     }
 
 -- the next arrival number is given, and nothing is kept
@@ -254,6 +258,7 @@ passed c =
       «topic_count» = c .«topic_count»;
       «topic_start» = c .«topic_start»;
       «topic_len» = c .«topic_len»;
+      flags = c .flags;
     }
 
 -- a window's age, a window later; ages in use are below 16
@@ -276,6 +281,7 @@ aged c =
       «topic_count» = c .«topic_count»;
       «topic_start» = c .«topic_start»;
       «topic_len» = c .«topic_len»;
+      flags = c .flags;
     }
 
 -- how many of the oldest leave when a window is opened: those in front of the first that stays

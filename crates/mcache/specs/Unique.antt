@@ -21,9 +21,9 @@ use Rattle.mcache.specs.Calls.{storedIn, gossipAnswer, gossipCount, goss
 use Rattle.mcache.specs.Calls.{formCount, formLeft}
 
 -- ---- the contracts; the last argument is the lent bytes as they are left
-pub record Starts (history max : ℕ) (r : Started) : Type 0 where
-  pub answer : r .answer ≡ startAnswer history max
-  pub cache : r .cache ≡ startCache history max
+pub record Starts (history max flags : ℕ) (r : Started) : Type 0 where
+  pub answer : r .answer ≡ startAnswer history max flags
+  pub cache : r .cache ≡ startCache history max flags
 
 pub record Puts (c : MessageCache) (st body : List ℕ) (i : ℕ) (r : PutDone) (left : List ℕ) : Type 0 where
   pub answer : r .answer ≡ answered (planned c st body i)

@@ -7,6 +7,7 @@ use mathlib.Core.List.{List}
 use lib.ListN.{length, getD, replicate}
 use Rattle.rows.specs.Rows.{placeOf}
 use Rattle.rows.specs.Store.{idAt}
+use Rattle.admission.specs.Flags.{maxFlags}
 use Rattle.admission.specs.Admission.{topicPlaces}
 use Rattle.admission.specs.AdmissionLaws.{Gives}
 use Rattle.mcache.specs.declared.MessageCache.{MessageCache}
@@ -50,6 +51,7 @@ pub record WellFormed (c : MessageCache) (st : List ℕ) : Type 0 where
   pub history-some : 1 ≤ c .«history_len»
   pub history-few : c .«history_len» ≤ maxHistory
   pub few : c .«max_messages» ≤ maxMessages
+  pub known : c .flags ≤ maxFlags
   -- counts and lengths are within limits
   pub starts : c .start ≤ c .«max_messages»
   pub within : c .count ≤ c .«max_messages»
@@ -63,15 +65,15 @@ pub record WellFormed (c : MessageCache) (st : List ℕ) : Type 0 where
   -- arrival numbers are consecutive from old to new, wrapping, and on to the next to be given
   pub follows : (i : ℕ) → suc i < c .count → numberOf c (suc i) ≡ (numberOf c i + 1) % 2 ^ 64
   pub last : (i : ℕ) → suc i ≡ c .count → c .«next_generation» ≡ (numberOf c i + 1) % 2 ^ 64
-  -- each cached message may be taken and gives its stored id
-  pub gives : (i : ℕ) → i < c .count → Gives (messageIn (c .len) st (rowOf c i)) (idOf c i)
+  -- each cached message may be taken under the flags and gives its stored id
+  pub gives : (i : ℕ) → i < c .count → Gives (c .flags) (messageIn (c .len) st (rowOf c i)) (idOf c i)
   -- and its topics stand where the row has them: as many, each with this start and this length
   pub topics : (i : ℕ) → i < c .count → topicsAt (tableOf c) (rowOf c i) ≡ topicPlaces (messageIn (c .len) st (rowOf c i))
 
 -- ---- the states that the calls reach
 -- a new cache whose first message gets the arrival number `next`; `start` gives the number 0
-unfoldable pub freshAt : ℕ → ℕ → ℕ → MessageCache
-freshAt next history max =
+unfoldable pub freshAt : ℕ → ℕ → ℕ → ℕ → MessageCache
+freshAt next history max flags =
     record {
       «history_len» = history;
       «max_messages» = max;
@@ -86,13 +88,14 @@ freshAt next history max =
       «topic_count» = replicate maxMessages 0;
       «topic_start» = replicate topicsSize 0;
       «topic_len» = replicate topicsSize 0;
+      flags = flags;
     }
 
 -- a new cache with legal settings and a store of their length; then puts of anything, the refused ones too, and windows
 -- opened
 pub data Reached : MessageCache → List ℕ → Type 0 where
-  begun : (next history max : ℕ) (st : List ℕ) → next < 2 ^ 64 → legal history max ≡ true
-      → length st ≡ max * messageSize → Reached (freshAt next history max) st
+  begun : (next history max flags : ℕ) (st : List ℕ) → next < 2 ^ 64 → legal history max flags ≡ true
+      → length st ≡ max * messageSize → Reached (freshAt next history max flags) st
   given : {c : MessageCache} {st : List ℕ} → Reached c st → (body : List ℕ) (i : ℕ)
       → Reached (keptIn c (planned c st body i)) (storedIn c st (planned c st body i))
   opened : {c : MessageCache} {st : List ℕ} → Reached c st → Reached (shiftCache c st) st

@@ -25,6 +25,7 @@ use admission::MAX_TOPICS;
 use admission::Unfit;
 use admission::admit;
 use admission::kept_with;
+use admission::known_flags;
 use admission::topics_of;
 use basis::Written;
 use basis::has_room;
@@ -69,6 +70,7 @@ pub struct MessageCache {
     pub topic_count: [u8; MAX_MESSAGES],
     pub topic_start: [u16; MAX_MESSAGES * MAX_TOPICS],
     pub topic_len: [u16; MAX_MESSAGES * MAX_TOPICS],
+    pub flags: usize,
 }
 
 // Whether the lent state is one: 41 for a store of the wrong length, 42 for a cache that is not well formed.
@@ -176,7 +178,7 @@ fn generations_run(generation: &[u64], ring: Ring, next: u64) -> bool
     true
 }
 
-// Whether each message fits its place, may be taken, gives its stored id, and has its topics where they are kept.
+// Whether each message fits its place, may be taken under the flags, gives its stored id, and has its topics where they are kept.
 fn messages_fit(
     lens: &[u16],
     id_lens: &[u8],
@@ -186,9 +188,10 @@ fn messages_fit(
     sizes: &[u16],
     store: &[u8],
     ring: Ring,
+    flags: usize,
 ) -> bool
     requires { ⌜ Laid ring (now lens) (now «id_lens») (now ids) (table (now counts) (now starts) (now sizes)) (now store) ⌝ }
-    ensures { λ r. ⌜ r ≡ givesIn ring (now (lens .entry)) (now («id_lens» .entry)) (now (ids .entry)) (table (now (counts .entry)) (now (starts .entry)) (now (sizes .entry))) (now (store .entry)) ⌝ }
+    ensures { λ r. ⌜ r ≡ givesIn flags ring (now (lens .entry)) (now («id_lens» .entry)) (now (ids .entry)) (table (now (counts .entry)) (now (starts .entry)) (now (sizes .entry))) (now (store .entry)) ⌝ }
 {
     let mut i = 0;
     while i < ring.count {
@@ -209,6 +212,7 @@ fn messages_fit(
             topics,
             &starts[slot..],
             &sizes[slot..],
+            flags,
         ) {
             i += 1;
         } else {
@@ -479,9 +483,9 @@ fn tell_row(there: bool, rows: &mut [u8], n: usize, id_lens: &[u8], ids: &[u8], 
 }
 
 impl MessageCache {
-    // An empty cache. Settings out of range are 40: history_len 0, where the Rust can panic, or above 16, or max_messages above 64.
-    pub fn new(history_len: usize, max_messages: usize) -> Started
-        ensures { λ r. ⌜ Starts «history_len» «max_messages» r ⌝ }
+    // An empty cache. Settings out of range are 40: history_len 0, where the Rust can panic, or above 16, max_messages above 64, or unknown flags.
+    pub fn new(history_len: usize, max_messages: usize, flags: usize) -> Started
+        ensures { λ r. ⌜ Starts «history_len» «max_messages» flags r ⌝ }
     {
         if history_len == 0 {
             return MessageCache::refused();
@@ -492,14 +496,17 @@ impl MessageCache {
         if MAX_MESSAGES < max_messages {
             return MessageCache::refused();
         }
+        if !known_flags(flags) {
+            return MessageCache::refused();
+        }
         Started {
             answer: Start::Started,
-            cache: MessageCache::empty(history_len, max_messages),
+            cache: MessageCache::empty(history_len, max_messages, flags),
         }
     }
 
-    fn empty(history_len: usize, max_messages: usize) -> Self
-        ensures { λ r. ⌜ r ≡ fresh «history_len» «max_messages» ⌝ }
+    fn empty(history_len: usize, max_messages: usize, flags: usize) -> Self
+        ensures { λ r. ⌜ r ≡ fresh «history_len» «max_messages» flags ⌝ }
     {
         MessageCache {
             history_len,
@@ -515,6 +522,7 @@ impl MessageCache {
             topic_count: [0; MAX_MESSAGES],
             topic_start: [0; MAX_MESSAGES * MAX_TOPICS],
             topic_len: [0; MAX_MESSAGES * MAX_TOPICS],
+            flags,
         }
     }
 
@@ -532,11 +540,11 @@ impl MessageCache {
     // The answer to settings out of range, beside a cache that keeps nothing.
     fn refused() -> Started
         ensures { λ r. ⌜ r .answer ≡ Start.BadSetting ⌝ }
-        ensures { λ r. ⌜ r .cache ≡ fresh 1 0 ⌝ }
+        ensures { λ r. ⌜ r .cache ≡ fresh 1 0 0 ⌝ }
     {
         Started {
             answer: Start::BadSetting,
-            cache: MessageCache::empty(1, 0),
+            cache: MessageCache::empty(1, 0, 0),
         }
     }
 
@@ -553,7 +561,17 @@ impl MessageCache {
         let starts = self.topic_start;
         let sizes = self.topic_len;
         if all_within(&id_lens, ring, MESSAGE_ID_SIZE as u8) {
-            if messages_fit(&lens, &id_lens, &ids, &counts, &starts, &sizes, store, ring) {
+            if messages_fit(
+                &lens,
+                &id_lens,
+                &ids,
+                &counts,
+                &starts,
+                &sizes,
+                store,
+                ring,
+                self.flags,
+            ) {
                 return ids_differ(&id_lens, &ids, MESSAGE_ID_SIZE, ring);
             }
         }
@@ -596,6 +614,9 @@ impl MessageCache {
             return Lent::Malformed;
         }
         if MAX_MESSAGES < max {
+            return Lent::Malformed;
+        }
+        if !known_flags(self.flags) {
             return Lent::Malformed;
         }
         if max < self.start {
@@ -729,11 +750,11 @@ impl MessageCache {
     // Puts the message in a part, where the state was tested.
     fn put_part(self, store: &mut [u8], part: &[u8]) -> PutDone
         requires { ⌜ Usable self (now store) ⌝ }
-        ensures { λ r. ⌜ r .answer ≡ answered (planFit self (now (part .entry)) (admissionOf (now (part .entry)) true)) ⌝ }
-        ensures { λ r. ⌜ r .cache ≡ keptIn self (planFit self (now (part .entry)) (admissionOf (now (part .entry)) true)) ⌝ }
-        ensures { λ _. ⌜ now (store .exit) ≡ storedIn self (now (store .entry)) (planFit self (now (part .entry)) (admissionOf (now (part .entry)) true)) ⌝ }
+        ensures { λ r. ⌜ r .answer ≡ answered (planFit self (now (part .entry)) (admissionOf (self .flags) (now (part .entry)) true)) ⌝ }
+        ensures { λ r. ⌜ r .cache ≡ keptIn self (planFit self (now (part .entry)) (admissionOf (self .flags) (now (part .entry)) true)) ⌝ }
+        ensures { λ _. ⌜ now (store .exit) ≡ storedIn self (now (store .entry)) (planFit self (now (part .entry)) (admissionOf (self .flags) (now (part .entry)) true)) ⌝ }
     {
-        let a = admit(part, true);
+        let a = admit(part, true, self.flags);
         match a {
             Admission::Unfit(why) => PutDone {
                 answer: Put::Unfit(why),

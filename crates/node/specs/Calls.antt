@@ -2,7 +2,7 @@
 -- node and stores; then what concerns the call. A refused call leaves the node and every lent byte as they were.
 use Prim.Native.Nat.{ℕ, _*_}
 use mathlib.Core.List.{List, [], _∷_, map}
-use mathlib.Core.Bool.{Bool, cond, _&&_}
+use mathlib.Core.Bool.{Bool, true, false, cond, _&&_, _||_}
 use lib.ListN.{length}
 use lib.Seq.{sets}
 use lib.Dec.{ltb, eqb}
@@ -25,6 +25,7 @@ use Rattle.schema.specs.Accept.{acceptOf}
 use Rattle.ids.specs.Ids.{messageAt, idBytes}
 use Rattle.admission.specs.declared.Admission.{Admission}
 use Rattle.admission.specs.declared.Admission.the-variants as admission
+use Rattle.admission.specs.Flags.{allowsUnsigned}
 use Rattle.admission.specs.Admission.{admissionOf}
 use Rattle.node.specs.Parts.{atPath, once}
 use Rattle.seen.specs.State.{idSize}
@@ -54,7 +55,7 @@ use Rattle.node.specs.declared.Ask.the-variants as ask
 use Rattle.node.specs.declared.Serve.{Serve}
 use Rattle.node.specs.declared.Serve.the-variants as serve
 use Rattle.node.specs.Told.{admitTold, beatTold, advertiseTold, explainTold, askTold, serveTold}
-use Rattle.node.specs.Gateway.{marked, ifAny, rpcBytes, advertisementFor, requestFor, replyRoom, writtenIn, sentIn}
+use Rattle.node.specs.Gateway.{marked, formOf, ifAny, rpcBytes, advertisementFor, requestFor, replyRoom, writtenIn, sentIn}
 use Rattle.node.specs.Gateway.{Reply, sent, short, replyFor}
 unfoldable pub use Rattle.node.specs.Gateway.{maxRpcSize}
 use Rattle.node.specs.State.{legalSettings, freshNode, wellFormed, seenRing}
@@ -79,13 +80,13 @@ abbrev pub serveNumber : Serve → ℕ
 serveNumber r = serveTold r .number
 
 -- ---- start: 40
-unfoldable pub startAnswer : ℕ → ℕ → ℕ → Start
-startAnswer max-seen history max = cond (legalSettings max-seen history max) start.Started start.BadSetting
+unfoldable pub startAnswer : ℕ → ℕ → ℕ → ℕ → Start
+startAnswer max-seen history max flags = cond (legalSettings max-seen history max flags) start.Started start.BadSetting
 
 -- where the settings are refused, a node that keeps nothing
-unfoldable pub startNode : ℕ → ℕ → ℕ → ℕ → Node
-startNode ttl max-seen history max = cond (legalSettings max-seen history max) (freshNode ttl max-seen history max)
-    (freshNode 0 0 1 0)
+unfoldable pub startNode : ℕ → ℕ → ℕ → ℕ → ℕ → Node
+startNode ttl max-seen history max flags =
+    cond (legalSettings max-seen history max flags) (freshNode ttl max-seen history max flags) (freshNode 0 0 1 0 0)
 
 -- ---- the lent node and its stores: 40, 41, 42
 unfoldable pub rightSizes : Node → List ℕ → List ℕ → Bool
@@ -125,7 +126,7 @@ planFit n at p (admission.Fit a e b f) =
 -- 20
 abbrev pub planAt : Node → ℕ → Bool → List ℕ → MessageAt → Plan
 planAt n at word body (found.Count k) = no (admit.NoMessage k)
-planAt n at word body (found.At a e) = planFit n at (between body a e) (admissionOf (between body a e) word)
+planAt n at word body (found.At a e) = planFit n at (between body a e) (admissionOf (n .cache .flags) (between body a e) word)
 
 -- 10, 1 to 7, 11
 abbrev pub planBody : Node → ℕ → Bool → List ℕ → ℕ → Checked → Plan
@@ -141,29 +142,29 @@ planned n ss cs body i word at =
 unfoldable pub swept : Node → ℕ → SeenCache
 swept n at = cleaned (n .«max_seen») at (n .seen)
 
--- an id is seen then
+-- an id is seen then, in this form
 unfoldable pub heldAt : Node → List ℕ → ℕ → List ℕ → Bool
-heldAt n ss at id = heldIn (n .«max_seen») (swept n at) ss (marked id)
+heldAt n ss at form = heldIn (n .«max_seen») (swept n at) ss form
 
 abbrev pub admitAnswer : Node → List ℕ → ℕ → Plan → Admit
 admitAnswer n ss at (no r) = r
-admitAnswer n ss at (taken m id) = cond (heldAt n ss at id) admit.Duplicate admit.New
+admitAnswer n ss at (taken m id) = cond (heldAt n ss at (formOf m id)) admit.Duplicate admit.New
 
 abbrev pub admitNode : Node → List ℕ → ℕ → Plan → Node
 admitNode n ss at (no r) = n
 admitNode n ss at (taken m id) =
-    cond (heldAt n ss at id) (laterNode at (swept n at) (n .cache) n)
-    (laterNode at (entered (n .«max_seen») (n .«max_seen») (length (marked id)) (until at (n .ttl)) (swept n at))
+    cond (heldAt n ss at (formOf m id)) (laterNode at (swept n at) (n .cache) n)
+    (laterNode at (entered (n .«max_seen») (n .«max_seen») (length (formOf m id)) (until at (n .ttl)) (swept n at))
     (keptUnder m id (n .cache)) n)
 
 abbrev pub admitSeen : Node → List ℕ → ℕ → Plan → List ℕ
 admitSeen n ss at (no r) = ss
 admitSeen n ss at (taken m id) =
-    cond (heldAt n ss at id) ss (enteredStore (n .«max_seen») (n .«max_seen») (swept n at) ss (marked id))
+    cond (heldAt n ss at (formOf m id)) ss (enteredStore (n .«max_seen») (n .«max_seen») (swept n at) ss (formOf m id))
 
 abbrev pub admitCache : Node → List ℕ → List ℕ → ℕ → Plan → List ℕ
 admitCache n ss cs at (no r) = cs
-admitCache n ss cs at (taken m id) = cond (heldAt n ss at id) cs (storedUnder (n .cache) cs m id)
+admitCache n ss cs at (taken m id) = cond (heldAt n ss at (formOf m id)) cs (storedUnder (n .cache) cs m id)
 
 -- ---- heartbeat: 40, 41, 42, 31
 unfoldable pub beatAnswer : Node → List ℕ → List ℕ → ℕ → Beat
@@ -218,13 +219,17 @@ explainAnswer n ss cs id topic windows =
 unfoldable pub offered : List ℕ → List (List ℕ)
 offered body = once (atPath (3 ∷ 1 ∷ 2 ∷ []) body)
 
--- those whose marked form is not among the ids seen
-unfoldable pub unseenFrom : List (List ℕ) → List (List ℕ) → List (List ℕ)
-unseenFrom seen [] = []
-unseenFrom seen (i ∷ is) = cond (among (marked i) seen) (unseenFrom seen is) (i ∷ unseenFrom seen is)
+-- one counts as held among the ids seen: in the form of a signed message; where unsigned ones are allowed, in either
+unfoldable pub knownIn : ℕ → List (List ℕ) → List ℕ → Bool
+knownIn flags seen i = among (marked true i) seen || (allowsUnsigned flags && among (marked false i) seen)
+
+unfoldable pub unseenFrom : ℕ → List (List ℕ) → List (List ℕ) → List (List ℕ)
+unseenFrom flags seen [] = []
+unseenFrom flags seen (i ∷ is) =
+    cond (knownIn flags seen i) (unseenFrom flags seen is) (i ∷ unseenFrom flags seen is)
 
 unfoldable pub unseenOf : Node → List ℕ → List (List ℕ) → List (List ℕ)
-unseenOf n ss is = unseenFrom (idsIn idSize (seenRing n) (n .seen .len) ss) is
+unseenOf n ss is = unseenFrom (n .cache .flags) (idsIn idSize (seenRing n) (n .seen .len) ss) is
 
 unfoldable pub askBytes : Node → List ℕ → List ℕ → List ℕ
 askBytes n ss body = rpcBytes (requestFor (unseenOf n ss (offered body)))

@@ -1,12 +1,15 @@
 -- A gateway as the scope has it, "The node": its settings, its clock, the ids that it has seen and the messages that it
 -- holds, the oldest first; and what each call does to it and makes of it. Nothing here speaks of bytes in a store.
 use Prim.Native.Nat.{ℕ, min}
-use mathlib.Core.Bool.{Bool, cond, not}
+use mathlib.Core.Bool.{Bool, true, false, cond, not, _&&_, _||_}
 use mathlib.Core.List.{List, [], _∷_}
 use mathlib.Core.Option.{Option, none, some}
 use lib.ListN.{length, take, drop}
 use lib.Dec.{eqb}
 use Rattle.protobuf.specs.Encode.{bytesField}
+use Rattle.ids.specs.Ids.{mark}
+use Rattle.admission.specs.Flags.{allowsUnsigned}
+use Rattle.admission.specs.Admission.{isSigned}
 use Rattle.seen.specs.Entries.{Entry, holds, inserted, live}
 use Rattle.mcache.specs.declared.Offer.{Offer}
 use Rattle.mcache.specs.Messages.{Cached, held, put, shift, get, gossipIds, offerOf}
@@ -19,30 +22,36 @@ pub record Gateway : Type 0 where
   pub max-seen : ℕ
   pub history-len : ℕ
   pub max-messages : ℕ
+  pub flags : ℕ
   pub clock : ℕ
   pub seen : List Entry
   pub cache : List Cached
 
 -- the clock starts at 0
-unfoldable pub started : ℕ → ℕ → ℕ → ℕ → Gateway
-started ttl max-seen history-len max-messages =
+unfoldable pub started : ℕ → ℕ → ℕ → ℕ → ℕ → Gateway
+started ttl max-seen history-len max-messages flags =
     record {
       ttl = ttl;
       max-seen = max-seen;
       history-len = history-len;
       max-messages = max-messages;
+      flags = flags;
       clock = 0;
       seen = [];
       cache = [];
     }
 
--- the form in which an id is seen: mark byte 1, and then the id
-abbrev pub marked : List ℕ → List ℕ
-marked id = 1 ∷ id
+-- the form in which an id is seen: a mark byte, 1 for a message with a signature and 0 for one without, and then the id
+abbrev pub marked : Bool → List ℕ → List ℕ
+marked signed id = mark signed ∷ id
+
+-- the mark comes from the message
+abbrev pub formOf : List ℕ → List ℕ → List ℕ
+formOf message id = marked (isSigned message) id
 
 -- ---- admit, at a reading, a message with its id: clean up, then insert the marked id
-unfoldable pub isNew : ℕ → List ℕ → Gateway → Bool
-isNew at id g = not (holds (marked id) (live at (g .seen)))
+unfoldable pub isNew : ℕ → List ℕ → List ℕ → Gateway → Bool
+isNew at message id g = not (holds (formOf message id) (live at (g .seen)))
 
 -- held: duplicate. Else: new, and the message is put under its id. Both set the clock.
 unfoldable pub afterAdmit : ℕ → List ℕ → List ℕ → Gateway → Gateway
@@ -52,9 +61,10 @@ afterAdmit at message id g =
       max-seen = g .max-seen;
       history-len = g .history-len;
       max-messages = g .max-messages;
+      flags = g .flags;
       clock = at;
-      seen = inserted (g .max-seen) (marked id) at (g .ttl) (live at (g .seen));
-      cache = cond (isNew at id g) (put (g .max-messages) id message (g .cache)) (g .cache);
+      seen = inserted (g .max-seen) (formOf message id) at (g .ttl) (live at (g .seen));
+      cache = cond (isNew at message id g) (put (g .max-messages) id message (g .cache)) (g .cache);
     }
 
 -- ---- heartbeat: clean up, shift, set the clock
@@ -65,6 +75,7 @@ afterBeat at g =
       max-seen = g .max-seen;
       history-len = g .history-len;
       max-messages = g .max-messages;
+      flags = g .flags;
       clock = at;
       seen = live at (g .seen);
       cache = shift (g .history-len) (g .cache);
@@ -111,10 +122,14 @@ abbrev pub explainOf : List ℕ → List ℕ → ℕ → Gateway → Offer
 explainOf id topic windows g = offerOf id topic windows (g .cache)
 
 -- ---- ask
--- those of the ids whose marked form is not seen
+-- an id counts as held where the form of a signed message is seen; where unsigned messages are allowed, either form
+unfoldable pub knows : Gateway → List ℕ → Bool
+knows g i = holds (marked true i) (g .seen) || (allowsUnsigned (g .flags) && holds (marked false i) (g .seen))
+
+-- those of the ids that are not held
 unfoldable pub lacking : Gateway → List (List ℕ) → List (List ℕ)
 lacking g [] = []
-lacking g (i ∷ is) = cond (holds (marked i) (g .seen)) (lacking g is) (i ∷ lacking g is)
+lacking g (i ∷ is) = cond (knows g i) (lacking g is) (i ∷ lacking g is)
 
 -- an RPC with one IWANT
 unfoldable pub request : List (List ℕ) → Rpc

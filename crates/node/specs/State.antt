@@ -25,18 +25,19 @@ gatewayIn n ss cs =
       max-seen = n .«max_seen»;
       history-len = n .cache .«history_len»;
       max-messages = n .cache .«max_messages»;
+      flags = n .cache .flags;
       clock = n .clock;
       seen = entriesIn (n .«max_seen») (n .seen) ss;
       cache = cachedIn (n .cache) cs;
     }
 
--- ---- settings: max_seen 0 to 256, history_len 1 to 16, max_messages 0 to 64, any ttl
-unfoldable pub legalSettings : ℕ → ℕ → ℕ → Bool
-legalSettings max-seen history max = leb max-seen maxIds && legal history max
+-- ---- settings: max_seen 0 to 256, history_len 1 to 16, max_messages 0 to 64, known flags, any ttl
+unfoldable pub legalSettings : ℕ → ℕ → ℕ → ℕ → Bool
+legalSettings max-seen history max flags = leb max-seen maxIds && legal history max flags
 
-unfoldable pub freshNode : ℕ → ℕ → ℕ → ℕ → Node
-freshNode ttl max-seen history max =
-    record { ttl = ttl; «max_seen» = max-seen; clock = 0; seen = noIds; cache = noMessages history max }
+unfoldable pub freshNode : ℕ → ℕ → ℕ → ℕ → ℕ → Node
+freshNode ttl max-seen history max flags =
+    record { ttl = ttl; «max_seen» = max-seen; clock = 0; seen = noIds; cache = noMessages history max flags }
 
 -- ---- well formed
 -- expiries never fall from old to new, and the first is at least `least`

@@ -23,13 +23,13 @@ use Rattle.node.specs.Calls.{startAnswer, startNode, planned, admitAnswe
 use Rattle.node.specs.Calls.{beatAnswer, beatNode, advertiseAnswer, advertiseLeft, askAnswer, askLeft}
 use Rattle.node.specs.Calls.{explainAnswer, serveAnswer, serveLeft}
 
-pub record Starts (ttl max-seen history max : ℕ) (r : Started) : Type 0 where
-  pub answer : r .answer ≡ startAnswer max-seen history max
-  pub node : r .node ≡ startNode ttl max-seen history max
+pub record Starts (ttl max-seen history max flags : ℕ) (r : Started) : Type 0 where
+  pub answer : r .answer ≡ startAnswer max-seen history max flags
+  pub node : r .node ≡ startNode ttl max-seen history max flags
 
-pub one-start : (ttl max-seen history max : ℕ) (r s : Started) → Starts ttl max-seen history max r
-    → Starts ttl max-seen history max s → r ≡ s
-one-start ttl max-seen history max r s a b =
+pub one-start : (ttl max-seen history max flags : ℕ) (r s : Started) → Starts ttl max-seen history max flags r
+    → Starts ttl max-seen history max flags s → r ≡ s
+one-start ttl max-seen history max flags r s a b =
     ap₂ (λ (x : Start) (n : Node). record { answer = x; node = n }) (a .answer ∙ sym (b .answer))
     (a .node ∙ sym (b .node))
 

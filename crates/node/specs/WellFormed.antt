@@ -39,9 +39,10 @@ pub record WellFormed (n : Node) (ss cs : List ℕ) : Type 0 where
 -- reading, the refused ones
 -- too, and heartbeats. Advertise, ask and serve leave the node and its stores as they are.
 pub data Reached : Node → List ℕ → List ℕ → Type 0 where
-  begun : (ttl max-seen history max : ℕ) (ss cs : List ℕ) → ttl < 2 ^ 64 → legalSettings max-seen history max ≡ true
+  begun : (ttl max-seen history max flags : ℕ) (ss cs : List ℕ) → ttl < 2 ^ 64
+      → legalSettings max-seen history max flags ≡ true
       → length ss ≡ max-seen * idSize → length cs ≡ max * messageSize
-      → Reached (freshNode ttl max-seen history max) ss cs
+      → Reached (freshNode ttl max-seen history max flags) ss cs
   admitted : {n : Node} {ss cs : List ℕ} → Reached n ss cs → (body : List ℕ) (i : ℕ) (word : Bool) (at : ℕ)
       → at < 2 ^ 64
       → Reached (admitNode n ss at (planned n ss cs body i word at))

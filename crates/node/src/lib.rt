@@ -4,7 +4,7 @@ mod parts;
 pub mod told;
 
 ghost use mathlib.Core.Path.{_≡_};
-ghost use mathlib.Core.Bool.{true, false, cond};
+ghost use mathlib.Core.Bool.{true, false, cond, not};
 ghost use mathlib.Core.List.{List, [], _∷_, _++_, map};
 ghost use Prim.Native.Nat.{ℕ, _+_, _-_, _*_, _≤_, _<_, min};
 ghost use lib.Dec.{ltb};
@@ -19,22 +19,25 @@ ghost use Rattle.protobuf.specs.Encode.{bytesField};
 ghost use Rattle.rpc.specs.Encode.{encodeRpc, repeated};
 ghost use Rattle.encode.specs.Puts.{Puts, Fits};
 ghost use Rattle.schema.specs.Accept.{acceptOf};
-ghost use Rattle.ids.specs.Ids.{messageAt, idBytes};
-ghost use Rattle.admission.specs.Admission.{admissionOf};
+ghost use Rattle.ids.specs.Ids.{messageAt, idBytes, mark};
+ghost use Rattle.admission.specs.Flags.{allowsUnsigned};
+ghost use Rattle.admission.specs.Admission.{admissionOf, isSigned};
 ghost use Rattle.node.specs.Parts.{partsIn, Parts};
 ghost use Rattle.seen.specs.State.{idSize};
 ghost use Rattle.mcache.specs.State.{messageSize, messageIdSize, maxMessages, messageIn, Listed, Usable};
-ghost use Rattle.node.specs.Gateway.{marked, advertisement, request};
+ghost use Rattle.node.specs.Gateway.{marked, formOf, advertisement, request};
 ghost use Rattle.node.specs.Unique.{Starts, Admits, Beats, Advertises, Explains, Asks, Serves};
 ghost use Rattle.node.specs.State.{seenRing, Ready, risesFrom, seenFits, freshNode};
 ghost use Rattle.node.specs.Calls.{lentOf, laterNode, taken, planFit, swept, heldAt};
 ghost use Rattle.node.specs.Calls.{admitAnswer, admitNode, admitSeen, admitCache, toldIn};
-ghost use Rattle.node.specs.Calls.{advertiseBytes, advertised, unseenFrom, unseenOf, offered, askBytes, asked};
+ghost use Rattle.node.specs.Calls.{advertiseBytes, advertised, knownIn, unseenFrom, unseenOf, offered, askBytes, asked};
 ghost use Rattle.node.specs.Calls.{rowsFor, cachedOf, maxRpcSize, wanted, replyTo, replyBytes};
 use admission::Admission;
 use admission::MAX_TOPIC_SIZE;
 use admission::Unfit;
 use admission::admit;
+use admission::allows_unsigned;
+use admission::is_signed;
 use ids::MessageAt;
 use ids::message_at;
 use mcache::MESSAGE_ID_SIZE;
@@ -206,26 +209,51 @@ fn add_where(there: bool, table: &mut [usize], n: usize, start: usize, end: usiz
     n
 }
 
-// Whether an id is not seen: its marked form is in no row. One above 128 bytes never is.
-fn is_unseen(lens: &[u8], store: &[u8], ring: Ring, id: &[u8]) -> bool
+// The mark byte of an id: 1 for a message with a signature, 0 for one without.
+fn mark_of(signed: bool) -> u8
+    ensures { λ r. ⌜ r ≡ mark signed ⌝ }
+{
+    if signed {
+        return 1;
+    }
+    0
+}
+
+// Whether an id is seen in one form: the mark and the id are in some row. One above 128 bytes never is.
+fn is_seen(lens: &[u8], store: &[u8], ring: Ring, signed: bool, id: &[u8]) -> bool
     requires { ⌜ Sound idSize ring (now lens) (now store) ⌝ }
-    ensures { λ r. ⌜ r ≡ cond (among (marked (now (id .entry))) (idsIn idSize ring (now (lens .entry)) (now (store .entry)))) false true ⌝ }
+    ensures { λ r. ⌜ r ≡ among (marked signed (now (id .entry))) (idsIn idSize ring (now (lens .entry)) (now (store .entry))) ⌝ }
 {
     let n = id.len();
     if MESSAGE_ID_SIZE < n {
-        return true;
+        return false;
     }
     let mut key = [0u8; ID_SIZE];
-    key[0] = 1;
+    key[0] = mark_of(signed);
     put_bytes(&mut key, 1, id);
-    ring.count <= find_from(lens, store, ID_SIZE, ring, 0, &key[..n + 1])
+    find_from(lens, store, ID_SIZE, ring, 0, &key[..n + 1]) < ring.count
 }
 
-// Puts the parts that are ids not seen into another table; how many those are.
+// Whether an id is not held: no message with a signature was seen under it, nor, where unsigned messages are allowed, one without.
+fn is_unseen(lens: &[u8], store: &[u8], ring: Ring, flags: usize, id: &[u8]) -> bool
+    requires { ⌜ Sound idSize ring (now lens) (now store) ⌝ }
+    ensures { λ r. ⌜ r ≡ not (knownIn flags (idsIn idSize ring (now (lens .entry)) (now (store .entry))) (now (id .entry))) ⌝ }
+{
+    if is_seen(lens, store, ring, true, id) {
+        return false;
+    }
+    if allows_unsigned(flags) {
+        return !is_seen(lens, store, ring, false, id);
+    }
+    true
+}
+
+// Puts the parts that are ids not held into another table; how many those are.
 fn unseen(
     lens: &[u8],
     store: &[u8],
     ring: Ring,
+    flags: usize,
     body: &[u8],
     from: &[usize],
     n: usize,
@@ -234,7 +262,7 @@ fn unseen(
     requires { ⌜ Sound idSize ring (now lens) (now store) ⌝ }
     requires { ⌜ Parts (now body) (now from) n ⌝ }
     requires { ⌜ n * 2 ≤ length (now to) ⌝ }
-    ensures { λ r. ⌜ partsIn (now (body .entry)) (now (to .exit)) r ≡ unseenFrom (idsIn idSize ring (now (lens .entry)) (now (store .entry))) (partsIn (now (body .entry)) (now (from .entry)) n) ⌝ }
+    ensures { λ r. ⌜ partsIn (now (body .entry)) (now (to .exit)) r ≡ unseenFrom flags (idsIn idSize ring (now (lens .entry)) (now (store .entry))) (partsIn (now (body .entry)) (now (from .entry)) n) ⌝ }
     ensures { λ r. ⌜ Parts (now (body .entry)) (now (to .exit)) r ⌝ }
     ensures { λ r. ⌜ r ≤ n ⌝ }
 {
@@ -243,7 +271,7 @@ fn unseen(
     while i < n {
         let a = from[i * 2];
         let e = from[i * 2 + 1];
-        let there = is_unseen(lens, store, ring, &body[a..e]);
+        let there = is_unseen(lens, store, ring, flags, &body[a..e]);
         k = add_where(there, to, k, a, e);
         i += 1;
     }
@@ -369,12 +397,31 @@ fn emit_advertisement(
     emit_ids(rows, n, id_lens, ids, out, l)
 }
 
+// ---- admitting
+
+// Whether a message that may be taken under some flags has a signature; where unsigned messages are not allowed each has one.
+fn has_signature(part: &[u8], flags: usize) -> bool
+    requires { ⌜ allowsUnsigned flags ≡ false → isSigned (now part) ≡ true ⌝ }
+    ensures { λ r. ⌜ r ≡ isSigned (now (part .entry)) ⌝ }
+{
+    if allows_unsigned(flags) {
+        return is_signed(part);
+    }
+    true
+}
+
 impl Node {
     // A node that holds nothing. Settings out of range are 40.
-    pub fn start(ttl: u64, max_seen: usize, history_len: usize, max_messages: usize) -> Started
-        ensures { λ r. ⌜ Starts ttl «max_seen» «history_len» «max_messages» r ⌝ }
+    pub fn start(
+        ttl: u64,
+        max_seen: usize,
+        history_len: usize,
+        max_messages: usize,
+        flags: usize,
+    ) -> Started
+        ensures { λ r. ⌜ Starts ttl «max_seen» «history_len» «max_messages» flags r ⌝ }
     {
-        let c = MessageCache::new(history_len, max_messages);
+        let c = MessageCache::new(history_len, max_messages, flags);
         let cache = c.cache;
         let answer = c.answer;
         match answer {
@@ -400,9 +447,9 @@ impl Node {
     // The answer to settings out of range, beside a node that keeps nothing.
     fn refused() -> Started
         ensures { λ r. ⌜ r .answer ≡ Start.BadSetting ⌝ }
-        ensures { λ r. ⌜ r .node ≡ freshNode 0 0 1 0 ⌝ }
+        ensures { λ r. ⌜ r .node ≡ freshNode 0 0 1 0 0 ⌝ }
     {
-        let c = MessageCache::new(1, 0);
+        let c = MessageCache::new(1, 0, 0);
         let cache = c.cache;
         Started {
             answer: Start::BadSetting,
@@ -483,7 +530,7 @@ impl Node {
         at: u64,
     ) -> Admitted
         requires { ⌜ Ready self (now «seen_store») (now «cache_store») ⌝ }
-        requires { ⌜ (length (now part) ≤ messageSize) × (length (now key) ≤ idSize) × (now key ≡ marked (drop 1 (now key))) ⌝ }
+        requires { ⌜ (length (now part) ≤ messageSize) × (length (now key) ≤ idSize) × (now key ≡ formOf (now part) (drop 1 (now key))) ⌝ }
         ensures { λ r. ⌜ r .answer ≡ admitAnswer self (now («seen_store» .entry)) at (taken (now (part .entry)) (drop 1 (now (key .entry)))) ⌝ }
         ensures { λ r. ⌜ r .node ≡ admitNode self (now («seen_store» .entry)) at (taken (now (part .entry)) (drop 1 (now (key .entry)))) ⌝ }
         ensures { λ _. ⌜ now («seen_store» .exit) ≡ admitSeen self (now («seen_store» .entry)) at (taken (now (part .entry)) (drop 1 (now (key .entry)))) ⌝ }
@@ -519,12 +566,13 @@ impl Node {
         at: u64,
     ) -> Admitted
         requires { ⌜ Ready self (now «seen_store») (now «cache_store») ⌝ }
-        ensures { λ r. ⌜ r .answer ≡ admitAnswer self (now («seen_store» .entry)) at (planFit self at (now (part .entry)) (admissionOf (now (part .entry)) verified)) ⌝ }
-        ensures { λ r. ⌜ r .node ≡ admitNode self (now («seen_store» .entry)) at (planFit self at (now (part .entry)) (admissionOf (now (part .entry)) verified)) ⌝ }
-        ensures { λ _. ⌜ now («seen_store» .exit) ≡ admitSeen self (now («seen_store» .entry)) at (planFit self at (now (part .entry)) (admissionOf (now (part .entry)) verified)) ⌝ }
-        ensures { λ _. ⌜ now («cache_store» .exit) ≡ admitCache self (now («seen_store» .entry)) (now («cache_store» .entry)) at (planFit self at (now (part .entry)) (admissionOf (now (part .entry)) verified)) ⌝ }
+        ensures { λ r. ⌜ r .answer ≡ admitAnswer self (now («seen_store» .entry)) at (planFit self at (now (part .entry)) (admissionOf (self .cache .flags) (now (part .entry)) verified)) ⌝ }
+        ensures { λ r. ⌜ r .node ≡ admitNode self (now («seen_store» .entry)) at (planFit self at (now (part .entry)) (admissionOf (self .cache .flags) (now (part .entry)) verified)) ⌝ }
+        ensures { λ _. ⌜ now («seen_store» .exit) ≡ admitSeen self (now («seen_store» .entry)) at (planFit self at (now (part .entry)) (admissionOf (self .cache .flags) (now (part .entry)) verified)) ⌝ }
+        ensures { λ _. ⌜ now («cache_store» .exit) ≡ admitCache self (now («seen_store» .entry)) (now («cache_store» .entry)) at (planFit self at (now (part .entry)) (admissionOf (self .cache .flags) (now (part .entry)) verified)) ⌝ }
     {
-        let a = admit(part, verified);
+        let flags = self.cache.flags;
+        let a = admit(part, verified, flags);
         match a {
             Admission::Unfit(why) => Admitted {
                 answer: Admit::Unfit(why),
@@ -543,7 +591,7 @@ impl Node {
                     };
                 }
                 let mut key = [0u8; ID_SIZE];
-                key[0] = 1;
+                key[0] = mark_of(has_signature(part, flags));
                 let n = form_id(
                     part,
                     from_start,
@@ -735,7 +783,8 @@ impl Node {
         let seen = self.seen;
         let ring = seen.ring(self.max_seen);
         let lens = seen.len;
-        let m = unseen(&lens, seen_store, ring, body, &first, k, &mut named);
+        let flags = self.cache.flags;
+        let m = unseen(&lens, seen_store, ring, flags, body, &first, k, &mut named);
         if m == 0 {
             return Ask::Bytes(0);
         }
@@ -748,7 +797,7 @@ impl Node {
         Ask::Bytes(needed)
     }
 
-    // Writes an RPC with one IWANT that holds every id in the IHAVEs of a body whose marked form is not seen, each once. Without such ids, no bytes.
+    // Writes an RPC with one IWANT that holds every id in the IHAVEs of a body that is not held, each once. Without such ids, no bytes.
     pub fn ask(self, seen_store: &[u8], cache_store: &[u8], body: &[u8], out: &mut [u8]) -> Asked
         ensures { λ r. ⌜ Asks self (now («seen_store» .entry)) (now («cache_store» .entry)) (now (body .entry)) (now (out .entry)) r (now (out .exit)) ⌝ }
     {
