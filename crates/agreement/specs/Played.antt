@@ -185,17 +185,17 @@ module _ {set : List (List ℕ)} {x y : Settings} {firstA pastA leftA firstB pas
       having-at (gatewayOf b) wants (λ i t. told-held (p .topic) (p .windows) (gatewayOf b .cache) i (wants-told i t)) j
       l
 
-  pub reply-got : (j : ℕ) → j < length wants → Got (getD wants j []) (getD replies j []) gotB
+  pub reply-got : (j : ℕ) → j < length wants → Got (y .flags) (getD wants j []) (getD replies j []) gotB
   reply-got j l =
       let i = getD wants j [] in
-      subst (λ (m : List ℕ). Got i m gotB) (sym (reply-at j l))
+      subst (λ (m : List ℕ). Got (y .flags) i m gotB) (sym (reply-at j l))
       (told-got hb (p .topic) (p .windows) (fair .windows-y) i (wants-told i (among-at i wants j l refl)))
 
   reply-short : (j : ℕ) → j < length replies → length (getD replies j []) ≤ 4096
   reply-short j l =
       let n = replies-count in
-      let g = gives-only (getD replies j []) (getD wants j []) (reply-got j (omega arith) .own) in
-      fit-limits (getD replies j []) true (g .from-start) (g .from-end) (g .seqno-start) (g .seqno-end)
+      let g = gives-only (y .flags) (getD replies j []) (getD wants j []) (reply-got j (omega arith) .own) in
+      fit-limits (y .flags) (getD replies j []) true (g .from-start) (g .from-end) (g .seqno-start) (g .seqno-end)
       (g .taken) .small
 
   -- fifteen of them, or all
