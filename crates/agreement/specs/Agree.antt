@@ -15,7 +15,7 @@ use Rattle.node.specs.Gateway.{Gateway, knows}
 use Rattle.node.specs.Calls.{maxRpcSize}
 use Rattle.history.specs.History.{State, gatewayOf, Settings, Call, afterAll, readings}
 use Rattle.history.specs.Laws.{after-append}
-use Rattle.agreement.specs.Premises.{MessageSet, Clock, Premises}
+use Rattle.agreement.specs.Premises.{MessageSet, Alike, Clock, Premises}
 use Rattle.agreement.specs.Round.{missing, lacked, Play, Fair, turned, tellerRounds}
 use Rattle.agreement.specs.Rows.{rows-under, rows-known}
 use Rattle.agreement.specs.Holding.{set-alike, Holding, holding-all}
@@ -32,7 +32,7 @@ all-known topic g (c ∷ cs) h =
     let r = all-known topic g cs (λ k d t. h k (List·Memᴰ·tail d) t) in
     either (among topic (topics c)) (λ t. simp (t, h c (List·Memᴰ·head refl) t) r) (λ t. simp t r)
 
-module _ {set : List (List ℕ)} {x y : Settings} (ms : MessageSet (x .flags) set) (alike : x .flags ≡ y .flags)
+module _ {set : List (List ℕ)} {x y : Settings} (ms : MessageSet (x .flags) set) (alike : Alike x y)
     {firstA pastA leftA firstB pastB leftB firstC pastC leftC : ℕ} {rsA rsB rsC : List ℕ}
     {gotA gotB gotC : List (List ℕ)} {a b c : State}
     (ha : Holding set x firstA pastA rsA leftA gotA a) (hb : Holding set y firstB pastB rsB leftB gotB b)
@@ -72,7 +72,7 @@ module _ {set : List (List ℕ)} {x y : Settings} (ms : MessageSet (x .flags) se
 -- each asks
 module _ {set : List (List ℕ)} {x y : Settings} {calls-a calls-b : List Call} {a b : State} (ms : MessageSet (x .flags) set)
     (pa : Premises set x calls-a a) (pb : Premises set y calls-b b)
-    (p q : Play) (fp : Fair p x y) (fq : Fair q x y) (same : p .topic ≡ q .topic)
+    (alike : Alike x y) (p q : Play) (fp : Fair p x y) (fq : Fair q x y) (same : p .topic ≡ q .topic)
     (r : ℕ) (at : ℕ → ℕ → ℕ) (clock-a : Clock x (readings (allAsked set x y calls-a calls-b a b p r at)))
     (s : ℕ) (at2 : ℕ → ℕ → ℕ) where
   -- after the rounds in which a asks
@@ -106,13 +106,13 @@ module _ {set : List (List ℕ)} {x y : Settings} {calls-a calls-b : List Call} 
       (enough2 : (m + 14) / 15 ≤ s) where
     -- the set under b's flags
     abbrev msb : MessageSet (y .flags) set
-    msb = set-alike (fp .alike) ms
+    msb = set-alike alike ms
 
     first : CaughtUp set x y calls-a calls-b a b p r at
-    first = caught-up ms pa pb p fp r at clock-a
+    first = caught-up ms pa pb alike p fp r at clock-a
 
     second : CaughtUp set y x calls-b1 calls-a1 b a q s at2
-    second = caught-up msb (first .teller-history) (first .asker-history) q (turned fq) s at2 clock-b
+    second = caught-up msb (first .teller-history) (first .asker-history) (sym alike) q (turned fq) s at2 clock-b
 
     a-stays : afterAll calls-a2 a ≡ afterAll calls-a1 a
     a-stays =
@@ -122,14 +122,14 @@ module _ {set : List (List ℕ)} {x y : Settings} {calls-a calls-b : List Call} 
     a-done : lacked (p .topic) (afterAll calls-a2 a) (afterAll calls-b2 b) ≡ []
     a-done =
         ap (λ (z : State). lacked (p .topic) z (afterAll calls-b2 b)) a-stays
-        ∙ still-none ms (fp .alike) (holding-all ms (first .asker-history)) (holding-all msb (first .teller-history))
+        ∙ still-none ms alike (holding-all ms (first .asker-history)) (holding-all msb (first .teller-history))
         (holding-all msb (second .asker-history)) (second .only) (p .topic)
-        (all-arrived ms pa pb p fp r at clock-a n few enough)
+        (all-arrived ms pa pb alike p fp r at clock-a n few enough)
 
     b-done : lacked (p .topic) (afterAll calls-b2 b) (afterAll calls-a2 a) ≡ []
     b-done =
         ap (λ (t : List ℕ). lacked t (afterAll calls-b2 b) (afterAll calls-a2 a)) same
-        ∙ all-arrived msb (first .teller-history) (first .asker-history) q (turned fq) s at2 clock-b m
+        ∙ all-arrived msb (first .teller-history) (first .asker-history) (sym alike) q (turned fq) s at2 clock-b m
         (subst (λ (t : List ℕ). length (lacked t (afterAll calls-b1 b) (afterAll calls-a1 a)) ≤ m) same few2) enough2
 
     pub gateways-agree : Agree
@@ -140,6 +140,6 @@ module _ {set : List (List ℕ)} {x y : Settings} {calls-a calls-b : List Call} 
           a-has-all = a-done;
           b-has-all = b-done;
           identical =
-              identical-bytes ms (second .teller-history) (second .asker-history) (fp .alike) (p .topic) (fp .topic-short) a-done
+              identical-bytes ms (second .teller-history) (second .asker-history) alike (p .topic) (fp .topic-short) a-done
               b-done (p .windows) (q .windows) (fp .windows-x) (fq .windows-y);
         }

@@ -20,7 +20,7 @@ use Rattle.node.specs.Gateway.{toldOf, knows, lacking}
 use Rattle.node.specs.Calls.{servedOf, roomOf}
 use Rattle.history.specs.History.{State, gatewayOf, Settings, Call, admit, advertise, ask, serve, after, afterAll}
 use Rattle.history.specs.History.{readings, NoneRefused, all-done, done, brought, admits}
-use Rattle.agreement.specs.Premises.{MessageSet, Members, none-left, member}
+use Rattle.agreement.specs.Premises.{MessageSet, Alike, Members, none-left, member}
 use Rattle.agreement.specs.Round.{lacked, Play, Fair, advertOf, requestOf, replyOf, servedCount, askerRound}
 use Rattle.agreement.specs.Round.{tellerRound}
 use Rattle.agreement.specs.Rows.{rows-known}
@@ -119,7 +119,7 @@ pub record RoundDone (set : List (List ℕ)) (x y : Settings) (firstA pastA left
   pub only : (m : List ℕ) → among m (gotAll (x .flags) gotA (askerRound p at a b)) ≡ true → among m gotA ≡ false
       → among m gotB ≡ true
 
-module _ {set : List (List ℕ)} {x y : Settings} (ms : MessageSet (x .flags) set) {firstA pastA leftA firstB pastB leftB : ℕ}
+module _ {set : List (List ℕ)} {x y : Settings} (ms : MessageSet (x .flags) set) (alike : Alike x y) {firstA pastA leftA firstB pastB leftB : ℕ}
     {rsB : List ℕ} {gotA gotB : List (List ℕ)} {a b : State} (p : Play)
     (fair : Fair p x y) (at : ℕ → ℕ) (rs : List ℕ)
     (ha : Holding set x firstA pastA (readings (askerRound p at a b) ++ rs) leftA gotA a)
@@ -178,7 +178,7 @@ module _ {set : List (List ℕ)} {x y : Settings} (ms : MessageSet (x .flags) se
   known-got {s} h i t =
       let g = told-got hb (p .topic) (p .windows) (fair .windows-y) i t in
       let m = get i (gatewayOf b .cache) in
-      let own = subst (λ (f : ℕ). givesId f m i ≡ true) (sym (fair .alike)) (g .own) in
+      let own = subst (λ (f : ℕ). givesId f m i ≡ true) (sym alike) (g .own) in
       rows-known ms m i (hb .held .from-set m (g .among-got)) own (gatewayOf s) (h .held .flags) (h .held .from-set)
       (h .held .rows)
 

@@ -11,7 +11,7 @@ use Rattle.basis.specs.Cases.{either, clash}
 use Rattle.rows.specs.Ids.{among}
 use Rattle.history.specs.History.{State, Settings, Call, after, afterAll, readings, beats, NoneRefused, all-done}
 use Rattle.history.specs.Laws.{after-append, readings-append, beats-append, done-append, admits-beats}
-use Rattle.agreement.specs.Premises.{MessageSet, Members, none-left, member, Clock, Premises}
+use Rattle.agreement.specs.Premises.{MessageSet, Alike, Members, none-left, member, Clock, Premises}
 use Rattle.agreement.specs.Round.{lacked, Play, onward, Fair, fair-onward, replyOf, servedCount, askerRound}
 use Rattle.agreement.specs.Round.{tellerRound, askerRounds, tellerRounds}
 use Rattle.agreement.specs.Holding.{gotNext, gotAll, pastAll, set-alike, Holding, holding-fresh}
@@ -82,13 +82,13 @@ nil-left : (p : Play) (a b : State) → length (lacked (p .topic) (afterAll [] a
 unfolding afterAll
 nil-left p a b = omega arith
 
-rounds-done : {set : List (List ℕ)} {x y : Settings} (ms : MessageSet (x .flags) set) {firstA pastA leftA firstB pastB leftB : ℕ}
+rounds-done : {set : List (List ℕ)} {x y : Settings} (ms : MessageSet (x .flags) set) (alike : Alike x y) {firstA pastA leftA firstB pastB leftB : ℕ}
     {rsB : List ℕ} {gotA gotB : List (List ℕ)} (p : Play) → Fair p x y
     → (r : ℕ) (at : ℕ → ℕ → ℕ) (rs : List ℕ) {a b : State}
     → Holding set x firstA pastA (readings (askerRounds p r at a b) ++ rs) leftA gotA a
     → Holding set y firstB pastB rsB leftB gotB b → RoundsDone x y set gotA gotB p r at a b
 unfolding askerRounds tellerRounds gotAll
-rounds-done ms p fair zero at rs {a} {b} ha hb =
+rounds-done ms alike p fair zero at rs {a} {b} ha hb =
     record {
       asker-members = none-left;
       asker-done = all-done;
@@ -97,16 +97,16 @@ rounds-done ms p fair zero at rs {a} {b} ha hb =
       missing-left = nil-left p a b;
       only = λ m t u. clash (cc);
     }
-rounds-done {set} {x} {y} ms {firstA} {pastA} {leftA} {gotA} {gotB} p fair (suc r) at rs {a} {b} ha hb =
+rounds-done {set} {x} {y} ms alike {firstA} {pastA} {leftA} {gotA} {gotB} p fair (suc r) at rs {a} {b} ha hb =
     let c = askerRound p (at 0) a b in
     let t = tellerRound p a b in
     let d = askerRounds (onward p) r (λ k. at (suc k)) (afterAll c a) (afterAll t b) in
     let u = tellerRounds (onward p) r (λ k. at (suc k)) (afterAll c a) (afterAll t b) in
     let e : readings (c ++ d) ++ rs ≡ readings c ++ (readings d ++ rs) =
     ap (λ (l : List ℕ). l ++ rs) (readings-append c d) ∙ append-assoc (readings c) (readings d) rs in
-    let one = round-done ms p fair (at 0) (readings d ++ rs)
+    let one = round-done ms alike p fair (at 0) (readings d ++ rs)
     (subst (λ (l : List ℕ). Holding set x firstA pastA l leftA gotA a) e ha) hb in
-    let rest = rounds-done ms (onward p) (fair-onward fair) r (λ k. at (suc k)) rs (one .asker-holds)
+    let rest = rounds-done ms alike (onward p) (fair-onward fair) r (λ k. at (suc k)) rs (one .asker-holds)
     (one .teller-holds) in
     let f = one .fewer in
     let g = rest .missing-left in
@@ -155,7 +155,7 @@ module _ (set : List (List ℕ)) (x y : Settings) (calls-a calls-b : List Call) 
 -- the premise on the asker's clock reaches over the rounds
 module _ {set : List (List ℕ)} {x y : Settings} {calls-a calls-b : List Call} {a b : State} (ms : MessageSet (x .flags) set)
     (pa : Premises set x calls-a a) (pb : Premises set y calls-b b)
-    (p : Play) (fair : Fair p x y) (r : ℕ) (at : ℕ → ℕ → ℕ)
+    (alike : Alike x y) (p : Play) (fair : Fair p x y) (r : ℕ) (at : ℕ → ℕ → ℕ)
     (clock : Clock x (readings (allAsked set x y calls-a calls-b a b p r at))) where
   abbrev askers : List Call
   askers = askerRounds p r at (afterAll calls-a a) (afterAll calls-b b)
@@ -180,7 +180,7 @@ module _ {set : List (List ℕ)} {x y : Settings} {calls-a calls-b : List Call} 
 
   rounds : RoundsDone x y set (gotAll (x .flags) [] calls-a) (gotAll (y .flags) [] calls-b) p r at
       (afterAll calls-a a) (afterAll calls-b b)
-  rounds = rounds-done ms p fair r at [] before-rounds (holding-all (set-alike (fair .alike) ms) pb)
+  rounds = rounds-done ms alike p fair r at [] before-rounds (holding-all (set-alike alike ms) pb)
 
   pub caught-up : CaughtUp set x y calls-a calls-b a b p r at
   caught-up =

@@ -67,7 +67,7 @@ member-some flags set c m e inside k t =
     let r : m ≡ k = cc in
     ap (λ (o : List ℕ). among o set) (sym r) ∙ inside
 
--- ---- a set of messages is one under the flags of both gateways that are set alike
+-- ---- a set of messages under some flags is one under flags that are the same
 pub set-alike : {flags other : ℕ} {set : List (List ℕ)} → flags ≡ other → MessageSet flags set → MessageSet other set
 set-alike {set} e ms = subst (λ (f : ℕ). MessageSet f set) e ms
 

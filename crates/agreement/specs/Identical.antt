@@ -18,7 +18,7 @@ use Rattle.node.specs.Gateway.{Gateway, knows, advertisement}
 use Rattle.node.specs.Calls.{toldIn, bytesFor, advertiseBytes, maxRpcSize}
 use Rattle.node.specs.Laws.{told-gateway}
 use Rattle.history.specs.History.{State, gatewayOf, Settings, Call, advertise, afterAll, refusalAt}
-use Rattle.agreement.specs.Premises.{MessageSet, Premises}
+use Rattle.agreement.specs.Premises.{MessageSet, Alike, Premises}
 use Rattle.agreement.specs.Round.{missing, lacked, advertBy}
 use Rattle.agreement.specs.Rows.{Rows, none, row, rows-under, rows-known}
 use Rattle.agreement.specs.Holding.{set-alike, Holding, holding-all}
@@ -129,7 +129,7 @@ pub record Identical (topic : List ℕ) (windows-a windows-b : ℕ) (out-a out-b
   pub same : advertBy topic windows-a out-a a ≡ advertBy topic windows-b out-b b
 
 pub identical-bytes : {set : List (List ℕ)} {x y : Settings} {calls-a calls-b : List Call} {a b : State}
-    → MessageSet (x .flags) set → Premises set x calls-a a → Premises set y calls-b b → x .flags ≡ y .flags
+    → MessageSet (x .flags) set → Premises set x calls-a a → Premises set y calls-b b → Alike x y
     → (topic : List ℕ) → length topic ≤ 1024
     → lacked topic (afterAll calls-a a) (afterAll calls-b b) ≡ []
     → lacked topic (afterAll calls-b b) (afterAll calls-a a) ≡ []

@@ -1,7 +1,6 @@
 -- Rounds for one topic, between a gateway that asks and one that tells: advertise, ask, serve, admit all served with
 -- the host's word. And what the one lacks of the other.
 use Prim.Native.Nat.{ℕ, zero, suc, _≤_}
-use mathlib.Core.Path.{_≡_, sym}
 use mathlib.Core.Bool.{cond, not, _&&_}
 use mathlib.Core.List.{List, [], _∷_, _++_}
 use lib.ListN.{length}
@@ -45,8 +44,6 @@ onward p =
 
 -- the scope's premises on these, for gateways with these settings
 pub record Fair (p : Play) (x y : Settings) : Type 0 where
-  -- both nodes are set alike
-  pub alike : x .flags ≡ y .flags
   pub topic-short : length (p .topic) ≤ 1024
   -- windows at least both history_lens
   pub windows-x : x .history-len ≤ p .windows
@@ -60,7 +57,6 @@ pub record Fair (p : Play) (x y : Settings) : Type 0 where
 pub turned : {p : Play} {x y : Settings} → Fair p x y → Fair p y x
 turned f =
     record {
-      alike = sym (f .alike);
       topic-short = f .topic-short;
       windows-x = f .windows-y;
       windows-y = f .windows-x;
@@ -73,7 +69,6 @@ turned f =
 pub fair-onward : {p : Play} {x y : Settings} → Fair p x y → Fair (onward p) x y
 fair-onward f =
     record {
-      alike = f .alike;
       topic-short = f .topic-short;
       windows-x = f .windows-x;
       windows-y = f .windows-y;

@@ -226,6 +226,15 @@ after-flags (ask body out) s = refl
 after-flags (serve body out) s = refl
 after-flags (explain id topic windows) s = refl
 
+all-flags : (calls : List Call) (s : State) → gatewayOf (afterAll calls s) .flags ≡ gatewayOf s .flags
+unfolding afterAll
+all-flags [] s = refl
+all-flags (c ∷ cs) s = all-flags cs (after c s) ∙ after-flags c s
+
+pub history-flags : {x : Settings} {s : State} (calls : List Call) → Fresh x s
+    → gatewayOf (afterAll calls s) .flags ≡ x .flags
+history-flags {x} {s} calls f = all-flags calls s ∙ fresh-flags f
+
 -- ---- what a call brings
 -- an admit brings m exactly where m is vouched for, the body is accepted, and m stands at the index
 module _ (flags : ℕ) (body : List ℕ) (i : ℕ) (at : ℕ) where
