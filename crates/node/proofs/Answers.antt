@@ -37,7 +37,7 @@ use Rattle.schema.specs.Accept.{acceptOf}
 use Rattle.ids.specs.Ids.{messageAt, idBytes, mark}
 use Rattle.admission.specs.declared.Unfit.{Unfit}
 use Rattle.admission.specs.declared.Admission.the-variants as admission
-use Rattle.admission.specs.Flags.{allowsUnsigned}
+use Rattle.admission.specs.Flags.{knownFlags, allowsUnsigned}
 use Rattle.admission.specs.Admission.{admissionOf, isSigned}
 use Rattle.admission.specs.AdmissionLaws.{fit-limits, fit-id, fit-signed}
 use Rattle.node.specs.declared.Node.{Node}
@@ -67,7 +67,7 @@ unfolding freshNode
 fresh-is ttl m h x f s c e g = rw (e, g)
 
 pub default-cache : startCache 1 0 0 ≡ noMessages 1 0 0
-unfolding startCache legal
+unfolding startCache legal knownFlags
 default-cache = refl
 
 module _ (ttl m h x flags : ℕ) where
