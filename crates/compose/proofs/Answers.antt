@@ -76,22 +76,22 @@ lists-inside t b e h =
     (λ w. let z : lists.Refused NotLent ≡ lists.Fine = cond-no _ _ refl w ∙ sym e ∙ h in clash (cc))
 
 -- ---- write_rpc
--- 40
-module _ (flags : ℕ) (t b out : List ℕ) {known : Bool} (k : known ≡ knownFlags flags) where
+module _ (flags : ℕ) (t b out : List ℕ) {known : Bool} (d : known ≡ knownFlags flags) where
   write-refused : {why : Wrong} → writeTested flags t b ≡ lists.Refused why
       → Leaves (writeAnswer flags t b out) (writeLeft flags t b out) (Refused why) out
   unfolding writeAnswer writeLeft
   write-refused h = record { answer = simp h; lent = simp h }
 
+  -- 40
   pub write-flags : known ≡ false → Leaves (writeAnswer flags t b out) (writeLeft flags t b out) (Refused BadSetting) out
   unfolding writeTested flagsFine
-  write-flags h = let e = sym k ∙ h in write-refused (simp e)
+  write-flags h = let e = sym d ∙ h in write-refused (simp e)
 
   -- 42, 7, 11
   module _ (g : known ≡ true) {x : Lists} (e : x ≡ listsOf t b) where
     flags-on : lists.Fine ≡ flagsFine flags
     unfolding flagsFine
-    flags-on = cond-yes _ _ k g
+    flags-on = cond-yes _ _ d g
 
     pub write-lists : {why : Wrong} → x ≡ lists.Refused why → Leaves (writeAnswer flags t b out) (writeLeft flags t b out) (Refused why) out
     unfolding writeTested
