@@ -1,6 +1,6 @@
 -- To be believed: Lent (which lists are lent well), Said (the RPC that they say), Weighed (which messages may be written), Compose (what the calls answer and
 -- leave), Told.
--- Theorems: Refused, FlagLaws (where it says as it was: `weighedWas`, `testedWas`, `answerWas`, `leftWas`).
+-- Theorems: Refused, FlagLaws.
 -- Cited by contracts of writers inside the crate: Puts. On the way to those of composed: Laws.
 pub mod Lent
 pub mod Said
