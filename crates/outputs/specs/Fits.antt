@@ -4,14 +4,23 @@ use Prim.Native.Nat.{ℕ, _≤_}
 use mathlib.Core.Path.{_≡_}
 use mathlib.Core.Bool.{Bool, true}
 use mathlib.Core.List.{List}
-use mathlib.Core.Option.{some}
+use mathlib.Core.Option.{none, some}
 use lib.ListN.{length}
 use Rattle.peer_id.specs.Multihash.{Hash, IsPeerId}
 use Rattle.rpc.specs.Rpc.{RawMessage}
 use Rattle.rpc.specs.Grammar.{Each}
+use Rattle.admission.specs.Flags.{allowsUnsigned}
 use Rattle.admission.specs.Fit.{KeyOf}
 
-pub record FitMessage (m : RawMessage) (word : Bool) : Type 0 where
+-- what stands behind a message whose sender is s
+pub data BackedBy (flags : ℕ) (m : RawMessage) (word : Bool) (s : List ℕ) : Type 0 where
+  -- a signature of 64 bytes, a key that is the sender's as far as its bytes tell, and the host's word
+  signed : (signature : List ℕ) → m .signature ≡ some signature → length signature ≡ 64 → KeyOf s (m .key) → word ≡ true
+      → BackedBy flags m word s
+  -- where it is allowed, neither signature nor key
+  unsigned : allowsUnsigned flags ≡ true → m .signature ≡ none → m .key ≡ none → BackedBy flags m word s
+
+pub record FitMessage (flags : ℕ) (m : RawMessage) (word : Bool) : Type 0 where
   -- the sender is a peer id
   pub sender : List ℕ
   pub from : m .from ≡ some sender
@@ -23,14 +32,8 @@ pub record FitMessage (m : RawMessage) (word : Bool) : Type 0 where
   pub seqno : m .seqno ≡ some number
   pub number-some : 1 ≤ length number
   pub number-short : length number ≤ 64
-  -- a signature of 64 bytes
-  pub signature : List ℕ
-  pub signed : m .signature ≡ some signature
-  pub whole : length signature ≡ 64
-  -- the key is the sender's, as far as its bytes tell
-  pub key : KeyOf sender (m .key)
-  -- the host gave its word
-  pub given : word ≡ true
+  -- a signature, a key and the host's word; or, where that is allowed, neither
+  pub backed : BackedBy flags m word sender
   -- 1 to 4 topics of at most 1,024 bytes, and at most 4,096 bytes in all
   pub topic : 1 ≤ length (m .«topic_ids»)
   pub few : length (m .«topic_ids») ≤ 4
