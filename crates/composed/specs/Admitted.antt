@@ -351,7 +351,7 @@ unfolding said
 written-admitted flags t b w h i =
     each-taken flags (messagesIn b (lentRows t)) (passed-of flags t b h .fit) (publish-means (i .means))
 
--- by its fields, as the documents have it: a message may be written exactly where it is fit
+-- and one that is taken has the signature that is asked for
 there-given : (p : List ℕ) (q : Place) (u : Bool) → isThere q ≡ true → AsAsked u (givenAt p q) true
 there-given p place.Absent u h = clash (cc)
 there-given p (place.Present a e) u h = with-signature
@@ -370,6 +370,7 @@ vouched-word : (flags : ℕ) (p : List ℕ) → vouched flags p true ≡ true
 unfolding vouched
 vouched-word flags p = refl
 
+-- by its fields, as the documents have it: a message may be written exactly where it is fit
 pub weighed-exactly : (flags : ℕ) (m : RawMessage) → IsMessage (encodeMessage m) (renewed m) → Bytes (encodeMessage m)
     → (weighed flags m ≡ Fine) ↔ FitMessage flags (renewed m) true
 weighed-exactly flags m i b = (
