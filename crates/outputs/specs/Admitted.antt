@@ -146,11 +146,13 @@ module _ (n : Node) (ss cs body : List ℕ) (i : ℕ) (word : Bool) (at : ℕ) w
   Tells a = AdmitTells n ss cs body i word at a
 
   -- what is told of a message that is taken under an id
-  new-told : lentOf n ss cs ≡ lent.Fine → (m id : List ℕ)
-      → admitTold (cond (heldAt n ss at (formOf m id)) admit.Duplicate admit.New)
-      ≡ done (cond (isNew at m id (gatewayIn n ss cs)) 1 0 ∷ [])
-  new-told fine m id =
-      rw (is-new n ss cs fine at m id) (either (heldAt n ss at (formOf m id)) (λ t. rw t) (λ t. rw t))
+  abbrev newTold : List ℕ → List ℕ → Told
+  newTold p id = done (cond (isNew at p id (gatewayIn n ss cs)) 1 0 ∷ [])
+
+  new-told : lentOf n ss cs ≡ lent.Fine → (p id : List ℕ)
+      → admitTold (cond (heldAt n ss at (formOf p id)) admit.Duplicate admit.New) ≡ newTold p id
+  new-told fine p id =
+      rw (is-new n ss cs fine at p id) (either (heldAt n ss at (formOf p id)) (λ t. rw t) (λ t. rw t))
 
   -- ---- it tells one of these
   module _ (fine : lentOf n ss cs ≡ lent.Fine) (x : Rpc) (w : Within body x) where
@@ -161,9 +163,10 @@ module _ (n : Node) (ss cs body : List ℕ) (i : ℕ) (word : Bool) (at : ℕ) w
     of-fit p m k g (admission.Fit a z b f) e =
         let u : admissionOf (n .cache .flags) (m .raw) word ≡ admission.Fit a z b f = rw (raw-is g) e in
         either (ltb at (n .clock)) (λ t. rw t (back fine w k u (ltb-true at (n .clock) t)))
-        (λ t. rw (t, new-told fine p (idBytes p a z b f), ← raw-is g)
-        (says fine w k u (ltb-false at (n .clock) t)
-        (rw (raw-is g) (id-named a z b f g (fit-parts (n .cache .flags) p word a z b f e)))))
+        (λ t. rw (t, new-told fine p (idBytes p a z b f))
+        (subst (λ (l : List ℕ). Tells (newTold l (idBytes p a z b f))) (raw-is g)
+        (says {id = idBytes p a z b f} fine w k u (ltb-false at (n .clock) t)
+        (id-named a z b f g (fit-parts (n .cache .flags) p word a z b f e)))))
 
     of-at : (r : MessageAt) → messageAt body i ≡ r → Tells (admitTold (admitAnswer n ss at (planAt n at word body r)))
     of-at (Count k) e = let m = message-missing i k (w .means) e in rw (m .0) (no-such fine w (m .1))
@@ -205,10 +208,11 @@ module _ (n : Node) (ss cs body : List ℕ) (i : ℕ) (word : Bool) (at : ℕ) w
       let f = found-in i (messageAt body i) (w .means) k refl in
       let p = between body (f .0) (f .1) in
       let u : admissionOf (n .cache .flags) p word ≡ admission.Fit a z c d = rw (raw-is (f .3)) at e in
-      let o : the-id id ≡ the-id (idBytes p a z c d) =
-      sym q ∙ id-named a z c d (f .3) (fit-parts (n .cache .flags) p word a z c d u) in
+      let o : the-id id ≡ the-id (idBytes p a z c d) = sym q ∙ id-named a z c d (f .3)
+      (fit-parts (n .cache .flags) p word a z c d u) in
       let s : idBytes p a z c d ≡ id = cc in
-      rw (fine, accepted w, f .2, u, le-ltb at (n .clock) l, s) (rw (raw-is (f .3)) (new-told fine p id))
+      rw (fine, accepted w, f .2, u, le-ltb at (n .clock) l, s)
+      (new-told fine p id ∙ ap (λ (l : List ℕ). newTold l id) (sym (raw-is (f .3))))
 
   pub admit-exactly : Bytes body → (a : Told)
       → (admitTold (admitAnswer n ss at (planned n ss cs body i word at)) ≡ a) ↔ AdmitTells n ss cs body i word at a

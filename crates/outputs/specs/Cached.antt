@@ -80,8 +80,9 @@ module _ (c : MessageCache) (st : List ℕ) (t : Tests c st) (b : Bytes st) wher
   pub row-message : (i : ℕ) → i < c .count → Message (messageIn (c .len) st (placeOf (ringOf c) i))
   row-message i h =
       let p = placeOf (ringOf c) i in
-      message-given (c .flags) (messageIn (c .len) st p) (idAt messageIdSize (c .«id_len») (c .ids) p) (bytes-in (c .len) st p b)
-      (gives-only (c .flags) (messageIn (c .len) st p) (idAt messageIdSize (c .«id_len») (c .ids) p) (row-gives c st t i h))
+      let m = messageIn (c .len) st p in
+      let j = idAt messageIdSize (c .«id_len») (c .ids) p in
+      message-given (c .flags) m j (bytes-in (c .len) st p b) (gives-only (c .flags) m j (row-gives c st t i h))
 
 -- a cached message with its id
 pub record CachedMessage (m : Cached) : Type 0 where

@@ -1,5 +1,5 @@
 -- Which messages of an RPC are fit, by their fields: what the libp2p peer id document and the scope ask of a message before
--- it is taken. FitsLaws: an admission takes exactly these.
+-- it is taken under a gateway's flags. FitsLaws: an admission takes exactly these.
 use Prim.Native.Nat.{ℕ, _≤_}
 use mathlib.Core.Path.{_≡_}
 use mathlib.Core.Bool.{Bool, true}
@@ -13,12 +13,12 @@ use Rattle.admission.specs.Flags.{allowsUnsigned}
 use Rattle.admission.specs.Fit.{KeyOf}
 
 -- what stands behind a message whose sender is s
-pub data BackedBy (flags : ℕ) (m : RawMessage) (word : Bool) (s : List ℕ) : Type 0 where
-  -- a signature of 64 bytes, a key that is the sender's as far as its bytes tell, and the host's word
-  signed : (signature : List ℕ) → m .signature ≡ some signature → length signature ≡ 64 → KeyOf s (m .key) → word ≡ true
-      → BackedBy flags m word s
-  -- where it is allowed, neither signature nor key
-  unsigned : allowsUnsigned flags ≡ true → m .signature ≡ none → m .key ≡ none → BackedBy flags m word s
+pub data BackedMessage (flags : ℕ) (m : RawMessage) (word : Bool) (s : List ℕ) : Type 0 where
+  -- a signature of 64 bytes; the key is the sender's, as far as its bytes tell; and the host gave its word
+  signed : {signature : List ℕ} → m .signature ≡ some signature → length signature ≡ 64 → KeyOf s (m .key) → word ≡ true
+      → BackedMessage flags m word s
+  -- neither signature nor key, where the flags allow that; the host's word does not matter
+  unsigned : allowsUnsigned flags ≡ true → m .signature ≡ none → m .key ≡ none → BackedMessage flags m word s
 
 pub record FitMessage (flags : ℕ) (m : RawMessage) (word : Bool) : Type 0 where
   -- the sender is a peer id
@@ -32,8 +32,8 @@ pub record FitMessage (flags : ℕ) (m : RawMessage) (word : Bool) : Type 0 wher
   pub seqno : m .seqno ≡ some number
   pub number-some : 1 ≤ length number
   pub number-short : length number ≤ 64
-  -- a signature, a key and the host's word; or, where that is allowed, neither
-  pub backed : BackedBy flags m word sender
+  -- the sender's signature, or none
+  pub backed : BackedMessage flags m word sender
   -- 1 to 4 topics of at most 1,024 bytes, and at most 4,096 bytes in all
   pub topic : 1 ≤ length (m .«topic_ids»)
   pub few : length (m .«topic_ids») ≤ 4

@@ -36,7 +36,7 @@ use Rattle.admission.specs.Fit.{KeyOf, givenAt, Backed}
 use Rattle.admission.specs.Fit as fit
 use Rattle.admission.specs.FitLaws.{fit-exactly}
 use Rattle.outputs.specs.Cached.{topics-mean}
-use Rattle.outputs.specs.Fits.{BackedBy, signed, unsigned, FitMessage}
+use Rattle.outputs.specs.Fits.{BackedMessage, signed, unsigned, FitMessage}
 
 -- ---- what field-at in the places of a message's fields is what the bytes mean
 given-bytes : (p : List ℕ) (q : Place) → givenAt p q ≡ bytesAt p 0 q
@@ -102,38 +102,39 @@ unfolding firstLong
 none-long none-left = refl
 none-long (_and_ {x = t} {xs = l} h r) = rw (le-ltb 1024 (length t) h) (none-long r)
 
--- a field that is not there
+-- and one that is not there has none
 not-given : (p : List ℕ) (q : Place) → givenAt p q ≡ none → q ≡ place.Absent
 not-given p place.Absent h = refl
 not-given p (place.Present a e) h = clash (cc)
 
 module _ (flags : ℕ) {p : List ℕ} {m : RawMessage} (i : IsMessage p m) (bp : Bytes p) (word : Bool) where
-  backed-by : {s : List ℕ} → Backed flags p word s → BackedBy flags m word s
-  backed-by {s} (fit.signed y k w) =
+  -- what stands behind it, by its places and by its fields
+  backed-fields : {s : List ℕ} → Backed flags p word s → BackedMessage flags m word s
+  backed-fields {s} (fit.signed y k w) =
       let g = fields-given i in
       let z = slots-inside kind.RawMessage p .fourth (y .start) (y .next) (y .there) in
-      signed (between p (y .start) (y .next)) (sym (g .signature) ∙ ap (givenAt p) (y .there))
+      signed {signature = between p (y .start) (y .next)} (sym (g .signature) ∙ ap (givenAt p) (y .there))
       (between-length p (y .start) (y .next) (z .1) ∙ y .size) (subst (KeyOf s) (g .key) k) w
-  backed-by (fit.unsigned on q k) =
+  backed-fields (fit.unsigned t f4 f5) =
       let g = fields-given i in
-      unsigned on (sym (g .signature) ∙ ap (givenAt p) q) (sym (g .key) ∙ ap (givenAt p) k)
+      unsigned t (sym (g .signature) ∙ ap (givenAt p) f4) (sym (g .key) ∙ ap (givenAt p) f5)
 
-  by-backed : {s : List ℕ} → BackedBy flags m word s → Backed flags p word s
-  by-backed {s} (signed d there size k w) =
+  backed-places : {s : List ℕ} → BackedMessage flags m word s → Backed flags p word s
+  backed-places {s} (signed {signature} there whole k given) =
       let g = fields-given i in
-      let y = field-at p (slotsOf kind.RawMessage p .fourth) d (slots-inside kind.RawMessage p .fourth) (g .signature ∙ there) in
-      fit.signed (record { start = y .start; next = y .next; there = y .there; size = y .size ∙ size })
-      (subst (KeyOf s) (sym (g .key)) k) w
-  by-backed (unsigned on q k) =
+      let f = slots-inside kind.RawMessage p .fourth in
+      let w = field-at p (slotsOf kind.RawMessage p .fourth) signature f (g .signature ∙ there) in
+      fit.signed (record { start = w .start; next = w .next; there = w .there; size = w .size ∙ whole })
+      (subst (KeyOf s) (sym (g .key)) k) given
+  backed-places (unsigned t a b) =
       let g = fields-given i in
-      fit.unsigned on (not-given p (slotsOf kind.RawMessage p .fourth) (g .signature ∙ q))
-      (not-given p (slotsOf kind.RawMessage p .fifth) (g .key ∙ k))
+      fit.unsigned t (not-given p (slotsOf kind.RawMessage p .fourth) (g .signature ∙ a))
+      (not-given p (slotsOf kind.RawMessage p .fifth) (g .key ∙ b))
 
   by-fields : (a e b f : ℕ) → admissionOf flags p word ≡ admission.Fit a e b f → FitMessage flags m word
   by-fields a e b f h =
       let x = fit-exactly flags p word a e b f bp .0 h in
       let g = fields-given i in
-      let s = slots-inside kind.RawMessage p in
       let t = parts-there p a e b f (x .parts) in
       let n = id-fits p a e b f (x .parts) in
       let o = id-some p a e b f (x .parts) in
@@ -149,15 +150,15 @@ module _ (flags : ℕ) {p : List ℕ} {m : RawMessage} (i : IsMessage p m) (bp :
         seqno = sym (g .seqno) ∙ ap (givenAt p) (t .1);
         number-some = omega (arith, o .1);
         number-short = omega (arith, n .seqno-short);
-        backed = backed-by (x .backed);
+        backed = backed-fields (x .backed);
         topic = rw k (x .limits .some);
         few = rw k (x .limits .few);
         short = rw k (all-short (topicsOf p) (x .limits .short));
         small = rw (raw-is i) (x .limits .small);
       }
 
-  by-places : FitMessage flags m word
-      → (a : ℕ) × (e : ℕ) × (b : ℕ) × (f : ℕ) × (admissionOf flags p word ≡ admission.Fit a e b f)
+  by-places : FitMessage flags m word → (a : ℕ) × (e : ℕ) × (b : ℕ) × (f : ℕ)
+      × (admissionOf flags p word ≡ admission.Fit a e b f)
   unfolding idParts
   by-places x =
       let g = fields-given i in
@@ -184,7 +185,7 @@ module _ (flags : ℕ) {p : List ℕ} {m : RawMessage} (i : IsMessage p m) (bp :
               hash = x .hash;
               digest = x .digest;
               peer = subst (λ (l : List ℕ). IsPeerId l (x .hash) (x .digest)) (sym (u .bytes)) (x .peer);
-              backed = subst (Backed flags p word) (sym (u .bytes)) (by-backed (x .backed));
+              backed = subst (Backed flags p word) (sym (u .bytes)) (backed-places (x .backed));
               limits = record {
                 some = rw k at (x .topic);
                 few = rw k at (x .few);

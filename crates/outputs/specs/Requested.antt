@@ -1,4 +1,4 @@
--- A request is a body with one IWANT that names the ids offered and not seen; it is canonical, and never longer than
+-- A request is a body with one IWANT that names the ids offered and not held; it is canonical, and never longer than
 -- the body that offers them.
 use Prim.Native.Nat.{ℕ, _+_, _≤_}
 use mathlib.Core.Path.{_≡_, refl, sym, ap, _∙_}
