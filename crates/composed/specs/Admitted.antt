@@ -50,7 +50,7 @@ use Rattle.compose.specs.Said.{encodeMessage, renewed, messagesIn, said}
 use Rattle.compose.specs.Weighed.{capped, andThen, given, fromFine, seqnoFine, signatureFine, keyFine, bareFine, signedFine, backedFine, topicsFine, sizeFine}
 use Rattle.compose.specs.Weighed.{limitsFine, weighed, firstUnfit}
 use Rattle.compose.specs.Compose.{writeTested}
-use Rattle.compose.specs.FlagLaws.{weighedWas, weighed-off}
+use Rattle.compose.specs.Off.{weighedWas, weighed-off}
 use Rattle.compose.specs.Told.{wrongTold}
 use Rattle.compose.specs.Puts.{capped-small}
 use Rattle.composed.specs.WrittenRows.{both-fine, passed-of}

@@ -48,7 +48,7 @@ use Rattle.compose.specs.Weighed.{firstUnfit}
 use Rattle.compose.specs.Compose.{textOf, textFine, textsFine, countFine, listsOf, lengthFine, flagsFine, writeTested, writeAnswer, writeLeft}
 use Rattle.compose.specs.Compose.{signAnswer, signLeft}
 use Rattle.compose.specs.Told.{wrongTold, composedTold}
-use Rattle.compose.specs.FlagLaws.{tested-unknown}
+use Rattle.compose.specs.Off.{tested-unknown}
 use Rattle.composed.specs.Exactly.{put-writes}
 
 -- ---- what a row of the table says

@@ -1,5 +1,5 @@
--- What the flag that allows unsigned messages changes of written RPCs: with it off, nothing of what they were before there were flags; and of a message with a
--- signature nothing under any flags. Flags that are not known are 40, before everything else.
+-- With the flag that allows unsigned messages off, what is weighed, answered and left is what it was before there were flags: each definition that reads them equals
+-- the one it was, which stands here. Under any flags a message with a signature is weighed as it was; and flags that are not known are 40, before everything else.
 use Prim.Native.Nat.{ℕ}
 use mathlib.Core.Path.{_≡_, refl, ap, ap₂, _∙_}
 use mathlib.Core.Bool.{Bool, true, false}
