@@ -123,12 +123,12 @@ kept-flags true vs x h = absurd (h refl)
 kept-flags false vs x h = refl
 
 module _ (s vs : List ℕ) {r : ℕ} {ws : List ℕ} (h : (r ≡ settingsTold (nodeIn s) .number) × (ws ≡ handed (settingsTold (nodeIn s)) vs)) where
-  pub flags-stored : r ≡ 0 → Settles s vs 0 (set ws 4 (nodeIn s .cache .flags))
-  flags-stored z =
+  pub flags-stored : (m : Node) → m ≡ nodeIn s → r ≡ 0 → Settles s vs 0 (set ws 4 (m .cache .flags))
+  flags-stored m e z =
       let n = nodeIn s in
       let f : flagsTold n ≡ n .cache .flags ∷ [] =
       told-flags (isSettled n) (n .ttl ∷ n .«max_seen» ∷ n .cache .«history_len» ∷ n .cache .«max_messages» ∷ []) (n .cache .flags) (sym (h .0) ∙ z) in
-      record { number = sym z ∙ h .0; values = rw (h .1, f) }
+      record { number = sym z ∙ h .0; values = rw (e, h .1, f) }
 
   pub flags-refused : (r ≡ 0 → ⊥) → Settles s vs r ws
   flags-refused z =

@@ -136,7 +136,7 @@ state-number n ss cs = told-state (lentOf n ss cs) (n .clock ∷ n .seen .count 
 -- ---- what is told of a state that a call takes: its settings
 module _ (n : Node) (ss cs : List ℕ) (fine : lentOf n ss cs ≡ lent.Fine) where
   taken-legal : isSettled n ≡ true
-  unfolding legalSettings legal knownFlags
+  unfolding legalSettings legal
   taken-legal =
       let t = fine-tests n ss cs fine in
       let k = cache-tests (n .cache) cs (t .messages) in
@@ -145,7 +145,7 @@ module _ (n : Node) (ss cs : List ℕ) (fine : lentOf n ss cs ≡ lent.Fine) whe
         le-leb 1 (n .cache .«history_len») (k .history-some),
         le-leb (n .cache .«history_len») maxHistory (k .history-few),
         le-leb (n .cache .«max_messages») maxMessages (k .few),
-        le-leb (n .cache .flags) maxFlags (k .known),
+        k .known,
       )
 
   pub settings-say : (settingsTold n
