@@ -579,6 +579,11 @@ def ending(r):
 # The message of the scope's trace, and its id.
 X = [(1, A), (3, b"\x01"), (4, b"t"), (5, bytes(SIGNATURE))]
 NAME = A + b"\x01"
+# The same without its signature.
+U = without(X, 5)
+
+# U with fields that have the numbers of a signature and of a key, and other types: it has neither.
+OTHER_TYPES = [plain(U) + bytes.fromhex(text) for text in ("2801", "3001", "2d00000000", "310000000000000000")]
 
 
 def put_step(parts, index=0):
