@@ -1164,7 +1164,7 @@ def some_topics(r, play):
     # The last sender has fields 4 in its key.
     senders = ((A, b"b"), (HASHED, b"c"), (identity(key_bytes(1, b"\x22\x01t\x22\x00")), b"\x22\x01"))
     raws = [topic_message(r, r.choice(senders)) for _ in range(r.choice((1, 2, 3)))]
-    raws = [traces.bare(raw) if play.run.cache.flags and r.randrange(2) else raw for raw in raws]
+    raws = [caches.bare(raw) if play.run.cache.flags and r.randrange(2) else raw for raw in raws]
     topics = [b"", b"t"] + [raw[start:start + size] for raw in raws if taken(raw, ALLOW_UNSIGNED) for start, size in topic_places(raw)]
     return [admit(play.run.clock, tagged(2, raw)) for raw in raws] + [advertise(topic=topic) for topic in r.sample(topics, 2)] \
         + [why(r.randrange(2), who + seqno, topic) for who, seqno in senders for topic in topics[-2:]]

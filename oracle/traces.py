@@ -12,7 +12,7 @@ import nodes
 import peers
 from bodies import BROKEN, PARTS, many, other_field, random_body, tagged
 from caches import LONG_TOPICS, LONGEST_TOPICS, NAME, REFUSED, TOPICS, X
-from caches import clipped, fields_of, grown, message, padded, plain, some_put, unfit_puts, x_with
+from caches import clipped, fields_of, grown, loosened, message, padded, plain, some_put, unfit_puts, x_with
 from nodes import MAX_CONTENT, MAX_RECORDS, TOP, Run, made, record, records
 from peers import A, B, ECDSA, F, HASHED, ID, KEY, LONGEST
 from records import header
@@ -77,36 +77,6 @@ def body_of(parts):
 
 def x_body(who, seqno, *topics, data=None):
     return body_of(x_with(from_=[who], seqno=[seqno], topic=topics or [b"t"], data=[] if data is None else [data]))
-
-
-def cut(data):
-    """The fields of a body or of a message, as (number, wire type, its bytes), and last what cannot be read, as (0, 0, bytes)."""
-    at = 0
-    try:
-        for field, wire, place, content in nodes.fields(data):
-            end = place + len(content) if wire in (1, 5) else nodes.number_at(data, place)[1] + (len(content) if wire == 2 else 0)
-            yield field, wire, data[at:end]
-            at = end
-    except nodes.Refused:
-        pass
-    yield 0, 0, data[at:]
-
-
-def bare(raw, *fields):
-    """A message without its fields of these numbers: its signature and its key."""
-    return b"".join(piece for field, wire, piece in cut(raw) if (field, wire) not in [(one, 2) for one in fields or (5, 6)])
-
-
-def loosened(r, body):
-    """A body whose messages mostly have no signature: and no key either, or one that was left; or a signature of no bytes."""
-    out = b""
-    for field, wire, piece in cut(body):
-        how = r.randrange(12)
-        if (field, wire) == (2, 2) and how < 9:
-            raw = next(nodes.fields(piece))[3]
-            piece = tagged(2, bare(raw) if how < 7 else bare(raw, 5) if how == 7 else bare(raw, 5) + tagged(5, b""))
-        out += piece
-    return out
 
 
 def loosely(r, steps):
