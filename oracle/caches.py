@@ -438,6 +438,11 @@ def bare(raw, *fields):
     return b"".join(piece for field, wire, piece in cut(raw) if (field, wire) not in [(one, 2) for one in fields or (5, 6)])
 
 
+def loose(body):
+    """A body whose messages have neither signature nor key."""
+    return b"".join(tagged(2, bare(next(nodes.fields(piece))[3])) if (field, wire) == (2, 2) else piece for field, wire, piece in cut(body))
+
+
 def loosened(r, body):
     """A body whose messages mostly have no signature: and no key either, or one that was left; or a signature of no bytes. Some have a sender that needs a
     key, or has none."""
