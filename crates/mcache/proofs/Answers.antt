@@ -26,6 +26,7 @@ use Rattle.ids.specs.Ids.{messageAt, idBytes}
 use Rattle.admission.specs.declared.Unfit.{Unfit}
 use Rattle.admission.specs.declared.Admission.{Admission}
 use Rattle.admission.specs.declared.Admission.the-variants as admission
+use Rattle.admission.specs.Flags.{knownFlags}
 use Rattle.admission.specs.Admission.{admissionOf}
 use Rattle.admission.specs.AdmissionLaws.{fit-limits, fit-id}
 use Rattle.mcache.specs.declared.MessageCache.{MessageCache}
@@ -65,7 +66,7 @@ module _ (c : MessageCache) (st : List ℕ) where
   shorts = allUpTo messageIdSize (inUse (ringOf c) (c .«id_len»))
 
   abbrev gives : Bool
-  gives = givesIn (ringOf c) (c .len) (c .«id_len») (c .ids) (tableOf c) st
+  gives = givesIn (c .flags) (ringOf c) (c .len) (c .«id_len») (c .ids) (tableOf c) st
 
   abbrev differ : Bool
   differ = distinct (idsIn messageIdSize (ringOf c) (c .«id_len») (c .ids))
@@ -149,14 +150,24 @@ module _ (c : MessageCache) (st : List ℕ) where
               maxMessages h,
         )
 
-        module _ (m : c .«max_messages» ≤ maxMessages) where
-          settings : legal (c .«history_len») (c .«max_messages») ≡ true
+        pub lent-unknown : c .«max_messages» ≤ maxMessages → knownFlags (c .flags) ≡ false → lent.Malformed ≡ lentOf c st
+        unfolding lentOf wellFormed legal
+        lent-unknown m h = simp (
+          whole,
+          le-leb 1 (c .«history_len») (omega (arith, n)),
+          le-leb (c .«history_len») maxHistory a,
+          le-leb (c .«max_messages») maxMessages m,
+          h,
+        )
+
+        module _ (m : c .«max_messages» ≤ maxMessages) (known : knownFlags (c .flags) ≡ true) where
+          settings : legal (c .«history_len») (c .«max_messages») (c .flags) ≡ true
           unfolding legal
           settings = simp (
             le-leb 1 (c .«history_len») (omega (arith, n)),
             le-leb (c .«history_len») maxHistory a,
-            le-leb (c .«max_messages»)
-                maxMessages m,
+            le-leb (c .«max_messages») maxMessages m,
+            known,
           )
 
           pub lent-start : c .«max_messages» < c .start → lent.Malformed ≡ lentOf c st
@@ -324,7 +335,7 @@ pub put-done : (c : MessageCache) (st body : List ℕ) (i : ℕ) (r : PutDone) (
 put-done c st body i r left p = record { answer = p .0; cache = p .1 .0; store = p .1 .1 }
 
 module _ (c : MessageCache) (p : List ℕ) where
-  pub plan-unfit : (why : Unfit) → admission.Unfit why ≡ admissionOf p true → planFit c p (admissionOf p true) ≡ no (put.Unfit why)
+  pub plan-unfit : (why : Unfit) → admission.Unfit why ≡ admissionOf (c .flags) p true → planFit c p (admissionOf (c .flags) p true) ≡ no (put.Unfit why)
   plan-unfit why e = rw (← e)
 
 module _ (c : MessageCache) (st body : List ℕ) (i : ℕ) where
@@ -346,7 +357,7 @@ module _ (c : MessageCache) (st body : List ℕ) (i : ℕ) where
   plan-missing n e f g = rw (← e, ← f, ← g)
 
   pub plan-at : (a b : ℕ) → lent.Fine ≡ lentOf c st → checked.Fine ≡ acceptOf body → at.At a b ≡ messageAt body i → planned c st body i ≡ planFit c
-      (between body a b) (admissionOf (between body a b) true)
+      (between body a b) (admissionOf (c .flags) (between body a b) true)
   unfolding planned
   plan-at a b e f g = rw (← e, ← f, ← g)
 
@@ -363,30 +374,30 @@ pub told-as : (c : MessageCache) (st topic : List ℕ) (windows : ℕ) (b : Goss
 told-as c st topic windows b r e t = record { answer = e .0 ∙ t .answer; count = e .1 .0 ∙ t .count; rows = e .1 .1 ∙ t .rows }
 
 -- ---- the id of a message that may be taken
-module _ (p : List ℕ) (a e b f : ℕ) (h : admissionOf p true ≡ admission.Fit a e b f) where
+module _ (flags : ℕ) (p : List ℕ) (a e b f : ℕ) (h : admissionOf flags p true ≡ admission.Fit a e b f) where
   module _ (n : ℕ) (first out : List ℕ) (z : length first ≡ messageIdSize) (forms : Forms p a e b f first n out) where
     k : (n ≡ length (idBytes p a e b f)) × (out ≡ sets first 0 (idBytes p a e b f))
-    k = form-fit p true a e b f first n out h (omega (arith, fit-id p true a e b f h)) forms
+    k = form-fit flags p true a e b f first n out h (omega (arith, fit-id flags p true a e b f h)) forms
 
     pub id-whole : take n out ≡ idBytes p a e b f
     id-whole =
-        let l = fit-id p true a e b f h in
+        let l = fit-id flags p true a e b f h in
         rw (k .1, sets-eq (idBytes p a e b f) first 0 (omega arith)) (take-at (idBytes p a e b f) (drop (0 + length (idBytes p a e b f)) first) n (sym
         (k .0)))
 
     pub id-fits-in : n ≤ length out
-    id-fits-in = let l = fit-id p true a e b f h in let o : length out ≡ length first = ap length (k .1) ∙ length-sets first 0 (idBytes p a e b f) in
+    id-fits-in = let l = fit-id flags p true a e b f h in let o : length out ≡ length first = ap length (k .1) ∙ length-sets first 0 (idBytes p a e b f) in
         omega (arith, k .0)
 
     pub id-counts : n ≡ length (take n out)
     id-counts = k .0 ∙ sym (ap length id-whole)
 
     id-small : (length p ≤ messageSize) × (length (take n out) ≤ messageIdSize)
-    id-small = let l = fit-id p true a e b f h in (fit-limits p true a e b f h .small, omega (arith, id-counts, k .0))
+    id-small = let l = fit-id flags p true a e b f h in (fit-limits flags p true a e b f h .small, omega (arith, id-counts, k .0))
 
     -- a put under that id is a put of the message
     pub put-under : (c : MessageCache) (st : List ℕ) → Usable c st → (r : PutDone) (s : List ℕ) → Keeps c st p (take n out) r s
-        → Does c st (planFit c p (admissionOf p true)) (r .answer) (r .cache) s
+        → Does c st (planFit c p (admissionOf flags p true)) (r .answer) (r .cache) s
     unfolding keptUnder storedUnder
     put-under c st u r s g = rw (h, ← id-whole) (keep-usable c st p (take n out) (id-small .0) (id-small .1) u r s g)
 

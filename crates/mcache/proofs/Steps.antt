@@ -7,6 +7,7 @@ use native.Mathlib.Omega.{arith}
 use native.Mathlib.Nat.{zero-add}
 use lib.ListN.{length, drop, set, replicate}
 use lib.Seq.{sets}
+use lib.Dec.{leb}
 use borrow.Author.Tests.{eq-eqb, ne-eqb, lt-ltb, le-ltb, le-leb, lt-leb}
 use Rattle.basis.specs.Writing.{setIn}
 use Rattle.basis.specs.Lists.{set-fits}
@@ -16,6 +17,7 @@ use Rattle.rows.specs.Ids.{indexOf}
 use Rattle.rows.specs.RowsLaws.{place-lt, place-le}
 use Rattle.rows.specs.Store.{idsIn, inUse}
 use Rattle.admission.specs.Admission.{startsOf, sizesOf}
+use Rattle.admission.specs.Flags.{knownFlags}
 use Rattle.mcache.specs.declared.MessageCache.{MessageCache}
 use Rattle.mcache.specs.declared.Start.the-variants as start
 use Rattle.mcache.specs.declared.Gossip.the-variants as gossip
@@ -26,32 +28,39 @@ use Rattle.mcache.specs.Unique.{TellsRows}
 use Rattle.mcache.specs.CachedLaws.{stale-in}
 
 -- ---- start
-module _ (history max : ℕ) where
-  pub start-none : history ≡ 0 → (start.BadSetting ≡ startAnswer history max) × (fresh 1 0 ≡ startCache history max)
+module _ (history max flags : ℕ) where
+  abbrev Refuses : Type 0
+  Refuses = (start.BadSetting ≡ startAnswer history max flags) × (fresh 1 0 0 ≡ startCache history max flags)
+
+  pub start-none : history ≡ 0 → Refuses
   unfolding startAnswer startCache legal
   start-none h = let l = lt-leb 1 history (omega arith) in (simp l, simp l)
 
-  pub start-long : (history ≡ 0 → ⊥) → maxHistory < history → (start.BadSetting ≡ startAnswer history max) × (fresh 1 0 ≡ startCache history max)
-  unfolding startAnswer startCache legal
-  start-long n h = let k = le-leb 1 history (omega (arith, n)) in let l = lt-leb history maxHistory h in (simp (k, l), simp (k, l))
+  module _ (n : history ≡ 0 → ⊥) where
+    some : leb 1 history ≡ true
+    some = le-leb 1 history (omega (arith, n))
 
-  pub start-many : (history ≡ 0 → ⊥) → history ≤ maxHistory → maxMessages < max → (start.BadSetting ≡ startAnswer history max) × (fresh 1 0 ≡
-      startCache history max)
-  unfolding startAnswer startCache legal
-  start-many n h m = let k = le-leb 1 history (omega (arith, n)) in let l = le-leb history maxHistory h in let j = lt-leb max maxMessages m in (
-    simp
-        (k, l, j),
-    simp (k, l, j),
-  )
+    pub start-long : maxHistory < history → Refuses
+    unfolding startAnswer startCache legal
+    start-long h = let l = lt-leb history maxHistory h in (simp (some, l), simp (some, l))
 
-  pub start-fits : (history ≡ 0 → ⊥) → history ≤ maxHistory → max ≤ maxMessages → (start.Started ≡ startAnswer history max) × (fresh history max ≡
-      startCache history max)
-  unfolding startAnswer startCache legal
-  start-fits n h m = let k = le-leb 1 history (omega (arith, n)) in let l = le-leb history maxHistory h in let j = le-leb max maxMessages m in (
-    simp
-        (k, l, j),
-    simp (k, l, j),
-  )
+    module _ (h : history ≤ maxHistory) where
+      few : leb history maxHistory ≡ true
+      few = le-leb history maxHistory h
+
+      pub start-many : maxMessages < max → Refuses
+      unfolding startAnswer startCache legal
+      start-many m = let j = lt-leb max maxMessages m in (simp (some, few, j), simp (some, few, j))
+
+      module _ (m : max ≤ maxMessages) where
+        pub start-unknown : knownFlags flags ≡ false → Refuses
+        unfolding startAnswer startCache legal
+        start-unknown u = let j = le-leb max maxMessages m in (simp (some, few, j, u), simp (some, few, j, u))
+
+        pub start-fits : knownFlags flags ≡ true
+            → (start.Started ≡ startAnswer history max flags) × (fresh history max flags ≡ startCache history max flags)
+        unfolding startAnswer startCache legal
+        start-fits u = let j = le-leb max maxMessages m in (simp (some, few, j, u), simp (some, few, j, u))
 
 -- ---- without the oldest
 pub dropped-is : (k p : ℕ) (c : MessageCache) → p ≡ placeOf (ringOf c) k
@@ -72,6 +81,7 @@ pub dropped-is : (k p : ℕ) (c : MessageCache) → p ≡ placeOf (ringOf c) k
           .«topic_count»;
       «topic_start» = c .«topic_start»;
       «topic_len» = c .«topic_len»;
+      flags = c .flags;
     })
     (dropped k c)
 unfolding dropped
@@ -140,6 +150,7 @@ pub appended-is : (m id : List ℕ) (c : MessageCache) (p g n : ℕ) (ids starts
       «topic_count» = set (c .«topic_count») p n;
       «topic_start» = starts;
       «topic_len» = sizes;
+      flags = c .flags;
     })
     (appended m id c)
 unfolding appended noted
@@ -167,6 +178,7 @@ module _ (c : MessageCache) (st m id : List ℕ) where
         «topic_count» = c .«topic_count»;
         «topic_start» = c .«topic_start»;
         «topic_len» = c .«topic_len»;
+        flags = c .flags;
       })
       (entered m id c)) × (st ≡ enteredStore c st m)
   unfolding entered enteredStore passed
@@ -217,6 +229,7 @@ pub shifted-is : (c : MessageCache) (k : ℕ) (w : List ℕ) (r : MessageCache) 
           .«topic_count»;
       «topic_start» = c .«topic_start»;
       «topic_len» = c .«topic_len»;
+      flags = c .flags;
     })
     → r ≡ shifted c
 unfolding shifted aged

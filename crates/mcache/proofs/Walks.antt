@@ -81,20 +81,20 @@ module _ (next : ℕ) (ring : Ring) (l : List ℕ) (i : ℕ) (inv : runsTo next 
   runs-all h = rw (ring-end (λ (p : ℕ). getD l p 0) ring i h) at inv
 
 -- ---- messages
-module _ (ring : Ring) (lens ilens ids : List ℕ) (table : Table) (st : List ℕ) (i : ℕ) (inv : allTrue (drop i (rowsIn (givesAt lens ilens ids table
-    st) ring)) ≡ givesIn ring lens ilens ids table st) where
-  pub gives-more : i < ring .count → givesAt lens ilens ids table st (placeOf ring i) ≡ true → allTrue (drop (i + 1) (rowsIn (givesAt lens ilens ids
-      table st) ring)) ≡ givesIn ring lens ilens ids table st
+module _ (flags : ℕ) (ring : Ring) (lens ilens ids : List ℕ) (table : Table) (st : List ℕ) (i : ℕ) (inv : allTrue (drop i (rowsIn (givesAt flags lens ilens ids table
+    st) ring)) ≡ givesIn flags ring lens ilens ids table st) where
+  pub gives-more : i < ring .count → givesAt flags lens ilens ids table st (placeOf ring i) ≡ true → allTrue (drop (i + 1) (rowsIn (givesAt flags lens ilens ids
+      table st) ring)) ≡ givesIn flags ring lens ilens ids table st
   unfolding allTrue
-  gives-more h e = simp e at (rw (ring-from (givesAt lens ilens ids table st) ring i h) at inv)
+  gives-more h e = simp e at (rw (ring-from (givesAt flags lens ilens ids table st) ring i h) at inv)
 
-  pub gives-not : i < ring .count → givesAt lens ilens ids table st (placeOf ring i) ≡ false → false ≡ givesIn ring lens ilens ids table st
+  pub gives-not : i < ring .count → givesAt flags lens ilens ids table st (placeOf ring i) ≡ false → false ≡ givesIn flags ring lens ilens ids table st
   unfolding allTrue
-  gives-not h e = simp e at (rw (ring-from (givesAt lens ilens ids table st) ring i h) at inv)
+  gives-not h e = simp e at (rw (ring-from (givesAt flags lens ilens ids table st) ring i h) at inv)
 
-  pub gives-all : ring .count ≤ i → true ≡ givesIn ring lens ilens ids table st
+  pub gives-all : ring .count ≤ i → true ≡ givesIn flags ring lens ilens ids table st
   unfolding allTrue
-  gives-all h = rw (ring-end (givesAt lens ilens ids table st) ring i h) at inv
+  gives-all h = rw (ring-end (givesAt flags lens ilens ids table st) ring i h) at inv
 
 -- ---- what leaves when a window is opened
 module _ (history : ℕ) (ring : Ring) (l : List ℕ) (i : ℕ) (inv : i + stale history (drop i (inUse ring l)) ≡ stale history (inUse ring l)) where
@@ -277,16 +277,16 @@ module _ (m : List ℕ) (k n : ℕ) (e : k ≡ length (topicPlaces m)) (f : n �
         rw v (h i)
 
 -- ---- whether a row gives its id
-module _ (lens ilens ids : List ℕ) (table : Table) (st : List ℕ) (p : ℕ) where
-  pub gives-long : messageSize < getD lens p 0 → givesAt lens ilens ids table st p ≡ false
+module _ (flags : ℕ) (lens ilens ids : List ℕ) (table : Table) (st : List ℕ) (p : ℕ) where
+  pub gives-long : messageSize < getD lens p 0 → givesAt flags lens ilens ids table st p ≡ false
   unfolding givesAt
   gives-long h = simp (lt-leb (getD lens p 0) messageSize h)
 
   pub gives-says : (r : Bool) → getD lens p 0 ≤ messageSize
-      → r ≡ keptWith (take ((p * messageSize + getD lens p 0) - p * messageSize) (drop (p * messageSize) st)) (take ((p * messageIdSize + getD ilens p
+      → r ≡ keptWith flags (take ((p * messageSize + getD lens p 0) - p * messageSize) (drop (p * messageSize) st)) (take ((p * messageIdSize + getD ilens p
       0) - p * messageIdSize) (drop (p * messageIdSize) ids))
       (spansIn (rest (table .starts) (p * maxTopics)) (rest (table .sizes) (p * maxTopics)) (getD (table .counts) p 0))
-      → givesAt lens ilens ids table st p ≡ r
+      → givesAt flags lens ilens ids table st p ≡ r
   unfolding givesAt messageIn idAt topicsAt
   gives-says r h e =
       simp (le-leb (getD lens p 0) messageSize h)

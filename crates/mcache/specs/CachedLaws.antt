@@ -261,6 +261,7 @@ grown m id c =
       «topic_count» = t .counts;
       «topic_start» = t .starts;
       «topic_len» = t .sizes;
+      flags = c .flags;
     }
 
 pub entered-some : (m id : List ℕ) (c : MessageCache) → (c .«max_messages» ≡ 0 → ⊥) → entered m id c ≡ grown m id c

@@ -24,6 +24,7 @@ use Rattle.admission.specs.declared.Admission.{Admission}
 use Rattle.admission.specs.declared.Admission.the-variants as admission
 use Rattle.admission.specs.Admission.{admissionOf}
 use Rattle.admission.specs.AdmissionLaws.{unfit-range}
+use Rattle.admission.specs.Flags.{maxFlags, knownFlags}
 use Rattle.mcache.specs.declared.MessageCache.{MessageCache}
 use Rattle.mcache.specs.declared.Started.{Started}
 use Rattle.mcache.specs.declared.PutDone.{PutDone}
@@ -45,29 +46,34 @@ use Rattle.mcache.specs.WellFormedLaws.{fine-well-formed, well-formed-fi
 use Rattle.mcache.specs.Unique.{Starts, Puts, Shifts, Gossips}
 
 -- ---- 40
--- history_len is 0 or above 16, or max_messages is above 64
-abbrev pub Illegal : ℕ → ℕ → Type 0
-Illegal history max = (history ≡ 0) ⊎ (maxHistory < history) ⊎ (maxMessages < max)
+-- history_len is 0 or above 16, max_messages is above 64, or the flags are above the known ones
+abbrev pub Illegal : ℕ → ℕ → ℕ → Type 0
+Illegal history max flags =
+    (history ≡ 0) ⊎ (maxHistory < history) ⊎ (maxMessages < max) ⊎ (maxFlags < flags)
 
-start-exactly : (history max : ℕ) → (startNumber (startAnswer history max) ≡ bad-setting) ↔ Illegal history max
-unfolding startAnswer legal
-start-exactly history max =
+start-exactly : (history max flags : ℕ) → (startNumber (startAnswer history max flags) ≡ bad-setting)
+    ↔ Illegal history max flags
+unfolding startAnswer legal knownFlags
+start-exactly history max flags =
     either (leb 1 history)
     (λ a. either (leb history maxHistory)
     (λ b. either (leb max maxMessages)
-    (λ d. (
-      λ e. clash (let z = simp (a, b, d) at e in omega arith),
+    (λ d. either (leb flags maxFlags)
+    (λ f. (
+      λ e. clash (let z = simp (a, b, d, f) at e in omega arith),
       λ i. absurd (⊎-elim (λ u. let l = leb-true 1 history a in omega arith)
           (⊎-elim (λ u. let l = leb-true history maxHistory b in omega arith)
-          (λ u. let l = leb-true max maxMessages d in omega arith)) i),
+          (⊎-elim (λ u. let l = leb-true max maxMessages d in omega arith)
+          (λ u. let l = leb-true flags maxFlags f in omega arith))) i),
     ))
-    (λ d. (λ e. inr (inr (leb-false max maxMessages d)), λ i. simp (a, b, d))))
+    (λ f. (λ e. inr (inr (inr (leb-false flags maxFlags f))), λ i. simp (a, b, d, f))))
+    (λ d. (λ e. inr (inr (inl (leb-false max maxMessages d))), λ i. simp (a, b, d))))
     (λ b. (λ e. inr (inl (leb-false history maxHistory b)), λ i. simp (a, b))))
     (λ a. (λ e. inl (let l = leb-false 1 history a in omega arith), λ i. simp a))
 
-pub bad-setting-exactly : (history max : ℕ) (r : Started) → Starts history max r
-    → (startNumber (r .answer) ≡ bad-setting) ↔ Illegal history max
-bad-setting-exactly history max r s = rw (s .answer) (start-exactly history max)
+pub bad-setting-exactly : (history max flags : ℕ) (r : Started) → Starts history max flags r
+    → (startNumber (r .answer) ≡ bad-setting) ↔ Illegal history max flags
+bad-setting-exactly history max flags r s = rw (s .answer) (start-exactly history max flags)
 
 -- what a tested state answers of a topic
 abbrev byTopic : List ℕ → Gossip
@@ -172,7 +178,7 @@ module _ (c : MessageCache) where
 
   at-low : (body : List ℕ) (r : MessageAt) → putNumber (answered (planAt c body r)) < bad-setting
   at-low body (at.Count n) = omega arith
-  at-low body (at.At a e) = fit-low (between body a e) (admissionOf (between body a e) true)
+  at-low body (at.At a e) = fit-low (between body a e) (admissionOf (c .flags) (between body a e) true)
 
   body-low : (body : List ℕ) (i : ℕ) (r : Checked) → putNumber (answered (planBody c body i r)) < bad-setting
   body-low body i (checked.Refused why) = omega (arith, wire-range (why .why) .1)

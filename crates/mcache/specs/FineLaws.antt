@@ -117,21 +117,23 @@ true-snoc [] u = refl
 true-snoc (n ∷ l) u = let b = both n (allTrue l) u in rw (b .0) (true-snoc l (b .1))
 
 -- ---- start
-pub fresh-first : (history max : ℕ) → fresh history max ≡ freshAt 0 history max
+pub fresh-first : (history max flags : ℕ) → fresh history max flags ≡ freshAt 0 history max flags
 unfolding fresh freshAt
-fresh-first history max = refl
+fresh-first history max flags = refl
 
-fresh-tests : (next history max : ℕ) (st : List ℕ) → legal history max ≡ true → length st ≡ max * messageSize
-    → Tests (freshAt next history max) st
+fresh-tests : (next history max flags : ℕ) (st : List ℕ) → legal history max flags ≡ true
+    → length st ≡ max * messageSize → Tests (freshAt next history max flags) st
 unfolding freshAt legal inUse idsIn givesIn rowsIn fallsFrom runsTo allUpTo allTrue distinct
-fresh-tests next history max st l r =
-    let a = both (leb 1 history) (leb history maxHistory && leb max maxMessages) l in
-    let b = both (leb history maxHistory) (leb max maxMessages) (a .1) in
+fresh-tests next history max flags st l r =
+    let a = both _ _ l in
+    let b = both _ _ (a .1) in
+    let d = both _ _ (b .1) in
     record {
       room = r;
       history-some = leb-true 1 history (a .0);
       history-few = leb-true history maxHistory (b .0);
-      few = leb-true max maxMessages (b .1);
+      few = leb-true max maxMessages (d .0);
+      known = d .1;
       starts = omega arith;
       within = omega arith;
       falls = refl;
@@ -141,13 +143,14 @@ fresh-tests next history max st l r =
       once = refl;
     }
 
-pub start-at-fine : (next history max : ℕ) (st : List ℕ) → legal history max ≡ true → length st ≡ max * messageSize
-    → lentOf (freshAt next history max) st ≡ lent.Fine
-start-at-fine next history max st l r = tests-fine (freshAt next history max) st (fresh-tests next history max st l r)
+pub start-at-fine : (next history max flags : ℕ) (st : List ℕ) → legal history max flags ≡ true
+    → length st ≡ max * messageSize → lentOf (freshAt next history max flags) st ≡ lent.Fine
+start-at-fine next history max flags st l r =
+    tests-fine (freshAt next history max flags) st (fresh-tests next history max flags st l r)
 
-pub start-fine : (history max : ℕ) (st : List ℕ) → legal history max ≡ true → length st ≡ max * messageSize
-    → lentOf (fresh history max) st ≡ lent.Fine
-start-fine history max st l r = rw (fresh-first history max) (start-at-fine 0 history max st l r)
+pub start-fine : (history max flags : ℕ) (st : List ℕ) → legal history max flags ≡ true → length st ≡ max * messageSize
+    → lentOf (fresh history max flags) st ≡ lent.Fine
+start-fine history max flags st l r = rw (fresh-first history max flags) (start-at-fine 0 history max flags st l r)
 
 -- ---- shift
 shift-falls : (history most more : ℕ) (ms : List Cached) → fallsFrom most (windowsOf ms) ≡ true
@@ -183,13 +186,13 @@ ids-less : (k : ℕ) (ring : Ring) (lens ids : List ℕ) → ring .start ≤ rin
 unfolding idsIn
 ids-less k ring lens ids a b h = ring-drop (idAt messageIdSize lens ids) ring k a b h
 
-gives-less : (k : ℕ) (ring : Ring) (lens ilens ids : List ℕ) (table : Table) (st : List ℕ) → ring .start ≤ ring .cap → ring .count ≤ ring .cap
-    → k ≤ ring .count → givesIn ring lens ilens ids table st ≡ true
-    → givesIn (without k ring) lens ilens ids table st ≡ true
+gives-less : (flags k : ℕ) (ring : Ring) (lens ilens ids : List ℕ) (table : Table) (st : List ℕ) → ring .start ≤ ring .cap → ring .count ≤ ring .cap
+    → k ≤ ring .count → givesIn flags ring lens ilens ids table st ≡ true
+    → givesIn flags (without k ring) lens ilens ids table st ≡ true
 unfolding givesIn
-gives-less k ring lens ilens ids table st a b h g =
-    rw (ring-drop (givesAt lens ilens ids table st) ring k a b h)
-    (true-drop k (rowsIn (givesAt lens ilens ids table st) ring) g)
+gives-less flags k ring lens ilens ids table st a b h g =
+    rw (ring-drop (givesAt flags lens ilens ids table st) ring k a b h)
+    (true-drop k (rowsIn (givesAt flags lens ilens ids table st) ring) g)
 
 shifted-tests : (c : MessageCache) (st : List ℕ) → Tests c st → Sized c → Tests (shifted c) st
 unfolding shifted aged dropped
@@ -201,6 +204,7 @@ shifted-tests c st t z =
       history-some = t .history-some;
       history-few = t .history-few;
       few = t .few;
+      known = t .known;
       starts = place-le (ringOf c) k (t .starts) (omega (arith, t .within));
       within = omega (arith, t .within);
       falls = shifted-windows c st t z;
@@ -208,7 +212,7 @@ shifted-tests c st t z =
           (runs-drop (c .«next_generation») k (inUse (ringOf c) (c .generation)) (t .runs));
       id-short = rw (numbers-less k (ringOf c) (c .«id_len») (t .starts) (t .within) h)
           (upto-drop messageIdSize k (inUse (ringOf c) (c .«id_len»)) (t .id-short));
-      gives = gives-less k (ringOf c) (c .len) (c .«id_len») (c .ids) (tableOf c) st (t .starts) (t .within) h (t .gives);
+      gives = gives-less (c .flags) k (ringOf c) (c .len) (c .«id_len») (c .ids) (tableOf c) st (t .starts) (t .within) h (t .gives);
       once = rw (ids-less k (ringOf c) (c .«id_len») (c .ids) (t .starts) (t .within) h)
           (distinct-drop k (idsIn messageIdSize (ringOf c) (c .«id_len») (c .ids)) (t .once));
     }
@@ -227,11 +231,11 @@ shift-fine c st f z = rw f (tests-fine (shifted c) st (shifted-tests c st (fine-
 pub record Enters (c : MessageCache) (m id : List ℕ) : Type 0 where
   pub small : length m ≤ messageSize
   pub id-small : length id ≤ messageIdSize
-  pub own : givesId m id ≡ true
+  pub own : givesId (c .flags) m id ≡ true
   pub fresh : ltb (indexIn c id) (c .count) ≡ false
 
 of-fit : (c : MessageCache) (p m id : List ℕ) (n : ℕ) (r : Admission) → counted kind.RawMessage p ≡ count.Records n
-    → admissionOf p true ≡ r → planFit c p r ≡ keep m id → Enters c m id
+    → admissionOf (c .flags) p true ≡ r → planFit c p r ≡ keep m id → Enters c m id
 of-fit c p m id n (admission.Unfit why) k e h = clash (cc)
 of-fit c p m id n (admission.Fit x y z w) k e h =
     either (ltb (indexIn c (idBytes p x y z w)) (c .count))
@@ -241,9 +245,9 @@ of-fit c p m id n (admission.Fit x y z w) k e h =
     let a : p ≡ m = cc in
     let b : idBytes p x y z w ≡ id = cc in
     record {
-      small = rw (← a) (fit-limits p true x y z w e .small);
-      id-small = rw (← b) (fit-id p true x y z w e .1);
-      own = rw (← a, ← b) (gives-own p n x y z w k e);
+      small = rw (← a) (fit-limits (c .flags) p true x y z w e .small);
+      id-small = rw (← b) (fit-id (c .flags) p true x y z w e .1);
+      own = rw (← a, ← b) (gives-own (c .flags) p n x y z w k e);
       fresh = rw (← b) t;
     })
 
@@ -252,7 +256,7 @@ of-at : (c : MessageCache) (body m id : List ℕ) (i : ℕ) (r : MessageAt) → 
 of-at c body m id i (at.Count n) a e h = clash (cc)
 of-at c body m id i (at.At x y) a e h =
     let q = message-read body i x y a e in
-    of-fit c (between body x y) m id (q .0) (admissionOf (between body x y) true) (q .1) refl h
+    of-fit c (between body x y) m id (q .0) (admissionOf (c .flags) (between body x y) true) (q .1) refl h
 
 of-body : (c : MessageCache) (body m id : List ℕ) (i : ℕ) (r : Checked) → acceptOf body ≡ r
     → planBody c body i r ≡ keep m id → Enters c m id
@@ -287,16 +291,16 @@ module _ (c : MessageCache) (st m id : List ℕ) (t : Tests c st) (z : Sized c) 
       (idAt messageIdSize (set (c .«id_len») (spot c) (length id)) (sets (c .ids) (spot c * messageIdSize) id)) id
       (kept-id c st m id t z (k .id-small) (k .small) some) (new-id c st m id t z (k .id-small) (k .small) some)
 
-  gives-more : givesIn (oneMore (rest c)) (set (c .len) (spot c) (length m))
+  gives-more : givesIn (c .flags) (oneMore (rest c)) (set (c .len) (spot c) (length m))
       (set (c .«id_len») (spot c) (length id)) (sets (c .ids) (spot c * messageIdSize) id)
       (noted m (spot c) (tableOf c)) (sets st (spot c * messageSize) m) ≡ true
   unfolding givesIn givesAt newest
   gives-more =
-      let old = givesAt (c .len) (c .«id_len») (c .ids) (tableOf c) st in
+      let old = givesAt (c .flags) (c .len) (c .«id_len») (c .ids) (tableOf c) st in
       let l = rowsIn old (ringOf c) ++ (true ∷ []) in
       rw
       (ring-entered c (t .starts) (t .within) some old
-      (givesAt (set (c .len) (spot c) (length m)) (set (c .«id_len») (spot c) (length id))
+      (givesAt (c .flags) (set (c .len) (spot c) (length m)) (set (c .«id_len») (spot c) (length id))
       (sets (c .ids) (spot c * messageIdSize) id) (noted m (spot c) (tableOf c)) (sets st (spot c * messageSize) m)) true
       (λ i h.
       rw (
@@ -311,7 +315,7 @@ module _ (c : MessageCache) (st m id : List ℕ) (t : Tests c st) (z : Sized c) 
         new-id c st m id t z (k .id-small) (k .small) some,
         new-topics c st m id t z (k .id-small) (k .small) some,
         le-leb (length m) messageSize (k .small),
-      ) (kept-own m id (keptPlaces m) (k .own) (kept-all m id (k .own)))))
+      ) (kept-own (c .flags) m id (keptPlaces m) (k .own) (kept-all (c .flags) m id (k .own)))))
       (true-drop (length l - c .«max_messages») l (true-snoc (rowsIn old (ringOf c)) (t .gives)))
 
   grown-tests : Tests (grown m id c) (sets st (spot c * messageSize) m)
@@ -326,6 +330,7 @@ module _ (c : MessageCache) (st m id : List ℕ) (t : Tests c st) (z : Sized c) 
         history-some = t .history-some;
         history-few = t .history-few;
         few = t .few;
+        known = t .known;
         starts = rest-starts c (t .starts) (t .within) some;
         within = omega (arith, left-few c (t .starts) (t .within) some);
         falls = rw (numbers-more (c .window) 0 (z .windows))
@@ -353,6 +358,7 @@ passed-tests c st t e =
       history-some = t .history-some;
       history-few = t .history-few;
       few = t .few;
+      known = t .known;
       starts = t .starts;
       within = t .within;
       falls = t .falls;
@@ -386,7 +392,7 @@ put-fine c st body i f z = put-by c st body i f z (planned c st body i) refl
 
 -- a message that may be taken, put under its id, whatever it came from
 pub under-fine : (c : MessageCache) (st m id : List ℕ) → lentOf c st ≡ lent.Fine → Sized c → length m ≤ messageSize
-    → length id ≤ messageIdSize → givesId m id ≡ true
+    → length id ≤ messageIdSize → givesId (c .flags) m id ≡ true
     → lentOf (keptUnder m id c) (storedUnder c st m id) ≡ lent.Fine
 unfolding keptUnder storedUnder
 under-fine c st m id f z n k g =
@@ -431,9 +437,9 @@ shifted-sized c z =
       topics = z .topics;
     }
 
-pub fresh-sized : (next history max : ℕ) → Sized (freshAt next history max)
+pub fresh-sized : (next history max flags : ℕ) → Sized (freshAt next history max flags)
 unfolding freshAt
-fresh-sized next history max =
+fresh-sized next history max flags =
     record {
       generations = length-replicate {A = ℕ} maxMessages 0;
       windows = length-replicate {A = ℕ} maxMessages 0;
@@ -475,10 +481,10 @@ pub shifted-typed : (c : MessageCache) → Typed c → Typed (shifted c)
 unfolding shifted dropped aged
 shifted-typed c y = record { sized = shifted-sized c (y .sized); next-small = y .next-small; small = y .small }
 
-pub fresh-typed : (next history max : ℕ) → next < 2 ^ 64 → Typed (freshAt next history max)
+pub fresh-typed : (next history max flags : ℕ) → next < 2 ^ 64 → Typed (freshAt next history max flags)
 unfolding freshAt
-fresh-typed next history max h =
-    record { sized = fresh-sized next history max; next-small = h; small = λ p. zeros-below maxMessages (2 ^ 64) p (omega arith) }
+fresh-typed next history max flags h =
+    record { sized = fresh-sized next history max flags; next-small = h; small = λ p. zeros-below maxMessages (2 ^ 64) p (omega arith) }
 
 entered-typed : (m id : List ℕ) (c : MessageCache) → Typed c → Typed (entered m id c)
 entered-typed m id c y =
@@ -508,7 +514,8 @@ shift-typed c st y = typed-shift c y (lentOf c st)
 
 -- ---- every state that the calls reach
 reached-both : {c : MessageCache} {st : List ℕ} → Reached c st → (lentOf c st ≡ lent.Fine) × Typed c
-reached-both (begun next history max st n l r) = (start-at-fine next history max st l r, fresh-typed next history max n)
+reached-both (begun next history max flags st n l r) =
+    (start-at-fine next history max flags st l r, fresh-typed next history max flags n)
 reached-both (given {c} {st} r body i) = let b = reached-both r in
     (put-fine c st body i (b .0) (b .1 .sized), put-typed c st body i (b .1))
 reached-both (opened {c} {st} r) = let b = reached-both r in

@@ -136,12 +136,12 @@ id-length p a e b f h k =
     omega arith
 
 -- of a message that may be taken, where there is room
-pub form-fit : (p : List ℕ) (word : Bool) (a e b f : ℕ) (out : List ℕ) (n : ℕ) (left : List ℕ)
-    → admissionOf p word ≡ admission.Fit a e b f → length (idBytes p a e b f) ≤ length out
+pub form-fit : (flags : ℕ) (p : List ℕ) (word : Bool) (a e b f : ℕ) (out : List ℕ) (n : ℕ) (left : List ℕ)
+    → admissionOf flags p word ≡ admission.Fit a e b f → length (idBytes p a e b f) ≤ length out
     → Forms p a e b f out n left → (n ≡ length (idBytes p a e b f)) × (left ≡ sets out 0 (idBytes p a e b f))
 unfolding formCount formLeft
-form-fit p word a e b f out n left h room k =
-    let w = id-fits p a e b f (fit-parts p word a e b f h) in
+form-fit flags p word a e b f out n left h room k =
+    let w = id-fits p a e b f (fit-parts flags p word a e b f h) in
     let l = id-length p a e b f (w .from .1) (w .seqno .1) in
     let t = forms-when (length p) a e b f (length out) (w .from .0) (w .from .1) (w .seqno .0) (w .seqno .1)
     (omega arith) in

@@ -64,9 +64,9 @@ unfolding shiftCache
 shift-refused c st n = shift-by c (shifted c) (lentOf c st) n
 
 pub shifted-settings : (c : MessageCache) → (shifted c .«history_len» ≡ c .«history_len»)
-    × (shifted c .«max_messages» ≡ c .«max_messages»)
+    × (shifted c .«max_messages» ≡ c .«max_messages») × (shifted c .flags ≡ c .flags)
 unfolding shifted dropped aged
-shifted-settings c = (refl, refl)
+shifted-settings c = (refl, refl, refl)
 
 -- ---- an id is held
 pub held-rows : (c : MessageCache) (id : List ℕ) → among id (idsIn messageIdSize (ringOf c) (c .«id_len») (c .ids))
@@ -83,12 +83,12 @@ held-index c st id = ap (among id) (ids-cached c st) ∙ held-rows c id
 
 -- ---- a message put under its id, whatever it came from
 pub under-settings : (m id : List ℕ) (c : MessageCache) → (keptUnder m id c .«history_len» ≡ c .«history_len»)
-    × (keptUnder m id c .«max_messages» ≡ c .«max_messages»)
+    × (keptUnder m id c .«max_messages» ≡ c .«max_messages») × (keptUnder m id c .flags ≡ c .flags)
 unfolding keptUnder entered passed appended dropped
 under-settings m id c =
     either (ltb (indexIn c id) (c .count))
-    (λ t. rw t (refl, refl))
-    (λ t. either (eqb (c .«max_messages») 0) (λ u. rw (t, u) (refl, refl)) (λ u. rw (t, u) (refl, refl)))
+    (λ t. rw t (refl, refl, refl))
+    (λ t. either (eqb (c .«max_messages») 0) (λ u. rw (t, u) (refl, refl, refl)) (λ u. rw (t, u) (refl, refl, refl)))
 
 pub under-cached : (c : MessageCache) (st m id : List ℕ) → lentOf c st ≡ lent.Fine → Sized c → length id ≤ messageIdSize
     → length m ≤ messageSize
@@ -106,7 +106,7 @@ module _
     (fine : lentOf c st ≡ lent.Fine)
     (ok : acceptOf body ≡ checked.Fine)
     (there : messageAt body i ≡ at.At a e)
-    (fit : admissionOf (between body a e) true ≡ admission.Fit x y z w)
+    (fit : admissionOf (c .flags) (between body a e) true ≡ admission.Fit x y z w)
   where
     abbrev p : List ℕ
     p = between body a e
@@ -129,8 +129,8 @@ module _
         ≡ putIn (c .«max_messages») id p (cachedIn c st)
     unfolding keptUnder storedUnder
     put-cached s =
-        rw plan-under (under-cached c st p id fine s (fit-id p true x y z w fit .1)
-        (fit-limits p true x y z w fit .small))
+        rw plan-under (under-cached c st p id fine s (fit-id (c .flags) p true x y z w fit .1)
+        (fit-limits (c .flags) p true x y z w fit .small))
 
 -- all else changes nothing
 not-stored : (c : MessageCache) (st : List ℕ) (r : Plan) → (answered r ≡ put.Stored → ⊥) → (keptIn c r ≡ c)
@@ -196,15 +196,16 @@ module _ (c : MessageCache) (st id : List ℕ) (fine : lentOf c st ≡ lent.Fine
       rw (fine, held-index c st id) (either (ltb (indexIn c id) (c .count)) (λ t. rw t) (λ t. rw t))
 
 -- ---- the other refusals leave nothing either: no cache, no message, no ids
-start-by : (history max : ℕ) → (startNumber (startAnswer history max) ≡ 0 → ⊥) → startCache history max ≡ fresh 1 0
+start-by : (history max flags : ℕ) → (startNumber (startAnswer history max flags) ≡ 0 → ⊥)
+    → startCache history max flags ≡ fresh 1 0 0
 unfolding startAnswer startCache
-start-by history max n =
-    either (legal history max) (λ t. absurd (n (rw t))) (λ t. rw t)
+start-by history max flags n =
+    either (legal history max flags) (λ t. absurd (n (rw t))) (λ t. rw t)
 
 -- a start that is refused hands out a cache that keeps nothing
-pub start-refused : (history max : ℕ) (r : Started) → Starts history max r → (startNumber (r .answer) ≡ 0 → ⊥)
-    → r .cache ≡ fresh 1 0
-start-refused history max r s n = s .cache ∙ start-by history max (λ z. n (ap startNumber (s .answer) ∙ z))
+pub start-refused : (history max flags : ℕ) (r : Started) → Starts history max flags r
+    → (startNumber (r .answer) ≡ 0 → ⊥) → r .cache ≡ fresh 1 0 0
+start-refused history max flags r s n = s .cache ∙ start-by history max flags (λ z. n (ap startNumber (s .answer) ∙ z))
 
 get-by : (m : List ℕ) (r : Lookup) (l : Lent) → lookupNumber r ≡ 0 → (lookupNumber (lookupOn l r) ≡ 0 → ⊥)
     → whenFine l m [] ≡ []

@@ -58,7 +58,7 @@ module _
     (fine : lentOf c st ≡ lent.Fine)
     (ok : acceptOf body ≡ checked.Fine)
     (there : messageAt body i ≡ at.At a e)
-    (fit : admissionOf (between body a e) true ≡ admission.Fit x y z w)
+    (fit : admissionOf (c .flags) (between body a e) true ≡ admission.Fit x y z w)
   where
     -- a put of a held id answers so and changes nothing, also where the message is another one with that id
     pub held-not-replaced : held (idBytes (between body a e) x y z w) (cachedIn c st) ≡ true
@@ -136,7 +136,7 @@ grown-written c st m id fine z some k =
       free = λ j h e. spot-free c (t .starts) (t .within) some j (omega arith) (stays-row c j ∙ e);
       freed = spot-freed c (t .starts) some;
       stored = refl;
-      topics = new-topics c st m id t z (k .id-small) (k .small) some ∙ kept-all m id (k .own);
+      topics = new-topics c st m id t z (k .id-small) (k .small) some ∙ kept-all (c .flags) m id (k .own);
     }
 
 pub freed-place-used : (c : MessageCache) (st body m id : List ℕ) (i : ℕ) → lentOf c st ≡ lent.Fine → Sized c

@@ -13,6 +13,7 @@ use Rattle.rows.specs.Rows.{tab, placeOf, rowsIn}
 use Rattle.rows.specs.RowsLaws.{length-tab, getD-tab}
 use Rattle.rows.specs.Ids.{distinct}
 use Rattle.rows.specs.Store.{idAt, idsIn, inUse, allUpTo, Sound}
+use Rattle.admission.specs.Flags.{knownFlags}
 use Rattle.admission.specs.Admission.{Span, topicPlaces, givesId, keptWith}
 use Rattle.admission.specs.TopicLaws.{gives-few, length-spans, kept-only}
 use Rattle.mcache.specs.declared.MessageCache.{MessageCache}
@@ -30,12 +31,13 @@ pub record Tests (c : MessageCache) (st : List ℕ) : Type 0 where
   pub history-some : 1 ≤ c .«history_len»
   pub history-few : c .«history_len» ≤ maxHistory
   pub few : c .«max_messages» ≤ maxMessages
+  pub known : knownFlags (c .flags) ≡ true
   pub starts : c .start ≤ c .«max_messages»
   pub within : c .count ≤ c .«max_messages»
   pub falls : fallsFrom (c .«history_len» - 1) (inUse (ringOf c) (c .window)) ≡ true
   pub runs : runsTo (c .«next_generation») (inUse (ringOf c) (c .generation)) ≡ true
   pub id-short : allUpTo messageIdSize (inUse (ringOf c) (c .«id_len»)) ≡ true
-  pub gives : givesIn (ringOf c) (c .len) (c .«id_len») (c .ids) (tableOf c) st ≡ true
+  pub gives : givesIn (c .flags) (ringOf c) (c .len) (c .«id_len») (c .ids) (tableOf c) st ≡ true
   pub once : distinct (idsIn messageIdSize (ringOf c) (c .«id_len») (c .ids)) ≡ true
 
 fine-both : (c : MessageCache) (st : List ℕ) → lentOf c st ≡ lent.Fine → (length st ≡ c .«max_messages» * messageSize)
@@ -54,6 +56,7 @@ fine-tests c st h =
     let a = both _ _ (f .1) in
     let l = both _ _ (a .0) in
     let m = both _ _ (l .1) in
+    let k = both _ _ (m .1) in
     let b = both _ _ (a .1) in
     let d = both _ _ (b .1) in
     let w = both _ _ (d .1) in
@@ -64,7 +67,8 @@ fine-tests c st h =
       room = f .0;
       history-some = leb-true 1 (c .«history_len») (l .0);
       history-few = leb-true (c .«history_len») maxHistory (m .0);
-      few = leb-true (c .«max_messages») maxMessages (m .1);
+      few = leb-true (c .«max_messages») maxMessages (k .0);
+      known = k .1;
       starts = leb-true (c .start) (c .«max_messages») (b .0);
       within = leb-true (c .count) (c .«max_messages») (d .0);
       falls = w .0;
@@ -83,6 +87,7 @@ tests-fine c st t =
       le-leb 1 (c .«history_len») (t .history-some),
       le-leb (c .«history_len») maxHistory (t .history-few),
       le-leb (c .«max_messages») maxMessages (t .few),
+      t .known,
       le-leb (c .start) (c .«max_messages») (t .starts),
       le-leb (c .count) (c .«max_messages») (t .within),
       t .falls,
@@ -125,18 +130,18 @@ module _ (c : MessageCache) (st : List ℕ) (t : Tests c st) (i : ℕ) (h : i < 
   p = placeOf (ringOf c) i
 
   gives-row : (leb (getD (c .len) p 0) messageSize ≡ true)
-      × (keptWith (messageIn (c .len) st p) (idAt messageIdSize (c .«id_len») (c .ids) p) (topicsAt (tableOf c) p) ≡ true)
+      × (keptWith (c .flags) (messageIn (c .len) st p) (idAt messageIdSize (c .«id_len») (c .ids) p) (topicsAt (tableOf c) p) ≡ true)
   unfolding givesIn givesAt
-  gives-row = both _ _ (true-in (givesAt (c .len) (c .«id_len») (c .ids) (tableOf c) st) (ringOf c) (t .gives) i h)
+  gives-row = both _ _ (true-in (givesAt (c .flags) (c .len) (c .«id_len») (c .ids) (tableOf c) st) (ringOf c) (t .gives) i h)
 
   pub row-short : getD (c .len) p 0 ≤ messageSize
   row-short = leb-true (getD (c .len) p 0) messageSize (gives-row .0)
 
-  pub row-gives : givesId (messageIn (c .len) st p) (idAt messageIdSize (c .«id_len») (c .ids) p) ≡ true
-  row-gives = kept-only (messageIn (c .len) st p) _ _ (gives-row .1) .0
+  pub row-gives : givesId (c .flags) (messageIn (c .len) st p) (idAt messageIdSize (c .«id_len») (c .ids) p) ≡ true
+  row-gives = kept-only (c .flags) (messageIn (c .len) st p) _ _ (gives-row .1) .0
 
   pub row-topics : topicsAt (tableOf c) p ≡ topicPlaces (messageIn (c .len) st p)
-  row-topics = kept-only (messageIn (c .len) st p) _ _ (gives-row .1) .1
+  row-topics = kept-only (c .flags) (messageIn (c .len) st p) _ _ (gives-row .1) .1
 
   pub row-few : getD (c .«topic_count») p 0 ≤ maxTopics
   unfolding topicsAt
@@ -144,7 +149,7 @@ module _ (c : MessageCache) (st : List ℕ) (t : Tests c st) (i : ℕ) (h : i < 
       let n = length-spans (drop (p * maxTopics) (c .«topic_start»)) (drop (p * maxTopics) (c .«topic_len»))
       (getD (c .«topic_count») p 0) in
       let e = ap (λ (l : List Span). length l) row-topics in
-      omega (arith, gives-few (messageIn (c .len) st p) (idAt messageIdSize (c .«id_len») (c .ids) p) row-gives)
+      omega (arith, gives-few (c .flags) (messageIn (c .len) st p) (idAt messageIdSize (c .«id_len») (c .ids) p) row-gives)
 
   pub row-id-short : getD (c .«id_len») p 0 ≤ messageIdSize
   row-id-short = short-in messageIdSize (c .«id_len») (ringOf c) (t .id-short) i h

@@ -21,9 +21,9 @@ unfolding keptPlaces
 kept-few m = rw (length-take maxTopics (topicPlaces m)) (omega arith)
 
 -- all, of a message that may be taken
-pub kept-all : (m id : List ℕ) → givesId m id ≡ true → keptPlaces m ≡ topicPlaces m
+pub kept-all : (flags : ℕ) (m id : List ℕ) → givesId flags m id ≡ true → keptPlaces m ≡ topicPlaces m
 unfolding keptPlaces
-kept-all m id g = take-all maxTopics (topicPlaces m) (gives-few m id g)
+kept-all flags m id g = take-all maxTopics (topicPlaces m) (gives-few flags m id g)
 
 -- ---- a row written
 -- a part of four, where another is written

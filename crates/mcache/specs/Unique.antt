@@ -67,8 +67,9 @@ same-told r s a b d =
     ap₂ (λ (x : Gossip) (k : ℕ). record { answer = x; count = k; rows = r .rows }) a b
     ∙ ap (λ (l : List ℕ). record { answer = s .answer; count = s .count; rows = l }) d
 
-pub one-start : (history max : ℕ) (r s : Started) → Starts history max r → Starts history max s → r ≡ s
-one-start history max r s a b =
+pub one-start : (history max flags : ℕ) (r s : Started) → Starts history max flags r → Starts history max flags s
+    → r ≡ s
+one-start history max flags r s a b =
     ap₂ (λ (x : Start) (d : MessageCache). record { answer = x; cache = d }) (a .answer ∙ sym (b .answer))
     (a .cache ∙ sym (b .cache))
 

@@ -8,12 +8,13 @@ use native.Mathlib.Omega.{arith}
 use native.Mathlib.Nat.{zero-lt-suc, sub-zero}
 use lib.ListN.{length, getD}
 use lib.Dec.{leb, eqb}
-use borrow.Author.Tests.{le-leb, eqb-true, eq-eqb}
+use borrow.Author.Tests.{leb-true, le-leb, eqb-true, eq-eqb}
 use Rattle.basis.specs.Cases.{both}
 use Rattle.rows.specs.declared.Ring.{Ring}
 use Rattle.rows.specs.Rows.{tab, placeOf, rowsIn}
 use Rattle.rows.specs.RowsLaws.{length-tab, getD-tab}
 use Rattle.rows.specs.Store.{inUse}
+use Rattle.admission.specs.Flags.{maxFlags, knownFlags}
 use Rattle.admission.specs.Admission.{topicsOf, topicPlaces, cut, givesId}
 use Rattle.admission.specs.AdmissionLaws.{Gives, gives-own, gives-only}
 use Rattle.admission.specs.TopicLaws.{cut-topics, kept-own}
@@ -116,19 +117,28 @@ module _ (l : List ℕ) (ring : Ring) where
       (λ i h. let k : suc i ≡ ring .count = h ∙ length-tab at (ring .count) in
       rw (getD-tab at (ring .count) i 0 (omega arith)) (a i k))
 
-gives-back : (p i : List ℕ) → Gives p i → givesId p i ≡ true
-gives-back p i g =
-    rw (g .named) (gives-own p (g .records) (g .from-start) (g .from-end) (g .seqno-start) (g .seqno-end) (g .read)
+-- known flags
+known-few : (flags : ℕ) → knownFlags flags ≡ true → flags ≤ maxFlags
+unfolding knownFlags
+known-few flags h = leb-true flags maxFlags h
+
+few-known : (flags : ℕ) → flags ≤ maxFlags → knownFlags flags ≡ true
+unfolding knownFlags
+few-known flags h = le-leb flags maxFlags h
+
+gives-back : (flags : ℕ) (p i : List ℕ) → Gives flags p i → givesId flags p i ≡ true
+gives-back flags p i g =
+    rw (g .named) (gives-own flags p (g .records) (g .from-start) (g .from-end) (g .seqno-start) (g .seqno-end) (g .read)
     (g .taken))
 
 rows-give : (c : MessageCache) (st : List ℕ) → WellFormed c st
-    → givesIn (ringOf c) (c .len) (c .«id_len») (c .ids) (tableOf c) st ≡ true
+    → givesIn (c .flags) (ringOf c) (c .len) (c .«id_len») (c .ids) (tableOf c) st ≡ true
 unfolding givesIn givesAt
 rows-give c st w =
-    in-true (givesAt (c .len) (c .«id_len») (c .ids) (tableOf c) st) (ringOf c)
+    in-true (givesAt (c .flags) (c .len) (c .«id_len») (c .ids) (tableOf c) st) (ringOf c)
     (λ i h. rw (le-leb (getD (c .len) (rowOf c i) 0) messageSize (w .short i h))
-    (kept-own (messageIn (c .len) st (rowOf c i)) (idOf c i) (topicsAt (tableOf c) (rowOf c i))
-    (gives-back (messageIn (c .len) st (rowOf c i)) (idOf c i) (w .gives i h)) (w .topics i h)))
+    (kept-own (c .flags) (messageIn (c .len) st (rowOf c i)) (idOf c i) (topicsAt (tableOf c) (rowOf c i))
+    (gives-back (c .flags) (messageIn (c .len) st (rowOf c i)) (idOf c i) (w .gives i h)) (w .topics i h)))
 
 -- ---- well formed, exactly
 pub fine-well-formed : (c : MessageCache) (st : List ℕ) → Typed c → lentOf c st ≡ lent.Fine → WellFormed c st
@@ -139,6 +149,7 @@ fine-well-formed c st y f =
       history-some = t .history-some;
       history-few = t .history-few;
       few = t .few;
+      known = known-few (c .flags) (t .known);
       starts = t .starts;
       within = t .within;
       short = row-short c st t;
@@ -155,7 +166,7 @@ fine-well-formed c st y f =
           omega arith;
       last = λ i h. let a = runs-rows (c .generation) (ringOf c) (c .«next_generation») (t .runs) i (omega arith) in
           omega arith;
-      gives = λ i h. gives-only (messageIn (c .len) st (rowOf c i)) (idOf c i) (row-gives c st t i h);
+      gives = λ i h. gives-only (c .flags) (messageIn (c .len) st (rowOf c i)) (idOf c i) (row-gives c st t i h);
       topics = row-topics c st t;
     }
 
@@ -167,6 +178,7 @@ well-formed-fine c st w =
       history-some = w .history-some;
       history-few = w .history-few;
       few = w .few;
+      known = few-known (c .flags) (w .known);
       starts = w .starts;
       within = w .within;
       falls = rows-falls (c .window) (ringOf c) (c .«history_len» - 1) (λ i h. omega (arith, w .recent i h)) (w .falls);

@@ -21,6 +21,7 @@ use Rattle.schema.specs.Accept.{acceptOf}
 use Rattle.ids.specs.Ids.{messageAt}
 use Rattle.admission.specs.declared.Admission.{Admission}
 use Rattle.admission.specs.declared.Admission.the-variants as admission
+use Rattle.admission.specs.Flags.{knownFlags}
 use Rattle.admission.specs.Admission.{admissionOf}
 use Rattle.mcache.specs.declared.MessageCache.{MessageCache}
 use Rattle.mcache.specs.declared.Lent.{Lent}
@@ -50,6 +51,7 @@ moved k c =
       «topic_count» = c .«topic_count»;
       «topic_start» = c .«topic_start»;
       «topic_len» = c .«topic_len»;
+      flags = c .flags;
     }
 
 -- ---- the test
@@ -105,8 +107,9 @@ fit-moved k c p (admission.Unfit why) = refl
 fit-moved k c p (admission.Fit x y z w) = refl
 
 at-moved : (k : ℕ) (c : MessageCache) (body : List ℕ) (r : MessageAt) → planAt (moved k c) body r ≡ planAt c body r
+unfolding moved
 at-moved k c body (at.Count n) = refl
-at-moved k c body (at.At a e) = fit-moved k c (between body a e) (admissionOf (between body a e) true)
+at-moved k c body (at.At a e) = fit-moved k c (between body a e) (admissionOf (c .flags) (between body a e) true)
 
 body-moved : (k : ℕ) (c : MessageCache) (body : List ℕ) (i : ℕ) (r : Checked)
     → planBody (moved k c) body i r ≡ planBody c body i r
@@ -170,12 +173,14 @@ module _ (k : ℕ) (c : MessageCache) (st : List ℕ) (y : Typed c) where
   well-formed-moved : wellFormed (moved k c) st ≡ wellFormed c st
   unfolding wellFormed legal moved
   well-formed-moved =
-      and-same (leb 1 (c .«history_len») && (leb (c .«history_len») maxHistory && leb (c .«max_messages») maxMessages))
+      and-same
+      (leb 1 (c .«history_len»)
+      && (leb (c .«history_len») maxHistory && (leb (c .«max_messages») maxMessages && knownFlags (c .flags))))
       _ _
       (λ l.
-      let few = leb-true (c .«max_messages») maxMessages
-      (both (leb (c .«history_len») maxHistory) (leb (c .«max_messages») maxMessages)
-      (both (leb 1 (c .«history_len»)) _ l .1) .1) in
+      let a = both (leb 1 (c .«history_len»)) _ l in
+      let b = both (leb (c .«history_len») maxHistory) _ (a .1) in
+      let few = leb-true (c .«max_messages») maxMessages (both (leb (c .«max_messages») maxMessages) (knownFlags (c .flags)) (b .1) .0) in
       and-same (leb (c .start) (c .«max_messages»)) _ _
       (λ a. and-same (leb (c .count) (c .«max_messages»)) _ _
       (λ b. rows-moved k c st y few (leb-true (c .start) (c .«max_messages») a)

@@ -17,12 +17,12 @@ use Rattle.admission.proofs.kept_with.Reads as kept-with-reads
 use Rattle.rows.proofs.place.Reads as place-reads
 
 abbrev Inv-loop : tie.InvT-loop
-Inv-loop lens id-lens ids counts starts sizes store ring i₀ i =
+Inv-loop lens id-lens ids counts starts sizes store ring flags i₀ i =
     let t = table counts starts sizes in
-    (i ≤ ring .count) × (allTrue (drop i (rowsIn (givesAt lens id-lens ids t store) ring)) ≡ givesIn ring lens id-lens ids t store)
+    (i ≤ ring .count) × (allTrue (drop i (rowsIn (givesAt flags lens id-lens ids t store) ring)) ≡ givesIn flags ring lens id-lens ids t store)
 
 abbrev μ-loop : tie.MeasureT-loop
-μ-loop lens id-lens ids counts starts sizes store ring i₀ i = ring .count - i
+μ-loop lens id-lens ids counts starts sizes store ring flags i₀ i = ring .count - i
 
 loop-holds : tie.Need-loop-holds Inv-loop μ-loop
 unfolding givesIn
@@ -56,7 +56,7 @@ cast-n : tie.Need-cast-n Inv-loop μ-loop
 cast-n c = omega (arith, (c .shared-slice-known8 .given) (c .before .place .result))
 
 returns : tie.Need-returns Inv-loop μ-loop
-returns c = gives-not (c .before .before .before .before .before .before .before .before .before .before .before .before .before .args .ring) (now (c
+returns c = gives-not _ (c .before .before .before .before .before .before .before .before .before .before .before .before .before .args .ring) (now (c
     .before .before .before .before .before .before .before .before .before .before .before .before .before .args .lens)) (now (c .before .before
     .before .before .before .before .before .before .before .before .before .before .before .args .id-lens)) (now (c .before .before .before .before
     .before .before .before .before .before .before .before .before .before .args .ids)) (table (now (c .before .before .before .before .before
@@ -65,14 +65,14 @@ returns c = gives-not (c .before .before .before .before .before .before .before
     .before .before .before .before .args .sizes))) (now (c .before .before .before .before .before .before .before .before .before .before .before
     .before .before .args .store)) (c .before .before .before .before .before .loop .i) (c .before .before .before .before .before .loop .inv .1) (c
     .before .before .before .if1 .taken)
-    (subst (λ (p : ℕ). givesAt (now (c .before .before .before .before .before .before .before .before .before .before .before .before .before .args
+    (subst (λ (p : ℕ). givesAt (c .before .before .before .before .before .before .before .before .before .before .before .before .before .args .flags) (now (c .before .before .before .before .before .before .before .before .before .before .before .before .before .args
     .lens)) (now (c .before .before .before .before .before .before .before .before .before .before .before .before .before .args .id-lens)) (now
     (c .before .before .before .before .before .before .before .before .before .before .before .before .before .args .ids)) (table (now (c .before
     .before .before .before .before .before .before .before .before .before .before .before .before .args .counts)) (now (c .before .before
     .before .before .before .before .before .before .before .before .before .before .before .args .starts)) (now (c .before .before .before
     .before .before .before .before .before .before .before .before .before .before .args .sizes))) (now (c .before .before .before .before
     .before .before .before .before .before .before .before .before .before .args .store)) p ≡ false) (c .before .before .place .ensures)
-    (gives-long (now (c .before .before .before .before .before .before .before .before .before .before .before .before .before .args .lens)) (now
+    (gives-long (c .before .before .before .before .before .before .before .before .before .before .before .before .before .args .flags) (now (c .before .before .before .before .before .before .before .before .before .before .before .before .before .args .lens)) (now
     (c .before .before .before .before .before .before .before .before .before .before .before .before .before .args .id-lens)) (now (c .before
     .before .before .before .before .before .before .before .before .before .before .before .before .args .ids)) (table (now (c .before .before
     .before .before .before .before .before .before .before .before .before .before .before .args .counts)) (now (c .before .before .before
@@ -347,7 +347,7 @@ loop-less c = search needs
 loop-again : tie.Need-loop-again Inv-loop μ-loop
 loop-again c = (
   omega arith,
-  gives-more (c .before .before .before .before .before .before .before .before .before .before .before .before .before .before .before .before
+  gives-more _ (c .before .before .before .before .before .before .before .before .before .before .before .before .before .before .before .before
       .before .before .before .before .before .args .ring) (now (c .before .before .before .before .before .before .before .before .before .before
       .before .before .before .before .before .before .before .before .before .before .before .args .lens)) (now (c .before .before .before .before
       .before .before .before .before .before .before .before .before .before .before .before .before .before .before .before .before .before .args
@@ -361,7 +361,8 @@ loop-again c = (
       .before .before .before .before .before .before .before .before .before .before .before .loop .i) (c .before .before .before .before .before
       .before .before .before .before .before .before .before .before .loop .inv .1) (c .before .before .before .before .before .before .before
       .before .before .before .before .if1 .taken)
-      (subst (λ (p : ℕ). givesAt (now (c .before .before .before .before .before .before .before .before .before .before .before .before .before
+      (subst (λ (p : ℕ). givesAt (c .before .before .before .before .before .before .before .before .before .before .before .before .before
+      .before .before .before .before .before .before .before .before .args .flags) (now (c .before .before .before .before .before .before .before .before .before .before .before .before .before
       .before .before .before .before .before .before .before .before .args .lens)) (now (c .before .before .before .before .before .before
       .before .before .before .before .before .before .before .before .before .before .before .before .before .before .before .args .id-lens))
       (now (c .before .before .before .before .before .before .before .before .before .before .before .before .before .before .before .before
@@ -371,7 +372,9 @@ loop-again c = (
       .before .before .args .starts)) (now (c .before .before .before .before .before .before .before .before .before .before .before .before
       .before .before .before .before .before .before .before .before .before .args .sizes))) (now (c .before .before .before .before .before
       .before .before .before .before .before .before .before .before .before .before .before .before .before .before .before .before .args
-      .store)) p ≡ true) (c .before .before .before .before .before .before .before .before .before .before .place .ensures) (gives-says (now (c
+      .store)) p ≡ true) (c .before .before .before .before .before .before .before .before .before .before .place .ensures) (gives-says (c
+      .before .before .before .before .before .before .before .before .before .before .before .before .before .before .before .before .before
+      .before .before .before .before .args .flags) (now (c
       .before .before .before .before .before .before .before .before .before .before .before .before .before .before .before .before .before
       .before .before .before .before .args .lens)) (now (c .before .before .before .before .before .before .before .before .before .before
       .before .before .before .before .before .before .before .before .before .before .before .args .id-lens)) (now (c .before .before .before
@@ -387,7 +390,7 @@ loop-again c = (
 )
 
 returns-2 : tie.Need-returns-2 Inv-loop μ-loop
-returns-2 c = gives-not (c .before .before .before .before .before .before .before .before .before .before .before .before .before .before .before
+returns-2 c = gives-not _ (c .before .before .before .before .before .before .before .before .before .before .before .before .before .before .before
     .before .before .before .before .before .before .args .ring) (now (c .before .before .before .before .before .before .before .before .before
     .before .before .before .before .before .before .before .before .before .before .before .before .args .lens)) (now (c .before .before .before
     .before .before .before .before .before .before .before .before .before .before .before .before .before .before .before .before .before .before
@@ -401,7 +404,8 @@ returns-2 c = gives-not (c .before .before .before .before .before .before .befo
     .before .before .before .before .before .before .before .before .before .before .loop .i) (c .before .before .before .before .before .before
     .before .before .before .before .before .before .before .loop .inv .1) (c .before .before .before .before .before .before .before .before .before
     .before .before .if1 .taken)
-    (subst (λ (p : ℕ). givesAt (now (c .before .before .before .before .before .before .before .before .before .before .before .before .before .before
+    (subst (λ (p : ℕ). givesAt (c .before .before .before .before .before .before .before .before .before .before .before .before .before .before
+    .before .before .before .before .before .before .before .args .flags) (now (c .before .before .before .before .before .before .before .before .before .before .before .before .before .before
     .before .before .before .before .before .before .before .args .lens)) (now (c .before .before .before .before .before .before .before .before
     .before .before .before .before .before .before .before .before .before .before .before .before .before .args .id-lens)) (now (c .before
     .before .before .before .before .before .before .before .before .before .before .before .before .before .before .before .before .before
@@ -411,7 +415,8 @@ returns-2 c = gives-not (c .before .before .before .before .before .before .befo
     .starts)) (now (c .before .before .before .before .before .before .before .before .before .before .before .before .before .before .before
     .before .before .before .before .before .before .args .sizes))) (now (c .before .before .before .before .before .before .before .before
     .before .before .before .before .before .before .before .before .before .before .before .before .before .args .store)) p ≡ false) (c .before
-    .before .before .before .before .before .before .before .before .before .place .ensures) (gives-says (now (c .before .before .before .before
+    .before .before .before .before .before .before .before .before .before .place .ensures) (gives-says (c .before .before .before .before
+    .before .before .before .before .before .before .before .before .before .before .before .before .before .before .before .before .before .args .flags) (now (c .before .before .before .before
     .before .before .before .before .before .before .before .before .before .before .before .before .before .before .before .before .before .args
     .lens)) (now (c .before .before .before .before .before .before .before .before .before .before .before .before .before .before .before
     .before .before .before .before .before .before .args .id-lens)) (now (c .before .before .before .before .before .before .before .before
@@ -426,7 +431,7 @@ returns-2 c = gives-not (c .before .before .before .before .before .before .befo
     .before .kept-with .ensures) ∙ (c .if3 .left)))
 
 returns-3 : tie.Need-returns-3 Inv-loop μ-loop
-returns-3 c = gives-all (c .before .before .before .before .before .before .before .before .before .before .args .ring) (now (c .before .before
+returns-3 c = gives-all _ (c .before .before .before .before .before .before .before .before .before .before .args .ring) (now (c .before .before
     .before .before .before .before .before .before .before .before .args .lens)) (now (c .before .before .before .before .before .before .before
     .before .before .before .args .id-lens)) (now (c .before .before .before .before .before .before .before .before .before .before .args .ids))
     (table (now (c .before .before .before .before .before .before .before .before .before .before .args .counts)) (now (c .before .before .before

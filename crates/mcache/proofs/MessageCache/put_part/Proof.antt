@@ -23,10 +23,10 @@ form-id-requires : tie.Need-form-id-requires
 form-id-requires c κs = search needs
 
 array-share-prefix-id : tie.Need-array-share-prefix-id
-array-share-prefix-id c = id-fits-in (now (c .before .before .before .before .before .before .before .before .before .before .args .part)) _ _ _ _ (sym (c .before .before .before .before .before .before .before .admit .ensures) ∙ (c .before .before .before .before .before .a2 .given .1)) (c .before .before .form-id .result) _ _ refl (c .before .before .form-id .ensures)
+array-share-prefix-id c = id-fits-in _ (now (c .before .before .before .before .before .before .before .before .before .before .args .part)) _ _ _ _ (sym (c .before .before .before .before .before .before .before .admit .ensures) ∙ (c .before .before .before .before .before .a2 .given .1)) (c .before .before .form-id .result) _ _ refl (c .before .before .form-id .ensures)
 
 slice-aggregate-keep : tie.Need-slice-aggregate-keep
-slice-aggregate-keep c = id-counts (now (c .before .before .before .before .before .before .before .before .before .before .before .args .part)) _ _ _ _
+slice-aggregate-keep c = id-counts _ (now (c .before .before .before .before .before .before .before .before .before .before .before .args .part)) _ _ _ _
     (sym (c .before .before .before .before .before .before .before .before .admit .ensures)
     ∙ (c .before .before .before .before .before .before .a2 .given .1)) (c .before .before .before .form-id .result) _ _ refl
     (c .before .before .before .form-id .ensures)
@@ -41,7 +41,7 @@ same-length : tie.Need-same-length
 same-length c = search needs
 
 returns-2 : tie.Need-returns-2
-returns-2 c = put-under (now (c .before .before .before .before .before .before .before .before .before .before .before .before .before .before .args .part)) _
+returns-2 c = put-under _ (now (c .before .before .before .before .before .before .before .before .before .before .before .before .before .before .args .part)) _
     _ _ _ (sym (c .before .before .before .before .before .before .before .before .before .before .before .admit .ensures)
     ∙ (c .before .before .before .before .before .before .before .before .before .a2 .given .1))
     (c .before .before .before .before .before .before .form-id .result) _ _ refl (c .before .before .before .before .before .before .form-id .ensures)
