@@ -51,7 +51,7 @@ fn arriving(mut cache: MessageCache, next: u64) -> MessageCache {
     cache
 }
 
-// Kinds 6 and 16: content of so many bytes that begins with the settings, and some flags.
+// Content of so many bytes that begins with the settings, and some flags.
 fn begin(
     n: u64,
     size: usize,
@@ -80,6 +80,14 @@ fn begin(
             cache: arriving(s.cache, next),
         },
     }
+}
+
+// Kind 16: as kind 6, and then the flags.
+fn begin_flagged(n: u64, content: &[u8], part: CachePart, out: &mut [u8]) -> CachePart
+    requires { ⌜ 256 ≤ length (now out) ⌝ }
+{
+    let flags = basis::little_at(content, 12, 2) as usize;
+    begin(n, 14, flags, content, part, out)
 }
 
 // Kind 7.
@@ -250,8 +258,7 @@ pub(crate) fn cache_turn(
         return begin(n, 12, 0, content, part, out);
     }
     if kind == 16 {
-        let flags = basis::little_at(content, 12, 2) as usize;
-        return begin(n, 14, flags, content, part, out);
+        return begin_flagged(n, content, part, out);
     }
     if part.started {
         let cache = part.cache;
