@@ -548,6 +548,9 @@ def odd_keyed(play):
             yield other_message(play.run, place, plain(X))
 
 
+BARE_SENDERS = (KEYLESS[0], KEYLESS[1], HASHED)  # without a key beside them, only unsigned messages have these
+
+
 def odd_mixed(play):
     """Messages in their other form, under the same id; senders that only unsigned messages may have; marks and ids of every sort among those seen."""
     run, ids, held = play.run, play.ids(), play.messages()
@@ -556,7 +559,7 @@ def odd_mixed(play):
             yield other_message(run, place, body[2:])
         for raw in OTHER_TYPES:
             yield other_message(run, place, raw.replace(NAME[:-1] + b"\x1a\x01\x01", NAME[:-1] + b"\x1a\x01" + bytes([n])))
-        for who in (KEYLESS[0], KEYLESS[1], HASHED):
+        for who in BARE_SENDERS:
             yield other_message(run, place, plain(x_with(from_=[who], seqno=[bytes([n])], signature=[]))) + other_id(run, place, who + bytes([n]))
     for place in ids:
         for mark in (0, 1, 2, 255):

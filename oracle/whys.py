@@ -212,7 +212,7 @@ def gateway_histories():
     """Saved nodes: taken, cut, longer, hurt. One that is refused leaves the node that was there."""
     held = [named_message(n, b"t", b"u") for n in (1, 9)]
     start = [("set", 50, 4, 2, 4), admit(5, held[0]), beat(6), admit(7, held[1])]
-    names = [id_of(n) for n in range(10)] + [HASHED + b"\x01"]
+    names = [id_of(n) for n in range(10)] + [HASHED + b"\x01"] + [who + bytes([n]) for who in state_histories.BARE_SENDERS for n in (2, 3, 4)]
     few = asked(names, [b"t"], (0, 1))
     looks = few + asked(names, [b"t", b"u", b"topic", b""], (4,))
     bare = [caches.loose(body) for body in held]
