@@ -1,6 +1,6 @@
 -- The answers, case by case as the code comes to them.
 use Prim.Native.Nat.{ℕ, suc, _+_, _-_, _*_, _/_, _%_, _≤_, _<_}
-use mathlib.Core.Path.{_≡_, refl, sym, ap, _∙_}
+use mathlib.Core.Path.{_≡_, refl, sym, ap, ap₂, _∙_}
 use mathlib.Core.List.{List, [], _∷_, _++_, append-nil}
 use mathlib.Core.Bool.{Bool, true, false, cond}
 use native.Mathlib.Omega.{arith}
@@ -34,11 +34,12 @@ use Rattle.protobuf.specs.declared.Checked.the-variants as checked
 use Rattle.protobuf.specs.Walk.{between}
 use Rattle.ids.specs.declared.MessageAt.the-variants as found
 use Rattle.schema.specs.Accept.{acceptOf}
-use Rattle.ids.specs.Ids.{messageAt, idBytes}
+use Rattle.ids.specs.Ids.{messageAt, idBytes, mark}
 use Rattle.admission.specs.declared.Unfit.{Unfit}
 use Rattle.admission.specs.declared.Admission.the-variants as admission
-use Rattle.admission.specs.Admission.{admissionOf}
-use Rattle.admission.specs.AdmissionLaws.{fit-limits, fit-id}
+use Rattle.admission.specs.Flags.{knownFlags, allowsUnsigned}
+use Rattle.admission.specs.Admission.{admissionOf, isSigned}
+use Rattle.admission.specs.AdmissionLaws.{fit-limits, fit-id, fit-signed}
 use Rattle.node.specs.declared.Node.{Node}
 use Rattle.node.specs.declared.Started.{Started}
 use Rattle.node.specs.declared.Start.the-variants as start
@@ -54,50 +55,50 @@ use Rattle.node.specs.declared.Advertise.{Advertise}
 use Rattle.node.specs.declared.Advertise.the-variants as advertise
 use Rattle.node.specs.declared.Explain.{Explain}
 use Rattle.node.specs.declared.Explain.the-variants as explain
-use Rattle.node.specs.Gateway.{marked}
+use Rattle.node.specs.Gateway.{formOf}
 use Rattle.node.specs.Unique.{Starts, Admits, Beats, Advertises, Explains}
 use Rattle.node.specs.Calls.{startAnswer, startNode, rightSizes, lentOf, laterNode, Plan, no, taken, planFit, planned, swept, heldAt, admitAnswer, admitNode, admitSeen, admitCache, beatAnswer, beatNode, advertiseBytes, advertised, advertiseAnswer, advertiseLeft, explainAnswer}
 use Rattle.node.specs.StateLaws.{room-cap, room-whole, fine-tests, lent-ready}
 
 -- ---- start
-pub fresh-is : (ttl m h x : ℕ) (s : SeenCache) (c : MessageCache) → s ≡ noIds → c ≡ noMessages h x
-    → _≡_ {A = Node} (record { ttl = ttl; «max_seen» = m; clock = 0; seen = s; cache = c }) (freshNode ttl m h x)
+pub fresh-is : (ttl m h x f : ℕ) (s : SeenCache) (c : MessageCache) → s ≡ noIds → c ≡ noMessages h x f
+    → _≡_ {A = Node} (record { ttl = ttl; «max_seen» = m; clock = 0; seen = s; cache = c }) (freshNode ttl m h x f)
 unfolding freshNode
-fresh-is ttl m h x s c e f = rw (e, f)
+fresh-is ttl m h x f s c e g = rw (e, g)
 
-pub default-cache : startCache 1 0 ≡ noMessages 1 0
-unfolding startCache legal
+pub default-cache : startCache 1 0 0 ≡ noMessages 1 0 0
+unfolding startCache legal knownFlags
 default-cache = refl
 
-module _ (ttl m h x : ℕ) where
-  cache-illegal : cacheStart.BadSetting ≡ cacheStartAnswer h x → legal h x ≡ false
+module _ (ttl m h x flags : ℕ) where
+  cache-illegal : cacheStart.BadSetting ≡ cacheStartAnswer h x flags → legal h x flags ≡ false
   unfolding cacheStartAnswer
-  cache-illegal e = either (legal h x) (λ t. clash (let z = simp t at e in cc)) (λ t. t)
+  cache-illegal e = either (legal h x flags) (λ t. clash (let z = simp t at e in cc)) (λ t. t)
 
-  cache-legal : cacheStart.Started ≡ cacheStartAnswer h x → legal h x ≡ true
+  cache-legal : cacheStart.Started ≡ cacheStartAnswer h x flags → legal h x flags ≡ true
   unfolding cacheStartAnswer
-  cache-legal e = either (legal h x) (λ t. t) (λ t. clash (let z = simp t at e in cc))
+  cache-legal e = either (legal h x flags) (λ t. t) (λ t. clash (let z = simp t at e in cc))
 
-  refused-as : legalSettings m h x ≡ false → {r : Started} → (r .answer ≡ start.BadSetting) × (r .node ≡ freshNode 0 0 1 0) → Starts ttl m h x r
+  refused-as : legalSettings m h x flags ≡ false → {r : Started} → (r .answer ≡ start.BadSetting) × (r .node ≡ freshNode 0 0 1 0 0) → Starts ttl m h x flags r
   unfolding startAnswer startNode
   refused-as e w = record { answer = rw e (w .0); node = rw e (w .1) }
 
-  pub start-refused : cacheStart.BadSetting ≡ cacheStartAnswer h x → {r : Started} → (r .answer ≡ start.BadSetting) × (r .node ≡ freshNode 0 0 1 0) → Starts ttl m h x r
+  pub start-refused : cacheStart.BadSetting ≡ cacheStartAnswer h x flags → {r : Started} → (r .answer ≡ start.BadSetting) × (r .node ≡ freshNode 0 0 1 0 0) → Starts ttl m h x flags r
   unfolding legalSettings
   start-refused e w = refused-as (either (leb m 256) (λ t. simp (t, cache-illegal e)) (λ t. simp t)) w
 
-  pub start-many : 256 < m → {r : Started} → (r .answer ≡ start.BadSetting) × (r .node ≡ freshNode 0 0 1 0) → Starts ttl m h x r
+  pub start-many : 256 < m → {r : Started} → (r .answer ≡ start.BadSetting) × (r .node ≡ freshNode 0 0 1 0 0) → Starts ttl m h x flags r
   unfolding legalSettings
   start-many k w = refused-as (simp (lt-leb m 256 k)) w
 
-  pub start-fits : cacheStart.Started ≡ cacheStartAnswer h x → m ≤ 256 → (s : SeenCache) (c : MessageCache) → s ≡ noIds → c ≡ startCache h x
-      → Starts ttl m h x (record { answer = start.Started; node = record { ttl = ttl; «max_seen» = m; clock = 0; seen = s; cache = c } })
+  pub start-fits : cacheStart.Started ≡ cacheStartAnswer h x flags → m ≤ 256 → (s : SeenCache) (c : MessageCache) → s ≡ noIds → c ≡ startCache h x flags
+      → Starts ttl m h x flags (record { answer = start.Started; node = record { ttl = ttl; «max_seen» = m; clock = 0; seen = s; cache = c } })
   unfolding startAnswer startNode legalSettings startCache
   start-fits e k s c p q =
       let g = cache-legal e in
       let l = le-leb m 256 k in
-      let r : c ≡ noMessages h x = simp g at q in
-      record { answer = simp (l, g); node = simp (l, g) (fresh-is ttl m h x s c p r) }
+      let r : c ≡ noMessages h x flags = simp g at q in
+      record { answer = simp (l, g); node = simp (l, g) (fresh-is ttl m h x flags s c p r) }
 
 -- ---- whether the ids seen are well formed
 module _ (n : Node) (ss : List ℕ) (room : length ss ≡ n .«max_seen» * 129) where
@@ -249,85 +250,94 @@ module _ (n : Node) (ss cs : List ℕ) (at : ℕ) where
         let m = n .«max_seen» in
         enters-can m m x d ss key s left (sound-enters m m d ss key (omega arith) k (swept-sound (y .rows)) (y .few)) e
 
-    module _ (key : List ℕ) (ek : key ≡ marked (drop 1 key)) where
-      held-is : heldIn (n .«max_seen») d ss key ≡ heldAt n ss at (drop 1 key)
+    module _ (part key : List ℕ) (ek : key ≡ formOf part (drop 1 key)) where
+      abbrev form : List ℕ
+      form = formOf part (drop 1 key)
+
+      held-is : heldIn (n .«max_seen») d ss key ≡ heldAt n ss at form
       unfolding heldAt swept
       held-is = ap (λ (x : SeenCache). heldIn (n .«max_seen») x ss key) ed ∙ ap (λ (k : List ℕ). heldIn (n .«max_seen») (cleaned (n .«max_seen») at (n .seen)) ss k) ek
 
-      pub admits-held : (part : List ℕ) (h : Bool) → h ≡ heldIn (n .«max_seen») d ss key → h ≡ true → (r : Node) → r ≡ laterNode at d (n .cache) n
+      pub admits-held : (h : Bool) → h ≡ heldIn (n .«max_seen») d ss key → h ≡ true → (r : Node) → r ≡ laterNode at d (n .cache) n
           → AdmitsBy n ss cs at (taken part (drop 1 key)) admit.Duplicate r ss cs
       unfolding swept
-      admits-held part h e t r f =
-          let k : heldAt n ss at (drop 1 key) ≡ true = sym held-is ∙ sym e ∙ t in
+      admits-held h e t r f =
+          let k : heldAt n ss at form ≡ true = sym held-is ∙ sym e ∙ t in
           (rw k, (rw k (f ∙ ap (λ (x : SeenCache). laterNode at x (n .cache) n) ed), (rw k, rw k)))
 
       -- what is behind the mark, as it is lent
       behind : take (length key - 1) (drop 1 key) ≡ drop 1 key
       behind = take-all (length key - 1) (drop 1 key) (rw (length-drop 1 key) (omega arith))
 
-      pub admits-new : (part : List ℕ) (h : Bool) → h ≡ heldIn (n .«max_seen») d ss key → h ≡ false → (x : ℕ) → x ≡ until at (n .ttl)
+      pub admits-new : (h : Bool) → h ≡ heldIn (n .«max_seen») d ss key → h ≡ false → (x : ℕ) → x ≡ until at (n .ttl)
           → (s : SeenCache) (ss2 : List ℕ) → (s ≡ entered (n .«max_seen») (n .«max_seen») (length key) x d) × (ss2 ≡ enteredStore (n .«max_seen») (n .«max_seen») d ss key)
           → (c : MessageCache) (cs2 : List ℕ) → (c ≡ keptUnder part (take (length key - 1) (drop 1 key)) (n .cache)) × (cs2 ≡ storedUnder (n .cache) cs part (take (length key - 1) (drop 1 key)))
           → (r : Node) → r ≡ laterNode at s c n → AdmitsBy n ss cs at (taken part (drop 1 key)) admit.New r ss2 cs2
       unfolding swept
-      admits-new part h e t x ex s ss2 ws c cs2 wc r f =
+      admits-new h e t x ex s ss2 ws c cs2 wc r f =
           let m = n .«max_seen» in
-          let k : heldAt n ss at (drop 1 key) ≡ false = sym held-is ∙ sym e ∙ t in
-          let es : s ≡ entered m m (length (marked (drop 1 key))) (until at (n .ttl)) (cleaned m at (n .seen)) =
+          let k : heldAt n ss at form ≡ false = sym held-is ∙ sym e ∙ t in
+          let es : s ≡ entered m m (length form) (until at (n .ttl)) (cleaned m at (n .seen)) =
           ws .0
           ∙ ap (λ (y : List ℕ). entered m m (length y) x d) ek
-          ∙ ap (λ (y : ℕ). entered m m (length (marked (drop 1 key))) y d) ex
-          ∙ ap (λ (y : SeenCache). entered m m (length (marked (drop 1 key))) (until at (n .ttl)) y) ed in
-          let et : ss2 ≡ enteredStore m m (cleaned m at (n .seen)) ss (marked (drop 1 key)) =
-          ws .1 ∙ ap (λ (y : List ℕ). enteredStore m m d ss y) ek ∙ ap (λ (y : SeenCache). enteredStore m m y ss (marked (drop 1 key))) ed in
+          ∙ ap (λ (y : ℕ). entered m m (length form) y d) ex
+          ∙ ap (λ (y : SeenCache). entered m m (length form) (until at (n .ttl)) y) ed in
+          let et : ss2 ≡ enteredStore m m (cleaned m at (n .seen)) ss form =
+          ws .1 ∙ ap (λ (y : List ℕ). enteredStore m m d ss y) ek ∙ ap (λ (y : SeenCache). enteredStore m m y ss form) ed in
           let ec : c ≡ keptUnder part (drop 1 key) (n .cache) = wc .0 ∙ ap (λ (y : List ℕ). keptUnder part y (n .cache)) behind in
           let eu : cs2 ≡ storedUnder (n .cache) cs part (drop 1 key) = wc .1 ∙ ap (storedUnder (n .cache) cs part) behind in (
             rw k,
             (
-              rw k (f ∙ ap (λ (y : SeenCache). laterNode at y c n) es ∙ ap (λ (y : MessageCache). laterNode at (entered m m (length (marked (drop 1 key))) (until at (n .ttl)) (cleaned m at (n .seen))) y n) ec),
+              rw k (f ∙ ap (λ (y : SeenCache). laterNode at y c n) es ∙ ap (λ (y : MessageCache). laterNode at (entered m m (length form) (until at (n .ttl)) (cleaned m at (n .seen))) y n) ec),
               (rw k et, rw k eu),
             ),
           )
 
-pub key-long : (key : List ℕ) → key ≡ marked (drop 1 key) → 1 ≤ length key
-key-long key e = let l = ap length e in omega arith
+pub key-long : (part key : List ℕ) → key ≡ formOf part (drop 1 key) → 1 ≤ length key
+key-long part key e = let l = ap length e in omega arith
 
-pub key-small : (key : List ℕ) → key ≡ marked (drop 1 key) → length key ≤ 129 → length (take (length key - 1) (drop 1 key)) ≤ 128
-key-small key e h = let l = ap length e in rw (take-all (length key - 1) (drop 1 key) (rw (length-drop 1 key) (omega arith))) (omega arith)
+pub key-small : (part key : List ℕ) → key ≡ formOf part (drop 1 key) → length key ≤ 129 → length (take (length key - 1) (drop 1 key)) ≤ 128
+key-small part key e h = let l = ap length e in rw (take-all (length key - 1) (drop 1 key) (rw (length-drop 1 key) (omega arith))) (omega arith)
 
 -- what is behind the mark is the id under which a message is kept
-pub keeps-under : (c : MessageCache) (cs part key : List ℕ) → Usable c cs → length part ≤ 4096 → key ≡ marked (drop 1 key)
+pub keeps-under : (c : MessageCache) (cs part key : List ℕ) → Usable c cs → length part ≤ 4096 → key ≡ formOf part (drop 1 key)
     → length key ≤ 129 → (r : PutDone) (left : List ℕ) → Keeps c cs part (take (length key - 1) (drop 1 key)) r left
     → (r .cache ≡ keptUnder part (take (length key - 1) (drop 1 key)) c) × (left ≡ storedUnder c cs part (take (length key - 1) (drop 1 key)))
 keeps-under c cs part key u p e k r left w =
-    keep-usable c cs part (take (length key - 1) (drop 1 key)) p (key-small key e k) u r left w .1
+    keep-usable c cs part (take (length key - 1) (drop 1 key)) p (key-small part key e k) u r left w .1
 
 -- ---- the message in a part
-pub plan-unfit : (g : Node) (at : ℕ) (p : List ℕ) (word : Bool) (why : Unfit) → admission.Unfit why ≡ admissionOf p word → planFit g at p (admissionOf p word) ≡ no (admit.Unfit why)
+pub plan-unfit : (g : Node) (at : ℕ) (p : List ℕ) (word : Bool) (why : Unfit) → admission.Unfit why ≡ admissionOf (g .cache .flags) p word
+    → planFit g at p (admissionOf (g .cache .flags) p word) ≡ no (admit.Unfit why)
 plan-unfit g at p word why e = rw (← e)
 
-module _ (p : List ℕ) (word : Bool) (a e b f : ℕ) (h : admissionOf p word ≡ admission.Fit a e b f) where
-  pub plan-back : (g : Node) (at : ℕ) → at < g .clock → planFit g at p (admissionOf p word) ≡ no (admit.ClockBack (g .clock))
+module _ (flags : ℕ) (p : List ℕ) (word : Bool) (a e b f : ℕ) (h : admissionOf flags p word ≡ admission.Fit a e b f) where
+  pub plan-back : (g : Node) (at : ℕ) → at < g .clock → planFit g at p (admissionOf flags p word) ≡ no (admit.ClockBack (g .clock))
   plan-back g at k = rw (h, lt-ltb at (g .clock) k)
 
-  plan-taken : (g : Node) (at : ℕ) → g .clock ≤ at → planFit g at p (admissionOf p word) ≡ taken p (idBytes p a e b f)
+  plan-taken : (g : Node) (at : ℕ) → g .clock ≤ at → planFit g at p (admissionOf flags p word) ≡ taken p (idBytes p a e b f)
   plan-taken g at k = rw (h, le-ltb at (g .clock) k)
 
+  -- where unsigned messages are not allowed it has a signature
+  pub has-signature : allowsUnsigned flags ≡ false → isSigned p ≡ true
+  has-signature off = fit-signed flags p word a e b f h off
+
   -- the id was formed behind the mark
-  module _ (n : ℕ) (first y : List ℕ) (z : length first ≡ 128) (k : Forms p a e b f first n y) where
+  module _ (first-byte : ℕ) (is-mark : first-byte ≡ mark (isSigned p)) (n : ℕ) (first y : List ℕ) (z : length first ≡ 128)
+      (k : Forms p a e b f first n y) where
     counted : (n ≡ length (idBytes p a e b f)) × (y ≡ sets first 0 (idBytes p a e b f))
-    counted = form-fit p word a e b f first n y h (let l = fit-id p word a e b f h in omega (arith, l .1)) k
+    counted = form-fit flags p word a e b f first n y h (let l = fit-id flags p word a e b f h in omega (arith, l .1)) k
 
     abbrev key : List ℕ
-    key = take (n + 1) (1 ∷ (y ++ []))
+    key = take (n + 1) (first-byte ∷ (y ++ []))
 
     formed : take n y ≡ idBytes p a e b f
     formed =
-        let l = fit-id p word a e b f h in
+        let l = fit-id flags p word a e b f h in
         rw (counted .1, sets-eq (idBytes p a e b f) first 0 (omega arith)) (take-at (idBytes p a e b f) (drop (0 + length (idBytes p a e b f)) first) n (sym (counted .0)))
 
     pub formed-small : n ≤ 128
-    formed-small = let l = fit-id p word a e b f h in omega (arith, counted .0)
+    formed-small = let l = fit-id flags p word a e b f h in omega (arith, counted .0)
 
     pub formed-room : n + 1 ≤ suc (length (y ++ []))
     formed-room =
@@ -335,19 +345,19 @@ module _ (p : List ℕ) (word : Bool) (a e b f : ℕ) (h : admissionOf p word �
         let s = formed-small in
         rw (append-nil y) (omega arith)
 
-    formed-key : key ≡ marked (idBytes p a e b f)
-    formed-key = rw (append-nil y, add-one n) (ap (λ (x : List ℕ). 1 ∷ x) formed)
+    formed-key : key ≡ formOf p (idBytes p a e b f)
+    formed-key = rw (append-nil y, add-one n) (ap₂ (λ (c : ℕ) (x : List ℕ). c ∷ x) is-mark formed)
 
     pub formed-counts : n + 1 ≡ length key
     formed-counts = let l = ap length formed-key in omega (arith, counted .0)
 
-    pub formed-fits : (length p ≤ 4096) × (length key ≤ 129) × (key ≡ marked (drop 1 key))
-    formed-fits = (fit-limits p word a e b f h .small, omega (arith, formed-counts, formed-small), formed-key ∙ ap (λ (x : List ℕ). marked (drop 1 x)) (sym formed-key))
+    pub formed-fits : (length p ≤ 4096) × (length key ≤ 129) × (key ≡ formOf p (drop 1 key))
+    formed-fits = (fit-limits flags p word a e b f h .small, omega (arith, formed-counts, formed-small), formed-key ∙ ap (λ (x : List ℕ). formOf p (drop 1 x)) (sym formed-key))
 
     pub admits-formed : (g : Node) (ss cs : List ℕ) (at : ℕ) → g .clock ≤ at → {r : Admit} {g2 : Node} {s t : List ℕ}
-        → AdmitsBy g ss cs at (taken p (drop 1 key)) r g2 s t → AdmitsBy g ss cs at (planFit g at p (admissionOf p word)) r g2 s t
+        → AdmitsBy g ss cs at (taken p (drop 1 key)) r g2 s t → AdmitsBy g ss cs at (planFit g at p (admissionOf flags p word)) r g2 s t
     admits-formed g ss cs at c w =
-        admits-as g ss cs at (planFit g at p (admissionOf p word)) (taken p (drop 1 key)) (plan-taken g at c ∙ ap (λ (x : List ℕ). taken p (drop 1 x)) (sym formed-key)) w
+        admits-as g ss cs at (planFit g at p (admissionOf flags p word)) (taken p (drop 1 key)) (plan-taken g at c ∙ ap (λ (x : List ℕ). taken p (drop 1 x)) (sym formed-key)) w
 
 -- ---- the message at an index of a body
 module _ (n : Node) (ss cs body : List ℕ) (i : ℕ) (word : Bool) (at : ℕ) where
@@ -364,7 +374,7 @@ module _ (n : Node) (ss cs body : List ℕ) (i : ℕ) (word : Bool) (at : ℕ) w
   plan-missing k e f g = rw (← e, ← f, ← g)
 
   pub plan-at : (a b : ℕ) → lent.Fine ≡ lentOf n ss cs → checked.Fine ≡ acceptOf body → found.At a b ≡ messageAt body i
-      → planned n ss cs body i word at ≡ planFit n at (between body a b) (admissionOf (between body a b) word)
+      → planned n ss cs body i word at ≡ planFit n at (between body a b) (admissionOf (n .cache .flags) (between body a b) word)
   unfolding planned
   plan-at a b e f g = rw (← e, ← f, ← g)
 

@@ -2,7 +2,7 @@
 use Prim.Native.Nat.{ℕ, _+_, _-_, _*_, _≤_, _<_}
 use mathlib.Core.Path.{_≡_, refl, sym, ap, _∙_}
 use mathlib.Core.List.{List, [], _∷_, _++_, append-assoc, append-nil}
-use mathlib.Core.Bool.{Bool, true, false, cond}
+use mathlib.Core.Bool.{Bool, true, false, cond, not}
 use native.Mathlib.Omega.{arith}
 use native.Mathlib.Nat.{zero-add, sub-zero}
 use lib.ListN.{length, drop, getD, length-append}
@@ -32,8 +32,8 @@ use Rattle.node.specs.declared.Lent.the-variants as lent
 use Rattle.node.specs.declared.Fault.{Fault}
 use Rattle.node.specs.declared.Ask.{Ask}
 use Rattle.node.specs.declared.Ask.the-variants as ask
-use Rattle.node.specs.Gateway.{marked, request}
-use Rattle.node.specs.Calls.{lentOf, bytesFor, offered, unseenFrom, unseenOf, askBytes, asked, askAnswer, askLeft}
+use Rattle.node.specs.Gateway.{request}
+use Rattle.node.specs.Calls.{lentOf, bytesFor, offered, knownIn, unseenFrom, unseenOf, askBytes, asked, askAnswer, askLeft}
 use Rattle.node.proofs.Writes.{field-is}
 use Rattle.node.proofs.Telling.{bytes-some}
 
@@ -78,31 +78,31 @@ module _ (t : List ℕ) (k a e : ℕ) (room : (k + 1) * 2 ≤ length t) (there :
       (λ n. let w = when-not n in rw (w .0, w .1) (ap (λ (l : List (List ℕ)). partsIn s t k ++ l) (sym (f ∙ simp n)) ∙ g))
 
 -- ---- the ids in `to`, and then those of `from` from i on that are not seen, are all of `from` that are not
-pub record Lacked (seen : List (List ℕ)) (s from : List ℕ) (n : ℕ) (to : List ℕ) (k i : ℕ) : Type 0 where
+pub record Lacked (flags : ℕ) (seen : List (List ℕ)) (s from : List ℕ) (n : ℕ) (to : List ℕ) (k i : ℕ) : Type 0 where
   pub most : i ≤ n
   pub fewer : k ≤ i
   pub parts : Parts s to k
-  pub goes : partsIn s to k ++ unseenFrom seen (drop i (partsIn s from n)) ≡ unseenFrom seen (partsIn s from n)
+  pub goes : partsIn s to k ++ unseenFrom flags seen (drop i (partsIn s from n)) ≡ unseenFrom flags seen (partsIn s from n)
 
-pub lacked-all : (seen : List (List ℕ)) (s from : List ℕ) (n : ℕ) (to : List ℕ) → Lacked seen s from n to 0 0
-lacked-all seen s from n to =
+pub lacked-all : (flags : ℕ) (seen : List (List ℕ)) (s from : List ℕ) (n : ℕ) (to : List ℕ) → Lacked flags seen s from n to 0 0
+lacked-all flags seen s from n to =
     record {
       most = omega arith;
       fewer = omega arith;
       parts = parts-none s to;
-      goes = ap (λ (l : List (List ℕ)). l ++ unseenFrom seen (partsIn s from n)) (no-parts s to);
+      goes = ap (λ (l : List (List ℕ)). l ++ unseenFrom flags seen (partsIn s from n)) (no-parts s to);
     }
 
-unseen-turn : (seen : List (List ℕ)) (id : List ℕ) (ids : List (List ℕ)) (there : Bool) → there ≡ cond (among (marked id) seen) false true → unseenFrom seen (id ∷ ids) ≡ cond there (id ∷ unseenFrom seen ids) (unseenFrom seen ids)
+unseen-turn : (flags : ℕ) (seen : List (List ℕ)) (id : List ℕ) (ids : List (List ℕ)) (there : Bool) → there ≡ not (knownIn flags seen id) → unseenFrom flags seen (id ∷ ids) ≡ cond there (id ∷ unseenFrom flags seen ids) (unseenFrom flags seen ids)
 unfolding unseenFrom
-unseen-turn seen id ids there e =
-    either (among (marked id) seen) (λ y. let z : there ≡ false = e ∙ simp y in simp (y, z)) (λ n. let z : there ≡ true = e ∙ simp n in simp (n, z))
+unseen-turn flags seen id ids there e =
+    either (knownIn flags seen id) (λ y. let z : there ≡ false = e ∙ simp y in simp (y, z)) (λ n. let z : there ≡ true = e ∙ simp n in simp (n, z))
 
-module _ (seen : List (List ℕ)) (s from : List ℕ) (n : ℕ) (to : List ℕ) (k i : ℕ) (g : Lacked seen s from n to k i) where
+module _ (flags : ℕ) (seen : List (List ℕ)) (s from : List ℕ) (n : ℕ) (to : List ℕ) (k i : ℕ) (g : Lacked flags seen s from n to k i) where
   pub lacked-room : (m : ℕ) → i < n → n * 2 ≤ m → length to ≡ m → (k + 1) * 2 ≤ length to
   lacked-room m h l e = let f = g .fewer in omega arith
 
-  pub lacked-turn : i < n → Parts s from n → (k + 1) * 2 ≤ length to → (there : Bool) → there ≡ cond (among (marked (partAt s from i)) seen) false true → (r : ℕ) (after : List ℕ) → r ≡ cond there (k + 1) k → after ≡ cond there (sets to (k * 2) (getD from (i * 2) 0 ∷ getD from (i * 2 + 1) 0 ∷ [])) to → Lacked seen s from n after r (i + 1)
+  pub lacked-turn : i < n → Parts s from n → (k + 1) * 2 ≤ length to → (there : Bool) → there ≡ not (knownIn flags seen (partAt s from i)) → (r : ℕ) (after : List ℕ) → r ≡ cond there (k + 1) k → after ≡ cond there (sets to (k * 2) (getD from (i * 2) 0 ∷ getD from (i * 2 + 1) 0 ∷ [])) to → Lacked flags seen s from n after r (i + 1)
   lacked-turn h p room there e r after er ea =
       let f = g .fewer in
       let a = getD from (i * 2) 0 in
@@ -114,17 +114,17 @@ module _ (seen : List (List ℕ)) (s from : List ℕ) (n : ℕ) (to : List ℕ) 
         fewer = omega arith;
         parts = put-within to k a z room there r after er ea s (g .parts) (λ y. w);
         goes =
-            put-goes to k a z room there r after er ea s (unseenFrom seen (drop i (partsIn s from n))) (unseenFrom seen (drop (i + 1) (partsIn s from n))) (unseenFrom seen (partsIn s from n))
-            (ap (unseenFrom seen) (parts-from s from n i h) ∙ unseen-turn seen (partAt s from i) (drop (i + 1) (partsIn s from n)) there e)
+            put-goes to k a z room there r after er ea s (unseenFrom flags seen (drop i (partsIn s from n))) (unseenFrom flags seen (drop (i + 1) (partsIn s from n))) (unseenFrom flags seen (partsIn s from n))
+            (ap (unseenFrom flags seen) (parts-from s from n i h) ∙ unseen-turn flags seen (partAt s from i) (drop (i + 1) (partsIn s from n)) there e)
             (g .goes);
       }
 
-  pub lacked-done : n ≤ i → (partsIn s to k ≡ unseenFrom seen (partsIn s from n)) × (Parts s to k × (k ≤ n))
+  pub lacked-done : n ≤ i → (partsIn s to k ≡ unseenFrom flags seen (partsIn s from n)) × (Parts s to k × (k ≤ n))
   unfolding unseenFrom
   lacked-done h =
       let f = g .fewer in
       let m = g .most in
-      (sym (ap (λ (l : List (List ℕ)). partsIn s to k ++ unseenFrom seen l) (parts-end s from n i h) ∙ append-nil (partsIn s to k)) ∙ g .goes, (g .parts, omega arith))
+      (sym (ap (λ (l : List (List ℕ)). partsIn s to k ++ unseenFrom flags seen l) (parts-end s from n i h) ∙ append-nil (partsIn s to k)) ∙ g .goes, (g .parts, omega arith))
 
 -- ---- a request: a control with one IWANT, whose ids r were measured
 module _ (at : ℕ) (r x : List ℕ) (y : x ≡ bytesField 3 (bytesField 2 r)) (h : Fits at x) where
@@ -210,13 +210,13 @@ module _ (node : Node) (ss body out : List ℕ) where
   abbrev Answers : Ask → List ℕ → Type 0
   Answers r after = (r ≡ asked (answer (askBytes node ss body) out)) × (after ≡ written (askBytes node ss body) out)
 
-  module _ (first named : List ℕ) (k m : ℕ) (f : partsIn body first k ≡ once (atPath (3 ∷ 1 ∷ 2 ∷ []) body)) (u : partsIn body named m ≡ unseenFrom (idsIn 129 (seenRing node) (node .seen .len) ss) (partsIn body first k)) where
+  module _ (first named : List ℕ) (k m : ℕ) (f : partsIn body first k ≡ once (atPath (3 ∷ 1 ∷ 2 ∷ []) body)) (u : partsIn body named m ≡ unseenFrom (node .cache .flags) (idsIn 129 (seenRing node) (node .seen .len) ss) (partsIn body first k)) where
     abbrev ids : List (List ℕ)
     ids = partsIn body named m
 
     lacking-is : unseenOf node ss (offered body) ≡ ids
     unfolding unseenOf offered
-    lacking-is = sym (u ∙ ap (unseenFrom (idsIn 129 (seenRing node) (node .seen .len) ss)) f)
+    lacking-is = sym (u ∙ ap (unseenFrom (node .cache .flags) (idsIn 129 (seenRing node) (node .seen .len) ss)) f)
 
     bytes-are : askBytes node ss body ≡ bytesFor ids (request ids)
     unfolding askBytes

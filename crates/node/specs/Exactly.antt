@@ -24,6 +24,7 @@ use Rattle.ids.specs.declared.MessageAt.the-variants as found
 use Rattle.ids.specs.Ids.{messageAt, idBytes}
 use Rattle.admission.specs.declared.Admission.{Admission}
 use Rattle.admission.specs.declared.Admission.the-variants as admission
+use Rattle.admission.specs.Flags.{maxFlags, knownFlags}
 use Rattle.admission.specs.Admission.{admissionOf}
 use Rattle.admission.specs.AdmissionLaws.{unfit-range}
 use Rattle.seen.specs.State.{idSize, maxIds}
@@ -41,7 +42,7 @@ use Rattle.node.specs.Told.{offerTold, explainTold, serveTold}
 use Rattle.node.specs.State.{legalSettings, wellFormed}
 use Rattle.node.specs.Calls.{startAnswer, rightSizes, lentOf, planFit, planAt, planBody, planned, heldAt}
 use Rattle.node.specs.Calls.{admitAnswer, beatAnswer, advertiseBytes, advertiseAnswer, askBytes, askAnswer}
-use Rattle.node.specs.Gateway.{Reply, sent, short, replyFor}
+use Rattle.node.specs.Gateway.{formOf, Reply, sent, short, replyFor}
 use Rattle.node.specs.Calls.{explainAnswer, wanted, cachedOf, roomOf, replied, serveAnswer}
 use Rattle.node.specs.WellFormed.{Typed, WellFormed}
 use Rattle.node.specs.WellFormedLaws.{fine-well-formed-node, well-formed-node-fine}
@@ -167,11 +168,11 @@ module _ (n : Node) (ss cs : List ℕ) where
     fit-below p (admission.Unfit why) = omega (arith, unfit-range why .1)
     fit-below p (admission.Fit a e b f) =
         either (ltb at (n .clock)) (λ t. rw t (omega arith))
-        (λ t. rw t (either (heldAt n ss at (idBytes p a e b f)) (λ u. rw u (omega arith)) (λ u. rw u (omega arith))))
+        (λ t. rw t (either (heldAt n ss at (formOf p (idBytes p a e b f))) (λ u. rw u (omega arith)) (λ u. rw u (omega arith))))
 
     at-below : (r : MessageAt) → admitTold (admitAnswer n ss at (planAt n at word body r)) .number < bad-setting
     at-below (found.Count k) = omega arith
-    at-below (found.At a e) = fit-below (between body a e) (admissionOf (between body a e) word)
+    at-below (found.At a e) = fit-below (between body a e) (admissionOf (n .cache .flags) (between body a e) word)
 
     body-below : (r : Checked) → admitTold (admitAnswer n ss at (planBody n at word body i r)) .number < bad-setting
     body-below (checked.Refused why) = omega (arith, wire-range (why .why) .1)
@@ -310,35 +311,46 @@ module _ (n : Node) (ss cs : List ℕ) (at : ℕ) where
   pub beat-exactly : (a : Told) → (beatTold (beatAnswer n ss cs at) ≡ a) ↔ BeatTells n ss cs at a
   beat-exactly a = (λ e. subst (BeatTells n ss cs at) e (beat-tells (lentOf n ss cs) refl), beat-only)
 
--- ---- a start: max_seen above 256, history_len 0 or above 16, max_messages above 64
-module _ (max-seen history max : ℕ) where
+-- ---- a start: max_seen above 256, history_len 0 or above 16, max_messages above 64, flags above the known ones
+module _ (max-seen history max flags : ℕ) where
   abbrev Illegal : Type 0
-  Illegal = (maxIds < max-seen) ⊎ ((history ≡ 0) ⊎ ((maxHistory < history) ⊎ (maxMessages < max)))
+  Illegal =
+      (maxIds < max-seen) ⊎ ((history ≡ 0) ⊎ ((maxHistory < history) ⊎ ((maxMessages < max) ⊎ (maxFlags < flags))))
 
-  start-illegal : startTold (startAnswer max-seen history max) .number ≡ bad-setting → Illegal
-  unfolding startAnswer legalSettings legal
+  start-illegal : startTold (startAnswer max-seen history max flags) .number ≡ bad-setting → Illegal
+  unfolding startAnswer legalSettings legal knownFlags
   start-illegal h =
       either (leb max-seen maxIds)
       (λ a. either (leb 1 history)
       (λ b. either (leb history maxHistory)
       (λ d. either (leb max maxMessages)
-      (λ f. clash (let z : 0 ≡ bad-setting = rw (a, b, d, f) at h in omega arith))
-      (λ f. inr (inr (inr (leb-false max maxMessages f)))))
+      (λ f. either (leb flags maxFlags)
+      (λ g. clash (let z : 0 ≡ bad-setting = rw (a, b, d, f, g) at h in omega arith))
+      (λ g. inr (inr (inr (inr (leb-false flags maxFlags g))))))
+      (λ f. inr (inr (inr (inl (leb-false max maxMessages f))))))
       (λ d. inr (inr (inl (leb-false history maxHistory d)))))
       (λ b. inr (inl (let l = leb-false 1 history b in omega arith))))
       (λ a. inl (leb-false max-seen maxIds a))
 
-  illegal-start : Illegal → legalSettings max-seen history max ≡ false
-  unfolding legalSettings legal
+  illegal-start : Illegal → legalSettings max-seen history max flags ≡ false
+  unfolding legalSettings legal knownFlags
   illegal-start (inl a) = rw (lt-leb max-seen maxIds a)
   illegal-start (inr (inl b)) = rw (lt-leb 1 history (omega arith)) (and-false (leb max-seen maxIds))
   illegal-start (inr (inr (inl d))) =
       rw (lt-leb history maxHistory d) (rw (and-false (leb 1 history)) (and-false (leb max-seen maxIds)))
-  illegal-start (inr (inr (inr f))) =
+  illegal-start (inr (inr (inr (inl f)))) =
       rw (lt-leb max maxMessages f, and-false (leb history maxHistory), and-false (leb 1 history))
       (and-false (leb max-seen maxIds))
+  illegal-start (inr (inr (inr (inr g)))) =
+      rw (
+        lt-leb flags maxFlags g,
+        and-false (leb max maxMessages),
+        and-false (leb history maxHistory),
+        and-false (leb 1 history),
+      )
+      (and-false (leb max-seen maxIds))
 
-  pub start-exactly : (startTold (startAnswer max-seen history max) .number ≡ bad-setting)
-      ↔ ((maxIds < max-seen) ⊎ ((history ≡ 0) ⊎ ((maxHistory < history) ⊎ (maxMessages < max))))
+  pub start-exactly : (startTold (startAnswer max-seen history max flags) .number ≡ bad-setting)
+      ↔ ((maxIds < max-seen) ⊎ ((history ≡ 0) ⊎ ((maxHistory < history) ⊎ ((maxMessages < max) ⊎ (maxFlags < flags)))))
   unfolding startAnswer
   start-exactly = (start-illegal, λ h. rw (illegal-start h))

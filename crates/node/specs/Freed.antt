@@ -20,17 +20,17 @@ use Rattle.mcache.specs.Laws.{held-index, put-plan}
 use Rattle.mcache.specs.Readers as mcache
 use Rattle.node.specs.declared.Node.{Node}
 use Rattle.node.specs.declared.Admit.the-variants as admit
-use Rattle.node.specs.Gateway.{marked}
+use Rattle.node.specs.Gateway.{formOf}
 use Rattle.node.specs.Calls.{taken, planned, swept, heldAt, admitAnswer, admitNode, admitSeen}
 use Rattle.node.specs.Calls.{admitCache, laterNode}
 use Rattle.node.specs.WellFormed.{Typed}
 use Rattle.node.specs.StateLaws.{fine-tests, room-cap}
-use Rattle.node.specs.Laws.{Takes, plan-takes, takes-word, swept-fine}
+use Rattle.node.specs.Laws.{Takes, plan-takes, takes-true, swept-fine}
 
 -- n, ss and cs before, d, ss2 and cs2 after; m is taken under id at a reading
 pub record Freed (n : Node) (ss cs : List ℕ) (at : ℕ) (m id : List ℕ) (d : Node) (ss2 cs2 : List ℕ) : Type 0 where
   -- the marked id goes to one place of the seen store, which no id kept after the clean-up and the eviction holds
-  pub seen : (n .«max_seen» ≡ 0 → ⊥) → seen.Written (n .«max_seen») (swept n at) (d .seen) ss ss2 (marked id)
+  pub seen : (n .«max_seen» ≡ 0 → ⊥) → seen.Written (n .«max_seen») (swept n at) (d .seen) ss ss2 (formOf m id)
   pub seen-none : n .«max_seen» ≡ 0 → ss2 ≡ ss
   -- the message to one place of the cache store, which no message kept holds
   pub cache : (n .cache .«max_messages» ≡ 0 → ⊥) → held id (cachedIn (n .cache) cs) ≡ false
@@ -45,26 +45,26 @@ pub plan-put : {n : Node} {ss cs body : List ℕ} {i : ℕ} {word : Bool} {at : 
 plan-put {n} {ss} {cs} {body} {i} {word} {at} {m} {id} t =
     let f = fine-tests n ss cs (t .fine) in
     let p = put-plan (n .cache) cs body i (t .start) (t .next) (t .from-start) (t .from-end) (t .seqno-start)
-    (t .seqno-end) (f .messages) (t .accepted) (t .there) (rw (takes-word t, t .bytes) at (t .fit)) in
+    (t .seqno-end) (f .messages) (t .accepted) (t .there) (rw (t .bytes) at (takes-true t)) in
     rw (← t .bytes, ← t .named, held-index (n .cache) cs id) at p
 
 -- an admit is answered new only where it takes a message
 new-plan : (n : Node) (ss : List ℕ) (at : ℕ) (m id : List ℕ) → admitAnswer n ss at (taken m id) ≡ admit.New
-    → heldAt n ss at id ≡ false
-new-plan n ss at m id h = either (heldAt n ss at id) (λ t. clash (let z = rw t at h in cc)) (λ t. t)
+    → heldAt n ss at (formOf m id) ≡ false
+new-plan n ss at m id h = either (heldAt n ss at (formOf m id)) (λ t. clash (let z = rw t at h in cc)) (λ t. t)
 
 module _ (n : Node) (ss cs body : List ℕ) (i : ℕ) (word : Bool) (at : ℕ) (m id : List ℕ) (typed : Typed n)
-    (plan : planned n ss cs body i word at ≡ taken m id) (new : heldAt n ss at id ≡ false) where
+    (plan : planned n ss cs body i word at ≡ taken m id) (new : heldAt n ss at (formOf m id) ≡ false) where
   ids-written : (n .«max_seen» ≡ 0 → ⊥)
       → seen.Written (n .«max_seen») (swept n at) (admitNode n ss at (taken m id) .seen) ss
-      (admitSeen n ss at (taken m id)) (marked id)
+      (admitSeen n ss at (taken m id)) (formOf m id)
   unfolding laterNode
   ids-written some =
       let t = plan-takes n ss cs body i word at m id .0 plan in
       let f = fine-tests n ss cs (t .fine) in
       let w = seen-exactly (swept n at) ss .0 (swept-fine n ss cs (t .fine) at (typed .ids)) in
       let c = room-cap n ss (f .room) in
-      rw new (seen.entered-written (n .«max_seen») (n .«max_seen») (swept n at) ss (marked id) (until at (n .ttl))
+      rw new (seen.entered-written (n .«max_seen») (n .«max_seen») (swept n at) ss (formOf m id) (until at (n .ttl))
       (omega (arith, w .starts)) (omega (arith, w .within)) (omega arith) some)
 
   ids-none : n .«max_seen» ≡ 0 → admitSeen n ss at (taken m id) ≡ ss

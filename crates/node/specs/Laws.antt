@@ -25,12 +25,12 @@ use Rattle.schema.specs.Accept.{acceptOf}
 use Rattle.ids.specs.Ids.{messageAt, idBytes}
 use Rattle.admission.specs.declared.Admission.{Admission}
 use Rattle.admission.specs.declared.Admission.the-variants as admission
-use Rattle.admission.specs.Admission.{admissionOf, givesId}
-use Rattle.admission.specs.AdmissionLaws.{fit-word, fit-limits, fit-id, gives-own, gives-only, message-read}
+use Rattle.admission.specs.Admission.{admissionOf, vouched, givesId}
+use Rattle.admission.specs.AdmissionLaws.{fit-vouched, fit-true, fit-limits, fit-id, gives-own, gives-only, message-read}
 use Rattle.seen.specs.declared.Lent.the-variants as seenLent
 use Rattle.seen.specs.declared.Insert.the-variants as insert
 use Rattle.seen.specs.Entries.{idsOf, holds, until, inserted, live}
-use Rattle.seen.specs.State.{entriesIn, fresh as noIds}
+use Rattle.seen.specs.State.{entriesIn, idSize, fresh as noIds}
 use Rattle.seen.specs.Calls.{lentOf as seenLentOf, entered, enteredStore, insertAnswer, insertCache, insertStore}
 use Rattle.seen.specs.Calls.{gcCache}
 use Rattle.seen.specs.WellFormed.{Sized}
@@ -51,14 +51,15 @@ use Rattle.node.specs.declared.Start.the-variants as start
 use Rattle.node.specs.declared.Admit.the-variants as admit
 use Rattle.node.specs.declared.Beat.{Beat}
 use Rattle.node.specs.declared.Beat.the-variants as beat
-use Rattle.node.specs.Gateway.{Gateway, started, marked, isNew, afterAdmit, afterBeat, toldOf, lacking, having}
+use Rattle.node.specs.Gateway.{Gateway, started, formOf, isNew, afterAdmit, afterBeat, toldOf, knows, lacking}
+use Rattle.node.specs.Gateway.{having}
 use Rattle.node.specs.Gateway.{rpcBytes, advertiseOf, askOf, serveOf, sentBytes}
 use Rattle.node.specs.State.{gatewayIn, legalSettings, freshNode}
 use Rattle.node.specs.Calls.{admitNumber, beatNumber, advertiseNumber, askNumber, serveNumber, startAnswer}
 use Rattle.node.specs.Calls.{startNode, lentOf, laterNode, Plan, no, taken, planFit, planAt, planBody, planned}
 use Rattle.node.specs.Calls.{swept, heldAt, admitAnswer, admitNode, admitSeen, admitCache, whenDone, beatAnswer}
 use Rattle.node.specs.Calls.{beatNode, toldIn, advertiseBytes, advertised, advertiseAnswer}
-use Rattle.node.specs.Calls.{advertiseLeft, offered, unseenFrom, unseenOf, askBytes, asked, askAnswer, askLeft}
+use Rattle.node.specs.Calls.{advertiseLeft, offered, knownIn, unseenFrom, unseenOf, askBytes, asked, askAnswer, askLeft}
 use Rattle.node.specs.Calls.{wanted, rowsFor, cachedOf, roomOf, servedOf, replyBytes, replied, replyTo}
 use Rattle.node.specs.Calls.{serveAnswer, serveLeft}
 use Rattle.node.specs.WellFormed.{Typed}
@@ -66,24 +67,25 @@ use Rattle.node.specs.StateLaws.{fine-tests, room-cap}
 use Rattle.node.specs.ReplyLaws.{reply-bytes, reply-some, sent-bytes}
 
 -- ---- start
-pub fresh-gateway : (ttl max-seen history max : ℕ) (ss cs : List ℕ)
-    → gatewayIn (freshNode ttl max-seen history max) ss cs ≡ started ttl max-seen history max
+pub fresh-gateway : (ttl max-seen history max flags : ℕ) (ss cs : List ℕ)
+    → gatewayIn (freshNode ttl max-seen history max flags) ss cs ≡ started ttl max-seen history max flags
 unfolding gatewayIn freshNode started noIds noMessages entriesIn cachedIn rowsIn
-fresh-gateway ttl max-seen history max ss cs = refl
+fresh-gateway ttl max-seen history max flags ss cs = refl
 
-pub start-gateway : (ttl max-seen history max : ℕ) (ss cs : List ℕ) → legalSettings max-seen history max ≡ true
-    → gatewayIn (startNode ttl max-seen history max) ss cs ≡ started ttl max-seen history max
+pub start-gateway : (ttl max-seen history max flags : ℕ) (ss cs : List ℕ)
+    → legalSettings max-seen history max flags ≡ true
+    → gatewayIn (startNode ttl max-seen history max flags) ss cs ≡ started ttl max-seen history max flags
 unfolding startNode
-start-gateway ttl max-seen history max ss cs h = rw h (fresh-gateway ttl max-seen history max ss cs)
+start-gateway ttl max-seen history max flags ss cs h = rw h (fresh-gateway ttl max-seen history max flags ss cs)
 
-pub start-says : (max-seen history max : ℕ) → legalSettings max-seen history max ≡ true
-    → startAnswer max-seen history max ≡ start.Started
+pub start-says : (max-seen history max flags : ℕ) → legalSettings max-seen history max flags ≡ true
+    → startAnswer max-seen history max flags ≡ start.Started
 unfolding startAnswer
-start-says max-seen history max h = rw h
+start-says max-seen history max flags h = rw h
 
 -- ---- what an admit takes
--- a message and its id: the state is fine, the body accepted, m the message at the index, fit with the host's word; its
--- id is from + seqno; and the clock is not ahead
+-- a message and its id: the state is fine, the body accepted, m the message at the index, fit under the node's flags and
+-- with the host's word; its id is from + seqno; and the clock is not ahead
 pub record Takes (n : Node) (ss cs body : List ℕ) (i : ℕ) (word : Bool) (at : ℕ) (m id : List ℕ) : Type 0 where
   pub fine : lentOf n ss cs ≡ lent.Fine
   pub accepted : acceptOf body ≡ checked.Fine
@@ -95,13 +97,14 @@ pub record Takes (n : Node) (ss cs body : List ℕ) (i : ℕ) (word : Bool) (at 
   pub from-end : ℕ
   pub seqno-start : ℕ
   pub seqno-end : ℕ
-  pub fit : admissionOf m word ≡ admission.Fit from-start from-end seqno-start seqno-end
+  pub fit : admissionOf (n .cache .flags) m word ≡ admission.Fit from-start from-end seqno-start seqno-end
   pub named : id ≡ idBytes m from-start from-end seqno-start seqno-end
   pub forward : n .clock ≤ at
 
 module _ (n : Node) (ss cs body : List ℕ) (i : ℕ) (word : Bool) (at : ℕ) (m id : List ℕ) where
   module _ (fine : lentOf n ss cs ≡ lent.Fine) (ok : acceptOf body ≡ checked.Fine) where
-    of-fit : (a e : ℕ) (r : Admission) → messageAt body i ≡ found.At a e → admissionOf (between body a e) word ≡ r
+    of-fit : (a e : ℕ) (r : Admission) → messageAt body i ≡ found.At a e
+        → admissionOf (n .cache .flags) (between body a e) word ≡ r
         → planFit n at (between body a e) r ≡ taken m id → Takes n ss cs body i word at m id
     of-fit a e (admission.Unfit why) there f h = clash (cc)
     of-fit a e (admission.Fit x y z w) there f h =
@@ -131,7 +134,7 @@ module _ (n : Node) (ss cs body : List ℕ) (i : ℕ) (word : Bool) (at : ℕ) (
     of-at : (r : MessageAt) → messageAt body i ≡ r → planAt n at word body r ≡ taken m id
         → Takes n ss cs body i word at m id
     of-at (found.Count k) there h = clash (cc)
-    of-at (found.At a e) there h = of-fit a e (admissionOf (between body a e) word) there refl h
+    of-at (found.At a e) there h = of-fit a e (admissionOf (n .cache .flags) (between body a e) word) there refl h
 
   of-body : lentOf n ss cs ≡ lent.Fine → (r : Checked) → acceptOf body ≡ r → planBody n at word body i r ≡ taken m id
       → Takes n ss cs body i word at m id
@@ -157,34 +160,39 @@ module _ (n : Node) (ss cs body : List ℕ) (i : ℕ) (word : Bool) (at : ℕ) (
 -- what follows for the message and its id
 module _ {n : Node} {ss cs body : List ℕ} {i : ℕ} {word : Bool} {at : ℕ} {m id : List ℕ}
     (t : Takes n ss cs body i word at m id) where
-  pub takes-word : word ≡ true
-  takes-word = fit-word m word (t .from-start) (t .from-end) (t .seqno-start) (t .seqno-end) (t .fit)
+  pub takes-vouched : vouched (n .cache .flags) m word ≡ true
+  takes-vouched = fit-vouched (n .cache .flags) m word (t .from-start) (t .from-end) (t .seqno-start) (t .seqno-end) (t .fit)
+
+  -- it would be taken with the host's word
+  pub takes-true : admissionOf (n .cache .flags) m true
+      ≡ admission.Fit (t .from-start) (t .from-end) (t .seqno-start) (t .seqno-end)
+  takes-true = fit-true (n .cache .flags) m word (t .from-start) (t .from-end) (t .seqno-start) (t .seqno-end) (t .fit)
 
   pub takes-small : length m ≤ messageSize
-  takes-small = fit-limits m word (t .from-start) (t .from-end) (t .seqno-start) (t .seqno-end) (t .fit) .small
+  takes-small = fit-limits (n .cache .flags) m word (t .from-start) (t .from-end) (t .seqno-start) (t .seqno-end) (t .fit) .small
 
   pub takes-id-small : length id ≤ messageIdSize
-  takes-id-small = rw (t .named) (fit-id m word (t .from-start) (t .from-end) (t .seqno-start) (t .seqno-end)
+  takes-id-small = rw (t .named) (fit-id (n .cache .flags) m word (t .from-start) (t .from-end) (t .seqno-start) (t .seqno-end)
       (t .fit) .1)
 
-  pub takes-own : givesId m id ≡ true
+  pub takes-own : givesId (n .cache .flags) m id ≡ true
   takes-own =
       let r = message-read body i (t .start) (t .next) (t .accepted) (t .there) in
-      rw (t .named) (gives-own m (r .0) (t .from-start) (t .from-end) (t .seqno-start) (t .seqno-end)
-      (rw (t .bytes) (r .1)) (rw takes-word at (t .fit)))
+      rw (t .named) (gives-own (n .cache .flags) m (r .0) (t .from-start) (t .from-end) (t .seqno-start) (t .seqno-end)
+      (rw (t .bytes) (r .1)) takes-true)
 
 -- where nothing is refused, the message at the index is taken, under its id
 pub plan-taken : (n : Node) (ss cs body : List ℕ) (i at a e x y z w : ℕ) → lentOf n ss cs ≡ lent.Fine
     → acceptOf body ≡ checked.Fine → messageAt body i ≡ found.At a e
-    → admissionOf (between body a e) true ≡ admission.Fit x y z w → n .clock ≤ at
+    → admissionOf (n .cache .flags) (between body a e) true ≡ admission.Fit x y z w → n .clock ≤ at
     → planned n ss cs body i true at ≡ taken (between body a e) (idBytes (between body a e) x y z w)
 unfolding planned
 plan-taken n ss cs body i at a e x y z w fine ok there fit h = rw (fine, ok, there, fit, le-ltb at (n .clock) h)
 
 -- a message that gives an id is taken under it, where the clock does not go back
-pub fit-plan : (n : Node) (at : ℕ) (m id : List ℕ) → givesId m id ≡ true → n .clock ≤ at
-    → planFit n at m (admissionOf m true) ≡ taken m id
-fit-plan n at m id own h = let g = gives-only m id own in
+pub fit-plan : (n : Node) (at : ℕ) (m id : List ℕ) → givesId (n .cache .flags) m id ≡ true → n .clock ≤ at
+    → planFit n at m (admissionOf (n .cache .flags) m true) ≡ taken m id
+fit-plan n at m id own h = let g = gives-only (n .cache .flags) m id own in
     rw (g .taken, le-ltb at (n .clock) h) (ap (λ (i : List ℕ). taken m i) (sym (g .named)))
 
 -- ---- the ids seen, after a clean-up and an insert: what the seen cache's own calls leave
@@ -197,14 +205,14 @@ module _ (n : Node) (ss cs : List ℕ) (fine : lentOf n ss cs ≡ lent.Fine) (at
   entries-swept = let t = fine-tests n ss cs fine in
       rw (swept-gc, ← room-cap n ss (t .room)) (gc-entries (n .seen) ss (t .ids) at)
 
-  pub held-swept : (id : List ℕ) → holds (marked id) (live at (entriesIn (n .«max_seen») (n .seen) ss))
-      ≡ heldAt n ss at id
+  pub held-swept : (form : List ℕ) → holds form (live at (entriesIn (n .«max_seen») (n .seen) ss))
+      ≡ heldAt n ss at form
   unfolding heldAt
-  held-swept id = ap (holds (marked id)) (sym entries-swept) ∙ holds-entries (n .«max_seen») (swept n at) ss (marked id)
+  held-swept form = ap (holds form) (sym entries-swept) ∙ holds-entries (n .«max_seen») (swept n at) ss form
 
-  pub is-new : (id : List ℕ) → isNew at id (gatewayIn n ss cs) ≡ not (heldAt n ss at id)
+  pub is-new : (m id : List ℕ) → isNew at m id (gatewayIn n ss cs) ≡ not (heldAt n ss at (formOf m id))
   unfolding isNew gatewayIn
-  is-new id = ap not (held-swept id)
+  is-new m id = ap not (held-swept (formOf m id))
 
   module _ (z : Sized (n .seen)) where
     pub swept-fine : seenLentOf (swept n at) ss ≡ seenLent.Fine
@@ -213,50 +221,50 @@ module _ (n : Node) (ss cs : List ℕ) (fine : lentOf n ss cs ≡ lent.Fine) (at
     pub swept-sized : Sized (swept n at)
     swept-sized = rw swept-gc (gc-sized (n .seen) ss (fine-tests n ss cs fine .ids) z at)
 
-    module _ (id : List ℕ) (k : length id ≤ messageIdSize) where
-      insert-answer : insertAnswer (n .«max_seen») (swept n at) ss (marked id) ≡ cond (heldAt n ss at id) insert.Held
+    module _ (form : List ℕ) (k : length form ≤ idSize) where
+      insert-answer : insertAnswer (n .«max_seen») (swept n at) ss form ≡ cond (heldAt n ss at form) insert.Held
           insert.Fresh
       unfolding heldAt
       insert-answer =
           let c = room-cap n ss (fine-tests n ss cs fine .room) in
-          rw (← holds-entries (n .«max_seen») (swept n at) ss (marked id))
-          (rw c at (insert-says (swept n at) ss swept-fine (n .«max_seen») (marked id) (omega arith) (omega arith)))
+          rw (← holds-entries (n .«max_seen») (swept n at) ss form)
+          (rw c at (insert-says (swept n at) ss swept-fine (n .«max_seen») form (omega arith) k))
 
       -- what an admit leaves
-      pub seen-inserted : cond (heldAt n ss at id) (swept n at)
-          (entered (n .«max_seen») (n .«max_seen») (length (marked id)) (until at (n .ttl)) (swept n at))
-          ≡ insertCache (n .«max_seen») at (n .ttl) (swept n at) ss (marked id)
+      pub seen-inserted : cond (heldAt n ss at form) (swept n at)
+          (entered (n .«max_seen») (n .«max_seen») (length form) (until at (n .ttl)) (swept n at))
+          ≡ insertCache (n .«max_seen») at (n .ttl) (swept n at) ss form
       unfolding insertCache
       seen-inserted =
           let c = room-cap n ss (fine-tests n ss cs fine .room) in
-          rw (insert-answer, c) (either (heldAt n ss at id) (λ t. rw t) (λ t. rw t))
+          rw (insert-answer, c) (either (heldAt n ss at form) (λ t. rw t) (λ t. rw t))
 
-      pub store-inserted : cond (heldAt n ss at id) ss (enteredStore (n .«max_seen») (n .«max_seen») (swept n at) ss
-          (marked id))
-          ≡ insertStore (n .«max_seen») (swept n at) ss (marked id)
+      pub store-inserted : cond (heldAt n ss at form) ss (enteredStore (n .«max_seen») (n .«max_seen») (swept n at) ss
+          form)
+          ≡ insertStore (n .«max_seen») (swept n at) ss form
       unfolding insertStore
       store-inserted =
           let c = room-cap n ss (fine-tests n ss cs fine .room) in
-          rw (insert-answer, c) (either (heldAt n ss at id) (λ t. rw t) (λ t. rw t))
+          rw (insert-answer, c) (either (heldAt n ss at form) (λ t. rw t) (λ t. rw t))
 
       pub entries-inserted : entriesIn (n .«max_seen»)
-          (insertCache (n .«max_seen») at (n .ttl) (swept n at) ss (marked id))
-          (insertStore (n .«max_seen») (swept n at) ss (marked id))
-          ≡ inserted (n .«max_seen») (marked id) at (n .ttl) (live at (entriesIn (n .«max_seen») (n .seen) ss))
+          (insertCache (n .«max_seen») at (n .ttl) (swept n at) ss form)
+          (insertStore (n .«max_seen») (swept n at) ss form)
+          ≡ inserted (n .«max_seen») form at (n .ttl) (live at (entriesIn (n .«max_seen») (n .seen) ss))
       entries-inserted =
           let c = room-cap n ss (fine-tests n ss cs fine .room) in
           rw (← entries-swept)
-          (rw c at (insert-entries (swept n at) ss swept-fine swept-sized (n .«max_seen») at (n .ttl) (marked id)
-          (omega arith) (omega arith)))
+          (rw c at (insert-entries (swept n at) ss swept-fine swept-sized (n .«max_seen») at (n .ttl) form
+          (omega arith) k))
 
 -- ---- admit
 module _ (n : Node) (ss cs body : List ℕ) (i : ℕ) (word : Bool) (at : ℕ) (m id : List ℕ) (typed : Typed n)
     (plan : planned n ss cs body i word at ≡ taken m id) where
-  pub admit-says : admitAnswer n ss at (planned n ss cs body i word at) ≡ cond (isNew at id (gatewayIn n ss cs))
+  pub admit-says : admitAnswer n ss at (planned n ss cs body i word at) ≡ cond (isNew at m id (gatewayIn n ss cs))
       admit.New admit.Duplicate
   admit-says =
       let t = plan-takes n ss cs body i word at m id .0 plan in
-      rw (plan, is-new n ss cs (t .fine) at id) (either (heldAt n ss at id) (λ u. rw u) (λ u. rw u))
+      rw (plan, is-new n ss cs (t .fine) at m id) (either (heldAt n ss at (formOf m id)) (λ u. rw u) (λ u. rw u))
 
   pub admit-gateway : gatewayIn (admitNode n ss at (planned n ss cs body i word at))
       (admitSeen n ss at (planned n ss cs body i word at)) (admitCache n ss cs at (planned n ss cs body i word at))
@@ -265,14 +273,14 @@ module _ (n : Node) (ss cs body : List ℕ) (i : ℕ) (word : Bool) (at : ℕ) (
   admit-gateway =
       let t = plan-takes n ss cs body i word at m id .0 plan in
       let f = fine-tests n ss cs (t .fine) in
-      let a = seen-inserted n ss cs (t .fine) at (typed .ids) id (takes-id-small t) in
-      let b = store-inserted n ss cs (t .fine) at (typed .ids) id (takes-id-small t) in
-      let e = entries-inserted n ss cs (t .fine) at (typed .ids) id (takes-id-small t) in
+      let a = seen-inserted n ss cs (t .fine) at (typed .ids) (formOf m id) (omega (arith, takes-id-small t)) in
+      let b = store-inserted n ss cs (t .fine) at (typed .ids) (formOf m id) (omega (arith, takes-id-small t)) in
+      let e = entries-inserted n ss cs (t .fine) at (typed .ids) (formOf m id) (omega (arith, takes-id-small t)) in
       let s = under-settings m id (n .cache) in
       let c = under-cached (n .cache) cs m id (f .messages) (typed .messages .sized) (takes-id-small t)
       (takes-small t) in
-      rw (plan, is-new n ss cs (t .fine) at id, ← e, ← a, ← b)
-      (either (heldAt n ss at id) (λ u. rw u) (λ u. rw (u, c, s .0, s .1)))
+      rw (plan, is-new n ss cs (t .fine) at m id, ← e, ← a, ← b)
+      (either (heldAt n ss at (formOf m id)) (λ u. rw u) (λ u. rw (u, c, s .0, s .1, s .2)))
 
 -- ---- heartbeat
 beat-passes : (n : Node) (ss cs : List ℕ) (at : ℕ) (l : Lent) → lentOf n ss cs ≡ l → beatAnswer n ss cs at ≡ beat.Done
@@ -310,7 +318,7 @@ beat-gateway n ss cs at typed h =
     let e = entries-swept n ss cs (d .0) at in
     let c = cached-shifted (n .cache) cs (cacheTests (n .cache) cs (t .messages)) (typed .messages .sized) in
     let s = shifted-settings (n .cache) in
-    rw (h, e, c, s .0, s .1)
+    rw (h, e, c, s .0, s .1, s .2)
 
 -- ---- what the other calls speak of
 -- the ids that are told of
@@ -320,10 +328,14 @@ unfolding toldIn gatewayIn
 told-gateway n ss cs topic windows f = gossip-ids (n .cache) cs topic windows (fine-tests n ss cs f .messages)
 
 -- the ids that are asked for
-unseen-lacking : (g : Gateway) (l is : List (List ℕ)) → idsOf (g .seen) ≡ l → unseenFrom l is ≡ lacking g is
-unfolding unseenFrom lacking holds
+known-knows : (g : Gateway) (l : List (List ℕ)) (i : List ℕ) → idsOf (g .seen) ≡ l → knownIn (g .flags) l i ≡ knows g i
+unfolding knownIn knows holds
+known-knows g l i e = rw e
+
+unseen-lacking : (g : Gateway) (l is : List (List ℕ)) → idsOf (g .seen) ≡ l → unseenFrom (g .flags) l is ≡ lacking g is
+unfolding unseenFrom lacking
 unseen-lacking g l [] e = refl
-unseen-lacking g l (i ∷ is) e = rw (e, unseen-lacking g l is e)
+unseen-lacking g l (i ∷ is) e = rw (known-knows g l i e, unseen-lacking g l is e)
 
 pub unseen-gateway : (n : Node) (ss cs : List ℕ) (is : List (List ℕ))
     → unseenOf n ss is ≡ lacking (gatewayIn n ss cs) is
@@ -393,7 +405,7 @@ module _ (n : Node) (ss cs out : List ℕ) (fine : lentOf n ss cs ≡ lent.Fine)
 plan-refused : (n : Node) (ss cs : List ℕ) (at : ℕ) (r : Plan) → (admitNumber (admitAnswer n ss at r) ≡ 0 → ⊥)
     → (admitNode n ss at r ≡ n) × (admitSeen n ss at r ≡ ss) × (admitCache n ss cs at r ≡ cs)
 plan-refused n ss cs at (no r) h = (refl, refl, refl)
-plan-refused n ss cs at (taken m id) h = absurd (h (either (heldAt n ss at id) (λ t. rw t) (λ t. rw t)))
+plan-refused n ss cs at (taken m id) h = absurd (h (either (heldAt n ss at (formOf m id)) (λ t. rw t) (λ t. rw t)))
 
 pub admit-refused : (n : Node) (ss cs body : List ℕ) (i : ℕ) (word : Bool) (at : ℕ)
     → (admitNumber (admitAnswer n ss at (planned n ss cs body i word at)) ≡ 0 → ⊥)

@@ -28,7 +28,9 @@ use Rattle.ids.specs.declared.MessageAt.the-variants as found
 use Rattle.schema.specs.Accept.{acceptOf}
 use Rattle.ids.specs.Ids.{messageAt, idBytes}
 use Rattle.admission.specs.declared.Admission.the-variants as admission
-use Rattle.admission.specs.Admission.{admissionOf}
+use Rattle.admission.specs.Flags.{allowsUnsigned}
+use Rattle.admission.specs.Admission.{admissionOf, isSigned}
+use Rattle.admission.specs.AdmissionLaws.{fit-signed}
 use Rattle.seen.specs.State.{entriesIn}
 use Rattle.seen.specs.EntriesLaws.{length-entries}
 use Rattle.seen.specs.Laws.{well-formed-exactly as seen-exactly}
@@ -50,7 +52,8 @@ use Rattle.node.specs.WellFormed.{Typed}
 use Rattle.node.specs.StateLaws.{fine-tests, room-cap}
 use Rattle.node.specs.Laws.{plan-takes, plan-taken, admit-says, admit-gateway, beat-says, beat-clock}
 use Rattle.node.specs.Laws.{unseen-gateway, cached-gateway}
-use Rattle.node.specs.Gateway.{Gateway, started, marked, isNew, afterAdmit, afterBeat, lacking, having, request}
+use Rattle.node.specs.Gateway.{Gateway, started, marked, formOf, isNew, afterAdmit, afterBeat, knows, lacking}
+use Rattle.node.specs.Gateway.{having, request}
 use Rattle.node.specs.WellFormedLaws.{expiriesOf, beat-fine}
 
 -- ---- a node that stores nothing
@@ -80,17 +83,17 @@ held-drop : (i : List ℕ) (k : ℕ) (ms : List Cached) → held i ms ≡ false 
 unfolding held
 held-drop i k ms h = rw (map-drop (λ (x : Cached). x .id) k ms) (among-drop i k (messages.idsOf ms) h)
 
-module _ (at : ℕ) (m id : List ℕ) (g : Gateway) (fresh : isNew at id g ≡ true) where
+module _ (at : ℕ) (m id : List ℕ) (g : Gateway) (fresh : isNew at m id g ≡ true) where
   -- an id that was new is seen afterwards
-  pub new-is-seen : (g .max-seen ≡ 0 → ⊥) → holds (marked id) (afterAdmit at m id g .seen) ≡ true
+  pub new-is-seen : (g .max-seen ≡ 0 → ⊥) → holds (formOf m id) (afterAdmit at m id g .seen) ≡ true
   unfolding afterAdmit isNew inserted
   new-is-seen some =
       let es = live at (g .seen) in
       rw (
-        sym (Bool·not-not (holds (marked id) es)) ∙ ap not fresh,
-        newest-more (g .max-seen) es (record { id = marked id; expiry = until at (g .ttl) }) some,
+        sym (Bool·not-not (holds (formOf m id) es)) ∙ ap not fresh,
+        newest-more (g .max-seen) es (record { id = formOf m id; expiry = until at (g .ttl) }) some,
       )
-      (holds-last (marked id) (drop ((length es + 1) - g .max-seen) es) (until at (g .ttl)))
+      (holds-last (formOf m id) (drop ((length es + 1) - g .max-seen) es) (until at (g .ttl)))
 
   -- and its message is served
   pub new-is-served : (g .max-messages ≡ 0 → ⊥) → held id (g .cache) ≡ false
@@ -106,32 +109,48 @@ module _ (at : ℕ) (m id : List ℕ) (g : Gateway) (fresh : isNew at id g ≡ t
         get-last id m (drop k (g .cache)) (held-drop id k (g .cache) h),
       )
 
--- an id that is seen is not asked for
-seen-not-asked : (g : Gateway) (id : List ℕ) → holds (marked id) (g .seen) ≡ true → lacking g (id ∷ []) ≡ []
+-- an id that is held is not asked for
+seen-not-asked : (g : Gateway) (id : List ℕ) → knows g id ≡ true → lacking g (id ∷ []) ≡ []
 unfolding lacking
 seen-not-asked g id h = rw h
+
+-- an id counts as held in the form of a message with a signature; in that of one without, where these are allowed
+form-known : (g : Gateway) (id : List ℕ) (signed : Bool) → (signed ≡ false → allowsUnsigned (g .flags) ≡ true)
+    → holds (marked signed id) (g .seen) ≡ true → knows g id ≡ true
+unfolding knows
+form-known g id true on h = rw h
+form-known g id false on h = rw (on refl, h) (or-true (holds (marked true id) (g .seen)))
 
 -- the same of the calls: after an admit that answers new, the id is not asked for, and its message is served
 module _ (n : Node) (ss cs body : List ℕ) (i : ℕ) (word : Bool) (at : ℕ) (m id : List ℕ) (typed : Typed n)
     (plan : planned n ss cs body i word at ≡ taken m id)
     (says : admitAnswer n ss at (planned n ss cs body i word at) ≡ admit.New)
   where
-    was-new : isNew at id (gatewayIn n ss cs) ≡ true
+    was-new : isNew at m id (gatewayIn n ss cs) ≡ true
     was-new =
         let s = admit-says n ss cs body i word at m id typed plan in
-        either (isNew at id (gatewayIn n ss cs)) (λ t. t) (λ t. clash (let z = rw (t, says) at s in cc))
+        either (isNew at m id (gatewayIn n ss cs)) (λ t. t) (λ t. clash (let z = rw (t, says) at s in cc))
+
+    -- what was taken without a signature was allowed
+    allowed : isSigned m ≡ false → allowsUnsigned (n .cache .flags) ≡ true
+    allowed u =
+        let t = plan-takes n ss cs body i word at m id .0 plan in
+        either (allowsUnsigned (n .cache .flags)) (λ on. on)
+        (λ off. clash (let z = fit-signed (n .cache .flags) m word (t .from-start) (t .from-end) (t .seqno-start) (t .seqno-end)
+        (t .fit) off in cc))
 
     pub admitted-not-asked : (n .«max_seen» ≡ 0 → ⊥)
         → unseenOf (admitNode n ss at (planned n ss cs body i word at))
         (admitSeen n ss at (planned n ss cs body i word at)) (id ∷ []) ≡ []
-    unfolding gatewayIn
+    unfolding gatewayIn afterAdmit
     admitted-not-asked some =
         unseen-gateway (admitNode n ss at (planned n ss cs body i word at))
         (admitSeen n ss at (planned n ss cs body i word at))
         (admitCache n ss cs at (planned n ss cs body i word at)) (id ∷ [])
         ∙ ap (λ (g : Gateway). lacking g (id ∷ [])) (admit-gateway n ss cs body i word at m id typed plan)
         ∙ seen-not-asked (afterAdmit at m id (gatewayIn n ss cs)) id
-        (new-is-seen at m id (gatewayIn n ss cs) was-new some)
+        (form-known (afterAdmit at m id (gatewayIn n ss cs)) id (isSigned m) allowed
+        (new-is-seen at m id (gatewayIn n ss cs) was-new some))
 
     pub admitted-served : (n .cache .«max_messages» ≡ 0 → ⊥) → held id (cachedIn (n .cache) cs) ≡ false
         → cachedOf (admitNode n ss at (planned n ss cs body i word at) .cache)
@@ -145,14 +164,14 @@ module _ (n : Node) (ss cs body : List ℕ) (i : ℕ) (word : Bool) (at : ℕ) (
         ∙ new-is-served at m id (gatewayIn n ss cs) was-new some h
 
 -- ---- an ask that never asks
--- an id that is not seen is asked for
-pub unseen-asked : (g : Gateway) (id : List ℕ) → holds (marked id) (g .seen) ≡ false → lacking g (id ∷ []) ≡ id ∷ []
+-- an id that is not held is asked for
+pub unseen-asked : (g : Gateway) (id : List ℕ) → knows g id ≡ false → lacking g (id ∷ []) ≡ id ∷ []
 unfolding lacking
 unseen-asked g id h = rw h
 
 -- of the ids named, those and no others
 pub asked-exactly : (g : Gateway) (i : List ℕ) (is : List (List ℕ))
-    → among i (lacking g is) ≡ (among i is && not (holds (marked i) (g .seen)))
+    → among i (lacking g is) ≡ (among i is && not (knows g i))
 unfolding lacking among
 asked-exactly g i [] = refl
 asked-exactly g i (j ∷ is) =
@@ -160,9 +179,9 @@ asked-exactly g i (j ∷ is) =
     either (sameBytes j i)
     (λ t.
     let e : j ≡ i = same-equal j i t in
-    either (holds (marked i) (g .seen)) (λ u. rw (e, u, same-self i) (rw u at r ∙ and-false (among i is)))
+    either (knows g i) (λ u. rw (e, u, same-self i) (rw u at r ∙ and-false (among i is)))
     (λ u. rw (e, u, same-self i)))
-    (λ t. either (holds (marked j) (g .seen)) (λ u. rw (u, t) r) (λ u. rw (u, t) r))
+    (λ t. either (knows g j) (λ u. rw (u, t) r) (λ u. rw (u, t) r))
 
 -- where such an id is named, an RPC is written that asks for it
 written-for : (i : List ℕ) (is : List (List ℕ)) (x : Rpc) → among i is ≡ true → bytesFor is x ≡ encodeRpc x
@@ -171,7 +190,7 @@ written-for i [] x h = clash (cc)
 written-for i (j ∷ is) x h = refl
 
 pub ask-asks : (n : Node) (ss cs body i : List ℕ) → among i (offered body) ≡ true
-    → holds (marked i) (gatewayIn n ss cs .seen) ≡ false
+    → knows (gatewayIn n ss cs) i ≡ false
     → (among i (unseenOf n ss (offered body)) ≡ true)
     × (askBytes n ss body ≡ encodeRpc (request (unseenOf n ss (offered body))))
 unfolding askBytes
@@ -242,19 +261,20 @@ live-none at [] h = refl
 live-none at (e ∷ es) h = let b = both (leb (e .expiry) at) (allUpTo at (expiriesOf es)) h in
     rw (b .0) (live-none at es (b .1))
 
-pub expired-new : (at : ℕ) (id : List ℕ) (g : Gateway) → allUpTo at (expiriesOf (g .seen)) ≡ true → isNew at id g ≡ true
+pub expired-new : (at : ℕ) (m id : List ℕ) (g : Gateway) → allUpTo at (expiriesOf (g .seen)) ≡ true
+    → isNew at m id g ≡ true
 unfolding isNew holds among
-expired-new at id g h = rw (live-none at (g .seen) h)
+expired-new at m id g h = rw (live-none at (g .seen) h)
 
 -- the sample: after the heartbeat at 1100 the message is still cached, and an admit at 1100 is new
 unfoldable pub sample : List ℕ → List ℕ → Gateway
-sample m id = afterBeat 1100 (afterAdmit 100 m id (started 1000 4 2 4))
+sample m id = afterBeat 1100 (afterAdmit 100 m id (started 1000 4 2 4 0))
 
 pub line-8-cached : (m id : List ℕ) → having (sample m id) (id ∷ []) ≡ m ∷ []
 unfolding sample having afterBeat afterAdmit started isNew inserted live holds among held put shift get newest until
 line-8-cached m id = rw (same-self id)
 
-pub line-8-new : (m id : List ℕ) → isNew 1100 id (sample m id) ≡ true
+pub line-8-new : (m id : List ℕ) → isNew 1100 m id (sample m id) ≡ true
 unfolding sample afterBeat afterAdmit started isNew inserted live holds among newest until
 line-8-new m id = refl
 
@@ -272,13 +292,13 @@ last-beat n ss cs fine h = beat-says n ss cs (2 ^ 64 - 1) fine (omega arith)
 
 pub last-admit : (n : Node) (ss cs body : List ℕ) (i a e x y z w : ℕ) → lentOf n ss cs ≡ lent.Fine
     → acceptOf body ≡ checked.Fine → messageAt body i ≡ found.At a e
-    → admissionOf (between body a e) true ≡ admission.Fit x y z w → n .clock < 2 ^ 64
+    → admissionOf (n .cache .flags) (between body a e) true ≡ admission.Fit x y z w → n .clock < 2 ^ 64
     → planned n ss cs body i true (2 ^ 64 - 1) ≡ taken (between body a e) (idBytes (between body a e) x y z w)
 last-admit n ss cs body i a e x y z w fine ok there fit h =
     plan-taken n ss cs body i (2 ^ 64 - 1) a e x y z w fine ok there fit (omega arith)
 
 -- with max_seen 0 every admit is new, and nothing is kept as seen
-pub none-seen : (at : ℕ) (m id : List ℕ) (g : Gateway) → g .max-seen ≡ 0 → g .seen ≡ [] → (isNew at id g ≡ true)
+pub none-seen : (at : ℕ) (m id : List ℕ) (g : Gateway) → g .max-seen ≡ 0 → g .seen ≡ [] → (isNew at m id g ≡ true)
     × (afterAdmit at m id g .seen ≡ [])
 unfolding isNew afterAdmit inserted live holds among newest
 none-seen at m id g z e = rw (e, z) (refl, refl)

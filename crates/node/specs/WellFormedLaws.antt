@@ -38,7 +38,7 @@ use Rattle.node.specs.declared.Node.{Node}
 use Rattle.node.specs.declared.Lent.the-variants as lent
 use Rattle.node.specs.declared.Beat.{Beat}
 use Rattle.node.specs.declared.Beat.the-variants as beat
-use Rattle.node.specs.Gateway.{Gateway, marked, started, afterAdmit, afterBeat}
+use Rattle.node.specs.Gateway.{Gateway, formOf, started, afterAdmit, afterBeat}
 use Rattle.node.specs.State.{gatewayIn, legalSettings, freshNode, risesFrom, seenRing}
 use Rattle.node.specs.Calls.{lentOf, laterNode, Plan, no, taken, planned, swept, heldAt, admitNode, admitSeen}
 use Rattle.node.specs.Calls.{admitCache, beatAnswer, beatNode}
@@ -217,7 +217,7 @@ module _ (at : ℕ) (g : Gateway) (h : g .clock ≤ at) (o : Ordered g) where
   pub admit-ordered : (m id : List ℕ) → Ordered (afterAdmit at m id g)
   unfolding afterAdmit
   admit-ordered m id =
-      order-inserted (until (g .clock) (g .ttl)) (g .max-seen) at (g .ttl) (marked id) (live at (g .seen))
+      order-inserted (until (g .clock) (g .ttl)) (g .max-seen) at (g .ttl) (formOf m id) (live at (g .seen))
       (until-later (g .clock) at (g .ttl) h)
       (order-live (until (g .clock) (g .ttl)) at (g .seen) o)
 
@@ -227,9 +227,9 @@ module _ (at : ℕ) (g : Gateway) (h : g .clock ≤ at) (o : Ordered g) where
       order-more (until (g .clock) (g .ttl)) (live at (g .seen)) (order-live (until (g .clock) (g .ttl)) at (g .seen) o)
       (until at (g .ttl)) (until-later (g .clock) at (g .ttl) h)
 
-pub started-ordered : (ttl max-seen history max : ℕ) → Ordered (started ttl max-seen history max)
+pub started-ordered : (ttl max-seen history max flags : ℕ) → Ordered (started ttl max-seen history max flags)
 unfolding started risesFrom allUpTo
-started-ordered ttl max-seen history max = record { rises = refl; upto = refl }
+started-ordered ttl max-seen history max flags = record { rises = refl; upto = refl }
 
 -- ---- every state that the calls reach
 entries-rise : (n : Node) (ss cs : List ℕ) → Ordered (gatewayIn n ss cs)
@@ -268,16 +268,17 @@ later-rises : (n : Node) (ss cs : List ℕ) (at : ℕ) (c : SeenCache) (d : Mess
 unfolding gatewayIn laterNode
 later-rises n ss cs at c d o = o .rises
 
-pub begun-keeps : (ttl max-seen history max : ℕ) (ss cs : List ℕ) → legalSettings max-seen history max ≡ true
+pub begun-keeps : (ttl max-seen history max flags : ℕ) (ss cs : List ℕ)
+    → legalSettings max-seen history max flags ≡ true
     → length ss ≡ max-seen * idSize → length cs ≡ max * messageSize
-    → Keeps (freshNode ttl max-seen history max) ss cs
+    → Keeps (freshNode ttl max-seen history max flags) ss cs
 unfolding freshNode legalSettings
-begun-keeps ttl max-seen history max ss cs l r s =
-    let b = both (leb max-seen maxIds) (legal history max) l in
+begun-keeps ttl max-seen history max flags ss cs l r s =
+    let b = both (leb max-seen maxIds) (legal history max flags) l in
     let few = leb-true max-seen maxIds (b .0) in
-    let n = freshNode ttl max-seen history max in
+    let n = freshNode ttl max-seen history max flags in
     let o : Ordered (gatewayIn n ss cs) =
-    rw (fresh-gateway ttl max-seen history max ss cs) (started-ordered ttl max-seen history max) in
+    rw (fresh-gateway ttl max-seen history max flags ss cs) (started-ordered ttl max-seen history max flags) in
     record {
       fine = tests-fine n ss cs
           (record {
@@ -285,11 +286,11 @@ begun-keeps ttl max-seen history max ss cs l r s =
             few = few;
             ids = fresh-fine ss (room-whole n ss r few);
             rises = entries-rise n ss cs o;
-            messages = start-fine history max cs (b .1) s;
+            messages = start-fine history max flags cs (b .1) s;
           });
       typed = record {
         ids = fresh-sized;
-        messages = rw (fresh-first history max) (fresh-typed 0 history max (omega arith));
+        messages = rw (fresh-first history max flags) (fresh-typed 0 history max flags (omega arith));
       };
       ordered = o;
     }
@@ -298,23 +299,23 @@ begun-keeps ttl max-seen history max ss cs l r s =
 module _ (n : Node) (ss cs : List ℕ) (at : ℕ) (m id : List ℕ) (typed : Typed n) (fine : lentOf n ss cs ≡ lent.Fine)
     (k : length id ≤ messageIdSize) where
   abbrev seenAfter : SeenCache
-  seenAfter = insertCache (n .«max_seen») at (n .ttl) (swept n at) ss (marked id)
+  seenAfter = insertCache (n .«max_seen») at (n .ttl) (swept n at) ss (formOf m id)
 
   abbrev storeAfter : List ℕ
-  storeAfter = insertStore (n .«max_seen») (swept n at) ss (marked id)
+  storeAfter = insertStore (n .«max_seen») (swept n at) ss (formOf m id)
 
   abbrev cacheAfter : MessageCache
-  cacheAfter = cond (heldAt n ss at id) (n .cache) (keptUnder m id (n .cache))
+  cacheAfter = cond (heldAt n ss at (formOf m id)) (n .cache) (keptUnder m id (n .cache))
 
   node-after : admitNode n ss at (taken m id) ≡ laterNode at seenAfter cacheAfter n
   node-after =
-      rw (← seen-inserted n ss cs fine at (typed .ids) id k)
-      (either (heldAt n ss at id) (λ u. rw u) (λ u. rw u))
+      rw (← seen-inserted n ss cs fine at (typed .ids) (formOf m id) (omega arith))
+      (either (heldAt n ss at (formOf m id)) (λ u. rw u) (λ u. rw u))
 
   store-after : admitSeen n ss at (taken m id) ≡ storeAfter
-  store-after = store-inserted n ss cs fine at (typed .ids) id k
+  store-after = store-inserted n ss cs fine at (typed .ids) (formOf m id) (omega arith)
 
-  taken-keeps : length m ≤ messageSize → givesId m id ≡ true
+  taken-keeps : length m ≤ messageSize → givesId (n .cache .flags) m id ≡ true
       → Ordered (gatewayIn (admitNode n ss at (taken m id)) (admitSeen n ss at (taken m id))
       (admitCache n ss cs at (taken m id)))
       → Keeps (admitNode n ss at (taken m id)) (admitSeen n ss at (taken m id)) (admitCache n ss cs at (taken m id))
@@ -323,21 +324,21 @@ module _ (n : Node) (ss cs : List ℕ) (at : ℕ) (m id : List ℕ) (typed : Typ
       let f = swept-fine n ss cs fine at (typed .ids) in
       let z = swept-sized n ss cs fine at (typed .ids) in
       let stores : cacheLentOf cacheAfter (admitCache n ss cs at (taken m id)) ≡ cacheLent.Fine =
-      either (heldAt n ss at id) (λ u. rw u (t .messages))
+      either (heldAt n ss at (formOf m id)) (λ u. rw u (t .messages))
       (λ u. rw u (under-fine (n .cache) cs m id (t .messages) (typed .messages .sized) small k own)) in
-      let types : cacheTyped cacheAfter = either (heldAt n ss at id) (λ u. rw u (typed .messages))
+      let types : cacheTyped cacheAfter = either (heldAt n ss at (formOf m id)) (λ u. rw u (typed .messages))
       (λ u. rw u (under-typed m id (n .cache) (typed .messages))) in
       let p = rw (node-after, store-after) at o in
       rw (node-after, store-after)
       (record {
         fine =
             later-fine n ss cs storeAfter (admitCache n ss cs at (taken m id)) at seenAfter cacheAfter t
-            (insert-length (n .«max_seen») (swept n at) ss (marked id) .0)
-            (insert-fine (swept n at) ss f z (n .«max_seen») at (n .ttl) (marked id))
+            (insert-length (n .«max_seen») (swept n at) ss (formOf m id) .0)
+            (insert-fine (swept n at) ss f z (n .«max_seen») at (n .ttl) (formOf m id))
             (later-rises n storeAfter (admitCache n ss cs at (taken m id)) at seenAfter cacheAfter p)
             stores;
         typed = later-typed n at seenAfter cacheAfter (insert-sized (swept n at) ss f z (n .«max_seen») at (n .ttl)
-            (marked id)) types;
+            (formOf m id)) types;
         ordered = p;
       })
 
@@ -402,7 +403,8 @@ beaten-keeps n ss cs at k beat.Done e =
     }
 
 pub reached-keeps : {n : Node} {ss cs : List ℕ} → Reached n ss cs → Keeps n ss cs
-reached-keeps (begun ttl max-seen history max ss cs t l r s) = begun-keeps ttl max-seen history max ss cs l r s
+reached-keeps (begun ttl max-seen history max flags ss cs t l r s) =
+    begun-keeps ttl max-seen history max flags ss cs l r s
 reached-keeps (admitted {n} {ss} {cs} r body i word at h) =
     admitted-keeps n ss cs body i word at (reached-keeps r) (planned n ss cs body i word at) refl
 reached-keeps (beaten {n} {ss} {cs} r at h) = beaten-keeps n ss cs at (reached-keeps r) (beatAnswer n ss cs at) refl

@@ -4,6 +4,7 @@ use Prim.Native.Nat.{ℕ, _*_}
 use mathlib.Core.Path.{_≡_, refl, sym, ap, _∙_}
 use mathlib.Core.List.{List}
 use mathlib.Core.Bool.{Bool, true, false, cond}
+use native.Mathlib.Omega.{arith}
 use lib.ListN.{length}
 use lib.Dec.{eqb}
 use Rattle.basis.specs.Cases.{either, clash, both}
@@ -31,7 +32,7 @@ use Rattle.node.specs.declared.Node.{Node}
 use Rattle.node.specs.declared.Lent.the-variants as lent
 use Rattle.node.specs.declared.Beat.{Beat}
 use Rattle.node.specs.declared.Beat.the-variants as beat
-use Rattle.node.specs.Gateway.{marked}
+use Rattle.node.specs.Gateway.{formOf}
 use Rattle.node.specs.State.{wellFormed, seenFits}
 use Rattle.node.specs.Calls.{rightSizes, lentOf, laterNode, Plan, no, taken, planFit, planAt, planBody, planned}
 use Rattle.node.specs.Calls.{swept, heldAt, admitAnswer, admitNode, admitSeen, admitCache, beatAnswer, whenDone}
@@ -103,8 +104,9 @@ module _ (k : ℕ) (n : Node) (ss cs : List ℕ) (typed : Typed n) where
     fit-moved p (admission.Fit a e b f) = refl
 
     at-moved : (r : MessageAt) → planAt (movedNode k n) at word body r ≡ planAt n at word body r
+    unfolding movedNode moved
     at-moved (found.Count c) = refl
-    at-moved (found.At a e) = fit-moved (between body a e) (admissionOf (between body a e) word)
+    at-moved (found.At a e) = fit-moved (between body a e) (admissionOf (n .cache .flags) (between body a e) word)
 
     body-moved : (r : Checked) → planBody (movedNode k n) at word body i r ≡ planBody n at word body i r
     body-moved (checked.Refused why) = refl
@@ -135,7 +137,7 @@ module _ (k : ℕ) (n : Node) (ss cs : List ℕ) (typed : Typed n) where
 
       node-moved : admitNode (movedNode k n) ss at (taken m id) ≡ movedNode k (admitNode n ss at (taken m id))
       unfolding heldAt swept laterNode movedNode
-      node-moved = rw kept-moved (either (heldAt n ss at id) (λ u. rw u) (λ u. rw u))
+      node-moved = rw kept-moved (either (heldAt n ss at (formOf m id)) (λ u. rw u) (λ u. rw u))
 
       store-moved : admitCache (movedNode k n) ss cs at (taken m id) ≡ admitCache n ss cs at (taken m id)
       unfolding heldAt swept movedNode
@@ -222,7 +224,7 @@ module _ (k : ℕ) (n : Node) (ss cs : List ℕ) (typed : Typed n) where
   explain-moved id topic windows = rw (lent-moved, offer-moved id topic windows)
 
   asked-moved : (body : List ℕ) → askBytes (movedNode k n) ss body ≡ askBytes n ss body
-  unfolding askBytes unseenOf movedNode
+  unfolding askBytes unseenOf movedNode moved
   asked-moved body = refl
 
   pub ask-moved : (body out : List ℕ) → (askAnswer (movedNode k n) ss cs body out ≡ askAnswer n ss cs body out)
@@ -251,12 +253,12 @@ module _ (n : Node) (ss cs : List ℕ) (typed : Typed n) where
       let t = plan-takes n ss cs body i word at m id .0 e in
       let z = swept-sized n ss cs (t .fine) at (typed .ids) in
       let f = swept-fine n ss cs (t .fine) at (typed .ids) in
-      let s = seen-inserted n ss cs (t .fine) at (typed .ids) id (takes-id-small t) in
-      either (heldAt n ss at id)
+      let s = seen-inserted n ss cs (t .fine) at (typed .ids) (formOf m id) (omega (arith, takes-id-small t)) in
+      either (heldAt n ss at (formOf m id))
       (λ u. rw u (record { ids = z; messages = typed .messages }))
       (λ u. rw u
       (record {
-        ids = rw (rw u at s) (insert-sized (swept n at) ss f z (n .«max_seen») at (n .ttl) (marked id));
+        ids = rw (rw u at s) (insert-sized (swept n at) ss f z (n .«max_seen») at (n .ttl) (formOf m id));
         messages = under-typed m id (n .cache) (typed .messages);
       }))
 

@@ -401,7 +401,7 @@ fn emit_advertisement(
 
 // Whether a message that may be taken under some flags has a signature; where unsigned messages are not allowed each has one.
 fn has_signature(part: &[u8], flags: usize) -> bool
-    requires { ⌜ allowsUnsigned flags ≡ false → isSigned (now part) ≡ true ⌝ }
+    requires { ⌜ (allowsUnsigned flags ≡ false → isSigned (now part) ≡ true) ⌝ }
     ensures { λ r. ⌜ r ≡ isSigned (now (part .entry)) ⌝ }
 {
     if allows_unsigned(flags) {

@@ -39,13 +39,13 @@ use Rattle.node.specs.declared.Lent.{Lent}
 use Rattle.node.specs.declared.Lent.the-variants as lent
 use Rattle.node.specs.declared.Admit.the-variants as admit
 use Rattle.node.specs.Told.{faultTold, admitTold}
-use Rattle.node.specs.Gateway.{isNew}
+use Rattle.node.specs.Gateway.{formOf, isNew}
 use Rattle.node.specs.State.{gatewayIn}
 use Rattle.node.specs.Calls.{lentOf, onLent, no, taken, planFit, planAt, planBody, planned, heldAt, admitAnswer}
 use Rattle.node.specs.Laws.{Takes, plan-takes, is-new}
 
--- the state is fine; the body means an RPC within capacity; m is its message i, as it stood in the body; it is fit with
--- the host's word, and id is its id; and the clock is not ahead
+-- the state is fine; the body means an RPC within capacity; m is its message i, as it stood in the body; it is fit under
+-- the node's flags and with the host's word, and id is its id; and the clock is not ahead
 pub record AdmitTakes (n : Node) (ss cs body : List ℕ) (i : ℕ) (word : Bool) (at : ℕ) (m id : List ℕ) : Type 0 where
   pub fine : lentOf n ss cs ≡ lent.Fine
   pub rpc : Rpc
@@ -57,7 +57,7 @@ pub record AdmitTakes (n : Node) (ss cs body : List ℕ) (i : ℕ) (word : Bool)
   pub from-end : ℕ
   pub seqno-start : ℕ
   pub seqno-end : ℕ
-  pub fit : admissionOf m word ≡ admission.Fit from-start from-end seqno-start seqno-end
+  pub fit : admissionOf (n .cache .flags) m word ≡ admission.Fit from-start from-end seqno-start seqno-end
   pub named : messageId message ≡ the-id id
   pub forward : n .clock ≤ at
 
@@ -73,16 +73,16 @@ pub data AdmitTells (n : Node) (ss cs body : List ℕ) (i : ℕ) (word : Bool) (
       → AdmitTells n ss cs body i word at (told no-message (length (x .publish) ∷ []))
   -- 21 to 30 and 34 to 36
   unfit : {x : Rpc} {m : RawMessage} {why : Unfit} → lentOf n ss cs ≡ lent.Fine → Within body x → Nth i (x .publish) m
-      → admissionOf (m .raw) word ≡ admission.Unfit why → AdmitTells n ss cs body i word at (unfitTold why)
+      → admissionOf (n .cache .flags) (m .raw) word ≡ admission.Unfit why → AdmitTells n ss cs body i word at (unfitTold why)
   -- 31: now below the clock, with the clock
   back : {x : Rpc} {m : RawMessage} {a e b f : ℕ} → lentOf n ss cs ≡ lent.Fine → Within body x → Nth i (x .publish) m
-      → admissionOf (m .raw) word ≡ admission.Fit a e b f → at < n .clock
+      → admissionOf (n .cache .flags) (m .raw) word ≡ admission.Fit a e b f → at < n .clock
       → AdmitTells n ss cs body i word at (told clock-back (n .clock ∷ []))
   -- 1 where the id of the message is new, 0 where it is not
   says : {x : Rpc} {m : RawMessage} {a e b f : ℕ} {id : List ℕ} → lentOf n ss cs ≡ lent.Fine → Within body x
-      → Nth i (x .publish) m → admissionOf (m .raw) word ≡ admission.Fit a e b f → n .clock ≤ at
+      → Nth i (x .publish) m → admissionOf (n .cache .flags) (m .raw) word ≡ admission.Fit a e b f → n .clock ≤ at
       → messageId m ≡ the-id id
-      → AdmitTells n ss cs body i word at (done (cond (isNew at id (gatewayIn n ss cs)) 1 0 ∷ []))
+      → AdmitTells n ss cs body i word at (done (cond (isNew at (m .raw) id (gatewayIn n ss cs)) 1 0 ∷ []))
 
 module _ (n : Node) (ss cs body : List ℕ) (i : ℕ) (word : Bool) (at : ℕ) (m id : List ℕ) where
   of-rpc : AdmitTakes n ss cs body i word at m id → Takes n ss cs body i word at m id
@@ -92,7 +92,7 @@ module _ (n : Node) (ss cs body : List ℕ) (i : ℕ) (word : Bool) (at : ℕ) (
       let own : messageId (t .message) ≡ the-id (idBytes m (t .from-start) (t .from-end) (t .seqno-start) (t .seqno-end)) =
       id-named (t .from-start) (t .from-end) (t .seqno-start) (t .seqno-end)
       (subst (λ (p : List ℕ). IsMessage p (t .message)) (sym b) (f .3))
-      (fit-parts m word (t .from-start) (t .from-end) (t .seqno-start) (t .seqno-end) (t .fit)) in
+      (fit-parts (n .cache .flags) m word (t .from-start) (t .from-end) (t .seqno-start) (t .seqno-end) (t .fit)) in
       let e : the-id id ≡ the-id (idBytes m (t .from-start) (t .from-end) (t .seqno-start) (t .seqno-end)) =
       sym (t .named) ∙ own in
       record {
@@ -129,7 +129,7 @@ module _ (n : Node) (ss cs body : List ℕ) (i : ℕ) (word : Bool) (at : ℕ) (
         fit = t .fit;
         named = id-named (t .from-start) (t .from-end) (t .seqno-start) (t .seqno-end)
             (subst (λ (p : List ℕ). IsMessage p (f .0)) (sym (t .bytes)) (f .2))
-            (fit-parts m word (t .from-start) (t .from-end) (t .seqno-start) (t .seqno-end) (t .fit))
+            (fit-parts (n .cache .flags) m word (t .from-start) (t .from-end) (t .seqno-start) (t .seqno-end) (t .fit))
             ∙ ap the-id (sym (t .named));
         forward = t .forward;
       }
@@ -146,28 +146,33 @@ module _ (n : Node) (ss cs body : List ℕ) (i : ℕ) (word : Bool) (at : ℕ) w
   Tells a = AdmitTells n ss cs body i word at a
 
   -- what is told of a message that is taken under an id
-  new-told : lentOf n ss cs ≡ lent.Fine → (id : List ℕ)
-      → admitTold (cond (heldAt n ss at id) admit.Duplicate admit.New)
-      ≡ done (cond (isNew at id (gatewayIn n ss cs)) 1 0 ∷ [])
-  new-told fine id = rw (is-new n ss cs fine at id) (either (heldAt n ss at id) (λ t. rw t) (λ t. rw t))
+  abbrev newTold : List ℕ → List ℕ → Told
+  newTold p id = done (cond (isNew at p id (gatewayIn n ss cs)) 1 0 ∷ [])
+
+  new-told : lentOf n ss cs ≡ lent.Fine → (p id : List ℕ)
+      → admitTold (cond (heldAt n ss at (formOf p id)) admit.Duplicate admit.New) ≡ newTold p id
+  new-told fine p id =
+      rw (is-new n ss cs fine at p id) (either (heldAt n ss at (formOf p id)) (λ t. rw t) (λ t. rw t))
 
   -- ---- it tells one of these
   module _ (fine : lentOf n ss cs ≡ lent.Fine) (x : Rpc) (w : Within body x) where
     of-fit : (p : List ℕ) (m : RawMessage) → Nth i (x .publish) m → IsMessage p m → (q : Admission)
-        → admissionOf p word ≡ q → Tells (admitTold (admitAnswer n ss at (planFit n at p q)))
+        → admissionOf (n .cache .flags) p word ≡ q → Tells (admitTold (admitAnswer n ss at (planFit n at p q)))
     of-fit p m k g (admission.Unfit why) e =
-        let u : admissionOf (m .raw) word ≡ admission.Unfit why = rw (raw-is g) e in unfit fine w k u
+        let u : admissionOf (n .cache .flags) (m .raw) word ≡ admission.Unfit why = rw (raw-is g) e in unfit fine w k u
     of-fit p m k g (admission.Fit a z b f) e =
-        let u : admissionOf (m .raw) word ≡ admission.Fit a z b f = rw (raw-is g) e in
+        let u : admissionOf (n .cache .flags) (m .raw) word ≡ admission.Fit a z b f = rw (raw-is g) e in
         either (ltb at (n .clock)) (λ t. rw t (back fine w k u (ltb-true at (n .clock) t)))
-        (λ t. rw (t, new-told fine (idBytes p a z b f))
-        (says fine w k u (ltb-false at (n .clock) t) (id-named a z b f g (fit-parts p word a z b f e))))
+        (λ t. rw (t, new-told fine p (idBytes p a z b f))
+        (subst (λ (l : List ℕ). Tells (newTold l (idBytes p a z b f))) (raw-is g)
+        (says {id = idBytes p a z b f} fine w k u (ltb-false at (n .clock) t)
+        (id-named a z b f g (fit-parts (n .cache .flags) p word a z b f e)))))
 
     of-at : (r : MessageAt) → messageAt body i ≡ r → Tells (admitTold (admitAnswer n ss at (planAt n at word body r)))
     of-at (Count k) e = let m = message-missing i k (w .means) e in rw (m .0) (no-such fine w (m .1))
     of-at (At a z) e =
         let f = message-found i a z (w .means) e in
-        of-fit (between body a z) (f .0) (f .1) (f .2) (admissionOf (between body a z) word) refl
+        of-fit (between body a z) (f .0) (f .1) (f .2) (admissionOf (n .cache .flags) (between body a z) word) refl
 
   of-body : Bytes body → lentOf n ss cs ≡ lent.Fine → (r : Checked) → acceptOf body ≡ r
       → Tells (admitTold (admitAnswer n ss at (planBody n at word body i r)))
@@ -202,10 +207,12 @@ module _ (n : Node) (ss cs body : List ℕ) (i : ℕ) (word : Bool) (at : ℕ) w
   only b (says {a = a} {e = z} {b = c} {f = d} {id = id} fine w k e l q) =
       let f = found-in i (messageAt body i) (w .means) k refl in
       let p = between body (f .0) (f .1) in
-      let u : admissionOf p word ≡ admission.Fit a z c d = rw (raw-is (f .3)) at e in
-      let o : the-id id ≡ the-id (idBytes p a z c d) = sym q ∙ id-named a z c d (f .3) (fit-parts p word a z c d u) in
+      let u : admissionOf (n .cache .flags) p word ≡ admission.Fit a z c d = rw (raw-is (f .3)) at e in
+      let o : the-id id ≡ the-id (idBytes p a z c d) = sym q ∙ id-named a z c d (f .3)
+      (fit-parts (n .cache .flags) p word a z c d u) in
       let s : idBytes p a z c d ≡ id = cc in
-      rw (fine, accepted w, f .2, u, le-ltb at (n .clock) l, s) (new-told fine id)
+      rw (fine, accepted w, f .2, u, le-ltb at (n .clock) l, s)
+      (new-told fine p id ∙ ap (λ (l : List ℕ). newTold l id) (sym (raw-is (f .3))))
 
   pub admit-exactly : Bytes body → (a : Told)
       → (admitTold (admitAnswer n ss at (planned n ss cs body i word at)) ≡ a) ↔ AdmitTells n ss cs body i word at a

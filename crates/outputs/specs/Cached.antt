@@ -64,9 +64,9 @@ pub record Message (p : List ℕ) : Type 0 where
   pub texts : Each Utf8 (topicsOf p)
   pub small : length p ≤ messageSize
 
-pub message-given : (p i : List ℕ) → Bytes p → Gives p i → Message p
-message-given p i b g =
-    let l = fit-limits p true (g .from-start) (g .from-end) (g .seqno-start) (g .seqno-end) (g .taken) in
+pub message-given : (flags : ℕ) (p i : List ℕ) → Bytes p → Gives flags p i → Message p
+message-given flags p i b g =
+    let l = fit-limits flags p true (g .from-start) (g .from-end) (g .seqno-start) (g .seqno-end) (g .taken) in
     let m = message-means p b (record { records = g .records; counts = g .read }) in
     let t = topics-mean (m .means) in
     record { value = m .value; means = m .means; few = rw (t .0) (l .few); texts = t .1; small = l .small }
@@ -80,8 +80,9 @@ module _ (c : MessageCache) (st : List ℕ) (t : Tests c st) (b : Bytes st) wher
   pub row-message : (i : ℕ) → i < c .count → Message (messageIn (c .len) st (placeOf (ringOf c) i))
   row-message i h =
       let p = placeOf (ringOf c) i in
-      message-given (messageIn (c .len) st p) (idAt messageIdSize (c .«id_len») (c .ids) p) (bytes-in (c .len) st p b)
-      (gives-only (messageIn (c .len) st p) (idAt messageIdSize (c .«id_len») (c .ids) p) (row-gives c st t i h))
+      let m = messageIn (c .len) st p in
+      let j = idAt messageIdSize (c .«id_len») (c .ids) p in
+      message-given (c .flags) m j (bytes-in (c .len) st p b) (gives-only (c .flags) m j (row-gives c st t i h))
 
 -- a cached message with its id
 pub record CachedMessage (m : Cached) : Type 0 where

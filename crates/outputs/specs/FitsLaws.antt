@@ -4,7 +4,7 @@ use mathlib.Core.Path.{_≡_, refl, sym, ap, ap₂, subst, _∙_}
 use mathlib.Core.Bool.{Bool}
 use mathlib.Core.List.{List, [], _∷_}
 use mathlib.Core.Logic.{_↔_}
-use mathlib.Core.Option.{some}
+use mathlib.Core.Option.{none, some}
 use native.Mathlib.Omega.{arith}
 use native.Mathlib.Nat.{zero-add}
 use lib.ListN.{length}
@@ -32,10 +32,11 @@ use Rattle.ids.specs.Ids.{onFrom, idParts}
 use Rattle.ids.specs.IdLaws.{id-fits, id-some, parts-there}
 use Rattle.admission.specs.declared.Admission.the-variants as admission
 use Rattle.admission.specs.Admission.{firstLong, topicsOf, admissionOf}
-use Rattle.admission.specs.Fit.{KeyOf, givenAt}
+use Rattle.admission.specs.Fit.{KeyOf, givenAt, Backed}
+use Rattle.admission.specs.Fit as fit
 use Rattle.admission.specs.FitLaws.{fit-exactly}
 use Rattle.outputs.specs.Cached.{topics-mean}
-use Rattle.outputs.specs.Fits.{FitMessage}
+use Rattle.outputs.specs.Fits.{BackedMessage, signed, unsigned, FitMessage}
 
 -- ---- what field-at in the places of a message's fields is what the bytes mean
 given-bytes : (p : List ℕ) (q : Place) → givenAt p q ≡ bytesAt p 0 q
@@ -101,18 +102,43 @@ unfolding firstLong
 none-long none-left = refl
 none-long (_and_ {x = t} {xs = l} h r) = rw (le-ltb 1024 (length t) h) (none-long r)
 
-module _ {p : List ℕ} {m : RawMessage} (i : IsMessage p m) (bp : Bytes p) (word : Bool) where
-  by-fields : (a e b f : ℕ) → admissionOf p word ≡ admission.Fit a e b f → FitMessage m word
-  by-fields a e b f h =
-      let x = fit-exactly p word a e b f bp .0 h in
+-- and one that is not there has none
+not-given : (p : List ℕ) (q : Place) → givenAt p q ≡ none → q ≡ place.Absent
+not-given p place.Absent h = refl
+not-given p (place.Present a e) h = clash (cc)
+
+module _ (flags : ℕ) {p : List ℕ} {m : RawMessage} (i : IsMessage p m) (bp : Bytes p) (word : Bool) where
+  -- what stands behind it, by its places and by its fields
+  backed-fields : {s : List ℕ} → Backed flags p word s → BackedMessage flags m word s
+  backed-fields {s} (fit.signed y k w) =
       let g = fields-given i in
-      let s = slots-inside kind.RawMessage p in
+      let z = slots-inside kind.RawMessage p .fourth (y .start) (y .next) (y .there) in
+      signed {signature = between p (y .start) (y .next)} (sym (g .signature) ∙ ap (givenAt p) (y .there))
+      (between-length p (y .start) (y .next) (z .1) ∙ y .size) (subst (KeyOf s) (g .key) k) w
+  backed-fields (fit.unsigned t f4 f5) =
+      let g = fields-given i in
+      unsigned t (sym (g .signature) ∙ ap (givenAt p) f4) (sym (g .key) ∙ ap (givenAt p) f5)
+
+  backed-places : {s : List ℕ} → BackedMessage flags m word s → Backed flags p word s
+  backed-places {s} (signed {signature} there whole k given) =
+      let g = fields-given i in
+      let f = slots-inside kind.RawMessage p .fourth in
+      let w = field-at p (slotsOf kind.RawMessage p .fourth) signature f (g .signature ∙ there) in
+      fit.signed (record { start = w .start; next = w .next; there = w .there; size = w .size ∙ whole })
+      (subst (KeyOf s) (sym (g .key)) k) given
+  backed-places (unsigned t a b) =
+      let g = fields-given i in
+      fit.unsigned t (not-given p (slotsOf kind.RawMessage p .fourth) (g .signature ∙ a))
+      (not-given p (slotsOf kind.RawMessage p .fifth) (g .key ∙ b))
+
+  by-fields : (a e b f : ℕ) → admissionOf flags p word ≡ admission.Fit a e b f → FitMessage flags m word
+  by-fields a e b f h =
+      let x = fit-exactly flags p word a e b f bp .0 h in
+      let g = fields-given i in
       let t = parts-there p a e b f (x .parts) in
       let n = id-fits p a e b f (x .parts) in
       let o = id-some p a e b f (x .parts) in
       let l = between-length p b f (n .seqno .1) in
-      let y = x .signature in
-      let z = s .fourth (y .start) (y .next) (y .there) in
       let k = topics-mean i .0 in
       record {
         sender = between p a e;
@@ -124,25 +150,21 @@ module _ {p : List ℕ} {m : RawMessage} (i : IsMessage p m) (bp : Bytes p) (wor
         seqno = sym (g .seqno) ∙ ap (givenAt p) (t .1);
         number-some = omega (arith, o .1);
         number-short = omega (arith, n .seqno-short);
-        signature = between p (y .start) (y .next);
-        signed = sym (g .signature) ∙ ap (givenAt p) (y .there);
-        whole = between-length p (y .start) (y .next) (z .1) ∙ y .size;
-        key = subst (KeyOf (between p a e)) (g .key) (x .key);
-        given = x .given;
+        backed = backed-fields (x .backed);
         topic = rw k (x .limits .some);
         few = rw k (x .limits .few);
         short = rw k (all-short (topicsOf p) (x .limits .short));
         small = rw (raw-is i) (x .limits .small);
       }
 
-  by-places : FitMessage m word → (a : ℕ) × (e : ℕ) × (b : ℕ) × (f : ℕ) × (admissionOf p word ≡ admission.Fit a e b f)
+  by-places : FitMessage flags m word → (a : ℕ) × (e : ℕ) × (b : ℕ) × (f : ℕ)
+      × (admissionOf flags p word ≡ admission.Fit a e b f)
   unfolding idParts
   by-places x =
       let g = fields-given i in
       let s = slots-inside kind.RawMessage p in
       let u = field-at p (slotsOf kind.RawMessage p .first) (x .sender) (s .first) (g .from ∙ x .from) in
       let v = field-at p (slotsOf kind.RawMessage p .third) (x .number) (s .third) (g .seqno ∙ x .seqno) in
-      let w = field-at p (slotsOf kind.RawMessage p .fourth) (x .signature) (s .fourth) (g .signature ∙ x .signed) in
       let z = peer-size (x .peer) in
       let k = topics-mean i .0 in
       let parts : idParts p ≡ id.Parts (u .start) (u .next) (v .start) (v .next) =
@@ -157,16 +179,13 @@ module _ {p : List ℕ} {m : RawMessage} (i : IsMessage p m) (bp : Bytes p) (wor
         u .next,
         v .start,
         v .next,
-        fit-exactly p word (u .start) (u .next) (v .start) (v .next) bp .1
+        fit-exactly flags p word (u .start) (u .next) (v .start) (v .next) bp .1
             (record {
               parts = parts;
               hash = x .hash;
               digest = x .digest;
               peer = subst (λ (l : List ℕ). IsPeerId l (x .hash) (x .digest)) (sym (u .bytes)) (x .peer);
-              signature = record { start = w .start; next = w .next; there = w .there; size = w .size ∙ x .whole };
-              key = subst (λ (l : List ℕ). KeyOf l (givenAt p (slotsOf kind.RawMessage p .fifth))) (sym (u .bytes))
-                  (subst (KeyOf (x .sender)) (sym (g .key)) (x .key));
-              given = x .given;
+              backed = subst (Backed flags p word) (sym (u .bytes)) (backed-places (x .backed));
               limits = record {
                 some = rw k at (x .topic);
                 few = rw k at (x .few);
@@ -177,5 +196,6 @@ module _ {p : List ℕ} {m : RawMessage} (i : IsMessage p m) (bp : Bytes p) (wor
       )
 
   -- the bytes of a message are taken exactly where the message that they mean is fit
-  pub fit-message : ((a : ℕ) × (e : ℕ) × (b : ℕ) × (f : ℕ) × (admissionOf p word ≡ admission.Fit a e b f)) ↔ FitMessage m word
+  pub fit-message : ((a : ℕ) × (e : ℕ) × (b : ℕ) × (f : ℕ) × (admissionOf flags p word ≡ admission.Fit a e b f))
+      ↔ FitMessage flags m word
   fit-message = (λ x. by-fields (x .0) (x .1) (x .2) (x .3) (x .4), by-places)

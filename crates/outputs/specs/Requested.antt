@@ -1,4 +1,4 @@
--- A request is a body with one IWANT that names the ids offered and not seen; it is canonical, and never longer than
+-- A request is a body with one IWANT that names the ids offered and not held; it is canonical, and never longer than
 -- the body that offers them.
 use Prim.Native.Nat.{ℕ, _+_, _≤_}
 use mathlib.Core.Path.{_≡_, refl, sym, ap, _∙_}
@@ -27,8 +27,8 @@ use Rattle.node.specs.Parts.{atPath, onceAfter, once}
 use Rattle.node.specs.PartsLaws.{once-again, once-new}
 use Rattle.node.specs.State.{seenRing}
 use Rattle.node.specs.declared.Node.{Node}
-use Rattle.node.specs.Gateway.{marked, request}
-use Rattle.node.specs.Calls.{bytesFor, offered, unseenFrom, unseenOf, askBytes}
+use Rattle.node.specs.Gateway.{request}
+use Rattle.node.specs.Calls.{bytesFor, offered, knownIn, unseenFrom, unseenOf, askBytes}
 use Rattle.node.specs.WireLaws.{request-bytes}
 use Rattle.outputs.specs.Named.{ihaveIds, offersIn, offersOf}
 use Rattle.outputs.specs.Offered.{offered-means, offers-fewer}
@@ -47,19 +47,19 @@ once-less earlier (i ∷ is) f =
     (λ t. let r = once-less earlier is f in rw (once-again earlier is i t) (omega arith))
     (λ t. let r = once-less (earlier ++ (i ∷ [])) is f in rw (once-new earlier is i t) (omega arith))
 
-unseen-less : (seen is : List (List ℕ)) → Less (unseenFrom seen is) is
+unseen-less : (flags : ℕ) (seen is : List (List ℕ)) → Less (unseenFrom flags seen is) is
 unfolding unseenFrom
-unseen-less seen [] f = omega arith
-unseen-less seen (i ∷ is) f =
-    let r = unseen-less seen is f in
-    either (among (marked i) seen) (λ t. simp t (omega arith)) (λ t. simp t (omega arith))
+unseen-less flags seen [] f = omega arith
+unseen-less flags seen (i ∷ is) f =
+    let r = unseen-less flags seen is f in
+    either (knownIn flags seen i) (λ t. simp t (omega arith)) (λ t. simp t (omega arith))
 
 asked-less : (n : Node) (ss body : List ℕ) → Less (unseenOf n ss (offered body)) (atPath (3 ∷ 1 ∷ 2 ∷ []) body)
 unfolding unseenOf offered
 asked-less n ss body f =
     let ids = atPath (3 ∷ 1 ∷ 2 ∷ []) body in
     let seen = idsIn idSize (seenRing n) (n .seen .len) ss in
-    let a = unseen-less seen (once ids) f in
+    let a = unseen-less (n .cache .flags) seen (once ids) f in
     let b = once-less [] ids f in
     omega arith
 

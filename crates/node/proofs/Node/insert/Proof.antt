@@ -20,8 +20,7 @@ same-length c = search needs
 returns : tie.Need-returns
 returns c = let a = c .before .before .before .before .before .before .before .before .before .before .before .args in admits-held (a .self) (now
     (a .seen-store)) (now (a .cache-store)) (a .at) (c .before .before .before .before .clean .result)
-    (c .before .before .before .before .clean .ensures) (now (a .key))
-    (c .before .before .before .before .before .before .before .before .before .before .before .pre .1 .2) (now (a .part))
+    (c .before .before .before .before .clean .ensures) (now (a .part)) (now (a .key)) (c .before .before .before .before .before .before .before .before .before .before .before .pre .1 .2)
     (c .before .before .holds .result) (c .before .before .holds .ensures) (c .before .if1 .taken) (c .later .result) (c .later .ensures)
 
 expiry-of-requires : tie.Need-expiry-of-requires
@@ -31,12 +30,12 @@ enter-requires : tie.Need-enter-requires
 enter-requires c κs = search needs
 
 sub-keep : tie.Need-sub-keep
-sub-keep c = key-long (now
+sub-keep c = key-long _ (now
     (c .before .before .before .before .before .before .before .before .before .before .before .before .before .before .before .before .args .key))
     (c .before .before .before .before .before .before .before .before .before .before .before .before .before .before .before .before .pre .1 .2)
 
 part-keep-start : tie.Need-part-keep-start
-part-keep-start c = key-long (now
+part-keep-start c = key-long _ (now
     (c .before .before .before .before .before .before .before .before .before .before .before .before .before .before .before .before .args .key))
     (c .before .before .before .before .before .before .before .before .before .before .before .before .before .before .before .before .pre .1 .2)
 
@@ -60,9 +59,8 @@ returns-2 c = let a =
     c .before .before .before .before .before .before .before .before .before .before .before .before .before .before .before .before .before .before
     .before .before .before .before .args in admits-new (a .self) (now (a .seen-store)) (now (a .cache-store)) (a .at)
     (c .before .before .before .before .before .before .before .before .before .before .before .before .before .before .before .clean .result)
-    (c .before .before .before .before .before .before .before .before .before .before .before .before .before .before .before .clean .ensures) (now
-    (a .key)) (c .before .before .before .before .before .before .before .before .before .before .before .before .before .before .before .before
-    .before .before .before .before .before .before .pre .1 .2) (now (a .part))
+    (c .before .before .before .before .before .before .before .before .before .before .before .before .before .before .before .clean .ensures) (now (a .part)) (now (a .key)) (c .before .before .before .before .before .before .before .before .before .before .before .before .before .before .before .before
+    .before .before .before .before .before .before .pre .1 .2)
     (c .before .before .before .before .before .before .before .before .before .before .before .before .before .holds .result)
     (c .before .before .before .before .before .before .before .before .before .before .before .before .before .holds .ensures)
     (c .before .before .before .before .before .before .before .before .before .before .before .before .if1 .left)

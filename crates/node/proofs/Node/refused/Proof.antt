@@ -12,7 +12,7 @@ new-requires-2 : tie.Need-new-requires-2
 new-requires-2 c κs = search needs
 
 returns : tie.Need-returns
-returns c = (refl, fresh-is 0 0 1 0 _ _ (c .new2 .ensures) ((c .before .before .new .ensures .cache) ∙ default-cache))
+returns c = (refl, fresh-is 0 0 1 0 0 _ _ (c .new2 .ensures) ((c .before .before .new .ensures .cache) ∙ default-cache))
 
 pub refused-spec : {M : Type 1} → statement M
 refused-spec = tie.close (tie.spec new-requires new-requires-2 returns)
