@@ -381,8 +381,8 @@ pub fn is_signed(part: &[u8]) -> bool
     ensures { λ r. ⌜ r ≡ isSigned (now (part .entry)) ⌝ }
 {
     let slots = slots_of(part, Kind::RawMessage);
-    let signature = slots.fourth;
-    if let Place::Absent = signature {
+    let place = slots.fourth;
+    if let Place::Absent = place {
         return false;
     }
     true

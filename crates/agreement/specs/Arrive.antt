@@ -1,7 +1,7 @@
 -- One round: every call in it is done, all that is served is got, and of what the asker lacks fifteen messages arrive,
 -- or all.
 use Prim.Native.Nat.{ℕ, zero, suc, _+_, _-_, _≤_, _<_}
-use mathlib.Core.Path.{_≡_, refl, sym, ap, _∙_}
+use mathlib.Core.Path.{_≡_, refl, sym, ap, subst, _∙_}
 use mathlib.Core.Bool.{true, false, _||_}
 use mathlib.Core.List.{List, [], _∷_, _++_}
 use mathlib.Core.Option.{some}
@@ -13,17 +13,17 @@ use borrow.Author.Tests.{eqb-true, eqb-false}
 use Rattle.basis.specs.Cases.{either, clash}
 use Rattle.rows.specs.Ids.{sameBytes, among, distinct}
 use Rattle.rows.specs.IdsLaws.{same-equal, among-append, among-at, among-take, distinct-take, distinct-append, all-few}
+use Rattle.admission.specs.Admission.{givesId}
 use Rattle.node.specs.PartsLaws.{fitting-le}
-use Rattle.seen.specs.Entries.{holds}
 use Rattle.mcache.specs.Messages.{get}
-use Rattle.node.specs.Gateway.{marked, toldOf, lacking}
+use Rattle.node.specs.Gateway.{toldOf, knows, lacking}
 use Rattle.node.specs.Calls.{servedOf, roomOf}
 use Rattle.history.specs.History.{State, gatewayOf, Settings, Call, admit, advertise, ask, serve, after, afterAll}
 use Rattle.history.specs.History.{readings, NoneRefused, all-done, done, brought, admits}
-use Rattle.agreement.specs.Premises.{MessageSet, Members, none-left, member}
+use Rattle.agreement.specs.Premises.{MessageSet, Alike, Members, none-left, member}
 use Rattle.agreement.specs.Round.{lacked, Play, Fair, advertOf, requestOf, replyOf, servedCount, askerRound}
 use Rattle.agreement.specs.Round.{tellerRound}
-use Rattle.agreement.specs.Rows.{rows-held}
+use Rattle.agreement.specs.Rows.{rows-known}
 use Rattle.agreement.specs.Holding.{withGot, gotBy, gotNext, gotAll, member-none, member-some, Holding}
 use Rattle.agreement.specs.Holding.{admit-done, holding-admit}
 use Rattle.agreement.specs.Once.{with-again, with-this, with-other}
@@ -57,16 +57,16 @@ stands (suc k) i (j ∷ l) h =
 -- ---- admits of messages of the set, one after the other
 pub record Admitted (set : List (List ℕ)) (x : Settings) (first past : ℕ) (rs : List ℕ) (left : ℕ)
     (got served : List (List ℕ)) (i k : ℕ) (calls : List Call) (s : State) : Type 0 where
-  pub members : Members set calls
+  pub members : Members (x .flags) set calls
   pub none-refused : NoneRefused calls s
-  pub holding : Holding set x first past rs left (gotAll got calls) (afterAll calls s)
-  pub keeps : (m : List ℕ) → among m got ≡ true → among m (gotAll got calls) ≡ true
-  pub has : (j : ℕ) → i ≤ j → j < i + k → among (getD served j []) (gotAll got calls) ≡ true
-  pub only : (m : List ℕ) → among m (gotAll got calls) ≡ true → among m got ≡ false → among m served ≡ true
+  pub holding : Holding set x first past rs left (gotAll (x .flags) got calls) (afterAll calls s)
+  pub keeps : (m : List ℕ) → among m got ≡ true → among m (gotAll (x .flags) got calls) ≡ true
+  pub has : (j : ℕ) → i ≤ j → j < i + k → among (getD served j []) (gotAll (x .flags) got calls) ≡ true
+  pub only : (m : List ℕ) → among m (gotAll (x .flags) got calls) ≡ true → among m got ≡ false → among m served ≡ true
 
-module _ {set : List (List ℕ)} (ms : MessageSet set) {x : Settings} {first past : ℕ} (rs : List ℕ) {left : ℕ}
+module _ {set : List (List ℕ)} {x : Settings} (ms : MessageSet (x .flags) set) {first past : ℕ} (rs : List ℕ) {left : ℕ}
     (body : List ℕ) (at : ℕ → ℕ) (served : List (List ℕ)) (n : ℕ)
-    (brings-each : (i : ℕ) → i < n → brought (admit body i true (at i)) ≡ some (getD served i []))
+    (brings-each : (i : ℕ) → i < n → brought (x .flags) (admit body i true (at i)) ≡ some (getD served i []))
     (inside : (i : ℕ) → i < n → among (getD served i []) set ≡ true) (few : n ≤ length served) where
   pub all-admitted : (k i : ℕ) {got : List (List ℕ)} {s : State} → i + k ≤ n
       → Holding set x first past (readings (admits body at i k) ++ rs) left got s
@@ -84,10 +84,10 @@ module _ {set : List (List ℕ)} (ms : MessageSet set) {x : Settings} {first pas
   all-admitted (suc k) i {got} {s} l h =
       let m = getD served i [] in
       let e = brings-each i (omega arith) in
-      let ins = member-some set (admit body i true (at i)) m e (inside i (omega arith)) in
+      let ins = member-some (x .flags) set (admit body i true (at i)) m e (inside i (omega arith)) in
       let next = holding-admit body i true (at i) h ms ins in
       let r = all-admitted k (suc i) (omega arith) next in
-      let g : gotNext got (admit body i true (at i)) ≡ withGot m got = ap (gotBy got) e in
+      let g : gotNext (x .flags) got (admit body i true (at i)) ≡ withGot m got = ap (gotBy got) e in
       record {
         members = member ins (r .members);
         none-refused = done (admit-done body i true (at i) h ms m e (inside i (omega arith))) (r .none-refused);
@@ -106,20 +106,20 @@ module _ {set : List (List ℕ)} (ms : MessageSet set) {x : Settings} {first pas
 -- ---- a round
 pub record RoundDone (set : List (List ℕ)) (x y : Settings) (firstA pastA leftA firstB pastB leftB : ℕ)
     (rsA rsB : List ℕ) (gotA gotB : List (List ℕ)) (p : Play) (at : ℕ → ℕ) (a b : State) : Type 0 where
-  pub asker-members : Members set (askerRound p at a b)
+  pub asker-members : Members (x .flags) set (askerRound p at a b)
   pub asker-done : NoneRefused (askerRound p at a b) a
-  pub teller-members : Members set (tellerRound p a b)
+  pub teller-members : Members (y .flags) set (tellerRound p a b)
   pub teller-done : NoneRefused (tellerRound p a b) b
-  pub asker-holds : Holding set x firstA pastA rsA leftA (gotAll gotA (askerRound p at a b))
+  pub asker-holds : Holding set x firstA pastA rsA leftA (gotAll (x .flags) gotA (askerRound p at a b))
       (afterAll (askerRound p at a b) a)
   pub teller-holds : Holding set y firstB pastB rsB leftB gotB (afterAll (tellerRound p a b) b)
   -- fifteen arrive, or all
   pub fewer : length (lacked (p .topic) (afterAll (askerRound p at a b) a) (afterAll (tellerRound p a b) b)) ≤ length (lacked (p .topic) a b) - 15
   -- and nothing that the teller did not get
-  pub only : (m : List ℕ) → among m (gotAll gotA (askerRound p at a b)) ≡ true → among m gotA ≡ false
+  pub only : (m : List ℕ) → among m (gotAll (x .flags) gotA (askerRound p at a b)) ≡ true → among m gotA ≡ false
       → among m gotB ≡ true
 
-module _ {set : List (List ℕ)} (ms : MessageSet set) {x y : Settings} {firstA pastA leftA firstB pastB leftB : ℕ}
+module _ {set : List (List ℕ)} {x y : Settings} (ms : MessageSet (x .flags) set) (alike : Alike x y) {firstA pastA leftA firstB pastB leftB : ℕ}
     {rsB : List ℕ} {gotA gotB : List (List ℕ)} {a b : State} (p : Play)
     (fair : Fair p x y) (at : ℕ → ℕ) (rs : List ℕ)
     (ha : Holding set x firstA pastA (readings (askerRound p at a b) ++ rs) leftA gotA a)
@@ -138,16 +138,16 @@ module _ {set : List (List ℕ)} (ms : MessageSet set) {x y : Settings} {firstA 
       let e = served-is ha hb p fair in
       omega arith
 
-  got-of : (i : ℕ) → i < servedCount p a b → Got (getD named i []) (getD handed i []) gotB
+  got-of : (i : ℕ) → i < servedCount p a b → Got (y .flags) (getD named i []) (getD handed i []) gotB
   got-of i l = let f = served-few in reply-got ha hb p fair i (omega arith)
 
   -- what is served is delivered
   reply-brings : (i : ℕ) → i < servedCount p a b
-      → brought (admit (replyOf p a b) i true (at i)) ≡ some (getD handed i [])
+      → brought (x .flags) (admit (replyOf p a b) i true (at i)) ≡ some (getD handed i [])
   reply-brings i l =
       let e = served-is ha hb p fair in
       rw (replied ha hb p fair)
-      (brought-delivered handed (p .reply-out 0) (reply-delivers ha hb p fair) i (at i) (omega arith))
+      (brought-delivered (x .flags) handed (p .reply-out 0) (reply-delivers ha hb p fair) i (at i) (omega arith))
 
   inside : (i : ℕ) → i < servedCount p a b → among (getD handed i []) set ≡ true
   inside i l = hb .held .from-set (getD handed i []) (got-of i l .among-got)
@@ -166,19 +166,21 @@ module _ {set : List (List ℕ)} (ms : MessageSet set) {x y : Settings} {firstA 
   later = afterAll (admits (replyOf p a b) at 0 (servedCount p a b)) a
 
   abbrev more : List (List ℕ)
-  more = gotAll gotA (admits (replyOf p a b) at 0 (servedCount p a b))
+  more = gotAll (x .flags) gotA (admits (replyOf p a b) at 0 (servedCount p a b))
 
   abbrev tells : List (List ℕ)
   tells = toldOf (p .topic) (p .windows) (gatewayOf b)
 
-  -- an id that b tells of is seen by an asker exactly where its message was got
-  seen-got : {rs2 : List ℕ} {left2 : ℕ} {got : List (List ℕ)} {s : State} → Holding set x firstA pastA rs2 left2 got s
+  -- an id that b tells of is held by an asker exactly where its message was got
+  known-got : {rs2 : List ℕ} {left2 : ℕ} {got : List (List ℕ)} {s : State} → Holding set x firstA pastA rs2 left2 got s
       → (i : List ℕ) → among i tells ≡ true
-      → holds (marked i) (gatewayOf s .seen) ≡ among (get i (gatewayOf b .cache)) got
-  seen-got h i t =
+      → knows (gatewayOf s) i ≡ among (get i (gatewayOf b .cache)) got
+  known-got {s} h i t =
       let g = told-got hb (p .topic) (p .windows) (fair .windows-y) i t in
-      rows-held ms (get i (gatewayOf b .cache)) i (hb .held .from-set (get i (gatewayOf b .cache)) (g .among-got))
-      (g .own) (h .held .from-set) (h .held .rows) .0
+      let m = get i (gatewayOf b .cache) in
+      let own = subst (λ (f : ℕ). givesId f m i ≡ true) (sym alike) (g .own) in
+      rows-known ms m i (hb .held .from-set m (g .among-got)) own (gatewayOf s) (h .held .flags) (h .held .from-set)
+      (h .held .rows)
 
   abbrev still : List (List ℕ)
   still = lacking (gatewayOf later) tells
@@ -188,8 +190,8 @@ module _ {set : List (List ℕ)} (ms : MessageSet set) {x y : Settings} {firstA 
   unfolding wants
   still-named i t =
       let l = lacking-exactly (gatewayOf later) i tells .0 t in
-      let g = seen-got (arrived .holding) i (l .0) in
-      let before = seen-got ha i (l .0) in
+      let g = known-got (arrived .holding) i (l .0) in
+      let before = known-got ha i (l .0) in
       let n : among (get i (gatewayOf b .cache)) more ≡ false = sym g ∙ l .1 in
       lacking-exactly (gatewayOf a) i tells .1 (
         l .0,
@@ -204,7 +206,7 @@ module _ {set : List (List ℕ)} (ms : MessageSet set) {x y : Settings} {firstA 
       (λ u.
       let q = stands (servedCount p a b) i named u in
       let l = lacking-exactly (gatewayOf later) i tells .0 t in
-      let g = seen-got (arrived .holding) i (l .0) in
+      let g = known-got (arrived .holding) i (l .0) in
       let m : getD handed (q .index) [] ≡ get i (gatewayOf b .cache) = reply-at ha hb p fair (q .index) (q .within)
       ∙ ap (λ (j : List ℕ). get j (gatewayOf b .cache)) (q .there) in
       let e = q .early in
@@ -256,11 +258,11 @@ module _ {set : List (List ℕ)} (ms : MessageSet set) {x y : Settings} {firstA 
   unfolding askerRound tellerRound afterAll after gotAll brought
   round-done =
       record {
-        asker-members = member (member-none set (ask (advertOf p b) (p .request-out 0)) refl) (arrived .members);
+        asker-members = member (member-none (x .flags) set (ask (advertOf p b) (p .request-out 0)) refl) (arrived .members);
         asker-done = done (request-done ha hb p fair) (arrived .none-refused);
         teller-members =
-            member (member-none set (advertise (p .topic) (p .windows) (p .advert-out 0)) refl)
-            (member (member-none set (serve (requestOf p a b) (p .reply-out 0)) refl) none-left);
+            member (member-none (y .flags) set (advertise (p .topic) (p .windows) (p .advert-out 0)) refl)
+            (member (member-none (y .flags) set (serve (requestOf p a b) (p .reply-out 0)) refl) none-left);
         teller-done = done (advert-done ha hb p fair) (done (reply-done ha hb p fair) all-done);
         asker-holds = arrived .holding;
         teller-holds = hb;

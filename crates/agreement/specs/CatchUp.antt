@@ -11,19 +11,22 @@ use Rattle.basis.specs.Cases.{either, clash}
 use Rattle.rows.specs.Ids.{among}
 use Rattle.history.specs.History.{State, Settings, Call, after, afterAll, readings, beats, NoneRefused, all-done}
 use Rattle.history.specs.Laws.{after-append, readings-append, beats-append, done-append, admits-beats}
-use Rattle.agreement.specs.Premises.{MessageSet, Members, none-left, member, Clock, Premises}
+use Rattle.agreement.specs.Premises.{MessageSet, Alike, Members, none-left, member, Clock, Premises}
 use Rattle.agreement.specs.Round.{lacked, Play, onward, Fair, fair-onward, replyOf, servedCount, askerRound}
 use Rattle.agreement.specs.Round.{tellerRound, askerRounds, tellerRounds}
-use Rattle.agreement.specs.Holding.{gotNext, gotAll, pastAll, Holding, holding-fresh, holding-on, holding-all}
+use Rattle.agreement.specs.Holding.{gotNext, gotAll, pastAll, set-alike, Holding, holding-fresh}
+use Rattle.agreement.specs.Holding.{holding-on, holding-all}
 use Rattle.agreement.specs.Arrive.{round-done}
 
 -- ---- calls, and then more calls
-pub got-append : (got : List (List ℕ)) (cs ds : List Call) → gotAll got (cs ++ ds) ≡ gotAll (gotAll got cs) ds
+pub got-append : (flags : ℕ) (got : List (List ℕ)) (cs ds : List Call)
+    → gotAll flags got (cs ++ ds) ≡ gotAll flags (gotAll flags got cs) ds
 unfolding gotAll
-got-append got [] ds = refl
-got-append got (c ∷ cs) ds = got-append (gotNext got c) cs ds
+got-append flags got [] ds = refl
+got-append flags got (c ∷ cs) ds = got-append flags (gotNext flags got c) cs ds
 
-members-append : {set : List (List ℕ)} {cs ds : List Call} → Members set cs → Members set ds → Members set (cs ++ ds)
+members-append : {flags : ℕ} {set : List (List ℕ)} {cs ds : List Call} → Members flags set cs → Members flags set ds
+    → Members flags set (cs ++ ds)
 members-append none-left n = n
 members-append (member a m) n = member a (members-append m n)
 
@@ -62,15 +65,16 @@ teller-stays p zero at a b = refl
 teller-stays p (suc r) at a b = teller-stays (onward p) r (λ k. at (suc k)) (afterAll (askerRound p (at 0) a b) a) b
 
 -- ---- rounds, one after the other
-pub record RoundsDone (set gotA gotB : List (List ℕ)) (p : Play) (r : ℕ) (at : ℕ → ℕ → ℕ) (a b : State) : Type 0 where
-  pub asker-members : Members set (askerRounds p r at a b)
+pub record RoundsDone (x y : Settings) (set gotA gotB : List (List ℕ)) (p : Play) (r : ℕ) (at : ℕ → ℕ → ℕ)
+    (a b : State) : Type 0 where
+  pub asker-members : Members (x .flags) set (askerRounds p r at a b)
   pub asker-done : NoneRefused (askerRounds p r at a b) a
-  pub teller-members : Members set (tellerRounds p r at a b)
+  pub teller-members : Members (y .flags) set (tellerRounds p r at a b)
   pub teller-done : NoneRefused (tellerRounds p r at a b) b
   pub missing-left : length
       (lacked (p .topic) (afterAll (askerRounds p r at a b) a) (afterAll (tellerRounds p r at a b) b)) ≤ length
       (lacked (p .topic) a b) - 15 * r
-  pub only : (m : List ℕ) → among m (gotAll gotA (askerRounds p r at a b)) ≡ true → among m gotA ≡ false
+  pub only : (m : List ℕ) → among m (gotAll (x .flags) gotA (askerRounds p r at a b)) ≡ true → among m gotA ≡ false
       → among m gotB ≡ true
 
 nil-left : (p : Play) (a b : State) → length (lacked (p .topic) (afterAll [] a) (afterAll [] b)) ≤ length
@@ -78,13 +82,13 @@ nil-left : (p : Play) (a b : State) → length (lacked (p .topic) (afterAll [] a
 unfolding afterAll
 nil-left p a b = omega arith
 
-rounds-done : {set : List (List ℕ)} (ms : MessageSet set) {x y : Settings} {firstA pastA leftA firstB pastB leftB : ℕ}
+rounds-done : {set : List (List ℕ)} {x y : Settings} (ms : MessageSet (x .flags) set) (alike : Alike x y) {firstA pastA leftA firstB pastB leftB : ℕ}
     {rsB : List ℕ} {gotA gotB : List (List ℕ)} (p : Play) → Fair p x y
     → (r : ℕ) (at : ℕ → ℕ → ℕ) (rs : List ℕ) {a b : State}
     → Holding set x firstA pastA (readings (askerRounds p r at a b) ++ rs) leftA gotA a
-    → Holding set y firstB pastB rsB leftB gotB b → RoundsDone set gotA gotB p r at a b
+    → Holding set y firstB pastB rsB leftB gotB b → RoundsDone x y set gotA gotB p r at a b
 unfolding askerRounds tellerRounds gotAll
-rounds-done ms p fair zero at rs {a} {b} ha hb =
+rounds-done ms alike p fair zero at rs {a} {b} ha hb =
     record {
       asker-members = none-left;
       asker-done = all-done;
@@ -93,16 +97,16 @@ rounds-done ms p fair zero at rs {a} {b} ha hb =
       missing-left = nil-left p a b;
       only = λ m t u. clash (cc);
     }
-rounds-done {set} ms {x} {y} {firstA} {pastA} {leftA} {gotA} {gotB} p fair (suc r) at rs {a} {b} ha hb =
+rounds-done {set} {x} {y} ms alike {firstA} {pastA} {leftA} {gotA} {gotB} p fair (suc r) at rs {a} {b} ha hb =
     let c = askerRound p (at 0) a b in
     let t = tellerRound p a b in
     let d = askerRounds (onward p) r (λ k. at (suc k)) (afterAll c a) (afterAll t b) in
     let u = tellerRounds (onward p) r (λ k. at (suc k)) (afterAll c a) (afterAll t b) in
     let e : readings (c ++ d) ++ rs ≡ readings c ++ (readings d ++ rs) =
     ap (λ (l : List ℕ). l ++ rs) (readings-append c d) ∙ append-assoc (readings c) (readings d) rs in
-    let one = round-done ms p fair (at 0) (readings d ++ rs)
+    let one = round-done ms alike p fair (at 0) (readings d ++ rs)
     (subst (λ (l : List ℕ). Holding set x firstA pastA l leftA gotA a) e ha) hb in
-    let rest = rounds-done ms (onward p) (fair-onward fair) r (λ k. at (suc k)) rs (one .asker-holds)
+    let rest = rounds-done ms alike (onward p) (fair-onward fair) r (λ k. at (suc k)) rs (one .asker-holds)
     (one .teller-holds) in
     let f = one .fewer in
     let g = rest .missing-left in
@@ -113,8 +117,8 @@ rounds-done {set} ms {x} {y} {firstA} {pastA} {leftA} {gotA} {gotB} p fair (suc 
       teller-done = done-append (one .teller-done) (rest .teller-done);
       missing-left = rw (after-append c d a, after-append t u b) (omega arith);
       only = λ m v w.
-          either (among m (gotAll gotA c)) (λ z. one .only m z w)
-          (λ z. rest .only m (ap (among m) (sym (got-append gotA c d)) ∙ v) z);
+          either (among m (gotAll (x .flags) gotA c)) (λ z. one .only m z w)
+          (λ z. rest .only m (ap (among m) (sym (got-append (x .flags) gotA c d)) ∙ v) z);
     }
 
 -- ---- for two histories under the premises
@@ -145,13 +149,13 @@ module _ (set : List (List ℕ)) (x y : Settings) (calls-a calls-b : List Call) 
     pub asker-history : Premises set x allAsked a
     pub teller-history : Premises set y allTold b
     -- the asker got what it had before, and of the teller's
-    pub only : (m : List ℕ) → among m (gotAll [] allAsked) ≡ true → among m (gotAll [] calls-a) ≡ false
-        → among m (gotAll [] calls-b) ≡ true
+    pub only : (m : List ℕ) → among m (gotAll (x .flags) [] allAsked) ≡ true
+        → among m (gotAll (x .flags) [] calls-a) ≡ false → among m (gotAll (y .flags) [] calls-b) ≡ true
 
 -- the premise on the asker's clock reaches over the rounds
-module _ {set : List (List ℕ)} {x y : Settings} {calls-a calls-b : List Call} {a b : State} (ms : MessageSet set)
+module _ {set : List (List ℕ)} {x y : Settings} {calls-a calls-b : List Call} {a b : State} (ms : MessageSet (x .flags) set)
     (pa : Premises set x calls-a a) (pb : Premises set y calls-b b)
-    (p : Play) (fair : Fair p x y) (r : ℕ) (at : ℕ → ℕ → ℕ)
+    (alike : Alike x y) (p : Play) (fair : Fair p x y) (r : ℕ) (at : ℕ → ℕ → ℕ)
     (clock : Clock x (readings (allAsked set x y calls-a calls-b a b p r at))) where
   abbrev askers : List Call
   askers = askerRounds p r at (afterAll calls-a a) (afterAll calls-b b)
@@ -162,7 +166,7 @@ module _ {set : List (List ℕ)} {x y : Settings} {calls-a calls-b : List Call} 
   abbrev firstly : ℕ
   firstly = getD (readings calls-a ++ (readings askers ++ [])) 0 0
 
-  before-rounds : Holding set x firstly (pastAll 0 calls-a) (readings askers ++ []) 0 (gotAll [] calls-a)
+  before-rounds : Holding set x firstly (pastAll 0 calls-a) (readings askers ++ []) 0 (gotAll (x .flags) [] calls-a)
       (afterAll calls-a a)
   before-rounds =
       let e : readings (calls-a ++ askers) ≡ readings calls-a ++ (readings askers ++ []) =
@@ -174,8 +178,9 @@ module _ {set : List (List ℕ)} {x y : Settings} {calls-a calls-b : List Call} 
       (pa .set-cached) (subst (Clock x) e clock) (omega arith))
       (pa .members)
 
-  rounds : RoundsDone set (gotAll [] calls-a) (gotAll [] calls-b) p r at (afterAll calls-a a) (afterAll calls-b b)
-  rounds = rounds-done ms p fair r at [] before-rounds (holding-all ms pb)
+  rounds : RoundsDone x y set (gotAll (x .flags) [] calls-a) (gotAll (y .flags) [] calls-b) p r at
+      (afterAll calls-a a) (afterAll calls-b b)
+  rounds = rounds-done ms alike p fair r at [] before-rounds (holding-all (set-alike alike ms) pb)
 
   pub caught-up : CaughtUp set x y calls-a calls-b a b p r at
   caught-up =
@@ -210,7 +215,7 @@ module _ {set : List (List ℕ)} {x y : Settings} {calls-a calls-b : List Call} 
               clock = subst (Clock y) (sym e) (pb .clock);
               few-heartbeats = omega arith;
             };
-        only = λ m t u. rounds .only m (ap (among m) (sym (got-append [] calls-a askers)) ∙ t) u;
+        only = λ m t u. rounds .only m (ap (among m) (sym (got-append (x .flags) [] calls-a askers)) ∙ t) u;
       }
 
   -- so nothing is missing after as many rounds as n/15, rounded up

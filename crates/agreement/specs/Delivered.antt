@@ -64,9 +64,10 @@ delivers ms out r =
     }
 
 -- an admit of such an index, with the host's word, brings that message
-pub brought-delivered : (ms : List (List ℕ)) (out : List ℕ) → Delivers ms out → (i at : ℕ) → i < servedOf ms out
-    → brought (admit (replyBytes ms out) i true at) ≡ some (getD ms i [])
-brought-delivered ms out d i at h = carried-brought (replyBytes ms out) i at (getD ms i []) (d .accepted) (d .each i h)
+pub brought-delivered : (flags : ℕ) (ms : List (List ℕ)) (out : List ℕ) → Delivers ms out → (i at : ℕ)
+    → i < servedOf ms out → brought flags (admit (replyBytes ms out) i true at) ≡ some (getD ms i [])
+brought-delivered flags ms out d i at h =
+    carried-brought flags (replyBytes ms out) i at (getD ms i []) (d .accepted) (d .each i h)
 
 -- ---- the reply to the request of node a for what node b tells of
 module _ (b : Node) (bs bc topic : List ℕ) (windows : ℕ) (fine : lentOf b bs bc ≡ lent.Fine) (bytes : Bytes bc)

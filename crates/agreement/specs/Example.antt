@@ -3,7 +3,7 @@
 -- in ExampleRound.
 use Prim.Native.Nat.{ℕ, zero, suc, _+_, _-_, _*_, _^_, _≤_, _<_}
 use mathlib.Core.Path.{_≡_, refl, sym, ap, subst, _∙_}
-use mathlib.Core.Bool.{true}
+use mathlib.Core.Bool.{true, or-true}
 use mathlib.Core.List.{List, [], _∷_, _++_}
 use native.Mathlib.Omega.{arith}
 use lib.ListN.{length, getD, replicate, length-replicate}
@@ -24,11 +24,13 @@ use Rattle.schema.specs.Accept.{bodyRecords, acceptOf}
 use Rattle.ids.specs.Ids.{messageAt, idParts}
 use Rattle.peer_id.specs.PeerId.{hashOf, fromBytes}
 use Rattle.key.specs.Decode.{typeOf, onTotal, onData, decodeProtobuf}
-use Rattle.admission.specs.Admission.{topicsOf, firstLong, onLimits, isKey, keyInside, isPeerId, admissionOf, givesId}
+use Rattle.admission.specs.Flags.{knownFlags}
+use Rattle.admission.specs.Admission.{topicsOf, firstLong, onLimits, isKey, keyInside, isPeerId, admissionOf, isSigned}
+use Rattle.admission.specs.Admission.{givesId}
 use Rattle.admission.specs.AdmissionLaws.{one-id}
 use Rattle.rows.specs.Rows.{newest}
 use Rattle.rows.specs.Ids.{sameBytes, among}
-use Rattle.rows.specs.IdsLaws.{same-equal}
+use Rattle.rows.specs.IdsLaws.{same-self, same-equal}
 use Rattle.rows.specs.Store.{allUpTo}
 use Rattle.seen.specs.State.{idSize}
 use Rattle.seen.specs.Entries.{holds, until, inserted, live}
@@ -39,9 +41,10 @@ use Rattle.node.specs.Gateway.{started, isNew, afterAdmit, afterBeat}
 use Rattle.node.specs.State.{legalSettings, freshNode, risesFrom}
 use Rattle.history.specs.History.{State, Settings, Fresh, Call, admit, heartbeat, readings, beats as beatsIn, timesGot}
 use Rattle.history.specs.History.{timesNew, timesDuplicate}
+use Rattle.history.specs.Laws.{startedBy}
 use Rattle.history.specs.Script.{Carries, Act, gets, beats, callsOf, gotIn, newIn, Written, nothing, got, beaten}
 use Rattle.history.specs.ScriptLaws.{fresh-acted, fresh-new}
-use Rattle.agreement.specs.Premises.{MessageSet, Members, Clock, Premises}
+use Rattle.agreement.specs.Premises.{MessageSet, Members, Alike, Clock, Premises}
 use Rattle.agreement.specs.Round.{Play, Fair}
 use Rattle.agreement.specs.Script.{inSet, script-members}
 
@@ -100,7 +103,7 @@ first-body = 0x12 ∷ 0x77 ∷ first
 unfoldable pub second-body : List ℕ
 second-body = 0x12 ∷ 0x75 ∷ second
 
-pub first-carried : Carries first-body first first-id
+pub first-carried : Carries 0 first-body first first-id
 unfolding signature first first-body acceptOf bodyRecords counted overKinds toDepth textCount roleOf rank ownOf isUtf8
     run walkAt walkFrom readField readValue skipField skipFixed readVarint readLen readTag readUvarint readFrom groupOf
     messageAt givesId admissionOf onLimits topicsOf firstLong idParts slotsOf withField setPlace sameBytes isPeerId
@@ -108,7 +111,7 @@ unfolding signature first first-body acceptOf bodyRecords counted overKinds toDe
 first-carried =
     record { accepted = refl; placed = record { start = 2; next = 121; found = refl; bytes = refl }; own = refl }
 
-pub second-carried : Carries second-body second second-id
+pub second-carried : Carries 0 second-body second second-id
 unfolding signature second second-body acceptOf bodyRecords counted overKinds toDepth textCount roleOf rank ownOf isUtf8
     run walkAt walkFrom readField readValue skipField skipFixed readVarint readLen readTag readUvarint readFrom groupOf
     messageAt givesId admissionOf onLimits topicsOf firstLong idParts slotsOf withField setPlace sameBytes isPeerId
@@ -123,16 +126,41 @@ upto-each most [] h i = omega arith
 upto-each most (n ∷ l) h zero = leb-true n most (both (leb n most) (allUpTo most l) h .0)
 upto-each most (n ∷ l) h (suc i) = upto-each most l (both (leb n most) (allUpTo most l) h .1) i
 
-upto-bytes : (l : List ℕ) → allUpTo 255 l ≡ true → Bytes l
+pub upto-bytes : (l : List ℕ) → allUpTo 255 l ≡ true → Bytes l
 upto-bytes l h i = let e = upto-each 255 l h i in omega arith
 
--- ---- they are a set of messages as the premises have it
-of-two : (P : List ℕ → Type 0) → P first → P second → (m : List ℕ) → among m messages ≡ true → P m
-unfolding messages among
-of-two P p q m h =
-    either (sameBytes first m) (λ t. subst P (same-equal first m t) p)
-    (λ t. either (sameBytes second m) (λ u. subst P (same-equal second m u) q)
-    (λ u. clash (let z = simp (t, u) at h in cc)))
+-- ---- two messages that give two ids are a set as the premises have it
+module _ (flags : ℕ) (m k i j : List ℕ) (bytes-m : Bytes m) (bytes-k : Bytes k) (own-m : givesId flags m i ≡ true)
+    (own-k : givesId flags k j ≡ true) (differ : i ≡ j → ⊥) where
+  of-two : (P : List ℕ → Type 0) → P m → P k → (o : List ℕ) → among o (m ∷ k ∷ []) ≡ true → P o
+  unfolding among
+  of-two P p q o h =
+      either (sameBytes m o) (λ t. subst P (same-equal m o t) p)
+      (λ t. either (sameBytes k o) (λ u. subst P (same-equal k o u) q)
+      (λ u. clash (let z = simp (t, u) at h in cc)))
+
+  -- no id is that of both
+  not-both : {A : Type 0} (id : List ℕ) → givesId flags m id ≡ true → givesId flags k id ≡ true → A
+  not-both id g h = absurd (differ (sym (one-id flags m id i g own-m) ∙ one-id flags k id j h own-k))
+
+  pub two-set : MessageSet flags (m ∷ k ∷ [])
+  two-set =
+      record {
+        bytes = of-two Bytes bytes-m bytes-k;
+        admissible = of-two (λ (o : List ℕ). (id : List ℕ) × (givesId flags o id ≡ true)) (i, own-m) (j, own-k);
+        ids-differ = λ o l id a b.
+            of-two (λ (o : List ℕ). givesId flags o id ≡ true → givesId flags l id ≡ true → o ≡ l)
+            (of-two (λ (l : List ℕ). givesId flags m id ≡ true → givesId flags l id ≡ true → m ≡ l) (λ g h. refl)
+            (λ g h. not-both id g h) l b)
+            (of-two (λ (l : List ℕ). givesId flags k id ≡ true → givesId flags l id ≡ true → k ≡ l)
+            (λ g h. not-both id h g) (λ g h. refl) l b)
+            o a;
+      }
+
+-- each of them is in it
+pub two-in : (m k : List ℕ) → (among m (m ∷ k ∷ []) ≡ true) × (among k (m ∷ k ∷ []) ≡ true)
+unfolding among
+two-in m k = (rw (same-self m), rw (same-self k) (or-true (sameBytes m k)))
 
 first-bytes : Bytes first
 unfolding signature first allUpTo
@@ -142,55 +170,40 @@ second-bytes : Bytes second
 unfolding signature second allUpTo
 second-bytes = upto-bytes second refl
 
--- no id is that of both
-not-both : {A : Type 0} (id : List ℕ) → givesId first id ≡ true → givesId second id ≡ true → A
-not-both id g h =
-    let e : first-id ≡ second-id = sym (one-id first id first-id g (first-carried .own))
-    ∙ one-id second id second-id h (second-carried .own) in
-    let z : _≡_ {A = ℕ} 0x1e 0xd7 = ap (λ (l : List ℕ). getD l 6 0) e in
-    absurd (omega arith)
+pub ids-differ : first-id ≡ second-id → ⊥
+ids-differ e = let z : _≡_ {A = ℕ} 0x1e 0xd7 = ap (λ (l : List ℕ). getD l 6 0) e in absurd (omega arith)
 
 pub first-in : among first messages ≡ true
-unfolding messages among signature first sameBytes
-first-in = refl
+unfolding messages
+first-in = two-in first second .0
 
 pub second-in : among second messages ≡ true
-unfolding messages among signature first second sameBytes
-second-in = refl
+unfolding messages
+second-in = two-in first second .1
 
-pub message-set : MessageSet messages
-message-set =
-    record {
-      bytes = of-two Bytes first-bytes second-bytes;
-      admissible = of-two (λ (m : List ℕ). (id : List ℕ) × (givesId m id ≡ true)) (first-id, first-carried .own)
-          (second-id, second-carried .own);
-      ids-differ = λ m k id a b.
-          of-two (λ (m : List ℕ). givesId m id ≡ true → givesId k id ≡ true → m ≡ k)
-          (of-two (λ (k : List ℕ). givesId first id ≡ true → givesId k id ≡ true → first ≡ k) (λ g h. refl)
-          (λ g h. not-both id g h) k b)
-          (of-two (λ (k : List ℕ). givesId second id ≡ true → givesId k id ≡ true → second ≡ k) (λ g h. not-both id h g)
-          (λ g h. refl) k b)
-          m a;
-    }
+pub message-set : MessageSet 0 messages
+unfolding messages
+message-set = two-set 0 first second first-id second-id first-bytes second-bytes (first-carried .own)
+    (second-carried .own) ids-differ
 
 -- ---- the gateways
 abbrev pub settings-a : Settings
-settings-a = record { ttl = 100; max-seen = 2; history-len = 2; max-messages = 2 }
+settings-a = record { ttl = 100; max-seen = 2; history-len = 2; max-messages = 2; flags = 0 }
 
 abbrev pub settings-b : Settings
-settings-b = record { ttl = 50; max-seen = 3; history-len = 3; max-messages = 4 }
+settings-b = record { ttl = 50; max-seen = 3; history-len = 3; max-messages = 4; flags = 0 }
 
 -- a fresh node with stores of zeros
 unfoldable pub start : Settings → State
 start x =
     record {
-      node = freshNode (x .ttl) (x .max-seen) (x .history-len) (x .max-messages);
+      node = freshNode (x .ttl) (x .max-seen) (x .history-len) (x .max-messages) (x .flags);
       ids = replicate (x .max-seen * idSize) 0;
       messages = replicate (x .max-messages * messageSize) 0;
     }
 
-start-fresh : (x : Settings) → x .ttl < 2 ^ 64 → legalSettings (x .max-seen) (x .history-len) (x .max-messages) ≡ true
-    → Fresh x (start x)
+pub start-fresh : (x : Settings) → x .ttl < 2 ^ 64
+    → legalSettings (x .max-seen) (x .history-len) (x .max-messages) (x .flags) ≡ true → Fresh x (start x)
 unfolding start
 start-fresh x small ok =
     record {
@@ -203,11 +216,11 @@ start-fresh x small ok =
     }
 
 pub fresh-a : Fresh settings-a (start settings-a)
-unfolding legalSettings legal
+unfolding legalSettings legal knownFlags
 fresh-a = start-fresh settings-a (omega arith) refl
 
 pub fresh-b : Fresh settings-b (start settings-b)
-unfolding legalSettings legal
+unfolding legalSettings legal knownFlags
 fresh-b = start-fresh settings-b (omega arith) refl
 
 -- ---- their calls: a gets the first message twice, and the second is lost on its way; b gets the second, the first,
@@ -234,10 +247,10 @@ pub calls-b-written : callsOf script-b ≡ calls-b
 unfolding callsOf calls-b
 calls-b-written = refl
 
-pub written-a : Written 0 script-a
+pub written-a : Written 0 0 script-a
 written-a = got 0 10 first-carried (omega arith) (got 10 12 first-carried (omega arith) nothing)
 
-pub written-b : Written 0 script-b
+pub written-b : Written 0 0 script-b
 written-b =
     got 0 7 second-carried (omega arith)
     (got 7 8 first-carried (omega arith) (beaten 8 9 (omega arith) (got 9 11 second-carried (omega arith) nothing)))
@@ -284,7 +297,7 @@ pub premises-a : Premises messages settings-a calls-a (start settings-a)
 premises-a =
     record {
       fresh = fresh-a;
-      members = subst (Members messages) calls-a-written (script-members messages written-a inside-a);
+      members = subst (Members 0 messages) calls-a-written (script-members 0 messages written-a inside-a);
       set-seen = omega (arith, two-messages);
       set-cached = omega (arith, two-messages);
       clock = clock-a;
@@ -295,7 +308,7 @@ pub premises-b : Premises messages settings-b calls-b (start settings-b)
 premises-b =
     record {
       fresh = fresh-b;
-      members = subst (Members messages) calls-b-written (script-members messages written-b inside-b);
+      members = subst (Members 0 messages) calls-b-written (script-members 0 messages written-b inside-b);
       set-seen = omega (arith, two-messages);
       set-cached = omega (arith, two-messages);
       clock = clock-b;
@@ -323,55 +336,64 @@ play =
       reply-out = λ k. buffer (k + 2) 255;
     }
 
-pub fair : Fair play settings-a settings-b
-fair =
+pub fair-for : (x y : Settings) → x .history-len ≤ 3 → y .history-len ≤ 3 → Fair play x y
+fair-for x y a b =
     record {
       topic-short = omega arith;
-      windows-x = omega arith;
-      windows-y = omega arith;
+      windows-x = a;
+      windows-y = b;
       advert-room = λ k. buffer-full k 0;
       request-room = λ k. buffer-full (k + 1) 7;
       reply-room = λ k. buffer-full (k + 2) 255;
     }
 
--- ---- a message got is new once
-pub record Counts (m : List ℕ) (calls : List Call) (s : State) (got new duplicate : ℕ) : Type 0 where
-  pub times-got : timesGot m calls ≡ got
-  pub times-new : timesNew m calls s ≡ new
-  pub times-duplicate : timesDuplicate m calls s ≡ duplicate
+pub fair : Fair play settings-a settings-b
+fair = fair-for settings-a settings-b (omega arith) (omega arith)
 
-counts : {x : Settings} {s : State} (m : List ℕ) (xs : List Act) (calls : List Call) → Fresh x s → Written 0 xs
-    → callsOf xs ≡ calls
-    → Counts m calls s (gotIn m xs) (newIn m xs (started (x .ttl) (x .max-seen) (x .history-len) (x .max-messages)))
-    (gotIn m xs - newIn m xs (started (x .ttl) (x .max-seen) (x .history-len) (x .max-messages)))
+pub alike : Alike settings-a settings-b
+alike = refl
+
+-- ---- a message got is new once
+pub record Counts (flags : ℕ) (m : List ℕ) (calls : List Call) (s : State) (got new duplicate : ℕ) : Type 0 where
+  pub times-got : timesGot flags m calls ≡ got
+  pub times-new : timesNew flags m calls s ≡ new
+  pub times-duplicate : timesDuplicate flags m calls s ≡ duplicate
+
+pub counts : {x : Settings} {s : State} (m : List ℕ) (xs : List Act) (calls : List Call) → Fresh x s
+    → Written (x .flags) 0 xs → callsOf xs ≡ calls
+    → Counts (x .flags) m calls s (gotIn m xs) (newIn m xs (startedBy x)) (gotIn m xs - newIn m xs (startedBy x))
 counts {x} {s} m xs calls f w e =
-    let g : timesGot m calls ≡ gotIn m xs =
-    subst (λ (cs : List Call). timesGot m cs ≡ gotIn m xs) e (fresh-acted xs f w .times-got m) in
-    let n : timesNew m calls s ≡ newIn m xs (started (x .ttl) (x .max-seen) (x .history-len) (x .max-messages)) =
-    subst (λ (cs : List Call). timesNew m cs s ≡ newIn m xs
-    (started (x .ttl) (x .max-seen) (x .history-len) (x .max-messages))) e (fresh-new xs f w m) in
-    let d : gotIn m xs ≡ timesNew m calls s + timesDuplicate m calls s =
-    subst (λ (cs : List Call). gotIn m xs ≡ timesNew m cs s + timesDuplicate m cs s) e
+    let g : timesGot (x .flags) m calls ≡ gotIn m xs =
+    subst (λ (cs : List Call). timesGot (x .flags) m cs ≡ gotIn m xs) e (fresh-acted xs f w .times-got m) in
+    let n : timesNew (x .flags) m calls s ≡ newIn m xs (startedBy x) =
+    subst (λ (cs : List Call). timesNew (x .flags) m cs s ≡ newIn m xs (startedBy x)) e (fresh-new xs f w m) in
+    let d : gotIn m xs ≡ timesNew (x .flags) m calls s + timesDuplicate (x .flags) m calls s =
+    subst (λ (cs : List Call). gotIn m xs ≡ timesNew (x .flags) m cs s + timesDuplicate (x .flags) m cs s) e
     (fresh-acted xs f w .answered m) in
     record { times-got = g; times-new = n; times-duplicate = omega arith }
 
 -- the first message came to a twice
-pub first-at-a : Counts first calls-a (start settings-a) 2 1 1
-unfolding signature first gotIn newIn started isNew afterAdmit holds among sameBytes live inserted newest until held put
+pub first-at-a : Counts 0 first calls-a (start settings-a) 2 1 1
+unfolding signature first isSigned slotsOf withField setPlace roleOf walkAt walkFrom readField readValue skipField
+    skipFixed readVarint readLen readTag readUvarint readFrom groupOf gotIn newIn started isNew afterAdmit holds among
+    sameBytes live inserted newest until held put
 first-at-a = counts first script-a calls-a fresh-a written-a calls-a-written
 
 -- the second never
-pub second-at-a : Counts second calls-a (start settings-a) 0 0 0
-unfolding signature first second gotIn newIn started isNew afterAdmit holds among sameBytes live inserted newest until
-    held put
+pub second-at-a : Counts 0 second calls-a (start settings-a) 0 0 0
+unfolding signature first second isSigned slotsOf withField setPlace roleOf walkAt walkFrom readField readValue
+    skipField skipFixed readVarint readLen readTag readUvarint readFrom groupOf gotIn newIn started isNew afterAdmit
+    holds among sameBytes live inserted newest until held put
 second-at-a = counts second script-a calls-a fresh-a written-a calls-a-written
 
-pub first-at-b : Counts first calls-b (start settings-b) 1 1 0
-unfolding signature first second gotIn newIn started isNew afterAdmit afterBeat holds among sameBytes live inserted
-    newest until held put shift
+pub first-at-b : Counts 0 first calls-b (start settings-b) 1 1 0
+unfolding signature first second isSigned slotsOf withField setPlace roleOf walkAt walkFrom readField readValue
+    skipField skipFixed readVarint readLen readTag readUvarint readFrom groupOf gotIn newIn started isNew afterAdmit
+    afterBeat holds among sameBytes live inserted newest until held put shift
 first-at-b = counts first script-b calls-b fresh-b written-b calls-b-written
 
-pub second-at-b : Counts second calls-b (start settings-b) 2 1 1
-unfolding signature first second gotIn newIn started isNew afterAdmit afterBeat holds among sameBytes live inserted
-    newest until held put shift
+pub second-at-b : Counts 0 second calls-b (start settings-b) 2 1 1
+unfolding signature first second isSigned slotsOf withField setPlace roleOf walkAt walkFrom readField readValue
+    skipField skipFixed readVarint readLen readTag readUvarint readFrom groupOf gotIn newIn started isNew afterAdmit
+    afterBeat holds among sameBytes live inserted newest until held put shift
 second-at-b = counts second script-b calls-b fresh-b written-b calls-b-written

@@ -3,7 +3,7 @@
 use Prim.Native.Nat.{ℕ}
 use mathlib.Core.Path.{_≡_, refl, sym, ap, ap₂, subst, _∙_}
 use mathlib.Core.Bool.{true}
-use mathlib.Core.List.{List, [], _∷_, _++_}
+use mathlib.Core.List.{List, [], _∷_, _++_, append-nil}
 use native.Mathlib.Omega.{arith}
 use lib.ListN.{length}
 use Rattle.basis.specs.Cases.{either, clash}
@@ -12,29 +12,32 @@ use Rattle.protobuf.specs.Field.{readTag, readLen, readVarint, skipFixed, skipF
 use Rattle.protobuf.specs.Walk.{walkFrom, walkAt}
 use Rattle.protobuf.specs.Encode.{tag, bytesField}
 use Rattle.rpc.specs.Encode.{encodeIHave, encodeIWant, encodeControl, encodeRpc}
-use Rattle.admission.specs.Admission.{topicsOf}
+use Rattle.schema.specs.Schema.{roleOf}
+use Rattle.schema.specs.Slots.{setPlace, withField, slotsOf}
+use Rattle.admission.specs.Flags.{allowsUnsigned}
+use Rattle.admission.specs.Admission.{topicsOf, isSigned}
 use Rattle.rows.specs.Rows.{newest}
 use Rattle.rows.specs.Ids.{sameBytes, precedesBytes, among}
 use Rattle.rows.specs.IdsLaws.{same-equal}
 use Rattle.rows.specs.Store.{allUpTo}
-use Rattle.node.specs.Parts.{fitting}
 use Rattle.seen.specs.Entries.{holds, until, inserted, live}
 use Rattle.mcache.specs.Messages.{Cached, idsOf, held, put, shift, get, carrying, enterId, inOrder, gossipIds}
-use Rattle.node.specs.Gateway.{Gateway, started, marked, isNew, afterAdmit, afterBeat, toldOf, lacking, having}
+use Rattle.node.specs.Gateway.{Gateway, started, marked, isNew, afterAdmit, afterBeat, toldOf, knows, lacking, having}
 use Rattle.node.specs.Gateway.{advertisement, request}
 use Rattle.node.specs.State.{risesFrom}
-use Rattle.node.specs.Calls.{toldIn, bytesFor, advertiseBytes, roomOf, servedOf, replyBytes}
+use Rattle.node.specs.Calls.{toldIn, bytesFor, advertiseBytes}
 use Rattle.node.specs.Laws.{told-gateway}
-use Rattle.history.specs.History.{State, gatewayOf, Call, admit, ask, after, afterAll, readings, firstOf, admits}
+use Rattle.history.specs.History.{State, gatewayOf, Call, admit, ask, after, afterAll, readings, firstOf}
+use Rattle.history.specs.Laws.{startedBy}
 use Rattle.history.specs.Script.{Act, gets, asks, callsOf, gatewayAfter, Written, nothing, got, asked}
 use Rattle.history.specs.ScriptLaws.{fresh-leaves}
 use Rattle.agreement.specs.Premises.{Clock}
-use Rattle.agreement.specs.Round.{missing, lacked, Play, advertBy, advertOf, requestOf, replyOf}
-use Rattle.agreement.specs.Round.{servedCount, askerRound, tellerRound, askerRounds, tellerRounds}
+use Rattle.agreement.specs.Round.{missing, lacked, advertBy, advertOf, requestOf, replyOf, askerRound}
+use Rattle.agreement.specs.Round.{tellerRound, askerRounds, tellerRounds}
 use Rattle.agreement.specs.Holding.{Holding, holding-all, gotAll, pastAll}
 use Rattle.agreement.specs.HandOver.{request-is}
 use Rattle.agreement.specs.Lacking.{fine}
-use Rattle.agreement.specs.Played.{advertise-is, requested, wants, replies, replied, served-is}
+use Rattle.agreement.specs.Played.{advertise-is, requested, one-replied, one-round as one-asked}
 use Rattle.agreement.specs.Request.{request-is-exact}
 use Rattle.agreement.specs.CatchUp.{allAsked, allTold, CaughtUp, caught-up, all-arrived}
 use Rattle.agreement.specs.Identical.{Identical, identical-bytes}
@@ -42,7 +45,7 @@ use Rattle.agreement.specs.Example.{topic, signature, first, second, mes
 use Rattle.agreement.specs.Example.{second-body, first-carried, second-carried, message-set, settings-a}
 use Rattle.agreement.specs.Example.{settings-b, start, fresh-a, fresh-b, calls-a, calls-b, script-a, script-b}
 use Rattle.agreement.specs.Example.{calls-a-written, calls-b-written, written-a, written-b, clock-by, premises-a}
-use Rattle.agreement.specs.Example.{premises-b, buffer, buffer-full, play, fair}
+use Rattle.agreement.specs.Example.{premises-b, buffer, buffer-full, play, fair, alike}
 
 -- ---- the gateways after these calls
 abbrev pub at-a : State
@@ -58,8 +61,9 @@ gateway-a =
       max-seen = 2;
       history-len = 2;
       max-messages = 2;
+      flags = 0;
       clock = 12;
-      seen = record { id = marked first-id; expiry = 110 } ∷ [];
+      seen = record { id = marked true first-id; expiry = 110 } ∷ [];
       cache = record { id = first-id; message = first; window = 0 } ∷ [];
     }
 
@@ -70,19 +74,23 @@ gateway-b =
       max-seen = 3;
       history-len = 3;
       max-messages = 4;
+      flags = 0;
       clock = 11;
-      seen = record { id = marked second-id; expiry = 57 } ∷ record { id = marked first-id; expiry = 58 } ∷ [];
+      seen = record { id = marked true second-id; expiry = 57 } ∷ record { id = marked true first-id; expiry = 58 } ∷ [];
       cache = record { id = second-id; message = second; window = 1 }
           ∷ record { id = first-id; message = first; window = 1 } ∷ [];
     }
 
-script-leaves-a : gatewayAfter script-a (started 100 2 2 2) ≡ gateway-a
-unfolding gateway-a gatewayAfter started isNew afterAdmit holds among sameBytes live inserted newest until held put
+script-leaves-a : gatewayAfter script-a (startedBy settings-a) ≡ gateway-a
+unfolding signature first isSigned slotsOf withField setPlace roleOf walkAt walkFrom readField readValue skipField
+    skipFixed readVarint readLen readTag readUvarint readFrom groupOf gateway-a gatewayAfter started isNew afterAdmit
+    holds among sameBytes live inserted newest until held put
 script-leaves-a = refl
 
-script-leaves-b : gatewayAfter script-b (started 50 3 3 4) ≡ gateway-b
-unfolding gateway-b gatewayAfter started isNew afterAdmit afterBeat holds among sameBytes live inserted newest until
-    held put shift
+script-leaves-b : gatewayAfter script-b (startedBy settings-b) ≡ gateway-b
+unfolding signature first second isSigned slotsOf withField setPlace roleOf walkAt walkFrom readField readValue
+    skipField skipFixed readVarint readLen readTag readUvarint readFrom groupOf gateway-b gatewayAfter started isNew
+    afterAdmit afterBeat holds among sameBytes live inserted newest until held put shift
 script-leaves-b = refl
 
 a-is : gatewayOf at-a ≡ gateway-a
@@ -95,13 +103,13 @@ b-is = ap (λ (cs : List Call). gatewayOf (afterAll cs (start settings-b))) (sym
 
 -- ---- a lacks the second message, and b lacks nothing
 a-misses : missing topic gateway-a (gateway-b .cache) ≡ record { id = second-id; message = second; window = 1 } ∷ []
-unfolding gateway-a gateway-b missing holds among sameBytes signature first second walkAt walkFrom readField readValue
-    skipField skipFixed readVarint readLen readTag readUvarint readFrom groupOf topicsOf
+unfolding gateway-a gateway-b missing knows allowsUnsigned holds among sameBytes signature first second walkAt walkFrom
+    readField readValue skipField skipFixed readVarint readLen readTag readUvarint readFrom groupOf topicsOf
 a-misses = refl
 
 b-misses : missing topic gateway-b (gateway-a .cache) ≡ []
-unfolding gateway-a gateway-b missing holds among sameBytes signature first second walkAt walkFrom readField readValue
-    skipField skipFixed readVarint readLen readTag readUvarint readFrom groupOf topicsOf
+unfolding gateway-a gateway-b missing knows allowsUnsigned holds among sameBytes signature first second walkAt walkFrom
+    readField readValue skipField skipFixed readVarint readLen readTag readUvarint readFrom groupOf topicsOf
 b-misses = refl
 
 pub a-lacks-the-second : lacked topic at-a at-b ≡ record { id = second-id; message = second; window = 1 } ∷ []
@@ -112,11 +120,11 @@ b-lacks-nothing = ap₂ (λ (g h : Gateway). missing topic g (h .cache)) b-is a-
 
 -- ---- a's request, given b's advertisement, names its id
 holding-a : Holding messages settings-a (firstOf calls-a) (pastAll 0 calls-a) [] 0
-    (gotAll [] calls-a) at-a
+    (gotAll 0 [] calls-a) at-a
 holding-a = holding-all message-set premises-a
 
 holding-b : Holding messages settings-b (firstOf calls-b) (pastAll 0 calls-b) [] 0
-    (gotAll [] calls-b) at-b
+    (gotAll 0 [] calls-b) at-b
 holding-b = holding-all message-set premises-b
 
 b-tells : toldOf topic 3 gateway-b ≡ first-id ∷ second-id ∷ []
@@ -125,7 +133,7 @@ unfolding gateway-b gossipIds inOrder enterId carrying precedesBytes among sameB
 b-tells = refl
 
 a-wants : lacking gateway-a (first-id ∷ second-id ∷ []) ≡ second-id ∷ []
-unfolding gateway-a lacking holds among sameBytes
+unfolding gateway-a lacking knows allowsUnsigned holds among sameBytes
 a-wants = refl
 
 wanted-is : lacking (gatewayOf at-a) (toldOf topic 3 (gatewayOf at-b)) ≡ second-id ∷ []
@@ -156,61 +164,39 @@ second-named : among second-id (second-id ∷ []) ≡ true
 unfolding among sameBytes
 second-named = refl
 
-pub request-names : request-is-exact message-set premises-a premises-b play fair .ids ≡ second-id ∷ []
+pub request-names : request-is-exact message-set premises-a premises-b alike play fair .ids ≡ second-id ∷ []
 request-names =
-    let r = request-is-exact message-set premises-a premises-b play fair in
+    let r = request-is-exact message-set premises-a premises-b alike play fair in
     only-one (r .ids) second-id (r .count ∙ ap length a-lacks-the-second)
     (r .exactly second-id ∙ ap (λ (l : List Cached). among second-id (idsOf l)) a-lacks-the-second ∙ second-named)
 
 -- ---- b's reply is the body with the second message
-abbrev reply-buffer : List ℕ
-reply-buffer = buffer 2 255
-
-room : roomOf reply-buffer ≡ 65536
-unfolding roomOf
-room = let h = buffer-full 2 255 in omega arith
-
 b-has : having gateway-b (second-id ∷ []) ≡ second ∷ []
 unfolding gateway-b having held get among sameBytes
 b-has = refl
 
-replies-are : replies holding-a holding-b play fair ≡ second ∷ []
-unfolding replies wants
-replies-are = ap (having (gatewayOf at-b)) wanted-is ∙ ap (λ (g : Gateway). having g (second-id ∷ [])) b-is ∙ b-has
+has-it : having (gatewayOf at-b) (second-id ∷ []) ≡ second ∷ []
+has-it = ap (λ (g : Gateway). having g (second-id ∷ [])) b-is ∙ b-has
 
-one-fits : fitting 2 65536 (second ∷ []) ≡ 1
-unfolding fitting bytesField tag uvarint bytesOf signature second
-one-fits = refl
-
-one-served : servedOf (second ∷ []) reply-buffer ≡ 1
-unfolding servedOf
-one-served = rw room one-fits
-
-reply-written : replyBytes (second ∷ []) reply-buffer ≡ second-body
-unfolding replyBytes servedOf second-body bytesField tag uvarint bytesOf signature second
-reply-written = rw one-served
+body-written : bytesField 2 second ≡ second-body
+unfolding second-body bytesField tag uvarint bytesOf signature second
+body-written = refl
 
 pub reply-bytes : replyOf play at-a at-b ≡ second-body
-reply-bytes = replied holding-a holding-b play fair
-    ∙ ap (λ (ms : List (List ℕ)). replyBytes ms reply-buffer) replies-are ∙ reply-written
-
-pub reply-count : servedCount play at-a at-b ≡ 1
-reply-count = served-is holding-a holding-b play fair
-    ∙ ap (λ (ms : List (List ℕ)). servedOf ms reply-buffer) replies-are ∙ one-served
+reply-bytes = one-replied holding-a holding-b play fair second second-id wanted-is has-it ∙ body-written
 
 -- ---- one round, a's admits at 20
 abbrev pub reading : ℕ → ℕ → ℕ
 reading k i = 20
 
-round-calls : (p : Play) (at : ℕ → ℕ → ℕ) (a b : State) (body : List ℕ) → replyOf p a b ≡ body → servedCount p a b ≡ 1
-    → askerRounds p 1 at a b ≡ ask (advertOf p b) (p .request-out 0) ∷ admit body 0 true (at 0 0) ∷ []
-unfolding askerRounds askerRound admits
-round-calls p at a b body e n = rw (e, n)
-
 -- a's calls in it: it asks, and admits the message served
 pub one-round : askerRounds play 1 reading at-a at-b
     ≡ ask (advertOf play at-b) (buffer 1 7) ∷ admit second-body 0 true 20 ∷ []
-one-round = round-calls play reading at-a at-b second-body reply-bytes reply-count
+unfolding askerRounds
+one-round =
+    append-nil (askerRound play (reading 0) at-a at-b)
+    ∙ one-asked holding-a holding-b play fair second second-id wanted-is has-it (reading 0)
+    ∙ ap (λ (body : List ℕ). ask (advertOf play at-b) (buffer 1 7) ∷ admit body 0 true 20 ∷ []) body-written
 
 -- all calls of each, with the round
 abbrev pub all-a : List Call
@@ -230,7 +216,7 @@ all-a-written : callsOf script-all ≡ all-a
 unfolding callsOf calls-a
 all-a-written = ap (λ (cs : List Call). admit first-body 0 true 10 ∷ admit first-body 0 true 12 ∷ cs) (sym one-round)
 
-written-all : Written 0 script-all
+written-all : Written 0 0 script-all
 written-all =
     got 0 10 first-carried (omega arith)
     (got 10 12 first-carried (omega arith) (asked (got 12 20 second-carried (omega arith) nothing)))
@@ -245,7 +231,7 @@ clock-all = subst (λ (cs : List Call). Clock settings-a (readings cs)) all-a-wr
 -- no call in the round is refused, and both histories, with the round, are under the premises
 pub round-done : CaughtUp messages settings-a settings-b calls-a calls-b (start settings-a) (start settings-b) play 1
     reading
-round-done = caught-up message-set premises-a premises-b play fair 1 reading clock-all
+round-done = caught-up message-set premises-a premises-b alike play fair 1 reading clock-all
 
 -- ---- after it neither lacks anything
 abbrev pub later-a : State
@@ -258,7 +244,7 @@ one-lacking : length (lacked topic at-a at-b) ≡ 1
 one-lacking = ap length a-lacks-the-second
 
 pub a-lacks-nothing-then : lacked topic later-a later-b ≡ []
-a-lacks-nothing-then = all-arrived message-set premises-a premises-b play fair 1 reading clock-all 1
+a-lacks-nothing-then = all-arrived message-set premises-a premises-b alike play fair 1 reading clock-all 1
     (omega (arith, one-lacking)) (omega arith)
 
 unfoldable gateway-a-then : Gateway
@@ -268,14 +254,17 @@ gateway-a-then =
       max-seen = 2;
       history-len = 2;
       max-messages = 2;
+      flags = 0;
       clock = 20;
-      seen = record { id = marked first-id; expiry = 110 } ∷ record { id = marked second-id; expiry = 120 } ∷ [];
+      seen = record { id = marked true first-id; expiry = 110 } ∷ record { id = marked true second-id; expiry = 120 } ∷ [];
       cache = record { id = first-id; message = first; window = 0 }
           ∷ record { id = second-id; message = second; window = 0 } ∷ [];
     }
 
-script-leaves-all : gatewayAfter script-all (started 100 2 2 2) ≡ gateway-a-then
-unfolding gateway-a-then gatewayAfter started isNew afterAdmit holds among sameBytes live inserted newest until held put
+script-leaves-all : gatewayAfter script-all (startedBy settings-a) ≡ gateway-a-then
+unfolding signature first second isSigned slotsOf withField setPlace roleOf walkAt walkFrom readField readValue
+    skipField skipFixed readVarint readLen readTag readUvarint readFrom groupOf gateway-a-then gatewayAfter started
+    isNew afterAdmit holds among sameBytes live inserted newest until held put
 script-leaves-all = refl
 
 a-is-then : gatewayOf later-a ≡ gateway-a-then
@@ -291,8 +280,8 @@ b-is-then : gatewayOf later-b ≡ gateway-b
 b-is-then = ap gatewayOf b-stays ∙ b-is
 
 b-misses-then : missing topic gateway-b (gateway-a-then .cache) ≡ []
-unfolding gateway-a-then gateway-b missing holds among sameBytes signature first second walkAt walkFrom readField
-    readValue skipField skipFixed readVarint readLen readTag readUvarint readFrom groupOf topicsOf
+unfolding gateway-a-then gateway-b missing knows allowsUnsigned holds among sameBytes signature first second walkAt
+    walkFrom readField readValue skipField skipFixed readVarint readLen readTag readUvarint readFrom groupOf topicsOf
 b-misses-then = refl
 
 pub b-lacks-nothing-then : lacked topic later-b later-a ≡ []
@@ -301,7 +290,7 @@ b-lacks-nothing-then = ap₂ (λ (g h : Gateway). missing topic g (h .cache)) b-
 -- ---- and both advertise in the same bytes, each with another buffer
 pub same-bytes : Identical topic 2 3 (buffer 5 1) (buffer 0 2) later-a later-b
 same-bytes =
-    identical-bytes message-set (round-done .asker-history) (round-done .teller-history) topic (fair .topic-short)
+    identical-bytes message-set (round-done .asker-history) (round-done .teller-history) alike topic (fair .topic-short)
     a-lacks-nothing-then b-lacks-nothing-then 2 3 (omega arith) (omega arith) (buffer 5 1) (buffer 0 2)
     (buffer-full 5 1) (buffer-full 0 2)
 
@@ -312,7 +301,7 @@ unfolding encodeRpc encodeControl encodeIWant encodeIHave bytesField tag uvarint
 advert-written = refl
 
 later-holding-b : Holding messages settings-b (firstOf all-b) (pastAll 0 all-b) [] 0
-    (gotAll [] all-b) later-b
+    (gotAll 0 [] all-b) later-b
 later-holding-b = holding-all message-set (round-done .teller-history)
 
 told-bytes : (s : State) (ids : List (List ℕ)) → toldIn (s .node) (s .messages) topic 3 ≡ ids

@@ -31,7 +31,7 @@ module _ (n : Node) (at : ℕ) (h : n .clock ≤ at) (k : ℕ) where
 
   of-at : (word : Bool) (body : List ℕ) (r : MessageAt) → planAt n at word body r ≡ no (answer.ClockBack k) → ⊥
   of-at word body (found.Count j) e = clash (cc)
-  of-at word body (found.At a b) e = of-fit (between body a b) (admissionOf (between body a b) word) e
+  of-at word body (found.At a b) e = of-fit (between body a b) (admissionOf (n .cache .flags) (between body a b) word) e
 
   of-body : (word : Bool) (body : List ℕ) (i : ℕ) (r : Checked) → planBody n at word body i r ≡ no (answer.ClockBack k)
       → ⊥

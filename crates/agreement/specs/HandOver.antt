@@ -1,5 +1,5 @@
 -- A round's request, of node a that is given the advertisement of node b: it is taken and names exactly those of the ids
--- that b tells of and a has not seen, each once; and b has every message that is asked for.
+-- that b tells of and a does not hold, each once; and b has every message that is asked for.
 use Prim.Native.Nat.{ℕ, suc, _+_, _≤_}
 use mathlib.Core.Path.{_≡_, refl, sym, ap, subst, _∙_}
 use mathlib.Core.Bool.{true, false, not}
@@ -19,14 +19,13 @@ use Rattle.rpc.specs.Encode.{encodeRpc, repeated}
 use Rattle.schema.specs.Accept.{acceptOf}
 use Rattle.canon.specs.Lengths.{bytes-field-mono}
 use Rattle.canon.specs.Taken.{Within, taken}
-use Rattle.seen.specs.Entries.{holds}
 use Rattle.mcache.specs.Messages.{held}
 use Rattle.mcache.specs.GossipLaws.{told-distinct, told-held}
 use Rattle.node.specs.Parts.{once}
 use Rattle.node.specs.PartsLaws.{once-same}
 use Rattle.node.specs.declared.Node.{Node}
 use Rattle.node.specs.declared.Lent.the-variants as lent
-use Rattle.node.specs.Gateway.{Gateway, marked, toldOf, lacking, having, advertisement, request}
+use Rattle.node.specs.Gateway.{Gateway, toldOf, knows, lacking, having, advertisement, request}
 use Rattle.node.specs.State.{gatewayIn}
 use Rattle.node.specs.Calls.{lentOf, bytesFor, advertiseBytes, offered, unseenOf, askBytes, wanted, cachedOf}
 use Rattle.node.specs.Laws.{told-gateway, unseen-gateway, cached-gateway}
@@ -44,7 +43,7 @@ unfolding lacking
 lacking-few g [] = omega arith
 lacking-few g (i ∷ is) =
     let r = lacking-few g is in
-    either (holds (marked i) (g .seen)) (λ t. simp t (omega arith)) (λ t. simp t (omega arith))
+    either (knows g i) (λ t. simp t (omega arith)) (λ t. simp t (omega arith))
 
 lacking-fields : (g : Gateway) (is : List (List ℕ)) → length (repeated (bytesField 1) (lacking g is)) ≤ length
     (repeated (bytesField 2) is)
@@ -55,7 +54,7 @@ lacking-fields g (i ∷ is) =
     let f = heads-same i in
     let l = length-append (bytesField 2 i) (repeated (bytesField 2) is) in
     let m = length-append (bytesField 1 i) (repeated (bytesField 1) (lacking g is)) in
-    either (holds (marked i) (g .seen)) (λ t. simp t (omega arith)) (λ t. simp t (omega arith))
+    either (knows g i) (λ t. simp t (omega arith)) (λ t. simp t (omega arith))
 
 pub lacking-distinct : (g : Gateway) (is : List (List ℕ)) → distinct is ≡ true → distinct (lacking g is) ≡ true
 unfolding lacking distinct
@@ -65,17 +64,17 @@ lacking-distinct g (i ∷ is) d =
     (λ t.
     let r = lacking-distinct g is (simp t at d) in
     let n : among i (lacking g is) ≡ false = asked-exactly g i is ∙ simp t in
-    either (holds (marked i) (g .seen)) (λ u. simp u r) (λ u. simp (u, n) r))
+    either (knows g i) (λ u. simp u r) (λ u. simp (u, n) r))
 
--- exactly those named that are not seen
+-- exactly those named that are not held
 pub lacking-exactly : (g : Gateway) (i : List ℕ) (is : List (List ℕ)) → (among i (lacking g is) ≡ true)
-    ↔ ((among i is ≡ true) × (holds (marked i) (g .seen) ≡ false))
+    ↔ ((among i is ≡ true) × (knows g i ≡ false))
 lacking-exactly g i is = (
   λ h.
-      let b = both (among i is) (not (holds (marked i) (g .seen))) (sym (asked-exactly g i is) ∙ h) in
+      let b = both (among i is) (not (knows g i)) (sym (asked-exactly g i is) ∙ h) in
       let k = b .1 in
-      (b .0, either (holds (marked i) (g .seen)) (λ t. clash (let z = simp t at k in cc)) (λ t. t)),
-  λ (p : (among i is ≡ true) × (holds (marked i) (g .seen) ≡ false)). asked-exactly g i is ∙ rw (p .0, p .1),
+      (b .0, either (knows g i) (λ t. clash (let z = simp t at k in cc)) (λ t. t)),
+  λ (p : (among i is ≡ true) × (knows g i ≡ false)). asked-exactly g i is ∙ rw (p .0, p .1),
 )
 
 -- ---- a request for what is lacking of the ids that an advertisement names is no longer than it
@@ -155,7 +154,7 @@ module _ (b : Node) (bs bc topic : List ℕ) (windows : ℕ) (fine : lentOf b bs
     pub lacks-exactly : (i : List ℕ)
         → (among i (lacking (gatewayIn a «as» ac) (toldOf topic windows (gatewayIn b bs bc))) ≡ true)
         ↔ ((among i (toldOf topic windows (gatewayIn b bs bc)) ≡ true)
-        × (holds (marked i) (gatewayIn a «as» ac .seen) ≡ false))
+        × (knows (gatewayIn a «as» ac) i ≡ false))
     lacks-exactly i = lacking-exactly (gatewayIn a «as» ac) i (toldOf topic windows (gatewayIn b bs bc))
 
     some-told : (asked ≡ [] → ⊥) → toldOf topic windows (gatewayIn b bs bc) ≡ [] → ⊥

@@ -27,7 +27,7 @@ use Rattle.mcache.specs.Readers.{room-keeps-all}
 use Rattle.node.specs.declared.Node.{Node}
 use Rattle.node.specs.declared.Admit.the-variants as answer
 use Rattle.node.specs.declared.Beat.the-variants as beat
-use Rattle.node.specs.Gateway.{Gateway, started, marked, isNew, afterAdmit, afterBeat}
+use Rattle.node.specs.Gateway.{Gateway, started, formOf, isNew, afterAdmit, afterBeat}
 use Rattle.node.specs.State.{risesFrom}
 use Rattle.node.specs.Calls.{taken, heldAt, admitCache, beatAnswer}
 use Rattle.node.specs.Laws.{is-new, beat-says}
@@ -35,8 +35,8 @@ use Rattle.node.specs.WellFormedLaws.{rises-less, first-least}
 use Rattle.history.specs.History.{State, gatewayOf, Settings, Fresh, Call, admit, heartbeat, advertise, ask, serve}
 use Rattle.history.specs.History.{planIn, after, afterAll, reading, readings, firstOf, beat, beats, refusalAt}
 use Rattle.history.specs.History.{explain, brought, answerIn}
-use Rattle.history.specs.Laws.{node-clock, Kept, after-keeps, fresh-keeps, fresh-starts, fresh-clock, admit-none}
-use Rattle.history.specs.Laws.{taken-number, admit-leaves, admit-clock, beat-leaves, beat-clock, brings-that}
+use Rattle.history.specs.Laws.{node-clock, startedBy, Kept, after-keeps, fresh-keeps, fresh-starts, fresh-clock}
+use Rattle.history.specs.Laws.{admit-none, taken-number, admit-leaves, admit-clock, beat-leaves, beat-clock, brings-that}
 use Rattle.history.specs.Laws.{brought-plan, unbrought-plan}
 use Rattle.agreement.specs.Premises.{MessageSet, MemberAt, Members, member, Clock, Premises}
 use Rattle.agreement.specs.Rows.{Rows, none as no-rows, rows-snoc, rows-lengths, rows-live, rows-shift, rows-held}
@@ -49,23 +49,27 @@ abbrev pub gotBy : List (List ℕ) → Option (List ℕ) → List (List ℕ)
 gotBy got none = got
 gotBy got (some m) = withGot m got
 
-abbrev pub gotNext : List (List ℕ) → Call → List (List ℕ)
-gotNext got c = gotBy got (brought c)
+abbrev pub gotNext : ℕ → List (List ℕ) → Call → List (List ℕ)
+gotNext flags got c = gotBy got (brought flags c)
 
-unfoldable pub gotAll : List (List ℕ) → List Call → List (List ℕ)
-gotAll got [] = got
-gotAll got (c ∷ cs) = gotAll (gotNext got c) cs
+unfoldable pub gotAll : ℕ → List (List ℕ) → List Call → List (List ℕ)
+gotAll flags got [] = got
+gotAll flags got (c ∷ cs) = gotAll flags (gotNext flags got c) cs
 
 -- ---- a call that brings nothing, and one that brings a message of the set, are members
-pub member-none : (set : List (List ℕ)) (c : Call) → brought c ≡ none → MemberAt set c
-member-none set c e m t = clash (let q = sym e ∙ brings-that m c .0 t in cc)
+pub member-none : (flags : ℕ) (set : List (List ℕ)) (c : Call) → brought flags c ≡ none → MemberAt flags set c
+member-none flags set c e m t = clash (let q = sym e ∙ brings-that flags m c .0 t in cc)
 
-pub member-some : (set : List (List ℕ)) (c : Call) (m : List ℕ) → brought c ≡ some m → among m set ≡ true
-    → MemberAt set c
-member-some set c m e inside k t =
-    let q = sym e ∙ brings-that k c .0 t in
+pub member-some : (flags : ℕ) (set : List (List ℕ)) (c : Call) (m : List ℕ) → brought flags c ≡ some m
+    → among m set ≡ true → MemberAt flags set c
+member-some flags set c m e inside k t =
+    let q = sym e ∙ brings-that flags k c .0 t in
     let r : m ≡ k = cc in
     ap (λ (o : List ℕ). among o set) (sym r) ∙ inside
+
+-- ---- a set of messages under some flags is one under flags that are the same
+pub set-alike : {flags other : ℕ} {set : List (List ℕ)} → flags ≡ other → MessageSet flags set → MessageSet other set
+set-alike {set} e ms = subst (λ (f : ℕ). MessageSet f set) e ms
 
 -- ---- what a gateway holds, after its first reading and some heartbeats
 pub record Holds (set : List (List ℕ)) (x : Settings) (first past : ℕ) (got : List (List ℕ))
@@ -75,6 +79,7 @@ pub record Holds (set : List (List ℕ)) (x : Settings) (first past : ℕ) (got 
   pub max-seen : g .max-seen ≡ x .max-seen
   pub history-len : g .history-len ≡ x .history-len
   pub max-messages : g .max-messages ≡ x .max-messages
+  pub flags : g .flags ≡ x .flags
   -- the set has room
   pub set-seen : length set ≤ x .max-seen
   pub set-cached : length set ≤ x .max-messages
@@ -82,7 +87,7 @@ pub record Holds (set : List (List ℕ)) (x : Settings) (first past : ℕ) (got 
   pub each-once : distinct got ≡ true
   pub from-set : (m : List ℕ) → among m got ≡ true → among m set ≡ true
   -- the ids seen and the messages cached
-  pub rows : Rows (until first (x .ttl)) past got (g .seen) (g .cache)
+  pub rows : Rows (x .flags) (until first (x .ttl)) past got (g .seen) (g .cache)
 
 -- ---- one more message got
 among-one : (m k : List ℕ) → among k (m ∷ []) ≡ true → m ≡ k
@@ -112,10 +117,10 @@ room-more set got m inside fresh d from =
 module _ {set : List (List ℕ)} {x : Settings} {first past : ℕ} {got : List (List ℕ)} {g : Gateway}
     (h : Holds set x first past got g) (at : ℕ) (lasting : at < until first (x .ttl)) where
   -- ---- an admit of a message of the set
-  module _ (ms : MessageSet set) (later : first ≤ at) (m id : List ℕ) (inside : among m set ≡ true)
-      (own : givesId m id ≡ true) where
+  module _ (ms : MessageSet (x .flags) set) (later : first ≤ at) (m id : List ℕ) (inside : among m set ≡ true)
+      (own : givesId (x .flags) m id ≡ true) where
     -- it is new exactly where it is not among those got
-    pub holds-new : isNew at id g ≡ not (among m got)
+    pub holds-new : isNew at m id g ≡ not (among m got)
     unfolding isNew
     holds-new = rw (rows-live at lasting (h .rows), rows-held ms m id inside own (h .from-set) (h .rows) .0)
 
@@ -124,17 +129,18 @@ module _ {set : List (List ℕ)} {x : Settings} {first past : ℕ} {got : List (
     holds-again t =
         let v = rows-live at lasting (h .rows) in
         let k = rows-held ms m id inside own (h .from-set) (h .rows) .0 ∙ t in
-        let n : isNew at id g ≡ false = holds-new ∙ ap not t in
+        let n : isNew at m id g ≡ false = holds-new ∙ ap not t in
         record {
           ttl = h .ttl;
           max-seen = h .max-seen;
           history-len = h .history-len;
           max-messages = h .max-messages;
+          flags = h .flags;
           set-seen = h .set-seen;
           set-cached = h .set-cached;
           each-once = h .each-once;
           from-set = h .from-set;
-          rows = rw (n, v, insert-held (g .max-seen) (marked id) at (g .ttl) (g .seen) k) (h .rows);
+          rows = rw (n, v, insert-held (g .max-seen) (formOf m id) at (g .ttl) (g .seen) k) (h .rows);
         }
 
     holds-more : among m got ≡ false → Holds set x first past (got ++ (m ∷ [])) (afterAdmit at m id g)
@@ -142,7 +148,7 @@ module _ {set : List (List ℕ)} {x : Settings} {first past : ℕ} {got : List (
     holds-more t =
         let v = rows-live at lasting (h .rows) in
         let a = rows-held ms m id inside own (h .from-set) (h .rows) in
-        let n : isNew at id g ≡ true = holds-new ∙ ap not t in
+        let n : isNew at m id g ≡ true = holds-new ∙ ap not t in
         let l = rows-lengths (h .rows) in
         let r = room-more set got m inside t (h .each-once) (h .from-set) in
         let u = until-later first at (x .ttl) later in
@@ -151,6 +157,7 @@ module _ {set : List (List ℕ)} {x : Settings} {first past : ℕ} {got : List (
           max-seen = h .max-seen;
           history-len = h .history-len;
           max-messages = h .max-messages;
+          flags = h .flags;
           set-seen = h .set-seen;
           set-cached = h .set-cached;
           each-once = distinct-snoc got m (h .each-once) t;
@@ -159,7 +166,7 @@ module _ {set : List (List ℕ)} {x : Settings} {first past : ℕ} {got : List (
               rw (
                 n,
                 v,
-                insert-room (g .max-seen) (marked id) at (g .ttl) (g .seen) (a .0 ∙ t)
+                insert-room (g .max-seen) (formOf m id) at (g .ttl) (g .seen) (a .0 ∙ t)
                     (omega (arith, h .max-seen, h .set-seen, l .0)),
                 room-keeps-all (g .max-messages) id m (g .cache) (a .1 ∙ t)
                     (omega (arith, h .max-messages, h .set-cached, l .1)),
@@ -181,6 +188,7 @@ module _ {set : List (List ℕ)} {x : Settings} {first past : ℕ} {got : List (
         max-seen = h .max-seen;
         history-len = h .history-len;
         max-messages = h .max-messages;
+        flags = h .flags;
         set-seen = h .set-seen;
         set-cached = h .set-cached;
         each-once = h .each-once;
@@ -243,7 +251,7 @@ pub record Holding (set : List (List ℕ)) (x : Settings) (first past : ℕ) (rs
 -- ---- the start
 started-holds : {set : List (List ℕ)} {x : Settings} (first : ℕ) → length set ≤ x .max-seen
     → length set ≤ x .max-messages
-    → Holds set x first 0 [] (started (x .ttl) (x .max-seen) (x .history-len) (x .max-messages))
+    → Holds set x first 0 [] (startedBy x)
 unfolding started distinct among
 started-holds first a b =
     record {
@@ -251,6 +259,7 @@ started-holds first a b =
       max-seen = refl;
       history-len = refl;
       max-messages = refl;
+      flags = refl;
       set-seen = a;
       set-cached = b;
       each-once = refl;
@@ -300,7 +309,7 @@ stored-bytes c st m id h g = either (ltb (indexIn c id) (c .count)) (λ t. simp 
 admit-bytes : (n : Node) (ss cs : List ℕ) (at : ℕ) (m id : List ℕ) → Bytes cs → Bytes m
     → Bytes (admitCache n ss cs at (taken m id))
 admit-bytes n ss cs at m id h g =
-    either (heldAt n ss at id) (λ t. simp t h) (λ t. simp t (stored-bytes (n .cache) cs m id h g))
+    either (heldAt n ss at (formOf m id)) (λ t. simp t h) (λ t. simp t (stored-bytes (n .cache) cs m id h g))
 
 module _ {set : List (List ℕ)} {x : Settings} {first past : ℕ} {got : List (List ℕ)} {s : State} (body : List ℕ) (i : ℕ)
     (word : Bool) (at : ℕ) {rs : List ℕ} {left : ℕ}
@@ -313,25 +322,25 @@ module _ {set : List (List ℕ)} {x : Settings} {first past : ℕ} {got : List (
   pub admit-forward : s .node .clock ≤ at
   admit-forward = rw (← node-clock s) (admit-reads .forward)
 
-  module _ (ms : MessageSet set) (m : List ℕ) (e : brought (admit body i word at) ≡ some m)
+  module _ (ms : MessageSet (x .flags) set) (m : List ℕ) (e : brought (x .flags) (admit body i word at) ≡ some m)
       (inside : among m set ≡ true) where
     -- the message passes admission
     abbrev id : List ℕ
     id = ms .admissible m inside .0
 
-    abbrev own : givesId m id ≡ true
+    abbrev own : givesId (x .flags) m id ≡ true
     own = ms .admissible m inside .1
 
     -- so it is taken
     pub admit-takes : planIn s body i word at ≡ taken m (ms .admissible m inside .0)
-    admit-takes = brought-plan s body i word at m id e own (h .kept .fine) admit-forward
+    admit-takes = brought-plan s (x .flags) (h .held .flags) body i word at m id e own (h .kept .fine) admit-forward
 
     -- and is seen exactly where it is among those got
-    admit-held : heldAt (s .node) (s .ids) at id ≡ among m got
+    admit-held : heldAt (s .node) (s .ids) at (formOf m id) ≡ among m got
     admit-held =
         let a = holds-new (h .held) at (admit-reads .lasting) ms (admit-reads .later) m id inside own in
-        let b = is-new (s .node) (s .ids) (s .messages) (h .kept .fine) at id in
-        sym (Bool·not-not (heldAt (s .node) (s .ids) at id)) ∙ ap not (sym b ∙ a) ∙ Bool·not-not (among m got)
+        let b = is-new (s .node) (s .ids) (s .messages) (h .kept .fine) at m id in
+        sym (Bool·not-not (heldAt (s .node) (s .ids) at (formOf m id))) ∙ ap not (sym b ∙ a) ∙ Bool·not-not (among m got)
 
     -- ---- a message of the set that comes in is answered duplicate where it was got before, and else new
     pub admit-answers : answerIn s body i word at ≡ cond (among m got) answer.Duplicate answer.New
@@ -358,18 +367,18 @@ module _ {set : List (List ℕ)} {x : Settings} {first past : ℕ} {got : List (
           ahead = subst (λ (k : ℕ). Ahead x first past k rs left) (sym c) (admit-reads .rest);
         }
 
-  module _ (ms : MessageSet set) (inside : MemberAt set (admit body i word at)) where
-    by-brought : (o : Option (List ℕ)) → brought (admit body i word at) ≡ o
+  module _ (ms : MessageSet (x .flags) set) (inside : MemberAt (x .flags) set (admit body i word at)) where
+    by-brought : (o : Option (List ℕ)) → brought (x .flags) (admit body i word at) ≡ o
         → Holding set x first past rs left (gotBy got o) (after (admit body i word at) s)
     by-brought none e =
-        let p = unbrought-plan s body i word at e in
+        let p = unbrought-plan s (x .flags) (h .held .flags) body i word at e in
         subst (λ (t : State). Holding set x first past rs left got t) (sym (admit-none s body i word at (p .0) (p .1)))
         (record { kept = h .kept; held = h .held; bytes = h .bytes; ahead = reads-kept admit-reads })
-    by-brought (some m) e = admit-holding ms m e (inside m (brings-that m (admit body i word at) .1 e))
+    by-brought (some m) e = admit-holding ms m e (inside m (brings-that (x .flags) m (admit body i word at) .1 e))
 
-    pub holding-admit : Holding set x first past rs left (gotNext got (admit body i word at))
+    pub holding-admit : Holding set x first past rs left (gotNext (x .flags) got (admit body i word at))
         (after (admit body i word at) s)
-    holding-admit = by-brought (brought (admit body i word at)) refl
+    holding-admit = by-brought (brought (x .flags) (admit body i word at)) refl
 
 -- ---- a heartbeat
 module _ {set : List (List ℕ)} {x : Settings} {first past : ℕ} {got : List (List ℕ)} {s : State} (at : ℕ) {rs : List ℕ}
@@ -427,11 +436,11 @@ unfoldable pub pastAll : ℕ → List Call → ℕ
 pastAll past [] = past
 pastAll past (c ∷ cs) = pastAll (pastNext past c) cs
 
-module _ {set : List (List ℕ)} {x : Settings} {first past : ℕ} {got : List (List ℕ)} {s : State} (ms : MessageSet set)
+module _ {set : List (List ℕ)} {x : Settings} {first past : ℕ} {got : List (List ℕ)} {s : State} (ms : MessageSet (x .flags) set)
     (rs : List ℕ) (left : ℕ) where
   -- with readings and heartbeats that come after it
-  pub holding-next : (c : Call) → Holding set x first past (reading c ++ rs) (beat c + left) got s → MemberAt set c
-      → Holding set x first (pastNext past c) rs left (gotNext got c) (after c s)
+  pub holding-next : (c : Call) → Holding set x first past (reading c ++ rs) (beat c + left) got s
+      → MemberAt (x .flags) set c → Holding set x first (pastNext past c) rs left (gotNext (x .flags) got c) (after c s)
   unfolding after brought
   holding-next (admit body i word at) h inside =
       holding-admit body i word at (left-same (0 + left) left (omega arith) h) ms inside
@@ -442,16 +451,18 @@ module _ {set : List (List ℕ)} {x : Settings} {first past : ℕ} {got : List (
   holding-next (explain id topic windows) h inside = left-same (0 + left) left (omega arith) h
 
 -- ---- after some calls, with readings and heartbeats that come after them
-pub members-here : {set : List (List ℕ)} {c : Call} {cs : List Call} → Members set (c ∷ cs) → MemberAt set c
+pub members-here : {flags : ℕ} {set : List (List ℕ)} {c : Call} {cs : List Call} → Members flags set (c ∷ cs)
+    → MemberAt flags set c
 members-here (member a rest) = a
 
-pub members-rest : {set : List (List ℕ)} {c : Call} {cs : List Call} → Members set (c ∷ cs) → Members set cs
+pub members-rest : {flags : ℕ} {set : List (List ℕ)} {c : Call} {cs : List Call} → Members flags set (c ∷ cs)
+    → Members flags set cs
 members-rest (member a rest) = rest
 
 pub holding-on : {set : List (List ℕ)} {x : Settings} {first past : ℕ} {got : List (List ℕ)} {s : State}
-    → MessageSet set → (calls : List Call) (rs : List ℕ) (left : ℕ)
-    → Holding set x first past (readings calls ++ rs) (beats calls + left) got s → Members set calls
-    → Holding set x first (pastAll past calls) rs left (gotAll got calls) (afterAll calls s)
+    → MessageSet (x .flags) set → (calls : List Call) (rs : List ℕ) (left : ℕ)
+    → Holding set x first past (readings calls ++ rs) (beats calls + left) got s → Members (x .flags) set calls
+    → Holding set x first (pastAll past calls) rs left (gotAll (x .flags) got calls) (afterAll calls s)
 unfolding gotAll afterAll readings beats pastAll
 holding-on ms [] rs left h ins = left-same (0 + left) left (omega arith) h
 holding-on {set} {x} {first} {past} {got} {s} ms (c ∷ cs) rs left h ins =
@@ -463,9 +474,9 @@ holding-on {set} {x} {first} {past} {got} {s} ms (c ∷ cs) rs left h ins =
     holding-on ms cs rs left (holding-next ms (readings cs ++ rs) (beats cs + left) c k (members-here ins))
     (members-rest ins)
 
-pub holding-all : {set : List (List ℕ)} {x : Settings} {calls : List Call} {s : State} → MessageSet set
+pub holding-all : {set : List (List ℕ)} {x : Settings} {calls : List Call} {s : State} → MessageSet (x .flags) set
     → Premises set x calls s
-    → Holding set x (firstOf calls) (pastAll 0 calls) [] 0 (gotAll [] calls) (afterAll calls s)
+    → Holding set x (firstOf calls) (pastAll 0 calls) [] 0 (gotAll (x .flags) [] calls) (afterAll calls s)
 holding-all {set} {x} {calls} {s} ms p =
     holding-on ms calls [] 0
     (left-same (beats calls) (beats calls + 0) (omega arith)

@@ -13,13 +13,13 @@ use Rattle.basis.specs.Cases.{either, clash}
 use Rattle.rows.specs.Ids.{sameBytes, among, distinct}
 use Rattle.rows.specs.IdsLaws.{same-self, same-equal, all-few}
 use Rattle.admission.specs.Admission.{givesId}
-use Rattle.seen.specs.Entries.{Entry, holds}
+use Rattle.seen.specs.Entries.{Entry}
 use Rattle.mcache.specs.Messages.{Cached, topics, idsOf, held, get, carrying, gossipIds}
 use Rattle.mcache.specs.StateLaws.{fine-tests}
 use Rattle.mcache.specs.CachedLaws.{ids-cached}
 use Rattle.mcache.specs.GossipLaws.{among-order, told-distinct, told-held}
 use Rattle.node.specs.declared.Lent.the-variants as lent
-use Rattle.node.specs.Gateway.{Gateway, marked, toldOf, lacking}
+use Rattle.node.specs.Gateway.{Gateway, toldOf, knows, lacking}
 use Rattle.node.specs.State.{gatewayIn}
 use Rattle.node.specs.Calls.{lentOf}
 use Rattle.node.specs.StateLaws.{fine-tests as node-tests}
@@ -31,23 +31,23 @@ use Rattle.agreement.specs.Holding.{Holding}
 use Rattle.agreement.specs.HandOver.{lacking-distinct}
 
 -- ---- what the rows say of a cached message
-pub rows-young : {least most : ℕ} {ms : List (List ℕ)} {es : List Entry} {cs : List Cached} (c : Cached)
-    → Rows least most ms es cs → List·Memᴰ c cs → c .window ≤ most
+pub rows-young : {flags least most : ℕ} {ms : List (List ℕ)} {es : List Entry} {cs : List Cached} (c : Cached)
+    → Rows flags least most ms es cs → List·Memᴰ c cs → c .window ≤ most
 rows-young c none d = absurd (List·Memᴰ·not-nil d)
 rows-young c (row {c = k} x rs) d =
     ⊎-elim (λ (e : c ≡ k). rw e (x .young)) (λ r. rows-young c rs r) (List·Memᴰ·cases-cons d)
 
 -- the message of a cached id: it was got, and it gives that id
-pub record Got (i m : List ℕ) (got : List (List ℕ)) : Type 0 where
+pub record Got (flags : ℕ) (i m : List ℕ) (got : List (List ℕ)) : Type 0 where
   pub among-got : among m got ≡ true
-  pub own : givesId m i ≡ true
+  pub own : givesId flags m i ≡ true
 
-got-more : {i m : List ℕ} (k : List ℕ) (got : List (List ℕ)) → Got i m got → Got i m (k ∷ got)
+got-more : {flags : ℕ} {i m : List ℕ} (k : List ℕ) (got : List (List ℕ)) → Got flags i m got → Got flags i m (k ∷ got)
 unfolding among
-got-more {i} {m} k got g = record { among-got = rw (g .among-got) (or-true (sameBytes k m)); own = g .own }
+got-more {flags} {i} {m} k got g = record { among-got = rw (g .among-got) (or-true (sameBytes k m)); own = g .own }
 
-pub rows-get : {least most : ℕ} {ms : List (List ℕ)} {es : List Entry} {cs : List Cached} (i : List ℕ)
-    → Rows least most ms es cs → held i cs ≡ true → Got i (get i cs) ms
+pub rows-get : {flags least most : ℕ} {ms : List (List ℕ)} {es : List Entry} {cs : List Cached} (i : List ℕ)
+    → Rows flags least most ms es cs → held i cs ≡ true → Got flags i (get i cs) ms
 unfolding held get among
 rows-get i none h = clash (cc)
 rows-get i (row {m} {e} {c} {ms} {es} {cs} x rs) h =
@@ -57,23 +57,23 @@ rows-get i (row {m} {e} {c} {ms} {es} {cs} x rs) h =
     simp t (record { among-got = rw (x .message) (simp (same-self m)); own = rw (x .message, ← w) (x .own) }))
     (λ t. simp t (got-more m ms (rows-get i rs (simp t at h))))
 
--- ---- the messages that are missing: none of them is seen
-missing-seen : (topic i : List ℕ) (g : Gateway) (cs : List Cached) → holds (marked i) (g .seen) ≡ true
+-- ---- the messages that are missing: none of them is held
+missing-not-held : (topic i : List ℕ) (g : Gateway) (cs : List Cached) → knows g i ≡ true
     → among i (idsOf (missing topic g cs)) ≡ false
 unfolding missing among
-missing-seen topic i g [] h = refl
-missing-seen topic i g (c ∷ cs) h =
-    let r = missing-seen topic i g cs h in
+missing-not-held topic i g [] h = refl
+missing-not-held topic i g (c ∷ cs) h =
+    let r = missing-not-held topic i g cs h in
     either (sameBytes (c .id) i)
-    (λ u. let z : holds (marked (c .id)) (g .seen) ≡ true = rw (same-equal (c .id) i u) h in
+    (λ u. let z : knows g (c .id) ≡ true = rw (same-equal (c .id) i u) h in
     either (among topic (topics c)) (λ t. simp (t, z) r) (λ t. simp t r))
-    (λ u. either (among topic (topics c) && not (holds (marked (c .id)) (g .seen))) (λ t. simp (t, u) r)
+    (λ u. either (among topic (topics c) && not (knows g (c .id))) (λ t. simp (t, u) r)
     (λ t. simp t r))
 
--- those that carry the topic and are not seen are missing
+-- those that carry the topic and are not held are missing
 missing-among : (topic i : List ℕ) (g : Gateway) (windows : ℕ) (cs : List Cached)
     → ((c : Cached) → List·Memᴰ c cs → c .window < windows)
-    → holds (marked i) (g .seen) ≡ false → among i (idsOf (carrying topic windows cs)) ≡ among i
+    → knows g i ≡ false → among i (idsOf (carrying topic windows cs)) ≡ among i
     (idsOf (missing topic g cs))
 unfolding carrying missing among
 missing-among topic i g windows [] young h = refl
@@ -82,8 +82,8 @@ missing-among topic i g windows (c ∷ cs) young h =
     let w = lt-ltb (c .window) windows (young c (List·Memᴰ·head refl)) in
     either (among topic (topics c))
     (λ t. either (sameBytes (c .id) i)
-    (λ u. let z : holds (marked (c .id)) (g .seen) ≡ false = rw (same-equal (c .id) i u) h in simp (w, t, u, z))
-    (λ u. either (holds (marked (c .id)) (g .seen)) (λ v. simp (w, t, u, v) r) (λ v. simp (w, t, u, v) r)))
+    (λ u. let z : knows g (c .id) ≡ false = rw (same-equal (c .id) i u) h in simp (w, t, u, z))
+    (λ u. either (knows g (c .id)) (λ v. simp (w, t, u, v) r) (λ v. simp (w, t, u, v) r)))
     (λ t. simp (w, t) r)
 
 -- their ids are some of those cached, and so differ where those do
@@ -95,7 +95,7 @@ missing-held topic i g (c ∷ cs) h =
     either (sameBytes (c .id) i) (λ u. clash (let z = simp u at h in cc))
     (λ u.
     let r = missing-held topic i g cs (simp u at h) in
-    either (among topic (topics c) && not (holds (marked (c .id)) (g .seen))) (λ t. simp (t, u) r) (λ t. simp t r))
+    either (among topic (topics c) && not (knows g (c .id))) (λ t. simp (t, u) r) (λ t. simp t r))
 
 missing-distinct : (topic : List ℕ) (g : Gateway) (cs : List Cached) → distinct (idsOf cs) ≡ true
     → distinct (idsOf (missing topic g cs)) ≡ true
@@ -106,7 +106,7 @@ missing-distinct topic g (c ∷ cs) d =
     (λ u.
     let r = missing-distinct topic g cs (simp u at d) in
     let n = missing-held topic (c .id) g cs u in
-    either (among topic (topics c) && not (holds (marked (c .id)) (g .seen))) (λ t. simp (t, n) r) (λ t. simp t r))
+    either (among topic (topics c) && not (knows g (c .id))) (λ t. simp (t, n) r) (λ t. simp t r))
 
 -- ---- what is asked for
 module _ {set : List (List ℕ)} {y : Settings} {first past left : ℕ} {rs : List ℕ} {got : List (List ℕ)} {b : State}
@@ -129,7 +129,7 @@ module _ {set : List (List ℕ)} {y : Settings} {first past left : ℕ} {rs : Li
 
   -- of each id told, b has the message
   pub told-got : (i : List ℕ) → among i (toldOf topic windows (gatewayOf b)) ≡ true
-      → Got i (get i (gatewayOf b .cache)) got
+      → Got (y .flags) i (get i (gatewayOf b .cache)) got
   told-got i t = rows-get i (h .held .rows) (told-held topic windows (gatewayOf b .cache) i t)
 
   module _ (a : State) where
@@ -142,8 +142,8 @@ module _ {set : List (List ℕ)} {y : Settings} {first past left : ℕ} {rs : Li
     unfolding gossipIds
     wants-exactly i =
         asked-exactly (gatewayOf a) i told
-        ∙ either (holds (marked i) (gatewayOf a .seen))
-        (λ t. simp t (and-false (among i told) ∙ sym (missing-seen topic i (gatewayOf a) (gatewayOf b .cache) t)))
+        ∙ either (knows (gatewayOf a) i)
+        (λ t. simp t (and-false (among i told) ∙ sym (missing-not-held topic i (gatewayOf a) (gatewayOf b .cache) t)))
         (λ t. simp t (and-true (among i told) ∙ among-order i (idsOf (carrying topic windows (gatewayOf b .cache)))
         ∙ missing-among topic i (gatewayOf a) windows (gatewayOf b .cache) all-recent t))
 

@@ -1,6 +1,6 @@
 -- To be believed: Premises, Round; and history's definitions.
--- Theorems: Once, Request, CatchUp, Identical, Agree; that the premises can be met, Example and ExampleRound; that they
--- are needed, Needed.
+-- Theorems: Once, Request, CatchUp, Identical, Agree; that the premises can be met, Example, ExampleRound and
+-- ExampleUnsigned; that they are needed, Needed.
 -- On the way to them: Rows, Holding, Forward, Sorted, Fifteen, HandOver, Delivered, Lacking, Played, Arrive, Script.
 pub mod Premises
 pub mod Rows
@@ -22,4 +22,5 @@ pub mod Agree
 pub mod Script
 pub mod Example
 pub mod ExampleRound
+pub mod ExampleUnsigned
 pub mod Needed

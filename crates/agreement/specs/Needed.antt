@@ -2,8 +2,8 @@
 -- The theorem is named after the premise. The messages pass admission, but for the one of that premise; that the other
 -- premises hold is to be seen from the figures, and is not stated. 65,536 bytes are more than a reply needs: 61,485 are
 -- enough for fifteen messages.
-use Prim.Native.Nat.{ℕ, _-_, _^_, _≤_, _<_, min}
-use mathlib.Core.Path.{_≡_, refl, ap, _∙_}
+use Prim.Native.Nat.{ℕ, zero, suc, _-_, _^_, _≤_, _<_, min}
+use mathlib.Core.Path.{_≡_, refl, ap, ap₂, _∙_}
 use mathlib.Core.Bool.{Bool, true, false}
 use mathlib.Core.List.{List, [], _∷_, _++_}
 use native.Mathlib.Omega.{arith}
@@ -11,11 +11,12 @@ use lib.ListN.{length, getD, replicate, length-replicate, getD-replicate}
 use borrow.Author.Tests.{lt-ltb, le-ltb, lt-leb}
 use Rattle.basis.specs.Cases.{either}
 use Rattle.basis.specs.Writing.{answer}
-use Rattle.peer_id.specs.Uvarint.{readUvarint, readFrom, groupOf}
+use Rattle.peer_id.specs.Uvarint.{uvarint, bytesOf, readUvarint, readFrom, groupOf}
 use Rattle.peer_id.specs.PeerId.{hashOf, fromBytes}
 use Rattle.key.specs.Decode.{typeOf, onTotal, onData, decodeProtobuf}
 use Rattle.protobuf.specs.Field.{readTag, readLen, readVarint, skipFixed, skipField, readValue, readField}
 use Rattle.protobuf.specs.Walk.{walkFrom, walkAt, between}
+use Rattle.protobuf.specs.Encode.{tag, bytesField}
 use Rattle.protobuf.specs.declared.Checked.the-variants as checked
 use Rattle.utf8.specs.Utf8.{isUtf8, run}
 use Rattle.schema.specs.Schema.{roleOf, rank, ownOf}
@@ -28,7 +29,11 @@ use Rattle.ids.specs.Ids.{messageAt, idParts}
 use Rattle.admission.specs.declared.Unfit.{Unfit}
 use Rattle.admission.specs.declared.Unfit.the-variants.{MissingSignature, NotPeerId}
 use Rattle.admission.specs.declared.Admission.the-variants as admission
-use Rattle.admission.specs.Admission.{topicsOf, firstLong, onLimits, isKey, keyInside, isPeerId, admissionOf, givesId}
+use Rattle.admission.specs.Flags.{allowsUnsigned}
+use Rattle.admission.specs.Admission.{topicsOf, firstLong, onLimits, isKey, keyInside, isPeerId, admissionOf, isSigned}
+use Rattle.admission.specs.Admission.{vouched, givesId}
+use Rattle.admission.specs.AdmissionLaws.{vouched-same}
+use Rattle.admission.specs.Told.{unfitTold}
 use Rattle.rows.specs.Ids.{sameBytes, among}
 use Rattle.rows.specs.Rows.{newest}
 use Rattle.node.specs.Parts.{fitting}
@@ -44,17 +49,25 @@ use Rattle.node.specs.declared.Beat.the-variants as beat
 use Rattle.node.specs.declared.Advertise.the-variants as told
 use Rattle.node.specs.declared.Ask.the-variants as asked
 use Rattle.node.specs.declared.Serve.the-variants as served
-use Rattle.node.specs.Gateway.{Gateway, started, marked, isNew, afterAdmit, afterBeat, toldOf, lacking, having}
+use Rattle.node.specs.Gateway.{Gateway, started, marked, isNew, afterAdmit, afterBeat, toldOf, knows, lacking, having}
+use Rattle.node.specs.State.{gatewayIn, risesFrom}
 use Rattle.node.specs.Calls.{onLent, lentOf, planned, no, admitAnswer, beatAnswer, advertiseBytes, advertiseAnswer}
 use Rattle.node.specs.Calls.{askBytes, askAnswer}
 use Rattle.node.specs.Calls.{roomOf, servedOf, replyTo, serveNumber}
-use Rattle.history.specs.History.{State, Settings, Fresh, Call, admit, heartbeat, advertise, ask, serve, planIn}
+use Rattle.history.specs.History.{State, gatewayOf, Settings, Fresh, Call, admit, heartbeat, advertise, ask, serve, planIn}
 use Rattle.history.specs.History.{explain, after, afterAll, refusalAt, brought, brings, isNew as newAnswer, times}
 use Rattle.history.specs.History.{timesNew}
-use Rattle.history.specs.Laws.{history-keeps, brings-exactly}
-use Rattle.agreement.specs.Round.{missing}
+use Rattle.history.specs.Laws.{after-append, startedBy, history-keeps, fresh-starts, refused-stays, after-flags}
+use Rattle.history.specs.Laws.{history-flags, brings-exactly}
+use Rattle.agreement.specs.Round.{missing, lacked, Play, onward, Fair, fair-onward, replyOf, askerRound}
+use Rattle.agreement.specs.Round.{tellerRound, askerRounds, tellerRounds}
+use Rattle.agreement.specs.Holding.{Holding, holding-fresh}
+use Rattle.agreement.specs.Played.{one-replied, one-round}
+use Rattle.agreement.specs.CatchUp.{teller-stays}
 use Rattle.agreement.specs.Fifteen.{longest-field, some-fit, longest-fit}
-use Rattle.agreement.specs.Example.{signature, first-sender}
+use Rattle.agreement.specs.Example.{signature, first-sender, settings-a, start, fresh-a, play, fair-for}
+use Rattle.agreement.specs.ExampleUnsigned.{unsigned, idOf, unsignedBody, messages, at-a, gateway-a, a-is}
+use Rattle.agreement.specs.ExampleUnsigned.{holding-a, settings-a as open-settings}
 
 -- ---- small messages: a sender, a seqno, the topic `t`, a signature
 abbrev pub topic : List ℕ
@@ -63,11 +76,8 @@ topic = 116 ∷ []
 abbrev pub message : ℕ → List ℕ
 message n = 10 ∷ 38 ∷ (first-sender ++ (26 ∷ 1 ∷ n ∷ 34 ∷ 1 ∷ 116 ∷ 42 ∷ 64 ∷ signature))
 
-abbrev pub idOf : ℕ → List ℕ
-idOf n = first-sender ++ (n ∷ [])
-
 -- they pass admission, under these ids
-pub admissible : (givesId (message 1) (idOf 1) ≡ true) × (givesId (message 2) (idOf 2) ≡ true)
+pub admissible : (givesId 0 (message 1) (idOf 1) ≡ true) × (givesId 0 (message 2) (idOf 2) ≡ true)
 unfolding signature counted overKinds toDepth textCount roleOf rank ownOf isUtf8 run walkAt walkFrom readField readValue
     skipField skipFixed readVarint readLen readTag readUvarint readFrom groupOf givesId admissionOf onLimits topicsOf
     firstLong idParts slotsOf withField setPlace sameBytes isPeerId keyInside isKey fromBytes hashOf decodeProtobuf
@@ -80,49 +90,57 @@ with at n g = afterAdmit at (message n) (idOf n) g
 
 -- message 1 is new at a gateway, and new again at a later one
 pub record NewTwice (at later : ℕ) (g h : Gateway) : Type 0 where
-  pub first : isNew at (idOf 1) g ≡ true
-  pub again : isNew later (idOf 1) h ≡ true
+  pub first : isNew at (message 1) (idOf 1) g ≡ true
+  pub again : isNew later (message 1) (idOf 1) h ≡ true
 
 -- ---- the set is no larger than max_seen
 -- two messages and room for one id: the second drives the first out, which is then new again
-pub needs-set-seen : NewTwice 1 3 (started 100 1 2 4) (with 2 2 (with 1 1 (started 100 1 2 4)))
-unfolding signature started isNew afterAdmit holds among sameBytes live inserted newest until held put
+pub needs-set-seen : NewTwice 1 3 (started 100 1 2 4 0) (with 2 2 (with 1 1 (started 100 1 2 4 0)))
+unfolding signature isSigned slotsOf withField setPlace roleOf walkAt walkFrom readField readValue skipField skipFixed
+    readVarint readLen readTag readUvarint readFrom groupOf started isNew afterAdmit holds among sameBytes live inserted
+    newest until held put
 needs-set-seen = record { first = refl; again = refl }
 
 -- ---- admitting set members only
 -- the set is message 1 alone and has room; a message from outside it drives the first out, which is then new again
 pub needs-members : (length (message 1 ∷ []) ≡ 1) × (among (message 2) (message 1 ∷ []) ≡ false)
-    × NewTwice 1 3 (started 100 1 2 4) (with 2 2 (with 1 1 (started 100 1 2 4)))
+    × NewTwice 1 3 (started 100 1 2 4 0) (with 2 2 (with 1 1 (started 100 1 2 4 0)))
 unfolding among sameBytes
 needs-members = (refl, refl, needs-set-seen)
 
 -- ---- readings are less than ttl after the first
 -- at ttl after the first reading its id is cleaned up, and the message is new again
-pub needs-within-ttl : NewTwice 1 101 (started 100 4 2 4) (with 1 1 (started 100 4 2 4))
-unfolding signature started isNew afterAdmit holds among sameBytes live inserted newest until held put
+pub needs-within-ttl : NewTwice 1 101 (started 100 4 2 4 0) (with 1 1 (started 100 4 2 4 0))
+unfolding signature isSigned slotsOf withField setPlace roleOf walkAt walkFrom readField readValue skipField skipFixed
+    readVarint readLen readTag readUvarint readFrom groupOf started isNew afterAdmit holds among sameBytes live inserted
+    newest until held put
 needs-within-ttl = record { first = refl; again = refl }
 
 -- ---- readings are below 2^64 - 1
 -- an expiry stops at 2^64 - 1, which is at most that reading: the message is new again at once
-pub needs-below-last : NewTwice (2 ^ 64 - 1) (2 ^ 64 - 1) (started 100 4 2 4) (with (2 ^ 64 - 1) 1 (started 100 4 2 4))
-unfolding signature started isNew afterAdmit holds among sameBytes live inserted newest until held put
+pub needs-below-last : NewTwice (2 ^ 64 - 1) (2 ^ 64 - 1) (started 100 4 2 4 0) (with (2 ^ 64 - 1) 1 (started 100 4 2 4 0))
+unfolding signature isSigned slotsOf withField setPlace roleOf walkAt walkFrom readField readValue skipField skipFixed
+    readVarint readLen readTag readUvarint readFrom groupOf started isNew afterAdmit holds among sameBytes live inserted
+    newest until held put
 needs-below-last = record { first = refl; again = refl }
 
 -- ---- both nodes fresh
 -- an id that was seen before the history: its message, got for the first time, is a duplicate
 pub needs-fresh :
-    isNew 1 (idOf 1)
+    isNew 1 (message 1) (idOf 1)
     (record {
       ttl = 100;
       max-seen = 4;
       history-len = 2;
       max-messages = 4;
+      flags = 0;
       clock = 0;
-      seen = record { id = marked (idOf 1); expiry = 100 } ∷ [];
+      seen = record { id = marked true (idOf 1); expiry = 100 } ∷ [];
       cache = [];
     })
     ≡ false
-unfolding isNew holds among sameBytes live
+unfolding signature isSigned slotsOf withField setPlace roleOf walkAt walkFrom readField readValue skipField skipFixed
+    readVarint readLen readTag readUvarint readFrom groupOf isNew holds among sameBytes live
 needs-fresh = refl
 
 -- ---- different messages of the set have different ids
@@ -133,111 +151,229 @@ otherMessage = 10 ∷ 38 ∷ (first-sender ++ (18 ∷ 1 ∷ 7 ∷ 26 ∷ 1 ∷ 1
 -- it is not new, and the first is what is served in its place
 pub record NeverNew (m k id : List ℕ) (g : Gateway) : Type 0 where
   pub differ : sameBytes m k ≡ false
-  pub one-id : givesId m id ≡ true
-  pub same-id : givesId k id ≡ true
-  pub not-new : isNew 2 id (afterAdmit 1 m id g) ≡ false
+  pub one-id : givesId (g .flags) m id ≡ true
+  pub same-id : givesId (g .flags) k id ≡ true
+  pub not-new : isNew 2 k id (afterAdmit 1 m id g) ≡ false
   pub not-kept : having (afterAdmit 2 k id (afterAdmit 1 m id g)) (id ∷ []) ≡ m ∷ []
 
-pub needs-ids-differ : NeverNew (message 1) otherMessage (idOf 1) (started 100 4 2 4)
-unfolding signature started isNew afterAdmit holds among live inserted newest until held put having get counted
-    overKinds toDepth textCount roleOf rank ownOf isUtf8 run walkAt walkFrom readField readValue skipField skipFixed
-    readVarint readLen readTag readUvarint readFrom groupOf givesId admissionOf onLimits topicsOf firstLong idParts
-    slotsOf withField setPlace sameBytes isPeerId keyInside isKey fromBytes hashOf decodeProtobuf typeOf onData onTotal
+pub needs-ids-differ : NeverNew (message 1) otherMessage (idOf 1) (started 100 4 2 4 0)
+unfolding signature isSigned slotsOf withField setPlace roleOf walkAt walkFrom readField readValue skipField skipFixed
+    readVarint readLen readTag readUvarint readFrom groupOf started isNew afterAdmit holds among live inserted newest
+    until held put having get counted overKinds toDepth textCount rank ownOf isUtf8 run givesId admissionOf onLimits
+    topicsOf firstLong idParts sameBytes isPeerId keyInside isKey fromBytes hashOf decodeProtobuf typeOf onData onTotal
 needs-ids-differ = record { differ = refl; one-id = refl; same-id = refl; not-new = refl; not-kept = refl }
 
 -- ---- every one passes admission
--- the same sender, seqno 1, topic `t`, and no signature; and a body with it
-abbrev pub unsigned : List ℕ
-unsigned = 10 ∷ 38 ∷ (first-sender ++ (26 ∷ 1 ∷ 1 ∷ 34 ∷ 1 ∷ 116 ∷ []))
+-- the same sender, seqno 1, topic `t`, and no signature, where none is allowed; and a body with it
+unsigned-unfit : (flags : ℕ) → allowsUnsigned flags ≡ false
+    → admissionOf flags (unsigned 1) true ≡ admission.Unfit MissingSignature
+unfolding unsigned admissionOf idParts slotsOf withField setPlace walkAt walkFrom readField readValue skipField
+    skipFixed readVarint readLen readTag readUvarint readFrom groupOf roleOf isPeerId fromBytes hashOf
+unsigned-unfit flags off = rw off
 
-abbrev pub unsignedBody : List ℕ
-unsignedBody = 18 ∷ 46 ∷ unsigned
-
-unsigned-unfit : admissionOf unsigned true ≡ admission.Unfit MissingSignature
-unfolding admissionOf idParts slotsOf withField setPlace walkAt walkFrom readField readValue skipField skipFixed
-    readVarint readLen readTag readUvarint readFrom groupOf roleOf isPeerId fromBytes hashOf
-unsigned-unfit = refl
-
--- a message that does not pass is answered new in no state
-module _ (m : List ℕ) (why : Unfit) (u : admissionOf m true ≡ admission.Unfit why) where
-  unfit-plan : (s : State) (body : List ℕ) (i : ℕ) (word : Bool) (at : ℕ) → brings m (admit body i word at) ≡ true
+-- a message that does not pass under some flags is answered new in no state of a gateway with these
+module _ (flags : ℕ) (m : List ℕ) (why : Unfit) (u : admissionOf flags m true ≡ admission.Unfit why) where
+  unfit-plan : (s : State) → gatewayOf s .flags ≡ flags → (body : List ℕ) (i : ℕ) (word : Bool) (at : ℕ)
+      → brings flags m (admit body i word at) ≡ true
       → planIn s body i word at ≡ onLent (λ (f : Fault). no (answered.Faulty f))
       (lentOf (s .node) (s .ids) (s .messages)) (no (answered.Unfit why))
-  unfolding planned
-  unfit-plan s body i word at t =
-      let p = brings-exactly m body i word at .0 t in
+  unfolding planned gatewayIn
+  unfit-plan s same body i word at t =
+      let p = brings-exactly flags m body i word at .0 t in
       let q = p .2 in
-      rw (p .0, p .1, q .found, q .bytes, u)
+      let e : admissionOf (s .node .cache .flags) m word ≡ admission.Unfit why =
+      ap (λ (f : ℕ). admissionOf f m word) same ∙ vouched-same flags m word (p .0) ∙ u in
+      rw (p .1, q .found, q .bytes, e)
 
   not-new : (s : State) (at : ℕ) (l : Lent) → newAnswer (admitAnswer (s .node) (s .ids) at
       (onLent (λ (f : Fault). no (answered.Faulty f)) l (no (answered.Unfit why)))) ≡ 0
   not-new s at lent.Fine = refl
   not-new s at (lent.Faulty f) = refl
 
-  never-new : (calls : List Call) (s : State) → timesNew m calls s ≡ 0
+  never-new : (calls : List Call) (s : State) → gatewayOf s .flags ≡ flags → timesNew flags m calls s ≡ 0
   unfolding times
-  never-new [] s = refl
-  never-new (admit body i word at ∷ cs) s =
-      let r = never-new cs (after (admit body i word at) s) in
-      either (brings m (admit body i word at))
-      (λ t. rw (t, unfit-plan s body i word at t, not-new s at (lentOf (s .node) (s .ids) (s .messages)), r))
+  never-new [] s same = refl
+  never-new (admit body i word at ∷ cs) s same =
+      let c = admit body i word at in
+      let r = never-new cs (after c s) (after-flags c s ∙ same) in
+      either (brings flags m c)
+      (λ t. rw (t, unfit-plan s same body i word at t, not-new s at (lentOf (s .node) (s .ids) (s .messages)), r))
       (λ t. rw (t, r))
-  never-new (heartbeat at ∷ cs) s = rw (never-new cs (after (heartbeat at) s))
-  never-new (advertise name windows out ∷ cs) s = rw (never-new cs (after (advertise name windows out) s))
-  never-new (ask body out ∷ cs) s = rw (never-new cs (after (ask body out) s))
-  never-new (serve body out ∷ cs) s = rw (never-new cs (after (serve body out) s))
-  never-new (explain id name windows ∷ cs) s = rw (never-new cs (after (explain id name windows) s))
+  never-new (heartbeat at ∷ cs) s same =
+      rw (never-new cs (after (heartbeat at) s) (after-flags (heartbeat at) s ∙ same))
+  never-new (advertise name windows out ∷ cs) s same =
+      let c = advertise name windows out in rw (never-new cs (after c s) (after-flags c s ∙ same))
+  never-new (ask body out ∷ cs) s same =
+      let c = ask body out in rw (never-new cs (after c s) (after-flags c s ∙ same))
+  never-new (serve body out ∷ cs) s same =
+      let c = serve body out in rw (never-new cs (after c s) (after-flags c s ∙ same))
+  never-new (explain id name windows ∷ cs) s same =
+      let c = explain id name windows in rw (never-new cs (after c s) (after-flags c s ∙ same))
 
--- it comes in, is called new in no history, and is refused by this number each time
-pub record Unanswered (number : ℕ) (m body : List ℕ) : Type 0 where
-  pub comes-in : (at : ℕ) → brings m (admit body 0 true at) ≡ true
-  pub never-new : (calls : List Call) (s : State) → timesNew m calls s ≡ 0
-  pub refused : {x : Settings} {s : State} → Fresh x s → (before : List Call) (at : ℕ)
+-- at a gateway with these flags it comes in, is called new in no history, and is refused by this number each time
+pub record Unanswered (flags number : ℕ) (m body : List ℕ) : Type 0 where
+  pub comes-in : (at : ℕ) → brings flags m (admit body 0 true at) ≡ true
+  pub never-new : (calls : List Call) (s : State) → gatewayOf s .flags ≡ flags → timesNew flags m calls s ≡ 0
+  pub refused : {x : Settings} {s : State} → Fresh x s → x .flags ≡ flags → (before : List Call) (at : ℕ)
       → refusalAt (afterAll before s) (admit body 0 true at) ≡ number
 
-unsigned-brought : (at : ℕ) → brings unsigned (admit unsignedBody 0 true at) ≡ true
-unfolding brought acceptOf bodyRecords counted overKinds toDepth textCount roleOf rank ownOf isUtf8 run walkAt walkFrom
-    readField readValue skipField skipFixed readVarint readLen readTag readUvarint readFrom groupOf messageAt sameBytes
-unsigned-brought at = refl
-
-pub needs-admissible : Unanswered 25 unsigned unsignedBody
-needs-admissible =
+unanswered : (flags : ℕ) (m body : List ℕ) (why : Unfit) → admissionOf flags m true ≡ admission.Unfit why
+    → ((at : ℕ) → brings flags m (admit body 0 true at) ≡ true) → Unanswered flags (unfitTold why .number) m body
+unanswered flags m body why u b =
     record {
-      comes-in = unsigned-brought;
-      never-new = never-new unsigned MissingSignature unsigned-unfit;
-      refused = λ {x} {s} f before at.
-          let e = unfit-plan unsigned MissingSignature unsigned-unfit (afterAll before s) unsignedBody 0 true at
-          (unsigned-brought at) in
+      comes-in = b;
+      never-new = never-new flags m why u;
+      refused = λ {x} {s} f same before at.
+          let e = unfit-plan flags m why u (afterAll before s) (history-flags before f ∙ same) body 0 true at (b at) in
           rw (e, history-keeps before f .fine);
     }
 
--- the same of a host's name, `gate`, as the sender of a message that is else as the others are, by 34
+unsigned-brought : (flags at : ℕ) → brings flags (unsigned 1) (admit (unsignedBody 1) 0 true at) ≡ true
+unfolding unsigned unsignedBody brought vouched acceptOf bodyRecords counted overKinds toDepth textCount roleOf rank
+    ownOf isUtf8 run walkAt walkFrom readField readValue skipField skipFixed readVarint readLen readTag readUvarint
+    readFrom groupOf messageAt sameBytes
+unsigned-brought flags at = refl
+
+pub needs-admissible : (flags : ℕ) → allowsUnsigned flags ≡ false → Unanswered flags 25 (unsigned 1) (unsignedBody 1)
+needs-admissible flags off =
+    unanswered flags (unsigned 1) (unsignedBody 1) MissingSignature (unsigned-unfit flags off) (unsigned-brought flags)
+
+-- the same of a host's name, `gate`, as the sender of a message that is else as the others are, by 34, under all flags
 abbrev pub stranger : List ℕ
 stranger = 10 ∷ 4 ∷ 103 ∷ 97 ∷ 116 ∷ 101 ∷ 26 ∷ 1 ∷ 1 ∷ 34 ∷ 1 ∷ 116 ∷ 42 ∷ 64 ∷ signature
 
 abbrev pub strangerBody : List ℕ
 strangerBody = 18 ∷ 78 ∷ stranger
 
-stranger-unfit : admissionOf stranger true ≡ admission.Unfit NotPeerId
+stranger-unfit : (flags : ℕ) → admissionOf flags stranger true ≡ admission.Unfit NotPeerId
 unfolding signature admissionOf idParts slotsOf withField setPlace walkAt walkFrom readField readValue skipField
     skipFixed readVarint readLen readTag readUvarint readFrom groupOf roleOf isPeerId fromBytes hashOf
-stranger-unfit = refl
+stranger-unfit flags = refl
 
-stranger-brought : (at : ℕ) → brings stranger (admit strangerBody 0 true at) ≡ true
-unfolding signature brought acceptOf bodyRecords counted overKinds toDepth textCount roleOf rank ownOf isUtf8 run walkAt
-    walkFrom readField readValue skipField skipFixed readVarint readLen readTag readUvarint readFrom groupOf messageAt
-    sameBytes
-stranger-brought at = refl
+stranger-brought : (flags at : ℕ) → brings flags stranger (admit strangerBody 0 true at) ≡ true
+unfolding signature brought vouched acceptOf bodyRecords counted overKinds toDepth textCount roleOf rank ownOf isUtf8
+    run walkAt walkFrom readField readValue skipField skipFixed readVarint readLen readTag readUvarint readFrom groupOf
+    messageAt sameBytes
+stranger-brought flags at = refl
 
-pub needs-peer-id : Unanswered 34 stranger strangerBody
-needs-peer-id =
+pub needs-peer-id : (flags : ℕ) → Unanswered flags 34 stranger strangerBody
+needs-peer-id flags =
+    unanswered flags stranger strangerBody NotPeerId (stranger-unfit flags) (stranger-brought flags)
+
+-- ---- both nodes set alike
+-- the teller allows unsigned messages and holds one; the asker, a fresh gateway, does not allow them. It lacks the
+-- message, asks for it and is served it; the admit is refused by 25 and leaves it as it was. So it lacks it after any
+-- number of rounds.
+pub record NeverArrives (p : Play) (m id : List ℕ) (a b : State) : Type 0 where
+  pub asks : lacking (gatewayOf a) (toldOf (p .topic) (p .windows) (gatewayOf b)) ≡ id ∷ []
+  pub served : replyOf p a b ≡ bytesField 2 m
+  pub refused : (at : ℕ) → refusalAt a (admit (replyOf p a b) 0 true at) ≡ 25
+  pub stays : (r : ℕ) (at : ℕ → ℕ → ℕ) → afterAll (askerRounds p r at a b) a ≡ a
+  pub lacks : (r : ℕ) (at : ℕ → ℕ → ℕ)
+      → lacked (p .topic) (afterAll (askerRounds p r at a b) a) (afterAll (tellerRounds p r at a b) b)
+      ≡ record { id = id; message = m; window = 0 } ∷ []
+
+-- the asker is as the first gateway of the example, the teller as that of the example with unsigned messages
+abbrev asker : State
+asker = start settings-a
+
+asker-is : gatewayOf asker ≡ startedBy settings-a
+asker-is = fresh-starts fresh-a
+
+holding-asker : Holding messages settings-a 0 0 [] 0 [] asker
+unfolding risesFrom
+holding-asker = holding-fresh [] 0 fresh-a (omega arith) (omega arith)
+    (record { rises = refl; within-ttl = λ i h. absurd (omega arith); below-last = λ i h. absurd (omega arith) })
+    (omega arith)
+
+asker-wants : lacking (startedBy settings-a) (toldOf topic 3 gateway-a) ≡ idOf 1 ∷ []
+unfolding gateway-a started isNew afterAdmit live inserted newest until held put unsigned isSigned slotsOf withField
+    setPlace roleOf lacking knows allowsUnsigned holds among sameBytes gossipIds inOrder enterId carrying walkAt
+    walkFrom readField readValue skipField skipFixed readVarint readLen readTag readUvarint readFrom groupOf topicsOf
+asker-wants = refl
+
+teller-has : having gateway-a (idOf 1 ∷ []) ≡ unsigned 1 ∷ []
+unfolding gateway-a started isNew afterAdmit live inserted newest until held put unsigned isSigned slotsOf withField
+    setPlace roleOf having get holds among sameBytes walkAt walkFrom readField readValue skipField skipFixed readVarint
+    readLen readTag readUvarint readFrom groupOf
+teller-has = refl
+
+asker-misses : missing topic (startedBy settings-a) (gateway-a .cache)
+    ≡ record { id = idOf 1; message = unsigned 1; window = 0 } ∷ []
+unfolding gateway-a started isNew afterAdmit live inserted newest until held put unsigned isSigned slotsOf withField
+    setPlace roleOf missing knows allowsUnsigned holds among sameBytes walkAt walkFrom readField readValue skipField
+    skipFixed readVarint readLen readTag readUvarint readFrom groupOf topicsOf
+asker-misses = refl
+
+asker-lacks : lacked topic asker at-a ≡ record { id = idOf 1; message = unsigned 1; window = 0 } ∷ []
+asker-lacks = ap₂ (λ (g h : Gateway). missing topic g (h .cache)) asker-is a-is ∙ asker-misses
+
+-- what is served
+body-written : bytesField 2 (unsigned 1) ≡ unsignedBody 1
+unfolding unsigned unsignedBody bytesField tag uvarint bytesOf
+body-written = refl
+
+off : allowsUnsigned 0 ≡ false
+unfolding allowsUnsigned
+off = refl
+
+asker-refuses : (at : ℕ) → refusalAt asker (admit (bytesField 2 (unsigned 1)) 0 true at) ≡ 25
+unfolding afterAll
+asker-refuses at =
+    ap (λ (body : List ℕ). refusalAt asker (admit body 0 true at)) body-written
+    ∙ needs-admissible 0 off .refused fresh-a refl [] at
+
+mixed-fair : Fair play settings-a open-settings
+mixed-fair = fair-for settings-a open-settings (omega arith) (omega arith)
+
+-- rounds with such buffers
+module _ (p : Play) (fair : Fair p settings-a open-settings) (t : p .topic ≡ topic) (w : p .windows ≡ 3) where
+  asked-for : lacking (gatewayOf asker) (toldOf (p .topic) (p .windows) (gatewayOf at-a)) ≡ idOf 1 ∷ []
+  asked-for = rw (t, w, asker-is, a-is) asker-wants
+
+  has-it : having (gatewayOf at-a) (idOf 1 ∷ []) ≡ unsigned 1 ∷ []
+  has-it = ap (λ (g : Gateway). having g (idOf 1 ∷ [])) a-is ∙ teller-has
+
+  one-stays : (at : ℕ → ℕ) → afterAll (askerRound p at asker at-a) asker ≡ asker
+  unfolding afterAll after
+  one-stays at =
+      ap (λ (cs : List Call). afterAll cs asker)
+      (one-round holding-asker holding-a p fair (unsigned 1) (idOf 1) asked-for has-it at)
+      ∙ refused-stays (admit (bytesField 2 (unsigned 1)) 0 true (at 0)) asker
+      (λ z. let y = asker-refuses (at 0) in absurd (omega arith))
+
+told-stays : (p : Play) → afterAll (tellerRound p asker at-a) at-a ≡ at-a
+unfolding tellerRound afterAll after
+told-stays p = refl
+
+all-stay : (r : ℕ) (p : Play) → Fair p settings-a open-settings → p .topic ≡ topic → p .windows ≡ 3
+    → (at : ℕ → ℕ → ℕ) → afterAll (askerRounds p r at asker at-a) asker ≡ asker
+unfolding askerRounds afterAll
+all-stay zero p fair t w at = refl
+all-stay (suc r) p fair t w at =
+    let c = askerRound p (at 0) asker at-a in
+    let u = afterAll (tellerRound p asker at-a) at-a in
+    let next : State → State → List Call = λ s b. askerRounds (onward p) r (λ k. at (suc k)) s b in
+    after-append c (next (afterAll c asker) u) asker
+    ∙ ap₂ (λ (s b : State). afterAll (next s b) s) (one-stays p fair t w (at 0)) (told-stays p)
+    ∙ all-stay r (onward p) (fair-onward fair) t w (λ k. at (suc k))
+
+pub needs-alike : NeverArrives play (unsigned 1) (idOf 1) asker at-a
+needs-alike =
     record {
-      comes-in = stranger-brought;
-      never-new = never-new stranger NotPeerId stranger-unfit;
-      refused = λ {x} {s} f before at.
-          let e = unfit-plan stranger NotPeerId stranger-unfit (afterAll before s) strangerBody 0 true at
-          (stranger-brought at) in
-          rw (e, history-keeps before f .fine);
+      asks = asked-for play mixed-fair refl refl;
+      served = one-replied holding-asker holding-a play mixed-fair (unsigned 1) (idOf 1)
+          (asked-for play mixed-fair refl refl) (has-it play mixed-fair refl refl);
+      refused = λ at.
+          ap (λ (body : List ℕ). refusalAt asker (admit body 0 true at))
+          (one-replied holding-asker holding-a play mixed-fair (unsigned 1) (idOf 1)
+          (asked-for play mixed-fair refl refl) (has-it play mixed-fair refl refl))
+          ∙ asker-refuses at;
+      stays = λ r at. all-stay r play mixed-fair refl refl at;
+      lacks = λ r at.
+          ap₂ (λ (s b : State). lacked topic s b) (all-stay r play mixed-fair refl refl at)
+          (teller-stays play r at asker at-a)
+          ∙ asker-lacks;
     }
 
 -- ---- two gateways that lack nothing of each other, and tell of different ids
@@ -249,20 +385,20 @@ pub record Apart (windows : ℕ) (a b : Gateway) (tells-a tells-b : List (List �
 
 -- ---- the set is no larger than max_messages
 -- two messages and room for one: both gateways have seen both, and each holds the one that it got last
-pub needs-set-cached : Apart 2 (with 2 2 (with 1 1 (started 100 4 2 1))) (with 2 1 (with 1 2 (started 100 4 2 1)))
+pub needs-set-cached : Apart 2 (with 2 2 (with 1 1 (started 100 4 2 1 0))) (with 2 1 (with 1 2 (started 100 4 2 1 0)))
     (idOf 2 ∷ []) (idOf 1 ∷ [])
-unfolding signature started isNew afterAdmit holds among sameBytes live inserted newest until held put missing gossipIds
-    inOrder enterId carrying topicsOf walkAt walkFrom readField readValue skipField skipFixed readVarint readLen readTag
-    readUvarint readFrom groupOf
+unfolding signature isSigned slotsOf withField setPlace roleOf walkAt walkFrom readField readValue skipField skipFixed
+    readVarint readLen readTag readUvarint readFrom groupOf started isNew afterAdmit holds among sameBytes live inserted
+    newest until held put missing knows allowsUnsigned gossipIds inOrder enterId carrying topicsOf
 needs-set-cached = record { a-lacks = refl; b-lacks = refl; a-tells = refl; b-tells = refl }
 
 -- ---- fewer heartbeats than history_len
 -- both got the message; after as many heartbeats as history_len one holds it no more, and tells of nothing
-pub needs-few-heartbeats : Apart 2 (afterBeat 3 (afterBeat 2 (with 1 1 (started 100 4 2 4))))
-    (with 1 1 (started 100 4 2 4)) [] (idOf 1 ∷ [])
-unfolding signature started isNew afterAdmit afterBeat holds among sameBytes live inserted newest until held put shift
-    missing gossipIds inOrder enterId carrying topicsOf walkAt walkFrom readField readValue skipField skipFixed
-    readVarint readLen readTag readUvarint readFrom groupOf
+pub needs-few-heartbeats : Apart 2 (afterBeat 3 (afterBeat 2 (with 1 1 (started 100 4 2 4 0))))
+    (with 1 1 (started 100 4 2 4 0)) [] (idOf 1 ∷ [])
+unfolding signature isSigned slotsOf withField setPlace roleOf walkAt walkFrom readField readValue skipField skipFixed
+    readVarint readLen readTag readUvarint readFrom groupOf started isNew afterAdmit afterBeat holds among sameBytes
+    live inserted newest until held put shift missing knows allowsUnsigned gossipIds inOrder enterId carrying topicsOf
 needs-few-heartbeats = record { a-lacks = refl; b-lacks = refl; a-tells = refl; b-tells = refl }
 
 -- ---- something is lacking, and what is told of does not have it
@@ -272,26 +408,27 @@ pub record Untold (told : List (List ℕ)) (a b : Gateway) : Type 0 where
 
 -- ---- windows at least both history_lens
 -- after one heartbeat the message is in the second window, and one window is told of: it is lacking, and not asked for
-pub needs-windows : Untold (toldOf topic 1 (afterBeat 2 (with 1 1 (started 100 4 2 4)))) (started 100 4 2 4)
-    (afterBeat 2 (with 1 1 (started 100 4 2 4)))
-unfolding signature started isNew afterAdmit afterBeat holds among sameBytes live inserted newest until held put shift
-    missing lacking gossipIds inOrder enterId carrying topicsOf walkAt walkFrom readField readValue skipField skipFixed
-    readVarint readLen readTag readUvarint readFrom groupOf
+pub needs-windows : Untold (toldOf topic 1 (afterBeat 2 (with 1 1 (started 100 4 2 4 0)))) (started 100 4 2 4 0)
+    (afterBeat 2 (with 1 1 (started 100 4 2 4 0)))
+unfolding signature isSigned slotsOf withField setPlace roleOf walkAt walkFrom readField readValue skipField skipFixed
+    readVarint readLen readTag readUvarint readFrom groupOf started isNew afterAdmit afterBeat holds among sameBytes
+    live inserted newest until held put shift missing knows allowsUnsigned lacking gossipIds inOrder enterId carrying
+    topicsOf
 needs-windows = record { lacks = refl; asks = refl }
 
 -- ---- no other call from an advertisement to the ask given it
 -- the teller gets a message after it told: it is lacking, and not asked for
-pub needs-undisturbed : Untold (toldOf topic 2 (started 100 4 2 4)) (started 100 4 2 4) (with 1 1 (started 100 4 2 4))
-unfolding signature started isNew afterAdmit holds among sameBytes live inserted newest until held put missing lacking
-    gossipIds inOrder enterId carrying topicsOf walkAt walkFrom readField readValue skipField skipFixed readVarint
-    readLen readTag readUvarint readFrom groupOf
+pub needs-undisturbed : Untold (toldOf topic 2 (started 100 4 2 4 0)) (started 100 4 2 4 0) (with 1 1 (started 100 4 2 4 0))
+unfolding signature isSigned slotsOf withField setPlace roleOf walkAt walkFrom readField readValue skipField skipFixed
+    readVarint readLen readTag readUvarint readFrom groupOf started isNew afterAdmit holds among sameBytes live inserted
+    newest until held put missing knows allowsUnsigned lacking gossipIds inOrder enterId carrying topicsOf
 needs-undisturbed = record { lacks = refl; asks = refl }
 
 -- ---- the clock never falls
 -- a message that would be taken, and a heartbeat, are refused by 31 at a reading before the clock
 pub needs-rises : (n : Node) (ss cs body : List ℕ) (i at a e x y z w : ℕ) → lentOf n ss cs ≡ lent.Fine
     → acceptOf body ≡ checked.Fine → messageAt body i ≡ found.At a e
-    → admissionOf (between body a e) true ≡ admission.Fit x y z w → at < n .clock
+    → admissionOf (n .cache .flags) (between body a e) true ≡ admission.Fit x y z w → at < n .clock
     → (planned n ss cs body i true at ≡ no (answered.ClockBack (n .clock)))
     × (beatAnswer n ss cs at ≡ beat.ClockBack (n .clock))
 unfolding planned beatAnswer

@@ -47,26 +47,27 @@ module _ (m : List ℕ) (got : List (List ℕ)) where
       either (among m got) (λ t. with-again m k got t ∙ sym t) (λ t. with-other m k got t h ∙ sym t)
 
 -- the messages got are those that some call brings
-got-from : (m : List ℕ) (calls : List Call) (got : List (List ℕ))
-    → among m (gotAll got calls) ≡ (among m got || leb 1 (timesGot m calls))
+got-from : (flags : ℕ) (m : List ℕ) (calls : List Call) (got : List (List ℕ))
+    → among m (gotAll flags got calls) ≡ (among m got || leb 1 (timesGot flags m calls))
 unfolding gotAll timesGot
-got-from m [] got = rw (lt-leb 1 0 (omega arith)) (sym (or-false (among m got)))
-got-from m (c ∷ cs) got =
-    either (brings m c)
+got-from flags m [] got = rw (lt-leb 1 0 (omega arith)) (sym (or-false (among m got)))
+got-from flags m (c ∷ cs) got =
+    either (brings flags m c)
     (λ t.
-    let r = got-from m cs (gotNext got c) in
-    let n = next-that m got (brought c) t in
-    let k : leb 1 (1 + timesGot m cs) ≡ true = le-leb 1 (1 + timesGot m cs) (omega arith) in
+    let r = got-from flags m cs (gotNext flags got c) in
+    let n = next-that m got (brought flags c) t in
+    let k : leb 1 (1 + timesGot flags m cs) ≡ true = le-leb 1 (1 + timesGot flags m cs) (omega arith) in
     rw (t, k) (r ∙ rw n (sym (or-true (among m got)))))
     (λ t.
-    let r = got-from m cs (gotNext got c) in
-    let n = next-same m got (brought c) t in
-    let k : 0 + timesGot m cs ≡ timesGot m cs = omega arith in
+    let r = got-from flags m cs (gotNext flags got c) in
+    let n = next-same m got (brought flags c) t in
+    let k : 0 + timesGot flags m cs ≡ timesGot flags m cs = omega arith in
     rw (t, k) (r ∙ rw n))
 
-pub got-exactly : (m : List ℕ) (calls : List Call) → among m (gotAll [] calls) ≡ leb 1 (timesGot m calls)
+pub got-exactly : (flags : ℕ) (m : List ℕ) (calls : List Call)
+    → among m (gotAll flags [] calls) ≡ leb 1 (timesGot flags m calls)
 unfolding among
-got-exactly m calls = got-from m calls []
+got-exactly flags m calls = got-from flags m calls []
 
 -- ---- one call: how often the message is got, new and duplicate, and whether it was got before it and is after it
 data One (got new duplicate : ℕ) (was now : Bool) : Type 0 where
@@ -97,26 +98,26 @@ one-more {a} {b} {c} {d} {e} {f} (once-more p q r t u) s =
     let v = s .never u in
     record { answered = omega arith; never = λ w. omega arith; once = λ w l. clash (cc) }
 
-module _ {set : List (List ℕ)} (ms : MessageSet set) (m : List ℕ) {x : Settings} where
+module _ {set : List (List ℕ)} {x : Settings} (ms : MessageSet (x .flags) set) (m : List ℕ) where
   module _ {first past : ℕ} {got : List (List ℕ)} {s : State} where
     admit-one : {rs : List ℕ} {left : ℕ} (body : List ℕ) (i : ℕ) (word : Bool) (at : ℕ)
-        → Holding set x first past (at ∷ rs) left got s → MemberAt set (admit body i word at)
-        → One (cond (brings m (admit body i word at)) 1 0) (countAt isNew m s (admit body i word at))
-        (countAt isDuplicate m s (admit body i word at)) (among m got) (among m (gotNext got (admit body i word at)))
+        → Holding set x first past (at ∷ rs) left got s → MemberAt (x .flags) set (admit body i word at)
+        → One (cond (brings (x .flags) m (admit body i word at)) 1 0) (countAt isNew (x .flags) m s (admit body i word at))
+        (countAt isDuplicate (x .flags) m s (admit body i word at)) (among m got) (among m (gotNext (x .flags) got (admit body i word at)))
     admit-one body i word at h inside =
         let c = admit body i word at in
-        either (brings m c)
+        either (brings (x .flags) m c)
         (λ t.
-        let a = admit-answers body i word at h ms m (brings-that m c .0 t) (inside m t) in
-        let n = next-that m got (brought c) t in
+        let a = admit-answers body i word at h ms m (brings-that (x .flags) m c .0 t) (inside m t) in
+        let n = next-that m got (brought (x .flags) c) t in
         either (among m got) (λ u. once-more (rw t) (rw (t, a, u)) (rw (t, a, u)) u n)
         (λ u. first-time (rw t) (rw (t, a, u)) (rw (t, a, u)) u n))
-        (λ t. not-this (rw t) (rw t) (rw t) (next-same m got (brought c) t))
+        (λ t. not-this (rw t) (rw t) (rw t) (next-same m got (brought (x .flags) c) t))
 
     call-one : (rs : List ℕ) (left : ℕ) (c : Call)
-        → Holding set x first past (reading c ++ rs) (beat c + left) got s → MemberAt set c
-        → One (cond (brings m c) 1 0) (countAt isNew m s c) (countAt isDuplicate m s c) (among m got)
-        (among m (gotNext got c))
+        → Holding set x first past (reading c ++ rs) (beat c + left) got s → MemberAt (x .flags) set c
+        → One (cond (brings (x .flags) m c) 1 0) (countAt isNew (x .flags) m s c) (countAt isDuplicate (x .flags) m s c) (among m got)
+        (among m (gotNext (x .flags) got c))
     unfolding brought
     call-one rs left (admit body i word at) h inside = admit-one body i word at h inside
     call-one rs left (heartbeat at) h inside = not-this refl refl refl refl
@@ -126,8 +127,8 @@ module _ {set : List (List ℕ)} (ms : MessageSet set) (m : List ℕ) {x : Setti
     call-one rs left (explain id topic windows) h inside = not-this refl refl refl refl
 
   some-calls : {first past : ℕ} {got : List (List ℕ)} {s : State} (calls : List Call)
-      → Holding set x first past (readings calls) (beats calls) got s → Members set calls
-      → Some (timesGot m calls) (timesNew m calls s) (timesDuplicate m calls s) (among m got)
+      → Holding set x first past (readings calls) (beats calls) got s → Members (x .flags) set calls
+      → Some (timesGot (x .flags) m calls) (timesNew (x .flags) m calls s) (timesDuplicate (x .flags) m calls s) (among m got)
   unfolding timesGot times readings beats
   some-calls [] h ins =
       record { answered = refl; never = λ t. refl; once = λ t l. absurd (omega arith) }
@@ -136,43 +137,44 @@ module _ {set : List (List ℕ)} (ms : MessageSet set) (m : List ℕ) {x : Setti
       (some-calls cs (holding-next ms (readings cs) (beats cs) c h (members-here ins)) (members-rest ins))
 
 -- ---- for a history under the premises
-module _ {set : List (List ℕ)} {x : Settings} {calls : List Call} {s : State} (ms : MessageSet set)
+module _ {set : List (List ℕ)} {x : Settings} {calls : List Call} {s : State} (ms : MessageSet (x .flags) set)
     (p : Premises set x calls s) (m : List ℕ) where
   -- a message got is answered new or duplicate, each time
-  pub new-or-duplicate : timesGot m calls ≡ timesNew m calls s + timesDuplicate m calls s
+  pub new-or-duplicate : timesGot (x .flags) m calls ≡ timesNew (x .flags) m calls s + timesDuplicate (x .flags) m calls s
   new-or-duplicate = some-calls ms m calls (holding-start p) (p .members) .answered
 
   -- one that is got at least once is answered new exactly once, and duplicate the other times
-  pub new-exactly-once : 1 ≤ timesGot m calls → (timesNew m calls s ≡ 1)
-      × (timesGot m calls ≡ 1 + timesDuplicate m calls s)
+  pub new-exactly-once : 1 ≤ timesGot (x .flags) m calls → (timesNew (x .flags) m calls s ≡ 1)
+      × (timesGot (x .flags) m calls ≡ 1 + timesDuplicate (x .flags) m calls s)
   unfolding among
   new-exactly-once h =
       let n = some-calls ms m calls (holding-start p) (p .members) .once refl h in
-      (n, new-or-duplicate ∙ ap (λ (k : ℕ). k + timesDuplicate m calls s) n)
+      (n, new-or-duplicate ∙ ap (λ (k : ℕ). k + timesDuplicate (x .flags) m calls s) n)
 
 -- ---- an admit of a history that brings a message: how it is answered, after the calls before it
-pub record Delivered (m : List ℕ) (before : List Call) (body : List ℕ) (i : ℕ) (word : Bool) (at : ℕ)
+pub record Delivered (flags : ℕ) (m : List ℕ) (before : List Call) (body : List ℕ) (i : ℕ) (word : Bool) (at : ℕ)
     (s : State) : Type 0 where
   -- new where no call before it brought the message
-  pub first-time : timesGot m before ≡ 0 → answerIn (afterAll before s) body i word at ≡ answer.New
+  pub first-time : timesGot flags m before ≡ 0 → answerIn (afterAll before s) body i word at ≡ answer.New
   -- duplicate where one did
-  pub other-times : 1 ≤ timesGot m before → answerIn (afterAll before s) body i word at ≡ answer.Duplicate
+  pub other-times : 1 ≤ timesGot flags m before → answerIn (afterAll before s) body i word at ≡ answer.Duplicate
   -- and never refused
   pub not-refused : refusalAt (afterAll before s) (admit body i word at) ≡ 0
 
-members-split : {set : List (List ℕ)} (cs ds : List Call) → Members set (cs ++ ds) → Members set cs × Members set ds
+members-split : {flags : ℕ} {set : List (List ℕ)} (cs ds : List Call) → Members flags set (cs ++ ds)
+    → Members flags set cs × Members flags set ds
 members-split [] ds h = (none-left, h)
 members-split (c ∷ cs) ds h =
     let r = members-split cs ds (members-rest h) in
     (member (members-here h) (r .0), r .1)
 
-module _ {set : List (List ℕ)} {x : Settings} {s : State} (ms : MessageSet set) (before rest : List Call)
+module _ {set : List (List ℕ)} {x : Settings} {s : State} (ms : MessageSet (x .flags) set) (before rest : List Call)
     (body : List ℕ) (i : ℕ) (word : Bool) (at : ℕ)
     (p : Premises set x (before ++ (admit body i word at ∷ rest)) s) where
   abbrev calls : List Call
   calls = before ++ (admit body i word at ∷ rest)
 
-  at-admit : Holding set x (firstOf calls) (pastAll 0 before) (at ∷ readings rest) (beats rest) (gotAll [] before)
+  at-admit : Holding set x (firstOf calls) (pastAll 0 before) (at ∷ readings rest) (beats rest) (gotAll (x .flags) [] before)
       (afterAll before s)
   unfolding readings beats
   at-admit =
@@ -184,15 +186,16 @@ module _ {set : List (List ℕ)} {x : Settings} {s : State} (ms : MessageSet set
       (subst (λ (l : List ℕ). Holding set x (firstOf calls) 0 l (beats calls) [] s) e (holding-start p)))
       (members-split before (admit body i word at ∷ rest) (p .members) .0)
 
-  pub delivered-is-got : (m : List ℕ) → brings m (admit body i word at) ≡ true → Delivered m before body i word at s
+  pub delivered-is-got : (m : List ℕ) → brings (x .flags) m (admit body i word at) ≡ true
+      → Delivered (x .flags) m before body i word at s
   delivered-is-got m t =
       let c = admit body i word at in
       let inside = members-here (members-split before (c ∷ rest) (p .members) .1) m t in
-      let e = brings-that m c .0 t in
+      let e = brings-that (x .flags) m c .0 t in
       let a = admit-answers body i word at at-admit ms m e inside in
-      let g = got-exactly m before in
+      let g = got-exactly (x .flags) m before in
       record {
-        first-time = λ z. rw (a, g, lt-leb 1 (timesGot m before) (omega arith));
-        other-times = λ l. rw (a, g, le-leb 1 (timesGot m before) l);
+        first-time = λ z. rw (a, g, lt-leb 1 (timesGot (x .flags) m before) (omega arith));
+        other-times = λ l. rw (a, g, le-leb 1 (timesGot (x .flags) m before) l);
         not-refused = admit-done body i word at at-admit ms m e inside;
       }

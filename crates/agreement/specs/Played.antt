@@ -1,9 +1,9 @@
 -- What the calls of a round answer and write, with full buffers: none is refused; the advertisement, the request and
 -- the reply are those of the definitions; and the reply has fifteen messages, or all that are asked for.
 use Prim.Native.Nat.{ℕ, zero, suc, _-_, _≤_, _<_, min}
-use mathlib.Core.Path.{_≡_, refl, sym, subst}
+use mathlib.Core.Path.{_≡_, refl, sym, ap, subst, _∙_}
 use mathlib.Core.Bool.{true}
-use mathlib.Core.List.{List, [], _∷_}
+use mathlib.Core.List.{List, [], _∷_, append-nil}
 use native.Mathlib.Omega.{arith}
 use lib.ListN.{length, getD, take}
 use lib.Seq.{sets}
@@ -14,10 +14,11 @@ use Rattle.rows.specs.Ids.{sameBytes, among}
 use Rattle.rows.specs.IdsLaws.{same-self, among-at}
 use Rattle.rows.specs.ListLaws.{put-sets}
 use Rattle.protobuf.specs.declared.Checked.the-variants as checked
+use Rattle.protobuf.specs.Encode.{bytesField}
 use Rattle.schema.specs.Accept.{acceptOf}
 use Rattle.admission.specs.AdmissionLaws.{gives-only, fit-limits}
 use Rattle.node.specs.Parts.{fitting}
-use Rattle.node.specs.PartsLaws.{fitting-room}
+use Rattle.node.specs.PartsLaws.{fitting-room, fitting-le}
 use Rattle.mcache.specs.Messages.{held, get}
 use Rattle.mcache.specs.GossipLaws.{told-held}
 use Rattle.node.specs.declared.Lent.the-variants as lent
@@ -30,9 +31,10 @@ use Rattle.node.specs.Calls.{serveAnswer, serveLeft, cachedOf, wanted, roomOf, 
 use Rattle.node.specs.Calls.{serveNumber}
 use Rattle.node.specs.ReplyLaws.{reply-some}
 use Rattle.outputs.specs.Adverts.{advert-rpc, advert-taken}
-use Rattle.history.specs.History.{State, gatewayOf, Settings, advertise, ask, serve, refusalAt, servedBytes}
-use Rattle.history.specs.History.{servedMessages}
+use Rattle.history.specs.History.{State, gatewayOf, Settings, admit, advertise, ask, serve, refusalAt, servedBytes}
+use Rattle.history.specs.History.{servedMessages, admits}
 use Rattle.agreement.specs.Round.{Play, Fair, advertBy, advertOf, requestOf, replyAnswer, replyOf, servedCount}
+use Rattle.agreement.specs.Round.{askerRound}
 use Rattle.agreement.specs.Holding.{Holding}
 use Rattle.agreement.specs.HandOver.{request-rpc, request-taken, reply-has, reply-all}
 use Rattle.agreement.specs.HandOver.{lacks-exactly}
@@ -185,17 +187,17 @@ module _ {set : List (List ℕ)} {x y : Settings} {firstA pastA leftA firstB pas
       having-at (gatewayOf b) wants (λ i t. told-held (p .topic) (p .windows) (gatewayOf b .cache) i (wants-told i t)) j
       l
 
-  pub reply-got : (j : ℕ) → j < length wants → Got (getD wants j []) (getD replies j []) gotB
+  pub reply-got : (j : ℕ) → j < length wants → Got (y .flags) (getD wants j []) (getD replies j []) gotB
   reply-got j l =
       let i = getD wants j [] in
-      subst (λ (m : List ℕ). Got i m gotB) (sym (reply-at j l))
+      subst (λ (m : List ℕ). Got (y .flags) i m gotB) (sym (reply-at j l))
       (told-got hb (p .topic) (p .windows) (fair .windows-y) i (wants-told i (among-at i wants j l refl)))
 
   reply-short : (j : ℕ) → j < length replies → length (getD replies j []) ≤ 4096
   reply-short j l =
       let n = replies-count in
-      let g = gives-only (getD replies j []) (getD wants j []) (reply-got j (omega arith) .own) in
-      fit-limits (getD replies j []) true (g .from-start) (g .from-end) (g .seqno-start) (g .seqno-end)
+      let g = gives-only (y .flags) (getD replies j []) (getD wants j []) (reply-got j (omega arith) .own) in
+      fit-limits (y .flags) (getD replies j []) true (g .from-start) (g .from-end) (g .seqno-start) (g .seqno-end)
       (g .taken) .small
 
   -- fifteen of them, or all
@@ -242,3 +244,32 @@ module _ {set : List (List ℕ)} {x y : Settings} {firstA pastA leftA firstB pas
   unfolding replies wants
   reply-delivers = reply-taken (b .node) (b .ids) (b .messages) (p .topic) (p .windows) fineB (hb .bytes)
       (fair .topic-short) (a .node) (a .ids) (a .messages) (p .reply-out 0)
+
+  -- ---- where one message is asked for, the reply is the body with that message, and the asker admits it
+  module _ (m id : List ℕ)
+      (asks : lacking (gatewayOf a) (toldOf (p .topic) (p .windows) (gatewayOf b)) ≡ id ∷ [])
+      (has : having (gatewayOf b) (id ∷ []) ≡ m ∷ []) where
+    one-reply : replies ≡ m ∷ []
+    unfolding replies wants
+    one-reply = ap (having (gatewayOf b)) asks ∙ has
+
+    one-enough : servedOf (m ∷ []) (p .reply-out 0) ≡ 1
+    unfolding servedOf
+    one-enough =
+        let e = enough-replies in
+        let f = fitting-le 2 (roomOf (p .reply-out 0)) (m ∷ []) in
+        let g : min 15 1 ≤ servedOf (m ∷ []) (p .reply-out 0) = rw one-reply at e in
+        omega arith
+
+    pub one-served : servedCount p a b ≡ 1
+    one-served = served-is ∙ ap (λ (ms : List (List ℕ)). servedOf ms (p .reply-out 0)) one-reply ∙ one-enough
+
+    pub one-replied : replyOf p a b ≡ bytesField 2 m
+    unfolding replyBytes servedOf
+    one-replied = replied ∙ ap (λ (ms : List (List ℕ)). replyBytes ms (p .reply-out 0)) one-reply ∙ rw one-enough
+        (append-nil (bytesField 2 m))
+
+    pub one-round : (at : ℕ → ℕ)
+        → askerRound p at a b ≡ ask (advertOf p b) (p .request-out 0) ∷ admit (bytesField 2 m) 0 true (at 0) ∷ []
+    unfolding askerRound admits
+    one-round at = rw (one-served, one-replied)

@@ -19,13 +19,18 @@ pub record MessageSet (flags : ℕ) (set : List (List ℕ)) : Type 0 where
   pub ids-differ : (m k id : List ℕ) → among m set ≡ true → among k set ≡ true → givesId flags m id ≡ true
       → givesId flags k id ≡ true → m ≡ k
 
--- ---- admitting set members only; where the body is refused or the host's word withheld, the node gets nothing
+-- ---- admitting set members only; where the body is refused or the message not vouched for, the
+-- node gets nothing
 abbrev pub MemberAt : ℕ → List (List ℕ) → Call → Type 0
 MemberAt flags set c = (m : List ℕ) → brings flags m c ≡ true → among m set ≡ true
 
 pub data Members (flags : ℕ) (set : List (List ℕ)) : List Call → Type 0 where
   none-left : Members flags set []
   member : {c : Call} {cs : List Call} → MemberAt flags set c → Members flags set cs → Members flags set (c ∷ cs)
+
+-- ---- both nodes set alike: the set is then one for both
+abbrev pub Alike : Settings → Settings → Type 0
+Alike x y = x .flags ≡ y .flags
 
 -- ---- the clock
 pub record Clock (x : Settings) (rs : List ℕ) : Type 0 where

@@ -12,9 +12,9 @@ use Rattle.canon.specs.Taken.{Within}
 use Rattle.mcache.specs.Messages.{idsOf}
 use Rattle.node.specs.Gateway.{toldOf, lacking, request}
 use Rattle.history.specs.History.{State, gatewayOf, Settings, Call, advertise, ask, afterAll, refusalAt}
-use Rattle.agreement.specs.Premises.{MessageSet, Premises}
+use Rattle.agreement.specs.Premises.{MessageSet, Alike, Premises}
 use Rattle.agreement.specs.Round.{lacked, Play, Fair, advertOf, requestOf}
-use Rattle.agreement.specs.Holding.{Holding, holding-all}
+use Rattle.agreement.specs.Holding.{set-alike, Holding, holding-all}
 use Rattle.agreement.specs.HandOver.{asked-something, request-meant}
 use Rattle.agreement.specs.Lacking.{fine, wants-exactly, wants-once, wants-count}
 use Rattle.agreement.specs.Played.{advert-done, request-done, requested}
@@ -69,6 +69,7 @@ exact-request {a} {b} ha hb p fair =
 
 -- ---- for two histories under the premises
 pub request-is-exact : {set : List (List ℕ)} {x y : Settings} {calls-a calls-b : List Call} {a b : State}
-    → MessageSet set → Premises set x calls-a a → Premises set y calls-b b
-    → (p : Play) → Fair p x y → ExactRequest p (afterAll calls-a a) (afterAll calls-b b)
-request-is-exact ms pa pb p fair = exact-request (holding-all ms pa) (holding-all ms pb) p fair
+    → MessageSet (x .flags) set → Premises set x calls-a a → Premises set y calls-b b
+    → Alike x y → (p : Play) → Fair p x y → ExactRequest p (afterAll calls-a a) (afterAll calls-b b)
+request-is-exact ms pa pb alike p fair =
+    exact-request (holding-all ms pa) (holding-all (set-alike alike ms) pb) p fair

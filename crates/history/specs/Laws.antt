@@ -2,7 +2,7 @@
 -- state that calls leave from a fresh one is well formed.
 use Prim.Native.Nat.{ℕ, zero, suc, _+_, _≤_}
 use mathlib.Core.Path.{_≡_, refl, sym, ap, subst, _∙_}
-use mathlib.Core.Bool.{Bool, true, false, cond}
+use mathlib.Core.Bool.{Bool, true, false}
 use mathlib.Core.List.{List, [], _∷_, _++_, append-assoc}
 use mathlib.Core.Logic.{_↔_}
 use mathlib.Core.Option.{Option, none, some}
@@ -18,8 +18,9 @@ use Rattle.ids.specs.declared.MessageAt.the-variants.{At, Count}
 use Rattle.ids.specs.Ids.{messageAt}
 use Rattle.admission.specs.declared.Admission.{Admission}
 use Rattle.admission.specs.declared.Admission.the-variants as admission
-use Rattle.admission.specs.Admission.{admissionOf, givesId}
-use Rattle.admission.specs.AdmissionLaws.{fit-word}
+use Rattle.admission.specs.Admission.{admissionOf, vouched, givesId}
+use Rattle.admission.specs.AdmissionLaws.{fit-vouched, vouched-same}
+use Rattle.mcache.specs.Laws.{under-settings, shifted-settings}
 use Rattle.node.specs.declared.Lent.{Lent}
 use Rattle.node.specs.declared.Lent.the-variants as lent
 use Rattle.node.specs.declared.Fault.{Fault}
@@ -28,10 +29,11 @@ use Rattle.node.specs.declared.Admit.{Admit}
 use Rattle.node.specs.declared.Admit.the-variants as answer
 use Rattle.node.specs.declared.Beat.{Beat}
 use Rattle.node.specs.declared.Beat.the-variants as beaten
-use Rattle.node.specs.Gateway.{Gateway, started, afterAdmit, afterBeat}
+use Rattle.node.specs.Gateway.{Gateway, started, formOf, afterAdmit, afterBeat}
 use Rattle.node.specs.State.{gatewayIn}
 use Rattle.node.specs.Calls.{Plan, no, taken, heldAt, admitNumber, admitAnswer, admitNode, admitSeen, admitCache}
-use Rattle.node.specs.Calls.{beatNumber, beatAnswer, beatNode, onLent, lentOf, planFit, planAt, planBody, planned}
+use Rattle.node.specs.Calls.{laterNode, beatNumber, beatAnswer, beatNode, onLent, lentOf, planFit, planAt, planBody}
+use Rattle.node.specs.Calls.{planned}
 use Rattle.node.specs.WellFormed.{Typed}
 use Rattle.node.specs.Laws.{fresh-gateway, fit-plan, admit-gateway, beat-says, beat-gateway}
 use Rattle.node.specs.WellFormedLaws.{Keeps, begun-keeps, admitted-keeps, beaten-keeps}
@@ -65,11 +67,11 @@ unfolding afterAll
 done-append all-done n = n
 done-append (done a m) n = done a (done-append m n)
 
-pub times-append : (f : Admit → ℕ) (m : List ℕ) (cs ds : List Call) (s : State)
-    → times f m (cs ++ ds) s ≡ times f m cs s + times f m ds (afterAll cs s)
+pub times-append : (f : Admit → ℕ) (flags : ℕ) (m : List ℕ) (cs ds : List Call) (s : State)
+    → times f flags m (cs ++ ds) s ≡ times f flags m cs s + times f flags m ds (afterAll cs s)
 unfolding times afterAll
-times-append f m [] ds s = omega arith
-times-append f m (c ∷ cs) ds s = let r = times-append f m cs ds (after c s) in omega arith
+times-append f flags m [] ds s = omega arith
+times-append f flags m (c ∷ cs) ds s = let r = times-append f flags m cs ds (after c s) in omega arith
 
 -- admits are no heartbeats
 pub admits-beats : (body : List ℕ) (at : ℕ → ℕ) (i k : ℕ) → beats (admits body at i k) ≡ 0
@@ -82,9 +84,17 @@ pub node-clock : (s : State) → gatewayOf s .clock ≡ s .node .clock
 unfolding gatewayIn
 node-clock s = refl
 
-pub started-clock : (x : Settings) → started (x .ttl) (x .max-seen) (x .history-len) (x .max-messages) .clock ≡ 0
+-- the gateway that settings start
+abbrev pub startedBy : Settings → Gateway
+startedBy x = started (x .ttl) (x .max-seen) (x .history-len) (x .max-messages) (x .flags)
+
+pub started-clock : (x : Settings) → startedBy x .clock ≡ 0
 unfolding started
 started-clock x = refl
+
+started-flags : (x : Settings) → startedBy x .flags ≡ x .flags
+unfolding started
+started-flags x = refl
 
 after-admit-clock : (at : ℕ) (m id : List ℕ) (g : Gateway) → afterAdmit at m id g .clock ≡ at
 unfolding afterAdmit
@@ -117,20 +127,22 @@ all-keep (c ∷ cs) s k = all-keep cs (after c s) (after-keeps c s k)
 pub fresh-keeps : {x : Settings} {s : State} → Fresh x s → Kept s
 fresh-keeps {x} {s} f =
     subst (λ (n : Node). Keeps n (s .ids) (s .messages)) (sym (f .node))
-    (begun-keeps (x .ttl) (x .max-seen) (x .history-len) (x .max-messages) (s .ids) (s .messages)
+    (begun-keeps (x .ttl) (x .max-seen) (x .history-len) (x .max-messages) (x .flags) (s .ids) (s .messages)
     (f .legal) (f .ids) (f .messages))
 
 pub history-keeps : {x : Settings} {s : State} (calls : List Call) → Fresh x s → Kept (afterAll calls s)
 history-keeps {x} {s} calls f = all-keep calls s (fresh-keeps f)
 
-pub fresh-starts : {x : Settings} {s : State} → Fresh x s
-    → gatewayOf s ≡ started (x .ttl) (x .max-seen) (x .history-len) (x .max-messages)
+pub fresh-starts : {x : Settings} {s : State} → Fresh x s → gatewayOf s ≡ startedBy x
 fresh-starts {x} {s} f =
     ap (λ (n : Node). gatewayIn n (s .ids) (s .messages)) (f .node)
-    ∙ fresh-gateway (x .ttl) (x .max-seen) (x .history-len) (x .max-messages) (s .ids) (s .messages)
+    ∙ fresh-gateway (x .ttl) (x .max-seen) (x .history-len) (x .max-messages) (x .flags) (s .ids) (s .messages)
 
 pub fresh-clock : {x : Settings} {s : State} → Fresh x s → gatewayOf s .clock ≡ 0
 fresh-clock {x} {s} f = ap (λ (g : Gateway). g .clock) (fresh-starts f) ∙ started-clock x
+
+pub fresh-flags : {x : Settings} {s : State} → Fresh x s → gatewayOf s .flags ≡ x .flags
+fresh-flags {x} {s} f = ap (λ (g : Gateway). g .flags) (fresh-starts f) ∙ started-flags x
 
 -- ---- an admit
 module _ (s : State) (body : List ℕ) (i : ℕ) (word : Bool) (at : ℕ) where
@@ -142,7 +154,7 @@ module _ (s : State) (body : List ℕ) (i : ℕ) (word : Bool) (at : ℕ) where
   -- that takes a message
   module _ (m id : List ℕ) (e : planIn s body i word at ≡ taken m id) where
     pub taken-number : refusalAt s (admit body i word at) ≡ 0
-    taken-number = rw e (either (heldAt (s .node) (s .ids) at id) (λ t. simp t) (λ t. simp t))
+    taken-number = rw e (either (heldAt (s .node) (s .ids) at (formOf m id)) (λ t. simp t) (λ t. simp t))
 
     pub admit-leaves : Typed (s .node) → gatewayOf (after (admit body i word at) s) ≡ afterAdmit at m id (gatewayOf s)
     unfolding after
@@ -170,7 +182,7 @@ plan-stays : (s : State) (at : ℕ) (p : Plan) → (admitNumber (admitAnswer (s 
       messages = admitCache (s .node) (s .ids) (s .messages) at p;
     } ≡ s
 plan-stays s at (no r) h = refl
-plan-stays s at (taken m id) h = absurd (h (either (heldAt (s .node) (s .ids) at id) (λ t. simp t) (λ t. simp t)))
+plan-stays s at (taken m id) h = absurd (h (either (heldAt (s .node) (s .ids) at (formOf m id)) (λ t. simp t) (λ t. simp t)))
 
 beat-stays : (s : State) (at : ℕ) (r : Beat) → beatAnswer (s .node) (s .ids) (s .messages) at ≡ r
     → (beatNumber r ≡ 0 → ⊥) → beatNode (s .node) (s .ids) (s .messages) at ≡ s .node
@@ -190,80 +202,137 @@ refused-stays (ask body out) s h = refl
 refused-stays (serve body out) s h = refl
 refused-stays (explain id topic windows) s h = refl
 
+-- ---- no call changes the flags
+plan-flags : (n : Node) (ss : List ℕ) (at : ℕ) (p : Plan) → admitNode n ss at p .cache .flags ≡ n .cache .flags
+unfolding laterNode
+plan-flags n ss at (no r) = refl
+plan-flags n ss at (taken m id) =
+    either (heldAt n ss at (formOf m id)) (λ t. rw t) (λ t. rw t (under-settings m id (n .cache) .2))
+
+beat-flags : (n : Node) (ss cs : List ℕ) (at : ℕ) (r : Beat) → beatAnswer n ss cs at ≡ r
+    → beatNode n ss cs at .cache .flags ≡ n .cache .flags
+unfolding beatNode laterNode
+beat-flags n ss cs at beaten.Done e = rw e (shifted-settings (n .cache) .2)
+beat-flags n ss cs at (beaten.Faulty why) e = rw e
+beat-flags n ss cs at (beaten.ClockBack clock) e = rw e
+
+pub after-flags : (c : Call) (s : State) → gatewayOf (after c s) .flags ≡ gatewayOf s .flags
+unfolding after gatewayIn
+after-flags (admit body i word at) s = plan-flags (s .node) (s .ids) at (planIn s body i word at)
+after-flags (heartbeat at) s =
+    beat-flags (s .node) (s .ids) (s .messages) at (beatAnswer (s .node) (s .ids) (s .messages) at) refl
+after-flags (advertise topic windows out) s = refl
+after-flags (ask body out) s = refl
+after-flags (serve body out) s = refl
+after-flags (explain id topic windows) s = refl
+
+all-flags : (calls : List Call) (s : State) → gatewayOf (afterAll calls s) .flags ≡ gatewayOf s .flags
+unfolding afterAll
+all-flags [] s = refl
+all-flags (c ∷ cs) s = all-flags cs (after c s) ∙ after-flags c s
+
+pub history-flags : {x : Settings} {s : State} (calls : List Call) → Fresh x s
+    → gatewayOf (afterAll calls s) .flags ≡ x .flags
+history-flags {x} {s} calls f = all-flags calls s ∙ fresh-flags f
+
 -- ---- what a call brings
--- an admit brings m exactly where the host gives its word, the body is accepted, and m stands at the index
-module _ (body : List ℕ) (i : ℕ) (at : ℕ) where
+-- an admit brings m exactly where m is vouched for, the body is accepted, and m stands at the index
+module _ (flags : ℕ) (body : List ℕ) (i : ℕ) (at : ℕ) where
+  vouched-brought : (word : Bool) (m : List ℕ) → vouched flags m word ≡ true → acceptOf body ≡ checked.Fine
+      → Placed body i m → brought flags (admit body i word at) ≡ some m
+  unfolding brought
+  vouched-brought word m v ok p = rw (ok, p .found, p .bytes, v)
+
+  -- so does each with the host's word
   pub carried-brought : (m : List ℕ) → acceptOf body ≡ checked.Fine → Placed body i m
-      → brought (admit body i true at) ≡ some m
-  unfolding brought
-  carried-brought m ok p = rw (ok, p .found, p .bytes)
+      → brought flags (admit body i true at) ≡ some m
+  unfolding vouched
+  carried-brought m ok p = vouched-brought true m refl ok p
 
-  brought-at : (m : List ℕ) (r : MessageAt) → messageAt body i ≡ r → standing body r ≡ some m → Placed body i m
-  brought-at m (At a e) q h = record { start = a; next = e; found = q; bytes = cc }
-  brought-at m (Count n) q h = clash (cc)
+  module _ (word : Bool) (m : List ℕ) where
+    brought-at : (r : MessageAt) → messageAt body i ≡ r → standing flags word body r ≡ some m
+        → (vouched flags m word ≡ true) × Placed body i m
+    brought-at (At a e) q h =
+        either (vouched flags (between body a e) word)
+        (λ t.
+        let b : some (between body a e) ≡ some m = rw t at h in
+        let c : between body a e ≡ m = cc in
+        (rw (← c) t, record { start = a; next = e; found = q; bytes = c }))
+        (λ t. clash (let b = rw t at h in cc))
+    brought-at (Count n) q h = clash (cc)
 
-  brought-accepted : (m : List ℕ) (r : Checked) → acceptOf body ≡ r
-      → whereAccepted r (standing body (messageAt body i)) ≡ some m → (acceptOf body ≡ checked.Fine) × Placed body i m
-  brought-accepted m checked.Fine e h = (e, brought-at m (messageAt body i) refl h)
-  brought-accepted m (checked.Refused why) e h = clash (cc)
+    brought-accepted : (r : Checked) → acceptOf body ≡ r
+        → whereAccepted r (standing flags word body (messageAt body i)) ≡ some m
+        → (vouched flags m word ≡ true) × (acceptOf body ≡ checked.Fine) × Placed body i m
+    brought-accepted checked.Fine e h = let p = brought-at (messageAt body i) refl h in (p .0, e, p .1)
+    brought-accepted (checked.Refused why) e h = clash (cc)
 
-  pub brought-carried : (word : Bool) (m : List ℕ) → brought (admit body i word at) ≡ some m
-      → (word ≡ true) × (acceptOf body ≡ checked.Fine) × Placed body i m
-  unfolding brought
-  brought-carried true m h = let p = brought-accepted m (acceptOf body) refl h in (refl, p .0, p .1)
-  brought-carried false m h = clash (cc)
+    pub brought-carried : brought flags (admit body i word at) ≡ some m
+        → (vouched flags m word ≡ true) × (acceptOf body ≡ checked.Fine) × Placed body i m
+    unfolding brought
+    brought-carried h = brought-accepted (acceptOf body) refl h
 
 brings-brought : (m : List ℕ) (o : Option (List ℕ)) → isThat m o ≡ true → o ≡ some m
 brings-brought m none h = clash (cc)
 brings-brought m (some k) h = ap some (same-equal k m h)
 
 -- a call brings m exactly where that is what it brings
-pub brings-that : (m : List ℕ) (c : Call) → (brings m c ≡ true) ↔ (brought c ≡ some m)
-brings-that m c = (brings-brought m (brought c), λ e. rw e (same-self m))
+pub brings-that : (flags : ℕ) (m : List ℕ) (c : Call) → (brings flags m c ≡ true) ↔ (brought flags c ≡ some m)
+brings-that flags m c = (brings-brought m (brought flags c), λ e. rw e (same-self m))
 
-pub brings-exactly : (m body : List ℕ) (i : ℕ) (word : Bool) (at : ℕ) → (brings m (admit body i word at) ≡ true)
-    ↔ ((word ≡ true) × (acceptOf body ≡ checked.Fine) × Placed body i m)
-brings-exactly m body i word at = (
-  λ h. brought-carried body i at word m (brings-that m (admit body i word at) .0 h),
-  λ p. brings-that m (admit body i word at) .1 (rw (p .0) (carried-brought body i at m (p .1) (p .2))),
+pub brings-exactly : (flags : ℕ) (m body : List ℕ) (i : ℕ) (word : Bool) (at : ℕ)
+    → (brings flags m (admit body i word at) ≡ true)
+    ↔ ((vouched flags m word ≡ true) × (acceptOf body ≡ checked.Fine) × Placed body i m)
+brings-exactly flags m body i word at = (
+  λ h. brought-carried flags body i at word m (brings-that flags m (admit body i word at) .0 h),
+  λ p. brings-that flags m (admit body i word at) .1 (vouched-brought flags body i at word m (p .0) (p .1) (p .2)),
 )
 
--- ---- an admit takes what it brings, and nothing else
+-- ---- an admit takes what it brings under the gateway's flags, and nothing else
 abbrev TakesNone : Plan → Type 0
 TakesNone p = (r : Admit) × (p ≡ no r)
 
-module _ (s : State) (body : List ℕ) (i : ℕ) (word : Bool) (at : ℕ) where
+module _ (s : State) (flags : ℕ) (same : gatewayOf s .flags ≡ flags) (body : List ℕ) (i : ℕ) (word : Bool)
+    (at : ℕ) where
+  here : s .node .cache .flags ≡ flags
+  unfolding gatewayIn
+  here = same
+
   -- a message that passes admission, where the state is well formed and the clock does not go back
-  pub brought-plan : (m id : List ℕ) → brought (admit body i word at) ≡ some m → givesId m id ≡ true
+  pub brought-plan : (m id : List ℕ) → brought flags (admit body i word at) ≡ some m → givesId flags m id ≡ true
       → lentOf (s .node) (s .ids) (s .messages) ≡ lent.Fine → s .node .clock ≤ at → planIn s body i word at ≡ taken m id
   unfolding planned
   brought-plan m id e own fine h =
-      let c = brought-carried body i at word m e in
+      let c = brought-carried flags body i at word m e in
       let p = c .2 in
-      rw (c .0, fine, c .1, p .found, p .bytes) (fit-plan (s .node) at m id own h)
+      let v = vouched-same (s .node .cache .flags) m word (rw here (c .0)) in
+      rw (fine, c .1, p .found, p .bytes, v) (fit-plan (s .node) at m id (rw here own) h)
 
-  of-fit : (p : List ℕ) (r : Admission) → admissionOf p word ≡ r → word ≡ false → TakesNone (planFit (s .node) at p r)
+  of-fit : (p : List ℕ) (r : Admission) → admissionOf (s .node .cache .flags) p word ≡ r → vouched flags p word ≡ false
+      → TakesNone (planFit (s .node) at p r)
   of-fit p (admission.Unfit why) e h = (answer.Unfit why, refl)
-  of-fit p (admission.Fit a b c d) e h = let t = fit-word p word a b c d e in clash (cc)
+  of-fit p (admission.Fit a b c d) e h =
+      let t = fit-vouched (s .node .cache .flags) p word a b c d e in clash (let q = rw here at t in cc)
 
-  of-at : (r : MessageAt) → cond word (standing body r) none ≡ none → TakesNone (planAt (s .node) at word body r)
+  of-at : (r : MessageAt) → standing flags word body r ≡ none → TakesNone (planAt (s .node) at word body r)
   of-at (At a e) h =
-      either word (λ t. clash (let q = rw t at h in cc))
-      (λ t. of-fit (between body a e) (admissionOf (between body a e) word) refl t)
+      let p = between body a e in
+      either (vouched flags p word) (λ t. clash (let q = rw t at h in cc))
+      (λ t. of-fit p (admissionOf (s .node .cache .flags) p word) refl t)
   of-at (Count n) h = (answer.NoMessage n, refl)
 
-  of-body : (r : Checked) → cond word (whereAccepted r (standing body (messageAt body i))) none ≡ none
+  of-body : (r : Checked) → whereAccepted r (standing flags word body (messageAt body i)) ≡ none
       → TakesNone (planBody (s .node) at word body i r)
   of-body checked.Fine h = of-at (messageAt body i) h
   of-body (checked.Refused why) h = (answer.Refused why, refl)
 
-  of-lent : (l : Lent) → cond word (whereAccepted (acceptOf body) (standing body (messageAt body i))) none ≡ none
+  of-lent : (l : Lent) → whereAccepted (acceptOf body) (standing flags word body (messageAt body i)) ≡ none
       → TakesNone
       (onLent (λ (why : Fault). no (answer.Faulty why)) l (planBody (s .node) at word body i (acceptOf body)))
   of-lent lent.Fine h = of-body (acceptOf body) h
   of-lent (lent.Faulty why) h = (answer.Faulty why, refl)
 
   -- where it brings nothing, it takes nothing
-  pub unbrought-plan : brought (admit body i word at) ≡ none → (r : Admit) × (planIn s body i word at ≡ no r)
+  pub unbrought-plan : brought flags (admit body i word at) ≡ none → (r : Admit) × (planIn s body i word at ≡ no r)
   unfolding planned brought
   unbrought-plan h = of-lent (lentOf (s .node) (s .ids) (s .messages)) h

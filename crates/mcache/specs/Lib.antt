@@ -1,7 +1,7 @@
 -- To be believed: Messages, WellFormed, Calls (the order of refusals), State (`cachedIn`, `legal`), Told, Unique (the
 -- contracts).
 -- Cited by contracts, and joined to these by theorems: the other definitions of State and Calls, by Laws.
--- Theorems: Laws, GossipLaws, OfferLaws (`Answers`), FineLaws, WellFormedLaws, WrapLaws, Unique, Exactly, Readers.
+-- Theorems: Laws, GossipLaws, OfferLaws (`Answers`), FineLaws, WellFormedLaws, WrapLaws, Unique, Exactly, Readers, Off.
 -- On the way to them: TableLaws, StateLaws, CachedLaws, GatherLaws, GuardLaws.
 pub mod Told
 pub mod Messages
@@ -22,3 +22,4 @@ pub mod WellFormedLaws
 pub mod WrapLaws
 pub mod Exactly
 pub mod Readers
+pub mod Off

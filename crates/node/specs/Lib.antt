@@ -2,7 +2,7 @@
 -- theorems state: Laws (`Takes`), Exactly (`BeatTells`), Explained (`Explanation`, `ExplainTells`), Freed (`Freed`),
 -- WrapLaws (`movedNode`).
 -- Cited by contracts, and joined to these by theorems: what the calls leave, in Calls, by Laws.
--- Theorems: Laws, WellFormedLaws, Exactly, Explained, Freed, WrapLaws, Readers, Unique.
+-- Theorems: Laws, WellFormedLaws, Exactly, Explained, Freed, WrapLaws, Readers, Marks, Off, Unique.
 -- On the way to them: PartsLaws, StateLaws, WireLaws, AskLaws, ReplyLaws.
 pub mod Parts
 pub mod PartsLaws
@@ -22,4 +22,6 @@ pub mod Explained
 pub mod Freed
 pub mod WrapLaws
 pub mod Readers
+pub mod Marks
+pub mod Off
 pub mod Unique

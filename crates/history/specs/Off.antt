@@ -1,0 +1,57 @@
+-- Where the flags allow no unsigned message, a call brings what it brought before there were flags.
+use Prim.Native.Nat.{ℕ}
+use mathlib.Core.Path.{_≡_, refl}
+use mathlib.Core.Bool.{Bool, true, false, cond}
+use mathlib.Core.List.{List}
+use mathlib.Core.Option.{Option, none, some}
+use Rattle.protobuf.specs.declared.Checked.{Checked}
+use Rattle.protobuf.specs.declared.Checked.the-variants as checked
+use Rattle.protobuf.specs.Walk.{between}
+use Rattle.schema.specs.Accept.{acceptOf}
+use Rattle.ids.specs.declared.MessageAt.{MessageAt}
+use Rattle.ids.specs.declared.MessageAt.the-variants.{At, Count}
+use Rattle.ids.specs.Ids.{messageAt}
+use Rattle.admission.specs.Flags.{allowsUnsigned}
+use Rattle.admission.specs.Admission.{vouched}
+use Rattle.history.specs.History.{Call, admit, heartbeat, advertise, ask, serve, explain, standing, whereAccepted}
+use Rattle.history.specs.History.{brought}
+
+-- ---- as it was: an admit with the host's word brings the message at its index, whatever that is
+abbrev pub standingWas : List ℕ → MessageAt → Option (List ℕ)
+standingWas body (At a e) = some (between body a e)
+standingWas body (Count n) = none
+
+unfoldable pub broughtWas : Call → Option (List ℕ)
+broughtWas (admit body i word at) = cond word (whereAccepted (acceptOf body) (standingWas body (messageAt body i))) none
+broughtWas (heartbeat at) = none
+broughtWas (advertise topic windows out) = none
+broughtWas (ask body out) = none
+broughtWas (serve body out) = none
+broughtWas (explain id topic windows) = none
+
+-- ---- with the flag off it is that
+module _ (flags : ℕ) (off : allowsUnsigned flags ≡ false) where
+  standing-off : (word : Bool) (body : List ℕ) (r : MessageAt)
+      → standing flags word body r ≡ cond word (standingWas body r) none
+  unfolding vouched
+  standing-off true body (At a e) = refl
+  standing-off false body (At a e) = rw off
+  standing-off true body (Count n) = refl
+  standing-off false body (Count n) = refl
+
+  accepted-off : (word : Bool) (r : Checked) (now was : Option (List ℕ)) → now ≡ cond word was none
+      → whereAccepted r now ≡ cond word (whereAccepted r was) none
+  accepted-off word checked.Fine now was e = e
+  accepted-off true (checked.Refused why) now was e = refl
+  accepted-off false (checked.Refused why) now was e = refl
+
+  pub brought-off : (c : Call) → brought flags c ≡ broughtWas c
+  unfolding brought broughtWas
+  brought-off (admit body i word at) =
+      accepted-off word (acceptOf body) (standing flags word body (messageAt body i)) (standingWas body (messageAt body i))
+      (standing-off word body (messageAt body i))
+  brought-off (heartbeat at) = refl
+  brought-off (advertise topic windows out) = refl
+  brought-off (ask body out) = refl
+  brought-off (serve body out) = refl
+  brought-off (explain id topic windows) = refl
