@@ -161,7 +161,7 @@ static uint64_t our_write(uint64_t times)
     uint64_t sum = 0;
     while (times-- > 0) {
         clear_out();
-        sum += pradulins_write_rpc(records, words, lent.at, lent.len, out, PRADULINS_OUT_SIZE, values) + values[0];
+        sum += pradulins_write_rpc(records, words, lent.at, lent.len, 0, out, PRADULINS_OUT_SIZE, values) + values[0];
     }
     return sum;
 }
@@ -288,7 +288,7 @@ static void fill_node(void)
     seen_len = sizeof seen;
     cache_len = sizeof cache;
     turn = 0;
-    if (pradulins_start(node, 1000000, PRADULINS_MAX_SEEN, PRADULINS_MAX_HISTORY, PRADULINS_MAX_MESSAGES))
+    if (pradulins_start(node, 1000000, PRADULINS_MAX_SEEN, PRADULINS_MAX_HISTORY, PRADULINS_MAX_MESSAGES, 0))
         fail("refused", "start");
     for (int i = 0; i < PRADULINS_MAX_SEEN; i++)
         if (admit_next() || values[0] != 1)
@@ -530,7 +530,7 @@ static void list_cases(const char *folder, const char *file)
     words = *(const uint64_t *)all.at;
     lent.at = all.at + 8 * (1 + words);
     lent.len = all.len - 8 * (1 + words);
-    uint32_t number = pradulins_write_rpc(records, words, lent.at, lent.len, out, PRADULINS_OUT_SIZE, values);
+    uint32_t number = pradulins_write_rpc(records, words, lent.at, lent.len, 0, out, PRADULINS_OUT_SIZE, values);
     body = (struct bytes){malloc(PRADULINS_OUT_SIZE), values[0]};
     memcpy(body.at, out, number ? 0 : body.len);
     agree_on_lists(file, number, false);

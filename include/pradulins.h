@@ -29,23 +29,23 @@ extern "C" {
 /* ---- version */
 
 /*
- * The version that this header is of, 0.6.0: 10000 times the first number, 100 times the second, and the third. pradulins_version() is that of the archive.
- * Since 0.4.0 `values` has 8 numbers, where it had 4: a program that was made with an earlier header lends too few, and is not to be linked with this archive.
- * Make it anew, and hold pradulins_version() to PRADULINS_VERSION before the first call.
- * Since 0.5.0 a message's from is a peer id, and pradulins_admit meets 34, 35 and 36 ("senders", below). A node that an earlier version saved is taken if the messages
- * that it keeps pass these tests; one that keeps a message of another sender is not well formed (42): start anew, and catch up.
- * Since 0.6.0 a host speaks first: pradulins_write_rpc and pradulins_sign_fields ("speaking first", below), and the refusal 13. No other answer changed.
+ * The version that this header is of, 0.7.0: 10000 times the first number, 100 times the second, and the third. pradulins_version() is that of the archive.
+ * Since 0.4.0 `values` has 8 numbers, where it had 4, and since 0.7.0 pradulins_start and pradulins_write_rpc have an argument more: a program that was made with an
+ * earlier header is not to be linked with this archive. Make it anew, and hold pradulins_version() to PRADULINS_VERSION before the first call.
+ * Since 0.5.0 a message's from is a peer id, and pradulins_admit meets 34, 35 and 36 ("senders", below).
+ * Since 0.6.0 a host speaks first: pradulins_write_rpc and pradulins_sign_fields ("speaking first", below), and the refusal 13.
+ * Since 0.7.0 a node has flags, of which the first allows messages that nobody signed ("flags", below); with flags 0 every answer is as before.
  * The format is that of a node's bytes and its stores: a state that was saved under another format is not to be loaded. pradulins_format() is the archive's: hold
- * it to PRADULINS_FORMAT before the first call, since a node of another format may have another length. Format 2 came with 0.3.0: a node keeps where the topics of
- * its messages stand, and has 12,432 bytes where it had 11,344. Nodes of format 1 are not taken over: start anew, and catch up.
+ * it to PRADULINS_FORMAT before the first call, since a node of another format may have another length. Format 3 came with 0.7.0: a node keeps its flags in 8 bytes at
+ * its end, and has 12,440 bytes where it had 12,432. Nodes of the formats 1 and 2 are not taken over: start anew, and catch up.
  */
-#define PRADULINS_VERSION 600
-#define PRADULINS_FORMAT 2
+#define PRADULINS_VERSION 700
+#define PRADULINS_FORMAT 3
 
 /* ---- sizes */
 
 /* A node, in bytes. It needs no alignment. */
-#define PRADULINS_NODE_SIZE 12432
+#define PRADULINS_NODE_SIZE 12440
 
 /* The seen store has max_seen rows, the cache store max_messages places: exactly so many bytes. */
 #define PRADULINS_SEEN_ROW 129
@@ -98,7 +98,7 @@ extern "C" {
 #define PRADULINS_INVALID_FROM 22       /* from has 0 or above 64 bytes: its length */
 #define PRADULINS_INVALID_SEQNO 23      /* seqno is missing, or has 0 or above 64 bytes */
 #define PRADULINS_KEY_WITHOUT_SIGNATURE 24
-#define PRADULINS_MISSING_SIGNATURE 25  /* no signature and no key */
+#define PRADULINS_MISSING_SIGNATURE 25  /* no signature and no key, where unsigned messages are not allowed */
 #define PRADULINS_SIGNATURE_LENGTH 26   /* the signature does not have 64 bytes: its length */
 #define PRADULINS_NOT_VERIFIED 27       /* the host did not verify the signature */
 #define PRADULINS_TOPIC_COUNT 28        /* a message of 0 or above 4 topics: their number */
@@ -108,7 +108,7 @@ extern "C" {
 #define PRADULINS_NOT_PEER_ID 34        /* from is no peer id */
 #define PRADULINS_INVALID_KEY 35        /* the message has a key, and it does not decode */
 #define PRADULINS_KEY_MISMATCH 36       /* the key is not the one that from holds; or there is none, neither in the message nor in from */
-#define PRADULINS_BAD_SETTING 40        /* a setting out of range, or a seen store shorter than max_seen rows */
+#define PRADULINS_BAD_SETTING 40        /* a setting out of range, flags that are not known, or a seen store shorter than max_seen rows */
 #define PRADULINS_BAD_STORE 41          /* a store whose length the settings do not say */
 #define PRADULINS_MALFORMED 42          /* node and stores, or the rows of an RPC, are not well formed */
 
@@ -155,6 +155,28 @@ extern "C" {
  * do not ask for a peer id.
  */
 
+/* ---- flags */
+
+/*
+ * A node's flags are one number, in which each bit is a flag; pradulins_write_rpc is given the same. 0 is none of them, and is what a gateway in production has. A
+ * number with a bit that is not named here is refused: 40 at start and by pradulins_write_rpc, 42 where it stands in a node that is lent.
+ *
+ * PRADULINS_ALLOW_UNSIGNED is for a training mesh, whose gateways have no keys. A message with neither signature nor key is then admitted, and written by
+ * pradulins_write_rpc, if it passes what is left to test: 21, 22, 34, 23, 28, 29, 30. `verified` says nothing of it, and whoever sends it can put any sender
+ * into it. So NEVER SET THIS FLAG IN PRODUCTION. What is signed is tested as without the flag, 27 with it, and a key without a signature is refused (24) either way.
+ *
+ * - Signed and unsigned messages are seen apart. Only among the ones or the others is a message called new exactly once: a signed and an unsigned message
+ *   with the same id both come out new, in either order. The cache keeps the one that came first, and serves that.
+ * - With the flag, pradulins_ask takes an id for seen where either was seen; without it, where the signed one was.
+ * - Unsigned messages take their places among max_seen and max_messages as others do: a flood of them, which anybody can make, drives signed ids out of the list
+ *   of seen ids, and signed messages that come in again are then new.
+ * - All gateways of a mesh must be set alike. One without the flag that catches up with one that has it asks for unsigned messages, refuses each (25), and asks again.
+ *
+ * The flag is chosen at start. In a node's bytes it can be changed from outside: turned off while an unsigned message is cached, the node is not well
+ * formed (42); turned on, nothing finds it out.
+ */
+#define PRADULINS_ALLOW_UNSIGNED 1
+
 /* ---- the node */
 
 /*
@@ -170,23 +192,24 @@ extern "C" {
  *
  * Saved states. Bytes that were changed on disk may still be well formed: no call finds another byte of stored data or of an id in the seen store, or a clock that
  * was moved; the newest expiry far ahead is found (42) only after the next new notice. Keep a checksum over node and stores, with PRADULINS_FORMAT and the length,
- * and test it before they are used; write a new file beside the old one, flush it, and rename it over the old one, so that a crash leaves one of the two. Where the
- * checksum is right and pradulins_state answers 42, a version before 0.5.0 saved it, with messages of senders that are no peer ids: start anew.
+ * and test it before they are used; write a new file beside the old one, flush it, and rename it over the old one, so that a crash leaves one of the two.
  * examples/c/gateway.c does all of this; docs/OPERATING.md says more.
  */
 
 /*
  * Makes a node that holds nothing, with its clock at 0. An id counts as seen for `ttl` units of the host's clock; at most `max_seen` ids (0 to 256) and
- * `max_messages` messages (0 to 64) are kept, messages for `history_len` windows (1 to 16). The stores' content does not matter yet.
+ * `max_messages` messages (0 to 64) are kept, messages for `history_len` windows (1 to 16). `flags` is 0, or PRADULINS_ALLOW_UNSIGNED in a training mesh ("flags",
+ * above). The stores' content does not matter yet.
  * Refused: 40.
  */
-uint32_t pradulins_start(uint8_t node[PRADULINS_NODE_SIZE], uint64_t ttl, size_t max_seen, size_t history_len, size_t max_messages);
+uint32_t pradulins_start(uint8_t node[PRADULINS_NODE_SIZE], uint64_t ttl, size_t max_seen, size_t history_len, size_t max_messages, uint32_t flags);
 
 /*
  * Admits the message at `index` of `body` (from 0), where `verified` is the host's word on its signature ("senders", above), and `at` the reading of the
  * host's clock. The node drops the ids whose time is over, and then takes the message if its id is not seen.
  * values[0]: 1 where the message is new, and was stored; 0 where it is a duplicate. Both set the clock.
- * Refused: 40, 41, 42, 10, 1 to 7, 11, 20, 21, 22, 34, 23, 24 or 25, 26, 35, 36, 27, 28, 29, 30, 31, in this order.
+ * Refused: 40, 41, 42, 10, 1 to 7, 11, 20, 21, 22, 34, 23, 24 or 25, 26, 35, 36, 27, 28, 29, 30, 31, in this order. Where unsigned messages are allowed ("flags",
+ * above), one with neither signature nor key meets none of 25, 26, 35, 36 and 27, whatever `verified` is.
  */
 uint32_t pradulins_admit(uint8_t node[PRADULINS_NODE_SIZE], uint8_t *seen_store, size_t seen_store_len, uint8_t *cache_store,
                          size_t cache_store_len, const uint8_t *body, size_t body_len, size_t index, bool verified, uint64_t at,
@@ -226,7 +249,7 @@ uint32_t pradulins_explain(const uint8_t node[PRADULINS_NODE_SIZE], const uint8_
 #define PRADULINS_OFFER_OLDER_WINDOW 3  /* its message is in the cache with that topic, in a window that the newest `windows` do not reach */
 
 /*
- * Writes to `out` a body that requests what `body` offers and the node has not seen: one IWANT, each id once.
+ * Writes to `out` a body that requests what `body` offers and the node has not seen ("flags", above): one IWANT, each id once.
  * values[0]: how many bytes were written; 0 where there is nothing to ask for.
  * Refused: 40, 41, 42, 10, 1 to 7, 11, 12.
  */
@@ -246,7 +269,7 @@ uint32_t pradulins_serve(const uint8_t node[PRADULINS_NODE_SIZE], const uint8_t 
 
 /*
  * The settings of a node: those that it was started with. The stores' lengths follow from them, so this is the first call on a node that was saved.
- * values[0]: ttl; values[1]: max_seen; values[2]: history_len; values[3]: max_messages.
+ * values[0]: ttl; values[1]: max_seen; values[2]: history_len; values[3]: max_messages; values[4]: flags.
  * Refused: 42, where no node is started with them.
  */
 uint32_t pradulins_settings(const uint8_t node[PRADULINS_NODE_SIZE], uint64_t values[PRADULINS_VALUES]);
@@ -320,14 +343,15 @@ uint32_t pradulins_walk(const uint8_t *body, size_t body_len, size_t at, uint64_
  */
 
 /*
- * Writes to `out` the RPC that the rows say. `records_len` counts numbers, as `table_len` of pradulins_decode does. What is written is read back as these rows,
- * and each of its messages is admitted if its signature verifies: what admission would refuse is not written.
+ * Writes to `out` the RPC that the rows say. `records_len` counts numbers, as `table_len` of pradulins_decode does. `flags` are those of the gateways that shall admit
+ * it: 0, or PRADULINS_ALLOW_UNSIGNED in a training mesh ("flags", above). What is written is read back as these rows, and each of its messages is admitted by a node
+ * with these flags, if its signature verifies: what admission would refuse is not written.
  * values[0]: how many bytes were written; 0 where there are no rows.
- * Refused: 42, 7, 11; then message by message 21, 22, 34, 23, 26, 35, 36, 28, 29, 30; then 13, 12. A message without a signature is 26 with 0. Beside 13 and 30
- * stands a length that stops at 2^64 - 1.
+ * Refused: 40 (flags), 42, 7, 11; then message by message 21, 22, 34, 23, 26, 35, 36, 28, 29, 30; then 13, 12. A message without a signature is 26 with 0; where
+ * unsigned messages are allowed, one that has no key either is written as it is, and one with a key is 24. Beside 13 and 30 stands a length that stops at 2^64 - 1.
  */
-uint32_t pradulins_write_rpc(const uint64_t *records, size_t records_len, const uint8_t *bytes, size_t bytes_len, uint8_t *out, size_t out_len,
-                             uint64_t values[PRADULINS_VALUES]);
+uint32_t pradulins_write_rpc(const uint64_t *records, size_t records_len, const uint8_t *bytes, size_t bytes_len, uint32_t flags, uint8_t *out,
+                             size_t out_len, uint64_t values[PRADULINS_VALUES]);
 
 /*
  * Writes to `out` the bytes that the signature of message `index` of the rows is made over (from 0, in the order of the rows): those that pradulins_sign_bytes

@@ -2,7 +2,8 @@
 
 A step is a call, its numbers and then its bytes: ("seen", rows), ("insert", now,
 ttl, max, id), ("clean", now), ("next",), ("contains", id), ("cache", history_len,
-max_messages, next arrival number), ("put", index, body), ("shift",), ("gossip",
+max_messages, next arrival number), ("flagged", history_len, max_messages, next arrival
+number, flags), whose line says `cache`, ("put", index, body), ("shift",), ("gossip",
 windows, topic), ("get", id). A history is a list of steps that starts its parts
 itself, so histories can stand one after the other in one input.
 
@@ -14,6 +15,7 @@ of the records; what a sender and its key must be (34 to 36) stands in peers.py.
 Everything random comes from one seeded `random.Random`.
 """
 
+import nodes
 import peers
 from bodies import BROKEN, MAX_RECORDS, PARTS, RPC, many, other_field, random_message, refusal, tagged, within
 from oracle import hexed, parse_decode
@@ -25,7 +27,9 @@ from wire import MAX_BODY, MAX_CONTENT, TOP, blob, damaged, edge_field, header, 
 # Of each call: its kind, how many bytes its numbers have, and whether bytes follow them.
 FORM = {"seen": (1, (2,), False), "insert": (2, (8, 8, 2), True), "clean": (3, (8,), False), "next": (4, (), False),
         "contains": (5, (), True), "cache": (6, (2, 2, 8), False), "put": (7, (2,), True), "shift": (8, (), False),
-        "gossip": (9, (2,), True), "get": (10, (), True)}
+        "gossip": (9, (2,), True), "get": (10, (), True), "flagged": (16, (2, 2, 8, 2), False)}
+# The call that a line names, where it is not the step's own.
+CALLED = {"flagged": "cache"}
 RECORDS = Records(FORM, MAX_CONTENT)
 record, records = RECORDS.record, RECORDS.records
 MAX_ROWS = 256
@@ -37,6 +41,7 @@ SIGNATURE = 64
 MAX_TOPICS = 4
 MAX_TOPIC = 1024
 MAX_MESSAGE = 4096
+MAX_FLAGS = 1
 
 # Every refusal that the program can show.
 REFUSALS = {"insert": {33, 40}, "contains": {33}, "cache": {40}, "gossip": {29},
@@ -45,8 +50,12 @@ REFUSALS = {"insert": {33, 40}, "contains": {33}, "cache": {40}, "gossip": {29},
 
 # --- records -------------------------------------------------------------------
 
+def flags_of(step):
+    return step[4] if step[0] == "flagged" else 0
+
+
 def legal(step):
-    return 1 <= step[1] <= MAX_HISTORY and step[2] <= MAX_MESSAGES
+    return 1 <= step[1] <= MAX_HISTORY and step[2] <= MAX_MESSAGES and flags_of(step) <= MAX_FLAGS
 
 
 def steps_of(data):
@@ -57,9 +66,10 @@ def steps_of(data):
             return steps, step
         if step[0] == "seen" and step[1] > MAX_ROWS:
             return steps, "bad"
-        if step[0] == "seen" or (step[0] == "cache" and legal(step)):
-            begun.add(step[0])
-        if step[0] != "cache" and ("seen" if FORM[step[0]][0] <= 5 else "cache") not in begun:
+        begins = CALLED.get(step[0], step[0])
+        if begins == "seen" or (begins == "cache" and legal(step)):
+            begun.add(begins)
+        if begins != "cache" and ("seen" if FORM[step[0]][0] <= 5 else "cache") not in begun:
             return steps, "bad"
         steps.append(step)
     return steps, ""
@@ -67,8 +77,9 @@ def steps_of(data):
 
 # --- the lines, from the Rust's answers ------------------------------------------
 
-def unfit(message):
-    """Why the Rust's message may not be put: the scope's 21 to 30 without 27, and 34 to 36, or None."""
+def unfit(message, flags=0):
+    """Why the Rust's message may not be put: the scope's 21 to 30 without 27, and 34 to 36, or None. With the flag 1 one that has neither signature nor
+    key may."""
     sender, key = (None if message[name] is None else bytes.fromhex(message[name]) for name in ("from", "key"))
     size = {name: None if message[name] is None else len(message[name]) // 2 for name in ("raw", "from", "seqno", "signature")}
     topics = [len(topic) // 2 for topic in message["topic_ids"]]
@@ -80,11 +91,13 @@ def unfit(message):
         return "refused 34"
     if size["seqno"] is None or not 1 <= size["seqno"] <= MAX_PART:
         return "refused 23"
-    if size["signature"] is None:
-        return "refused 25" if message["key"] is None else "refused 24"
-    if size["signature"] != SIGNATURE:
+    if size["signature"] is None and key is not None:
+        return "refused 24"
+    if size["signature"] is None and flags != 1:
+        return "refused 25"
+    if size["signature"] not in (None, SIGNATURE):
         return "refused 26 %d" % size["signature"]
-    if unlike := mismatch(sender, key):
+    if unlike := size["signature"] is not None and mismatch(sender, key):
         return "refused %d" % unlike
     if not 1 <= len(topics) <= MAX_TOPICS:
         return "refused 28 %d" % len(topics)
@@ -94,7 +107,7 @@ def unfit(message):
     return "refused 30 %d" % size["raw"] if size["raw"] > MAX_MESSAGE else None
 
 
-def judged(body, index, told):
+def judged(body, index, told, flags):
     """(why a put is refused or None, id, the message's bytes), all texts, from the oracle's answer to `decode`."""
     refused = with_place(refusal(body, told), find, body)
     if refused:
@@ -103,14 +116,14 @@ def judged(body, index, told):
     if index >= len(messages):
         return "refused 20 %d" % len(messages), None, None
     message = messages[index]
-    refused = unfit(message)
+    refused = unfit(message, flags)
     return (refused, None, None) if refused else (None, message["from"] + message["seqno"], message["raw"])
 
 
 def without_rust(step, rows, put):
     """The answer to a step that the Rust is not asked, or None. `put` is what `judged` made of its body."""
     call = step[0]
-    if (call == "insert" and step[3] > rows) or (call == "cache" and not legal(step)):
+    if (call == "insert" and step[3] > rows) or (call in ("cache", "flagged") and not legal(step)):
         return "refused 40"
     if call in ("insert", "contains") and len(step[-1]) > MAX_SEEN_ID:
         return "refused 33 %d" % len(step[-1])
@@ -122,7 +135,7 @@ def without_rust(step, rows, put):
 def commands(step, put):
     """What the oracle is asked for a step."""
     call = step[0]
-    if call == "cache":
+    if call in ("cache", "flagged"):
         # From 0 on the unchanged file answers, else the copy whose arrival number can be set.
         return ["mc_new %d %d" % step[1:3] + (" %d" % step[3] if step[3] else "")]
     if call == "put":
@@ -141,7 +154,7 @@ def commands(step, put):
 def answer(step, told, put, kept):
     """What the oracle told of a step, as the program says it. `kept` has the bytes of the last message stored under each id."""
     call, words = step[0], told[0].split(" ")
-    if call in ("seen", "cache", "shift", "insert", "contains"):
+    if call in ("seen", "cache", "flagged", "shift", "insert", "contains"):
         assert told[0] in {"insert": ("fresh", "held"), "contains": ("yes", "no")}.get(call, ("ok",)), told
         return told[0]
     if call == "clean":
@@ -173,17 +186,18 @@ def expected(oracle, data):
     steps, end = steps_of(data)
     given = list({step[2] for step in steps if step[0] == "put"})
     decoded = dict(zip(given, oracle.batch("decode " + hexed(body) for body in given)))
-    rows, asked = 0, []
+    rows, flags, asked = 0, 0, []
     for step in steps:
-        put = judged(step[2], step[1], decoded[step[2]]) if step[0] == "put" else None
+        put = judged(step[2], step[1], decoded[step[2]], flags) if step[0] == "put" else None
         rows = step[1] if step[0] == "seen" else rows
+        flags = flags_of(step) if step[0] in ("cache", "flagged") and legal(step) else flags
         known = without_rust(step, rows, put)
         asked.append((step, put, known, [] if known else commands(step, put)))
     answers = iter(oracle.batch(command for *_, each in asked for command in each))
     lines, kept = [], {}
     for n, (step, put, known, each) in enumerate(asked, 1):
         told = [next(answers) for _ in each]
-        lines.append("%d %s %s" % (n, step[0], known or answer(step, told, put, kept)))
+        lines.append("%d %s %s" % (n, CALLED.get(step[0], step[0]), known or answer(step, told, put, kept)))
     return lines + [end] if end else lines
 
 
@@ -406,6 +420,43 @@ def around(r):
     return within(r, {1: "sub", 3: "control"}, False)
 
 
+def cut(data):
+    """The fields of a body or of a message, as (number, wire type, its bytes), and last what cannot be read, as (0, 0, bytes)."""
+    at = 0
+    try:
+        for field, wire, place, content in nodes.fields(data):
+            end = place + len(content) if wire in (1, 5) else nodes.number_at(data, place)[1] + (len(content) if wire == 2 else 0)
+            yield field, wire, data[at:end]
+            at = end
+    except nodes.Refused:
+        pass
+    yield 0, 0, data[at:]
+
+
+def bare(raw, *fields):
+    """A message without its fields of these numbers: its signature and its key."""
+    return b"".join(piece for field, wire, piece in cut(raw) if (field, wire) not in [(one, 2) for one in fields or (5, 6)])
+
+
+def loose(body):
+    """A body whose messages have neither signature nor key."""
+    return b"".join(tagged(2, bare(next(nodes.fields(piece))[3])) if (field, wire) == (2, 2) else piece for field, wire, piece in cut(body))
+
+
+def loosened(r, body):
+    """A body whose messages mostly have no signature: and no key either, or one that was left; or a signature of no bytes. Some have a sender that needs a
+    key, or has none."""
+    out = b""
+    for field, wire, piece in cut(body):
+        how = r.randrange(12)
+        if (field, wire) == (2, 2) and how < 9:
+            raw = next(nodes.fields(piece))[3]
+            raw = bare(raw, 1) + tagged(1, r.choice(KEYLESS + HASHES)) if r.randrange(10) == 0 else raw
+            piece = tagged(2, bare(raw) if how < 7 else bare(raw, 5) if how == 7 else bare(raw, 5) + tagged(5, b""))
+        out += piece
+    return out
+
+
 def some_put(r, who, topics):
     """A put: mostly a message that may be put, alone or among others; or one with faults, or another body."""
     parts = fields_of(r, who, topics)
@@ -497,6 +548,18 @@ def cache_history(r):
     return steps + cache_probes(r, pool, topics)
 
 
+def flagged_history(r):
+    """A history of the message cache with flags among its settings, in which many messages have no signature. Unknown flags change nothing."""
+    steps = []
+    for step in cache_history(r):
+        if step[0] == "cache":
+            steps.append(("flagged", *step[1:], r.choice((0, 1, 1, 1))))
+            steps += [("flagged", *step[1:], r.choice((2, 3, 256, 257, 65535)))] if r.randrange(4) == 0 else []
+        else:
+            steps.append((*step[:2], loosened(r, step[2])) if step[0] == "put" and r.randrange(4) else step)
+    return steps
+
+
 def full_cache(r):
     """As many messages as a large cache takes, and more, over many windows."""
     history, most = r.choice((1, 4, 15, 16, 16)), r.choice((31, 32, 63, 64, 64))
@@ -534,6 +597,10 @@ def history(r):
     return cache_history(r) if how < 200 else merged(r, seen_history(r), cache_history(r))
 
 
+def some_history(r):
+    return flagged_history(r) if r.randrange(4) == 0 else history(r)
+
+
 def spoiling(r):
     """Bytes that end a run: a record of no kind, too short, too long, with too many rows, or above the longest content."""
     how = r.randrange(5)
@@ -555,13 +622,13 @@ def spoiling(r):
 
 def ending(r):
     """An input of a few steps that mostly ends early."""
-    steps = history(r)[:r.choice((1, 2, 4, 8, 16))]
+    steps = some_history(r)[:r.choice((1, 2, 4, 8, 16))]
     if r.randrange(3) == 0:
-        steps += history(r)[:6]
+        steps += some_history(r)[:6]
     how = r.randrange(7)
     if how == 0:  # a part without its start, or with a refused one
         begins = r.choice(("seen", "cache"))
-        steps = [step for step in steps if step[0] != begins or (begins == "cache" and not legal(step))]
+        steps = [step for step in steps if CALLED.get(step[0], step[0]) != begins or (begins == "cache" and not legal(step))]
         return records(steps + [("next",), ("shift",)])
     if how == 1:  # a call of the part that may not have been started
         return records(steps + r.choice(([("contains", b"a")], [("get", b"a")], [("insert", 1, 1, 0, b"")], [("put", 0, b"")])))
@@ -579,6 +646,11 @@ def ending(r):
 # The message of the scope's trace, and its id.
 X = [(1, A), (3, b"\x01"), (4, b"t"), (5, bytes(SIGNATURE))]
 NAME = A + b"\x01"
+# The same without its signature.
+U = without(X, 5)
+
+# U with fields that have the numbers of a signature and of a key, and other types: it has neither.
+OTHER_TYPES = [plain(U) + bytes.fromhex(text) for text in ("2801", "3001", "2d00000000", "310000000000000000")]
 
 
 def put_step(parts, index=0):
@@ -751,6 +823,30 @@ def placed_named():
     yield [("cache", 2, 4, 0)] + [("put", 0, body) for row in rows for body in (row, x + row)] + looks([NAME], [b"t"], 1)
 
 
+def flag_named():
+    """Flags among the settings; messages without a signature; both forms of a message, whose id is seen under two marks and cached once."""
+    x, u, look = put_step(X), put_step(U), looks([NAME], [b"t"], 1)
+    for flags in (0, 1, 2, 3, 255, 256, 257, 65535):
+        yield [("cache", 2, 4, 0), x, ("flagged", 2, 4, 7, flags), u, *look, x, *look]
+    for history, most in BAD_SETTINGS[:4] + BAD_SETTINGS[7:9]:
+        yield [("flagged", 2, 4, 0, 1), ("flagged", history, most, 0, 1), ("flagged", history, most, 0, 2), u, *look]
+    # Refused settings leave the flags that were there.
+    yield [("flagged", 2, 4, 0, 1), u, ("flagged", 2, 4, 0, 2), ("cache", 0, 4, 0), put_step(without(x_with(seqno=[b"2"]), 5)), *look,
+           ("flagged", 2, 4, 0, 0), ("flagged", 2, 4, 0, 3), u, x, *look, ("flagged", 2, 4, 0, 1), u, ("cache", 2, 4, 0), u, x, *look]
+    for flags in (0, 1):
+        yield [("flagged", 2, 4, 0, flags)] + [step for change, *_ in peers.SHORT_UNSIGNED_ROWS for step in (put_step(x_with(**change)), ("gossip", 1, b"t"))]
+        yield [("flagged", 2, 64, 0, flags)] + [put_step(x_with(from_=[who], signature=[])) for who in SENDERS + HASHES + KEYLESS + NO_PEERS] \
+            + [("gossip", 1, b"t")] + [("get", who + b"\x01") for who in SENDERS + HASHES + KEYLESS]
+        for raw in OTHER_TYPES:
+            yield [("flagged", 2, 4, 0, flags), ("put", 0, tagged(2, raw)), *look]
+        # Which came first is kept; the marks are apart.
+        for first, other in ((x, u), (u, x)):
+            marks = [("contains", mark + NAME) for mark in (b"\x00", b"\x01", b"")] + [("next",)]
+            yield [("seen", 2), ("flagged", 2, 2, TOP, flags), first, ("insert", 1, 5, 2, b"\x00" + NAME), *marks, other, *look,
+                   ("insert", 2, 5, 2, b"\x01" + NAME), *marks, ("insert", 3, 5, 2, b"\x00" + NAME), first, ("shift",), *look, other, ("clean", 6), *marks,
+                   ("insert", 6, 5, 1, b"\x00" + NAME), *marks, ("shift",), *look, other, *look, ("clean", 11), *marks]
+
+
 def named():
     """The edges of every call, each refusal, and both parts beside each other."""
     yield from seen_named()
@@ -762,4 +858,4 @@ def named():
 
 
 def histories(r, count):
-    return then_random(r, count, (named(), topic_named(), placed_named()), history)
+    return then_random(r, count, (named(), topic_named(), placed_named(), flag_named()), some_history)

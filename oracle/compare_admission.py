@@ -4,14 +4,16 @@
     oracle/compare_admission.py BINARY [--seed N] [--count N]
 
 BINARY is target/bin/states, after `rt check states`. The messages (admissions.py) are senders of every sort with keys of
-every sort, with seqnos and signatures of every length about the limits, the rows of the scope, and --count random ones. Each is admitted
-with the host's word and without, on a node that keeps nothing, so that nothing is a duplicate; the Rust's `verify` is asked with a
-signature check that says the same word, once as it is and once with leave to be unsigned. A number here and a name there are the same
+every sort, with seqnos and signatures of every length about the limits, the rows of the scope, messages without a signature in many
+forms, and --count random ones. Each is admitted with the host's word and without, on a node that allows unsigned messages and on one that
+does not, and that keeps nothing but the last id, so that nothing is a duplicate. The Rust's `verify` is asked with a
+signature check that says the same word, and with the same leave to be unsigned. A number here and a name there are the same
 answer: 21 MissingFrom, 22 and 34 InvalidFrom, 23 InvalidSeqno, 24 KeyWithoutSignature, 25 MissingSignature, 26 InvalidSignatureLength,
-35 InvalidKey, 36 KeyPeerIdMismatch, 27 SignatureInvalid, and `new` where it is taken. Every other pair must be on the list
-(docs/DIFFERENCES.md). The model of nodes.py is compared with the program, too. Prints the counts, the list as it was met with the
-shortest message of each, and the first differences; the exit status is 0 where there is none that is not on the list and each on
-the list was met (those of ten bytes only where the oracle is built with the published crate multihash).
+35 InvalidKey, 36 KeyPeerIdMismatch, 27 SignatureInvalid; and where it is taken, the mark under which its id is seen, and whether the Rust
+says that it is signed. Every other pair must be on the list (docs/DIFFERENCES.md). The model of nodes.py is compared with the program, too.
+Prints the counts, the list as it was met with the shortest message of each, and the first differences; the exit status is 0 where there is
+none that is not on the list and each on the list was met (those of ten bytes only where the oracle is built with the published crate
+multihash).
 """
 
 import itertools
@@ -23,6 +25,7 @@ import admissions
 import states
 from compare_decode import run
 from compare_wire import SHOWN, arguments
+from nodes import marked
 from oracle import Oracle
 from traces import admit
 
@@ -30,12 +33,27 @@ CHUNK = 20000
 COUNT = 60000
 
 
-def printed(binary, cases, word, folder):
-    """The answers of the program, without their numbers."""
-    steps = [("set", 0, 0, 1, 0)] + [admit(0, body, index, word) for body, index, *_ in cases]
+def looked_at(case, word):
+    """The steps of a case: its admit, and then under which mark its id is seen."""
+    body, index, _, known = case
+    last = dict(known)
+    name = last.get(1, b"") + last.get(3, b"")
+    return [admit(0, body, index, word), ("contains", marked(False, name)), ("contains", marked(True, name))]
+
+
+def answered(lines):
+    """What the program says of a case."""
+    told, bare, signed = (line.split(" ", 2)[2] for line in lines)
+    assert told != "new" or {bare, signed} == {"yes", "no"}, lines
+    return admissions.number(told, signed == "yes")
+
+
+def printed(binary, cases, word, flags, folder):
+    """The answers of the program."""
+    steps = [("flagged", 0, 1, 1, 0, flags)] + [step for case in cases for step in looked_at(case, word)]
     lines = run(binary, [states.records(steps)], folder)
     assert lines[0] == "1 set ok" and lines[len(steps):] == [""], lines[-2:]
-    return [line.partition(" admit ")[2] for line in lines[1:-1]]
+    return [answered(lines[at:at + 3]) for at in range(1, len(steps), 3)]
 
 
 def main():
@@ -45,17 +63,19 @@ def main():
     with tempfile.TemporaryDirectory() as folder, Oracle() as oracle:
         multihash = oracle.ask("about").rpartition("multihash=")[2]
         while chunk := list(itertools.islice(source, CHUNK)):
-            ours = {word: list(map(admissions.number, printed(given.binary, chunk, word, folder))) for word in admissions.WORDS}
-            for word in admissions.WORDS:
-                for (*_, raw, known), told in zip(chunk, ours[word]):
-                    if told != admissions.modelled(raw, known, word):
-                        unlike.append((len(raw), raw.hex(), "word %d: %s by the model" % (word, admissions.modelled(raw, known, word)), str(told)))
+            ours = {}
+            for word, flags in itertools.product(admissions.WORDS, admissions.FLAGS):
+                ours[word, flags] = printed(given.binary, chunk, word, flags, folder)
+                for (*_, raw, known), told in zip(chunk, ours[word, flags]):
+                    model = admissions.modelled(raw, known, word, flags)
+                    if told != model:
+                        unlike.append((len(raw), raw.hex(), "word %d, flags %d: %s by the model" % (word, flags, model), str(told)))
             places = itertools.cycle(range(len(chunk)))
-            for place, ((*_, raw, known), word, rust) in zip(places, admissions.verified(oracle, chunk)):
-                beside.look(raw, known, word, ours[word][place], rust)
+            for place, ((*_, raw, known), word, flags, rust) in zip(places, admissions.verified(oracle, chunk)):
+                beside.look(raw, known, word, flags, ours[word, flags][place], rust)
             n += len(chunk)
     for what, k in sorted(beside.counts.items()):
-        print("%-58s %8d" % (what, k))
+        print("%-68s %8d" % (what, k))
     beside.tell()
     missing = set(admissions.NAMED) - set(beside.found) - ({admissions.TENTH} if multihash == "shim" else set())
     assert not missing, missing

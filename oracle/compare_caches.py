@@ -115,10 +115,10 @@ def endings():
                 "1 seen ok\n2 cache ok\n%s\n" % ("long" if n > most else "bad")
         other, started = (cache, "cache") if kind <= 5 else (seen, "seen")
         whole = wire.header(least, kind) + bytes(least)
-        if call not in ("seen", "cache"):
+        if call not in ("seen", "cache", "flagged"):
             yield "%s before its part" % call, other + whole + begun, "1 %s ok\nbad\n" % started
             yield "%s first" % call, whole, "bad\n"
-        if kind > 6:
+        if call in ("put", "shift", "gossip", "get"):
             yield "%s after a refused start" % call, seen + refused + whole, "1 seen ok\n2 cache refused 40\nbad\n"
     for rows in (257, 512, 65535):
         yield "%d rows" % rows, begun + caches.record(("seen", rows)) + seen, "1 seen ok\n2 cache ok\nbad\n"
@@ -136,6 +136,17 @@ def endings():
     rows = peers.ROWS + peers.MORE_ROWS
     yield "senders", caches.records([("cache", 1, 0, 0)] + [caches.put_step(caches.x_with(**change)) for change, _ in rows]), \
         "1 cache ok\n" + "".join("%d put %s\n" % (n, told.replace("new", "stored")) for n, (_, told) in enumerate(rows, 2))
+    rows = peers.UNSIGNED_ROWS
+    for flags in (0, 1):
+        yield "unsigned messages, flags %d" % flags, caches.records(
+            [("flagged", 1, 0, 0, flags)] + [caches.put_step(caches.x_with(**change)) for change, *_ in rows]), \
+            "1 cache ok\n" + "".join("%d put %s\n" % (n, row[1 + flags].replace("new", "stored")) for n, row in enumerate(rows, 2))
+    for flags in (2, 3, 256, 65535):
+        yield "flags %d" % flags, caches.records([("flagged", 1, 1, 0, flags), ("shift",)]), "1 cache refused 40\nbad\n"
+    u, x = caches.put_step(caches.U), caches.put_step(caches.X)
+    yield "both forms", caches.records([("flagged", 1, 1, 0, 1), u, x, ("get", caches.NAME), ("flagged", 1, 1, 0, 1), x, u, ("get", caches.NAME)]), \
+        "1 cache ok\n2 put stored\n3 put held\n4 get =0a26%s1a0101220174\n5 cache ok\n6 put stored\n7 put held\n8 get =0a26%s1a01012201742a40%s\n" \
+        % (ID.hex(), ID.hex(), "00" * 64)
 
 
 def slowly(binary, oracle, counts, differ):

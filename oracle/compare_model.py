@@ -8,7 +8,8 @@ and its values (10 and 11 are the scope's own), and what the node keeps. On the 
 the finder of places.py is held to it: it must find a refusal where the Rust has one, with
 the same number, and at the Rust's own offset from where its message starts. For the
 second part the same histories are played on a node that keeps nothing itself but asks the
-Rust's caches; every line is compared. Third, what is a key and a peer id (peers.py) on those of keys.py,
+Rust's caches; every line is compared. They are played again where unsigned messages are allowed, with many messages
+that have no signature; then the id under which a message is seen is the Rust's, too, by whether its `verify` says that it is signed. Third, what is a key and a peer id (peers.py) on those of keys.py,
 and what admission answers beside the Rust's `verify` on messages of admissions.py, with its list of
 differences. The histories are the fixed ones of traces.py and
 --count random ones, the bodies those of bodies.py, with ten random ones for each random
@@ -27,6 +28,7 @@ import bodies
 import keys
 import nodes
 import places
+import state_histories
 import traces
 import wire
 from compare_caches import first_difference, line_at
@@ -57,11 +59,19 @@ class RustNode(nodes.Node):
     def clean(self, now):
         self.tell("seen_gc %d" % now, "ok")
 
-    def is_seen(self, name):
-        return self.oracle.ask("seen_contains 01" + name.hex()) == "yes"
+    def form(self, body, index, name):
+        told = self.oracle.ask("verify %s %d %d" % (hexed(body), index, self.flags)).split(" ")
+        ids = dict(word.split("=") for word in self.oracle.ask("ids %s %d" % (hexed(body), index)).split(" ")[1:])
+        assert ids["id"] == name.hex(), (ids, name)
+        # Keys that it has no signatures for are on the list of differences: it refuses such a message for its signature.
+        signed = told[3] == "1" if told[0] == "ok" else told[1] in ("SignatureInvalid", "KeyPeerIdMismatch")
+        return bytes.fromhex(ids["signed" if signed else "unsigned"])
 
-    def see(self, name, now):
-        self.tell("seen_insert 01%s %d %d %d" % (name.hex(), now, self.ttl, self.max_seen), "fresh")
+    def is_seen(self, form):
+        return self.oracle.ask("seen_contains " + form.hex()) == "yes"
+
+    def see(self, form, now):
+        self.tell("seen_insert %s %d %d %d" % (form.hex(), now, self.ttl, self.max_seen), "fresh")
 
     def cached(self, name):
         told = self.oracle.ask("mc_get " + hexed(name)).split(" ")
@@ -128,15 +138,31 @@ def compare_bodies(oracle, r, count, counts, differ):
                 differ.append((["place in " + body[:200].hex()], expected, places.find(body)))
 
 
+def compare_history(oracle, steps, flags, counts, differ):
+    data = nodes.records(steps)
+    expected = nodes.expected(data, lambda *settings: RustNode(oracle, *settings, flags))
+    got = nodes.expected(data, lambda *settings: nodes.Node(*settings, flags))
+    counts.update(("flags %d: " % flags if flags else "") + what(line) for line in expected)
+    n = first_difference(expected, got)
+    if n is not None:
+        differ.append((["flags %d" % flags, *map(shown, steps[:n + 1])], line_at(expected, n), line_at(got, n)))
+
+
+def of_both_forms():
+    """Short histories of both forms of a message, as a trace has them."""
+    for steps in state_histories.short_mark_histories(3):
+        yield [("set", *step[1:-1]) if step[0] == "flagged" else (step[0], *step[2:]) if step[0] in state_histories.ROOMED else step
+               for step in steps if step[0] != "contains"]
+
+
 def compare_histories(oracle, r, count, counts, differ):
     short = itertools.islice(traces.short_histories(), r.randrange(SHORT), None, SHORT)
     for steps in itertools.chain(traces.named(), short, (traces.some_history(r) for _ in range(count))):
-        data = nodes.records(steps)
-        expected, got = nodes.expected(data, lambda *settings: RustNode(oracle, *settings)), nodes.expected(data)
-        counts.update(map(what, expected))
-        n = first_difference(expected, got)
-        if n is not None:
-            differ.append((list(map(shown, steps[:n + 1])), line_at(expected, n), line_at(got, n)))
+        compare_history(oracle, steps, 0, counts, differ)
+    assert oracle.ask("word 1") == "ok"
+    random_ones = (traces.some_history(r) for _ in range(count))
+    for steps in itertools.chain(traces.named(), (traces.loosely(r, steps) for steps in itertools.chain(traces.named(), random_ones)), of_both_forms()):
+        compare_history(oracle, steps, nodes.ALLOW_UNSIGNED, counts, differ)
 
 
 def compare_keys(oracle, r, count, counts, differ):
@@ -151,8 +177,8 @@ def compare_keys(oracle, r, count, counts, differ):
 def compare_admissions(oracle, r, count, counts, differ):
     cases = [*itertools.islice(admissions.admits(r, 0), r.randrange(FEW), None, FEW), *(one for one in admissions.admits(r, count, ()))]
     beside = admissions.Beside()
-    for (_, _, raw, known), word, rust in admissions.verified(oracle, cases):
-        beside.look(raw, known, word, admissions.modelled(raw, known, word), rust)
+    for (_, _, raw, known), word, flags, rust in admissions.verified(oracle, cases):
+        beside.look(raw, known, word, flags, admissions.modelled(raw, known, word, flags), rust)
     counts.update({"admission: " + name: k for name, k in beside.counts.items()})
     differ.extend(([raw[:400]], rust, ours) for _, raw, rust, ours in beside.differ)
 
@@ -170,7 +196,7 @@ def main():
         compare_keys(oracle, r, given.count, counts, differ)
         compare_admissions(oracle, r, given.count, counts, differ)
     for name, k in sorted(counts.items()):
-        print("%-20s %8d" % (name, k))
+        print("%-68s %8d" % (name, k))
     print("%d bodies, lines, keys and messages, seed %d: %d differences" % (sum(counts.values()), given.seed, len(differ)))
     for steps, expected, got in sorted(differ, key=lambda one: len(one[0]))[:SHOWN]:
         for step in steps:

@@ -8,9 +8,10 @@ bodies of 65,536 and 65,537 bytes and of 511 to 513 records, and random ones
 (wire.py, bodies.py, seeds below). A second part has encode, sign and id of some 700
 bodies, and the topics of the scope by every call. Those of `caches` are the fixed
 histories of caches.py and some random ones; they show every call and every refusal.
-Both end with rows about the place of a refusal; after them `inspect` has public keys
-and peer ids (keys.py), and lists to write from (lists.py): the rows of the scope, some
-of the fixed ones and random ones. The answers in stdout are the Rust's,
+Both have rows about the place of a refusal at their end; after them `caches` has
+unsigned messages, with the flags that allow them and without, and `inspect` has public
+keys and peer ids (keys.py), and lists to write from (lists.py): the rows of the scope,
+some of the fixed ones and random ones. The answers in stdout are the Rust's,
 from the oracle, never the program's; the limits that the Rust does not have are the
 scope's own, and the places are those of places.py. Each run ends with a length that
 is too long, its kind cut off.
@@ -198,6 +199,7 @@ def make_caches(oracle):
     while len(steps) < CACHES_RECORDS:
         steps += caches.history(r)
     steps += [step for one in caches.placed_named() for step in one]
+    steps += [step for one in caches.flag_named() for step in one]
     told = [line.split(" ", 1)[1] for line in caches.expected(oracle, caches.records(steps))]
     assert len(told) == len(steps) and {step[0] for step in steps} == set(caches.FORM)
     refused = {tuple(line.split(" ")[0:3:2]) for line in told if line.split(" ")[1] == "refused"}

@@ -13,16 +13,16 @@ import sys
 
 import nodes
 import programs
-from caches import NAME, X, plain, x_with
+from caches import NAME, U, X, plain, x_with
 from compare_states import printed_by
 from oracle import HERE
 from peers import ID
 from records import Records
-from traces import admit, advertise, beat, body_of
+from traces import admit, advertise, ask, beat, body_of, serve
 
 SEEN_ROW, MAX_SEEN = 129, 256
 CACHE_ROW, MAX_MESSAGES, ID_ROW, TOPICS = 4096, 64, 128, 4
-NODE_SIZE = 12432
+NODE_SIZE = 12440
 MAX_CONTENT = NODE_SIZE + MAX_SEEN * SEEN_ROW + MAX_MESSAGES * CACHE_ROW
 
 RECORDS = Records({**nodes.FORM, "why": (12, (2, 2), True), "gateway": (13, (), True)}, MAX_CONTENT)
@@ -43,7 +43,7 @@ def rows_of(values, width, rows):
     return b"".join(one.ljust(width, b"\x00") for one in [*values, *[b""] * (rows - len(values))])
 
 
-def gateway(ttl, max_seen, clock, history_len, max_messages, seen=(), cached=()):
+def gateway(ttl, max_seen, clock, history_len, max_messages, seen=(), cached=(), flags=0):
     """A node's bytes and its two stores. An id seen is (marked id, expiry), a message (id, bytes, age of its window, place of its one topic, length
     of that), both oldest first."""
     head = [ttl, max_seen, clock, 0, len(seen), history_len, max_messages, len(cached), 0, len(cached)]
@@ -58,14 +58,15 @@ def gateway(ttl, max_seen, clock, history_len, max_messages, seen=(), cached=())
         rows_of([name for name, *_ in cached], ID_ROW, MAX_MESSAGES),
         column([1 for _ in cached], 1, MAX_MESSAGES),
         column([n for *_, place, _ in cached for n in (place, 0, 0, 0)], 2, MAX_MESSAGES * TOPICS),
-        column([n for *_, size in cached for n in (size, 0, 0, 0)], 2, MAX_MESSAGES * TOPICS)))
+        column([n for *_, size in cached for n in (size, 0, 0, 0)], 2, MAX_MESSAGES * TOPICS),
+        column([flags], 8, 1)))
     assert len(node) == NODE_SIZE
     return node + rows_of([name for name, _ in seen], SEEN_ROW, max_seen) + rows_of([raw for _, raw, *_ in cached], CACHE_ROW, max_messages)
 
 
-def holding(age, raw=plain(X), name=NAME):
+def holding(age, raw=plain(X), name=NAME, mark=b"\x01", flags=0):
     """A gateway of four windows that holds a message, X, in the window of this age."""
-    return gateway(1000, 2, 500, 4, 2, [(b"\x01" + name, 1400)], [(name, raw, age, raw.index(b"\x22\x01t") + 2, 1)])
+    return gateway(1000, 2, 500, 4, 2, [(mark + name, 1400)], [(name, raw, age, raw.index(b"\x22\x01t") + 2, 1)], flags)
 
 
 # --- the records and their lines -----------------------------------------------------
@@ -124,12 +125,34 @@ SAVED_BEFORE = [
     (why(3), "listed"),
 ]
 
+# A gateway that allows unsigned messages, and holds one. With other flags it is none; settings of a trace allow none, and its offer is asked for where only
+# the unsigned form is seen.
+TOLD = "1a2b12290a27%s01" % ID.hex()
+UNSIGNED = [
+    (("gateway", holding(2, plain(U), mark=b"\x00")), "refused 42"),
+    (("gateway", holding(2, plain(U), mark=b"\x00", flags=2)), "refused 42"),
+    (("gateway", holding(2, plain(X), flags=2)), "refused 42"),
+    (("gateway", holding(2, plain(U), mark=b"\x00", flags=1)), "ok"),
+    (why(3), "listed"),
+    (ask(NAME), "0"),
+    (admit(501, body_of(U)), "dup"),
+    (admit(501, body_of(X), 0, 0), "refused 27"),
+    (admit(501, body_of(X)), "new"),
+    (serve(NAME), "48 %s 1 0" % body_of(U).hex()),
+    (("gateway", gateway(1000, 2, 500, 4, 2, [(b"\x00" + NAME, 1400)])), "ok"),
+    (ask(NAME), "45 " + TOLD),
+    (("gateway", gateway(1000, 2, 500, 4, 2, [(b"\x00" + NAME, 1400)], (), 1)), "ok"),
+    (ask(NAME), "0"),
+    (("set", 1000, 4, 2, 4), "ok"),
+    (admit(100, body_of(U)), "refused 25"),
+]
+
 # The id is longer than what follows.
 CUT = ("why", 1, 3, NAME[-2:])
 
 
 def main():
-    rows = STARTED + GIVEN + SAVED_BEFORE
+    rows = STARTED + GIVEN + SAVED_BEFORE + UNSIGNED
     data = RECORDS.records([step for step, _ in rows] + [CUT])
     lines = ["%d %s %s" % (n, step[0], answer) for n, (step, answer) in enumerate(rows, 1)] + ["bad"]
     if len(sys.argv) > 1:

@@ -7,7 +7,8 @@ is made anew, so that it can be read beside the document.
 A step is a call, its numbers and then its bytes: ("set", ttl, max_seen, history_len,
 max_messages), ("admit", now, index, verified, body), ("beat", now), ("advertise",
 windows, topic), ("ask", body), ("serve", body). `expected` takes an input as bytes
-and gives the lines of the run.
+and gives the lines of the run. A node has flags, too, which the trace program does not
+know: there they are 0.
 """
 
 from bodies import PARTS, RPC, tagged
@@ -28,6 +29,8 @@ SIGNATURE = 64
 MAX_TOPICS = 4
 MAX_TOPIC = 1024
 MAX_MESSAGE = 4096
+ALLOW_UNSIGNED = 1  # a flag: messages with neither signature nor key may be taken
+MAX_FLAGS = 1
 ROOM = 65536
 
 # Of each call: its kind, how many bytes its numbers have, and whether bytes follow them.
@@ -138,7 +141,20 @@ class Body:
 
 # --- the node --------------------------------------------------------------------
 
-def admission(message, verified):
+def allows_unsigned(flags):
+    return flags % 2 == ALLOW_UNSIGNED
+
+
+def is_signed(message):
+    """Whether a message has a signature: that alone says under which mark it is seen."""
+    return any(field == 5 for field, _ in message[1])
+
+
+def marked(signed, name):
+    return (b"\x01" if signed else b"\x00") + name
+
+
+def admission(message, verified, flags=0):
     """(id, topics) of a message that may be taken: 21 to 30 are met here, and 34 to 36."""
     raw, known = message
     last = dict(known)
@@ -151,14 +167,17 @@ def admission(message, verified):
         raise Refused(NOT_PEER_ID)
     if 3 not in last or not 1 <= len(last[3]) <= MAX_NAME:
         raise Refused(23)
-    if 5 not in last:
-        raise Refused(24 if 6 in last else 25)
-    if len(last[5]) != SIGNATURE:
-        raise Refused(26, len(last[5]))
-    if unlike := mismatch(last[1], last.get(6)):
-        raise Refused(unlike)
-    if not verified:
-        raise Refused(27)
+    if 5 not in last and 6 in last:
+        raise Refused(24)
+    if 5 not in last and not allows_unsigned(flags):
+        raise Refused(25)
+    if 5 in last:
+        if len(last[5]) != SIGNATURE:
+            raise Refused(26, len(last[5]))
+        if unlike := mismatch(last[1], last.get(6)):
+            raise Refused(unlike)
+        if not verified:
+            raise Refused(27)
     if not 1 <= len(topics) <= MAX_TOPICS:
         raise Refused(28, len(topics))
     for topic in topics:
@@ -179,10 +198,10 @@ def once(names):
 
 
 class Node:
-    def __init__(self, ttl, max_seen, history_len, max_messages):
-        if max_seen > MAX_SEEN or not 1 <= history_len <= MAX_HISTORY or max_messages > MAX_MESSAGES:
+    def __init__(self, ttl, max_seen, history_len, max_messages, flags=0):
+        if max_seen > MAX_SEEN or not 1 <= history_len <= MAX_HISTORY or max_messages > MAX_MESSAGES or flags > MAX_FLAGS:
             raise Refused(40)
-        self.ttl, self.max_seen, self.history_len, self.max_messages = ttl, max_seen, history_len, max_messages
+        self.ttl, self.max_seen, self.history_len, self.max_messages, self.flags = ttl, max_seen, history_len, max_messages, flags
         self.clock = 0
         self.seen = []  # (marked id, expiry), the oldest first
         self.cache = []  # [id, bytes, topics, age of its window], the oldest first
@@ -193,11 +212,11 @@ class Node:
         while self.seen and self.seen[0][1] <= now:
             self.seen.pop(0)
 
-    def is_seen(self, name):
-        return any(one == b"\x01" + name for one, _ in self.seen)
+    def is_seen(self, form):
+        return any(one == form for one, _ in self.seen)
 
-    def see(self, name, now):
-        self.seen.append((b"\x01" + name, min(now + self.ttl, TOP)))
+    def see(self, form, now):
+        self.seen.append((form, min(now + self.ttl, TOP)))
         while len(self.seen) > self.max_seen:
             self.seen.pop(0)
 
@@ -225,20 +244,29 @@ class Node:
             return []
         return sorted({name for name, _, topics, age in self.cache if age < windows and topic in topics})
 
+    def form(self, body, index, name):
+        """What a message with this id is seen as."""
+        return marked(is_signed(Body(body).messages[index]), name)
+
+    def knows(self, name):
+        """Whether an id is not asked for: its message was seen with a signature or, where such are allowed, without."""
+        return self.is_seen(marked(True, name)) or (allows_unsigned(self.flags) and self.is_seen(marked(False, name)))
+
     # The calls.
 
     def admit(self, now, index, verified, body):
         messages = Body(body).messages
         if index >= len(messages):
             raise Refused(20, len(messages))
-        name, topics = admission(messages[index], verified)
+        name, topics = admission(messages[index], verified, self.flags)
         if now < self.clock:
             raise Refused(31, self.clock)
         self.clock = now
         self.clean(now)
-        if self.is_seen(name):
+        form = self.form(body, index, name)
+        if self.is_seen(form):
             return "dup"
-        self.see(name, now)
+        self.see(form, now)
         self.put(name, messages[index][0], topics)
         return "new"
 
@@ -270,7 +298,7 @@ class Node:
         return "listed" if age < windows else "window %d" % age
 
     def ask(self, body):
-        names = [name for name in once(Body(body).have) if not self.is_seen(name)]
+        names = [name for name in once(Body(body).have) if not self.knows(name)]
         return fitted(tagged(3, tagged(2, b"".join(tagged(1, name) for name in names)))) if names else b""
 
     def serve(self, body, room=ROOM):

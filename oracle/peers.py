@@ -188,7 +188,65 @@ MORE_ROWS = [
 ]
 
 
+# Messages without a signature, or with one that is none, and what is answered to each where unsigned messages are not allowed and where they are; in
+# both cases with the host's word and, but for those with a signature, without it.
+UNSIGNED_ROWS = [
+    ({"signature": []}, "refused 25", "new"),
+    ({"signature": [], "key": [b""]}, "refused 24", "refused 24"),
+    ({"signature": [], "key": [KEY]}, "refused 24", "refused 24"),
+    ({"signature": [], "key": [b"\xff"]}, "refused 24", "refused 24"),
+    ({"signature": [], "key": [KEY, b""]}, "refused 24", "refused 24"),
+    ({"signature": [b""]}, "refused 26 0", "refused 26 0"),
+    ({"signature": [b""], "key": [b""]}, "refused 26 0", "refused 26 0"),
+    ({"signature": [b""], "key": [KEY]}, "refused 26 0", "refused 26 0"),
+    ({"signature": [b"\x00"]}, "refused 26 1", "refused 26 1"),
+    ({"signature": [bytes(63)]}, "refused 26 63", "refused 26 63"),
+    ({"signature": [bytes(65)]}, "refused 26 65", "refused 26 65"),
+    ({"signature": [bytes(64), b""]}, "refused 26 0", "refused 26 0"),
+    ({"signature": [], "from_": []}, "refused 21", "refused 21"),
+    ({"signature": [], "from_": [b""]}, "refused 22 0", "refused 22 0"),
+    ({"signature": [], "from_": [b"A" * 65]}, "refused 22 65", "refused 22 65"),
+    ({"signature": [], "from_": [b"A"]}, "refused 34", "refused 34"),
+    ({"signature": [], "from_": [b"gate"]}, "refused 34", "refused 34"),
+    ({"signature": [], "from_": [b"A" * 64]}, "refused 34", "refused 34"),
+    ({"signature": [], "from_": [b"A"], "key": [KEY]}, "refused 34", "refused 34"),
+    ({"signature": [], "from_": [b"A"], "seqno": []}, "refused 34", "refused 34"),
+    ({"signature": [], "from_": [b"\x12\x20" + b"\x07" * 31]}, "refused 34", "refused 34"),
+    ({"signature": [], "from_": [b"\x00\x00"]}, "refused 25", "new"),
+    ({"signature": [], "from_": [b"\x00\x03ABC"]}, "refused 25", "new"),
+    ({"signature": [], "from_": [HASHED]}, "refused 25", "new"),
+    ({"signature": [], "from_": [WHOLE]}, "refused 25", "new"),
+    ({"signature": [], "from_": [DECODES]}, "refused 25", "new"),
+    ({"signature": [], "from_": [LONGEST]}, "refused 25", "new"),
+    ({"signature": [], "from_": [F]}, "refused 25", "new"),
+    ({"signature": [], "from_": [SECP]}, "refused 25", "new"),
+    ({"signature": [], "from_": [b"A", ID]}, "refused 25", "new"),
+    ({"signature": [], "from_": [identity(KEY + b"\x00")]}, "refused 25", "new"),
+    ({"signature": [], "from_": [b"\x00\x00"], "key": [KEY]}, "refused 24", "refused 24"),
+    ({"signature": [], "from_": [HASHED], "key": [KEY]}, "refused 24", "refused 24"),
+    ({"signature": [], "from_": [WHOLE], "key": [RSA_KEY]}, "refused 24", "refused 24"),
+    ({"signature": [b""], "from_": [b"\x00\x00"]}, "refused 26 0", "refused 26 0"),
+    ({"signature": [b""], "from_": [HASHED]}, "refused 26 0", "refused 26 0"),
+    ({"signature": [], "seqno": []}, "refused 23", "refused 23"),
+    ({"signature": [], "seqno": [b""]}, "refused 23", "refused 23"),
+    ({"signature": [], "seqno": [b"s" * 65]}, "refused 23", "refused 23"),
+    ({"signature": [], "seqno": [b"s" * 64]}, "refused 25", "new"),
+    ({"signature": [], "seqno": [], "key": [KEY]}, "refused 23", "refused 23"),
+    ({"signature": [], "topic": []}, "refused 25", "refused 28 0"),
+    ({"signature": [], "topic": [], "key": [KEY]}, "refused 24", "refused 24"),
+    ({"signature": [], "topic": [b"t"] * 4}, "refused 25", "new"),
+    ({"signature": [], "topic": [b"t"] * 5}, "refused 25", "refused 28 5"),
+    ({"signature": [], "topic": [b"t" * 1024]}, "refused 25", "new"),
+    ({"signature": [], "topic": [b"t" * 1025]}, "refused 25", "refused 29 1025"),
+    ({"signature": [], "topic": [b"t" * 1025] * 5}, "refused 25", "refused 28 5"),
+    ({"signature": [], "data": [bytes(4047)]}, "refused 25", "new"),
+    ({"signature": [], "data": [bytes(4048)]}, "refused 25", "refused 30 4097"),
+    ({"signature": [], "data": [bytes(4048)], "key": [b""]}, "refused 24", "refused 24"),
+]
+
+
 # For stored runs.
+SHORT_UNSIGNED_ROWS = [row for row in UNSIGNED_ROWS if "data" not in row[0] and max(map(len, row[0].get("topic", [b""])), default=0) <= 1]
 SHORT_ROWS = [row for row in ROWS + MORE_ROWS if "data" not in row[0]]
 
 

@@ -7,17 +7,19 @@ row stands, how many bytes an answer has and what a number was. Everything rando
 one seeded `random.Random`.
 """
 
+import itertools
+
 import caches
 import peers
 import states
 import traces
 from bodies import tagged
-from caches import REFUSED, TOPIC_MESSAGES, X, grown, padded, plain, topic_message, x_with
-from nodes import MAX_BODY, MAX_MESSAGE, MAX_TOPICS, ROOM, TOP
-from peers import A, B, F, HASHED, KEY, LONGEST, RSA_KEY, identity, key_bytes
+from caches import NAME, OTHER_TYPES, REFUSED, TOPIC_MESSAGES, U, X, grown, padded, plain, topic_message, x_with
+from nodes import ALLOW_UNSIGNED, MAX_BODY, MAX_MESSAGE, MAX_TOPICS, ROOM, TOP
+from peers import A, B, F, HASHED, KEY, KEYLESS, LONGEST, RSA_KEY, identity, key_bytes
 from places import MORE_ROWS, ROWS
 from records import header
-from states import ARRIVAL, CACHE_BYTE, CACHE_BYTES, CLOCK, COUNT, EXPIRY, HISTORY_LEN, ID_LEN, IDS, LEN, MAX_HELD, MAX_ID, MAX_IDS, MAX_MADE, \
+from states import ARRIVAL, CACHE_BYTE, CACHE_BYTES, CLOCK, COUNT, EXPIRY, FLAGS, HISTORY_LEN, ID_LEN, IDS, LEN, MAX_HELD, MAX_ID, MAX_IDS, MAX_MADE, \
     NEXT, ROW, SEEN_BYTE, SEEN_BYTES, SEEN_COUNT, SEEN_LEN, SEEN_START, SLOTS, START, TOPIC_COUNT, TOPIC_LEN, TOPIC_START, TTL, WINDOW, Run, \
     taken, topic_places
 from traces import admit, beat, body_of, control, ihave, tells, wants, x_body
@@ -112,7 +114,7 @@ def value_of(run, what, place):
     if what == IDS:
         return cache.ids[place % len(cache.ids)]
     return {TTL: run.ttl, MAX_IDS: run.max_seen, CLOCK: run.clock, SEEN_START: seen.start, SEEN_COUNT: seen.count, HISTORY_LEN: cache.history_len,
-            MAX_HELD: cache.max_messages, NEXT: cache.next, START: cache.start, COUNT: cache.count}[what]
+            MAX_HELD: cache.max_messages, NEXT: cache.next, START: cache.start, COUNT: cache.count, FLAGS: cache.flags}[what]
 
 
 def healing(run, steps):
@@ -128,7 +130,7 @@ def other_message(run, place, raw):
     old = run.cache.message_at(run.cache_store, place)
     steps = [hurt(CACHE_BYTE, byte, place * MAX_MESSAGE + n) for n, byte in enumerate(raw) if n >= len(old) or old[n] != byte]
     steps += [] if run.cache.len[place] == len(raw) else [hurt(LEN, len(raw), place)]
-    return steps + (other_topics(run, place, topic_places(raw)) if taken(raw) else [])
+    return steps + (other_topics(run, place, topic_places(raw)) if taken(raw, run.cache.flags) else [])
 
 
 def other_topics(run, place, kept):
@@ -179,6 +181,21 @@ def topical():
     """A ring of three places that has turned: messages with one topic, with three, and with two where one with four was."""
     topics = ((b"t", b"u", b"t", b""), (b"t",), (b"", b"topic", b"t"), (b"u", b"u"))
     return Play(("set", 100, 4, 4, 3), *[admit(10 + n, named_message(n, *each)) for n, each in enumerate(topics)])
+
+
+def unsigned_message(n, *topics):
+    return body_of(x_with(seqno=[bytes([n])], topic=topics or [b"t"], signature=[]))
+
+
+def mixed():
+    """As `turned`, where unsigned messages are allowed: the messages 2 and 3 are cached without a signature and 4 with one; the id of 3 is seen in both forms."""
+    return Play(("flagged", 100, 4, 4, 3, ALLOW_UNSIGNED), admit(10, named_message(0)), admit(11, unsigned_message(1)), admit(12, unsigned_message(2), 0, 0),
+                beat(13), admit(14, unsigned_message(3)), beat(15), admit(16, named_message(4)), admit(16, named_message(3)))
+
+
+def loose():
+    """A node that allows unsigned messages and holds signed ones only."""
+    return Play(("flagged", 100, 4, 4, 3, ALLOW_UNSIGNED), admit(10, named_message(3)), admit(10, named_message(4)))
 
 
 KEYED = bytes([6 * 8 + 2, len(KEY)])  # what stands before a key
@@ -345,7 +362,39 @@ def key_breaks(play):
                 yield "message not admissible", [hurt(CACHE_BYTE, value, place * MAX_MESSAGE + 2 + where)]
 
 
-BROKEN_FINDERS = ((turned, breaks), (empty, lambda play: broken_empty()), (topical, topic_breaks), (keyed, key_breaks))
+UNKNOWN_FLAGS = (3, 5, 255, 257, 65535, 2**32 + 1, 2**63 + 1, TOP)  # each has the first flag, too
+
+
+def flag_breaks(play):
+    """(clause, steps) for a state made by `mixed`: flags that are not known, and unsigned messages that are not allowed or are not ones."""
+    run = play.run
+    for value in UNKNOWN_FLAGS:
+        yield "flags", [hurt(FLAGS, value)]
+    yield "message not admissible", [hurt(FLAGS, 0)]
+    for place, raw in held_bytes(play):
+        if raw.endswith(bytes(64)):
+            # The one with a signature: a byte of it more or less, or none of its bytes.
+            yield "message not admissible", [hurt(LEN, len(raw) - 64, place), hurt(CACHE_BYTE, 0, place * MAX_MESSAGE + len(raw) - 65)]
+            yield "message not admissible", [hurt(LEN, len(raw) - 1, place)]
+            continue
+        # An empty key, an empty signature, both; a sender that is none; a seqno of no bytes.
+        for more in (b"\x32\x00", b"\x2a\x00", b"\x2a\x00\x32\x00", tagged(6, KEY), tagged(5, bytes(63))):
+            yield "message not admissible", other_message(run, place, raw + more)
+        for at, value in ((2, 0x41), (3, 0x25), (41, 0)):
+            yield "message not admissible", [hurt(CACHE_BYTE, value, place * MAX_MESSAGE + at)]
+        # Another sender, whose digest is no key, is one of another id.
+        yield "message of another id", [hurt(CACHE_BYTE, 0x42, place * MAX_MESSAGE + 4)]
+        yield "topic count", [hurt(TOPIC_COUNT, 0, place)]
+
+
+def unknown_flags(play):
+    """(clause, steps) for a state without unsigned messages."""
+    for value in (2, 4, 256, 65534, 2**32, 2**63, TOP - 1, *UNKNOWN_FLAGS):
+        yield "flags", [hurt(FLAGS, value)]
+
+
+BROKEN_FINDERS = ((turned, breaks), (empty, lambda play: broken_empty()), (topical, topic_breaks), (keyed, key_breaks), (mixed, flag_breaks),
+                  (turned, unknown_flags), (loose, unknown_flags), (empty, unknown_flags))
 
 
 def harmed(play, clause, steps, *calls):
@@ -373,7 +422,7 @@ def broken_once():
                 got.add(clause)
                 harmed(play, clause, steps, *CALLS[2:])
         yield play.add(*CALLS).steps
-    assert got == set(states.CLAUSES)
+    assert got == set(states.CLAUSES) - {"flags"}
 
 
 # --- states that look odd and are well formed -----------------------------------------------
@@ -480,8 +529,8 @@ def odd_topical(play):
         yield other_message(run, place, plain(x_with(seqno=[b"\x02"], topic=topics)))
     for raw, _ in TOPIC_MESSAGES[1:5]:
         yield other_message(run, held[0], raw)
-    # A number above 21 is that of the ids.
-    for what in (TOPIC_LEN + 1, 23, 128, 255):
+    # A number above 22 is that of the ids.
+    for what in (FLAGS + 1, 24, 128, 255):
         yield [hurt(what, 0x100, place * MAX_ID), hurt(what, 9, 8192 + 3 * MAX_ID)]
 
 
@@ -499,7 +548,35 @@ def odd_keyed(play):
             yield other_message(play.run, place, plain(X))
 
 
-ODD_FINDERS = ((turned, odd_turned), (straight, odd_straight), (empty, odd_empty), (topical, odd_topical), (keyed, odd_keyed))
+BARE_SENDERS = (KEYLESS[0], KEYLESS[1], HASHED)  # without a key beside them, only unsigned messages have these
+
+
+def odd_mixed(play):
+    """Messages in their other form, under the same id; senders that only unsigned messages may have; marks and ids of every sort among those seen."""
+    run, ids, held = play.run, play.ids(), play.messages()
+    for place, n in zip(held, (2, 3, 4)):
+        for body in (named_message(n), unsigned_message(n), named_message(n, b"u", b"t"), unsigned_message(n, b"", b"u")):
+            yield other_message(run, place, body[2:])
+        for raw in OTHER_TYPES:
+            yield other_message(run, place, raw.replace(NAME[:-1] + b"\x1a\x01\x01", NAME[:-1] + b"\x1a\x01" + bytes([n])))
+        for who in BARE_SENDERS:
+            yield other_message(run, place, plain(x_with(from_=[who], seqno=[bytes([n])], signature=[]))) + other_id(run, place, who + bytes([n]))
+    for place in ids:
+        for mark in (0, 1, 2, 255):
+            if run.seen.id_at(run.seen_store, place)[1:] != id_of(3):
+                yield [hurt(SEEN_BYTE, mark, place * ROW)]
+
+
+def odd_loose(play):
+    """Flags that are others than those under which the messages came."""
+    yield [hurt(FLAGS, 0)]
+    yield [hurt(FLAGS, 1)]
+    yield [hurt(FLAGS, 0), *[hurt(SEEN_BYTE, 0, place * ROW) for place in play.ids()]]
+    yield [hurt(FLAGS, 1), *[hurt(SEEN_BYTE, 0, place * ROW) for place in play.ids()]]
+
+
+ODD_FINDERS = ((turned, odd_turned), (straight, odd_straight), (empty, odd_empty), (topical, odd_topical), (keyed, odd_keyed), (mixed, odd_mixed),
+               (turned, odd_loose), (loose, odd_loose), (empty, odd_loose))
 
 
 def odd_histories(few=False, finders=ODD_FINDERS):
@@ -814,6 +891,144 @@ def senders_in_few_bytes():
     return play.add(STATE, *looks, beat(21), STATE).steps
 
 
+# --- unsigned messages -----------------------------------------------------------------------------
+
+def flag_table():
+    """The scope's rows about unsigned messages, as (step, answer)."""
+    u, x = body_of(U), body_of(X)
+    offer, request = ("ask", ROOM, tells(NAME)), ("serve", ROOM, wants(NAME))
+    assert u.hex() == "122e0a26" + A.hex() + "1a0101220174" and offer[2].hex() == "1a2e0a2c0a01741227" + NAME.hex()
+    assert request[2].hex() == "1a2b12290a27" + NAME.hex()
+    seen = [("contains", b"\x00" + NAME), ("contains", b"\x01" + NAME)]
+    each = [admit(100, x), admit(100, u, 0, 0), beat(100), advertise(), offer, request, why(1, NAME), ("lookup", NAME)]
+    yield from [
+        (("flagged", 1000, 4, 2, 4, 1), "ok"),
+        (admit(100, u, 0, 0), "new"), (admit(100, u), "dup"),
+        (offer, "0"),
+        (admit(100, x, 0, 0), "refused 27"), (admit(100, x), "new"), (admit(100, x), "dup"),
+        (request, "48 %s 1 0" % u.hex()),
+        (admit(100, body_of(x_with(signature=[], key=[b""]))), "refused 24"), (admit(100, body_of(x_with(signature=[b""]))), "refused 26 0"),
+        (admit(100, body_of(x_with(signature=[], from_=[b"A"]))), "refused 34"),
+        (admit(100, body_of(x_with(signature=[], from_=[b"\x00\x00"]))), "new"), (admit(100, body_of(x_with(signature=[], from_=[HASHED]))), "new"),
+        (seen[0], "yes"), (seen[1], "yes"),
+    ]
+    # From outside; the seen part alone does not know the flags.
+    for value in (0, 2):
+        yield hurt(FLAGS, value), "ok"
+        yield from ((step, "refused 42") for step in each)
+        yield from ((step, "yes") for step in seen)
+    yield from [(hurt(FLAGS, 1), "ok"), (request, "48 %s 1 0" % u.hex())]
+    # A node that is off, by either kind.
+    for settings in (("set", 1000, 4, 2, 4), ("flagged", 1000, 4, 2, 4, 0)):
+        yield from [(settings, "ok"), (admit(100, u), "refused 25"), (admit(100, x), "new"), (seen[0], "no"), (seen[1], "yes")]
+    # Off, and only the unsigned form in its seen store.
+    yield from [(("flagged", 1000, 4, 2, 0, 1), "ok"), (admit(100, u), "new"), (offer, "0"), (hurt(FLAGS, 0), "ok"), (seen[0], "yes"), (seen[1], "no"),
+                (offer, "45 1a2b12290a27%s" % NAME.hex()), (hurt(FLAGS, 1), "ok"), (offer, "0")]
+    yield from ((("flagged", 1000, 4, 2, 4, value), "refused 40") for value in (2, 3, 256, 65535))
+    yield offer, "0"
+
+
+def loose_rows(rows, flags, *words):
+    """Rows about unsigned messages, with each word. No id is kept, so nothing is a duplicate."""
+    return [("flagged", 10, 0, 1, 0, flags)] + [admit(5, body_of(x_with(**change)), 0, word) for word in words or (1, 0) for change, *_ in rows]
+
+
+def flags_in_few_bytes():
+    """The scope's rows, those about unsigned messages with either flag, each clause that the flags have to do with broken alone, and states that are well formed."""
+    play = Play(*[step for step, _ in flag_table()], *loose_rows(peers.SHORT_UNSIGNED_ROWS, 1, 0), *loose_rows(peers.SHORT_UNSIGNED_ROWS[:9], 0, 1), STATE)
+    looks = [admit(20, unsigned_message(3), 0, 0), ("lookup", id_of(2))]
+    for make, find in ((mixed, flag_breaks), (loose, unknown_flags)):
+        made = make()
+        play.add(*made.steps, STATE)
+        for clause, steps in find(made):
+            if len(steps) <= 3:
+                harmed(play, clause, steps, *looks)
+        play.add(STATE, *looks, ask(*[id_of(n) for n in range(5)]), serve(*[id_of(n) for n in range(5)], room=200), beat(21), STATE)
+    return play.steps
+
+
+LOOSE_CALLS = [STATE, admit(20, unsigned_message(9), 0, 0), admit(20, unsigned_message(9)), admit(20, named_message(9), 0, 0), admit(20, named_message(9)),
+               admit(20, unsigned_message(4)), admit(20, named_message(2)), ask(*[id_of(n) for n in range(10)]), serve(*[id_of(n) for n in range(10)]),
+               advertise(), *[("contains", mark + id_of(n)) for n in (2, 3, 4) for mark in (b"\x00", b"\x01")], ("lookup", id_of(2)), why(4, id_of(2)), STATE]
+
+
+def flag_histories():
+    yield [step for step, _ in flag_table()]
+    # Flags among good settings and bad ones: refused settings change nothing.
+    play = mixed()
+    for settings in ((100, 4, 4, 3), (100, 0, 1, 0), (TOP, 256, 16, 64), (1, 257, 4, 3), (1, 4, 0, 3), (1, 4, 17, 3), (1, 4, 4, 65)):
+        for flags in (2, 3, 4, 255, 256, 257, 32768, 65535) + ((0, 1) if settings[0] == 1 else ()):
+            play.add(("flagged", *settings, flags), STATE, ("lookup", id_of(3)))
+    yield play.add(*LOOSE_CALLS).steps
+    for flags in (0, 1):
+        for rows in (peers.UNSIGNED_ROWS, peers.ROWS + peers.MORE_ROWS):
+            yield loose_rows(rows, flags) + [STATE]
+        yield Play(("flagged", 10, 4, 2, 4, flags), *[step for raw in OTHER_TYPES for step in (admit(5, tagged(2, raw)), ("contains", b"\x00" + NAME), beat(15))],
+                   serve(NAME)).steps
+        # Reasons of every sort at once, at a reading before the clock, too.
+        for now, word in ((20, 0), (20, 1), (1, 1)):
+            play = Play(("flagged", 100, 4, 4, 3, flags), admit(16, named_message(4)))
+            for parts in caches.unfit_puts():
+                bare = [part for part in parts if part[0] != 5]
+                play.add(admit(now, body_of(parts), 0, word), admit(now, body_of(bare), 0, word), admit(now, body_of([part for part in bare if part[0] != 6]), 0, word))
+            yield play.add(STATE, *CALLS).steps
+    # Flags that are set from outside, and set back, on each state to start from.
+    for make in (mixed, loose, turned, empty, topical, keyed):
+        play = make()
+        for value in (0, 1, 2, 3, 65535, 65536, 2**32, 2**32 + 1, TOP):
+            back = healing(play.run, [hurt(FLAGS, value)])
+            play.add(hurt(FLAGS, value), *CALLS, *POOR, *WHYS[:3], *LOOSE_CALLS, *back, ("lookup", id_of(3)))
+        yield play.add(*CALLS).steps
+    # What is tested first: 40 and 41, then 42.
+    play = mixed().add(hurt(FLAGS, 2))
+    for lent in ((515, 12288), (517, 12288), (516, 12287), (516, 12288)):
+        play.add(("lend", *lent), *LOOSE_CALLS, *POOR)
+    yield play.steps
+    yield from mark_histories()
+
+
+def mark_histories():
+    """Both forms of one id, in either order, as they expire, are driven out and leave the windows; an unsigned flood."""
+    forms = {0: unsigned_message(3, b"t", b"u"), 1: named_message(3, b"t", b"v")}
+    looks = [("contains", b"\x00" + id_of(3)), ("contains", b"\x01" + id_of(3)), ask(id_of(3), id_of(4)), serve(id_of(3)), advertise(), advertise(topic=b"u"),
+             advertise(topic=b"v"), why(9), STATE]
+    for flags, max_seen, most in ((1, 4, 3), (1, 2, 1), (1, 1, 1), (1, 1, 0), (1, 0, 3), (0, 4, 3)):
+        for first in (0, 1):
+            for gap in (0, 1, 9, 10, 11):
+                play = Play(("flagged", 10, max_seen, 3, most, flags), admit(5, forms[first], 0, 1 - first), admit(5, forms[first]), *looks)
+                play.add(admit(5 + gap, forms[1 - first]), *looks, admit(5 + gap, forms[first]), admit(5 + gap, forms[1 - first]), *looks)
+                yield play.add(beat(15), *looks, beat(15 + gap), *looks, beat(30), *looks, admit(30, forms[1 - first]), *looks).steps
+    # Unsigned ids drive out signed ones, and the other way round.
+    play = Play(("flagged", 1000, 8, 4, 8, 1), *[admit(1, named_message(n)) for n in range(8)], ask(*[id_of(n) for n in range(10)]))
+    for n in range(10):
+        play.add(admit(2, unsigned_message(n), 0, 0), ask(*[id_of(k) for k in range(10)]), STATE)
+    yield play.add(*[admit(3, named_message(n)) for n in range(8)], ask(*[id_of(n) for n in range(10)]), serve(*[id_of(n) for n in range(10)]), STATE).steps
+    # As many ids as there are, both forms of each.
+    names = [F + n.to_bytes(2, "big") for n in range(130)]
+    play = Play(("flagged", 1000, 256, 16, 64, 1))
+    for n, name in enumerate(names):
+        both = [body_of(x_with(from_=[F], seqno=[name[len(F):]], signature=some)) for some in ([], [bytes(64)])]
+        play.add(*[admit(1, body) for body in (both if n % 2 else both[::-1])])
+    yield play.add(STATE, ask(*names), serve(*names), advertise(), *[("contains", mark + names[n]) for n in (0, 1, 2, 3, 129) for mark in (b"\x00", b"\x01")],
+                   *[admit(2, body_of(x_with(from_=[F], seqno=[names[n][len(F):]], signature=[]))) for n in (0, 1, 2, 129)], STATE).steps
+
+
+MARKED = [("u", 0), ("x", 0), ("u", 1), ("x", 1), ("beat", 0), ("beat", 1)]
+
+
+def short_mark_histories(length=4):
+    """Every history of so many calls out of MARKED, whose numbers are added to the reading: both forms of X, where unsigned messages are allowed."""
+    bodies = {"u": body_of(U), "x": body_of(X)}
+    looks = [ask(NAME), serve(NAME), ("contains", b"\x00" + NAME), ("contains", b"\x01" + NAME)]
+    for most in ((0, 1, 1), (1, 1, 1), (1, 2, 0), (2, 1, 1), (2, 2, 2)):
+        for chosen in itertools.product(MARKED, repeat=length):
+            steps, now = [("flagged", 2, *most, 1)], 5
+            for n, (call, more) in enumerate(chosen):
+                now += more
+                steps.append(beat(now) if call == "beat" else admit(now, bodies[call], 0, 1 if call == "x" else n % 2))
+            yield steps + looks
+
+
 def refusal_histories():
     """Every refusal of a body or a message, with its values, and nothing changed."""
     play = turned()
@@ -838,16 +1053,20 @@ def refusal_histories():
 
 def named():
     for part in (refusal_histories, broken_histories, odd_histories, kept_histories, reuse_histories, lent_histories, buffer_histories, full_histories,
-                 wrap_histories, unused_histories, small_histories, contains_histories, why_histories):
+                 wrap_histories, unused_histories, small_histories, contains_histories, why_histories, flag_histories):
         yield from part()
 
 
 def of_traces():
-    """The fixed histories of `trace`, and all of three calls, with the state told after the last."""
+    """The fixed histories of `trace`, and all of three calls, with the state told after the last; the fixed ones where unsigned messages are allowed, too,
+    and all of four calls with both forms of a message."""
     for steps in traces.named():
         yield [wide(step) for step in steps] + [STATE]
+        yield [("flagged", *step[1:], ALLOW_UNSIGNED) if step[0] == "set" else wide(step) for step in steps] + [STATE]
     for steps in traces.short_histories(3):
         yield [wide(step) for step in steps] + [STATE]
+    for steps in short_mark_histories():
+        yield steps + [STATE]
 
 
 # --- random histories -----------------------------------------------------------------------------------
@@ -871,7 +1090,7 @@ TOPICAL = (TOPIC_COUNT, TOPIC_START, TOPIC_LEN)
 def some_hurt(r, play):
     """A number of the state or a byte of a store, often about what it was or what a row beside has."""
     run = play.run
-    what = r.choice((TTL, MAX_IDS, CLOCK, SEEN_START, SEEN_COUNT, EXPIRY, EXPIRY, SEEN_LEN, SEEN_LEN, HISTORY_LEN, MAX_HELD, NEXT, START, COUNT,
+    what = r.choice((FLAGS, FLAGS, TTL, MAX_IDS, CLOCK, SEEN_START, SEEN_COUNT, EXPIRY, EXPIRY, SEEN_LEN, SEEN_LEN, HISTORY_LEN, MAX_HELD, NEXT, START, COUNT,
                      ARRIVAL, ARRIVAL, WINDOW, WINDOW, LEN, LEN, ID_LEN, IDS, SEEN_BYTE, SEEN_BYTE, CACHE_BYTE, CACHE_BYTE, *TOPICAL, *TOPICAL, *TOPICAL))
     ids = play.ids() if run.seen.fits(run.max_seen) and run.max_seen <= 256 else []
     held = play.messages() if run.cache.fits(run.cache.max_messages) and run.cache.max_messages <= 64 else []
@@ -892,6 +1111,8 @@ def some_hurt(r, play):
     elif what not in (EXPIRY, SEEN_LEN, ARRIVAL, WINDOW, LEN, ID_LEN, TOPIC_COUNT):
         place = near = 0
     old = value_of(run, what, place)
+    if what == FLAGS:
+        return hurt(FLAGS, r.choice((0, 0, 0, 1, 1, 1, 1 - old % 2, 2, 3, 65535, 2**32 + 1, TOP)))
     if what in TOPICAL and r.randrange(3) == 0:
         return hurt(what, r.choice((0, 5, 255, 65535, 4096, r.randrange(100))), place)
     value = r.choice((old, old + 1, old - 1, old + 1, old - 1, old + r.choice((2, 3, 256)), value_of(run, what, near), value_of(run, what, near),
@@ -946,23 +1167,37 @@ def some_topics(r, play):
     # The last sender has fields 4 in its key.
     senders = ((A, b"b"), (HASHED, b"c"), (identity(key_bytes(1, b"\x22\x01t\x22\x00")), b"\x22\x01"))
     raws = [topic_message(r, r.choice(senders)) for _ in range(r.choice((1, 2, 3)))]
-    topics = [b"", b"t"] + [raw[start:start + size] for raw in raws if taken(raw) for start, size in topic_places(raw)]
+    raws = [caches.bare(raw) if play.run.cache.flags and r.randrange(2) else raw for raw in raws]
+    topics = [b"", b"t"] + [raw[start:start + size] for raw in raws if taken(raw, ALLOW_UNSIGNED) for start, size in topic_places(raw)]
     return [admit(play.run.clock, tagged(2, raw)) for raw in raws] + [advertise(topic=topic) for topic in r.sample(topics, 2)] \
         + [why(r.randrange(2), who + seqno, topic) for who, seqno in senders for topic in topics[-2:]]
 
 
+def with_flags(r, step):
+    """Settings with flags; other steps as they are."""
+    return ("flagged", *step[1:], r.choice((0, 1, 1, 1, 2, 3, 65535))) if step[0] == "set" else step
+
+
 def history(r):
-    """A random history of a trace with any rooms, in which numbers are set and other lengths are lent, with a look at the state now and then."""
+    """A random history of a trace with any rooms, in which numbers are set and other lengths are lent, with a look at the state now and then. In half of
+    them flags are among the settings, and many messages have no signature."""
     names, topics = caches.names(r), traces.some_topics(r)
+    flagged = r.randrange(2) == 0
+    if flagged:
+        names += [(r.choice((*KEYLESS, HASHED)), b"d") for _ in range(r.randrange(3))]
     steps = traces.some_calls(r, names, topics)
+    if flagged:
+        steps = [with_flags(r, step) for step in traces.loosely(r, steps)]
     settings = list(steps[0])
     settings[4] = r.choice((settings[4], settings[4], 16, 63, 64))
+    if flagged:
+        settings[5] = r.choice((0, 1, 1, 1))
     pool = [(A, b"b"), (HASHED, b"c")] + names
     play = Play(tuple(settings))
 
     def calls(n):
         got = r.sample(steps[1:], min(n, len(steps) - 1)) + ([some_alone(r, pool)] if r.randrange(3) == 0 else [])
-        return [wide(step) for step in got if step[0] != "set"] + [some_why(r, names, topics)]
+        return [wide(step) for step in got if step[0] not in ("set", "flagged")] + [some_why(r, names, topics)]
 
     for step in steps[1:]:
         play.add(some_room(r, play, step) if step[0] in ROOMED else step)

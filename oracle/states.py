@@ -9,10 +9,10 @@ read back and held against what nodes.py keeps; the topics are cut out of the me
 table of their places says.
 
 A step is a call, its numbers and then its bytes: ("set", ttl, max_seen, history_len,
-max_messages), ("admit", now, index, verified, body), ("beat", now), ("advertise", room,
-windows, topic), ("ask", room, body), ("serve", room, body), ("lend", seen length, cache
-length), ("hurt", what, place, value), ("contains", id), ("lookup", id), ("state", b""),
-("why", windows, id, topic). `expected` takes an input as bytes and gives the lines of the run.
+max_messages), ("flagged", ttl, max_seen, history_len, max_messages, flags), whose line says
+`set`, ("admit", now, index, verified, body), ("beat", now), ("advertise", room, windows, topic),
+("ask", room, body), ("serve", room, body), ("lend", seen length, cache length), ("hurt", what,
+place, value), ("contains", id), ("lookup", id), ("state", b""), ("why", windows, id, topic). `expected` takes an input as bytes and gives the lines of the run.
 `node_bytes` and `from_bytes` are a node as the bytes that hosts keep, after
 crates/stored/specs/Layout.antt.
 """
@@ -22,7 +22,7 @@ import itertools
 import struct
 
 import nodes
-from nodes import MAX_HISTORY, MAX_MESSAGE, MAX_MESSAGES, MAX_NAME, MAX_SEEN, MAX_TOPICS, ROOM, TOP, Refused, shown
+from nodes import MAX_FLAGS, MAX_HISTORY, MAX_MESSAGE, MAX_MESSAGES, MAX_NAME, MAX_SEEN, MAX_TOPICS, ROOM, TOP, Refused, shown
 from places import find, with_place
 from records import Records
 
@@ -38,13 +38,13 @@ CACHE_BYTES = 65 * MAX_MESSAGE
 # Of each call: its kind, how many bytes its numbers have, and whether bytes follow them.
 FORM = {"set": (1, (8, 2, 2, 2), False), "admit": (2, (8, 2, 1), True), "beat": (3, (8,), False), "advertise": (4, (4, 2), True),
         "ask": (5, (4,), True), "serve": (6, (4,), True), "lend": (7, (4, 4), False), "hurt": (8, (1, 4, 8), False), "contains": (9, (), True),
-        "lookup": (10, (), True), "state": (11, (), True), "why": (12, (2,), 2)}
+        "lookup": (10, (), True), "state": (11, (), True), "why": (12, (2,), 2), "flagged": (21, (8, 2, 2, 2, 2), False)}
 RECORDS = Records(FORM, MAX_CONTENT)
 record, records = RECORDS.record, RECORDS.records
 
 # What a step of kind 8 sets.
 TTL, MAX_IDS, CLOCK, SEEN_START, SEEN_COUNT, EXPIRY, SEEN_LEN, HISTORY_LEN, MAX_HELD, NEXT, START, COUNT, ARRIVAL, WINDOW, LEN, ID_LEN, IDS, \
-    SEEN_BYTE, CACHE_BYTE, TOPIC_COUNT, TOPIC_START, TOPIC_LEN = range(22)
+    SEEN_BYTE, CACHE_BYTE, TOPIC_COUNT, TOPIC_START, TOPIC_LEN, FLAGS = range(23)
 
 # Every refusal that the program can show.
 LENT = {40, 41, 42}
@@ -54,7 +54,7 @@ REFUSALS = {"set": {40}, "admit": LENT | BODY | nodes.ADMISSION, "beat": LENT | 
 
 # The clauses of 42, in the order of the sentence.
 CLAUSES = ["seen start", "seen count", "seen length", "start", "count", "message length", "id length", "max_seen", "history_len 0",
-           "history_len above 16", "max_messages", "seen id twice", "cached id twice", "expiry falls", "window too old", "window rises",
+           "history_len above 16", "max_messages", "flags", "seen id twice", "cached id twice", "expiry falls", "window too old", "window rises",
            "arrival not consecutive", "arrival not on to the next", "message not admissible", "message of another id", "topic count",
            "topic start", "topic length"]
 
@@ -110,9 +110,9 @@ class Seen(Rows):
 
 
 class Cache(Rows):
-    def __init__(self, history_len, max_messages):
+    def __init__(self, history_len, max_messages, flags):
         super().__init__()
-        self.history_len, self.max_messages, self.next = history_len, max_messages, 0
+        self.history_len, self.max_messages, self.next, self.flags = history_len, max_messages, 0, flags
         self.arrival, self.window, self.len, self.id_len = ([0] * MAX_MESSAGES for _ in range(4))
         self.ids = bytearray(MAX_MESSAGES * MAX_ID)
         self.topic_count, self.topic_start, self.topic_len = [0] * MAX_MESSAGES, [0] * SLOTS, [0] * SLOTS
@@ -139,6 +139,8 @@ class Cache(Rows):
             yield "history_len above 16"
         if cap > MAX_MESSAGES:
             yield "max_messages"
+        if self.flags > MAX_FLAGS:
+            yield "flags"
         if self.start > cap:
             yield "start"
         if self.count > cap:
@@ -162,7 +164,7 @@ class Cache(Rows):
         if any(self.len[p] > MAX_MESSAGE for p in places):
             yield "message length"
             return
-        found = [taken(self.message_at(store, p)) for p in places]
+        found = [taken(self.message_at(store, p), self.flags) for p in places]
         if None in found:
             yield "message not admissible"
         if any(one and self.id_len[p] <= MAX_ID and one[0] != self.id_at(p) for one, p in zip(found, places)):
@@ -211,10 +213,10 @@ def topic_places(raw):
 
 
 @functools.lru_cache(4096)
-def taken(raw):
-    """(id, topics) of a cached message that admission takes with the host's word, else None."""
+def taken(raw, flags=0):
+    """(id, topics) of a cached message that admission takes with the host's word under some flags, else None."""
     try:
-        return nodes.admission((raw, nodes.read(raw, "message")[0]), True)
+        return nodes.admission((raw, nodes.read(raw, "message")[0]), True, flags)
     except Refused:
         return None
 
@@ -234,10 +236,10 @@ class Run:
         for step in steps:
             self.answer(step)
 
-    def begin(self, ttl, max_seen, history_len, max_messages):
-        nodes.Node(ttl, max_seen, history_len, max_messages)  # 40
+    def begin(self, ttl, max_seen, history_len, max_messages, flags=0):
+        nodes.Node(ttl, max_seen, history_len, max_messages, flags)  # 40
         self.ttl, self.max_seen, self.clock = ttl, max_seen, 0
-        self.seen, self.cache = Seen(), Cache(history_len, max_messages)
+        self.seen, self.cache = Seen(), Cache(history_len, max_messages, flags)
         self.seen_len, self.cache_len = max_seen * ROW, max_messages * MAX_MESSAGE
 
     # The lent node and its stores.
@@ -261,7 +263,7 @@ class Run:
             raise Refused(41)
         if self.broken():
             raise Refused(42)
-        node = nodes.Node(self.ttl, self.max_seen, self.cache.history_len, self.cache.max_messages)
+        node = nodes.Node(self.ttl, self.max_seen, self.cache.history_len, self.cache.max_messages, self.cache.flags)
         node.clock, node.seen, node.cache = self.clock, *self.held()
         return node
 
@@ -285,6 +287,8 @@ class Run:
         self.begin(*settings)
         return "ok"
 
+    flagged = set
+
     def admit(self, now, index, verified, body):
         node = self.lent()
         known = [name for name, *_ in node.cache]
@@ -292,10 +296,10 @@ class Run:
         self.clean(now)
         if answer == "new":
             message = nodes.Body(body).messages[index]
-            name = nodes.admission(message, True)[0]
+            name = nodes.admission(message, True, self.cache.flags)[0]
             if self.max_seen:
                 self.seen.drop(self.max_seen, max(0, self.seen.count + 1 - self.max_seen))
-                self.seen.append(self.max_seen, self.seen_store, b"\x01" + name, min(now + self.ttl, TOP))
+                self.seen.append(self.max_seen, self.seen_store, nodes.marked(nodes.is_signed(message), name), min(now + self.ttl, TOP))
             if name not in known:
                 self.cache.put(self.cache_store, name, message[0])
         self.left(node)
@@ -353,12 +357,12 @@ class Run:
             row, most = {ARRIVAL: (cache.arrival, 2**64), WINDOW: (cache.window, 256), LEN: (cache.len, 65536), ID_LEN: (cache.id_len, 256),
                          TOPIC_COUNT: (cache.topic_count, 256), TOPIC_START: (cache.topic_start, 65536), TOPIC_LEN: (cache.topic_len, 65536)}[what]
             row[p % len(row)] = value % most
-        elif what == IDS or what > TOPIC_LEN:
+        elif what == IDS or what > FLAGS:
             cache.ids[p % len(cache.ids)] = value % 256
         else:
             one, name = {TTL: (self, "ttl"), MAX_IDS: (self, "max_seen"), CLOCK: (self, "clock"), SEEN_START: (seen, "start"),
                          SEEN_COUNT: (seen, "count"), HISTORY_LEN: (cache, "history_len"), MAX_HELD: (cache, "max_messages"),
-                         NEXT: (cache, "next"), START: (cache, "start"), COUNT: (cache, "count")}[what]
+                         NEXT: (cache, "next"), START: (cache, "start"), COUNT: (cache, "count"), FLAGS: (cache, "flags")}[what]
             setattr(one, name, value)
         return "ok"
 
@@ -391,9 +395,9 @@ class Run:
 # --- a node as bytes -------------------------------------------------------------
 
 # Ten numbers; expiries, arrival numbers; lengths of messages; lengths of seen ids, ages, lengths of cached ids; these ids; counts of topics, their
-# starts, their lengths.
-LAYOUT = struct.Struct("<10Q 256Q 64Q 64H 256B 64B 64B 8192s 64B 256H 256H")
-NODE_SIZE = 12432
+# starts, their lengths; the flags.
+LAYOUT = struct.Struct("<10Q 256Q 64Q 64H 256B 64B 64B 8192s 64B 256H 256H Q")
+NODE_SIZE = 12440
 assert LAYOUT.size == NODE_SIZE
 
 
@@ -401,7 +405,7 @@ def node_bytes(run):
     seen, cache = run.seen, run.cache
     return LAYOUT.pack(run.ttl, run.max_seen, run.clock, seen.start, seen.count, cache.history_len, cache.max_messages, cache.next, cache.start,
                        cache.count, *seen.expiry, *cache.arrival, *cache.len, *seen.len, *cache.window, *cache.id_len, bytes(cache.ids),
-                       *cache.topic_count, *cache.topic_start, *cache.topic_len)
+                       *cache.topic_count, *cache.topic_start, *cache.topic_len, cache.flags)
 
 
 def gateway_bytes(run):
@@ -422,6 +426,7 @@ def from_bytes(data):
     seen.len, cache.window, cache.id_len = some(MAX_SEEN), some(MAX_MESSAGES), some(MAX_MESSAGES)
     cache.ids = bytearray(next(numbers))
     cache.topic_count, cache.topic_start, cache.topic_len = some(MAX_MESSAGES), some(SLOTS), some(SLOTS)
+    cache.flags = next(numbers)
     run.seen_len, run.cache_len = run.max_seen * ROW, cache.max_messages * MAX_MESSAGE
     stores = data[NODE_SIZE:]
     if len(stores) != run.seen_len + run.cache_len:
@@ -431,6 +436,10 @@ def from_bytes(data):
 
 
 # --- the lines -----------------------------------------------------------------
+
+# The call that a line names, where it is not the step's own.
+CALLED = {"flagged": "set"}
+
 
 def wrong(step):
     """Whether a room or a length lent is more than the program has."""
@@ -448,5 +457,5 @@ def expected(data, watch=None):
             return lines + [end] if end else lines
         if watch:
             watch(run, step)
-        lines.append("%d %s %s" % (len(lines) + 1, step[0], run.answer(step)))
+        lines.append("%d %s %s" % (len(lines) + 1, CALLED.get(step[0], step[0]), run.answer(step)))
     return lines

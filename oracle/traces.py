@@ -12,7 +12,7 @@ import nodes
 import peers
 from bodies import BROKEN, PARTS, many, other_field, random_body, tagged
 from caches import LONG_TOPICS, LONGEST_TOPICS, NAME, REFUSED, TOPICS, X
-from caches import clipped, fields_of, grown, message, padded, plain, some_put, unfit_puts, x_with
+from caches import clipped, fields_of, grown, loosened, message, padded, plain, some_put, unfit_puts, x_with
 from nodes import MAX_CONTENT, MAX_RECORDS, TOP, Run, made, record, records
 from peers import A, B, ECDSA, F, HASHED, ID, KEY, LONGEST
 from records import header
@@ -77,6 +77,11 @@ def body_of(parts):
 
 def x_body(who, seqno, *topics, data=None):
     return body_of(x_with(from_=[who], seqno=[seqno], topic=topics or [b"t"], data=[] if data is None else [data]))
+
+
+def loosely(r, steps):
+    """The same steps, most of the messages without a signature."""
+    return [(*step[:-1], loosened(r, step[-1])) if step[0] == "admit" and r.randrange(3) else step for step in steps]
 
 
 def named_by(pool):

@@ -25,11 +25,11 @@ from nodes import MAX_CONTENT, TOP
 from peers import A, B, F, HASHED, HASHES, KEY, LONGEST, SENDERS, identity, key_bytes
 from records import Records, header
 from state_histories import Play, cut_why, id_of, named_message, some_why, why
-from states import CLOCK, COUNT, MAX_HELD, MAX_IDS, MAX_MESSAGE, NODE_SIZE, ROW, gateway_bytes
+from states import CLOCK, COUNT, FLAGS, MAX_HELD, MAX_IDS, MAX_MESSAGE, NODE_SIZE, ROW, gateway_bytes
 from traces import NEXT, admit, advertise, beat, body_of, x_body
 from wire import then_random
 
-MAX_GATEWAY = 307600
+MAX_GATEWAY = 307608
 FORM = {**nodes.FORM, "why": (12, (2,), 2), "gateway": (13, (), True)}
 RECORDS = Records(FORM, MAX_CONTENT, {13: MAX_GATEWAY})
 record, records = RECORDS.record, RECORDS.records
@@ -212,13 +212,18 @@ def gateway_histories():
     """Saved nodes: taken, cut, longer, hurt. One that is refused leaves the node that was there."""
     held = [named_message(n, b"t", b"u") for n in (1, 9)]
     start = [("set", 50, 4, 2, 4), admit(5, held[0]), beat(6), admit(7, held[1])]
-    names = [id_of(n) for n in range(10)] + [HASHED + b"\x01"]
+    names = [id_of(n) for n in range(10)] + [HASHED + b"\x01"] + [who + bytes([n]) for who in state_histories.BARE_SENDERS for n in (2, 3, 4)]
     few = asked(names, [b"t"], (0, 1))
     looks = few + asked(names, [b"t", b"u", b"topic", b""], (4,))
+    bare = [caches.loose(body) for body in held]
     for play in (state_histories.turned(), state_histories.straight(), state_histories.topical(), state_histories.empty(), Play(("set", 1, 0, 1, 0)),
-                 Play(("set", 1, 256, 16, 64)), Play(("set", TOP, 0, 16, 3), admit(TOP, held[0]))):
+                 Play(("set", 1, 256, 16, 64)), Play(("set", TOP, 0, 16, 3), admit(TOP, held[0])), state_histories.mixed(), state_histories.loose(),
+                 Play(("flagged", 9, 2, 3, 2, 1), admit(1, bare[0], 0, 0))):
         whole = gateway_bytes(play.run)
         yield start + [("gateway", whole)] + looks + [admit(20, held[0]), beat(20), admit(TOP, held[1])] + looks + [("gateway", whole)] + looks + start + looks
+        # Which messages need a signature, the saved node says; settings of a trace allow none without.
+        yield start + [("gateway", whole)] + [admit(20, body, 0, word) for body in bare + held for word in (0, 1)] + looks + start[:1] \
+            + [admit(20, body) for body in bare + held] + looks
         others = [whole[:NODE_SIZE], whole[:NODE_SIZE + 1], whole[:-1], whole + b"\x00", whole + bytes(ROW), whole + bytes(MAX_MESSAGE),
                   whole[:-ROW], whole[:-MAX_MESSAGE], bytes(len(whole)), b"\xff" * len(whole)]
         yield start + [step for other in others if NODE_SIZE <= len(other) <= MAX_GATEWAY for step in [("gateway", other), *few]]
@@ -235,7 +240,7 @@ def gateway_histories():
     # Maxima that the stores do not have, some whose products do not fit a number; a clock and counts that are others.
     steps = list(start)
     for what, value in [(MAX_IDS, value) for value in (0, 3, 5, 256, 257, 516 * pow(129, -1, 2**64) % 2**64, 2**63, TOP)] \
-            + [(MAX_HELD, value) for value in (0, 2, 4, 64, 65, 2**52, 2**52 + 3, 2**63 + 3, TOP)] + [(CLOCK, TOP), (COUNT, 0), (COUNT, 4)]:
+            + [(MAX_HELD, value) for value in (0, 2, 4, 64, 65, 2**52, 2**52 + 3, 2**63 + 3, TOP)] + [(CLOCK, TOP), (COUNT, 0), (COUNT, 4)] + [(FLAGS, value) for value in (0, 1, 2, 3, 65535, TOP)]:
         play = state_histories.turned()
         whole = gateway_bytes(play.run)
         steps += [("gateway", states.node_bytes(play.add(state_histories.hurt(what, value)).run) + whole[NODE_SIZE:])] + few

@@ -4,9 +4,9 @@ import os
 import struct
 
 NAME = b"pradulins-saved\n"
-FORMAT = 2
+FORMAT = 3
 HEADER = struct.Struct("<16sIQQ")  # name, format, how many bytes follow, their checksum
-NODE_SIZE = 12432
+NODE_SIZE = 12440
 LARGEST = NODE_SIZE + 256 * 129 + 64 * 4096
 
 

@@ -273,6 +273,11 @@ class Lines(unittest.TestCase):
         lines = ["11 write refused 42", "12 write refused 7 1", "13 tosign refused 7 0", "14 write refused 12 7", "15 write 0", "16 write refused 26 0",
                  "17 write refused 7", "18 decode refused 7 1", "19 sub refused 42", "20 tosign refused 42"]
         self.assertEqual(HOST.may_skip("inspect", data[:9], lines), {"1", "11", "12", "13", "20"})
+        # Settings with flags that the crate has no word for, in Rust alone; others, and a record of another length, are played.
+        data = b"".join(struct.pack("<IH", len(content), 21) + content
+                        for content in (bytes(14) + b"\1\0", bytes(14) + b"\2\0", bytes(14) + b"\0\1", bytes(16), bytes(14) + b"\3", bytes(13) + b"\xff\1\0"))
+        self.assertEqual(HOST.may_skip("states", data, ["1 set ok"]), {"2", "3"})
+        self.assertEqual((HOST.may_skip("states", data), HOST.may_skip("inspect", data, ["1 set ok"])), (set(), set()))
 
 
 # A writer that does as its name says, and what loads its file.

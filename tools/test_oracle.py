@@ -308,6 +308,57 @@ class Senders(unittest.TestCase):
             theirs.update({name: last[number].hex() if number in last else None for number, name in ((1, "from"), (3, "seqno"), (5, "signature"), (6, "key"))})
             self.assertEqual(caches.unfit(theirs), None if told == "new" else told, change)
 
+    def test_unsigned_rows(self):
+        """The rows about unsigned messages by both models, with the flag and without, for either word."""
+        for change, *told in peers.UNSIGNED_ROWS:
+            raw = caches.plain(caches.x_with(**change))
+            message = raw, nodes.read(raw, "message")[0]
+            last = dict(message[1])
+            theirs = {"raw": raw.hex(), "topic_ids": [one.hex() for number, one in message[1] if number == 4]}
+            theirs.update({name: last[number].hex() if number in last else None for number, name in ((1, "from"), (3, "seqno"), (5, "signature"), (6, "key"))})
+            for flags, answer in enumerate(told):
+                for word in (True, False):
+                    try:
+                        got = nodes.admission(message, word, flags) and "new"
+                    except nodes.Refused as why:
+                        got = "refused " + " ".join(map(str, why.args))
+                    self.assertEqual(got, answer, (change, flags, word))
+                self.assertEqual(caches.unfit(theirs, flags), None if answer == "new" else answer, (change, flags))
+        # With a signature the flag changes nothing.
+        for change, _ in peers.ROWS + peers.MORE_ROWS:
+            raw = caches.plain(caches.x_with(**change))
+            known = nodes.read(raw, "message")[0]
+            for word in (0, 1) if 5 in dict(known) else ():
+                self.assertEqual(admissions.modelled(raw, known, word, 1), admissions.modelled(raw, known, word, 0), change)
+
+    def test_unsigned_messages(self):
+        """The scope's rows on a node; a message in both forms; fields that only have the numbers of a signature and of a key."""
+        table = list(state_histories.flag_table())
+        lines = states.expected(states.records([step for step, _ in table]))
+        self.assertEqual([line.split(" ", 2)[2] for line in lines], [told for _, told in table])
+        self.assertEqual([caches.bare(caches.plain(caches.X)), caches.bare(b"\x80")], [caches.plain(caches.U), b"\x80"])
+        for raw in caches.OTHER_TYPES:
+            message = raw, nodes.read(raw, "message")[0]
+            self.assertFalse(nodes.is_signed(message))
+            self.assertEqual(nodes.admission(message, False, 1), (caches.NAME, [b"t"]))
+        # A setting is legal up to the known flags.
+        for flags in range(5):
+            try:
+                nodes.Node(0, 0, 1, 0, flags)
+                self.assertLess(flags, 2)
+            except nodes.Refused as why:
+                self.assertEqual((why.args, flags > 1), ((40,), True))
+
+    def test_random_histories_with_flags(self):
+        """Under flags, too, most calls are answered, and both forms are met."""
+        r, met = random.Random(9), collections.Counter()
+        for _ in range(150):
+            met.update(" ".join(line.split(" ")[1:3]) for line in states.expected(states.records(state_histories.history(r))))
+        self.assertGreater(met["admit new"] + met["admit dup"], met["admit refused"])
+        r, runs = random.Random(9), [states.Run(state_histories.history(r)) for _ in range(150)]
+        marks = collections.Counter(name[:1] for run in runs if not run.broken() for name, _ in run.held()[0])
+        self.assertGreater(min(marks[b"\x00"], marks[b"\x01"]), 50)
+
     def test_the_order(self):
         """Each of 21 to 30 with what is refused later beside it: the scope's order."""
         faults = [({"from_": None}, 21), ({"from_": b""}, 22), ({"from_": b"A"}, 34), ({"seqno": None}, 23), ({"signature": None}, 25),
@@ -359,29 +410,41 @@ class Senders(unittest.TestCase):
         self.assertEqual(list(admissions.SMALLEST), admissions.NAMED)
         with open(os.path.join(TOP, "docs", "DIFFERENCES.md"), encoding="utf-8") as file:
             text = file.read()
-        for name, (change, word, ours, rust) in admissions.SMALLEST.items():
+        for name, (change, word, flags, ours, rust) in admissions.SMALLEST.items():
             raw = caches.plain(caches.x_with(**change))
             known = nodes.read(raw, "message")[0]
-            self.assertEqual(admissions.modelled(raw, known, word), ours, name)
+            self.assertEqual(admissions.modelled(raw, known, word, flags), ours, name)
             self.assertFalse(admissions.agree(ours, rust))
-            self.assertEqual(admissions.listed(raw, known, word, ours, rust), name)
+            self.assertEqual(admissions.listed(raw, known, word, flags, ours, rust), name)
             self.assertTrue("| %s | %s bytes: " % (name, format(len(raw), ",")) in text, name)
             # The other pairs that such a message could have are on no list.
             for other in {"ok", "unsigned", *admissions.NAMES.values()} - {rust}:
                 if not admissions.agree(ours, other):
-                    self.assertIsNone(admissions.listed(raw, known, word, ours, other), (name, other))
+                    self.assertIsNone(admissions.listed(raw, known, word, flags, ours, other), (name, other))
 
     def test_a_difference_that_is_not_listed_is_told(self):
         raw = caches.plain(caches.X)
         known = nodes.read(raw, "message")[0]
         for word, ours, rust in ((1, "new", "KeyPeerIdMismatch"), (1, "new", "SignatureInvalid"), (1, 27, "ok"), (0, "new", "SignatureInvalid"), (1, 28, "ok"),
                                  (1, 34, "ok"), (1, 36, "SignatureInvalid"), (0, 23, "InvalidFrom"), (1, 25, "unsigned")):
-            beside = admissions.Beside()
-            beside.look(raw, known, word, ours, rust)
-            self.assertEqual((len(beside.differ), beside.found), (1, {}), (ours, rust))
+            for flags in (0, 1):
+                beside = admissions.Beside()
+                beside.look(raw, known, word, flags, ours, rust)
+                self.assertEqual((len(beside.differ), beside.found), (1, {}), (ours, rust))
         beside = admissions.Beside()
-        beside.look(raw, known, 1, "new", "ok")
-        beside.look(raw, known, 0, 27, "SignatureInvalid")
+        beside.look(raw, known, 1, 0, "new", "ok")
+        beside.look(raw, known, 0, 1, 27, "SignatureInvalid")
+        self.assertEqual((beside.differ, beside.found), ([], {}))
+        # Of one without a signature: the mark, and the leave.
+        raw = caches.plain(caches.U)
+        known = nodes.read(raw, "message")[0]
+        for ours, rust in (("new", "unsigned"), ("unsigned", "ok"), (25, "unsigned"), ("unsigned", "MissingSignature"), (28, "unsigned"), (27, "unsigned")):
+            beside = admissions.Beside()
+            beside.look(raw, known, 1, 1, ours, rust)
+            self.assertEqual((len(beside.differ), beside.found), (1, {}), (ours, rust))
+        beside.differ.clear()
+        beside.look(raw, known, 0, 1, "unsigned", "unsigned")
+        beside.look(raw, known, 1, 0, 25, "MissingSignature")
         self.assertEqual((beside.differ, beside.found), ([], {}))
 
     def test_random_messages_are_mostly_taken(self):

@@ -103,8 +103,16 @@ class Answers(Case):
                            (TURNED[:saved.NODE_SIZE - 1], malformed), (b"", malformed), (bytes(saved.NODE_SIZE), malformed)):
             self.assertEqual(self.told(A04, "t", 1, 1, self.file("other", saved.sealed(rest))), line)
 
-    def test_senders_of_before(self):
-        """A cached message of a sender that is no peer id, as versions before 0.5.0 may have saved it."""
+    def test_flags(self):
+        """A gateway that allows unsigned messages is asked as others are; one under flags that are not known is none."""
+        end = saved.NODE_SIZE
+        for flags, line in ((0, "listed\n"), (1, "listed\n"), (2, None), (3, None), (2**63, None)):
+            path = self.file("other", saved.sealed(TURNED[:end - 8] + flags.to_bytes(8, "little") + TURNED[end:]))
+            wanted = line or "the saved state is refused 42: node and stores, or the rows of an RPC, are not well formed\n"
+            self.assertEqual(self.told(A04, "t", 1, 0 if line else 1, path), wanted)
+
+    def test_other_senders(self):
+        """A cached message of a sender that is no peer id."""
         sender = bytes.fromhex(A)
         for other, line in ((sender[:-1] + b"Z", "not in the cache\n"), (b"gateway-17.north.radiology.example.org", None), (b"\x12" + sender[1:], None),
                             (sender[:3] + b"\x04" + sender[4:], None)):
@@ -151,15 +159,16 @@ class Files(Case):
                 (b"", "no saved state: it has 0 bytes, and the header alone has 36"), (right[:35], "no saved state: it has 35 bytes"),
                 (b"x" * 35, "no saved state: it has 35 bytes"), (b"x" * 36, "no saved state: it does not begin with `pradulins-saved`"),
                 (right[1:], "no saved state: it does not begin with"), (TURNED, "no saved state: it does not begin with"),
-                (saved.sealed(TURNED, 1), "the state was saved in format 1, and format 2 is read"),
-                (saved.sealed(TURNED[:-1], 3)[:-1], "the state was saved in format 3, and format 2 is read"),
+                (saved.sealed(TURNED, 1), "the state was saved in format 1, and format 3 is read"),
+                (saved.sealed(TURNED[:saved.NODE_SIZE - 8] + TURNED[saved.NODE_SIZE:], 2), "the state was saved in format 2, and format 3 is read"),
+                (saved.sealed(TURNED[:-1], 4)[:-1], "the state was saved in format 4, and format 3 is read"),
                 (right[:-1], "the saved state has %d bytes after its header, which says %d" % (len(TURNED) - 1, len(TURNED))),
                 (right + b"\x00", "the saved state has %d bytes after its header, which says %d" % (len(TURNED) + 1, len(TURNED))),
-                (long, "the saved state has 307601 bytes after its header, and the largest has 307600"),
-                (long + bytes(9), "the saved state has 307610 bytes after its header, which says 307601"),
+                (long, "the saved state has 307609 bytes after its header, and the largest has 307608"),
+                (long + bytes(9), "the saved state has 307618 bytes after its header, which says 307609"),
                 (right[:-1] + b"\x01", "the saved state was damaged: its checksum is another"),
                 (right[:28] + bytes(8) + right[36:], "the saved state was damaged"),
-                (head.pack(saved.NAME, 2, 0, 1), "the saved state was damaged")):
+                (head.pack(saved.NAME, 3, 0, 1), "the saved state was damaged")):
             path = self.file("other", data)
             err = self.wrong(path, A04, "t", "1")
             self.assertTrue(err.startswith("why: %s: %s" % (path, words)), err)
@@ -180,7 +189,7 @@ class Files(Case):
         self.assertEqual(saved.checksum(b"123456789"), 0x995dc9bbdf1939fa)
         self.assertEqual(saved.checksum(b""), 0)
         self.assertEqual((len(saved.sealed(b"")), saved.opened(saved.sealed(b"abc"))), (36, b"abc"))
-        self.assertEqual(saved.sealed(b"123456789"), b"pradulins-saved\n\x02\0\0\0\x09\0\0\0\0\0\0\0" + (0x995dc9bbdf1939fa).to_bytes(8, "little") + b"123456789")
+        self.assertEqual(saved.sealed(b"123456789"), b"pradulins-saved\n\x03\0\0\0\x09\0\0\0\0\0\0\0" + (0x995dc9bbdf1939fa).to_bytes(8, "little") + b"123456789")
         with open(os.path.join(TOP, "host", "src", "saved.rs")) as file:
             crate = file.read()
         self.assertIn('b"pradulins-saved\\n"', crate)

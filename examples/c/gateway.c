@@ -38,8 +38,8 @@
 
 #include "pradulins.h"
 
-/* The settings of a new gateway. An id counts as seen for an hour. */
-enum { TTL = 3600000, MAX_SEEN = 256, HISTORY_LEN = 4, MAX_MESSAGES = 64 };
+/* The settings of a new gateway. An id counts as seen for an hour, and every message must be signed: PRADULINS_ALLOW_UNSIGNED is for a training mesh alone. */
+enum { TTL = 3600000, MAX_SEEN = 256, HISTORY_LEN = 4, MAX_MESSAGES = 64, FLAGS = 0 };
 
 /* The most windows that are offered. */
 enum { WINDOWS = 4 };
@@ -52,7 +52,7 @@ struct gateway {
 };
 
 /* The settings and the state of a gateway, as pradulins_settings and pradulins_state hand them out. */
-enum { SET_TTL, SET_MAX_SEEN, SET_HISTORY_LEN, SET_MAX_MESSAGES };
+enum { SET_TTL, SET_MAX_SEEN, SET_HISTORY_LEN, SET_MAX_MESSAGES, SET_FLAGS };
 enum { STATE_CLOCK, STATE_SEEN, STATE_MESSAGES };
 
 /* ---- what goes wrong */
@@ -221,6 +221,8 @@ static int load(struct gateway *g, const char *path)
     uint32_t r = pradulins_settings(g->node, values);
     if (r)
         return refused(path, r, values);
+    if (values[SET_FLAGS] != FLAGS)
+        return failed(path, "the state is of a gateway with other flags: one of a training mesh is not for production");
     if (lend_stores(g, values[SET_MAX_SEEN], values[SET_MAX_MESSAGES]))
         return 1;
     if (len - HEADER - PRADULINS_NODE_SIZE != g->seen_len + g->cache_len)
@@ -353,7 +355,7 @@ static int speak(uint8_t body[PRADULINS_OUT_SIZE], size_t *len)
     if (r)
         return refused("the notice", r, values);
     put_signature(parts + SIGNATURE_AT, sign, values[0]);
-    r = pradulins_write_rpc(rows[0], COUNT * PRADULINS_RECORD_WORDS, parts, sizeof parts, body, PRADULINS_OUT_SIZE, values);
+    r = pradulins_write_rpc(rows[0], COUNT * PRADULINS_RECORD_WORDS, parts, sizeof parts, FLAGS, body, PRADULINS_OUT_SIZE, values);
     if (r)
         return refused("the notice", r, values);
     *len = values[0];
@@ -473,7 +475,7 @@ int main(int argc, char **argv)
             return 1;
         puts("loaded");
     } else if (errno == ENOENT) {
-        uint32_t r = pradulins_start(g.node, TTL, MAX_SEEN, HISTORY_LEN, MAX_MESSAGES);
+        uint32_t r = pradulins_start(g.node, TTL, MAX_SEEN, HISTORY_LEN, MAX_MESSAGES, FLAGS);
         if (r)
             return failed("the settings", pradulins_refusal_text(r));
         if (lend_stores(&g, MAX_SEEN, MAX_MESSAGES))

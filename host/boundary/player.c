@@ -2,8 +2,9 @@
  * Plays the records of the programs `inspect`, `trace`, `states` and `why` through pradulins.h, and prints their lines: on the same input the same lines are
  * expected. For what the interface does not have (kinds 6 to 9 of `inspect`, 9 and 10 of `states`) the line is the record's number and `-`. Beside that
  * it watches the memory of each call: a refused one changes none but `values`, one that succeeds writes only what it counts, and `values` gets as many
- * numbers as the header says. Each call on a body or on rows is made again with room that just suffices and with one byte or number less. Before each call on a
- * node, pradulins_settings and pradulins_state are asked: they tell what stands in the node's bytes, or the refusal that the call then answers.
+ * numbers as the header says. Each call on a body or on rows is made again with room that just suffices and with one byte or number less. Rows are also written where
+ * unsigned messages are allowed, which changes nothing where all messages have a signature, and under flags that are not known. Before each call on a node,
+ * pradulins_settings and pradulins_state are asked: they tell what stands in the node's bytes, or the refusal that the call then answers.
  */
 #include "player.h"
 
@@ -14,7 +15,7 @@
 #include "pradulins.h"
 
 /* The lengths of the programs' own buffers. */
-enum { CONTENT = 307600, SEEN = 33282, CACHE = 266240, MADE = 65600, ROWS = 640 };
+enum { CONTENT = 307608, SEEN = 33282, CACHE = 266240, MADE = 65600, ROWS = 640 };
 
 #define UNTOUCHED 0x5e5e5e5e5e5e5e5eu
 
@@ -338,14 +339,36 @@ static int read_rows(size_t at, size_t len, size_t count, size_t *end)
     return 1;
 }
 
-static uint32_t rows_call(uint64_t kind, size_t count, const uint8_t *bytes, size_t len, size_t index, size_t room)
+static uint32_t rows_call(uint64_t kind, size_t count, const uint8_t *bytes, size_t len, uint32_t flags, size_t index, size_t room)
 {
     size_t words = count * PRADULINS_RECORD_WORDS;
     before();
-    uint32_t r = kind == 10 ? pradulins_write_rpc(rows, words, bytes, len, made, room, values)
+    uint32_t r = kind == 10 ? pradulins_write_rpc(rows, words, bytes, len, flags, made, room, values)
                             : pradulins_sign_fields(rows, words, bytes, len, index, made, room, values);
     after(r, 1, r ? 0 : values[0], 0, 1);
     return r;
+}
+
+/* Whether each message among the rows has a signature. */
+static int all_signed(size_t count)
+{
+    for (const uint64_t *row = rows; row < rows + count * PRADULINS_RECORD_WORDS; row += PRADULINS_RECORD_WORDS)
+        if (row[PRADULINS_RECORD_KIND] == PRADULINS_KIND_MESSAGE && !row[PRADULINS_RECORD_FIELD(3)])
+            return 0;
+    return 1;
+}
+
+/* The rows written under other flags: they answered `r` with `first` under none. What is then made, where they are written, stands in `made` already. */
+static void other_flags(size_t count, const uint8_t *bytes, size_t len, size_t room, uint32_t r, uint64_t first)
+{
+    static const uint32_t unknown[] = {2, 3, UINT32_C(1) << 16, UINT32_MAX};
+    for (size_t i = 0; i < sizeof unknown / sizeof *unknown; i++)
+        expect(rows_call(10, count, bytes, len, unknown[i], 0, room) == PRADULINS_BAD_SETTING, "flags that are not known are taken");
+    uint32_t allowed = rows_call(10, count, bytes, len, PRADULINS_ALLOW_UNSIGNED, 0, room);
+    if (!all_signed(count))
+        return;
+    expect(allowed == r && ((r && pradulins_refusal_values(r) == 0) || values[0] == first), "another answer where unsigned messages are allowed");
+    expect(r || memcmp(made, made_before, sizeof made) == 0, "other bytes where unsigned messages are allowed");
 }
 
 /* room, count, so many rows, and the bytes that they are over; before that, of kind 11, an index. */
@@ -358,7 +381,7 @@ static int inspect_rows(uint64_t kind, size_t len)
     if (room > MADE || count > ROWS || !read_rows(at + 6, len, count, &end))
         return 0;
     on_rows = 1;
-    uint32_t r = rows_call(kind, count, content + end, len - end, index, room);
+    uint32_t r = rows_call(kind, count, content + end, len - end, 0, index, room);
     uint64_t first = values[0];
     start_line(kind == 10 ? "write" : "tosign");
     if (r)
@@ -366,13 +389,15 @@ static int inspect_rows(uint64_t kind, size_t len)
     else
         put_made();
     putchar('\n');
+    if (kind == 10)
+        other_flags(count, content + end, len - end, room, r, first);
     /* The same answer with room that just suffices, and with none where it is refused; 12 with less. */
     int made_it = r == 0 || (r == PRADULINS_ROOM && first <= MADE);
     size_t needed = made_it ? first : 0;
-    uint32_t again = rows_call(kind, count, content + end, len - end, index, needed);
+    uint32_t again = rows_call(kind, count, content + end, len - end, 0, index, needed);
     expect(again == (made_it ? 0 : r) && ((r && pradulins_refusal_values(r) == 0) || values[0] == first), "another answer with just enough room");
     if (needed > 0)
-        expect(rows_call(kind, count, content + end, len - end, index, needed - 1) == PRADULINS_ROOM && values[0] == first,
+        expect(rows_call(kind, count, content + end, len - end, 0, index, needed - 1) == PRADULINS_ROOM && values[0] == first,
                "no refusal 12 with too little room");
     on_rows = 0;
     return 1;
@@ -414,16 +439,16 @@ static int inspect(uint64_t kind, size_t len)
 
 /* ---- trace and states */
 
-/* The settings of a record, for a node that keeps at most `most` messages. */
-static int set(size_t len, size_t most)
+/* The settings of a record, for a node that keeps at most `most` messages; behind them stand flags, of so many bytes. */
+static int set(size_t len, size_t most, size_t flags_len)
 {
-    if (len != 14)
+    if (len != 14 + flags_len)
         return 0;
     uint64_t max_seen = number_at(content, 8, 2), history_len = number_at(content, 10, 2), max_messages = number_at(content, 12, 2);
     uint32_t r = PRADULINS_BAD_SETTING;
     before();
     if (max_messages <= most)
-        r = pradulins_start(node, number_at(content, 0, 8), max_seen, history_len, max_messages);
+        r = pradulins_start(node, number_at(content, 0, 8), max_seen, history_len, max_messages, (uint32_t)number_at(content, 14, flags_len));
     after(r, 0, 0, 0, 0);
     start_line("set");
     if (r) {
@@ -443,10 +468,10 @@ static uint32_t told_fault(void)
 {
     before();
     uint32_t settings = pradulins_settings(node, values);
-    after(settings, 4, 0, 0, 1);
+    after(settings, 5, 0, 0, 1);
     if (settings == 0)
         expect(values[0] == number_at(node, 0, 8) && values[1] == number_at(node, 8, 8) && values[2] == number_at(node, 40, 8)
-               && values[3] == number_at(node, 48, 8), "other settings are told");
+               && values[3] == number_at(node, 48, 8) && values[4] == number_at(node, 12432, 8), "other settings are told");
     before();
     uint32_t state = pradulins_state(node, seen, seen_len, cache, cache_len, values);
     after(state, 3, 0, 0, 1);
@@ -579,7 +604,7 @@ static int why(size_t len, int full)
 static int trace(uint64_t kind, size_t len)
 {
     if (kind == 1)
-        return set(len, 8);
+        return set(len, 8, 0);
     if (!started)
         return 0;
     switch (kind) {
@@ -684,6 +709,8 @@ static int hurt(size_t len)
         set_number(11408 + p % 256 * 2, 2, value);
     } else if (what == 21) {
         set_number(11920 + p % 256 * 2, 2, value);
+    } else if (what == 22) {
+        set_number(12432, 8, value);
     } else {
         set_number(3152 + p % 8192, 1, value);
     }
@@ -732,7 +759,7 @@ static int states(uint64_t kind, size_t len)
 {
     switch (kind) {
     case 1:
-        return set(len, 65535);
+        return set(len, 65535, 0);
     case 2:
         return admit(len, 1);
     case 3:
@@ -754,6 +781,8 @@ static int states(uint64_t kind, size_t len)
         return state();
     case 12:
         return why(len, 1);
+    case 21:
+        return set(len, 65535, 2);
     default:
         return 0;
     }
@@ -765,7 +794,7 @@ int play(const char *program)
                                     : strcmp(program, "why") == 0 ? why_program : states;
     size_t most = call == trace || call == why_program ? 32768 : 65600, largest = call == why_program ? CONTENT : most;
     if (call == states)
-        pradulins_start(node, 0, 0, 1, 0);
+        pradulins_start(node, 0, 0, 1, 0, 0);
     for (n = 1;; n++) {
         uint64_t kind = 0;
         size_t len = 0;

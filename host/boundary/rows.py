@@ -325,6 +325,87 @@ SENDERS = (
 )
 
 
+# The unsigned form of X, and what is told of it with one change where unsigned messages are allowed, for either word.
+U = message(signature=None)
+TRAINING = ("flagged", 1000, 4, 2, 4, 1)
+BARE = (
+    (U, "new"), (message(signature=None, key=b""), "24"), (message(signature=None, key=key_of(1)), "24"), (message(signature=b""), "26 0"),
+    (message(who=b"A", signature=None), "34"), (message(who=b"A" * 65, signature=None), "22 65"), (message(who=None, signature=None), "21"),
+    (message(who=b"A", signature=None, seqno=None), "34"), (message(signature=None, seqno=None), "23"), (message(signature=None, seqno=bytes(65)), "23"),
+    (message(who=identity(b""), signature=None), "new"), (message(who=identity(b"ABC"), signature=None), "new"), (message(who=HASH, signature=None), "new"),
+    (message(who=identity(bytes(43)), signature=None), "34"), (message(signature=None, topics=()), "28 0"), (message(signature=None, topics=(b"t",) * 5), "28 5"),
+    (message(signature=None, topics=(b"t", bytes(1025))), "29 1025"), (message(signature=None, data=bytes(4097 - 46 - 3)), "30 4097"),
+    (message(signature=None, data=bytes(4096 - 46 - 3)), "new"),
+)
+
+
+def training():
+    """The same for a mesh whose gateways have no keys."""
+    for flags in (2, 3, 65535):
+        yield ("flagged", 1000, 4, 2, 4, flags), "set refused 40"
+    for bad in ((257, 2, 4), (4, 0, 4), (4, 17, 4), (4, 2, 65)):
+        yield ("flagged", 1000, *bad, 1), "set refused 40"
+    # Both forms of an id are new, each once, whichever comes first; what is kept is the first.
+    for first, second in ((U, X), (X, U)):
+        yield TRAINING, "set ok"
+        yield ("ask", ROOM, OFFER), "ask 45 " + REQUEST.hex()
+        yield ("admit", 100, 0, 1, first), "admit new"
+        yield ("ask", ROOM, OFFER), "ask 0"
+        yield ("admit", 100, 0, 0, X), "admit refused 27"
+        yield ("admit", 100, 0, 1, second), "admit new"
+        for body in (first, second):
+            yield ("admit", 100, 0, 1, body), "admit dup"
+        yield ("admit", 100, 0, 0, U), "admit dup"
+        yield ("serve", ROOM, REQUEST), "serve %d %s 1 0" % (len(first), first.hex())
+        yield ("advertise", ROOM, 1, b"t"), "advertise 48 " + OFFER.hex()
+        yield ("why", 1, ID, b"t"), "why listed"
+        # At the end of their time both are new again, and still the first is kept.
+        yield ("admit", 1100, 0, 1, second), "admit new"
+        yield ("admit", 1100, 0, 1, first), "admit new"
+        yield ("serve", ROOM, REQUEST), "serve %d %s 1 0" % (len(first), first.hex())
+    # What is asked of an unsigned message, for either word; of a signed one the same as where all must be.
+    for body, told in BARE:
+        for word in (0, 1):
+            yield TRAINING, "set ok"
+            yield ("admit", 100, 0, word, body), "admit new" if told == "new" else "admit refused " + told
+            yield ("admit", 99, 0, 1 - word, body), "admit refused " + ("31 100" if told == "new" else told)
+            yield ("admit", 100, 0, 1 - word, body), "admit dup" if told == "new" else "admit refused " + told
+    for body, told in SENDERS:
+        yield TRAINING, "set ok"
+        told = "new" if told == "25" else told
+        yield ("admit", 100, 0, 1, body), "admit new" if told == "new" else "admit refused " + told
+    # An unsigned message is not well formed where it is not allowed, and nothing is under flags that are not known.
+    yield TRAINING, "set ok"
+    yield ("admit", 100, 0, 0, U), "admit new"
+    for flags in (0, 2, 3, TOP):
+        yield ("hurt", program.FLAGS, 0, flags), "hurt ok"
+        yield from calls("42")
+    yield ("hurt", program.FLAGS, 0, 1), "hurt ok"
+    yield ("serve", ROOM, REQUEST), "serve 48 %s 1 0" % U.hex()
+    # Flags that are turned on are not found out; a signed message is well formed under either.
+    yield SETTINGS, "set ok"
+    yield ("admit", 100, 0, 1, U), "admit refused 25"
+    yield ("admit", 100, 0, 1, X), "admit new"
+    for flags, told in ((1, "admit new"), (0, "admit refused 25")):
+        yield ("hurt", program.FLAGS, 0, flags), "hurt ok"
+        yield ("admit", 100, 0, 1, U), told
+        yield ("serve", ROOM, REQUEST), "serve 114 %s 1 0" % X.hex()
+    # Where only the unsigned form is seen, a node that does not allow it asks.
+    yield ("flagged", 1000, 4, 2, 4, 0), "set ok"
+    yield ("admit", 100, 0, 1, X), "admit new"
+    yield ("ask", ROOM, OFFER), "ask 0"
+    yield ("hurt", program.SEEN_BYTE, 0, 0), "hurt ok"
+    for flags, told in ((0, "45 " + REQUEST.hex()), (1, "0"), (0, "45 " + REQUEST.hex())):
+        yield ("hurt", program.FLAGS, 0, flags), "hurt ok"
+        yield ("ask", ROOM, OFFER), "ask " + told
+    # Unsigned messages drive the ids of signed ones out.
+    yield TRAINING, "set ok"
+    yield ("admit", 100, 0, 1, X), "admit new"
+    for n in range(4):
+        yield ("admit", 100, 0, 0, message(signature=None, seqno=bytes([2 + n]))), "admit new"
+    yield ("admit", 100, 0, 1, X), "admit new"
+
+
 def steps():
     """(step, the line without its number)."""
     for bad in ((257, 2, 4), (4, 0, 4), (4, 17, 4), (4, 2, 65)):
@@ -427,6 +508,7 @@ def steps():
     yield ("ask", 45, OFFER.replace(ID, OTHER)), "ask 45 " + REQUEST.replace(ID, OTHER).hex()
     # Nothing was changed by all that.
     yield ("admit", 100, 0, 1, X), "admit dup"
+    yield from training()
 
 
 def states():

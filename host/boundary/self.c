@@ -2,7 +2,8 @@
  * The calls of pradulins.h that no program has a line for: settings and state of a node, version and format, and the words for refusals. They are
  * made on nodes that are fresh, filled and damaged, and on stores of other lengths. Each time the answer and the values are tested, that values which
  * are not named stay, and that no byte of the node and the stores changed. And rows that no record of a program can say: flags that are neither 0 nor 1, numbers
- * where nothing is to be looked at, a table that is no whole rows, and the table that decode wrote.
+ * where nothing is to be looked at, a table that is no whole rows, and the table that decode wrote. And a node's flags, and messages that nobody signed, admitted and
+ * written.
  */
 #include "player.h"
 
@@ -54,12 +55,12 @@ static void after(int count, const uint64_t *wanted, const char *what)
 
 /* ---- calls */
 
-static void settings_are(uint64_t ttl, uint64_t max_seen, uint64_t history_len, uint64_t max_messages)
+static void settings_are(uint64_t ttl, uint64_t max_seen, uint64_t history_len, uint64_t max_messages, uint64_t flags)
 {
-    const uint64_t wanted[] = {ttl, max_seen, history_len, max_messages};
+    const uint64_t wanted[] = {ttl, max_seen, history_len, max_messages, flags};
     before();
     expect(pradulins_settings(node, values) == PRADULINS_OK, "the settings are refused");
-    after(4, wanted, "other settings");
+    after(5, wanted, "other settings");
 }
 
 static void settings_are_refused(void)
@@ -123,7 +124,7 @@ static void with_number(size_t at, uint64_t value, void (*test)(void))
 
 /* Where the numbers stand: crates/stored/specs/Layout.antt. */
 enum { TTL_AT = 0, MAX_SEEN_AT = 8, CLOCK_AT = 16, SEEN_COUNT_AT = 32, HISTORY_AT = 40, MAX_MESSAGES_AT = 48, COUNT_AT = 72, EXPIRIES_AT = 80 };
-enum { IDS_AT = 3152, TOPIC_COUNTS_AT = 11344, TOPIC_STARTS_AT = 11408, TOPIC_LENGTHS_AT = 11920 };
+enum { IDS_AT = 3152, TOPIC_COUNTS_AT = 11344, TOPIC_STARTS_AT = 11408, TOPIC_LENGTHS_AT = 11920, FLAGS_AT = 12432 };
 
 /* Sets a byte of the newest message's sender, in its place and in its id, tests, and sets it back. Both rings begin anew with the fourth message. */
 static void with_sender(size_t at, uint8_t value, void (*test)(void))
@@ -137,47 +138,67 @@ static void with_sender(size_t at, uint8_t value, void (*test)(void))
 
 static void refused_42(void)
 {
-    settings_are(1000, 4, 2, 3);
+    settings_are(1000, 4, 2, 3, 0);
     state_is_refused(4 * 129, 3 * 4096, PRADULINS_MALFORMED);
 }
 
 static void taken(void)
 {
-    settings_are(1000, 4, 2, 3);
+    settings_are(1000, 4, 2, 3, 0);
     state_is(4 * 129, 3 * 4096, 103, 4, 3);
 }
 
 static void another_ttl(void)
 {
-    settings_are(UINT64_MAX, 4, 2, 3);
+    settings_are(UINT64_MAX, 4, 2, 3, 0);
     state_is(4 * 129, 3 * 4096, 103, 4, 3);
+}
+
+/* That unsigned messages are allowed is not found out, where none is kept. */
+static void other_flags(void)
+{
+    settings_are(1000, 4, 2, 3, 1);
+    state_is(4 * 129, 3 * 4096, 103, 4, 3);
+}
+
+/* Flags that are not known: they are no settings, and every call finds them. */
+static void unknown_flags(void)
+{
+    settings_are_refused();
+    state_is_refused(4 * 129, 3 * 4096, PRADULINS_MALFORMED);
 }
 
 static void another_clock(void)
 {
-    settings_are(1000, 4, 2, 3);
+    settings_are(1000, 4, 2, 3, 0);
     state_is(4 * 129, 3 * 4096, 0xfedcba9876543210, 4, 3);
 }
 
 static void nodes(void)
 {
-    static const uint64_t legal[][4] = {{0, 0, 1, 0}, {UINT64_MAX, 256, 16, 64}, {3600000, 1, 2, 3}};
+    static const uint64_t legal[][5] = {{0, 0, 1, 0, 0}, {UINT64_MAX, 256, 16, 64, 1}, {3600000, 1, 2, 3, 0}, {0, 0, 1, 0, PRADULINS_ALLOW_UNSIGNED}};
+    static const uint32_t unknown[] = {2, 3, 4, UINT32_C(1) << 31, UINT32_MAX};
     memset(seen, 0xa5, sizeof seen);
     memset(cache, 0xa5, sizeof cache);
     for (size_t i = 0; i < sizeof legal / sizeof *legal; i++) {
         const uint64_t *s = legal[i];
-        expect(pradulins_start(node, s[0], s[1], s[2], s[3]) == PRADULINS_OK, "settings are refused at start");
-        settings_are(s[0], s[1], s[2], s[3]);
+        expect(pradulins_start(node, s[0], s[1], s[2], s[3], (uint32_t)s[4]) == PRADULINS_OK, "settings are refused at start");
+        settings_are(s[0], s[1], s[2], s[3], s[4]);
         state_is(PRADULINS_SEEN_STORE_SIZE(s[1]), PRADULINS_CACHE_STORE_SIZE(s[3]), 0, 0, 0);
+    }
+    for (size_t i = 0; i < sizeof unknown / sizeof *unknown; i++) {
+        before();
+        expect(pradulins_start(node, 0, 0, 1, 0, unknown[i]) == PRADULINS_BAD_SETTING, "flags that are not known are taken at start");
+        after(0, NULL, "values beside a refusal of a start");
     }
 
     /* Filled. */
-    expect(pradulins_start(node, 1000, 4, 2, 3) == PRADULINS_OK, "settings are refused at start");
+    expect(pradulins_start(node, 1000, 4, 2, 3, 0) == PRADULINS_OK, "settings are refused at start");
     for (uint8_t i = 0; i < 4; i++) {
         admit('A' + i, 100 + i, 4 * 129, 3 * 4096);
         state_is(4 * 129, 3 * 4096, 100 + i, i + 1u, i < 3 ? i + 1u : 3);
     }
-    settings_are(1000, 4, 2, 3);
+    settings_are(1000, 4, 2, 3, 0);
 
     /* Stores of other lengths. */
     state_is_refused(3 * 129, 3 * 4096, PRADULINS_BAD_SETTING);
@@ -221,7 +242,14 @@ static void nodes(void)
     with_number(TOPIC_LENGTHS_AT + 8, 0, refused_42);
     with_number(TOPIC_LENGTHS_AT + 16, 0xffff, refused_42);
     with_number(TOPIC_LENGTHS_AT, 0xffffffffffff0001, taken);
-    with_number(PRADULINS_NODE_SIZE - 8, UINT64_MAX, taken);
+    with_number(FLAGS_AT - 8, UINT64_MAX, taken);
+    /* Flags. */
+    with_number(FLAGS_AT, PRADULINS_ALLOW_UNSIGNED, other_flags);
+    with_number(FLAGS_AT, 2, unknown_flags);
+    with_number(FLAGS_AT, 3, unknown_flags);
+    with_number(FLAGS_AT, UINT64_C(1) << 32, unknown_flags);
+    with_number(FLAGS_AT, UINT64_C(1) << 63, unknown_flags);
+    with_number(PRADULINS_NODE_SIZE - 8, UINT64_MAX, unknown_flags);
     with_number(TTL_AT, UINT64_MAX, another_ttl);
     with_number(CLOCK_AT, 0xfedcba9876543210, another_clock);
     state_is(4 * 129, 3 * 4096, 103, 4, 3);
@@ -251,7 +279,7 @@ static void rows_say(size_t words, const uint8_t *bytes, size_t len, const uint8
 {
     const uint64_t wanted[] = {body_len};
     before_rows();
-    expect(pradulins_write_rpc(rows, words, bytes, len, out, sizeof out, values) == PRADULINS_OK, "rows are refused");
+    expect(pradulins_write_rpc(rows, words, bytes, len, 0, out, sizeof out, values) == PRADULINS_OK, "rows are refused");
     after(1, wanted, "another number of bytes");
     expect(memcmp(out, body, body_len) == 0, "another body");
     for (size_t i = body_len; i < sizeof out; i++)
@@ -262,8 +290,10 @@ static void rows_say(size_t words, const uint8_t *bytes, size_t len, const uint8
 static void rows_are_none(size_t words, const uint8_t *bytes, size_t len)
 {
     before_rows();
-    expect(pradulins_write_rpc(rows, words, bytes, len, out, sizeof out, values) == PRADULINS_MALFORMED, "rows that are none are written");
+    expect(pradulins_write_rpc(rows, words, bytes, len, 0, out, sizeof out, values) == PRADULINS_MALFORMED, "rows that are none are written");
     after(0, NULL, "values beside 42");
+    expect(pradulins_write_rpc(rows, words, bytes, len, 2, out, sizeof out, values) == PRADULINS_BAD_SETTING, "flags that are not known are taken");
+    after(0, NULL, "values beside 40");
     expect(pradulins_sign_fields(rows, words, bytes, len, 0, out, sizeof out, values) == PRADULINS_MALFORMED, "rows that are none are signed");
     after(0, NULL, "values beside 42");
     for (size_t i = 0; i < sizeof out; i++)
@@ -338,6 +368,109 @@ static void read_and_said(void)
     expect(memcmp(sign, out, 60) == 0, "other bytes to sign than are verified");
 }
 
+/* ---- messages that nobody signed */
+
+/* A body with one message without signature and key, of the same id as put_notice's. */
+enum { UNSIGNED = 48 };
+
+static void put_unsigned(uint8_t body[UNSIGNED], uint8_t key)
+{
+    uint8_t whole[NOTICE];
+    put_notice(whole, key);
+    memcpy(body, whole, UNSIGNED);
+    body[1] = UNSIGNED - 2;
+}
+
+/* What an admit answers: a refusal, and nothing changed; or new (1) or not (0). */
+static void admits(const uint8_t *body, size_t len, bool verified, uint32_t number, int is_new, size_t seen_len, size_t cache_len)
+{
+    before();
+    uint32_t r = pradulins_admit(node, seen, seen_len, cache, cache_len, body, len, 0, verified, 100, values);
+    expect(r == number, "an admit answers otherwise");
+    if (r)
+        after(0, NULL, "values beside a refusal of an admit");
+    else
+        expect(values[0] == (uint64_t)is_new && values[1] == UNTOUCHED, "new is not told as new, or not as a duplicate");
+}
+
+static void refused_without_the_flag(void)
+{
+    settings_are(1000, 4, 2, 3, 0);
+    state_is_refused(4 * 129, 3 * 4096, PRADULINS_MALFORMED);
+}
+
+/* A training mesh: both forms of one id are new, each once, and the first is kept; flags that are taken from a node that keeps an unsigned message are found. */
+static void unsigned_messages(void)
+{
+    static const uint8_t ask_head[] = {0x1a, 0x2e, 0x0a, 0x2c, 0x0a, 1, 't', 0x12, 0x27}, serve_head[] = {0x1a, 0x2b, 0x12, 0x29, 0x0a, 0x27};
+    uint8_t with[NOTICE], without[UNSIGNED], offer[sizeof ask_head + 39], request[sizeof serve_head + 39], made[NOTICE];
+    put_notice(with, 'A');
+    put_unsigned(without, 'A');
+    memcpy(offer, ask_head, sizeof ask_head);
+    memcpy(request, serve_head, sizeof serve_head);
+    memcpy(offer + sizeof ask_head, with + 4, 38);
+    memcpy(request + sizeof serve_head, with + 4, 38);
+    offer[sizeof offer - 1] = request[sizeof request - 1] = 1;
+
+    expect(pradulins_start(node, 1000, 4, 2, 3, PRADULINS_ALLOW_UNSIGNED) == PRADULINS_OK, "settings are refused at start");
+    admits(without, UNSIGNED, false, PRADULINS_OK, 1, 4 * 129, 3 * 4096);
+    admits(without, UNSIGNED, true, PRADULINS_OK, 0, 4 * 129, 3 * 4096);
+    expect(pradulins_ask(node, seen, 4 * 129, cache, 3 * 4096, offer, sizeof offer, made, sizeof made, values) == PRADULINS_OK && values[0] == 0,
+           "what was seen unsigned is asked for");
+    admits(with, NOTICE, false, PRADULINS_NOT_VERIFIED, 0, 4 * 129, 3 * 4096);
+    admits(with, NOTICE, true, PRADULINS_OK, 1, 4 * 129, 3 * 4096);
+    admits(with, NOTICE, true, PRADULINS_OK, 0, 4 * 129, 3 * 4096);
+    state_is(4 * 129, 3 * 4096, 100, 2, 1);
+    expect(pradulins_serve(node, seen, 4 * 129, cache, 3 * 4096, request, sizeof request, made, sizeof made, values) == PRADULINS_OK
+           && values[0] == UNSIGNED && values[1] == 1 && values[2] == 0 && memcmp(made, without, UNSIGNED) == 0, "what came first is not served");
+    with_number(FLAGS_AT, 0, refused_without_the_flag);
+
+    /* A node without the flag, in whose list only the unsigned form stands, asks, and refuses what it gets. */
+    expect(pradulins_start(node, 1000, 4, 2, 3, 0) == PRADULINS_OK, "settings are refused at start");
+    admits(without, UNSIGNED, true, PRADULINS_MISSING_SIGNATURE, 0, 4 * 129, 3 * 4096);
+    admits(with, NOTICE, true, PRADULINS_OK, 1, 4 * 129, 3 * 4096);
+    expect(seen[0] == 1, "the mark of the first id stands elsewhere");
+    seen[0] = 0;
+    expect(pradulins_ask(node, seen, 4 * 129, cache, 3 * 4096, offer, sizeof offer, made, sizeof made, values) == PRADULINS_OK
+           && values[0] == sizeof request && memcmp(made, request, sizeof request) == 0, "what was seen signed alone is not asked for");
+    seen[0] = 1;
+}
+
+/* What pradulins_write_rpc makes of the rows of a message, under flags. */
+static void writes(size_t words, const uint8_t *bytes, size_t len, uint32_t flags, uint32_t number, uint64_t beside, const uint8_t *body)
+{
+    before_rows();
+    expect(pradulins_write_rpc(rows, words, bytes, len, flags, out, sizeof out, values) == number, "a message is written otherwise");
+    after(number && !pradulins_refusal_values(number) ? 0 : 1, &beside, "another value beside a written message");
+    expect(number || memcmp(out, body, beside) == 0, "another body of a message");
+    for (size_t i = number ? 0 : beside; i < sizeof out; i++)
+        expect(out[i] == 0x5e, "a byte behind a written message changed");
+}
+
+static void unsigned_messages_written(void)
+{
+    uint8_t with[NOTICE], without[UNSIGNED];
+    size_t words = 2 * PRADULINS_RECORD_WORDS;
+    put_notice(with, 'A');
+    put_unsigned(without, 'A');
+    expect(pradulins_decode(without, UNSIGNED, rows, ROWS * PRADULINS_RECORD_WORDS, values) == PRADULINS_OK && values[0] == 2, "a body is not read");
+    writes(words, without, UNSIGNED, 0, PRADULINS_SIGNATURE_LENGTH, 0, NULL);
+    writes(words, without, UNSIGNED, PRADULINS_ALLOW_UNSIGNED, PRADULINS_OK, UNSIGNED, without);
+    writes(words, without, UNSIGNED, 2, PRADULINS_BAD_SETTING, 0, NULL);
+    writes(words - 1, without, UNSIGNED, 3, PRADULINS_BAD_SETTING, 0, NULL);
+    writes(words - 1, without, UNSIGNED, PRADULINS_ALLOW_UNSIGNED, PRADULINS_MALFORMED, 0, NULL);
+    /* A key alone, whatever it is; and a signature of no bytes. */
+    pradulins_row_field(rows, 4, 0, 0);
+    writes(words, without, UNSIGNED, PRADULINS_ALLOW_UNSIGNED, PRADULINS_KEY_WITHOUT_SIGNATURE, 0, NULL);
+    writes(words, without, UNSIGNED, 0, PRADULINS_SIGNATURE_LENGTH, 0, NULL);
+    pradulins_row_field(rows, 3, 0, 0);
+    writes(words, without, UNSIGNED, PRADULINS_ALLOW_UNSIGNED, PRADULINS_SIGNATURE_LENGTH, 0, NULL);
+    /* A signed one, under either. */
+    expect(pradulins_decode(with, NOTICE, rows, ROWS * PRADULINS_RECORD_WORDS, values) == PRADULINS_OK && values[0] == 2, "a body is not read");
+    writes(words, with, NOTICE, 0, PRADULINS_OK, NOTICE, with);
+    writes(words, with, NOTICE, PRADULINS_ALLOW_UNSIGNED, PRADULINS_OK, NOTICE, with);
+}
+
 /* ---- words */
 
 static void words(void)
@@ -373,6 +506,8 @@ int test_self(void)
     nodes();
     lists();
     read_and_said();
+    unsigned_messages();
+    unsigned_messages_written();
     printf("%d checks, %d failed\n", checks, faults);
     return faults ? 1 : 0;
 }

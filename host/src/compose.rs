@@ -1,6 +1,6 @@
 //! Speaking first: an RPC of the host's own, from records, and the bytes to sign of a message before it is signed.
 
-use crate::{answered, made, sys, Record, Refusal, MAX_BODY, RECORD_WORDS, VALUES};
+use crate::{answered, fits, flags, made, sys, Record, Refusal, MAX_BODY, RECORD_WORDS, VALUES};
 
 /// The bytes of the RPC that records say: those that a host made ([`Rpc`] makes them for it), or those of [`decode`](crate::decode).
 ///
@@ -10,19 +10,35 @@ use crate::{answered, made, sys, Record, Refusal, MAX_BODY, RECORD_WORDS, VALUES
 ///
 /// Refused: [`Refusal::Malformed`], of a topic without a message or a peer without a prune before it, and of offers, requests and ids, which are not written so;
 /// [`Refusal::TooManyRecords`]; what admission would refuse of a message (21, 22, 34, 23, 26, 35, 36, 28, 29, 30), message by message, where an absent signature
-/// is one of 0 bytes; [`Refusal::RpcTooLong`].
+/// is one of 0 bytes ([`Rpc::allow_unsigned`] has such messages written); [`Refusal::RpcTooLong`].
+///
+/// # Panics
+///
+/// If the program is linked with an archive of another version.
 pub fn write_rpc(records: &[Record<'_>]) -> Result<Vec<u8>, Refusal> {
-    let rows = Rows::of(records);
-    made(MAX_BODY, |out, values| sys::write_rpc(&rows.table, &rows.bytes, out, values))
+    written(records, false)
 }
 
 /// The same into a lent buffer; how many bytes were written.
 ///
 /// Refused also: [`Refusal::Room`].
 pub fn write_rpc_into(records: &[Record<'_>], out: &mut [u8]) -> Result<usize, Refusal> {
+    written_into(records, false, out)
+}
+
+// An archive of an earlier version takes no flags: it is not to be called.
+
+fn written(records: &[Record<'_>], allow_unsigned: bool) -> Result<Vec<u8>, Refusal> {
+    fits(sys::format(), sys::version());
+    let rows = Rows::of(records);
+    made(MAX_BODY, |out, values| sys::write_rpc(&rows.table, &rows.bytes, flags(allow_unsigned), out, values))
+}
+
+fn written_into(records: &[Record<'_>], allow_unsigned: bool, out: &mut [u8]) -> Result<usize, Refusal> {
+    fits(sys::format(), sys::version());
     let rows = Rows::of(records);
     let mut values = [0; VALUES];
-    answered(sys::write_rpc(&rows.table, &rows.bytes, out, &mut values), &values)?;
+    answered(sys::write_rpc(&rows.table, &rows.bytes, flags(allow_unsigned), out, &mut values), &values)?;
     Ok(values[0] as usize)
 }
 
@@ -118,6 +134,7 @@ impl Rows {
 #[derive(Clone, Debug, Default, PartialEq, Eq)]
 pub struct Rpc<'a> {
     records: Vec<Record<'a>>,
+    allow_unsigned: bool,
 }
 
 impl<'a> Rpc<'a> {
@@ -154,6 +171,21 @@ impl<'a> Rpc<'a> {
         self
     }
 
+    /// A message that nobody signs, for a training mesh. It is refused when it is written, as not signed (26 with 0), unless [`Rpc::allow_unsigned`] was said. A draft
+    /// with a key is then refused, too ([`Refusal::KeyWithoutSignature`]).
+    pub fn publish_unsigned(mut self, draft: &Draft<'a>) -> Rpc<'a> {
+        self.records.extend(draft.records(None));
+        self
+    }
+
+    /// Whether messages with neither signature nor key may be written, as they are; `false` unless it is said. Give it
+    /// [`Settings::allow_unsigned`](crate::Settings::allow_unsigned) of the gateways that shall admit them, which is never `true` in production ([Unsigned
+    /// messages](crate#unsigned-messages)).
+    pub fn allow_unsigned(mut self, allow: bool) -> Rpc<'a> {
+        self.allow_unsigned = allow;
+        self
+    }
+
     /// An entry as [`decode`](crate::decode) would give it.
     pub fn push(mut self, record: Record<'a>) -> Rpc<'a> {
         self.records.push(record);
@@ -165,13 +197,20 @@ impl<'a> Rpc<'a> {
         &self.records
     }
 
-    /// Its bytes; refused as by [`write_rpc`].
+    /// Its bytes; refused as by [`write_rpc`], but for messages that nobody signed where [`Rpc::allow_unsigned`] was said.
     pub fn write(&self) -> Result<Vec<u8>, Refusal> {
-        write_rpc(&self.records)
+        written(&self.records, self.allow_unsigned)
+    }
+
+    /// The same into a lent buffer; how many bytes were written.
+    ///
+    /// Refused also: [`Refusal::Room`].
+    pub fn write_into(&self, out: &mut [u8]) -> Result<usize, Refusal> {
+        written_into(&self.records, self.allow_unsigned, out)
     }
 }
 
-/// A message before it is signed, to be published by [`Rpc::publish`].
+/// A message before it is signed, to be published by [`Rpc::publish`]; or one that nobody signs, by [`Rpc::publish_unsigned`].
 ///
 #[cfg_attr(not(no_archive), doc = "```")]
 #[cfg_attr(no_archive, doc = "```no_run")]
@@ -285,6 +324,10 @@ mod tests {
         ];
         assert_eq!(rpc.records(), wanted);
         assert!(Rpc::new().records().is_empty());
+        let bare = Draft { key: None, topics: &["t"], ..draft };
+        let unsigned = Record::Message { raw: b"", from: Some(b"f"), data: Some(b"d"), seqno: Some(b"n"), signature: None, key: None };
+        assert_eq!(Rpc::new().publish_unsigned(&bare).records(), [unsigned, Record::Topic("t")]);
+        assert!(!Rpc::new().allow_unsigned && Rpc::new().allow_unsigned(true).allow_unsigned);
         assert_eq!(Rpc::new().prune("d", None, &[]).records(), [Record::Prune { topic_id: Some("d"), backoff: None }]);
     }
 }

@@ -1,6 +1,6 @@
 //! The node with its two stores.
 
-use crate::{answered, fits, made, sys, Refusal, CACHE_PLACE, MAX_BODY, NODE_SIZE, SEEN_ROW, VALUES};
+use crate::{answered, fits, flags, made, sys, Refusal, ALLOW_UNSIGNED, CACHE_PLACE, MAX_BODY, NODE_SIZE, SEEN_ROW, VALUES};
 
 /// What a gateway keeps, and how long.
 #[derive(Clone, Copy, Debug, PartialEq, Eq, Hash)]
@@ -13,6 +13,9 @@ pub struct Settings {
     pub history_len: usize,
     /// The most messages that are kept: 0 to 64.
     pub max_messages: usize,
+    /// Whether messages that nobody signed, with neither signature nor key, are taken: `false` but in a training mesh ([Unsigned
+    /// messages](crate#unsigned-messages)).
+    pub allow_unsigned: bool,
 }
 
 /// What an admitted message is.
@@ -84,6 +87,7 @@ const SEEN_COUNT: usize = 32;
 const HISTORY_LEN: usize = 40;
 const MAX_MESSAGES: usize = 48;
 const MESSAGE_COUNT: usize = 72;
+const FLAGS: usize = 12432;
 
 /// The number in 8 bytes of a node.
 fn number_at(node: &[u8], at: usize) -> u64 {
@@ -103,8 +107,8 @@ impl Gateway {
     pub fn start(settings: Settings) -> Result<Gateway, Refusal> {
         fits(sys::format(), sys::version());
         let mut node = Box::new([0; NODE_SIZE]);
-        let Settings { ttl, max_seen, history_len, max_messages } = settings;
-        answered(sys::start(&mut node, ttl, max_seen, history_len, max_messages), &[0; VALUES])?;
+        let Settings { ttl, max_seen, history_len, max_messages, allow_unsigned } = settings;
+        answered(sys::start(&mut node, ttl, max_seen, history_len, max_messages, flags(allow_unsigned)), &[0; VALUES])?;
         Ok(Gateway { node, seen: vec![0; max_seen * SEEN_ROW], cache: vec![0; max_messages * CACHE_PLACE] })
     }
 
@@ -112,7 +116,7 @@ impl Gateway {
     /// that the message's key maps to it ([Senders](crate#senders)); `now` is the host's clock ([`Clock::now`](crate::Clock::now)).
     ///
     /// Refused: what is wrong with the body (1 to 7, 10, 11), the index (20) or the message (21, 22, 34, 23 to 26, 35, 36, 27 to 30), in this order, and then
-    /// [`Refusal::ClockBack`].
+    /// [`Refusal::ClockBack`]. With [`Settings::allow_unsigned`] a message with neither signature nor key meets none of 25, 26, 35, 36 and 27, whatever `verified` is.
     pub fn admit(&mut self, body: &[u8], index: usize, verified: bool, now: u64) -> Result<Admitted, Refusal> {
         let mut values = [0; VALUES];
         answered(sys::admit(&mut self.node, &mut self.seen, &mut self.cache, body, index, verified, now, &mut values), &values)?;
@@ -205,6 +209,7 @@ impl Gateway {
             max_seen: self.number(MAX_SEEN) as usize,
             history_len: self.number(HISTORY_LEN) as usize,
             max_messages: self.number(MAX_MESSAGES) as usize,
+            allow_unsigned: self.number(FLAGS) & u64::from(ALLOW_UNSIGNED) != 0,
         }
     }
 
@@ -278,9 +283,9 @@ mod tests {
     fn agree(gateway: &Gateway) {
         let mut values = [u64::MAX; VALUES];
         assert_eq!(sys::settings(&gateway.node, &mut values), 0);
-        let Settings { ttl, max_seen, history_len, max_messages } = gateway.settings();
-        assert_eq!(values[..4], [ttl, max_seen as u64, history_len as u64, max_messages as u64]);
-        assert_eq!(values[4..], [u64::MAX; VALUES - 4]);
+        let Settings { ttl, max_seen, history_len, max_messages, allow_unsigned } = gateway.settings();
+        assert_eq!(values[..5], [ttl, max_seen as u64, history_len as u64, max_messages as u64, allow_unsigned as u64]);
+        assert_eq!(values[5..], [u64::MAX; VALUES - 5]);
         values = [u64::MAX; VALUES];
         assert_eq!(sys::state(&gateway.node, &gateway.seen, &gateway.cache, &mut values), 0);
         assert_eq!(values[..3], [gateway.clock(), gateway.seen() as u64, gateway.messages() as u64]);
@@ -289,8 +294,10 @@ mod tests {
 
     #[test]
     fn what_a_gateway_says_of_itself() {
-        for (ttl, max_seen, history_len, max_messages) in [(0, 0, 1, 0), (1000, 4, 2, 3), (u64::MAX, 256, 16, 64), (3_600_000, 1, 16, 64)] {
-            let settings = Settings { ttl, max_seen, history_len, max_messages };
+        for (ttl, max_seen, history_len, max_messages, allow_unsigned) in
+            [(0, 0, 1, 0, true), (1000, 4, 2, 3, false), (u64::MAX, 256, 16, 64, true), (3_600_000, 1, 16, 64, false)]
+        {
+            let settings = Settings { ttl, max_seen, history_len, max_messages, allow_unsigned };
             let mut gateway = Gateway::start(settings).unwrap();
             agree(&gateway);
             assert_eq!((gateway.settings(), gateway.clock(), gateway.seen(), gateway.messages()), (settings, 0, 0, 0));
@@ -308,9 +315,18 @@ mod tests {
 
     #[test]
     fn bytes_that_nothing_tested() {
-        let mut gateway = Gateway::start(Settings { ttl: 1, max_seen: 1, history_len: 1, max_messages: 1 }).unwrap();
+        let mut gateway = Gateway::start(Settings { ttl: 1, max_seen: 1, history_len: 1, max_messages: 1, allow_unsigned: false }).unwrap();
         let (node, seen, cache) = gateway.parts();
         assert!(Gateway::from_parts(Box::new(*node), seen.to_vec(), cache.to_vec()) == gateway);
+        gateway.node[FLAGS] = 1;
+        assert_eq!((gateway.settings().allow_unsigned, gateway.heartbeat(1)), (true, Ok(())));
+        for flag in [2, 3] {
+            gateway.node[FLAGS] = flag;
+            assert_eq!((gateway.settings().allow_unsigned, gateway.heartbeat(1)), (flag == 3, Err(Refusal::Malformed)));
+        }
+        (gateway.node[FLAGS], gateway.node[NODE_SIZE - 1]) = (0, 1);
+        assert_eq!(gateway.heartbeat(1), Err(Refusal::Malformed));
+        gateway.node[NODE_SIZE - 1] = 0;
         gateway.node[HISTORY_LEN] = 0;
         assert_eq!(gateway.heartbeat(1), Err(Refusal::Malformed));
         gateway.node.fill(0xff);

@@ -15,7 +15,7 @@
 //! # let body = [&[0x12, 0x70, 0x0a, 0x26][..], &sender, &[0x1a, 1, 1, 0x22, 1, b't', 0x2a, 0x40], &[0; 64]].concat();
 //! # let path = std::env::temp_dir().join(format!("pradulins-page-{}", std::process::id()));
 //!
-//! let settings = Settings { ttl: 3_600_000, max_seen: 256, history_len: 4, max_messages: 64 };
+//! let settings = Settings { ttl: 3_600_000, max_seen: 256, history_len: 4, max_messages: 64, allow_unsigned: false };
 //! let mut gateway = match Gateway::load_from(&path) {
 //!     Err(LoadError::Read(why)) if why.kind() == ErrorKind::NotFound => Gateway::start(settings)?, // the first start of all
 //!     loaded => loaded?,
@@ -42,7 +42,7 @@
 #![cfg_attr(not(no_archive), doc = "```")]
 #![cfg_attr(no_archive, doc = "```no_run")]
 //! # use pradulins::{Admitted, Gateway, Settings};
-//! # let settings = Settings { ttl: 3_600_000, max_seen: 256, history_len: 4, max_messages: 64 };
+//! # let settings = Settings { ttl: 3_600_000, max_seen: 256, history_len: 4, max_messages: 64, allow_unsigned: false };
 //! # let (mut first, mut second) = (Gateway::start(settings)?, Gateway::start(settings)?);
 //! # let sender = [&[0, 0x24, 8, 1, 0x12, 0x20][..], &[b'A'; 32]].concat();
 //! # let body = [&[0x12, 0x70, 0x0a, 0x26][..], &sender, &[0x1a, 1, 1, 0x22, 1, b't', 0x2a, 0x40], &[0; 64]].concat();
@@ -65,7 +65,7 @@
 //! # use pradulins::{Admitted, Gateway, Settings};
 //! # fn sign(_bytes: &[u8]) -> [u8; 64] { [0; 64] }
 //! # let sender = [&[0, 0x24, 8, 1, 0x12, 0x20][..], &[b'A'; 32]].concat();
-//! # let mut neighbour = Gateway::start(Settings { ttl: 3_600_000, max_seen: 256, history_len: 4, max_messages: 64 })?;
+//! # let mut neighbour = Gateway::start(Settings { ttl: 3_600_000, max_seen: 256, history_len: 4, max_messages: 64, allow_unsigned: false })?;
 //!
 //! let draft = Draft { from: &sender, seqno: &17u64.to_be_bytes(), data: Some(b"study 17"), topics: &["ct"], key: None };
 //! let signature = sign(&draft.sign_fields()?);
@@ -108,13 +108,35 @@
 //! the sender is a SHA-256, the message must have a key, and `verified` says two things: that the signature verifies under this key, and that the key's SHA-256
 //! is the sender. The library does no cryptography: it takes the host's word for both.
 //!
+//! # Unsigned messages
+//!
+//! In a training mesh, whose gateways have no keys, messages may be without signature and key. [`Settings::allow_unsigned`] lets a gateway take them, and
+//! [`Rpc::allow_unsigned`] lets them be written. Everybody can make such a message, under any sender, so it is never to be set in production. All gateways of a mesh
+//! are to be set alike: one without it asks for what others offer, refuses what is unsigned ([`Refusal::MissingSignature`]), and asks again.
+//!
+//! Signed and unsigned messages are seen apart, and only among the ones or the others is a message new exactly once: a signed and an unsigned message with one
+//! id are both new. The cache keeps the one that came first. A flood of unsigned messages drives ids of signed ones out of the list of seen ids, as other messages
+//! do past `max_seen`.
+//!
+#![cfg_attr(not(no_archive), doc = "```")]
+#![cfg_attr(no_archive, doc = "```no_run")]
+//! # use pradulins::{Admitted, Draft, Gateway, Rpc, Settings};
+//! # let sender = [&[0, 0x24, 8, 1, 0x12, 0x20][..], &[b'A'; 32]].concat();
+//! let settings = Settings { ttl: 3_600_000, max_seen: 256, history_len: 4, max_messages: 64, allow_unsigned: true };
+//! let mut gateway = Gateway::start(settings)?;
+//! let draft = Draft { from: &sender, seqno: &[1], data: Some(b"a study to learn with"), topics: &["ct"], key: None };
+//! let body = Rpc::new().allow_unsigned(settings.allow_unsigned).publish_unsigned(&draft).write()?;
+//! assert_eq!(gateway.admit(&body, 0, false, 1)?, Admitted::New);
+//! # Ok::<(), pradulins::Refusal>(())
+//! ```
+//!
 //! # Saved states
 //!
 //! [`Gateway::save`] writes a name, a format, a length and a checksum before the state, and [`Gateway::load`] says which of them is wrong, in a
 //! [`LoadError`]. The checksum is there since damaged bytes may still be well formed. [`Gateway::save_to`] and [`Gateway::load_from`] do the same
 //! with a file, written so that a crash leaves the old state or the new; [`write_file`] does that for any bytes. At the next start load it, make the
-//! clock by [`Clock::after`], and look at [`Clock::ahead_of`]: a gateway that is started anew has seen nothing. A state that a version before 0.5.0 saved is
-//! refused ([`Refusal::Malformed`]) where it keeps messages of senders that are no peer ids: start a new gateway then.
+//! clock by [`Clock::after`], and look at [`Clock::ahead_of`]: a gateway that is started anew has seen nothing. A state that a version before 0.7.0 saved is
+//! of another format, and refused ([`LoadError::Format`]): start a new gateway then.
 //!
 //! # Sizes
 //!
@@ -129,7 +151,7 @@
 #![cfg_attr(not(no_archive), doc = "```")]
 #![cfg_attr(no_archive, doc = "```no_run")]
 //! # use pradulins::{Gateway, Refusal, Settings};
-//! # let mut gateway = Gateway::start(Settings { ttl: 1000, max_seen: 4, history_len: 2, max_messages: 4 })?;
+//! # let mut gateway = Gateway::start(Settings { ttl: 1000, max_seen: 4, history_len: 2, max_messages: 4, allow_unsigned: false })?;
 //! gateway.heartbeat(100)?;
 //! let refusal = gateway.heartbeat(99).unwrap_err();
 //! assert_eq!(refusal, Refusal::ClockBack { clock: 100 });
@@ -155,8 +177,8 @@
 //! in, or in the folder that the environment variable `PRADULINS_LIB_DIR` names (by its whole path: another counts from this crate's folder). Where
 //! there is none, or only one from before version 0.6.0, or for another machine, the crate can be checked and those of its tests run that call nothing of it;
 //! `tools/host` of the repository runs all tests and the example on Arm, too. An archive of another [`FORMAT`], or of a version with other values or other
-//! refusals, is found when a gateway is started or loaded, and when a call is refused, which then panics. A crate from before 0.4.0 does not find
-//! it: do not link it with an archive of this version.
+//! refusals, is found when a gateway is started or loaded, before an RPC is written, and when a call is refused, which then panics. A crate from before 0.7.0
+//! does not find it before an RPC is written, and one from before 0.4.0 not at all: do not link these with an archive of this version.
 
 mod body;
 mod clock;
@@ -178,8 +200,8 @@ pub use saved::{write_file, LoadError};
 /// The version of this crate.
 pub const VERSION: &str = env!("CARGO_PKG_VERSION");
 
-/// The format of a node's bytes and its stores. A state that was saved in another is not loaded: up to version 0.2.0 that was 1.
-pub const FORMAT: u32 = 2;
+/// The format of a node's bytes and its stores. A state that was saved in another is not loaded: up to version 0.2.0 that was 1, and up to 0.6.0 it was 2.
+pub const FORMAT: u32 = 3;
 
 /// The version of the archive that the program is linked with: 10000 times the first number, 100 times the second, and the third.
 pub fn archive_version() -> u32 {
@@ -187,7 +209,7 @@ pub fn archive_version() -> u32 {
 }
 
 /// How many bytes the node itself takes, without its two stores.
-pub const NODE_SIZE: usize = 12432;
+pub const NODE_SIZE: usize = 12440;
 
 /// How many bytes a row of the seen store takes.
 pub const SEEN_ROW: usize = 129;
@@ -202,7 +224,7 @@ pub const MAX_BODY: usize = 65536;
 pub const MAX_RECORDS: usize = 512;
 
 /// The archives that this crate can be linked with, by their version without its last number: in others a call hands out other values or other refusals.
-const ARCHIVES: u32 = 6;
+const ARCHIVES: u32 = 7;
 
 /// Holds the archive that the program is linked with to this crate: another format, or a version with other answers, is a fault of the build.
 fn fits(format: u32, version: u32) {
@@ -222,8 +244,20 @@ fn fits(format: u32, version: u32) {
 /// How many numbers a record takes in the table that the library fills.
 const RECORD_WORDS: usize = 20;
 
-/// How many numbers stand beside an answer: four, and the place of a refusal.
+/// How many numbers stand beside an answer: four (of settings five), and the place of a refusal.
 const VALUES: usize = 8;
+
+/// Among the flags of a gateway: messages that nobody signed are taken.
+const ALLOW_UNSIGNED: u32 = 1;
+
+/// The flags as the library has them, one number.
+fn flags(allow_unsigned: bool) -> u32 {
+    if allow_unsigned {
+        ALLOW_UNSIGNED
+    } else {
+        0
+    }
+}
 
 /// What a call did, or why it was refused.
 fn answered(number: u32, values: &sys::Values) -> Result<(), Refusal> {
@@ -257,23 +291,23 @@ mod tests {
     use super::*;
 
     #[test]
-    #[should_panic(expected = "is for format 3, and this crate for format 2: link the archive of the crate's own version")]
+    #[should_panic(expected = "is for format 4, and this crate for format 3: link the archive of the crate's own version")]
     fn an_archive_of_another_format() {
-        fits(FORMAT, 600);
-        fits(FORMAT, 699);
-        fits(FORMAT + 1, 600);
-    }
-
-    #[test]
-    #[should_panic(expected = "is of version 0.5.0, and this crate of 0.6.")]
-    fn an_archive_of_an_earlier_version() {
-        fits(FORMAT, 500);
-    }
-
-    #[test]
-    #[should_panic(expected = "is of version 0.7.0, and this crate of 0.6.")]
-    fn an_archive_of_a_later_version() {
         fits(FORMAT, 700);
+        fits(FORMAT, 799);
+        fits(FORMAT + 1, 700);
+    }
+
+    #[test]
+    #[should_panic(expected = "is of version 0.6.0, and this crate of 0.7.")]
+    fn an_archive_of_an_earlier_version() {
+        fits(FORMAT, 600);
+    }
+
+    #[test]
+    #[should_panic(expected = "is of version 0.8.0, and this crate of 0.7.")]
+    fn an_archive_of_a_later_version() {
+        fits(FORMAT, 800);
     }
 
     #[cfg(not(no_archive))]
@@ -287,6 +321,8 @@ mod tests {
         assert!(header.contains(&format!("#define PRADULINS_VERSION {}\n", archive_version())));
         assert!(header.contains(&format!("#define PRADULINS_FORMAT {FORMAT}\n")));
         assert!(header.contains(&format!("#define PRADULINS_VALUES {VALUES}\n")));
+        assert!(header.contains(&format!("#define PRADULINS_NODE_SIZE {NODE_SIZE}\n")));
+        assert!(header.contains(&format!("#define PRADULINS_ALLOW_UNSIGNED {ALLOW_UNSIGNED}\n")));
         assert_eq!(archive_version() / 100, ARCHIVES);
     }
 }

@@ -101,7 +101,7 @@ pub enum Refusal {
     InvalidSeqno,
     /// 24: a key without a signature.
     KeyWithoutSignature,
-    /// 25: neither signature nor key.
+    /// 25: neither signature nor key, where unsigned messages are not allowed.
     MissingSignature,
     /// 26: the signature does not have 64 bytes.
     SignatureLength {
@@ -136,7 +136,7 @@ pub enum Refusal {
     InvalidKey,
     /// 36: the key is not the one that the sender's peer id holds; or there is none, neither in the message nor in the peer id.
     KeyPeerIdMismatch,
-    /// 40: a setting out of range, or a seen store shorter than the settings say.
+    /// 40: a setting out of range, or a seen store shorter than the settings say. (Flags that are not known, which 40 is for in C, cannot be said here.)
     BadSetting,
     /// 41: a store whose length the settings do not say.
     BadStore,

@@ -49,7 +49,7 @@ pub enum LoadError {
     /// The bytes after the header are not those that were saved.
     Checksum,
     /// The bytes are as they were saved, and they are no node with its stores. [`Gateway::save`] writes no such bytes of a gateway that no damaged
-    /// state was loaded into; one of a version before 0.5.0 may have, of messages whose senders are no peer ids ([`Refusal::Malformed`]).
+    /// state was loaded into.
     Refused(Refusal),
 }
 
@@ -167,9 +167,8 @@ impl Gateway {
     /// fewer bytes than a node has, and for settings that no gateway is started with; [`Refusal::BadStore`] (41) where the stores are not as long as the
     /// settings say; then [`Refusal::Malformed`] where node and stores are not well formed. `load(&[])` is `Err(LoadError::Short { found: 0 })`.
     ///
-    /// What a version before 0.3.0 saved is not loaded: a state of 0.2.0 is of format 1 ([`LoadError::Format`]), and one of 0.1.0 has no header
-    /// ([`LoadError::Name`]). One of 0.3 and 0.4 is loaded, unless it keeps a message that is refused since 0.5.0, as that of a sender which is no peer id
-    /// ([`Refusal::Malformed`]). Start a new gateway then, and let it catch up; docs/OPERATING.md of the repository says what that means.
+    /// What a version before 0.7.0 saved is not loaded: a state of 0.3 to 0.6 is of format 2, one of 0.2.0 of format 1 ([`LoadError::Format`]), and one of 0.1.0 has no
+    /// header ([`LoadError::Name`]). Start a new gateway then, and let it catch up; docs/OPERATING.md of the repository says what that means.
     ///
     /// The checksum finds bytes that were damaged. It is not a signature: who can write the file can write any state with a right checksum.
     pub fn load(bytes: &[u8]) -> Result<Gateway, LoadError> {
@@ -200,7 +199,7 @@ impl Gateway {
     /// use pradulins::{Gateway, LoadError, Settings};
     /// use std::io::ErrorKind;
     ///
-    /// let settings = Settings { ttl: 3_600_000, max_seen: 256, history_len: 4, max_messages: 64 };
+    /// let settings = Settings { ttl: 3_600_000, max_seen: 256, history_len: 4, max_messages: 64, allow_unsigned: false };
     /// let gateway = match Gateway::load_from("gateway.state") {
     ///     Ok(gateway) => gateway,
     ///     Err(LoadError::Read(why)) if why.kind() == ErrorKind::NotFound => Gateway::start(settings)?,
@@ -317,7 +316,7 @@ mod tests {
     fn the_header_stands_as_told() {
         let bytes = sealed(&[b"1234", b"", b"56789"]);
         assert_eq!(bytes[..16], *b"pradulins-saved\n");
-        assert_eq!(bytes[16..20], [2, 0, 0, 0]);
+        assert_eq!(bytes[16..20], [3, 0, 0, 0]);
         assert_eq!(bytes[20..28], [9, 0, 0, 0, 0, 0, 0, 0]);
         assert_eq!(bytes[28..36], 0x995d_c9bb_df19_39fa_u64.to_le_bytes());
         assert_eq!(bytes[36..], *b"123456789");
@@ -337,7 +336,7 @@ mod tests {
         bytes.push(0);
         assert_eq!(word(whole(&bytes)), "Length { said: 9, found: 10 }");
         bytes[17] = 1;
-        assert_eq!(word(whole(&bytes)), "Format { found: 258, read: 2 }");
+        assert_eq!(word(whole(&bytes)), "Format { found: 259, read: 3 }");
         bytes[0] = b'P';
         assert_eq!(word(whole(&bytes)), "Name");
         assert_eq!(word(whole(&right[..36])), "Length { said: 9, found: 0 }");
@@ -345,22 +344,24 @@ mod tests {
 
     /// Its length and its checksum are right, and the format is what is told.
     #[test]
-    fn a_header_of_format_1() {
-        let mut old = sealed(&[&[0; 11_344], &[0; 4 * SEEN_ROW], &[0; 2 * CACHE_PLACE]]);
-        assert_eq!(whole(&old).unwrap().len(), old.len() - HEADER);
-        old[FORMAT_AT] = 1;
-        assert_eq!(word(Gateway::load(&old)), "Format { found: 1, read: 2 }");
+    fn headers_of_the_formats_1_and_2() {
+        for (format, node) in [(1, 11_344), (2, 12_432)] {
+            let mut old = sealed(&[&vec![0; node], &[0; 4 * SEEN_ROW], &[0; 2 * CACHE_PLACE]]);
+            assert_eq!(whole(&old).unwrap().len(), old.len() - HEADER);
+            old[FORMAT_AT] = format;
+            assert_eq!(word(Gateway::load(&old)), format!("Format {{ found: {format}, read: 3 }}"));
+        }
     }
 
     #[test]
     fn no_state_is_longer() {
         let largest = sealed(&[&vec![7; LARGEST]]);
-        assert_eq!((LARGEST, whole(&largest).unwrap().len()), (307_600, LARGEST));
+        assert_eq!((LARGEST, whole(&largest).unwrap().len()), (307_608, LARGEST));
         let longer = sealed(&[&vec![7; LARGEST + 1]]);
-        assert_eq!(word(whole(&longer)), "Length { said: 307601, found: 307601 }");
+        assert_eq!(word(whole(&longer)), "Length { said: 307609, found: 307609 }");
         // The first bytes of a file that has more.
-        assert_eq!(word(opened(&longer, 1_000_000)), "Length { said: 307601, found: 999964 }");
-        assert_eq!(word(opened(&largest, 1_000_000)), "Length { said: 307600, found: 999964 }");
+        assert_eq!(word(opened(&longer, 1_000_000)), "Length { said: 307609, found: 999964 }");
+        assert_eq!(word(opened(&largest, 1_000_000)), "Length { said: 307608, found: 999964 }");
     }
 
     #[test]
@@ -410,9 +411,9 @@ mod tests {
             (LoadError::Read(missing), "the saved state cannot be read: there is no file"),
             (LoadError::Short { found: 0 }, "no saved state: it has 0 bytes, and the header alone has 36"),
             (LoadError::Name, "no saved state: it does not begin with `pradulins-saved`"),
-            (LoadError::Format { found: 1, read: 2 }, "the state was saved in format 1, and format 2 is read"),
+            (LoadError::Format { found: 2, read: 3 }, "the state was saved in format 2, and format 3 is read"),
             (LoadError::Length { said: 9, found: 8 }, "the saved state has 8 bytes after its header, which says 9"),
-            (LoadError::Length { said: 400_000, found: 400_000 }, "the saved state has 400000 bytes after its header, and the largest has 307600"),
+            (LoadError::Length { said: 400_000, found: 400_000 }, "the saved state has 400000 bytes after its header, and the largest has 307608"),
             (LoadError::Checksum, "the saved state was damaged: its checksum is another"),
             (LoadError::Refused(Refusal::Malformed), "the saved state is refused 42: node and stores, or the rows of an RPC, are not well formed"),
         ] {
@@ -482,7 +483,7 @@ mod tests {
         use super::*;
         use crate::{body_of, Admitted, Settings};
 
-        const SETTINGS: Settings = Settings { ttl: 1000, max_seen: 4, history_len: 2, max_messages: 2 };
+        const SETTINGS: Settings = Settings { ttl: 1000, max_seen: 4, history_len: 2, max_messages: 2, allow_unsigned: false };
 
         // Where things stand in what a header stands before.
         const EXPIRIES: usize = 80;
@@ -520,27 +521,48 @@ mod tests {
             assert_eq!(word(Gateway::load(&saved[HEADER..])), "Name");
         }
 
-        /// The same gateway as earlier versions saved it: its node ends where the places of the topics begin.
+        /// The same gateway as earlier versions saved it: its node ends where the flags begin, and before that where the places of the topics begin.
         #[test]
         fn states_of_before() {
             let rest = filled().save().split_off(HEADER);
-            let mut old = sealed(&[&rest[..11_344], &rest[NODE_SIZE..]]);
-            old[FORMAT_AT] = 1;
-            let folder = Folder::new("before");
-            let file = folder.0.join("gateway.state");
-            fs::write(&file, &old).unwrap();
-            assert_eq!(word(Gateway::load_from(&file)), "Format { found: 1, read: 2 }");
-            assert_eq!(Gateway::load(&old).unwrap_err().to_string(), "the state was saved in format 1, and format 2 is read");
-            assert_eq!(fs::read(&file).unwrap(), old);
-            // Without its header, as 0.1.0 saved it; and with another number written over its own.
-            assert_eq!(word(Gateway::load(&old[HEADER..])), "Name");
-            old[FORMAT_AT] = 2;
-            assert_eq!(word(Gateway::load(&old)), "Refused(BadStore)");
+            for (format, node, as_today) in [(1, 11_344, "BadStore"), (2, 12_432, "Malformed")] {
+                let mut old = sealed(&[&rest[..node], &rest[NODE_SIZE..]]);
+                old[FORMAT_AT] = format;
+                let folder = Folder::new(&format!("before-{format}"));
+                let file = folder.0.join("gateway.state");
+                fs::write(&file, &old).unwrap();
+                assert_eq!(word(Gateway::load_from(&file)), format!("Format {{ found: {format}, read: 3 }}"));
+                let words = format!("the state was saved in format {format}, and format 3 is read");
+                assert_eq!(Gateway::load(&old).unwrap_err().to_string(), words);
+                assert_eq!(fs::read(&file).unwrap(), old);
+                // Without its header, as 0.1.0 saved it; and with today's number written over its own.
+                assert_eq!(word(Gateway::load(&old[HEADER..])), "Name");
+                old[FORMAT_AT] = 3;
+                assert_eq!(word(Gateway::load(&old)), format!("Refused({as_today})"));
+            }
         }
 
-        /// A sender is a peer id since 0.5.0: states of before have the same bytes, but for messages of others.
+        /// Of an unsigned message that is kept, the gateway that keeps it must allow such; that it allows them while it keeps none is not found out.
         #[test]
-        fn senders_of_before() {
+        fn flags_that_were_changed() {
+            const FLAGS: usize = 12_432;
+            let unsigned = [&[0x12, 0x2e, 0x0a, 0x26][..], &body(b'U')[4..42], b"\x1a\x01\x01\x22\x01t"].concat();
+            let mut training = Gateway::start(Settings { allow_unsigned: true, ..SETTINGS }).unwrap();
+            assert_eq!(training.admit(&unsigned, 0, false, 5), Ok(Admitted::New));
+            let with = |gateway: &Gateway, flags: u8| word(Gateway::load(&resealed(gateway, |rest| rest[FLAGS] = flags)));
+            assert_eq!((with(&training, 1), with(&training, 0)), ("loaded".to_string(), "Refused(Malformed)".to_string()));
+            assert!(Gateway::load(&training.save()).unwrap().settings().allow_unsigned);
+            let gateway = filled();
+            assert_eq!((with(&gateway, 0), with(&gateway, 1)), ("loaded".to_string(), "loaded".to_string()));
+            for flags in [2, 3, 0x80, 0xff] {
+                assert_eq!(with(&gateway, flags), "Refused(Malformed)");
+            }
+            assert_eq!(word(Gateway::load(&resealed(&gateway, |rest| rest[FLAGS + 7] = 1))), "Refused(Malformed)");
+        }
+
+        /// A message that is kept is of a peer id, and another peer id is not found out.
+        #[test]
+        fn senders_that_were_changed() {
             let gateway = filled();
             // The sender of the newest message is replaced wherever it stands: in the message, in its id, in the list of seen ids.
             let sender = &body(b'C')[4..42];

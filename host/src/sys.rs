@@ -9,7 +9,7 @@ pub(crate) type Node = [u8; NODE_SIZE];
 #[cfg(not(all(test, no_archive)))]
 mod calls {
     extern "C" {
-        pub fn pradulins_start(node: *mut u8, ttl: u64, max_seen: usize, history_len: usize, max_messages: usize) -> u32;
+        pub fn pradulins_start(node: *mut u8, ttl: u64, max_seen: usize, history_len: usize, max_messages: usize, flags: u32) -> u32;
         pub fn pradulins_admit(
             node: *mut u8,
             seen_store: *mut u8,
@@ -101,6 +101,7 @@ mod calls {
             records_len: usize,
             bytes: *const u8,
             bytes_len: usize,
+            flags: u32,
             out: *mut u8,
             out_len: usize,
             values: *mut u64,
@@ -129,7 +130,7 @@ mod calls {
         };
     }
     missing! {
-        pradulins_start(*mut u8, u64, usize, usize, usize);
+        pradulins_start(*mut u8, u64, usize, usize, usize, u32);
         pradulins_admit(*mut u8, *mut u8, usize, *mut u8, usize, *const u8, usize, usize, bool, u64, *mut u64);
         pradulins_heartbeat(*mut u8, *const u8, usize, *const u8, usize, u64, *mut u64);
         pradulins_advertise(*const u8, *const u8, usize, *const u8, usize, *const u8, usize, usize, *mut u8, usize, *mut u64);
@@ -143,7 +144,7 @@ mod calls {
         pradulins_message_id(*const u8, usize, usize, *mut u8, usize, *mut u64);
         pradulins_decode(*const u8, usize, *mut u64, usize, *mut u64);
         pradulins_walk(*const u8, usize, usize, *mut u64);
-        pradulins_write_rpc(*const u64, usize, *const u8, usize, *mut u8, usize, *mut u64);
+        pradulins_write_rpc(*const u64, usize, *const u8, usize, u32, *mut u8, usize, *mut u64);
         pradulins_sign_fields(*const u64, usize, *const u8, usize, usize, *mut u8, usize, *mut u64);
         pradulins_version();
         pradulins_format();
@@ -152,8 +153,8 @@ mod calls {
 
 // SAFETY, of every call below: each pointer comes from a slice or an array and is passed with its length; `&mut` excludes overlap.
 
-pub(crate) fn start(node: &mut Node, ttl: u64, max_seen: usize, history_len: usize, max_messages: usize) -> u32 {
-    unsafe { calls::pradulins_start(node.as_mut_ptr(), ttl, max_seen, history_len, max_messages) }
+pub(crate) fn start(node: &mut Node, ttl: u64, max_seen: usize, history_len: usize, max_messages: usize, flags: u32) -> u32 {
+    unsafe { calls::pradulins_start(node.as_mut_ptr(), ttl, max_seen, history_len, max_messages, flags) }
 }
 
 #[allow(clippy::too_many_arguments)]
@@ -286,9 +287,18 @@ pub(crate) fn walk(body: &[u8], at: usize, values: &mut Values) -> u32 {
     unsafe { calls::pradulins_walk(body.as_ptr(), body.len(), at, values.as_mut_ptr()) }
 }
 
-pub(crate) fn write_rpc(records: &[u64], bytes: &[u8], out: &mut [u8], values: &mut Values) -> u32 {
+pub(crate) fn write_rpc(records: &[u64], bytes: &[u8], flags: u32, out: &mut [u8], values: &mut Values) -> u32 {
     unsafe {
-        calls::pradulins_write_rpc(records.as_ptr(), records.len(), bytes.as_ptr(), bytes.len(), out.as_mut_ptr(), out.len(), values.as_mut_ptr())
+        calls::pradulins_write_rpc(
+            records.as_ptr(),
+            records.len(),
+            bytes.as_ptr(),
+            bytes.len(),
+            flags,
+            out.as_mut_ptr(),
+            out.len(),
+            values.as_mut_ptr(),
+        )
     }
 }
 

@@ -2,9 +2,9 @@
 #![cfg(not(no_archive))]
 
 use pradulins::{decode, message_id, messages, reencode, sign_bytes, sign_fields, sign_fields_into, walk, walk_from, write_rpc, write_rpc_into};
-use pradulins::{Admitted, Clock, Draft, Gateway, LoadError, Message, Offer, Place, Record, Refusal, Rpc, Served, Settings, NODE_SIZE};
+use pradulins::{Admitted, Clock, Draft, Gateway, LoadError, Message, Offer, Place, Record, Refusal, Reply, Rpc, Served, Settings, NODE_SIZE};
 
-const SETTINGS: Settings = Settings { ttl: 1000, max_seen: 4, history_len: 2, max_messages: 4 };
+const SETTINGS: Settings = Settings { ttl: 1000, max_seen: 4, history_len: 2, max_messages: 4, allow_unsigned: false };
 
 /// The key of the scope's trace.
 const KEY: [u8; 32] = [
@@ -100,16 +100,102 @@ fn the_trace_of_the_scope() {
 #[test]
 fn settings_are_tested() {
     for (max_seen, history_len, max_messages) in [(257, 2, 4), (4, 0, 4), (4, 17, 4), (4, 2, 65), (usize::MAX, 1, 0)] {
-        let settings = Settings { ttl: 0, max_seen, history_len, max_messages };
+        let settings = Settings { ttl: 0, max_seen, history_len, max_messages, allow_unsigned: false };
         assert_eq!(Gateway::start(settings).err(), Some(Refusal::BadSetting));
     }
-    assert!(Gateway::start(Settings { ttl: u64::MAX, max_seen: 0, history_len: 1, max_messages: 0 }).is_ok());
+    for allow_unsigned in [false, true] {
+        assert!(Gateway::start(Settings { ttl: u64::MAX, max_seen: 0, history_len: 1, max_messages: 0, allow_unsigned }).is_ok());
+    }
+}
+
+/// A mesh whose gateways have no keys: the scope's rows on a gateway that allows unsigned messages.
+#[test]
+fn a_training_mesh() {
+    let training = Settings { allow_unsigned: true, ..SETTINGS };
+    let sender = peer_id(KEY);
+    let (signed, unsigned) = (notice(&sender), notice(&sender).signature(None));
+    let (x, u) = (signed.body(), unsigned.body());
+    assert_eq!((u.len(), &u[..4]), (48, &[0x12, 0x2e, 0x0a, 0x26][..]));
+    let id = [&sender[..], &[1]].concat();
+    let offer = [&[0x1a, 0x2e, 0x0a, 0x2c, 0x0a, 1, b't', 0x12, 0x27][..], &id].concat();
+    let request = [&[0x1a, 0x2b, 0x12, 0x29, 0x0a, 0x27][..], &id].concat();
+    let mut gateway = Gateway::start(training).unwrap();
+    assert_eq!(gateway.settings(), training);
+    assert_eq!(gateway.ask(&offer), Ok(request.clone()));
+    assert_eq!(gateway.admit(&u, 0, false, 100), Ok(Admitted::New));
+    assert_eq!(gateway.admit(&u, 0, true, 100), Ok(Admitted::Duplicate));
+    assert_eq!(gateway.ask(&offer), Ok(vec![]));
+    // The signed message of the same id is tested as ever, and new; the cache keeps the one that came first.
+    assert_eq!(gateway.admit(&x, 0, false, 100), Err(Refusal::NotVerified));
+    assert_eq!(gateway.admit(&x, 0, true, 100), Ok(Admitted::New));
+    assert_eq!(gateway.admit(&x, 0, true, 100), Ok(Admitted::Duplicate));
+    assert_eq!(gateway.admit(&u, 0, true, 100), Ok(Admitted::Duplicate));
+    assert_eq!(gateway.serve(&request), Ok(Reply { body: u.clone(), messages: 1, left: 0 }));
+    assert_eq!((gateway.seen(), gateway.messages()), (2, 1));
+    assert!(Gateway::load(&gateway.save()).unwrap() == gateway);
+    // And the other way round.
+    let mut other = Gateway::start(training).unwrap();
+    assert_eq!(other.admit(&x, 0, true, 100), Ok(Admitted::New));
+    assert_eq!((other.ask(&offer), other.admit(&u, 0, false, 100)), (Ok(vec![]), Ok(Admitted::New)));
+    assert_eq!(other.serve(&request), Ok(Reply { body: x.clone(), messages: 1, left: 0 }));
+    // What else an unsigned message must be.
+    for (message, told) in [
+        (unsigned.key(&[]), Err(Refusal::KeyWithoutSignature)),
+        (unsigned.signature(Some(&[])), Err(Refusal::SignatureLength { length: 0 })),
+        (unsigned.seqno(None), Err(Refusal::InvalidSeqno)),
+        (unsigned.topics(b"t", 5), Err(Refusal::TopicCount { topics: 5 })),
+        (notice(b"A").signature(None), Err(Refusal::NotPeerId)),
+        (notice(&[0, 0]).signature(None), Ok(Admitted::New)),
+        (notice(&[&[0x12, 0x20][..], &[7; 32]].concat()).signature(None), Ok(Admitted::New)),
+    ] {
+        for verified in [false, true] {
+            assert_eq!(gateway.clone().admit(&message.body(), 0, verified, 100), told);
+        }
+    }
+    // One that does not allow them.
+    let mut strict = Gateway::start(SETTINGS).unwrap();
+    assert_eq!(strict.admit(&u, 0, true, 100), Err(Refusal::MissingSignature));
+    assert_eq!(strict.ask(&gateway.advertise(b"t", 2).unwrap()), Ok(request.clone()));
+    assert_eq!(strict.admit(&gateway.serve(&request).unwrap().body, 0, true, 100), Err(Refusal::MissingSignature));
+    assert_eq!((strict.ask(&offer), strict.admit(&x, 0, true, 100)), (Ok(request), Ok(Admitted::New)));
+}
+
+/// An unsigned message is written where it is allowed, as it is; a key alone is not.
+#[test]
+fn unsigned_messages_are_written() {
+    let sender = peer_id(KEY);
+    let draft = Draft { from: &sender, seqno: &[1], data: None, topics: &["t"], key: None };
+    let rpc = Rpc::new().publish_unsigned(&draft);
+    assert_eq!(rpc.write(), Err(Refusal::SignatureLength { length: 0 }));
+    assert_eq!(write_rpc(rpc.records()), Err(Refusal::SignatureLength { length: 0 }));
+    let rpc = rpc.allow_unsigned(true);
+    let body = notice(&sender).signature(None).body();
+    assert_eq!(rpc.write().as_ref(), Ok(&body));
+    let mut out = [7; 60];
+    assert_eq!(rpc.write_into(&mut out[..47]), Err(Refusal::Room { needed: 48 }));
+    assert_eq!((out, rpc.write_into(&mut out)), ([7; 60], Ok(48)));
+    assert_eq!((&out[..48], &out[48..]), (&body[..], &[7; 12][..]));
+    assert_eq!(rpc.clone().allow_unsigned(false).write(), Err(Refusal::SignatureLength { length: 0 }));
+    let mut neighbour = Gateway::start(Settings { allow_unsigned: true, ..SETTINGS }).unwrap();
+    assert_eq!(neighbour.admit(&body, 0, false, 5), Ok(Admitted::New));
+    // Of other messages it changes nothing, and the tests of an unsigned one stay.
+    let refused = |rpc: Rpc| rpc.allow_unsigned(true).write().unwrap_err();
+    assert_eq!(refused(Rpc::new().publish_unsigned(&Draft { key: Some(&[]), ..draft })), Refusal::KeyWithoutSignature);
+    assert_eq!(refused(Rpc::new().publish(&draft, &[])), Refusal::SignatureLength { length: 0 });
+    assert_eq!(refused(Rpc::new().publish(&Draft { key: Some(&KEY), ..draft }, &[0; 64])), Refusal::InvalidKey);
+    assert_eq!(refused(Rpc::new().publish_unsigned(&Draft { from: b"gate", ..draft })), Refusal::NotPeerId);
+    assert_eq!(refused(Rpc::new().publish_unsigned(&Draft { topics: &[], ..draft })), Refusal::TopicCount { topics: 0 });
+    assert_eq!(Rpc::new().allow_unsigned(true).publish(&draft, &[0; 64]).write(), Ok(notice(&sender).body()));
+    let hash = [&[0x12, 0x20][..], &[7; 32]].concat();
+    for from in [&[0, 0][..], &hash] {
+        assert_eq!(Rpc::new().allow_unsigned(true).publish_unsigned(&Draft { from, ..draft }).write(), Ok(notice(from).signature(None).body()));
+    }
 }
 
 /// What docs/OPERATING.md says of it: within one ttl, the notice after max_seen others drives the oldest out, which is new when it comes again; nothing is refused.
 #[test]
 fn the_257th_notice() {
-    let mut gateway = Gateway::start(Settings { ttl: 1_000_000, max_seen: 256, history_len: 4, max_messages: 64 }).unwrap();
+    let mut gateway = Gateway::start(Settings { ttl: 1_000_000, max_seen: 256, history_len: 4, max_messages: 64, allow_unsigned: false }).unwrap();
     let notice = |n: u16| {
         let sender = notice(&peer_id([b'A'; 32]));
         sender.seqno(Some(&n.to_be_bytes())).body()

@@ -1,4 +1,4 @@
-// Kinds 6 to 10: the cache part.
+// Kinds 6 to 10 and 16: the cache part.
 ghost use Prim.Native.Nat.{_≤_};
 ghost use lib.ListN.{length};
 use super::answers::put_line;
@@ -26,7 +26,7 @@ pub(crate) struct CachePart {
 }
 
 pub(crate) fn no_cache() -> CachePart {
-    let s = MessageCache::new(1, 0);
+    let s = MessageCache::new(1, 0, 0);
     let cache = s.cache;
     CachePart {
         go: true,
@@ -51,17 +51,24 @@ fn arriving(mut cache: MessageCache, next: u64) -> MessageCache {
     cache
 }
 
-// Kind 6.
-fn begin(n: u64, content: &[u8], part: CachePart, out: &mut [u8]) -> CachePart
+// Content of so many bytes that begins with the settings, and some flags.
+fn begin(
+    n: u64,
+    size: usize,
+    flags: usize,
+    content: &[u8],
+    part: CachePart,
+    out: &mut [u8],
+) -> CachePart
     requires { ⌜ 256 ≤ length (now out) ⌝ }
 {
-    if content.len() != 12 {
+    if content.len() != size {
         return bad(part);
     }
     let history_len = basis::little_at(content, 0, 2) as usize;
     let max_messages = basis::little_at(content, 2, 2) as usize;
     let next = basis::little_at(content, 4, 8);
-    let s = MessageCache::new(history_len, max_messages);
+    let s = MessageCache::new(history_len, max_messages, flags);
     let answer = s.answer;
     let k = told_line(n, b" cache ok", b" cache", true, told_start(answer), out);
     let go = print_line(out, k);
@@ -73,6 +80,14 @@ fn begin(n: u64, content: &[u8], part: CachePart, out: &mut [u8]) -> CachePart
             cache: arriving(s.cache, next),
         },
     }
+}
+
+// Kind 16: as kind 6, and then the flags.
+fn begin_flagged(n: u64, content: &[u8], part: CachePart, out: &mut [u8]) -> CachePart
+    requires { ⌜ 256 ≤ length (now out) ⌝ }
+{
+    let flags = basis::little_at(content, 12, 2) as usize;
+    begin(n, 14, flags, content, part, out)
 }
 
 // Kind 7.
@@ -240,7 +255,10 @@ pub(crate) fn cache_turn(
     requires { ⌜ 256 ≤ length (now out) ⌝ }
 {
     if kind == 6 {
-        return begin(n, content, part, out);
+        return begin(n, 12, 0, content, part, out);
+    }
+    if kind == 16 {
+        return begin_flagged(n, content, part, out);
     }
     if part.started {
         let cache = part.cache;

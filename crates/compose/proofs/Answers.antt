@@ -1,7 +1,7 @@
 -- What the calls answer and leave, case by case: bytes that were measured and put; one test after the other.
 use Prim.Native.Nat.{ℕ, _+_, _*_, _/_, _≤_, _<_}
 use mathlib.Core.Path.{_≡_, refl, sym, ap, _∙_}
-use mathlib.Core.Bool.{true}
+use mathlib.Core.Bool.{Bool, true, false}
 use mathlib.Core.List.{List, [], _∷_}
 use native.Mathlib.Omega.{arith}
 use lib.ListN.{length, drop, drop-of-length-le}
@@ -11,9 +11,10 @@ use Rattle.basis.specs.Unique.{Leaves}
 use Rattle.basis.specs.Writing.{written}
 use Rattle.basis.specs.Lists.{written-fits, written-short}
 use Rattle.rpc.specs.Encode.{encodeRpc, signBytes}
+use Rattle.admission.specs.Flags.{knownFlags}
 use Rattle.message.specs.Rows.{recordFrom}
 use Rattle.compose.specs.declared.Wrong.{Wrong}
-use Rattle.compose.specs.declared.Wrong.the-variants.{NotLent, TooLong, NoMessage}
+use Rattle.compose.specs.declared.Wrong.the-variants.{BadSetting, NotLent, TooLong, NoMessage}
 use Rattle.compose.specs.declared.Lists.{Lists}
 use Rattle.compose.specs.declared.Lists.the-variants as lists
 use Rattle.compose.specs.declared.Composed.{Composed}
@@ -23,10 +24,10 @@ use Rattle.compose.specs.declared.Row.the-variants as row
 use Rattle.compose.specs.Lent.{rowsFrom, lentRows, isCode, lentWell, Inside}
 use Rattle.compose.specs.Said.{messagesIn, messageOf, said}
 use Rattle.compose.specs.Weighed.{capped, firstUnfit}
-use Rattle.compose.specs.Compose.{listsOf, putAnswer, answering, leaving, lengthFine, writeTested, writeAnswer, writeLeft, signAnswer, signLeft}
+use Rattle.compose.specs.Compose.{listsOf, putAnswer, answering, leaving, lengthFine, flagsFine, writeTested, writeAnswer, writeLeft, signAnswer, signLeft}
 use Rattle.compose.specs.Puts.{Puts, capped-small, capped-bound, capped-below, FindsRow, found, missing}
 use Rattle.compose.specs.Laws.{lent-inside}
-use Rattle.compose.proofs.Tests.{cond-no, then-on, then-stop}
+use Rattle.compose.proofs.Tests.{cond-yes, cond-no, then-on, then-stop}
 
 -- ---- bytes that were measured: where there is no room, and where they were put
 module _ (xs out : List ℕ) (len : ℕ) (e : len ≡ capped (length xs)) where
@@ -75,31 +76,43 @@ lists-inside t b e h =
     (λ w. let z : lists.Refused NotLent ≡ lists.Fine = cond-no _ _ refl w ∙ sym e ∙ h in clash (cc))
 
 -- ---- write_rpc
-module _ (t b out : List ℕ) {x : Lists} (e : x ≡ listsOf t b) where
-  write-refused : {why : Wrong} → writeTested t b ≡ lists.Refused why → Leaves (writeAnswer t b out) (writeLeft t b out) (Refused why) out
+module _ (flags : ℕ) (t b out : List ℕ) {known : Bool} (d : known ≡ knownFlags flags) where
+  write-refused : {why : Wrong} → writeTested flags t b ≡ lists.Refused why
+      → Leaves (writeAnswer flags t b out) (writeLeft flags t b out) (Refused why) out
   unfolding writeAnswer writeLeft
   write-refused h = record { answer = simp h; lent = simp h }
 
-  pub write-lists : {why : Wrong} → x ≡ lists.Refused why → Leaves (writeAnswer t b out) (writeLeft t b out) (Refused why) out
-  unfolding writeTested
-  write-lists h = write-refused (sym (then-stop _ e h))
+  -- 40
+  pub write-flags : known ≡ false → Leaves (writeAnswer flags t b out) (writeLeft flags t b out) (Refused BadSetting) out
+  unfolding writeTested flagsFine
+  write-flags h = let e = sym d ∙ h in write-refused (simp e)
 
-  module _ (h : x ≡ lists.Fine) {y : Lists} (f : y ≡ firstUnfit (messagesIn b (lentRows t))) where
-    pub write-unfit : {why : Wrong} → y ≡ lists.Refused why → Leaves (writeAnswer t b out) (writeLeft t b out) (Refused why) out
+  -- 42, 7, 11
+  module _ (g : known ≡ true) {x : Lists} (e : x ≡ listsOf t b) where
+    flags-on : lists.Fine ≡ flagsFine flags
+    unfolding flagsFine
+    flags-on = cond-yes _ _ d g
+
+    pub write-lists : {why : Wrong} → x ≡ lists.Refused why → Leaves (writeAnswer flags t b out) (writeLeft flags t b out) (Refused why) out
     unfolding writeTested
-    write-unfit k = write-refused (sym (then-stop _ f k ∙ then-on _ e h))
+    write-lists h = write-refused (sym (then-stop _ e h ∙ then-on _ flags-on refl))
 
-    pub write-fit : y ≡ lists.Fine → (r : Composed) (after : List ℕ)
-        → Leaves (answering (putAnswer (encodeRpc (said b (lentRows t))) out) (lengthFine (encodeRpc (said b (lentRows t)))))
-        (leaving out (written (encodeRpc (said b (lentRows t))) out) (lengthFine (encodeRpc (said b (lentRows t))))) r after
-        → Leaves (writeAnswer t b out) (writeLeft t b out) r after
-    unfolding writeAnswer writeLeft writeTested
-    write-fit k r after p =
-        let w = then-on _ f k ∙ then-on _ e h in
-        record {
-          answer = p .answer ∙ ap (answering (putAnswer (encodeRpc (said b (lentRows t))) out)) w;
-          lent = p .lent ∙ ap (leaving out (written (encodeRpc (said b (lentRows t))) out)) w;
-        }
+    module _ (h : x ≡ lists.Fine) {y : Lists} (f : y ≡ firstUnfit flags (messagesIn b (lentRows t))) where
+      pub write-unfit : {why : Wrong} → y ≡ lists.Refused why → Leaves (writeAnswer flags t b out) (writeLeft flags t b out) (Refused why) out
+      unfolding writeTested
+      write-unfit k = write-refused (sym (then-stop _ f k ∙ then-on _ e h ∙ then-on _ flags-on refl))
+
+      pub write-fit : y ≡ lists.Fine → (r : Composed) (after : List ℕ)
+          → Leaves (answering (putAnswer (encodeRpc (said b (lentRows t))) out) (lengthFine (encodeRpc (said b (lentRows t)))))
+          (leaving out (written (encodeRpc (said b (lentRows t))) out) (lengthFine (encodeRpc (said b (lentRows t))))) r after
+          → Leaves (writeAnswer flags t b out) (writeLeft flags t b out) r after
+      unfolding writeAnswer writeLeft writeTested
+      write-fit k r after p =
+          let w = then-on _ f k ∙ then-on _ e h ∙ then-on _ flags-on refl in
+          record {
+            answer = p .answer ∙ ap (answering (putAnswer (encodeRpc (said b (lentRows t))) out)) w;
+            lent = p .lent ∙ ap (leaving out (written (encodeRpc (said b (lentRows t))) out)) w;
+          }
 
 -- ---- the row of a message, or how many there are
 pub row-found : (t b : List ℕ) (index i : ℕ) {r : Row} → FindsRow t b index r → r ≡ row.At i

@@ -22,6 +22,8 @@ use Rattle.meaning.specs.ReadBack.{bytesAt, rawOf}
 use Rattle.rpc.specs.Rpc.{RawMessage}
 use Rattle.admission.specs.declared.Topics.{Topics}
 use Rattle.admission.specs.declared.Unfit.the-variants.{InvalidFrom, NotPeerId, InvalidSeqno, InvalidSignatureLength, TopicCount, TopicTooLong, MessageTooLong}
+use Rattle.admission.specs.declared.Unfit.the-variants.{KeyWithoutSignature}
+use Rattle.admission.specs.Flags.{allowsUnsigned}
 use Rattle.admission.specs.Admission.{firstLong, isPeerId}
 use Rattle.rpc.specs.Id.{unfit}
 use Rattle.compose.specs.Lent.{rowsFrom, lentRows, isCode, insideAt, fieldsInside, rowInside, heldBy, lentFrom, lentWell, Inside}
@@ -31,7 +33,8 @@ use Rattle.compose.specs.declared.Lists.{Lists}
 use Rattle.compose.specs.declared.Lists.the-variants.{Fine, Refused}
 use Rattle.compose.specs.declared.Row.the-variants as row
 use Rattle.compose.specs.Said.{encodeMessage, messagesIn, topicsFrom, messageOf}
-use Rattle.compose.specs.Weighed.{capped, andThen, given, fromFine, seqnoFine, signatureFine, keyFine, inTopics, topicsFine, sizeFine, limitsFine, weighed, firstUnfit}
+use Rattle.compose.specs.Weighed.{capped, andThen, given, fromFine, seqnoFine, signatureFine, keyFine, backedFine, inTopics, topicsFine, sizeFine, limitsFine}
+use Rattle.compose.specs.Weighed.{weighed, firstUnfit}
 use Rattle.compose.specs.Compose.{textOf, textFine, textsFine, countFine, listsOf}
 use Rattle.compose.specs.Puts.{capped-bound, capped-below, FindsRow, found, missing}
 use Rattle.compose.specs.Laws.{rows-step, rows-end, messages-step, topics-step, no-messages, no-topics}
@@ -316,6 +319,26 @@ module _ (d : List ℕ) (len : ℕ) (e : len ≡ length d) where
   unfolding seqnoFine
   seqno-fit n h = cond-no _ _ refl (unfit-not n h)
 
+-- ---- 24, or 26, 35 and 36: a signature and a key, by where they stand; s is the sender
+module _ (b : List ℕ) (at : ℕ) (s : List ℕ) (u : Bool) (signature key : Place) where
+  pub bare-fit : signature ≡ place.Absent → u ≡ true → key ≡ place.Absent → Fine ≡ backedFine u s (bytesAt b at signature) (bytesAt b at key)
+  unfolding backedFine
+  bare-fit e h k = rw (e, h, k)
+
+  pub bare-key : (x y : ℕ) → signature ≡ place.Absent → u ≡ true → key ≡ place.Present x y
+      → Refused (Unfit KeyWithoutSignature) ≡ backedFine u s (bytesAt b at signature) (bytesAt b at key)
+  unfolding backedFine
+  bare-key x y e h k = rw (e, h, k)
+
+  module _ {x y r : Lists} (f : x ≡ signatureFine (given (bytesAt b at signature))) (g : y ≡ keyFine s (bytesAt b at key)) (k : r ≡ andThen x y) where
+    pub backed-off : signature ≡ place.Absent → u ≡ false → r ≡ backedFine u s (bytesAt b at signature) (bytesAt b at key)
+    unfolding backedFine
+    backed-off e h = rw (k, f, g, e, h)
+
+    pub backed-signed : (x y : ℕ) → signature ≡ place.Present x y → r ≡ backedFine u s (bytesAt b at signature) (bytesAt b at key)
+    unfolding backedFine
+    backed-signed x y e = rw (k, f, g, e)
+
 -- ---- 22, 34: the sender, by where it stands
 module _ (b : List ℕ) (at : ℕ) (p : Place) (a e : ℕ) (inside : insideAt (length b) at p ≡ true) (is : p ≡ place.Present a e) where
   sender-length : e - a ≡ length (between b (at + a) (at + e))
@@ -357,17 +380,18 @@ message-places t b i r h l k e =
     (row-fields (length b) r (inside-row t b i r h l e) kind.RawMessage (code-kind (r .kind) 2 (ap (isCode 2) e ∙ k)))
 
 -- one test after the other
-pub weighed-by : (b : List ℕ) (r s : Record) (rs : List Record) (from seqno signature key limits x y z w : Lists) → r ≡ s
+pub weighed-by : (flags : ℕ) (b : List ℕ) (r s : Record) (rs : List Record) (unsigned : Bool) (from seqno backed limits x y z : Lists) → r ≡ s
+    → unsigned ≡ allowsUnsigned flags
     → from ≡ fromFine (bytesAt b (r .start) (r .slots .first))
     → seqno ≡ seqnoFine (given (bytesAt b (r .start) (r .slots .third)))
-    → signature ≡ signatureFine (given (bytesAt b (r .start) (r .slots .fourth)))
-    → key ≡ keyFine (given (bytesAt b (r .start) (r .slots .first))) (bytesAt b (r .start) (r .slots .fifth))
+    → backed ≡ backedFine unsigned (given (bytesAt b (r .start) (r .slots .first))) (bytesAt b (r .start) (r .slots .fourth))
+    (bytesAt b (r .start) (r .slots .fifth))
     → limits ≡ limitsFine (messageOf b s rs)
-    → x ≡ andThen key limits → y ≡ andThen signature x → z ≡ andThen seqno y → w ≡ andThen from z
-    → w ≡ weighed (messageOf b s rs)
+    → x ≡ andThen backed limits → y ≡ andThen seqno x → z ≡ andThen from y
+    → z ≡ weighed flags (messageOf b s rs)
 unfolding weighed
-weighed-by b r s rs from seqno signature key limits x y z w e f g h k l p q u v =
-    rw (v, u, q, p, f, g, h, k, l, e)
+weighed-by flags b r s rs unsigned from seqno backed limits x y z e a f g h l p q u =
+    rw (u, q, p, f, g, h, l, a, e)
 
 -- ---- the messages from a row on
 module _ (t b : List ℕ) (i : ℕ) where
@@ -387,23 +411,23 @@ module _ (t b : List ℕ) (i : ℕ) where
       messages-skip k = messages-here ∙ sym (cond-no _ _ e k)
 
 -- the first that may not be written: what those from a row on say is what all of them do
-module _ (t b : List ℕ) (i : ℕ) (inv : firstUnfit (messagesIn b (rowsFrom t i)) ≡ firstUnfit (messagesIn b (lentRows t))) where
-  pub unfit-end : length t / 20 ≤ i → Fine ≡ firstUnfit (messagesIn b (lentRows t))
-  unfit-end h = sym (ap firstUnfit (messages-end t b i h)) ∙ inv
+module _ (flags : ℕ) (t b : List ℕ) (i : ℕ) (inv : firstUnfit flags (messagesIn b (rowsFrom t i)) ≡ firstUnfit flags (messagesIn b (lentRows t))) where
+  pub unfit-end : length t / 20 ≤ i → Fine ≡ firstUnfit flags (messagesIn b (lentRows t))
+  unfit-end h = sym (ap (firstUnfit flags) (messages-end t b i h)) ∙ inv
 
   module _ (h : i < length t / 20) {x : Bool} (e : x ≡ isCode 2 (recordFrom t (i * 20))) where
-    pub unfit-skip : x ≡ false → firstUnfit (messagesIn b (rowsFrom t (i + 1))) ≡ firstUnfit (messagesIn b (lentRows t))
-    unfit-skip k = sym (ap firstUnfit (messages-skip t b i h e k)) ∙ inv
+    pub unfit-skip : x ≡ false → firstUnfit flags (messagesIn b (rowsFrom t (i + 1))) ≡ firstUnfit flags (messagesIn b (lentRows t))
+    unfit-skip k = sym (ap (firstUnfit flags) (messages-skip t b i h e k)) ∙ inv
 
-    module _ (k : x ≡ true) {w : Lists} (f : w ≡ weighed (messageOf b (recordFrom t (i * 20)) (rowsFrom t (i + 1)))) where
-      unfit-here : andThen (weighed (messageOf b (recordFrom t (i * 20)) (rowsFrom t (i + 1)))) (firstUnfit (messagesIn b (rowsFrom t (i + 1))))
-          ≡ firstUnfit (messagesIn b (lentRows t))
-      unfit-here = sym (ap firstUnfit (messages-one t b i h e k)) ∙ inv
+    module _ (k : x ≡ true) {w : Lists} (f : w ≡ weighed flags (messageOf b (recordFrom t (i * 20)) (rowsFrom t (i + 1)))) where
+      unfit-here : andThen (weighed flags (messageOf b (recordFrom t (i * 20)) (rowsFrom t (i + 1)))) (firstUnfit flags (messagesIn b (rowsFrom t (i + 1))))
+          ≡ firstUnfit flags (messagesIn b (lentRows t))
+      unfit-here = sym (ap (firstUnfit flags) (messages-one t b i h e k)) ∙ inv
 
-      pub unfit-on : w ≡ Fine → firstUnfit (messagesIn b (rowsFrom t (i + 1))) ≡ firstUnfit (messagesIn b (lentRows t))
+      pub unfit-on : w ≡ Fine → firstUnfit flags (messagesIn b (rowsFrom t (i + 1))) ≡ firstUnfit flags (messagesIn b (lentRows t))
       unfit-on l = then-on _ f l ∙ unfit-here
 
-      pub unfit-stop : {why : Wrong} → w ≡ Refused why → Refused why ≡ firstUnfit (messagesIn b (lentRows t))
+      pub unfit-stop : {why : Wrong} → w ≡ Refused why → Refused why ≡ firstUnfit flags (messagesIn b (lentRows t))
       unfit-stop l = then-stop _ f l ∙ unfit-here
 
 -- so many were passed before a row

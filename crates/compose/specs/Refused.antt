@@ -32,11 +32,12 @@ sign-at-refused : (n : ℕ) (ms : List RawMessage) (out : List ℕ)
 sign-at-refused n [] out h = refl
 sign-at-refused n (m ∷ ms) out h = put-refused (signBytes m) out h
 
-pub refused-write-rpc : (t b out : List ℕ) → (composedTold (writeAnswer t b out) .number ≡ 0 → ⊥) → writeLeft t b out ≡ out
+pub refused-write-rpc : (flags : ℕ) (t b out : List ℕ)
+    → (composedTold (writeAnswer flags t b out) .number ≡ 0 → ⊥) → writeLeft flags t b out ≡ out
 unfolding writeAnswer writeLeft
-refused-write-rpc t b out h =
+refused-write-rpc flags t b out h =
     tested-refused (putAnswer (encodeRpc (said b (lentRows t))) out) (written (encodeRpc (said b (lentRows t))) out) out
-    (writeTested t b) (put-refused (encodeRpc (said b (lentRows t))) out) h
+    (writeTested flags t b) (put-refused (encodeRpc (said b (lentRows t))) out) h
 
 pub refused-sign-fields : (t b : List ℕ) (i : ℕ) (out : List ℕ)
     → (composedTold (signAnswer t b i out) .number ≡ 0 → ⊥) → signLeft t b i out ≡ out

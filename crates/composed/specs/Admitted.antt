@@ -1,5 +1,6 @@
--- As in admission: a message with a signature is refused exactly as admission refuses its bytes, the host's word given; so every message of what is written is
--- admitted. A message without a signature is refused by 21, 22, 34, 23, or by 26 with 0; 24, 25 and 27 are never given.
+-- As in admission: under every flags a message with a signature is refused exactly as admission refuses its bytes, the host's word given; and one without, where the
+-- flags allow it, as admission refuses its bytes, whatever the word. So every message of what is written is admitted. Where they do not, a message without a signature is
+-- refused by 21, 22, 34, 23, or by 26 with 0. 25 and 27 are never given, and 24 only with the flag on, for a key without a signature.
 use Prim.Native.Nat.{ℕ, _-_, _^_, _<_}
 use mathlib.Core.Path.{_≡_, refl, sym, ap, subst, _∙_}
 use mathlib.Core.Bool.{Bool, true, false, cond, _||_}
@@ -11,8 +12,8 @@ use lib.ListN.{length}
 use lib.Dec.{ltb, eqb}
 use Rattle.basis.specs.Bytes.{Bytes}
 use Rattle.basis.specs.Cases.{either, clash}
-use Rattle.basis.specs.Refusals.{missing-from, invalid-from, not-peer-id, invalid-seqno, invalid-signature-length, invalid-key}
-use Rattle.basis.specs.Refusals.{key-mismatch, topic-count, topic-too-long, message-too-long}
+use Rattle.basis.specs.Refusals.{missing-from, invalid-from, not-peer-id, invalid-seqno, key-without-signature}
+use Rattle.basis.specs.Refusals.{invalid-signature-length, invalid-key, key-mismatch, topic-count, topic-too-long, message-too-long}
 use Rattle.protobuf.specs.Walk.{between}
 use Rattle.protobuf.specs.WalkLaws.{between-length}
 use Rattle.schema.specs.declared.Kind.the-variants as kind
@@ -30,8 +31,10 @@ use Rattle.admission.specs.declared.Unfit.{Unfit}
 use Rattle.admission.specs.declared.Unfit.the-variants as why
 use Rattle.admission.specs.declared.Admission.{Admission}
 use Rattle.admission.specs.declared.Admission.the-variants as admission
-use Rattle.admission.specs.Admission.{topicsOf, firstLong, onLimits, isKey, keyMatches, keyInside, onKey, onSignature}
-use Rattle.admission.specs.Admission.{isPeerId, onPeer, partAt, senderOf, onId, admissionOf}
+use Rattle.admission.specs.Flags.{allowsUnsigned}
+use Rattle.admission.specs.Admission.{topicsOf, firstLong, onLimits, onWord, isKey, keyMatches, keyInside, onKey, onSignature}
+use Rattle.admission.specs.Admission.{isPeerId, onPeer, partAt, senderOf, onId, admissionOf, isThere, isSigned, vouched}
+use Rattle.admission.specs.AdmissionLaws.{vouched-same, fit-signed}
 use Rattle.admission.specs.Fit.{givenAt}
 use Rattle.admission.specs.Told.{unfitTold, admissionTold}
 use Rattle.meaning.specs.Decoded.{Within}
@@ -44,8 +47,10 @@ use Rattle.compose.specs.declared.Lists.{Lists}
 use Rattle.compose.specs.declared.Lists.the-variants.{Fine, Refused}
 use Rattle.compose.specs.Lent.{lentRows}
 use Rattle.compose.specs.Said.{encodeMessage, renewed, messagesIn, said}
-use Rattle.compose.specs.Weighed.{capped, andThen, given, fromFine, seqnoFine, signatureFine, keyFine, topicsFine, sizeFine, limitsFine, weighed, firstUnfit}
+use Rattle.compose.specs.Weighed.{capped, andThen, given, fromFine, seqnoFine, signatureFine, keyFine, bareFine, signedFine, backedFine, topicsFine, sizeFine}
+use Rattle.compose.specs.Weighed.{limitsFine, weighed, firstUnfit}
 use Rattle.compose.specs.Compose.{writeTested}
+use Rattle.compose.specs.Off.{weighedWas, weighed-off}
 use Rattle.compose.specs.Told.{wrongTold}
 use Rattle.compose.specs.Puts.{capped-small}
 use Rattle.composed.specs.WrittenRows.{both-fine, passed-of}
@@ -92,14 +97,38 @@ of-key p s (place.Present a e) r =
     (λ t. either (keyMatches s (between p a e)) (λ u. simp (t, u)) (λ u. simp (t, u)))
     (λ t. simp t)
 
--- 26, of a signature that is there
-of-signature : (p : List ℕ) (s k : Place) (d : List ℕ) (r : Admission) → PlaceInside p s → givenAt p s ≡ some d
-    → ofAdmission (onSignature s k r) ≡ andThen (signatureFine (given (givenAt p s))) (ofAdmission r)
-unfolding signatureFine
-of-signature p place.Absent k d r i h = clash (cc)
-of-signature p (place.Present a e) k d r i h =
-    let l = between-length p a e (i a e refl .1) in
-    rw l (either (eqb (e - a) 64) (λ t. simp t) (λ t. simp t))
+-- the signature that is asked for: it is there, and the host gives its word on it; or there is none, where unsigned messages are allowed
+pub data AsAsked (u : Bool) : Option (List ℕ) → Bool → Type 0 where
+  with-signature : {d : List ℕ} → AsAsked u (some d) true
+  with-none : {word : Bool} → u ≡ true → AsAsked u none word
+
+some-asked : {u : Bool} {d : List ℕ} {word : Bool} → AsAsked u (some d) word → word ≡ true
+some-asked with-signature = refl
+
+none-asked : {u word : Bool} → AsAsked u none word → u ≡ true
+none-asked (with-none h) = h
+
+-- 24, of a key without it
+of-bare : (u word : Bool) (p s : List ℕ) (k : Place) (r : Admission) → u ≡ true
+    → ofAdmission (onSignature u place.Absent k (onKey p s k (onWord word r)) r) ≡ andThen (backedFine u s none (givenAt p k)) (ofAdmission r)
+unfolding backedFine
+of-bare u word p s place.Absent r h = simp h
+of-bare u word p s (place.Present a e) r h = simp h
+
+-- 26, of one that is there, then 35, 36
+of-signed : (u : Bool) (p s : List ℕ) (a e : ℕ) (k : Place) (r : Admission) → length (between p a e) ≡ e - a
+    → ofAdmission (onSignature u (place.Present a e) k (onKey p s k r) r)
+    ≡ andThen (backedFine u s (some (between p a e)) (givenAt p k)) (ofAdmission r)
+unfolding backedFine signatureFine
+of-signed u p s a e k r l =
+    rw l (either (eqb (e - a) 64) (λ t. simp t (of-key p s k r)) (λ t. simp t))
+
+of-backed : (u word : Bool) (p s : List ℕ) (g k : Place) (r : Admission) → PlaceInside p g → AsAsked u (givenAt p g) word
+    → ofAdmission (onSignature u g k (onKey p s k (onWord word r)) r) ≡ andThen (backedFine u s (givenAt p g) (givenAt p k)) (ofAdmission r)
+of-backed u word p s place.Absent k r i x = of-bare u word p s k r (none-asked x)
+of-backed u word p s (place.Present a e) k r i x =
+    ap (λ (w : Bool). ofAdmission (onSignature u (place.Present a e) k (onKey p s k (onWord w r)) r)) (some-asked x)
+    ∙ of-signed u p s a e k r (between-length p a e (i a e refl .1))
 
 -- 34
 of-peer : (s : List ℕ) (r : Admission)
@@ -111,41 +140,40 @@ then-fine : (r : Lists) → andThen r Fine ≡ r
 then-fine Fine = refl
 then-fine (Refused w) = refl
 
--- admission with the host's word, by the sender s and by where signature and key stand
-abbrev onParts : List ℕ → List ℕ → Place → Place → MessageId → Admission
-onParts p s g k id.MissingFrom = admission.Unfit why.MissingFrom
-onParts p s g k (id.InvalidFrom n) = admission.Unfit (why.InvalidFrom n)
-onParts p s g k id.InvalidSeqno = onPeer s (admission.Unfit why.InvalidSeqno)
-onParts p s g k (id.Parts a e b f) = onPeer s (onSignature g k (onKey p s k (onLimits p (admission.Fit a e b f))))
+-- admission by the sender s and by where signature and key stand
+abbrev onParts : Bool → Bool → List ℕ → List ℕ → Place → Place → MessageId → Admission
+onParts u word p s g k id.MissingFrom = admission.Unfit why.MissingFrom
+onParts u word p s g k (id.InvalidFrom n) = admission.Unfit (why.InvalidFrom n)
+onParts u word p s g k id.InvalidSeqno = onPeer s (admission.Unfit why.InvalidSeqno)
+onParts u word p s g k (id.Parts a e b f) =
+    onPeer s (onSignature u g k (onKey p s k (onWord word (onLimits p (admission.Fit a e b f)))) (onLimits p (admission.Fit a e b f)))
 
-on-parts : (p : List ℕ) (x : MessageId)
-    → onId p true x ≡ onParts p (senderOf p) (slotsOf kind.RawMessage p .fourth) (slotsOf kind.RawMessage p .fifth) x
-on-parts p id.MissingFrom = refl
-on-parts p (id.InvalidFrom n) = refl
-on-parts p id.InvalidSeqno = refl
-on-parts p (id.Parts a e b f) = refl
+on-parts : (flags : ℕ) (p : List ℕ) (word : Bool) (x : MessageId)
+    → onId flags p word x
+    ≡ onParts (allowsUnsigned flags) word p (senderOf p) (slotsOf kind.RawMessage p .fourth) (slotsOf kind.RawMessage p .fifth) x
+on-parts flags p word id.MissingFrom = refl
+on-parts flags p word (id.InvalidFrom n) = refl
+on-parts flags p word id.InvalidSeqno = refl
+on-parts flags p word (id.Parts a e b f) = refl
 
 -- what is weighed behind the sequence number
-abbrev behind : List ℕ → List ℕ → Place → Place → Lists
-behind p s g k =
-    andThen (signatureFine (given (givenAt p g)))
-    (andThen (keyFine s (givenAt p k)) (andThen (topicsFine (topicsOf p)) (sizeFine (length p))))
+abbrev behind : Bool → List ℕ → List ℕ → Place → Place → Lists
+behind u p s g k =
+    andThen (backedFine u s (givenAt p g) (givenAt p k)) (andThen (topicsFine (topicsOf p)) (sizeFine (length p)))
 
-module _ (p : List ℕ) (g k : Place) (d : List ℕ) (i : PlaceInside p g) (h : givenAt p g ≡ some d) where
-  of-parts : (s : List ℕ) (a e b f : ℕ) → ofAdmission (onParts p s g k (id.Parts a e b f))
-      ≡ andThen (cond (isPeerId s) Fine (Refused (wrong.Unfit why.NotPeerId))) (behind p s g k)
+module _ (u word : Bool) (p : List ℕ) (g k : Place) (i : PlaceInside p g) (h : AsAsked u (givenAt p g) word) where
+  of-parts : (s : List ℕ) (a e b f : ℕ) → ofAdmission (onParts u word p s g k (id.Parts a e b f))
+      ≡ andThen (cond (isPeerId s) Fine (Refused (wrong.Unfit why.NotPeerId))) (behind u p s g k)
   of-parts s a e b f =
       let fit = admission.Fit a e b f in
       let l = of-limits p fit ∙ then-fine (andThen (topicsFine (topicsOf p)) (sizeFine (length p))) in
-      of-peer s (onSignature g k (onKey p s k (onLimits p fit)))
+      of-peer s (onSignature u g k (onKey p s k (onWord word (onLimits p fit))) (onLimits p fit))
       ∙ ap (andThen (cond (isPeerId s) Fine (Refused (wrong.Unfit why.NotPeerId))))
-      (of-signature p g k d (onKey p s k (onLimits p fit)) i h
-      ∙ ap (andThen (signatureFine (given (givenAt p g))))
-      (of-key p s k (onLimits p fit) ∙ ap (andThen (keyFine s (givenAt p k))) l))
+      (of-backed u word p s g k (onLimits p fit) i h ∙ ap (andThen (backedFine u s (givenAt p g) (givenAt p k))) l)
 
-  of-seqno : (s : List ℕ) (a e : ℕ) (q : Place) → PlaceInside p q → ofAdmission (onParts p s g k (onSeqno a e q))
+  of-seqno : (s : List ℕ) (a e : ℕ) (q : Place) → PlaceInside p q → ofAdmission (onParts u word p s g k (onSeqno a e q))
       ≡ andThen (cond (isPeerId s) Fine (Refused (wrong.Unfit why.NotPeerId)))
-      (andThen (seqnoFine (given (givenAt p q))) (behind p s g k))
+      (andThen (seqnoFine (given (givenAt p q))) (behind u p s g k))
   unfolding seqnoFine
   of-seqno s a e place.Absent j = of-peer s (admission.Unfit why.InvalidSeqno)
   of-seqno s a e (place.Present b f) j =
@@ -154,27 +182,39 @@ module _ (p : List ℕ) (g k : Place) (d : List ℕ) (i : PlaceInside p g) (h : 
       (λ t. simp t (of-peer s (admission.Unfit why.InvalidSeqno)))
       (λ t. simp t (of-parts s a e b f)))
 
-  of-from : (f q : Place) → PlaceInside p f → PlaceInside p q → ofAdmission (onParts p (partAt p f) g k (onFrom f q))
-      ≡ andThen (fromFine (givenAt p f)) (andThen (seqnoFine (given (givenAt p q))) (behind p (given (givenAt p f)) g k))
+  of-from : (f q : Place) → PlaceInside p f → PlaceInside p q → ofAdmission (onParts u word p (partAt p f) g k (onFrom f q))
+      ≡ andThen (fromFine (givenAt p f)) (andThen (seqnoFine (given (givenAt p q))) (behind u p (given (givenAt p f)) g k))
   unfolding fromFine
   of-from place.Absent q j l = refl
   of-from (place.Present a e) q j l =
       let n = between-length p a e (j a e refl .1) in
       rw n (either (eqb (e - a) 0 || ltb 64 (e - a)) (λ t. simp t) (λ t. simp t (of-seqno (between p a e) a e q l)))
 
--- a message with a signature: what its own bytes are told by admission, the host's word given
-pub as-admission : (m : RawMessage) (d : List ℕ) → IsMessage (encodeMessage m) (renewed m) → m .signature ≡ some d
-    → weighed m ≡ ofAdmission (admissionOf (encodeMessage m) true)
+-- a message with the signature that is asked for: what its own bytes are told by admission
+pub as-admission : (flags : ℕ) (m : RawMessage) (word : Bool) → IsMessage (encodeMessage m) (renewed m)
+    → AsAsked (allowsUnsigned flags) (m .signature) word
+    → weighed flags m ≡ ofAdmission (admissionOf flags (encodeMessage m) word)
 unfolding admissionOf idParts weighed limitsFine
-as-admission m d i h =
+as-admission flags m word i h =
+    let u = allowsUnsigned flags in
     let p = encodeMessage m in
     let s = slotsOf kind.RawMessage p in
     let n = slots-inside kind.RawMessage p in
     let g = fields-given i in
     let t : topicsOf p ≡ m .«topic_ids» = sym (topics-mean i .0) in
-    sym (ap ofAdmission (on-parts p (idParts p))
-    ∙ of-from p (s .fourth) (s .fifth) d (n .fourth) (g .signature ∙ h) (s .first) (s .third) (n .first) (n .third)
+    sym (ap ofAdmission (on-parts flags p word (idParts p))
+    ∙ of-from u word p (s .fourth) (s .fifth) (n .fourth) (subst (λ (o : Option (List ℕ)). AsAsked u o word) (sym (g .signature)) h)
+    (s .first) (s .third) (n .first) (n .third)
     ∙ rw (g .from, g .seqno, g .signature, g .key, t))
+
+-- where unsigned messages are allowed, so is every message, the host's word given
+on-asked : (u : Bool) (o : Option (List ℕ)) → u ≡ true → AsAsked u o true
+on-asked u none h = with-none h
+on-asked u (some d) h = with-signature
+
+pub on-as-admission : (flags : ℕ) (m : RawMessage) → allowsUnsigned flags ≡ true → IsMessage (encodeMessage m) (renewed m)
+    → weighed flags m ≡ ofAdmission (admissionOf flags (encodeMessage m) true)
+on-as-admission flags m h i = as-admission flags m true i (on-asked (allowsUnsigned flags) (m .signature) h)
 
 -- ---- told alike: below 2^64 bytes no length is stopped
 -- only 30 tells the length of the bytes
@@ -199,23 +239,28 @@ module _ (p : List ℕ) where
   key-sized s (place.Present a e) x =
       cond-sized (isKey (between p a e)) (cond-sized (keyMatches s (between p a e)) x (early refl)) (early refl)
 
-  signature-sized : (g k : Place) {r : Admission} → Sized p r → Sized p (onSignature g k r)
-  signature-sized place.Absent place.Absent x = early refl
-  signature-sized place.Absent (place.Present a e) x = early refl
-  signature-sized (place.Present a e) k x = cond-sized (eqb (e - a) 64) x (early refl)
+  word-sized : (word : Bool) {r : Admission} → Sized p r → Sized p (onWord word r)
+  word-sized true x = x
+  word-sized false x = early refl
 
-  parts-sized : (s : List ℕ) (g k : Place) (x : MessageId) → Sized p (onParts p s g k x)
-  parts-sized s g k id.MissingFrom = early refl
-  parts-sized s g k (id.InvalidFrom n) = early refl
-  parts-sized s g k id.InvalidSeqno = cond-sized (isPeerId s) (early refl) (early refl)
-  parts-sized s g k (id.Parts a e b f) =
-      cond-sized (isPeerId s) (signature-sized g k (key-sized s k (limits-sized taken))) (early refl)
+  signature-sized : (u : Bool) (g k : Place) {r l : Admission} → Sized p r → Sized p l → Sized p (onSignature u g k r l)
+  signature-sized u place.Absent place.Absent x y = cond-sized u y (early refl)
+  signature-sized u place.Absent (place.Present a e) x y = early refl
+  signature-sized u (place.Present a e) k x y = cond-sized (eqb (e - a) 64) x (early refl)
 
-  admission-sized : Sized p (admissionOf p true)
+  parts-sized : (u word : Bool) (s : List ℕ) (g k : Place) (x : MessageId) → Sized p (onParts u word p s g k x)
+  parts-sized u word s g k id.MissingFrom = early refl
+  parts-sized u word s g k (id.InvalidFrom n) = early refl
+  parts-sized u word s g k id.InvalidSeqno = cond-sized (isPeerId s) (early refl) (early refl)
+  parts-sized u word s g k (id.Parts a e b f) =
+      cond-sized (isPeerId s)
+      (signature-sized u g k (key-sized s k (word-sized word (limits-sized taken))) (limits-sized taken)) (early refl)
+
+  admission-sized : (flags : ℕ) (word : Bool) → Sized p (admissionOf flags p word)
   unfolding admissionOf
-  admission-sized =
-      subst (Sized p) (sym (on-parts p (idParts p)))
-      (parts-sized (senderOf p) (slotsOf kind.RawMessage p .fourth) (slotsOf kind.RawMessage p .fifth) (idParts p))
+  admission-sized flags word =
+      subst (Sized p) (sym (on-parts flags p word (idParts p)))
+      (parts-sized (allowsUnsigned flags) word (senderOf p) (slotsOf kind.RawMessage p .fourth) (slotsOf kind.RawMessage p .fifth) (idParts p))
 
   early-same : (w : Unfit) → eqb (unfitTold w .number) message-too-long ≡ false → stopped w ≡ w
   early-same why.MissingFrom h = refl
@@ -241,43 +286,46 @@ module _ (p : List ℕ) where
       let e : w ≡ wrong.Unfit (why.MessageTooLong (capped (length p))) = cc in
       ap wrongTold e ∙ ap (λ (n : ℕ). unfitTold (why.MessageTooLong n)) (capped-small (length p) (omega arith))
 
--- a message with a signature, below 2^64 bytes: its refusal is told as admission tells it
-pub told-as-admission : (m : RawMessage) (d : List ℕ) (w : Wrong) → IsMessage (encodeMessage m) (renewed m)
-    → m .signature ≡ some d → length (encodeMessage m) < 2 ^ 64 → weighed m ≡ Refused w
-    → wrongTold w ≡ admissionTold (admissionOf (encodeMessage m) true)
-told-as-admission m d w i h l k =
-    told-alike (encodeMessage m) w l (admission-sized (encodeMessage m)) (sym (as-admission m d i h) ∙ k)
+-- below 2^64 bytes its refusal is told as admission tells it
+pub told-as-admission : (flags : ℕ) (m : RawMessage) (word : Bool) (w : Wrong) → IsMessage (encodeMessage m) (renewed m)
+    → AsAsked (allowsUnsigned flags) (m .signature) word → length (encodeMessage m) < 2 ^ 64 → weighed flags m ≡ Refused w
+    → wrongTold w ≡ admissionTold (admissionOf flags (encodeMessage m) word)
+told-as-admission flags m word w i h l k =
+    told-alike (encodeMessage m) w l (admission-sized (encodeMessage m) flags word) (sym (as-admission flags m word i h) ∙ k)
 
 -- ---- so what is written is admitted
--- bytes of a message that admission takes, the host's word given
-abbrev pub Taken : List ℕ → Type 0
-Taken p = (a : ℕ) × (e : ℕ) × (b : ℕ) × (f : ℕ) × (admissionOf p true ≡ admission.Fit a e b f)
+-- bytes of a message that admission takes wherever it is vouched for: with the host's word, or without where it has no signature and the flags allow that
+abbrev pub Taken : ℕ → List ℕ → Type 0
+Taken flags p = (word : Bool) → vouched flags p word ≡ true
+    → (a : ℕ) × (e : ℕ) × (b : ℕ) × (f : ℕ) × (admissionOf flags p word ≡ admission.Fit a e b f)
 
--- it has a signature
-has-signature : (o : Option (List ℕ)) → signatureFine (given o) ≡ Fine → (d : List ℕ) × (o ≡ some d)
-unfolding signatureFine
-has-signature none h = clash (cc)
-has-signature (some d) h = (d, refl)
+-- it has the signature that is asked for
+backed-asked : (u : Bool) (s : List ℕ) (o k : Option (List ℕ)) → backedFine u s o k ≡ Fine → AsAsked u o true
+unfolding backedFine signatureFine
+backed-asked u s none k h = either u (λ t. with-none t) (λ t. clash (let z = simp t at h in cc))
+backed-asked u s (some d) k h = with-signature
 
-fit-signed : (m : RawMessage) → weighed m ≡ Fine → (d : List ℕ) × (m .signature ≡ some d)
+weighed-asked : (flags : ℕ) (m : RawMessage) → weighed flags m ≡ Fine → AsAsked (allowsUnsigned flags) (m .signature) true
 unfolding weighed
-fit-signed m h =
-    let a = both-fine (fromFine (m .from)) (andThen (seqnoFine (given (m .seqno)))
-    (andThen (signatureFine (given (m .signature))) (andThen (keyFine (given (m .from)) (m .key)) (limitsFine m)))) h in
-    let b = both-fine (seqnoFine (given (m .seqno))) (andThen (signatureFine (given (m .signature)))
-    (andThen (keyFine (given (m .from)) (m .key)) (limitsFine m))) (a .1) in
-    let c = both-fine (signatureFine (given (m .signature))) (andThen (keyFine (given (m .from)) (m .key)) (limitsFine m)) (b .1) in
-    has-signature (m .signature) (c .0)
+weighed-asked flags m h =
+    let u = allowsUnsigned flags in
+    let s = backedFine u (given (m .from)) (m .signature) (m .key) in
+    let q = seqnoFine (given (m .seqno)) in
+    let a = both-fine (fromFine (m .from)) (andThen q (andThen s (limitsFine m))) h in
+    let b = both-fine q (andThen s (limitsFine m)) (a .1) in
+    let c = both-fine s (limitsFine m) (b .1) in
+    backed-asked u (given (m .from)) (m .signature) (m .key) (c .0)
 
-of-fine : (p : List ℕ) (r : Admission) → admissionOf p true ≡ r → ofAdmission r ≡ Fine → Taken p
-of-fine p (admission.Fit a e b f) h k = (a, e, b, f, h)
-of-fine p (admission.Unfit w) h k = clash (cc)
+of-fine : (flags : ℕ) (p : List ℕ) (r : Admission) → admissionOf flags p true ≡ r → ofAdmission r ≡ Fine → Taken flags p
+of-fine flags p (admission.Fit a e b f) h k = λ word v. (a, e, b, f, vouched-same flags p word v ∙ h)
+of-fine flags p (admission.Unfit w) h k = clash (cc)
 
 -- a message that may be written, by its own bytes
-pub weighed-taken : (m : RawMessage) → IsMessage (encodeMessage m) (renewed m) → weighed m ≡ Fine → Taken (encodeMessage m)
-weighed-taken m i h =
-    let s = fit-signed m h in
-    of-fine (encodeMessage m) (admissionOf (encodeMessage m) true) refl (sym (as-admission m (s .0) i (s .1)) ∙ h)
+pub weighed-taken : (flags : ℕ) (m : RawMessage) → IsMessage (encodeMessage m) (renewed m) → weighed flags m ≡ Fine
+    → Taken flags (encodeMessage m)
+weighed-taken flags m i h =
+    of-fine flags (encodeMessage m) (admissionOf flags (encodeMessage m) true) refl
+    (sym (as-admission flags m true i (weighed-asked flags m h)) ∙ h)
 
 own-raw : {p : List ℕ} {m : RawMessage} → IsMessage p m → IsMessage (m .raw) m
 own-raw (is-message g u) = is-message g u
@@ -290,27 +338,49 @@ each-means (i paired r) = own-raw i and each-means r
 publish-means : {w : List ℕ} {x : Rpc} → IsRpc w x → Each (λ (m : RawMessage). IsMessage (m .raw) m) (x .publish)
 publish-means (is-rpc g a b c) = each-means b
 
-each-taken : (ms : List RawMessage) → firstUnfit ms ≡ Fine → Each (λ (m : RawMessage). IsMessage (m .raw) m) (map renewed ms)
-    → Each (λ (m : RawMessage). Taken (m .raw)) (map renewed ms)
-each-taken [] h none-left = none-left
-each-taken (m ∷ ms) h (i and r) =
-    let a = both-fine (weighed m) (firstUnfit ms) h in weighed-taken m i (a .0) and each-taken ms (a .1) r
+each-taken : (flags : ℕ) (ms : List RawMessage) → firstUnfit flags ms ≡ Fine
+    → Each (λ (m : RawMessage). IsMessage (m .raw) m) (map renewed ms) → Each (λ (m : RawMessage). Taken flags (m .raw)) (map renewed ms)
+each-taken flags [] h none-left = none-left
+each-taken flags (m ∷ ms) h (i and r) =
+    let a = both-fine (weighed flags m) (firstUnfit flags ms) h in weighed-taken flags m i (a .0) and each-taken flags ms (a .1) r
 
 -- each message of the RPC that lists say is taken, where they are written
-pub written-admitted : (t b w : List ℕ) → writeTested t b ≡ Fine → Within w (said b (lentRows t))
-    → Each (λ (m : RawMessage). Taken (m .raw)) (said b (lentRows t) .publish)
+pub written-admitted : (flags : ℕ) (t b w : List ℕ) → writeTested flags t b ≡ Fine → Within w (said b (lentRows t))
+    → Each (λ (m : RawMessage). Taken flags (m .raw)) (said b (lentRows t) .publish)
 unfolding said
-written-admitted t b w h i = each-taken (messagesIn b (lentRows t)) (passed-of t b h .fit) (publish-means (i .means))
+written-admitted flags t b w h i =
+    each-taken flags (messagesIn b (lentRows t)) (passed-of flags t b h .fit) (publish-means (i .means))
+
+-- and one that is taken has the signature that is asked for
+there-given : (p : List ℕ) (q : Place) (u : Bool) → isThere q ≡ true → AsAsked u (givenAt p q) true
+there-given p place.Absent u h = clash (cc)
+there-given p (place.Present a e) u h = with-signature
+
+fit-asked : (flags : ℕ) (m : RawMessage) (a e b f : ℕ) → IsMessage (encodeMessage m) (renewed m)
+    → admissionOf flags (encodeMessage m) true ≡ admission.Fit a e b f → AsAsked (allowsUnsigned flags) (m .signature) true
+unfolding isSigned
+fit-asked flags m a e b f i h =
+    let p = encodeMessage m in
+    let u = allowsUnsigned flags in
+    either u (λ t. on-asked u (m .signature) t)
+    (λ t. subst (λ (o : Option (List ℕ)). AsAsked u o true) (fields-given i .signature)
+    (there-given p (slotsOf kind.RawMessage p .fourth) u (fit-signed flags p true a e b f h t)))
+
+vouched-word : (flags : ℕ) (p : List ℕ) → vouched flags p true ≡ true
+unfolding vouched
+vouched-word flags p = refl
 
 -- by its fields, as the documents have it: a message may be written exactly where it is fit
-pub weighed-exactly : (m : RawMessage) → IsMessage (encodeMessage m) (renewed m) → Bytes (encodeMessage m)
-    → (weighed m ≡ Fine) ↔ FitMessage (renewed m) true
-weighed-exactly m i b = (
-  λ h. fit-message i b true .0 (weighed-taken m i h),
-  λ x. let t = fit-message i b true .1 x in as-admission m (x .signature) i (x .signed) ∙ ap ofAdmission (t .4),
+pub weighed-exactly : (flags : ℕ) (m : RawMessage) → IsMessage (encodeMessage m) (renewed m) → Bytes (encodeMessage m)
+    → (weighed flags m ≡ Fine) ↔ FitMessage flags (renewed m) true
+weighed-exactly flags m i b = (
+  λ h. fit-message flags i b true .0 (weighed-taken flags m i h true (vouched-word flags (encodeMessage m))),
+  λ x.
+      let t = fit-message flags i b true .1 x in
+      as-admission flags m true i (fit-asked flags m (t .0) (t .1) (t .2) (t .3) i (t .4)) ∙ ap ofAdmission (t .4),
 )
 
--- ---- a message without a signature: 21, 22, 34, 23, or 26 with 0
+-- ---- a message without a signature, where none is allowed: 21, 22, 34, 23, or 26 with 0
 pub data Unsigned : Unfit → Type 0 where
   no-from : Unsigned why.MissingFrom
   bad-from : {n : ℕ} → Unsigned (why.InvalidFrom n)
@@ -329,69 +399,178 @@ unsigned-by (some s) q r =
     (λ v. (why.InvalidSignatureLength 0, no-signature, simp (t, u, v))))
     (λ u. (why.NotPeerId, no-peer, simp (t, u))))
 
-pub unsigned : (m : RawMessage) → m .signature ≡ none → (w : Unfit) × Unsigned w × (weighed m ≡ Refused (wrong.Unfit w))
-unfolding weighed
-unsigned m h =
+pub unsigned : (flags : ℕ) (m : RawMessage) → allowsUnsigned flags ≡ false → m .signature ≡ none
+    → (w : Unfit) × Unsigned w × (weighed flags m ≡ Refused (wrong.Unfit w))
+unfolding weighedWas
+unsigned flags m off h =
     let r = andThen (keyFine (given (m .from)) (m .key)) (limitsFine m) in
     let a = unsigned-by (m .from) (given (m .seqno)) r in (
       a .0,
       a .1,
-      ap (λ (o : Option (List ℕ)). andThen (fromFine (m .from))
+      weighed-off flags m off ∙ ap (λ (o : Option (List ℕ)). andThen (fromFine (m .from))
           (andThen (seqnoFine (given (m .seqno))) (andThen (signatureFine (given o)) r))) h ∙ a .2,
     )
 
--- ---- what a message is refused with: ten of the scope's numbers. 24, 25 and 27 are not among them
+-- ---- 24 is given exactly for a key without a signature where unsigned messages are allowed, from and seqno as they must be
+pub record KeyAlone (flags : ℕ) (m : RawMessage) : Type 0 where
+  pub allowed : allowsUnsigned flags ≡ true
+  pub none-there : m .signature ≡ none
+  pub key : List ℕ
+  pub there : m .key ≡ some key
+  pub from : fromFine (m .from) ≡ Fine
+  pub seqno : seqnoFine (given (m .seqno)) ≡ Fine
+
+-- a test that never gives it
+abbrev Other : Lists → Type 0
+Other r = r ≡ Refused (wrong.Unfit why.KeyWithoutSignature) → ⊥
+
+cond-other : (t : Bool) {a b : Lists} → Other a → Other b → Other (cond t a b)
+cond-other true x y = x
+cond-other false x y = y
+
+then-other : (a : Lists) {b : Lists} → Other a → Other b → Other (andThen a b)
+then-other Fine x y = y
+then-other (Refused w) x y = x
+
+from-other : (f : Option (List ℕ)) → Other (fromFine f)
+unfolding fromFine
+from-other none h = clash (cc)
+from-other (some s) h =
+    cond-other (unfit s) (λ z. clash (cc)) (cond-other (isPeerId s) (λ z. clash (cc)) (λ z. clash (cc))) h
+
+seqno-other : (d : List ℕ) → Other (seqnoFine d)
+unfolding seqnoFine
+seqno-other d h = cond-other (unfit d) (λ z. clash (cc)) (λ z. clash (cc)) h
+
+key-other : (s : List ℕ) (k : Option (List ℕ)) → Other (keyFine s k)
+unfolding keyFine
+key-other s none h = cond-other (keyInside s) (λ z. clash (cc)) (λ z. clash (cc)) h
+key-other s (some k) h =
+    cond-other (isKey k) (cond-other (keyMatches s k) (λ z. clash (cc)) (λ z. clash (cc))) (λ z. clash (cc)) h
+
+signed-other : (s d : List ℕ) (k : Option (List ℕ)) → Other (signedFine s d k)
+unfolding signatureFine
+signed-other s d k h =
+    then-other (signatureFine d) (λ z. cond-other (eqb (length d) 64) (λ y. clash (cc)) (λ y. clash (cc)) z) (key-other s k) h
+
+limits-other : (m : RawMessage) → Other (limitsFine m)
+unfolding limitsFine topicsFine sizeFine
+limits-other m h =
+    let ts = m .«topic_ids» in
+    then-other (topicsFine ts)
+    (λ z. cond-other (eqb (length ts) 0 || ltb 4 (length ts)) (λ y. clash (cc)) (cond-other (eqb (firstLong ts) 0) (λ y. clash (cc)) (λ y. clash (cc))) z)
+    (λ z. cond-other (ltb 4096 (length (encodeMessage m))) (λ y. clash (cc)) (λ y. clash (cc)) z) h
+
+-- so it comes from the test behind the sequence number
+then-one : (a b : Lists) → Other a → andThen a b ≡ Refused (wrong.Unfit why.KeyWithoutSignature)
+    → (a ≡ Fine) × (b ≡ Refused (wrong.Unfit why.KeyWithoutSignature))
+then-one Fine b x h = (refl, h)
+then-one (Refused w) b x h = absurd (x h)
+
+then-first : (a b : Lists) → Other b → andThen a b ≡ Refused (wrong.Unfit why.KeyWithoutSignature)
+    → a ≡ Refused (wrong.Unfit why.KeyWithoutSignature)
+then-first Fine b x h = absurd (x h)
+then-first (Refused w) b x h = h
+
+record Alone (u : Bool) (o k : Option (List ℕ)) : Type 0 where
+  allowed : u ≡ true
+  none-there : o ≡ none
+  key : List ℕ
+  there : k ≡ some key
+
+backed-alone : (u : Bool) (s : List ℕ) (o k : Option (List ℕ))
+    → backedFine u s o k ≡ Refused (wrong.Unfit why.KeyWithoutSignature) → Alone u o k
+unfolding backedFine
+backed-alone u s none none h =
+    either u (λ t. clash (let z = simp t at h in cc)) (λ t. absurd (signed-other s [] none (simp t at h)))
+backed-alone u s none (some k) h =
+    either u (λ t. record { allowed = t; none-there = refl; key = k; there = refl })
+    (λ t. absurd (signed-other s [] (some k) (simp t at h)))
+backed-alone u s (some d) k h = absurd (signed-other s d k h)
+
+key-alone-only : (flags : ℕ) (m : RawMessage) → weighed flags m ≡ Refused (wrong.Unfit why.KeyWithoutSignature) → KeyAlone flags m
+unfolding weighed
+key-alone-only flags m h =
+    let u = allowsUnsigned flags in
+    let s = backedFine u (given (m .from)) (m .signature) (m .key) in
+    let q = seqnoFine (given (m .seqno)) in
+    let a = then-one (fromFine (m .from)) (andThen q (andThen s (limitsFine m))) (from-other (m .from)) h in
+    let b = then-one q (andThen s (limitsFine m)) (seqno-other (given (m .seqno))) (a .1) in
+    let c = backed-alone u (given (m .from)) (m .signature) (m .key) (then-first s (limitsFine m) (limits-other m) (b .1)) in
+    record { allowed = c .allowed; none-there = c .none-there; key = c .key; there = c .there; from = a .0; seqno = b .0 }
+
+key-alone-is : (flags : ℕ) (m : RawMessage) → KeyAlone flags m → weighed flags m ≡ Refused (wrong.Unfit why.KeyWithoutSignature)
+unfolding weighed backedFine
+key-alone-is flags m x = rw (x .from, x .seqno, x .none-there, x .there, x .allowed)
+
+pub key-alone : (flags : ℕ) (m : RawMessage)
+    → (weighed flags m ≡ Refused (wrong.Unfit why.KeyWithoutSignature)) ↔ KeyAlone flags m
+key-alone flags m = (key-alone-only flags m, key-alone-is flags m)
+
+-- ---- what a message is refused with: eleven of the scope's numbers. 25 and 27 are not among them
 abbrev pub oneOf : ℕ → List ℕ → Bool
 oneOf n [] = false
 oneOf n (k ∷ ks) = eqb n k || oneOf n ks
 
 abbrev pub messageNumbers : List ℕ
 messageNumbers =
-    missing-from ∷ invalid-from ∷ not-peer-id ∷ invalid-seqno ∷ invalid-signature-length ∷ invalid-key ∷ key-mismatch
-    ∷ topic-count ∷ topic-too-long ∷ message-too-long ∷ []
+    missing-from ∷ invalid-from ∷ not-peer-id ∷ invalid-seqno ∷ key-without-signature ∷ invalid-signature-length ∷ invalid-key
+    ∷ key-mismatch ∷ topic-count ∷ topic-too-long ∷ message-too-long ∷ []
 
-data Ten : Lists → Type 0 where
-  fine : Ten Fine
-  ten : {w : Unfit} → oneOf (unfitTold w .number) messageNumbers ≡ true → Ten (Refused (wrong.Unfit w))
+data Eleven : Lists → Type 0 where
+  fine : Eleven Fine
+  one : {w : Unfit} → oneOf (unfitTold w .number) messageNumbers ≡ true → Eleven (Refused (wrong.Unfit w))
 
-then-ten : {a b : Lists} → Ten a → Ten b → Ten (andThen a b)
-then-ten fine y = y
-then-ten (ten h) y = ten h
+then-eleven : {a b : Lists} → Eleven a → Eleven b → Eleven (andThen a b)
+then-eleven fine y = y
+then-eleven (one h) y = one h
 
-cond-ten : (t : Bool) {a b : Lists} → Ten a → Ten b → Ten (cond t a b)
-cond-ten true x y = x
-cond-ten false x y = y
+cond-eleven : (t : Bool) {a b : Lists} → Eleven a → Eleven b → Eleven (cond t a b)
+cond-eleven true x y = x
+cond-eleven false x y = y
 
-from-ten : (f : Option (List ℕ)) → Ten (fromFine f)
+from-eleven : (f : Option (List ℕ)) → Eleven (fromFine f)
 unfolding fromFine
-from-ten none = ten refl
-from-ten (some s) = cond-ten (unfit s) (ten refl) (cond-ten (isPeerId s) fine (ten refl))
+from-eleven none = one refl
+from-eleven (some s) = cond-eleven (unfit s) (one refl) (cond-eleven (isPeerId s) fine (one refl))
 
-key-ten : (s : List ℕ) (k : Option (List ℕ)) → Ten (keyFine s k)
+key-eleven : (s : List ℕ) (k : Option (List ℕ)) → Eleven (keyFine s k)
 unfolding keyFine
-key-ten s none = cond-ten (keyInside s) fine (ten refl)
-key-ten s (some k) = cond-ten (isKey k) (cond-ten (keyMatches s k) fine (ten refl)) (ten refl)
+key-eleven s none = cond-eleven (keyInside s) fine (one refl)
+key-eleven s (some k) = cond-eleven (isKey k) (cond-eleven (keyMatches s k) fine (one refl)) (one refl)
 
-weighed-ten : (m : RawMessage) → Ten (weighed m)
-unfolding weighed limitsFine seqnoFine signatureFine topicsFine sizeFine
-weighed-ten m =
+signed-eleven : (s d : List ℕ) (k : Option (List ℕ)) → Eleven (signedFine s d k)
+unfolding signatureFine
+signed-eleven s d k = then-eleven (cond-eleven (eqb (length d) 64) fine (one refl)) (key-eleven s k)
+
+bare-eleven : (k : Option (List ℕ)) → Eleven (bareFine k)
+bare-eleven none = fine
+bare-eleven (some k) = one refl
+
+backed-eleven : (u : Bool) (s : List ℕ) (o k : Option (List ℕ)) → Eleven (backedFine u s o k)
+unfolding backedFine
+backed-eleven u s none k = cond-eleven u (bare-eleven k) (signed-eleven s [] k)
+backed-eleven u s (some d) k = signed-eleven s d k
+
+weighed-eleven : (flags : ℕ) (m : RawMessage) → Eleven (weighed flags m)
+unfolding weighed limitsFine seqnoFine topicsFine sizeFine
+weighed-eleven flags m =
     let ts = m .«topic_ids» in
-    then-ten (from-ten (m .from))
-    (then-ten (cond-ten (unfit (given (m .seqno))) (ten refl) fine)
-    (then-ten (cond-ten (eqb (length (given (m .signature))) 64) fine (ten refl))
-    (then-ten (key-ten (given (m .from)) (m .key))
-    (then-ten (cond-ten (eqb (length ts) 0 || ltb 4 (length ts)) (ten refl) (cond-ten (eqb (firstLong ts) 0) fine (ten refl)))
-    (cond-ten (ltb 4096 (length (encodeMessage m))) (ten refl) fine)))))
+    then-eleven (from-eleven (m .from))
+    (then-eleven (cond-eleven (unfit (given (m .seqno))) (one refl) fine)
+    (then-eleven (backed-eleven (allowsUnsigned flags) (given (m .from)) (m .signature) (m .key))
+    (then-eleven (cond-eleven (eqb (length ts) 0 || ltb 4 (length ts)) (one refl) (cond-eleven (eqb (firstLong ts) 0) fine (one refl)))
+    (cond-eleven (ltb 4096 (length (encodeMessage m))) (one refl) fine))))
 
 -- the one that is told
-pub record OfTen (w : Wrong) : Type 0 where
+pub record OfEleven (w : Wrong) : Type 0 where
   pub unfit : Unfit
   pub is : w ≡ wrong.Unfit unfit
   pub among : oneOf (unfitTold unfit .number) messageNumbers ≡ true
 
-of-ten : {r : Lists} (w : Wrong) → Ten r → r ≡ Refused w → OfTen w
-of-ten w fine h = clash (cc)
-of-ten w (ten {w = u} k) h = record { unfit = u; is = cc; among = k }
+of-eleven : {r : Lists} (w : Wrong) → Eleven r → r ≡ Refused w → OfEleven w
+of-eleven w fine h = clash (cc)
+of-eleven w (one {w = u} k) h = record { unfit = u; is = cc; among = k }
 
-pub weighed-number : (m : RawMessage) (w : Wrong) → weighed m ≡ Refused w → OfTen w
-weighed-number m w h = of-ten w (weighed-ten m) h
+pub weighed-number : (flags : ℕ) (m : RawMessage) (w : Wrong) → weighed flags m ≡ Refused w → OfEleven w
+weighed-number flags m w h = of-eleven w (weighed-eleven flags m) h

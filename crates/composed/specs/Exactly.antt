@@ -11,7 +11,7 @@ use lib.ListN.{length, drop}
 use lib.Dec.{ltb, leb, eqb}
 use borrow.Author.Tests.{ltb-true, ltb-false, lt-ltb, le-ltb, leb-true, leb-false, le-leb, lt-leb, eqb-true, eq-eqb}
 use Rattle.basis.specs.declared.Told.{Told}
-use Rattle.basis.specs.Refusals.{malformed, invalid-utf8, too-many-records, no-message, rpc-too-long, short-room}
+use Rattle.basis.specs.Refusals.{bad-setting, malformed, invalid-utf8, too-many-records, no-message, rpc-too-long, short-room}
 use Rattle.basis.specs.Told.{told, done}
 use Rattle.basis.specs.Cases.{either, clash, both}
 use Rattle.basis.specs.Writing.{written}
@@ -32,6 +32,7 @@ use Rattle.rpc.specs.Grammar.{Each, none-left, _and_}
 use Rattle.rpc.specs.Encode.{encodeRpc, signBytes}
 use Rattle.canon.specs.Messages.{Nth, here, there}
 use Rattle.canonical.specs.Calls.{Writes, fits, short}
+use Rattle.admission.specs.Flags.{knownFlags}
 use Rattle.compose.specs.declared.Wrong.{Wrong}
 use Rattle.compose.specs.declared.Wrong.the-variants.{NotLent, InvalidUtf8, TooManyRecords}
 use Rattle.compose.specs.declared.Lists.{Lists}
@@ -40,7 +41,7 @@ use Rattle.compose.specs.Lent.{lentRows, isCode, insideAt, fieldsInside, rowIns
 use Rattle.compose.specs.Said.{messagesIn, said}
 use Rattle.compose.specs.Weighed.{capped, andThen, weighed, firstUnfit}
 use Rattle.compose.specs.Compose.{moved, textIn, textOf, textFine, textsFine, countFine, listsOf, putAnswer, answering, leaving}
-use Rattle.compose.specs.Compose.{lengthFine, writeTested, writeAnswer, writeLeft, signAt, signedAt, signAnswer, signLeft}
+use Rattle.compose.specs.Compose.{lengthFine, flagsFine, writeTested, writeAnswer, writeLeft, signAt, signedAt, signAnswer, signLeft}
 use Rattle.compose.specs.Told.{wrongTold, composedTold}
 use Rattle.compose.specs.Puts.{capped-small}
 use Rattle.composed.specs.Signed.{nth-drop}
@@ -119,26 +120,30 @@ pub record ListsFine (t b : List ℕ) : Type 0 where
   pub few : length t / 20 ≤ 512
 
 -- ---- message by message: the first that may not be written
-pub data FirstUnfit : List RawMessage → Told → Type 0 where
-  unfit : {m : RawMessage} {ms : List RawMessage} {w : Wrong} → weighed m ≡ Refused w → FirstUnfit (m ∷ ms) (wrongTold w)
-  past : {m : RawMessage} {ms : List RawMessage} {a : Told} → weighed m ≡ Fine → FirstUnfit ms a → FirstUnfit (m ∷ ms) a
+pub data FirstUnfit (flags : ℕ) : List RawMessage → Told → Type 0 where
+  unfit : {m : RawMessage} {ms : List RawMessage} {w : Wrong} → weighed flags m ≡ Refused w → FirstUnfit flags (m ∷ ms) (wrongTold w)
+  past : {m : RawMessage} {ms : List RawMessage} {a : Told} → weighed flags m ≡ Fine → FirstUnfit flags ms a → FirstUnfit flags (m ∷ ms) a
 
-abbrev pub AllFit : List RawMessage → Type 0
-AllFit = Each (λ (m : RawMessage). weighed m ≡ Fine)
+abbrev pub AllFit : ℕ → List RawMessage → Type 0
+AllFit flags = Each (λ (m : RawMessage). weighed flags m ≡ Fine)
 
 -- ---- what write_rpc tells and leaves: `encodeRpc (said ..)` are the bytes of the RPC that the lists say
-pub data WritesRpc (t b out : List ℕ) : Told → List ℕ → Type 0 where
+pub data WritesRpc (flags : ℕ) (t b out : List ℕ) : Told → List ℕ → Type 0 where
+  -- 40: flags that are not known
+  bad-flags : knownFlags flags ≡ false → WritesRpc flags t b out (told bad-setting []) out
   -- 42, 7, 11
-  lists-refused : {a : Told} → ListsRefused t b a → WritesRpc t b out a out
+  lists-refused : {a : Told} → knownFlags flags ≡ true → ListsRefused t b a → WritesRpc flags t b out a out
   -- a message's refusal
-  message-refused : {a : Told} → ListsFine t b → FirstUnfit (messagesIn b (lentRows t)) a → WritesRpc t b out a out
+  message-refused : {a : Told} → knownFlags flags ≡ true → ListsFine t b → FirstUnfit flags (messagesIn b (lentRows t)) a
+      → WritesRpc flags t b out a out
   -- 13, the length, which stops at 2^64 - 1
-  too-long : ListsFine t b → AllFit (messagesIn b (lentRows t)) → 65536 < length (encodeRpc (said b (lentRows t)))
-      → WritesRpc t b out (told rpc-too-long (capped (length (encodeRpc (said b (lentRows t)))) ∷ [])) out
+  too-long : knownFlags flags ≡ true → ListsFine t b → AllFit flags (messagesIn b (lentRows t))
+      → 65536 < length (encodeRpc (said b (lentRows t)))
+      → WritesRpc flags t b out (told rpc-too-long (capped (length (encodeRpc (said b (lentRows t)))) ∷ [])) out
   -- the bytes, or 12 with the room that they need
-  writes : {a : Told} {l : List ℕ} → ListsFine t b → AllFit (messagesIn b (lentRows t))
+  writes : {a : Told} {l : List ℕ} → knownFlags flags ≡ true → ListsFine t b → AllFit flags (messagesIn b (lentRows t))
       → length (encodeRpc (said b (lentRows t))) ≤ 65536 → Writes (encodeRpc (said b (lentRows t))) out a l
-      → WritesRpc t b out a l
+      → WritesRpc flags t b out a l
 
 -- ---- what sign_fields tells and leaves, of message i
 pub data SignsFields (t b : List ℕ) (i : ℕ) (out : List ℕ) : Told → List ℕ → Type 0 where
@@ -418,29 +423,29 @@ module _ (t b : List ℕ) where
   )
 
 -- ---- messages, both ways
-data UnfitSays (ms : List RawMessage) : Lists → Type 0 where
-  all-fit : AllFit ms → UnfitSays ms Fine
-  none : {w : Wrong} → FirstUnfit ms (wrongTold w) → UnfitSays ms (Refused w)
+data UnfitSays (flags : ℕ) (ms : List RawMessage) : Lists → Type 0 where
+  all-fit : AllFit flags ms → UnfitSays flags ms Fine
+  none : {w : Wrong} → FirstUnfit flags ms (wrongTold w) → UnfitSays flags ms (Refused w)
 
-unfit-step : {m : RawMessage} {ms : List RawMessage} {y : Lists} (x : Lists) → weighed m ≡ x → UnfitSays ms y
-    → UnfitSays (m ∷ ms) (andThen x y)
+unfit-step : {flags : ℕ} {m : RawMessage} {ms : List RawMessage} {y : Lists} (x : Lists) → weighed flags m ≡ x → UnfitSays flags ms y
+    → UnfitSays flags (m ∷ ms) (andThen x y)
 unfit-step Fine h (all-fit u) = all-fit (h and u)
 unfit-step Fine h (none u) = none (past h u)
 unfit-step (Refused w) h u = none (unfit h)
 
-unfit-say : (ms : List RawMessage) → UnfitSays ms (firstUnfit ms)
-unfit-say [] = all-fit none-left
-unfit-say (m ∷ ms) = unfit-step (weighed m) refl (unfit-say ms)
+unfit-say : (flags : ℕ) (ms : List RawMessage) → UnfitSays flags ms (firstUnfit flags ms)
+unfit-say flags [] = all-fit none-left
+unfit-say flags (m ∷ ms) = unfit-step (weighed flags m) refl (unfit-say flags ms)
 
-pub fit-only : {ms : List RawMessage} → AllFit ms → firstUnfit ms ≡ Fine
-fit-only none-left = refl
-fit-only (_and_ {x = m} {xs = ms} h u) = ap (λ (x : Lists). andThen x (firstUnfit ms)) h ∙ fit-only u
+pub fit-only : (flags : ℕ) {ms : List RawMessage} → AllFit flags ms → firstUnfit flags ms ≡ Fine
+fit-only flags none-left = refl
+fit-only flags (_and_ {x = m} {xs = ms} h u) = ap (λ (x : Lists). andThen x (firstUnfit flags ms)) h ∙ fit-only flags u
 
-unfit-only : {ms : List RawMessage} {a : Told} → FirstUnfit ms a → (w : Wrong) × (firstUnfit ms ≡ Refused w)
+unfit-only : (flags : ℕ) {ms : List RawMessage} {a : Told} → FirstUnfit flags ms a → (w : Wrong) × (firstUnfit flags ms ≡ Refused w)
     × (wrongTold w ≡ a)
-unfit-only (unfit {ms = ms} {w = w} h) = (w, ap (λ (x : Lists). andThen x (firstUnfit ms)) h, refl)
-unfit-only (past {ms = ms} h u) =
-    let r = unfit-only u in (r .0, ap (λ (x : Lists). andThen x (firstUnfit ms)) h ∙ r .1, r .2)
+unfit-only flags (unfit {ms = ms} {w = w} h) = (w, ap (λ (x : Lists). andThen x (firstUnfit flags ms)) h, refl)
+unfit-only flags (past {ms = ms} h u) =
+    let r = unfit-only flags u in (r .0, ap (λ (x : Lists). andThen x (firstUnfit flags ms)) h ∙ r .1, r .2)
 
 -- ---- write_rpc
 -- a writer of bytes that a number of the machine counts
@@ -456,62 +461,65 @@ unfolding putAnswer written
 put-only h (fits k) = (simp (le-leb _ _ k), simp (le-leb _ _ k))
 put-only {xs} h (short k) = (simp (lt-leb _ _ k, capped-small (length xs) (omega arith)), simp (lt-leb _ _ k))
 
-module _ (t b out : List ℕ) where
+module _ (flags : ℕ) (t b out : List ℕ) where
   answer-by : Lists → Told
   answer-by r = composedTold (answering (putAnswer (encodeRpc (said b (lentRows t))) out) r)
 
   left-by : Lists → List ℕ
   left-by r = leaving out (written (encodeRpc (said b (lentRows t))) out) r
 
-  long-say : ListsFine t b → AllFit (messagesIn b (lentRows t))
-      → WritesRpc t b out (answer-by (lengthFine (encodeRpc (said b (lentRows t)))))
-      (left-by (lengthFine (encodeRpc (said b (lentRows t)))))
-  unfolding lengthFine answer-by left-by
-  long-say f u =
-      let xs = encodeRpc (said b (lentRows t)) in
-      either (ltb 65536 (length xs)) (λ c. simp c (too-long f u (ltb-true 65536 (length xs) c)))
-      (λ c. let n = ltb-false 65536 (length xs) c in simp c (writes f u n (put-writes xs out n)))
+  module _ (known : knownFlags flags ≡ true) where
+    long-say : ListsFine t b → AllFit flags (messagesIn b (lentRows t))
+        → WritesRpc flags t b out (answer-by (lengthFine (encodeRpc (said b (lentRows t)))))
+        (left-by (lengthFine (encodeRpc (said b (lentRows t)))))
+    unfolding lengthFine answer-by left-by
+    long-say f u =
+        let xs = encodeRpc (said b (lentRows t)) in
+        either (ltb 65536 (length xs)) (λ c. simp c (too-long known f u (ltb-true 65536 (length xs) c)))
+        (λ c. let n = ltb-false 65536 (length xs) c in simp c (writes known f u n (put-writes xs out n)))
 
-  messages-say : ListsFine t b → {r : Lists} → UnfitSays (messagesIn b (lentRows t)) r
-      → WritesRpc t b out (answer-by (andThen r (lengthFine (encodeRpc (said b (lentRows t))))))
-      (left-by (andThen r (lengthFine (encodeRpc (said b (lentRows t))))))
-  unfolding answer-by left-by
-  messages-say f (all-fit u) = long-say f u
-  messages-say f (none u) = message-refused f u
+    messages-say : ListsFine t b → {r : Lists} → UnfitSays flags (messagesIn b (lentRows t)) r
+        → WritesRpc flags t b out (answer-by (andThen r (lengthFine (encodeRpc (said b (lentRows t))))))
+        (left-by (andThen r (lengthFine (encodeRpc (said b (lentRows t))))))
+    unfolding answer-by left-by
+    messages-say f (all-fit u) = long-say f u
+    messages-say f (none u) = message-refused known f u
 
-  write-say : {r : Lists} → ListsSay t b r
-      → WritesRpc t b out
-      (answer-by (andThen r (andThen (firstUnfit (messagesIn b (lentRows t))) (lengthFine (encodeRpc (said b (lentRows t)))))))
-      (left-by (andThen r (andThen (firstUnfit (messagesIn b (lentRows t))) (lengthFine (encodeRpc (said b (lentRows t)))))))
-  unfolding answer-by left-by
-  write-say (fine f) = messages-say f (unfit-say (messagesIn b (lentRows t)))
-  write-say (refused u) = lists-refused u
+    lists-write : {r : Lists} → ListsSay t b r
+        → WritesRpc flags t b out
+        (answer-by (andThen r (andThen (firstUnfit flags (messagesIn b (lentRows t))) (lengthFine (encodeRpc (said b (lentRows t)))))))
+        (left-by (andThen r (andThen (firstUnfit flags (messagesIn b (lentRows t))) (lengthFine (encodeRpc (said b (lentRows t)))))))
+    unfolding answer-by left-by
+    lists-write (fine f) = messages-say f (unfit-say flags (messagesIn b (lentRows t)))
+    lists-write (refused u) = lists-refused known u
 
-  pub write-says : WritesRpc t b out (composedTold (writeAnswer t b out)) (writeLeft t b out)
-  unfolding writeAnswer writeLeft writeTested answer-by left-by
-  write-says = write-say (lists-say t b)
+  pub write-says : WritesRpc flags t b out (composedTold (writeAnswer flags t b out)) (writeLeft flags t b out)
+  unfolding writeAnswer writeLeft writeTested flagsFine answer-by left-by
+  write-says =
+      either (knownFlags flags) (λ c. simp c (lists-write c (lists-say t b))) (λ c. simp c (bad-flags c))
 
-  write-only : {a : Told} {l : List ℕ} → WritesRpc t b out a l
-      → (composedTold (writeAnswer t b out) ≡ a) × (writeLeft t b out ≡ l)
-  unfolding writeAnswer writeLeft writeTested lengthFine
-  write-only (lists-refused u) = let r = refused-only t b u in (simp (r .1) (r .2), simp (r .1))
-  write-only (message-refused f u) =
-      let r = unfit-only u in (simp (fine-only t b f, r .1) (r .2), simp (fine-only t b f, r .1))
-  write-only (too-long f u h) =
+  write-only : {a : Told} {l : List ℕ} → WritesRpc flags t b out a l
+      → (composedTold (writeAnswer flags t b out) ≡ a) × (writeLeft flags t b out ≡ l)
+  unfolding writeAnswer writeLeft writeTested flagsFine lengthFine
+  write-only (bad-flags n) = (simp n, simp n)
+  write-only (lists-refused n u) = let r = refused-only t b u in (simp (n, r .1) (r .2), simp (n, r .1))
+  write-only (message-refused n f u) =
+      let r = unfit-only flags u in (simp (n, fine-only t b f, r .1) (r .2), simp (n, fine-only t b f, r .1))
+  write-only (too-long n f u h) =
       let c = lt-ltb 65536 (length (encodeRpc (said b (lentRows t)))) h in
-      (simp (fine-only t b f, fit-only u, c), simp (fine-only t b f, fit-only u, c))
-  write-only (writes f u h w) =
+      (simp (n, fine-only t b f, fit-only flags u, c), simp (n, fine-only t b f, fit-only flags u, c))
+  write-only (writes n f u h w) =
       let c = le-ltb 65536 (length (encodeRpc (said b (lentRows t)))) h in
       let p = put-only h w in
-      (simp (fine-only t b f, fit-only u, c) (p .0), simp (fine-only t b f, fit-only u, c) (p .1))
+      (simp (n, fine-only t b f, fit-only flags u, c) (p .0), simp (n, fine-only t b f, fit-only flags u, c) (p .1))
 
 -- write_rpc tells a and leaves l exactly where the scope has it do so
-pub write-exactly : (t b out : List ℕ) (a : Told) (l : List ℕ)
-    → ((composedTold (writeAnswer t b out) ≡ a) × (writeLeft t b out ≡ l)) ↔ WritesRpc t b out a l
-write-exactly t b out a l = (
-  λ p. subst (λ (z : Told). WritesRpc t b out z l) (p .0)
-      (subst (λ (z : List ℕ). WritesRpc t b out (composedTold (writeAnswer t b out)) z) (p .1) (write-says t b out)),
-  write-only t b out,
+pub write-exactly : (flags : ℕ) (t b out : List ℕ) (a : Told) (l : List ℕ)
+    → ((composedTold (writeAnswer flags t b out) ≡ a) × (writeLeft flags t b out ≡ l)) ↔ WritesRpc flags t b out a l
+write-exactly flags t b out a l = (
+  λ p. subst (λ (z : Told). WritesRpc flags t b out z l) (p .0)
+      (subst (λ (z : List ℕ). WritesRpc flags t b out (composedTold (writeAnswer flags t b out)) z) (p .1) (write-says flags t b out)),
+  write-only flags t b out,
 )
 
 -- ---- sign_fields

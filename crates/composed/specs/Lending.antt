@@ -29,6 +29,7 @@ use Rattle.meaning.specs.Table.{rowsIn, table-back}
 use Rattle.meaning.specs.Size.{recordsIn, rpc-records}
 use Rattle.meaning.specs.Decoded.{Within, accepted-exactly, records-within}
 use Rattle.canonical.specs.Means.{opt}
+use Rattle.admission.specs.Flags.{knownFlags}
 use Rattle.compose.specs.declared.Lists.{Lists}
 use Rattle.compose.specs.declared.Lists.the-variants.{Fine}
 use Rattle.compose.specs.declared.Composed.the-variants.{Bytes as Count}
@@ -198,45 +199,47 @@ pub every-plain-rpc : (x : Rpc) → Sayable x → Plain x → Bytes (encodeRpc x
     → CanSay x
 every-plain-rpc x q p b l n = every-rpc x q (plain-within x p q l n) b
 
--- ---- and it is written, where no message is refused: a test looks at a message's fields alone
-weighed-renewed : (m : RawMessage) → weighed (renewed m) ≡ weighed m
+-- ---- and it is written under known flags, where no message is refused: a test looks at a message's fields alone
+weighed-renewed : (flags : ℕ) (m : RawMessage) → weighed flags (renewed m) ≡ weighed flags m
 unfolding weighed limitsFine encodeMessage encodeFields
-weighed-renewed m = refl
+weighed-renewed flags m = refl
 
-unfit-renewed : (ms : List RawMessage) → firstUnfit (map renewed ms) ≡ firstUnfit ms
-unfit-renewed [] = refl
-unfit-renewed (m ∷ ms) = ap₂ andThen (weighed-renewed m) (unfit-renewed ms)
+unfit-renewed : (flags : ℕ) (ms : List RawMessage) → firstUnfit flags (map renewed ms) ≡ firstUnfit flags ms
+unfit-renewed flags [] = refl
+unfit-renewed flags (m ∷ ms) = ap₂ andThen (weighed-renewed flags m) (unfit-renewed flags ms)
 
-unfit-said : (b : List ℕ) (rs : List Record) → firstUnfit (said b rs .publish) ≡ firstUnfit (messagesIn b rs)
+unfit-said : (flags : ℕ) (b : List ℕ) (rs : List Record) → firstUnfit flags (said b rs .publish) ≡ firstUnfit flags (messagesIn b rs)
 unfolding said
-unfit-said b rs = unfit-renewed (messagesIn b rs)
+unfit-said flags b rs = unfit-renewed flags (messagesIn b rs)
 
-pub lends-tested : {t b : List ℕ} {x : Rpc} → Lends t b x → firstUnfit (x .publish) ≡ Fine → length (encodeRpc x) ≤ 65536
-    → writeTested t b ≡ Fine
-lends-tested {t} {b} {x} d f l =
-    of-passed t b
+pub lends-tested : (flags : ℕ) {t b : List ℕ} {x : Rpc} → Lends t b x → knownFlags flags ≡ true → firstUnfit flags (x .publish) ≡ Fine
+    → length (encodeRpc x) ≤ 65536 → writeTested flags t b ≡ Fine
+lends-tested flags {t} {b} {x} d k f l =
+    of-passed flags t b
     (record {
+      known = k;
       taken = taken-of t b (d .fine);
-      fit = sym (unfit-said b (lentRows t)) ∙ ap (λ (y : Rpc). firstUnfit (y .publish)) (d .says) ∙ f;
+      fit = sym (unfit-said flags b (lentRows t)) ∙ ap (λ (y : Rpc). firstUnfit flags (y .publish)) (d .says) ∙ f;
       short = subst (λ (y : Rpc). length (encodeRpc y) ≤ 65536) (sym (d .says)) l;
     })
 
 -- given room, its encoding is what is written
-pub lends-written : {t b : List ℕ} {x : Rpc} → Lends t b x → firstUnfit (x .publish) ≡ Fine → length (encodeRpc x) ≤ 65536
-    → (out : List ℕ) → length (encodeRpc x) ≤ length out
-    → (writeAnswer t b out ≡ Count (length (encodeRpc x))) × (writeLeft t b out ≡ encodeRpc x ++ drop (length (encodeRpc x)) out)
+pub lends-written : (flags : ℕ) {t b : List ℕ} {x : Rpc} → Lends t b x → knownFlags flags ≡ true → firstUnfit flags (x .publish) ≡ Fine
+    → length (encodeRpc x) ≤ 65536 → (out : List ℕ) → length (encodeRpc x) ≤ length out
+    → (writeAnswer flags t b out ≡ Count (length (encodeRpc x))) × (writeLeft flags t b out ≡ encodeRpc x ++ drop (length (encodeRpc x)) out)
 unfolding writeAnswer writeLeft putAnswer written
-lends-written {t} {b} {x} d f l out r =
-    let e = lends-tested d f l in
-    let k = le-leb (length (encodeRpc x)) (length out) r in (
-      ap₂ (λ (y : Rpc) (z : Lists). answering (putAnswer (encodeRpc y) out) z) (d .says) e ∙ simp k,
-      ap₂ (λ (y : Rpc) (z : Lists). leaving out (written (encodeRpc y) out) z) (d .says) e ∙ simp k,
+lends-written flags {t} {b} {x} d k f l out r =
+    let e = lends-tested flags d k f l in
+    let n = le-leb (length (encodeRpc x)) (length out) r in (
+      ap₂ (λ (y : Rpc) (z : Lists). answering (putAnswer (encodeRpc y) out) z) (d .says) e ∙ simp n,
+      ap₂ (λ (y : Rpc) (z : Lists). leaving out (written (encodeRpc y) out) z) (d .says) e ∙ simp n,
     )
 
 -- ---- what was written, lent again as decode leaves it, says the same RPC, and the same is written
-alike-of : (t b u c : List ℕ) → writeTested t b ≡ Fine → writeTested u c ≡ Fine → saidOf u c ≡ saidOf t b → Alike t b u c
+alike-of : (flags : ℕ) (t b u c : List ℕ) → writeTested flags t b ≡ Fine → writeTested flags u c ≡ Fine → saidOf u c ≡ saidOf t b
+    → Alike flags t b u c
 unfolding writeAnswer writeLeft
-alike-of t b u c e f g =
+alike-of flags t b u c e f g =
     record {
       tested = f;
       says = g;
@@ -249,17 +252,17 @@ unfolding lentWell
 whole-rows t b h =
     eqb-true (length t % 20) 0 (both (eqb (length t % 20) 0) (lentFrom (length b) false false (lentRows t)) h .0)
 
-pub written-again : (t b table : List ℕ) → Words t → writeTested t b ≡ Fine → length t ≤ length table
-    → Alike t b (take (length t) (decodeTable (bodyOf t b) table)) (bodyOf t b)
-written-again t b table w h l =
-    let p = passed-of t b h in
-    let m = written-means t b w h in
+pub written-again : (flags : ℕ) (t b table : List ℕ) → Words t → writeTested flags t b ≡ Fine → length t ≤ length table
+    → Alike flags t b (take (length t) (decodeTable (bodyOf t b) table)) (bodyOf t b)
+written-again flags t b table w h l =
+    let p = passed-of flags t b h in
+    let m = written-means flags t b w h in
     let n = lent-records t b (p .taken .well) in
     let z = whole-rows t b (p .taken .well) in
     let k : length t ≡ recordsIn (saidOf t b) * 20 = omega arith in
     let e : take (length t) (decodeTable (bodyOf t b) table) ≡ wordsOfAll (rowsOf kind.Rpc 0 (bodyOf t b)) =
     ap (λ (i : ℕ). take i (decodeTable (bodyOf t b) table)) k ∙ decoded-words table m (omega arith) in
     let d = lend-sayable (saidOf t b) (said-sayable b (lentRows t)) m in
-    subst (λ (u : List ℕ). Alike t b u (bodyOf t b)) (sym e)
-    (alike-of t b (wordsOfAll (rowsOf kind.Rpc 0 (bodyOf t b))) (bodyOf t b) h
-    (lends-tested d (unfit-said b (lentRows t) ∙ p .fit) (p .short)) (d .says))
+    subst (λ (u : List ℕ). Alike flags t b u (bodyOf t b)) (sym e)
+    (alike-of flags t b (wordsOfAll (rowsOf kind.Rpc 0 (bodyOf t b))) (bodyOf t b) h
+    (lends-tested flags d (p .known) (unfit-said flags b (lentRows t) ∙ p .fit) (p .short)) (d .says))

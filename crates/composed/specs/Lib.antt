@@ -1,5 +1,6 @@
--- To be believed: Written; Exactly (`Lent`, `TopicAt`, `ListsRefused`, `ListsFine`, `FirstUnfit`; `WritesRpc`, `SignsFields`), Admitted (`ofAdmission`, `Taken`, `Unsigned`,
--- `messageNumbers`), Signed (`SameFields`), Spoken (`AsAdmission`), Refused (`writeNumbers`, `signNumbers`, `Writable`, `Signable`), Rows (`SmallRows`, `MessageRows`, `LargeRows`).
+-- To be believed: Written; Exactly (`Lent`, `TopicAt`, `ListsRefused`, `ListsFine`, `FirstUnfit`; `WritesRpc`, `SignsFields`), Admitted (`ofAdmission`, `AsAsked`, `Taken`, `Unsigned`,
+-- `KeyAlone`, `messageNumbers`), Signed (`SameFields`), Spoken (`AsAdmission`), Refused (`writeNumbers`, `signNumbers`, `KeyTold`, `Writable`, `Signable`), Rows (`SmallRows`,
+-- `MessageRows`, `LargeRows`).
 -- Theorems: Means, MeansBytes, WrittenLaws, Lending, Admitted, Signed, Spoken, Exactly, Refused, Rows.
 -- On the way to them: WrittenRows, LendingRows, LendingTexts, LendingWords.
 pub mod Written

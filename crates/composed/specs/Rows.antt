@@ -1,4 +1,5 @@
 -- Lists and answers, worked out, as one theorem over the calls: for every lent buffer, what `write_rpc` and `sign_fields` tell and leave. Each row is computed.
+-- The flags are 0, where no others are named.
 use Prim.Native.Nat.{ℕ, zero, suc, _+_, _-_, _/_, _%_, _<_}
 use mathlib.Core.Path.{_≡_, refl, sym, ap, _∙_}
 use mathlib.Core.Bool.{true, false, cond}
@@ -11,7 +12,8 @@ use Rattle.meaning.specs.Table.{rowsIn, table-back}
 use lib.Dec.{leb}
 use borrow.Author.Tests.{leb-true}
 use Rattle.basis.specs.declared.Told.{Told}
-use Rattle.basis.specs.Refusals.{malformed, invalid-utf8, too-many-records, invalid-signature-length, message-too-long, rpc-too-long, short-room}
+use Rattle.basis.specs.Refusals.{bad-setting, malformed, invalid-utf8, too-many-records, key-without-signature, invalid-signature-length}
+use Rattle.basis.specs.Refusals.{message-too-long, rpc-too-long, short-room}
 use Rattle.basis.specs.Told.{told}
 use Rattle.peer_id.specs.Uvarint.{uvarint, bytesOf, readUvarint, readFrom, groupOf}
 use Rattle.peer_id.specs.PeerId.{hashOf, fromBytes}
@@ -29,34 +31,43 @@ use Rattle.schema.specs.Made.{numberFrom, placeFrom}
 use Rattle.message.specs.declared.Record.{Record}
 use Rattle.message.specs.Rows.{bareRow, kindCode, numberWords, placeWords, placesWords, wordsOf, wordsOfAll, kindFrom, recordFrom}
 use Rattle.rpc.specs.Encode.{encodeSubOpts, encodeGraft, encodePeerInfo, encodePrune, encodeControl, encodeRpc, signPrefix, signBytes}
+use Rattle.admission.specs.Flags.{knownFlags, allowsUnsigned}
 use Rattle.admission.specs.Admission.{firstLong, isKey, keyMatches, keyInside, isPeerId}
 use Rattle.admission.specs.Rows.{zeros, peer, head, signature}
-use Rattle.admission.specs.declared.Unfit.the-variants.{InvalidSignatureLength, MessageTooLong}
+use Rattle.admission.specs.declared.Unfit.the-variants.{KeyWithoutSignature, InvalidSignatureLength, MessageTooLong}
 use Rattle.rpc.specs.Rpc.{RawMessage}
 use Rattle.canonical.specs.Calls.{Writes, fits, short}
 use Rattle.compose.specs.declared.Wrong.{Wrong}
-use Rattle.compose.specs.declared.Wrong.the-variants.{NotLent, InvalidUtf8, TooManyRecords, Unfit, TooLong}
+use Rattle.compose.specs.declared.Wrong.the-variants.{BadSetting, NotLent, InvalidUtf8, TooManyRecords, Unfit, TooLong}
 use Rattle.compose.specs.declared.Lists.{Lists}
 use Rattle.compose.specs.declared.Lists.the-variants.{Fine, Refused}
 use Rattle.compose.specs.Lent.{lentRows, insideAt, fieldsInside, rowInside, heldBy, lentFrom, lentWell}
 use Rattle.compose.specs.Said.{encodeFields, encodeMessage, subscriptionsIn, messagesIn, graftsIn, prunesIn, topicsFrom, peersFrom, said}
-use Rattle.compose.specs.Weighed.{capped, andThen, fromFine, seqnoFine, signatureFine, keyFine, topicsFine, sizeFine, limitsFine, weighed, firstUnfit}
-use Rattle.compose.specs.Compose.{textOf, textFine, textsFine, countFine, listsOf, lengthFine, writeTested, writeAnswer, writeLeft}
+use Rattle.compose.specs.Weighed.{capped, andThen, fromFine, seqnoFine, signatureFine, keyFine, backedFine, topicsFine, sizeFine, limitsFine, weighed}
+use Rattle.compose.specs.Weighed.{firstUnfit}
+use Rattle.compose.specs.Compose.{textOf, textFine, textsFine, countFine, listsOf, lengthFine, flagsFine, writeTested, writeAnswer, writeLeft}
 use Rattle.compose.specs.Compose.{signAnswer, signLeft}
 use Rattle.compose.specs.Told.{wrongTold, composedTold}
+use Rattle.compose.specs.Off.{tested-unknown}
 use Rattle.composed.specs.Exactly.{put-writes}
 
 -- ---- what a row of the table says
 -- the bytes xs are written, or 12 is told with the room that they need, and nothing changes
+abbrev pub WritesUnder : ℕ → List ℕ → List ℕ → List ℕ → Type 0
+WritesUnder flags t b xs = (out : List ℕ) → Writes xs out (composedTold (writeAnswer flags t b out)) (writeLeft flags t b out)
+
 abbrev pub WritesAs : List ℕ → List ℕ → List ℕ → Type 0
-WritesAs t b xs = (out : List ℕ) → Writes xs out (composedTold (writeAnswer t b out)) (writeLeft t b out)
+WritesAs = WritesUnder 0
 
 abbrev pub SignsAs : List ℕ → List ℕ → ℕ → List ℕ → Type 0
 SignsAs t b i xs = (out : List ℕ) → Writes xs out (composedTold (signAnswer t b i out)) (signLeft t b i out)
 
 -- a is told, and nothing changes
+abbrev pub RefusesUnder : ℕ → List ℕ → List ℕ → Told → Type 0
+RefusesUnder flags t b a = (out : List ℕ) → (composedTold (writeAnswer flags t b out) ≡ a) × (writeLeft flags t b out ≡ out)
+
 abbrev pub RefusesAs : List ℕ → List ℕ → Told → Type 0
-RefusesAs t b a = (out : List ℕ) → (composedTold (writeAnswer t b out) ≡ a) × (writeLeft t b out ≡ out)
+RefusesAs = RefusesUnder 0
 
 -- ---- rows by hand: start and end are 0, and places are counted from 0
 abbrev pub no : Place
@@ -97,15 +108,15 @@ abbrev pub from : ℕ → Record → Record
 from a r = record { kind = r .kind; start = a; end = a; slots = r .slots }
 
 -- ---- from what is computed of lists to what the calls tell and leave
-writes-by : (t b xs : List ℕ) → writeTested t b ≡ Fine → encodeRpc (said b (lentRows t)) ≡ xs → leb (length xs) 65536 ≡ true
-    → WritesAs t b xs
+writes-by : (flags : ℕ) (t b xs : List ℕ) → writeTested flags t b ≡ Fine → encodeRpc (said b (lentRows t)) ≡ xs
+    → leb (length xs) 65536 ≡ true → WritesUnder flags t b xs
 unfolding writeAnswer writeLeft
-writes-by t b xs h e l out =
+writes-by flags t b xs h e l out =
     rw (h, e) (put-writes xs out (leb-true (length xs) 65536 l))
 
-refuses-by : (t b : List ℕ) (w : Wrong) → writeTested t b ≡ Refused w → RefusesAs t b (wrongTold w)
+refuses-by : (flags : ℕ) (t b : List ℕ) (w : Wrong) → writeTested flags t b ≡ Refused w → RefusesUnder flags t b (wrongTold w)
 unfolding writeAnswer writeLeft
-refuses-by t b w h out = (rw h, rw h)
+refuses-by flags t b w h out = (rw h, rw h)
 
 signs-by : (t b xs : List ℕ) (i : ℕ) (m : RawMessage) (r : List RawMessage) → listsOf t b ≡ Fine
     → drop i (messagesIn b (lentRows t)) ≡ m ∷ r → signBytes m ≡ xs → leb (length xs) 65536 ≡ true → SignsAs t b i xs
@@ -126,6 +137,13 @@ signed = message (at 0 38) no (at 38 39) (at 40 104) no ∷ topic 39 40 ∷ []
 
 abbrev pub x : List ℕ
 x = 0x12 ∷ 0x70 ∷ (head ++ signature)
+
+-- the same with another signature and key, and U, which has neither
+abbrev pub bare : Place → Place → List Record
+bare s k = message (at 0 38) no (at 38 39) s k ∷ topic 39 40 ∷ []
+
+abbrev pub u : List ℕ
+u = 0x12 ∷ 0x2e ∷ head
 
 -- 1, topic 0..1; a number that is not 0 is written as 1
 abbrev pub subscription : ℕ → List Record
@@ -163,8 +181,8 @@ pub record SmallRows : Type 0 where
       (told malformed [])
   -- row 2, room 6: 12 with 7
   pub short : (out : List ℕ) → length out ≡ 6
-      → (composedTold (writeAnswer (wordsOfAll (subscription 1)) text-t out) ≡ told short-room (7 ∷ []))
-      × (writeLeft (wordsOfAll (subscription 1)) text-t out ≡ out)
+      → (composedTold (writeAnswer 0 (wordsOfAll (subscription 1)) text-t out) ≡ told short-room (7 ∷ []))
+      × (writeLeft 0 (wordsOfAll (subscription 1)) text-t out ≡ out)
 
 room-by : {xs out : List ℕ} {a : Told} {l : List ℕ} → Writes xs out a l → length out < length xs
     → (a ≡ told short-room (length xs ∷ [])) × (l ≡ out)
@@ -174,17 +192,17 @@ room-by (short h) k = (refl, refl)
 small : SmallRows
 unfolding uvarint bytesOf isUtf8 run tag bytesField varintField numberFrom placeFrom kindCode numberWords placeWords placesWords wordsOf kindFrom recordFrom
     encodeSubOpts encodeGraft encodePeerInfo encodePrune encodeControl encodeRpc insideAt fieldsInside rowInside heldBy lentWell
-    subscriptionsIn messagesIn graftsIn prunesIn topicsFrom peersFrom said textOf textFine countFine listsOf lengthFine writeTested
+    subscriptionsIn messagesIn graftsIn prunesIn topicsFrom peersFrom said textOf textFine countFine listsOf lengthFine knownFlags flagsFine writeTested
 small =
-    let sub : WritesAs (wordsOfAll (subscription 1)) text-t subscribed = writes-by _ text-t _ refl refl refl in
+    let sub : WritesAs (wordsOfAll (subscription 1)) text-t subscribed = writes-by 0 _ text-t _ refl refl refl in
     record {
-      nothing = λ b. writes-by [] b [] refl refl refl;
-      subscribes = (sub, writes-by _ text-t _ refl refl refl);
-      absent = writes-by _ [] _ refl refl refl;
-      control = writes-by _ _ _ refl refl refl;
-      outside = (refuses-by _ text-t NotLent refl, refuses-by _ text-t NotLent refl, refuses-by _ text-t NotLent refl);
-      not-looked-at = writes-by _ text-t _ refl refl refl;
-      no-text = (refuses-by _ (0x74 ∷ 0xff ∷ []) (InvalidUtf8 1) refl, refuses-by _ (0x74 ∷ 0xff ∷ []) NotLent refl);
+      nothing = λ b. writes-by 0 [] b [] refl refl refl;
+      subscribes = (sub, writes-by 0 _ text-t _ refl refl refl);
+      absent = writes-by 0 _ [] _ refl refl refl;
+      control = writes-by 0 _ _ _ refl refl refl;
+      outside = (refuses-by 0 _ text-t NotLent refl, refuses-by 0 _ text-t NotLent refl, refuses-by 0 _ text-t NotLent refl);
+      not-looked-at = writes-by 0 _ text-t _ refl refl refl;
+      no-text = (refuses-by 0 _ (0x74 ∷ 0xff ∷ []) (InvalidUtf8 1) refl, refuses-by 0 _ (0x74 ∷ 0xff ∷ []) NotLent refl);
       short = λ out h. room-by (sub out) (omega arith);
     }
 
@@ -194,9 +212,15 @@ pub record MessageRows : Type 0 where
   pub written : WritesAs (wordsOfAll signed) fields x × SignsAs (wordsOfAll signed) fields 0 (signPrefix ++ head)
       × (length (signPrefix ++ head) ≡ 60)
   -- without the signature: 26 with 0; the bytes to sign are the same
-  pub unsigned : RefusesAs (wordsOfAll (message (at 0 38) no (at 38 39) no no ∷ topic 39 40 ∷ [])) fields
-      (told invalid-signature-length (0 ∷ []))
-      × SignsAs (wordsOfAll (message (at 0 38) no (at 38 39) no no ∷ topic 39 40 ∷ [])) fields 0 (signPrefix ++ head)
+  pub unsigned : RefusesAs (wordsOfAll (bare no no)) fields (told invalid-signature-length (0 ∷ []))
+      × SignsAs (wordsOfAll (bare no no)) fields 0 (signPrefix ++ head)
+  -- flags 1: X, as before; U; U with the sender's key, and with an empty one: 24; with an empty signature: 26 with 0
+  pub allowed : WritesUnder 1 (wordsOfAll signed) fields x × WritesUnder 1 (wordsOfAll (bare no no)) fields u
+      × RefusesUnder 1 (wordsOfAll (bare no (at 2 38))) fields (told key-without-signature [])
+      × RefusesUnder 1 (wordsOfAll (bare no (at 0 0))) fields (told key-without-signature [])
+      × RefusesUnder 1 (wordsOfAll (bare (at 0 0) no)) fields (told invalid-signature-length (0 ∷ []))
+  -- flags 2: 40, whatever is lent
+  pub unknown : (t b : List ℕ) → RefusesUnder 2 t b (told bad-setting [])
   -- with 4,000 bytes of data, and then an empty one: 30 with 4115
   pub long : RefusesAs
       (wordsOfAll (message (at 0 38) (at 104 4104) (at 38 39) (at 40 104) no ∷ topic 39 40 ∷ message no no no no no ∷ []))
@@ -206,16 +230,24 @@ messages : MessageRows
 unfolding readUvarint readFrom groupOf hashOf fromBytes typeOf onTotal onData decodeProtobuf isKey keyMatches keyInside isPeerId sameBytes firstLong
     uvarint bytesOf isUtf8 run tag bytesField varintField numberFrom placeFrom kindCode numberWords placeWords placesWords wordsOf kindFrom recordFrom
     encodeSubOpts encodeGraft encodePeerInfo encodePrune encodeControl encodeRpc signBytes insideAt fieldsInside rowInside heldBy lentWell
-    encodeFields encodeMessage subscriptionsIn messagesIn graftsIn prunesIn topicsFrom peersFrom said textOf textFine countFine listsOf lengthFine writeTested
-    capped fromFine seqnoFine signatureFine keyFine topicsFine sizeFine limitsFine weighed
+    encodeFields encodeMessage subscriptionsIn messagesIn graftsIn prunesIn topicsFrom peersFrom said textOf textFine countFine listsOf lengthFine knownFlags flagsFine writeTested
+    capped fromFine seqnoFine signatureFine keyFine backedFine topicsFine sizeFine limitsFine allowsUnsigned weighed
 messages =
     record {
-      written = (writes-by _ fields _ refl refl refl, signs-by _ fields _ 0 _ [] refl refl refl refl, refl);
+      written = (writes-by 0 _ fields _ refl refl refl, signs-by _ fields _ 0 _ [] refl refl refl refl, refl);
       unsigned = (
-        refuses-by _ fields (Unfit (InvalidSignatureLength 0)) refl,
+        refuses-by 0 _ fields (Unfit (InvalidSignatureLength 0)) refl,
         signs-by _ fields _ 0 _ [] refl refl refl refl,
       );
-      long = refuses-by _ _ (Unfit (MessageTooLong 4115)) refl;
+      allowed = (
+        writes-by 1 _ fields _ refl refl refl,
+        writes-by 1 _ fields _ refl refl refl,
+        refuses-by 1 _ fields (Unfit KeyWithoutSignature) refl,
+        refuses-by 1 _ fields (Unfit KeyWithoutSignature) refl,
+        refuses-by 1 _ fields (Unfit (InvalidSignatureLength 0)) refl,
+      );
+      unknown = λ t b. refuses-by 2 t b BadSetting (tested-unknown 2 t b refl);
+      long = refuses-by 0 _ _ (Unfit (MessageTooLong 4115)) refl;
     }
 
 -- ---- many rows, and long ones: by the rows, and not by the words of the table
@@ -240,9 +272,9 @@ module _ (rs : List Record) (b : List ℕ) (n : ℕ) (h : length rs ≡ n) where
       let k : length (wordsOfAll rs) / 20 ≡ n = omega arith in
       rw (words-back rs, m, k)
 
-  tested-by : writeTested (wordsOfAll rs) b
-      ≡ andThen (listsBy rs b n) (andThen (firstUnfit (messagesIn b rs)) (lengthFine (encodeRpc (said b rs))))
-  unfolding writeTested
+  tested-by : writeTested 0 (wordsOfAll rs) b
+      ≡ andThen (listsBy rs b n) (andThen (firstUnfit 0 (messagesIn b rs)) (lengthFine (encodeRpc (said b rs))))
+  unfolding knownFlags flagsFine writeTested
   tested-by = rw (lists-by, words-back rs)
 
 -- GRAFTs without topic
@@ -270,16 +302,16 @@ pub record LargeRows : Type 0 where
       (told rpc-too-long (66400 ∷ []))
 
 large-by : (rs : List Record) (b xs : List ℕ) (n : ℕ) → length rs ≡ n
-    → andThen (listsBy rs b n) (andThen (firstUnfit (messagesIn b rs)) (lengthFine (encodeRpc (said b rs)))) ≡ Fine
+    → andThen (listsBy rs b n) (andThen (firstUnfit 0 (messagesIn b rs)) (lengthFine (encodeRpc (said b rs)))) ≡ Fine
     → encodeRpc (said b rs) ≡ xs → leb (length xs) 65536 ≡ true → WritesAs (wordsOfAll rs) b xs
 large-by rs b xs n h k e l =
-    writes-by (wordsOfAll rs) b xs (tested-by rs b n h ∙ k)
+    writes-by 0 (wordsOfAll rs) b xs (tested-by rs b n h ∙ k)
     (ap (λ (z : List Record). encodeRpc (said b z)) (words-back rs) ∙ e) l
 
 large-refused : (rs : List Record) (b : List ℕ) (n : ℕ) (w : Wrong) → length rs ≡ n
-    → andThen (listsBy rs b n) (andThen (firstUnfit (messagesIn b rs)) (lengthFine (encodeRpc (said b rs)))) ≡ Refused w
+    → andThen (listsBy rs b n) (andThen (firstUnfit 0 (messagesIn b rs)) (lengthFine (encodeRpc (said b rs)))) ≡ Refused w
     → RefusesAs (wordsOfAll rs) b (wrongTold w)
-large-refused rs b n w h k = refuses-by (wordsOfAll rs) b w (tested-by rs b n h ∙ k)
+large-refused rs b n w h k = refuses-by 0 (wordsOfAll rs) b w (tested-by rs b n h ∙ k)
 
 large : LargeRows
 unfolding listsBy uvarint bytesOf isUtf8 run tag bytesField varintField kindCode encodeGraft encodeControl encodeRpc insideAt fieldsInside rowInside

@@ -22,7 +22,8 @@ use Rattle.encode.specs.Sign as body
 use Rattle.compose.specs.declared.Lists.the-variants.{Fine}
 use Rattle.compose.specs.Lent.{lentRows}
 use Rattle.compose.specs.Said.{encodeFields, encodeMessage, renewed, messagesIn, said}
-use Rattle.compose.specs.Weighed.{andThen, given, fromFine, seqnoFine, signatureFine, keyFine, topicsFine, sizeFine, limitsFine, weighed, firstUnfit}
+use Rattle.admission.specs.Flags.{allowsUnsigned}
+use Rattle.compose.specs.Weighed.{andThen, given, fromFine, seqnoFine, backedFine, topicsFine, sizeFine, limitsFine, weighed, firstUnfit}
 use Rattle.compose.specs.Compose.{listsOf, putAnswer, answering, leaving, writeTested, signAt, signedAt, signAnswer, signLeft}
 use Rattle.compose.specs.Told.{composedTold}
 use Rattle.compose.specs.Puts.{capped-small}
@@ -97,40 +98,39 @@ put-told xs out h =
     either (leb (length xs) (length out)) (λ t. simp t) (λ t. simp (t, capped-small (length xs) h))
 
 -- a message that may be written has at most 4,096 bytes, and 14 more are signed
-weighed-small : (m : RawMessage) → weighed m ≡ Fine → length (encodeMessage m) ≤ 4096
+weighed-small : (flags : ℕ) (m : RawMessage) → weighed flags m ≡ Fine → length (encodeMessage m) ≤ 4096
 unfolding weighed limitsFine sizeFine
-weighed-small m h =
+weighed-small flags m h =
     let l = andThen (topicsFine (m .«topic_ids»)) (sizeFine (length (encodeMessage m))) in
-    let k = keyFine (given (m .from)) (m .key) in
-    let s = signatureFine (given (m .signature)) in
+    let s = backedFine (allowsUnsigned flags) (given (m .from)) (m .signature) (m .key) in
     let q = seqnoFine (given (m .seqno)) in
-    let a = both-fine (fromFine (m .from)) (andThen q (andThen s (andThen k l))) h in
-    let b = both-fine q (andThen s (andThen k l)) (a .1) in
-    let c = both-fine s (andThen k l) (b .1) in
-    let d = both-fine k l (c .1) in
-    let e = both-fine (topicsFine (m .«topic_ids»)) (sizeFine (length (encodeMessage m))) (d .1) in
-    either (ltb 4096 (length (encodeMessage m))) (λ t. clash (let z = simp t at (e .1) in cc)) (λ t. ltb-false _ _ t)
+    let a = both-fine (fromFine (m .from)) (andThen q (andThen s l)) h in
+    let b = both-fine q (andThen s l) (a .1) in
+    let c = both-fine s l (b .1) in
+    let d = both-fine (topicsFine (m .«topic_ids»)) (sizeFine (length (encodeMessage m))) (c .1) in
+    either (ltb 4096 (length (encodeMessage m))) (λ t. clash (let z = simp t at (d .1) in cc)) (λ t. ltb-false _ _ t)
 
 sign-small : (m : RawMessage) → length (encodeMessage m) ≤ 4096 → length (signBytes m) ≤ 18446744073709551615
 unfolding encodeMessage
 sign-small m h = rw (sign-bytes-are m) (omega (arith, simp length-append at h, length-append signPrefix (encodeFields m)))
 
-nth-weighed : {i : ℕ} {ms : List RawMessage} {m : RawMessage} → Nth i ms m → firstUnfit ms ≡ Fine → weighed m ≡ Fine
-nth-weighed (here {x = m} {xs = ms}) h = both-fine (weighed m) (firstUnfit ms) h .0
-nth-weighed (there {x = x} {xs = ms} n) h = nth-weighed n (both-fine (weighed x) (firstUnfit ms) h .1)
+nth-weighed : (flags : ℕ) {i : ℕ} {ms : List RawMessage} {m : RawMessage} → Nth i ms m → firstUnfit flags ms ≡ Fine
+    → weighed flags m ≡ Fine
+nth-weighed flags (here {x = m} {xs = ms}) h = both-fine (weighed flags m) (firstUnfit flags ms) h .0
+nth-weighed flags (there {x = x} {xs = ms} n) h = nth-weighed flags n (both-fine (weighed flags x) (firstUnfit flags ms) h .1)
 
 -- ---- of two lendings, message i of which has the same from, data, seqno and topics: what `sign_fields` tells and leaves on
--- the first is what `sign_bytes` tells and leaves on a body w of the second
-pub signs-alike : (t₁ b₁ t₂ b₂ w : List ℕ) (i : ℕ) (m₁ m₂ : RawMessage)
+-- the first is what `sign_bytes` tells and leaves on a body w of the second, which may be written under some flags
+pub signs-alike : (flags : ℕ) (t₁ b₁ t₂ b₂ w : List ℕ) (i : ℕ) (m₁ m₂ : RawMessage)
     → listsOf t₁ b₁ ≡ Fine → Nth i (messagesIn b₁ (lentRows t₁)) m₁
-    → writeTested t₂ b₂ ≡ Fine → Nth i (messagesIn b₂ (lentRows t₂)) m₂
+    → writeTested flags t₂ b₂ ≡ Fine → Nth i (messagesIn b₂ (lentRows t₂)) m₂
     → SameFields m₁ m₂ → Within w (said b₂ (lentRows t₂)) → (out : List ℕ)
     → (composedTold (signAnswer t₁ b₁ i out) ≡ messageTold (body.signAnswer w i out))
     × (signLeft t₁ b₁ i out ≡ body.signLeft w i out)
 unfolding said
-signs-alike t₁ b₁ t₂ b₂ w i m₁ m₂ h₁ n₁ h₂ n₂ s k out =
+signs-alike flags t₁ b₁ t₂ b₂ w i m₁ m₂ h₁ n₁ h₂ n₂ s k out =
     let e : signBytes m₁ ≡ signBytes (renewed m₂) = same-signed s ∙ renewed-signed m₂ in
-    let l = sign-small m₂ (weighed-small m₂ (nth-weighed n₂ (passed-of t₂ b₂ h₂ .fit))) in
+    let l = sign-small m₂ (weighed-small flags m₂ (nth-weighed flags n₂ (passed-of flags t₂ b₂ h₂ .fit))) in
     let l' : length (signBytes m₁) ≤ 18446744073709551615 = rw (same-signed s) l in
     let n = nth-renewed n₂ in (
       ap composedTold (sign-tells t₁ b₁ i m₁ h₁ n₁ out) ∙ put-told (signBytes m₁) out l'

@@ -1,10 +1,9 @@
--- What Admitted and Signed say of a body that means the RPC, said of the body that is written: every message of it is admitted with the host's word; a message with a
--- signature is refused as admission refuses its bytes; and the bytes to sign are those that `sign_bytes` finds in it, whichever signature went in.
+-- What Admitted and Signed say of a body that means the RPC, said of the body that is written: every message of it is admitted wherever it is vouched for; a message with
+-- the signature that is asked for is refused as admission refuses its bytes; and the bytes to sign are those that `sign_bytes` finds in it, whichever signature went in.
 use Prim.Native.Nat.{ℕ, _^_, _<_}
 use mathlib.Core.Path.{_≡_, refl}
-use mathlib.Core.Bool.{true}
+use mathlib.Core.Bool.{Bool}
 use mathlib.Core.List.{List, [], _∷_, map}
-use mathlib.Core.Option.{some}
 use lib.ListN.{length}
 use Rattle.utf8.specs.Grammar.{Utf8}
 use Rattle.ids.specs.Told.{messageTold}
@@ -12,6 +11,7 @@ use Rattle.rpc.specs.Rpc.{RawMessage}
 use Rattle.rpc.specs.Grammar.{Each, none-left, _and_, IsMessage}
 use Rattle.canon.specs.Messages.{Nth}
 use Rattle.encode.specs.Sign as body
+use Rattle.admission.specs.Flags.{allowsUnsigned}
 use Rattle.admission.specs.Admission.{admissionOf}
 use Rattle.compose.specs.declared.Lists.the-variants.{Fine}
 use Rattle.compose.specs.Lent.{lentRows}
@@ -23,12 +23,13 @@ use Rattle.composed.specs.Written.{Words, saidOf, bodyOf}
 use Rattle.composed.specs.Means.{message-means}
 use Rattle.composed.specs.WrittenRows.{taken-of, said-plain}
 use Rattle.composed.specs.WrittenLaws.{written-means}
-use Rattle.composed.specs.Admitted.{ofAdmission, Taken, as-admission, written-admitted}
+use Rattle.composed.specs.Admitted.{ofAdmission, AsAsked, Taken, as-admission, written-admitted}
 use Rattle.composed.specs.Signed.{SameFields, signs-alike}
 
 -- what is written is admitted
-pub spoken-admitted : (t b : List ℕ) → Words t → writeTested t b ≡ Fine → Each (λ (m : RawMessage). Taken (m .raw)) (saidOf t b .publish)
-spoken-admitted t b w h = written-admitted t b (bodyOf t b) h (written-means t b w h)
+pub spoken-admitted : (flags : ℕ) (t b : List ℕ) → Words t → writeTested flags t b ≡ Fine
+    → Each (λ (m : RawMessage). Taken flags (m .raw)) (saidOf t b .publish)
+spoken-admitted flags t b w h = written-admitted flags t b (bodyOf t b) h (written-means flags t b w h)
 
 -- a message that lists say, of less than 2^64 bytes, has its own bytes
 renewed-same : (m : RawMessage) → encodeMessage m ≡ encodeMessage (renewed m)
@@ -40,27 +41,27 @@ each-means : (ms : List RawMessage) → Each (λ (m : RawMessage). Each Utf8 (m 
 each-means [] none-left = none-left
 each-means (m ∷ ms) (u and us) = (λ l. message-means (renewed m) (renewed-same m) l u) and each-means ms us
 
--- and with a signature it is refused as admission refuses these
-abbrev pub AsAdmission : RawMessage → Type 0
-AsAdmission m = (d : List ℕ) → m .signature ≡ some d → length (encodeMessage m) < 2 ^ 64
-    → weighed m ≡ ofAdmission (admissionOf (encodeMessage m) true)
+-- and with the signature that is asked for it is refused as admission refuses these
+abbrev pub AsAdmission : ℕ → RawMessage → Type 0
+AsAdmission flags m = (word : Bool) → AsAsked (allowsUnsigned flags) (m .signature) word → length (encodeMessage m) < 2 ^ 64
+    → weighed flags m ≡ ofAdmission (admissionOf flags (encodeMessage m) word)
 
-each-as : (ms : List RawMessage)
-    → Each (λ (m : RawMessage). length (encodeMessage m) < 2 ^ 64 → IsMessage (encodeMessage m) (renewed m)) ms → Each AsAdmission ms
-each-as [] none-left = none-left
-each-as (m ∷ ms) (f and fs) = (λ d s l. as-admission m d (f l) s) and each-as ms fs
+each-as : (flags : ℕ) (ms : List RawMessage)
+    → Each (λ (m : RawMessage). length (encodeMessage m) < 2 ^ 64 → IsMessage (encodeMessage m) (renewed m)) ms → Each (AsAdmission flags) ms
+each-as flags [] none-left = none-left
+each-as flags (m ∷ ms) (f and fs) = (λ word s l. as-admission flags m word (f l) s) and each-as flags ms fs
 
-pub spoken-as-admission : (t b : List ℕ) → Words t → listsOf t b ≡ Fine → Each AsAdmission (messagesIn b (lentRows t))
+pub spoken-as-admission : (flags : ℕ) (t b : List ℕ) → Words t → listsOf t b ≡ Fine → Each (AsAdmission flags) (messagesIn b (lentRows t))
 unfolding said
-spoken-as-admission t b w h =
-    each-as (messagesIn b (lentRows t)) (each-means (messagesIn b (lentRows t)) (said-plain t b w (taken-of t b h .texts) .publish))
+spoken-as-admission flags t b w h =
+    each-as flags (messagesIn b (lentRows t)) (each-means (messagesIn b (lentRows t)) (said-plain t b w (taken-of t b h .texts) .publish))
 
 -- of two lendings, message i of which has the same from, data, seqno and topics: what `sign_fields` tells and leaves on the first is what `sign_bytes` tells and
--- leaves on the body that is written from the second
-pub spoken-signed : (t₁ b₁ t₂ b₂ : List ℕ) (i : ℕ) (m₁ m₂ : RawMessage)
+-- leaves on the body that is written from the second under any flags
+pub spoken-signed : (flags : ℕ) (t₁ b₁ t₂ b₂ : List ℕ) (i : ℕ) (m₁ m₂ : RawMessage)
     → listsOf t₁ b₁ ≡ Fine → Nth i (messagesIn b₁ (lentRows t₁)) m₁
-    → Words t₂ → writeTested t₂ b₂ ≡ Fine → Nth i (messagesIn b₂ (lentRows t₂)) m₂ → SameFields m₁ m₂ → (out : List ℕ)
+    → Words t₂ → writeTested flags t₂ b₂ ≡ Fine → Nth i (messagesIn b₂ (lentRows t₂)) m₂ → SameFields m₁ m₂ → (out : List ℕ)
     → (composedTold (signAnswer t₁ b₁ i out) ≡ messageTold (body.signAnswer (bodyOf t₂ b₂) i out))
     × (signLeft t₁ b₁ i out ≡ body.signLeft (bodyOf t₂ b₂) i out)
-spoken-signed t₁ b₁ t₂ b₂ i m₁ m₂ h₁ n₁ w h₂ n₂ s out =
-    signs-alike t₁ b₁ t₂ b₂ (bodyOf t₂ b₂) i m₁ m₂ h₁ n₁ h₂ n₂ s (written-means t₂ b₂ w h₂) out
+spoken-signed flags t₁ b₁ t₂ b₂ i m₁ m₂ h₁ n₁ w h₂ n₂ s out =
+    signs-alike flags t₁ b₁ t₂ b₂ (bodyOf t₂ b₂) i m₁ m₂ h₁ n₁ h₂ n₂ s (written-means flags t₂ b₂ w h₂) out

@@ -74,24 +74,24 @@ saidOf t b = said b (lentRows t)
 abbrev pub bodyOf : List ℕ → List ℕ → List ℕ
 bodyOf t b = encodeRpc (saidOf t b)
 
--- n bytes were written: every test was passed, they are those of the RPC, they fit, and nothing else of the buffer changed
-pub record Wrote (t b out : List ℕ) (n : ℕ) : Type 0 where
-  pub tested : writeTested t b ≡ Fine
+-- n bytes were written under some flags: every test was passed, they are those of the RPC, they fit, and nothing else of the buffer changed
+pub record Wrote (flags : ℕ) (t b out : List ℕ) (n : ℕ) : Type 0 where
+  pub tested : writeTested flags t b ≡ Fine
   pub count : n ≡ length (bodyOf t b)
   pub fits : n ≤ length out
-  pub left : writeLeft t b out ≡ bodyOf t b ++ drop n out
+  pub left : writeLeft flags t b out ≡ bodyOf t b ++ drop n out
 
 -- decode takes a body, lent that table: it tells n records and whether there is a control, and they read back as the RPC
 pub record Reads (s : List ℕ) (x : Rpc) (n : ℕ) (table : List ℕ) : Type 0 where
   pub told : decodedTold (decodeAnswer s (length table)) ≡ done (n ∷ present (x .control) ∷ [])
   pub says : readBack s (rowsIn (decodeTable s table) 0 n) (eqb (present (x .control)) 1) ≡ x
 
--- lists u over c say the same RPC as t over b, and are written alike
-pub record Alike (t b u c : List ℕ) : Type 0 where
-  pub tested : writeTested u c ≡ Fine
+-- lists u over c say the same RPC as t over b, and are written alike under some flags
+pub record Alike (flags : ℕ) (t b u c : List ℕ) : Type 0 where
+  pub tested : writeTested flags u c ≡ Fine
   pub says : saidOf u c ≡ saidOf t b
-  pub answers : (out : List ℕ) → writeAnswer u c out ≡ writeAnswer t b out
-  pub leaves : (out : List ℕ) → writeLeft u c out ≡ writeLeft t b out
+  pub answers : (out : List ℕ) → writeAnswer flags u c out ≡ writeAnswer flags t b out
+  pub leaves : (out : List ℕ) → writeLeft flags u c out ≡ writeLeft flags t b out
 
 -- lists that are lent well, of at most 512 rows with UTF-8 in topics, and say an RPC
 pub record Lends (t b : List ℕ) (x : Rpc) : Type 0 where

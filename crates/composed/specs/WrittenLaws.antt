@@ -33,18 +33,18 @@ put-count xs out n h =
     (sym e, omega arith, simp t (ap (λ (k : ℕ). xs ++ drop k out) e)))
     (λ t. clash (let z = simp t at h in cc))
 
-wrote-of : (t b out : List ℕ) (n : ℕ) (r : Lists) → writeTested t b ≡ r
+wrote-of : (flags : ℕ) (t b out : List ℕ) (n : ℕ) (r : Lists) → writeTested flags t b ≡ r
     → answering (putAnswer (bodyOf t b) out) r ≡ Count n
-    → Wrote t b out n
+    → Wrote flags t b out n
 unfolding writeLeft
-wrote-of t b out n lists.Fine e h =
+wrote-of flags t b out n lists.Fine e h =
     let g = put-count (bodyOf t b) out n h in
     record { tested = e; count = g .0; fits = g .1; left = ap (leaving out (written (bodyOf t b) out)) e ∙ g .2 }
-wrote-of t b out n (lists.Refused why) e h = clash (cc)
+wrote-of flags t b out n (lists.Refused why) e h = clash (cc)
 
-pub write-leaves : (t b out : List ℕ) (n : ℕ) → writeAnswer t b out ≡ Count n → Wrote t b out n
+pub write-leaves : (flags : ℕ) (t b out : List ℕ) (n : ℕ) → writeAnswer flags t b out ≡ Count n → Wrote flags t b out n
 unfolding writeAnswer
-write-leaves t b out n h = wrote-of t b out n (writeTested t b) refl h
+write-leaves flags t b out n h = wrote-of flags t b out n (writeTested flags t b) refl h
 
 -- ---- what the bytes mean
 well-from : (t b : List ℕ) → lentWell t b ≡ true → lentFrom (length b) false false (lentRows t) ≡ true
@@ -55,11 +55,11 @@ well-from t b h = both (eqb (length t % 20) 0) (lentFrom (length b) false false 
 pub lent-records : (t b : List ℕ) → lentWell t b ≡ true → recordsIn (saidOf t b) ≡ length t / 20
 lent-records t b h = said-records b (length b) (lentRows t) (well-from t b h) ∙ rows-length t
 
-module _ (t b : List ℕ) (w : Words t) (h : writeTested t b ≡ lists.Fine) where
+module _ (flags : ℕ) (t b : List ℕ) (w : Words t) (h : writeTested flags t b ≡ lists.Fine) where
   -- they are accepted, and mean the RPC that the lists say
   pub written-means : Within (bodyOf t b) (saidOf t b)
   written-means =
-      let p = passed-of t b h in
+      let p = passed-of flags t b h in
       let n = lent-records t b (p .taken .well) in
       plain-within (saidOf t b) (said-plain t b w (p .taken .texts)) (said-sayable b (lentRows t)) (p .short)
       (omega (arith, p .taken .few))
@@ -67,7 +67,7 @@ module _ (t b : List ℕ) (w : Words t) (h : writeTested t b ≡ lists.Fine) whe
   -- decode takes them, with a record for each row, and the records read back as that RPC
   pub written-read : Bytes b → (table : List ℕ) → length t / 20 ≤ length table / 20 → Reads (bodyOf t b) (saidOf t b) (length t / 20) table
   written-read c table r =
-      let p = passed-of t b h in
+      let p = passed-of flags t b h in
       let n = lent-records t b (p .taken .well) in
       let told = accepted-exactly (bodyOf t b) (length table) (length t / 20) (present (saidOf t b .control))
       (said-bytes b (lentRows t) c) .1

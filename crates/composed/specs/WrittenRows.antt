@@ -27,12 +27,13 @@ use Rattle.meaning.specs.ReadBack.{bytesAt, numberAt, Gathered, nothing, gather
 use Rattle.meaning.specs.Table.{rowsIn}
 use Rattle.meaning.specs.Size.{sumOf, someRecords, recordsIn, weight, size-gather}
 use Rattle.canonical.specs.Means.{opt, Small}
+use Rattle.admission.specs.Flags.{knownFlags}
 use Rattle.compose.specs.declared.Lists.{Lists}
 use Rattle.compose.specs.declared.Lists.the-variants.{Fine, Refused}
 use Rattle.compose.specs.Lent.{lentRows, isCode, rowInside, heldBy, lentFrom, lentWell}
 use Rattle.compose.specs.Said.{encodeFields, encodeMessage, renewed, subscriptionsIn, messagesIn, graftsIn, prunesIn, controlOf, said}
 use Rattle.compose.specs.Weighed.{andThen, firstUnfit}
-use Rattle.compose.specs.Compose.{moved, textIn, textOf, textFine, textsFine, countFine, listsOf, lengthFine, writeTested}
+use Rattle.compose.specs.Compose.{moved, textIn, textOf, textFine, textsFine, countFine, listsOf, lengthFine, flagsFine, writeTested}
 use Rattle.composed.specs.Written.{Words, PlainPrune, PlainControl, Plain, Spoken, Sayable}
 
 -- ---- what the tests say
@@ -70,10 +71,11 @@ unfolding listsOf
 of-taken t b h =
     simp (h .well) (fine-both (textsFine b (lentRows t)) (countFine (length t / 20)) (h .texts) (few-count (length t / 20) (h .few)))
 
--- and those that write_rpc takes
-pub record Passed (t b : List ℕ) : Type 0 where
+-- and those that write_rpc takes under some flags
+pub record Passed (flags : ℕ) (t b : List ℕ) : Type 0 where
+  pub known : knownFlags flags ≡ true
   pub taken : Taken t b
-  pub fit : firstUnfit (messagesIn b (lentRows t)) ≡ Fine
+  pub fit : firstUnfit flags (messagesIn b (lentRows t)) ≡ Fine
   pub short : length (encodeRpc (said b (lentRows t))) ≤ 65536
 
 length-short : (xs : List ℕ) → lengthFine xs ≡ Fine → length xs ≤ 65536
@@ -84,22 +86,32 @@ short-length : (xs : List ℕ) → length xs ≤ 65536 → lengthFine xs ≡ Fin
 unfolding lengthFine
 short-length xs h = simp (le-ltb 65536 (length xs) h)
 
-pub passed-of : (t b : List ℕ) → writeTested t b ≡ Fine → Passed t b
-unfolding writeTested
-passed-of t b h =
-    let xs = encodeRpc (said b (lentRows t)) in
-    let ms = firstUnfit (messagesIn b (lentRows t)) in
-    let g = both-fine (listsOf t b) (andThen ms (lengthFine xs)) h in
-    let k = both-fine ms (lengthFine xs) (g .1) in
-    record { taken = taken-of t b (g .0); fit = k .0; short = length-short xs (k .1) }
+flags-known : (flags : ℕ) → flagsFine flags ≡ Fine → knownFlags flags ≡ true
+unfolding flagsFine
+flags-known flags h = either (knownFlags flags) (λ t. t) (λ t. clash (let z = simp t at h in cc))
 
-pub of-passed : (t b : List ℕ) → Passed t b → writeTested t b ≡ Fine
+known-flags : (flags : ℕ) → knownFlags flags ≡ true → flagsFine flags ≡ Fine
+unfolding flagsFine
+known-flags flags h = simp h
+
+pub passed-of : (flags : ℕ) (t b : List ℕ) → writeTested flags t b ≡ Fine → Passed flags t b
 unfolding writeTested
-of-passed t b h =
+passed-of flags t b h =
     let xs = encodeRpc (said b (lentRows t)) in
-    let ms = firstUnfit (messagesIn b (lentRows t)) in
-    fine-both (listsOf t b) (andThen ms (lengthFine xs)) (of-taken t b (h .taken))
-    (fine-both ms (lengthFine xs) (h .fit) (short-length xs (h .short)))
+    let ms = firstUnfit flags (messagesIn b (lentRows t)) in
+    let f = both-fine (flagsFine flags) (andThen (listsOf t b) (andThen ms (lengthFine xs))) h in
+    let g = both-fine (listsOf t b) (andThen ms (lengthFine xs)) (f .1) in
+    let k = both-fine ms (lengthFine xs) (g .1) in
+    record { known = flags-known flags (f .0); taken = taken-of t b (g .0); fit = k .0; short = length-short xs (k .1) }
+
+pub of-passed : (flags : ℕ) (t b : List ℕ) → Passed flags t b → writeTested flags t b ≡ Fine
+unfolding writeTested
+of-passed flags t b h =
+    let xs = encodeRpc (said b (lentRows t)) in
+    let ms = firstUnfit flags (messagesIn b (lentRows t)) in
+    fine-both (flagsFine flags) (andThen (listsOf t b) (andThen ms (lengthFine xs))) (known-flags flags (h .known))
+    (fine-both (listsOf t b) (andThen ms (lengthFine xs)) (of-taken t b (h .taken))
+    (fine-both ms (lengthFine xs) (h .fit) (short-length xs (h .short))))
 
 -- ---- a row's text and number
 text-between : (b : List ℕ) (a e : ℕ) → textFine b (place.Present a e) ≡ Fine → Utf8 (between b a e)

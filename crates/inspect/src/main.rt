@@ -242,12 +242,12 @@ fn reply_id(n: u64, content: &[u8], made: &mut [u8], out: &mut [u8]) -> bool
     print(out, k)
 }
 
-// The line of an RPC that is written from lists, in all of `made`.
+// The line of an RPC that is written from lists, in all of `made`. Each message must be signed.
 fn write_lists(n: u64, records: &[u64], bytes: &[u8], made: &mut [u8], out: &mut [u8]) -> bool
     requires { ⌜ length (now made) ≤ 65600 ⌝ }
     requires { ⌜ 787456 ≤ length (now out) ⌝ }
 {
-    let r = write_rpc(records, bytes, made);
+    let r = write_rpc(records, bytes, 0, made);
     let k = write_line(n, made, told_composed(r), out);
     print(out, k)
 }

@@ -33,7 +33,7 @@ pub struct Run {
 
 // Before settings are accepted: a node that keeps nothing, lent no store.
 pub fn nothing() -> Run {
-    let s = Node::start(0, 0, 1, 0);
+    let s = Node::start(0, 0, 1, 0, 0);
     let node = s.node;
     Run {
         go: true,
@@ -118,8 +118,15 @@ fn keep_on(n: u64, run: Run, out: &mut [u8]) -> Run {
     print(out, k, node, run)
 }
 
-// Kind 1. The last setting above `most` meets 40 too.
-fn set(n: u64, most: usize, content: &[u8], mut run: Run, out: &mut [u8]) -> Run {
+// Settings as kind 1 has them, with some flags. The last setting above `most` meets 40 too.
+pub fn set_with(
+    n: u64,
+    most: usize,
+    flags: usize,
+    content: &[u8],
+    mut run: Run,
+    out: &mut [u8],
+) -> Run {
     let ttl = little_at(content, 0, 8);
     let max_seen = little_at(content, 8, 2) as usize;
     let history_len = little_at(content, 10, 2) as usize;
@@ -127,7 +134,7 @@ fn set(n: u64, most: usize, content: &[u8], mut run: Run, out: &mut [u8]) -> Run
     if most < max_messages {
         return keep_on(n, run, out);
     }
-    let s = Node::start(ttl, max_seen, history_len, max_messages);
+    let s = Node::start(ttl, max_seen, history_len, max_messages, flags);
     let answer = s.answer;
     match answer {
         Start::BadSetting => keep_on(n, run, out),
@@ -139,6 +146,11 @@ fn set(n: u64, most: usize, content: &[u8], mut run: Run, out: &mut [u8]) -> Run
             print(out, k, s.node, run)
         }
     }
+}
+
+// Kind 1, which names no flags: unsigned messages are not allowed.
+fn set(n: u64, most: usize, content: &[u8], run: Run, out: &mut [u8]) -> Run {
+    set_with(n, most, 0, content, run, out)
 }
 
 // Kind 2.

@@ -19,10 +19,10 @@ use Rattle.node.specs.declared.Start.the-variants as start
 use Rattle.node.specs.Told.{startTold, faultTold}
 use Rattle.node.specs.Calls.{startAnswer, startNode, lentOf}
 use Rattle.node.specs.State.{legalSettings, freshNode}
-use Rattle.stored.specs.Layout.{nodeBytes}
+use Rattle.stored.specs.Layout.{nodeBytes, nodeIn}
 use Rattle.pradulins.specs.Handed.{spotWords, handed}
-use Rattle.pradulins.specs.Holds.{settingsTold, stateTold}
-use Rattle.pradulins.specs.Unique.{Starts}
+use Rattle.pradulins.specs.Holds.{isSettled, settingsTold, flagsTold, stateTold}
+use Rattle.pradulins.specs.Unique.{Starts, Settles}
 use Rattle.pradulins.specs.Refused.{not-started}
 
 -- ---- the first n of four values, stored one after the other
@@ -69,20 +69,20 @@ started : (b : Bool) (n m : Node) (old : List ℕ) → startTold (cond b start.S
 started true n m old e = (refl, refl)
 started false n m old e = absurd (omega arith)
 
-module _ (t m h k : ℕ) (a : Start) (r : Told) (old : List ℕ) (e : a ≡ startAnswer m h k) (q : r ≡ startTold a) where
+module _ (t m h k f : ℕ) (a : Start) (r : Told) (old : List ℕ) (e : a ≡ startAnswer m h k f) (q : r ≡ startTold a) where
   pub start-refused : (r .number ≡ 0 → ⊥)
-      → Starts old t m h k (r .number) old
+      → Starts old t m h k f (r .number) old
   unfolding startAnswer
   start-refused z =
-      let s : r .number ≡ startTold (startAnswer m h k) .number = ap (λ (x : Told). x .number) (q ∙ ap startTold e) in
-      record { number = s; node = sym (not-started (legalSettings m h k) (nodeBytes (freshNode t m h k)) old (λ w. z (s ∙ w))) }
+      let s : r .number ≡ startTold (startAnswer m h k f) .number = ap (λ (x : Told). x .number) (q ∙ ap startTold e) in
+      record { number = s; node = sym (not-started (legalSettings m h k f) (nodeBytes (freshNode t m h k f)) old (λ w. z (s ∙ w))) }
 
-  pub start-made : (n : Node) (bytes : List ℕ) → n ≡ startNode t m h k → r .number ≡ 0 → bytes ≡ nodeBytes n
-      → Starts old t m h k 0 bytes
+  pub start-made : (n : Node) (bytes : List ℕ) → n ≡ startNode t m h k f → r .number ≡ 0 → bytes ≡ nodeBytes n
+      → Starts old t m h k f 0 bytes
   unfolding startAnswer startNode
   start-made n bytes p z w =
-      let s : r .number ≡ startTold (startAnswer m h k) .number = ap (λ (x : Told). x .number) (q ∙ ap startTold e) in
-      let made = started (legalSettings m h k) (freshNode t m h k) (freshNode 0 0 1 0) old (sym s ∙ z) in
+      let s : r .number ≡ startTold (startAnswer m h k f) .number = ap (λ (x : Told). x .number) (q ∙ ap startTold e) in
+      let made = started (legalSettings m h k f) (freshNode t m h k f) (freshNode 0 0 1 0 0) old (sym s ∙ z) in
       record { number = made .0; node = w ∙ ap nodeBytes p ∙ made .1 }
 
 -- ---- what a node holds
@@ -95,18 +95,16 @@ on-bad true x y h = let e = ap (λ (s : Start). startTold s .number) h in absurd
 on-bad false x y h = refl
 
 module _ (n : Node) {r : Told} where
-  pub settings-told : start.Started ≡ startAnswer (n .«max_seen») (n .cache .«history_len») (n .cache .«max_messages»)
+  pub settings-told : start.Started ≡ startAnswer (n .«max_seen») (n .cache .«history_len») (n .cache .«max_messages») (n .cache .flags)
       → r ≡ told 0 (n .ttl ∷ n .«max_seen» ∷ n .cache .«history_len» ∷ n .cache .«max_messages» ∷ []) → r ≡ settingsTold n
   unfolding startAnswer
-  settings-told h q = q ∙ on-started (legalSettings (n .«max_seen») (n .cache .«history_len») (n .cache .«max_messages»)) _ (told malformed []) h
+  settings-told h q = q ∙ on-started (isSettled n) _ (told malformed []) h
 
-  pub settings-bad : start.BadSetting ≡ startAnswer (n .«max_seen») (n .cache .«history_len») (n .cache .«max_messages»)
+  pub settings-bad : start.BadSetting ≡ startAnswer (n .«max_seen») (n .cache .«history_len») (n .cache .«max_messages») (n .cache .flags)
       → r ≡ told malformed [] → r ≡ settingsTold n
   unfolding startAnswer
   settings-bad h q =
-      q
-      ∙ on-bad (legalSettings (n .«max_seen») (n .cache .«history_len») (n .cache .«max_messages»))
-      (done (n .ttl ∷ n .«max_seen» ∷ n .cache .«history_len» ∷ n .cache .«max_messages» ∷ [])) _ h
+      q ∙ on-bad (isSettled n) (done (n .ttl ∷ n .«max_seen» ∷ n .cache .«history_len» ∷ n .cache .«max_messages» ∷ [])) _ h
 
   pub state-told : (ss cs : List ℕ) → lent.Fine ≡ lentOf n ss cs
       → r ≡ told 0 (n .clock ∷ n .seen .count ∷ n .cache .count ∷ []) → r ≡ stateTold n ss cs
@@ -114,3 +112,27 @@ module _ (n : Node) {r : Told} where
 
   pub state-faulty : (ss cs : List ℕ) (why : Fault) → lent.Faulty why ≡ lentOf n ss cs → r ≡ faultTold why → r ≡ stateTold n ss cs
   state-faulty ss cs why h q = rw (sym h) q
+
+-- ---- the flags, behind the four other settings
+told-flags : (b : Bool) (vs : List ℕ) (x : ℕ) → cond b (done vs) (told malformed []) .number ≡ 0 → cond b (x ∷ []) [] ≡ x ∷ []
+told-flags true vs x h = refl
+told-flags false vs x h = absurd (omega arith)
+
+kept-flags : (b : Bool) (vs : List ℕ) (x : ℕ) → (cond b (done vs) (told malformed []) .number ≡ 0 → ⊥) → cond b (x ∷ []) [] ≡ []
+kept-flags true vs x h = absurd (h refl)
+kept-flags false vs x h = refl
+
+module _ (s vs : List ℕ) {r : ℕ} {ws : List ℕ} (h : (r ≡ settingsTold (nodeIn s) .number) × (ws ≡ handed (settingsTold (nodeIn s)) vs)) where
+  pub flags-stored : (m : Node) → m ≡ nodeIn s → r ≡ 0 → Settles s vs 0 (set ws 4 (m .cache .flags))
+  flags-stored m e z =
+      let n = nodeIn s in
+      let f : flagsTold n ≡ n .cache .flags ∷ [] =
+      told-flags (isSettled n) (n .ttl ∷ n .«max_seen» ∷ n .cache .«history_len» ∷ n .cache .«max_messages» ∷ []) (n .cache .flags) (sym (h .0) ∙ z) in
+      record { number = sym z ∙ h .0; values = rw (e, h .1, f) }
+
+  pub flags-refused : (r ≡ 0 → ⊥) → Settles s vs r ws
+  flags-refused z =
+      let n = nodeIn s in
+      let f : flagsTold n ≡ [] =
+      kept-flags (isSettled n) (n .ttl ∷ n .«max_seen» ∷ n .cache .«history_len» ∷ n .cache .«max_messages» ∷ []) (n .cache .flags) (λ e. z (h .0 ∙ e)) in
+      record { number = h .0; values = rw (h .1, f) }

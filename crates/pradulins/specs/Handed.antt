@@ -1,5 +1,6 @@
 -- What a call hands out in the values that it is lent: from the first on those beside its number, of which there are at
--- most four, and from the fifth on the place of a refusal: its offset and three numbers of fields. The others stay.
+-- most four, and from the fifth on the place of a refusal: its offset and three numbers of fields. The others stay. The
+-- settings of a node are five: Settles of Unique.
 use Prim.Native.Nat.{ℕ}
 use mathlib.Core.List.{List, [], _∷_}
 use lib.Seq.{sets}

@@ -15,6 +15,7 @@ use Rattle.basis.specs.Lists.{zeros-below}
 use Rattle.basis.specs.declared.Told.{Told}
 use Rattle.basis.specs.Refusals.{bad-setting, malformed}
 use Rattle.basis.specs.Told.{told, done}
+use Rattle.admission.specs.Flags.{maxFlags, knownFlags}
 use Rattle.seen.specs.State.{maxIds, fresh as noIds}
 use Rattle.seen.specs.EntriesLaws.{length-entries}
 use Rattle.mcache.specs.State.{legal, fresh, maxHistory, maxMessages}
@@ -31,15 +32,20 @@ use Rattle.node.specs.Calls.{lentOf, onLent, startAnswer}
 use Rattle.stored.specs.Layout.{nodeIn, nodeBytes, headOf, Fits}
 use Rattle.stored.specs.LayoutLaws.{stored-loaded}
 use Rattle.pradulins.specs.Handed.{handed}
-use Rattle.pradulins.specs.Holds.{settingsTold, stateTold}
+use Rattle.pradulins.specs.Holds.{isSettled, settingsTold, flagsTold, stateTold}
 use Rattle.pradulins.specs.Unique.{Starts, Settles}
 
 -- ---- settings
 -- a node that was started tells those that it was started with
-settings-fresh : (ttl max-seen history max : ℕ) → legalSettings max-seen history max ≡ true
-    → settingsTold (freshNode ttl max-seen history max) ≡ done (ttl ∷ max-seen ∷ history ∷ max ∷ [])
+settings-fresh : (ttl max-seen history max flags : ℕ) → legalSettings max-seen history max flags ≡ true
+    → settingsTold (freshNode ttl max-seen history max flags) ≡ done (ttl ∷ max-seen ∷ history ∷ max ∷ [])
 unfolding freshNode fresh
-settings-fresh ttl max-seen history max h = rw h
+settings-fresh ttl max-seen history max flags h = rw h
+
+flags-fresh : (ttl max-seen history max flags : ℕ) → legalSettings max-seen history max flags ≡ true
+    → flagsTold (freshNode ttl max-seen history max flags) ≡ flags ∷ []
+unfolding freshNode fresh
+flags-fresh ttl max-seen history max flags h = rw h
 
 -- the numbers of a fresh node fit its bytes
 cons-small : (x : ℕ) (l : List ℕ) (m : ℕ) → x < m → ((i : ℕ) → getD l i 0 < m) → (i : ℕ) → getD (x ∷ l) i 0 < m
@@ -58,16 +64,17 @@ head-small a b c d m h k l n =
     cons-small a (b ∷ clock) m h (cons-small b clock m k (cons-small 0 start m z (cons-small 0 count m z
     (cons-small 0 history m z (cons-small c max m l (cons-small d (replicate 3 0) m n (λ i. zeros-below 3 m i z)))))))
 
-fresh-fits : (ttl max-seen history max : ℕ) → ttl < 2 ^ 64 → legalSettings max-seen history max ≡ true
-    → Fits (freshNode ttl max-seen history max)
-unfolding legalSettings legal freshNode noIds fresh headOf
-fresh-fits ttl max-seen history max t h =
+fresh-fits : (ttl max-seen history max flags : ℕ) → ttl < 2 ^ 64 → legalSettings max-seen history max flags ≡ true
+    → Fits (freshNode ttl max-seen history max flags)
+unfolding legalSettings legal freshNode noIds fresh headOf knownFlags
+fresh-fits ttl max-seen history max flags t h =
     let a = both (leb max-seen maxIds) _ h in
     let b = both (leb 1 history) _ (a .1) in
     let c = both (leb history maxHistory) _ (b .1) in
+    let d = both (leb max maxMessages) _ (c .1) in
     record {
       head = head-small ttl max-seen history max (2 ^ 64) t (omega (arith, leb-true max-seen maxIds (a .0)))
-          (omega (arith, leb-true history maxHistory (c .0))) (omega (arith, leb-true max maxMessages (c .1)));
+          (omega (arith, leb-true history maxHistory (c .0))) (omega (arith, leb-true max maxMessages (d .0)));
       expiries = length-replicate {A = ℕ} maxIds 0;
       expiry = λ i. zeros-below maxIds (2 ^ 64) i (omega arith);
       id-lengths = length-replicate {A = ℕ} maxIds 0;
@@ -83,24 +90,26 @@ fresh-fits ttl max-seen history max t h =
       topic-start = λ i. zeros-below 256 (2 ^ 16) i (omega arith);
       topic-lengths = length-replicate {A = ℕ} 256 0;
       topic-length = λ i. zeros-below 256 (2 ^ 16) i (omega arith);
+      flags = omega (arith, leb-true flags maxFlags (d .1));
     }
 
 taken-start : (b : Bool) → 0 ≡ startTold (cond b start.Started start.BadSetting) .number → b ≡ true
 taken-start true h = refl
 taken-start false h = absurd (omega arith)
 
-pub settings-started : {s made vs ws : List ℕ} {ttl max-seen history max r : ℕ} → ttl < 2 ^ 64
-    → Starts s ttl max-seen history max 0 made → Settles made vs r ws
-    → (r ≡ 0) × (ws ≡ sets vs 0 (ttl ∷ max-seen ∷ history ∷ max ∷ []))
+pub settings-started : {s made vs ws : List ℕ} {ttl max-seen history max flags r : ℕ} → ttl < 2 ^ 64
+    → Starts s ttl max-seen history max flags 0 made → Settles made vs r ws
+    → (r ≡ 0) × (ws ≡ sets vs 0 (ttl ∷ max-seen ∷ history ∷ max ∷ flags ∷ []))
 unfolding startAnswer
-settings-started {s} {made} {vs} {ws} {ttl} {max-seen} {history} {max} t a b =
-    let l = taken-start (legalSettings max-seen history max) (a .number) in
-    let m : made ≡ nodeBytes (freshNode ttl max-seen history max) = rw l at (a .node) in
-    let n : nodeIn made ≡ freshNode ttl max-seen history max =
-    ap nodeIn m ∙ stored-loaded (freshNode ttl max-seen history max) (fresh-fits ttl max-seen history max t l) in
+settings-started {s} {made} {vs} {ws} {ttl} {max-seen} {history} {max} {flags} t a b =
+    let l = taken-start (legalSettings max-seen history max flags) (a .number) in
+    let m : made ≡ nodeBytes (freshNode ttl max-seen history max flags) = rw l at (a .node) in
+    let n : nodeIn made ≡ freshNode ttl max-seen history max flags =
+    ap nodeIn m ∙ stored-loaded (freshNode ttl max-seen history max flags) (fresh-fits ttl max-seen history max flags t l) in
     let e : settingsTold (nodeIn made) ≡ done (ttl ∷ max-seen ∷ history ∷ max ∷ []) =
-    ap settingsTold n ∙ settings-fresh ttl max-seen history max l in
-    (b .number ∙ ap (λ (x : Told). x .number) e, b .values ∙ ap (λ (x : Told). handed x vs) e)
+    ap settingsTold n ∙ settings-fresh ttl max-seen history max flags l in
+    let f : flagsTold (nodeIn made) ≡ flags ∷ [] = ap flagsTold n ∙ flags-fresh ttl max-seen history max flags l in
+    (b .number ∙ ap (λ (x : Told). x .number) e, b .values ∙ rw (e, f))
 
 -- 42 comes exactly where a start would meet 40, and nothing else is refused
 told-settings : (b : Bool) (x : Told) → x .number ≡ 0
@@ -110,10 +119,10 @@ told-settings true x e = (λ h. absurd (omega arith), λ h. absurd (omega arith)
 told-settings false x e = (λ h. refl, λ h. refl)
 
 pub settings-exactly : (n : Node) → (settingsTold n .number ≡ malformed)
-    ↔ (startTold (startAnswer (n .«max_seen») (n .cache .«history_len») (n .cache .«max_messages»)) .number ≡ bad-setting)
+    ↔ (startTold (startAnswer (n .«max_seen») (n .cache .«history_len») (n .cache .«max_messages») (n .cache .flags)) .number ≡ bad-setting)
 unfolding startAnswer
 settings-exactly n =
-    told-settings (legalSettings (n .«max_seen») (n .cache .«history_len») (n .cache .«max_messages»))
+    told-settings (isSettled n)
     (done (n .ttl ∷ n .«max_seen» ∷ n .cache .«history_len» ∷ n .cache .«max_messages» ∷ [])) refl
 
 -- ---- the state: 40, 41 and 42 come exactly where the lent node and its stores meet them
@@ -126,7 +135,7 @@ state-number n ss cs = told-state (lentOf n ss cs) (n .clock ∷ n .seen .count 
 
 -- ---- what is told of a state that a call takes: its settings
 module _ (n : Node) (ss cs : List ℕ) (fine : lentOf n ss cs ≡ lent.Fine) where
-  taken-legal : legalSettings (n .«max_seen») (n .cache .«history_len») (n .cache .«max_messages») ≡ true
+  taken-legal : isSettled n ≡ true
   unfolding legalSettings legal
   taken-legal =
       let t = fine-tests n ss cs fine in
@@ -136,16 +145,18 @@ module _ (n : Node) (ss cs : List ℕ) (fine : lentOf n ss cs ≡ lent.Fine) whe
         le-leb 1 (n .cache .«history_len») (k .history-some),
         le-leb (n .cache .«history_len») maxHistory (k .history-few),
         le-leb (n .cache .«max_messages») maxMessages (k .few),
+        k .known,
       )
 
-  pub settings-say : settingsTold n
+  pub settings-say : (settingsTold n
       ≡ done (gatewayIn n ss cs .ttl
       ∷ gatewayIn n ss cs .max-seen
       ∷ gatewayIn n ss cs .history-len
       ∷ gatewayIn n ss cs .max-messages
-      ∷ [])
+      ∷ []))
+      × (flagsTold n ≡ gatewayIn n ss cs .flags ∷ [])
   unfolding gatewayIn
-  settings-say = rw taken-legal
+  settings-say = (rw taken-legal, rw taken-legal)
 
   -- ---- and its clock and counts are those of the gateway that it is
   pub state-says : stateTold n ss cs

@@ -27,12 +27,12 @@ pub not-started : (legal : Bool) (new old : List ℕ)
 not-started true new old h = absurd (h refl)
 not-started false new old h = refl
 
-pub refused-start : {s : List ℕ} {ttl max-seen history max r : ℕ} {made : List ℕ}
-    → Starts s ttl max-seen history max r made → (r ≡ 0 → ⊥) → made ≡ s
+pub refused-start : {s : List ℕ} {ttl max-seen history max flags r : ℕ} {made : List ℕ}
+    → Starts s ttl max-seen history max flags r made → (r ≡ 0 → ⊥) → made ≡ s
 unfolding startAnswer
-refused-start {s} {ttl} {max-seen} {history} {max} a h =
+refused-start {s} {ttl} {max-seen} {history} {max} {flags} a h =
     a .node
-    ∙ not-started (legalSettings max-seen history max) (nodeBytes (freshNode ttl max-seen history max)) s
+    ∙ not-started (legalSettings max-seen history max flags) (nodeBytes (freshNode ttl max-seen history max flags)) s
     (λ z. h (a .number ∙ z))
 
 module _ {s : List ℕ} (size : length s ≡ nodeSize) (bytes : Bytes s) {ss cs : List ℕ} where
@@ -77,8 +77,8 @@ module _ {body vs : List ℕ} {r : ℕ} {ws : List ℕ} where
 
 -- ---- speaking first
 module _ {t b vs : List ℕ} {r : ℕ} {ws out left : List ℕ} where
-  pub refused-write : Writes t b out vs r ws left → (r ≡ 0 → ⊥) → left ≡ out
-  refused-write a h = a .buffer ∙ write-refused t b out (λ z. h (a .number ∙ z))
+  pub refused-write : {flags : ℕ} → Writes t b flags out vs r ws left → (r ≡ 0 → ⊥) → left ≡ out
+  refused-write {flags} a h = a .buffer ∙ write-refused flags t b out (λ z. h (a .number ∙ z))
 
   pub refused-sign-fields : {i : ℕ} → SignsFields t b i out vs r ws left → (r ≡ 0 → ⊥) → left ≡ out
   refused-sign-fields {i} a h = a .buffer ∙ fields-refused t b i out (λ z. h (a .number ∙ z))

@@ -7,6 +7,7 @@ use mathlib.Core.Path.{_≡_, sym, _∙_}
 use mathlib.Core.Bool.{Bool, cond}
 use mathlib.Core.List.{List, []}
 use lib.ListN.{length}
+use lib.Seq.{sets}
 use Rattle.basis.specs.declared.Told.{Told}
 use Rattle.protobuf.specs.Told.{encodedTold, walkTold}
 use Rattle.protobuf.specs.Field.{walkStep}
@@ -24,16 +25,16 @@ use Rattle.node.specs.Calls.{startAnswer, planned, admitAnswer, admitNode, admi
 use Rattle.node.specs.Calls.{advertiseAnswer, advertiseLeft, explainAnswer, askAnswer, askLeft, serveAnswer, serveLeft}
 use Rattle.stored.specs.Layout.{nodeIn, nodeBytes}
 use Rattle.pradulins.specs.Handed.{handed}
-use Rattle.pradulins.specs.Holds.{settingsTold, stateTold}
+use Rattle.pradulins.specs.Holds.{settingsTold, flagsTold, stateTold}
 
 -- ---- the node: its bytes s, the stores ss and cs, and the values vs, as they are lent; then what is returned and left
-pub record Starts (s : List ℕ) (ttl max-seen history max : ℕ) (r : ℕ) (made : List ℕ) : Type 0 where
-  pub number : r ≡ startTold (startAnswer max-seen history max) .number
+pub record Starts (s : List ℕ) (ttl max-seen history max flags : ℕ) (r : ℕ) (made : List ℕ) : Type 0 where
+  pub number : r ≡ startTold (startAnswer max-seen history max flags) .number
   pub node : made
-      ≡ cond (legalSettings max-seen history max) (nodeBytes (freshNode ttl max-seen history max)) s
+      ≡ cond (legalSettings max-seen history max flags) (nodeBytes (freshNode ttl max-seen history max flags)) s
 
-pub one-start : {s : List ℕ} {ttl max-seen history max r r₂ : ℕ} {made made₂ : List ℕ}
-    → Starts s ttl max-seen history max r made → Starts s ttl max-seen history max r₂ made₂ → (r ≡ r₂)
+pub one-start : {s : List ℕ} {ttl max-seen history max flags r r₂ : ℕ} {made made₂ : List ℕ}
+    → Starts s ttl max-seen history max flags r made → Starts s ttl max-seen history max flags r₂ made₂ → (r ≡ r₂)
     × (made ≡ made₂)
 one-start a b = (a .number ∙ sym (b .number), a .node ∙ sym (b .node))
 
@@ -122,7 +123,7 @@ one-serve a b = (a .number ∙ sym (b .number), a .values ∙ sym (b .values), a
 -- ---- what a node holds; nothing is given to write but the values
 pub record Settles (s vs : List ℕ) (r : ℕ) (ws : List ℕ) : Type 0 where
   pub number : r ≡ settingsTold (nodeIn s) .number
-  pub values : ws ≡ handed (settingsTold (nodeIn s)) vs
+  pub values : ws ≡ sets (handed (settingsTold (nodeIn s)) vs) 4 (flagsTold (nodeIn s))
 
 pub one-settings : {s vs : List ℕ} {r r₂ : ℕ} {ws ws₂ : List ℕ} → Settles s vs r ws → Settles s vs r₂ ws₂
     → (r ≡ r₂) × (ws ≡ ws₂)
@@ -183,13 +184,14 @@ pub one-walk : {body : List ℕ} {at : ℕ} {vs : List ℕ} {r r₂ : ℕ} {ws w
 one-walk a b = (a .number ∙ sym (b .number), a .values ∙ sym (b .values))
 
 -- ---- speaking first: the rows t over the bytes b
-pub record Writes (t b out vs : List ℕ) (r : ℕ) (ws left : List ℕ) : Type 0 where
-  pub number : r ≡ composedTold (writeAnswer t b out) .number
-  pub values : ws ≡ handed (composedTold (writeAnswer t b out)) vs
-  pub buffer : left ≡ writeLeft t b out
+pub record Writes (t b : List ℕ) (flags : ℕ) (out vs : List ℕ) (r : ℕ) (ws left : List ℕ) : Type 0 where
+  pub number : r ≡ composedTold (writeAnswer flags t b out) .number
+  pub values : ws ≡ handed (composedTold (writeAnswer flags t b out)) vs
+  pub buffer : left ≡ writeLeft flags t b out
 
-pub one-write : {t b out vs : List ℕ} {r r₂ : ℕ} {ws ws₂ left left₂ : List ℕ} → Writes t b out vs r ws left
-    → Writes t b out vs r₂ ws₂ left₂ → (r ≡ r₂) × (ws ≡ ws₂) × (left ≡ left₂)
+pub one-write : {t b : List ℕ} {flags : ℕ} {out vs : List ℕ} {r r₂ : ℕ} {ws ws₂ left left₂ : List ℕ}
+    → Writes t b flags out vs r ws left → Writes t b flags out vs r₂ ws₂ left₂
+    → (r ≡ r₂) × (ws ≡ ws₂) × (left ≡ left₂)
 one-write a b = (a .number ∙ sym (b .number), a .values ∙ sym (b .values), a .buffer ∙ sym (b .buffer))
 
 pub record SignsFields (t b : List ℕ) (i : ℕ) (out vs : List ℕ) (r : ℕ) (ws left : List ℕ) : Type 0 where

@@ -1,5 +1,5 @@
 // The library as C and Rust programs link it. Each call answers a number, 0 or the refusal's in the table of refusals; `values`, where it is lent, gets what stands
-// beside it, at most four numbers, and then the place of a refusal. The node lives in NODE_SIZE bytes that the host lends, its two stores in slices. A
+// beside it, at most four numbers (settings are five), and then the place of a refusal. The node lives in NODE_SIZE bytes that the host lends, its two stores in slices. A
 // refused call changes no buffer and no node.
 ghost use mathlib.Core.Path.{_≡_};
 ghost use lib.Seq.{sets};
@@ -38,9 +38,9 @@ use stored::NODE_SIZE;
 use stored::load;
 use stored::store;
 
-pub const VERSION: u32 = 600;
+pub const VERSION: u32 = 700;
 
-pub const FORMAT: u32 = 2;
+pub const FORMAT: u32 = 3;
 
 // Hands out the values beside a number, as many as are counted.
 fn tell_values(t: Told, values: &mut [u64; 8])
@@ -105,10 +105,11 @@ pub extern "C" fn pradulins_start(
     max_seen: usize,
     history_len: usize,
     max_messages: usize,
+    flags: u32,
 ) -> u32
-    ensures { λ r. ⌜ Starts (now (node .entry)) ttl «max_seen» «history_len» «max_messages» r (now (node .exit)) ⌝ }
+    ensures { λ r. ⌜ Starts (now (node .entry)) ttl «max_seen» «history_len» «max_messages» flags r (now (node .exit)) ⌝ }
 {
-    let s = Node::start(ttl, max_seen, history_len, max_messages);
+    let s = Node::start(ttl, max_seen, history_len, max_messages, flags as usize);
     let answer = s.answer;
     let t = told_start(answer);
     if t.number == 0 {
@@ -250,7 +251,13 @@ fn told_settings(n: Node) -> Told
     ensures { λ r. ⌜ r ≡ settingsTold n ⌝ }
 {
     let cache = n.cache;
-    let s = Node::start(n.ttl, n.max_seen, cache.history_len, cache.max_messages);
+    let s = Node::start(
+        n.ttl,
+        n.max_seen,
+        cache.history_len,
+        cache.max_messages,
+        cache.flags,
+    );
     let answer = s.answer;
     match answer {
         Start::Started => Told::four(
@@ -275,13 +282,18 @@ fn told_state(n: Node, seen_store: &[u8], cache_store: &[u8]) -> Told
     }
 }
 
-// The settings that a node was started with.
+// The settings that a node was started with; the flags are the fifth value.
 #[no_mangle]
 pub extern "C" fn pradulins_settings(node: &[u8; NODE_SIZE], values: &mut [u64; 8]) -> u32
     ensures { λ r. ⌜ Settles (now (node .entry)) (now (values .entry)) r (now (values .exit)) ⌝ }
 {
     let n = load(node);
-    tell(told_settings(n), values)
+    let number = tell(told_settings(n), values);
+    if number == 0 {
+        values[4] = n.cache.flags as u64;
+        return 0;
+    }
+    number
 }
 
 // Its clock, and how many ids and messages it keeps.
@@ -363,18 +375,19 @@ pub extern "C" fn pradulins_walk(body: &[u8], at: usize, values: &mut [u64; 8]) 
 
 // ---- speaking first
 
-// Writes the RPC that rows of a table of records say, over lent bytes.
+// Writes the RPC that rows of a table of records say, over lent bytes, under flags.
 #[no_mangle]
 pub extern "C" fn pradulins_write_rpc(
     records: &[u64],
     bytes: &[u8],
+    flags: u32,
     out: &mut [u8],
     values: &mut [u64; 8],
 ) -> u32
-    ensures { λ r. ⌜ Writes (now (records .entry)) (now (bytes .entry)) (now (out .entry)) (now (values .entry)) r
+    ensures { λ r. ⌜ Writes (now (records .entry)) (now (bytes .entry)) flags (now (out .entry)) (now (values .entry)) r
         (now (values .exit)) (now (out .exit)) ⌝ }
 {
-    let answer = write_rpc(records, bytes, out);
+    let answer = write_rpc(records, bytes, flags as usize, out);
     tell(told_composed(answer), values)
 }
 

@@ -10,6 +10,7 @@ use play::calls::call_node;
 use play::calls::misfit;
 use play::calls::no_question;
 use play::calls::print;
+use play::calls::set_with;
 use play::calls::stop;
 use play::calls::why;
 use play::calls::within;
@@ -48,6 +49,15 @@ fn on_node(
         made,
         out,
     )
+}
+
+// Kind 21: as kind 1, and then the flags.
+fn set_flags(n: u64, content: &[u8], run: Run, out: &mut [u8]) -> Run {
+    if content.len() != 16 {
+        return stop(run, b"bad\n");
+    }
+    let flags = little_at(content, 14, 2) as usize;
+    set_with(n, 64, flags, content, run, out)
 }
 
 // Kinds 4, 5 and 6, which begin with the room of the buffer.
@@ -224,6 +234,7 @@ fn on_lent(
         10 => lookup(n, content, run, cache_store, out),
         11 => state(n, run, seen_store, cache_store, made, out),
         12 => question(n, content, run, seen_store, cache_store, out),
+        21 => set_flags(n, content, run, out),
         _ => on_node(n, kind, content, run, seen_store, cache_store, made, out),
     }
 }

@@ -1,7 +1,7 @@
 // Kind 8: a number of the node or of a store set to a value, so that 40, 41 and 42 can be seen. What: 0 ttl, 1 max_seen, 2 clock; of the seen part
 // 3 start, 4 count, 5 an expiry, 6 a length; of the cache 7 history_len, 8 max_messages, 9 the next arrival number, 10 start, 11 count, 12 an arrival
-// number, 13 a window, 14 a message's length, 15 an id's length, 16 and above 21 a byte of the ids, 19 how many topics a row has, 20 where a topic
-// starts, 21 its length, the last two in the place 4 · row + slot; 17 and 18, bytes of the stores, are set where they are lent.
+// number, 13 a window, 14 a message's length, 15 an id's length, 16 and above 22 a byte of the ids, 19 how many topics a row has, 20 where a topic
+// starts, 21 its length, these two in the place 4 · row + slot, 22 the flags; 17 and 18, bytes of the stores, are set where they are lent.
 use mcache::MessageCache;
 use node::Node;
 use seen::SeenCache;
@@ -83,6 +83,10 @@ fn hurt_cache(mut cache: MessageCache, what: u64, p: usize, value: u64) -> Messa
     }
     if what == 11 {
         cache.count = value as usize;
+        return cache;
+    }
+    if what == 22 {
+        cache.flags = value as usize;
         return cache;
     }
     hurt_rows(cache, what, p, value)

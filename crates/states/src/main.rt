@@ -3,7 +3,7 @@
 // settings (ttl u64; max_seen, history_len, max_messages u16), 2 admit (now u64, index u16, verified u8: 1 is the host's word, body), 3 heartbeat (now u64), 4
 // advertise (room u32, windows u16, topic), 5 ask (room u32, body), 6 serve (room u32, body), 7 lend (length of the seen store u32, of the cache
 // store u32), 8 hurt (what u8, place u32, value u64), 9 contains (id), 10 lookup (id), 11 state, 12 why (windows u16, length of the id u16, id,
-// topic). The stores are lent as long as the settings say until a record of kind 7.
+// topic), 21 as 1, and then flags u16. The stores are lent as long as the settings say until a record of kind 7.
 mod calls;
 mod hurt;
 mod state;

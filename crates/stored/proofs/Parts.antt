@@ -8,6 +8,7 @@ use lib.ListN.{length, drop, length-take, length-drop, drop-of-length-le}
 use lib.Seq.{sets, sets-eq, length-sets}
 use Rattle.basis.specs.Writing.{setIn}
 use Rattle.basis.specs.Lists.{set-fits}
+use Rattle.basis.specs.Little.{bytesOf, bytes-length}
 use Rattle.protobuf.specs.EncodeLaws.{put-append}
 use Rattle.protobuf.specs.Walk.{between}
 use Rattle.seen.specs.declared.SeenCache.{SeenCache}
@@ -35,11 +36,11 @@ seen-read s expiry len l start count h a b c i d =
     let e : len ≡ between s 2768 3024 = part-copied s len l 2768 3024 (omega arith) (omega arith) i d in
     rw (a, b, c, e)
 
-pub cache-read : (s generation len window lens ids l counts starts sizes : List ℕ) (history most next start count : ℕ) → length s ≡ nodeSize → history ≡ wordAt s 40
+pub cache-read : (s generation len window lens ids l counts starts sizes : List ℕ) (history most next start count flags : ℕ) → length s ≡ nodeSize → history ≡ wordAt s 40
     → most ≡ wordAt s 48 → next ≡ wordAt s 56 → start ≡ wordAt s 64 → count ≡ wordAt s 72 → generation ≡ gathered 8 64 (drop 2128 s)
     → len ≡ gathered 2 64 (drop 2640 s) → window ≡ between s 3024 3088 → lens ≡ between s 3088 3152 → length l ≡ 8192
     → ids ≡ setIn (length (between s 3152 11344)) 0 (between s 3152 11344) l → counts ≡ between s 11344 11408 → starts ≡ gathered 2 256 (drop 11408 s)
-    → sizes ≡ gathered 2 256 (drop 11920 s)
+    → sizes ≡ gathered 2 256 (drop 11920 s) → flags ≡ wordAt s 12432
     → _≡_ {A = MessageCache}
     (record {
       «history_len» = history;
@@ -55,11 +56,12 @@ pub cache-read : (s generation len window lens ids l counts starts sizes : List 
       «topic_count» = counts;
       «topic_start» = starts;
       «topic_len» = sizes;
+      flags = flags;
     }) (nodeIn s .cache)
 unfolding nodeIn
-cache-read s generation len window lens ids l counts starts sizes history most next start count h a b c d e f g x y i z p q r =
+cache-read s generation len window lens ids l counts starts sizes history most next start count flags h a b c d e f g x y i z p q r v =
     let w : ids ≡ between s 3152 11344 = part-copied s ids l 3152 11344 (omega arith) (omega arith) i z in
-    rw (a, b, c, d, e, f, g, x, y, w, p, q, r)
+    rw (a, b, c, d, e, f, g, x, y, w, p, q, r, v)
 
 pub node-read : (s : List ℕ) (ttl most clock : ℕ) (seen : SeenCache) (cache : MessageCache) → ttl ≡ wordAt s 0 → most ≡ wordAt s 8 → clock ≡ wordAt s 16 → seen ≡ nodeIn s .seen → cache ≡ nodeIn s .cache → _≡_ {A = Node} (record { ttl = ttl; «max_seen» = most; clock = clock; seen = seen; cache = cache }) (nodeIn s)
 unfolding nodeIn
@@ -79,6 +81,11 @@ numbers w l after vs k e h z = record { ends = h ∙ ap (λ (n : ℕ). k + n) (s
 bytes : (l after xs : List ℕ) (k e : ℕ) → e ≡ k + length xs → e ≤ length l → after ≡ setIn (length xs) k xs l → Part l k xs after e
 bytes l after xs k e h r z = record { ends = h; now = z ∙ set-fits (length xs) k xs l (omega arith) }
 
+-- a number of 8 bytes, with room for it
+number : (l after : List ℕ) (v k e : ℕ) → e ≡ k + 8 → e ≤ length l → after ≡ setIn 8 k (bytesOf 8 v) l → Part l k (bytesOf 8 v) after e
+number l after v k e h r z =
+    record { ends = h ∙ ap (λ (n : ℕ). k + n) (sym (bytes-length 8 v)); now = z ∙ set-fits 8 k (bytesOf 8 v) l (omega arith) }
+
 kept : {l after xs : List ℕ} {k e n : ℕ} → Part l k xs after e → length l ≡ n → length after ≡ n
 kept {l} {after} {xs} {k} p h = ap length (p .now) ∙ length-sets l k xs ∙ h
 
@@ -89,7 +96,7 @@ _then_ {l} {mid} {after} {xs} {ys} {k} {i} {e} p q =
     let w = put-append l mid after k i e xs ys (p .ends, p .now) (q .ends, q .now) in
     record { ends = w .0; now = w .1 }
 
-pub node-written : (n : Node) (o₀ o₁ o₂ o₃ o₄ o₅ o₆ o₇ o₈ o₉ o₁₀ o₁₁ : List ℕ) → length o₀ ≡ nodeSize → length (n .seen .expiry) ≡ 256
+pub node-written : (n : Node) (o₀ o₁ o₂ o₃ o₄ o₅ o₆ o₇ o₈ o₉ o₁₀ o₁₁ o₁₂ : List ℕ) → length o₀ ≡ nodeSize → length (n .seen .expiry) ≡ 256
     → length (n .cache .generation) ≡ 64 → length (n .cache .len) ≡ 64 → length (n .seen .len) ≡ 256 → length (n .cache .window) ≡ 64
     → length (n .cache .«id_len») ≡ 64 → length (n .cache .ids) ≡ 8192 → length (n .cache .«topic_count») ≡ 64
     → length (n .cache .«topic_start») ≡ 256 → length (n .cache .«topic_len») ≡ 256
@@ -98,9 +105,10 @@ pub node-written : (n : Node) (o₀ o₁ o₂ o₃ o₄ o₅ o₆ o₇ o₈ o₉
     → o₅ ≡ setIn (length (n .seen .len)) 2768 (n .seen .len) o₄ → o₆ ≡ setIn (length (n .cache .window)) 3024 (n .cache .window) o₅
     → o₇ ≡ setIn (length (n .cache .«id_len»)) 3088 (n .cache .«id_len») o₆ → o₈ ≡ setIn (length (n .cache .ids)) 3152 (n .cache .ids) o₇
     → o₉ ≡ setIn (length (n .cache .«topic_count»)) 11344 (n .cache .«topic_count») o₈ → o₁₀ ≡ sets o₉ 11408 (spread 2 (n .cache .«topic_start»))
-    → o₁₁ ≡ sets o₁₀ 11920 (spread 2 (n .cache .«topic_len»)) → o₁₁ ≡ nodeBytes n
+    → o₁₁ ≡ sets o₁₀ 11920 (spread 2 (n .cache .«topic_len»)) → o₁₂ ≡ setIn 8 12432 (bytesOf 8 (n .cache .flags)) o₁₁
+    → o₁₂ ≡ nodeBytes n
 unfolding nodeBytes headOf
-node-written n o₀ o₁ o₂ o₃ o₄ o₅ o₆ o₇ o₈ o₉ o₁₀ o₁₁ h i₂ i₃ i₄ i₅ i₆ i₇ i₈ i₉ i₁₀ i₁₁ e₁ e₂ e₃ e₄ e₅ e₆ e₇ e₈ e₉ e₁₀ e₁₁ =
+node-written n o₀ o₁ o₂ o₃ o₄ o₅ o₆ o₇ o₈ o₉ o₁₀ o₁₁ o₁₂ h i₂ i₃ i₄ i₅ i₆ i₇ i₈ i₉ i₁₀ i₁₁ e₁ e₂ e₃ e₄ e₅ e₆ e₇ e₈ e₉ e₁₀ e₁₁ e₁₂ =
     let p₁ = numbers 8 o₀ o₁ (headOf n) 0 80 (omega arith) e₁ in
     let p₂ = numbers 8 o₁ o₂ (n .seen .expiry) 80 2128 (omega arith) e₂ in
     let p₃ = numbers 8 o₂ o₃ (n .cache .generation) 2128 2640 (omega arith) e₃ in
@@ -116,6 +124,9 @@ node-written n o₀ o₁ o₂ o₃ o₄ o₅ o₆ o₇ o₈ o₉ o₁₀ o₁₁
     let h₈ : length o₈ ≡ nodeSize = kept p₈ h₇ in
     let p₉ = bytes o₈ o₉ (n .cache .«topic_count») 11344 11408 (omega arith) (omega arith) e₉ in
     let p₁₀ = numbers 2 o₉ o₁₀ (n .cache .«topic_start») 11408 11920 (omega arith) e₁₀ in
-    let p₁₁ = numbers 2 o₁₀ o₁₁ (n .cache .«topic_len») 11920 nodeSize (omega arith) e₁₁ in
-    let q : Part o₀ 0 (nodeBytes n) o₁₁ nodeSize = p₁ then p₂ then p₃ then p₄ then p₅ then p₆ then p₇ then p₈ then p₉ then p₁₀ then p₁₁ in
+    let p₁₁ = numbers 2 o₁₀ o₁₁ (n .cache .«topic_len») 11920 12432 (omega arith) e₁₁ in
+    let h₁₁ : length o₁₁ ≡ nodeSize = kept p₁₁ (kept p₁₀ (kept p₉ (kept p₈ h₇))) in
+    let p₁₂ = number o₁₁ o₁₂ (n .cache .flags) 12432 nodeSize (omega arith) (omega arith) e₁₂ in
+    let q : Part o₀ 0 (nodeBytes n) o₁₂ nodeSize =
+    p₁ then p₂ then p₃ then p₄ then p₅ then p₆ then p₇ then p₈ then p₉ then p₁₀ then p₁₁ then p₁₂ in
     q .now ∙ all-written (nodeBytes n) o₀ (omega (arith, q .ends))

@@ -24,7 +24,7 @@ gathered w (suc n) s = little (take w s) ∷ gathered w n (drop w s)
 -- ---- the layout: ten numbers of 8 bytes; the expiries and the arrival numbers, of 8 bytes each; the lengths of the
 -- messages, of 2 bytes each; then bytes: the lengths of the ids seen, the windows, the lengths of the ids cached, these
 -- ids, and how many topics each message has; then, of 2 bytes each and four for each message, where its topics start,
--- and how long they are
+-- and how long they are; at the end the flags, in 8 bytes
 unfoldable pub headOf : Node → List ℕ
 headOf n =
     n .ttl ∷ n .«max_seen» ∷ n .clock ∷ n .seen .start ∷ n .seen .count ∷ n .cache .«history_len»
@@ -43,11 +43,12 @@ nodeBytes n =
     ++ (n .cache .ids
     ++ (n .cache .«topic_count»
     ++ (spread 2 (n .cache .«topic_start»)
-    ++ spread 2 (n .cache .«topic_len»))))))))))
+    ++ (spread 2 (n .cache .«topic_len»)
+    ++ bytesOf 8 (n .cache .flags)))))))))))
 
 -- how many bytes that is
 abbrev pub nodeSize : ℕ
-nodeSize = 12432
+nodeSize = 12440
 
 -- ---- the node that bytes are
 abbrev pub wordAt : List ℕ → ℕ → ℕ
@@ -80,6 +81,7 @@ nodeIn s =
             «topic_count» = between s 11344 11408;
             «topic_start» = gathered 2 256 (drop 11408 s);
             «topic_len» = gathered 2 256 (drop 11920 s);
+            flags = wordAt s 12432;
           };
     }
 
@@ -101,3 +103,4 @@ pub record Fits (n : Node) : Type 0 where
   pub topic-start : (i : ℕ) → getD (n .cache .«topic_start») i 0 < 2 ^ 16
   pub topic-lengths : length (n .cache .«topic_len») ≡ 256
   pub topic-length : (i : ℕ) → getD (n .cache .«topic_len») i 0 < 2 ^ 16
+  pub flags : n .cache .flags < 2 ^ 64

@@ -1,7 +1,7 @@
 -- Laws of the layout: how many bytes there are, and that a node and its bytes are found again from each other.
 use Prim.Native.Nat.{ℕ, zero, suc, _+_, _*_, _^_, _<_, _≤_}
 use mathlib.Core.Path.{_≡_, refl, sym, ap, _∙_}
-use mathlib.Core.List.{List, [], _∷_, _++_, append-assoc, append-nil}
+use mathlib.Core.List.{List, [], _∷_, _++_, append-assoc}
 use native.Mathlib.Omega.{arith}
 use native.Mathlib.Nat.{mul-zero, mul-suc, suc-mul, zero-mul, add-comm}
 use lib.ListN.{length, getD, take, drop, length-append, length-take, length-drop, take-append-drop}
@@ -11,7 +11,7 @@ use Rattle.basis.specs.Lists.{drop-bytes, take-bytes}
 use Rattle.basis.specs.Little.{little, bytesOf, bytes-length, little-of-bytes, bytes-of-little}
 use Rattle.protobuf.specs.Walk.{between}
 use Rattle.node.specs.declared.Node.{Node}
-use Rattle.stored.specs.Layout.{spread, gathered, nodeSize, headOf, nodeBytes, nodeIn, Fits}
+use Rattle.stored.specs.Layout.{spread, gathered, nodeSize, wordAt, headOf, nodeBytes, nodeIn, Fits}
 
 -- ---- how many bytes
 pub spread-length : (w : ℕ) (vs : List ℕ) → length (spread w vs) ≡ w * length vs
@@ -21,7 +21,7 @@ spread-length w (v ∷ vs) = rw (length-append, bytes-length, spread-length w vs
 
 pub stored-size : (n : Node) → Fits n → length (nodeBytes n) ≡ nodeSize
 unfolding nodeBytes headOf
-stored-size n f = simp (length-append, spread-length) (omega arith)
+stored-size n f = simp (length-append, spread-length, bytes-length) (omega arith)
 
 -- ---- several numbers and their bytes
 pub gathered-spread : (w : ℕ) (vs rest : List ℕ) → ((i : ℕ) → getD vs i 0 < 256 ^ w)
@@ -69,15 +69,21 @@ numbers-found w k m s vs r e l b = rw (e, ← l) (gathered-spread w vs r b)
 bytes-found : (k m : ℕ) (s xs r : List ℕ) → drop k s ≡ xs ++ r → length xs ≡ m → take m (drop k s) ≡ xs
 bytes-found k m s xs r e l = rw e (take-at xs r m l)
 
+-- a number of 8 bytes, at the end
+word-found : (k v : ℕ) (s : List ℕ) → drop k s ≡ bytesOf 8 v → v < 2 ^ 64 → wordAt s k ≡ v
+word-found k v s e h =
+    let l : length (bytesOf 8 v) ≤ 8 = omega (arith, bytes-length 8 v) in
+    rw (e, take-all 8 (bytesOf 8 v) l) (little-of-bytes 8 v h)
+
 -- a node by its fields
 by-fields : (n : Node) (s : List ℕ) → gathered 8 10 s ≡ headOf n → gathered 8 256 (drop 80 s) ≡ n .seen .expiry
     → gathered 8 64 (drop 2128 s) ≡ n .cache .generation → gathered 2 64 (drop 2640 s) ≡ n .cache .len
     → between s 2768 3024 ≡ n .seen .len → between s 3024 3088 ≡ n .cache .window
     → between s 3088 3152 ≡ n .cache .«id_len» → between s 3152 11344 ≡ n .cache .ids
     → between s 11344 11408 ≡ n .cache .«topic_count» → gathered 2 256 (drop 11408 s) ≡ n .cache .«topic_start»
-    → gathered 2 256 (drop 11920 s) ≡ n .cache .«topic_len» → nodeIn s ≡ n
+    → gathered 2 256 (drop 11920 s) ≡ n .cache .«topic_len» → wordAt s 12432 ≡ n .cache .flags → nodeIn s ≡ n
 unfolding nodeIn headOf
-by-fields n s h e₁ e₂ e₃ e₄ e₅ e₆ e₇ e₈ e₉ e₁₀ =
+by-fields n s h e₁ e₂ e₃ e₄ e₅ e₆ e₇ e₈ e₉ e₁₀ e₁₁ =
     let head : (i : ℕ) → i < 10 → little (take 8 (drop (i * 8) s)) ≡ getD (headOf n) i 0 =
     λ i l. sym (gathered-at 8 10 i s l) ∙ ap (λ (vs : List ℕ). getD vs i 0) h in
     rw (
@@ -102,13 +108,15 @@ by-fields n s h e₁ e₂ e₃ e₄ e₅ e₆ e₇ e₈ e₉ e₁₀ =
       e₈,
       e₉,
       e₁₀,
+      e₁₁,
     )
 
 pub stored-loaded : (n : Node) → Fits n → nodeIn (nodeBytes n) ≡ n
 unfolding nodeBytes headOf
 stored-loaded n f =
     let s = nodeBytes n in
-    let r₉ = spread 2 (n .cache .«topic_start») ++ spread 2 (n .cache .«topic_len») in
+    let r₁₀ = spread 2 (n .cache .«topic_len») ++ bytesOf 8 (n .cache .flags) in
+    let r₉ = spread 2 (n .cache .«topic_start») ++ r₁₀ in
     let r₈ = n .cache .«topic_count» ++ r₉ in
     let r₇ = n .cache .ids ++ r₈ in
     let r₆ = n .cache .«id_len» ++ r₇ in
@@ -127,8 +135,10 @@ stored-loaded n f =
     let d₇ : drop 3152 s ≡ r₇ = next 3088 64 s (n .cache .«id_len») r₇ d₆ (f .cached-id-lengths) in
     let d₈ : drop 11344 s ≡ r₈ = next 3152 8192 s (n .cache .ids) r₈ d₇ (f .cached-ids) in
     let d₉ : drop 11408 s ≡ r₉ = next 11344 64 s (n .cache .«topic_count») r₉ d₈ (f .topic-counts) in
-    let d₁₀ : drop 11920 s ≡ spread 2 (n .cache .«topic_len») ++ [] =
-    next 11408 512 s (spread 2 (n .cache .«topic_start»)) _ d₉ (rw (spread-length, f .topic-starts)) ∙ sym (append-nil _) in
+    let d₁₀ : drop 11920 s ≡ r₁₀ =
+    next 11408 512 s (spread 2 (n .cache .«topic_start»)) r₁₀ d₉ (rw (spread-length, f .topic-starts)) in
+    let d₁₁ : drop 12432 s ≡ bytesOf 8 (n .cache .flags) =
+    next 11920 512 s (spread 2 (n .cache .«topic_len»)) _ d₁₀ (rw (spread-length, f .topic-lengths)) in
     by-fields n s
     (numbers-found 8 0 10 s (headOf n) r₁ refl refl (f .head))
     (numbers-found 8 80 256 s (n .seen .expiry) r₂ d₁ (f .expiries) (f .expiry))
@@ -139,8 +149,9 @@ stored-loaded n f =
     (bytes-found 3088 64 s (n .cache .«id_len») r₇ d₆ (f .cached-id-lengths))
     (bytes-found 3152 8192 s (n .cache .ids) r₈ d₇ (f .cached-ids))
     (bytes-found 11344 64 s (n .cache .«topic_count») r₉ d₈ (f .topic-counts))
-    (numbers-found 2 11408 256 s (n .cache .«topic_start») (spread 2 (n .cache .«topic_len»)) d₉ (f .topic-starts) (f .topic-start))
-    (numbers-found 2 11920 256 s (n .cache .«topic_len») [] d₁₀ (f .topic-lengths) (f .topic-length))
+    (numbers-found 2 11408 256 s (n .cache .«topic_start») r₁₀ d₉ (f .topic-starts) (f .topic-start))
+    (numbers-found 2 11920 256 s (n .cache .«topic_len») (bytesOf 8 (n .cache .flags)) d₁₀ (f .topic-lengths) (f .topic-length))
+    (word-found 12432 (n .cache .flags) s d₁₁ (f .flags))
 
 -- ---- bytes of that length are those of the node in them
 -- a part of m elements and what follows it
@@ -182,11 +193,17 @@ numbers-again w n k s h b =
     let l : n * w ≤ length (drop k s) = rw (length-drop k s) (omega arith) in
     spread-gathered w n (drop k s) l (drop-bytes k s b)
 
+-- a number of 8 bytes that is all the rest
+word-again : (k : ℕ) (s : List ℕ) → length s ≡ k + 8 → Bytes s → bytesOf 8 (wordAt s k) ≡ drop k s
+word-again k s h b =
+    let l : length (drop k s) ≡ 8 = rw (length-drop k s) (omega arith) in
+    let t : take 8 (drop k s) ≡ drop k s = take-all 8 (drop k s) (omega arith) in
+    rw (t, ← l) (bytes-of-little (drop k s) (drop-bytes k s b))
+
 pub loaded-stored : (s : List ℕ) → length s ≡ nodeSize → Bytes s → nodeBytes (nodeIn s) ≡ s
 unfolding nodeBytes nodeIn
 loaded-stored s l b =
     let h : spread 8 (headOf (nodeIn s)) ≡ take 80 s = rw (head-gathered s) (numbers-again 8 10 0 s (omega arith) b) in
-    let k : length (drop 11920 s) ≤ 512 = rw (length-drop 11920 s) (omega arith) in
     rejoined 80 0 s h
     (rejoined 2048 80 s (numbers-again 8 256 80 s (omega arith) b)
     (rejoined 512 2128 s (numbers-again 8 64 2128 s (omega arith) b)
@@ -197,4 +214,4 @@ loaded-stored s l b =
     (rejoined 8192 3152 s refl
     (rejoined 64 11344 s refl
     (rejoined 512 11408 s (numbers-again 2 256 11408 s (omega arith) b)
-    (numbers-again 2 256 11920 s (omega arith) b ∙ take-all 512 (drop 11920 s) k))))))))))
+    (rejoined 512 11920 s (numbers-again 2 256 11920 s (omega arith) b) (word-again 12432 s l b)))))))))))

@@ -14,7 +14,7 @@ use node::Node;
 use protobuf::put_bytes;
 use seen::SeenCache;
 
-pub const NODE_SIZE: usize = 12432;
+pub const NODE_SIZE: usize = 12440;
 
 // ---- reading
 
@@ -120,6 +120,7 @@ fn cache_in(s: &[u8]) -> MessageCache
         topic_count: column_at(s, 11344),
         topic_start: slots_at(s, 11408),
         topic_len: slots_at(s, 11920),
+        flags: read_word(s, 12432) as usize,
     }
 }
 
@@ -189,4 +190,5 @@ pub fn store(node: Node, out: &mut [u8; NODE_SIZE])
     put_bytes(out, 11344, &node.cache.topic_count);
     write_halves(out, 11408, &node.cache.topic_start);
     write_halves(out, 11920, &node.cache.topic_len);
+    put_little(out, 12432, 8, node.cache.flags as u64);
 }

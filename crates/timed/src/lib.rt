@@ -175,7 +175,7 @@ fn puts(
 }
 
 fn filled(store: &mut [u8], bodies: &[u8], size: usize, max: usize, times: u64) -> MessageCache {
-    let s = MessageCache::new(4, max);
+    let s = MessageCache::new(4, max, 0);
     let cache = s.cache;
     puts(cache, store, bodies, size, times)
 }

@@ -26,7 +26,7 @@ use text::read_content;
 fn most_content(kind: u64) -> usize
     ensures { λ r. ⌜ r ≡ mostContent kind ⌝ }
 {
-    if kind == 13 { 307600 } else { 32768 }
+    if kind == 13 { 307608 } else { 32768 }
 }
 
 // Whether the record ends the run: it is none, or a call before a gateway.
@@ -132,9 +132,9 @@ fn turn(
     made: &mut [u8],
     out: &mut [u8],
 ) -> Run
-    requires { ⌜ 307600 ≤ length (now content) ⌝ }
+    requires { ⌜ 307608 ≤ length (now content) ⌝ }
 {
-    let h = next_header(307600);
+    let h = next_header(307608);
     match h {
         Header::End => stop(run, b""),
         Header::Bad => stop(run, b"bad\n"),
@@ -155,7 +155,7 @@ fn turn(
 
 // The count of records only bounds the loop: no run uses it up.
 fn main() {
-    let mut content = [0u8; 307600];
+    let mut content = [0u8; 307608];
     let mut seen_store = [0u8; 33024];
     let mut cache_store = [0u8; 262144];
     let mut made = [0u8; 65536];

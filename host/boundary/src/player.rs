@@ -1,10 +1,10 @@
 //! Plays the records of the programs `inspect`, `trace`, `states` and `why` through the crate, and prints their lines; where the crate does not have the
-//! call, or has no records for its rows, the record's number and `-`. In `trace` and `why` the gateway is saved and loaded again before each call. In `states` it is made before each call
+//! call, or has no records for its rows or no word for its flags, the record's number and `-`. In `trace` and `why` the gateway is saved and loaded again before each call. In `states` it is made before each call
 //! of bytes that nothing has tested, since a damaged state would not be loaded.
 
 use crate::rows::lists;
 use pradulins::{decode, message_id, reencode, sign_bytes, sign_fields, sign_fields_into, walk_from, write_rpc, write_rpc_into};
-use pradulins::{Admitted, Gateway, Offer, Record, Refusal, Settings, CACHE_PLACE, NODE_SIZE, SEEN_ROW};
+use pradulins::{Admitted, Gateway, Offer, Record, Refusal, Rpc, Settings, CACHE_PLACE, NODE_SIZE, SEEN_ROW};
 use std::fmt::Write as _;
 use std::io::{Result, Write};
 
@@ -69,6 +69,11 @@ fn record(record: &Record) -> String {
     }
 }
 
+/// Whether each message among the records has a signature: it is then written alike where unsigned messages are allowed.
+fn all_signed(records: &[Record]) -> bool {
+    records.iter().all(|record| !matches!(record, Record::Message { signature: None, .. }))
+}
+
 /// A call on rows, by the crate's records: what it writes into the room that is lent. The same without a lent buffer has room for all.
 fn on_rows(records: &[Record], room: usize, index: Option<usize>) -> std::result::Result<String, Refusal> {
     let mut out = vec![7; 65600];
@@ -76,6 +81,9 @@ fn on_rows(records: &[Record], room: usize, index: Option<usize>) -> std::result
         None => (write_rpc_into(records, &mut out[..room]), write_rpc(records)),
         Some(index) => (sign_fields_into(records, index, &mut out[..room]), sign_fields(records, index)),
     };
+    if index.is_none() && all_signed(records) {
+        assert!(records.iter().fold(Rpc::new().allow_unsigned(true), |rpc, record| rpc.push(*record)).write() == whole);
+    }
     match &answer {
         Ok(count) => assert!(whole.is_ok_and(|bytes| bytes == out[..*count]) && out[*count..].iter().all(|byte| *byte == 7)),
         Err(refusal) => {
@@ -131,13 +139,14 @@ fn inspect(kind: u64, content: &[u8], n: u64) -> std::result::Result<String, ()>
     Ok(line)
 }
 
-/// The settings of a record, for a program that keeps at most so many messages.
+/// The settings of a record, for a program that keeps at most so many messages. Behind them may stand flags, 0 or 1.
 fn start(content: &[u8], most: usize) -> std::result::Result<Gateway, Refusal> {
     let settings = Settings {
         ttl: number(&content[..8]),
         max_seen: number(&content[8..10]) as usize,
         history_len: number(&content[10..12]) as usize,
-        max_messages: number(&content[12..]) as usize,
+        max_messages: number(&content[12..14]) as usize,
+        allow_unsigned: number(&content[14..]) == 1,
     };
     if settings.max_messages > most {
         return Err(Refusal::BadSetting);
@@ -244,7 +253,7 @@ struct States {
 impl States {
     fn new() -> States {
         let mut states = States { node: Box::new([0; NODE_SIZE]), seen: vec![0; 33282], cache: vec![0; 266240], lent: [0, 0], made: vec![0; 65600] };
-        if let Ok(fresh) = Gateway::start(Settings { ttl: 0, max_seen: 0, history_len: 1, max_messages: 0 }) {
+        if let Ok(fresh) = Gateway::start(Settings { ttl: 0, max_seen: 0, history_len: 1, max_messages: 0, allow_unsigned: false }) {
             states.save(&fresh);
         }
         states
@@ -322,6 +331,7 @@ impl States {
             19 => (11344 + p % 64, 1),
             20 => (11408 + p % 256 * 2, 2),
             21 => (11920 + p % 256 * 2, 2),
+            22 => (12432, 8),
             _ => (3152 + p % 8192, 1),
         };
         self.node[at..at + len].copy_from_slice(&value.to_le_bytes()[..len]);
@@ -364,6 +374,8 @@ impl States {
                 let (windows, id, topic) = question(content).ok_or(())?;
                 format!("{n} why {}", said(why(&self.gateway(), windows, id, topic), true))
             }
+            21 if content.len() == 16 && number(&content[14..]) > 1 => format!("{n} -"),
+            21 if content.len() == 16 => format!("{n} set {}", said(self.set(content), true)),
             _ => return Err(()),
         };
         Ok(line)
@@ -393,7 +405,7 @@ fn next<'a>(data: &mut &'a [u8], most: u64, largest: u64) -> std::result::Result
 /// Plays a whole input.
 pub fn play(program: &[u8], mut data: &[u8], out: &mut dyn Write) -> Result<()> {
     let most = if program == b"trace" || program == b"why" { 32768 } else { 65600 };
-    let largest = if program == b"why" { 307600 } else { most };
+    let largest = if program == b"why" { 307608 } else { most };
     let mut gateway = None;
     let mut states = States::new();
     for n in 1.. {

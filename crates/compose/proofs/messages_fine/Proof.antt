@@ -13,10 +13,11 @@ use Rattle.compose.proofs.messages_fine.Statement.{statement}
 use Rattle.compose.proofs.messages_fine.Tie as tie
 
 abbrev Inv-loop : tie.InvT-loop
-Inv-loop records bytes n i₀ i = firstUnfit (messagesIn bytes (rowsFrom records i)) ≡ firstUnfit (messagesIn bytes (lentRows records))
+Inv-loop records bytes flags n i₀ i =
+    firstUnfit flags (messagesIn bytes (rowsFrom records i)) ≡ firstUnfit flags (messagesIn bytes (lentRows records))
 
 abbrev μ-loop : tie.MeasureT-loop
-μ-loop records bytes n i₀ i = length records / 20 - i
+μ-loop records bytes flags n i₀ i = length records / 20 - i
 
 loop-holds : tie.Need-loop-holds Inv-loop μ-loop
 loop-holds c = refl
@@ -37,7 +38,7 @@ returns c =
     let p = c .before .before .before .before in
     let q = p .before .before .before .before in
     let a = q .before .before .args in
-    unfit-stop (now (a .records)) (now (a .bytes)) (p .before .before .before .loop .i) (p .before .before .before .loop .inv)
+    unfit-stop (a .flags) (now (a .records)) (now (a .bytes)) (p .before .before .before .loop .i) (p .before .before .before .loop .inv)
     (p .before .before .loop-test .taken) (p .before .is-code .ensures) (p .if1 .taken) (c .before .before .before .weigh .ensures)
     (c .before .fine .given .1)
 
@@ -55,14 +56,14 @@ loop-again c =
     let a = c .before .before .before .before .before .before .args in
     let l = c .before .before .before .loop in
     ⊎-elim
-    (λ w. unfit-on (now (a .records)) (now (a .bytes)) (l .i) (l .inv) (c .before .before .loop-test .taken) (c .before .is-code .ensures) (w .0 .taken) (w .1 .ensures) (w .3 .given .1))
-    (λ w. unfit-skip (now (a .records)) (now (a .bytes)) (l .i) (l .inv) (c .before .before .loop-test .taken) (c .before .is-code .ensures) (w .left))
+    (λ w. unfit-on (a .flags) (now (a .records)) (now (a .bytes)) (l .i) (l .inv) (c .before .before .loop-test .taken) (c .before .is-code .ensures) (w .0 .taken) (w .1 .ensures) (w .3 .given .1))
+    (λ w. unfit-skip (a .flags) (now (a .records)) (now (a .bytes)) (l .i) (l .inv) (c .before .before .loop-test .taken) (c .before .is-code .ensures) (w .left))
     (c .if1 .came)
 
 returns-2 : tie.Need-returns-2 Inv-loop μ-loop
 returns-2 c =
     let a = c .before .before .before .before .args in
-    unfit-end (now (a .records)) (now (a .bytes)) (c .before .loop .i) (c .before .loop .inv) (c .loop-test .left)
+    unfit-end (a .flags) (now (a .records)) (now (a .bytes)) (c .before .loop .i) (c .before .loop .inv) (c .loop-test .left)
 
 pub messages-fine-spec : {M : Type 1} → statement M
 messages-fine-spec =

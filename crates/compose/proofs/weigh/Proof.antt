@@ -21,20 +21,16 @@ seqno-fine-requires c κs =
     message-places (now (a .records)) (now (a .bytes)) (a .i) _ (p .before .pre .0) (p .before .pre .1 .0) (p .before .pre .1 .1)
     (c .before .before .row-at .ensures) .seqno
 
-signature-fine-requires : tie.Need-signature-fine-requires
-signature-fine-requires c κs =
-    let p = c .before .before .before .before in
-    let a = p .before .before .args in
-    message-places (now (a .records)) (now (a .bytes)) (a .i) _ (p .before .before .pre .0) (p .before .before .pre .1 .0)
-    (p .before .before .pre .1 .1) (c .before .before .before .row-at .ensures) .signature
+allows-unsigned-requires : tie.Need-allows-unsigned-requires
+allows-unsigned-requires c κs = search needs
 
-sender-key-fine-requires : tie.Need-sender-key-fine-requires
-sender-key-fine-requires c κs =
+backed-fine-requires : tie.Need-backed-fine-requires
+backed-fine-requires c κs =
     let p = c .before .before .before .before in
-    let a = p .before .before .before .args in
-    let m = message-places (now (a .records)) (now (a .bytes)) (a .i) _ (p .before .before .before .pre .0) (p .before .before .before .pre .1 .0)
-    (p .before .before .before .pre .1 .1) (p .row-at .ensures) in
-    (m .from, m .key)
+    let q = p .before .before .before in
+    let a = q .args in
+    let m = message-places (now (a .records)) (now (a .bytes)) (a .i) _ (q .pre .0) (q .pre .1 .0) (q .pre .1 .1) (p .row-at .ensures) in
+    (m .from, m .signature, m .key)
 
 limits-fine-requires : tie.Need-limits-fine-requires
 limits-fine-requires c κs = search needs
@@ -48,19 +44,14 @@ first-requires-2 c κs = search needs
 first-requires-3 : tie.Need-first-requires-3
 first-requires-3 c κs = search needs
 
-first-requires-4 : tie.Need-first-requires-4
-first-requires-4 c κs = search needs
-
 returns : tie.Need-returns
 returns c =
     let p = c .before .before .before .before in
-    let q = p .before .before .before .before in
-    let u = q .before .before .before .before in
-    let a = u .before .args in
-    weighed-by (now (a .bytes)) _ _ _ _ _ _ _ _ _ _ _ _ (q .before .before .row-at .ensures) (q .from-fine .ensures)
-    (p .before .before .before .seqno-fine .ensures) (p .before .before .signature-fine .ensures) (p .before .sender-key-fine .ensures)
-    (p .limits-fine .ensures) (c .before .before .before .first .ensures) (c .before .before .first2 .ensures) (c .before .first3 .ensures)
-    (c .first4 .ensures)
+    let q = p .before .before .before in
+    let a = q .before .before .before .before .before .args in
+    weighed-by (a .flags) (now (a .bytes)) _ _ _ _ _ _ _ _ _ _ _ (q .before .before .row-at .ensures) (p .before .allows-unsigned .ensures)
+    (q .from-fine .ensures) (p .before .before .seqno-fine .ensures) (p .backed-fine .ensures) (c .before .before .before .limits-fine .ensures)
+    (c .before .before .first .ensures) (c .before .first2 .ensures) (c .first3 .ensures)
 
 pub weigh-spec : {M : Type 1} → statement M
 weigh-spec =
@@ -69,11 +60,10 @@ weigh-spec =
     row-at-requires
     from-fine-requires
     seqno-fine-requires
-    signature-fine-requires
-    sender-key-fine-requires
+    allows-unsigned-requires
+    backed-fine-requires
     limits-fine-requires
     first-requires
     first-requires-2
     first-requires-3
-    first-requires-4
     returns)

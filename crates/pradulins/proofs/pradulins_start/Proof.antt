@@ -11,6 +11,6 @@ pradulins-start-spec =
     (λ c κs. search needs)
     (λ c κs. search needs)
     (λ c κs. search needs)
-    (λ c. start-made _ _ _ _ _ _ _ (c .before .before .before .before .before .before .start .ensures .answer) (c .before .before .before .before .before .told-start .ensures) _ _ (c .before .before .before .before .before .before .start .ensures .node) (c .before .before .before .if1 .taken) (c .store .ensures))
+    (λ c. start-made _ _ _ _ _ _ _ _ (c .before .before .before .before .before .before .start .ensures .answer) (c .before .before .before .before .before .told-start .ensures) _ _ (c .before .before .before .before .before .before .start .ensures .node) (c .before .before .before .if1 .taken) (c .store .ensures))
     (λ c. search needs)
-    (λ c. start-refused _ _ _ _ _ _ _ (c .before .before .before .before .start .ensures .answer) (c .before .before .before .told-start .ensures) (c .before .if1 .left)))
+    (λ c. start-refused _ _ _ _ _ _ _ _ (c .before .before .before .before .start .ensures .answer) (c .before .before .before .told-start .ensures) (c .before .if1 .left)))

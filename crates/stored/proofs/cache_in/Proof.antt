@@ -62,28 +62,35 @@ slots-at-requires c κs = search needs
 slots-at-requires-2 : tie.Need-slots-at-requires-2
 slots-at-requires-2 c κs = search needs
 
+read-word-requires-6 : tie.Need-read-word-requires-6
+read-word-requires-6 c κs =
+    let w = c .before .before .before .before .before .before .before .before .before in
+    let whole = w .before .before .before .before .before .before .before .before .before .before .before .before .pre in search needs
+
 returns : tie.Need-returns
 returns c =
-    let w = c .before .before .before .before .before .before .before .before .before in
+    let q = c .before in
+    let w = q .before .before .before .before .before .before .before .before .before in
     let p = w .before .before in
     let h = p .before .before .before .before in
     let r = h .before .before .before in
     let start = r .before .before .before in
-    cache-read (start .args .s .now) _ _ _ _ _ _ _ _ _ _ _ _ _ _ (start .pre)
+    cache-read (start .args .s .now) _ _ _ _ _ _ _ _ _ _ _ _ _ _ _ (start .pre)
     (w .read-word .ensures)
-    (c .before .before .before .before .before .before .before .before .read-word2 .ensures)
-    (c .before .before .before .before .before .before .before .read-word3 .ensures)
-    (c .before .before .before .before .before .before .read-word4 .ensures)
-    (c .before .before .before .before .before .read-word5 .ensures)
+    (q .before .before .before .before .before .before .before .before .read-word2 .ensures)
+    (q .before .before .before .before .before .before .before .read-word3 .ensures)
+    (q .before .before .before .before .before .before .read-word4 .ensures)
+    (q .before .before .before .before .before .read-word5 .ensures)
     (r .read-words .ensures)
     (h .read-halves .ensures)
-    (c .before .before .before .before .column-at .ensures)
-    (c .before .before .before .column-at2 .ensures)
+    (q .before .before .before .before .column-at .ensures)
+    (q .before .before .before .column-at2 .ensures)
     refl
     (p .put-bytes .ensures .lent)
-    (c .before .before .column-at3 .ensures)
-    (c .before .slots-at .ensures)
-    (c .slots-at2 .ensures)
+    (q .before .before .column-at3 .ensures)
+    (q .before .slots-at .ensures)
+    (q .slots-at2 .ensures)
+    (c .read-word6 .ensures)
 
 pub cache-in-spec : {M : Type 1} → statement M
 cache-in-spec =
@@ -108,4 +115,5 @@ cache-in-spec =
     column-at-requires-3
     slots-at-requires
     slots-at-requires-2
+    read-word-requires-6
     returns)

@@ -43,10 +43,14 @@ write-halves-requires-2 c κs = search needs
 write-halves-requires-3 : tie.Need-write-halves-requires-3
 write-halves-requires-3 c κs = search needs
 
+put-little-requires : tie.Need-put-little-requires
+put-little-requires c κs = search needs
+
 returns : tie.Need-returns
 unfolding headOf
 returns c =
-    let c₁₀ = c .before .before .before .before .before in
+    let c₁₁ = c .before .before in
+    let c₁₀ = c₁₁ .before .before .before .before .before in
     let c₉ = c₁₀ .before .before .before .before .before in
     let c₈ = c₉ .before .before .before .before .before in
     let c₇ = c₈ .before .before .before .before .before in
@@ -59,7 +63,7 @@ returns c =
     let start = c₁ .before .before .before in
     let n = start .args .t1 in
     let g = start .good .0 in
-    node-written n (start .args .out .now) _ _ _ _ _ _ _ _ _ _ _ (c₁ .before .before .write-words-arg .given .0 .1)
+    node-written n (start .args .out .now) _ _ _ _ _ _ _ _ _ _ _ _ (c₁ .before .before .write-words-arg .given .0 .1)
     (length-unmapped ℕ (n .seen .expiry) 256 (g .1 .1 .1 .1 .1 .0 .1 .1 .1 .1 .0 .1 .0 .1))
     (length-unmapped ℕ (n .cache .generation) 64 (g .1 .1 .1 .1 .1 .1 .0 .1 .1 .1 .1 .1 .1 .1 .0 .1 .0 .1))
     (length-unmapped ℕ (n .cache .len) 64 (g .1 .1 .1 .1 .1 .1 .0 .1 .1 .1 .1 .1 .1 .1 .1 .1 .0 .1 .0 .1))
@@ -80,7 +84,8 @@ returns c =
     (c₈ .put-bytes4 .ensures .lent)
     (c₉ .put-bytes5 .ensures .lent)
     (c₁₀ .write-halves2 .ensures)
-    (c .write-halves3 .ensures)
+    (c₁₁ .write-halves3 .ensures)
+    (c .put-little .ensures .lent)
 
 pub store-spec : {M : Type 1} → statement M
 store-spec =
@@ -98,4 +103,5 @@ store-spec =
     put-bytes-requires-5
     write-halves-requires-2
     write-halves-requires-3
+    put-little-requires
     returns)

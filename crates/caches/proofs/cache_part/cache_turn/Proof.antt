@@ -13,6 +13,15 @@ same-length c = search needs
 returns : tie.Need-returns
 returns c = search needs
 
+begin-flagged-requires : tie.Need-begin-flagged-requires
+begin-flagged-requires c κs = search needs
+
+same-length-2 : tie.Need-same-length-2
+same-length-2 c = search needs
+
+returns-2 : tie.Need-returns-2
+returns-2 c = search needs
+
 places-len-requires : tie.Need-places-len-requires
 places-len-requires c κs = search needs
 
@@ -25,20 +34,20 @@ slice-aggregate-call c = prefix _ _ (search needs)
 call-requires : tie.Need-call-requires
 call-requires c κs = search needs
 
-same-length-2 : tie.Need-same-length-2
-same-length-2 c = search needs
-
 same-length-3 : tie.Need-same-length-3
 same-length-3 c = search needs
 
-returns-2 : tie.Need-returns-2
-returns-2 c = search needs
+same-length-4 : tie.Need-same-length-4
+same-length-4 c = search needs
+
+returns-3 : tie.Need-returns-3
+returns-3 c = search needs
 
 bad-requires : tie.Need-bad-requires
 bad-requires c κs = search needs
 
-returns-3 : tie.Need-returns-3
-returns-3 c = search needs
+returns-4 : tie.Need-returns-4
+returns-4 c = search needs
 
 pub cache-turn-spec : {M : Type 1} → statement M
 cache-turn-spec =
@@ -47,12 +56,15 @@ cache-turn-spec =
     begin-requires
     same-length
     returns
+    begin-flagged-requires
+    same-length-2
+    returns-2
     places-len-requires
     slice-relend-prefix-call
     slice-aggregate-call
     call-requires
-    same-length-2
     same-length-3
-    returns-2
+    same-length-4
+    returns-3
     bad-requires
-    returns-3)
+    returns-4)
