@@ -70,9 +70,9 @@ module _ {set : List (List ℕ)} {x y : Settings} (ms : MessageSet (x .flags) se
 -- ---- both ways
 -- gateway a asks for r rounds, then b asks for s rounds; the premises on the two clocks reach over the rounds in which
 -- each asks
-module _ {set : List (List ℕ)} {x y : Settings} {calls-a calls-b : List Call} {a b : State} (ms : MessageSet (x .flags) set)
-    (pa : Premises set x calls-a a) (pb : Premises set y calls-b b)
-    (alike : Alike x y) (p q : Play) (fp : Fair p x y) (fq : Fair q x y) (same : p .topic ≡ q .topic)
+module _ {set : List (List ℕ)} {x y : Settings} {calls-a calls-b : List Call} {a b : State}
+    (ms : MessageSet (x .flags) set) (pa : Premises set x calls-a a) (pb : Premises set y calls-b b) (alike : Alike x y)
+    (p q : Play) (fp : Fair p x y) (fq : Fair q x y) (same : p .topic ≡ q .topic)
     (r : ℕ) (at : ℕ → ℕ → ℕ) (clock-a : Clock x (readings (allAsked set x y calls-a calls-b a b p r at)))
     (s : ℕ) (at2 : ℕ → ℕ → ℕ) where
   -- after the rounds in which a asks
@@ -140,6 +140,6 @@ module _ {set : List (List ℕ)} {x y : Settings} {calls-a calls-b : List Call} 
           a-has-all = a-done;
           b-has-all = b-done;
           identical =
-              identical-bytes ms (second .teller-history) (second .asker-history) alike (p .topic) (fp .topic-short) a-done
-              b-done (p .windows) (q .windows) (fp .windows-x) (fq .windows-y);
+              identical-bytes ms (second .teller-history) (second .asker-history) alike (p .topic) (fp .topic-short)
+              a-done b-done (p .windows) (q .windows) (fp .windows-x) (fq .windows-y);
         }

@@ -119,8 +119,8 @@ pub record RoundDone (set : List (List ℕ)) (x y : Settings) (firstA pastA left
   pub only : (m : List ℕ) → among m (gotAll (x .flags) gotA (askerRound p at a b)) ≡ true → among m gotA ≡ false
       → among m gotB ≡ true
 
-module _ {set : List (List ℕ)} {x y : Settings} (ms : MessageSet (x .flags) set) (alike : Alike x y) {firstA pastA leftA firstB pastB leftB : ℕ}
-    {rsB : List ℕ} {gotA gotB : List (List ℕ)} {a b : State} (p : Play)
+module _ {set : List (List ℕ)} {x y : Settings} (ms : MessageSet (x .flags) set) (alike : Alike x y)
+    {firstA pastA leftA firstB pastB leftB : ℕ} {rsB : List ℕ} {gotA gotB : List (List ℕ)} {a b : State} (p : Play)
     (fair : Fair p x y) (at : ℕ → ℕ) (rs : List ℕ)
     (ha : Holding set x firstA pastA (readings (askerRound p at a b) ++ rs) leftA gotA a)
     (hb : Holding set y firstB pastB rsB leftB gotB b) where
@@ -258,7 +258,8 @@ module _ {set : List (List ℕ)} {x y : Settings} (ms : MessageSet (x .flags) se
   unfolding askerRound tellerRound afterAll after gotAll brought
   round-done =
       record {
-        asker-members = member (member-none (x .flags) set (ask (advertOf p b) (p .request-out 0)) refl) (arrived .members);
+        asker-members =
+            member (member-none (x .flags) set (ask (advertOf p b) (p .request-out 0)) refl) (arrived .members);
         asker-done = done (request-done ha hb p fair) (arrived .none-refused);
         teller-members =
             member (member-none (y .flags) set (advertise (p .topic) (p .windows) (p .advert-out 0)) refl)

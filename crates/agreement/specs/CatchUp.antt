@@ -82,8 +82,8 @@ nil-left : (p : Play) (a b : State) → length (lacked (p .topic) (afterAll [] a
 unfolding afterAll
 nil-left p a b = omega arith
 
-rounds-done : {set : List (List ℕ)} {x y : Settings} (ms : MessageSet (x .flags) set) (alike : Alike x y) {firstA pastA leftA firstB pastB leftB : ℕ}
-    {rsB : List ℕ} {gotA gotB : List (List ℕ)} (p : Play) → Fair p x y
+rounds-done : {set : List (List ℕ)} {x y : Settings} (ms : MessageSet (x .flags) set) (alike : Alike x y)
+    {firstA pastA leftA firstB pastB leftB : ℕ} {rsB : List ℕ} {gotA gotB : List (List ℕ)} (p : Play) → Fair p x y
     → (r : ℕ) (at : ℕ → ℕ → ℕ) (rs : List ℕ) {a b : State}
     → Holding set x firstA pastA (readings (askerRounds p r at a b) ++ rs) leftA gotA a
     → Holding set y firstB pastB rsB leftB gotB b → RoundsDone x y set gotA gotB p r at a b
@@ -153,9 +153,9 @@ module _ (set : List (List ℕ)) (x y : Settings) (calls-a calls-b : List Call) 
         → among m (gotAll (x .flags) [] calls-a) ≡ false → among m (gotAll (y .flags) [] calls-b) ≡ true
 
 -- the premise on the asker's clock reaches over the rounds
-module _ {set : List (List ℕ)} {x y : Settings} {calls-a calls-b : List Call} {a b : State} (ms : MessageSet (x .flags) set)
-    (pa : Premises set x calls-a a) (pb : Premises set y calls-b b)
-    (alike : Alike x y) (p : Play) (fair : Fair p x y) (r : ℕ) (at : ℕ → ℕ → ℕ)
+module _ {set : List (List ℕ)} {x y : Settings} {calls-a calls-b : List Call} {a b : State}
+    (ms : MessageSet (x .flags) set) (pa : Premises set x calls-a a) (pb : Premises set y calls-b b) (alike : Alike x y)
+    (p : Play) (fair : Fair p x y) (r : ℕ) (at : ℕ → ℕ → ℕ)
     (clock : Clock x (readings (allAsked set x y calls-a calls-b a b p r at))) where
   abbrev askers : List Call
   askers = askerRounds p r at (afterAll calls-a a) (afterAll calls-b b)

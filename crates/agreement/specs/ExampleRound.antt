@@ -76,7 +76,8 @@ gateway-b =
       max-messages = 4;
       flags = 0;
       clock = 11;
-      seen = record { id = marked true second-id; expiry = 57 } ∷ record { id = marked true first-id; expiry = 58 } ∷ [];
+      seen = record { id = marked true second-id; expiry = 57 }
+          ∷ record { id = marked true first-id; expiry = 58 } ∷ [];
       cache = record { id = second-id; message = second; window = 1 }
           ∷ record { id = first-id; message = first; window = 1 } ∷ [];
     }
@@ -256,7 +257,8 @@ gateway-a-then =
       max-messages = 2;
       flags = 0;
       clock = 20;
-      seen = record { id = marked true first-id; expiry = 110 } ∷ record { id = marked true second-id; expiry = 120 } ∷ [];
+      seen = record { id = marked true first-id; expiry = 110 }
+          ∷ record { id = marked true second-id; expiry = 120 } ∷ [];
       cache = record { id = first-id; message = first; window = 0 }
           ∷ record { id = second-id; message = second; window = 0 } ∷ [];
     }

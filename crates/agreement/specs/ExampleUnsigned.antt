@@ -1,6 +1,6 @@
--- An example with unsigned messages: two gateways that allow them, two messages without a signature, of which the second
--- does not come to the first gateway, and histories that meet every premise. The host's word is not asked for; and one
--- round brings the second message.
+-- An example with unsigned messages: two gateways that allow them, two messages without a signature, of which the
+-- second is lost on its way to the first gateway, and histories that meet every premise, one of them without the host's
+-- word. One round brings the second message.
 use Prim.Native.Nat.{ℕ, _<_}
 use mathlib.Core.Path.{_≡_, refl, sym, ap, ap₂, subst, _∙_}
 use mathlib.Core.Bool.{true, false}
@@ -46,8 +46,8 @@ use Rattle.agreement.specs.Once.{new-exactly-once}
 use Rattle.agreement.specs.Played.{one-round as one-asked}
 use Rattle.agreement.specs.CatchUp.{allAsked, allTold, CaughtUp, caught-up, all-arrived}
 use Rattle.agreement.specs.Script.{inSet, script-members}
-use Rattle.agreement.specs.Example.{topic, first-sender, upto-bytes, two-set, two-in, start, start-fresh, clock-by}
-use Rattle.agreement.specs.Example.{buffer, play, fair-for}
+use Rattle.agreement.specs.Example.{topic, first-sender, upto-bytes, two-set, two-in, start, start-fresh}
+use Rattle.agreement.specs.Example.{clock-by, buffer, play, fair-for}
 
 -- ---- the messages: a sender, a seqno, the topic `t`, and no signature
 unfoldable pub unsigned : ℕ → List ℕ

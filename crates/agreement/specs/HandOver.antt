@@ -1,5 +1,5 @@
--- A round's request, of node a that is given the advertisement of node b: it is taken and names exactly those of the ids
--- that b tells of and a does not hold, each once; and b has every message that is asked for.
+-- A round's request, of node a that is given the advertisement of node b: it is taken and names exactly those of the
+-- ids that b tells of and a does not hold, each once; and b has every message that is asked for.
 use Prim.Native.Nat.{ℕ, suc, _+_, _≤_}
 use mathlib.Core.Path.{_≡_, refl, sym, ap, subst, _∙_}
 use mathlib.Core.Bool.{true, false, not}

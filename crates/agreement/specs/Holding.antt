@@ -36,8 +36,8 @@ use Rattle.history.specs.History.{State, gatewayOf, Settings, Fresh, Call, admi
 use Rattle.history.specs.History.{planIn, after, afterAll, reading, readings, firstOf, beat, beats, refusalAt}
 use Rattle.history.specs.History.{explain, brought, answerIn}
 use Rattle.history.specs.Laws.{node-clock, startedBy, Kept, after-keeps, fresh-keeps, fresh-starts, fresh-clock}
-use Rattle.history.specs.Laws.{admit-none, taken-number, admit-leaves, admit-clock, beat-leaves, beat-clock, brings-that}
-use Rattle.history.specs.Laws.{brought-plan, unbrought-plan}
+use Rattle.history.specs.Laws.{admit-none, taken-number, admit-leaves, admit-clock, beat-leaves, beat-clock}
+use Rattle.history.specs.Laws.{brings-that, brought-plan, unbrought-plan}
 use Rattle.agreement.specs.Premises.{MessageSet, MemberAt, Members, member, Clock, Premises}
 use Rattle.agreement.specs.Rows.{Rows, none as no-rows, rows-snoc, rows-lengths, rows-live, rows-shift, rows-held}
 
@@ -340,7 +340,8 @@ module _ {set : List (List ℕ)} {x : Settings} {first past : ℕ} {got : List (
     admit-held =
         let a = holds-new (h .held) at (admit-reads .lasting) ms (admit-reads .later) m id inside own in
         let b = is-new (s .node) (s .ids) (s .messages) (h .kept .fine) at m id in
-        sym (Bool·not-not (heldAt (s .node) (s .ids) at (formOf m id))) ∙ ap not (sym b ∙ a) ∙ Bool·not-not (among m got)
+        sym (Bool·not-not (heldAt (s .node) (s .ids) at (formOf m id))) ∙ ap not (sym b ∙ a)
+        ∙ Bool·not-not (among m got)
 
     -- ---- a message of the set that comes in is answered duplicate where it was got before, and else new
     pub admit-answers : answerIn s body i word at ≡ cond (among m got) answer.Duplicate answer.New
@@ -436,8 +437,8 @@ unfoldable pub pastAll : ℕ → List Call → ℕ
 pastAll past [] = past
 pastAll past (c ∷ cs) = pastAll (pastNext past c) cs
 
-module _ {set : List (List ℕ)} {x : Settings} {first past : ℕ} {got : List (List ℕ)} {s : State} (ms : MessageSet (x .flags) set)
-    (rs : List ℕ) (left : ℕ) where
+module _ {set : List (List ℕ)} {x : Settings} {first past : ℕ} {got : List (List ℕ)} {s : State}
+    (ms : MessageSet (x .flags) set) (rs : List ℕ) (left : ℕ) where
   -- with readings and heartbeats that come after it
   pub holding-next : (c : Call) → Holding set x first past (reading c ++ rs) (beat c + left) got s
       → MemberAt (x .flags) set c → Holding set x first (pastNext past c) rs left (gotNext (x .flags) got c) (after c s)

@@ -54,8 +54,8 @@ use Rattle.node.specs.State.{gatewayIn, risesFrom}
 use Rattle.node.specs.Calls.{onLent, lentOf, planned, no, admitAnswer, beatAnswer, advertiseBytes, advertiseAnswer}
 use Rattle.node.specs.Calls.{askBytes, askAnswer}
 use Rattle.node.specs.Calls.{roomOf, servedOf, replyTo, serveNumber}
-use Rattle.history.specs.History.{State, gatewayOf, Settings, Fresh, Call, admit, heartbeat, advertise, ask, serve, planIn}
-use Rattle.history.specs.History.{explain, after, afterAll, refusalAt, brought, brings, isNew as newAnswer, times}
+use Rattle.history.specs.History.{State, gatewayOf, Settings, Fresh, Call, admit, heartbeat, advertise, ask, serve}
+use Rattle.history.specs.History.{explain, planIn, after, afterAll, refusalAt, brought, brings, isNew as newAnswer, times}
 use Rattle.history.specs.History.{timesNew}
 use Rattle.history.specs.Laws.{after-append, startedBy, history-keeps, fresh-starts, refused-stays, after-flags}
 use Rattle.history.specs.Laws.{history-flags, brings-exactly}
@@ -110,7 +110,8 @@ needs-members = (refl, refl, needs-set-seen)
 
 -- ---- readings are less than ttl after the first
 -- at ttl after the first reading its id is cleaned up, and the message is new again
-pub needs-within-ttl : NewTwice 1 101 (started 100 4 2 4 0) (with 1 1 (started 100 4 2 4 0))
+pub needs-within-ttl : NewTwice 1 101 (started 100 4 2 4 0)
+    (with 1 1 (started 100 4 2 4 0))
 unfolding signature isSigned slotsOf withField setPlace roleOf walkAt walkFrom readField readValue skipField skipFixed
     readVarint readLen readTag readUvarint readFrom groupOf started isNew afterAdmit holds among sameBytes live inserted
     newest until held put
@@ -118,7 +119,8 @@ needs-within-ttl = record { first = refl; again = refl }
 
 -- ---- readings are below 2^64 - 1
 -- an expiry stops at 2^64 - 1, which is at most that reading: the message is new again at once
-pub needs-below-last : NewTwice (2 ^ 64 - 1) (2 ^ 64 - 1) (started 100 4 2 4 0) (with (2 ^ 64 - 1) 1 (started 100 4 2 4 0))
+pub needs-below-last : NewTwice (2 ^ 64 - 1) (2 ^ 64 - 1) (started 100 4 2 4 0)
+    (with (2 ^ 64 - 1) 1 (started 100 4 2 4 0))
 unfolding signature isSigned slotsOf withField setPlace roleOf walkAt walkFrom readField readValue skipField skipFixed
     readVarint readLen readTag readUvarint readFrom groupOf started isNew afterAdmit holds among sameBytes live inserted
     newest until held put
@@ -265,6 +267,8 @@ needs-peer-id flags =
 -- message, asks for it and is served it; the admit is refused by 25 and leaves it as it was. So it lacks it after any
 -- number of rounds.
 pub record NeverArrives (p : Play) (m id : List ℕ) (a b : State) : Type 0 where
+  pub off : allowsUnsigned (gatewayOf a .flags) ≡ false
+  pub on : allowsUnsigned (gatewayOf b .flags) ≡ true
   pub asks : lacking (gatewayOf a) (toldOf (p .topic) (p .windows) (gatewayOf b)) ≡ id ∷ []
   pub served : replyOf p a b ≡ bytesField 2 m
   pub refused : (at : ℕ) → refusalAt a (admit (replyOf p a b) 0 true at) ≡ 25
@@ -313,15 +317,19 @@ body-written : bytesField 2 (unsigned 1) ≡ unsignedBody 1
 unfolding unsigned unsignedBody bytesField tag uvarint bytesOf
 body-written = refl
 
-off : allowsUnsigned 0 ≡ false
+zero-off : allowsUnsigned 0 ≡ false
 unfolding allowsUnsigned
-off = refl
+zero-off = refl
+
+one-on : allowsUnsigned 1 ≡ true
+unfolding allowsUnsigned
+one-on = refl
 
 asker-refuses : (at : ℕ) → refusalAt asker (admit (bytesField 2 (unsigned 1)) 0 true at) ≡ 25
 unfolding afterAll
 asker-refuses at =
     ap (λ (body : List ℕ). refusalAt asker (admit body 0 true at)) body-written
-    ∙ needs-admissible 0 off .refused fresh-a refl [] at
+    ∙ needs-admissible 0 zero-off .refused fresh-a refl [] at
 
 mixed-fair : Fair play settings-a open-settings
 mixed-fair = fair-for settings-a open-settings (omega arith) (omega arith)
@@ -358,21 +366,25 @@ all-stay (suc r) p fair t w at =
     ∙ ap₂ (λ (s b : State). afterAll (next s b) s) (one-stays p fair t w (at 0)) (told-stays p)
     ∙ all-stay r (onward p) (fair-onward fair) t w (λ k. at (suc k))
 
+ever-stays : (r : ℕ) (at : ℕ → ℕ → ℕ) → afterAll (askerRounds play r at asker at-a) asker ≡ asker
+ever-stays r at = all-stay r play mixed-fair refl refl at
+
+served-it : replyOf play asker at-a ≡ bytesField 2 (unsigned 1)
+served-it =
+    one-replied holding-asker holding-a play mixed-fair (unsigned 1) (idOf 1) (asked-for play mixed-fair refl refl)
+    (has-it play mixed-fair refl refl)
+
 pub needs-alike : NeverArrives play (unsigned 1) (idOf 1) asker at-a
 needs-alike =
     record {
+      off = ap allowsUnsigned (holding-asker .held .flags) ∙ zero-off;
+      on = ap allowsUnsigned (holding-a .held .flags) ∙ one-on;
       asks = asked-for play mixed-fair refl refl;
-      served = one-replied holding-asker holding-a play mixed-fair (unsigned 1) (idOf 1)
-          (asked-for play mixed-fair refl refl) (has-it play mixed-fair refl refl);
-      refused = λ at.
-          ap (λ (body : List ℕ). refusalAt asker (admit body 0 true at))
-          (one-replied holding-asker holding-a play mixed-fair (unsigned 1) (idOf 1)
-          (asked-for play mixed-fair refl refl) (has-it play mixed-fair refl refl))
-          ∙ asker-refuses at;
-      stays = λ r at. all-stay r play mixed-fair refl refl at;
+      served = served-it;
+      refused = λ at. ap (λ (body : List ℕ). refusalAt asker (admit body 0 true at)) served-it ∙ asker-refuses at;
+      stays = ever-stays;
       lacks = λ r at.
-          ap₂ (λ (s b : State). lacked topic s b) (all-stay r play mixed-fair refl refl at)
-          (teller-stays play r at asker at-a)
+          ap₂ (λ (s b : State). lacked topic s b) (ever-stays r at) (teller-stays play r at asker at-a)
           ∙ asker-lacks;
     }
 
@@ -418,7 +430,8 @@ needs-windows = record { lacks = refl; asks = refl }
 
 -- ---- no other call from an advertisement to the ask given it
 -- the teller gets a message after it told: it is lacking, and not asked for
-pub needs-undisturbed : Untold (toldOf topic 2 (started 100 4 2 4 0)) (started 100 4 2 4 0) (with 1 1 (started 100 4 2 4 0))
+pub needs-undisturbed : Untold (toldOf topic 2 (started 100 4 2 4 0)) (started 100 4 2 4 0)
+    (with 1 1 (started 100 4 2 4 0))
 unfolding signature isSigned slotsOf withField setPlace roleOf walkAt walkFrom readField readValue skipField skipFixed
     readVarint readLen readTag readUvarint readFrom groupOf started isNew afterAdmit holds among sameBytes live inserted
     newest until held put missing knows allowsUnsigned lacking gossipIds inOrder enterId carrying topicsOf

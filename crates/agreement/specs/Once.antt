@@ -102,8 +102,9 @@ module _ {set : List (List ℕ)} {x : Settings} (ms : MessageSet (x .flags) set)
   module _ {first past : ℕ} {got : List (List ℕ)} {s : State} where
     admit-one : {rs : List ℕ} {left : ℕ} (body : List ℕ) (i : ℕ) (word : Bool) (at : ℕ)
         → Holding set x first past (at ∷ rs) left got s → MemberAt (x .flags) set (admit body i word at)
-        → One (cond (brings (x .flags) m (admit body i word at)) 1 0) (countAt isNew (x .flags) m s (admit body i word at))
-        (countAt isDuplicate (x .flags) m s (admit body i word at)) (among m got) (among m (gotNext (x .flags) got (admit body i word at)))
+        → One (cond (brings (x .flags) m (admit body i word at)) 1 0)
+        (countAt isNew (x .flags) m s (admit body i word at)) (countAt isDuplicate (x .flags) m s (admit body i word at))
+        (among m got) (among m (gotNext (x .flags) got (admit body i word at)))
     admit-one body i word at h inside =
         let c = admit body i word at in
         either (brings (x .flags) m c)
@@ -116,8 +117,8 @@ module _ {set : List (List ℕ)} {x : Settings} (ms : MessageSet (x .flags) set)
 
     call-one : (rs : List ℕ) (left : ℕ) (c : Call)
         → Holding set x first past (reading c ++ rs) (beat c + left) got s → MemberAt (x .flags) set c
-        → One (cond (brings (x .flags) m c) 1 0) (countAt isNew (x .flags) m s c) (countAt isDuplicate (x .flags) m s c) (among m got)
-        (among m (gotNext (x .flags) got c))
+        → One (cond (brings (x .flags) m c) 1 0) (countAt isNew (x .flags) m s c) (countAt isDuplicate (x .flags) m s c)
+        (among m got) (among m (gotNext (x .flags) got c))
     unfolding brought
     call-one rs left (admit body i word at) h inside = admit-one body i word at h inside
     call-one rs left (heartbeat at) h inside = not-this refl refl refl refl
@@ -128,7 +129,8 @@ module _ {set : List (List ℕ)} {x : Settings} (ms : MessageSet (x .flags) set)
 
   some-calls : {first past : ℕ} {got : List (List ℕ)} {s : State} (calls : List Call)
       → Holding set x first past (readings calls) (beats calls) got s → Members (x .flags) set calls
-      → Some (timesGot (x .flags) m calls) (timesNew (x .flags) m calls s) (timesDuplicate (x .flags) m calls s) (among m got)
+      → Some (timesGot (x .flags) m calls) (timesNew (x .flags) m calls s) (timesDuplicate (x .flags) m calls s)
+      (among m got)
   unfolding timesGot times readings beats
   some-calls [] h ins =
       record { answered = refl; never = λ t. refl; once = λ t l. absurd (omega arith) }
@@ -140,7 +142,8 @@ module _ {set : List (List ℕ)} {x : Settings} (ms : MessageSet (x .flags) set)
 module _ {set : List (List ℕ)} {x : Settings} {calls : List Call} {s : State} (ms : MessageSet (x .flags) set)
     (p : Premises set x calls s) (m : List ℕ) where
   -- a message got is answered new or duplicate, each time
-  pub new-or-duplicate : timesGot (x .flags) m calls ≡ timesNew (x .flags) m calls s + timesDuplicate (x .flags) m calls s
+  pub new-or-duplicate : timesGot (x .flags) m calls
+      ≡ timesNew (x .flags) m calls s + timesDuplicate (x .flags) m calls s
   new-or-duplicate = some-calls ms m calls (holding-start p) (p .members) .answered
 
   -- one that is got at least once is answered new exactly once, and duplicate the other times
@@ -174,8 +177,8 @@ module _ {set : List (List ℕ)} {x : Settings} {s : State} (ms : MessageSet (x 
   abbrev calls : List Call
   calls = before ++ (admit body i word at ∷ rest)
 
-  at-admit : Holding set x (firstOf calls) (pastAll 0 before) (at ∷ readings rest) (beats rest) (gotAll (x .flags) [] before)
-      (afterAll before s)
+  at-admit : Holding set x (firstOf calls) (pastAll 0 before) (at ∷ readings rest) (beats rest)
+      (gotAll (x .flags) [] before) (afterAll before s)
   unfolding readings beats
   at-admit =
       let e = readings-append before (admit body i word at ∷ rest) in

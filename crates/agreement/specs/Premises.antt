@@ -19,8 +19,7 @@ pub record MessageSet (flags : ℕ) (set : List (List ℕ)) : Type 0 where
   pub ids-differ : (m k id : List ℕ) → among m set ≡ true → among k set ≡ true → givesId flags m id ≡ true
       → givesId flags k id ≡ true → m ≡ k
 
--- ---- admitting set members only; where the body is refused or the message not vouched for, the
--- node gets nothing
+-- ---- admitting set members only; where the body is refused or the message is not vouched for, the node gets nothing
 abbrev pub MemberAt : ℕ → List (List ℕ) → Call → Type 0
 MemberAt flags set c = (m : List ℕ) → brings flags m c ≡ true → among m set ≡ true
 

@@ -46,8 +46,8 @@ pub rows-under : {flags other least most : ℕ} {ms : List (List ℕ)} {es : Lis
     → Rows flags least most ms es cs → Rows other least most ms es cs
 rows-under {least = least} {most = most} {ms} {es} {cs} e rs = subst (λ (f : ℕ). Rows f least most ms es cs) e rs
 
-pub rows-lengths : {flags least most : ℕ} {ms : List (List ℕ)} {es : List Entry} {cs : List Cached} → Rows flags least most ms es cs
-    → (length es ≡ length ms) × (length cs ≡ length ms)
+pub rows-lengths : {flags least most : ℕ} {ms : List (List ℕ)} {es : List Entry} {cs : List Cached}
+    → Rows flags least most ms es cs → (length es ≡ length ms) × (length cs ≡ length ms)
 rows-lengths none = (refl, refl)
 rows-lengths (row x rs) = let l = rows-lengths rs in (ap suc (l .0), ap suc (l .1))
 

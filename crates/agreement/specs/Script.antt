@@ -24,7 +24,10 @@ script-members flags set nothing h = none-left
 script-members flags set (got clock at {body} {m} {xs} c up w) h =
     let b = both (among m set) (inSet set xs) h in
     member
-    (member-some flags set (admit body 0 true at) m (carried-brought flags body 0 at m (c .accepted) (c .placed)) (b .0))
+    (member-some flags set (admit body 0 true at) m (carried-brought flags body 0 at m (c .accepted) (c .placed))
+    (b .0))
     (script-members flags set w (b .1))
-script-members flags set (beaten clock at up w) h = member (member-none flags set (heartbeat at) refl) (script-members flags set w h)
-script-members flags set (asked {body} {out} w) h = member (member-none flags set (ask body out) refl) (script-members flags set w h)
+script-members flags set (beaten clock at up w) h =
+    member (member-none flags set (heartbeat at) refl) (script-members flags set w h)
+script-members flags set (asked {body} {out} w) h =
+    member (member-none flags set (ask body out) refl) (script-members flags set w h)

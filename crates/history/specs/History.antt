@@ -175,9 +175,9 @@ pub record Placed (s : List ℕ) (i : ℕ) (m : List ℕ) : Type 0 where
   pub found : messageAt s i ≡ At start next
   pub bytes : between s start next ≡ m
 
--- ---- what comes in, by the call and the flags alone and whatever the node does with it: an admit brings the message at
--- its index. If the body is refused, the node gets nothing by it; nor if the host's word is not given, unless the message
--- has no signature and the flags allow that.
+-- ---- what comes in, by the call and the flags alone and whatever the node does with it: an admit brings the message
+-- at its index. If the body is refused, the node gets nothing by it; nor if the host's word is not given, unless the
+-- message has no signature and the flags allow that.
 abbrev pub standing : ℕ → Bool → List ℕ → MessageAt → Option (List ℕ)
 standing flags word body (At a e) = cond (vouched flags (between body a e) word) (some (between body a e)) none
 standing flags word body (Count n) = none

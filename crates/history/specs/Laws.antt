@@ -182,7 +182,8 @@ plan-stays : (s : State) (at : ℕ) (p : Plan) → (admitNumber (admitAnswer (s 
       messages = admitCache (s .node) (s .ids) (s .messages) at p;
     } ≡ s
 plan-stays s at (no r) h = refl
-plan-stays s at (taken m id) h = absurd (h (either (heldAt (s .node) (s .ids) at (formOf m id)) (λ t. simp t) (λ t. simp t)))
+plan-stays s at (taken m id) h =
+    absurd (h (either (heldAt (s .node) (s .ids) at (formOf m id)) (λ t. simp t) (λ t. simp t)))
 
 beat-stays : (s : State) (at : ℕ) (r : Beat) → beatAnswer (s .node) (s .ids) (s .messages) at ≡ r
     → (beatNumber r ≡ 0 → ⊥) → beatNode (s .node) (s .ids) (s .messages) at ≡ s .node

@@ -1,6 +1,6 @@
 -- To be believed: History (calls, the states that they leave, readings, refusals, what was written, what comes in, what
 -- is new), Script (calls written out beside the messages that they carry), Answers (what calls answer, in their order).
--- Theorems: Laws, Off (with no unsigned message allowed, what comes in is what came in before), ScriptLaws, Arrival.
+-- Theorems: Laws, Off, ScriptLaws, Arrival.
 pub mod History
 pub mod Laws
 pub mod Off

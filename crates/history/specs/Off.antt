@@ -48,8 +48,8 @@ module _ (flags : ℕ) (off : allowsUnsigned flags ≡ false) where
   pub brought-off : (c : Call) → brought flags c ≡ broughtWas c
   unfolding brought broughtWas
   brought-off (admit body i word at) =
-      accepted-off word (acceptOf body) (standing flags word body (messageAt body i)) (standingWas body (messageAt body i))
-      (standing-off word body (messageAt body i))
+      accepted-off word (acceptOf body) (standing flags word body (messageAt body i))
+      (standingWas body (messageAt body i)) (standing-off word body (messageAt body i))
   brought-off (heartbeat at) = refl
   brought-off (advertise topic windows out) = refl
   brought-off (ask body out) = refl
