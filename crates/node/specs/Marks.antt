@@ -3,7 +3,7 @@
 use Prim.Native.Nat.{ℕ, zero, suc, _-_, _≤_}
 use mathlib.Core.Path.{_≡_, refl, sym, ap, _∙_}
 use mathlib.Core.List.{List, [], _∷_, _++_, map-append}
-use mathlib.Core.Bool.{Bool, true, false, not, _&&_, _||_}
+use mathlib.Core.Bool.{Bool, true, false, not, _||_}
 use native.Mathlib.Omega.{arith}
 use lib.ListN.{length, drop, drop-of-length-le}
 use lib.Dec.{leb}
@@ -16,13 +16,14 @@ use Rattle.admission.specs.Flags.{allowsUnsigned}
 use Rattle.admission.specs.Admission.{isSigned}
 use Rattle.seen.specs.Entries.{Entry, idsOf, holds, until, inserted, live}
 use Rattle.mcache.specs.Messages.{held, put}
+use Rattle.mcache.specs.State.{cachedIn}
 use Rattle.node.specs.declared.Node.{Node}
 use Rattle.node.specs.declared.Admit.the-variants as admit
 use Rattle.node.specs.Gateway.{Gateway, marked, formOf, isNew, afterAdmit, knows, having}
 use Rattle.node.specs.State.{gatewayIn}
-use Rattle.node.specs.Calls.{taken, planned, admitAnswer, admitNode, admitSeen, admitCache}
+use Rattle.node.specs.Calls.{taken, planned, admitAnswer, admitNode, admitSeen, admitCache, cachedOf}
 use Rattle.node.specs.WellFormed.{Typed}
-use Rattle.node.specs.Laws.{plan-takes, admit-says, admit-gateway}
+use Rattle.node.specs.Laws.{plan-takes, admit-says, admit-gateway, cached-gateway}
 use Rattle.node.specs.Readers.{new-is-served}
 use Rattle.node.specs.WrapLaws.{admit-typed}
 
@@ -149,6 +150,29 @@ pub first-served : (at later : ℕ) (u m id : List ℕ) (g : Gateway) → (g .ma
 first-served at later u m id g some h new =
     let s = new-is-served at u id g new some h in
     kept-first later m id (afterAdmit at u id g) (served-held id u (afterAdmit at u id g) s) ∙ s
+
+-- the same of the calls: after both admits a serve of the id finds u
+module _ (n : Node) (ss cs body : List ℕ) (i : ℕ) (word : Bool) (at : ℕ) (u id : List ℕ) (typed : Typed n)
+    (plan : planned n ss cs body i word at ≡ taken u id) where
+  pub first-told : (body2 : List ℕ) (j : ℕ) (word2 : Bool) (later : ℕ) (m : List ℕ)
+      → let n2 = admitNode n ss at (planned n ss cs body i word at) in
+      let s2 = admitSeen n ss at (planned n ss cs body i word at) in
+      let c2 = admitCache n ss cs at (planned n ss cs body i word at) in
+      let plan2 = planned n2 s2 c2 body2 j word2 later in
+      plan2 ≡ taken m id → (n .cache .«max_messages» ≡ 0 → ⊥) → held id (cachedIn (n .cache) cs) ≡ false
+      → isNew at u id (gatewayIn n ss cs) ≡ true
+      → cachedOf (admitNode n2 s2 later plan2 .cache) (admitCache n2 s2 c2 later plan2) (id ∷ []) ≡ u ∷ []
+  unfolding gatewayIn
+  first-told body2 j word2 later m plan2 some h new =
+      let n2 = admitNode n ss at (planned n ss cs body i word at) in
+      let s2 = admitSeen n ss at (planned n ss cs body i word at) in
+      let c2 = admitCache n ss cs at (planned n ss cs body i word at) in
+      let p2 = planned n2 s2 c2 body2 j word2 later in
+      cached-gateway (admitNode n2 s2 later p2) (admitSeen n2 s2 later p2) (admitCache n2 s2 c2 later p2) (id ∷ [])
+      ∙ ap (λ (g : Gateway). having g (id ∷ []))
+      (admit-gateway n2 s2 c2 body2 j word2 later m id (admit-typed n ss cs typed body i word at) plan2
+      ∙ ap (afterAdmit later m id) (admit-gateway n ss cs body i word at u id typed plan))
+      ∙ first-served at later u m id (gatewayIn n ss cs) some h new
 
 -- ---- which ids ask counts as held
 -- with the flag off those of signed messages, whatever else is in the store
