@@ -14,6 +14,17 @@ ghost use Rattle.basis.specs.Told.{told, placed};
 ghost use Rattle.basis.specs.Spot.{at};
 ghost use Rattle.basis.specs.Unique.{Leaves};
 
+// The editions of gossipsub: 1.1, and 1.2, whose controls also hold IDONTWANTs.
+pub enum Edition {
+    V11,
+    V12,
+}
+
+// How a body is read.
+pub struct Dialect {
+    pub edition: Edition,
+}
+
 // Where in a body a refusal stands: how many bytes after the body's start, and the numbers of the fields that enclose it, the outermost first, 0
 // for none. Or that it is no refusal of a body's bytes.
 pub enum Spot {

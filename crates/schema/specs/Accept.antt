@@ -5,6 +5,7 @@ use mathlib.Core.List.{List}
 use mathlib.Core.Bool.{cond}
 use lib.ListN.{length}
 use lib.Dec.{ltb}
+use Rattle.basis.specs.declared.Dialect.{Dialect}
 use Rattle.basis.specs.declared.Spot.{Spot}
 use Rattle.protobuf.specs.declared.WireError.the-variants.{TooLarge, TooManyRecords}
 use Rattle.protobuf.specs.Refusal.{nowhere}
@@ -23,13 +24,13 @@ few spot (count.Refused why) = Refused (record { why = why; spot = spot })
 few spot (count.Records n) = cond (ltb 512 n) (Refused (nowhere (TooManyRecords n))) (Records n)
 
 -- how many records a body has, or why it is refused, and where
-unfoldable pub bodyRecords : List ℕ → Tested
-bodyRecords s = cond (ltb 65536 (length s)) (Refused (nowhere (TooLarge (length s))))
-    (few (spotIn kind.Rpc s) (counted kind.Rpc s))
+unfoldable pub bodyRecords : Dialect → List ℕ → Tested
+bodyRecords d s = cond (ltb 65536 (length s)) (Refused (nowhere (TooLarge (length s))))
+    (few (spotIn (kind.Rpc d) s) (counted (kind.Rpc d) s))
 
 abbrev pub checked : Tested → Checked
 checked (Refused r) = Wrong r
 checked (Records n) = Fine
 
-unfoldable pub acceptOf : List ℕ → Checked
-acceptOf s = checked (bodyRecords s)
+unfoldable pub acceptOf : Dialect → List ℕ → Checked
+acceptOf d s = checked (bodyRecords d s)

@@ -6,6 +6,7 @@ use mathlib.Core.List.{List}
 use lib.ListN.{length}
 use lib.Dec.{ltb}
 use borrow.Author.Tests.{ltb-true, ltb-false, le-ltb, lt-ltb}
+use Rattle.basis.specs.declared.Dialect.{Dialect}
 use Rattle.basis.specs.Cases.{either, clash}
 use Rattle.protobuf.specs.declared.WireError.{WireError}
 use Rattle.protobuf.specs.declared.WireError.the-variants.{TooLarge, TooManyRecords}
@@ -20,70 +21,70 @@ use Rattle.schema.specs.Count.{counted}
 use Rattle.schema.specs.Spots.{spotIn}
 use Rattle.schema.specs.Accept.{few, bodyRecords, checked, acceptOf}
 
-pub data Gate (s : List ℕ) : Tested → Type 0 where
-  large : 65536 < length s → Gate s (Refused (nowhere (TooLarge (length s))))
-  bad : length s ≤ 65536 → (why : WireError) → counted kind.Rpc s ≡ count.Refused why
-      → Gate s (Refused (record { why = why; spot = spotIn kind.Rpc s }))
-  many : length s ≤ 65536 → (n : ℕ) → counted kind.Rpc s ≡ count.Records n → 512 < n
-      → Gate s (Refused (nowhere (TooManyRecords n)))
-  passes : length s ≤ 65536 → (n : ℕ) → counted kind.Rpc s ≡ count.Records n → n ≤ 512 → Gate s (Records n)
+pub data Gate (d : Dialect) (s : List ℕ) : Tested → Type 0 where
+  large : 65536 < length s → Gate d s (Refused (nowhere (TooLarge (length s))))
+  bad : length s ≤ 65536 → (why : WireError) → counted (kind.Rpc d) s ≡ count.Refused why
+      → Gate d s (Refused (record { why = why; spot = spotIn (kind.Rpc d) s }))
+  many : length s ≤ 65536 → (n : ℕ) → counted (kind.Rpc d) s ≡ count.Records n → 512 < n
+      → Gate d s (Refused (nowhere (TooManyRecords n)))
+  passes : length s ≤ 65536 → (n : ℕ) → counted (kind.Rpc d) s ≡ count.Records n → n ≤ 512 → Gate d s (Records n)
 
-of-counted : (s : List ℕ) (r : Counted) → length s ≤ 65536 → counted kind.Rpc s ≡ r → Gate s (few (spotIn kind.Rpc s) r)
-of-counted s (count.Refused why) h e = bad h why e
-of-counted s (count.Records n) h e =
+of-counted : (d : Dialect) (s : List ℕ) (r : Counted) → length s ≤ 65536 → counted (kind.Rpc d) s ≡ r → Gate d s (few (spotIn (kind.Rpc d) s) r)
+of-counted d s (count.Refused why) h e = bad h why e
+of-counted d s (count.Records n) h e =
     either (ltb 512 n) (λ t. simp t (many h n e (ltb-true 512 n t))) (λ t. simp t (passes h n e (ltb-false 512 n t)))
 
-pub gate : (s : List ℕ) → Gate s (bodyRecords s)
+pub gate : (d : Dialect) (s : List ℕ) → Gate d s (bodyRecords d s)
 unfolding bodyRecords
-gate s =
+gate d s =
     either (ltb 65536 (length s)) (λ t. simp t (large (ltb-true 65536 (length s) t)))
-    (λ t. simp t (of-counted s (counted kind.Rpc s) (ltb-false 65536 (length s) t) refl))
+    (λ t. simp t (of-counted d s (counted (kind.Rpc d) s) (ltb-false 65536 (length s) t) refl))
 
 -- ---- and back
-pub records-taken : (s : List ℕ) (n : ℕ) → length s ≤ 65536 → counted kind.Rpc s ≡ count.Records n → n ≤ 512
-    → bodyRecords s ≡ Records n
+pub records-taken : (d : Dialect) (s : List ℕ) (n : ℕ) → length s ≤ 65536 → counted (kind.Rpc d) s ≡ count.Records n → n ≤ 512
+    → bodyRecords d s ≡ Records n
 unfolding bodyRecords
-records-taken s n h e l = simp (le-ltb 65536 (length s) h, e, le-ltb 512 n l)
+records-taken d s n h e l = simp (le-ltb 65536 (length s) h, e, le-ltb 512 n l)
 
-pub records-many : (s : List ℕ) (n : ℕ) → length s ≤ 65536 → counted kind.Rpc s ≡ count.Records n → 512 < n
-    → bodyRecords s ≡ Refused (nowhere (TooManyRecords n))
+pub records-many : (d : Dialect) (s : List ℕ) (n : ℕ) → length s ≤ 65536 → counted (kind.Rpc d) s ≡ count.Records n → 512 < n
+    → bodyRecords d s ≡ Refused (nowhere (TooManyRecords n))
 unfolding bodyRecords
-records-many s n h e l = simp (le-ltb 65536 (length s) h, e, lt-ltb 512 n l)
+records-many d s n h e l = simp (le-ltb 65536 (length s) h, e, lt-ltb 512 n l)
 
-pub records-large : (s : List ℕ) → 65536 < length s → bodyRecords s ≡ Refused (nowhere (TooLarge (length s)))
+pub records-large : (d : Dialect) (s : List ℕ) → 65536 < length s → bodyRecords d s ≡ Refused (nowhere (TooLarge (length s)))
 unfolding bodyRecords
-records-large s h = simp (lt-ltb 65536 (length s) h)
+records-large d s h = simp (lt-ltb 65536 (length s) h)
 
-pub records-wrong : (s : List ℕ) (why : WireError) → length s ≤ 65536 → counted kind.Rpc s ≡ count.Refused why
-    → bodyRecords s ≡ Refused (record { why = why; spot = spotIn kind.Rpc s })
+pub records-wrong : (d : Dialect) (s : List ℕ) (why : WireError) → length s ≤ 65536 → counted (kind.Rpc d) s ≡ count.Refused why
+    → bodyRecords d s ≡ Refused (record { why = why; spot = spotIn (kind.Rpc d) s })
 unfolding bodyRecords
-records-wrong s why h e = simp (le-ltb 65536 (length s) h, e)
+records-wrong d s why h e = simp (le-ltb 65536 (length s) h, e)
 
 -- ---- a body that is taken
-pub record Taken (s : List ℕ) : Type 0 where
+pub record Taken (d : Dialect) (s : List ℕ) : Type 0 where
   pub records : ℕ
-  pub counts : counted kind.Rpc s ≡ count.Records records
+  pub counts : counted (kind.Rpc d) s ≡ count.Records records
   pub few : records ≤ 512
   pub small : length s ≤ 65536
 
-of-gate : (s : List ℕ) (r : Tested) → Gate s r → checked r ≡ Fine → Taken s
-of-gate s _ (large h) e = clash (cc)
-of-gate s _ (bad h why q) e = clash (cc)
-of-gate s _ (many h n q l) e = clash (cc)
-of-gate s _ (passes h n q l) e = record { records = n; counts = q; few = l; small = h }
+of-gate : (d : Dialect) (s : List ℕ) (r : Tested) → Gate d s r → checked r ≡ Fine → Taken d s
+of-gate d s _ (large h) e = clash (cc)
+of-gate d s _ (bad h why q) e = clash (cc)
+of-gate d s _ (many h n q l) e = clash (cc)
+of-gate d s _ (passes h n q l) e = record { records = n; counts = q; few = l; small = h }
 
-pub is-taken : (s : List ℕ) → acceptOf s ≡ Fine → Taken s
+pub is-taken : (d : Dialect) (s : List ℕ) → acceptOf d s ≡ Fine → Taken d s
 unfolding acceptOf
-is-taken s h = of-gate s (bodyRecords s) (gate s) h
+is-taken d s h = of-gate d s (bodyRecords d s) (gate d s) h
 
-pub taken-fine : (s : List ℕ) → Taken s → acceptOf s ≡ Fine
+pub taken-fine : (d : Dialect) (s : List ℕ) → Taken d s → acceptOf d s ≡ Fine
 unfolding acceptOf
-taken-fine s t = ap checked (records-taken s (t .records) (t .small) (t .counts) (t .few))
+taken-fine d s t = ap checked (records-taken d s (t .records) (t .small) (t .counts) (t .few))
 
 -- it has at most 65,536 bytes
-pub accept-small : (s : List ℕ) → acceptOf s ≡ Fine → length s ≤ 65536
-accept-small s h = is-taken s h .small
+pub accept-small : (d : Dialect) (s : List ℕ) → acceptOf d s ≡ Fine → length s ≤ 65536
+accept-small d s h = is-taken d s h .small
 
 -- and it has at most 512 records
-pub accept-records : (s : List ℕ) → acceptOf s ≡ Fine → (r : ℕ) × (counted kind.Rpc s ≡ count.Records r) × (r ≤ 512)
-accept-records s h = let t = is-taken s h in (t .records, t .counts, t .few)
+pub accept-records : (d : Dialect) (s : List ℕ) → acceptOf d s ≡ Fine → (r : ℕ) × (counted (kind.Rpc d) s ≡ count.Records r) × (r ≤ 512)
+accept-records d s h = let t = is-taken d s h in (t .records, t .counts, t .few)

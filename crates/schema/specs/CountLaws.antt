@@ -52,17 +52,18 @@ count-along k s = unfolds countStep (Records 0) (λ f g j p h. same-along f g j 
 -- ---- a message has no more records than bytes
 pub own-one : (k : Kind) → ownOf k ≤ 1
 unfolding ownOf
-own-one kind.Rpc = omega arith
+own-one (kind.Rpc d) = omega arith
 own-one kind.SubOpts = omega arith
 own-one kind.RawMessage = omega arith
 own-one kind.Topic = omega arith
-own-one kind.ControlMessage = omega arith
+own-one (kind.ControlMessage d) = omega arith
 own-one kind.ControlIHave = omega arith
 own-one kind.ControlIWant = omega arith
 own-one kind.MessageId = omega arith
 own-one kind.ControlGraft = omega arith
 own-one kind.ControlPrune = omega arith
 own-one kind.PeerInfo = omega arith
+own-one kind.ControlIDontWant = omega arith
 
 pub text-fits : (s : List ℕ) (f : Field) (n m : ℕ) → textCount s f n ≡ Records m → m ≡ n
 unfolding textCount

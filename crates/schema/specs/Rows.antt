@@ -5,6 +5,7 @@ use Prim.Native.Nat.{ℕ}
 use mathlib.Core.Path.{_≡_, refl}
 use mathlib.Core.List.{[], _∷_, _++_}
 use lib.ListN.{replicate}
+use Rattle.basis.specs.declared.Dialect.{Dialect}
 use Rattle.basis.specs.declared.Spot.the-variants.{At}
 use Rattle.peer_id.specs.declared.VarintError.the-variants.{BufferTooShort, Overflow, NonCanonical}
 use Rattle.peer_id.specs.Uvarint.{readUvarint, readFrom, groupOf}
@@ -26,30 +27,30 @@ use Rattle.schema.specs.Accept.{bodyRecords}
 abbrev at : WireError → ℕ → ℕ → ℕ → ℕ → Tested
 at why offset outer middle inner = Refused (record { why = why; spot = At offset outer middle inner })
 
-pub rows :
-    (bodyRecords (0x80 ∷ []) ≡ at (Varint BufferTooShort 0) 0 0 0 0)
-    × (bodyRecords (0x80 ∷ 0x00 ∷ []) ≡ at (Varint NonCanonical 0) 0 0 0 0)
-    × (bodyRecords (replicate 9 0x80 ++ (2 ∷ [])) ≡ at (Varint Overflow 0) 0 0 0 0)
-    × (bodyRecords (0x00 ∷ []) ≡ at (InvalidFieldNumber 0 0) 0 0 0 0)
-    × (bodyRecords (0x0b ∷ []) ≡ at (UnsupportedWireType 3 1) 1 0 0 0)
-    × (bodyRecords (0x0a ∷ 0x05 ∷ 0x08 ∷ []) ≡ at (FieldOverflow 2 5 1) 2 0 0 0)
-    × (bodyRecords (0x08 ∷ []) ≡ at (Varint BufferTooShort 1) 1 0 0 0)
-    × (bodyRecords (0x0a ∷ []) ≡ at (Varint BufferTooShort 1) 1 0 0 0)
-    × (bodyRecords (0x09 ∷ []) ≡ at (FieldOverflow 1 8 0) 1 0 0 0)
-    × (bodyRecords (0x0a ∷ 0x00 ∷ 0x0b ∷ []) ≡ at (UnsupportedWireType 3 3) 3 0 0 0)
-    × (bodyRecords (0x0a ∷ 0x01 ∷ 0x80 ∷ 0x0b ∷ []) ≡ at (Varint BufferTooShort 0) 2 1 0 0)
-    × (bodyRecords (0x0a ∷ 0x01 ∷ 0x80 ∷ 0x01 ∷ []) ≡ at (Varint BufferTooShort 0) 2 1 0 0)
-    × (bodyRecords (0x0a ∷ 0x01 ∷ 0x08 ∷ 0x0a ∷ 0x00 ∷ []) ≡ at (Varint BufferTooShort 1) 3 1 0 0)
-    × (bodyRecords (0x0a ∷ 0x03 ∷ 0x12 ∷ 0x01 ∷ 0xff ∷ []) ≡ at (InvalidUtf8 1) 3 1 0 0)
-    × (bodyRecords (0x12 ∷ 0x03 ∷ 0x22 ∷ 0x01 ∷ 0xff ∷ []) ≡ at (InvalidUtf8 1) 3 2 0 0)
-    × (bodyRecords (0x12 ∷ 0x80 ∷ 0x01 ∷ 0x12 ∷ 0x7b ∷ replicate 123 0 ++ (0x22 ∷ 0x01 ∷ 0xff ∷ [])) ≡ at (InvalidUtf8 126) 129 2 0 0)
-    × (bodyRecords (0x1a ∷ 0x00 ∷ 0x1a ∷ 0x01 ∷ 0x80 ∷ []) ≡ at (Varint BufferTooShort 0) 4 3 0 0)
-    × (bodyRecords (0x1a ∷ 0x05 ∷ 0x0a ∷ 0x03 ∷ 0x0a ∷ 0x01 ∷ 0xff ∷ []) ≡ at (InvalidUtf8 1) 5 3 1 0)
-    × (bodyRecords (0x1a ∷ 0x04 ∷ 0x22 ∷ 0x02 ∷ 0x12 ∷ 0x05 ∷ []) ≡ at (FieldOverflow 2 5 0) 6 3 4 0)
-    × (bodyRecords (0x1a ∷ 0x06 ∷ 0x22 ∷ 0x04 ∷ 0x12 ∷ 0x02 ∷ 0x0a ∷ 0x05 ∷ []) ≡ at (FieldOverflow 2 5 0) 8 3 4 2)
-    × (bodyRecords (0x1a ∷ 0x05 ∷ 0x22 ∷ 0x03 ∷ 0x12 ∷ 0x01 ∷ 0x0b ∷ []) ≡ at (UnsupportedWireType 3 1) 7 3 4 2)
-    × (bodyRecords (0x1a ∷ 0x05 ∷ 0x22 ∷ 0x03 ∷ 0x12 ∷ 0x01 ∷ 0x00 ∷ []) ≡ at (InvalidFieldNumber 0 0) 6 3 4 2)
+pub rows : (d : Dialect) →
+    (bodyRecords d (0x80 ∷ []) ≡ at (Varint BufferTooShort 0) 0 0 0 0)
+    × (bodyRecords d (0x80 ∷ 0x00 ∷ []) ≡ at (Varint NonCanonical 0) 0 0 0 0)
+    × (bodyRecords d (replicate 9 0x80 ++ (2 ∷ [])) ≡ at (Varint Overflow 0) 0 0 0 0)
+    × (bodyRecords d (0x00 ∷ []) ≡ at (InvalidFieldNumber 0 0) 0 0 0 0)
+    × (bodyRecords d (0x0b ∷ []) ≡ at (UnsupportedWireType 3 1) 1 0 0 0)
+    × (bodyRecords d (0x0a ∷ 0x05 ∷ 0x08 ∷ []) ≡ at (FieldOverflow 2 5 1) 2 0 0 0)
+    × (bodyRecords d (0x08 ∷ []) ≡ at (Varint BufferTooShort 1) 1 0 0 0)
+    × (bodyRecords d (0x0a ∷ []) ≡ at (Varint BufferTooShort 1) 1 0 0 0)
+    × (bodyRecords d (0x09 ∷ []) ≡ at (FieldOverflow 1 8 0) 1 0 0 0)
+    × (bodyRecords d (0x0a ∷ 0x00 ∷ 0x0b ∷ []) ≡ at (UnsupportedWireType 3 3) 3 0 0 0)
+    × (bodyRecords d (0x0a ∷ 0x01 ∷ 0x80 ∷ 0x0b ∷ []) ≡ at (Varint BufferTooShort 0) 2 1 0 0)
+    × (bodyRecords d (0x0a ∷ 0x01 ∷ 0x80 ∷ 0x01 ∷ []) ≡ at (Varint BufferTooShort 0) 2 1 0 0)
+    × (bodyRecords d (0x0a ∷ 0x01 ∷ 0x08 ∷ 0x0a ∷ 0x00 ∷ []) ≡ at (Varint BufferTooShort 1) 3 1 0 0)
+    × (bodyRecords d (0x0a ∷ 0x03 ∷ 0x12 ∷ 0x01 ∷ 0xff ∷ []) ≡ at (InvalidUtf8 1) 3 1 0 0)
+    × (bodyRecords d (0x12 ∷ 0x03 ∷ 0x22 ∷ 0x01 ∷ 0xff ∷ []) ≡ at (InvalidUtf8 1) 3 2 0 0)
+    × (bodyRecords d (0x12 ∷ 0x80 ∷ 0x01 ∷ 0x12 ∷ 0x7b ∷ replicate 123 0 ++ (0x22 ∷ 0x01 ∷ 0xff ∷ [])) ≡ at (InvalidUtf8 126) 129 2 0 0)
+    × (bodyRecords d (0x1a ∷ 0x00 ∷ 0x1a ∷ 0x01 ∷ 0x80 ∷ []) ≡ at (Varint BufferTooShort 0) 4 3 0 0)
+    × (bodyRecords d (0x1a ∷ 0x05 ∷ 0x0a ∷ 0x03 ∷ 0x0a ∷ 0x01 ∷ 0xff ∷ []) ≡ at (InvalidUtf8 1) 5 3 1 0)
+    × (bodyRecords d (0x1a ∷ 0x04 ∷ 0x22 ∷ 0x02 ∷ 0x12 ∷ 0x05 ∷ []) ≡ at (FieldOverflow 2 5 0) 6 3 4 0)
+    × (bodyRecords d (0x1a ∷ 0x06 ∷ 0x22 ∷ 0x04 ∷ 0x12 ∷ 0x02 ∷ 0x0a ∷ 0x05 ∷ []) ≡ at (FieldOverflow 2 5 0) 8 3 4 2)
+    × (bodyRecords d (0x1a ∷ 0x05 ∷ 0x22 ∷ 0x03 ∷ 0x12 ∷ 0x01 ∷ 0x0b ∷ []) ≡ at (UnsupportedWireType 3 1) 7 3 4 2)
+    × (bodyRecords d (0x1a ∷ 0x05 ∷ 0x22 ∷ 0x03 ∷ 0x12 ∷ 0x01 ∷ 0x00 ∷ []) ≡ at (InvalidFieldNumber 0 0) 6 3 4 2)
 unfolding readUvarint readFrom groupOf isUtf8 run readTag readLen readVarint skipFixed skipField readValue readField
     walkFrom walkAt roleOf rank ownOf textCount textSpot toDepth overKinds counted spotIn bodyRecords
-rows =
+rows d =
     (refl, refl, refl, refl, refl, refl, refl, refl, refl, refl, refl, refl, refl, refl, refl, refl, refl, refl, refl, refl, refl, refl)

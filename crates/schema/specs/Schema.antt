@@ -4,6 +4,9 @@ use Prim.Native.Nat.{ℕ, _+_}
 use mathlib.Core.Bool.{Bool, true, false, cond}
 use mathlib.Core.List.{List, [], _∷_}
 use lib.Dec.{eqb}
+use Rattle.basis.specs.declared.Edition.{Edition}
+use Rattle.basis.specs.declared.Edition.the-variants.{V11, V12}
+use Rattle.basis.specs.declared.Dialect.{Dialect}
 use Rattle.schema.specs.declared.Kind.{Kind}
 use Rattle.schema.specs.declared.Kind.the-variants as kind
 use Rattle.schema.specs.declared.Figure.the-variants.{Exact, Flag}
@@ -14,24 +17,33 @@ use Rattle.schema.specs.declared.Held.the-variants as held
 use Rattle.schema.specs.declared.Role.{Role}
 use Rattle.schema.specs.declared.Role.the-variants.{Skip, Number, Text, Bytes, Unsigned, Topic, MessageId, Sub}
 
+-- the fields that an edition adds to a control, from 5 on
+abbrev pub addedIn : Edition → List Role
+addedIn V11 = []
+addedIn V12 = Sub kind.ControlIDontWant Anew ∷ []
+
+abbrev pub addedTo : Dialect → List Role
+addedTo d = addedIn (d .edition)
+
 -- the fields of a message in rising order, from 1 on
 abbrev pub table : Kind → List Role
-table kind.Rpc = Sub kind.SubOpts Anew ∷ Sub kind.RawMessage Whole ∷ Sub kind.ControlMessage Merged ∷ []
+table (kind.Rpc d) = Sub kind.SubOpts Anew ∷ Sub kind.RawMessage Whole ∷ Sub (kind.ControlMessage d) Merged ∷ []
 table kind.SubOpts = Number Flag ∷ Text 1 ∷ []
 table kind.RawMessage = Bytes 1 ∷ Bytes 2 ∷ Bytes 3 ∷ Topic ∷ Unsigned 4 ∷ Unsigned 5 ∷ []
 table kind.Topic = []
-table kind.ControlMessage =
+table (kind.ControlMessage d) =
     Sub kind.ControlIHave Anew
     ∷ Sub kind.ControlIWant Anew
     ∷ Sub kind.ControlGraft Anew
     ∷ Sub kind.ControlPrune Anew
-    ∷ []
+    ∷ addedTo d
 table kind.ControlIHave = Text 1 ∷ MessageId ∷ []
 table kind.ControlIWant = MessageId ∷ []
 table kind.MessageId = []
 table kind.ControlGraft = Text 1 ∷ []
 table kind.ControlPrune = Text 1 ∷ Sub kind.PeerInfo Anew ∷ Number Exact ∷ []
 table kind.PeerInfo = Bytes 1 ∷ Bytes 2 ∷ []
+table kind.ControlIDontWant = MessageId ∷ []
 
 -- the role of field n, where the first of the rows is field i
 abbrev pub rowFrom : ℕ → List Role → ℕ → Role
@@ -79,28 +91,30 @@ heldOf (Sub k form) = formedAs k form
 
 -- how deep submessages can stand in a message
 unfoldable pub rank : Kind → ℕ
-rank kind.Rpc = 3
+rank (kind.Rpc d) = 3
 rank kind.SubOpts = 0
 rank kind.RawMessage = 0
 rank kind.Topic = 0
-rank kind.ControlMessage = 2
+rank (kind.ControlMessage d) = 2
 rank kind.ControlIHave = 0
 rank kind.ControlIWant = 0
 rank kind.MessageId = 0
 rank kind.ControlGraft = 0
 rank kind.ControlPrune = 1
 rank kind.PeerInfo = 0
+rank kind.ControlIDontWant = 0
 
 -- a submessage is a record of its own, but for a control
 unfoldable pub ownOf : Kind → ℕ
-ownOf kind.Rpc = 0
+ownOf (kind.Rpc d) = 0
 ownOf kind.SubOpts = 1
 ownOf kind.RawMessage = 1
 ownOf kind.Topic = 1
-ownOf kind.ControlMessage = 0
+ownOf (kind.ControlMessage d) = 0
 ownOf kind.ControlIHave = 1
 ownOf kind.ControlIWant = 1
 ownOf kind.MessageId = 1
 ownOf kind.ControlGraft = 1
 ownOf kind.ControlPrune = 1
 ownOf kind.PeerInfo = 1
+ownOf kind.ControlIDontWant = 1

@@ -5,6 +5,9 @@ use mathlib.Core.List.{List, [], _∷_}
 use native.Mathlib.Omega.{arith}
 use lib.Dec.{eqb}
 use borrow.Author.Tests.{eqb-true}
+use Rattle.basis.specs.declared.Edition.{Edition}
+use Rattle.basis.specs.declared.Edition.the-variants.{V11, V12}
+use Rattle.basis.specs.declared.Dialect.{Dialect}
 use Rattle.basis.specs.Cases.{either, clash}
 use Rattle.schema.specs.declared.Kind.{Kind}
 use Rattle.schema.specs.declared.Kind.the-variants as kind
@@ -13,7 +16,7 @@ use Rattle.schema.specs.declared.Form.the-variants.{Anew, Whole, Merged}
 use Rattle.schema.specs.declared.Held.the-variants as held
 use Rattle.schema.specs.declared.Role.{Role}
 use Rattle.schema.specs.declared.Role.the-variants.{Skip, Number, Text, Bytes, Unsigned, Topic, MessageId, Sub}
-use Rattle.schema.specs.Schema.{table, rowFrom, rowOf, isVarint, roleOf, formedAs, heldOf, rank}
+use Rattle.schema.specs.Schema.{addedIn, table, rowFrom, rowOf, isVarint, roleOf, formedAs, heldOf, rank}
 
 -- ---- what holds of each row, with its number, and of Skip, holds of the role of every field
 abbrev pub Rows : (ℕ → Role → Type 0) → ℕ → List Role → Type 0
@@ -38,19 +41,25 @@ Below k Topic = Unit {0}
 Below k MessageId = Unit {0}
 Below k (Sub j form) = rank j < rank k
 
+added-below : (d : Dialect) (e : Edition) → Rows (λ n r. Below (kind.ControlMessage d) r) 5 (addedIn e)
+unfolding rank
+added-below d V11 = tt
+added-below d V12 = (omega arith, tt)
+
 rows-below : (k : Kind) → Rows (λ n r. Below k r) 1 (table k)
 unfolding rank
-rows-below kind.Rpc = (omega arith, (omega arith, (omega arith, tt)))
+rows-below (kind.Rpc d) = (omega arith, (omega arith, (omega arith, tt)))
 rows-below kind.SubOpts = (tt, (tt, tt))
 rows-below kind.RawMessage = (tt, (tt, (tt, (tt, (tt, (tt, tt))))))
 rows-below kind.Topic = tt
-rows-below kind.ControlMessage = (omega arith, (omega arith, (omega arith, (omega arith, tt))))
+rows-below (kind.ControlMessage d) = (omega arith, (omega arith, (omega arith, (omega arith, added-below d (d .edition)))))
 rows-below kind.ControlIHave = (tt, (tt, tt))
 rows-below kind.ControlIWant = (tt, tt)
 rows-below kind.MessageId = tt
 rows-below kind.ControlGraft = (tt, tt)
 rows-below kind.ControlPrune = (tt, (omega arith, (tt, tt)))
 rows-below kind.PeerInfo = (tt, (tt, tt))
+rows-below kind.ControlIDontWant = (tt, tt)
 
 row-below : (k : Kind) (n : ℕ) → Below k (rowOf k n)
 row-below k n = each-row (λ m r. Below k r) (λ m. tt) 1 (table k) (rows-below k) n

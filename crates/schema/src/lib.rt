@@ -1,15 +1,17 @@
 // The messages of the gossipsub protobuf, from message.rs: what each field is, how many records a message has or why it is refused, and
 // where its singular fields stand. One walk over the fields serves every message.
-ghost use Prim.Native.Nat.{_<_};
+ghost use Prim.Native.Nat.{_+_, _<_};
 ghost use mathlib.Core.Path.{_≡_};
 ghost use lib.ListN.{length};
-ghost use Rattle.schema.specs.Schema.{table, rowOf, isVarint, roleOf, formedAs, heldOf, ownOf};
+ghost use Rattle.schema.specs.Schema.{addedTo, table, rowFrom, rowOf, isVarint, roleOf, formedAs, heldOf, ownOf};
 ghost use Rattle.schema.specs.Accept.{bodyRecords, acceptOf};
 ghost use Rattle.schema.specs.Count.{FieldWithin, counted, fieldCount, textCount};
 ghost use Rattle.basis.specs.Spot.{inside, Reaches};
 ghost use Rattle.schema.specs.Spots.{textSpot, fieldSpot, spotIn};
 ghost use Rattle.schema.specs.Slots.{setPlace, placeOf, withField, slotsOf, hasField};
 ghost use Rattle.schema.specs.Made.{placeFrom, numberFrom, madeFrom, indexOf, Sixes};
+use basis::Dialect;
+use basis::Edition;
 use basis::Spot;
 use protobuf::Checked;
 use protobuf::Field;
@@ -25,19 +27,21 @@ use protobuf::spot_of;
 // The most records that a body may have.
 pub const MAX_RECORDS: usize = 512;
 
-// The messages of the gossipsub protobuf, and the two other kinds of record: a topic of a message and a message id.
+// The messages of the gossipsub protobuf, and the two other kinds of record: a topic of a message and a message id. A message whose fields depend on
+// the dialect, or which holds such a message, has it beside it.
 pub enum Kind {
-    Rpc,
+    Rpc(Dialect),
     SubOpts,
     RawMessage,
     Topic,
-    ControlMessage,
+    ControlMessage(Dialect),
     ControlIHave,
     ControlIWant,
     MessageId,
     ControlGraft,
     ControlPrune,
     PeerInfo,
+    ControlIDontWant,
 }
 
 // How a number is written: as it is, or as 1 wherever it is not 0.
@@ -108,12 +112,28 @@ pub enum Tested {
     Refused(Refusal),
 }
 
+// The role of a control's field from 5 on: what an edition adds.
+fn added(dialect: Dialect, field: u64) -> Role
+    ensures { λ r. ⌜ r ≡ rowFrom 5 (addedTo dialect) field ⌝ }
+{
+    let edition = dialect.edition;
+    match edition {
+        Edition::V11 => Role::Skip,
+        Edition::V12 => {
+            if field == 5 {
+                return Role::Sub(Kind::ControlIDontWant, Form::Anew);
+            }
+            Role::Skip
+        }
+    }
+}
+
 // The role of a message's field, by its number: the table of messages.
 pub fn row_of(kind: Kind, field: u64) -> Role
     ensures { λ r. ⌜ r ≡ rowOf kind field ⌝ }
 {
     match kind {
-        Kind::Rpc => {
+        Kind::Rpc(dialect) => {
             if field == 1 {
                 return Role::Sub(Kind::SubOpts, Form::Anew);
             }
@@ -121,7 +141,7 @@ pub fn row_of(kind: Kind, field: u64) -> Role
                 return Role::Sub(Kind::RawMessage, Form::Whole);
             }
             if field == 3 {
-                return Role::Sub(Kind::ControlMessage, Form::Merged);
+                return Role::Sub(Kind::ControlMessage(dialect), Form::Merged);
             }
             Role::Skip
         }
@@ -156,7 +176,7 @@ pub fn row_of(kind: Kind, field: u64) -> Role
             Role::Skip
         }
         Kind::Topic => Role::Skip,
-        Kind::ControlMessage => {
+        Kind::ControlMessage(dialect) => {
             if field == 1 {
                 return Role::Sub(Kind::ControlIHave, Form::Anew);
             }
@@ -169,7 +189,7 @@ pub fn row_of(kind: Kind, field: u64) -> Role
             if field == 4 {
                 return Role::Sub(Kind::ControlPrune, Form::Anew);
             }
-            Role::Skip
+            added(dialect, field)
         }
         Kind::ControlIHave => {
             if field == 1 {
@@ -214,6 +234,23 @@ pub fn row_of(kind: Kind, field: u64) -> Role
             }
             Role::Skip
         }
+        Kind::ControlIDontWant => {
+            if field == 1 {
+                return Role::MessageId;
+            }
+            Role::Skip
+        }
+    }
+}
+
+// How many fields a control has.
+fn control_rows(dialect: Dialect) -> u64
+    ensures { λ r. ⌜ r ≡ 4 + length (addedTo dialect) ⌝ }
+{
+    let edition = dialect.edition;
+    match edition {
+        Edition::V11 => 4,
+        Edition::V12 => 5,
     }
 }
 
@@ -222,17 +259,18 @@ pub fn rows(kind: Kind) -> u64
     ensures { λ r. ⌜ r ≡ length (table kind) ⌝ }
 {
     match kind {
-        Kind::Rpc => 3,
+        Kind::Rpc(_) => 3,
         Kind::SubOpts => 2,
         Kind::RawMessage => 6,
         Kind::Topic => 0,
-        Kind::ControlMessage => 4,
+        Kind::ControlMessage(dialect) => control_rows(dialect),
         Kind::ControlIHave => 2,
         Kind::ControlIWant => 1,
         Kind::MessageId => 0,
         Kind::ControlGraft => 1,
         Kind::ControlPrune => 3,
         Kind::PeerInfo => 2,
+        Kind::ControlIDontWant => 1,
     }
 }
 
@@ -304,17 +342,18 @@ pub fn own(kind: Kind) -> usize
     ensures { λ r. ⌜ r ≡ ownOf kind ⌝ }
 {
     match kind {
-        Kind::Rpc => 0,
+        Kind::Rpc(_) => 0,
         Kind::SubOpts => 1,
         Kind::RawMessage => 1,
         Kind::Topic => 1,
-        Kind::ControlMessage => 0,
+        Kind::ControlMessage(_) => 0,
         Kind::ControlIHave => 1,
         Kind::ControlIWant => 1,
         Kind::MessageId => 1,
         Kind::ControlGraft => 1,
         Kind::ControlPrune => 1,
         Kind::PeerInfo => 1,
+        Kind::ControlIDontWant => 1,
     }
 }
 
@@ -485,17 +524,17 @@ pub fn spot_in(input: &[u8], kind: Kind) -> Spot
 }
 
 // How many records a body has, or why it is refused, and where: 10, 1 to 7, 11. This is the one test of a body.
-pub fn body_records(body: &[u8]) -> Tested
-    ensures { λ r. ⌜ r ≡ bodyRecords (now (body .entry)) ⌝ }
+pub fn body_records(dialect: Dialect, body: &[u8]) -> Tested
+    ensures { λ r. ⌜ r ≡ bodyRecords dialect (now (body .entry)) ⌝ }
 {
     if MAX_RPC_SIZE < body.len() {
         return Tested::Refused(Refusal::nowhere(WireError::TooLarge { len: body.len() }));
     }
-    let c = count(body, Kind::Rpc);
+    let c = count(body, Kind::Rpc(dialect));
     match c {
         Counted::Refused(why) => Tested::Refused(Refusal {
             why,
-            spot: spot_in(body, Kind::Rpc),
+            spot: spot_in(body, Kind::Rpc(dialect)),
         }),
         Counted::Records(n) => {
             if MAX_RECORDS < n {
@@ -507,10 +546,10 @@ pub fn body_records(body: &[u8]) -> Tested
 }
 
 // Whether a body is well formed and within capacity.
-pub fn accept(body: &[u8]) -> Checked
-    ensures { λ r. ⌜ r ≡ acceptOf (now (body .entry)) ⌝ }
+pub fn accept(dialect: Dialect, body: &[u8]) -> Checked
+    ensures { λ r. ⌜ r ≡ acceptOf dialect (now (body .entry)) ⌝ }
 {
-    let c = body_records(body);
+    let c = body_records(dialect, body);
     match c {
         Tested::Refused(refusal) => Checked::Refused(refusal),
         Tested::Records(_) => Checked::Fine,
