@@ -1,4 +1,4 @@
--- To be believed: Bytes, Writing, Refusals (the scope's table), Spot, Told, Little, Unique (the contract of a call with one
+-- To be believed: Bytes, Writing, Refusals (the scope's table), Dialect, Spot, Told, Little, Unique (the contract of a call with one
 -- lent part). On the way to them: Cases, Lists.
 pub mod Cases
 pub mod Bytes
@@ -7,5 +7,6 @@ pub mod Lists
 pub mod Little
 pub mod Refusals
 pub mod Spot
+pub mod Dialect
 pub mod Told
 pub mod Unique

@@ -1,4 +1,4 @@
-// What several crates share: what a call tells, the answer of a writer, the test for room, and little-endian numbers. The specs hold the case and
+// What several crates share: the dialect in which a body is read, what a call tells, the answer of a writer, the test for room, and little-endian numbers. The specs hold the case and
 // list laws that more than one crate cites.
 pub mod refusals;
 
@@ -12,6 +12,7 @@ ghost use Rattle.basis.specs.Writing.{endIn, setIn};
 ghost use Rattle.basis.specs.Little.{little, bytesOf};
 ghost use Rattle.basis.specs.Told.{told, placed};
 ghost use Rattle.basis.specs.Spot.{at};
+ghost use Rattle.basis.specs.Dialect.{editionOf, dialectOf};
 ghost use Rattle.basis.specs.Unique.{Leaves};
 
 // The editions of gossipsub: 1.1, and 1.2, whose controls also hold IDONTWANTs.
@@ -23,6 +24,24 @@ pub enum Edition {
 // How a body is read.
 pub struct Dialect {
     pub edition: Edition,
+}
+
+// The edition that a number names: only its lowest bit counts, 0 for 1.1 and 1 for 1.2.
+pub fn edition_of(number: u64) -> Edition
+    ensures { λ r. ⌜ r ≡ editionOf number ⌝ }
+{
+    if number % 2 == 0 {
+        return Edition::V11;
+    }
+    Edition::V12
+}
+
+// The dialect that a number names, by the same bit.
+pub fn dialect_of(number: u64) -> Dialect
+    ensures { λ r. ⌜ r ≡ dialectOf number ⌝ }
+{
+    let edition = edition_of(number);
+    Dialect { edition }
 }
 
 // Where in a body a refusal stands: how many bytes after the body's start, and the numbers of the fields that enclose it, the outermost first, 0

@@ -6,6 +6,7 @@ use mathlib.Core.Bool.{cond}
 use mathlib.Core.List.{List, [], _++_}
 use lib.Dec.{eqb}
 use lib.ListN.{length}
+use Rattle.basis.specs.declared.Dialect.{Dialect}
 use Rattle.protobuf.specs.Walk.{Fields, end, refused, _then_, fieldsOf, between, isBytes, valueIn}
 use Rattle.protobuf.specs.Encode.{varintField, bytesField}
 use Rattle.schema.specs.declared.Kind.{Kind}
@@ -105,8 +106,8 @@ bodyPart s n held.Whole = heldPart canon n s held.Whole
 bodyPart s n (held.Anew j) = heldPart canon n s (held.Anew j)
 bodyPart s n (held.Merged j) = cond (hasField n s) (bytesField n (mergedOf j n s)) []
 
-unfoldable pub canonBody : List ℕ → List ℕ
-canonBody s = allFields kind.Rpc (λ n. bodyPart s n (heldOf (rowOf kind.Rpc n)))
+unfoldable pub canonBody : Dialect → List ℕ → List ℕ
+canonBody d s = allFields (kind.Rpc d) (λ n. bodyPart s n (heldOf (rowOf (kind.Rpc d) n)))
 
 -- ---- the bytes that are signed, of a message: `libp2p-pubsub:`, then from, data, seqno and every topic
 unfoldable pub signOf : List ℕ → List ℕ

@@ -2,6 +2,7 @@
 use Prim.Native.Nat.{ℕ}
 use mathlib.Core.Path.{_≡_, refl}
 use mathlib.Core.List.{List}
+use Rattle.basis.specs.declared.Dialect.{Dialect}
 use Rattle.basis.specs.declared.Written.{Written}
 use Rattle.basis.specs.Lists.{refused-write}
 use Rattle.protobuf.specs.declared.Checked.{Checked}
@@ -19,15 +20,16 @@ use Rattle.canon.specs.Canon.{canonBody, signOf}
 use Rattle.encode.specs.Encode.{encodeChecked, encodedChecked, encodeAnswer, encodeLeft}
 use Rattle.encode.specs.Sign.{signAt, signChecked, signAnswer, signedAt, signedChecked, signLeft}
 
-encode-by : (s out : List ℕ) (c : Checked) → (encodedTold (encodeChecked s out c) .number ≡ 0 → ⊥)
-    → encodedChecked s out c ≡ out
-encode-by s out (Wrong why) h = refl
-encode-by s out Fine h =
-    refused-write (canonBody s) out (λ (w : Written). encodedTold (ofWritten w) .number) (λ n. refl) h
+encode-by : (d : Dialect) (s out : List ℕ) (c : Checked) → (encodedTold (encodeChecked d s out c) .number ≡ 0 → ⊥)
+    → encodedChecked d s out c ≡ out
+encode-by d s out (Wrong why) h = refl
+encode-by d s out Fine h =
+    refused-write (canonBody d s) out (λ (w : Written). encodedTold (ofWritten w) .number) (λ n. refl) h
 
-pub refused-encode : (s out : List ℕ) → (encodedTold (encodeAnswer s out) .number ≡ 0 → ⊥) → encodeLeft s out ≡ out
+pub refused-encode : (d : Dialect) (s out : List ℕ) → (encodedTold (encodeAnswer d s out) .number ≡ 0 → ⊥)
+    → encodeLeft d s out ≡ out
 unfolding encodeAnswer encodeLeft
-refused-encode s out h = encode-by s out (acceptOf s) h
+refused-encode d s out h = encode-by d s out (acceptOf d s) h
 
 sign-by-place : (s out : List ℕ) (m : MessageAt) → (messageTold (signAt s out m) .number ≡ 0 → ⊥)
     → signedAt s out m ≡ out
@@ -39,7 +41,7 @@ sign-by : (s : List ℕ) (i : ℕ) (out : List ℕ) (c : Checked) → (messageTo
 sign-by s i out (Wrong why) h = refl
 sign-by s i out Fine h = sign-by-place s out (messageAt s i) h
 
-pub refused-sign : (s : List ℕ) (i : ℕ) (out : List ℕ) → (messageTold (signAnswer s i out) .number ≡ 0 → ⊥)
-    → signLeft s i out ≡ out
+pub refused-sign : (d : Dialect) (s : List ℕ) (i : ℕ) (out : List ℕ) → (messageTold (signAnswer d s i out) .number ≡ 0 → ⊥)
+    → signLeft d s i out ≡ out
 unfolding signAnswer signLeft
-refused-sign s i out h = sign-by s i out (acceptOf s) h
+refused-sign d s i out h = sign-by s i out (acceptOf d s) h

@@ -2,6 +2,7 @@
 -- of the scope's table: 10, 1 to 7, 11, 20, 12.
 use Prim.Native.Nat.{ℕ}
 use mathlib.Core.List.{List}
+use Rattle.basis.specs.declared.Dialect.{Dialect}
 use Rattle.basis.specs.Writing.{answer, written}
 use Rattle.protobuf.specs.declared.Checked.{Checked}
 use Rattle.protobuf.specs.declared.Checked.the-variants.{Fine, Refused as Wrong}
@@ -22,8 +23,8 @@ abbrev pub signChecked : List ℕ → ℕ → List ℕ → Checked → MessageBy
 signChecked s i out (Wrong why) = Refused why
 signChecked s i out Fine = signAt s out (messageAt s i)
 
-unfoldable pub signAnswer : List ℕ → ℕ → List ℕ → MessageBytes
-signAnswer s i out = signChecked s i out (acceptOf s)
+unfoldable pub signAnswer : Dialect → List ℕ → ℕ → List ℕ → MessageBytes
+signAnswer d s i out = signChecked s i out (acceptOf d s)
 
 abbrev pub signedAt : List ℕ → List ℕ → MessageAt → List ℕ
 signedAt s out (Count n) = out
@@ -33,5 +34,5 @@ abbrev pub signedChecked : List ℕ → ℕ → List ℕ → Checked → List �
 signedChecked s i out (Wrong why) = out
 signedChecked s i out Fine = signedAt s out (messageAt s i)
 
-unfoldable pub signLeft : List ℕ → ℕ → List ℕ → List ℕ
-signLeft s i out = signedChecked s i out (acceptOf s)
+unfoldable pub signLeft : Dialect → List ℕ → ℕ → List ℕ → List ℕ
+signLeft d s i out = signedChecked s i out (acceptOf d s)

@@ -19,6 +19,7 @@ ghost use Rattle.canon.specs.Canon.{placed, slotIn, figured, numbered, ownPart,
 ghost use Rattle.encode.specs.Encode.{encodeAnswer, encodeLeft};
 ghost use Rattle.encode.specs.Sign.{signAnswer, signLeft};
 ghost use Rattle.encode.specs.Puts.{Puts, Fits, headAt};
+use basis::Dialect;
 use ids::MessageAt;
 use ids::MessageBytes;
 use ids::message_at;
@@ -402,15 +403,15 @@ fn emit_top(body: &[u8], n: u64, held: Held, out: &mut [u8], at: usize) -> usize
 }
 
 // A body: subscriptions, then the published messages as they stand, then the controls as one.
-fn emit_body(body: &[u8], out: &mut [u8]) -> usize
-    requires { ⌜ Fits 0 (canonBody (now body)) ⌝ }
-    ensures { λ r. ⌜ Puts (now (out .entry)) 0 (canonBody (now (body .entry))) (now (out .exit)) r ⌝ }
+fn emit_body(dialect: Dialect, body: &[u8], out: &mut [u8]) -> usize
+    requires { ⌜ Fits 0 (canonBody dialect (now body)) ⌝ }
+    ensures { λ r. ⌜ Puts (now (out .entry)) 0 (canonBody dialect (now (body .entry))) (now (out .exit)) r ⌝ }
 {
-    let last = rows(Kind::Rpc);
+    let last = rows(Kind::Rpc(dialect));
     let mut n: u64 = 1;
     let mut end: usize = 0;
     while n <= last {
-        let held = held_of(row_of(Kind::Rpc, n));
+        let held = held_of(row_of(Kind::Rpc(dialect), n));
         end = emit_top(body, n, held, out, end);
         n += 1;
     }
@@ -418,33 +419,33 @@ fn emit_body(body: &[u8], out: &mut [u8]) -> usize
 }
 
 // Writes a body that is taken. Its canonical bytes are never longer than it, so they are measured only where there may be no room for them.
-fn encode_taken(body: &[u8], out: &mut [u8]) -> Encoded
-    requires { ⌜ (length (canonBody (now body)) ≤ length (now body)) × (length (now body) ≤ 65536) ⌝ }
-    ensures { λ r. ⌜ r ≡ encoded (answer (canonBody (now (body .entry))) (now (out .entry))) ⌝ }
-    ensures { λ _. ⌜ now (out .exit) ≡ written (canonBody (now (body .entry))) (now (out .entry)) ⌝ }
+fn encode_taken(dialect: Dialect, body: &[u8], out: &mut [u8]) -> Encoded
+    requires { ⌜ (length (canonBody dialect (now body)) ≤ length (now body)) × (length (now body) ≤ 65536) ⌝ }
+    ensures { λ r. ⌜ r ≡ encoded (answer (canonBody dialect (now (body .entry))) (now (out .entry))) ⌝ }
+    ensures { λ _. ⌜ now (out .exit) ≡ written (canonBody dialect (now (body .entry))) (now (out .entry)) ⌝ }
 {
     if out.len() < body.len() {
         let mut none = [0u8; 1];
-        let needed = emit_body(body, &mut none);
+        let needed = emit_body(dialect, body, &mut none);
         if out.len() < needed {
             return Encoded::Room(needed);
         }
-        emit_body(body, out);
+        emit_body(dialect, body, out);
         return Encoded::Bytes(needed);
     }
-    let end = emit_body(body, out);
+    let end = emit_body(dialect, body, out);
     Encoded::Bytes(end)
 }
 
 // Writes a body anew at the front of the lent bytes: what it means, in its canonical bytes. A refusal, and a lack of room, leave them as they were.
-pub fn encode(body: &[u8], out: &mut [u8]) -> Encoded
-    ensures { λ r. ⌜ Leaves (encodeAnswer (now (body .entry)) (now (out .entry)))
-        (encodeLeft (now (body .entry)) (now (out .entry))) r (now (out .exit)) ⌝ }
+pub fn encode(dialect: Dialect, body: &[u8], out: &mut [u8]) -> Encoded
+    ensures { λ r. ⌜ Leaves (encodeAnswer dialect (now (body .entry)) (now (out .entry)))
+        (encodeLeft dialect (now (body .entry)) (now (out .entry))) r (now (out .exit)) ⌝ }
 {
-    let c = accept(body);
+    let c = accept(dialect, body);
     match c {
         Checked::Refused(why) => Encoded::Refused(why),
-        Checked::Fine => encode_taken(body, out),
+        Checked::Fine => encode_taken(dialect, body, out),
     }
 }
 
@@ -478,11 +479,11 @@ fn sign_part(part: &[u8], out: &mut [u8]) -> MessageBytes
 }
 
 // Writes the bytes that are signed of the message at an index: the prefix, then from, data, seqno and every topic.
-pub fn sign_bytes(body: &[u8], index: usize, out: &mut [u8]) -> MessageBytes
-    ensures { λ r. ⌜ Leaves (signAnswer (now (body .entry)) index (now (out .entry)))
-        (signLeft (now (body .entry)) index (now (out .entry))) r (now (out .exit)) ⌝ }
+pub fn sign_bytes(dialect: Dialect, body: &[u8], index: usize, out: &mut [u8]) -> MessageBytes
+    ensures { λ r. ⌜ Leaves (signAnswer dialect (now (body .entry)) index (now (out .entry)))
+        (signLeft dialect (now (body .entry)) index (now (out .entry))) r (now (out .exit)) ⌝ }
 {
-    let c = accept(body);
+    let c = accept(dialect, body);
     match c {
         Checked::Refused(why) => MessageBytes::Refused(why),
         Checked::Fine => {

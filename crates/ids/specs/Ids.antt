@@ -5,6 +5,7 @@ use mathlib.Core.List.{List, [], _∷_, _++_}
 use mathlib.Core.Bool.{Bool, true, false, cond, _||_}
 use lib.ListN.{length}
 use lib.Dec.{ltb, eqb}
+use Rattle.basis.specs.declared.Dialect.{Dialect}
 use Rattle.basis.specs.declared.Written.{Written}
 use Rattle.basis.specs.declared.Written.the-variants as done
 use Rattle.basis.specs.Writing.{answer, written}
@@ -85,11 +86,11 @@ abbrev pub leftChecked : List ℕ → List ℕ → ℕ → List ℕ → Checked 
 leftChecked pre s i out (Wrong why) = out
 leftChecked pre s i out Fine = leftAt pre s out (messageAt s i)
 
-unfoldable pub idAnswer : List ℕ → List ℕ → ℕ → List ℕ → MessageBytes
-idAnswer pre s i out = answerChecked pre s i out (acceptOf s)
+unfoldable pub idAnswer : List ℕ → Dialect → List ℕ → ℕ → List ℕ → MessageBytes
+idAnswer pre d s i out = answerChecked pre s i out (acceptOf d s)
 
-unfoldable pub idLeft : List ℕ → List ℕ → ℕ → List ℕ → List ℕ
-idLeft pre s i out = leftChecked pre s i out (acceptOf s)
+unfoldable pub idLeft : List ℕ → Dialect → List ℕ → ℕ → List ℕ → List ℕ
+idLeft pre d s i out = leftChecked pre s i out (acceptOf d s)
 
 -- the mark byte: 1 for a signed message, 0 for one that is not
 abbrev pub mark : Bool → ℕ

@@ -3,6 +3,7 @@ use Prim.Native.Nat.{ℕ}
 use mathlib.Core.Path.{_≡_, refl}
 use mathlib.Core.Bool.{Bool}
 use mathlib.Core.List.{List, [], _∷_, _++_}
+use Rattle.basis.specs.declared.Dialect.{Dialect}
 use Rattle.basis.specs.declared.Written.{Written}
 use Rattle.basis.specs.Writing.{answer, written}
 use Rattle.basis.specs.Lists.{refused-write}
@@ -39,15 +40,16 @@ by-body : (pre s : List ℕ) (i : ℕ) (out : List ℕ) (c : Checked)
 by-body pre s i out (Wrong why) h = refl
 by-body pre s i out Fine h = by-place pre s out (messageAt s i) h
 
-refused-marked : (pre s : List ℕ) (i : ℕ) (out : List ℕ) → (messageTold (idAnswer pre s i out) .number ≡ 0 → ⊥)
-    → idLeft pre s i out ≡ out
+refused-marked : (pre : List ℕ) (d : Dialect) (s : List ℕ) (i : ℕ) (out : List ℕ)
+    → (messageTold (idAnswer pre d s i out) .number ≡ 0 → ⊥)
+    → idLeft pre d s i out ≡ out
 unfolding idAnswer idLeft
-refused-marked pre s i out h = by-body pre s i out (acceptOf s) h
+refused-marked pre d s i out h = by-body pre s i out (acceptOf d s) h
 
-pub refused-id : (s : List ℕ) (i : ℕ) (out : List ℕ) → (messageTold (idAnswer [] s i out) .number ≡ 0 → ⊥)
-    → idLeft [] s i out ≡ out
-refused-id s i out h = refused-marked [] s i out h
+pub refused-id : (d : Dialect) (s : List ℕ) (i : ℕ) (out : List ℕ) → (messageTold (idAnswer [] d s i out) .number ≡ 0 → ⊥)
+    → idLeft [] d s i out ≡ out
+refused-id d s i out h = refused-marked [] d s i out h
 
-pub refused-seen-id : (s : List ℕ) (i : ℕ) (signed : Bool) (out : List ℕ)
-    → (messageTold (idAnswer (mark signed ∷ []) s i out) .number ≡ 0 → ⊥) → idLeft (mark signed ∷ []) s i out ≡ out
-refused-seen-id s i signed out h = refused-marked (mark signed ∷ []) s i out h
+pub refused-seen-id : (d : Dialect) (s : List ℕ) (i : ℕ) (signed : Bool) (out : List ℕ)
+    → (messageTold (idAnswer (mark signed ∷ []) d s i out) .number ≡ 0 → ⊥) → idLeft (mark signed ∷ []) d s i out ≡ out
+refused-seen-id d s i signed out h = refused-marked (mark signed ∷ []) d s i out h

@@ -10,6 +10,7 @@ ghost use lib.ListN.{length};
 ghost use Rattle.basis.specs.Unique.{Leaves};
 ghost use Rattle.protobuf.specs.Walk.{isBytes};
 ghost use Rattle.ids.specs.Ids.{messageAt, onFrom, idParts, answerId, leftId, idAnswer, idLeft, mark};
+use basis::Dialect;
 use protobuf::Checked;
 use protobuf::Field;
 use protobuf::Refusal;
@@ -189,12 +190,18 @@ fn put_id(before: &[u8], part: &[u8], out: &mut [u8]) -> MessageBytes
 }
 
 // The same for the message at an index of a body.
-fn put_id_at(before: &[u8], body: &[u8], index: usize, out: &mut [u8]) -> MessageBytes
+fn put_id_at(
+    before: &[u8],
+    dialect: Dialect,
+    body: &[u8],
+    index: usize,
+    out: &mut [u8],
+) -> MessageBytes
     requires { ⌜ length (now before) ≤ 1 ⌝ }
-    ensures { λ r. ⌜ r ≡ idAnswer (now (before .entry)) (now (body .entry)) index (now (out .entry)) ⌝ }
-    ensures { λ _. ⌜ now (out .exit) ≡ idLeft (now (before .entry)) (now (body .entry)) index (now (out .entry)) ⌝ }
+    ensures { λ r. ⌜ r ≡ idAnswer (now (before .entry)) dialect (now (body .entry)) index (now (out .entry)) ⌝ }
+    ensures { λ _. ⌜ now (out .exit) ≡ idLeft (now (before .entry)) dialect (now (body .entry)) index (now (out .entry)) ⌝ }
 {
-    let c = accept(body);
+    let c = accept(dialect, body);
     match c {
         Checked::Refused(why) => MessageBytes::Refused(why),
         Checked::Fine => {
@@ -208,20 +215,26 @@ fn put_id_at(before: &[u8], body: &[u8], index: usize, out: &mut [u8]) -> Messag
 }
 
 // Writes the id of the message at an index: from and then seqno.
-pub fn message_id(body: &[u8], index: usize, out: &mut [u8]) -> MessageBytes
-    ensures { λ r. ⌜ Leaves (idAnswer [] (now (body .entry)) index (now (out .entry)))
-        (idLeft [] (now (body .entry)) index (now (out .entry))) r (now (out .exit)) ⌝ }
+pub fn message_id(dialect: Dialect, body: &[u8], index: usize, out: &mut [u8]) -> MessageBytes
+    ensures { λ r. ⌜ Leaves (idAnswer [] dialect (now (body .entry)) index (now (out .entry)))
+        (idLeft [] dialect (now (body .entry)) index (now (out .entry))) r (now (out .exit)) ⌝ }
 {
-    put_id_at(b"", body, index, out)
+    put_id_at(b"", dialect, body, index, out)
 }
 
 // Writes the id under which the message at an index is seen: the mark byte, and then its id.
-pub fn seen_message_id(body: &[u8], index: usize, signed: bool, out: &mut [u8]) -> MessageBytes
-    ensures { λ r. ⌜ Leaves (idAnswer (mark signed ∷ []) (now (body .entry)) index (now (out .entry)))
-        (idLeft (mark signed ∷ []) (now (body .entry)) index (now (out .entry))) r (now (out .exit)) ⌝ }
+pub fn seen_message_id(
+    dialect: Dialect,
+    body: &[u8],
+    index: usize,
+    signed: bool,
+    out: &mut [u8],
+) -> MessageBytes
+    ensures { λ r. ⌜ Leaves (idAnswer (mark signed ∷ []) dialect (now (body .entry)) index (now (out .entry)))
+        (idLeft (mark signed ∷ []) dialect (now (body .entry)) index (now (out .entry))) r (now (out .exit)) ⌝ }
 {
     if signed {
-        return put_id_at(b"\x01", body, index, out);
+        return put_id_at(b"\x01", dialect, body, index, out);
     }
-    put_id_at(b"\x00", body, index, out)
+    put_id_at(b"\x00", dialect, body, index, out)
 }

@@ -7,6 +7,8 @@ use mathlib.Core.Bool.{Bool, true, cond, _&&_}
 use lib.ListN.{length, drop, getD, replicate}
 use lib.Seq.{sets}
 use lib.Dec.{leb, ltb, eqb}
+use Rattle.basis.specs.declared.Edition.{Edition}
+use Rattle.basis.specs.Dialect.{spoken}
 use Rattle.rows.specs.declared.Ring.{Ring}
 use Rattle.rows.specs.Rows.{placeOf, rowsIn}
 use Rattle.rows.specs.Ids.{indexOf}
@@ -199,8 +201,8 @@ planLent lent.Fine r = r
 planLent lent.BadStore r = no put.BadStore
 planLent lent.Malformed r = no put.Malformed
 
-unfoldable pub planned : MessageCache → List ℕ → List ℕ → ℕ → Plan
-planned c st body i = planLent (lentOf c st) (planBody c body i (acceptOf body))
+unfoldable pub planned : MessageCache → List ℕ → Edition → List ℕ → ℕ → Plan
+planned c st e body i = planLent (lentOf c st) (planBody c body i (acceptOf (spoken e) body))
 
 -- ---- shift
 unfoldable pub shiftCache : MessageCache → List ℕ → MessageCache

@@ -3,6 +3,7 @@
 use Prim.Native.Nat.{ℕ}
 use mathlib.Core.Path.{_≡_, sym, ap, ap₂, _∙_}
 use mathlib.Core.List.{List}
+use Rattle.basis.specs.declared.Edition.{Edition}
 use Rattle.basis.specs.declared.Written.{Written}
 use Rattle.basis.specs.Writing.{answer, written}
 use Rattle.rows.specs.Store.{idAt}
@@ -25,10 +26,10 @@ pub record Starts (history max flags : ℕ) (r : Started) : Type 0 where
   pub answer : r .answer ≡ startAnswer history max flags
   pub cache : r .cache ≡ startCache history max flags
 
-pub record Puts (c : MessageCache) (st body : List ℕ) (i : ℕ) (r : PutDone) (left : List ℕ) : Type 0 where
-  pub answer : r .answer ≡ answered (planned c st body i)
-  pub cache : r .cache ≡ keptIn c (planned c st body i)
-  pub store : left ≡ storedIn c st (planned c st body i)
+pub record Puts (c : MessageCache) (st : List ℕ) (e : Edition) (body : List ℕ) (i : ℕ) (r : PutDone) (left : List ℕ) : Type 0 where
+  pub answer : r .answer ≡ answered (planned c st e body i)
+  pub cache : r .cache ≡ keptIn c (planned c st e body i)
+  pub store : left ≡ storedIn c st (planned c st e body i)
 
 pub record Keeps (c : MessageCache) (st m id : List ℕ) (r : PutDone) (left : List ℕ) : Type 0 where
   pub answer : r .answer ≡ answered (planKept c st m id)

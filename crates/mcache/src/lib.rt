@@ -30,6 +30,8 @@ use admission::topics_of;
 use basis::Written;
 use basis::has_room;
 use basis::least;
+use basis::Dialect;
+use basis::Edition;
 use ids::MessageAt;
 use ids::message_at;
 use protobuf::Checked;
@@ -774,8 +776,14 @@ impl MessageCache {
     }
 
     // Puts the message at an index of a body. A held id changes nothing.
-    pub fn put(self, store: &mut [u8], body: &[u8], index: usize) -> PutDone
-        ensures { λ r. ⌜ Puts self (now (store .entry)) (now (body .entry)) index r (now (store .exit)) ⌝ }
+    pub fn put(
+        self,
+        store: &mut [u8],
+        edition: Edition,
+        body: &[u8],
+        index: usize,
+    ) -> PutDone
+        ensures { λ r. ⌜ Puts self (now (store .entry)) edition (now (body .entry)) index r (now (store .exit)) ⌝ }
     {
         let lent = self.lent(store);
         match lent {
@@ -788,7 +796,7 @@ impl MessageCache {
                 cache: self,
             },
             Lent::Fine => {
-                let c = accept(body);
+                let c = accept(Dialect { edition }, body);
                 match c {
                     Checked::Refused(why) => PutDone {
                         answer: Put::Refused(why),

@@ -6,6 +6,7 @@ use mathlib.Core.Bool.{Bool, cond}
 use lib.ListN.{length}
 use lib.Seq.{sets}
 use lib.Dec.{ltb}
+use Rattle.basis.specs.declared.Dialect.{Dialect}
 use Rattle.schema.specs.declared.Kind.the-variants as kind
 use Rattle.schema.specs.declared.Tested.{Tested}
 use Rattle.schema.specs.declared.Tested.the-variants as tested
@@ -24,14 +25,14 @@ abbrev pub onCount : ℕ → Bool → Tested → Decoded
 onCount room c (tested.Refused r) = Refused r
 onCount room c (tested.Records n) = cond (ltb room n) (Room n) (Records n c)
 
-unfoldable pub decodeAnswer : List ℕ → ℕ → Decoded
-decodeAnswer s words = onCount (words / 20) (hasControl s) (bodyRecords s)
+unfoldable pub decodeAnswer : Dialect → List ℕ → ℕ → Decoded
+decodeAnswer d s words = onCount (words / 20) (hasControl s) (bodyRecords d s)
 
 -- the records stand at the front of the table; a refusal changes nothing
-abbrev pub leaves : List ℕ → List ℕ → Decoded → List ℕ
-leaves s t (Records n c) = sets t 0 (wordsOfAll (rowsOf kind.Rpc 0 s))
-leaves s t (Refused r) = t
-leaves s t (Room n) = t
+abbrev pub leaves : Dialect → List ℕ → List ℕ → Decoded → List ℕ
+leaves d s t (Records n c) = sets t 0 (wordsOfAll (rowsOf (kind.Rpc d) 0 s))
+leaves d s t (Refused r) = t
+leaves d s t (Room n) = t
 
-unfoldable pub decodeTable : List ℕ → List ℕ → List ℕ
-decodeTable s t = leaves s t (decodeAnswer s (length t))
+unfoldable pub decodeTable : Dialect → List ℕ → List ℕ → List ℕ
+decodeTable d s t = leaves d s t (decodeAnswer d s (length t))

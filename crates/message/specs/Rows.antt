@@ -6,6 +6,8 @@ use mathlib.Core.List.{List, [], _∷_, _++_}
 use mathlib.Core.Bool.{cond}
 use lib.ListN.{length, getD}
 use lib.Dec.{eqb, leb}
+use Rattle.basis.specs.declared.Edition.the-variants.{V11}
+use Rattle.basis.specs.declared.Dialect.{Dialect}
 use Rattle.protobuf.specs.declared.Field.{Field}
 use Rattle.protobuf.specs.Walk.{Fields, end, refused, _then_, fieldsOf, between}
 use Rattle.schema.specs.declared.Kind.{Kind}
@@ -68,17 +70,18 @@ fieldRows k base s f = roleRows rowsOf base s f (roleOf k (f .field) (f .«wire_
 
 -- ---- a record in the table
 unfoldable pub kindCode : Kind → ℕ
-kindCode kind.Rpc = 0
+kindCode (kind.Rpc d) = 0
 kindCode kind.SubOpts = 1
 kindCode kind.RawMessage = 2
 kindCode kind.Topic = 3
-kindCode kind.ControlMessage = 4
+kindCode (kind.ControlMessage d) = 4
 kindCode kind.ControlIHave = 5
 kindCode kind.ControlIWant = 6
 kindCode kind.MessageId = 7
 kindCode kind.ControlGraft = 8
 kindCode kind.ControlPrune = 9
 kindCode kind.PeerInfo = 10
+kindCode kind.ControlIDontWant = 11
 
 unfoldable pub numberWords : Num → List ℕ
 numberWords number.Absent = 0 ∷ 0 ∷ []
@@ -100,19 +103,23 @@ abbrev pub wordsOfAll : List Record → List ℕ
 wordsOfAll [] = []
 wordsOfAll (r ∷ rs) = wordsOf r ++ wordsOfAll rs
 
--- ---- and read back
+-- ---- and read back: no record has the codes 0 and 4, and for these it is the first dialect
+abbrev pub firstDialect : Dialect
+firstDialect = record { edition = V11 }
+
 unfoldable pub kindFrom : ℕ → Kind
 kindFrom c =
     cond (eqb c 1) kind.SubOpts
     (cond (eqb c 2) kind.RawMessage
     (cond (eqb c 3) kind.Topic
-    (cond (eqb c 4) kind.ControlMessage
+    (cond (eqb c 4) (kind.ControlMessage firstDialect)
     (cond (eqb c 5) kind.ControlIHave
     (cond (eqb c 6) kind.ControlIWant
     (cond (eqb c 7) kind.MessageId
     (cond (eqb c 8) kind.ControlGraft
     (cond (eqb c 9) kind.ControlPrune
-    (cond (eqb c 10) kind.PeerInfo kind.Rpc)))))))))
+    (cond (eqb c 10) kind.PeerInfo
+    (cond (eqb c 11) kind.ControlIDontWant (kind.Rpc firstDialect)))))))))))
 
 -- the record that stands in a table from word i on
 unfoldable pub recordFrom : List ℕ → ℕ → Record

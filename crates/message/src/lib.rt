@@ -12,6 +12,8 @@ ghost use Rattle.schema.specs.Slots.{noSlots};
 ghost use Rattle.schema.specs.Count.{FieldWithin};
 ghost use Rattle.message.specs.Rows.{bareRow, ownRows, rowsOf, fieldRows, kindCode, numberWords, placeWords, placesWords, wordsOf, wordsOfAll, kindFrom, recordAt};
 ghost use Rattle.message.specs.Decode.{hasControl, decodeAnswer, decodeTable};
+use basis::Dialect;
+use basis::Edition;
 use protobuf::Field;
 use protobuf::Refusal;
 use protobuf::Step;
@@ -57,17 +59,18 @@ fn kind_code(kind: Kind) -> u64
     ensures { λ r. ⌜ r ≡ kindCode kind ⌝ }
 {
     match kind {
-        Kind::Rpc => 0,
+        Kind::Rpc(_) => 0,
         Kind::SubOpts => 1,
         Kind::RawMessage => 2,
         Kind::Topic => 3,
-        Kind::ControlMessage => 4,
+        Kind::ControlMessage(_) => 4,
         Kind::ControlIHave => 5,
         Kind::ControlIWant => 6,
         Kind::MessageId => 7,
         Kind::ControlGraft => 8,
         Kind::ControlPrune => 9,
         Kind::PeerInfo => 10,
+        Kind::ControlIDontWant => 11,
     }
 }
 
@@ -265,11 +268,11 @@ pub fn has_control(body: &[u8]) -> bool
 }
 
 // Reads a body: its records go to the lent table, from its first row on. A refusal leaves the table as it was.
-pub fn decode(body: &[u8], table: &mut [u64]) -> Decoded
-    ensures { λ r. ⌜ Leaves (decodeAnswer (now (body .entry)) (length (now (table .entry))))
-        (decodeTable (now (body .entry)) (now (table .entry))) r (now (table .exit)) ⌝ }
+pub fn decode(dialect: Dialect, body: &[u8], table: &mut [u64]) -> Decoded
+    ensures { λ r. ⌜ Leaves (decodeAnswer dialect (now (body .entry)) (length (now (table .entry))))
+        (decodeTable dialect (now (body .entry)) (now (table .entry))) r (now (table .exit)) ⌝ }
 {
-    let c = body_records(body);
+    let c = body_records(dialect, body);
     match c {
         Tested::Refused(refusal) => Decoded::Refused(refusal),
         Tested::Records(n) => {
@@ -277,13 +280,13 @@ pub fn decode(body: &[u8], table: &mut [u64]) -> Decoded
                 return Decoded::Room(n);
             }
             let control = has_control(body);
-            write_message(body, Kind::Rpc, 0, table, 0);
+            write_message(body, Kind::Rpc(dialect), 0, table, 0);
             Decoded::Records { count: n, control }
         }
     }
 }
 
-// The kind that a number in the table stands for.
+// The kind that a number in the table stands for. 0 and 4 are the codes of no record: there the dialect is the first.
 fn kind_from(code: u64) -> Kind
     ensures { λ r. ⌜ r ≡ kindFrom code ⌝ }
 {
@@ -297,7 +300,9 @@ fn kind_from(code: u64) -> Kind
         return Kind::Topic;
     }
     if code == 4 {
-        return Kind::ControlMessage;
+        return Kind::ControlMessage(Dialect {
+            edition: Edition::V11,
+        });
     }
     if code == 5 {
         return Kind::ControlIHave;
@@ -317,7 +322,12 @@ fn kind_from(code: u64) -> Kind
     if code == 10 {
         return Kind::PeerInfo;
     }
-    Kind::Rpc
+    if code == 11 {
+        return Kind::ControlIDontWant;
+    }
+    Kind::Rpc(Dialect {
+        edition: Edition::V11,
+    })
 }
 
 // The record at a row of a table, for the host; nothing where the table has no such row.

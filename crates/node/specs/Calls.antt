@@ -6,6 +6,9 @@ use mathlib.Core.Bool.{Bool, true, false, cond, _&&_, _||_}
 use lib.ListN.{length}
 use lib.Seq.{sets}
 use lib.Dec.{ltb, eqb}
+use Rattle.basis.specs.declared.Edition.{Edition}
+use Rattle.basis.specs.declared.Edition.the-variants.{V12}
+use Rattle.basis.specs.Dialect.{spoken}
 use Rattle.basis.specs.declared.Written.{Written}
 use Rattle.basis.specs.declared.Written.the-variants as done
 use Rattle.basis.specs.Writing.{answer, written}
@@ -27,7 +30,7 @@ use Rattle.admission.specs.declared.Admission.{Admission}
 use Rattle.admission.specs.declared.Admission.the-variants as admission
 use Rattle.admission.specs.Flags.{allowsUnsigned}
 use Rattle.admission.specs.Admission.{admissionOf}
-use Rattle.node.specs.Parts.{atPath, once}
+use Rattle.node.specs.Parts.{atPath, once, without}
 use Rattle.seen.specs.State.{idSize}
 use Rattle.seen.specs.declared.SeenCache.{SeenCache}
 use Rattle.seen.specs.Entries.{until}
@@ -134,9 +137,9 @@ planBody n at word body i (checked.Refused why) = no (admit.Refused why)
 planBody n at word body i checked.Fine = planAt n at word body (messageAt body i)
 
 -- 40, 41, 42
-unfoldable pub planned : Node → List ℕ → List ℕ → List ℕ → ℕ → Bool → ℕ → Plan
-planned n ss cs body i word at =
-    onLent (λ (why : Fault). no (admit.Faulty why)) (lentOf n ss cs) (planBody n at word body i (acceptOf body))
+unfoldable pub planned : Node → List ℕ → List ℕ → Edition → List ℕ → ℕ → Bool → ℕ → Plan
+planned n ss cs e body i word at =
+    onLent (λ (why : Fault). no (admit.Faulty why)) (lentOf n ss cs) (planBody n at word body i (acceptOf (spoken e) body))
 
 -- the ids that are seen after the clean-up
 unfoldable pub swept : Node → ℕ → SeenCache
@@ -242,22 +245,30 @@ abbrev pub askOn : Ask → Checked → Ask
 askOn r checked.Fine = r
 askOn r (checked.Refused why) = ask.Refused why
 
-unfoldable pub askAnswer : Node → List ℕ → List ℕ → List ℕ → List ℕ → Ask
-askAnswer n ss cs body out =
-    onLent ask.Faulty (lentOf n ss cs) (askOn (asked (answer (askBytes n ss body) out)) (acceptOf body))
+unfoldable pub askAnswer : Node → List ℕ → List ℕ → Edition → List ℕ → List ℕ → Ask
+askAnswer n ss cs e body out =
+    onLent ask.Faulty (lentOf n ss cs) (askOn (asked (answer (askBytes n ss body) out)) (acceptOf (spoken e) body))
 
 abbrev pub whenTaken : {A : Type 0} → Checked → A → A → A
 whenTaken checked.Fine new old = new
 whenTaken (checked.Refused why) new old = old
 
-unfoldable pub askLeft : Node → List ℕ → List ℕ → List ℕ → List ℕ → List ℕ
-askLeft n ss cs body out = whenFine (lentOf n ss cs) (whenTaken (acceptOf body) (written (askBytes n ss body) out) out)
-    out
+unfoldable pub askLeft : Node → List ℕ → List ℕ → Edition → List ℕ → List ℕ → List ℕ
+askLeft n ss cs e body out =
+    whenFine (lentOf n ss cs) (whenTaken (acceptOf (spoken e) body) (written (askBytes n ss body) out) out) out
 
--- ---- serve: 40, 41, 42, 10, 1 to 7, 11, 12
+-- ---- serve: 40, 41, 42; 10, 1 to 7, 11 of the body that asks; the same of the second body, which is read in 1.2; 12
 -- the ids in the IWANTs of a body, each at its first mention
 unfoldable pub wanted : List ℕ → List (List ℕ)
 wanted body = once (atPath (3 ∷ 2 ∷ 1 ∷ []) body)
+
+-- the ids in the IDONTWANTs of a body
+unfoldable pub unwantedIn : List ℕ → List (List ℕ)
+unwantedIn body = atPath (3 ∷ 5 ∷ 1 ∷ []) body
+
+-- the ids that a body asks for and a second one does not decline
+unfoldable pub remaining : List ℕ → List ℕ → List (List ℕ)
+remaining body second = without (unwantedIn second) (wanted body)
 
 -- the places of the messages with these ids; `held` are the ids in use, the oldest first
 unfoldable pub rowsFor : Ring → List (List ℕ) → List (List ℕ) → List ℕ
@@ -294,11 +305,16 @@ abbrev pub serveOn : Serve → Checked → Serve
 serveOn r checked.Fine = r
 serveOn r (checked.Refused why) = serve.Refused why
 
-unfoldable pub serveAnswer : Node → List ℕ → List ℕ → List ℕ → List ℕ → Serve
-serveAnswer n ss cs body out =
-    onLent serve.Faulty (lentOf n ss cs) (serveOn (replyTo (cachedOf (n .cache) cs (wanted body)) out) (acceptOf body))
+unfoldable pub serveAnswer : Node → List ℕ → List ℕ → Edition → List ℕ → List ℕ → List ℕ → Serve
+serveAnswer n ss cs e body second out =
+    onLent serve.Faulty (lentOf n ss cs)
+    (serveOn
+    (serveOn (replyTo (cachedOf (n .cache) cs (remaining body second)) out) (acceptOf (spoken V12) second))
+    (acceptOf (spoken e) body))
 
-unfoldable pub serveLeft : Node → List ℕ → List ℕ → List ℕ → List ℕ → List ℕ
-serveLeft n ss cs body out =
+unfoldable pub serveLeft : Node → List ℕ → List ℕ → Edition → List ℕ → List ℕ → List ℕ → List ℕ
+serveLeft n ss cs e body second out =
     whenFine (lentOf n ss cs)
-    (whenTaken (acceptOf body) (sets out 0 (replyBytes (cachedOf (n .cache) cs (wanted body)) out)) out) out
+    (whenTaken (acceptOf (spoken e) body)
+    (whenTaken (acceptOf (spoken V12) second)
+    (sets out 0 (replyBytes (cachedOf (n .cache) cs (remaining body second)) out)) out) out) out

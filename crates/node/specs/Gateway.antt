@@ -15,7 +15,7 @@ use Rattle.mcache.specs.declared.Offer.{Offer}
 use Rattle.mcache.specs.Messages.{Cached, held, put, shift, get, gossipIds, offerOf}
 use Rattle.rpc.specs.Rpc.{Rpc, ControlMessage}
 use Rattle.rpc.specs.Encode.{encodeRpc, repeated}
-use Rattle.node.specs.Parts.{once, fitting}
+use Rattle.node.specs.Parts.{once, without, fitting}
 
 pub record Gateway : Type 0 where
   pub ttl : ℕ
@@ -108,6 +108,7 @@ advertisement topic ids =
       iwant = [];
       graft = [];
       prune = [];
+      idontwant = [];
     })
 
 abbrev pub advertisementFor : List ℕ → List (List ℕ) → Option Rpc
@@ -133,7 +134,14 @@ lacking g (i ∷ is) = cond (knows g i) (lacking g is) (i ∷ lacking g is)
 
 -- an RPC with one IWANT
 unfoldable pub request : List (List ℕ) → Rpc
-request ids = controlled (record { ihave = []; iwant = record { «message_ids» = ids } ∷ []; graft = []; prune = [] })
+request ids =
+    controlled (record {
+      ihave = [];
+      iwant = record { «message_ids» = ids } ∷ [];
+      graft = [];
+      prune = [];
+      idontwant = [];
+    })
 
 abbrev pub requestFor : List (List ℕ) → Option Rpc
 requestFor ids = ifAny ids (request ids)
@@ -184,6 +192,7 @@ replyFor room (m ∷ ms) =
     cond (eqb (writtenIn room (m ∷ ms)) 0) (short (length (bytesField 2 m)))
     (sent (sentIn room (m ∷ ms)) (leftIn room (m ∷ ms)))
 
--- serve, given a body: `named` are the ids in its IWANTs; each is served once, in order of first mention
-unfoldable pub serveOf : List (List ℕ) → ℕ → Gateway → Reply
-serveOf named buffer g = replyFor (replyRoom buffer) (having g (once named))
+-- serve, given a body: `named` are the ids in its IWANTs, each is served once, in order of first mention; `unwanted` are
+-- the ids in the IDONTWANTs of a second body, which are left out
+unfoldable pub serveOf : List (List ℕ) → List (List ℕ) → ℕ → Gateway → Reply
+serveOf named unwanted buffer g = replyFor (replyRoom buffer) (having g (without unwanted (once named)))

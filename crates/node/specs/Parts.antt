@@ -49,6 +49,11 @@ onceAfter earlier (i ∷ is) = cond (among i earlier) (onceAfter earlier is) (i 
 abbrev pub once : List (List ℕ) → List (List ℕ)
 once is = onceAfter [] is
 
+-- ---- those that are not among others
+unfoldable pub without : List (List ℕ) → List (List ℕ) → List (List ℕ)
+without others [] = []
+without others (i ∷ is) = cond (among i others) (without others is) (i ∷ without others is)
+
 -- ---- how many parts, from the first on, fit as fields n into so many bytes
 unfoldable pub fitting : ℕ → ℕ → List (List ℕ) → ℕ
 fitting n room [] = 0

@@ -4,6 +4,7 @@ use Prim.Native.Nat.{ℕ}
 use mathlib.Core.Path.{_≡_, sym, ap₂, _∙_}
 use mathlib.Core.Bool.{Bool}
 use mathlib.Core.List.{List}
+use Rattle.basis.specs.declared.Edition.{Edition}
 use Rattle.node.specs.declared.Node.{Node}
 use Rattle.node.specs.declared.Start.{Start}
 use Rattle.node.specs.declared.Started.{Started}
@@ -34,18 +35,18 @@ one-start ttl max-seen history max flags r s a b =
     (a .node ∙ sym (b .node))
 
 -- the stores as they are left
-pub record Admits (n : Node) (ss cs body : List ℕ) (i : ℕ) (word : Bool) (at : ℕ) (r : Admitted)
+pub record Admits (n : Node) (ss cs : List ℕ) (e : Edition) (body : List ℕ) (i : ℕ) (word : Bool) (at : ℕ) (r : Admitted)
     (ids messages : List ℕ) : Type 0 where
-  pub answer : r .answer ≡ admitAnswer n ss at (planned n ss cs body i word at)
-  pub node : r .node ≡ admitNode n ss at (planned n ss cs body i word at)
-  pub seen : ids ≡ admitSeen n ss at (planned n ss cs body i word at)
-  pub cache : messages ≡ admitCache n ss cs at (planned n ss cs body i word at)
+  pub answer : r .answer ≡ admitAnswer n ss at (planned n ss cs e body i word at)
+  pub node : r .node ≡ admitNode n ss at (planned n ss cs e body i word at)
+  pub seen : ids ≡ admitSeen n ss at (planned n ss cs e body i word at)
+  pub cache : messages ≡ admitCache n ss cs at (planned n ss cs e body i word at)
 
-pub one-admit : (n : Node) (ss cs body : List ℕ) (i : ℕ) (word : Bool) (at : ℕ) (r s : Admitted)
+pub one-admit : (n : Node) (ss cs : List ℕ) (e : Edition) (body : List ℕ) (i : ℕ) (word : Bool) (at : ℕ) (r s : Admitted)
     (ids messages ids2 messages2 : List ℕ)
-    → Admits n ss cs body i word at r ids messages → Admits n ss cs body i word at s ids2 messages2 → (r ≡ s)
+    → Admits n ss cs e body i word at r ids messages → Admits n ss cs e body i word at s ids2 messages2 → (r ≡ s)
     × (ids ≡ ids2) × (messages ≡ messages2)
-one-admit n ss cs body i word at r s ids messages ids2 messages2 a b = (
+one-admit n ss cs e body i word at r s ids messages ids2 messages2 a b = (
   ap₂ (λ (x : Admit) (m : Node). record { answer = x; node = m }) (a .answer ∙ sym (b .answer))
       (a .node ∙ sym (b .node)),
   a .seen ∙ sym (b .seen),
@@ -89,26 +90,26 @@ one-explain n ss cs id topic windows r s a b =
     ap₂ (λ (x : Explain) (m : Node). record { answer = x; node = m }) (a .answer ∙ sym (b .answer))
     (a .node ∙ sym (b .node))
 
-pub record Asks (n : Node) (ss cs body out : List ℕ) (r : Asked) (left : List ℕ) : Type 0 where
-  pub answer : r .answer ≡ askAnswer n ss cs body out
+pub record Asks (n : Node) (ss cs : List ℕ) (e : Edition) (body out : List ℕ) (r : Asked) (left : List ℕ) : Type 0 where
+  pub answer : r .answer ≡ askAnswer n ss cs e body out
   pub node : r .node ≡ n
-  pub buffer : left ≡ askLeft n ss cs body out
+  pub buffer : left ≡ askLeft n ss cs e body out
 
-pub one-ask : (n : Node) (ss cs body out : List ℕ) (r s : Asked) (left left2 : List ℕ) → Asks n ss cs body out r left
-    → Asks n ss cs body out s left2 → (r ≡ s) × (left ≡ left2)
-one-ask n ss cs body out r s left left2 a b = (
+pub one-ask : (n : Node) (ss cs : List ℕ) (e : Edition) (body out : List ℕ) (r s : Asked) (left left2 : List ℕ) → Asks n ss cs e body out r left
+    → Asks n ss cs e body out s left2 → (r ≡ s) × (left ≡ left2)
+one-ask n ss cs e body out r s left left2 a b = (
   ap₂ (λ (x : Ask) (m : Node). record { answer = x; node = m }) (a .answer ∙ sym (b .answer)) (a .node ∙ sym (b .node)),
   a .buffer ∙ sym (b .buffer),
 )
 
-pub record Serves (n : Node) (ss cs body out : List ℕ) (r : Served) (left : List ℕ) : Type 0 where
-  pub answer : r .answer ≡ serveAnswer n ss cs body out
+pub record Serves (n : Node) (ss cs : List ℕ) (e : Edition) (body second out : List ℕ) (r : Served) (left : List ℕ) : Type 0 where
+  pub answer : r .answer ≡ serveAnswer n ss cs e body second out
   pub node : r .node ≡ n
-  pub buffer : left ≡ serveLeft n ss cs body out
+  pub buffer : left ≡ serveLeft n ss cs e body second out
 
-pub one-serve : (n : Node) (ss cs body out : List ℕ) (r s : Served) (left left2 : List ℕ)
-    → Serves n ss cs body out r left → Serves n ss cs body out s left2 → (r ≡ s) × (left ≡ left2)
-one-serve n ss cs body out r s left left2 a b = (
+pub one-serve : (n : Node) (ss cs : List ℕ) (e : Edition) (body second out : List ℕ) (r s : Served) (left left2 : List ℕ)
+    → Serves n ss cs e body second out r left → Serves n ss cs e body second out s left2 → (r ≡ s) × (left ≡ left2)
+one-serve n ss cs e body second out r s left left2 a b = (
   ap₂ (λ (x : Serve) (m : Node). record { answer = x; node = m }) (a .answer ∙ sym (b .answer))
       (a .node ∙ sym (b .node)),
   a .buffer ∙ sym (b .buffer),

@@ -10,6 +10,7 @@ ghost use Prim.Native.Nat.{ℕ, _+_, _-_, _*_, _≤_, _<_, min};
 ghost use lib.Dec.{ltb};
 ghost use lib.ListN.{length, drop, take, getD};
 ghost use lib.Seq.{sets};
+ghost use Rattle.basis.specs.Dialect.{spoken};
 ghost use Rattle.basis.specs.Writing.{answer, written};
 ghost use Rattle.rows.specs.Rows.{placeOf};
 ghost use Rattle.rows.specs.Ids.{among};
@@ -22,7 +23,7 @@ ghost use Rattle.schema.specs.Accept.{acceptOf};
 ghost use Rattle.ids.specs.Ids.{messageAt, idBytes, mark};
 ghost use Rattle.admission.specs.Flags.{allowsUnsigned};
 ghost use Rattle.admission.specs.Admission.{admissionOf, isSigned};
-ghost use Rattle.node.specs.Parts.{partsIn, Parts};
+ghost use Rattle.node.specs.Parts.{partsIn, Parts, atPath, without};
 ghost use Rattle.seen.specs.State.{idSize};
 ghost use Rattle.mcache.specs.State.{messageSize, messageIdSize, maxMessages, messageIn, Listed, Usable};
 ghost use Rattle.node.specs.Gateway.{marked, formOf, advertisement, request};
@@ -31,13 +32,15 @@ ghost use Rattle.node.specs.State.{seenRing, Ready, risesFrom, seenFits,
 ghost use Rattle.node.specs.Calls.{lentOf, laterNode, taken, planFit, swept, heldAt};
 ghost use Rattle.node.specs.Calls.{admitAnswer, admitNode, admitSeen, admitCache, toldIn};
 ghost use Rattle.node.specs.Calls.{advertiseBytes, advertised, knownIn, unseenFrom, unseenOf, offered, askBytes, asked};
-ghost use Rattle.node.specs.Calls.{rowsFor, cachedOf, maxRpcSize, wanted, replyTo, replyBytes};
+ghost use Rattle.node.specs.Calls.{rowsFor, cachedOf, maxRpcSize, unwantedIn, remaining, replyTo, replyBytes, serveOn, whenTaken};
 use admission::Admission;
 use admission::MAX_TOPIC_SIZE;
 use admission::Unfit;
 use admission::admit;
 use admission::allows_unsigned;
 use admission::is_signed;
+use basis::Dialect;
+use basis::Edition;
 use ids::MessageAt;
 use ids::message_at;
 use mcache::MESSAGE_ID_SIZE;
@@ -46,12 +49,14 @@ use mcache::MessageCache;
 use mcache::Offer;
 use mcache::form_id;
 use parts::add_part;
+use parts::add_where;
 use parts::emit_bytes;
 use parts::emit_head;
 use parts::emit_parts;
 use parts::first_mentions;
 use parts::parts_at;
 use parts::parts_that_fit;
+use parts::parts_without;
 use protobuf::Checked;
 use protobuf::MAX_RPC_SIZE;
 use protobuf::Refusal;
@@ -197,18 +202,6 @@ fn expiries_rise(expiry: &[u64], ring: Ring) -> bool
 
 // ---- asking and serving
 
-// Puts a part into a table where it is to be there; how many there are then.
-fn add_where(there: bool, table: &mut [usize], n: usize, start: usize, end: usize) -> usize
-    requires { ⌜ (n + 1) * 2 ≤ length (now table) ⌝ }
-    ensures { λ r. ⌜ r ≡ cond there (n + 1) n ⌝ }
-    ensures { λ _. ⌜ now (table .exit) ≡ cond there (sets (now (table .entry)) (n * 2) (start ∷ end ∷ [])) (now (table .entry)) ⌝ }
-{
-    if there {
-        return add_part(table, n, start, end);
-    }
-    n
-}
-
 // The mark byte of an id: 1 for a message with a signature, 0 for one without.
 fn mark_of(signed: bool) -> u8
     ensures { λ r. ⌜ r ≡ mark signed ⌝ }
@@ -276,6 +269,27 @@ fn unseen(
         i += 1;
     }
     k
+}
+
+// Puts the parts that the IDONTWANTs of a second body do not name into another table; how many those are.
+fn not_declined(
+    body: &[u8],
+    from: &[usize],
+    n: usize,
+    unwanted: &[u8],
+    to: &mut [usize],
+) -> usize
+    requires { ⌜ Parts (now body) (now from) n ⌝ }
+    requires { ⌜ n * 2 ≤ length (now to) ⌝ }
+    requires { ⌜ length (atPath (3 ∷ 5 ∷ 1 ∷ []) (now unwanted)) ≤ 512 ⌝ }
+    ensures { λ r. ⌜ partsIn (now (body .entry)) (now (to .exit)) r ≡ without (unwantedIn (now (unwanted .entry))) (partsIn (now (body .entry)) (now (from .entry)) n) ⌝ }
+    ensures { λ r. ⌜ Parts (now (body .entry)) (now (to .exit)) r ⌝ }
+    ensures { λ r. ⌜ r ≤ n ⌝ }
+{
+    let mut declined = [0usize; 2 * MAX_RECORDS];
+    let path = [3u64, 5, 1];
+    let m = parts_at(unwanted, 0, unwanted.len(), &path, &mut declined, 0);
+    parts_without(body, from, n, unwanted, &declined, m, to)
 }
 
 // Puts the places of the messages with the ids in some parts, those that are cached, into another table; how many those are.
@@ -610,12 +624,13 @@ impl Node {
         self,
         seen_store: &mut [u8],
         cache_store: &mut [u8],
+        edition: Edition,
         body: &[u8],
         index: usize,
         verified: bool,
         at: u64,
     ) -> Admitted
-        ensures { λ r. ⌜ Admits self (now («seen_store» .entry)) (now («cache_store» .entry)) (now (body .entry)) index verified at r (now («seen_store» .exit)) (now («cache_store» .exit)) ⌝ }
+        ensures { λ r. ⌜ Admits self (now («seen_store» .entry)) (now («cache_store» .entry)) edition (now (body .entry)) index verified at r (now («seen_store» .exit)) (now («cache_store» .exit)) ⌝ }
     {
         let lent = self.lent(seen_store, cache_store);
         match lent {
@@ -624,7 +639,7 @@ impl Node {
                 node: self,
             },
             Lent::Fine => {
-                let c = accept(body);
+                let c = accept(Dialect { edition }, body);
                 match c {
                     Checked::Refused(why) => Admitted {
                         answer: Admit::Refused(why),
@@ -771,7 +786,7 @@ impl Node {
     // Writes a request for what a body offers and is not seen, where the state and the body were tested.
     fn request_for(self, seen_store: &[u8], body: &[u8], out: &mut [u8]) -> Ask
         requires { ⌜ Sound idSize (seenRing self) (self .seen .len) (now «seen_store») ⌝ }
-        requires { ⌜ acceptOf (now body) ≡ Checked.Fine ⌝ }
+        requires { ⌜ (length (now body) ≤ maxRpcSize) × (length (atPath (3 ∷ 1 ∷ 2 ∷ []) (now body)) ≤ 512) ⌝ }
         ensures { λ r. ⌜ r ≡ asked (answer (askBytes self (now («seen_store» .entry)) (now (body .entry))) (now (out .entry))) ⌝ }
         ensures { λ _. ⌜ now (out .exit) ≡ written (askBytes self (now («seen_store» .entry)) (now (body .entry))) (now (out .entry)) ⌝ }
     {
@@ -798,8 +813,15 @@ impl Node {
     }
 
     // Writes an RPC with one IWANT that holds every id in the IHAVEs of a body that is not held, each once. Without such ids, no bytes.
-    pub fn ask(self, seen_store: &[u8], cache_store: &[u8], body: &[u8], out: &mut [u8]) -> Asked
-        ensures { λ r. ⌜ Asks self (now («seen_store» .entry)) (now («cache_store» .entry)) (now (body .entry)) (now (out .entry)) r (now (out .exit)) ⌝ }
+    pub fn ask(
+        self,
+        seen_store: &[u8],
+        cache_store: &[u8],
+        edition: Edition,
+        body: &[u8],
+        out: &mut [u8],
+    ) -> Asked
+        ensures { λ r. ⌜ Asks self (now («seen_store» .entry)) (now («cache_store» .entry)) edition (now (body .entry)) (now (out .entry)) r (now (out .exit)) ⌝ }
     {
         let lent = self.lent(seen_store, cache_store);
         match lent {
@@ -808,7 +830,7 @@ impl Node {
                 node: self,
             },
             Lent::Fine => {
-                let c = accept(body);
+                let c = accept(Dialect { edition }, body);
                 match c {
                     Checked::Refused(why) => Asked {
                         answer: Ask::Refused(why),
@@ -823,24 +845,26 @@ impl Node {
         }
     }
 
-    // Writes the cached messages that a body asks for, as many as the reply room takes, where the state and the body were tested.
-    fn reply_to(self, cache_store: &[u8], body: &[u8], out: &mut [u8]) -> Serve
+    // Writes the cached messages that a body asks for and a second one does not decline, as many as the reply room takes, where the state and the bodies
+    // were tested.
+    fn reply_to(self, cache_store: &[u8], body: &[u8], unwanted: &[u8], out: &mut [u8]) -> Serve
         requires { ⌜ Usable (self .cache) (now «cache_store») ⌝ }
-        requires { ⌜ acceptOf (now body) ≡ Checked.Fine ⌝ }
-        ensures { λ r. ⌜ r ≡ replyTo (cachedOf (self .cache) (now («cache_store» .entry)) (wanted (now (body .entry)))) (now (out .entry)) ⌝ }
-        ensures { λ _. ⌜ now (out .exit) ≡ sets (now (out .entry)) 0 (replyBytes (cachedOf (self .cache) (now («cache_store» .entry)) (wanted (now (body .entry)))) (now (out .entry))) ⌝ }
+        requires { ⌜ (length (atPath (3 ∷ 2 ∷ 1 ∷ []) (now body)) ≤ 512) × (length (atPath (3 ∷ 5 ∷ 1 ∷ []) (now unwanted)) ≤ 512) ⌝ }
+        ensures { λ r. ⌜ r ≡ replyTo (cachedOf (self .cache) (now («cache_store» .entry)) (remaining (now (body .entry)) (now (unwanted .entry)))) (now (out .entry)) ⌝ }
+        ensures { λ _. ⌜ now (out .exit) ≡ sets (now (out .entry)) 0 (replyBytes (cachedOf (self .cache) (now («cache_store» .entry)) (remaining (now (body .entry)) (now (unwanted .entry)))) (now (out .entry))) ⌝ }
     {
         let mut named = [0usize; 2 * MAX_RECORDS];
         let mut first = [0usize; 2 * MAX_RECORDS];
         let path = [3u64, 2, 1];
         let n = parts_at(body, 0, body.len(), &path, &mut named, 0);
         let k = first_mentions(body, &named, n, &mut first);
+        let r = not_declined(body, &first, k, unwanted, &mut named);
         let cache = self.cache;
         let ring = cache.ring();
         let lens = cache.len;
         let id_lens = cache.id_len;
         let ids = cache.ids;
-        let m = cached(&lens, &id_lens, &ids, ring, body, &first, k, &mut named);
+        let m = cached(&lens, &id_lens, &ids, ring, body, &named, r, &mut first);
         if m == 0 {
             return Serve::Reply {
                 bytes: 0,
@@ -849,13 +873,13 @@ impl Node {
             };
         }
         let room = reply_room(out.len());
-        let w = parts_that_fit(cache_store, &named, m, 2, room);
+        let w = parts_that_fit(cache_store, &first, m, 2, room);
         if w == 0 {
             let mut none = [0u8; 1];
-            let needed = emit_parts(cache_store, &named, 1, 2, &mut none, 0);
+            let needed = emit_parts(cache_store, &first, 1, 2, &mut none, 0);
             return Serve::Room(needed);
         }
-        let bytes = emit_parts(cache_store, &named, w, 2, out, 0);
+        let bytes = emit_parts(cache_store, &first, w, 2, out, 0);
         Serve::Reply {
             bytes,
             messages: w,
@@ -863,9 +887,37 @@ impl Node {
         }
     }
 
-    // Writes the cached messages that the IWANTs of a body name, each once, and stops before the first that would pass the reply room.
-    pub fn serve(self, seen_store: &[u8], cache_store: &[u8], body: &[u8], out: &mut [u8]) -> Served
-        ensures { λ r. ⌜ Serves self (now («seen_store» .entry)) (now («cache_store» .entry)) (now (body .entry)) (now (out .entry)) r (now (out .exit)) ⌝ }
+    // Tests the second body, after the first: it is read in 1.2.
+    fn serve_taken(self, cache_store: &[u8], body: &[u8], unwanted: &[u8], out: &mut [u8]) -> Serve
+        requires { ⌜ Usable (self .cache) (now «cache_store») ⌝ }
+        requires { ⌜ length (atPath (3 ∷ 2 ∷ 1 ∷ []) (now body)) ≤ 512 ⌝ }
+        ensures { λ r. ⌜ r ≡ serveOn (replyTo (cachedOf (self .cache) (now («cache_store» .entry)) (remaining (now (body .entry)) (now (unwanted .entry)))) (now (out .entry))) (acceptOf (spoken Edition.V12) (now (unwanted .entry))) ⌝ }
+        ensures { λ _. ⌜ now (out .exit) ≡ whenTaken (acceptOf (spoken Edition.V12) (now (unwanted .entry))) (sets (now (out .entry)) 0 (replyBytes (cachedOf (self .cache) (now («cache_store» .entry)) (remaining (now (body .entry)) (now (unwanted .entry)))) (now (out .entry)))) (now (out .entry)) ⌝ }
+    {
+        let c = accept(
+            Dialect {
+                edition: Edition::V12,
+            },
+            unwanted,
+        );
+        match c {
+            Checked::Refused(why) => Serve::Refused(why),
+            Checked::Fine => self.reply_to(cache_store, body, unwanted, out),
+        }
+    }
+
+    // Writes the cached messages that the IWANTs of a body name, each once, but for those that the IDONTWANTs of a second body name, and stops before
+    // the first that would pass the reply room. The second body is read in 1.2 whatever the edition; an empty one is none.
+    pub fn serve(
+        self,
+        seen_store: &[u8],
+        cache_store: &[u8],
+        edition: Edition,
+        body: &[u8],
+        unwanted: &[u8],
+        out: &mut [u8],
+    ) -> Served
+        ensures { λ r. ⌜ Serves self (now («seen_store» .entry)) (now («cache_store» .entry)) edition (now (body .entry)) (now (unwanted .entry)) (now (out .entry)) r (now (out .exit)) ⌝ }
     {
         let lent = self.lent(seen_store, cache_store);
         match lent {
@@ -874,14 +926,14 @@ impl Node {
                 node: self,
             },
             Lent::Fine => {
-                let c = accept(body);
+                let c = accept(Dialect { edition }, body);
                 match c {
                     Checked::Refused(why) => Served {
                         answer: Serve::Refused(why),
                         node: self,
                     },
                     Checked::Fine => {
-                        let answer = self.reply_to(cache_store, body, out);
+                        let answer = self.serve_taken(cache_store, body, unwanted, out);
                         Served { answer, node: self }
                     }
                 }

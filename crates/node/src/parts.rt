@@ -1,7 +1,7 @@
 // Parts of lent bytes, kept as a table of places, two words a part: where it starts and where it ends. The parts of a body at a path of field
 // numbers, those that are mentioned first, and parts written as fields.
 ghost use mathlib.Core.Path.{_≡_};
-ghost use mathlib.Core.Bool.{cond};
+ghost use mathlib.Core.Bool.{cond, not};
 ghost use mathlib.Core.List.{[], _∷_, _++_};
 ghost use Prim.Native.Nat.{_+_, _*_, _≤_, _<_};
 ghost use lib.ListN.{length, drop, getD};
@@ -12,7 +12,8 @@ ghost use Rattle.protobuf.specs.Encode.{tag, bytesField};
 ghost use Rattle.rpc.specs.Encode.{repeated};
 ghost use Rattle.encode.specs.Puts.{Puts, Fits};
 ghost use Rattle.schema.specs.Count.{FieldWithin};
-ghost use Rattle.node.specs.Parts.{partsIn, Parts, atPath, once, fitting};
+ghost use Rattle.rows.specs.Ids.{among};
+ghost use Rattle.node.specs.Parts.{partsIn, Parts, atPath, once, without, fitting};
 use encode::put_head;
 use peer_id::uvarint_len;
 use protobuf::Field;
@@ -31,6 +32,18 @@ pub(crate) fn add_part(table: &mut [usize], n: usize, start: usize, end: usize) 
     table[n * 2] = start;
     table[n * 2 + 1] = end;
     n + 1
+}
+
+// Puts a part into a table where it is to be there; how many there are then.
+pub(crate) fn add_where(there: bool, table: &mut [usize], n: usize, start: usize, end: usize) -> usize
+    requires { ⌜ (n + 1) * 2 ≤ length (now table) ⌝ }
+    ensures { λ r. ⌜ r ≡ cond there (n + 1) n ⌝ }
+    ensures { λ _. ⌜ now (table .exit) ≡ cond there (sets (now (table .entry)) (n * 2) (start ∷ end ∷ [])) (now (table .entry)) ⌝ }
+{
+    if there {
+        return add_part(table, n, start, end);
+    }
+    n
 }
 
 // Puts the parts at a path of the submessage between start and end into a table after its n parts; how many there are then.
@@ -120,6 +133,52 @@ pub(crate) fn first_mentions(body: &[u8], from: &[usize], n: usize, to: &mut [us
             j += 1;
         }
         k = add_part(to, k, a, e);
+    }
+    k
+}
+
+// Whether some bytes are not among n parts.
+fn is_apart(s: &[u8], table: &[usize], n: usize, bytes: &[u8]) -> bool
+    requires { ⌜ Parts (now s) (now table) n ⌝ }
+    ensures { λ r. ⌜ r ≡ not (among (now (bytes .entry)) (partsIn (now (s .entry)) (now (table .entry)) n)) ⌝ }
+{
+    let mut i: usize = 0;
+    while i < n {
+        let a = table[i * 2];
+        let e = table[i * 2 + 1];
+        if same(&s[a..e], bytes) {
+            return false;
+        }
+        i += 1;
+    }
+    true
+}
+
+// Puts the parts of `from` that are not among the m parts of another body into `to`; how many those are.
+pub(crate) fn parts_without(
+    body: &[u8],
+    from: &[usize],
+    n: usize,
+    other: &[u8],
+    table: &[usize],
+    m: usize,
+    to: &mut [usize],
+) -> usize
+    requires { ⌜ Parts (now body) (now from) n ⌝ }
+    requires { ⌜ Parts (now other) (now table) m ⌝ }
+    requires { ⌜ n * 2 ≤ length (now to) ⌝ }
+    ensures { λ r. ⌜ partsIn (now (body .entry)) (now (to .exit)) r ≡ without (partsIn (now (other .entry)) (now (table .entry)) m) (partsIn (now (body .entry)) (now (from .entry)) n) ⌝ }
+    ensures { λ r. ⌜ Parts (now (body .entry)) (now (to .exit)) r ⌝ }
+    ensures { λ r. ⌜ r ≤ n ⌝ }
+{
+    let mut k: usize = 0;
+    let mut i: usize = 0;
+    while i < n {
+        let a = from[i * 2];
+        let e = from[i * 2 + 1];
+        let there = is_apart(other, table, m, &body[a..e]);
+        k = add_where(there, to, k, a, e);
+        i += 1;
     }
     k
 }

@@ -1,4 +1,5 @@
--- Writing an RPC: the bytes that stand for it, from the Protocol Buffers encoding document and message.rs. Fields stand
+-- Writing an RPC: the bytes that stand for it, from the Protocol Buffers encoding document and message.rs, IDONTWANTs
+-- after the prunes. Fields stand
 -- in the order of their numbers; what is absent is not written; a message stands as its raw bytes.
 use Prim.Native.Nat.{ℕ}
 use mathlib.Core.Bool.{Bool, true, false}
@@ -6,7 +7,7 @@ use mathlib.Core.List.{List, [], _∷_, _++_}
 use mathlib.Core.Option.{Option, none, some}
 use Rattle.protobuf.specs.Encode.{varintField, bytesField}
 use Rattle.rpc.specs.Rpc.{SubOpts, RawMessage, ControlIHave, ControlIWant, ControlGraft, PeerInfo, ControlPrune}
-use Rattle.rpc.specs.Rpc.{ControlMessage, Rpc}
+use Rattle.rpc.specs.Rpc.{ControlIDontWant, ControlMessage, Rpc}
 
 -- an optional field, and a repeated one
 abbrev pub optional : {A : Type 0} → (A → List ℕ) → Option A → List ℕ
@@ -40,12 +41,16 @@ unfoldable pub encodePrune : ControlPrune → List ℕ
 encodePrune x = optional (bytesField 1) (x .«topic_id») ++ (repeated (λ p. bytesField 2 (encodePeerInfo p)) (x .peers)
     ++ optional (varintField 3) (x .backoff))
 
+unfoldable pub encodeIDontWant : ControlIDontWant → List ℕ
+encodeIDontWant x = repeated (bytesField 1) (x .«message_ids»)
+
 unfoldable pub encodeControl : ControlMessage → List ℕ
 encodeControl x =
     repeated (λ h. bytesField 1 (encodeIHave h)) (x .ihave)
     ++ (repeated (λ w. bytesField 2 (encodeIWant w)) (x .iwant)
     ++ (repeated (λ g. bytesField 3 (encodeGraft g)) (x .graft)
-    ++ repeated (λ p. bytesField 4 (encodePrune p)) (x .prune)))
+    ++ (repeated (λ p. bytesField 4 (encodePrune p)) (x .prune)
+    ++ repeated (λ d. bytesField 5 (encodeIDontWant d)) (x .idontwant))))
 
 unfoldable pub encodeRpc : Rpc → List ℕ
 encodeRpc x =

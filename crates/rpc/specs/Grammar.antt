@@ -1,4 +1,4 @@
--- Which bodies mean which RPC, from the Protocol Buffers encoding document and the scope's rules. A body is fields one
+-- Which bodies mean which RPC in a dialect, from the Protocol Buffers encoding document and the scope's rules. A body is fields one
 -- after the other (protobuf's `Body`); a field is known by its number and its wire type, and all others are passed
 -- over; of a singular field the last wins; repeated ones append; a submessage is a body of its own; topics are UTF-8.
 -- Nothing here speaks of a reader.
@@ -7,10 +7,13 @@ use mathlib.Core.Bool.{Bool, not, cond}
 use mathlib.Core.List.{List, [], _∷_, _++_}
 use mathlib.Core.Option.{Option, none, some}
 use lib.Dec.{eqb}
+use Rattle.basis.specs.declared.Edition.{Edition}
+use Rattle.basis.specs.declared.Edition.the-variants.{V11, V12}
+use Rattle.basis.specs.declared.Dialect.{Dialect}
 use Rattle.utf8.specs.Grammar.{Utf8}
 use Rattle.protobuf.specs.Grammar.{Payload, number, eight, bytes, four, Entry, Body}
 use Rattle.rpc.specs.Rpc.{SubOpts, RawMessage, ControlIHave, ControlIWant, ControlGraft, PeerInfo, ControlPrune}
-use Rattle.rpc.specs.Rpc.{ControlMessage, Rpc}
+use Rattle.rpc.specs.Rpc.{ControlIDontWant, ControlMessage, Rpc}
 
 -- ---- the values of a field, in order
 -- a number before those that follow, where the field is the one asked for and a varint
@@ -100,12 +103,20 @@ pub data IsPrune : List ℕ → ControlPrune → Type 0 where
       → Pairs IsPeerInfo (bytesIn 2 es) ps
       → IsPrune s (record { «topic_id» = last (bytesIn 1 es); peers = ps; backoff = last (numbersIn 3 es) })
 
-pub data IsControl : List ℕ → ControlMessage → Type 0 where
+pub data IsIDontWant : List ℕ → ControlIDontWant → Type 0 where
+  is-idontwant : {s : List ℕ} {es : List Entry} → Body s es → IsIDontWant s (record { «message_ids» = bytesIn 1 es })
+
+-- the bytes in the length-delimited fields 5 of a control: to the edition 1.1 an unknown field
+abbrev pub idontwantsIn : Edition → List Entry → List (List ℕ)
+idontwantsIn V11 es = []
+idontwantsIn V12 es = bytesIn 5 es
+
+pub data IsControl (d : Dialect) : List ℕ → ControlMessage → Type 0 where
   is-control : {s : List ℕ} {es : List Entry} {hs : List ControlIHave} {ws : List ControlIWant} {gs : List ControlGraft}
-      {ps : List ControlPrune}
+      {ps : List ControlPrune} {ds : List ControlIDontWant}
       → Body s es → Pairs IsIHave (bytesIn 1 es) hs → Pairs IsIWant (bytesIn 2 es) ws → Pairs IsGraft (bytesIn 3 es) gs
-      → Pairs IsPrune (bytesIn 4 es) ps
-      → IsControl s (record { ihave = hs; iwant = ws; graft = gs; prune = ps })
+      → Pairs IsPrune (bytesIn 4 es) ps → Pairs IsIDontWant (idontwantsIn (d .edition) es) ds
+      → IsControl d s (record { ihave = hs; iwant = ws; graft = gs; prune = ps; idontwant = ds })
 
 -- a further control appends to the first
 abbrev pub join : ControlMessage → ControlMessage → ControlMessage
@@ -114,6 +125,7 @@ join c d = record {
   iwant = c .iwant ++ d .iwant;
   graft = c .graft ++ d .graft;
   prune = c .prune ++ d .prune;
+  idontwant = c .idontwant ++ d .idontwant;
 }
 
 abbrev pub joinTo : ControlMessage → Option ControlMessage → Option ControlMessage
@@ -124,8 +136,8 @@ abbrev pub joined : List ControlMessage → Option ControlMessage
 joined [] = none
 joined (c ∷ cs) = joinTo c (joined cs)
 
-pub data IsRpc : List ℕ → Rpc → Type 0 where
+pub data IsRpc (d : Dialect) : List ℕ → Rpc → Type 0 where
   is-rpc : {s : List ℕ} {es : List Entry} {ss : List SubOpts} {ms : List RawMessage} {cs : List ControlMessage}
       → Body s es → Pairs IsSubOpts (bytesIn 1 es) ss → Pairs IsMessage (bytesIn 2 es) ms
-      → Pairs IsControl (bytesIn 3 es) cs
-      → IsRpc s (record { subscriptions = ss; publish = ms; control = joined cs })
+      → Pairs (IsControl d) (bytesIn 3 es) cs
+      → IsRpc d s (record { subscriptions = ss; publish = ms; control = joined cs })

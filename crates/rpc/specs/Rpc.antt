@@ -1,5 +1,5 @@
--- The RPC as a value: the messages of the gossipsub v1.1 protobuf, over lists of bytes. What may be absent is an
--- Option, so that absent and empty stay apart. Names are message.rs's.
+-- The RPC as a value: the messages of the gossipsub v1.1 protobuf, and IDONTWANT of v1.2, over lists of bytes. What may
+-- be absent is an Option, so that absent and empty stay apart. Names are message.rs's.
 use Prim.Native.Nat.{ℕ}
 use mathlib.Core.Bool.{Bool}
 use mathlib.Core.List.{List}
@@ -45,13 +45,18 @@ pub record ControlPrune : Type 0 where
   pub peers : List PeerInfo
   pub backoff : Option ℕ
 
+-- v1.2: message ControlIDontWant { repeated bytes messageIDs = 1; }
+pub record ControlIDontWant : Type 0 where
+  pub «message_ids» : List (List ℕ)
+
 -- message ControlMessage { repeated ControlIHave ihave = 1; repeated ControlIWant iwant = 2; repeated ControlGraft
--- graft = 3; repeated ControlPrune prune = 4; }
+-- graft = 3; repeated ControlPrune prune = 4; }, in v1.2 also repeated ControlIDontWant idontwant = 5;
 pub record ControlMessage : Type 0 where
   pub ihave : List ControlIHave
   pub iwant : List ControlIWant
   pub graft : List ControlGraft
   pub prune : List ControlPrune
+  pub idontwant : List ControlIDontWant
 
 -- message RPC { repeated SubOpts subscriptions = 1; repeated Message publish = 2; optional ControlMessage control = 3;
 -- }

@@ -1,8 +1,8 @@
 -- `add_where` meets its contract.
 use Rattle.node.proofs.Asking.{add-there, add-not}
 use borrow.Author.Needs.{needs}
-use Rattle.node.proofs.add_where.Statement.{statement}
-use Rattle.node.proofs.add_where.Tie as tie
+use Rattle.node.proofs.parts.add_where.Statement.{statement}
+use Rattle.node.proofs.parts.add_where.Tie as tie
 
 add-part-requires : tie.Need-add-part-requires
 add-part-requires c κs = search needs

@@ -1,0 +1,16 @@
+-- `basis::dialect_of` meets its contract: its edition is the one that the number names.
+use mathlib.Core.Path.{ap}
+use Rattle.basis.specs.Dialect.{spoken, dialectOf}
+use borrow.Author.Needs.{needs}
+use Rattle.basis.proofs.dialect_of.Statement.{statement}
+use Rattle.basis.proofs.dialect_of.Tie as tie
+
+edition-of-requires : tie.Need-edition-of-requires
+edition-of-requires c κs = search needs
+
+returns : tie.Need-returns
+unfolding dialectOf
+returns c = ap spoken (c .edition-of .ensures)
+
+pub dialect-of-spec : {M : Type 1} → statement M
+dialect-of-spec = tie.close (tie.spec edition-of-requires returns)
