@@ -1,0 +1,117 @@
+-- `encode::emit_whole` meets its contract. The loop's invariant: what is left along the fields, written at the end of what was written, makes
+-- all of it.
+use Prim.Native.Nat.{_-_, _≤_}
+use mathlib.Core.Path.{_≡_, refl, sym, ap, _∙_}
+use mathlib.Core.List.{[]}
+use mathlib.Core.Bool.{cond}
+use native.Mathlib.Omega.{arith}
+use borrow.Author.Needs.{needs}
+use lib.ListN.{length}
+use Rattle.protobuf.specs.declared.Step.the-variants as step
+use Rattle.protobuf.specs.Laws.{field-stands}
+use Rattle.protobuf.specs.Walk.{walkAt, fieldsOf, isBytes, valueIn}
+use Rattle.protobuf.specs.WalkLaws.{walk-on, walk-end}
+use Rattle.protobuf.specs.Encode.{bytesField}
+use Rattle.canon.specs.Canon.{eachAlong, eachOf}
+use Rattle.encode.specs.Puts.{Going, going-all, going-none, going-fits, going-part}
+use Rattle.encode.proofs.Parts.{each-field}
+use Rattle.encode.proofs.emit_whole.Statement.{statement}
+use Rattle.encode.proofs.emit_whole.Tie as tie
+
+abbrev Inv-loop : tie.InvT-loop
+Inv-loop input n out₀ at i₀ end₀ out i end = Going out₀ at (eachOf (bytesField n) n input) out end (eachAlong (bytesField n) n input (walkAt input i)) × (length out ≡ length out₀)
+
+abbrev μ-loop : tie.MeasureT-loop
+μ-loop input n out₀ at i₀ end₀ out i end = length input - i
+
+loop-holds : tie.Need-loop-holds Inv-loop μ-loop
+loop-holds c = let a = c .before .before .args in (going-all (a .out .now) (a .at) (eachAlong (bytesField (a .n)) (a .n) (a .input .now) (fieldsOf (a .input .now))) (c .before .before .pre .1), refl)
+
+read-field-requires : tie.Need-read-field-requires Inv-loop μ-loop
+read-field-requires c κs = search needs
+
+enum-told : tie.Need-enum-told Inv-loop μ-loop
+enum-told c = search needs
+
+same-length : tie.Need-same-length Inv-loop μ-loop
+same-length c = let k = c .before .before .before .before .loop .inv .1 in omega arith
+
+returns : tie.Need-returns Inv-loop μ-loop
+returns c =
+    let a = c .before .before .before .before .before .before .before .args in
+    let l = c .before .before .before .before .loop in
+    going-none _ _ _ _ _ _ (l .inv .0) (ap (eachAlong (bytesField (a .n)) (a .n) (a .input .now)) (walk-on (a .input .now) (l .i) step.End (sym (c .enum-told .given .1) ∙ c .before .before .read-field .ensures)))
+
+enum-told-2 : tie.Need-enum-told-2 Inv-loop μ-loop
+enum-told-2 c = search needs
+
+same-length-2 : tie.Need-same-length-2 Inv-loop μ-loop
+same-length-2 c = let k = c .before .before .before .before .loop .inv .1 in omega arith
+
+returns-2 : tie.Need-returns-2 Inv-loop μ-loop
+returns-2 c =
+    let a = c .before .before .before .before .before .before .before .args in
+    let l = c .before .before .before .before .loop in
+    going-none _ _ _ _ _ _ (l .inv .0) (ap (eachAlong (bytesField (a .n)) (a .n) (a .input .now)) (walk-on (a .input .now) (l .i) _ (sym (c .enum-told2 .given .1) ∙ c .before .before .read-field .ensures)))
+
+enum-known-step : tie.Need-enum-known-step Inv-loop μ-loop
+enum-known-step c = search needs
+
+emit-there-requires : tie.Need-emit-there-requires Inv-loop μ-loop
+emit-there-requires c κs =
+    let a = c .before .before .before .before .before .before .before .before .before .args in
+    let l = c .before .before .before .before .before .before .loop in
+    let e = sym (c .before .before .step .given .1) ∙ c .before .before .before .before .read-field .ensures in
+    let f = c .before .before .step .given .0 .0 in
+    let x = cond (isBytes (a .n) f) (bytesField (a .n) (valueIn (a .input .now) f)) [] in
+    let o = eachAlong (bytesField (a .n)) (a .n) (a .input .now) (walkAt (a .input .now) (f .next)) in
+    let m = field-stands (a .input .now) (l .i) f e in
+    (c .before .before .before .before .before .before .before .before .before .pre .0, record { order = m .ends; fits = m .within }, going-fits _ _ _ _ _ _ (l .inv .0) x o (each-field (bytesField (a .n)) (a .n) (a .input .now) (l .i) f e))
+
+loop-less : tie.Need-loop-less Inv-loop μ-loop
+loop-less c =
+    let a = c .before .before .before .before .before .before .before .before .before .before .before .before .args in
+    let m = field-stands (a .input .now) (c .before .before .before .before .before .before .before .before .before .loop .i) _ (sym (c .before .before .before .before .before .step .given .1) ∙ c .before .before .before .before .before .before .before .read-field .ensures) in
+    omega arith
+
+loop-again : tie.Need-loop-again Inv-loop μ-loop
+loop-again c =
+    let a = c .before .before .before .before .before .before .before .before .before .before .before .before .args in
+    let l = c .before .before .before .before .before .before .before .before .before .loop in
+    let e = sym (c .before .before .before .before .before .step .given .1) ∙ c .before .before .before .before .before .before .before .read-field .ensures in
+    let f = c .before .before .before .before .before .step .given .0 .0 in
+    let x = cond (isBytes (a .n) f) (bytesField (a .n) (valueIn (a .input .now) f)) [] in
+    let o = eachAlong (bytesField (a .n)) (a .n) (a .input .now) (walkAt (a .input .now) (f .next)) in
+    let k = l .inv .1 in
+    (going-part _ _ _ _ _ _ (l .inv .0) x o (each-field (bytesField (a .n)) (a .n) (a .input .now) (l .i) f e) _ _ (c .before .before .emit-there .ensures), omega arith)
+
+same-length-3 : tie.Need-same-length-3 Inv-loop μ-loop
+same-length-3 c = let k = c .before .loop .inv .1 in omega arith
+
+returns-3 : tie.Need-returns-3 Inv-loop μ-loop
+returns-3 c =
+    let a = c .before .before .before .before .args in
+    let l = c .before .loop in
+    let h : length (a .input .now) ≤ l .i = omega arith in
+    going-none _ _ _ _ _ _ (l .inv .0) (ap (eachAlong (bytesField (a .n)) (a .n) (a .input .now)) (walk-end (a .input .now) (l .i) h))
+
+pub emit-whole-spec : {M : Type 1} → statement M
+emit-whole-spec =
+    tie.close
+    (tie.spec
+    Inv-loop
+    μ-loop
+    loop-holds
+    read-field-requires
+    enum-told
+    same-length
+    returns
+    enum-told-2
+    same-length-2
+    returns-2
+    enum-known-step
+    emit-there-requires
+    loop-less
+    loop-again
+    same-length-3
+    returns-3)
