@@ -161,7 +161,7 @@ encode-fine {d} {s} {x} out w =
     (writes (λ z. encodedTold (ofWritten z)) (λ n. refl) (λ n. refl) (encodeRpc x) out)
 
 encode-only : {d : Dialect} {s : List ℕ} {x : Rpc} {a : Told} {l : List ℕ} (out : List ℕ) → Within d s x
-    → Writes (encodeRpc x) out a l 
+    → Writes (encodeRpc x) out a l
     → (encodedTold (ofWritten (answer (canonBody d s) out)) ≡ a) × (written (canonBody d s) out ≡ l)
 encode-only {d} {s} {x} {a} {l} out w r =
     subst (λ (bs : List ℕ). (encodedTold (ofWritten (answer bs out)) ≡ a) × (written bs out ≡ l))

@@ -269,12 +269,15 @@ iwant-canonical _ _ (is-iwant {s = s} {es = es} g) =
     means-as IsIWant refl (ap (λ (y : List (List ℕ)). record { «message_ids» = y }) (bytes-here 1 ds))
     (is-iwant (bytes-body 1 (omega arith) (omega arith) ds (bytes-sized 1 g)))
 
-pub idontwant-canonical : (s : List ℕ) (x : ControlIDontWant) → IsIDontWant s x → IsIDontWant (encodeIDontWant x) x
+pub idontwant-means : (x : ControlIDontWant) → Each Sized (x .«message_ids») → IsIDontWant (encodeIDontWant x) x
 unfolding encodeIDontWant
-idontwant-canonical _ _ (is-idontwant {s = s} {es = es} g) =
-    let ds = bytesIn 1 es in
+idontwant-means x z =
+    let ds = x .«message_ids» in
     means-as IsIDontWant refl (ap (λ (y : List (List ℕ)). record { «message_ids» = y }) (bytes-here 1 ds))
-    (is-idontwant (bytes-body 1 (omega arith) (omega arith) ds (bytes-sized 1 g)))
+    (is-idontwant (bytes-body 1 (omega arith) (omega arith) ds z))
+
+pub idontwant-canonical : (s : List ℕ) (x : ControlIDontWant) → IsIDontWant s x → IsIDontWant (encodeIDontWant x) x
+idontwant-canonical _ x (is-idontwant g) = idontwant-means x (bytes-sized 1 g)
 
 pub graft-means : (x : ControlGraft) → Each Sized (opt (x .«topic_id»)) → Each Utf8 (opt (x .«topic_id»))
     → IsGraft (encodeGraft x) x
