@@ -20,7 +20,6 @@ use Rattle.rpc.specs.Grammar.{IsIDontWant, is-idontwant, IsControl, is-control,
 use Rattle.meaning.specs.Entries.{put-bytes}
 use Rattle.meaning.specs.Size.{sumOf, someRecords, recordsIn}
 use Rattle.node.specs.Parts.{valuesAlong, inEach, atPath, once, without}
-use Rattle.node.specs.PartsLaws.{without-none}
 use Rattle.node.specs.Calls.{offered, wanted, unwantedIn, remaining}
 use Rattle.outputs.specs.Named.{ihaveIds, iwantIds, idontwantIds, offersIn, wantsIn, declinedIn, offersOf}
 use Rattle.outputs.specs.Named.{wantsOf, unwantedOf}
@@ -146,15 +145,6 @@ pub remaining-means : {d : Dialect} {s t : List ℕ} {x y : Rpc} → IsRpc d s x
     → remaining s t ≡ without (unwantedOf y) (once (wantsOf x))
 unfolding remaining
 remaining-means g h = ap₂ without (unwanted-means h) (wanted-once g)
-
--- no second body declines none
-pub none-unwanted : unwantedIn [] ≡ []
-unfolding unwantedIn atPath
-none-unwanted = refl
-
-pub remaining-all : (s : List ℕ) → remaining s [] ≡ wanted s
-unfolding remaining
-remaining-all s = rw none-unwanted (without-none (wanted s))
 
 -- ---- fewer ids than records: ids that are offered stand in an IHAVE, which is one record more
 offers-in : (o : Option ControlMessage) → 1 ≤ length (offersIn o) → 1 + length (offersIn o) ≤ someRecords o

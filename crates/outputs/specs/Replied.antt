@@ -37,8 +37,8 @@ use Rattle.canon.specs.Taken.{Within}
 use Rattle.mcache.specs.declared.MessageCache.{MessageCache}
 use Rattle.mcache.specs.State.{messageIn, ringOf, messageIdSize}
 use Rattle.mcache.specs.StateLaws.{Tests, fine-tests}
-use Rattle.node.specs.Parts.{atPath, without, fitting}
-use Rattle.node.specs.PartsLaws.{once-distinct, without-among, fitting-next}
+use Rattle.node.specs.Parts.{atPath, fitting}
+use Rattle.node.specs.PartsLaws.{once-distinct, without-distinct, fitting-next}
 use Rattle.node.specs.declared.Node.{Node}
 use Rattle.node.specs.declared.Lent.the-variants as lent
 use Rattle.node.specs.declared.Serve.the-variants as serve
@@ -70,15 +70,7 @@ rows-each f ring held (i ∷ is) h =
     either (ltb (indexOf i held) (length held)) (λ t. simp t (h (indexOf i held) (ltb-true _ _ t) and r))
     (λ t. simp t r)
 
--- ---- of ids that are each there once, those that remain are each there once
-without-distinct : (others is : List (List ℕ)) → distinct is ≡ true → distinct (without others is) ≡ true
-unfolding distinct without
-without-distinct others [] d = refl
-without-distinct others (i ∷ is) d =
-    either (among i is) (λ t. clash (let z = simp t at d in cc))
-    (λ t. let r = without-distinct others is (simp t at d) in
-    either (among i others) (λ u. simp u r) (λ u. simp (u, without-among others is i, t) r))
-
+-- ---- the ids that remain are each there once
 remaining-distinct : (body second : List ℕ) → distinct (remaining body second) ≡ true
 unfolding remaining wanted
 remaining-distinct body second =
