@@ -105,7 +105,8 @@ module _ {set : List (List ℕ)} {x : Settings} (ms : MessageSet (x .flags) set)
         → Holding set x first past (at ∷ rs) left got s → MemberAt (x .flags) set (admit ed body i word at)
         → One (cond (brings (x .flags) m (admit ed body i word at)) 1 0)
         (countAt isNew (x .flags) m s (admit ed body i word at))
-        (countAt isDuplicate (x .flags) m s (admit ed body i word at)) (among m got) (among m (gotNext (x .flags) got (admit ed body i word at)))
+        (countAt isDuplicate (x .flags) m s (admit ed body i word at))
+        (among m got) (among m (gotNext (x .flags) got (admit ed body i word at)))
     admit-one ed body i word at h inside =
         let c = admit ed body i word at in
         either (brings (x .flags) m c)

@@ -1,5 +1,6 @@
--- What the calls of a round answer and write, with full buffers and in any editions: none is refused; the advertisement,
--- the request and the reply are those of the definitions; and the reply has fifteen messages, or all that are asked for.
+-- What the calls of a round answer and write, with full buffers and in any editions: none is refused; the
+-- advertisement, the request and the reply are those of the definitions; and the reply has fifteen messages, or all
+-- that are asked for.
 use Prim.Native.Nat.{ℕ, zero, suc, _-_, _≤_, _<_, min}
 use mathlib.Core.Path.{_≡_, refl, sym, ap, subst, _∙_}
 use mathlib.Core.Bool.{true}
