@@ -261,9 +261,10 @@ module _ (n : Node) (ss cs out : List ℕ) (fine : lentOf n ss cs ≡ lent.Fine)
   unfolding serveAnswer
   serve-refused-exactly ed body second b b2 a =
       let r = replyFor (roomOf out) (cachedOf (n .cache) cs (remaining body second)) in
-      rw fine
-      (λ p. refuses ed body second b b2 r (acceptOf (spoken ed) body) refl a (p .0) (p .1),
-      refuses-only ed body second b b2 r a)
+      rw fine (
+        λ p. refuses ed body second b b2 r (acceptOf (spoken ed) body) refl a (p .0) (p .1),
+        refuses-only ed body second b b2 r a,
+      )
 
   -- and with no second body, where the body that asks is
   pub serve-alone-refused : (ed : Edition) (body : List ℕ) → Bytes body → (a : Told)

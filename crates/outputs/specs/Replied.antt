@@ -27,7 +27,7 @@ use Rattle.rows.specs.StoreLaws.{index-among}
 use Rattle.protobuf.specs.declared.Checked.the-variants as checked
 use Rattle.protobuf.specs.Encode.{bytesField}
 use Rattle.rpc.specs.Rpc.{RawMessage, Rpc}
-use Rattle.rpc.specs.Grammar.{Each, none-left, _and_}
+use Rattle.rpc.specs.Grammar.{Each, none-left, _and_, IsRpc}
 use Rattle.rpc.specs.Encode.{repeated, encodeRpc}
 use Rattle.meaning.specs.Size.{recordsIn}
 use Rattle.schema.specs.Accept.{acceptOf}
@@ -126,7 +126,8 @@ replies ms out h n =
     let l = served-le ms out in
     let t = length-take-le k ms l in
     let r = all-messages (each-take k h) in
-    let w = λ (d : Dialect). messages-mean d (r .sized) (r .means) in
+    let w : (d : Dialect) → IsRpc d (repeated (bytesField 2) (take k ms)) (published (r .values)) =
+    λ d. messages-mean d (r .sized) (r .means) in
     let e = ap (repeated (bytesField 2)) (r .raws) in
     record {
       rpc = published (r .values);
