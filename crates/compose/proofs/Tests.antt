@@ -16,6 +16,7 @@ use Rattle.schema.specs.declared.Place.{Place}
 use Rattle.schema.specs.declared.Place.the-variants as place
 use Rattle.protobuf.specs.Walk.{between}
 use Rattle.protobuf.specs.WalkLaws.{between-length}
+use Rattle.schema.specs.Schema.{ownOf}
 use Rattle.message.specs.declared.Record.{Record}
 use Rattle.message.specs.Rows.{kindFrom, recordFrom}
 use Rattle.meaning.specs.ReadBack.{bytesAt, rawOf}
@@ -374,10 +375,10 @@ module _ (b : List ℕ) (at : ℕ) (p : Place) (a e : ℕ) (inside : insideAt (l
 -- its places lie within the bytes
 pub message-places : (t b : List ℕ) (i : ℕ) (r : Record) → Inside t b → i < length t / 20 → isCode 2 (recordFrom t (i * 20)) ≡ true
     → r ≡ recordFrom t (i * 20) → MessageInside (length b) (r .start) (r .slots)
-unfolding kindFrom
+unfolding ownOf kindFrom
 message-places t b i r h l k e =
     message-inside-is (length b) (r .start) (r .slots)
-    (row-fields (length b) r (inside-row t b i r h l e) kind.RawMessage (code-kind (r .kind) 2 (ap (isCode 2) e ∙ k)))
+    (row-fields (length b) r (inside-row t b i r h l e) kind.RawMessage (code-kind (r .kind) 2 refl (ap (isCode 2) e ∙ k)))
 
 -- one test after the other
 pub weighed-by : (flags : ℕ) (b : List ℕ) (r s : Record) (rs : List Record) (unsigned : Bool) (from seqno backed limits x y z : Lists) → r ≡ s
