@@ -26,7 +26,7 @@ use Rattle.schema.specs.Schema.{ownOf}
 use Rattle.message.specs.declared.Record.{Record}
 use Rattle.message.specs.Rows.{kindCode, kindFrom, recordFrom}
 use Rattle.meaning.specs.ReadBack.{bytesAt, numberAt, rawOf}
-use Rattle.meaning.specs.Table.{IsRecord, kind-back}
+use Rattle.meaning.specs.Table.{IsRecord}
 use Rattle.rpc.specs.Grammar.{nonzero}
 use Rattle.rpc.specs.Encode.{optional, repeated, flag, encodeSubOpts, encodeGraft, encodePeerInfo, encodePrune, signPrefix, signBytes}
 use Rattle.compose.specs.Lent.{rowsFrom, isCode, insideAt, fieldsInside, rowInside}
@@ -35,7 +35,7 @@ use Rattle.compose.specs.Weighed.{capped}
 use Rattle.compose.specs.Puts.{Puts, capped-small, capped-add, puts-short, puts-field, flagged}
 use Rattle.compose.specs.Puts.{Written, of-sub-opts, of-message, of-graft, of-prune, rowBytes, rowPart, eachRow, topicPart, peerPart}
 use Rattle.compose.specs.Puts.{slotAt, fieldPart, hasRow, controlBytes}
-use Rattle.compose.specs.Laws.{rows-step, rows-end, peers-step, topics-step, no-peers, no-topics}
+use Rattle.compose.specs.Laws.{code-kind, rows-step, rows-end, peers-step, topics-step, no-peers, no-topics}
 
 -- ---- codes and kinds
 small-code : (c : ℕ) → c ≤ 11 → kindCode (kindFrom c) ≡ c
@@ -83,27 +83,6 @@ code-from c d l h =
 pub row-code : (t : List ℕ) (i c : ℕ) → 1 ≤ c → c ≤ 10 → eqb (getD t (i * 20) 0) c ≡ eqb (kindCode (recordFrom t (i * 20) .kind)) c
 unfolding recordFrom
 row-code t i c l h = code-from (getD t (i * 20) 0) c l h
-
--- a code tells whether its kind is a record, and of a record which kind it is
-own-code : (k : Kind) → ownOf (kindFrom (kindCode k)) ≡ ownOf k
-unfolding ownOf kindFrom kindCode
-own-code (kind.Rpc d) = refl
-own-code kind.SubOpts = refl
-own-code kind.RawMessage = refl
-own-code kind.Topic = refl
-own-code (kind.ControlMessage d) = refl
-own-code kind.ControlIHave = refl
-own-code kind.ControlIWant = refl
-own-code kind.MessageId = refl
-own-code kind.ControlGraft = refl
-own-code kind.ControlPrune = refl
-own-code kind.PeerInfo = refl
-own-code kind.ControlIDontWant = refl
-
-pub code-kind : (k : Kind) (c : ℕ) → IsRecord (kindFrom c) → eqb (kindCode k) c ≡ true → k ≡ kindFrom c
-code-kind k c o h =
-    let e : kindFrom (kindCode k) ≡ kindFrom c = ap kindFrom (eqb-true (kindCode k) c h) in
-    sym (kind-back k (sym (own-code k) ∙ ap ownOf e ∙ o)) ∙ e
 
 -- ---- what lies within
 pub place-inside : (n at a e : ℕ) (p : Place) → insideAt n at p ≡ true → p ≡ place.Present a e → (a ≤ e) × (at + e ≤ n)

@@ -38,8 +38,8 @@ use Rattle.compose.specs.Weighed.{capped, andThen, given, fromFine, seqn
 use Rattle.compose.specs.Weighed.{weighed, firstUnfit}
 use Rattle.compose.specs.Compose.{textOf, textFine, textsFine, countFine, listsOf}
 use Rattle.compose.specs.Puts.{capped-bound, capped-below, FindsRow, found, missing}
-use Rattle.compose.specs.Laws.{rows-step, rows-end, messages-step, topics-step, no-messages, no-topics}
-use Rattle.compose.proofs.Parts.{code-kind, place-inside, row-inside-is, MessageInside, message-inside-is}
+use Rattle.compose.specs.Laws.{code-kind, rows-step, rows-end, messages-step, topics-step, no-messages, no-topics}
+use Rattle.compose.proofs.Parts.{place-inside, row-inside-is, MessageInside, message-inside-is}
 
 -- ---- tests one after the other
 pub and-no : {a x : Bool} (b : Bool) → a ≡ x → a ≡ false → false ≡ x && b

@@ -1,4 +1,4 @@
--- Laws of lent rows and of what they say, for the writers and for composed: a row and those after it; each list by its first row; the RPC by walks over rows of one kind; and rows that are lent well lie within the bytes.
+-- Laws of lent rows and of what they say, for the writers and for composed: a kind by its code; a row and those after it; each list by its first row; the RPC by walks over rows of one kind; and rows that are lent well lie within the bytes.
 use Prim.Native.Nat.{ℕ, zero, suc, _+_, _-_, _*_, _/_, _%_, _≤_, _<_}
 use mathlib.Core.Path.{_≡_, refl, sym, ap, ap₂, subst, _∙_}
 use mathlib.Core.Bool.{Bool, true, false, cond, _&&_, _||_}
@@ -12,16 +12,39 @@ use Rattle.basis.specs.Cases.{either, both}
 use Rattle.protobuf.specs.Encode.{bytesField}
 use Rattle.schema.specs.declared.Kind.{Kind}
 use Rattle.schema.specs.declared.Kind.the-variants as kind
+use Rattle.schema.specs.Schema.{ownOf}
 use Rattle.message.specs.declared.Record.{Record}
-use Rattle.message.specs.Rows.{kindCode, recordFrom}
+use Rattle.message.specs.Rows.{kindCode, kindFrom, recordFrom}
 use Rattle.meaning.specs.ReadBack.{rawOf, nothing, gatherKind, gather}
-use Rattle.meaning.specs.Table.{rowsIn}
+use Rattle.meaning.specs.Table.{IsRecord, kind-back, rowsIn}
 use Rattle.rpc.specs.Rpc.{SubOpts, RawMessage, ControlGraft, PeerInfo, ControlPrune, ControlMessage}
 use Rattle.rpc.specs.Encode.{optional, repeated, encodeSubOpts, encodeGraft, encodePrune, encodeControl, encodeRpc}
 use Rattle.compose.specs.Lent.{rowsFrom, lentRows, isCode, rowInside, heldBy, lentFrom, lentWell, Inside}
 use Rattle.compose.specs.Said.{encodeMessage, renewed, subscriptionsIn, messagesIn, graftsIn, prunesIn, topicsFrom, peersFrom}
 use Rattle.compose.specs.Said.{subOptsOf, graftOf, peerOf, pruneOf, messageOf, controlOf, said}
 use Rattle.compose.specs.Puts.{rowBytes, eachRow, hasRow, controlBytes}
+
+-- ---- a kind by its code
+-- a code tells whether its kind is a record, and of a record which it is
+own-code : (k : Kind) → ownOf (kindFrom (kindCode k)) ≡ ownOf k
+unfolding ownOf kindFrom kindCode
+own-code (kind.Rpc d) = refl
+own-code kind.SubOpts = refl
+own-code kind.RawMessage = refl
+own-code kind.Topic = refl
+own-code (kind.ControlMessage d) = refl
+own-code kind.ControlIHave = refl
+own-code kind.ControlIWant = refl
+own-code kind.MessageId = refl
+own-code kind.ControlGraft = refl
+own-code kind.ControlPrune = refl
+own-code kind.PeerInfo = refl
+own-code kind.ControlIDontWant = refl
+
+pub code-kind : (k : Kind) (c : ℕ) → IsRecord (kindFrom c) → eqb (kindCode k) c ≡ true → k ≡ kindFrom c
+code-kind k c o h =
+    let e : kindFrom (kindCode k) ≡ kindFrom c = ap kindFrom (eqb-true (kindCode k) c h) in
+    sym (kind-back k (sym (own-code k) ∙ ap ownOf e ∙ o)) ∙ e
 
 -- ---- a row and those after it
 rows-left : (t : List ℕ) (i n : ℕ) → i < n → rowsIn t i (n - i) ≡ recordFrom t (i * 20) ∷ rowsIn t (i + 1) (n - (i + 1))
