@@ -1,4 +1,6 @@
--- What decode leaves in any dialect of a body without IHAVE, IWANT and IDONTWANT can be lent as it is, and says the same RPC with each message made anew; so every RPC that lists can say can be lent, and what was written, lent again, is written again.
+-- What decode leaves in any dialect of a body without IHAVE, IWANT and IDONTWANT can be lent as it is, and says the
+-- same RPC with each message made anew; so every RPC that lists can say can be lent, and what was written, lent again,
+-- is written again.
 use Prim.Native.Nat.{ℕ, _+_, _-_, _*_, _/_, _%_, _≤_, _<_}
 use mathlib.Core.Path.{_≡_, refl, sym, ap, ap₂, subst, _∙_}
 use mathlib.Core.Bool.{true, false}
@@ -21,7 +23,8 @@ use Rattle.message.specs.Rows.{rowsOf, wordsOfAll, firstDialect}
 use Rattle.message.specs.RowsLaws.{all-length}
 use Rattle.message.specs.Decode.{hasControl, onCount, decodeAnswer, leaves, decodeTable}
 use Rattle.message.specs.Told.{decodedTold}
-use Rattle.rpc.specs.Rpc.{SubOpts, RawMessage, ControlIHave, ControlIWant, ControlGraft, ControlPrune, ControlIDontWant, ControlMessage, Rpc}
+use Rattle.rpc.specs.Rpc.{SubOpts, RawMessage, ControlIHave, ControlIWant, ControlGraft, ControlPrune}
+use Rattle.rpc.specs.Rpc.{ControlIDontWant, ControlMessage, Rpc}
 use Rattle.rpc.specs.Grammar.{Each, none-left, _and_, joined, IsRpc, is-rpc}
 use Rattle.rpc.specs.Encode.{encodeRpc}
 use Rattle.meaning.specs.ReadBack.{Gathered, nothing, gather}
@@ -90,11 +93,18 @@ meant-lends {d} (is-rpc {s = s} {es = es} {ss = ss} {ms = ms} {cs = cs} g h1 h2 
     let rs = rowsOf (kind.Rpc d) 0 s in
     let own = all-records (kind.Rpc d) 0 s in
     let e = rpc-gathered d s es ss ms cs g h1 h2 h3 in
-    let n = rpc-records {d} (is-rpc g h1 h2 h3) in
+    let n = rpc-records {d = d} (is-rpc g h1 h2 h3) in
     let c = quiet-flat cs q in
     let w : Waits false false (gather s rs nothing) =
     subst (Waits false false) (sym e)
-    (record { topics = λ i. refl; peers = λ i. refl; ids = refl; ihave = c .ihave; iwant = c .iwant; idontwant = c .idontwant }) in
+    (record {
+      topics = λ i. refl;
+      peers = λ i. refl;
+      ids = refl;
+      ihave = c .ihave;
+      iwant = c .iwant;
+      idontwant = c .idontwant;
+    }) in
     let l = waits-lent s (length s) false false rs own (rows-inside (kind.Rpc d) 0 (length s) s (omega arith)) w in
     let u = texts-fine s rs (subst Texts (sym e) (meant-texts d h1 h2 h3)) in
     let k = words-lent rs own in
@@ -117,14 +127,16 @@ pub lend-decoded : {d : Dialect} {s : List ℕ} {x : Rpc} → Within d s x → E
 lend-decoded w q = meant-lends (w .means) (w .few) q
 
 -- and those words are what stands at the front of a table with room for them
-pub decoded-words : {d : Dialect} {s : List ℕ} {x : Rpc} (table : List ℕ) → Within d s x → recordsIn x ≤ length table / 20
+pub decoded-words : {d : Dialect} {s : List ℕ} {x : Rpc} (table : List ℕ) → Within d s x
+    → recordsIn x ≤ length table / 20
     → take (recordsIn x * 20) (decodeTable d s table) ≡ wordsOfAll (rowsOf (kind.Rpc d) 0 s)
 unfolding decodeTable decodeAnswer
 decoded-words {d} {s} {x} table w r =
     let n = recordsIn x in
     let ws = wordsOfAll (rowsOf (kind.Rpc d) 0 s) in
     let l : length ws ≡ n * 20 = all-length (rowsOf (kind.Rpc d) 0 s) ∙ omega (arith, rpc-records (w .means)) in
-    ap (λ (c : Tested). take (n * 20) (leaves s table (onCount (length table / 20) (hasControl s) c))) (records-within w)
+    ap (λ (c : Tested). take (n * 20) (leaves d s table (onCount (length table / 20) (hasControl s) c)))
+    (records-within w)
     ∙ simp (le-ltb (length table / 20) n r)
     (ap (take (n * 20)) (sets-eq ws table 0 (omega arith)) ∙ take-at ws (drop (0 + length ws) table) (n * 20) l)
 
@@ -138,7 +150,8 @@ decoded-lends d s table n c x b e i q =
     let w : Within d s x = subst (Within d s) r (a .within) in
     let k : n ≡ recordsIn x = a .count ∙ ap recordsIn r in
     let t : take (n * 20) (decodeTable d s table) ≡ wordsOfAll (rowsOf (kind.Rpc d) 0 s) =
-    ap (λ (j : ℕ). take (j * 20) (decodeTable d s table)) k ∙ decoded-words table w (omega (arith, a .room, a .count)) in (
+    ap (λ (j : ℕ). take (j * 20) (decodeTable d s table)) k
+    ∙ decoded-words table w (omega (arith, a .room, a .count)) in (
       subst (λ (u : List ℕ). Lends u s (anew x)) (sym t) (lend-decoded w q),
       subst Words (sym t) (body-words d s b (omega (arith, w .small))),
     )
@@ -171,9 +184,11 @@ spoken-same none q = refl
 spoken-same (some c) (q and none-left) =
     control-same (c .graft) (c .prune) (q .there)
     ∙ ap₂ (λ (h : List ControlIHave) (w : List ControlIWant).
-    some (record { ihave = h; iwant = w; graft = c .graft; prune = c .prune; idontwant = [] })) (sym (q .quiet .ihave)) (sym (q .quiet .iwant))
+    some (record { ihave = h; iwant = w; graft = c .graft; prune = c .prune; idontwant = [] })) (sym (q .quiet .ihave))
+    (sym (q .quiet .iwant))
     ∙ ap (λ (n : List ControlIDontWant).
-    some (record { ihave = c .ihave; iwant = c .iwant; graft = c .graft; prune = c .prune; idontwant = n })) (sym (q .quiet .idontwant))
+    some (record { ihave = c .ihave; iwant = c .iwant; graft = c .graft; prune = c .prune; idontwant = n }))
+    (sym (q .quiet .idontwant))
 
 pub anew-same : (x : Rpc) → Sayable x → anew x ≡ x
 anew-same x q =
@@ -188,7 +203,8 @@ quiet-of (p and ps) = p .quiet and quiet-of ps
 pub lend-sayable : (d : Dialect) (x : Rpc) → Sayable x → Within d (encodeRpc x) x
     → Lends (wordsOfAll (rowsOf (kind.Rpc d) 0 (encodeRpc x))) (encodeRpc x) x
 lend-sayable d x q w =
-    subst (Lends (wordsOfAll (rowsOf (kind.Rpc d) 0 (encodeRpc x))) (encodeRpc x)) (anew-same x q) (lend-decoded w (quiet-of (q .control)))
+    subst (Lends (wordsOfAll (rowsOf (kind.Rpc d) 0 (encodeRpc x))) (encodeRpc x)) (anew-same x q)
+    (lend-decoded w (quiet-of (q .control)))
 
 pub every-rpc : (d : Dialect) (x : Rpc) → Sayable x → Within d (encodeRpc x) x → Bytes (encodeRpc x) → CanSay x
 every-rpc d x q w b =
@@ -258,7 +274,8 @@ unfolding lentWell
 whole-rows t b h =
     eqb-true (length t % 20) 0 (both (eqb (length t % 20) 0) (lentFrom (length b) false false (lentRows t)) h .0)
 
-pub written-again : (d : Dialect) (flags : ℕ) (t b table : List ℕ) → Words t → writeTested flags t b ≡ Fine → length t ≤ length table
+pub written-again : (d : Dialect) (flags : ℕ) (t b table : List ℕ) → Words t → writeTested flags t b ≡ Fine
+    → length t ≤ length table
     → Alike flags t b (take (length t) (decodeTable d (bodyOf t b) table)) (bodyOf t b)
 written-again d flags t b table w h l =
     let p = passed-of flags t b h in

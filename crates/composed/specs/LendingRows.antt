@@ -80,7 +80,8 @@ module _ (s : List ℕ) (n at : ℕ) (l : at + length s ≤ n) where
 leaf-inside : (k : Kind) (n a e : ℕ) → fieldsInside n a k noSlots ≡ true → a ≤ e → e ≤ n
     → Lies n (record { kind = k; start = a; end = e; slots = noSlots })
 unfolding rowInside
-leaf-inside k n a e f h l = and-both (leb a e) _ (le-leb a e h) (and-both (leb e n) (fieldsInside n a k noSlots) (le-leb e n l) f)
+leaf-inside k n a e f h l =
+    and-both (leb a e) _ (le-leb a e h) (and-both (leb e n) (fieldsInside n a k noSlots) (le-leb e n l) f)
 
 role-inside : (base n : ℕ) (s : List ℕ) (f : Field) (r : Role) → base + length s ≤ n → f .start ≤ f .next → f .next ≤ length s
     → ((j : Kind) (form : Form) (b : ℕ) (p : List ℕ) → r ≡ Sub j form → b + length p ≤ n → Each (Lies n) (rowsOf j b p))

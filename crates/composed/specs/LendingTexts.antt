@@ -118,8 +118,8 @@ held-kind kind.PeerInfo b r g m p o w =
 held-kind kind.ControlIDontWant b r g m p o w = let z = w .idontwant in clash (cc)
 
 -- rows that lie within n bytes, where nothing waits, are lent well
-pub waits-lent : (b : List ℕ) (n : ℕ) (m p : Bool) (rs : List Record) → AllRecords rs → Each (Lies n) rs → Waits m p (gather b rs nothing)
-    → lentFrom n m p rs ≡ true
+pub waits-lent : (b : List ℕ) (n : ℕ) (m p : Bool) (rs : List Record) → AllRecords rs → Each (Lies n) rs
+    → Waits m p (gather b rs nothing) → lentFrom n m p rs ≡ true
 waits-lent b n m p [] none-left none-left w = refl
 waits-lent b n m p (r ∷ rs) (o and os) (i and is) w =
     let h = held-kind (r .kind) b r (gather b rs nothing) m p o w in
@@ -230,7 +230,13 @@ told-kind kind.PeerInfo b r g o =
 told-kind kind.ControlIDontWant b r g o =
     record {
       fine = refl;
-      rest = record { topics = o .topics; subscriptions = o .subscriptions; publish = o .publish; grafts = o .grafts; prunes = o .prunes };
+      rest = record {
+        topics = o .topics;
+        subscriptions = o .subscriptions;
+        publish = o .publish;
+        grafts = o .grafts;
+        prunes = o .prunes;
+      };
     }
 
 pub texts-fine : (b : List ℕ) (rs : List Record) → Texts (gather b rs nothing) → textsFine b rs ≡ Fine
@@ -259,7 +265,8 @@ prune-plain : (d : List ℕ) (p : ControlPrune) → IsPrune d p → PlainPrune p
 prune-plain _ _ (is-prune g u h) = record { topic = each-last u; backoff = each-last (numbers-small 3 g) }
 
 control-plain : (d : Dialect) (s : List ℕ) (c : ControlMessage) → IsControl d s c → PlainControl c
-control-plain d _ _ (is-control g h1 h2 h3 h4 h5) = record { grafts = pairs-each graft-plain h3; prunes = pairs-each prune-plain h4 }
+control-plain d _ _ (is-control g h1 h2 h3 h4 h5) =
+    record { grafts = pairs-each graft-plain h3; prunes = pairs-each prune-plain h4 }
 
 flat-plain : {cs : List ControlMessage} → Each PlainControl cs → PlainControl (flat cs)
 flat-plain none-left = record { grafts = none-left; prunes = none-left }
@@ -267,7 +274,8 @@ flat-plain (p and ps) =
     let q = flat-plain ps in
     record { grafts = each-append (p .grafts) (q .grafts); prunes = each-append (p .prunes) (q .prunes) }
 
-pub meant-texts : (d : Dialect) {d1 d2 d3 : List (List ℕ)} {ss : List SubOpts} {ms : List RawMessage} {cs : List ControlMessage}
+pub meant-texts : (d : Dialect) {d1 d2 d3 : List (List ℕ)} {ss : List SubOpts} {ms : List RawMessage}
+    {cs : List ControlMessage}
     → Pairs IsSubOpts d1 ss → Pairs IsMessage d2 ms → Pairs (IsControl d) d3 cs → Texts (state [] [] [] ss ms (flat cs))
 meant-texts d h1 h2 h3 =
     let c = flat-plain (pairs-each (control-plain d) h3) in

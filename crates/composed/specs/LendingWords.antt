@@ -226,5 +226,6 @@ each-words none-left i = omega arith
 each-words (p and ps) zero = p
 each-words (p and ps) (suc i) = each-words ps i
 
-pub body-words : (d : Dialect) (s : List ℕ) → Bytes s → length s < 2 ^ 64 → Words (wordsOfAll (rowsOf (kind.Rpc d) 0 s))
+pub body-words : (d : Dialect) (s : List ℕ) → Bytes s → length s < 2 ^ 64
+    → Words (wordsOfAll (rowsOf (kind.Rpc d) 0 s))
 body-words d s b l = each-words (all-words (rows-words (kind.Rpc d) 0 s b (omega arith)))

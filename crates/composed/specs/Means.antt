@@ -1,4 +1,5 @@
--- The encoding of an RPC that lists can say means it in every dialect, where texts are UTF-8, numbers are below 2^64 and the whole fits a length; and within capacity it is accepted.
+-- The encoding of an RPC that lists can say means it in every dialect, where texts are UTF-8, numbers are below 2^64
+-- and the whole fits a length; and within capacity it is accepted.
 use Prim.Native.Nat.{ℕ, _+_, _^_, _≤_, _<_}
 use mathlib.Core.Path.{_≡_, refl, sym, ap, ap₂, subst, _∙_}
 use mathlib.Core.Bool.{cond}
@@ -17,13 +18,14 @@ use Rattle.protobuf.specs.EncodeLaws.{field-holds}
 use Rattle.rpc.specs.Rpc.{SubOpts, RawMessage, ControlGraft, PeerInfo, ControlPrune, ControlMessage, Rpc}
 use Rattle.rpc.specs.Grammar.{bytesIn, last, Each, none-left, _and_, no-pairs, _paired_}
 use Rattle.rpc.specs.Grammar.{IsSubOpts, IsMessage, is-message, IsIHave, IsIWant, IsGraft, IsPeerInfo, IsPrune, IsRpc}
-use Rattle.rpc.specs.Encode.{optional, repeated, flag, encodeSubOpts, encodeIHave, encodeIWant, encodeGraft, encodePeerInfo, encodePrune}
-use Rattle.rpc.specs.Encode.{encodeIDontWant, encodeControl, encodeRpc}
+use Rattle.rpc.specs.Encode.{optional, repeated, flag, encodeSubOpts, encodeIHave, encodeIWant, encodeGraft}
+use Rattle.rpc.specs.Encode.{encodePeerInfo, encodePrune, encodeIDontWant, encodeControl, encodeRpc}
 use Rattle.meaning.specs.Back.{mkMessage, same-message}
 use Rattle.meaning.specs.Size.{recordsIn}
 use Rattle.meaning.specs.Decoded.{Within}
 use Rattle.canonical.specs.Means.{Sized, opt, bytesEntries, body-append, bytes-body, bytes-here, bytes-there, found, optional-opt, last-opt, means-as}
-use Rattle.canonical.specs.Means.{fields-sized, field-sized, Entries, IDontWants, no-idontwants, Sound, sub-opts-means, graft-means, peer-info-means, prune-means, rpc-sound}
+use Rattle.canonical.specs.Means.{fields-sized, field-sized, Entries, IDontWants, no-idontwants, Sound, sub-opts-means}
+use Rattle.canonical.specs.Means.{graft-means, peer-info-means, prune-means, rpc-sound}
 use Rattle.compose.specs.Said.{encodeFields, encodeMessage, renewed}
 use Rattle.composed.specs.Written.{PlainPrune, PlainControl, Plain, Spoken, Sayable}
 
@@ -181,7 +183,8 @@ rpc-length : (x : Rpc) → length (encodeRpc x)
 unfolding encodeRpc
 rpc-length x = simp length-append
 
-pub plain-means : (d : Dialect) (x : Rpc) → Plain x → Sayable x → length (encodeRpc x) < 2 ^ 64 → IsRpc d (encodeRpc x) x
+pub plain-means : (d : Dialect) (x : Rpc) → Plain x → Sayable x → length (encodeRpc x) < 2 ^ 64
+    → IsRpc d (encodeRpc x) x
 plain-means d x p q k =
     let l = rpc-length x in
     rpc-sound d x

@@ -168,7 +168,15 @@ module _ (b : List ℕ) (h : Bytes b) where
         grafts = o .grafts;
         prunes = o .prunes;
       }
-  octets-kind kind.ControlIDontWant r g o = record { topics = o .topics; peers = o .peers; subscriptions = o .subscriptions; publish = o .publish; grafts = o .grafts; prunes = o .prunes }
+  octets-kind kind.ControlIDontWant r g o =
+      record {
+        topics = o .topics;
+        peers = o .peers;
+        subscriptions = o .subscriptions;
+        publish = o .publish;
+        grafts = o .grafts;
+        prunes = o .prunes;
+      }
 
   octets : (rs : List Record) → Octets (gather b rs nothing)
   octets [] =

@@ -7,7 +7,7 @@ use mathlib.Core.List.{List, [], _∷_, _++_}
 use native.Mathlib.Omega.{arith}
 use lib.ListN.{length, drop, replicate}
 use Rattle.message.specs.RowsLaws.{all-length}
-use Rattle.meaning.specs.Table.{AllRecords}
+use Rattle.meaning.specs.Table.{IsRecord, AllRecords}
 use lib.Dec.{leb}
 use borrow.Author.Tests.{leb-true}
 use Rattle.basis.specs.declared.Told.{Told}
@@ -36,7 +36,7 @@ use Rattle.admission.specs.Admission.{firstLong, isKey, keyMatches, keyInside, 
 use Rattle.admission.specs.Rows.{zeros, peer, head, signature}
 use Rattle.admission.specs.declared.Unfit.the-variants.{KeyWithoutSignature, InvalidSignatureLength, MessageTooLong}
 use Rattle.rpc.specs.Rpc.{RawMessage}
-use Rattle.rpc.specs.Grammar.{Each, none-left, _and_}
+use Rattle.rpc.specs.Grammar.{none-left, _and_}
 use Rattle.canonical.specs.Calls.{Writes, fits, short}
 use Rattle.compose.specs.declared.Wrong.{Wrong}
 use Rattle.compose.specs.declared.Wrong.the-variants.{BadSetting, NotLent, InvalidUtf8, TooManyRecords, Unfit, TooLong}
@@ -306,10 +306,10 @@ large-refused : (rs : List Record) (b : List ℕ) (n : ℕ) (w : Wrong) → AllR
     → RefusesAs (wordsOfAll rs) b (wrongTold w)
 large-refused rs b n w own h k = refuses-by 0 (wordsOfAll rs) b w (tested-by rs b n own h ∙ k)
 
--- a record, so many times
-all-alike : {A : Type 0} {P : A → Type 0} {x : A} (n : ℕ) → P x → Each P (replicate n x)
-all-alike zero p = none-left
-all-alike (suc n) p = p and all-alike n p
+-- a row, so many times
+all-alike : (r : Record) (n : ℕ) → IsRecord (r .kind) → AllRecords (replicate n r)
+all-alike r zero p = none-left
+all-alike r (suc n) p = p and all-alike r n p
 
 large : LargeRows
 unfolding ownOf listsBy uvarint bytesOf isUtf8 run tag bytesField varintField kindCode encodeGraft encodeControl encodeRpc insideAt fieldsInside rowInside
@@ -317,17 +317,19 @@ unfolding ownOf listsBy uvarint bytesOf isUtf8 run tag bytesField varintField ki
 large =
     record {
       grafts = (
-        large-refused (replicate 513 (graft no)) [] 513 (TooManyRecords 513) (all-alike 513 refl) refl refl,
-        large-by (replicate 512 (graft no)) [] _ 512 (all-alike 512 refl) refl refl refl refl,
+        large-refused (replicate 513 (graft no)) [] 513 (TooManyRecords 513) (all-alike (graft no) 513 refl) refl refl,
+        large-by (replicate 512 (graft no)) [] _ 512 (all-alike (graft no) 512 refl) refl refl refl refl,
         refl,
       );
-      messages = large-refused (replicate 513 (message no no no no no)) [] 513 (TooManyRecords 513) (all-alike 513 refl) refl refl;
+      messages = large-refused (replicate 513 (message no no no no no)) [] 513 (TooManyRecords 513)
+          (all-alike (message no no no no no) 513 refl) refl refl;
       longest = (
         large-by (graft (at 0 65524) ∷ []) (replicate 65524 0x74) _ 1 (refl and none-left) refl refl refl refl,
         refl,
         large-refused (graft (at 0 65525) ∷ []) (replicate 65525 0x74) 1 (TooLong 65537) (refl and none-left) refl refl,
       );
-      same-bytes = large-refused (replicate 66 (graft (at 0 1000))) (replicate 1000 0x74) 66 (TooLong 66400) (all-alike 66 refl) refl refl;
+      same-bytes = large-refused (replicate 66 (graft (at 0 1000))) (replicate 1000 0x74) 66 (TooLong 66400)
+          (all-alike (graft (at 0 1000)) 66 refl) refl refl;
     }
 
 pub rows : SmallRows × MessageRows × LargeRows

@@ -1,5 +1,6 @@
 -- What is signed of a message that lists say: the prefix and the fields 1 to 4; a signature and a key, there or not, change nothing. So the bytes to sign that
--- `sign_fields` gives before there is a signature are those that `sign_bytes` finds, in every dialect, in a body written with any.
+-- `sign_fields` gives before there is a signature are those that `sign_bytes` finds in every dialect in a body written
+-- with any.
 use Prim.Native.Nat.{ℕ, _≤_}
 use mathlib.Core.Path.{_≡_, refl, sym, ap, _∙_}
 use mathlib.Core.List.{List, _∷_, _++_, map}

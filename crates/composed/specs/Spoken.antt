@@ -1,6 +1,6 @@
 -- What Admitted and Signed say of a body that means the RPC, said of the body that is written: every message of it is admitted wherever it is vouched for; a message with
--- the signature that is asked for is refused as admission refuses its bytes; and the bytes to sign are those that `sign_bytes` finds in it in every dialect, whichever
--- signature went in.
+-- the signature that is asked for is refused as admission refuses its bytes; and the bytes to sign are those that
+-- `sign_bytes` finds in it in every dialect, whichever signature went in.
 use Prim.Native.Nat.{ℕ, _^_, _<_}
 use mathlib.Core.Path.{_≡_, refl}
 use mathlib.Core.Bool.{Bool}

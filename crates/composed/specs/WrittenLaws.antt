@@ -1,4 +1,5 @@
--- A write that is not refused leaves the encoding of the RPC that the lists say; these bytes are accepted and mean that RPC in every dialect, and decode's records of them read back as it.
+-- A write that is not refused leaves the encoding of the RPC that the lists say; these bytes are accepted and mean that
+-- RPC in every dialect, and decode's records of them read back as it.
 use Prim.Native.Nat.{ℕ, _/_, _%_, _≤_}
 use mathlib.Core.Path.{_≡_, refl, sym, ap, _∙_}
 use mathlib.Core.Bool.{true, false}
@@ -82,5 +83,6 @@ module _ (d : Dialect) (flags : ℕ) (t b : List ℕ) (w : Words t) (h : writeTe
       }) in
       record {
         told = told;
-        says = table-means d (bodyOf t b) table (length t / 20) (present (saidOf t b .control)) (saidOf t b) told (written-means .means);
+        says = table-means d (bodyOf t b) table (length t / 20) (present (saidOf t b .control)) (saidOf t b) told
+            (written-means .means);
       }

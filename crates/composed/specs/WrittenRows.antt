@@ -196,7 +196,13 @@ texts-kind kind.ControlPrune b r g h n o =
 texts-kind kind.PeerInfo b r g h n o =
     record { topics = o .topics; subscriptions = o .subscriptions; publish = o .publish; grafts = o .grafts; prunes = o .prunes }
 texts-kind kind.ControlIDontWant b r g h n o =
-    record { topics = o .topics; subscriptions = o .subscriptions; publish = o .publish; grafts = o .grafts; prunes = o .prunes }
+    record {
+      topics = o .topics;
+      subscriptions = o .subscriptions;
+      publish = o .publish;
+      grafts = o .grafts;
+      prunes = o .prunes;
+    }
 
 texts-rows : (b : List ℕ) (rs : List Record) → textsFine b rs ≡ Fine → Each SmallNumber rs → Texts (gather b rs nothing)
 unfolding textOf
@@ -262,25 +268,68 @@ waits-kind : (k : Kind) (b : List ℕ) (r : Record) (g : Gathered) (m p : Bool) 
 unfolding heldBy kindCode
 waits-kind (kind.Rpc d) b r g m p h w = clash (cc)
 waits-kind kind.SubOpts b r g m p h w =
-    record { topics = λ e. w .topics (or-false m ∙ e); peers = λ e. w .peers (or-false p ∙ e); ids = w .ids; ihave = w .ihave; iwant = w .iwant; idontwant = w .idontwant }
+    record {
+      topics = λ e. w .topics (or-false m ∙ e);
+      peers = λ e. w .peers (or-false p ∙ e);
+      ids = w .ids;
+      ihave = w .ihave;
+      iwant = w .iwant;
+      idontwant = w .idontwant;
+    }
 waits-kind kind.RawMessage b r g m p h w =
-    record { topics = λ e. refl; peers = λ e. w .peers (or-false p ∙ e); ids = w .ids; ihave = w .ihave; iwant = w .iwant; idontwant = w .idontwant }
+    record {
+      topics = λ e. refl;
+      peers = λ e. w .peers (or-false p ∙ e);
+      ids = w .ids;
+      ihave = w .ihave;
+      iwant = w .iwant;
+      idontwant = w .idontwant;
+    }
 waits-kind kind.Topic b r g m p h w =
-    record { topics = λ e. clash (cc); peers = λ e. w .peers (or-false p ∙ e); ids = w .ids; ihave = w .ihave; iwant = w .iwant; idontwant = w .idontwant }
+    record {
+      topics = λ e. clash (cc);
+      peers = λ e. w .peers (or-false p ∙ e);
+      ids = w .ids;
+      ihave = w .ihave;
+      iwant = w .iwant;
+      idontwant = w .idontwant;
+    }
 waits-kind (kind.ControlMessage d) b r g m p h w = clash (cc)
 waits-kind kind.ControlIHave b r g m p h w = clash (cc)
 waits-kind kind.ControlIWant b r g m p h w = clash (cc)
 waits-kind kind.MessageId b r g m p h w = clash (cc)
 waits-kind kind.ControlGraft b r g m p h w =
-    record { topics = λ e. w .topics (or-false m ∙ e); peers = λ e. w .peers (or-false p ∙ e); ids = w .ids; ihave = w .ihave; iwant = w .iwant; idontwant = w .idontwant }
+    record {
+      topics = λ e. w .topics (or-false m ∙ e);
+      peers = λ e. w .peers (or-false p ∙ e);
+      ids = w .ids;
+      ihave = w .ihave;
+      iwant = w .iwant;
+      idontwant = w .idontwant;
+    }
 waits-kind kind.ControlPrune b r g m p h w =
-    record { topics = λ e. w .topics (or-false m ∙ e); peers = λ e. refl; ids = w .ids; ihave = w .ihave; iwant = w .iwant; idontwant = w .idontwant }
+    record {
+      topics = λ e. w .topics (or-false m ∙ e);
+      peers = λ e. refl;
+      ids = w .ids;
+      ihave = w .ihave;
+      iwant = w .iwant;
+      idontwant = w .idontwant;
+    }
 waits-kind kind.PeerInfo b r g m p h w =
-    record { topics = λ e. w .topics (or-false m ∙ e); peers = λ e. clash (cc); ids = w .ids; ihave = w .ihave; iwant = w .iwant; idontwant = w .idontwant }
+    record {
+      topics = λ e. w .topics (or-false m ∙ e);
+      peers = λ e. clash (cc);
+      ids = w .ids;
+      ihave = w .ihave;
+      iwant = w .iwant;
+      idontwant = w .idontwant;
+    }
 waits-kind kind.ControlIDontWant b r g m p h w = clash (cc)
 
 pub lent-waits : (b : List ℕ) (n : ℕ) (m p : Bool) (rs : List Record) → lentFrom n m p rs ≡ true → Waits m p (gather b rs nothing)
-lent-waits b n m p [] h = record { topics = λ e. refl; peers = λ e. refl; ids = refl; ihave = refl; iwant = refl; idontwant = refl }
+lent-waits b n m p [] h =
+    record { topics = λ e. refl; peers = λ e. refl; ids = refl; ihave = refl; iwant = refl; idontwant = refl }
 lent-waits b n m p (r ∷ rs) h =
     let m' = m || isCode 2 r in
     let p' = p || isCode 9 r in
