@@ -155,8 +155,15 @@ emit-parts-requires-2 c κs =
       (omega arith, reply-fits (a .cache-store .now) _ _ (kept-size (a .self .cache) (a .cache-store .now) (s .pre .0)) (omega arith)),
     )
 
+-- those written are at most those cached, which are at most those that remain, and these at most those named
 sub-t23 : tie.Need-sub-t23
-sub-t23 c = search needs
+sub-t23 c =
+    let p = c .before .before .before .before .before .before in
+    let g = p .before .before .before .before .before in
+    let l = p .parts-that-fit .ensures .1 in
+    let v = g .cached .ensures .1 .1 in
+    let u = g .before .before .before .before .before .before .before .before .before .before .before .before .not-declined .ensures .1 .1 in
+    omega arith
 
 same-length : tie.Need-same-length
 same-length c = search needs
