@@ -8,7 +8,8 @@ use mathlib.Core.Logic.{_↔_, _⊎_, inl, inr}
 use native.Mathlib.Omega.{arith}
 use lib.ListN.{length}
 use lib.Dec.{leb, ltb, eqb}
-use borrow.Author.Tests.{leb-true, leb-false, lt-leb, ltb-true, ltb-false, lt-ltb, le-ltb, eqb-true, eqb-false, eq-eqb, ne-eqb}
+use borrow.Author.Tests.{leb-true, leb-false, lt-leb, ltb-true, ltb-false, lt-ltb, le-ltb, eqb-true, eqb-false, eq-eqb}
+use borrow.Author.Tests.{ne-eqb}
 use Rattle.basis.specs.declared.Edition.{Edition}
 use Rattle.basis.specs.declared.Edition.the-variants.{V12}
 use Rattle.basis.specs.Dialect.{spoken}
@@ -328,9 +329,9 @@ module _ (n : Node) (ss cs : List ℕ) (at : ℕ) where
   pub beat-exactly : (a : Told) → (beatTold (beatAnswer n ss cs at) ≡ a) ↔ BeatTells n ss cs at a
   beat-exactly a = (λ e. subst (BeatTells n ss cs at) e (beat-tells (lentOf n ss cs) refl), beat-only)
 
--- ---- a serve, whole, in the order of its refusals: 40, 41, 42; why the body that asks is refused; why the second one is;
--- 12 where the first of the messages that remain does not fit, with its field's length; else the bytes written, the
--- messages written and those left
+-- ---- a serve, whole, in the order of its refusals: 40, 41, 42; why the body that asks is refused; why the second one
+-- is; 12 where the first of the messages that remain does not fit, with its field's length; else the bytes written,
+-- the messages written and those left
 abbrev pub FirstFits : ℕ → List (List ℕ) → Type 0
 FirstFits room [] = Unit {0}
 FirstFits room (m ∷ ms) = length (bytesField 2 m) ≤ room

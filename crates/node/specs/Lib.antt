@@ -1,5 +1,5 @@
--- To be believed: Parts (`once`, `without`, `fitting`), Gateway, State, WellFormed, Calls (the order of refusals), Told;
--- and what theorems state: Laws (`Takes`), Declined (`ByIds`), Exactly (`BeatTells`, `ServeTells`), Explained
+-- To be believed: Parts (`once`, `without`, `fitting`), Gateway, State, WellFormed, Calls (the order of refusals),
+-- Told; and what theorems state: Laws (`Takes`), Declined (`ByIds`), Exactly (`BeatTells`, `ServeTells`), Explained
 -- (`Explanation`, `ExplainTells`), Freed (`Freed`), WrapLaws (`movedNode`).
 -- Cited by contracts, and joined to these by theorems: what the calls leave, in Calls, by Laws.
 -- Theorems: Laws, Declined, WellFormedLaws, Exactly, Explained, Freed, WrapLaws, Readers, Marks, Off, Unique.

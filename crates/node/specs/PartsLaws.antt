@@ -277,7 +277,8 @@ without-distinct others (i ∷ is) d =
     let b = both (not (among i is)) (distinct is) d in
     let r = without-distinct others is (b .1) in
     either (among i others) (λ t. rw t r)
-    (λ t. either (among i is) (λ u. clash (let z = rw u at (b .0) in cc)) (λ u. rw (t, without-among others is i, u, r)))
+    (λ t. either (among i is) (λ u. clash (let z = rw u at (b .0) in cc))
+    (λ u. rw (t, without-among others is i, u, r)))
 
 -- ---- how many fit
 module _ (n room : ℕ) (m : List ℕ) (ms : List (List ℕ)) where
