@@ -250,7 +250,7 @@ timesNew flags m calls s = times isNew flags m calls s
 abbrev pub timesDuplicate : ℕ → List ℕ → List Call → State → ℕ
 timesDuplicate flags m calls s = times isDuplicate flags m calls s
 
--- ---- admits of k messages of a body, from an index on, each with the host's word and at its reading
-unfoldable pub admits : Edition → List ℕ → (ℕ → ℕ) → ℕ → ℕ → List Call
-admits ed body at i zero = []
-admits ed body at i (suc k) = admit ed body i true (at i) ∷ admits ed body at (suc i) k
+-- ---- admits of k messages of a body, from an index on, each with the host's word, in its edition and at its reading
+unfoldable pub admits : (ℕ → Edition) → List ℕ → (ℕ → ℕ) → ℕ → ℕ → List Call
+admits eds body at i zero = []
+admits eds body at i (suc k) = admit (eds i) body i true (at i) ∷ admits eds body at (suc i) k

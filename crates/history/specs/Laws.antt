@@ -76,10 +76,10 @@ times-append f flags m [] ds s = omega arith
 times-append f flags m (c ∷ cs) ds s = let r = times-append f flags m cs ds (after c s) in omega arith
 
 -- admits are no heartbeats
-pub admits-beats : (ed : Edition) (body : List ℕ) (at : ℕ → ℕ) (i k : ℕ) → beats (admits ed body at i k) ≡ 0
+pub admits-beats : (eds : ℕ → Edition) (body : List ℕ) (at : ℕ → ℕ) (i k : ℕ) → beats (admits eds body at i k) ≡ 0
 unfolding admits beats
-admits-beats ed body at i zero = refl
-admits-beats ed body at i (suc k) = let r = admits-beats ed body at (suc i) k in omega arith
+admits-beats eds body at i zero = refl
+admits-beats eds body at i (suc k) = let r = admits-beats eds body at (suc i) k in omega arith
 
 -- ---- the clock
 pub node-clock : (s : State) → gatewayOf s .clock ≡ s .node .clock
