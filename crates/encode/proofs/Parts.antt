@@ -7,6 +7,8 @@ use native.Mathlib.Omega.{arith}
 use native.Mathlib.Nat.{zero-add}
 use lib.ListN.{length, length-append}
 use borrow.Author.Tests.{eq-eqb, ne-eqb}
+use Rattle.basis.specs.declared.Edition.{Edition}
+use Rattle.basis.specs.declared.Edition.the-variants.{V11, V12}
 use Rattle.basis.specs.declared.Written.the-variants.{Bytes, Room}
 use Rattle.basis.specs.Writing.{answer, written}
 use Rattle.basis.specs.Lists.{answer-fits, answer-short, written-fits, written-short}
@@ -27,7 +29,7 @@ use Rattle.schema.specs.declared.Place.{Place}
 use Rattle.schema.specs.declared.Place.the-variants as place
 use Rattle.schema.specs.declared.Number.{Number as Num}
 use Rattle.schema.specs.declared.Number.the-variants as number
-use Rattle.schema.specs.Schema.{table, rowOf, heldOf, rank}
+use Rattle.schema.specs.Schema.{addedIn, table, rowOf, heldOf, rank}
 use Rattle.schema.specs.SchemaLaws.{held-rank}
 use Rattle.schema.specs.declared.Role.{Role}
 use Rattle.schema.specs.declared.Slots.{Slots}
@@ -72,19 +74,24 @@ module _ (n : ℕ) (f : Field) (xs : List ℕ) where
   field-other p q = simp (eq-eqb _ _ p, ne-eqb _ _ q)
 
 -- ---- the rows of the table
--- a message has at most six
+-- an edition adds at most one, and a message has at most six
+added-few : (e : Edition) → length (addedIn e) ≤ 1
+added-few V11 = omega arith
+added-few V12 = omega arith
+
 pub few-rows : (k : Kind) → length (table k) ≤ 6
-few-rows kind.Rpc = omega arith
+few-rows (kind.Rpc d) = omega arith
 few-rows kind.SubOpts = omega arith
 few-rows kind.RawMessage = omega arith
 few-rows kind.Topic = omega arith
-few-rows kind.ControlMessage = omega arith
+few-rows (kind.ControlMessage d) = omega (arith, added-few (d .edition))
 few-rows kind.ControlIHave = omega arith
 few-rows kind.ControlIWant = omega arith
 few-rows kind.MessageId = omega arith
 few-rows kind.ControlGraft = omega arith
 few-rows kind.ControlPrune = omega arith
 few-rows kind.PeerInfo = omega arith
+few-rows kind.ControlIDontWant = omega arith
 
 -- of the parts up to `last`, the part n and those that follow it
 pub order-step : (part : ℕ → List ℕ) (n last : ℕ) → n ≤ last → inOrder part n (last + 1 - n) ≡ part n ++ inOrder part (n + 1) (last + 1 - (n + 1))

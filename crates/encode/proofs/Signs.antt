@@ -4,6 +4,7 @@ use mathlib.Core.Path.{_≡_, sym, ap, _∙_}
 use mathlib.Core.List.{List}
 use native.Mathlib.Omega.{arith}
 use lib.ListN.{length, drop, length-append, length-take, length-drop}
+use Rattle.basis.specs.declared.Dialect.{Dialect}
 use Rattle.basis.specs.Writing.{answer, written}
 use Rattle.basis.specs.Unique.{Leaves}
 use Rattle.protobuf.specs.declared.Refusal.{Refusal as Placed}
@@ -32,21 +33,21 @@ pub part-small : (s : List ℕ) (a e : ℕ) → length s ≤ 65536 → length (b
 part-small s a e h = rw (length-take (e - a) (drop a s), length-drop a s) (omega arith)
 
 -- ---- which case it is
-pub sign-refused : (s : List ℕ) (i : ℕ) (out : List ℕ) (why : Placed) → acceptOf s ≡ Wrong why → Leaves (signAnswer s i out) (signLeft s i out) (Refused why) out
+pub sign-refused : (d : Dialect) (s : List ℕ) (i : ℕ) (out : List ℕ) (why : Placed) → acceptOf d s ≡ Wrong why → Leaves (signAnswer d s i out) (signLeft d s i out) (Refused why) out
 unfolding signAnswer signLeft
-sign-refused s i out why e = record { answer = ap (signChecked s i out) (sym e); lent = ap (signedChecked s i out) (sym e) }
+sign-refused d s i out why e = record { answer = ap (signChecked s i out) (sym e); lent = ap (signedChecked s i out) (sym e) }
 
-pub sign-missing : (s : List ℕ) (i : ℕ) (out : List ℕ) (n : ℕ) → acceptOf s ≡ Fine → messageAt s i ≡ Count n → Leaves (signAnswer s i out) (signLeft s i out) (NoMessage n) out
+pub sign-missing : (d : Dialect) (s : List ℕ) (i : ℕ) (out : List ℕ) (n : ℕ) → acceptOf d s ≡ Fine → messageAt s i ≡ Count n → Leaves (signAnswer d s i out) (signLeft d s i out) (NoMessage n) out
 unfolding signAnswer signLeft
-sign-missing s i out n e f =
+sign-missing d s i out n e f =
     record {
       answer = ap (signAt s out) (sym f) ∙ ap (signChecked s i out) (sym e);
       lent = ap (signedAt s out) (sym f) ∙ ap (signedChecked s i out) (sym e);
     }
 
-pub sign-found : (s : List ℕ) (i : ℕ) (out : List ℕ) (a e : ℕ) (r : MessageBytes) (left : List ℕ) → acceptOf s ≡ Fine → messageAt s i ≡ At a e → (r ≡ ofWritten (answer (signOf (between s a e)) out)) × (left ≡ written (signOf (between s a e)) out) → Leaves (signAnswer s i out) (signLeft s i out) r left
+pub sign-found : (d : Dialect) (s : List ℕ) (i : ℕ) (out : List ℕ) (a e : ℕ) (r : MessageBytes) (left : List ℕ) → acceptOf d s ≡ Fine → messageAt s i ≡ At a e → (r ≡ ofWritten (answer (signOf (between s a e)) out)) × (left ≡ written (signOf (between s a e)) out) → Leaves (signAnswer d s i out) (signLeft d s i out) r left
 unfolding signAnswer signLeft
-sign-found s i out a e r left x f h =
+sign-found d s i out a e r left x f h =
     record {
       answer = h .0 ∙ ap (signAt s out) (sym f) ∙ ap (signChecked s i out) (sym x);
       lent = h .1 ∙ ap (signedAt s out) (sym f) ∙ ap (signedChecked s i out) (sym x);

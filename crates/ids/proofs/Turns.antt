@@ -7,6 +7,7 @@ use native.Mathlib.Omega.{arith}
 use lib.ListN.{length, length-append}
 use lib.Seq.{length-sets}
 use lib.Dec.{eqb}
+use Rattle.basis.specs.declared.Dialect.{Dialect}
 use Rattle.basis.specs.Cases.{either, clash}
 use Rattle.protobuf.specs.declared.Field.{Field}
 use Rattle.protobuf.specs.declared.WireError.{WireError}
@@ -89,16 +90,16 @@ id-put pre p out a e b f o₁ o₂ o₃ i j k h l p₁ p₂ p₃ =
     (ap Bytes (sym n) ∙ sym (ap ofWritten (answer-fits (pre ++ idBytes p a e b f) out m)), r .1 ∙ sym (written-fits (pre ++ idBytes p a e b f) out m))
 
 -- ---- which case it is
-pub refused-body : (pre s : List ℕ) (i : ℕ) (out : List ℕ) (why : Placed) → acceptOf s ≡ Wrong why → (Refused why ≡ idAnswer pre s i out) × (out ≡ idLeft pre s i out)
+pub refused-body : (pre : List ℕ) (d : Dialect) (s : List ℕ) (i : ℕ) (out : List ℕ) (why : Placed) → acceptOf d s ≡ Wrong why → (Refused why ≡ idAnswer pre d s i out) × (out ≡ idLeft pre d s i out)
 unfolding idAnswer idLeft
-refused-body pre s i out why e = (ap (answerChecked pre s i out) (sym e), ap (leftChecked pre s i out) (sym e))
+refused-body pre d s i out why e = (ap (answerChecked pre s i out) (sym e), ap (leftChecked pre s i out) (sym e))
 
-pub no-message : (pre s : List ℕ) (i : ℕ) (out : List ℕ) (n : ℕ) → acceptOf s ≡ Fine → messageAt s i ≡ Count n → (NoMessage n ≡ idAnswer pre s i out) × (out ≡ idLeft pre s i out)
+pub no-message : (pre : List ℕ) (d : Dialect) (s : List ℕ) (i : ℕ) (out : List ℕ) (n : ℕ) → acceptOf d s ≡ Fine → messageAt s i ≡ Count n → (NoMessage n ≡ idAnswer pre d s i out) × (out ≡ idLeft pre d s i out)
 unfolding idAnswer idLeft
-no-message pre s i out n e f =
+no-message pre d s i out n e f =
     (ap (answerAt pre s out) (sym f) ∙ ap (answerChecked pre s i out) (sym e), ap (leftAt pre s out) (sym f) ∙ ap (leftChecked pre s i out) (sym e))
 
-pub at-message : (pre s : List ℕ) (i : ℕ) (out : List ℕ) (a e : ℕ) (r : MessageBytes) (left : List ℕ) → acceptOf s ≡ Fine → messageAt s i ≡ At a e → (r ≡ answerId pre (between s a e) out (idParts (between s a e))) × (left ≡ leftId pre (between s a e) out (idParts (between s a e))) → (r ≡ idAnswer pre s i out) × (left ≡ idLeft pre s i out)
+pub at-message : (pre : List ℕ) (d : Dialect) (s : List ℕ) (i : ℕ) (out : List ℕ) (a e : ℕ) (r : MessageBytes) (left : List ℕ) → acceptOf d s ≡ Fine → messageAt s i ≡ At a e → (r ≡ answerId pre (between s a e) out (idParts (between s a e))) × (left ≡ leftId pre (between s a e) out (idParts (between s a e))) → (r ≡ idAnswer pre d s i out) × (left ≡ idLeft pre d s i out)
 unfolding idAnswer idLeft
-at-message pre s i out a e r left x f h =
+at-message pre d s i out a e r left x f h =
     (h .0 ∙ ap (answerAt pre s out) (sym f) ∙ ap (answerChecked pre s i out) (sym x), h .1 ∙ ap (leftAt pre s out) (sym f) ∙ ap (leftChecked pre s i out) (sym x))

@@ -20,7 +20,7 @@ encode-taken-requires : tie.Need-encode-taken-requires
 encode-taken-requires c κs =
     let a = c .before .before .before .before .before .before .args in
     let t = sym (c .before .before .before .accept .ensures) ∙ c .before .enum-told .given .1 in
-    (taken-shorter (a .body .now) (λ i. c .before .before .before .before .before .shared-slice-known .given i .fits) t, accept-small (a .body .now) t)
+    (taken-shorter (a .dialect) (a .body .now) (λ i. c .before .before .before .before .before .shared-slice-known .given i .fits) t, accept-small (a .dialect) (a .body .now) t)
 
 returns : tie.Need-returns
 unfolding encodeAnswer encodeLeft
@@ -28,8 +28,8 @@ returns c =
     let a = c .before .before .before .before .before .before .args in
     let e = sym (c .before .c .given .1) ∙ c .before .before .before .accept .ensures in
     record {
-      answer = ap (encodeChecked (a .body .now) (a .out .now)) e;
-      lent = ap (encodedChecked (a .body .now) (a .out .now)) e;
+      answer = ap (encodeChecked (a .dialect) (a .body .now) (a .out .now)) e;
+      lent = ap (encodedChecked (a .dialect) (a .body .now) (a .out .now)) e;
     }
 
 same-length : tie.Need-same-length
@@ -42,8 +42,8 @@ returns-2 c =
     let e = sym (c .before .before .before .before .enum-told .given .1) ∙ c .before .before .before .before .before .before .accept .ensures in
     let r = c .before .before .encode-taken .ensures in
     record {
-      answer = r .0 ∙ ap (encodeChecked (a .body .now) (a .out .now)) e;
-      lent = r .1 ∙ ap (encodedChecked (a .body .now) (a .out .now)) e;
+      answer = r .0 ∙ ap (encodeChecked (a .dialect) (a .body .now) (a .out .now)) e;
+      lent = r .1 ∙ ap (encodedChecked (a .dialect) (a .body .now) (a .out .now)) e;
     }
 
 pub encode-spec : {M : Type 1} → statement M

@@ -40,24 +40,24 @@ sign-part-requires c κs =
     let a = c .before .before .before .before .before .before .before .before .before .before .before .args in
     let t = sym (c .before .before .before .before .before .before .before .before .accept .ensures) ∙ c .before .before .before .before .before .before .enum-told .given .1 in
     let f = sym (c .before .before .before .before .before .message-at .ensures) ∙ c .before .before .before .m2 .given .1 in (
-      signed-shorter (a .body .now) (a .index) (c .before .before .before .m2 .given .0 .0) (c .before .before .before .m2 .given .0 .1 .0)
+      signed-shorter (a .dialect) (a .body .now) (a .index) (c .before .before .before .m2 .given .0 .0) (c .before .before .before .m2 .given .0 .1 .0)
           (λ i. c .before .before .before .before .before .before .before .before .before .before .shared-slice-known .given i .fits) t f,
       part-small
-          (a .body .now) (c .before .before .before .m2 .given .0 .0) (c .before .before .before .m2 .given .0 .1 .0) (accept-small (a .body .now) t),
+          (a .body .now) (c .before .before .before .m2 .given .0 .0) (c .before .before .before .m2 .given .0 .1 .0) (accept-small (a .dialect) (a .body .now) t),
     )
 
 returns : tie.Need-returns
-returns c = let a = c .before .before .before .before .before .before .args in sign-refused (a .body .now) (a .index) (a .out .now) _ (sym (c .before .before .before .accept .ensures) ∙ c .before .c .given .1)
+returns c = let a = c .before .before .before .before .before .before .args in sign-refused (a .dialect) (a .body .now) (a .index) (a .out .now) _ (sym (c .before .before .before .accept .ensures) ∙ c .before .c .given .1)
 
 returns-2 : tie.Need-returns-2
-returns-2 c = let a = c .before .before .before .before .before .before .before .before .before .args in sign-missing (a .body .now) (a .index) (a .out .now) _ (sym (c .before .before .before .before .before .before .accept .ensures) ∙ c .before .before .before .before .enum-told .given .1) (sym (c .before .before .before .message-at .ensures) ∙ c .before .m .given .1)
+returns-2 c = let a = c .before .before .before .before .before .before .before .before .before .args in sign-missing (a .dialect) (a .body .now) (a .index) (a .out .now) _ (sym (c .before .before .before .before .before .before .accept .ensures) ∙ c .before .before .before .before .enum-told .given .1) (sym (c .before .before .before .message-at .ensures) ∙ c .before .m .given .1)
 
 same-length : tie.Need-same-length
 same-length c = search needs
 
 returns-3 : tie.Need-returns-3
 returns-3 c = let a = c .before .before .before .before .before .before .before .before .before .before .before .before .before .before .args in
-    sign-found (a .body .now) (a .index) (a .out .now) _ _ _ _
+    sign-found (a .dialect) (a .body .now) (a .index) (a .out .now) _ _ _ _
     (sym (c .before .before .before .before .before .before .before .before .before .before .before .accept .ensures)
     ∙ c .before .before .before .before .before .before .before .before .before .enum-told .given .1)
     (sym (c .before .before .before .before .before .before .before .before .message-at .ensures)

@@ -40,11 +40,11 @@ put-id-requires : tie.Need-put-id-requires
 put-id-requires c κs = search needs
 
 returns : tie.Need-returns
-returns c = let a = c .before .before .before .before .before .before .before .args in refused-body (a .before .now) (a .body .now) (a .index)
+returns c = let a = c .before .before .before .before .before .before .before .args in refused-body (a .before .now) (a .dialect) (a .body .now) (a .index)
     (a .out .now) _ (sym (c .before .before .before .accept .ensures) ∙ c .before .c .given .1)
 
 returns-2 : tie.Need-returns-2
-returns-2 c = let a = c .before .before .before .before .before .before .before .before .before .before .args in no-message (a .before .now)
+returns-2 c = let a = c .before .before .before .before .before .before .before .before .before .before .args in no-message (a .before .now) (a .dialect)
     (a .body .now) (a .index) (a .out .now) _ (sym (c .before .before .before .before .before .before .accept .ensures)
     ∙ c .before .before .before .before .enum-told .given .1) (sym (c .before .before .before .message-at .ensures) ∙ c .before .m .given .1)
 
@@ -53,7 +53,7 @@ same-length c = search needs
 
 returns-3 : tie.Need-returns-3
 returns-3 c = let a = c .before .before .before .before .before .before .before .before .before .before .before .before .before .before .before .args
-    in at-message (a .before .now) (a .body .now) (a .index) (a .out .now) _ _ _ _ (sym
+    in at-message (a .before .now) (a .dialect) (a .body .now) (a .index) (a .out .now) _ _ _ _ (sym
     (c .before .before .before .before .before .before .before .before .before .before .before .accept .ensures)
     ∙ c .before .before .before .before .before .before .before .before .before .enum-told .given .1) (sym
     (c .before .before .before .before .before .before .before .before .message-at .ensures)
