@@ -8,6 +8,7 @@ use native.Mathlib.Omega.{arith}
 use lib.ListN.{length}
 use lib.Dec.{ltb, eqb}
 use borrow.Author.Tests.{ltb-true, ltb-false, eqb-true, eqb-false}
+use Rattle.basis.specs.declared.Dialect.{Dialect}
 use Rattle.basis.specs.Cases.{either, clash}
 use Rattle.protobuf.specs.declared.Checked.the-variants.{Fine}
 use Rattle.protobuf.specs.declared.Field.{Field}
@@ -370,37 +371,37 @@ one-id flags m i j g h =
     a .named ∙ rw (p, q, r, s) (sym (b .named))
 
 -- ---- a message of an accepted body is well formed
-message-role : (f : Field) → isBytes 2 f ≡ true → roleOf kind.Rpc (f .field) (f .«wire_type»)
+message-role : (d : Dialect) (f : Field) → isBytes 2 f ≡ true → roleOf (kind.Rpc d) (f .field) (f .«wire_type»)
     ≡ Sub kind.RawMessage Whole
 unfolding roleOf
-message-role f h =
+message-role d f h =
     either (eqb (f .«wire_type») 2)
-    (λ t. either (eqb (f .field) 2) (λ u. simp t (ap (lenRole kind.Rpc) (eqb-true (f .field) 2 u)))
+    (λ t. either (eqb (f .field) 2) (λ u. simp t (ap (lenRole (kind.Rpc d)) (eqb-true (f .field) 2 u)))
     (λ u. clash (let k = simp (t, u) at h in cc)))
     (λ t. clash (let k = simp t at h in cc))
 
-read-along : (s : List ℕ) (i a e at n m : ℕ) → countAlong counted kind.Rpc s (walkAt s at) ≡ count.Records m
+read-along : (d : Dialect) (s : List ℕ) (i a e at n m : ℕ) → countAlong counted (kind.Rpc d) s (walkAt s at) ≡ count.Records m
     → messageAlong i n (walkAt s at) ≡ At a e → (x : ℕ) × (counted kind.RawMessage (between s a e) ≡ count.Records x)
-read-along s i a e =
-    along s (λ (at : ℕ) (w : Fields). (n m : ℕ) → countAlong counted kind.Rpc s w ≡ count.Records m
+read-along d s i a e =
+    along s (λ (at : ℕ) (w : Fields). (n m : ℕ) → countAlong counted (kind.Rpc d) s w ≡ count.Records m
     → messageAlong i n w ≡ At a e → (x : ℕ) × (counted kind.RawMessage (between s a e) ≡ count.Records x))
     (λ at n m g h. clash (cc))
     (λ at why r n m g h. clash (cc))
     (λ at f st r rest n m g h.
-    let t = then-fits (roleCount counted s f (roleOf kind.Rpc (f .field) (f .«wire_type»)))
-    (countAlong counted kind.Rpc s (walkAt s (f .next))) m g in
+    let t = then-fits (roleCount counted s f (roleOf (kind.Rpc d) (f .field) (f .«wire_type»)))
+    (countAlong counted (kind.Rpc d) s (walkAt s (f .next))) m g in
     either (isBytes 2 f)
     (λ u. either (eqb n i)
     (λ v. let k = simp (u, v) at h in
     let pa : f .start ≡ a = cc in let pe : f .next ≡ e = cc in
     let y = plus-fits (ownOf kind.RawMessage) (t .0) (counted kind.RawMessage (between s (f .start) (f .next)))
-    (sym (ap (roleCount counted s f) (message-role f u)) ∙ t .2) in
+    (sym (ap (roleCount counted s f) (message-role d f u)) ∙ t .2) in
     (y .0, ap (counted kind.RawMessage) (ap₂ (between s) (sym pa) (sym pe)) ∙ y .1))
     (λ v. rest (n + 1) (t .1) (t .3) (simp (u, v) at h)))
     (λ u. rest n (t .1) (t .3) (simp u at h)))
 
-pub message-read : (s : List ℕ) (i a e : ℕ) → acceptOf s ≡ Fine → messageAt s i ≡ At a e → (n : ℕ)
-    × (counted kind.RawMessage (between s a e) ≡ count.Records n)
+pub message-read : (d : Dialect) (s : List ℕ) (i a e : ℕ) → acceptOf d s ≡ Fine → messageAt s i ≡ At a e
+    → (n : ℕ) × (counted kind.RawMessage (between s a e) ≡ count.Records n)
 unfolding messageAt
-message-read s i a e h k = let c = accept-records s h in
-    read-along s i a e 0 0 (c .0) (sym (count-along kind.Rpc s) ∙ c .1) k
+message-read d s i a e h k = let c = accept-records d s h in
+    read-along d s i a e 0 0 (c .0) (sym (count-along (kind.Rpc d) s) ∙ c .1) k

@@ -8,6 +8,7 @@ use native.Mathlib.Omega.{arith}
 use lib.ListN.{length}
 use lib.Dec.{eqb}
 use borrow.Author.Tests.{eqb-true, eqb-false}
+use Rattle.basis.specs.declared.Dialect.{Dialect}
 use Rattle.basis.specs.Cases.{either, clash}
 use Rattle.protobuf.specs.declared.Field.{Field}
 use Rattle.protobuf.specs.Grammar.{Entry}
@@ -92,8 +93,8 @@ pairs-length no-pairs = refl
 pairs-length (p paired ps) = ap suc (pairs-length ps)
 
 -- the message that is found is that of the RPC
-pub message-found : {s : List ℕ} {x : Rpc} (i a e : ℕ) → IsRpc s x → messageAt s i ≡ At a e → (m : RawMessage)
-    × (Nth i (x .publish) m) × (IsMessage (between s a e) m)
+pub message-found : {d : Dialect} {s : List ℕ} {x : Rpc} (i a e : ℕ) → IsRpc d s x → messageAt s i ≡ At a e
+    → (m : RawMessage) × (Nth i (x .publish) m) × (IsMessage (between s a e) m)
 unfolding messageAt
 message-found i a e (is-rpc {s = s} {es = es} g h1 h2 h3) q =
     let w = body-walks s es g in
@@ -101,8 +102,8 @@ message-found i a e (is-rpc {s = s} {es = es} g h1 h2 h3) q =
     pairs-nth h2 (subst (λ (l : List Entry). Nth i (bytesIn 2 l) (between s a e)) (w .entries) n)
 
 -- where none is found, the RPC has no message at the index, and its messages are counted
-pub message-missing : {s : List ℕ} {x : Rpc} (i n : ℕ) → IsRpc s x → messageAt s i ≡ Count n → (n ≡ length (x .publish))
-    × (length (x .publish) ≤ i)
+pub message-missing : {d : Dialect} {s : List ℕ} {x : Rpc} (i n : ℕ) → IsRpc d s x → messageAt s i ≡ Count n
+    → (n ≡ length (x .publish)) × (length (x .publish) ≤ i)
 unfolding messageAt
 message-missing i n (is-rpc {s = s} {es = es} g h1 h2 h3) q =
     let w = body-walks s es g in

@@ -8,19 +8,24 @@ use native.Mathlib.Omega.{arith}
 use lib.ListN.{length, length-append}
 use lib.Dec.{eqb}
 use borrow.Author.Tests.{eqb-false}
+use Rattle.basis.specs.declared.Edition.{Edition}
+use Rattle.basis.specs.declared.Edition.the-variants.{V11, V12}
+use Rattle.basis.specs.declared.Dialect.{Dialect}
 use Rattle.basis.specs.Cases.{either}
 use Rattle.peer_id.specs.Uvarint.{uvarint}
 use Rattle.protobuf.specs.Grammar.{Entry, Body}
 use Rattle.protobuf.specs.Encode.{varintField, bytesField}
 use Rattle.protobuf.specs.EncodeLaws.{bytes-field-length}
 use Rattle.rpc.specs.Rpc.{SubOpts, RawMessage, ControlIHave, ControlIWant, ControlGraft, PeerInfo, ControlPrune}
-use Rattle.rpc.specs.Rpc.{ControlMessage, Rpc}
+use Rattle.rpc.specs.Rpc.{ControlIDontWant, ControlMessage, Rpc}
 use Rattle.rpc.specs.Grammar.{numbersIn, bytesIn, last, nonzero, IsSubOpts, is-sub-opts, IsMessage, is-message, IsIHave}
 use Rattle.rpc.specs.Grammar.{is-ihave, IsIWant, is-iwant, IsGraft, is-graft, IsPeerInfo, is-peer-info, IsPrune}
-use Rattle.rpc.specs.Grammar.{is-prune, IsControl, is-control, join, joinTo, joined, IsRpc, is-rpc}
+use Rattle.rpc.specs.Grammar.{is-prune, IsIDontWant, is-idontwant, idontwantsIn, Pairs, no-pairs, _paired_}
+use Rattle.rpc.specs.Grammar.{IsControl, is-control, join, joinTo, joined, IsRpc, is-rpc}
 use Rattle.rpc.specs.Encode.{optional, repeated, flag, encodeSubOpts, encodeIHave, encodeIWant, encodeGraft}
-use Rattle.rpc.specs.Encode.{encodePeerInfo, encodePrune, encodeControl, encodeRpc}
-use Rattle.canon.specs.Lengths.{uvarint-sum, fields-fit, last-bytes, last-numbers, all-bytes, all-subs}
+use Rattle.rpc.specs.Encode.{encodePeerInfo, encodePrune, encodeIDontWant, encodeControl, encodeRpc}
+use Rattle.canon.specs.Lengths.{uvarint-sum, bytesLength, fields-fit, last-bytes, last-numbers, all-bytes}
+use Rattle.canon.specs.Lengths.{all-subs}
 
 -- ---- each message
 abbrev oneIfSome : ℕ → ℕ
@@ -87,30 +92,48 @@ prune-shorter _ _ (is-prune {s = s} {es = es} {ps = ps} g u h) =
     let l = length-append r n in
     omega arith
 
+pub idontwant-shorter : (s : List ℕ) (x : ControlIDontWant) → IsIDontWant s x → length (encodeIDontWant x) ≤ length s
+unfolding encodeIDontWant
+idontwant-shorter _ _ (is-idontwant {s = s} {es = es} g) =
+    let a = fields-fit 1 g in let c = all-bytes 1 (bytesIn 1 es) in
+    omega arith
+
+-- the entries that an edition adds
+added-shorter : {ds : List ControlIDontWant} (e : Edition) (es : List Entry) → Pairs IsIDontWant (idontwantsIn e es) ds
+    → length (repeated (λ d. bytesField 5 (encodeIDontWant d)) ds) ≤ bytesLength 5 (bytesIn 5 es)
+added-shorter V11 es no-pairs = omega arith
+added-shorter V12 es h = all-subs 5 encodeIDontWant idontwant-shorter h
+
 control-length : (x : ControlMessage)
     → length (encodeControl x) ≡ length (repeated (λ h. bytesField 1 (encodeIHave h)) (x .ihave)) + length
     (repeated (λ w. bytesField 2 (encodeIWant w)) (x .iwant)) + length
     (repeated (λ g. bytesField 3 (encodeGraft g)) (x .graft)) + length
-    (repeated (λ p. bytesField 4 (encodePrune p)) (x .prune))
+    (repeated (λ p. bytesField 4 (encodePrune p)) (x .prune)) + length
+    (repeated (λ d. bytesField 5 (encodeIDontWant d)) (x .idontwant))
 unfolding encodeControl
 control-length x =
     let a = repeated (λ h. bytesField 1 (encodeIHave h)) (x .ihave) in
     let b = repeated (λ w. bytesField 2 (encodeIWant w)) (x .iwant) in
     let c = repeated (λ g. bytesField 3 (encodeGraft g)) (x .graft) in
     let d = repeated (λ p. bytesField 4 (encodePrune p)) (x .prune) in
-    let k = length-append a (b ++ (c ++ d)) in
-    let l = length-append b (c ++ d) in
-    let m = length-append c d in
+    let e = repeated (λ d. bytesField 5 (encodeIDontWant d)) (x .idontwant) in
+    let k = length-append a (b ++ (c ++ (d ++ e))) in
+    let l = length-append b (c ++ (d ++ e)) in
+    let m = length-append c (d ++ e) in
+    let n = length-append d e in
     omega arith
 
-pub control-shorter : (s : List ℕ) (x : ControlMessage) → IsControl s x → length (encodeControl x) ≤ length s
-control-shorter _ _ (is-control {s = s} {es = es} {hs = hs} {ws = ws} {gs = gs} {ps = ps} g h1 h2 h3 h4) =
-    let a = fields-fit 4 g in
+pub control-shorter : (d : Dialect) (s : List ℕ) (x : ControlMessage) → IsControl d s x
+    → length (encodeControl x) ≤ length s
+control-shorter d _ _
+    (is-control {s = s} {es = es} {hs = hs} {ws = ws} {gs = gs} {ps = ps} {ds = ds} g h1 h2 h3 h4 h5) =
+    let a = fields-fit 5 g in
     let b1 = all-subs 1 encodeIHave ihave-shorter h1 in
     let b2 = all-subs 2 encodeIWant iwant-shorter h2 in
     let b3 = all-subs 3 encodeGraft graft-shorter h3 in
     let b4 = all-subs 4 encodePrune prune-shorter h4 in
-    let l = control-length (record { ihave = hs; iwant = ws; graft = gs; prune = ps }) in
+    let b5 = added-shorter (d .edition) es h5 in
+    let l = control-length (record { ihave = hs; iwant = ws; graft = gs; prune = ps; idontwant = ds }) in
     omega arith
 
 -- ---- several controls as one
@@ -131,6 +154,7 @@ join-length c d =
     let b = repeated-length (λ w. bytesField 2 (encodeIWant w)) (c .iwant) (d .iwant) in
     let e = repeated-length (λ g. bytesField 3 (encodeGraft g)) (c .graft) (d .graft) in
     let f = repeated-length (λ p. bytesField 4 (encodePrune p)) (c .prune) (d .prune) in
+    let g = repeated-length (λ x. bytesField 5 (encodeIDontWant x)) (c .idontwant) (d .idontwant) in
     control-length (join c d) ∙ omega (arith, control-length c, control-length d)
 
 pub field-sum : (n : ℕ) (x y z : List ℕ) → length z ≡ length x + length y
@@ -179,13 +203,13 @@ signed-shorter {s} {es} g =
 pub raw-same : (d : List ℕ) (m : RawMessage) → IsMessage d m → length (m .raw) ≤ length d
 raw-same _ _ (is-message g u) = omega arith
 
-pub never-longer : {s : List ℕ} {x : Rpc} → IsRpc s x → length (encodeRpc x) ≤ length s
+pub never-longer : {d : Dialect} {s : List ℕ} {x : Rpc} → IsRpc d s x → length (encodeRpc x) ≤ length s
 unfolding encodeRpc
-never-longer (is-rpc {s = s} {es = es} {ss = ss} {ms = ms} {cs = cs} g h1 h2 h3) =
+never-longer {d} (is-rpc {s = s} {es = es} {ss = ss} {ms = ms} {cs = cs} g h1 h2 h3) =
     let a = fields-fit 3 g in
     let b1 = all-subs 1 encodeSubOpts sub-opts-shorter h1 in
     let b2 = all-subs 2 (λ m. m .raw) raw-same h2 in
-    let b3 = all-subs 3 encodeControl control-shorter h3 in
+    let b3 = all-subs 3 encodeControl (control-shorter d) h3 in
     let j = joined-field cs in
     let x1 = repeated (λ o. bytesField 1 (encodeSubOpts o)) ss in
     let x2 = repeated (λ m. bytesField 2 (m .raw)) ms in

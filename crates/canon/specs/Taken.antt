@@ -6,6 +6,7 @@ use mathlib.Core.List.{List}
 use mathlib.Core.Logic.{_↔_}
 use native.Mathlib.Omega.{arith}
 use lib.ListN.{length}
+use Rattle.basis.specs.declared.Dialect.{Dialect}
 use Rattle.basis.specs.declared.Told.{Told}
 use Rattle.basis.specs.Bytes.{Bytes}
 use Rattle.basis.specs.Cases.{clash}
@@ -29,51 +30,53 @@ use Rattle.canon.specs.Shorter.{never-longer}
 use Rattle.canon.specs.Messages.{message-found}
 use Rattle.canon.specs.Written.{canon-written, message-shorter}
 
-pub taken : {s : List ℕ} {x : Rpc} → Within s x → acceptOf s ≡ Fine
-taken {s} {x} w =
-    let a = rpc-accepted s (record { value = x; means = w .means }) in
-    let n = counted-records s (a .records) x (a .counts) (w .means) in
-    taken-fine s (record { records = a .records; counts = a .counts; few = omega (arith, w .few); small = w .small })
+pub taken : {d : Dialect} {s : List ℕ} {x : Rpc} → Within d s x → acceptOf d s ≡ Fine
+taken {d} {s} {x} w =
+    let a = rpc-accepted d s (record { value = x; means = w .means }) in
+    let n = counted-records d s (a .records) x (a .counts) (w .means) in
+    taken-fine d s (record { records = a .records; counts = a .counts; few = omega (arith, w .few); small = w .small })
 
-only-taken : (s : List ℕ) → Bytes s → acceptOf s ≡ Fine → (x : Rpc) × Within s x
-only-taken s b h =
-    let t = is-taken s h in
-    let x = rpc-means s b (record { records = t .records; counts = t .counts }) in
-    let n = counted-records s (t .records) (x .value) (t .counts) (x .means) in
+only-taken : (d : Dialect) (s : List ℕ) → Bytes s → acceptOf d s ≡ Fine → (x : Rpc) × Within d s x
+only-taken d s b h =
+    let t = is-taken d s h in
+    let x = rpc-means d s b (record { records = t .records; counts = t .counts }) in
+    let n = counted-records d s (t .records) (x .value) (t .counts) (x .means) in
     (x .value, record { means = x .means; small = t .small; few = omega (arith, t .few) })
 
 -- the calls take a body exactly when it means an RPC within capacity
-pub taken-exactly : (s : List ℕ) → Bytes s → (acceptOf s ≡ Fine) ↔ ((x : Rpc) × Within s x)
-taken-exactly s b = (only-taken s b, λ p. taken (p .1))
+pub taken-exactly : (d : Dialect) (s : List ℕ) → Bytes s → (acceptOf d s ≡ Fine) ↔ ((x : Rpc) × Within d s x)
+taken-exactly d s b = (only-taken d s b, λ p. taken (p .1))
 
 -- and refuse it exactly where the scope does, with what it tells
 wrong-counted : (r : Tested) (why : Placed) → checked r ≡ Wrong why → r ≡ tested.Refused why
 wrong-counted (tested.Records n) why h = clash (cc)
 wrong-counted (tested.Refused w) why h = cc
 
-refused-only : (s : List ℕ) (why : Placed) → Bytes s → acceptOf s ≡ Wrong why → Refusal s (refusalTold why)
+refused-only : (d : Dialect) (s : List ℕ) (why : Placed) → Bytes s → acceptOf d s ≡ Wrong why
+    → Refusal d s (refusalTold why)
 unfolding acceptOf
-refused-only s why b h = refusal-of s (bodyRecords s) why b (gate s) (wrong-counted (bodyRecords s) why h)
+refused-only d s why b h = refusal-of d s (bodyRecords d s) why b (gate d s) (wrong-counted (bodyRecords d s) why h)
 
-refused-by : {s : List ℕ} {a : Told} → Refusal s a → (why : Placed) × (acceptOf s ≡ Wrong why) × (refusalTold why ≡ a)
+refused-by : {d : Dialect} {s : List ℕ} {a : Told} → Refusal d s a
+    → (why : Placed) × (acceptOf d s ≡ Wrong why) × (refusalTold why ≡ a)
 unfolding acceptOf
 refused-by r = let g = of-refusal r in (g .0, ap checked (g .1), g .2)
 
-pub refused-exactly : (s : List ℕ) (a : Told) → Bytes s
-    → ((why : Placed) × (acceptOf s ≡ Wrong why) × (refusalTold why ≡ a)) ↔ Refusal s a
-refused-exactly s a b = (λ p. subst (Refusal s) (p .2) (refused-only s (p .0) b (p .1)), refused-by)
+pub refused-exactly : (d : Dialect) (s : List ℕ) (a : Told) → Bytes s
+    → ((why : Placed) × (acceptOf d s ≡ Wrong why) × (refusalTold why ≡ a)) ↔ Refusal d s a
+refused-exactly d s a b = (λ p. subst (Refusal d s) (p .2) (refused-only d s (p .0) b (p .1)), refused-by)
 
 -- ---- never longer
-pub output-shorter : {s : List ℕ} {x : Rpc} → Within s x → length (canonBody s) ≤ length s
-output-shorter {s} w = subst (λ (b : List ℕ). length b ≤ length s) (sym (canon-written (w .means)))
+pub output-shorter : {d : Dialect} {s : List ℕ} {x : Rpc} → Within d s x → length (canonBody d s) ≤ length s
+output-shorter {d} {s} w = subst (λ (b : List ℕ). length b ≤ length s) (sym (canon-written (w .means)))
     (never-longer (w .means))
 
-pub taken-shorter : (s : List ℕ) → Bytes s → acceptOf s ≡ Fine → length (canonBody s) ≤ length s
-taken-shorter s b h = let t = only-taken s b h in output-shorter (t .1)
+pub taken-shorter : (d : Dialect) (s : List ℕ) → Bytes s → acceptOf d s ≡ Fine → length (canonBody d s) ≤ length s
+taken-shorter d s b h = let t = only-taken d s b h in output-shorter (t .1)
 
-pub signed-shorter : (s : List ℕ) (i a e : ℕ) → Bytes s → acceptOf s ≡ Fine → messageAt s i ≡ At a e
+pub signed-shorter : (d : Dialect) (s : List ℕ) (i a e : ℕ) → Bytes s → acceptOf d s ≡ Fine → messageAt s i ≡ At a e
     → length (canon kind.RawMessage (between s a e)) ≤ length (between s a e)
-signed-shorter s i a e b h q =
-    let t = only-taken s b h in
+signed-shorter d s i a e b h q =
+    let t = only-taken d s b h in
     let f = message-found i a e (t .1 .means) q in
     message-shorter (f .2)

@@ -7,10 +7,14 @@ use mathlib.Core.Option.{Option, none, some}
 use native.Mathlib.Nat.{zero-add}
 use lib.Dec.{eqb}
 use lib.ListN.{length}
+use Rattle.basis.specs.declared.Edition.{Edition}
+use Rattle.basis.specs.declared.Edition.the-variants.{V11, V12}
+use Rattle.basis.specs.declared.Dialect.{Dialect}
 use Rattle.basis.specs.Cases.{either}
 use Rattle.protobuf.specs.declared.Field.{Field}
 use Rattle.protobuf.specs.Grammar.{Entry, Body}
-use Rattle.protobuf.specs.Walk.{fieldsOf, whole, between, entriesOf as fieldEntries, isBytes, valueIn}
+use Rattle.protobuf.specs.Walk.{Fields, end, refused, _then_, fieldsOf, whole, between, entriesOf as fieldEntries}
+use Rattle.protobuf.specs.Walk.{isBytes, valueIn}
 use Rattle.protobuf.specs.Exactly.{body-walks}
 use Rattle.protobuf.specs.Encode.{varintField, bytesField}
 use Rattle.schema.specs.declared.Kind.{Kind}
@@ -23,23 +27,25 @@ use Rattle.schema.specs.declared.Place.the-variants as place
 use Rattle.schema.specs.declared.Number.{Number}
 use Rattle.schema.specs.declared.Number.the-variants as number
 use Rattle.schema.specs.declared.Slots.{Slots}
+use Rattle.schema.specs.Schema.{addedIn, rowFrom, heldOf}
 use Rattle.schema.specs.Slots.{noSlots, slotsOf}
 use Rattle.rpc.specs.Rpc.{SubOpts, RawMessage, ControlIHave, ControlIWant, ControlGraft, PeerInfo, ControlPrune}
-use Rattle.rpc.specs.Rpc.{ControlMessage, Rpc}
+use Rattle.rpc.specs.Rpc.{ControlIDontWant, ControlMessage, Rpc}
 use Rattle.rpc.specs.Grammar.{numbersIn, bytesIn, last, nonzero, Pairs, no-pairs, _paired_, IsSubOpts, is-sub-opts}
 use Rattle.rpc.specs.Grammar.{IsMessage, is-message, IsIHave, is-ihave, IsIWant, is-iwant, IsGraft, is-graft}
-use Rattle.rpc.specs.Grammar.{IsPeerInfo, is-peer-info, IsPrune, is-prune, IsControl, is-control, join, joined, IsRpc}
-use Rattle.rpc.specs.Grammar.{is-rpc}
+use Rattle.rpc.specs.Grammar.{IsPeerInfo, is-peer-info, IsPrune, is-prune, IsIDontWant, is-idontwant, idontwantsIn}
+use Rattle.rpc.specs.Grammar.{IsControl, is-control, join, joined, IsRpc, is-rpc}
 use Rattle.rpc.specs.Encode.{optional, repeated, flag, encodeSubOpts, encodeIHave, encodeIWant, encodeGraft}
-use Rattle.rpc.specs.Encode.{encodePeerInfo, encodePrune, encodeControl, encodeRpc, signPrefix, signBytes}
+use Rattle.rpc.specs.Encode.{encodePeerInfo, encodePrune, encodeIDontWant, encodeControl, encodeRpc, signPrefix}
+use Rattle.rpc.specs.Encode.{signBytes}
 use Rattle.meaning.specs.ReadBack.{bytesAt, numberAt}
 use Rattle.meaning.specs.Entries.{put-bytes}
 use Rattle.meaning.specs.Last.{Feeds, FeedsNumber}
 use Rattle.meaning.specs.Back.{sub-opts-topic, ihave-topic, graft-topic, prune-topic, peer-id, peer-record}
 use Rattle.meaning.specs.Back.{message-from, message-data, message-seqno, sub-opts-subscribe, prune-backoff, slot-value}
 use Rattle.meaning.specs.Back.{number-value, whole-part, flat, any, joined-flat, rpc-control}
-use Rattle.canon.specs.Canon.{placed, slotIn, figured, numbered, ownPart, eachAlong, eachOf, heldPart, partWith}
-use Rattle.canon.specs.Canon.{canon, entriesOf, mergedOf, bodyPart, canonBody, signOf}
+use Rattle.canon.specs.Canon.{inOrder, placed, slotIn, figured, numbered, ownPart, eachAlong, eachOf, heldPart}
+use Rattle.canon.specs.Canon.{partWith, canon, entriesOf, mergedOf, bodyPart, canonBody, signOf}
 use Rattle.canon.specs.CanonLaws.{canon-fields}
 use Rattle.canon.specs.Shorter.{signedFields, signed-shorter, repeated-append}
 
@@ -161,29 +167,50 @@ canon-prune _ _ (is-prune {s = s} {es = es} {ps = ps} g u h) =
     let c = number-part Exact 3 s kind.ControlPrune 3 es g prune-backoff in
     canon-fields kind.ControlPrune s ∙ simp (append-nil, a, b, c)
 
--- ---- a control's entries
--- the entries m of a control, as the grammar has them
-record Parts (d : List ℕ) (c : ControlMessage) : Type 0 where
-  ihaves : heldPart canon 1 d (held.Anew kind.ControlIHave) ≡ repeated (λ h. bytesField 1 (encodeIHave h)) (c .ihave)
-  iwants : heldPart canon 2 d (held.Anew kind.ControlIWant) ≡ repeated (λ w. bytesField 2 (encodeIWant w)) (c .iwant)
-  grafts : heldPart canon 3 d (held.Anew kind.ControlGraft) ≡ repeated (λ g. bytesField 3 (encodeGraft g)) (c .graft)
-  prunes : heldPart canon 4 d (held.Anew kind.ControlPrune) ≡ repeated (λ p. bytesField 4 (encodePrune p)) (c .prune)
+canon-idontwant : (s : List ℕ) (x : ControlIDontWant) → IsIDontWant s x
+    → canon kind.ControlIDontWant s ≡ encodeIDontWant x
+unfolding ownPart heldPart slotIn encodeIDontWant
+canon-idontwant _ _ (is-idontwant {s = s} {es = es} g) =
+    let a = each-body (bytesField 1) 1 s es g in
+    canon-fields kind.ControlIDontWant s ∙ simp (append-nil, a)
 
-parts-of : (d : List ℕ) (c : ControlMessage) → IsControl d c → Parts d c
-parts-of _ _ (is-control {s = s} {es = es} {hs = hs} {ws = ws} {gs = gs} {ps = ps} g h1 h2 h3 h4) =
+-- ---- a control's entries
+-- those of the fields that an edition adds
+addedPart : Edition → List ℕ → List ℕ
+addedPart V11 p = []
+addedPart V12 p = heldPart canon 5 p (held.Anew kind.ControlIDontWant)
+
+added-of : (e : Edition) (s : List ℕ) (es : List Entry) (ds : List ControlIDontWant) → Body s es
+    → Pairs IsIDontWant (idontwantsIn e es) ds
+    → addedPart e s ≡ repeated (λ d. bytesField 5 (encodeIDontWant d)) ds
+unfolding addedPart
+added-of V11 s es _ g no-pairs = refl
+added-of V12 s es ds g h = subs-written kind.ControlIDontWant encodeIDontWant canon-idontwant 5 s es ds g h
+
+-- the entries m of a control, as the grammar has them
+record Parts (d : Dialect) (p : List ℕ) (c : ControlMessage) : Type 0 where
+  ihaves : heldPart canon 1 p (held.Anew kind.ControlIHave) ≡ repeated (λ h. bytesField 1 (encodeIHave h)) (c .ihave)
+  iwants : heldPart canon 2 p (held.Anew kind.ControlIWant) ≡ repeated (λ w. bytesField 2 (encodeIWant w)) (c .iwant)
+  grafts : heldPart canon 3 p (held.Anew kind.ControlGraft) ≡ repeated (λ g. bytesField 3 (encodeGraft g)) (c .graft)
+  prunes : heldPart canon 4 p (held.Anew kind.ControlPrune) ≡ repeated (λ p. bytesField 4 (encodePrune p)) (c .prune)
+  added : addedPart (d .edition) p ≡ repeated (λ x. bytesField 5 (encodeIDontWant x)) (c .idontwant)
+
+parts-of : (d : Dialect) (p : List ℕ) (c : ControlMessage) → IsControl d p c → Parts d p c
+parts-of d _ _ (is-control {s = s} {es = es} {hs = hs} {ws = ws} {gs = gs} {ps = ps} {ds = ds} g h1 h2 h3 h4 h5) =
     record {
       ihaves = subs-written kind.ControlIHave encodeIHave canon-ihave 1 s es hs g h1;
       iwants = subs-written kind.ControlIWant encodeIWant canon-iwant 2 s es ws g h2;
       grafts = subs-written kind.ControlGraft encodeGraft canon-graft 3 s es gs g h3;
       prunes = subs-written kind.ControlPrune encodePrune canon-prune 4 s es ps g h4;
+      added = added-of (d .edition) s es ds g h5;
     }
 
 -- the entries of the joined control: f writes one of those that `get` takes out of a control, and `part` those of a
 -- control's bytes
-flat-parts : {X : Type 0} (part : List ℕ → List ℕ) (f : X → List ℕ) (get : ControlMessage → List X) → get (flat []) ≡ []
-    → ((c d : ControlMessage) → get (join c d) ≡ get c ++ get d)
-    → ((d : List ℕ) (c : ControlMessage) → IsControl d c → part d ≡ repeated f (get c))
-    → {ds : List (List ℕ)} {cs : List ControlMessage} → Pairs IsControl ds cs
+flat-parts : {X : Type 0} {d : Dialect} (part : List ℕ → List ℕ) (f : X → List ℕ) (get : ControlMessage → List X)
+    → get (flat []) ≡ [] → ((b c : ControlMessage) → get (join b c) ≡ get b ++ get c)
+    → ((p : List ℕ) (c : ControlMessage) → IsControl d p c → part p ≡ repeated f (get c))
+    → {ds : List (List ℕ)} {cs : List ControlMessage} → Pairs (IsControl d) ds cs
     → repeated part ds ≡ repeated f (get (flat cs))
 flat-parts part f get empty joins same no-pairs = ap (repeated f) (sym empty)
 flat-parts part f get empty joins same (_paired_ {x = d} {y = c} {ys = cs} p ps) =
@@ -191,23 +218,40 @@ flat-parts part f get empty joins same (_paired_ {x = d} {y = c} {ys = cs} p ps)
     ∙ sym (repeated-append f (get c) (get (flat cs)))
     ∙ ap (repeated f) (sym (joins c (flat cs)))
 
-merged : (s : List ℕ) (es : List Entry) (cs : List ControlMessage) → Body s es → Pairs IsControl (bytesIn 3 es) cs
-    → mergedOf kind.ControlMessage 3 s ≡ encodeControl (flat cs)
+-- what is written of the fields from 5 on
+each-none : (n : ℕ) (s : List ℕ) (w : Fields) → eachAlong (λ p. []) n s w ≡ []
+each-none n s end = refl
+each-none n s (refused why) = refl
+each-none n s (f then w) = either (isBytes n f) (λ t. simp t (each-none n s w)) (λ t. simp t (each-none n s w))
+
+added-order : (e : Edition) (s : List ℕ) (part : ℕ → List ℕ)
+    → part 5 ≡ eachOf (λ p. heldPart canon 5 p (heldOf (rowFrom 5 (addedIn e) 5))) 3 s
+    → inOrder part 5 (length (addedIn e)) ≡ eachOf (addedPart e) 3 s
+unfolding addedPart
+added-order V11 s part h = sym (each-none 3 s (fieldsOf s))
+added-order V12 s part h = append-nil (part 5) ∙ h
+
+merged : (d : Dialect) (s : List ℕ) (es : List Entry) (cs : List ControlMessage) → Body s es
+    → Pairs (IsControl d) (bytesIn 3 es) cs → mergedOf (kind.ControlMessage d) 3 s ≡ encodeControl (flat cs)
 unfolding mergedOf entriesOf encodeControl
-merged s es cs g h =
+merged d s es cs g h =
     let e1 = each-body (λ p. heldPart canon 1 p (held.Anew kind.ControlIHave)) 3 s es g
     ∙ flat-parts (λ p. heldPart canon 1 p (held.Anew kind.ControlIHave)) (λ h. bytesField 1 (encodeIHave h))
-    (λ c. c .ihave) refl (λ c d. refl) (λ d c i. parts-of d c i .ihaves) h in
+    (λ c. c .ihave) refl (λ b c. refl) (λ p c i. parts-of d p c i .ihaves) h in
     let e2 = each-body (λ p. heldPart canon 2 p (held.Anew kind.ControlIWant)) 3 s es g
     ∙ flat-parts (λ p. heldPart canon 2 p (held.Anew kind.ControlIWant)) (λ w. bytesField 2 (encodeIWant w))
-    (λ c. c .iwant) refl (λ c d. refl) (λ d c i. parts-of d c i .iwants) h in
+    (λ c. c .iwant) refl (λ b c. refl) (λ p c i. parts-of d p c i .iwants) h in
     let e3 = each-body (λ p. heldPart canon 3 p (held.Anew kind.ControlGraft)) 3 s es g
     ∙ flat-parts (λ p. heldPart canon 3 p (held.Anew kind.ControlGraft)) (λ g. bytesField 3 (encodeGraft g))
-    (λ c. c .graft) refl (λ c d. refl) (λ d c i. parts-of d c i .grafts) h in
+    (λ c. c .graft) refl (λ b c. refl) (λ p c i. parts-of d p c i .grafts) h in
     let e4 = each-body (λ p. heldPart canon 4 p (held.Anew kind.ControlPrune)) 3 s es g
     ∙ flat-parts (λ p. heldPart canon 4 p (held.Anew kind.ControlPrune)) (λ p. bytesField 4 (encodePrune p))
-    (λ c. c .prune) refl (λ c d. refl) (λ d c i. parts-of d c i .prunes) h in
-    ap₂ _++_ e1 (ap₂ _++_ e2 (ap₂ _++_ e3 (append-nil _ ∙ e4)))
+    (λ c. c .prune) refl (λ b c. refl) (λ p c i. parts-of d p c i .prunes) h in
+    let e5 = added-order (d .edition) s (entriesOf (kind.ControlMessage d) 3 s) refl
+    ∙ each-body (addedPart (d .edition)) 3 s es g
+    ∙ flat-parts (addedPart (d .edition)) (λ x. bytesField 5 (encodeIDontWant x))
+    (λ c. c .idontwant) refl (λ b c. refl) (λ p c i. parts-of d p c i .added) h in
+    ap₂ _++_ e1 (ap₂ _++_ e2 (ap₂ _++_ e3 (ap₂ _++_ e4 e5)))
 
 -- ---- the body
 control-written : (cs : List ControlMessage) → cond (any cs) (bytesField 3 (encodeControl (flat cs))) [] ≡ optional
@@ -223,13 +267,13 @@ raw-of : (d : List ℕ) (m : RawMessage) → IsMessage d m → bytesField 2 d �
 raw-of _ _ (is-message g u) = refl
 
 -- what the writer makes of a body is the encoding of the RPC that it means
-pub canon-written : {s : List ℕ} {x : Rpc} → IsRpc s x → canonBody s ≡ encodeRpc x
+pub canon-written : {d : Dialect} {s : List ℕ} {x : Rpc} → IsRpc d s x → canonBody d s ≡ encodeRpc x
 unfolding canonBody bodyPart heldPart encodeRpc
-canon-written (is-rpc {s = s} {es = es} {ss = ss} {ms = ms} {cs = cs} g h1 h2 h3) =
+canon-written {d} (is-rpc {s = s} {es = es} {ss = ss} {ms = ms} {cs = cs} g h1 h2 h3) =
     let a = subs-written kind.SubOpts encodeSubOpts canon-sub-opts 1 s es ss g h1 in
     let b = each-body (bytesField 2) 2 s es g ∙ each-pairs (bytesField 2) (λ m. bytesField 2 (m .raw)) raw-of h2 in
-    let c = ap₂ (λ (t : Bool) (x : List ℕ). cond t (bytesField 3 x) []) (rpc-control s es cs g h3) (merged s es cs g h3)
-    ∙ control-written cs in
+    let c = ap₂ (λ (t : Bool) (x : List ℕ). cond t (bytesField 3 x) []) (rpc-control d s es cs g h3)
+    (merged d s es cs g h3) ∙ control-written cs in
     ap₂ _++_ a (ap₂ _++_ b (append-nil _ ∙ c))
 
 -- ---- the bytes that are signed

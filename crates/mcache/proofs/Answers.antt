@@ -8,6 +8,8 @@ use lib.ListN.{length, take, drop, getD, replicate}
 use lib.Seq.{sets, sets-eq, length-sets, take-at}
 use lib.Dec.{leb, ltb, eqb}
 use borrow.Author.Tests.{eq-eqb, ne-eqb, eqb-true, le-leb, lt-leb, leb-true, lt-ltb, le-ltb}
+use Rattle.basis.specs.declared.Edition.{Edition}
+use Rattle.basis.specs.Dialect.{spoken}
 use Rattle.basis.specs.declared.Written.the-variants as written
 use Rattle.basis.specs.Cases.{either, clash}
 use Rattle.basis.specs.Writing.{setIn}
@@ -330,33 +332,33 @@ pub puts-as : (c : MessageCache) (st : List ℕ) (plan other : Plan) (a : Put) (
     Does c st plan a r s
 puts-as c st plan other a r s e p = (rw e (p .0), (rw e (p .1 .0), rw e (p .1 .1)))
 
-pub put-done : (c : MessageCache) (st body : List ℕ) (i : ℕ) (r : PutDone) (left : List ℕ) → Does c st (planned c st body i) (r .answer) (r .cache)
-    left → Puts c st body i r left
-put-done c st body i r left p = record { answer = p .0; cache = p .1 .0; store = p .1 .1 }
+pub put-done : (c : MessageCache) (st : List ℕ) (ed : Edition) (body : List ℕ) (i : ℕ) (r : PutDone) (left : List ℕ)
+    → Does c st (planned c st ed body i) (r .answer) (r .cache) left → Puts c st ed body i r left
+put-done c st ed body i r left p = record { answer = p .0; cache = p .1 .0; store = p .1 .1 }
 
 module _ (c : MessageCache) (p : List ℕ) where
   pub plan-unfit : (why : Unfit) → admission.Unfit why ≡ admissionOf (c .flags) p true → planFit c p (admissionOf (c .flags) p true) ≡ no (put.Unfit why)
   plan-unfit why e = rw (← e)
 
-module _ (c : MessageCache) (st body : List ℕ) (i : ℕ) where
-  pub plan-store : lent.BadStore ≡ lentOf c st → planned c st body i ≡ no put.BadStore
+module _ (c : MessageCache) (st : List ℕ) (ed : Edition) (body : List ℕ) (i : ℕ) where
+  pub plan-store : lent.BadStore ≡ lentOf c st → planned c st ed body i ≡ no put.BadStore
   unfolding planned
   plan-store e = rw (← e)
 
-  pub plan-malformed : lent.Malformed ≡ lentOf c st → planned c st body i ≡ no put.Malformed
+  pub plan-malformed : lent.Malformed ≡ lentOf c st → planned c st ed body i ≡ no put.Malformed
   unfolding planned
   plan-malformed e = rw (← e)
 
-  pub plan-refused : (why : Refusal) → lent.Fine ≡ lentOf c st → checked.Refused why ≡ acceptOf body → planned c st body i ≡ no (put.Refused why)
+  pub plan-refused : (why : Refusal) → lent.Fine ≡ lentOf c st → checked.Refused why ≡ acceptOf (spoken ed) body → planned c st ed body i ≡ no (put.Refused why)
   unfolding planned
   plan-refused why e f = rw (← e, ← f)
 
-  pub plan-missing : (n : ℕ) → lent.Fine ≡ lentOf c st → checked.Fine ≡ acceptOf body → at.Count n ≡ messageAt body i → planned c st body i ≡ no
+  pub plan-missing : (n : ℕ) → lent.Fine ≡ lentOf c st → checked.Fine ≡ acceptOf (spoken ed) body → at.Count n ≡ messageAt body i → planned c st ed body i ≡ no
       (put.NoMessage n)
   unfolding planned
   plan-missing n e f g = rw (← e, ← f, ← g)
 
-  pub plan-at : (a b : ℕ) → lent.Fine ≡ lentOf c st → checked.Fine ≡ acceptOf body → at.At a b ≡ messageAt body i → planned c st body i ≡ planFit c
+  pub plan-at : (a b : ℕ) → lent.Fine ≡ lentOf c st → checked.Fine ≡ acceptOf (spoken ed) body → at.At a b ≡ messageAt body i → planned c st ed body i ≡ planFit c
       (between body a b) (admissionOf (c .flags) (between body a b) true)
   unfolding planned
   plan-at a b e f g = rw (← e, ← f, ← g)

@@ -9,6 +9,8 @@ use native.Mathlib.Omega.{arith}
 use lib.ListN.{length}
 use lib.Dec.{leb, ltb, eqb}
 use borrow.Author.Tests.{leb-true, leb-false, ltb-true, ltb-false, eqb-true, eq-eqb}
+use Rattle.basis.specs.declared.Edition.{Edition}
+use Rattle.basis.specs.Dialect.{spoken}
 use Rattle.basis.specs.Cases.{either, clash}
 use Rattle.basis.specs.Refusals.{bad-setting, bad-store, malformed, topic-too-long}
 use Rattle.basis.specs.Told.{told}
@@ -191,14 +193,14 @@ module _ (c : MessageCache) (st : List ℕ) (y : Typed c) where
   by-put lent.BadStore p z e = store-says c st y e
   by-put lent.Malformed p z e = malformed-says c st y e
 
-  plan-exactly : (body : List ℕ) (i : ℕ) → Exactly c st (putNumber (answered (planned c st body i)))
+  plan-exactly : (ed : Edition) (body : List ℕ) (i : ℕ) → Exactly c st (putNumber (answered (planned c st ed body i)))
   unfolding planned
-  plan-exactly body i =
-      by-put (lentOf c st) (planBody c body i (acceptOf body)) (body-low c body i (acceptOf body)) refl
+  plan-exactly ed body i =
+      by-put (lentOf c st) (planBody c body i (acceptOf (spoken ed) body)) (body-low c body i (acceptOf (spoken ed) body)) refl
 
-  pub put-lent-exactly : (body : List ℕ) (i : ℕ) (r : PutDone) (left : List ℕ) → Puts c st body i r left
+  pub put-lent-exactly : (ed : Edition) (body : List ℕ) (i : ℕ) (r : PutDone) (left : List ℕ) → Puts c st ed body i r left
       → Exactly c st (putNumber (r .answer))
-  put-lent-exactly body i r left p = rw (p .answer) (plan-exactly body i)
+  put-lent-exactly ed body i r left p = rw (p .answer) (plan-exactly ed body i)
 
   -- ---- 29: the state is well formed and the topic has more than 1,024 bytes; its length stands beside it
   by-topic : (topic : List ℕ) (l : Lent) → lentOf c st ≡ l

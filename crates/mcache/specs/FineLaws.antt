@@ -8,6 +8,8 @@ use lib.ListN.{length, drop, getD, set, length-append, length-set, length-map, l
 use lib.Seq.{sets, length-sets, getD-set-same, getD-set-other, set-out}
 use lib.Dec.{leb, ltb, eqb}
 use borrow.Author.Tests.{le-leb, leb-true, ltb-true, ltb-false, eqb-true, eqb-false, eq-eqb}
+use Rattle.basis.specs.declared.Edition.{Edition}
+use Rattle.basis.specs.Dialect.{spoken}
 use Rattle.basis.specs.Cases.{either, clash, both}
 use Rattle.basis.specs.Lists.{zeros-below}
 use Rattle.rows.specs.declared.Ring.{Ring}
@@ -251,22 +253,23 @@ of-fit c p m id n (admission.Fit x y z w) k e h =
       fresh = rw (← b) t;
     })
 
-of-at : (c : MessageCache) (body m id : List ℕ) (i : ℕ) (r : MessageAt) → acceptOf body ≡ checked.Fine
+of-at : (c : MessageCache) (ed : Edition) (body m id : List ℕ) (i : ℕ) (r : MessageAt)
+    → acceptOf (spoken ed) body ≡ checked.Fine
     → messageAt body i ≡ r → planAt c body r ≡ keep m id → Enters c m id
-of-at c body m id i (at.Count n) a e h = clash (cc)
-of-at c body m id i (at.At x y) a e h =
-    let q = message-read body i x y a e in
+of-at c ed body m id i (at.Count n) a e h = clash (cc)
+of-at c ed body m id i (at.At x y) a e h =
+    let q = message-read (spoken ed) body i x y a e in
     of-fit c (between body x y) m id (q .0) (admissionOf (c .flags) (between body x y) true) (q .1) refl h
 
-of-body : (c : MessageCache) (body m id : List ℕ) (i : ℕ) (r : Checked) → acceptOf body ≡ r
+of-body : (c : MessageCache) (ed : Edition) (body m id : List ℕ) (i : ℕ) (r : Checked) → acceptOf (spoken ed) body ≡ r
     → planBody c body i r ≡ keep m id → Enters c m id
-of-body c body m id i (checked.Refused why) a h = clash (cc)
-of-body c body m id i checked.Fine a h = of-at c body m id i (messageAt body i) a refl h
+of-body c ed body m id i (checked.Refused why) a h = clash (cc)
+of-body c ed body m id i checked.Fine a h = of-at c ed body m id i (messageAt body i) a refl h
 
-pub planned-keeps : (c : MessageCache) (st body m id : List ℕ) (i : ℕ) → lentOf c st ≡ lent.Fine
-    → planned c st body i ≡ keep m id → Enters c m id
+pub planned-keeps : (c : MessageCache) (st : List ℕ) (ed : Edition) (body m id : List ℕ) (i : ℕ) → lentOf c st ≡ lent.Fine
+    → planned c st ed body i ≡ keep m id → Enters c m id
 unfolding planned
-planned-keeps c st body m id i f h = of-body c body m id i (acceptOf body) refl (rw f at h)
+planned-keeps c st ed body m id i f h = of-body c ed body m id i (acceptOf (spoken ed) body) refl (rw f at h)
 
 not-held : (c : MessageCache) (m id : List ℕ) → Enters c m id
     → among id (idsIn messageIdSize (ringOf c) (c .«id_len») (c .ids)) ≡ false
@@ -380,15 +383,15 @@ entered-fine c st m id t z k =
     rw (entered-some m id c some, stored-some c st m some)
     (tests-fine (grown m id c) (sets st (spot c * messageSize) m) (grown-tests c st m id t z k some)))
 
-put-by : (c : MessageCache) (st body : List ℕ) (i : ℕ) → lentOf c st ≡ lent.Fine → Sized c → (r : Plan)
-    → planned c st body i ≡ r → lentOf (keptIn c r) (storedIn c st r) ≡ lent.Fine
-put-by c st body i f z (no r) e = f
-put-by c st body i f z (keep m id) e = entered-fine c st m id (fine-tests c st f) z (planned-keeps c st body m id i f e)
+put-by : (c : MessageCache) (st : List ℕ) (ed : Edition) (body : List ℕ) (i : ℕ) → lentOf c st ≡ lent.Fine → Sized c → (r : Plan)
+    → planned c st ed body i ≡ r → lentOf (keptIn c r) (storedIn c st r) ≡ lent.Fine
+put-by c st ed body i f z (no r) e = f
+put-by c st ed body i f z (keep m id) e = entered-fine c st m id (fine-tests c st f) z (planned-keeps c st ed body m id i f e)
 
 -- whatever is asked, refused puts too
-pub put-fine : (c : MessageCache) (st body : List ℕ) (i : ℕ) → lentOf c st ≡ lent.Fine → Sized c
-    → lentOf (keptIn c (planned c st body i)) (storedIn c st (planned c st body i)) ≡ lent.Fine
-put-fine c st body i f z = put-by c st body i f z (planned c st body i) refl
+pub put-fine : (c : MessageCache) (st : List ℕ) (ed : Edition) (body : List ℕ) (i : ℕ) → lentOf c st ≡ lent.Fine → Sized c
+    → lentOf (keptIn c (planned c st ed body i)) (storedIn c st (planned c st ed body i)) ≡ lent.Fine
+put-fine c st ed body i f z = put-by c st ed body i f z (planned c st ed body i) refl
 
 -- a message that may be taken, put under its id, whatever it came from
 pub under-fine : (c : MessageCache) (st m id : List ℕ) → lentOf c st ≡ lent.Fine → Sized c → length m ≤ messageSize
@@ -496,8 +499,8 @@ typed-by : (c : MessageCache) → Typed c → (r : Plan) → Typed (keptIn c r)
 typed-by c y (no r) = y
 typed-by c y (keep m id) = entered-typed m id c y
 
-pub put-typed : (c : MessageCache) (st body : List ℕ) (i : ℕ) → Typed c → Typed (keptIn c (planned c st body i))
-put-typed c st body i y = typed-by c y (planned c st body i)
+pub put-typed : (c : MessageCache) (st : List ℕ) (ed : Edition) (body : List ℕ) (i : ℕ) → Typed c → Typed (keptIn c (planned c st ed body i))
+put-typed c st ed body i y = typed-by c y (planned c st ed body i)
 
 pub under-typed : (m id : List ℕ) (c : MessageCache) → Typed c → Typed (keptUnder m id c)
 unfolding keptUnder
@@ -516,8 +519,8 @@ shift-typed c st y = typed-shift c y (lentOf c st)
 reached-both : {c : MessageCache} {st : List ℕ} → Reached c st → (lentOf c st ≡ lent.Fine) × Typed c
 reached-both (begun next history max flags st n l r) =
     (start-at-fine next history max flags st l r, fresh-typed next history max flags n)
-reached-both (given {c} {st} r body i) = let b = reached-both r in
-    (put-fine c st body i (b .0) (b .1 .sized), put-typed c st body i (b .1))
+reached-both (given {c} {st} r ed body i) = let b = reached-both r in
+    (put-fine c st ed body i (b .0) (b .1 .sized), put-typed c st ed body i (b .1))
 reached-both (opened {c} {st} r) = let b = reached-both r in
     (shift-fine c st (b .0) (b .1 .sized), shift-typed c st (b .1))
 

@@ -8,6 +8,8 @@ use native.Mathlib.Omega.{arith}
 use lib.ListN.{length, getD, replicate}
 use lib.Dec.{ltb, eqb}
 use borrow.Author.Tests.{ltb-true, ltb-false}
+use Rattle.basis.specs.declared.Edition.{Edition}
+use Rattle.basis.specs.Dialect.{spoken}
 use Rattle.basis.specs.Cases.{either}
 use Rattle.basis.specs.Told.{done}
 use Rattle.rows.specs.Rows.{placeOf, rowsIn}
@@ -102,9 +104,9 @@ under-cached c st m id f z k n =
 -- ---- put
 -- of a message that may be taken
 module _
-    (c : MessageCache) (st body : List ℕ) (i a e x y z w : ℕ)
+    (c : MessageCache) (st : List ℕ) (ed : Edition) (body : List ℕ) (i a e x y z w : ℕ)
     (fine : lentOf c st ≡ lent.Fine)
-    (ok : acceptOf body ≡ checked.Fine)
+    (ok : acceptOf (spoken ed) body ≡ checked.Fine)
     (there : messageAt body i ≡ at.At a e)
     (fit : admissionOf (c .flags) (between body a e) true ≡ admission.Fit x y z w)
   where
@@ -114,18 +116,18 @@ module _
     abbrev id : List ℕ
     id = idBytes (between body a e) x y z w
 
-    plan-under : planned c st body i ≡ planUnder c p id
+    plan-under : planned c st ed body i ≡ planUnder c p id
     unfolding planned
     plan-under = rw (fine, ok, there, fit)
 
-    pub put-plan : planned c st body i ≡ cond (held id (cachedIn c st)) (no put.Held) (keep p id)
+    pub put-plan : planned c st ed body i ≡ cond (held id (cachedIn c st)) (no put.Held) (keep p id)
     put-plan = rw (plan-under, held-index c st id)
 
-    pub put-says : putTold (answered (planned c st body i)) ≡ cond (held id (cachedIn c st)) (done (0 ∷ []))
+    pub put-says : putTold (answered (planned c st ed body i)) ≡ cond (held id (cachedIn c st)) (done (0 ∷ []))
         (done (1 ∷ []))
     put-says = rw put-plan (either (held id (cachedIn c st)) (λ t. rw t) (λ t. rw t))
 
-    pub put-cached : Sized c → cachedIn (keptIn c (planned c st body i)) (storedIn c st (planned c st body i))
+    pub put-cached : Sized c → cachedIn (keptIn c (planned c st ed body i)) (storedIn c st (planned c st ed body i))
         ≡ putIn (c .«max_messages») id p (cachedIn c st)
     unfolding keptUnder storedUnder
     put-cached s =
@@ -138,9 +140,9 @@ not-stored : (c : MessageCache) (st : List ℕ) (r : Plan) → (answered r ≡ p
 not-stored c st (no r) n = (refl, refl)
 not-stored c st (keep m id) n = absurd (n refl)
 
-pub put-refused : (c : MessageCache) (st body : List ℕ) (i : ℕ) → (putNumber (answered (planned c st body i)) ≡ 0 → ⊥)
-    → (keptIn c (planned c st body i) ≡ c) × (storedIn c st (planned c st body i) ≡ st)
-put-refused c st body i n = not-stored c st (planned c st body i) (λ e. n (ap putNumber e))
+pub put-refused : (c : MessageCache) (st : List ℕ) (ed : Edition) (body : List ℕ) (i : ℕ) → (putNumber (answered (planned c st ed body i)) ≡ 0 → ⊥)
+    → (keptIn c (planned c st ed body i) ≡ c) × (storedIn c st (planned c st ed body i) ≡ st)
+put-refused c st ed body i n = not-stored c st (planned c st ed body i) (λ e. n (ap putNumber e))
 
 -- ---- get
 get-here : (id : List ℕ) (ms : List Cached) (d : Cached) → indexOf id (idsOf ms) < length ms

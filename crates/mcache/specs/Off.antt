@@ -6,6 +6,8 @@ use mathlib.Core.List.{List}
 use mathlib.Core.Bool.{Bool, true, false, _&&_, and-true}
 use lib.ListN.{getD}
 use lib.Dec.{leb}
+use Rattle.basis.specs.declared.Edition.{Edition}
+use Rattle.basis.specs.Dialect.{spoken}
 use Rattle.basis.specs.Cases.{clash, both}
 use Rattle.rows.specs.Rows.{placeOf, rowsIn}
 use Rattle.rows.specs.RowsLaws.{ring-ext}
@@ -63,8 +65,8 @@ abbrev pub planBodyWas : MessageCache → List ℕ → ℕ → Checked → Plan
 planBodyWas c body i (checked.Refused why) = no (put.Refused why)
 planBodyWas c body i checked.Fine = planAtWas c body (messageAt body i)
 
-unfoldable pub plannedWas : MessageCache → List ℕ → List ℕ → ℕ → Plan
-plannedWas c st body i = planLent (lentOf c st) (planBodyWas c body i (acceptOf body))
+unfoldable pub plannedWas : MessageCache → List ℕ → Edition → List ℕ → ℕ → Plan
+plannedWas c st ed body i = planLent (lentOf c st) (planBodyWas c body i (acceptOf (spoken ed) body))
 
 -- ---- with the flags 0
 pub legal-off : (history max : ℕ) → legal history max 0 ≡ legalWas history max
@@ -95,9 +97,9 @@ module _ (c : MessageCache) (st : List ℕ) (off : allowsUnsigned (c .flags) ≡
   body-was body i (checked.Refused why) = refl
   body-was body i checked.Fine = at-was body (messageAt body i)
 
-  pub planned-off : (body : List ℕ) (i : ℕ) → planned c st body i ≡ plannedWas c st body i
+  pub planned-off : (ed : Edition) (body : List ℕ) (i : ℕ) → planned c st ed body i ≡ plannedWas c st ed body i
   unfolding planned plannedWas
-  planned-off body i = rw (body-was body i (acceptOf body))
+  planned-off ed body i = rw (body-was body i (acceptOf (spoken ed) body))
 
 pub well-formed-off : (c : MessageCache) (st : List ℕ) → c .flags ≡ 0 → wellFormed c st ≡ wellFormedWas c st
 unfolding wellFormed wellFormedWas allowsUnsigned

@@ -7,6 +7,8 @@ use mathlib.Core.Logic.{⊎-elim}
 use native.Mathlib.Omega.{arith}
 use lib.ListN.{length, drop}
 use lib.Seq.{sets}
+use Rattle.basis.specs.declared.Edition.{Edition}
+use Rattle.basis.specs.Dialect.{spoken}
 use Rattle.basis.specs.Told.{done}
 use Rattle.rows.specs.declared.Ring.{Ring}
 use Rattle.rows.specs.Rows.{placeOf, without, oneMore}
@@ -54,28 +56,28 @@ oldest-leaves max id m oldest ms h f =
 
 -- ---- the calls
 module _
-    (c : MessageCache) (st body : List ℕ) (i a e x y z w : ℕ)
+    (c : MessageCache) (st : List ℕ) (ed : Edition) (body : List ℕ) (i a e x y z w : ℕ)
     (fine : lentOf c st ≡ lent.Fine)
-    (ok : acceptOf body ≡ checked.Fine)
+    (ok : acceptOf (spoken ed) body ≡ checked.Fine)
     (there : messageAt body i ≡ at.At a e)
     (fit : admissionOf (c .flags) (between body a e) true ≡ admission.Fit x y z w)
   where
     -- a put of a held id answers so and changes nothing, also where the message is another one with that id
     pub held-not-replaced : held (idBytes (between body a e) x y z w) (cachedIn c st) ≡ true
-        → (putTold (answered (planned c st body i)) ≡ done (0 ∷ [])) × (keptIn c (planned c st body i) ≡ c)
-        × (storedIn c st (planned c st body i) ≡ st)
+        → (putTold (answered (planned c st ed body i)) ≡ done (0 ∷ [])) × (keptIn c (planned c st ed body i) ≡ c)
+        × (storedIn c st (planned c st ed body i) ≡ st)
     held-not-replaced h =
-        let p : planned c st body i ≡ no put.Held = rw h at (put-plan c st body i a e x y z w fine ok there fit) in
+        let p : planned c st ed body i ≡ no put.Held = rw h at (put-plan c st ed body i a e x y z w fine ok there fit) in
         (ap (λ (r : Plan). putTold (answered r)) p, ap (keptIn c) p, ap (storedIn c st) p)
 
     -- a put into a full cache: the oldest goes, the others stay, and the message is the newest
     pub oldest-leaves-put : Sized c → (oldest : Cached) (ms : List Cached) → cachedIn c st ≡ oldest ∷ ms
         → length (oldest ∷ ms) ≡ c .«max_messages»
         → held (idBytes (between body a e) x y z w) (oldest ∷ ms) ≡ false
-        → cachedIn (keptIn c (planned c st body i)) (storedIn c st (planned c st body i)) ≡ ms
+        → cachedIn (keptIn c (planned c st ed body i)) (storedIn c st (planned c st ed body i)) ≡ ms
         ++ (new (idBytes (between body a e) x y z w) (between body a e) ∷ [])
     oldest-leaves-put s oldest ms at-first full h =
-        put-cached c st body i a e x y z w fine ok there fit s
+        put-cached c st ed body i a e x y z w fine ok there fit s
         ∙ ap (putIn (c .«max_messages») (idBytes (between body a e) x y z w) (between body a e)) at-first
         ∙ oldest-leaves (c .«max_messages») (idBytes (between body a e) x y z w) (between body a e) oldest ms h full
 
@@ -139,9 +141,9 @@ grown-written c st m id fine z some k =
       topics = new-topics c st m id t z (k .id-small) (k .small) some ∙ kept-all (c .flags) m id (k .own);
     }
 
-pub freed-place-used : (c : MessageCache) (st body m id : List ℕ) (i : ℕ) → lentOf c st ≡ lent.Fine → Sized c
-    → (c .«max_messages» ≡ 0 → ⊥) → planned c st body i ≡ keep m id
-    → Written c (keptIn c (planned c st body i)) st (storedIn c st (planned c st body i)) m
-freed-place-used c st body m id i fine z some e =
+pub freed-place-used : (c : MessageCache) (st : List ℕ) (ed : Edition) (body m id : List ℕ) (i : ℕ) → lentOf c st ≡ lent.Fine → Sized c
+    → (c .«max_messages» ≡ 0 → ⊥) → planned c st ed body i ≡ keep m id
+    → Written c (keptIn c (planned c st ed body i)) st (storedIn c st (planned c st ed body i)) m
+freed-place-used c st ed body m id i fine z some e =
     rw (e, entered-some m id c some, stored-some c st m some)
-    (grown-written c st m id fine z some (planned-keeps c st body m id i fine e))
+    (grown-written c st m id fine z some (planned-keeps c st ed body m id i fine e))

@@ -26,7 +26,8 @@ pub record Starts (history max flags : ℕ) (r : Started) : Type 0 where
   pub answer : r .answer ≡ startAnswer history max flags
   pub cache : r .cache ≡ startCache history max flags
 
-pub record Puts (c : MessageCache) (st : List ℕ) (e : Edition) (body : List ℕ) (i : ℕ) (r : PutDone) (left : List ℕ) : Type 0 where
+pub record Puts (c : MessageCache) (st : List ℕ) (e : Edition) (body : List ℕ) (i : ℕ) (r : PutDone) (left : List ℕ)
+    : Type 0 where
   pub answer : r .answer ≡ answered (planned c st e body i)
   pub cache : r .cache ≡ keptIn c (planned c st e body i)
   pub store : left ≡ storedIn c st (planned c st e body i)
@@ -74,9 +75,9 @@ one-start history max flags r s a b =
     ap₂ (λ (x : Start) (d : MessageCache). record { answer = x; cache = d }) (a .answer ∙ sym (b .answer))
     (a .cache ∙ sym (b .cache))
 
-pub one-put : (c : MessageCache) (st body : List ℕ) (i : ℕ) (r s : PutDone) (left left2 : List ℕ)
-    → Puts c st body i r left → Puts c st body i s left2 → (r ≡ s) × (left ≡ left2)
-one-put c st body i r s left left2 a b = (
+pub one-put : (c : MessageCache) (st : List ℕ) (e : Edition) (body : List ℕ) (i : ℕ) (r s : PutDone) (left left2 : List ℕ)
+    → Puts c st e body i r left → Puts c st e body i s left2 → (r ≡ s) × (left ≡ left2)
+one-put c st e body i r s left left2 a b = (
   same-put r s (a .answer ∙ sym (b .answer)) (a .cache ∙ sym (b .cache)),
   a .store ∙ sym (b .store),
 )

@@ -5,6 +5,7 @@ use mathlib.Core.Path.{_≡_}
 use mathlib.Core.Bool.{true}
 use mathlib.Core.List.{List}
 use lib.ListN.{length, getD, replicate}
+use Rattle.basis.specs.declared.Edition.{Edition}
 use Rattle.rows.specs.Rows.{placeOf}
 use Rattle.rows.specs.Store.{idAt}
 use Rattle.admission.specs.Flags.{maxFlags}
@@ -96,6 +97,6 @@ freshAt next history max flags =
 pub data Reached : MessageCache → List ℕ → Type 0 where
   begun : (next history max flags : ℕ) (st : List ℕ) → next < 2 ^ 64 → legal history max flags ≡ true
       → length st ≡ max * messageSize → Reached (freshAt next history max flags) st
-  given : {c : MessageCache} {st : List ℕ} → Reached c st → (body : List ℕ) (i : ℕ)
-      → Reached (keptIn c (planned c st body i)) (storedIn c st (planned c st body i))
+  given : {c : MessageCache} {st : List ℕ} → Reached c st → (ed : Edition) (body : List ℕ) (i : ℕ)
+      → Reached (keptIn c (planned c st ed body i)) (storedIn c st (planned c st ed body i))
   opened : {c : MessageCache} {st : List ℕ} → Reached c st → Reached (shiftCache c st) st

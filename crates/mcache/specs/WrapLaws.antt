@@ -7,6 +7,8 @@ use native.Mathlib.Omega.{arith}
 use lib.ListN.{length, getD, set, length-map}
 use lib.Dec.{leb, eqb}
 use borrow.Author.Tests.{leb-true, eqb-true, eqb-false, eq-eqb, ne-eqb}
+use Rattle.basis.specs.declared.Edition.{Edition}
+use Rattle.basis.specs.Dialect.{spoken}
 use Rattle.basis.specs.Cases.{either, both}
 use Rattle.rows.specs.declared.Ring.{Ring}
 use Rattle.rows.specs.Rows.{placeOf}
@@ -195,13 +197,13 @@ module _ (k : ℕ) (c : MessageCache) (st : List ℕ) (y : Typed c) where
   wrap-free-cached = refl
 
   -- the same answers
-  pub wrap-free-put : (body : List ℕ) (i : ℕ) → planned (moved k c) st body i ≡ planned c st body i
+  pub wrap-free-put : (ed : Edition) (body : List ℕ) (i : ℕ) → planned (moved k c) st ed body i ≡ planned c st ed body i
   unfolding planned
-  wrap-free-put body i = rw (wrap-free, body-moved k c body i (acceptOf body))
+  wrap-free-put ed body i = rw (wrap-free, body-moved k c body i (acceptOf (spoken ed) body))
 
-  pub wrap-free-answer : (body : List ℕ) (i : ℕ) → answered (planned (moved k c) st body i) ≡ answered
-      (planned c st body i)
-  wrap-free-answer body i = ap answered (wrap-free-put body i)
+  pub wrap-free-answer : (ed : Edition) (body : List ℕ) (i : ℕ) → answered (planned (moved k c) st ed body i) ≡ answered
+      (planned c st ed body i)
+  wrap-free-answer ed body i = ap answered (wrap-free-put ed body i)
 
   pub wrap-free-get : (id : List ℕ) → getPart (moved k c) st id ≡ getPart c st id
   unfolding getPart found indexIn moved
@@ -222,14 +224,14 @@ module _ (k : ℕ) (c : MessageCache) (st : List ℕ) (y : Typed c) where
   wrap-free-told topic windows = (rw wrap-free, rw wrap-free)
 
   -- and the same states, but for the numbers: so the answers of all later calls are the same too
-  pub wrap-free-kept : (body : List ℕ) (i : ℕ) → keptIn (moved k c) (planned (moved k c) st body i) ≡ moved k
-      (keptIn c (planned c st body i))
-  wrap-free-kept body i = ap (keptIn (moved k c)) (wrap-free-put body i) ∙ kept-moved k c (planned c st body i)
+  pub wrap-free-kept : (ed : Edition) (body : List ℕ) (i : ℕ) → keptIn (moved k c) (planned (moved k c) st ed body i) ≡ moved k
+      (keptIn c (planned c st ed body i))
+  wrap-free-kept ed body i = ap (keptIn (moved k c)) (wrap-free-put ed body i) ∙ kept-moved k c (planned c st ed body i)
 
-  pub wrap-free-stored : (body : List ℕ) (i : ℕ) → storedIn (moved k c) st (planned (moved k c) st body i)
-      ≡ storedIn c st (planned c st body i)
-  wrap-free-stored body i = ap (storedIn (moved k c) st) (wrap-free-put body i)
-      ∙ storing-moved k c st (planned c st body i)
+  pub wrap-free-stored : (ed : Edition) (body : List ℕ) (i : ℕ) → storedIn (moved k c) st (planned (moved k c) st ed body i)
+      ≡ storedIn c st (planned c st ed body i)
+  wrap-free-stored ed body i = ap (storedIn (moved k c) st) (wrap-free-put ed body i)
+      ∙ storing-moved k c st (planned c st ed body i)
 
   pub wrap-free-shift : shiftCache (moved k c) st ≡ moved k (shiftCache c st)
   unfolding shiftCache

@@ -27,11 +27,11 @@ use admission::admit;
 use admission::kept_with;
 use admission::known_flags;
 use admission::topics_of;
+use basis::Dialect;
+use basis::Edition;
 use basis::Written;
 use basis::has_room;
 use basis::least;
-use basis::Dialect;
-use basis::Edition;
 use ids::MessageAt;
 use ids::message_at;
 use protobuf::Checked;
@@ -776,13 +776,7 @@ impl MessageCache {
     }
 
     // Puts the message at an index of a body. A held id changes nothing.
-    pub fn put(
-        self,
-        store: &mut [u8],
-        edition: Edition,
-        body: &[u8],
-        index: usize,
-    ) -> PutDone
+    pub fn put(self, store: &mut [u8], edition: Edition, body: &[u8], index: usize) -> PutDone
         ensures { λ r. ⌜ Puts self (now (store .entry)) edition (now (body .entry)) index r (now (store .exit)) ⌝ }
     {
         let lent = self.lent(store);

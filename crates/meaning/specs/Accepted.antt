@@ -1,10 +1,14 @@
 -- A body is accepted exactly where the grammar has it: for each kind of message, both ways.
 use Prim.Native.Nat.{ℕ, _-_}
 use mathlib.Core.Path.{refl, sym, subst}
+use mathlib.Core.Bool.{cond}
 use mathlib.Core.List.{List, [], _∷_}
 use lib.ListN.{drop}
 use lib.Dec.{eqb}
 use borrow.Author.Tests.{eqb-true}
+use Rattle.basis.specs.declared.Edition.{Edition}
+use Rattle.basis.specs.declared.Edition.the-variants.{V11, V12}
+use Rattle.basis.specs.declared.Dialect.{Dialect}
 use Rattle.basis.specs.Cases.{either}
 use Rattle.basis.specs.Bytes.{Bytes}
 use Rattle.basis.specs.Lists.{drop-bytes, take-bytes}
@@ -15,12 +19,15 @@ use Rattle.protobuf.specs.Walk.{entriesOf}
 use Rattle.protobuf.specs.Exactly.{exactly, body-walks}
 use Rattle.schema.specs.declared.Kind.{Kind}
 use Rattle.schema.specs.declared.Kind.the-variants as kind
-use Rattle.schema.specs.Schema.{roleOf}
+use Rattle.schema.specs.declared.Role.{Role}
+use Rattle.schema.specs.declared.Role.the-variants.{Skip}
+use Rattle.schema.specs.Schema.{addedIn, rowFrom, isVarint, roleOf}
 use Rattle.rpc.specs.Rpc.{SubOpts, RawMessage, ControlIHave, ControlIWant, ControlGraft, PeerInfo, ControlPrune}
-use Rattle.rpc.specs.Rpc.{ControlMessage, Rpc}
+use Rattle.rpc.specs.Rpc.{ControlIDontWant, ControlMessage, Rpc}
 use Rattle.rpc.specs.Grammar.{bytesIn, Each, none-left, _and_, Pairs, no-pairs, _paired_, IsSubOpts, is-sub-opts}
 use Rattle.rpc.specs.Grammar.{IsMessage, is-message, IsIHave, is-ihave, IsIWant, is-iwant, IsGraft, is-graft}
-use Rattle.rpc.specs.Grammar.{IsPeerInfo, is-peer-info, IsPrune, is-prune, IsControl, is-control, IsRpc, is-rpc}
+use Rattle.rpc.specs.Grammar.{IsPeerInfo, is-peer-info, IsPrune, is-prune, IsIDontWant, is-idontwant, idontwantsIn}
+use Rattle.rpc.specs.Grammar.{IsControl, is-control, IsRpc, is-rpc}
 use Rattle.protobuf.specs.Walk.{isBytes, valueIn}
 use Rattle.meaning.specs.Entries.{put-bytes}
 use Rattle.meaning.specs.Refused.{Some, Meant}
@@ -241,11 +248,46 @@ prune-written (is-prune {s = s} {es = es} g t1 p2) =
 pub prune-accepted : (s : List ℕ) → Some IsPrune s → Accepted kind.ControlPrune s
 prune-accepted s x = prune-written (x .means)
 
-control-good : (es : List Entry) → Each (Accepted kind.ControlIHave) (bytesIn 1 es)
-    → Each (Accepted kind.ControlIWant) (bytesIn 2 es) → Each (Accepted kind.ControlGraft) (bytesIn 3 es)
-    → Each (Accepted kind.ControlPrune) (bytesIn 4 es) → Good kind.ControlMessage es
+idontwant-good : (es : List Entry) → Good kind.ControlIDontWant es
 unfolding roleOf
-control-good es p1 p2 p3 p4 m =
+idontwant-good es m =
+    either (eqb m 1) (λ e1. all-each (bytesIn m es) (λ d. simp (e1) tt))
+    (λ e1. all-each (bytesIn m es) (λ d. simp (e1) tt))
+
+pub idontwant-means : (s : List ℕ) → Bytes s → Accepted kind.ControlIDontWant s → Some IsIDontWant s
+unfolding roleOf
+idontwant-means s b a =
+    let r = read kind.ControlIDontWant s b a in
+    record { value = _; means = is-idontwant (r .body) }
+
+idontwant-written : {s : List ℕ} {v : ControlIDontWant} → IsIDontWant s v → Accepted kind.ControlIDontWant s
+idontwant-written (is-idontwant {s = s} {es = es} g) = written kind.ControlIDontWant s es g (idontwant-good es)
+
+pub idontwant-accepted : (s : List ℕ) → Some IsIDontWant s → Accepted kind.ControlIDontWant s
+idontwant-accepted s x = idontwant-written (x .means)
+
+-- what an edition adds to a control: the role of a length-delimited field from 5 on
+abbrev addedRole : Edition → ℕ → Role
+addedRole e m = cond (isVarint (rowFrom 5 (addedIn e) m)) Skip (rowFrom 5 (addedIn e) m)
+
+added-good : (e : Edition) (es : List Entry) → Each (Accepted kind.ControlIDontWant) (idontwantsIn e es)
+    → (m : ℕ) → Each (GoodRole (addedRole e m)) (bytesIn m es)
+added-good V11 es p m = all-each (bytesIn m es) (λ d. tt)
+added-good V12 es p m =
+    either (eqb m 5) (λ e5. let z = eqb-true m 5 e5 in rw z (map-each (λ d u. u) p))
+    (λ e5. all-each (bytesIn m es) (λ d. simp e5 tt))
+
+added-means : (e : Edition) (es : List Entry) → Each (λ d. GoodRole (addedRole e 5) d × Bytes d) (bytesIn 5 es)
+    → (ds : List ControlIDontWant) × Pairs IsIDontWant (idontwantsIn e es) ds
+added-means V11 es p = ([], no-pairs)
+added-means V12 es p = pairs-each (map-each (λ d q. idontwant-means d (q .1) (q .0)) p)
+
+control-good : (d : Dialect) (es : List Entry) → Each (Accepted kind.ControlIHave) (bytesIn 1 es)
+    → Each (Accepted kind.ControlIWant) (bytesIn 2 es) → Each (Accepted kind.ControlGraft) (bytesIn 3 es)
+    → Each (Accepted kind.ControlPrune) (bytesIn 4 es)
+    → Each (Accepted kind.ControlIDontWant) (idontwantsIn (d .edition) es) → Good (kind.ControlMessage d) es
+unfolding roleOf
+control-good d es p1 p2 p3 p4 p5 m =
     either (eqb m 1) (λ e1. let z = eqb-true m 1 e1 in rw z (map-each (λ d u. u) p1))
     (λ e1.
     either (eqb m 2) (λ e2. let z = eqb-true m 2 e2 in rw z (map-each (λ d u. u) p2))
@@ -253,32 +295,34 @@ control-good es p1 p2 p3 p4 m =
     either (eqb m 3) (λ e3. let z = eqb-true m 3 e3 in rw z (map-each (λ d u. u) p3))
     (λ e3.
     either (eqb m 4) (λ e4. let z = eqb-true m 4 e4 in rw z (map-each (λ d u. u) p4))
-    (λ e4. all-each (bytesIn m es) (λ d. simp (e1, e2, e3, e4) tt)))))
+    (λ e4. simp (e1, e2, e3, e4) (added-good (d .edition) es p5 m)))))
 
-pub control-means : (s : List ℕ) → Bytes s → Accepted kind.ControlMessage s → Some IsControl s
+pub control-means : (d : Dialect) (s : List ℕ) → Bytes s → Accepted (kind.ControlMessage d) s → Some (IsControl d) s
 unfolding roleOf
-control-means s b a =
-    let r = read kind.ControlMessage s b a in
-    let x0 = subs kind.ControlMessage kind.ControlIHave s r 1 {R = IsIHave} (λ d u. u) ihave-means in
-    let x1 = subs kind.ControlMessage kind.ControlIWant s r 2 {R = IsIWant} (λ d u. u) iwant-means in
-    let x2 = subs kind.ControlMessage kind.ControlGraft s r 3 {R = IsGraft} (λ d u. u) graft-means in
-    let x3 = subs kind.ControlMessage kind.ControlPrune s r 4 {R = IsPrune} (λ d u. u) prune-means in
-    record { value = _; means = is-control (r .body) (x0 .1) (x1 .1) (x2 .1) (x3 .1) }
+control-means d s b a =
+    let k = kind.ControlMessage d in
+    let r = read k s b a in
+    let x0 = subs k kind.ControlIHave s r 1 {R = IsIHave} (λ d u. u) ihave-means in
+    let x1 = subs k kind.ControlIWant s r 2 {R = IsIWant} (λ d u. u) iwant-means in
+    let x2 = subs k kind.ControlGraft s r 3 {R = IsGraft} (λ d u. u) graft-means in
+    let x3 = subs k kind.ControlPrune s r 4 {R = IsPrune} (λ d u. u) prune-means in
+    let x4 = added-means (d .edition) (r .entries) (zip-each (r .good 5) (r .small 5)) in
+    record { value = _; means = is-control (r .body) (x0 .1) (x1 .1) (x2 .1) (x3 .1) (x4 .1) }
 
-control-written : {s : List ℕ} {v : ControlMessage} → IsControl s v → Accepted kind.ControlMessage s
-control-written (is-control {s = s} {es = es} g p1 p2 p3 p4) =
-    written kind.ControlMessage s es g (control-good es (accepted-subs kind.ControlIHave ihave-accepted p1)
+control-written : {d : Dialect} {s : List ℕ} {v : ControlMessage} → IsControl d s v → Accepted (kind.ControlMessage d) s
+control-written {d} (is-control {s = s} {es = es} g p1 p2 p3 p4 p5) =
+    written (kind.ControlMessage d) s es g (control-good d es (accepted-subs kind.ControlIHave ihave-accepted p1)
     (accepted-subs kind.ControlIWant iwant-accepted p2) (accepted-subs kind.ControlGraft graft-accepted p3)
-    (accepted-subs kind.ControlPrune prune-accepted p4))
+    (accepted-subs kind.ControlPrune prune-accepted p4) (accepted-subs kind.ControlIDontWant idontwant-accepted p5))
 
-pub control-accepted : (s : List ℕ) → Some IsControl s → Accepted kind.ControlMessage s
-control-accepted s x = control-written (x .means)
+pub control-accepted : (d : Dialect) (s : List ℕ) → Some (IsControl d) s → Accepted (kind.ControlMessage d) s
+control-accepted d s x = control-written (x .means)
 
-rpc-good : (es : List Entry) → Each (Accepted kind.SubOpts) (bytesIn 1 es)
-    → Each (Accepted kind.RawMessage) (bytesIn 2 es) → Each (Accepted kind.ControlMessage) (bytesIn 3 es)
-    → Good kind.Rpc es
+rpc-good : (d : Dialect) (es : List Entry) → Each (Accepted kind.SubOpts) (bytesIn 1 es)
+    → Each (Accepted kind.RawMessage) (bytesIn 2 es) → Each (Accepted (kind.ControlMessage d)) (bytesIn 3 es)
+    → Good (kind.Rpc d) es
 unfolding roleOf
-rpc-good es p1 p2 p3 m =
+rpc-good d es p1 p2 p3 m =
     either (eqb m 1) (λ e1. let z = eqb-true m 1 e1 in rw z (map-each (λ d u. u) p1))
     (λ e1.
     either (eqb m 2) (λ e2. let z = eqb-true m 2 e2 in rw z (map-each (λ d u. u) p2))
@@ -286,22 +330,24 @@ rpc-good es p1 p2 p3 m =
     either (eqb m 3) (λ e3. let z = eqb-true m 3 e3 in rw z (map-each (λ d u. u) p3))
     (λ e3. all-each (bytesIn m es) (λ d. simp (e1, e2, e3) tt))))
 
-pub rpc-means : (s : List ℕ) → Bytes s → Accepted kind.Rpc s → Some IsRpc s
+pub rpc-means : (d : Dialect) (s : List ℕ) → Bytes s → Accepted (kind.Rpc d) s → Some (IsRpc d) s
 unfolding roleOf
-rpc-means s b a =
-    let r = read kind.Rpc s b a in
-    let x0 = subs kind.Rpc kind.SubOpts s r 1 {R = IsSubOpts} (λ d u. u) sub-opts-means in
-    let x1 = subs kind.Rpc kind.RawMessage s r 2 {R = IsMessage} (λ d u. u) message-means in
-    let x2 = subs kind.Rpc kind.ControlMessage s r 3 {R = IsControl} (λ d u. u) control-means in
+rpc-means d s b a =
+    let k = kind.Rpc d in
+    let r = read k s b a in
+    let x0 = subs k kind.SubOpts s r 1 {R = IsSubOpts} (λ d u. u) sub-opts-means in
+    let x1 = subs k kind.RawMessage s r 2 {R = IsMessage} (λ d u. u) message-means in
+    let x2 = subs k (kind.ControlMessage d) s r 3 {R = IsControl d} (λ d u. u) (control-means d) in
     record { value = _; means = is-rpc (r .body) (x0 .1) (x1 .1) (x2 .1) }
 
-rpc-written : {s : List ℕ} {v : Rpc} → IsRpc s v → Accepted kind.Rpc s
-rpc-written (is-rpc {s = s} {es = es} g p1 p2 p3) =
-    written kind.Rpc s es g (rpc-good es (accepted-subs kind.SubOpts sub-opts-accepted p1)
-    (accepted-subs kind.RawMessage message-accepted p2) (accepted-subs kind.ControlMessage control-accepted p3))
+rpc-written : {d : Dialect} {s : List ℕ} {v : Rpc} → IsRpc d s v → Accepted (kind.Rpc d) s
+rpc-written {d} (is-rpc {s = s} {es = es} g p1 p2 p3) =
+    written (kind.Rpc d) s es g (rpc-good d es (accepted-subs kind.SubOpts sub-opts-accepted p1)
+    (accepted-subs kind.RawMessage message-accepted p2)
+    (accepted-subs (kind.ControlMessage d) (control-accepted d) p3))
 
-pub rpc-accepted : (s : List ℕ) → Some IsRpc s → Accepted kind.Rpc s
-rpc-accepted s x = rpc-written (x .means)
+pub rpc-accepted : (d : Dialect) (s : List ℕ) → Some (IsRpc d) s → Accepted (kind.Rpc d) s
+rpc-accepted d s x = rpc-written (x .means)
 
 -- the kinds of record that are no messages
 topic-good : (es : List Entry) → Good kind.Topic es
@@ -314,27 +360,29 @@ message-id-good es m = all-each (bytesIn m es) (λ d. tt)
 
 -- ---- a message of any kind is accepted exactly where it means one
 pub meant : (k : Kind) (s : List ℕ) → Bytes s → Accepted k s → Meant k s
-meant kind.Rpc = rpc-means
+meant (kind.Rpc d) = rpc-means d
 meant kind.SubOpts = sub-opts-means
 meant kind.RawMessage = message-means
 meant kind.Topic = λ s b a. let r = read kind.Topic s b a in record { value = r .entries; means = r .body }
-meant kind.ControlMessage = control-means
+meant (kind.ControlMessage d) = control-means d
 meant kind.ControlIHave = ihave-means
 meant kind.ControlIWant = iwant-means
 meant kind.MessageId = λ s b a. let r = read kind.MessageId s b a in record { value = r .entries; means = r .body }
 meant kind.ControlGraft = graft-means
 meant kind.ControlPrune = prune-means
 meant kind.PeerInfo = peer-info-means
+meant kind.ControlIDontWant = idontwant-means
 
 pub meant-accepted : (k : Kind) (s : List ℕ) → Meant k s → Accepted k s
-meant-accepted kind.Rpc = rpc-accepted
+meant-accepted (kind.Rpc d) = rpc-accepted d
 meant-accepted kind.SubOpts = sub-opts-accepted
 meant-accepted kind.RawMessage = message-accepted
 meant-accepted kind.Topic = λ s x. written kind.Topic s (x .value) (x .means) (topic-good (x .value))
-meant-accepted kind.ControlMessage = control-accepted
+meant-accepted (kind.ControlMessage d) = control-accepted d
 meant-accepted kind.ControlIHave = ihave-accepted
 meant-accepted kind.ControlIWant = iwant-accepted
 meant-accepted kind.MessageId = λ s x. written kind.MessageId s (x .value) (x .means) (message-id-good (x .value))
 meant-accepted kind.ControlGraft = graft-accepted
 meant-accepted kind.ControlPrune = prune-accepted
 meant-accepted kind.PeerInfo = peer-info-accepted
+meant-accepted kind.ControlIDontWant = idontwant-accepted

@@ -9,6 +9,9 @@ use lib.ListN.{length, take}
 use lib.Seq.{take-length}
 use lib.Dec.{eqb}
 use borrow.Author.Tests.{eqb-true}
+use Rattle.basis.specs.declared.Edition.{Edition}
+use Rattle.basis.specs.declared.Edition.the-variants.{V11, V12}
+use Rattle.basis.specs.declared.Dialect.{Dialect}
 use Rattle.basis.specs.Cases.{either}
 use Rattle.protobuf.specs.declared.Field.{Field}
 use Rattle.protobuf.specs.Grammar.{Entry, Body}
@@ -22,7 +25,7 @@ use Rattle.schema.specs.declared.Slots.{Slots}
 use Rattle.schema.specs.declared.Role.{Role}
 use Rattle.schema.specs.declared.Role.the-variants.{Skip, Number as NumberRole, Text, Bytes, Unsigned, Topic, MessageId}
 use Rattle.schema.specs.declared.Role.the-variants.{Sub}
-use Rattle.schema.specs.Schema.{isVarint, rowOf, lenRole, numberRole, roleOf, ownOf}
+use Rattle.schema.specs.Schema.{addedIn, rowFrom, isVarint, rowOf, lenRole, numberRole, roleOf, ownOf}
 use Rattle.schema.specs.Slots.{noSlots, setPlace, placeOf, roleSlots, withField, slotsAlong, slotsOf, hasAlong}
 use Rattle.schema.specs.Slots.{hasField}
 use Rattle.message.specs.declared.Record.{Record}
@@ -30,13 +33,13 @@ use Rattle.message.specs.Rows.{bareRow, leafRow, roleRows, rowsAlong, ownRows, 
 use Rattle.message.specs.RowsLaws.{rows-along}
 use Rattle.message.specs.Decode.{hasControl}
 use Rattle.rpc.specs.Rpc.{SubOpts, RawMessage, ControlIHave, ControlIWant, ControlGraft, PeerInfo, ControlPrune}
-use Rattle.rpc.specs.Rpc.{ControlMessage, Rpc}
+use Rattle.rpc.specs.Rpc.{ControlIDontWant, ControlMessage, Rpc}
 use Rattle.rpc.specs.Grammar.{numbersIn, bytesIn, last, nonzero, Each, none-left, _and_, Pairs, no-pairs, _paired_}
 use Rattle.rpc.specs.Grammar.{IsSubOpts, is-sub-opts, IsMessage, is-message, IsIHave, is-ihave, IsIWant, is-iwant}
-use Rattle.rpc.specs.Grammar.{IsGraft, is-graft, IsPeerInfo, is-peer-info, IsPrune, is-prune, IsControl, is-control}
-use Rattle.rpc.specs.Grammar.{join, joinTo, joined, IsRpc, is-rpc}
+use Rattle.rpc.specs.Grammar.{IsGraft, is-graft, IsPeerInfo, is-peer-info, IsPrune, is-prune, IsIDontWant, is-idontwant}
+use Rattle.rpc.specs.Grammar.{idontwantsIn, IsControl, is-control, join, joinTo, joined, IsRpc, is-rpc}
 use Rattle.meaning.specs.ReadBack.{bytesAt, numberAt, rawOf, Gathered, emptyControl, nothing, addIHave, addIWant}
-use Rattle.meaning.specs.ReadBack.{addGraft, addPrune, gatherKind, gather, rpcFrom, readBack}
+use Rattle.meaning.specs.ReadBack.{addGraft, addPrune, addIDontWant, gatherKind, gather, rpcFrom, readBack}
 use Rattle.protobuf.specs.Walk.{isBytes, valueIn}
 use Rattle.meaning.specs.Entries.{put-bytes}
 use Rattle.meaning.specs.Last.{Part, walk-inside, part-value, part-part, Feeds, slot-last, FeedsNumber}
@@ -247,6 +250,12 @@ iwant-ids base p f = one-from kind.ControlIWant 1 base p f (leafRow kind.Message
     (six (λ n. roleRows rowsOf base p f (lenRole kind.ControlIWant n) ≡ cond (eqb n 1)
     (leafRow kind.MessageId base f ∷ []) []) refl refl refl refl refl refl (λ n e1 e2 e3 e4 e5 e6. simp (e1)))
 
+idontwant-ids : Leafy kind.ControlIDontWant kind.MessageId 1
+unfolding Leafy
+idontwant-ids base p f = one-from kind.ControlIDontWant 1 base p f (leafRow kind.MessageId base f ∷ [])
+    (six (λ n. roleRows rowsOf base p f (lenRole kind.ControlIDontWant n) ≡ cond (eqb n 1)
+    (leafRow kind.MessageId base f ∷ []) []) refl refl refl refl refl refl (λ n e1 e2 e3 e4 e5 e6. simp (e1)))
+
 abbrev addAll : {X : Type 0} → (X → Gathered → Gathered) → List X → Gathered → Gathered
 addAll add [] g = g
 addAll add (x ∷ xs) g = add x (addAll add xs g)
@@ -331,6 +340,11 @@ own-peer-info base p = refl
 own-prune : (base : ℕ) (p : List ℕ) → ownRows kind.ControlPrune base p ≡ ownRow kind.ControlPrune base p ∷ []
 unfolding ownRows ownOf
 own-prune base p = refl
+
+own-idontwant : (base : ℕ) (p : List ℕ)
+    → ownRows kind.ControlIDontWant base p ≡ ownRow kind.ControlIDontWant base p ∷ []
+unfolding ownRows ownOf
+own-idontwant base p = refl
 
 -- SubOpts
 sub-opts-read : (b : List ℕ) (base : ℕ) (p : List ℕ) (es : List Entry) → Part b base p → Body p es
@@ -450,7 +464,7 @@ message-read b base p es q g is ps ss ms c =
     ∙ ap (λ (m : RawMessage). state [] is ps ss (m ∷ ms) c)
     (same-message (raw-part b base p kind.RawMessage q) v1 v2 v3 topics v5 v6)
 
--- ControlIHave and ControlIWant
+-- ControlIHave, ControlIWant and ControlIDontWant
 ihave-read : (b : List ℕ) (base : ℕ) (p : List ℕ) (es : List Entry) → Part b base p → Body p es
     → (ts : List (List ℕ)) (ps : List PeerInfo) (ss : List SubOpts) (ms : List RawMessage) (c : ControlMessage)
     → gather b (rowsOf kind.ControlIHave base p) (state ts [] ps ss ms c) ≡ state ts [] ps ss ms
@@ -486,6 +500,23 @@ iwant-read b base p es q g ts ps ss ms c =
     ap (λ (l : List Record). gather b l (state ts [] ps ss ms c)) rows
     ∙ ap (gatherKind kind.ControlIWant b (ownRow kind.ControlIWant base p)) leaves
     ∙ ap (λ (y : List (List ℕ)). state ts [] ps ss ms (addIWant (record { «message_ids» = y }) c)) ids
+
+idontwant-read : (b : List ℕ) (base : ℕ) (p : List ℕ) (es : List Entry) → Part b base p → Body p es
+    → (ts : List (List ℕ)) (ps : List PeerInfo) (ss : List SubOpts) (ms : List RawMessage) (c : ControlMessage)
+    → gather b (rowsOf kind.ControlIDontWant base p) (state ts [] ps ss ms c) ≡ state ts [] ps ss ms
+    (addIDontWant (record { «message_ids» = bytesIn 1 es }) c)
+idontwant-read b base p es q g ts ps ss ms c =
+    let w = body-walks p es g in
+    let fs = w .fields in
+    let rows = rows-split kind.ControlIDontWant base p fs (w .walked) (own-idontwant base p) in
+    let leaves = leaves-along b base p kind.ControlIDontWant kind.MessageId 1 putId q idontwant-ids (λ a e g. refl) fs
+    (state ts [] ps ss ms c) (walk-inside p fs (w .walked))
+    ∙ put-ids (bytesIn 1 (entriesOf p fs)) ts [] ps ss ms c in
+    let ids : bytesIn 1 (entriesOf p fs) ++ [] ≡ bytesIn 1 es = append-nil (bytesIn 1 (entriesOf p fs))
+    ∙ ap (bytesIn 1) (w .entries) in
+    ap (λ (l : List Record). gather b l (state ts [] ps ss ms c)) rows
+    ∙ ap (gatherKind kind.ControlIDontWant b (ownRow kind.ControlIDontWant base p)) leaves
+    ∙ ap (λ (y : List (List ℕ)). state ts [] ps ss ms (addIDontWant (record { «message_ids» = y }) c)) ids
 
 -- ---- submessages: what a field takes from the pairs
 pairs-at : {X : Type 0} {R : List ℕ → X → Type 0} (p : List ℕ) (m : ℕ) (f : Field) (fs : List Field) (xs : List X)
@@ -628,198 +659,277 @@ prune-of : {p : List ℕ} {x : ControlPrune} (b : List ℕ) (base : ℕ) → Par
 unfolding mkPrune
 prune-of b base q (is-prune {s = s} {es = es} {ps = ps} g u h) ss ms c = prune-read b base s es ps q g h [] [] ss ms c
 
+idontwant-of : {p : List ℕ} {x : ControlIDontWant} (b : List ℕ) (base : ℕ) → Part b base p → IsIDontWant p x
+    → (ss : List SubOpts) (ms : List RawMessage) (c : ControlMessage)
+    → gather b (rowsOf kind.ControlIDontWant base p) (state [] [] [] ss ms c) ≡ state [] [] [] ss ms (addIDontWant x c)
+idontwant-of b base q (is-idontwant {s = s} {es = es} g) ss ms c = idontwant-read b base s es q g [] [] ss ms c
+
 -- ---- ControlMessage
-controlRows : ℕ → List ℕ → Field → ℕ → List Record
-controlRows base p f n = cond (eqb n 1) (rowsOf kind.ControlIHave (base + f .start) (valueIn p f))
+-- the rows of the fields that an edition adds
+addedRows : Edition → ℕ → List ℕ → Field → ℕ → List Record
+addedRows V11 base p f n = []
+addedRows V12 base p f n = cond (eqb n 5) (rowsOf kind.ControlIDontWant (base + f .start) (valueIn p f)) []
+
+added-rows : (e : Edition) (base : ℕ) (p : List ℕ) (f : Field) (n : ℕ)
+    → roleRows rowsOf base p f (cond (isVarint (rowFrom 5 (addedIn e) n)) Skip (rowFrom 5 (addedIn e) n))
+    ≡ addedRows e base p f n
+unfolding addedRows
+added-rows V11 base p f n = refl
+added-rows V12 base p f n = either (eqb n 5) (λ t. simp t) (λ t. simp t)
+
+controlRows : Dialect → ℕ → List ℕ → Field → ℕ → List Record
+controlRows d base p f n = cond (eqb n 1) (rowsOf kind.ControlIHave (base + f .start) (valueIn p f))
     (cond (eqb n 2) (rowsOf kind.ControlIWant (base + f .start) (valueIn p f))
     (cond (eqb n 3) (rowsOf kind.ControlGraft (base + f .start) (valueIn p f))
-    (cond (eqb n 4) (rowsOf kind.ControlPrune (base + f .start) (valueIn p f)) [])))
+    (cond (eqb n 4) (rowsOf kind.ControlPrune (base + f .start) (valueIn p f)) (addedRows (d .edition) base p f n))))
 
-control-rows : (base : ℕ) (p : List ℕ) (f : Field)
-    → roleRows rowsOf base p f (roleOf kind.ControlMessage (f .field) (f .«wire_type»)) ≡ cond (eqb (f .«wire_type») 2)
-    (controlRows base p f (f .field)) []
+control-rows : (d : Dialect) (base : ℕ) (p : List ℕ) (f : Field)
+    → roleRows rowsOf base p f (roleOf (kind.ControlMessage d) (f .field) (f .«wire_type»))
+    ≡ cond (eqb (f .«wire_type») 2) (controlRows d base p f (f .field)) []
 unfolding controlRows
-control-rows base p f =
-    rows-from kind.ControlMessage base p f (controlRows base p f)
-    (six (λ n. roleRows rowsOf base p f (lenRole kind.ControlMessage n) ≡ controlRows base p f n) refl refl refl refl
-    refl refl (λ n e1 e2 e3 e4 e5 e6. simp (e1, e2, e3, e4)))
+control-rows d base p f =
+    rows-from (kind.ControlMessage d) base p f (controlRows d base p f)
+    (six (λ n. roleRows rowsOf base p f (lenRole (kind.ControlMessage d) n) ≡ controlRows d base p f n) refl refl refl
+    refl (added-rows (d .edition) base p f 5) (added-rows (d .edition) base p f 6)
+    (λ n e1 e2 e3 e4 e5 e6. simp (e1, e2, e3, e4) (added-rows (d .edition) base p f n)))
 
-control-row-1 : (base : ℕ) (p : List ℕ) (f : Field) → eqb (f .«wire_type») 2 ≡ true → eqb (f .field) 1 ≡ true
-    → roleRows rowsOf base p f (roleOf kind.ControlMessage (f .field) (f .«wire_type»)) ≡ rowsOf kind.ControlIHave
-    (base + f .start) (valueIn p f)
+control-row-1 : (d : Dialect) (base : ℕ) (p : List ℕ) (f : Field) → eqb (f .«wire_type») 2 ≡ true
+    → eqb (f .field) 1 ≡ true → roleRows rowsOf base p f (roleOf (kind.ControlMessage d) (f .field) (f .«wire_type»))
+    ≡ rowsOf kind.ControlIHave (base + f .start) (valueIn p f)
 unfolding controlRows
-control-row-1 base p f t e = control-rows base p f ∙ ap (λ (x : Bool). cond x (controlRows base p f (f .field)) []) t
-    ∙ ap (controlRows base p f) (eqb-true (f .field) 1 e)
+control-row-1 d base p f t e =
+    control-rows d base p f ∙ ap (λ (x : Bool). cond x (controlRows d base p f (f .field)) []) t
+    ∙ ap (controlRows d base p f) (eqb-true (f .field) 1 e)
 
-control-row-2 : (base : ℕ) (p : List ℕ) (f : Field) → eqb (f .«wire_type») 2 ≡ true → eqb (f .field) 2 ≡ true
-    → roleRows rowsOf base p f (roleOf kind.ControlMessage (f .field) (f .«wire_type»)) ≡ rowsOf kind.ControlIWant
-    (base + f .start) (valueIn p f)
+control-row-2 : (d : Dialect) (base : ℕ) (p : List ℕ) (f : Field) → eqb (f .«wire_type») 2 ≡ true
+    → eqb (f .field) 2 ≡ true → roleRows rowsOf base p f (roleOf (kind.ControlMessage d) (f .field) (f .«wire_type»))
+    ≡ rowsOf kind.ControlIWant (base + f .start) (valueIn p f)
 unfolding controlRows
-control-row-2 base p f t e = control-rows base p f ∙ ap (λ (x : Bool). cond x (controlRows base p f (f .field)) []) t
-    ∙ ap (controlRows base p f) (eqb-true (f .field) 2 e)
+control-row-2 d base p f t e =
+    control-rows d base p f ∙ ap (λ (x : Bool). cond x (controlRows d base p f (f .field)) []) t
+    ∙ ap (controlRows d base p f) (eqb-true (f .field) 2 e)
 
-control-row-3 : (base : ℕ) (p : List ℕ) (f : Field) → eqb (f .«wire_type») 2 ≡ true → eqb (f .field) 3 ≡ true
-    → roleRows rowsOf base p f (roleOf kind.ControlMessage (f .field) (f .«wire_type»)) ≡ rowsOf kind.ControlGraft
-    (base + f .start) (valueIn p f)
+control-row-3 : (d : Dialect) (base : ℕ) (p : List ℕ) (f : Field) → eqb (f .«wire_type») 2 ≡ true
+    → eqb (f .field) 3 ≡ true → roleRows rowsOf base p f (roleOf (kind.ControlMessage d) (f .field) (f .«wire_type»))
+    ≡ rowsOf kind.ControlGraft (base + f .start) (valueIn p f)
 unfolding controlRows
-control-row-3 base p f t e = control-rows base p f ∙ ap (λ (x : Bool). cond x (controlRows base p f (f .field)) []) t
-    ∙ ap (controlRows base p f) (eqb-true (f .field) 3 e)
+control-row-3 d base p f t e =
+    control-rows d base p f ∙ ap (λ (x : Bool). cond x (controlRows d base p f (f .field)) []) t
+    ∙ ap (controlRows d base p f) (eqb-true (f .field) 3 e)
 
-control-row-4 : (base : ℕ) (p : List ℕ) (f : Field) → eqb (f .«wire_type») 2 ≡ true → eqb (f .field) 4 ≡ true
-    → roleRows rowsOf base p f (roleOf kind.ControlMessage (f .field) (f .«wire_type»)) ≡ rowsOf kind.ControlPrune
-    (base + f .start) (valueIn p f)
+control-row-4 : (d : Dialect) (base : ℕ) (p : List ℕ) (f : Field) → eqb (f .«wire_type») 2 ≡ true
+    → eqb (f .field) 4 ≡ true → roleRows rowsOf base p f (roleOf (kind.ControlMessage d) (f .field) (f .«wire_type»))
+    ≡ rowsOf kind.ControlPrune (base + f .start) (valueIn p f)
 unfolding controlRows
-control-row-4 base p f t e = control-rows base p f ∙ ap (λ (x : Bool). cond x (controlRows base p f (f .field)) []) t
-    ∙ ap (controlRows base p f) (eqb-true (f .field) 4 e)
+control-row-4 d base p f t e =
+    control-rows d base p f ∙ ap (λ (x : Bool). cond x (controlRows d base p f (f .field)) []) t
+    ∙ ap (controlRows d base p f) (eqb-true (f .field) 4 e)
 
-control-row-other : (base : ℕ) (p : List ℕ) (f : Field) → eqb (f .field) 1 ≡ false → eqb (f .field) 2 ≡ false
-    → eqb (f .field) 3 ≡ false → eqb (f .field) 4 ≡ false
-    → roleRows rowsOf base p f (roleOf kind.ControlMessage (f .field) (f .«wire_type»)) ≡ []
+control-row-added : (d : Dialect) (base : ℕ) (p : List ℕ) (f : Field) → eqb (f .«wire_type») 2 ≡ true
+    → eqb (f .field) 1 ≡ false → eqb (f .field) 2 ≡ false → eqb (f .field) 3 ≡ false → eqb (f .field) 4 ≡ false
+    → roleRows rowsOf base p f (roleOf (kind.ControlMessage d) (f .field) (f .«wire_type»))
+    ≡ addedRows (d .edition) base p f (f .field)
 unfolding controlRows
-control-row-other base p f e1 e2 e3 e4 = control-rows base p f ∙ either (eqb (f .«wire_type») 2)
-    (λ t. simp (t, e1, e2, e3, e4)) (λ t. simp t)
+control-row-added d base p f t e1 e2 e3 e4 = control-rows d base p f ∙ simp (t, e1, e2, e3, e4)
 
-control-row-type : (base : ℕ) (p : List ℕ) (f : Field) → eqb (f .«wire_type») 2 ≡ false
-    → roleRows rowsOf base p f (roleOf kind.ControlMessage (f .field) (f .«wire_type»)) ≡ []
-control-row-type base p f t = control-rows base p f ∙ ap (λ (x : Bool). cond x (controlRows base p f (f .field)) []) t
+control-row-type : (d : Dialect) (base : ℕ) (p : List ℕ) (f : Field) → eqb (f .«wire_type») 2 ≡ false
+    → roleRows rowsOf base p f (roleOf (kind.ControlMessage d) (f .field) (f .«wire_type»)) ≡ []
+control-row-type d base p f t =
+    control-rows d base p f ∙ ap (λ (x : Bool). cond x (controlRows d base p f (f .field)) []) t
 
-abbrev ctl : List ControlIHave → List ControlIWant → List ControlGraft → List ControlPrune → ControlMessage
-ctl hs ws gs ps = record { ihave = hs; iwant = ws; graft = gs; prune = ps }
+abbrev ctl : List ControlIHave → List ControlIWant → List ControlGraft → List ControlPrune → List ControlIDontWant
+    → ControlMessage
+ctl hs ws gs ps ds = record { ihave = hs; iwant = ws; graft = gs; prune = ps; idontwant = ds }
 
 control-none : (hs : List ControlIHave) (ws : List ControlIWant) (gs : List ControlGraft) (ps : List ControlPrune)
-    → hs ≡ [] → ws ≡ [] → gs ≡ [] → ps ≡ [] → (ss : List SubOpts) (ms : List RawMessage) (c : ControlMessage)
-    → state [] [] [] ss ms (join (ctl hs ws gs ps) c) ≡ state [] [] [] ss ms c
-control-none hs ws gs ps e1 e2 e3 e4 ss ms c = rw (e1, e2, e3, e4)
-
-control-along : (b : List ℕ) (base : ℕ) (p : List ℕ) → Part b base p
-    → (fs : List Field) (hs : List ControlIHave) (ws : List ControlIWant) (gs : List ControlGraft)
-    (ps : List ControlPrune) → Pairs IsIHave (bytesIn 1 (entriesOf p fs)) hs
-    → Pairs IsIWant (bytesIn 2 (entriesOf p fs)) ws → Pairs IsGraft (bytesIn 3 (entriesOf p fs)) gs
-    → Pairs IsPrune (bytesIn 4 (entriesOf p fs)) ps → Each (FieldWithin p) fs
+    (ds : List ControlIDontWant) → hs ≡ [] → ws ≡ [] → gs ≡ [] → ps ≡ [] → ds ≡ []
     → (ss : List SubOpts) (ms : List RawMessage) (c : ControlMessage)
-    → gather b (rowsAlong rowsOf kind.ControlMessage base p (whole fs)) (state [] [] [] ss ms c) ≡ state [] [] [] ss ms
-    (join (ctl hs ws gs ps) c)
-control-along b base p q [] hs ws gs ps h1 h2 h3 h4 none-left ss ms c =
-    sym (control-none hs ws gs ps (pairs-none h1) (pairs-none h2) (pairs-none h3) (pairs-none h4) ss ms c)
-control-along b base p q (f ∷ fs) hs ws gs ps h1 h2 h3 h4 (i and ins) ss ms c =
-    let go = gather-append b (roleRows rowsOf base p f (roleOf kind.ControlMessage (f .field) (f .«wire_type»)))
-    (rowsAlong rowsOf kind.ControlMessage base p (whole fs)) (state [] [] [] ss ms c) in
+    → state [] [] [] ss ms (join (ctl hs ws gs ps ds) c) ≡ state [] [] [] ss ms c
+control-none hs ws gs ps ds e1 e2 e3 e4 e5 ss ms c = rw (e1, e2, e3, e4, e5)
+
+-- the entries that an edition adds, at a field: none is left, none is taken, or what its rows say
+added-none : {ds : List ControlIDontWant} (e : Edition) → Pairs IsIDontWant (idontwantsIn e []) ds → ds ≡ []
+added-none V11 h = pairs-none h
+added-none V12 h = pairs-none h
+
+added-skip : (e : Edition) (p : List ℕ) (f : Field) (fs : List Field) (ds : List ControlIDontWant)
+    → isBytes 5 f ≡ false → Pairs IsIDontWant (idontwantsIn e (entriesOf p (f ∷ fs))) ds
+    → Pairs IsIDontWant (idontwantsIn e (entriesOf p fs)) ds
+added-skip V11 p f fs ds t h = h
+added-skip V12 p f fs ds t h = pairs-skip p 5 f fs ds t h
+
+record Added (e : Edition) (b : List ℕ) (base : ℕ) (p : List ℕ) (f : Field) (fs : List Field)
+    (ds : List ControlIDontWant) : Type 0 where
+  tail : List ControlIDontWant
+  rest : Pairs IsIDontWant (idontwantsIn e (entriesOf p fs)) tail
+  says : (hs : List ControlIHave) (ws : List ControlIWant) (gs : List ControlGraft) (ps : List ControlPrune)
+      (ss : List SubOpts) (ms : List RawMessage) (c : ControlMessage)
+      → gather b (addedRows e base p f (f .field)) (state [] [] [] ss ms (join (ctl hs ws gs ps tail) c))
+      ≡ state [] [] [] ss ms (join (ctl hs ws gs ps ds) c)
+
+added-takes : (e : Edition) (b : List ℕ) (base : ℕ) (p : List ℕ) (f : Field) (fs : List Field)
+    (ds : List ControlIDontWant) → Part b base p → FieldWithin p f → eqb (f .«wire_type») 2 ≡ true
+    → Pairs IsIDontWant (idontwantsIn e (entriesOf p (f ∷ fs))) ds → Added e b base p f fs ds
+unfolding addedRows
+added-takes V11 b base p f fs ds q i t2 h = record { tail = ds; rest = h; says = λ hs ws gs ps ss ms c. refl }
+added-takes V12 b base p f fs ds q i t2 h =
+    either (eqb (f .field) 5)
+    (λ e. let t = pairs-take p 5 f fs ds (bytes-is f 5 t2 e) h in
+    record {
+      tail = t .tail;
+      rest = t .rest;
+      says = λ hs ws gs ps ss ms c. simp e
+          (idontwant-of b (base + f .start) (part-part b base p f q i) (t .means) ss ms
+          (join (ctl hs ws gs ps (t .tail)) c)
+          ∙ ap (λ (l : List ControlIDontWant). state [] [] [] ss ms (join (ctl hs ws gs ps l) c)) (sym (t .split)));
+    })
+    (λ e. record {
+      tail = ds;
+      rest = pairs-skip p 5 f fs ds (bytes-not f 5 e) h;
+      says = λ hs ws gs ps ss ms c. simp e;
+    })
+
+control-along : (d : Dialect) (b : List ℕ) (base : ℕ) (p : List ℕ) → Part b base p
+    → (fs : List Field) (hs : List ControlIHave) (ws : List ControlIWant) (gs : List ControlGraft)
+    (ps : List ControlPrune) (ds : List ControlIDontWant) → Pairs IsIHave (bytesIn 1 (entriesOf p fs)) hs
+    → Pairs IsIWant (bytesIn 2 (entriesOf p fs)) ws → Pairs IsGraft (bytesIn 3 (entriesOf p fs)) gs
+    → Pairs IsPrune (bytesIn 4 (entriesOf p fs)) ps → Pairs IsIDontWant (idontwantsIn (d .edition) (entriesOf p fs)) ds
+    → Each (FieldWithin p) fs → (ss : List SubOpts) (ms : List RawMessage) (c : ControlMessage)
+    → gather b (rowsAlong rowsOf (kind.ControlMessage d) base p (whole fs)) (state [] [] [] ss ms c)
+    ≡ state [] [] [] ss ms (join (ctl hs ws gs ps ds) c)
+control-along d b base p q [] hs ws gs ps ds h1 h2 h3 h4 h5 none-left ss ms c =
+    sym (control-none hs ws gs ps ds (pairs-none h1) (pairs-none h2) (pairs-none h3) (pairs-none h4)
+    (added-none (d .edition) h5) ss ms c)
+control-along d b base p q (f ∷ fs) hs ws gs ps ds h1 h2 h3 h4 h5 (i and ins) ss ms c =
+    let go = gather-append b (roleRows rowsOf base p f (roleOf (kind.ControlMessage d) (f .field) (f .«wire_type»)))
+    (rowsAlong rowsOf (kind.ControlMessage d) base p (whole fs)) (state [] [] [] ss ms c) in
     either (eqb (f .«wire_type») 2)
     (λ t2. either (eqb (f .field) 1)
     (λ e. let t = pairs-take p 1 f fs hs (bytes-is f 1 t2 e) h1 in
-    let ih = control-along b base p q fs (t .tail) ws gs ps (t .rest)
+    let ih = control-along d b base p q fs (t .tail) ws gs ps ds (t .rest)
     (pairs-skip p 2 f fs ws (bytes-other f 1 2 e refl) h2) (pairs-skip p 3 f fs gs (bytes-other f 1 3 e refl) h3)
-    (pairs-skip p 4 f fs ps (bytes-other f 1 4 e refl) h4) ins ss ms c in
-    go ∙ ap₂ (gather b) (control-row-1 base p f t2 e) ih
-    ∙ ihave-of b (base + f .start) (part-part b base p f q i) (t .means) ss ms (join (ctl (t .tail) ws gs ps) c)
-    ∙ ap (λ (l : List ControlIHave). state [] [] [] ss ms (join (ctl l ws gs ps) c)) (sym (t .split)))
+    (pairs-skip p 4 f fs ps (bytes-other f 1 4 e refl) h4)
+    (added-skip (d .edition) p f fs ds (bytes-other f 1 5 e refl) h5) ins ss ms c in
+    go ∙ ap₂ (gather b) (control-row-1 d base p f t2 e) ih
+    ∙ ihave-of b (base + f .start) (part-part b base p f q i) (t .means) ss ms (join (ctl (t .tail) ws gs ps ds) c)
+    ∙ ap (λ (l : List ControlIHave). state [] [] [] ss ms (join (ctl l ws gs ps ds) c)) (sym (t .split)))
     (λ n1. either (eqb (f .field) 2)
     (λ e. let t = pairs-take p 2 f fs ws (bytes-is f 2 t2 e) h2 in
-    let ih = control-along b base p q fs hs (t .tail) gs ps (pairs-skip p 1 f fs hs (bytes-other f 2 1 e refl) h1)
+    let ih = control-along d b base p q fs hs (t .tail) gs ps ds (pairs-skip p 1 f fs hs (bytes-other f 2 1 e refl) h1)
     (t .rest) (pairs-skip p 3 f fs gs (bytes-other f 2 3 e refl) h3)
-    (pairs-skip p 4 f fs ps (bytes-other f 2 4 e refl) h4) ins ss ms c in
-    go ∙ ap₂ (gather b) (control-row-2 base p f t2 e) ih
-    ∙ iwant-of b (base + f .start) (part-part b base p f q i) (t .means) ss ms (join (ctl hs (t .tail) gs ps) c)
-    ∙ ap (λ (l : List ControlIWant). state [] [] [] ss ms (join (ctl hs l gs ps) c)) (sym (t .split)))
+    (pairs-skip p 4 f fs ps (bytes-other f 2 4 e refl) h4)
+    (added-skip (d .edition) p f fs ds (bytes-other f 2 5 e refl) h5) ins ss ms c in
+    go ∙ ap₂ (gather b) (control-row-2 d base p f t2 e) ih
+    ∙ iwant-of b (base + f .start) (part-part b base p f q i) (t .means) ss ms (join (ctl hs (t .tail) gs ps ds) c)
+    ∙ ap (λ (l : List ControlIWant). state [] [] [] ss ms (join (ctl hs l gs ps ds) c)) (sym (t .split)))
     (λ n2. either (eqb (f .field) 3)
     (λ e. let t = pairs-take p 3 f fs gs (bytes-is f 3 t2 e) h3 in
-    let ih = control-along b base p q fs hs ws (t .tail) ps (pairs-skip p 1 f fs hs (bytes-other f 3 1 e refl) h1)
+    let ih = control-along d b base p q fs hs ws (t .tail) ps ds (pairs-skip p 1 f fs hs (bytes-other f 3 1 e refl) h1)
     (pairs-skip p 2 f fs ws (bytes-other f 3 2 e refl) h2) (t .rest)
-    (pairs-skip p 4 f fs ps (bytes-other f 3 4 e refl) h4) ins ss ms c in
-    go ∙ ap₂ (gather b) (control-row-3 base p f t2 e) ih
-    ∙ graft-of b (base + f .start) (part-part b base p f q i) (t .means) ss ms (join (ctl hs ws (t .tail) ps) c)
-    ∙ ap (λ (l : List ControlGraft). state [] [] [] ss ms (join (ctl hs ws l ps) c)) (sym (t .split)))
+    (pairs-skip p 4 f fs ps (bytes-other f 3 4 e refl) h4)
+    (added-skip (d .edition) p f fs ds (bytes-other f 3 5 e refl) h5) ins ss ms c in
+    go ∙ ap₂ (gather b) (control-row-3 d base p f t2 e) ih
+    ∙ graft-of b (base + f .start) (part-part b base p f q i) (t .means) ss ms (join (ctl hs ws (t .tail) ps ds) c)
+    ∙ ap (λ (l : List ControlGraft). state [] [] [] ss ms (join (ctl hs ws l ps ds) c)) (sym (t .split)))
     (λ n3. either (eqb (f .field) 4)
     (λ e. let t = pairs-take p 4 f fs ps (bytes-is f 4 t2 e) h4 in
-    let ih = control-along b base p q fs hs ws gs (t .tail) (pairs-skip p 1 f fs hs (bytes-other f 4 1 e refl) h1)
+    let ih = control-along d b base p q fs hs ws gs (t .tail) ds (pairs-skip p 1 f fs hs (bytes-other f 4 1 e refl) h1)
     (pairs-skip p 2 f fs ws (bytes-other f 4 2 e refl) h2) (pairs-skip p 3 f fs gs (bytes-other f 4 3 e refl) h3)
-    (t .rest) ins ss ms c in
-    go ∙ ap₂ (gather b) (control-row-4 base p f t2 e) ih
-    ∙ prune-of b (base + f .start) (part-part b base p f q i) (t .means) ss ms (join (ctl hs ws gs (t .tail)) c)
-    ∙ ap (λ (l : List ControlPrune). state [] [] [] ss ms (join (ctl hs ws gs l) c)) (sym (t .split)))
+    (t .rest) (added-skip (d .edition) p f fs ds (bytes-other f 4 5 e refl) h5) ins ss ms c in
+    go ∙ ap₂ (gather b) (control-row-4 d base p f t2 e) ih
+    ∙ prune-of b (base + f .start) (part-part b base p f q i) (t .means) ss ms (join (ctl hs ws gs (t .tail) ds) c)
+    ∙ ap (λ (l : List ControlPrune). state [] [] [] ss ms (join (ctl hs ws gs l ds) c)) (sym (t .split)))
     (λ n4.
-    let ih = control-along b base p q fs hs ws gs ps (pairs-skip p 1 f fs hs (bytes-not f 1 n1) h1)
+    let t = added-takes (d .edition) b base p f fs ds q i t2 h5 in
+    let ih = control-along d b base p q fs hs ws gs ps (t .tail) (pairs-skip p 1 f fs hs (bytes-not f 1 n1) h1)
     (pairs-skip p 2 f fs ws (bytes-not f 2 n2) h2) (pairs-skip p 3 f fs gs (bytes-not f 3 n3) h3)
-    (pairs-skip p 4 f fs ps (bytes-not f 4 n4) h4) ins ss ms c in
-    go ∙ ap₂ (gather b) (control-row-other base p f n1 n2 n3 n4) ih)))))
-    (λ t2. let ih = control-along b base p q fs hs ws gs ps (pairs-skip p 1 f fs hs (bytes-type f 1 t2) h1)
+    (pairs-skip p 4 f fs ps (bytes-not f 4 n4) h4) (t .rest) ins ss ms c in
+    go ∙ ap₂ (gather b) (control-row-added d base p f t2 n1 n2 n3 n4) ih ∙ t .says hs ws gs ps ss ms c)))))
+    (λ t2. let ih = control-along d b base p q fs hs ws gs ps ds (pairs-skip p 1 f fs hs (bytes-type f 1 t2) h1)
     (pairs-skip p 2 f fs ws (bytes-type f 2 t2) h2) (pairs-skip p 3 f fs gs (bytes-type f 3 t2) h3)
-    (pairs-skip p 4 f fs ps (bytes-type f 4 t2) h4) ins ss ms c in
-    go ∙ ap₂ (gather b) (control-row-type base p f t2) ih)
+    (pairs-skip p 4 f fs ps (bytes-type f 4 t2) h4) (added-skip (d .edition) p f fs ds (bytes-type f 5 t2) h5) ins ss ms
+    c in
+    go ∙ ap₂ (gather b) (control-row-type d base p f t2) ih)
 
-own-control : (base : ℕ) (p : List ℕ) → ownRows kind.ControlMessage base p ≡ []
+own-control : (d : Dialect) (base : ℕ) (p : List ℕ) → ownRows (kind.ControlMessage d) base p ≡ []
 unfolding ownRows ownOf
-own-control base p = refl
+own-control d base p = refl
 
-control-read : (b : List ℕ) (base : ℕ) (p : List ℕ) (es : List Entry) (hs : List ControlIHave) (ws : List ControlIWant)
-    (gs : List ControlGraft) (ps : List ControlPrune) → Part b base p → Body p es → Pairs IsIHave (bytesIn 1 es) hs
-    → Pairs IsIWant (bytesIn 2 es) ws → Pairs IsGraft (bytesIn 3 es) gs → Pairs IsPrune (bytesIn 4 es) ps
+control-read : (d : Dialect) (b : List ℕ) (base : ℕ) (p : List ℕ) (es : List Entry) (hs : List ControlIHave)
+    (ws : List ControlIWant) (gs : List ControlGraft) (ps : List ControlPrune) (ds : List ControlIDontWant)
+    → Part b base p → Body p es → Pairs IsIHave (bytesIn 1 es) hs → Pairs IsIWant (bytesIn 2 es) ws
+    → Pairs IsGraft (bytesIn 3 es) gs → Pairs IsPrune (bytesIn 4 es) ps
+    → Pairs IsIDontWant (idontwantsIn (d .edition) es) ds
     → (ss : List SubOpts) (ms : List RawMessage) (c : ControlMessage)
-    → gather b (rowsOf kind.ControlMessage base p) (state [] [] [] ss ms c) ≡ state [] [] [] ss ms
-    (join (ctl hs ws gs ps) c)
-control-read b base p es hs ws gs ps q g h1 h2 h3 h4 ss ms c =
+    → gather b (rowsOf (kind.ControlMessage d) base p) (state [] [] [] ss ms c) ≡ state [] [] [] ss ms
+    (join (ctl hs ws gs ps ds) c)
+control-read d b base p es hs ws gs ps ds q g h1 h2 h3 h4 h5 ss ms c =
     let w = body-walks p es g in
     let fs = w .fields in
-    let rows = rows-along kind.ControlMessage base p
-    ∙ ap₂ (λ (x : List Record) (y : Fields). x ++ rowsAlong rowsOf kind.ControlMessage base p y)
-    (own-control base p) (w .walked) in
+    let rows = rows-along (kind.ControlMessage d) base p
+    ∙ ap₂ (λ (x : List Record) (y : Fields). x ++ rowsAlong rowsOf (kind.ControlMessage d) base p y)
+    (own-control d base p) (w .walked) in
     let e = sym (w .entries) in
     ap (λ (l : List Record). gather b l (state [] [] [] ss ms c)) rows
-    ∙ control-along b base p q fs hs ws gs ps (subst (λ (l : List Entry). Pairs IsIHave (bytesIn 1 l) hs) e h1)
+    ∙ control-along d b base p q fs hs ws gs ps ds (subst (λ (l : List Entry). Pairs IsIHave (bytesIn 1 l) hs) e h1)
     (subst (λ (l : List Entry). Pairs IsIWant (bytesIn 2 l) ws) e h2)
     (subst (λ (l : List Entry). Pairs IsGraft (bytesIn 3 l) gs) e h3)
-    (subst (λ (l : List Entry). Pairs IsPrune (bytesIn 4 l) ps) e h4) (walk-inside p fs (w .walked)) ss ms c
+    (subst (λ (l : List Entry). Pairs IsPrune (bytesIn 4 l) ps) e h4)
+    (subst (λ (l : List Entry). Pairs IsIDontWant (idontwantsIn (d .edition) l) ds) e h5)
+    (walk-inside p fs (w .walked)) ss ms c
 
-control-of : {p : List ℕ} {x : ControlMessage} (b : List ℕ) (base : ℕ) → Part b base p → IsControl p x
+control-of : {d : Dialect} {p : List ℕ} {x : ControlMessage} (b : List ℕ) (base : ℕ) → Part b base p → IsControl d p x
     → (ss : List SubOpts) (ms : List RawMessage) (c : ControlMessage)
-    → gather b (rowsOf kind.ControlMessage base p) (state [] [] [] ss ms c) ≡ state [] [] [] ss ms (join x c)
-control-of b base q (is-control {s = s} {es = es} {hs = hs} {ws = ws} {gs = gs} {ps = ps} g h1 h2 h3 h4) ss ms c =
-    control-read b base s es hs ws gs ps q g h1 h2 h3 h4 ss ms c
+    → gather b (rowsOf (kind.ControlMessage d) base p) (state [] [] [] ss ms c) ≡ state [] [] [] ss ms (join x c)
+control-of {d} b base q
+    (is-control {s = s} {es = es} {hs = hs} {ws = ws} {gs = gs} {ps = ps} {ds = ds} g h1 h2 h3 h4 h5) ss ms c =
+    control-read d b base s es hs ws gs ps ds q g h1 h2 h3 h4 h5 ss ms c
 
 -- ---- the RPC
-rpcRows : ℕ → List ℕ → Field → ℕ → List Record
-rpcRows base p f n = cond (eqb n 1) (rowsOf kind.SubOpts (base + f .start) (valueIn p f))
+rpcRows : Dialect → ℕ → List ℕ → Field → ℕ → List Record
+rpcRows d base p f n = cond (eqb n 1) (rowsOf kind.SubOpts (base + f .start) (valueIn p f))
     (cond (eqb n 2) (rowsOf kind.RawMessage (base + f .start) (valueIn p f))
-    (cond (eqb n 3) (rowsOf kind.ControlMessage (base + f .start) (valueIn p f)) []))
+    (cond (eqb n 3) (rowsOf (kind.ControlMessage d) (base + f .start) (valueIn p f)) []))
 
-rpc-rows : (base : ℕ) (p : List ℕ) (f : Field) → roleRows rowsOf base p f (roleOf kind.Rpc (f .field) (f .«wire_type»))
-    ≡ cond (eqb (f .«wire_type») 2) (rpcRows base p f (f .field)) []
+rpc-rows : (d : Dialect) (base : ℕ) (p : List ℕ) (f : Field)
+    → roleRows rowsOf base p f (roleOf (kind.Rpc d) (f .field) (f .«wire_type»)) ≡ cond (eqb (f .«wire_type») 2)
+    (rpcRows d base p f (f .field)) []
 unfolding rpcRows
-rpc-rows base p f =
-    rows-from kind.Rpc base p f (rpcRows base p f)
-    (six (λ n. roleRows rowsOf base p f (lenRole kind.Rpc n) ≡ rpcRows base p f n) refl refl refl refl refl refl
+rpc-rows d base p f =
+    rows-from (kind.Rpc d) base p f (rpcRows d base p f)
+    (six (λ n. roleRows rowsOf base p f (lenRole (kind.Rpc d) n) ≡ rpcRows d base p f n) refl refl refl refl refl refl
     (λ n e1 e2 e3 e4 e5 e6. simp (e1, e2, e3)))
 
-rpc-row-1 : (base : ℕ) (p : List ℕ) (f : Field) → eqb (f .«wire_type») 2 ≡ true → eqb (f .field) 1 ≡ true
-    → roleRows rowsOf base p f (roleOf kind.Rpc (f .field) (f .«wire_type»)) ≡ rowsOf kind.SubOpts (base + f .start)
+rpc-row-1 : (d : Dialect) (base : ℕ) (p : List ℕ) (f : Field) → eqb (f .«wire_type») 2 ≡ true → eqb (f .field) 1 ≡ true
+    → roleRows rowsOf base p f (roleOf (kind.Rpc d) (f .field) (f .«wire_type»)) ≡ rowsOf kind.SubOpts (base + f .start)
     (valueIn p f)
 unfolding rpcRows
-rpc-row-1 base p f t e = rpc-rows base p f ∙ ap (λ (x : Bool). cond x (rpcRows base p f (f .field)) []) t
-    ∙ ap (rpcRows base p f) (eqb-true (f .field) 1 e)
+rpc-row-1 d base p f t e = rpc-rows d base p f ∙ ap (λ (x : Bool). cond x (rpcRows d base p f (f .field)) []) t
+    ∙ ap (rpcRows d base p f) (eqb-true (f .field) 1 e)
 
-rpc-row-2 : (base : ℕ) (p : List ℕ) (f : Field) → eqb (f .«wire_type») 2 ≡ true → eqb (f .field) 2 ≡ true
-    → roleRows rowsOf base p f (roleOf kind.Rpc (f .field) (f .«wire_type»)) ≡ rowsOf kind.RawMessage (base + f .start)
-    (valueIn p f)
-unfolding rpcRows
-rpc-row-2 base p f t e = rpc-rows base p f ∙ ap (λ (x : Bool). cond x (rpcRows base p f (f .field)) []) t
-    ∙ ap (rpcRows base p f) (eqb-true (f .field) 2 e)
-
-rpc-row-3 : (base : ℕ) (p : List ℕ) (f : Field) → eqb (f .«wire_type») 2 ≡ true → eqb (f .field) 3 ≡ true
-    → roleRows rowsOf base p f (roleOf kind.Rpc (f .field) (f .«wire_type»)) ≡ rowsOf kind.ControlMessage
+rpc-row-2 : (d : Dialect) (base : ℕ) (p : List ℕ) (f : Field) → eqb (f .«wire_type») 2 ≡ true → eqb (f .field) 2 ≡ true
+    → roleRows rowsOf base p f (roleOf (kind.Rpc d) (f .field) (f .«wire_type»)) ≡ rowsOf kind.RawMessage
     (base + f .start) (valueIn p f)
 unfolding rpcRows
-rpc-row-3 base p f t e = rpc-rows base p f ∙ ap (λ (x : Bool). cond x (rpcRows base p f (f .field)) []) t
-    ∙ ap (rpcRows base p f) (eqb-true (f .field) 3 e)
+rpc-row-2 d base p f t e = rpc-rows d base p f ∙ ap (λ (x : Bool). cond x (rpcRows d base p f (f .field)) []) t
+    ∙ ap (rpcRows d base p f) (eqb-true (f .field) 2 e)
 
-rpc-row-other : (base : ℕ) (p : List ℕ) (f : Field) → eqb (f .field) 1 ≡ false → eqb (f .field) 2 ≡ false
-    → eqb (f .field) 3 ≡ false → roleRows rowsOf base p f (roleOf kind.Rpc (f .field) (f .«wire_type»)) ≡ []
+rpc-row-3 : (d : Dialect) (base : ℕ) (p : List ℕ) (f : Field) → eqb (f .«wire_type») 2 ≡ true → eqb (f .field) 3 ≡ true
+    → roleRows rowsOf base p f (roleOf (kind.Rpc d) (f .field) (f .«wire_type»)) ≡ rowsOf (kind.ControlMessage d)
+    (base + f .start) (valueIn p f)
 unfolding rpcRows
-rpc-row-other base p f e1 e2 e3 = rpc-rows base p f ∙ either (eqb (f .«wire_type») 2) (λ t. simp (t, e1, e2, e3))
+rpc-row-3 d base p f t e = rpc-rows d base p f ∙ ap (λ (x : Bool). cond x (rpcRows d base p f (f .field)) []) t
+    ∙ ap (rpcRows d base p f) (eqb-true (f .field) 3 e)
+
+rpc-row-other : (d : Dialect) (base : ℕ) (p : List ℕ) (f : Field) → eqb (f .field) 1 ≡ false → eqb (f .field) 2 ≡ false
+    → eqb (f .field) 3 ≡ false → roleRows rowsOf base p f (roleOf (kind.Rpc d) (f .field) (f .«wire_type»)) ≡ []
+unfolding rpcRows
+rpc-row-other d base p f e1 e2 e3 = rpc-rows d base p f ∙ either (eqb (f .«wire_type») 2) (λ t. simp (t, e1, e2, e3))
     (λ t. simp t)
 
-rpc-row-type : (base : ℕ) (p : List ℕ) (f : Field) → eqb (f .«wire_type») 2 ≡ false
-    → roleRows rowsOf base p f (roleOf kind.Rpc (f .field) (f .«wire_type»)) ≡ []
-rpc-row-type base p f t = rpc-rows base p f ∙ ap (λ (x : Bool). cond x (rpcRows base p f (f .field)) []) t
+rpc-row-type : (d : Dialect) (base : ℕ) (p : List ℕ) (f : Field) → eqb (f .«wire_type») 2 ≡ false
+    → roleRows rowsOf base p f (roleOf (kind.Rpc d) (f .field) (f .«wire_type»)) ≡ []
+rpc-row-type d base p f t = rpc-rows d base p f ∙ ap (λ (x : Bool). cond x (rpcRows d base p f (f .field)) []) t
 
 -- the controls, one after the other
 abbrev pub flat : List ControlMessage → ControlMessage
@@ -830,45 +940,45 @@ rpc-none : (ss : List SubOpts) (ms : List RawMessage) (cs : List ControlMessage)
     → state [] [] [] ss ms (flat cs) ≡ nothing
 rpc-none ss ms cs e1 e2 e3 = rw (e1, e2, e3)
 
-rpc-along : (b : List ℕ) (base : ℕ) (p : List ℕ) → Part b base p
+rpc-along : (d : Dialect) (b : List ℕ) (base : ℕ) (p : List ℕ) → Part b base p
     → (fs : List Field) (ss : List SubOpts) (ms : List RawMessage) (cs : List ControlMessage)
     → Pairs IsSubOpts (bytesIn 1 (entriesOf p fs)) ss → Pairs IsMessage (bytesIn 2 (entriesOf p fs)) ms
-    → Pairs IsControl (bytesIn 3 (entriesOf p fs)) cs → Each (FieldWithin p) fs
-    → gather b (rowsAlong rowsOf kind.Rpc base p (whole fs)) nothing ≡ state [] [] [] ss ms (flat cs)
-rpc-along b base p q [] ss ms cs h1 h2 h3 none-left =
+    → Pairs (IsControl d) (bytesIn 3 (entriesOf p fs)) cs → Each (FieldWithin p) fs
+    → gather b (rowsAlong rowsOf (kind.Rpc d) base p (whole fs)) nothing ≡ state [] [] [] ss ms (flat cs)
+rpc-along d b base p q [] ss ms cs h1 h2 h3 none-left =
     sym (rpc-none ss ms cs (pairs-none h1) (pairs-none h2) (pairs-none h3))
-rpc-along b base p q (f ∷ fs) ss ms cs h1 h2 h3 (i and ins) =
-    let go = gather-append b (roleRows rowsOf base p f (roleOf kind.Rpc (f .field) (f .«wire_type»)))
-    (rowsAlong rowsOf kind.Rpc base p (whole fs)) nothing in
+rpc-along d b base p q (f ∷ fs) ss ms cs h1 h2 h3 (i and ins) =
+    let go = gather-append b (roleRows rowsOf base p f (roleOf (kind.Rpc d) (f .field) (f .«wire_type»)))
+    (rowsAlong rowsOf (kind.Rpc d) base p (whole fs)) nothing in
     either (eqb (f .«wire_type») 2)
     (λ t2. either (eqb (f .field) 1)
     (λ e. let t = pairs-take p 1 f fs ss (bytes-is f 1 t2 e) h1 in
-    let ih = rpc-along b base p q fs (t .tail) ms cs (t .rest) (pairs-skip p 2 f fs ms (bytes-other f 1 2 e refl) h2)
+    let ih = rpc-along d b base p q fs (t .tail) ms cs (t .rest) (pairs-skip p 2 f fs ms (bytes-other f 1 2 e refl) h2)
     (pairs-skip p 3 f fs cs (bytes-other f 1 3 e refl) h3) ins in
-    go ∙ ap₂ (gather b) (rpc-row-1 base p f t2 e) ih
+    go ∙ ap₂ (gather b) (rpc-row-1 d base p f t2 e) ih
     ∙ sub-opts-of b (base + f .start) (part-part b base p f q i) (t .means) (t .tail) ms (flat cs)
     ∙ ap (λ (l : List SubOpts). state [] [] [] l ms (flat cs)) (sym (t .split)))
     (λ n1. either (eqb (f .field) 2)
     (λ e. let t = pairs-take p 2 f fs ms (bytes-is f 2 t2 e) h2 in
-    let ih = rpc-along b base p q fs ss (t .tail) cs (pairs-skip p 1 f fs ss (bytes-other f 2 1 e refl) h1) (t .rest)
+    let ih = rpc-along d b base p q fs ss (t .tail) cs (pairs-skip p 1 f fs ss (bytes-other f 2 1 e refl) h1) (t .rest)
     (pairs-skip p 3 f fs cs (bytes-other f 2 3 e refl) h3) ins in
-    go ∙ ap₂ (gather b) (rpc-row-2 base p f t2 e) ih
+    go ∙ ap₂ (gather b) (rpc-row-2 d base p f t2 e) ih
     ∙ message-of b (base + f .start) (part-part b base p f q i) (t .means) ss (t .tail) (flat cs)
     ∙ ap (λ (l : List RawMessage). state [] [] [] ss l (flat cs)) (sym (t .split)))
     (λ n2. either (eqb (f .field) 3)
     (λ e. let t = pairs-take p 3 f fs cs (bytes-is f 3 t2 e) h3 in
-    let ih = rpc-along b base p q fs ss ms (t .tail) (pairs-skip p 1 f fs ss (bytes-other f 3 1 e refl) h1)
+    let ih = rpc-along d b base p q fs ss ms (t .tail) (pairs-skip p 1 f fs ss (bytes-other f 3 1 e refl) h1)
     (pairs-skip p 2 f fs ms (bytes-other f 3 2 e refl) h2) (t .rest) ins in
-    go ∙ ap₂ (gather b) (rpc-row-3 base p f t2 e) ih
+    go ∙ ap₂ (gather b) (rpc-row-3 d base p f t2 e) ih
     ∙ control-of b (base + f .start) (part-part b base p f q i) (t .means) ss ms (flat (t .tail))
     ∙ ap (λ (l : List ControlMessage). state [] [] [] ss ms (flat l)) (sym (t .split)))
     (λ n3.
-    let ih = rpc-along b base p q fs ss ms cs (pairs-skip p 1 f fs ss (bytes-not f 1 n1) h1)
+    let ih = rpc-along d b base p q fs ss ms cs (pairs-skip p 1 f fs ss (bytes-not f 1 n1) h1)
     (pairs-skip p 2 f fs ms (bytes-not f 2 n2) h2) (pairs-skip p 3 f fs cs (bytes-not f 3 n3) h3) ins in
-    go ∙ ap₂ (gather b) (rpc-row-other base p f n1 n2 n3) ih))))
-    (λ t2. let ih = rpc-along b base p q fs ss ms cs (pairs-skip p 1 f fs ss (bytes-type f 1 t2) h1)
+    go ∙ ap₂ (gather b) (rpc-row-other d base p f n1 n2 n3) ih))))
+    (λ t2. let ih = rpc-along d b base p q fs ss ms cs (pairs-skip p 1 f fs ss (bytes-type f 1 t2) h1)
     (pairs-skip p 2 f fs ms (bytes-type f 2 t2) h2) (pairs-skip p 3 f fs cs (bytes-type f 3 t2) h3) ins in
-    go ∙ ap₂ (gather b) (rpc-row-type base p f t2) ih)
+    go ∙ ap₂ (gather b) (rpc-row-type d base p f t2) ih)
 
 pub whole-part : (b : List ℕ) → Part b 0 b
 whole-part b = let e : 0 + length b - 0 ≡ length b = omega arith in
@@ -884,7 +994,14 @@ any-pairs no-pairs = refl
 any-pairs (p paired ps) = refl
 
 join-empty : (c : ControlMessage) → join c emptyControl ≡ c
-join-empty c = rw (append-nil (c .ihave), append-nil (c .iwant), append-nil (c .graft), append-nil (c .prune))
+join-empty c =
+    rw (
+      append-nil (c .ihave),
+      append-nil (c .iwant),
+      append-nil (c .graft),
+      append-nil (c .prune),
+      append-nil (c .idontwant),
+    )
 
 pub joined-some : (c : ControlMessage) (cs : List ControlMessage) → joined (c ∷ cs) ≡ some (flat (c ∷ cs))
 joined-some c [] = ap some (sym (join-empty c))
@@ -905,45 +1022,47 @@ control-any p n (f ∷ fs) =
     (λ e. ap (λ (x : Bool). x || hasAlong n (whole fs)) e ∙ control-any p n fs
     ∙ sym (pb ∙ ap (λ (x : Bool). any (cond x (valueIn p f ∷ ds) ds)) e))
 
-own-rpc : (base : ℕ) (p : List ℕ) → ownRows kind.Rpc base p ≡ []
+own-rpc : (d : Dialect) (base : ℕ) (p : List ℕ) → ownRows (kind.Rpc d) base p ≡ []
 unfolding ownRows ownOf
-own-rpc base p = refl
+own-rpc d base p = refl
 
-pub rpc-gathered : (b : List ℕ) (es : List Entry) (ss : List SubOpts) (ms : List RawMessage) (cs : List ControlMessage)
-    → Body b es → Pairs IsSubOpts (bytesIn 1 es) ss → Pairs IsMessage (bytesIn 2 es) ms
-    → Pairs IsControl (bytesIn 3 es) cs → gather b (rowsOf kind.Rpc 0 b) nothing ≡ state [] [] [] ss ms (flat cs)
-rpc-gathered b es ss ms cs g h1 h2 h3 =
+pub rpc-gathered : (d : Dialect) (b : List ℕ) (es : List Entry) (ss : List SubOpts) (ms : List RawMessage)
+    (cs : List ControlMessage) → Body b es → Pairs IsSubOpts (bytesIn 1 es) ss → Pairs IsMessage (bytesIn 2 es) ms
+    → Pairs (IsControl d) (bytesIn 3 es) cs
+    → gather b (rowsOf (kind.Rpc d) 0 b) nothing ≡ state [] [] [] ss ms (flat cs)
+rpc-gathered d b es ss ms cs g h1 h2 h3 =
     let w = body-walks b es g in
     let fs = w .fields in
-    let rows = rows-along kind.Rpc 0 b ∙ ap₂ (λ (x : List Record) (y : Fields). x ++ rowsAlong rowsOf kind.Rpc 0 b y)
-    (own-rpc 0 b) (w .walked) in
+    let rows = rows-along (kind.Rpc d) 0 b
+    ∙ ap₂ (λ (x : List Record) (y : Fields). x ++ rowsAlong rowsOf (kind.Rpc d) 0 b y) (own-rpc d 0 b) (w .walked) in
     let e = sym (w .entries) in
     ap (λ (l : List Record). gather b l nothing) rows
-    ∙ rpc-along b 0 b (whole-part b) fs ss ms cs (subst (λ (l : List Entry). Pairs IsSubOpts (bytesIn 1 l) ss) e h1)
+    ∙ rpc-along d b 0 b (whole-part b) fs ss ms cs (subst (λ (l : List Entry). Pairs IsSubOpts (bytesIn 1 l) ss) e h1)
     (subst (λ (l : List Entry). Pairs IsMessage (bytesIn 2 l) ms) e h2)
-    (subst (λ (l : List Entry). Pairs IsControl (bytesIn 3 l) cs) e h3) (walk-inside b fs (w .walked))
+    (subst (λ (l : List Entry). Pairs (IsControl d) (bytesIn 3 l) cs) e h3) (walk-inside b fs (w .walked))
 
-pub rpc-control : (b : List ℕ) (es : List Entry) (cs : List ControlMessage) → Body b es
-    → Pairs IsControl (bytesIn 3 es) cs → hasField 3 b ≡ any cs
+pub rpc-control : (d : Dialect) (b : List ℕ) (es : List Entry) (cs : List ControlMessage) → Body b es
+    → Pairs (IsControl d) (bytesIn 3 es) cs → hasField 3 b ≡ any cs
 unfolding hasField
-rpc-control b es cs g h3 =
+rpc-control d b es cs g h3 =
     let w = body-walks b es g in
     ap (hasAlong 3) (w .walked) ∙ control-any b 3 (w .fields) ∙ ap (λ (l : List Entry). any (bytesIn 3 l)) (w .entries)
     ∙ any-pairs h3
 
-rpc-read : (b : List ℕ) (es : List Entry) (ss : List SubOpts) (ms : List RawMessage) (cs : List ControlMessage)
-    → Body b es → Pairs IsSubOpts (bytesIn 1 es) ss → Pairs IsMessage (bytesIn 2 es) ms
-    → Pairs IsControl (bytesIn 3 es) cs → readBack b (rowsOf kind.Rpc 0 b) (hasControl b)
+rpc-read : (d : Dialect) (b : List ℕ) (es : List Entry) (ss : List SubOpts) (ms : List RawMessage)
+    (cs : List ControlMessage) → Body b es → Pairs IsSubOpts (bytesIn 1 es) ss → Pairs IsMessage (bytesIn 2 es) ms
+    → Pairs (IsControl d) (bytesIn 3 es) cs → readBack b (rowsOf (kind.Rpc d) 0 b) (hasControl b)
     ≡ record { subscriptions = ss; publish = ms; control = joined cs }
 unfolding readBack hasControl
-rpc-read b es ss ms cs g h1 h2 h3 =
-    ap₂ rpcFrom (rpc-control b es cs g h3) (rpc-gathered b es ss ms cs g h1 h2 h3)
+rpc-read d b es ss ms cs g h1 h2 h3 =
+    ap₂ rpcFrom (rpc-control d b es cs g h3) (rpc-gathered d b es ss ms cs g h1 h2 h3)
     ∙ ap (λ (x : Option ControlMessage). record { subscriptions = ss; publish = ms; control = x }) (joined-flat cs)
 
 -- the records of a body, read back, are the RPC that it means
-pub read-back : {b : List ℕ} {x : Rpc} → IsRpc b x → readBack b (rowsOf kind.Rpc 0 b) (hasControl b) ≡ x
-read-back (is-rpc {s = s} {es = es} {ss = ss} {ms = ms} {cs = cs} g h1 h2 h3) = rpc-read s es ss ms cs g h1 h2 h3
+pub read-back : {d : Dialect} {b : List ℕ} {x : Rpc} → IsRpc d b x
+    → readBack b (rowsOf (kind.Rpc d) 0 b) (hasControl b) ≡ x
+read-back {d} (is-rpc {s = s} {es = es} {ss = ss} {ms = ms} {cs = cs} g h1 h2 h3) = rpc-read d s es ss ms cs g h1 h2 h3
 
 -- a body means one RPC
-pub one-rpc : {b : List ℕ} {x y : Rpc} → IsRpc b x → IsRpc b y → x ≡ y
+pub one-rpc : {d : Dialect} {b : List ℕ} {x y : Rpc} → IsRpc d b x → IsRpc d b y → x ≡ y
 one-rpc p q = sym (read-back p) ∙ read-back q

@@ -1,6 +1,6 @@
--- Reading a body, as theorems about what `decode` tells and leaves, by the scope's numbers and the values beside them:
--- accepted exactly where the body means an RPC within capacity and the table has room; the table then says that RPC;
--- and each refusal exactly where the scope gives it.
+-- Reading a body in a dialect, as theorems about what `decode` tells and leaves, by the scope's numbers and the values
+-- beside them: accepted exactly where the body means an RPC within capacity and the table has room; the table then says
+-- that RPC; and each refusal exactly where the scope gives it.
 use Prim.Native.Nat.{ℕ, _+_, _*_, _/_, _≤_, _<_}
 use mathlib.Core.Path.{_≡_, refl, sym, ap, ap₂, subst, _∙_}
 use mathlib.Core.Bool.{Bool, true, false, cond}
@@ -12,6 +12,7 @@ use lib.ListN.{length, drop}
 use lib.Seq.{sets, sets-eq, length-sets, drop-at}
 use lib.Dec.{ltb, eqb}
 use borrow.Author.Tests.{ltb-true, ltb-false, lt-ltb, le-ltb}
+use Rattle.basis.specs.declared.Dialect.{Dialect}
 use Rattle.basis.specs.declared.Told.{Told}
 use Rattle.basis.specs.Refusals.{too-large, too-many-records, short-room}
 use Rattle.basis.specs.declared.Spot.{Spot}
@@ -60,24 +61,24 @@ use Rattle.meaning.specs.Refused.{RefusedAt, placeAt}
 use Rattle.meaning.specs.Accepted.{rpc-means, rpc-accepted}
 use Rattle.meaning.specs.RefusedLaws.{First, first-exactly, first-counts, refused-early}
 use Rattle.meaning.specs.Back.{read-back, one-rpc}
-use Rattle.meaning.specs.Table.{rowsIn, table-back}
+use Rattle.meaning.specs.Table.{all-records, rowsIn, table-back}
 use Rattle.meaning.specs.Size.{recordsIn, rpc-records}
 
 -- ---- what the scope says of a body
 -- it means an RPC and is within capacity
-pub record Within (s : List ℕ) (x : Rpc) : Type 0 where
-  pub means : IsRpc s x
+pub record Within (d : Dialect) (s : List ℕ) (x : Rpc) : Type 0 where
+  pub means : IsRpc d s x
   pub small : length s ≤ 65536
   pub few : recordsIn x ≤ 512
 
 -- what a body is refused with: 10 above 65,536 bytes, its length; 1 to 7, the first in reading order, with its place; 11
 -- above 512 records, their number
-pub data Refusal (s : List ℕ) : Told → Type 0 where
-  is-large : 65536 < length s → Refusal s (told too-large (length s ∷ []))
-  is-wrong : {path : List ℕ} {offset : ℕ} {why : WireError} → length s ≤ 65536 → RefusedAt kind.Rpc 0 s path offset why
-      → Refusal s (placed (placeAt offset path) (wireTold why))
-  has-many : {x : Rpc} → length s ≤ 65536 → IsRpc s x → 512 < recordsIn x
-      → Refusal s (told too-many-records (recordsIn x ∷ []))
+pub data Refusal (d : Dialect) (s : List ℕ) : Told → Type 0 where
+  is-large : 65536 < length s → Refusal d s (told too-large (length s ∷ []))
+  is-wrong : {path : List ℕ} {offset : ℕ} {why : WireError} → length s ≤ 65536
+      → RefusedAt (kind.Rpc d) 0 s path offset why → Refusal d s (placed (placeAt offset path) (wireTold why))
+  has-many : {x : Rpc} → length s ≤ 65536 → IsRpc d s x → 512 < recordsIn x
+      → Refusal d s (told too-many-records (recordsIn x ∷ []))
 
 -- 1 where it is there, and 0 where it is not
 abbrev pub present : {A : Type 0} → Option A → ℕ
@@ -86,120 +87,124 @@ present (some x) = 1
 
 -- what `decode` tells, lent a table of so many words: a refusal of the body; 12 where the table has too few rows, with
 -- the number of records; else that number, and 1 where the RPC has a control
-pub data Decodes (s : List ℕ) (words : ℕ) : Told → Type 0 where
-  refuses : {a : Told} → Refusal s a → Decodes s words a
-  short : {x : Rpc} → Within s x → words / 20 < recordsIn x → Decodes s words (told short-room (recordsIn x ∷ []))
-  reads : {x : Rpc} → Within s x → recordsIn x ≤ words / 20
-      → Decodes s words (done (recordsIn x ∷ present (x .control) ∷ []))
+pub data Decodes (d : Dialect) (s : List ℕ) (words : ℕ) : Told → Type 0 where
+  refuses : {a : Told} → Refusal d s a → Decodes d s words a
+  short : {x : Rpc} → Within d s x → words / 20 < recordsIn x → Decodes d s words (told short-room (recordsIn x ∷ []))
+  reads : {x : Rpc} → Within d s x → recordsIn x ≤ words / 20
+      → Decodes d s words (done (recordsIn x ∷ present (x .control) ∷ []))
 
 -- ---- the RPC that a body means, and what was counted
 -- a body's records are those of the RPC that it means
-own-rpc : ownOf kind.Rpc ≡ 0
+own-rpc : (d : Dialect) → ownOf (kind.Rpc d) ≡ 0
 unfolding ownOf
-own-rpc = refl
+own-rpc d = refl
 
-pub counted-records : (s : List ℕ) (n : ℕ) (x : Rpc) → counted kind.Rpc s ≡ count.Records n → IsRpc s x
-    → n ≡ recordsIn x
-counted-records s n x e i = let a = rows-length kind.Rpc 0 s n e in let b = rpc-records i in omega (arith, own-rpc)
+pub counted-records : (d : Dialect) (s : List ℕ) (n : ℕ) (x : Rpc) → counted (kind.Rpc d) s ≡ count.Records n
+    → IsRpc d s x → n ≡ recordsIn x
+counted-records d s n x e i =
+    let a = rows-length (kind.Rpc d) 0 s n e in let b = rpc-records i in omega (arith, own-rpc d)
 
 -- where records are counted the body means an RPC with that number of records
-record Counts (s : List ℕ) (n : ℕ) : Type 0 where
+record Counts (d : Dialect) (s : List ℕ) (n : ℕ) : Type 0 where
   rpc : Rpc
-  means : IsRpc s rpc
+  means : IsRpc d s rpc
   all : recordsIn rpc ≡ n
 
-counts : (s : List ℕ) (n : ℕ) → Bytes s → counted kind.Rpc s ≡ count.Records n → Counts s n
-counts s n b e =
-    let x = rpc-means s b (record { records = n; counts = e }) in
-    record { rpc = x .value; means = x .means; all = sym (counted-records s n (x .value) e (x .means)) }
+counts : (d : Dialect) (s : List ℕ) (n : ℕ) → Bytes s → counted (kind.Rpc d) s ≡ count.Records n → Counts d s n
+counts d s n b e =
+    let x = rpc-means d s b (record { records = n; counts = e }) in
+    record { rpc = x .value; means = x .means; all = sym (counted-records d s n (x .value) e (x .means)) }
 
 -- and back
-meant-count : {s : List ℕ} {x : Rpc} → IsRpc s x → counted kind.Rpc s ≡ count.Records (recordsIn x)
-meant-count {s} {x} i =
-    let a = rpc-accepted s (record { value = x; means = i }) in
-    a .counts ∙ ap count.Records (counted-records s (a .records) x (a .counts) i)
+meant-count : {d : Dialect} {s : List ℕ} {x : Rpc} → IsRpc d s x → counted (kind.Rpc d) s ≡ count.Records (recordsIn x)
+meant-count {d} {s} {x} i =
+    let a = rpc-accepted d s (record { value = x; means = i }) in
+    a .counts ∙ ap count.Records (counted-records d s (a .records) x (a .counts) i)
 
 -- decode says that a control is there exactly where the RPC has one
 present-cond : {A : Type 0} (c : Bool) (x : A) → present (cond c (some x) none) ≡ cond c 1 0
 present-cond true x = refl
 present-cond false x = refl
 
-control-told : {s : List ℕ} {x : Rpc} → IsRpc s x → cond (hasControl s) 1 0 ≡ present (x .control)
+control-told : {d : Dialect} {s : List ℕ} {x : Rpc} → IsRpc d s x → cond (hasControl s) 1 0 ≡ present (x .control)
 unfolding readBack
-control-told {s} {x} i =
-    sym (present-cond (hasControl s) (gather s (rowsOf kind.Rpc 0 s) nothing .control))
+control-told {d} {s} {x} i =
+    sym (present-cond (hasControl s) (gather s (rowsOf (kind.Rpc d) 0 s) nothing .control))
     ∙ ap (λ (y : Rpc). present (y .control)) (read-back i)
 
 -- ---- a body is refused exactly where the scope refuses it
 -- the gate's refusal
-pub refusal-of : (s : List ℕ) (r : Tested) (why : Placed) → Bytes s → Gate s r → r ≡ tested.Refused why
-    → Refusal s (refusalTold why)
-refusal-of s _ why b (large h) e =
+pub refusal-of : (d : Dialect) (s : List ℕ) (r : Tested) (why : Placed) → Bytes s → Gate d s r → r ≡ tested.Refused why
+    → Refusal d s (refusalTold why)
+refusal-of d s _ why b (large h) e =
     let q : nowhere (TooLarge (length s)) ≡ why = cc in
-    subst (λ (w : Placed). Refusal s (refusalTold w)) q (is-large h)
-refusal-of s _ why b (bad h w q) e =
-    let i = first-exactly kind.Rpc s w (spotIn kind.Rpc s) b .0 (q, refl) in
-    let z : record { why = w; spot = spotIn kind.Rpc s } ≡ why = cc in
-    subst (λ (x : Placed). Refusal s (refusalTold x)) z
-    (subst (λ (x : Spot). Refusal s (placed x (wireTold w))) (sym (i .told)) (is-wrong h (i .is)))
-refusal-of s _ why b (many h n q l) e =
-    let c = counts s n b q in
+    subst (λ (w : Placed). Refusal d s (refusalTold w)) q (is-large h)
+refusal-of d s _ why b (bad h w q) e =
+    let i = first-exactly (kind.Rpc d) s w (spotIn (kind.Rpc d) s) b .0 (q, refl) in
+    let z : record { why = w; spot = spotIn (kind.Rpc d) s } ≡ why = cc in
+    subst (λ (x : Placed). Refusal d s (refusalTold x)) z
+    (subst (λ (x : Spot). Refusal d s (placed x (wireTold w))) (sym (i .told)) (is-wrong h (i .is)))
+refusal-of d s _ why b (many h n q l) e =
+    let c = counts d s n b q in
     let z : nowhere (TooManyRecords n) ≡ why = cc in
-    subst (λ (w : Placed). Refusal s (refusalTold w)) (ap (λ (k : ℕ). nowhere (TooManyRecords k)) (c .all) ∙ z)
+    subst (λ (w : Placed). Refusal d s (refusalTold w)) (ap (λ (k : ℕ). nowhere (TooManyRecords k)) (c .all) ∙ z)
     (has-many h (c .means) (omega (arith, c .all)))
-refusal-of s _ why b (passes h n q l) e = clash (cc)
+refusal-of d s _ why b (passes h n q l) e = clash (cc)
 
 -- and back: by which case of the answer it is told
-pub of-refusal : {s : List ℕ} {a : Told} → Refusal s a
-    → (why : Placed) × (bodyRecords s ≡ tested.Refused why) × (refusalTold why ≡ a)
-of-refusal {s} (is-large h) = (nowhere (TooLarge (length s)), records-large s h, refl)
-of-refusal {s} (is-wrong {path} {offset} {why} h i) =
+pub of-refusal : {d : Dialect} {s : List ℕ} {a : Told} → Refusal d s a
+    → (why : Placed) × (bodyRecords d s ≡ tested.Refused why) × (refusalTold why ≡ a)
+of-refusal {d} {s} (is-large h) = (nowhere (TooLarge (length s)), records-large d s h, refl)
+of-refusal {d} {s} (is-wrong {path} {offset} {why} h i) =
     let c = first-counts (record { path = path; offset = offset; is = i; told = refl }) in (
-      record { why = why; spot = spotIn kind.Rpc s },
-      records-wrong s why h (c .0),
+      record { why = why; spot = spotIn (kind.Rpc d) s },
+      records-wrong d s why h (c .0),
       ap (λ (x : Spot). placed x (wireTold why)) (c .1),
     )
-of-refusal {s} (has-many {x} h i l) =
-    (nowhere (TooManyRecords (recordsIn x)), records-many s (recordsIn x) h (meant-count i) l, refl)
+of-refusal {d} {s} (has-many {x} h i l) =
+    (nowhere (TooManyRecords (recordsIn x)), records-many d s (recordsIn x) h (meant-count i) l, refl)
 
 -- ---- what decode tells, exactly
-of-gate : (s : List ℕ) (words : ℕ) (r : Tested) → Bytes s → Gate s r
-    → Decodes s words (decodedTold (onCount (words / 20) (hasControl s) r))
-of-gate s words _ b (large h) = refuses (is-large h)
-of-gate s words _ b (bad h why e) = refuses (refusal-of s _ (record { why = why; spot = spotIn kind.Rpc s }) b (bad h why e) refl)
-of-gate s words _ b (many h n e l) = refuses (refusal-of s _ (nowhere (TooManyRecords n)) b (many h n e l) refl)
-of-gate s words _ b (passes h n e l) =
-    let c = counts s n b e in
-    let w : Within s (c .rpc) = record { means = c .means; small = h; few = omega (arith, c .all) } in
+of-gate : (d : Dialect) (s : List ℕ) (words : ℕ) (r : Tested) → Bytes s → Gate d s r
+    → Decodes d s words (decodedTold (onCount (words / 20) (hasControl s) r))
+of-gate d s words _ b (large h) = refuses (is-large h)
+of-gate d s words _ b (bad h why e) =
+    refuses (refusal-of d s _ (record { why = why; spot = spotIn (kind.Rpc d) s }) b (bad h why e) refl)
+of-gate d s words _ b (many h n e l) = refuses (refusal-of d s _ (nowhere (TooManyRecords n)) b (many h n e l) refl)
+of-gate d s words _ b (passes h n e l) =
+    let c = counts d s n b e in
+    let w : Within d s (c .rpc) = record { means = c .means; small = h; few = omega (arith, c .all) } in
     either (ltb (words / 20) n)
-    (λ u. simp u (subst (λ (k : ℕ). Decodes s words (told short-room (k ∷ []))) (c .all)
+    (λ u. simp u (subst (λ (k : ℕ). Decodes d s words (told short-room (k ∷ []))) (c .all)
     (short w (omega (arith, c .all, ltb-true (words / 20) n u)))))
-    (λ u. simp u (subst (λ (k : ℕ). Decodes s words (done (k ∷ cond (hasControl s) 1 0 ∷ []))) (c .all)
-    (subst (λ (k : ℕ). Decodes s words (done (recordsIn (c .rpc) ∷ k ∷ []))) (sym (control-told (c .means)))
+    (λ u. simp u (subst (λ (k : ℕ). Decodes d s words (done (k ∷ cond (hasControl s) 1 0 ∷ []))) (c .all)
+    (subst (λ (k : ℕ). Decodes d s words (done (recordsIn (c .rpc) ∷ k ∷ []))) (sym (control-told (c .means)))
     (reads w (omega (arith, c .all, ltb-false (words / 20) n u))))))
 
-pub records-within : {s : List ℕ} {x : Rpc} → Within s x → bodyRecords s ≡ tested.Records (recordsIn x)
-records-within {s} {x} w = records-taken s (recordsIn x) (w .small) (meant-count (w .means)) (w .few)
+pub records-within : {d : Dialect} {s : List ℕ} {x : Rpc} → Within d s x
+    → bodyRecords d s ≡ tested.Records (recordsIn x)
+records-within {d} {s} {x} w = records-taken d s (recordsIn x) (w .small) (meant-count (w .means)) (w .few)
 
-told-of : {s : List ℕ} {words : ℕ} {a : Told} → Decodes s words a → decodedTold (decodeAnswer s words) ≡ a
+told-of : {d : Dialect} {s : List ℕ} {words : ℕ} {a : Told} → Decodes d s words a
+    → decodedTold (decodeAnswer d s words) ≡ a
 unfolding decodeAnswer
-told-of {s} {words} (refuses r) =
+told-of {d} {s} {words} (refuses r) =
     let g = of-refusal r in
     ap (λ (c : Tested). decodedTold (onCount (words / 20) (hasControl s) c)) (g .1) ∙ g .2
-told-of {s} {words} (short {x} w l) =
+told-of {d} {s} {words} (short {x} w l) =
     ap (λ (c : Tested). decodedTold (onCount (words / 20) (hasControl s) c)) (records-within w)
     ∙ simp (lt-ltb (words / 20) (recordsIn x) l)
-told-of {s} {words} (reads {x} w l) =
+told-of {d} {s} {words} (reads {x} w l) =
     ap (λ (c : Tested). decodedTold (onCount (words / 20) (hasControl s) c)) (records-within w)
     ∙ simp (le-ltb (words / 20) (recordsIn x) l) (ap (λ (k : ℕ). done (recordsIn x ∷ k ∷ [])) (control-told (w .means)))
 
-decodes : (s : List ℕ) (words : ℕ) → Bytes s → Decodes s words (decodedTold (decodeAnswer s words))
+decodes : (d : Dialect) (s : List ℕ) (words : ℕ) → Bytes s → Decodes d s words (decodedTold (decodeAnswer d s words))
 unfolding decodeAnswer
-decodes s words b = of-gate s words (bodyRecords s) b (gate s)
+decodes d s words b = of-gate d s words (bodyRecords d s) b (gate d s)
 
-pub decode-exactly : (s : List ℕ) (words : ℕ) (a : Told) → Bytes s → (decodedTold (decodeAnswer s words) ≡ a)
-    ↔ Decodes s words a
-decode-exactly s words a b = (λ e. subst (Decodes s words) e (decodes s words b), told-of)
+pub decode-exactly : (d : Dialect) (s : List ℕ) (words : ℕ) (a : Told) → Bytes s
+    → (decodedTold (decodeAnswer d s words) ≡ a) ↔ Decodes d s words a
+decode-exactly d s words a b = (λ e. subst (Decodes d s words) e (decodes d s words b), told-of)
 
 -- counting refuses by one of 1 to 7
 text-early : (s : List ℕ) (f : Field) (n : ℕ) (why : WireError) → textCount s f n ≡ count.Refused why
@@ -264,8 +269,9 @@ early-all =
     by-rank (λ k. (s : List ℕ) (why : WireError) → counted k s ≡ count.Refused why → refusalNumber why ≤ 7)
     (λ k ih s why h. then-early s k (fieldsOf s) why (ending s) (sym (count-along k s) ∙ h) (λ j p q z. ih j q p why z))
 
-pub counted-early : (s : List ℕ) (why : WireError) → counted kind.Rpc s ≡ count.Refused why → refusalNumber why ≤ 7
-counted-early s why h = early-all kind.Rpc s why h
+pub counted-early : (d : Dialect) (s : List ℕ) (why : WireError) → counted (kind.Rpc d) s ≡ count.Refused why
+    → refusalNumber why ≤ 7
+counted-early d s why h = early-all (kind.Rpc d) s why h
 
 -- a body's refusals are 10, 1 to 7 and 11
 pub data Gated : ℕ → Type 0 where
@@ -273,9 +279,9 @@ pub data Gated : ℕ → Type 0 where
   early-number : {n : ℕ} → 0 < n → n ≤ 7 → Gated n
   many-number : Gated too-many-records
 
-pub refusal-gated : {s : List ℕ} {a : Told} → Refusal s a → Gated (a .number)
+pub refusal-gated : {d : Dialect} {s : List ℕ} {a : Told} → Refusal d s a → Gated (a .number)
 refusal-gated (is-large h) = large-number
-refusal-gated {s} (is-wrong {path} {offset} {why} h i) = early-number (wire-range why .0) (refused-early i)
+refusal-gated {d} {s} (is-wrong {path} {offset} {why} h i) = early-number (wire-range why .0) (refused-early i)
 refusal-gated (has-many h i l) = many-number
 
 -- so 0, 12 and all above are none of them
@@ -285,9 +291,9 @@ gated-bound (early-number p q) = (p, omega arith)
 gated-bound many-number = (omega arith, omega arith)
 
 -- a body that is within capacity is not refused
-pub refusal-within : {s : List ℕ} {a : Told} {x : Rpc} → Refusal s a → Within s x → ⊥
+pub refusal-within : {d : Dialect} {s : List ℕ} {a : Told} {x : Rpc} → Refusal d s a → Within d s x → ⊥
 refusal-within (is-large h) w = omega (arith, w .small)
-refusal-within {s} (is-wrong {path} {offset} {why} h i) w =
+refusal-within {d} {s} (is-wrong {path} {offset} {why} h i) w =
     let c = first-counts (record { path = path; offset = offset; is = i; told = refl }) in
     clash (let z = meant-count (w .means) in let y = c .0 in cc)
 refusal-within {x = x} (has-many {x = y} h i l) w =
@@ -295,20 +301,20 @@ refusal-within {x = x} (has-many {x = y} h i l) w =
 
 -- ---- accepted exactly where the body means an RPC within capacity and the table has a row for each of its records:
 -- with the number of records, and 1 or 0 as the RPC has a control or not
-pub record Accepts (s : List ℕ) (words n c : ℕ) : Type 0 where
+pub record Accepts (d : Dialect) (s : List ℕ) (words n c : ℕ) : Type 0 where
   pub rpc : Rpc
-  pub within : Within s rpc
+  pub within : Within d s rpc
   pub room : recordsIn rpc ≤ words / 20
   pub count : n ≡ recordsIn rpc
   pub control : c ≡ present (rpc .control)
 
-refusal-nonzero : {s : List ℕ} {a : Told} → Refusal s a → 0 < a .number
+refusal-nonzero : {d : Dialect} {s : List ℕ} {a : Told} → Refusal d s a → 0 < a .number
 refusal-nonzero (is-large h) = omega arith
 refusal-nonzero (is-wrong {path} {offset} {why} h i) = wire-range why .0
 refusal-nonzero (has-many h i l) = omega arith
 
-accepts-of : {s : List ℕ} {words : ℕ} {a : Told} (n c : ℕ) → Decodes s words a → a ≡ done (n ∷ c ∷ [])
-    → Accepts s words n c
+accepts-of : {d : Dialect} {s : List ℕ} {words : ℕ} {a : Told} (n c : ℕ) → Decodes d s words a → a ≡ done (n ∷ c ∷ [])
+    → Accepts d s words n c
 accepts-of n c (refuses r) e = let z = refusal-nonzero r in
     absurd (omega (arith, ap (λ (t : Told). t .number) e))
 accepts-of n c (short w l) e = absurd (omega (arith, ap (λ (t : Told). t .number) e))
@@ -321,30 +327,30 @@ accepts-of n c (reads {x} w l) e =
       control = sym (ap (λ (t : Told). t .second) e);
     }
 
-pub accepted-exactly : (s : List ℕ) (words n c : ℕ) → Bytes s
-    → (decodedTold (decodeAnswer s words) ≡ done (n ∷ c ∷ [])) ↔ Accepts s words n c
-accepted-exactly s words n c b = (
-  λ e. accepts-of n c (decodes s words b) e,
+pub accepted-exactly : (d : Dialect) (s : List ℕ) (words n c : ℕ) → Bytes s
+    → (decodedTold (decodeAnswer d s words) ≡ done (n ∷ c ∷ [])) ↔ Accepts d s words n c
+accepted-exactly d s words n c b = (
+  λ e. accepts-of n c (decodes d s words b) e,
   λ x. told-of (reads (x .within) (x .room))
       ∙ ap₂ (λ (i j : ℕ). done (i ∷ j ∷ [])) (sym (x .count)) (sym (x .control)),
 )
 
 -- and 0 is told only so
-pub accepted-number : (s : List ℕ) (words : ℕ) → Bytes s → (decodedTold (decodeAnswer s words) .number ≡ 0)
-    ↔ ((x : Rpc) × (Within s x) × (recordsIn x ≤ words / 20))
-accepted-number s words b = (
-  λ e. forth (decodes s words b) e,
+pub accepted-number : (d : Dialect) (s : List ℕ) (words : ℕ) → Bytes s
+    → (decodedTold (decodeAnswer d s words) .number ≡ 0) ↔ ((x : Rpc) × (Within d s x) × (recordsIn x ≤ words / 20))
+accepted-number d s words b = (
+  λ e. forth (decodes d s words b) e,
   λ x. ap (λ (t : Told). t .number) (told-of (reads (x .1) (x .2))),
 )
   where
-    forth : {a : Told} → Decodes s words a → a .number ≡ 0 → (x : Rpc) × (Within s x) × (recordsIn x ≤ words / 20)
+    forth : {a : Told} → Decodes d s words a → a .number ≡ 0 → (x : Rpc) × (Within d s x) × (recordsIn x ≤ words / 20)
     forth (refuses r) e = let z = refusal-nonzero r in absurd (omega arith)
     forth (short w l) e = absurd (omega arith)
     forth (reads {x} w l) e = (x, w, l)
 
 -- ---- the table then says the RPC
 -- what the numbers say of the answer
-told-records : (d : Decoded) (n c : ℕ) → decodedTold d ≡ done (n ∷ c ∷ []) → (b : Bool) × (d ≡ Records n b)
+told-records : (r : Decoded) (n c : ℕ) → decodedTold r ≡ done (n ∷ c ∷ []) → (b : Bool) × (r ≡ Records n b)
     × (cond b 1 0 ≡ c)
 told-records (Records m b) n c e = (
   b,
@@ -354,54 +360,55 @@ told-records (Records m b) n c e = (
 told-records (Refused r) n c e = let z = wire-range (r .why) .0 in absurd (omega (arith, ap (λ (t : Told). t .number) e))
 told-records (Room m) n c e = absurd (omega (arith, ap (λ (t : Told). t .number) e))
 
-gate-reads : (s : List ℕ) (room : ℕ) (r : Tested) (n : ℕ) (b : Bool) → Gate s r
-    → onCount room (hasControl s) r ≡ Records n b → (counted kind.Rpc s ≡ count.Records n) × (n ≤ room)
+gate-reads : (d : Dialect) (s : List ℕ) (room : ℕ) (r : Tested) (n : ℕ) (b : Bool) → Gate d s r
+    → onCount room (hasControl s) r ≡ Records n b → (counted (kind.Rpc d) s ≡ count.Records n) × (n ≤ room)
     × (b ≡ hasControl s)
-gate-reads s room _ n b (large h) e = clash (cc)
-gate-reads s room _ n b (bad h why q) e = clash (cc)
-gate-reads s room _ n b (many h m q l) e = clash (cc)
-gate-reads s room _ n b (passes h m q l) e =
+gate-reads d s room _ n b (large h) e = clash (cc)
+gate-reads d s room _ n b (bad h why q) e = clash (cc)
+gate-reads d s room _ n b (many h m q l) e = clash (cc)
+gate-reads d s room _ n b (passes h m q l) e =
     either (ltb room m) (λ u. clash (let z = simp u at e in cc))
     (λ u. let z = simp u at e in let y : m ≡ n = cc in
     (q ∙ ap count.Records y, omega (arith, ltb-false room m u), cc))
 
-answer-reads : (s : List ℕ) (words n : ℕ) (b : Bool) → decodeAnswer s words ≡ Records n b
-    → (counted kind.Rpc s ≡ count.Records n) × (n ≤ words / 20) × (b ≡ hasControl s)
+answer-reads : (d : Dialect) (s : List ℕ) (words n : ℕ) (b : Bool) → decodeAnswer d s words ≡ Records n b
+    → (counted (kind.Rpc d) s ≡ count.Records n) × (n ≤ words / 20) × (b ≡ hasControl s)
 unfolding decodeAnswer
-answer-reads s words n b e = gate-reads s (words / 20) (bodyRecords s) n b (gate s) e
+answer-reads d s words n b e = gate-reads d s (words / 20) (bodyRecords d s) n b (gate d s) e
 
 control-read : (b : Bool) → eqb (cond b 1 0) 1 ≡ b
 control-read true = refl
 control-read false = refl
 
 -- the records that were written, read back from the table, are the RPC that the body means
-pub table-means : (s t : List ℕ) (n c : ℕ) (x : Rpc) → decodedTold (decodeAnswer s (length t)) ≡ done (n ∷ c ∷ [])
-    → IsRpc s x → readBack s (rowsIn (decodeTable s t) 0 n) (eqb c 1) ≡ x
+pub table-means : (d : Dialect) (s t : List ℕ) (n c : ℕ) (x : Rpc)
+    → decodedTold (decodeAnswer d s (length t)) ≡ done (n ∷ c ∷ []) → IsRpc d s x
+    → readBack s (rowsIn (decodeTable d s t) 0 n) (eqb c 1) ≡ x
 unfolding decodeTable
-table-means s t n c x e i =
-    let k = told-records (decodeAnswer s (length t)) n c e in
-    let g = answer-reads s (length t) n (k .0) (k .1) in
-    let l : length (rowsOf kind.Rpc 0 s) ≡ n = rows-length kind.Rpc 0 s n (g .0) ∙ omega (arith, own-rpc) in
-    let room : length (rowsOf kind.Rpc 0 s) * 20 ≤ length t = omega (arith, g .1) in
-    let rows : rowsIn (leaves s t (decodeAnswer s (length t))) 0 n ≡ rowsOf kind.Rpc 0 s =
-    ap (λ (d : Decoded). rowsIn (leaves s t d) 0 n) (k .1)
-    ∙ ap (rowsIn (sets t 0 (wordsOfAll (rowsOf kind.Rpc 0 s))) 0) (sym l)
-    ∙ table-back t (rowsOf kind.Rpc 0 s) room in
+table-means d s t n c x e i =
+    let k = told-records (decodeAnswer d s (length t)) n c e in
+    let g = answer-reads d s (length t) n (k .0) (k .1) in
+    let l : length (rowsOf (kind.Rpc d) 0 s) ≡ n = rows-length (kind.Rpc d) 0 s n (g .0) ∙ omega (arith, own-rpc d) in
+    let room : length (rowsOf (kind.Rpc d) 0 s) * 20 ≤ length t = omega (arith, g .1) in
+    let rows : rowsIn (leaves d s t (decodeAnswer d s (length t))) 0 n ≡ rowsOf (kind.Rpc d) 0 s =
+    ap (λ (r : Decoded). rowsIn (leaves d s t r) 0 n) (k .1)
+    ∙ ap (rowsIn (sets t 0 (wordsOfAll (rowsOf (kind.Rpc d) 0 s))) 0) (sym l)
+    ∙ table-back t (rowsOf (kind.Rpc d) 0 s) (all-records (kind.Rpc d) 0 s) room in
     let control : eqb c 1 ≡ hasControl s = ap (λ (j : ℕ). eqb j 1) (sym (k .2)) ∙ control-read (k .0) ∙ g .2 in
     ap₂ (readBack s) rows control ∙ read-back i
 
 -- and only those records were written: the words after them are as they were
-pub table-rest : (s t : List ℕ) (n c : ℕ) → decodedTold (decodeAnswer s (length t)) ≡ done (n ∷ c ∷ [])
-    → (length (decodeTable s t) ≡ length t) × (drop (n * 20) (decodeTable s t) ≡ drop (n * 20) t)
+pub table-rest : (d : Dialect) (s t : List ℕ) (n c : ℕ) → decodedTold (decodeAnswer d s (length t)) ≡ done (n ∷ c ∷ [])
+    → (length (decodeTable d s t) ≡ length t) × (drop (n * 20) (decodeTable d s t) ≡ drop (n * 20) t)
 unfolding decodeTable
-table-rest s t n c e =
-    let k = told-records (decodeAnswer s (length t)) n c e in
-    let g = answer-reads s (length t) n (k .0) (k .1) in
-    let ws = wordsOfAll (rowsOf kind.Rpc 0 s) in
+table-rest d s t n c e =
+    let k = told-records (decodeAnswer d s (length t)) n c e in
+    let g = answer-reads d s (length t) n (k .0) (k .1) in
+    let ws = wordsOfAll (rowsOf (kind.Rpc d) 0 s) in
     let l : length ws ≡ n * 20 =
-    all-length (rowsOf kind.Rpc 0 s) ∙ omega (arith, own-rpc, rows-length kind.Rpc 0 s n (g .0)) in
+    all-length (rowsOf (kind.Rpc d) 0 s) ∙ omega (arith, own-rpc d, rows-length (kind.Rpc d) 0 s n (g .0)) in
     let z : 0 + length ws ≡ n * 20 = omega arith in
-    let left : leaves s t (decodeAnswer s (length t)) ≡ sets t 0 ws = ap (leaves s t) (k .1) in (
+    let left : leaves d s t (decodeAnswer d s (length t)) ≡ sets t 0 ws = ap (leaves d s t) (k .1) in (
       ap length left ∙ length-sets t 0 ws,
       ap (drop (n * 20)) (left ∙ sets-eq ws t 0 (omega (arith, g .1))) ∙ drop-at ws (drop (0 + length ws) t) (n * 20) l
           ∙ ap (λ (j : ℕ). drop j t) z,
@@ -409,38 +416,39 @@ table-rest s t n c e =
 
 -- ---- refusals; that one leaves the table as it was is `refused-decode` of message
 -- 10 is given exactly to a body above 65,536 bytes, with its length
-large-gate : (s : List ℕ) (room n : ℕ) (r : Tested) → Gate s r
+large-gate : (d : Dialect) (s : List ℕ) (room n : ℕ) (r : Tested) → Gate d s r
     → decodedTold (onCount room (hasControl s) r) ≡ told too-large (n ∷ []) → (n ≡ length s) × (65536 < length s)
-large-gate s room n _ (large h) e = (sym (ap (λ (t : Told). t .first) e), h)
-large-gate s room n _ (bad h why q) e = let l = counted-early s why q in
+large-gate d s room n _ (large h) e = (sym (ap (λ (t : Told). t .first) e), h)
+large-gate d s room n _ (bad h why q) e = let l = counted-early d s why q in
     absurd (omega (arith, ap (λ (t : Told). t .number) e))
-large-gate s room n _ (many h m q l) e = absurd (omega (arith, ap (λ (t : Told). t .number) e))
-large-gate s room n _ (passes h m q l) e =
+large-gate d s room n _ (many h m q l) e = absurd (omega (arith, ap (λ (t : Told). t .number) e))
+large-gate d s room n _ (passes h m q l) e =
     either (ltb room m) (λ u. absurd (omega (arith, ap (λ (t : Told). t .number) (simp u at e))))
     (λ u. absurd (omega (arith, ap (λ (t : Told). t .number) (simp u at e))))
 
-of-large : (s : List ℕ) (words n : ℕ) → decodedTold (decodeAnswer s words) ≡ told too-large (n ∷ [])
+of-large : (d : Dialect) (s : List ℕ) (words n : ℕ) → decodedTold (decodeAnswer d s words) ≡ told too-large (n ∷ [])
     → (n ≡ length s) × (65536 < length s)
 unfolding decodeAnswer
-of-large s words n e = large-gate s (words / 20) n (bodyRecords s) (gate s) e
+of-large d s words n e = large-gate d s (words / 20) n (bodyRecords d s) (gate d s) e
 
-pub too-large-exactly : (s : List ℕ) (words n : ℕ)
-    → (decodedTold (decodeAnswer s words) ≡ told too-large (n ∷ [])) ↔ ((n ≡ length s) × (65536 < length s))
-too-large-exactly s words n = (
-  of-large s words n,
+pub too-large-exactly : (d : Dialect) (s : List ℕ) (words n : ℕ)
+    → (decodedTold (decodeAnswer d s words) ≡ told too-large (n ∷ [])) ↔ ((n ≡ length s) × (65536 < length s))
+too-large-exactly d s words n = (
+  of-large d s words n,
   λ p. told-of (refuses (is-large (p .1))) ∙ ap (λ (k : ℕ). told too-large (k ∷ [])) (sym (p .0)),
 )
 
 -- 1 to 7 are given exactly to a body of at most 65,536 bytes that means no RPC
-pub record Wrong (s : List ℕ) : Type 0 where
+pub record Wrong (d : Dialect) (s : List ℕ) : Type 0 where
   pub small : length s ≤ 65536
-  pub meaningless : (x : Rpc) → IsRpc s x → ⊥
+  pub meaningless : (x : Rpc) → IsRpc d s x → ⊥
 
-pub wrong-exactly : (s : List ℕ) (words : ℕ) → Bytes s
-    → ((0 < decodedTold (decodeAnswer s words) .number) × (decodedTold (decodeAnswer s words) .number ≤ 7)) ↔ Wrong s
-wrong-exactly s words b = (λ p. forth (decodes s words b) (p .0) (p .1), λ w. back w (decodes s words b))
+pub wrong-exactly : (d : Dialect) (s : List ℕ) (words : ℕ) → Bytes s
+    → ((0 < decodedTold (decodeAnswer d s words) .number) × (decodedTold (decodeAnswer d s words) .number ≤ 7))
+    ↔ Wrong d s
+wrong-exactly d s words b = (λ p. forth (decodes d s words b) (p .0) (p .1), λ w. back w (decodes d s words b))
   where
-    forth : {a : Told} → Decodes s words a → 0 < a .number → a .number ≤ 7 → Wrong s
+    forth : {a : Told} → Decodes d s words a → 0 < a .number → a .number ≤ 7 → Wrong d s
     forth (refuses (is-large h)) p q = absurd (omega arith)
     forth (refuses (is-wrong {path} {offset} {why} h i)) p q =
         let c = first-counts (record { path = path; offset = offset; is = i; told = refl }) in
@@ -449,7 +457,7 @@ wrong-exactly s words b = (λ p. forth (decodes s words b) (p .0) (p .1), λ w. 
     forth (short w l) p q = absurd (omega arith)
     forth (reads w l) p q = absurd (omega arith)
 
-    back : {a : Told} → Wrong s → Decodes s words a → (0 < a .number) × (a .number ≤ 7)
+    back : {a : Told} → Wrong d s → Decodes d s words a → (0 < a .number) × (a .number ≤ 7)
     back w (refuses (is-large h)) = absurd (omega (arith, w .small))
     back w (refuses (is-wrong {path} {offset} {why} h i)) = (wire-range why .0, refused-early i)
     back w (refuses (has-many {x} h i l)) = absurd (w .meaningless x i)
@@ -458,42 +466,44 @@ wrong-exactly s words b = (λ p. forth (decodes s words b) (p .0) (p .1), λ w. 
 
 -- and by this reason, at this place, exactly where its first refusal in reading order has them: the test of a body that
 -- every call makes
-place-of : (s : List ℕ) (why : WireError) (spot : Spot) (r : Tested) → Bytes s → length s ≤ 65536 → refusalNumber why ≤ 7
-    → Gate s r → r ≡ tested.Refused (record { why = why; spot = spot }) → First kind.Rpc s why spot
-place-of s why spot _ b h n (large l) e = absurd (omega arith)
-place-of s why spot _ b h n (bad l w q) e =
-    let x : _≡_ {A = Placed} (record { why = w; spot = spotIn kind.Rpc s }) (record { why = why; spot = spot }) = cc in
+place-of : (d : Dialect) (s : List ℕ) (why : WireError) (spot : Spot) (r : Tested) → Bytes s → length s ≤ 65536
+    → refusalNumber why ≤ 7 → Gate d s r → r ≡ tested.Refused (record { why = why; spot = spot })
+    → First (kind.Rpc d) s why spot
+place-of d s why spot _ b h n (large l) e = absurd (omega arith)
+place-of d s why spot _ b h n (bad l w q) e =
+    let x : _≡_ {A = Placed} (record { why = w; spot = spotIn (kind.Rpc d) s }) (record { why = why; spot = spot }) =
+    cc in
     let z : w ≡ why = ap (λ (r : Placed). r .why) x in
-    let y : spotIn kind.Rpc s ≡ spot = ap (λ (r : Placed). r .spot) x in
-    first-exactly kind.Rpc s why spot b .0 (q ∙ ap count.Refused z, y)
-place-of s why spot _ b h n (many l m q g) e =
+    let y : spotIn (kind.Rpc d) s ≡ spot = ap (λ (r : Placed). r .spot) x in
+    first-exactly (kind.Rpc d) s why spot b .0 (q ∙ ap count.Refused z, y)
+place-of d s why spot _ b h n (many l m q g) e =
     let x : nowhere (TooManyRecords m) ≡ record { why = why; spot = spot } = cc in
     let z : TooManyRecords m ≡ why = ap (λ (r : Placed). r .why) x in
     absurd (omega (arith, subst (λ (w : WireError). refusalNumber w ≤ 7) (sym z) n))
-place-of s why spot _ b h n (passes l m q g) e = clash (cc)
+place-of d s why spot _ b h n (passes l m q g) e = clash (cc)
 
-pub place-exactly : (s : List ℕ) (why : WireError) (spot : Spot) → Bytes s → length s ≤ 65536
-    → ((bodyRecords s ≡ tested.Refused (record { why = why; spot = spot })) × (refusalNumber why ≤ 7))
-    ↔ First kind.Rpc s why spot
-place-exactly s why spot b h = (
-  λ p. place-of s why spot (bodyRecords s) b h (p .1) (gate s) (p .0),
+pub place-exactly : (d : Dialect) (s : List ℕ) (why : WireError) (spot : Spot) → Bytes s → length s ≤ 65536
+    → ((bodyRecords d s ≡ tested.Refused (record { why = why; spot = spot })) × (refusalNumber why ≤ 7))
+    ↔ First (kind.Rpc d) s why spot
+place-exactly d s why spot b h = (
+  λ p. place-of d s why spot (bodyRecords d s) b h (p .1) (gate d s) (p .0),
   λ i. let c = first-counts i in (
-    records-wrong s why h (c .0) ∙ ap (λ (x : Spot). tested.Refused (record { why = why; spot = x })) (c .1),
+    records-wrong d s why h (c .0) ∙ ap (λ (x : Spot). tested.Refused (record { why = why; spot = x })) (c .1),
     refused-early (i .is),
   ),
 )
 
 -- 11 is given exactly to a body that is otherwise well formed and has more than 512 records, with the number of all of
 -- them
-pub record TooMany (s : List ℕ) (n : ℕ) : Type 0 where
+pub record TooMany (d : Dialect) (s : List ℕ) (n : ℕ) : Type 0 where
   pub rpc : Rpc
-  pub means : IsRpc s rpc
+  pub means : IsRpc d s rpc
   pub small : length s ≤ 65536
   pub all : n ≡ recordsIn rpc
   pub many : 512 < n
 
-many-of : {s : List ℕ} {words : ℕ} {a : Told} (n : ℕ) → Decodes s words a → a ≡ told too-many-records (n ∷ [])
-    → TooMany s n
+many-of : {d : Dialect} {s : List ℕ} {words : ℕ} {a : Told} (n : ℕ) → Decodes d s words a
+    → a ≡ told too-many-records (n ∷ []) → TooMany d s n
 many-of n (refuses (is-large h)) e = absurd (omega (arith, ap (λ (t : Told). t .number) e))
 many-of n (refuses (is-wrong h i)) e = let l = refused-early i in
     absurd (omega (arith, ap (λ (t : Told). t .number) e))
@@ -503,24 +513,24 @@ many-of n (refuses (has-many {x} h i l)) e =
 many-of n (short w l) e = absurd (omega (arith, ap (λ (t : Told). t .number) e))
 many-of n (reads w l) e = absurd (omega (arith, ap (λ (t : Told). t .number) e))
 
-pub too-many-exactly : (s : List ℕ) (words n : ℕ) → Bytes s
-    → (decodedTold (decodeAnswer s words) ≡ told too-many-records (n ∷ [])) ↔ TooMany s n
-too-many-exactly s words n b = (
-  λ e. many-of n (decodes s words b) e,
+pub too-many-exactly : (d : Dialect) (s : List ℕ) (words n : ℕ) → Bytes s
+    → (decodedTold (decodeAnswer d s words) ≡ told too-many-records (n ∷ [])) ↔ TooMany d s n
+too-many-exactly d s words n b = (
+  λ e. many-of n (decodes d s words b) e,
   λ t. told-of (refuses (has-many (t .small) (t .means) (omega (arith, t .all, t .many))))
       ∙ ap (λ (k : ℕ). told too-many-records (k ∷ [])) (sym (t .all)),
 )
 
 -- 12 is given exactly to a body that means an RPC within capacity, and has more records than the table has rows, with
 -- their number
-pub record TooFewRows (s : List ℕ) (words n : ℕ) : Type 0 where
+pub record TooFewRows (d : Dialect) (s : List ℕ) (words n : ℕ) : Type 0 where
   pub rpc : Rpc
-  pub within : Within s rpc
+  pub within : Within d s rpc
   pub needed : n ≡ recordsIn rpc
   pub short : words / 20 < n
 
-short-of : {s : List ℕ} {words : ℕ} {a : Told} (n : ℕ) → Decodes s words a → a ≡ told short-room (n ∷ [])
-    → TooFewRows s words n
+short-of : {d : Dialect} {s : List ℕ} {words : ℕ} {a : Told} (n : ℕ) → Decodes d s words a
+    → a ≡ told short-room (n ∷ []) → TooFewRows d s words n
 short-of n (refuses (is-large h)) e = absurd (omega (arith, ap (λ (t : Told). t .number) e))
 short-of n (refuses (is-wrong h i)) e = let l = refused-early i in
     absurd (omega (arith, ap (λ (t : Told). t .number) e))
@@ -530,10 +540,10 @@ short-of n (short {x} w l) e =
     record { rpc = x; within = w; needed = z; short = omega arith }
 short-of n (reads w l) e = absurd (omega (arith, ap (λ (t : Told). t .number) e))
 
-pub room-exactly : (s : List ℕ) (words n : ℕ) → Bytes s
-    → (decodedTold (decodeAnswer s words) ≡ told short-room (n ∷ [])) ↔ TooFewRows s words n
-room-exactly s words n b = (
-  λ e. short-of n (decodes s words b) e,
+pub room-exactly : (d : Dialect) (s : List ℕ) (words n : ℕ) → Bytes s
+    → (decodedTold (decodeAnswer d s words) ≡ told short-room (n ∷ [])) ↔ TooFewRows d s words n
+room-exactly d s words n b = (
+  λ e. short-of n (decodes d s words b) e,
   λ t. told-of (short (t .within) (omega (arith, t .needed, t .short)))
       ∙ ap (λ (k : ℕ). told short-room (k ∷ [])) (sym (t .needed)),
 )

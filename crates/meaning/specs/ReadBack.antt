@@ -13,7 +13,7 @@ use Rattle.schema.specs.declared.Number.{Number}
 use Rattle.schema.specs.declared.Number.the-variants as number
 use Rattle.message.specs.declared.Record.{Record}
 use Rattle.rpc.specs.Rpc.{SubOpts, RawMessage, ControlIHave, ControlIWant, ControlGraft, PeerInfo, ControlPrune}
-use Rattle.rpc.specs.Rpc.{ControlMessage, Rpc}
+use Rattle.rpc.specs.Rpc.{ControlIDontWant, ControlMessage, Rpc}
 use Rattle.rpc.specs.Grammar.{nonzero}
 
 -- the bytes at a place of a record that begins at `at`
@@ -38,7 +38,7 @@ pub record Gathered : Type 0 where
   pub control : ControlMessage
 
 abbrev pub emptyControl : ControlMessage
-emptyControl = record { ihave = []; iwant = []; graft = []; prune = [] }
+emptyControl = record { ihave = []; iwant = []; graft = []; prune = []; idontwant = [] }
 
 abbrev pub nothing : Gathered
 nothing = record { topics = []; ids = []; peers = []; subscriptions = []; publish = []; control = emptyControl }
@@ -118,16 +118,24 @@ gatherPeer b r g =
 
 -- a control with one entry more
 abbrev pub addIHave : ControlIHave → ControlMessage → ControlMessage
-addIHave h c = record { ihave = h ∷ c .ihave; iwant = c .iwant; graft = c .graft; prune = c .prune }
+addIHave h c =
+    record { ihave = h ∷ c .ihave; iwant = c .iwant; graft = c .graft; prune = c .prune; idontwant = c .idontwant }
 
 abbrev pub addIWant : ControlIWant → ControlMessage → ControlMessage
-addIWant w c = record { ihave = c .ihave; iwant = w ∷ c .iwant; graft = c .graft; prune = c .prune }
+addIWant w c =
+    record { ihave = c .ihave; iwant = w ∷ c .iwant; graft = c .graft; prune = c .prune; idontwant = c .idontwant }
 
 abbrev pub addGraft : ControlGraft → ControlMessage → ControlMessage
-addGraft g c = record { ihave = c .ihave; iwant = c .iwant; graft = g ∷ c .graft; prune = c .prune }
+addGraft g c =
+    record { ihave = c .ihave; iwant = c .iwant; graft = g ∷ c .graft; prune = c .prune; idontwant = c .idontwant }
 
 abbrev pub addPrune : ControlPrune → ControlMessage → ControlMessage
-addPrune p c = record { ihave = c .ihave; iwant = c .iwant; graft = c .graft; prune = p ∷ c .prune }
+addPrune p c =
+    record { ihave = c .ihave; iwant = c .iwant; graft = c .graft; prune = p ∷ c .prune; idontwant = c .idontwant }
+
+abbrev pub addIDontWant : ControlIDontWant → ControlMessage → ControlMessage
+addIDontWant d c =
+    record { ihave = c .ihave; iwant = c .iwant; graft = c .graft; prune = c .prune; idontwant = d ∷ c .idontwant }
 
 abbrev pub gatherIHave : List ℕ → Record → Gathered → Gathered
 gatherIHave b r g =
@@ -179,18 +187,30 @@ gatherPrune b r g =
           }) (g .control);
     }
 
+abbrev pub gatherIDontWant : List ℕ → Record → Gathered → Gathered
+gatherIDontWant b r g =
+    record {
+      topics = g .topics;
+      ids = [];
+      peers = g .peers;
+      subscriptions = g .subscriptions;
+      publish = g .publish;
+      control = addIDontWant (record { «message_ids» = g .ids }) (g .control);
+    }
+
 abbrev pub gatherKind : Kind → List ℕ → Record → Gathered → Gathered
-gatherKind kind.Rpc b r g = g
+gatherKind (kind.Rpc d) b r g = g
 gatherKind kind.SubOpts b r g = gatherSub b r g
 gatherKind kind.RawMessage b r g = gatherMessage b r g
 gatherKind kind.Topic b r g = gatherTopic b r g
-gatherKind kind.ControlMessage b r g = g
+gatherKind (kind.ControlMessage d) b r g = g
 gatherKind kind.ControlIHave b r g = gatherIHave b r g
 gatherKind kind.ControlIWant b r g = gatherIWant b r g
 gatherKind kind.MessageId b r g = gatherId b r g
 gatherKind kind.ControlGraft b r g = gatherGraft b r g
 gatherKind kind.ControlPrune b r g = gatherPrune b r g
 gatherKind kind.PeerInfo b r g = gatherPeer b r g
+gatherKind kind.ControlIDontWant b r g = gatherIDontWant b r g
 
 -- the records rs, before what g says of those that follow
 abbrev pub gather : List ℕ → List Record → Gathered → Gathered

@@ -23,7 +23,8 @@ use Rattle.schema.specs.declared.Role.{Role}
 use Rattle.schema.specs.declared.Role.the-variants.{Skip, Number, Text, Bytes, Unsigned, Topic, MessageId, Sub}
 use Rattle.schema.specs.Schema.{roleOf}
 use Rattle.schema.specs.TextLaws.{IsText}
-use Rattle.rpc.specs.Grammar.{IsSubOpts, IsMessage, IsIHave, IsIWant, IsGraft, IsPeerInfo, IsPrune, IsControl, IsRpc}
+use Rattle.rpc.specs.Grammar.{IsSubOpts, IsMessage, IsIHave, IsIWant, IsGraft, IsPeerInfo, IsPrune, IsIDontWant}
+use Rattle.rpc.specs.Grammar.{IsControl, IsRpc}
 
 -- bytes that mean something
 pub record Some {X : Type 0} (R : List ℕ → X → Type 0) (d : List ℕ) : Type 0 where
@@ -32,17 +33,18 @@ pub record Some {X : Type 0} (R : List ℕ → X → Type 0) (d : List ℕ) : Ty
 
 -- a message of each kind without refusal: it means one. A topic and a message id are no messages
 abbrev pub Meant : Kind → List ℕ → Type 0
-Meant kind.Rpc = Some IsRpc
+Meant (kind.Rpc d) = Some (IsRpc d)
 Meant kind.SubOpts = Some IsSubOpts
 Meant kind.RawMessage = Some IsMessage
 Meant kind.Topic = Some Body
-Meant kind.ControlMessage = Some IsControl
+Meant (kind.ControlMessage d) = Some (IsControl d)
 Meant kind.ControlIHave = Some IsIHave
 Meant kind.ControlIWant = Some IsIWant
 Meant kind.MessageId = Some Body
 Meant kind.ControlGraft = Some IsGraft
 Meant kind.ControlPrune = Some IsPrune
 Meant kind.PeerInfo = Some IsPeerInfo
+Meant kind.ControlIDontWant = Some IsIDontWant
 
 -- a length-delimited field without refusal: text is UTF-8, and a submessage means one
 abbrev pub FineAs : Role → List ℕ → Type 0

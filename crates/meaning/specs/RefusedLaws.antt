@@ -1,5 +1,5 @@
 -- A message is refused, by this reason and at this place, exactly where its first refusal in reading order has them; so
--- there is at most one. The place lies within the message, and the path is one of nine.
+-- there is at most one. The place lies within the message, and the path is one of nine, in 1.2 of ten.
 use Prim.Native.Nat.{ℕ, _+_, _-_, _*_, _^_, _≤_, _<_}
 use mathlib.Core.Path.{_≡_, refl, sym, ap, ap₂, subst, _∙_}
 use mathlib.Core.Bool.{Bool, true, false, cond}
@@ -9,6 +9,9 @@ use native.Mathlib.Omega.{arith}
 use lib.ListN.{length, take, drop, length-append, length-drop}
 use lib.Dec.{eqb}
 use borrow.Author.Tests.{eqb-true, eqb-false, eq-eqb, ne-eqb}
+use Rattle.basis.specs.declared.Edition.{Edition}
+use Rattle.basis.specs.declared.Edition.the-variants.{V11, V12}
+use Rattle.basis.specs.declared.Dialect.{Dialect}
 use Rattle.basis.specs.declared.Spot.{Spot}
 use Rattle.basis.specs.declared.Spot.the-variants.{Nowhere, At}
 use Rattle.basis.specs.Spot.{inside as enclosed, orElse, fieldsOf as numbersOf, Within}
@@ -45,7 +48,7 @@ use Rattle.schema.specs.declared.Role.{Role}
 use Rattle.schema.specs.declared.Role.the-variants.{Skip, Number, Text, Bytes, Unsigned, Topic, MessageId, Sub}
 use Rattle.schema.specs.declared.Counted.{Counted}
 use Rattle.schema.specs.declared.Counted.the-variants as count
-use Rattle.schema.specs.Schema.{rowOf, isVarint, roleOf, rank, ownOf}
+use Rattle.schema.specs.Schema.{addedIn, rowFrom, rowOf, isVarint, roleOf, rank, ownOf}
 use Rattle.schema.specs.SchemaLaws.{sub-rank}
 use Rattle.schema.specs.Kinds.{by-rank}
 use Rattle.schema.specs.Count.{plus, andThen, textCount, roleCount, countAlong, counted}
@@ -528,18 +531,19 @@ leads (text d rest l u z i never) = no-further
 leads (inside d rest l u z role i) = through role (leads i)
 leads (later rest l u x fine i) = leads i
 
--- the paths of a body: of itself, a subscription, a message, a control; of a control's ihave, iwant, graft, prune; of a
--- prune's peer
-pub data Path : List ℕ → Type 0 where
-  body : Path []
-  subscription : Path (1 ∷ [])
-  message : Path (2 ∷ [])
-  control : Path (3 ∷ [])
-  ihave : Path (3 ∷ 1 ∷ [])
-  iwant : Path (3 ∷ 2 ∷ [])
-  graft : Path (3 ∷ 3 ∷ [])
-  prune : Path (3 ∷ 4 ∷ [])
-  peer : Path (3 ∷ 4 ∷ 2 ∷ [])
+-- the paths of a body: of itself, a subscription, a message, a control; of a control's ihave, iwant, graft, prune, and
+-- in 1.2 idontwant; of a prune's peer
+pub data Path (d : Dialect) : List ℕ → Type 0 where
+  body : Path d []
+  subscription : Path d (1 ∷ [])
+  message : Path d (2 ∷ [])
+  control : Path d (3 ∷ [])
+  ihave : Path d (3 ∷ 1 ∷ [])
+  iwant : Path d (3 ∷ 2 ∷ [])
+  graft : Path d (3 ∷ 3 ∷ [])
+  prune : Path d (3 ∷ 4 ∷ [])
+  peer : Path d (3 ∷ 4 ∷ 2 ∷ [])
+  idontwant : d .edition ≡ V12 → Path d (3 ∷ 5 ∷ [])
 
 leaf : {k : Kind} {path : List ℕ} → rank k ≡ 0 → Leads k path → path ≡ []
 leaf z no-further = refl
@@ -565,11 +569,23 @@ ends-path P i k j n m path z e a l p =
     let y : path ≡ [] = leaf {k = i} z (subst (λ (c : Kind). Leads c path) (sym e) l) in
     subst P (ap₂ (λ (b : ℕ) (r : List ℕ). b ∷ r) (sym a) (sym y)) p
 
-control-leads : (P : List ℕ → Type 0) (path : List ℕ) → P [] → P (1 ∷ []) → P (2 ∷ []) → P (3 ∷ []) → P (4 ∷ [])
-    → P (4 ∷ 2 ∷ []) → Leads kind.ControlMessage path → P path
+-- what an edition adds to a control
+added-leads : (e : Edition) (P : List ℕ → Type 0) (j : Kind) (form : Form) (n : ℕ) (path : List ℕ)
+    → cond (isVarint (rowFrom 5 (addedIn e) n)) Skip (rowFrom 5 (addedIn e) n) ≡ Sub j form → Leads j path
+    → (e ≡ V12 → P (5 ∷ [])) → P (n ∷ path)
+unfolding rank
+added-leads V11 P j form n path role l p = clash (cc)
+added-leads V12 P j form n path role l p =
+    either (eqb n 5)
+    (λ e5. let h = simp e5 at role in
+    ends-path P kind.ControlIDontWant j j n 5 path refl (cc) (eqb-true n 5 e5) l (p refl))
+    (λ e5. clash (let h = simp e5 at role in cc))
+
+control-leads : (d : Dialect) (P : List ℕ → Type 0) (path : List ℕ) → P [] → P (1 ∷ []) → P (2 ∷ []) → P (3 ∷ [])
+    → P (4 ∷ []) → P (4 ∷ 2 ∷ []) → (d .edition ≡ V12 → P (5 ∷ [])) → Leads (kind.ControlMessage d) path → P path
 unfolding roleOf rank
-control-leads P _ p p1 p2 p3 p4 p5 no-further = p
-control-leads P _ p p1 p2 p3 p4 p5 (through {k = k} {j = j} {n = n} {path = path} role l) =
+control-leads d P _ p p1 p2 p3 p4 p5 p6 no-further = p
+control-leads d P _ p p1 p2 p3 p4 p5 p6 (through {k = k} {j = j} {form = form} {n = n} {path = path} role l) =
     either (eqb n 1)
     (λ e1. let h = simp e1 at role in
     ends-path P kind.ControlIHave k j n 1 path refl (cc) (eqb-true n 1 e1) l p1)
@@ -584,31 +600,33 @@ control-leads P _ p p1 p2 p3 p4 p5 (through {k = k} {j = j} {n = n} {path = path
     let z : kind.ControlPrune ≡ j = cc in
     subst (λ (a : ℕ). P (a ∷ path)) (sym (eqb-true n 4 e4))
     (prune-leads (λ r. P (4 ∷ r)) path p4 p5 (subst (λ (c : Kind). Leads c path) (sym z) l)))
-    (λ e4. clash (let h = simp (e1, e2, e3, e4) at role in cc)))))
+    (λ e4. added-leads (d .edition) P j form n path (simp (e1, e2, e3, e4) at role) l p6))))
 
-rpc-leads : (path : List ℕ) → Leads kind.Rpc path → Path path
+rpc-leads : (d : Dialect) (path : List ℕ) → Leads (kind.Rpc d) path → Path d path
 unfolding roleOf rank
-rpc-leads _ no-further = body
-rpc-leads _ (through {k = k} {j = j} {n = n} {path = path} role l) =
+rpc-leads d _ no-further = body
+rpc-leads d _ (through {k = k} {j = j} {n = n} {path = path} role l) =
     either (eqb n 1)
-    (λ e1. let h = simp e1 at role in ends-path Path kind.SubOpts k j n 1 path refl (cc) (eqb-true n 1 e1) l subscription)
+    (λ e1. let h = simp e1 at role in
+    ends-path (Path d) kind.SubOpts k j n 1 path refl (cc) (eqb-true n 1 e1) l subscription)
     (λ e1. either (eqb n 2)
     (λ e2. let h = simp (e1, e2) at role in
-    ends-path Path kind.RawMessage k j n 2 path refl (cc) (eqb-true n 2 e2) l message)
+    ends-path (Path d) kind.RawMessage k j n 2 path refl (cc) (eqb-true n 2 e2) l message)
     (λ e2. either (eqb n 3)
     (λ e3. let h = simp (e1, e2, e3) at role in
-    let z : kind.ControlMessage ≡ j = cc in
-    subst (λ (a : ℕ). Path (a ∷ path)) (sym (eqb-true n 3 e3))
-    (control-leads (λ r. Path (3 ∷ r)) path control ihave iwant graft prune peer
+    let z : kind.ControlMessage d ≡ j = cc in
+    subst (λ (a : ℕ). Path d (a ∷ path)) (sym (eqb-true n 3 e3))
+    (control-leads d (λ r. Path d (3 ∷ r)) path control ihave iwant graft prune peer idontwant
     (subst (λ (c : Kind). Leads c path) (sym z) l)))
     (λ e3. clash (let h = simp (e1, e2, e3) at role in cc))))
 
--- the path of a body's refusal is one of the nine
-pub nine-paths : {base offset : ℕ} {s path : List ℕ} {why : WireError} → RefusedAt kind.Rpc base s path offset why → Path path
-nine-paths {path = path} i = rpc-leads path (leads i)
+-- the path of a body's refusal is one of the nine, in 1.2 of the ten
+pub nine-paths : {d : Dialect} {base offset : ℕ} {s path : List ℕ} {why : WireError}
+    → RefusedAt (kind.Rpc d) base s path offset why → Path d path
+nine-paths {d} {path = path} i = rpc-leads d path (leads i)
 
 -- so it has at most three numbers, and they are told
-pub path-short : {path : List ℕ} → Path path → length path ≤ 3
+pub path-short : {d : Dialect} {path : List ℕ} → Path d path → length path ≤ 3
 path-short body = omega arith
 path-short subscription = omega arith
 path-short message = omega arith
@@ -618,8 +636,9 @@ path-short iwant = omega arith
 path-short graft = omega arith
 path-short prune = omega arith
 path-short peer = omega arith
+path-short (idontwant e) = omega arith
 
-pub path-told : {path : List ℕ} (offset : ℕ) → Path path → numbersOf (placeAt offset path) ≡ path
+pub path-told : {d : Dialect} {path : List ℕ} (offset : ℕ) → Path d path → numbersOf (placeAt offset path) ≡ path
 path-told offset body = refl
 path-told offset subscription = refl
 path-told offset message = refl
@@ -629,6 +648,7 @@ path-told offset iwant = refl
 path-told offset graft = refl
 path-told offset prune = refl
 path-told offset peer = refl
+path-told offset (idontwant e) = refl
 
 -- ---- the place lies within the body
 offset-of : (n offset : ℕ) (path : List ℕ) → Within n (placeAt offset path) → offset ≤ n
@@ -662,10 +682,10 @@ pub record Same (path path' : List ℕ) (offset offset' : ℕ) (why why' : WireE
   pub offsets : offset ≡ offset'
   pub reasons : why ≡ why'
 
-pub one-refusal : {s path path' : List ℕ} {offset offset' : ℕ} {why why' : WireError}
-    → RefusedAt kind.Rpc 0 s path offset why → RefusedAt kind.Rpc 0 s path' offset' why'
+pub one-refusal : {d : Dialect} {s path path' : List ℕ} {offset offset' : ℕ} {why why' : WireError}
+    → RefusedAt (kind.Rpc d) 0 s path offset why → RefusedAt (kind.Rpc d) 0 s path' offset' why'
     → Same path path' offset offset' why why'
-one-refusal {s} {path} {path'} {offset} {offset'} {why} {why'} i j =
+one-refusal {d} {s} {path} {path'} {offset} {offset'} {why} {why'} i j =
     let t = tells s i refl in
     let u = tells s j refl in
     let p : placeAt offset path ≡ placeAt offset' path' = sym (t .spots) ∙ u .spots in

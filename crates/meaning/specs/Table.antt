@@ -1,4 +1,5 @@
--- A record that was written to the table is read back from it as it was.
+-- A record that was written to the table is read back from it as it was. Only records stand in it: neither an RPC nor a
+-- control, whose codes do not tell the dialect.
 use Prim.Native.Nat.{ℕ, zero, suc, _+_, _-_, _*_, _/_, _≤_, _<_}
 use mathlib.Core.Path.{_≡_, refl, sym, ap, ap₂, _∙_}
 use mathlib.Core.List.{List, [], _∷_, _++_, append-assoc}
@@ -6,9 +7,17 @@ use native.Mathlib.Omega.{arith}
 use native.Mathlib.Nat.{add-zero}
 use lib.ListN.{length, drop, getD}
 use lib.Seq.{sets, sets-eq, getD-drop, getD-append-add, drop-drop, drop-at}
-use borrow.Author.Tests.{lt-leb}
+use lib.Dec.{eqb}
+use borrow.Author.Tests.{eqb-false, lt-leb}
+use Rattle.basis.specs.Cases.{either, clash}
+use Rattle.protobuf.specs.declared.Field.{Field}
+use Rattle.protobuf.specs.Walk.{Fields, end, refused, _then_, fieldsOf, between}
 use Rattle.schema.specs.declared.Kind.{Kind}
 use Rattle.schema.specs.declared.Kind.the-variants as kind
+use Rattle.schema.specs.declared.Form.{Form}
+use Rattle.schema.specs.declared.Role.{Role}
+use Rattle.schema.specs.declared.Role.the-variants.{Skip, Number as NumberRole, Text, Bytes, Unsigned, Topic, MessageId}
+use Rattle.schema.specs.declared.Role.the-variants.{Sub}
 use Rattle.schema.specs.declared.Place.{Place}
 use Rattle.schema.specs.declared.Place.the-variants as place
 use Rattle.schema.specs.declared.Number.{Number}
@@ -17,23 +26,78 @@ use Rattle.message.specs.declared.Record.{Record}
 use Rattle.message.specs.declared.RecordAt.the-variants as found
 use Rattle.message.specs.Rows.{kindCode, numberWords, placeWords, placesWords, wordsOf, wordsOfAll, kindFrom}
 use Rattle.message.specs.Rows.{recordFrom, recordAt}
+use Rattle.schema.specs.Schema.{roleOf, rank, ownOf}
+use Rattle.schema.specs.SchemaLaws.{sub-rank}
+use Rattle.schema.specs.Kinds.{by-rank}
+use Rattle.schema.specs.CountLaws.{own-one}
 use Rattle.schema.specs.Made.{numberFrom, placeFrom}
-use Rattle.message.specs.RowsLaws.{number-length, place-length, words-length, all-length}
+use Rattle.message.specs.Rows.{roleRows, rowsAlong, ownRows, rowsOf}
+use Rattle.message.specs.RowsLaws.{rows-along, number-length, place-length, words-length, all-length}
+use Rattle.rpc.specs.Grammar.{Each, none-left, _and_}
+
+-- ---- the kinds that are records: all that stand in a message
+abbrev pub IsRecord : Kind → Type 0
+IsRecord k = ownOf k ≡ 1
+
+abbrev pub AllRecords : List Record → Type 0
+AllRecords rs = Each (λ r. IsRecord (r .kind)) rs
+
+pub each-append : {A : Type 0} {P : A → Type 0} {xs ys : List A} → Each P xs → Each P ys → Each P (xs ++ ys)
+each-append none-left qs = qs
+each-append (p and ps) qs = p and each-append ps qs
+
+own-records : (k : Kind) (base : ℕ) (s : List ℕ) → AllRecords (ownRows k base s)
+unfolding ownRows
+own-records k base s =
+    either (eqb (ownOf k) 0) (λ t. simp t none-left)
+    (λ t. let o = own-one k in let z = eqb-false (ownOf k) 0 t in let e : ownOf k ≡ 1 = omega arith in
+    simp t (e and none-left))
+
+role-records : (base : ℕ) (s : List ℕ) (f : Field) (r : Role)
+    → ((j : Kind) (form : Form) (b : ℕ) (p : List ℕ) → r ≡ Sub j form → AllRecords (rowsOf j b p))
+    → AllRecords (roleRows rowsOf base s f r)
+unfolding ownOf
+role-records base s f Skip h = none-left
+role-records base s f (NumberRole figure) h = none-left
+role-records base s f (Text slot) h = none-left
+role-records base s f (Bytes slot) h = none-left
+role-records base s f (Unsigned slot) h = none-left
+role-records base s f Topic h = refl and none-left
+role-records base s f MessageId h = refl and none-left
+role-records base s f (Sub k form) h = h k form (base + f .start) (between s (f .start) (f .next)) refl
+
+along-records : (k : Kind) (base : ℕ) (s : List ℕ) (w : Fields)
+    → ((j : Kind) (b : ℕ) (p : List ℕ) → rank j < rank k → AllRecords (rowsOf j b p))
+    → AllRecords (rowsAlong rowsOf k base s w)
+along-records k base s end h = none-left
+along-records k base s (refused why) h = none-left
+along-records k base s (f then w) h =
+    each-append
+    (role-records base s f (roleOf k (f .field) (f .«wire_type»))
+    (λ j form b p q. h j b p (sub-rank k j form (f .field) (f .«wire_type») q)))
+    (along-records k base s w h)
+
+pub all-records : (k : Kind) (base : ℕ) (s : List ℕ) → AllRecords (rowsOf k base s)
+all-records =
+    by-rank (λ k. (base : ℕ) (s : List ℕ) → AllRecords (rowsOf k base s))
+    (λ k ih base s. rw (rows-along k base s)
+    (each-append (own-records k base s) (along-records k base s (fieldsOf s) (λ j b p q. ih j q b p))))
 
 -- ---- each part of a record
-pub kind-back : (k : Kind) → kindFrom (kindCode k) ≡ k
-unfolding kindFrom kindCode
-kind-back kind.Rpc = refl
-kind-back kind.SubOpts = refl
-kind-back kind.RawMessage = refl
-kind-back kind.Topic = refl
-kind-back kind.ControlMessage = refl
-kind-back kind.ControlIHave = refl
-kind-back kind.ControlIWant = refl
-kind-back kind.MessageId = refl
-kind-back kind.ControlGraft = refl
-kind-back kind.ControlPrune = refl
-kind-back kind.PeerInfo = refl
+pub kind-back : (k : Kind) → IsRecord k → kindFrom (kindCode k) ≡ k
+unfolding kindFrom kindCode ownOf
+kind-back (kind.Rpc d) o = absurd (omega arith)
+kind-back kind.SubOpts o = refl
+kind-back kind.RawMessage o = refl
+kind-back kind.Topic o = refl
+kind-back (kind.ControlMessage d) o = absurd (omega arith)
+kind-back kind.ControlIHave o = refl
+kind-back kind.ControlIWant o = refl
+kind-back kind.MessageId o = refl
+kind-back kind.ControlGraft o = refl
+kind-back kind.ControlPrune o = refl
+kind-back kind.PeerInfo o = refl
+kind-back kind.ControlIDontWant o = refl
 
 number-back : (n : Number) (rest : List ℕ)
     → numberFrom (getD (numberWords n ++ rest) 0 0) (getD (numberWords n ++ rest) 1 0) ≡ n
@@ -125,14 +189,15 @@ module _ (r : Record) (rest : List ℕ) where
       ∙ past (placeWords (r .slots .fourth)) tail₅ 3 j (place-length (r .slots .fourth))
 
 -- what stands in a table from word i on, where a record's words begin there
-record-back : (t : List ℕ) (i : ℕ) (r : Record) (rest : List ℕ) → drop i t ≡ wordsOf r ++ rest → recordFrom t i ≡ r
+record-back : (t : List ℕ) (i : ℕ) (r : Record) (rest : List ℕ) → IsRecord (r .kind) → drop i t ≡ wordsOf r ++ rest
+    → recordFrom t i ≡ r
 unfolding recordFrom mkRecord all tail₀ tail₁ tail₂ tail₃ tail₄ tail₅
-record-back t i r rest h =
+record-back t i r rest own h =
     let at : (j : ℕ) → getD t (i + j) 0 ≡ getD (all r rest) j 0 = λ j. sym (getD-drop i t j 0)
     ∙ ap (λ (l : List ℕ). getD l j 0) (h ∙ spread r rest) in
     let z : getD t i 0 ≡ getD t (i + 0) 0 = ap (λ (k : ℕ). getD t k 0) (sym (add-zero i)) in
     same-record
-    (ap kindFrom (z ∙ at 0) ∙ kind-back (r .kind))
+    (ap kindFrom (z ∙ at 0) ∙ kind-back (r .kind) own)
     (at 1)
     (at 2)
     (ap₂ numberFrom (at 3 ∙ at₀ r rest 0) (at 4 ∙ at₀ r rest 1) ∙ number-back (r .slots .number) (tail₁ r rest))
@@ -153,25 +218,25 @@ abbrev pub rowsIn : List ℕ → ℕ → ℕ → List Record
 rowsIn t row zero = []
 rowsIn t row (suc n) = recordFrom t (row * 20) ∷ rowsIn t (row + 1) n
 
-front-back : (t : List ℕ) (row : ℕ) (rs : List Record) (rest : List ℕ) → drop (row * 20) t ≡ wordsOfAll rs ++ rest
-    → rowsIn t row (length rs) ≡ rs
-front-back t row [] rest h = refl
-front-back t row (r ∷ rs) rest h =
+front-back : (t : List ℕ) (row : ℕ) (rs : List Record) (rest : List ℕ) → AllRecords rs
+    → drop (row * 20) t ≡ wordsOfAll rs ++ rest → rowsIn t row (length rs) ≡ rs
+front-back t row [] rest none-left h = refl
+front-back t row (r ∷ rs) rest (own and owns) h =
     let h1 : drop (row * 20) t ≡ wordsOf r ++ (wordsOfAll rs ++ rest) =
     h ∙ append-assoc (wordsOf r) (wordsOfAll rs) rest in
     let e : (row + 1) * 20 ≡ row * 20 + 20 = omega arith in
     let h2 : drop ((row + 1) * 20) t ≡ wordsOfAll rs ++ rest =
     ap (λ (k : ℕ). drop k t) e ∙ sym (drop-drop 20 (row * 20) t) ∙ ap (drop 20) h1
     ∙ drop-at (wordsOf r) (wordsOfAll rs ++ rest) 20 (words-length r) in
-    ap₂ (λ (x : Record) (y : List Record). x ∷ y) (record-back t (row * 20) r (wordsOfAll rs ++ rest) h1)
-    (front-back t (row + 1) rs rest h2)
+    ap₂ (λ (x : Record) (y : List Record). x ∷ y) (record-back t (row * 20) r (wordsOfAll rs ++ rest) own h1)
+    (front-back t (row + 1) rs rest owns h2)
 
 -- what was written at the front of a table is read back from it
-pub table-back : (t : List ℕ) (rs : List Record) → length rs * 20 ≤ length t
+pub table-back : (t : List ℕ) (rs : List Record) → AllRecords rs → length rs * 20 ≤ length t
     → rowsIn (sets t 0 (wordsOfAll rs)) 0 (length rs) ≡ rs
-table-back t rs h =
+table-back t rs owns h =
     let l = all-length rs in
-    front-back (sets t 0 (wordsOfAll rs)) 0 rs (drop (0 + length (wordsOfAll rs)) t)
+    front-back (sets t 0 (wordsOfAll rs)) 0 rs (drop (0 + length (wordsOfAll rs)) t) owns
     (sets-eq (wordsOfAll rs) t 0 (omega arith))
 
 -- the host's reader gives these records

@@ -272,13 +272,7 @@ fn unseen(
 }
 
 // Puts the parts that the IDONTWANTs of a second body do not name into another table; how many those are.
-fn not_declined(
-    body: &[u8],
-    from: &[usize],
-    n: usize,
-    unwanted: &[u8],
-    to: &mut [usize],
-) -> usize
+fn not_declined(body: &[u8], from: &[usize], n: usize, unwanted: &[u8], to: &mut [usize]) -> usize
     requires { ⌜ Parts (now body) (now from) n ⌝ }
     requires { ⌜ n * 2 ≤ length (now to) ⌝ }
     requires { ⌜ length (atPath (3 ∷ 5 ∷ 1 ∷ []) (now unwanted)) ≤ 512 ⌝ }

@@ -35,7 +35,13 @@ pub(crate) fn add_part(table: &mut [usize], n: usize, start: usize, end: usize) 
 }
 
 // Puts a part into a table where it is to be there; how many there are then.
-pub(crate) fn add_where(there: bool, table: &mut [usize], n: usize, start: usize, end: usize) -> usize
+pub(crate) fn add_where(
+    there: bool,
+    table: &mut [usize],
+    n: usize,
+    start: usize,
+    end: usize,
+) -> usize
     requires { ⌜ (n + 1) * 2 ≤ length (now table) ⌝ }
     ensures { λ r. ⌜ r ≡ cond there (n + 1) n ⌝ }
     ensures { λ _. ⌜ now (table .exit) ≡ cond there (sets (now (table .entry)) (n * 2) (start ∷ end ∷ [])) (now (table .entry)) ⌝ }

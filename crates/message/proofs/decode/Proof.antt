@@ -6,6 +6,7 @@ use mathlib.Core.Bool.{Bool}
 use native.Mathlib.Omega.{arith}
 use lib.ListN.{length}
 use borrow.Author.Tests.{lt-ltb, le-ltb}
+use Rattle.basis.specs.declared.Dialect.{Dialect}
 use Rattle.basis.specs.Cases.{clash}
 use Rattle.basis.specs.Unique.{Leaves}
 use Rattle.schema.specs.declared.Kind.the-variants as kind
@@ -24,32 +25,36 @@ use Rattle.message.proofs.decode.Statement.{statement}
 use Rattle.message.proofs.decode.Tie as tie
 
 -- the table goes by the answer
-decided : (s t : List ℕ) (r : Decoded) → r ≡ decodeAnswer s (length t) → Leaves (decodeAnswer s (length t)) (decodeTable s t) r (leaves s t r)
+decided : (d : Dialect) (s t : List ℕ) (r : Decoded) → r ≡ decodeAnswer d s (length t)
+    → Leaves (decodeAnswer d s (length t)) (decodeTable d s t) r (leaves d s t r)
 unfolding decodeTable
-decided s t r e = record { answer = e; lent = ap (leaves s t) e }
+decided d s t r e = record { answer = e; lent = ap (leaves d s t) e }
 
-module _ (s : List ℕ) (words : ℕ) where
-  answered : (c : Tested) → c ≡ bodyRecords s → onCount (words / 20) (hasControl s) c ≡ decodeAnswer s words
+module _ (d : Dialect) (s : List ℕ) (words : ℕ) where
+  answered : (c : Tested) → c ≡ bodyRecords d s → onCount (words / 20) (hasControl s) c ≡ decodeAnswer d s words
   unfolding decodeAnswer
   answered c e = ap (onCount (words / 20) (hasControl s)) e
 
-  module _ (n : ℕ) (e : tested.Records n ≡ bodyRecords s) where
-    short : words / 20 < n → Room n ≡ decodeAnswer s words
+  module _ (n : ℕ) (e : tested.Records n ≡ bodyRecords d s) where
+    short : words / 20 < n → Room n ≡ decodeAnswer d s words
     short r = simp (lt-ltb _ _ r) at (answered (tested.Records n) e)
 
-    fits : (c : Bool) → c ≡ hasControl s → n ≤ words / 20 → Records n c ≡ decodeAnswer s words
+    fits : (c : Bool) → c ≡ hasControl s → n ≤ words / 20 → Records n c ≡ decodeAnswer d s words
     fits c k r = ap (Records n) k ∙ simp (le-ltb _ _ r) at (answered (tested.Records n) e)
 
 -- a body that is taken is small, and the rows that were counted have room
-of-gate : (s t : List ℕ) (n : ℕ) (r : Tested) → Gate s r → tested.Records n ≡ r → n ≤ length t / 20 → (0 + length s ≤ 65536) × ((0 + length (rowsOf kind.Rpc 0 s)) * 20 ≤ length t)
+of-gate : (d : Dialect) (s t : List ℕ) (n : ℕ) (r : Tested) → Gate d s r → tested.Records n ≡ r → n ≤ length t / 20
+    → (0 + length s ≤ 65536) × ((0 + length (rowsOf (kind.Rpc d) 0 s)) * 20 ≤ length t)
 unfolding ownOf
-of-gate s t n _ (large h) e l = clash (cc)
-of-gate s t n _ (bad h why q) e l = clash (cc)
-of-gate s t n _ (many h m q x) e l = clash (cc)
-of-gate s t n _ (passes h m q x) e l = let z : n ≡ m = cc in let k = rows-length kind.Rpc 0 s m q in (omega arith, omega arith)
+of-gate d s t n _ (large h) e l = clash (cc)
+of-gate d s t n _ (bad h why q) e l = clash (cc)
+of-gate d s t n _ (many h m q x) e l = clash (cc)
+of-gate d s t n _ (passes h m q x) e l =
+    let z : n ≡ m = cc in let k = rows-length (kind.Rpc d) 0 s m q in (omega arith, omega arith)
 
-room : (s t : List ℕ) (n : ℕ) → tested.Records n ≡ bodyRecords s → n ≤ length t / 20 → (0 + length s ≤ 65536) × ((0 + length (rowsOf kind.Rpc 0 s)) * 20 ≤ length t)
-room s t n e h = of-gate s t n (bodyRecords s) (gate s) e h
+room : (d : Dialect) (s t : List ℕ) (n : ℕ) → tested.Records n ≡ bodyRecords d s → n ≤ length t / 20
+    → (0 + length s ≤ 65536) × ((0 + length (rowsOf (kind.Rpc d) 0 s)) * 20 ≤ length t)
+room d s t n e h = of-gate d s t n (bodyRecords d s) (gate d s) e h
 
 body-records-requires : tie.Need-body-records-requires
 body-records-requires c κs = search needs
@@ -64,7 +69,7 @@ returns : tie.Need-returns
 returns c =
     let a = c .before .before .before .before .before .before .before .args in
     let e = sym (c .before .before .c2 .given .1) ∙ c .before .before .before .before .body-records .ensures in
-    decided (a .body .now) (a .table .now) _ (short (a .body .now) _ _ e (c .if1 .taken))
+    decided (a .dialect) (a .body .now) (a .table .now) _ (short (a .dialect) (a .body .now) _ _ e (c .if1 .taken))
 
 has-control-requires : tie.Need-has-control-requires
 has-control-requires c κs = search needs
@@ -73,13 +78,13 @@ write-message-requires : tie.Need-write-message-requires
 write-message-requires c κs =
     let a = c .before .before .before .before .before .before .before .before .before .args in
     let e = sym (c .before .before .before .before .c2 .given .1) ∙ c .before .before .before .before .before .before .body-records .ensures in
-    room (a .body .now) (a .table .now) _ e (c .before .before .if1 .left)
+    room (a .dialect) (a .body .now) (a .table .now) _ e (c .before .before .if1 .left)
 
 returns-2 : tie.Need-returns-2
 returns-2 c =
     let a = c .before .before .before .before .before .before .args in
     let e = sym (c .before .c .given .1) ∙ c .before .before .before .body-records .ensures in
-    decided (a .body .now) (a .table .now) _ (answered (a .body .now) _ _ e)
+    decided (a .dialect) (a .body .now) (a .table .now) _ (answered (a .dialect) (a .body .now) _ _ e)
 
 same-length : tie.Need-same-length
 same-length c = search needs
@@ -88,8 +93,8 @@ returns-3 : tie.Need-returns-3
 returns-3 c =
     let a = c .before .before .before .before .before .before .before .before .before .before .before .before .args in
     let e = sym (c .before .before .before .before .before .before .before .c2 .given .1) ∙ c .before .before .before .before .before .before .before .before .before .body-records .ensures in
-    let f = fits (a .body .now) _ _ e _ (c .before .before .before .before .has-control .ensures) (c .before .before .before .before .before .if1 .left) in
-    let d = decided (a .body .now) (a .table .now) _ f in
+    let f = fits (a .dialect) (a .body .now) _ _ e _ (c .before .before .before .before .has-control .ensures) (c .before .before .before .before .before .if1 .left) in
+    let d = decided (a .dialect) (a .body .now) (a .table .now) _ f in
     record { answer = d .answer; lent = c .before .before .write-message .ensures .1 ∙ d .lent }
 
 pub decode-spec : {M : Type 1} → statement M

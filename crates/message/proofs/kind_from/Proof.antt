@@ -92,16 +92,33 @@ returns-10 c = simp (
 returns-11 : tie.Need-returns-11
 unfolding kindFrom
 returns-11 c = simp (
-  ne-eqb _ _ (c .before .before .before .before .before .before .before .before .before .if1 .left),
-  ne-eqb _ _ (c .before .before .before .before .before .before .before .before .if2 .left),
-  ne-eqb _ _ (c .before .before .before .before .before .before .before .if3 .left),
-  ne-eqb _ _ (c .before .before .before .before .before .before .if4 .left),
-  ne-eqb _ _ (c .before .before .before .before .before .if5 .left),
-  ne-eqb _ _ (c .before .before .before .before .if6 .left),
-  ne-eqb _ _ (c .before .before .before .if7 .left),
-  ne-eqb _ _ (c .before .before .if8 .left),
-  ne-eqb _ _ (c .before .if9 .left),
-  ne-eqb _ _ (c .if10 .left),
+  ne-eqb _ _ (c .before .before .before .before .before .before .before .before .before .before .if1 .left),
+  ne-eqb _ _ (c .before .before .before .before .before .before .before .before .before .if2 .left),
+  ne-eqb _ _ (c .before .before .before .before .before .before .before .before .if3 .left),
+  ne-eqb _ _ (c .before .before .before .before .before .before .before .if4 .left),
+  ne-eqb _ _ (c .before .before .before .before .before .before .if5 .left),
+  ne-eqb _ _ (c .before .before .before .before .before .if6 .left),
+  ne-eqb _ _ (c .before .before .before .before .if7 .left),
+  ne-eqb _ _ (c .before .before .before .if8 .left),
+  ne-eqb _ _ (c .before .before .if9 .left),
+  ne-eqb _ _ (c .before .if10 .left),
+  eq-eqb _ _ (c .if11 .taken),
+)
+
+returns-12 : tie.Need-returns-12
+unfolding kindFrom
+returns-12 c = simp (
+  ne-eqb _ _ (c .before .before .before .before .before .before .before .before .before .before .if1 .left),
+  ne-eqb _ _ (c .before .before .before .before .before .before .before .before .before .if2 .left),
+  ne-eqb _ _ (c .before .before .before .before .before .before .before .before .if3 .left),
+  ne-eqb _ _ (c .before .before .before .before .before .before .before .if4 .left),
+  ne-eqb _ _ (c .before .before .before .before .before .before .if5 .left),
+  ne-eqb _ _ (c .before .before .before .before .before .if6 .left),
+  ne-eqb _ _ (c .before .before .before .before .if7 .left),
+  ne-eqb _ _ (c .before .before .before .if8 .left),
+  ne-eqb _ _ (c .before .before .if9 .left),
+  ne-eqb _ _ (c .before .if10 .left),
+  ne-eqb _ _ (c .if11 .left),
 )
 
 pub kind-from-spec : {M : Type 1} → statement M
@@ -118,4 +135,5 @@ kind-from-spec =
     returns-8
     returns-9
     returns-10
-    returns-11)
+    returns-11
+    returns-12)

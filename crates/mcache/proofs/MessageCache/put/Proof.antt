@@ -58,53 +58,38 @@ part-put-part-end c =
 
 put-part-requires : tie.Need-put-part-requires
 put-part-requires c κs =
-    tested (c .before .before .before .before .before .before .before .before .before .before .before .before .before .before .before .args .self)
-    (now (c .before .before .before .before .before .before .before .before .before .before .before .before .before .before .before .args .store))
-    (sym (c .before .before .before .before .before .before .before .before .before .enum-told3 .given .1)
-    ∙ (c .before .before .before .before .before .before .before .before .before .before .before .lent .ensures)) (search needs) (search needs)
-    (search needs) (search needs) (search needs)
-    (roomy (c .before .before .before .before .before .before .before .before .before .before .before .before .before .before .before .args .self)
-    (length-unmapped ℕ (c .before .before .before .before .before .before .before .before .before .before .before .before .before .before .before
-    .args .self .«topic_count») 64 (c .before .before .before .before .before .before .before .before .before .before .before .before .before
-    .before .before .good .0 .1 .1 .1 .1 .1 .1 .1 .1 .1 .1 .1 .1 .0 .1 .0 .1))
-    (length-unmapped ℕ (c .before .before .before .before .before .before .before .before .before .before .before .before .before .before .before
-    .args .self .«topic_start») 256 (c .before .before .before .before .before .before .before .before .before .before .before .before .before
-    .before .before .good .0 .1 .1 .1 .1 .1 .1 .1 .1 .1 .1 .1 .1 .1 .0 .1 .0 .1))
-    (length-unmapped ℕ (c .before .before .before .before .before .before .before .before .before .before .before .before .before .before .before
-    .args .self .«topic_len») 256 (c .before .before .before .before .before .before .before .before .before .before .before .before .before
-    .before .before .good .0 .1 .1 .1 .1 .1 .1 .1 .1 .1 .1 .1 .1 .1 .1 .0 .1 .0 .1)))
+    let p = c .before .before .before .before .before .before .before .before .before in
+    let s = p .before .before .before .before .before .before .args .self in
+    let g = p .before .before .before .before .before .before .good .0 .1 .1 .1 .1 .1 .1 .1 in
+    tested s (now (p .before .before .before .before .before .before .args .store)) (sym (p .enum-told3 .given .1) ∙ (p .before .before .lent .ensures))
+    (length-unmapped ℕ (s .generation) 64 (g .0 .1 .0 .1)) (length-unmapped ℕ (s .window) 64 (g .1 .0 .1 .0 .1))
+    (length-unmapped ℕ (s .len) 64 (g .1 .1 .0 .1 .0 .1)) (length-unmapped ℕ (s .«id_len») 64 (g .1 .1 .1 .0 .1 .0 .1))
+    (length-unmapped ℕ (s .ids) 8192 (g .1 .1 .1 .1 .0 .1 .0 .1))
+    (roomy s (length-unmapped ℕ (s .«topic_count») 64 (g .1 .1 .1 .1 .1 .0 .1 .0 .1)) (length-unmapped ℕ (s .«topic_start») 256 (g .1 .1 .1 .1 .1 .1 .0 .1 .0 .1))
+    (length-unmapped ℕ (s .«topic_len») 256 (g .1 .1 .1 .1 .1 .1 .1 .0 .1 .0 .1)))
 
 same-length : tie.Need-same-length
 same-length c = search needs
 
 returns : tie.Need-returns
 returns c = let a = c .before .before .before .before .before .before .args in
-    put-done _ _ _ _ _ _ (puts-no (a .self) (now (a .store)) _ _ (plan-store (a .self) (now (a .store)) (now (a .body)) (a .index) (sym
+    put-done _ _ _ _ _ _ _ (puts-no (a .self) (now (a .store)) _ _ (plan-store (a .self) (now (a .store)) (a .edition) (now (a .body)) (a .index) (sym
     (c .enum-told .given .1) ∙ (c .before .before .lent .ensures))))
 
 same-length-2 : tie.Need-same-length-2
 same-length-2 c = search needs
 
 returns-2 : tie.Need-returns-2
-returns-2 c =
-    put-done _ _ _ _ _ _ (puts-no (c .before .before .before .before .before .before .args .self) (now
-    (c .before .before .before .before .before .before .args .store)) _ _
-    (plan-malformed (c .before .before .before .before .before .before .args .self) (now
-    (c .before .before .before .before .before .before .args .store))
-    (now (c .before .before .before .before .before .before .args .body)) (c .before .before .before .before .before .before .args .index)
+returns-2 c = let a = c .before .before .before .before .before .before .args in
+    put-done _ _ _ _ _ _ _ (puts-no (a .self) (now (a .store)) _ _ (plan-malformed (a .self) (now (a .store)) (a .edition) (now (a .body)) (a .index)
     (sym (c .enum-told2 .given .1) ∙ (c .before .before .lent .ensures))))
 
 same-length-3 : tie.Need-same-length-3
 same-length-3 c = search needs
 
 returns-3 : tie.Need-returns-3
-returns-3 c =
-    put-done _ _ _ _ _ _ (puts-no (c .before .before .before .before .before .before .before .before .before .before .args .self)
-    (now (c .before .before .before .before .before .before .before .before .before .before .args .store)) _ _
-    (plan-refused (c .before .before .before .before .before .before .before .before .before .before .args .self)
-    (now (c .before .before .before .before .before .before .before .before .before .before .args .store))
-    (now (c .before .before .before .before .before .before .before .before .before .before .args .body))
-    (c .before .before .before .before .before .before .before .before .before .before .args .index) _
+returns-3 c = let a = c .before .before .before .before .before .before .before .before .before .before .args in
+    put-done _ _ _ _ _ _ _ (puts-no (a .self) (now (a .store)) _ _ (plan-refused (a .self) (now (a .store)) (a .edition) (now (a .body)) (a .index) _
     (sym (c .before .before .before .before .enum-told3 .given .1) ∙ (c .before .before .before .before .before .before .lent .ensures))
     (sym (c .before .c .given .1) ∙ (c .before .before .before .accept .ensures))))
 
@@ -113,7 +98,7 @@ same-length-4 c = search needs
 
 returns-4 : tie.Need-returns-4
 returns-4 c = let a = c .before .before .before .before .before .before .before .before .before .before .before .before .before .args in
-    put-done _ _ _ _ _ _ (puts-no (a .self) (now (a .store)) _ _ (plan-missing (a .self) (now (a .store)) (now (a .body)) (a .index) _ (sym
+    put-done _ _ _ _ _ _ _ (puts-no (a .self) (now (a .store)) _ _ (plan-missing (a .self) (now (a .store)) (a .edition) (now (a .body)) (a .index) _ (sym
     (c .before .before .before .before .before .before .before .enum-told3 .given .1) ∙
     (c .before .before .before .before .before .before .before .before .before .lent .ensures)) (sym
     (c .before .before .before .before .enum-told4 .given .1) ∙ (c .before .before .before .before .before .before .accept .ensures)) (sym
@@ -123,30 +108,11 @@ same-length-5 : tie.Need-same-length-5
 same-length-5 c = search needs
 
 returns-5 : tie.Need-returns-5
-returns-5 c =
-    put-done _ _ _ _ _ _ (puts-as
-    (c .before .before .before .before .before .before .before .before .before .before .before .before .before .before .before .before .before .before
-    .args
-    .self) (now (c .before .before .before .before .before .before .before .before .before .before .before .before .before .before .before .before
-    .before
-    .before .args .store)) _ _ _ _ _
-    (plan-at (c .before .before .before .before .before .before .before .before .before .before .before .before .before .before .before .before
-    .before .before
-    .args .self) (now
-    (c .before .before .before .before .before .before .before .before .before .before .before .before .before .before .before .before .before .before
-    .args
-    .store)) (now
-    (c .before .before .before .before .before .before .before .before .before .before .before .before .before .before .before .before .before .before
-    .args
-    .body)) (c .before .before .before .before .before .before .before .before .before .before .before .before .before .before .before .before .before
-    .before
-    .args .index) _ _ (sym (c .before .before .before .before .before .before .before .before .before .before .before .before .enum-told3 .given .1)
-    ∙ (c .before .before .before .before .before .before .before .before .before .before .before .before .before .before .lent .ensures))
-    (sym (c .before .before .before .before .before .before .before .before .before .enum-told4 .given .1)
-    ∙ (c .before .before .before .before .before .before .before .before .before .before .before .accept .ensures))
-    (sym (c .before .before .before .before .before .before .m2 .given .1)
-    ∙ (c .before .before .before .before .before .before .before .before .message-at .ensures)))
-    (c .before .before .put-part .ensures))
+returns-5 c = let p = c .before .before .before .before .before .before in let a = p .before .before .before .before .before .before .before .before .before .before .before .before .args in
+    put-done _ _ _ _ _ _ _ (puts-as (a .self) (now (a .store)) _ _ _ _ _
+    (plan-at (a .self) (now (a .store)) (a .edition) (now (a .body)) (a .index) _ _ (sym (p .before .before .before .before .before .before .enum-told3 .given .1)
+    ∙ (p .before .before .before .before .before .before .before .before .lent .ensures)) (sym (p .before .before .before .enum-told4 .given .1) ∙ (p .before .before .before .before .before .accept .ensures))
+    (sym (p .m2 .given .1) ∙ (p .before .before .message-at .ensures))) (c .before .before .put-part .ensures))
 
 pub put-spec : {M : Type 1} → statement M
 put-spec =
