@@ -20,7 +20,7 @@ use Rattle.rpc.specs.Rpc.{SubOpts, RawMessage, ControlIHave, ControlIWant, Cont
 use Rattle.rpc.specs.Rpc.{ControlIDontWant, ControlMessage, Rpc}
 use Rattle.rpc.specs.Grammar.{numbersIn, bytesIn, last, nonzero, IsSubOpts, is-sub-opts, IsMessage, is-message, IsIHave}
 use Rattle.rpc.specs.Grammar.{is-ihave, IsIWant, is-iwant, IsGraft, is-graft, IsPeerInfo, is-peer-info, IsPrune}
-use Rattle.rpc.specs.Grammar.{is-prune, IsIDontWant, is-idontwant, idontwantsIn, Pairs, no-pairs, _paired_}
+use Rattle.rpc.specs.Grammar.{is-prune, IsIDontWant, is-idontwant, idontwantsIn, Pairs, no-pairs}
 use Rattle.rpc.specs.Grammar.{IsControl, is-control, join, joinTo, joined, IsRpc, is-rpc}
 use Rattle.rpc.specs.Encode.{optional, repeated, flag, encodeSubOpts, encodeIHave, encodeIWant, encodeGraft}
 use Rattle.rpc.specs.Encode.{encodePeerInfo, encodePrune, encodeIDontWant, encodeControl, encodeRpc}

@@ -176,7 +176,7 @@ canon-idontwant _ _ (is-idontwant {s = s} {es = es} g) =
 
 -- ---- a control's entries
 -- those of the fields that an edition adds
-addedPart : Edition → List ℕ → List ℕ
+unfoldable pub addedPart : Edition → List ℕ → List ℕ
 addedPart V11 p = []
 addedPart V12 p = heldPart canon 5 p (held.Anew kind.ControlIDontWant)
 
@@ -224,7 +224,7 @@ each-none n s end = refl
 each-none n s (refused why) = refl
 each-none n s (f then w) = either (isBytes n f) (λ t. simp t (each-none n s w)) (λ t. simp t (each-none n s w))
 
-added-order : (e : Edition) (s : List ℕ) (part : ℕ → List ℕ)
+pub added-order : (e : Edition) (s : List ℕ) (part : ℕ → List ℕ)
     → part 5 ≡ eachOf (λ p. heldPart canon 5 p (heldOf (rowFrom 5 (addedIn e) 5))) 3 s
     → inOrder part 5 (length (addedIn e)) ≡ eachOf (addedPart e) 3 s
 unfolding addedPart

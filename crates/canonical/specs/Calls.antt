@@ -14,6 +14,7 @@ use native.Mathlib.Nat.{zero-add}
 use lib.ListN.{length, drop}
 use lib.Dec.{ltb, leb, eqb}
 use borrow.Author.Tests.{leb-true, leb-false, le-leb, lt-leb}
+use Rattle.basis.specs.declared.Dialect.{Dialect}
 use Rattle.basis.specs.Cases.{either}
 use Rattle.basis.specs.Bytes.{Bytes}
 use Rattle.basis.specs.Lists.{answer-fits, answer-short}
@@ -67,9 +68,9 @@ pub data Writes (xs out : List ℕ) : Told → List ℕ → Type 0 where
 
 -- a call that is given a body: the body is refused, and nothing changes; or it means an RPC within capacity, and the
 -- rule R says the rest
-pub data Given (s out : List ℕ) (R : Rpc → Told → List ℕ → Type 0) : Told → List ℕ → Type 0 where
-  refuses : {a : Told} → Refusal s a → Given s out R a out
-  takes : {x : Rpc} {a : Told} {left : List ℕ} → Within s x → R x a left → Given s out R a left
+pub data Given (d : Dialect) (s out : List ℕ) (R : Rpc → Told → List ℕ → Type 0) : Told → List ℕ → Type 0 where
+  refuses : {a : Told} → Refusal d s a → Given d s out R a out
+  takes : {x : Rpc} {a : Told} {left : List ℕ} → Within d s x → R x a left → Given d s out R a left
 
 -- of message i of these: 20, how many there are, and nothing changes; or the rule R says the rest
 pub data OfMessage (i : ℕ) (ms : List RawMessage) (out : List ℕ) (R : RawMessage → Told → List ℕ → Type 0)
@@ -85,16 +86,16 @@ pub data WritesId (pre out : List ℕ) : Id → Told → List ℕ → Type 0 whe
   writes-id : {bs : List ℕ} {a : Told} {left : List ℕ} → Writes (pre ++ bs) out a left → WritesId pre out (id bs) a left
 
 -- encode
-abbrev pub Encodes : List ℕ → List ℕ → Told → List ℕ → Type 0
-Encodes s out = Given s out (λ x. Writes (encodeRpc x) out)
+abbrev pub Encodes : Dialect → List ℕ → List ℕ → Told → List ℕ → Type 0
+Encodes d s out = Given d s out (λ x. Writes (encodeRpc x) out)
 
 -- sign_bytes, of message i
-abbrev pub Signs : List ℕ → ℕ → List ℕ → Told → List ℕ → Type 0
-Signs s i out = Given s out (λ x. OfMessage i (x .publish) out (λ m. Writes (signBytes m) out))
+abbrev pub Signs : Dialect → List ℕ → ℕ → List ℕ → Told → List ℕ → Type 0
+Signs d s i out = Given d s out (λ x. OfMessage i (x .publish) out (λ m. Writes (signBytes m) out))
 
 -- message_id and seen_message_id, of message i, with what stands before the id
-abbrev pub Identifies : List ℕ → List ℕ → ℕ → List ℕ → Told → List ℕ → Type 0
-Identifies pre s i out = Given s out (λ x. OfMessage i (x .publish) out (λ m. WritesId pre out (messageId m)))
+abbrev pub Identifies : List ℕ → Dialect → List ℕ → ℕ → List ℕ → Told → List ℕ → Type 0
+Identifies pre d s i out = Given d s out (λ x. OfMessage i (x .publish) out (λ m. WritesId pre out (messageId m)))
 
 -- ---- a writer
 module _ (tell : Written → Told) (tell-bytes : (n : ℕ) → tell (wrote.Bytes n) ≡ done (n ∷ []))
@@ -113,55 +114,56 @@ module _ (tell : Written → Told) (tell-bytes : (n : ℕ) → tell (wrote.Bytes
   writes-only (short h) = (ap tell (answer-short xs out h) ∙ tell-room (length xs), simp (lt-leb _ _ h))
 
 -- ---- a call that is given a body, by what it tells and leaves for each outcome of the one test
-module _ (s out : List ℕ) (b : Bytes s) (R : Rpc → Told → List ℕ → Type 0) (tell : Checked → Told)
+module _ (d : Dialect) (s out : List ℕ) (b : Bytes s) (R : Rpc → Told → List ℕ → Type 0) (tell : Checked → Told)
     (left : Checked → List ℕ) (tell-wrong : (why : Placed) → tell (Wrong why) ≡ refusalTold why)
     (left-wrong : (why : Placed) → left (Wrong why) ≡ out)
-    (fine : (x : Rpc) → Within s x → R x (tell Fine) (left Fine)) where
-  given : (c : Checked) → acceptOf s ≡ c → Given s out R (tell c) (left c)
+    (fine : (x : Rpc) → Within d s x → R x (tell Fine) (left Fine)) where
+  given : (c : Checked) → acceptOf d s ≡ c → Given d s out R (tell c) (left c)
   given (Wrong why) e =
-      subst (λ (a : Told). Given s out R a (left (Wrong why))) (sym (tell-wrong why))
-      (subst (λ (l : List ℕ). Given s out R (refusalTold why) l) (sym (left-wrong why))
-      (refuses (refused-exactly s (refusalTold why) b .0 (why, e, refl))))
-  given Fine e = let w = taken-exactly s b .0 e in takes (w .1) (fine (w .0) (w .1))
+      subst (λ (a : Told). Given d s out R a (left (Wrong why))) (sym (tell-wrong why))
+      (subst (λ (l : List ℕ). Given d s out R (refusalTold why) l) (sym (left-wrong why))
+      (refuses (refused-exactly d s (refusalTold why) b .0 (why, e, refl))))
+  given Fine e = let w = taken-exactly d s b .0 e in takes (w .1) (fine (w .0) (w .1))
 
   -- it is 0, 12 or more exactly where the body means an RPC within capacity
   given-takes : ((x : Rpc) (a : Told) (l : List ℕ) → R x a l → Gated (a .number) → ⊥)
-      → (Gated (tell (acceptOf s) .number) → ⊥) ↔ ((x : Rpc) × Within s x)
-  given-takes other = (λ h. forth h (given (acceptOf s) refl), λ w g. back (w .1) g (given (acceptOf s) refl))
+      → (Gated (tell (acceptOf d s) .number) → ⊥) ↔ ((x : Rpc) × Within d s x)
+  given-takes other = (λ h. forth h (given (acceptOf d s) refl), λ w g. back (w .1) g (given (acceptOf d s) refl))
     where
-      forth : {a : Told} {l : List ℕ} → (Gated (a .number) → ⊥) → Given s out R a l → (x : Rpc) × Within s x
+      forth : {a : Told} {l : List ℕ} → (Gated (a .number) → ⊥) → Given d s out R a l → (x : Rpc) × Within d s x
       forth h (refuses r) = absurd (h (refusal-gated r))
       forth h (takes {x} w r) = (x, w)
 
-      back : {x : Rpc} {a : Told} {l : List ℕ} → Within s x → Gated (a .number) → Given s out R a l → ⊥
+      back : {x : Rpc} {a : Told} {l : List ℕ} → Within d s x → Gated (a .number) → Given d s out R a l → ⊥
       back w g (refuses r) = refusal-within r w
       back {a = a} {l = l} w g (takes {x} v r) = other x a l r g
 
-  given-exactly : ((x : Rpc) (a : Told) (l : List ℕ) → Within s x → R x a l → (tell Fine ≡ a) × (left Fine ≡ l))
-      → (a : Told) (l : List ℕ) → ((tell (acceptOf s) ≡ a) × (left (acceptOf s) ≡ l)) ↔ Given s out R a l
+  given-exactly : ((x : Rpc) (a : Told) (l : List ℕ) → Within d s x → R x a l → (tell Fine ≡ a) × (left Fine ≡ l))
+      → (a : Told) (l : List ℕ) → ((tell (acceptOf d s) ≡ a) × (left (acceptOf d s) ≡ l)) ↔ Given d s out R a l
   given-exactly only a l = (
-    λ p. subst (λ (z : Told). Given s out R z l) (p .0)
-        (subst (λ (z : List ℕ). Given s out R (tell (acceptOf s)) z) (p .1) (given (acceptOf s) refl)),
+    λ p. subst (λ (z : Told). Given d s out R z l) (p .0)
+        (subst (λ (z : List ℕ). Given d s out R (tell (acceptOf d s)) z) (p .1) (given (acceptOf d s) refl)),
     back,
   )
     where
-      back : {a : Told} {l : List ℕ} → Given s out R a l → (tell (acceptOf s) ≡ a) × (left (acceptOf s) ≡ l)
+      back : {a : Told} {l : List ℕ} → Given d s out R a l → (tell (acceptOf d s) ≡ a) × (left (acceptOf d s) ≡ l)
       back {a} (refuses r) =
-          let g = refused-exactly s a b .1 r in
+          let g = refused-exactly d s a b .1 r in
           (ap tell (g .1) ∙ tell-wrong (g .0) ∙ g .2, ap left (g .1) ∙ left-wrong (g .0))
       back {a} {l} (takes {x} w r) = let f = only x a l w r in (ap tell (taken w) ∙ f .0, ap left (taken w) ∙ f .1)
 
 -- ---- encode
-encode-fine : {s : List ℕ} {x : Rpc} (out : List ℕ) → Within s x
-    → Writes (encodeRpc x) out (encodedTold (ofWritten (answer (canonBody s) out))) (written (canonBody s) out)
-encode-fine {s} {x} out w =
+encode-fine : {d : Dialect} {s : List ℕ} {x : Rpc} (out : List ℕ) → Within d s x
+    → Writes (encodeRpc x) out (encodedTold (ofWritten (answer (canonBody d s) out))) (written (canonBody d s) out)
+encode-fine {d} {s} {x} out w =
     subst (λ (bs : List ℕ). Writes (encodeRpc x) out (encodedTold (ofWritten (answer bs out))) (written bs out))
     (sym (canon-written (w .means)))
     (writes (λ z. encodedTold (ofWritten z)) (λ n. refl) (λ n. refl) (encodeRpc x) out)
 
-encode-only : {s : List ℕ} {x : Rpc} {a : Told} {l : List ℕ} (out : List ℕ) → Within s x → Writes (encodeRpc x) out a l
-    → (encodedTold (ofWritten (answer (canonBody s) out)) ≡ a) × (written (canonBody s) out ≡ l)
-encode-only {s} {x} {a} {l} out w r =
+encode-only : {d : Dialect} {s : List ℕ} {x : Rpc} {a : Told} {l : List ℕ} (out : List ℕ) → Within d s x
+    → Writes (encodeRpc x) out a l
+    → (encodedTold (ofWritten (answer (canonBody d s) out)) ≡ a) × (written (canonBody d s) out ≡ l)
+encode-only {d} {s} {x} {a} {l} out w r =
     subst (λ (bs : List ℕ). (encodedTold (ofWritten (answer bs out)) ≡ a) × (written bs out ≡ l))
     (sym (canon-written (w .means)))
     (writes-only (λ z. encodedTold (ofWritten z)) (λ n. refl) (λ n. refl) (encodeRpc x) out r)
@@ -171,39 +173,40 @@ writes-other (fits h) g = let z = gated-bound g in omega (arith, z .0)
 writes-other (short h) g = let z = gated-bound g in omega (arith, z .1)
 
 -- encode tells a and leaves l exactly where the scope has it do so
-pub encode-exactly : (s out : List ℕ) (a : Told) (l : List ℕ) → Bytes s
-    → ((encodedTold (encodeAnswer s out) ≡ a) × (encodeLeft s out ≡ l)) ↔ Encodes s out a l
+pub encode-exactly : (d : Dialect) (s out : List ℕ) (a : Told) (l : List ℕ) → Bytes s
+    → ((encodedTold (encodeAnswer d s out) ≡ a) × (encodeLeft d s out ≡ l)) ↔ Encodes d s out a l
 unfolding encodeAnswer encodeLeft
-encode-exactly s out a l b =
-    given-exactly s out b (λ x. Writes (encodeRpc x) out) (λ c. encodedTold (encodeChecked s out c))
-    (encodedChecked s out) (λ why. refl) (λ why. refl) (λ x. encode-fine out) (λ x z k. encode-only out) a l
+encode-exactly d s out a l b =
+    given-exactly d s out b (λ x. Writes (encodeRpc x) out) (λ c. encodedTold (encodeChecked d s out c))
+    (encodedChecked d s out) (λ why. refl) (λ why. refl) (λ x. encode-fine out) (λ x z k. encode-only out) a l
 
 -- it tells none of 10, 1 to 7 and 11 exactly where the body means an RPC within capacity
-pub encode-takes : (s out : List ℕ) → Bytes s → (Gated (encodedTold (encodeAnswer s out) .number) → ⊥)
-    ↔ ((x : Rpc) × Within s x)
+pub encode-takes : (d : Dialect) (s out : List ℕ) → Bytes s → (Gated (encodedTold (encodeAnswer d s out) .number) → ⊥)
+    ↔ ((x : Rpc) × Within d s x)
 unfolding encodeAnswer
-encode-takes s out b =
-    given-takes s out b (λ x. Writes (encodeRpc x) out) (λ c. encodedTold (encodeChecked s out c))
-    (encodedChecked s out) (λ why. refl) (λ why. refl) (λ x. encode-fine out)
+encode-takes d s out b =
+    given-takes d s out b (λ x. Writes (encodeRpc x) out) (λ c. encodedTold (encodeChecked d s out c))
+    (encodedChecked d s out) (λ why. refl) (λ why. refl) (λ x. encode-fine out)
     (λ x z k. writes-other)
 
 -- ---- the message at an index
 -- where message i of the RPC stands in the body
-pub found-in : {s : List ℕ} {x : Rpc} {m : RawMessage} (i : ℕ) (r : MessageAt) → IsRpc s x → Nth i (x .publish) m
-    → messageAt s i ≡ r → (a : ℕ) × (e : ℕ) × (messageAt s i ≡ At a e) × (IsMessage (between s a e) m)
-found-in {s} i (At a e) g n q =
+pub found-in : {d : Dialect} {s : List ℕ} {x : Rpc} {m : RawMessage} (i : ℕ) (r : MessageAt) → IsRpc d s x
+    → Nth i (x .publish) m → messageAt s i ≡ r
+    → (a : ℕ) × (e : ℕ) × (messageAt s i ≡ At a e) × (IsMessage (between s a e) m)
+found-in {s = s} i (At a e) g n q =
     let f = message-found i a e g q in
     (a, e, q, subst (λ (y : RawMessage). IsMessage (between s a e) y) (nth-same (f .1) n) (f .2))
 found-in i (Count k) g n q = let l = message-missing i k g q in let b = nth-bound n in absurd (omega arith)
 
-pub none-in : {s : List ℕ} {x : Rpc} (i : ℕ) (r : MessageAt) → IsRpc s x → length (x .publish) ≤ i → messageAt s i ≡ r
-    → messageAt s i ≡ Count (length (x .publish))
+pub none-in : {d : Dialect} {s : List ℕ} {x : Rpc} (i : ℕ) (r : MessageAt) → IsRpc d s x
+    → length (x .publish) ≤ i → messageAt s i ≡ r → messageAt s i ≡ Count (length (x .publish))
 none-in i (At a e) g l q = let f = message-found i a e g q in let b = nth-bound (f .1) in absurd (omega arith)
 none-in i (Count k) g l q = let m = message-missing i k g q in q ∙ ap Count (m .0)
 
 -- by what is told and left for each outcome of the search for message i
-module _ {s : List ℕ} {x : Rpc} (w : Within s x) (i : ℕ) (out : List ℕ) (R : RawMessage → Told → List ℕ → Type 0)
-    (tell : MessageAt → Told) (left : MessageAt → List ℕ)
+module _ {d : Dialect} {s : List ℕ} {x : Rpc} (w : Within d s x) (i : ℕ) (out : List ℕ)
+    (R : RawMessage → Told → List ℕ → Type 0) (tell : MessageAt → Told) (left : MessageAt → List ℕ)
     (tell-none : (n : ℕ) → tell (Count n) ≡ told no-message (n ∷ [])) (left-none : (n : ℕ) → left (Count n) ≡ out) where
   of-message : ((a e : ℕ) (m : RawMessage) → IsMessage (between s a e) m → R m (tell (At a e)) (left (At a e)))
       → (r : MessageAt) → messageAt s i ≡ r → OfMessage i (x .publish) out R (tell r) (left r)
@@ -227,7 +230,7 @@ module _ {s : List ℕ} {x : Rpc} (w : Within s x) (i : ℕ) (out : List ℕ) (R
       (ap tell (f .2) ∙ g .0, ap left (f .2) ∙ g .1)
 
 -- ---- sign_bytes
-module _ {s : List ℕ} {x : Rpc} (i : ℕ) (out : List ℕ) (w : Within s x) where
+module _ {d : Dialect} {s : List ℕ} {x : Rpc} (i : ℕ) (out : List ℕ) (w : Within d s x) where
   sign-fine : OfMessage i (x .publish) out (λ m. Writes (signBytes m) out) (messageTold (signAt s out (messageAt s i)))
       (signedAt s out (messageAt s i))
   sign-fine =
@@ -253,19 +256,19 @@ of-message-other other (no-such h) g = let z = gated-bound g in omega (arith, z 
 of-message-other {a = a} {l = l} other (such {m} n r) g = other m a l r g
 
 -- sign_bytes tells a and leaves l exactly where the scope has it do so
-pub sign-exactly : (s : List ℕ) (i : ℕ) (out : List ℕ) (a : Told) (l : List ℕ) → Bytes s
-    → ((messageTold (signAnswer s i out) ≡ a) × (signLeft s i out ≡ l)) ↔ Signs s i out a l
+pub sign-exactly : (d : Dialect) (s : List ℕ) (i : ℕ) (out : List ℕ) (a : Told) (l : List ℕ) → Bytes s
+    → ((messageTold (signAnswer d s i out) ≡ a) × (signLeft d s i out ≡ l)) ↔ Signs d s i out a l
 unfolding signAnswer signLeft
-sign-exactly s i out a l b =
-    given-exactly s out b (λ x. OfMessage i (x .publish) out (λ m. Writes (signBytes m) out))
+sign-exactly d s i out a l b =
+    given-exactly d s out b (λ x. OfMessage i (x .publish) out (λ m. Writes (signBytes m) out))
     (λ c. messageTold (signChecked s i out c)) (signedChecked s i out) (λ why. refl) (λ why. refl)
     (λ x. sign-fine i out) (λ x z k w q. sign-only i out w q) a l
 
-pub sign-takes : (s : List ℕ) (i : ℕ) (out : List ℕ) → Bytes s
-    → (Gated (messageTold (signAnswer s i out) .number) → ⊥) ↔ ((x : Rpc) × Within s x)
+pub sign-takes : (d : Dialect) (s : List ℕ) (i : ℕ) (out : List ℕ) → Bytes s
+    → (Gated (messageTold (signAnswer d s i out) .number) → ⊥) ↔ ((x : Rpc) × Within d s x)
 unfolding signAnswer
-sign-takes s i out b =
-    given-takes s out b (λ x. OfMessage i (x .publish) out (λ m. Writes (signBytes m) out))
+sign-takes d s i out b =
+    given-takes d s out b (λ x. OfMessage i (x .publish) out (λ m. Writes (signBytes m) out))
     (λ c. messageTold (signChecked s i out c)) (signedChecked s i out) (λ why. refl) (λ why. refl)
     (λ x. sign-fine i out) (λ x z k. of-message-other (λ m y j. writes-other))
 
@@ -330,13 +333,13 @@ pub id-named : {p : List ℕ} {m : RawMessage} (a e b f : ℕ) → IsMessage p m
     → messageId m ≡ id (between p a e ++ between p b f)
 id-named {p} a e b f i q = sym (id-same i) ∙ ap (toId p) q
 
-module _ {s : List ℕ} {x : Rpc} (pre : List ℕ) (i : ℕ) (out : List ℕ) (w : Within s x) where
+module _ {d : Dialect} {s : List ℕ} {x : Rpc} (pre : List ℕ) (i : ℕ) (out : List ℕ) (w : Within d s x) where
   id-fine : OfMessage i (x .publish) out (λ m. WritesId pre out (messageId m))
       (messageTold (answerAt pre s out (messageAt s i))) (leftAt pre s out (messageAt s i))
   id-fine =
       of-message w i out (λ m. WritesId pre out (messageId m)) (λ r. messageTold (answerAt pre s out r))
       (leftAt pre s out) (λ n. refl) (λ n. refl)
-      (λ a e m g. subst (λ (d : Id). WritesId pre out d
+      (λ a e m g. subst (λ (n : Id). WritesId pre out n
       (messageTold (answerId pre (between s a e) out (idParts (between s a e))))
       (leftId pre (between s a e) out (idParts (between s a e)))) (id-same g)
       (id-gives pre (between s a e) out (idParts (between s a e)))) (messageAt s i) refl
@@ -347,27 +350,27 @@ module _ {s : List ℕ} {x : Rpc} (pre : List ℕ) (i : ℕ) (out : List ℕ) (w
       of-message-only w i out (λ m. WritesId pre out (messageId m)) (λ r. messageTold (answerAt pre s out r))
       (leftAt pre s out) (λ n. refl) (λ n. refl)
       (λ a e m g r. id-only pre (between s a e) out (idParts (between s a e))
-      (subst (λ (d : Id). WritesId pre out d t l) (sym (id-same g)) r))
+      (subst (λ (n : Id). WritesId pre out n t l) (sym (id-same g)) r))
 
-id-other : {pre out : List ℕ} {d : Id} {a : Told} {l : List ℕ} → WritesId pre out d a l → Gated (a .number) → ⊥
+id-other : {pre out : List ℕ} {n : Id} {a : Told} {l : List ℕ} → WritesId pre out n a l → Gated (a .number) → ⊥
 id-other from-missing g = let z = gated-bound g in omega (arith, z .1)
 id-other from-invalid g = let z = gated-bound g in omega (arith, z .1)
 id-other seqno-invalid g = let z = gated-bound g in omega (arith, z .1)
 id-other (writes-id r) g = writes-other r g
 
 -- message_id and seen_message_id tell a and leave l exactly where the scope has them do so
-pub id-exactly : (pre s : List ℕ) (i : ℕ) (out : List ℕ) (a : Told) (l : List ℕ) → Bytes s
-    → ((messageTold (idAnswer pre s i out) ≡ a) × (idLeft pre s i out ≡ l)) ↔ Identifies pre s i out a l
+pub id-exactly : (pre : List ℕ) (d : Dialect) (s : List ℕ) (i : ℕ) (out : List ℕ) (a : Told) (l : List ℕ) → Bytes s
+    → ((messageTold (idAnswer pre d s i out) ≡ a) × (idLeft pre d s i out ≡ l)) ↔ Identifies pre d s i out a l
 unfolding idAnswer idLeft
-id-exactly pre s i out a l b =
-    given-exactly s out b (λ x. OfMessage i (x .publish) out (λ m. WritesId pre out (messageId m)))
+id-exactly pre d s i out a l b =
+    given-exactly d s out b (λ x. OfMessage i (x .publish) out (λ m. WritesId pre out (messageId m)))
     (λ c. messageTold (answerChecked pre s i out c)) (leftChecked pre s i out) (λ why. refl) (λ why. refl)
     (λ x. id-fine pre i out) (λ x z k w q. id-told pre i out w q) a l
 
-pub id-takes : (pre s : List ℕ) (i : ℕ) (out : List ℕ) → Bytes s
-    → (Gated (messageTold (idAnswer pre s i out) .number) → ⊥) ↔ ((x : Rpc) × Within s x)
+pub id-takes : (pre : List ℕ) (d : Dialect) (s : List ℕ) (i : ℕ) (out : List ℕ) → Bytes s
+    → (Gated (messageTold (idAnswer pre d s i out) .number) → ⊥) ↔ ((x : Rpc) × Within d s x)
 unfolding idAnswer
-id-takes pre s i out b =
-    given-takes s out b (λ x. OfMessage i (x .publish) out (λ m. WritesId pre out (messageId m)))
+id-takes pre d s i out b =
+    given-takes d s out b (λ x. OfMessage i (x .publish) out (λ m. WritesId pre out (messageId m)))
     (λ c. messageTold (answerChecked pre s i out c)) (leftChecked pre s i out) (λ why. refl) (λ why. refl)
     (λ x. id-fine pre i out) (λ x z k. of-message-other (λ m y j. id-other))

@@ -8,6 +8,9 @@ use native.Mathlib.Omega.{arith}
 use lib.ListN.{length, length-append}
 use lib.Dec.{eqb}
 use borrow.Author.Tests.{eq-eqb}
+use Rattle.basis.specs.declared.Edition.{Edition}
+use Rattle.basis.specs.declared.Edition.the-variants.{V11, V12}
+use Rattle.basis.specs.declared.Dialect.{Dialect}
 use Rattle.peer_id.specs.Uvarint.{uvarint}
 use Rattle.utf8.specs.Grammar.{Utf8}
 use Rattle.protobuf.specs.Grammar.{Payload, number, eight, bytes, four, Entry, Value, varint, i64, len-prefix, i32}
@@ -16,15 +19,16 @@ use Rattle.protobuf.specs.Encode.{tag, varintField, bytesField}
 use Rattle.protobuf.specs.EncodeLaws.{bytes-field-length, field-holds}
 use Rattle.meaning.specs.Back.{mkPrune, same-prune}
 use Rattle.rpc.specs.Rpc.{SubOpts, RawMessage, ControlIHave, ControlIWant, ControlGraft, PeerInfo, ControlPrune}
-use Rattle.rpc.specs.Rpc.{ControlMessage, Rpc}
+use Rattle.rpc.specs.Rpc.{ControlIDontWant, ControlMessage, Rpc}
 use Rattle.rpc.specs.Grammar.{putNumber, numbersIn, putBytes, bytesIn, orElse, last, nonzero, Each, none-left, _and_}
 use Rattle.rpc.specs.Grammar.{Pairs, no-pairs, _paired_, IsSubOpts, is-sub-opts, IsMessage, is-message, IsIHave}
 use Rattle.rpc.specs.Grammar.{is-ihave, IsIWant, is-iwant, IsGraft, is-graft, IsPeerInfo, is-peer-info, IsPrune}
-use Rattle.rpc.specs.Grammar.{is-prune, IsControl, is-control, join, joinTo, joined, IsRpc, is-rpc}
+use Rattle.rpc.specs.Grammar.{is-prune, IsIDontWant, is-idontwant, idontwantsIn, IsControl, is-control, join, joinTo}
+use Rattle.rpc.specs.Grammar.{joined, IsRpc, is-rpc}
 use Rattle.rpc.specs.Encode.{optional, repeated, flag, encodeSubOpts, encodeIHave, encodeIWant, encodeGraft}
-use Rattle.rpc.specs.Encode.{encodePeerInfo, encodePrune, encodeControl, encodeRpc}
+use Rattle.rpc.specs.Encode.{encodePeerInfo, encodePrune, encodeIDontWant, encodeControl, encodeRpc}
 use Rattle.canon.specs.Shorter.{sub-opts-shorter, ihave-shorter, iwant-shorter, graft-shorter, peer-info-shorter}
-use Rattle.canon.specs.Shorter.{prune-shorter, never-longer, raw-same}
+use Rattle.canon.specs.Shorter.{prune-shorter, idontwant-shorter, never-longer, raw-same}
 
 -- ---- writing fields gives a body of them
 pub body-append : {a b : List ℕ} {es fs : List Entry} → Body a es → Body b fs → Body (a ++ b) (es ++ fs)
@@ -231,8 +235,10 @@ flags-written : (o : Option Bool) → repeated (varintField 1) (opt (flags o)) �
 flags-written none = refl
 flags-written (some b) = append-nil (varintField 1 (flag b))
 
--- the encoding of a value means it where its texts are UTF-8, its bytes fit a length and its numbers are below 2^64; so it does where a body means the value
-pub sub-opts-means : (x : SubOpts) → Each Sized (opt (x .«topic_id»)) → Each Utf8 (opt (x .«topic_id»)) → IsSubOpts (encodeSubOpts x) x
+-- the encoding of a value means it where its texts are UTF-8, its bytes fit a length and its numbers are below 2^64; so
+-- it does where a body means the value
+pub sub-opts-means : (x : SubOpts) → Each Sized (opt (x .«topic_id»)) → Each Utf8 (opt (x .«topic_id»))
+    → IsSubOpts (encodeSubOpts x) x
 unfolding encodeSubOpts
 sub-opts-means x z u =
     let r = x .subscribe in
@@ -263,7 +269,18 @@ iwant-canonical _ _ (is-iwant {s = s} {es = es} g) =
     means-as IsIWant refl (ap (λ (y : List (List ℕ)). record { «message_ids» = y }) (bytes-here 1 ds))
     (is-iwant (bytes-body 1 (omega arith) (omega arith) ds (bytes-sized 1 g)))
 
-pub graft-means : (x : ControlGraft) → Each Sized (opt (x .«topic_id»)) → Each Utf8 (opt (x .«topic_id»)) → IsGraft (encodeGraft x) x
+pub idontwant-means : (x : ControlIDontWant) → Each Sized (x .«message_ids») → IsIDontWant (encodeIDontWant x) x
+unfolding encodeIDontWant
+idontwant-means x z =
+    let ds = x .«message_ids» in
+    means-as IsIDontWant refl (ap (λ (y : List (List ℕ)). record { «message_ids» = y }) (bytes-here 1 ds))
+    (is-idontwant (bytes-body 1 (omega arith) (omega arith) ds z))
+
+pub idontwant-canonical : (s : List ℕ) (x : ControlIDontWant) → IsIDontWant s x → IsIDontWant (encodeIDontWant x) x
+idontwant-canonical _ x (is-idontwant g) = idontwant-means x (bytes-sized 1 g)
+
+pub graft-means : (x : ControlGraft) → Each Sized (opt (x .«topic_id»)) → Each Utf8 (opt (x .«topic_id»))
+    → IsGraft (encodeGraft x) x
 unfolding encodeGraft
 graft-means x z u =
     let t = x .«topic_id» in
@@ -374,14 +391,48 @@ entries-join : {X : Type 0} {R : List ℕ → X → Type 0} {enc : X → List �
 entries-join {enc = enc} {xs = xs} {ys = ys} a b =
     record { mean = pairs-join enc (a .mean) (b .mean); sized = each-join enc xs ys (a .sized) (b .sized) }
 
-pub record Sound (c : ControlMessage) : Type 0 where
+-- the entries that an edition adds: 1.1 has none
+abbrev pub IDontWants : Edition → List ControlIDontWant → Type 0
+IDontWants V11 ds = ds ≡ []
+IDontWants V12 ds = Entries IsIDontWant encodeIDontWant ds
+
+pub no-idontwants : (e : Edition) → IDontWants e []
+no-idontwants V11 = refl
+no-idontwants V12 = record { mean = no-pairs; sized = none-left }
+
+idontwants-of : (e : Edition) (s : List ℕ) (es : List Entry) (ds : List ControlIDontWant) → Body s es
+    → Pairs IsIDontWant (idontwantsIn e es) ds → IDontWants e ds
+idontwants-of V11 s es _ g no-pairs = refl
+idontwants-of V12 s es ds g h =
+    record {
+      mean = subs-mean encodeIDontWant idontwant-canonical h;
+      sized = subs-sized encodeIDontWant idontwant-shorter h (bytes-sized 5 g);
+    }
+
+idontwants-join : (e : Edition) (xs ys : List ControlIDontWant) → IDontWants e xs → IDontWants e ys
+    → IDontWants e (xs ++ ys)
+idontwants-join V11 xs ys p q = ap₂ (λ (x y : List ControlIDontWant). x ++ y) p q
+idontwants-join V12 xs ys p q = entries-join p q
+
+idontwants-sized : (e : Edition) (ds : List ControlIDontWant) → IDontWants e ds
+    → Each Sized (encodings encodeIDontWant ds)
+idontwants-sized V11 ds h = rw h none-left
+idontwants-sized V12 ds h = h .sized
+
+idontwants-mean : (e : Edition) (es : List Entry) (ds : List ControlIDontWant)
+    → bytesIn 5 es ≡ encodings encodeIDontWant ds → IDontWants e ds → Pairs IsIDontWant (idontwantsIn e es) ds
+idontwants-mean V11 es ds q h = rw h no-pairs
+idontwants-mean V12 es ds q h = subst (λ (l : List (List ℕ)). Pairs IsIDontWant l ds) (sym q) (h .mean)
+
+pub record Sound (d : Dialect) (c : ControlMessage) : Type 0 where
   pub ihaves : Entries IsIHave encodeIHave (c .ihave)
   pub iwants : Entries IsIWant encodeIWant (c .iwant)
   pub grafts : Entries IsGraft encodeGraft (c .graft)
   pub prunes : Entries IsPrune encodePrune (c .prune)
+  pub idontwants : IDontWants (d .edition) (c .idontwant)
 
-sound-of : (s : List ℕ) (x : ControlMessage) → IsControl s x → Sound x
-sound-of _ _ (is-control {s = s} {es = es} g h1 h2 h3 h4) =
+sound-of : (d : Dialect) (s : List ℕ) (x : ControlMessage) → IsControl d s x → Sound d x
+sound-of d _ _ (is-control {s = s} {es = es} {ds = ds} g h1 h2 h3 h4 h5) =
     record {
       ihaves = record {
         mean = subs-mean encodeIHave ihave-canonical h1;
@@ -399,67 +450,81 @@ sound-of _ _ (is-control {s = s} {es = es} g h1 h2 h3 h4) =
         mean = subs-mean encodePrune prune-canonical h4;
         sized = subs-sized encodePrune prune-shorter h4 (bytes-sized 4 g);
       };
+      idontwants = idontwants-of (d .edition) s es ds g h5;
     }
 
-sound-join : (c d : ControlMessage) → Sound c → Sound d → Sound (join c d)
-sound-join c d p q =
+sound-join : (d : Dialect) (b c : ControlMessage) → Sound d b → Sound d c → Sound d (join b c)
+sound-join d b c p q =
     record {
       ihaves = entries-join (p .ihaves) (q .ihaves);
       iwants = entries-join (p .iwants) (q .iwants);
       grafts = entries-join (p .grafts) (q .grafts);
       prunes = entries-join (p .prunes) (q .prunes);
+      idontwants = idontwants-join (d .edition) (b .idontwant) (c .idontwant) (p .idontwants) (q .idontwants);
     }
 
-control-sound : (x : ControlMessage) → Sound x → IsControl (encodeControl x) x
+-- field m of five groups of fields, each of one number
+found-of : (m : ℕ) (v1 v2 v3 v4 v5 x1 x2 x3 x4 x5 : List (List ℕ)) → bytesIn m (bytesEntries 1 v1) ≡ x1
+    → bytesIn m (bytesEntries 2 v2) ≡ x2 → bytesIn m (bytesEntries 3 v3) ≡ x3 → bytesIn m (bytesEntries 4 v4) ≡ x4
+    → bytesIn m (bytesEntries 5 v5) ≡ x5
+    → bytesIn m (bytesEntries 1 v1 ++ (bytesEntries 2 v2 ++ (bytesEntries 3 v3 ++ (bytesEntries 4 v4
+    ++ bytesEntries 5 v5)))) ≡ x1 ++ (x2 ++ (x3 ++ (x4 ++ x5)))
+found-of m v1 v2 v3 v4 v5 x1 x2 x3 x4 x5 p1 p2 p3 p4 p5 =
+    let a = bytesEntries 1 v1 in let b = bytesEntries 2 v2 in let c = bytesEntries 3 v3 in
+    let d = bytesEntries 4 v4 in let e = bytesEntries 5 v5 in
+    found m a (b ++ (c ++ (d ++ e))) x1 (x2 ++ (x3 ++ (x4 ++ x5))) p1
+    (found m b (c ++ (d ++ e)) x2 (x3 ++ (x4 ++ x5)) p2
+    (found m c (d ++ e) x3 (x4 ++ x5) p3 (found m d e x4 x5 p4 p5)))
+
+control-sound : (d : Dialect) (x : ControlMessage) → Sound d x → IsControl d (encodeControl x) x
 unfolding encodeControl
-control-sound x o =
-    let hs = x .ihave in let ws = x .iwant in let gs = x .graft in let ps = x .prune in
+control-sound d x o =
+    let hs = x .ihave in let ws = x .iwant in let gs = x .graft in let ps = x .prune in let ds = x .idontwant in
     let e1 = encodings encodeIHave hs in let e2 = encodings encodeIWant ws in let e3 = encodings encodeGraft gs in
-    let e4 = encodings encodePrune ps in
-    let a = bytesEntries 1 e1 in let b = bytesEntries 2 e2 in let c = bytesEntries 3 e3 in let d = bytesEntries 4 e4 in
+    let e4 = encodings encodePrune ps in let e5 = encodings encodeIDontWant ds in
     let w = body-append (bytes-body 1 (omega arith) (omega arith) e1 (o .ihaves .sized))
     (body-append (bytes-body 2 (omega arith) (omega arith) e2 (o .iwants .sized))
     (body-append (bytes-body 3 (omega arith) (omega arith) e3 (o .grafts .sized))
-    (bytes-body 4 (omega arith) (omega arith) e4 (o .prunes .sized)))) in
-    let d1 : bytesIn 1 (a ++ (b ++ (c ++ d))) ≡ e1 =
-    found 1 a (b ++ (c ++ d)) e1 [] (bytes-here 1 e1)
-    (found 1 b (c ++ d) [] [] (bytes-there 2 1 refl e2)
-    (found 1 c d [] [] (bytes-there 3 1 refl e3) (bytes-there 4 1 refl e4))) ∙ append-nil e1 in
-    let d2 : bytesIn 2 (a ++ (b ++ (c ++ d))) ≡ e2 =
-    found 2 a (b ++ (c ++ d)) [] (e2 ++ []) (bytes-there 1 2 refl e1)
-    (found 2 b (c ++ d) e2 [] (bytes-here 2 e2)
-    (found 2 c d [] [] (bytes-there 3 2 refl e3) (bytes-there 4 2 refl e4))) ∙ append-nil e2 in
-    let d3 : bytesIn 3 (a ++ (b ++ (c ++ d))) ≡ e3 =
-    found 3 a (b ++ (c ++ d)) [] (e3 ++ []) (bytes-there 1 3 refl e1)
-    (found 3 b (c ++ d) [] (e3 ++ []) (bytes-there 2 3 refl e2)
-    (found 3 c d e3 [] (bytes-here 3 e3) (bytes-there 4 3 refl e4))) ∙ append-nil e3 in
-    let d4 : bytesIn 4 (a ++ (b ++ (c ++ d))) ≡ e4 =
-    found 4 a (b ++ (c ++ d)) [] e4 (bytes-there 1 4 refl e1)
-    (found 4 b (c ++ d) [] e4 (bytes-there 2 4 refl e2)
-    (found 4 c d [] e4 (bytes-there 3 4 refl e3) (bytes-here 4 e4))) in
+    (body-append (bytes-body 4 (omega arith) (omega arith) e4 (o .prunes .sized))
+    (bytes-body 5 (omega arith) (omega arith) e5 (idontwants-sized (d .edition) ds (o .idontwants)))))) in
+    let d1 = found-of 1 e1 e2 e3 e4 e5 e1 [] [] [] [] (bytes-here 1 e1) (bytes-there 2 1 refl e2)
+    (bytes-there 3 1 refl e3) (bytes-there 4 1 refl e4) (bytes-there 5 1 refl e5) ∙ append-nil e1 in
+    let d2 = found-of 2 e1 e2 e3 e4 e5 [] e2 [] [] [] (bytes-there 1 2 refl e1) (bytes-here 2 e2)
+    (bytes-there 3 2 refl e3) (bytes-there 4 2 refl e4) (bytes-there 5 2 refl e5) ∙ append-nil e2 in
+    let d3 = found-of 3 e1 e2 e3 e4 e5 [] [] e3 [] [] (bytes-there 1 3 refl e1) (bytes-there 2 3 refl e2)
+    (bytes-here 3 e3) (bytes-there 4 3 refl e4) (bytes-there 5 3 refl e5) ∙ append-nil e3 in
+    let d4 = found-of 4 e1 e2 e3 e4 e5 [] [] [] e4 [] (bytes-there 1 4 refl e1) (bytes-there 2 4 refl e2)
+    (bytes-there 3 4 refl e3) (bytes-here 4 e4) (bytes-there 5 4 refl e5) ∙ append-nil e4 in
+    let d5 = found-of 5 e1 e2 e3 e4 e5 [] [] [] [] e5 (bytes-there 1 5 refl e1) (bytes-there 2 5 refl e2)
+    (bytes-there 3 5 refl e3) (bytes-there 4 5 refl e4) (bytes-here 5 e5) in
     let e = ap₂ (λ (y z : List ℕ). y ++ z) (repeated-encodings 1 encodeIHave hs)
     (ap₂ (λ (y z : List ℕ). y ++ z) (repeated-encodings 2 encodeIWant ws)
-    (ap₂ (λ (y z : List ℕ). y ++ z) (repeated-encodings 3 encodeGraft gs) (repeated-encodings 4 encodePrune ps))) in
-    means-as IsControl e refl
+    (ap₂ (λ (y z : List ℕ). y ++ z) (repeated-encodings 3 encodeGraft gs)
+    (ap₂ (λ (y z : List ℕ). y ++ z) (repeated-encodings 4 encodePrune ps)
+    (repeated-encodings 5 encodeIDontWant ds)))) in
+    means-as (IsControl d) e refl
     (is-control w (subst (λ (l : List (List ℕ)). Pairs IsIHave l hs) (sym d1) (o .ihaves .mean))
     (subst (λ (l : List (List ℕ)). Pairs IsIWant l ws) (sym d2) (o .iwants .mean))
     (subst (λ (l : List (List ℕ)). Pairs IsGraft l gs) (sym d3) (o .grafts .mean))
-    (subst (λ (l : List (List ℕ)). Pairs IsPrune l ps) (sym d4) (o .prunes .mean)))
+    (subst (λ (l : List (List ℕ)). Pairs IsPrune l ps) (sym d4) (o .prunes .mean))
+    (idontwants-mean (d .edition) _ ds d5 (o .idontwants)))
 
 -- ---- several controls as one
-sound-join-to : (c : ControlMessage) (o : Option ControlMessage) → Sound c → Each Sound (opt o)
-    → Each Sound (opt (joinTo c o))
-sound-join-to c none p none-left = p and none-left
-sound-join-to c (some d) p (q and none-left) = sound-join c d p q and none-left
+sound-join-to : (d : Dialect) (c : ControlMessage) (o : Option ControlMessage) → Sound d c → Each (Sound d) (opt o)
+    → Each (Sound d) (opt (joinTo c o))
+sound-join-to d c none p none-left = p and none-left
+sound-join-to d c (some b) p (q and none-left) = sound-join d c b p q and none-left
 
-sound-joined : {ds : List (List ℕ)} {cs : List ControlMessage} → Pairs IsControl ds cs → Each Sound (opt (joined cs))
-sound-joined no-pairs = none-left
-sound-joined (_paired_ {x = d} {y = c} {ys = cs} p ps) = sound-join-to c (joined cs) (sound-of d c p) (sound-joined ps)
+sound-joined : (d : Dialect) {ps : List (List ℕ)} {cs : List ControlMessage} → Pairs (IsControl d) ps cs
+    → Each (Sound d) (opt (joined cs))
+sound-joined d no-pairs = none-left
+sound-joined d (_paired_ {x = s} {y = c} {ys = cs} p ps) =
+    sound-join-to d c (joined cs) (sound-of d s c p) (sound-joined d ps)
 
-pairs-sound : (o : Option ControlMessage) → Each Sound (opt o)
-    → Pairs IsControl (encodings encodeControl (opt o)) (opt o)
-pairs-sound none h = no-pairs
-pairs-sound (some c) (p and none-left) = control-sound c p paired no-pairs
+pairs-sound : (d : Dialect) (o : Option ControlMessage) → Each (Sound d) (opt o)
+    → Pairs (IsControl d) (encodings encodeControl (opt o)) (opt o)
+pairs-sound d none h = no-pairs
+pairs-sound d (some c) (p and none-left) = control-sound d c p paired no-pairs
 
 joined-opt : (o : Option ControlMessage) → joined (opt o) ≡ o
 joined-opt none = refl
@@ -479,10 +544,11 @@ last-part : (a b c : List ℕ) → length c ≤ length (a ++ (b ++ c))
 last-part a b c = omega (arith, length-append a (b ++ c), length-append b c)
 
 -- an RPC whose parts mean themselves
-pub rpc-sound : (x : Rpc) → Entries IsSubOpts encodeSubOpts (x .subscriptions) → Entries IsMessage (λ m. m .raw) (x .publish)
-    → Each Sound (opt (x .control)) → length (encodeRpc x) < 2 ^ 64 → IsRpc (encodeRpc x) x
+pub rpc-sound : (d : Dialect) (x : Rpc) → Entries IsSubOpts encodeSubOpts (x .subscriptions)
+    → Entries IsMessage (λ m. m .raw) (x .publish) → Each (Sound d) (opt (x .control))
+    → length (encodeRpc x) < 2 ^ 64 → IsRpc d (encodeRpc x) x
 unfolding encodeRpc
-rpc-sound x h1 h2 h3 k =
+rpc-sound d x h1 h2 h3 k =
     let ss = x .subscriptions in let ms = x .publish in let o = x .control in
     let e1 = encodings encodeSubOpts ss in let e2 = encodings (λ m. m .raw) ms in
     let e3 = encodings encodeControl (opt o) in
@@ -506,16 +572,16 @@ rpc-sound x h1 h2 h3 k =
     let e = ap₂ (λ (y z : List ℕ). y ++ z) (repeated-encodings 1 encodeSubOpts ss)
     (ap₂ (λ (y z : List ℕ). y ++ z) (repeated-encodings 2 (λ m. m .raw) ms)
     (repeated-encodings 3 encodeControl (opt o) ∙ optional-opt (λ c. bytesField 3 (encodeControl c)) o)) in
-    means-as IsRpc e (ap (λ (y : Option ControlMessage). record { subscriptions = ss; publish = ms; control = y })
+    means-as (IsRpc d) e (ap (λ (y : Option ControlMessage). record { subscriptions = ss; publish = ms; control = y })
     (joined-opt o))
     (is-rpc w (subst (λ (l : List (List ℕ)). Pairs IsSubOpts l ss) (sym d1) (h1 .mean))
     (subst (λ (l : List (List ℕ)). Pairs IsMessage l ms) (sym d2) (h2 .mean))
-    (subst (λ (l : List (List ℕ)). Pairs IsControl l (opt o)) (sym d3) (pairs-sound o h3)))
+    (subst (λ (l : List (List ℕ)). Pairs (IsControl d) l (opt o)) (sym d3) (pairs-sound d o h3)))
 
-rpc-canonical : {s : List ℕ} {x : Rpc} → length s < 2 ^ 64 → length (encodeRpc x) ≤ length s → IsRpc s x
-    → IsRpc (encodeRpc x) x
-rpc-canonical k short (is-rpc {ss = ss} {ms = ms} {cs = cs} g h1 h2 h3) =
-    rpc-sound (record { subscriptions = ss; publish = ms; control = joined cs })
+rpc-canonical : {d : Dialect} {s : List ℕ} {x : Rpc} → length s < 2 ^ 64 → length (encodeRpc x) ≤ length s
+    → IsRpc d s x → IsRpc d (encodeRpc x) x
+rpc-canonical {d} k short (is-rpc {ss = ss} {ms = ms} {cs = cs} g h1 h2 h3) =
+    rpc-sound d (record { subscriptions = ss; publish = ms; control = joined cs })
     (record {
       mean = subs-mean encodeSubOpts sub-opts-canonical h1;
       sized = subs-sized encodeSubOpts sub-opts-shorter h1 (bytes-sized 1 g);
@@ -524,8 +590,8 @@ rpc-canonical k short (is-rpc {ss = ss} {ms = ms} {cs = cs} g h1 h2 h3) =
       mean = subs-mean (λ m. m .raw) message-canonical h2;
       sized = subs-sized (λ m. m .raw) raw-same h2 (bytes-sized 2 g);
     })
-    (sound-joined h3) (omega arith)
+    (sound-joined d h3) (omega arith)
 
 -- the canonical bytes of an RPC mean it
-pub canonical-means : {s : List ℕ} {x : Rpc} → length s < 2 ^ 64 → IsRpc s x → IsRpc (encodeRpc x) x
+pub canonical-means : {d : Dialect} {s : List ℕ} {x : Rpc} → length s < 2 ^ 64 → IsRpc d s x → IsRpc d (encodeRpc x) x
 canonical-means k h = rpc-canonical k (never-longer h) h

@@ -116,7 +116,7 @@ counts d s n b e =
     record { rpc = x .value; means = x .means; all = sym (counted-records d s n (x .value) e (x .means)) }
 
 -- and back
-meant-count : {d : Dialect} {s : List ℕ} {x : Rpc} → IsRpc d s x → counted (kind.Rpc d) s ≡ count.Records (recordsIn x)
+pub meant-count : {d : Dialect} {s : List ℕ} {x : Rpc} → IsRpc d s x → counted (kind.Rpc d) s ≡ count.Records (recordsIn x)
 meant-count {d} {s} {x} i =
     let a = rpc-accepted d s (record { value = x; means = i }) in
     a .counts ∙ ap count.Records (counted-records d s (a .records) x (a .counts) i)

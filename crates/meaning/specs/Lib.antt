@@ -1,5 +1,6 @@
--- To be believed: Refused, ReadBack, Size (`recordsIn`), Table (`rowsIn`), Decoded (the records in which its theorems are said).
--- Theorems: Decoded, RefusedLaws, Back, Size.
+-- To be believed: Refused, ReadBack, Size (`recordsIn`), Table (`rowsIn`), Decoded (the records in which its theorems
+-- are said), Editions (`declines`, `olderRpc`).
+-- Theorems: Decoded, RefusedLaws, Back, Size, Editions.
 -- On the way to them: Entries, Good, Accepted, Last, Table.
 pub mod Refused
 pub mod ReadBack
@@ -12,3 +13,4 @@ pub mod Back
 pub mod Table
 pub mod Size
 pub mod Decoded
+pub mod Editions

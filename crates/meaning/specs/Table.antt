@@ -9,7 +9,7 @@ use lib.ListN.{length, drop, getD}
 use lib.Seq.{sets, sets-eq, getD-drop, getD-append-add, drop-drop, drop-at}
 use lib.Dec.{eqb}
 use borrow.Author.Tests.{eqb-false, lt-leb}
-use Rattle.basis.specs.Cases.{either, clash}
+use Rattle.basis.specs.Cases.{either}
 use Rattle.protobuf.specs.declared.Field.{Field}
 use Rattle.protobuf.specs.Walk.{Fields, end, refused, _then_, fieldsOf, between}
 use Rattle.schema.specs.declared.Kind.{Kind}

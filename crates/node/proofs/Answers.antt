@@ -9,6 +9,8 @@ use lib.ListN.{length, take, drop, length-drop}
 use lib.Seq.{sets, sets-eq, length-sets, take-at, take-all}
 use lib.Dec.{leb, eqb}
 use borrow.Author.Tests.{eq-eqb, ne-eqb, le-leb, lt-leb, leb-true, leb-false, lt-ltb, le-ltb}
+use Rattle.basis.specs.declared.Edition.{Edition}
+use Rattle.basis.specs.Dialect.{spoken}
 use Rattle.basis.specs.Cases.{either, clash}
 use Rattle.basis.specs.Writing.{answer, written}
 use Rattle.rows.specs.Store.{InStore, Sound, inUse}
@@ -229,9 +231,9 @@ module _ (n : Node) (ss cs : List ℕ) (at : ℕ) where
   admits-as plan other e p = (rw e (p .0), (rw e (p .1 .0), (rw e (p .1 .1 .0), rw e (p .1 .1 .1))))
 
   -- as the contract has it
-  pub admits-all : (body : List ℕ) (i : ℕ) (word : Bool) (r : Admitted) {s t : List ℕ}
-      → AdmitsBy n ss cs at (planned n ss cs body i word at) (r .answer) (r .node) s t → Admits n ss cs body i word at r s t
-  admits-all body i word r p = record { answer = p .0; node = p .1 .0; seen = p .1 .1 .0; cache = p .1 .1 .1 }
+  pub admits-all : (ed : Edition) (body : List ℕ) (i : ℕ) (word : Bool) (r : Admitted) {s t : List ℕ}
+      → AdmitsBy n ss cs at (planned n ss cs ed body i word at) (r .answer) (r .node) s t → Admits n ss cs ed body i word at r s t
+  admits-all ed body i word r p = record { answer = p .0; node = p .1 .0; seen = p .1 .1 .0; cache = p .1 .1 .1 }
 
   -- the ids that are seen after the clean-up, and a key in its marked form
   module _ (d : SeenCache) (ed : d ≡ cleaned (n .«max_seen») at (n .seen)) where
@@ -360,21 +362,21 @@ module _ (flags : ℕ) (p : List ℕ) (word : Bool) (a e b f : ℕ) (h : admissi
         admits-as g ss cs at (planFit g at p (admissionOf flags p word)) (taken p (drop 1 key)) (plan-taken g at c ∙ ap (λ (x : List ℕ). taken p (drop 1 x)) (sym formed-key)) w
 
 -- ---- the message at an index of a body
-module _ (n : Node) (ss cs body : List ℕ) (i : ℕ) (word : Bool) (at : ℕ) where
-  pub plan-faulty : (why : Fault) → lent.Faulty why ≡ lentOf n ss cs → planned n ss cs body i word at ≡ no (admit.Faulty why)
+module _ (n : Node) (ss cs : List ℕ) (ed : Edition) (body : List ℕ) (i : ℕ) (word : Bool) (at : ℕ) where
+  pub plan-faulty : (why : Fault) → lent.Faulty why ≡ lentOf n ss cs → planned n ss cs ed body i word at ≡ no (admit.Faulty why)
   unfolding planned
   plan-faulty why e = rw (← e)
 
-  pub plan-refused : (why : Placed) → lent.Fine ≡ lentOf n ss cs → checked.Refused why ≡ acceptOf body → planned n ss cs body i word at ≡ no (admit.Refused why)
+  pub plan-refused : (why : Placed) → lent.Fine ≡ lentOf n ss cs → checked.Refused why ≡ acceptOf (spoken ed) body → planned n ss cs ed body i word at ≡ no (admit.Refused why)
   unfolding planned
   plan-refused why e f = rw (← e, ← f)
 
-  pub plan-missing : (k : ℕ) → lent.Fine ≡ lentOf n ss cs → checked.Fine ≡ acceptOf body → found.Count k ≡ messageAt body i → planned n ss cs body i word at ≡ no (admit.NoMessage k)
+  pub plan-missing : (k : ℕ) → lent.Fine ≡ lentOf n ss cs → checked.Fine ≡ acceptOf (spoken ed) body → found.Count k ≡ messageAt body i → planned n ss cs ed body i word at ≡ no (admit.NoMessage k)
   unfolding planned
   plan-missing k e f g = rw (← e, ← f, ← g)
 
-  pub plan-at : (a b : ℕ) → lent.Fine ≡ lentOf n ss cs → checked.Fine ≡ acceptOf body → found.At a b ≡ messageAt body i
-      → planned n ss cs body i word at ≡ planFit n at (between body a b) (admissionOf (n .cache .flags) (between body a b) word)
+  pub plan-at : (a b : ℕ) → lent.Fine ≡ lentOf n ss cs → checked.Fine ≡ acceptOf (spoken ed) body → found.At a b ≡ messageAt body i
+      → planned n ss cs ed body i word at ≡ planFit n at (between body a b) (admissionOf (n .cache .flags) (between body a b) word)
   unfolding planned
   plan-at a b e f g = rw (← e, ← f, ← g)
 

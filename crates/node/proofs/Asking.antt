@@ -7,6 +7,8 @@ use native.Mathlib.Omega.{arith}
 use native.Mathlib.Nat.{zero-add, sub-zero}
 use lib.ListN.{length, drop, getD, length-append}
 use lib.Seq.{sets, take-length}
+use Rattle.basis.specs.declared.Edition.{Edition}
+use Rattle.basis.specs.Dialect.{spoken}
 use Rattle.basis.specs.Cases.{either}
 use Rattle.basis.specs.Writing.{answer, written}
 use Rattle.basis.specs.Lists.{answer-fits, answer-short, written-fits, written-short}
@@ -23,7 +25,7 @@ use Rattle.rpc.specs.Rpc.{Rpc}
 use Rattle.rpc.specs.Encode.{encodeRpc}
 use Rattle.encode.specs.Puts.{Puts, Fits, puts-same, puts-append, fits-same, fits-first, fits-next}
 use Rattle.schema.specs.Accept.{acceptOf}
-use Rattle.node.specs.Parts.{partAt, partsIn, Parts, atPath, once}
+use Rattle.node.specs.Parts.{partAt, partsIn, Parts, atPath, once, without}
 use Rattle.node.specs.PartsLaws.{length-parts, parts-from, parts-end, parts-more, parts-within-more, no-parts, parts-none}
 use Rattle.node.specs.State.{seenRing}
 use Rattle.node.specs.declared.Node.{Node}
@@ -77,34 +79,32 @@ module _ (t : List ℕ) (k a e : ℕ) (room : (k + 1) * 2 ≤ length t) (there :
       ∙ g))
       (λ n. let w = when-not n in rw (w .0, w .1) (ap (λ (l : List (List ℕ)). partsIn s t k ++ l) (sym (f ∙ simp n)) ∙ g))
 
--- ---- the ids in `to`, and then those of `from` from i on that are not seen, are all of `from` that are not
-pub record Lacked (flags : ℕ) (seen : List (List ℕ)) (s from : List ℕ) (n : ℕ) (to : List ℕ) (k i : ℕ) : Type 0 where
+-- ---- the parts in `to`, and then those that f takes of the parts of `from` from i on, are all that f takes of `from`
+pub record Picked (f : List (List ℕ) → List (List ℕ)) (s from : List ℕ) (n : ℕ) (to : List ℕ) (k i : ℕ) : Type 0 where
   pub most : i ≤ n
   pub fewer : k ≤ i
   pub parts : Parts s to k
-  pub goes : partsIn s to k ++ unseenFrom flags seen (drop i (partsIn s from n)) ≡ unseenFrom flags seen (partsIn s from n)
+  pub goes : partsIn s to k ++ f (drop i (partsIn s from n)) ≡ f (partsIn s from n)
 
-pub lacked-all : (flags : ℕ) (seen : List (List ℕ)) (s from : List ℕ) (n : ℕ) (to : List ℕ) → Lacked flags seen s from n to 0 0
-lacked-all flags seen s from n to =
+pub picked-all : (f : List (List ℕ) → List (List ℕ)) (s from : List ℕ) (n : ℕ) (to : List ℕ) → Picked f s from n to 0 0
+picked-all f s from n to =
     record {
       most = omega arith;
       fewer = omega arith;
       parts = parts-none s to;
-      goes = ap (λ (l : List (List ℕ)). l ++ unseenFrom flags seen (partsIn s from n)) (no-parts s to);
+      goes = ap (λ (l : List (List ℕ)). l ++ f (partsIn s from n)) (no-parts s to);
     }
 
-unseen-turn : (flags : ℕ) (seen : List (List ℕ)) (id : List ℕ) (ids : List (List ℕ)) (there : Bool) → there ≡ not (knownIn flags seen id) → unseenFrom flags seen (id ∷ ids) ≡ cond there (id ∷ unseenFrom flags seen ids) (unseenFrom flags seen ids)
-unfolding unseenFrom
-unseen-turn flags seen id ids there e =
-    either (knownIn flags seen id) (λ y. let z : there ≡ false = e ∙ simp y in simp (y, z)) (λ n. let z : there ≡ true = e ∙ simp n in simp (n, z))
+module _ (f : List (List ℕ) → List (List ℕ)) (s from : List ℕ) (n : ℕ) (to : List ℕ) (k i : ℕ) (g : Picked f s from n to k i) where
+  pub picked-room : (m : ℕ) → i < n → n * 2 ≤ m → length to ≡ m → (k + 1) * 2 ≤ length to
+  picked-room m h l e = let f = g .fewer in omega arith
 
-module _ (flags : ℕ) (seen : List (List ℕ)) (s from : List ℕ) (n : ℕ) (to : List ℕ) (k i : ℕ) (g : Lacked flags seen s from n to k i) where
-  pub lacked-room : (m : ℕ) → i < n → n * 2 ≤ m → length to ≡ m → (k + 1) * 2 ≤ length to
-  lacked-room m h l e = let f = g .fewer in omega arith
-
-  pub lacked-turn : i < n → Parts s from n → (k + 1) * 2 ≤ length to → (there : Bool) → there ≡ not (knownIn flags seen (partAt s from i)) → (r : ℕ) (after : List ℕ) → r ≡ cond there (k + 1) k → after ≡ cond there (sets to (k * 2) (getD from (i * 2) 0 ∷ getD from (i * 2 + 1) 0 ∷ [])) to → Lacked flags seen s from n after r (i + 1)
-  lacked-turn h p room there e r after er ea =
-      let f = g .fewer in
+  -- one part more is tested: f takes it where it is to be there
+  pub picked-turn : i < n → Parts s from n → (k + 1) * 2 ≤ length to → (there : Bool)
+      → f (partAt s from i ∷ drop (i + 1) (partsIn s from n)) ≡ cond there (partAt s from i ∷ f (drop (i + 1) (partsIn s from n))) (f (drop (i + 1) (partsIn s from n)))
+      → (r : ℕ) (after : List ℕ) → r ≡ cond there (k + 1) k → after ≡ cond there (sets to (k * 2) (getD from (i * 2) 0 ∷ getD from (i * 2 + 1) 0 ∷ [])) to → Picked f s from n after r (i + 1)
+  picked-turn h p room there e r after er ea =
+      let q = g .fewer in
       let a = getD from (i * 2) 0 in
       let z = getD from (i * 2 + 1) 0 in
       let w = p .within i h in
@@ -114,17 +114,41 @@ module _ (flags : ℕ) (seen : List (List ℕ)) (s from : List ℕ) (n : ℕ) (t
         fewer = omega arith;
         parts = put-within to k a z room there r after er ea s (g .parts) (λ y. w);
         goes =
-            put-goes to k a z room there r after er ea s (unseenFrom flags seen (drop i (partsIn s from n))) (unseenFrom flags seen (drop (i + 1) (partsIn s from n))) (unseenFrom flags seen (partsIn s from n))
-            (ap (unseenFrom flags seen) (parts-from s from n i h) ∙ unseen-turn flags seen (partAt s from i) (drop (i + 1) (partsIn s from n)) there e)
-            (g .goes);
+            put-goes to k a z room there r after er ea s (f (drop i (partsIn s from n))) (f (drop (i + 1) (partsIn s from n))) (f (partsIn s from n))
+            (ap f (parts-from s from n i h) ∙ e) (g .goes);
       }
 
-  pub lacked-done : n ≤ i → (partsIn s to k ≡ unseenFrom flags seen (partsIn s from n)) × (Parts s to k × (k ≤ n))
+  pub picked-done : f [] ≡ [] → n ≤ i → (partsIn s to k ≡ f (partsIn s from n)) × (Parts s to k × (k ≤ n))
+  picked-done e h =
+      let q = g .fewer in
+      let m = g .most in (
+        sym (ap (λ (l : List (List ℕ)). partsIn s to k ++ l) (ap f (parts-end s from n i h) ∙ e) ∙ append-nil (partsIn s to k)) ∙ g .goes,
+        (g .parts, omega arith),
+      )
+
+-- the ids that are not seen
+module _ (flags : ℕ) (seen : List (List ℕ)) where
+  pub unseen-none : unseenFrom flags seen [] ≡ []
   unfolding unseenFrom
-  lacked-done h =
-      let f = g .fewer in
-      let m = g .most in
-      (sym (ap (λ (l : List (List ℕ)). partsIn s to k ++ unseenFrom flags seen l) (parts-end s from n i h) ∙ append-nil (partsIn s to k)) ∙ g .goes, (g .parts, omega arith))
+  unseen-none = refl
+
+  pub unseen-turn : (id : List ℕ) (ids : List (List ℕ)) (there : Bool) → there ≡ not (knownIn flags seen id)
+      → unseenFrom flags seen (id ∷ ids) ≡ cond there (id ∷ unseenFrom flags seen ids) (unseenFrom flags seen ids)
+  unfolding unseenFrom
+  unseen-turn id ids there e =
+      either (knownIn flags seen id) (λ y. let z : there ≡ false = e ∙ simp y in simp (y, z)) (λ n. let z : there ≡ true = e ∙ simp n in simp (n, z))
+
+-- those that are not among others
+module _ (others : List (List ℕ)) where
+  pub without-end : without others [] ≡ []
+  unfolding without
+  without-end = refl
+
+  pub without-turn : (id : List ℕ) (ids : List (List ℕ)) (there : Bool) → there ≡ not (among id others)
+      → without others (id ∷ ids) ≡ cond there (id ∷ without others ids) (without others ids)
+  unfolding without
+  without-turn id ids there e =
+      either (among id others) (λ y. let z : there ≡ false = e ∙ simp y in simp (y, z)) (λ n. let z : there ≡ true = e ∙ simp n in simp (n, z))
 
 -- ---- a request: a control with one IWANT, whose ids r were measured
 module _ (at : ℕ) (r x : List ℕ) (y : x ≡ bytesField 3 (bytesField 2 r)) (h : Fits at x) where
@@ -186,7 +210,7 @@ module _ (path body : List ℕ) (few : length (atPath path body) ≤ 512) where
   named-room = rw (whole-body body) (omega arith)
 
   module _ (t after : List ℕ) (n : ℕ) (e : partsIn body after n ≡ partsIn body t 0 ++ atPath path (between body 0 (length body))) where
-    named-is : partsIn body after n ≡ atPath path body
+    pub named-is : partsIn body after n ≡ atPath path body
     named-is = e ∙ rw (no-parts body t, whole-body body)
 
     pub named-few : n ≤ 512
@@ -248,15 +272,15 @@ module _ (node : Node) (ss body out : List ℕ) where
           )
 
 -- ---- the whole call: the lent node and its stores, then the body
-module _ (node : Node) (ss cs body out : List ℕ) (l : Lent) (lent-is : l ≡ lentOf node ss cs) where
+module _ (node : Node) (ss cs : List ℕ) (ed : Edition) (body out : List ℕ) (l : Lent) (lent-is : l ≡ lentOf node ss cs) where
   abbrev Asks : Ask → List ℕ → Type 0
-  Asks r after = (r ≡ askAnswer node ss cs body out) × (after ≡ askLeft node ss cs body out)
+  Asks r after = (r ≡ askAnswer node ss cs ed body out) × (after ≡ askLeft node ss cs ed body out)
 
   pub asks-faulty : (why : Fault) → l ≡ lent.Faulty why → Asks (ask.Faulty why) out
   unfolding askAnswer askLeft
   asks-faulty why h = rw (sym lent-is ∙ h) (refl, refl)
 
-  module _ (fine : l ≡ lent.Fine) (c : Checked) (body-is : c ≡ acceptOf body) where
+  module _ (fine : l ≡ lent.Fine) (c : Checked) (body-is : c ≡ acceptOf (spoken ed) body) where
     pub asks-refused : (why : Placed) → c ≡ checked.Refused why → Asks (ask.Refused why) out
     unfolding askAnswer askLeft
     asks-refused why h = rw (sym lent-is ∙ fine, sym body-is ∙ h) (refl, refl)

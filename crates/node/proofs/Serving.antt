@@ -9,6 +9,9 @@ use lib.ListN.{length, take, drop, getD}
 use lib.Seq.{sets}
 use lib.Dec.{ltb}
 use borrow.Author.Tests.{lt-ltb, le-ltb, ltb-true}
+use Rattle.basis.specs.declared.Edition.{Edition}
+use Rattle.basis.specs.declared.Edition.the-variants.{V12}
+use Rattle.basis.specs.Dialect.{spoken}
 use Rattle.basis.specs.Cases.{either}
 use Rattle.rows.specs.declared.Ring.{Ring}
 use Rattle.rows.specs.Rows.{placeOf}
@@ -24,7 +27,7 @@ use Rattle.protobuf.specs.Encode.{bytesField}
 use Rattle.rpc.specs.Encode.{repeated}
 use Rattle.encode.specs.Puts.{Puts}
 use Rattle.schema.specs.Accept.{acceptOf}
-use Rattle.node.specs.Parts.{partAt, partsIn, Parts, atPath, once, fitting}
+use Rattle.node.specs.Parts.{partAt, partsIn, Parts, atPath, once, without, fitting}
 use Rattle.node.specs.PartsLaws.{length-parts, parts-from, parts-end, parts-take, no-parts, parts-none, fitting-room}
 use Rattle.mcache.specs.declared.MessageCache.{MessageCache}
 use Rattle.mcache.specs.State.{messageIn, Usable, ringOf}
@@ -34,7 +37,7 @@ use Rattle.node.specs.declared.Lent.the-variants as lent
 use Rattle.node.specs.declared.Fault.{Fault}
 use Rattle.node.specs.declared.Serve.{Serve}
 use Rattle.node.specs.declared.Serve.the-variants as serve
-use Rattle.node.specs.Calls.{lentOf, wanted, rowsFor, cachedOf, roomOf, servedOf, replyBytes, replyTo, serveAnswer, serveLeft}
+use Rattle.node.specs.Calls.{lentOf, whenTaken, wanted, unwantedIn, remaining, rowsFor, cachedOf, roomOf, servedOf, replyBytes, replyTo, serveOn, serveAnswer, serveLeft}
 use Rattle.node.specs.ReplyLaws as reply
 use Rattle.node.proofs.Asking.{put-fewer, put-within, put-goes}
 
@@ -130,11 +133,17 @@ module _ (lens : List ℕ) (ring : Ring) (ilens store s from : List ℕ) (n : �
 pub kept-size : (c : MessageCache) (cs : List ℕ) → Usable c cs → length cs ≤ 262144
 kept-size c cs k = let r = k .rows in omega arith
 
-pub messages-are : (c : MessageCache) (cs body first named : List ℕ) (k m : ℕ) → partsIn body first k ≡ once (atPath (3 ∷ 2 ∷ 1 ∷ []) body)
-    → ((st : List ℕ) → partsIn st named m ≡ map (messageIn (c .len) st) (rowsFor (ringOf c) (idsIn 128 (ringOf c) (c .«id_len») (c .ids)) (partsIn body first k)))
-    → cachedOf c cs (wanted body) ≡ partsIn cs named m
-unfolding cachedOf wanted
-messages-are c cs body first named k m f u =
+-- those that it names, but for those that a second one declines
+pub rest-is : (body second first named : List ℕ) (k r : ℕ) → partsIn body first k ≡ once (atPath (3 ∷ 2 ∷ 1 ∷ []) body)
+    → partsIn body named r ≡ without (unwantedIn second) (partsIn body first k) → partsIn body named r ≡ remaining body second
+unfolding remaining wanted
+rest-is body second first named k r f u = u ∙ ap (without (unwantedIn second)) f
+
+pub messages-are : (c : MessageCache) (cs body second named found : List ℕ) (r m : ℕ) → partsIn body named r ≡ remaining body second
+    → ((st : List ℕ) → partsIn st found m ≡ map (messageIn (c .len) st) (rowsFor (ringOf c) (idsIn 128 (ringOf c) (c .«id_len») (c .ids)) (partsIn body named r)))
+    → cachedOf c cs (remaining body second) ≡ partsIn cs found m
+unfolding cachedOf
+messages-are c cs body second named found r m f u =
     sym (u cs ∙ ap (λ (l : List (List ℕ)). map (messageIn (c .len) cs) (rowsFor (ringOf c) (idsIn 128 (ringOf c) (c .«id_len») (c .ids)) l)) f)
 
 -- ---- the reply to them, where they are the m parts of a store that a table has
@@ -192,20 +201,32 @@ module _ (ms : List (List ℕ)) (cs t : List ℕ) (m : ℕ) (out : List ℕ) (q 
             p .holds (omega arith) ∙ ap (sets out 0) b,
           )
 
--- ---- the whole call: the lent node and its stores, then the body
-module _ (node : Node) (ss cs body out : List ℕ) (l : Lent) (lent-is : l ≡ lentOf node ss cs) where
+-- ---- the second body, which is read in 1.2
+module _ (ms : List (List ℕ)) (second out : List ℕ) where
+  abbrev pub Tried : Serve → List ℕ → Type 0
+  Tried r after = (r ≡ serveOn (replyTo ms out) (acceptOf (spoken V12) second)) × (after ≡ whenTaken (acceptOf (spoken V12) second) (sets out 0 (replyBytes ms out)) out)
+
+  module _ (c : Checked) (second-is : c ≡ acceptOf (spoken V12) second) where
+    pub tried-refused : (why : Placed) → c ≡ checked.Refused why → Tried (serve.Refused why) out
+    tried-refused why h = rw (sym second-is ∙ h) (refl, refl)
+
+    pub tried-done : c ≡ checked.Fine → (r : Serve) (after : List ℕ) → Replies ms out r after → Tried r after
+    tried-done h r after e = rw (sym second-is ∙ h) e
+
+-- ---- the whole call: the lent node and its stores, then the bodies
+module _ (node : Node) (ss cs : List ℕ) (ed : Edition) (body second out : List ℕ) (l : Lent) (lent-is : l ≡ lentOf node ss cs) where
   abbrev Serves : Serve → List ℕ → Type 0
-  Serves r after = (r ≡ serveAnswer node ss cs body out) × (after ≡ serveLeft node ss cs body out)
+  Serves r after = (r ≡ serveAnswer node ss cs ed body second out) × (after ≡ serveLeft node ss cs ed body second out)
 
   pub serves-faulty : (why : Fault) → l ≡ lent.Faulty why → Serves (serve.Faulty why) out
   unfolding serveAnswer serveLeft
   serves-faulty why h = rw (sym lent-is ∙ h) (refl, refl)
 
-  module _ (fine : l ≡ lent.Fine) (c : Checked) (body-is : c ≡ acceptOf body) where
+  module _ (fine : l ≡ lent.Fine) (c : Checked) (body-is : c ≡ acceptOf (spoken ed) body) where
     pub serves-refused : (why : Placed) → c ≡ checked.Refused why → Serves (serve.Refused why) out
     unfolding serveAnswer serveLeft
     serves-refused why h = rw (sym lent-is ∙ fine, sym body-is ∙ h) (refl, refl)
 
-    pub serves-done : c ≡ checked.Fine → (r : Serve) (after : List ℕ) → Replies (cachedOf (node .cache) cs (wanted body)) out r after → Serves r after
+    pub serves-done : c ≡ checked.Fine → (r : Serve) (after : List ℕ) → Tried (cachedOf (node .cache) cs (remaining body second)) second out r after → Serves r after
     unfolding serveAnswer serveLeft
     serves-done h r after e = rw (sym lent-is ∙ fine, sym body-is ∙ h) e

@@ -139,7 +139,8 @@ planBody n at word body i checked.Fine = planAt n at word body (messageAt body i
 -- 40, 41, 42
 unfoldable pub planned : Node → List ℕ → List ℕ → Edition → List ℕ → ℕ → Bool → ℕ → Plan
 planned n ss cs e body i word at =
-    onLent (λ (why : Fault). no (admit.Faulty why)) (lentOf n ss cs) (planBody n at word body i (acceptOf (spoken e) body))
+    onLent (λ (why : Fault). no (admit.Faulty why)) (lentOf n ss cs)
+    (planBody n at word body i (acceptOf (spoken e) body))
 
 -- the ids that are seen after the clean-up
 unfoldable pub swept : Node → ℕ → SeenCache

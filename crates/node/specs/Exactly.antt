@@ -9,6 +9,9 @@ use native.Mathlib.Omega.{arith}
 use lib.ListN.{length}
 use lib.Dec.{leb, ltb, eqb}
 use borrow.Author.Tests.{leb-false, lt-leb, ltb-true, ltb-false, lt-ltb, le-ltb, eqb-true, eqb-false, eq-eqb, ne-eqb}
+use Rattle.basis.specs.declared.Edition.{Edition}
+use Rattle.basis.specs.declared.Edition.the-variants.{V12}
+use Rattle.basis.specs.Dialect.{spoken}
 use Rattle.basis.specs.Cases.{either, clash}
 use Rattle.basis.specs.declared.Told.{Told}
 use Rattle.basis.specs.Refusals.{bad-setting, bad-store, malformed, clock-back}
@@ -43,7 +46,7 @@ use Rattle.node.specs.State.{legalSettings, wellFormed}
 use Rattle.node.specs.Calls.{startAnswer, rightSizes, lentOf, planFit, planAt, planBody, planned, heldAt}
 use Rattle.node.specs.Calls.{admitAnswer, beatAnswer, advertiseBytes, advertiseAnswer, askBytes, askAnswer}
 use Rattle.node.specs.Gateway.{formOf, Reply, sent, short, replyFor}
-use Rattle.node.specs.Calls.{explainAnswer, wanted, cachedOf, roomOf, replied, serveAnswer}
+use Rattle.node.specs.Calls.{explainAnswer, remaining, cachedOf, roomOf, replied, serveAnswer}
 use Rattle.node.specs.WellFormed.{Typed, WellFormed}
 use Rattle.node.specs.WellFormedLaws.{fine-well-formed-node, well-formed-node-fine}
 
@@ -163,7 +166,7 @@ as-lent (lent.Faulty why) x k f g h = let e = f why refl in (λ p. omega arith, 
 as-lent lent.Fine x k f g h = let b = g refl in (λ p. absurd (omega arith), λ p. absurd (omega arith))
 
 module _ (n : Node) (ss cs : List ℕ) where
-  module _ (body : List ℕ) (i : ℕ) (word : Bool) (at : ℕ) where
+  module _ (ed : Edition) (body : List ℕ) (i : ℕ) (word : Bool) (at : ℕ) where
     fit-below : (p : List ℕ) (r : Admission) → admitTold (admitAnswer n ss at (planFit n at p r)) .number < bad-setting
     fit-below p (admission.Unfit why) = omega (arith, unfit-range why .1)
     fit-below p (admission.Fit a e b f) =
@@ -179,17 +182,17 @@ module _ (n : Node) (ss cs : List ℕ) where
     body-below checked.Fine = at-below (messageAt body i)
 
     admit-faulty : (why : Fault) → lentOf n ss cs ≡ lent.Faulty why
-        → admitTold (admitAnswer n ss at (planned n ss cs body i word at)) .number ≡ faultTold why .number
+        → admitTold (admitAnswer n ss at (planned n ss cs ed body i word at)) .number ≡ faultTold why .number
     unfolding planned
     admit-faulty why e = rw e
 
     admit-below : lentOf n ss cs ≡ lent.Fine
-        → admitTold (admitAnswer n ss at (planned n ss cs body i word at)) .number < bad-setting
+        → admitTold (admitAnswer n ss at (planned n ss cs ed body i word at)) .number < bad-setting
     unfolding planned
-    admit-below e = rw e (body-below (acceptOf body))
+    admit-below e = rw e (body-below (acceptOf (spoken ed) body))
 
     pub admit-faults : (k : ℕ) → bad-setting ≤ k
-        → (admitTold (admitAnswer n ss at (planned n ss cs body i word at)) .number ≡ k)
+        → (admitTold (admitAnswer n ss at (planned n ss cs ed body i word at)) .number ≡ k)
         ↔ (lentTold (lentOf n ss cs) .number ≡ k)
     admit-faults k h = as-lent (lentOf n ss cs) _ k admit-faulty admit-below h
 
@@ -251,14 +254,14 @@ module _ (n : Node) (ss cs : List ℕ) where
         → (explainTold (explainAnswer n ss cs id topic windows) .number ≡ k) ↔ (lentTold (lentOf n ss cs) .number ≡ k)
     explain-faults k h = as-lent (lentOf n ss cs) _ k explain-faulty explain-below h
 
-  module _ (body out : List ℕ) where
+  module _ (ed : Edition) (body out : List ℕ) where
     ask-faulty : (why : Fault) → lentOf n ss cs ≡ lent.Faulty why
-        → askTold (askAnswer n ss cs body out) .number ≡ faultTold why .number
+        → askTold (askAnswer n ss cs ed body out) .number ≡ faultTold why .number
     unfolding askAnswer
     ask-faulty why e = rw e
 
-    ask-on : (r : Checked) → lentOf n ss cs ≡ lent.Fine → acceptOf body ≡ r
-        → askTold (askAnswer n ss cs body out) .number < bad-setting
+    ask-on : (r : Checked) → lentOf n ss cs ≡ lent.Fine → acceptOf (spoken ed) body ≡ r
+        → askTold (askAnswer n ss cs ed body out) .number < bad-setting
     unfolding askAnswer answer
     ask-on (checked.Refused why) e a = rw (e, a) (omega (arith, wire-range (why .why) .1))
     ask-on checked.Fine e a =
@@ -266,11 +269,12 @@ module _ (n : Node) (ss cs : List ℕ) where
         (λ u. rw u (omega arith)))
 
     pub ask-faults : (k : ℕ) → bad-setting ≤ k
-        → (askTold (askAnswer n ss cs body out) .number ≡ k) ↔ (lentTold (lentOf n ss cs) .number ≡ k)
-    ask-faults k h = as-lent (lentOf n ss cs) _ k ask-faulty (λ e. ask-on (acceptOf body) e refl) h
+        → (askTold (askAnswer n ss cs ed body out) .number ≡ k) ↔ (lentTold (lentOf n ss cs) .number ≡ k)
+    ask-faults k h = as-lent (lentOf n ss cs) _ k ask-faulty (λ e. ask-on (acceptOf (spoken ed) body) e refl) h
 
+  module _ (ed : Edition) (body second out : List ℕ) where
     serve-faulty : (why : Fault) → lentOf n ss cs ≡ lent.Faulty why
-        → serveTold (serveAnswer n ss cs body out) .number ≡ faultTold why .number
+        → serveTold (serveAnswer n ss cs ed body second out) .number ≡ faultTold why .number
     unfolding serveAnswer
     serve-faulty why e = rw e
 
@@ -278,15 +282,19 @@ module _ (n : Node) (ss cs : List ℕ) where
     reply-below (sent ws ls) = omega arith
     reply-below (short needed) = omega arith
 
-    serve-on : (r : Checked) → lentOf n ss cs ≡ lent.Fine → acceptOf body ≡ r
-        → serveTold (serveAnswer n ss cs body out) .number < bad-setting
+    serve-on : (r q : Checked) → lentOf n ss cs ≡ lent.Fine → acceptOf (spoken ed) body ≡ r
+        → acceptOf (spoken V12) second ≡ q → serveTold (serveAnswer n ss cs ed body second out) .number < bad-setting
     unfolding serveAnswer
-    serve-on (checked.Refused why) e a = rw (e, a) (omega (arith, wire-range (why .why) .1))
-    serve-on checked.Fine e a = rw (e, a) (reply-below (replyFor (roomOf out) (cachedOf (n .cache) cs (wanted body))))
+    serve-on (checked.Refused why) q e a b = rw (e, a) (omega (arith, wire-range (why .why) .1))
+    serve-on checked.Fine (checked.Refused why) e a b = rw (e, a, b) (omega (arith, wire-range (why .why) .1))
+    serve-on checked.Fine checked.Fine e a b =
+        rw (e, a, b) (reply-below (replyFor (roomOf out) (cachedOf (n .cache) cs (remaining body second))))
 
     pub serve-faults : (k : ℕ) → bad-setting ≤ k
-        → (serveTold (serveAnswer n ss cs body out) .number ≡ k) ↔ (lentTold (lentOf n ss cs) .number ≡ k)
-    serve-faults k h = as-lent (lentOf n ss cs) _ k serve-faulty (λ e. serve-on (acceptOf body) e refl) h
+        → (serveTold (serveAnswer n ss cs ed body second out) .number ≡ k) ↔ (lentTold (lentOf n ss cs) .number ≡ k)
+    serve-faults k h =
+        as-lent (lentOf n ss cs) _ k serve-faulty
+        (λ e. serve-on (acceptOf (spoken ed) body) (acceptOf (spoken V12) second) e refl refl) h
 
 -- ---- a heartbeat, whole: 40, 41, 42; 31 where now is below the clock, with the clock; else it is done
 pub data BeatTells (n : Node) (ss cs : List ℕ) (at : ℕ) : Told → Type 0 where

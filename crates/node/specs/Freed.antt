@@ -7,6 +7,7 @@ use mathlib.Core.Bool.{Bool, true, false}
 use native.Mathlib.Omega.{arith}
 use lib.Dec.{ltb}
 use borrow.Author.Tests.{eq-eqb}
+use Rattle.basis.specs.declared.Edition.{Edition}
 use Rattle.basis.specs.Cases.{either, clash}
 use Rattle.seen.specs.Entries.{until}
 use Rattle.seen.specs.Calls.{enteredStore}
@@ -40,11 +41,11 @@ pub record Freed (n : Node) (ss cs : List ℕ) (at : ℕ) (m id : List ℕ) (d :
   pub cache-held : held id (cachedIn (n .cache) cs) ≡ true → (d .cache ≡ n .cache) × (cs2 ≡ cs)
 
 -- what an admit takes, a put of the same message would put
-pub plan-put : {n : Node} {ss cs body : List ℕ} {i : ℕ} {word : Bool} {at : ℕ} {m id : List ℕ}
-    → Takes n ss cs body i word at m id → putPlanned (n .cache) cs body i ≡ planUnder (n .cache) m id
-plan-put {n} {ss} {cs} {body} {i} {word} {at} {m} {id} t =
+pub plan-put : {n : Node} {ss cs : List ℕ} {ed : Edition} {body : List ℕ} {i : ℕ} {word : Bool} {at : ℕ}
+    {m id : List ℕ} → Takes n ss cs ed body i word at m id → putPlanned (n .cache) cs ed body i ≡ planUnder (n .cache) m id
+plan-put {n} {ss} {cs} {ed} {body} {i} {word} {at} {m} {id} t =
     let f = fine-tests n ss cs (t .fine) in
-    let p = put-plan (n .cache) cs body i (t .start) (t .next) (t .from-start) (t .from-end) (t .seqno-start)
+    let p = put-plan (n .cache) cs ed body i (t .start) (t .next) (t .from-start) (t .from-end) (t .seqno-start)
     (t .seqno-end) (f .messages) (t .accepted) (t .there) (rw (t .bytes) at (takes-true t)) in
     rw (← t .bytes, ← t .named, held-index (n .cache) cs id) at p
 
@@ -53,14 +54,14 @@ new-plan : (n : Node) (ss : List ℕ) (at : ℕ) (m id : List ℕ) → admitAnsw
     → heldAt n ss at (formOf m id) ≡ false
 new-plan n ss at m id h = either (heldAt n ss at (formOf m id)) (λ t. clash (let z = rw t at h in cc)) (λ t. t)
 
-module _ (n : Node) (ss cs body : List ℕ) (i : ℕ) (word : Bool) (at : ℕ) (m id : List ℕ) (typed : Typed n)
-    (plan : planned n ss cs body i word at ≡ taken m id) (new : heldAt n ss at (formOf m id) ≡ false) where
+module _ (n : Node) (ss cs : List ℕ) (ed : Edition) (body : List ℕ) (i : ℕ) (word : Bool) (at : ℕ) (m id : List ℕ)
+    (typed : Typed n) (plan : planned n ss cs ed body i word at ≡ taken m id) (new : heldAt n ss at (formOf m id) ≡ false) where
   ids-written : (n .«max_seen» ≡ 0 → ⊥)
       → seen.Written (n .«max_seen») (swept n at) (admitNode n ss at (taken m id) .seen) ss
       (admitSeen n ss at (taken m id)) (formOf m id)
   unfolding laterNode
   ids-written some =
-      let t = plan-takes n ss cs body i word at m id .0 plan in
+      let t = plan-takes n ss cs ed body i word at m id .0 plan in
       let f = fine-tests n ss cs (t .fine) in
       let w = seen-exactly (swept n at) ss .0 (swept-fine n ss cs (t .fine) at (typed .ids)) in
       let c = room-cap n ss (f .room) in
@@ -75,11 +76,11 @@ module _ (n : Node) (ss cs body : List ℕ) (i : ℕ) (word : Bool) (at : ℕ) (
       → mcache.Written (n .cache) (admitNode n ss at (taken m id) .cache) cs (admitCache n ss cs at (taken m id)) m
   unfolding laterNode keptUnder storedUnder
   message-written some h =
-      let t = plan-takes n ss cs body i word at m id .0 plan in
+      let t = plan-takes n ss cs ed body i word at m id .0 plan in
       let f = fine-tests n ss cs (t .fine) in
       let u : ltb (indexIn (n .cache) id) (n .cache .count) ≡ false = sym (held-index (n .cache) cs id) ∙ h in
-      let p : putPlanned (n .cache) cs body i ≡ keep m id = rw u at (plan-put t) in
-      rw (new, u) (rw p at (mcache.freed-place-used (n .cache) cs body m id i (f .messages) (typed .messages .sized) some p))
+      let p : putPlanned (n .cache) cs ed body i ≡ keep m id = rw u at (plan-put t) in
+      rw (new, u) (rw p at (mcache.freed-place-used (n .cache) cs ed body m id i (f .messages) (typed .messages .sized) some p))
 
   message-none : n .cache .«max_messages» ≡ 0 → admitCache n ss cs at (taken m id) ≡ cs
   unfolding storedUnder storedAt
@@ -94,18 +95,18 @@ module _ (n : Node) (ss cs body : List ℕ) (i : ℕ) (word : Bool) (at : ℕ) (
       let u : ltb (indexIn (n .cache) id) (n .cache .count) ≡ true = sym (held-index (n .cache) cs id) ∙ h in
       (rw (new, u), rw (new, u))
 
-pub admit-freed : (n : Node) (ss cs body : List ℕ) (i : ℕ) (word : Bool) (at : ℕ) (m id : List ℕ) → Typed n
-    → planned n ss cs body i word at ≡ taken m id
-    → admitAnswer n ss at (planned n ss cs body i word at) ≡ admit.New
-    → Freed n ss cs at m id (admitNode n ss at (planned n ss cs body i word at))
-    (admitSeen n ss at (planned n ss cs body i word at)) (admitCache n ss cs at (planned n ss cs body i word at))
-admit-freed n ss cs body i word at m id typed plan h =
+pub admit-freed : (n : Node) (ss cs : List ℕ) (ed : Edition) (body : List ℕ) (i : ℕ) (word : Bool) (at : ℕ)
+    (m id : List ℕ) → Typed n → planned n ss cs ed body i word at ≡ taken m id
+    → admitAnswer n ss at (planned n ss cs ed body i word at) ≡ admit.New
+    → Freed n ss cs at m id (admitNode n ss at (planned n ss cs ed body i word at))
+    (admitSeen n ss at (planned n ss cs ed body i word at)) (admitCache n ss cs at (planned n ss cs ed body i word at))
+admit-freed n ss cs ed body i word at m id typed plan h =
     let new = new-plan n ss at m id (rw plan at h) in
     rw plan
     (record {
-      seen = ids-written n ss cs body i word at m id typed plan new;
-      seen-none = ids-none n ss cs body i word at m id typed plan new;
-      cache = message-written n ss cs body i word at m id typed plan new;
-      cache-none = message-none n ss cs body i word at m id typed plan new;
-      cache-held = message-held n ss cs body i word at m id typed plan new;
+      seen = ids-written n ss cs ed body i word at m id typed plan new;
+      seen-none = ids-none n ss cs ed body i word at m id typed plan new;
+      cache = message-written n ss cs ed body i word at m id typed plan new;
+      cache-none = message-none n ss cs ed body i word at m id typed plan new;
+      cache-held = message-held n ss cs ed body i word at m id typed plan new;
     })

@@ -10,6 +10,9 @@ use lib.ListN.{length}
 use lib.Seq.{sets}
 use lib.Dec.{leb, ltb, eqb}
 use borrow.Author.Tests.{ltb-false, le-ltb, eqb-true, eqb-false}
+use Rattle.basis.specs.declared.Edition.{Edition}
+use Rattle.basis.specs.declared.Edition.the-variants.{V12}
+use Rattle.basis.specs.Dialect.{spoken}
 use Rattle.basis.specs.Cases.{either, clash}
 use Rattle.basis.specs.Writing.{answer, written}
 use Rattle.rows.specs.Rows.{placeOf, rowsIn}
@@ -60,8 +63,8 @@ use Rattle.node.specs.Calls.{startNode, lentOf, laterNode, Plan, no, tak
 use Rattle.node.specs.Calls.{swept, heldAt, admitAnswer, admitNode, admitSeen, admitCache, whenDone, beatAnswer}
 use Rattle.node.specs.Calls.{beatNode, toldIn, advertiseBytes, advertised, advertiseAnswer}
 use Rattle.node.specs.Calls.{advertiseLeft, offered, knownIn, unseenFrom, unseenOf, askBytes, asked, askAnswer, askLeft}
-use Rattle.node.specs.Calls.{wanted, rowsFor, cachedOf, roomOf, servedOf, replyBytes, replied, replyTo}
-use Rattle.node.specs.Calls.{serveAnswer, serveLeft}
+use Rattle.node.specs.Calls.{wanted, unwantedIn, remaining, rowsFor, cachedOf, roomOf, servedOf, replyBytes}
+use Rattle.node.specs.Calls.{replied, replyTo, serveAnswer, serveLeft}
 use Rattle.node.specs.WellFormed.{Typed}
 use Rattle.node.specs.StateLaws.{fine-tests, room-cap}
 use Rattle.node.specs.ReplyLaws.{reply-bytes, reply-some, sent-bytes}
@@ -86,9 +89,10 @@ start-says max-seen history max flags h = rw h
 -- ---- what an admit takes
 -- a message and its id: the state is fine, the body accepted, m the message at the index, fit under the node's flags and
 -- with the host's word; its id is from + seqno; and the clock is not ahead
-pub record Takes (n : Node) (ss cs body : List ℕ) (i : ℕ) (word : Bool) (at : ℕ) (m id : List ℕ) : Type 0 where
+pub record Takes (n : Node) (ss cs : List ℕ) (ed : Edition) (body : List ℕ) (i : ℕ) (word : Bool) (at : ℕ)
+    (m id : List ℕ) : Type 0 where
   pub fine : lentOf n ss cs ≡ lent.Fine
-  pub accepted : acceptOf body ≡ checked.Fine
+  pub accepted : acceptOf (spoken ed) body ≡ checked.Fine
   pub start : ℕ
   pub next : ℕ
   pub there : messageAt body i ≡ found.At start next
@@ -101,11 +105,11 @@ pub record Takes (n : Node) (ss cs body : List ℕ) (i : ℕ) (word : Bool) (at 
   pub named : id ≡ idBytes m from-start from-end seqno-start seqno-end
   pub forward : n .clock ≤ at
 
-module _ (n : Node) (ss cs body : List ℕ) (i : ℕ) (word : Bool) (at : ℕ) (m id : List ℕ) where
-  module _ (fine : lentOf n ss cs ≡ lent.Fine) (ok : acceptOf body ≡ checked.Fine) where
+module _ (n : Node) (ss cs : List ℕ) (ed : Edition) (body : List ℕ) (i : ℕ) (word : Bool) (at : ℕ) (m id : List ℕ) where
+  module _ (fine : lentOf n ss cs ≡ lent.Fine) (ok : acceptOf (spoken ed) body ≡ checked.Fine) where
     of-fit : (a e : ℕ) (r : Admission) → messageAt body i ≡ found.At a e
         → admissionOf (n .cache .flags) (between body a e) word ≡ r
-        → planFit n at (between body a e) r ≡ taken m id → Takes n ss cs body i word at m id
+        → planFit n at (between body a e) r ≡ taken m id → Takes n ss cs ed body i word at m id
     of-fit a e (admission.Unfit why) there f h = clash (cc)
     of-fit a e (admission.Fit x y z w) there f h =
         let p = between body a e in
@@ -132,34 +136,34 @@ module _ (n : Node) (ss cs body : List ℕ) (i : ℕ) (word : Bool) (at : ℕ) (
         })
 
     of-at : (r : MessageAt) → messageAt body i ≡ r → planAt n at word body r ≡ taken m id
-        → Takes n ss cs body i word at m id
+        → Takes n ss cs ed body i word at m id
     of-at (found.Count k) there h = clash (cc)
     of-at (found.At a e) there h = of-fit a e (admissionOf (n .cache .flags) (between body a e) word) there refl h
 
-  of-body : lentOf n ss cs ≡ lent.Fine → (r : Checked) → acceptOf body ≡ r → planBody n at word body i r ≡ taken m id
-      → Takes n ss cs body i word at m id
+  of-body : lentOf n ss cs ≡ lent.Fine → (r : Checked) → acceptOf (spoken ed) body ≡ r
+      → planBody n at word body i r ≡ taken m id → Takes n ss cs ed body i word at m id
   of-body fine (checked.Refused why) ok h = clash (cc)
   of-body fine checked.Fine ok h = of-at fine ok (messageAt body i) refl h
 
-  of-lent : (l : Lent) → lentOf n ss cs ≡ l → planned n ss cs body i word at ≡ taken m id
-      → Takes n ss cs body i word at m id
+  of-lent : (l : Lent) → lentOf n ss cs ≡ l → planned n ss cs ed body i word at ≡ taken m id
+      → Takes n ss cs ed body i word at m id
   unfolding planned
   of-lent (lent.Faulty why) e h = clash (let q = rw e at h in cc)
-  of-lent lent.Fine e h = of-body e (acceptOf body) refl (rw e at h)
+  of-lent lent.Fine e h = of-body e (acceptOf (spoken ed) body) refl (rw e at h)
 
-  takes-plan : Takes n ss cs body i word at m id → planned n ss cs body i word at ≡ taken m id
+  takes-plan : Takes n ss cs ed body i word at m id → planned n ss cs ed body i word at ≡ taken m id
   unfolding planned
   takes-plan t =
       rw (t .fine, t .accepted, t .there, ← t .bytes, t .fit, le-ltb at (n .clock) (t .forward))
       (ap (λ (j : List ℕ). taken m j) (sym (t .named)))
 
   -- exactly then
-  pub plan-takes : (planned n ss cs body i word at ≡ taken m id) ↔ Takes n ss cs body i word at m id
+  pub plan-takes : (planned n ss cs ed body i word at ≡ taken m id) ↔ Takes n ss cs ed body i word at m id
   plan-takes = (of-lent (lentOf n ss cs) refl, takes-plan)
 
 -- what follows for the message and its id
-module _ {n : Node} {ss cs body : List ℕ} {i : ℕ} {word : Bool} {at : ℕ} {m id : List ℕ}
-    (t : Takes n ss cs body i word at m id) where
+module _ {n : Node} {ss cs : List ℕ} {ed : Edition} {body : List ℕ} {i : ℕ} {word : Bool} {at : ℕ} {m id : List ℕ}
+    (t : Takes n ss cs ed body i word at m id) where
   pub takes-vouched : vouched (n .cache .flags) m word ≡ true
   takes-vouched = fit-vouched (n .cache .flags) m word (t .from-start) (t .from-end) (t .seqno-start) (t .seqno-end) (t .fit)
 
@@ -177,17 +181,17 @@ module _ {n : Node} {ss cs body : List ℕ} {i : ℕ} {word : Bool} {at : ℕ} {
 
   pub takes-own : givesId (n .cache .flags) m id ≡ true
   takes-own =
-      let r = message-read body i (t .start) (t .next) (t .accepted) (t .there) in
+      let r = message-read (spoken ed) body i (t .start) (t .next) (t .accepted) (t .there) in
       rw (t .named) (gives-own (n .cache .flags) m (r .0) (t .from-start) (t .from-end) (t .seqno-start) (t .seqno-end)
       (rw (t .bytes) (r .1)) takes-true)
 
 -- where nothing is refused, the message at the index is taken, under its id
-pub plan-taken : (n : Node) (ss cs body : List ℕ) (i at a e x y z w : ℕ) → lentOf n ss cs ≡ lent.Fine
-    → acceptOf body ≡ checked.Fine → messageAt body i ≡ found.At a e
+pub plan-taken : (n : Node) (ss cs : List ℕ) (ed : Edition) (body : List ℕ) (i at a e x y z w : ℕ)
+    → lentOf n ss cs ≡ lent.Fine → acceptOf (spoken ed) body ≡ checked.Fine → messageAt body i ≡ found.At a e
     → admissionOf (n .cache .flags) (between body a e) true ≡ admission.Fit x y z w → n .clock ≤ at
-    → planned n ss cs body i true at ≡ taken (between body a e) (idBytes (between body a e) x y z w)
+    → planned n ss cs ed body i true at ≡ taken (between body a e) (idBytes (between body a e) x y z w)
 unfolding planned
-plan-taken n ss cs body i at a e x y z w fine ok there fit h = rw (fine, ok, there, fit, le-ltb at (n .clock) h)
+plan-taken n ss cs ed body i at a e x y z w fine ok there fit h = rw (fine, ok, there, fit, le-ltb at (n .clock) h)
 
 -- a message that gives an id is taken under it, where the clock does not go back
 pub fit-plan : (n : Node) (at : ℕ) (m id : List ℕ) → givesId (n .cache .flags) m id ≡ true → n .clock ≤ at
@@ -258,20 +262,20 @@ module _ (n : Node) (ss cs : List ℕ) (fine : lentOf n ss cs ≡ lent.Fine) (at
           (omega arith) k))
 
 -- ---- admit
-module _ (n : Node) (ss cs body : List ℕ) (i : ℕ) (word : Bool) (at : ℕ) (m id : List ℕ) (typed : Typed n)
-    (plan : planned n ss cs body i word at ≡ taken m id) where
-  pub admit-says : admitAnswer n ss at (planned n ss cs body i word at) ≡ cond (isNew at m id (gatewayIn n ss cs))
+module _ (n : Node) (ss cs : List ℕ) (ed : Edition) (body : List ℕ) (i : ℕ) (word : Bool) (at : ℕ) (m id : List ℕ)
+    (typed : Typed n) (plan : planned n ss cs ed body i word at ≡ taken m id) where
+  pub admit-says : admitAnswer n ss at (planned n ss cs ed body i word at) ≡ cond (isNew at m id (gatewayIn n ss cs))
       admit.New admit.Duplicate
   admit-says =
-      let t = plan-takes n ss cs body i word at m id .0 plan in
+      let t = plan-takes n ss cs ed body i word at m id .0 plan in
       rw (plan, is-new n ss cs (t .fine) at m id) (either (heldAt n ss at (formOf m id)) (λ u. rw u) (λ u. rw u))
 
-  pub admit-gateway : gatewayIn (admitNode n ss at (planned n ss cs body i word at))
-      (admitSeen n ss at (planned n ss cs body i word at)) (admitCache n ss cs at (planned n ss cs body i word at))
+  pub admit-gateway : gatewayIn (admitNode n ss at (planned n ss cs ed body i word at))
+      (admitSeen n ss at (planned n ss cs ed body i word at)) (admitCache n ss cs at (planned n ss cs ed body i word at))
       ≡ afterAdmit at m id (gatewayIn n ss cs)
   unfolding gatewayIn afterAdmit laterNode
   admit-gateway =
-      let t = plan-takes n ss cs body i word at m id .0 plan in
+      let t = plan-takes n ss cs ed body i word at m id .0 plan in
       let f = fine-tests n ss cs (t .fine) in
       let a = seen-inserted n ss cs (t .fine) at (typed .ids) (formOf m id) (omega (arith, takes-id-small t)) in
       let b = store-inserted n ss cs (t .fine) at (typed .ids) (formOf m id) (omega (arith, takes-id-small t)) in
@@ -384,22 +388,26 @@ module _ (n : Node) (ss cs out : List ℕ) (fine : lentOf n ss cs ≡ lent.Fine)
   advertise-says topic windows h =
       rw (fine, le-ltb 1024 (length topic) h, told-gateway n ss cs topic windows fine) (refl, refl)
 
-  module _ (body : List ℕ) (ok : acceptOf body ≡ checked.Fine) where
-    pub ask-says : (askAnswer n ss cs body out
+  module _ (ed : Edition) (body : List ℕ) (ok : acceptOf (spoken ed) body ≡ checked.Fine) where
+    pub ask-says : (askAnswer n ss cs ed body out
         ≡ asked (answer (rpcBytes (askOf (atPath (3 ∷ 1 ∷ 2 ∷ []) body) (gatewayIn n ss cs))) out))
-        × (askLeft n ss cs body out
+        × (askLeft n ss cs ed body out
         ≡ written (rpcBytes (askOf (atPath (3 ∷ 1 ∷ 2 ∷ []) body) (gatewayIn n ss cs))) out)
     unfolding askAnswer askLeft askBytes askOf offered
     ask-says = rw (fine, ok, unseen-gateway n ss cs (offered body)) (refl, refl)
 
-    pub serve-says : (serveAnswer n ss cs body out
-        ≡ replied (serveOf (atPath (3 ∷ 2 ∷ 1 ∷ []) body) (length out) (gatewayIn n ss cs)))
-        × (serveLeft n ss cs body out
-        ≡ sets out 0 (sentBytes (serveOf (atPath (3 ∷ 2 ∷ 1 ∷ []) body) (length out) (gatewayIn n ss cs))))
-    unfolding serveAnswer serveLeft serveOf wanted roomOf
-    serve-says =
-        let ms = having (gatewayIn n ss cs) (wanted body) in
-        rw (fine, ok, cached-gateway n ss cs (wanted body)) (refl, ap (sets out 0) (sym (sent-bytes ms out)))
+    -- the second body too
+    pub serve-says : (second : List ℕ) → acceptOf (spoken V12) second ≡ checked.Fine
+        → (serveAnswer n ss cs ed body second out
+        ≡ replied (serveOf (atPath (3 ∷ 2 ∷ 1 ∷ []) body) (unwantedIn second) (length out) (gatewayIn n ss cs)))
+        × (serveLeft n ss cs ed body second out
+        ≡ sets out 0
+        (sentBytes (serveOf (atPath (3 ∷ 2 ∷ 1 ∷ []) body) (unwantedIn second) (length out) (gatewayIn n ss cs))))
+    unfolding serveAnswer serveLeft serveOf remaining wanted roomOf
+    serve-says second too =
+        let ms = having (gatewayIn n ss cs) (remaining body second) in
+        rw (fine, ok, too, cached-gateway n ss cs (remaining body second))
+        (refl, ap (sets out 0) (sym (sent-bytes ms out)))
 
 -- ---- a refused call changes nothing
 plan-refused : (n : Node) (ss cs : List ℕ) (at : ℕ) (r : Plan) → (admitNumber (admitAnswer n ss at r) ≡ 0 → ⊥)
@@ -407,12 +415,12 @@ plan-refused : (n : Node) (ss cs : List ℕ) (at : ℕ) (r : Plan) → (admitNum
 plan-refused n ss cs at (no r) h = (refl, refl, refl)
 plan-refused n ss cs at (taken m id) h = absurd (h (either (heldAt n ss at (formOf m id)) (λ t. rw t) (λ t. rw t)))
 
-pub admit-refused : (n : Node) (ss cs body : List ℕ) (i : ℕ) (word : Bool) (at : ℕ)
-    → (admitNumber (admitAnswer n ss at (planned n ss cs body i word at)) ≡ 0 → ⊥)
-    → (admitNode n ss at (planned n ss cs body i word at) ≡ n)
-    × (admitSeen n ss at (planned n ss cs body i word at) ≡ ss)
-    × (admitCache n ss cs at (planned n ss cs body i word at) ≡ cs)
-admit-refused n ss cs body i word at h = plan-refused n ss cs at (planned n ss cs body i word at) h
+pub admit-refused : (n : Node) (ss cs : List ℕ) (ed : Edition) (body : List ℕ) (i : ℕ) (word : Bool) (at : ℕ)
+    → (admitNumber (admitAnswer n ss at (planned n ss cs ed body i word at)) ≡ 0 → ⊥)
+    → (admitNode n ss at (planned n ss cs ed body i word at) ≡ n)
+    × (admitSeen n ss at (planned n ss cs ed body i word at) ≡ ss)
+    × (admitCache n ss cs at (planned n ss cs ed body i word at) ≡ cs)
+admit-refused n ss cs ed body i word at h = plan-refused n ss cs at (planned n ss cs ed body i word at) h
 
 -- a heartbeat is not given the stores to write
 done-or-not : (n d : Node) (r : Beat) → (beatNumber r ≡ 0 → ⊥) → whenDone r d n ≡ n
@@ -445,15 +453,16 @@ module _ (n : Node) (ss cs out : List ℕ) where
       → advertiseLeft n ss cs topic windows out ≡ out
   advertise-refused topic windows h = advertise-by topic windows (lentOf n ss cs) refl h
 
-  ask-by : (body : List ℕ) (l : Lent) (r : Checked) → lentOf n ss cs ≡ l → acceptOf body ≡ r
-      → (askNumber (askAnswer n ss cs body out) ≡ 0 → ⊥) → askLeft n ss cs body out ≡ out
+  ask-by : (ed : Edition) (body : List ℕ) (l : Lent) (r : Checked) → lentOf n ss cs ≡ l → acceptOf (spoken ed) body ≡ r
+      → (askNumber (askAnswer n ss cs ed body out) ≡ 0 → ⊥) → askLeft n ss cs ed body out ≡ out
   unfolding askAnswer askLeft answer
-  ask-by body (lent.Faulty why) r e a h = rw e
-  ask-by body lent.Fine (checked.Refused why) e a h = rw (e, a)
-  ask-by body lent.Fine checked.Fine e a h = rw (e, a) (written-not (askBytes n ss body) out (λ u. h (rw (e, a, u))))
+  ask-by ed body (lent.Faulty why) r e a h = rw e
+  ask-by ed body lent.Fine (checked.Refused why) e a h = rw (e, a)
+  ask-by ed body lent.Fine checked.Fine e a h = rw (e, a) (written-not (askBytes n ss body) out (λ u. h (rw (e, a, u))))
 
-  pub ask-refused : (body : List ℕ) → (askNumber (askAnswer n ss cs body out) ≡ 0 → ⊥) → askLeft n ss cs body out ≡ out
-  ask-refused body h = ask-by body (lentOf n ss cs) (acceptOf body) refl refl h
+  pub ask-refused : (ed : Edition) (body : List ℕ) → (askNumber (askAnswer n ss cs ed body out) ≡ 0 → ⊥)
+      → askLeft n ss cs ed body out ≡ out
+  ask-refused ed body h = ask-by ed body (lentOf n ss cs) (acceptOf (spoken ed) body) refl refl h
 
   -- where the first message does not fit, none is written
   reply-refused : (ms : List (List ℕ)) → (serveNumber (replyTo ms out) ≡ 0 → ⊥) → sets out 0 (replyBytes ms out) ≡ out
@@ -463,14 +472,17 @@ module _ (n : Node) (ss cs out : List ℕ) where
       (λ t. rw (reply-bytes (m ∷ ms) out, eqb-true (servedOf (m ∷ ms) out) 0 t))
       (λ t. absurd (h (rw (reply-some m ms out (eqb-false (servedOf (m ∷ ms) out) 0 t)))))
 
-  serve-by : (body : List ℕ) (l : Lent) (r : Checked) → lentOf n ss cs ≡ l → acceptOf body ≡ r
-      → (serveNumber (serveAnswer n ss cs body out) ≡ 0 → ⊥) → serveLeft n ss cs body out ≡ out
+  serve-by : (ed : Edition) (body second : List ℕ) (l : Lent) (r q : Checked) → lentOf n ss cs ≡ l
+      → acceptOf (spoken ed) body ≡ r → acceptOf (spoken V12) second ≡ q
+      → (serveNumber (serveAnswer n ss cs ed body second out) ≡ 0 → ⊥) → serveLeft n ss cs ed body second out ≡ out
   unfolding serveAnswer serveLeft
-  serve-by body (lent.Faulty why) r e a h = rw e
-  serve-by body lent.Fine (checked.Refused why) e a h = rw (e, a)
-  serve-by body lent.Fine checked.Fine e a h =
-      rw (e, a) (reply-refused (cachedOf (n .cache) cs (wanted body)) (λ u. h (rw (e, a) u)))
+  serve-by ed body second (lent.Faulty why) r q e a b h = rw e
+  serve-by ed body second lent.Fine (checked.Refused why) q e a b h = rw (e, a)
+  serve-by ed body second lent.Fine checked.Fine (checked.Refused why) e a b h = rw (e, a, b)
+  serve-by ed body second lent.Fine checked.Fine checked.Fine e a b h =
+      rw (e, a, b) (reply-refused (cachedOf (n .cache) cs (remaining body second)) (λ u. h (rw (e, a, b) u)))
 
-  pub serve-refused : (body : List ℕ) → (serveNumber (serveAnswer n ss cs body out) ≡ 0 → ⊥)
-      → serveLeft n ss cs body out ≡ out
-  serve-refused body h = serve-by body (lentOf n ss cs) (acceptOf body) refl refl h
+  pub serve-refused : (ed : Edition) (body second : List ℕ)
+      → (serveNumber (serveAnswer n ss cs ed body second out) ≡ 0 → ⊥) → serveLeft n ss cs ed body second out ≡ out
+  serve-refused ed body second h =
+      serve-by ed body second (lentOf n ss cs) (acceptOf (spoken ed) body) (acceptOf (spoken V12) second) refl refl refl h

@@ -8,6 +8,7 @@ use native.Mathlib.Omega.{arith}
 use lib.ListN.{length, drop, drop-of-length-le}
 use lib.Dec.{leb}
 use borrow.Author.Tests.{leb-true, le-leb}
+use Rattle.basis.specs.declared.Edition.{Edition}
 use Rattle.basis.specs.Cases.{either, clash}
 use Rattle.rows.specs.Rows.{newest}
 use Rattle.rows.specs.Ids.{sameBytes, among}
@@ -102,32 +103,33 @@ other-mark-new at later u m id g l n h =
     (forms-differ (isSigned u) (isSigned m) id n) b)
 
 -- of the calls
-module _ (n : Node) (ss cs body : List ℕ) (i : ℕ) (word : Bool) (at : ℕ) (u id : List ℕ) (typed : Typed n)
-    (plan : planned n ss cs body i word at ≡ taken u id) where
+module _ (n : Node) (ss cs : List ℕ) (ed : Edition) (body : List ℕ) (i : ℕ) (word : Bool) (at : ℕ) (u id : List ℕ)
+    (typed : Typed n) (plan : planned n ss cs ed body i word at ≡ taken u id) where
   abbrev nextNode : Node
-  nextNode = admitNode n ss at (planned n ss cs body i word at)
+  nextNode = admitNode n ss at (planned n ss cs ed body i word at)
 
   abbrev nextSeen : List ℕ
-  nextSeen = admitSeen n ss at (planned n ss cs body i word at)
+  nextSeen = admitSeen n ss at (planned n ss cs ed body i word at)
 
   abbrev nextCache : List ℕ
-  nextCache = admitCache n ss cs at (planned n ss cs body i word at)
+  nextCache = admitCache n ss cs at (planned n ss cs ed body i word at)
 
   next-clock : nextNode .clock ≡ at
   unfolding gatewayIn afterAdmit
-  next-clock = ap (λ (g : Gateway). g .clock) (admit-gateway n ss cs body i word at u id typed plan)
+  next-clock = ap (λ (g : Gateway). g .clock) (admit-gateway n ss cs ed body i word at u id typed plan)
 
-  pub other-mark-told : (body2 : List ℕ) (j : ℕ) (word2 : Bool) (later : ℕ) (m : List ℕ) → not (isSigned u) ≡ isSigned m
-      → planned nextNode nextSeen nextCache body2 j word2 later ≡ taken m id
+  pub other-mark-told : (ed2 : Edition) (body2 : List ℕ) (j : ℕ) (word2 : Bool) (later : ℕ) (m : List ℕ)
+      → not (isSigned u) ≡ isSigned m
+      → planned nextNode nextSeen nextCache ed2 body2 j word2 later ≡ taken m id
       → isNew later m id (gatewayIn n ss cs) ≡ true
-      → admitAnswer nextNode nextSeen later (planned nextNode nextSeen nextCache body2 j word2 later) ≡ admit.New
-  other-mark-told body2 j word2 later m differ plan2 new =
-      let t = plan-takes nextNode nextSeen nextCache body2 j word2 later m id .0 plan2 in
+      → admitAnswer nextNode nextSeen later (planned nextNode nextSeen nextCache ed2 body2 j word2 later) ≡ admit.New
+  other-mark-told ed2 body2 j word2 later m differ plan2 new =
+      let t = plan-takes nextNode nextSeen nextCache ed2 body2 j word2 later m id .0 plan2 in
       let l : at ≤ later = omega (arith, next-clock, t .forward) in
-      let g = admit-gateway n ss cs body i word at u id typed plan in
+      let g = admit-gateway n ss cs ed body i word at u id typed plan in
       let a : isNew later m id (gatewayIn nextNode nextSeen nextCache) ≡ true =
       ap (isNew later m id) g ∙ other-mark-new at later u m id (gatewayIn n ss cs) l differ new in
-      admit-says nextNode nextSeen nextCache body2 j word2 later m id (admit-typed n ss cs typed body i word at) plan2
+      admit-says nextNode nextSeen nextCache ed2 body2 j word2 later m id (admit-typed n ss cs typed ed body i word at) plan2
       ∙ rw a
 
 -- ---- the cache keeps whichever came first
@@ -152,26 +154,26 @@ first-served at later u m id g some h new =
     kept-first later m id (afterAdmit at u id g) (served-held id u (afterAdmit at u id g) s) ∙ s
 
 -- the same of the calls: after both admits a serve of the id finds u
-module _ (n : Node) (ss cs body : List ℕ) (i : ℕ) (word : Bool) (at : ℕ) (u id : List ℕ) (typed : Typed n)
-    (plan : planned n ss cs body i word at ≡ taken u id) where
-  pub first-told : (body2 : List ℕ) (j : ℕ) (word2 : Bool) (later : ℕ) (m : List ℕ)
-      → let n2 = admitNode n ss at (planned n ss cs body i word at) in
-      let s2 = admitSeen n ss at (planned n ss cs body i word at) in
-      let c2 = admitCache n ss cs at (planned n ss cs body i word at) in
-      let plan2 = planned n2 s2 c2 body2 j word2 later in
+module _ (n : Node) (ss cs : List ℕ) (ed : Edition) (body : List ℕ) (i : ℕ) (word : Bool) (at : ℕ) (u id : List ℕ)
+    (typed : Typed n) (plan : planned n ss cs ed body i word at ≡ taken u id) where
+  pub first-told : (ed2 : Edition) (body2 : List ℕ) (j : ℕ) (word2 : Bool) (later : ℕ) (m : List ℕ)
+      → let n2 = admitNode n ss at (planned n ss cs ed body i word at) in
+      let s2 = admitSeen n ss at (planned n ss cs ed body i word at) in
+      let c2 = admitCache n ss cs at (planned n ss cs ed body i word at) in
+      let plan2 = planned n2 s2 c2 ed2 body2 j word2 later in
       plan2 ≡ taken m id → (n .cache .«max_messages» ≡ 0 → ⊥) → held id (cachedIn (n .cache) cs) ≡ false
       → isNew at u id (gatewayIn n ss cs) ≡ true
       → cachedOf (admitNode n2 s2 later plan2 .cache) (admitCache n2 s2 c2 later plan2) (id ∷ []) ≡ u ∷ []
   unfolding gatewayIn
-  first-told body2 j word2 later m plan2 some h new =
-      let n2 = admitNode n ss at (planned n ss cs body i word at) in
-      let s2 = admitSeen n ss at (planned n ss cs body i word at) in
-      let c2 = admitCache n ss cs at (planned n ss cs body i word at) in
-      let p2 = planned n2 s2 c2 body2 j word2 later in
+  first-told ed2 body2 j word2 later m plan2 some h new =
+      let n2 = admitNode n ss at (planned n ss cs ed body i word at) in
+      let s2 = admitSeen n ss at (planned n ss cs ed body i word at) in
+      let c2 = admitCache n ss cs at (planned n ss cs ed body i word at) in
+      let p2 = planned n2 s2 c2 ed2 body2 j word2 later in
       cached-gateway (admitNode n2 s2 later p2) (admitSeen n2 s2 later p2) (admitCache n2 s2 c2 later p2) (id ∷ [])
       ∙ ap (λ (g : Gateway). having g (id ∷ []))
-      (admit-gateway n2 s2 c2 body2 j word2 later m id (admit-typed n ss cs typed body i word at) plan2
-      ∙ ap (afterAdmit later m id) (admit-gateway n ss cs body i word at u id typed plan))
+      (admit-gateway n2 s2 c2 ed2 body2 j word2 later m id (admit-typed n ss cs typed ed body i word at) plan2
+      ∙ ap (afterAdmit later m id) (admit-gateway n ss cs ed body i word at u id typed plan))
       ∙ first-served at later u m id (gatewayIn n ss cs) some h new
 
 -- ---- which ids ask counts as held

@@ -4,6 +4,8 @@ use Prim.Native.Nat.{ℕ}
 use mathlib.Core.Path.{_≡_, refl, ap, _∙_}
 use mathlib.Core.List.{List, [], _∷_}
 use mathlib.Core.Bool.{Bool, true, false, cond, not}
+use Rattle.basis.specs.declared.Edition.{Edition}
+use Rattle.basis.specs.Dialect.{spoken}
 use Rattle.basis.specs.Cases.{either}
 use Rattle.rows.specs.Ids.{among}
 use Rattle.protobuf.specs.declared.Checked.{Checked}
@@ -72,9 +74,10 @@ abbrev pub planBodyWas : Node → ℕ → Bool → List ℕ → ℕ → Checked 
 planBodyWas n at word body i (checked.Refused why) = no (admit.Refused why)
 planBodyWas n at word body i checked.Fine = planAtWas n at word body (messageAt body i)
 
-unfoldable pub plannedWas : Node → List ℕ → List ℕ → List ℕ → ℕ → Bool → ℕ → Plan
-plannedWas n ss cs body i word at =
-    onLent (λ (why : Fault). no (admit.Faulty why)) (lentOf n ss cs) (planBodyWas n at word body i (acceptOf body))
+unfoldable pub plannedWas : Node → List ℕ → List ℕ → Edition → List ℕ → ℕ → Bool → ℕ → Plan
+plannedWas n ss cs ed body i word at =
+    onLent (λ (why : Fault). no (admit.Faulty why)) (lentOf n ss cs)
+    (planBodyWas n at word body i (acceptOf (spoken ed) body))
 
 unfoldable pub unseenWas : List (List ℕ) → List (List ℕ) → List (List ℕ)
 unseenWas seen [] = []
@@ -91,14 +94,14 @@ module _ (n : Node) (off : allowsUnsigned (n .cache .flags) ≡ false) where
   body-was at word body i (checked.Refused why) = refl
   body-was at word body i checked.Fine = at-was at word body (messageAt body i)
 
-  pub planned-off : (ss cs body : List ℕ) (i : ℕ) (word : Bool) (at : ℕ)
-      → planned n ss cs body i word at ≡ plannedWas n ss cs body i word at
+  pub planned-off : (ss cs : List ℕ) (ed : Edition) (body : List ℕ) (i : ℕ) (word : Bool) (at : ℕ)
+      → planned n ss cs ed body i word at ≡ plannedWas n ss cs ed body i word at
   unfolding planned plannedWas
-  planned-off ss cs body i word at = rw (body-was at word body i (acceptOf body))
+  planned-off ss cs ed body i word at = rw (body-was at word body i (acceptOf (spoken ed) body))
 
   -- what is taken has a signature, so that it is seen as it was
-  pub takes-signed : {ss cs body : List ℕ} {i : ℕ} {word : Bool} {at : ℕ} {m id : List ℕ}
-      → Takes n ss cs body i word at m id → (isSigned m ≡ true) × (formOf m id ≡ 1 ∷ id)
+  pub takes-signed : {ss cs : List ℕ} {ed : Edition} {body : List ℕ} {i : ℕ} {word : Bool} {at : ℕ} {m id : List ℕ}
+      → Takes n ss cs ed body i word at m id → (isSigned m ≡ true) × (formOf m id ≡ 1 ∷ id)
   takes-signed {word = word} {m = m} {id = id} t =
       let s = fit-signed (n .cache .flags) m word (t .from-start) (t .from-end) (t .seqno-start) (t .seqno-end) (t .fit) off in
       (s, rw s)

@@ -3,19 +3,22 @@
 use Prim.Native.Nat.{ℕ, zero, suc, _+_, _-_, _*_, _≤_, _<_}
 use mathlib.Core.Path.{_≡_, refl, sym, ap, ap₂, _∙_}
 use mathlib.Core.List.{List, [], _∷_, _++_, append-assoc, append-nil}
-use mathlib.Core.Bool.{Bool, true, false, cond, _||_}
+use mathlib.Core.Bool.{Bool, true, false, cond, not, _&&_, _||_, and-false}
 use native.Mathlib.Omega.{arith}
 use native.Mathlib.Numerals.{add-one, one-add}
 use lib.ListN.{length, take, drop, getD, set, length-append, length-take, drop-of-length-le}
 use lib.Seq.{sets, length-sets, drop-cons, drop-drop, take-take, getD-set-same, getD-set-other}
 use lib.Dec.{leb, ltb}
 use borrow.Author.Tests.{eqb-true, ltb-true, ltb-false, leb-true, leb-false, le-leb, lt-leb}
+use Rattle.basis.specs.declared.Dialect.{Dialect}
+use Rattle.basis.specs.declared.Edition.the-variants.{V12}
+use Rattle.basis.specs.Dialect.{spoken}
 use Rattle.basis.specs.Cases.{either, clash, both}
 use Rattle.basis.specs.Lists.{drop-take}
 use Rattle.rows.specs.Rows.{tab}
 use Rattle.rows.specs.RowsLaws.{length-tab, getD-tab, tab-ext, tab-snoc}
 use Rattle.rows.specs.Ids.{sameBytes, among, distinct}
-use Rattle.rows.specs.IdsLaws.{same-equal, among-append, distinct-snoc, distinct-middle}
+use Rattle.rows.specs.IdsLaws.{same-self, same-equal, among-append, distinct-snoc, distinct-middle}
 use Rattle.protobuf.specs.declared.Field.{Field}
 use Rattle.protobuf.specs.declared.WireError.{WireError}
 use Rattle.protobuf.specs.declared.Checked.the-variants.{Fine}
@@ -36,7 +39,8 @@ use Rattle.schema.specs.Count.{roleCount, countAlong, counted}
 use Rattle.schema.specs.CountLaws.{count-along, plus-fits, then-fits}
 use Rattle.schema.specs.Accept.{acceptOf}
 use Rattle.schema.specs.AcceptLaws.{accept-records}
-use Rattle.node.specs.Parts.{partAt, partsIn, Parts, valuesAlong, inEach, atPath, onceAfter, once, fitting}
+use Rattle.node.specs.Parts.{partAt, partsIn, Parts, valuesAlong, inEach, atPath, onceAfter, once, without}
+use Rattle.node.specs.Parts.{fitting}
 
 -- ---- the parts one by one
 pub length-parts : (s t : List ℕ) (n : ℕ) → length (partsIn s t n) ≡ n
@@ -245,6 +249,36 @@ once-from earlier (i ∷ is) d =
 pub once-same : (is : List (List ℕ)) → distinct is ≡ true → once is ≡ is
 once-same is d = once-from [] is d
 
+-- ---- those that are not among others
+module _ (others is : List (List ℕ)) (i : List ℕ) where
+  pub without-skip : among i others ≡ true → without others (i ∷ is) ≡ without others is
+  unfolding without
+  without-skip h = simp h
+
+  pub without-keep : among i others ≡ false → without others (i ∷ is) ≡ i ∷ without others is
+  unfolding without
+  without-keep h = simp h
+
+-- without none, all
+pub without-none : (is : List (List ℕ)) → without [] is ≡ is
+unfolding without among
+without-none [] = refl
+without-none (i ∷ is) = ap (λ (l : List (List ℕ)). i ∷ l) (without-none is)
+
+-- of some, those and no others
+pub without-among : (others is : List (List ℕ)) (x : List ℕ)
+    → among x (without others is) ≡ (among x is && not (among x others))
+unfolding without among
+without-among others [] x = refl
+without-among others (i ∷ is) x =
+    let r = without-among others is x in
+    either (sameBytes i x)
+    (λ t.
+    let e : i ≡ x = same-equal i x t in
+    either (among x others) (λ u. rw (e, u, same-self x) (rw u at r ∙ and-false (among x is)))
+    (λ u. rw (e, u, same-self x)))
+    (λ t. either (among i others) (λ u. rw (u, t) r) (λ u. rw (u, t) r))
+
 -- ---- how many fit
 module _ (n room : ℕ) (m : List ℕ) (ms : List (List ℕ)) where
   pub fitting-more : length (bytesField n m) ≤ room
@@ -338,23 +372,38 @@ path-id k m q s r e =
     (fieldsOf s) r (sym (count-along k s) ∙ e)
 
 -- the ids of IHAVEs and of IWANTs
-pub ihave-counted : (s : List ℕ) (r : ℕ) → counted kind.Rpc s ≡ Records r → length (atPath (3 ∷ 1 ∷ 2 ∷ []) s) ≤ r
+pub ihave-counted : (d : Dialect) (s : List ℕ) (r : ℕ) → counted (kind.Rpc d) s ≡ Records r
+    → length (atPath (3 ∷ 1 ∷ 2 ∷ []) s) ≤ r
 unfolding roleOf
-ihave-counted =
-    path-sub kind.Rpc kind.ControlMessage Merged 3 (1 ∷ 2 ∷ []) refl
-    (path-sub kind.ControlMessage kind.ControlIHave Anew 1 (2 ∷ []) refl (path-id kind.ControlIHave 2 refl))
+ihave-counted d =
+    path-sub (kind.Rpc d) (kind.ControlMessage d) Merged 3 (1 ∷ 2 ∷ []) refl
+    (path-sub (kind.ControlMessage d) kind.ControlIHave Anew 1 (2 ∷ []) refl (path-id kind.ControlIHave 2 refl))
 
-pub iwant-counted : (s : List ℕ) (r : ℕ) → counted kind.Rpc s ≡ Records r → length (atPath (3 ∷ 2 ∷ 1 ∷ []) s) ≤ r
+pub iwant-counted : (d : Dialect) (s : List ℕ) (r : ℕ) → counted (kind.Rpc d) s ≡ Records r
+    → length (atPath (3 ∷ 2 ∷ 1 ∷ []) s) ≤ r
 unfolding roleOf
-iwant-counted =
-    path-sub kind.Rpc kind.ControlMessage Merged 3 (2 ∷ 1 ∷ []) refl
-    (path-sub kind.ControlMessage kind.ControlIWant Anew 2 (1 ∷ []) refl (path-id kind.ControlIWant 1 refl))
+iwant-counted d =
+    path-sub (kind.Rpc d) (kind.ControlMessage d) Merged 3 (2 ∷ 1 ∷ []) refl
+    (path-sub (kind.ControlMessage d) kind.ControlIWant Anew 2 (1 ∷ []) refl (path-id kind.ControlIWant 1 refl))
 
-pub path-counted : (s : List ℕ) (r : ℕ) → counted kind.Rpc s ≡ Records r → (length (atPath (3 ∷ 1 ∷ 2 ∷ []) s) ≤ r)
-    × (length (atPath (3 ∷ 2 ∷ 1 ∷ []) s) ≤ r)
-path-counted s r e = (ihave-counted s r e, iwant-counted s r e)
+pub path-counted : (d : Dialect) (s : List ℕ) (r : ℕ) → counted (kind.Rpc d) s ≡ Records r
+    → (length (atPath (3 ∷ 1 ∷ 2 ∷ []) s) ≤ r) × (length (atPath (3 ∷ 2 ∷ 1 ∷ []) s) ≤ r)
+path-counted d s r e = (ihave-counted d s r e, iwant-counted d s r e)
 
-pub path-accepted : (s : List ℕ) → acceptOf s ≡ Fine → (length (atPath (3 ∷ 1 ∷ 2 ∷ []) s) ≤ 512)
+pub path-accepted : (d : Dialect) (s : List ℕ) → acceptOf d s ≡ Fine → (length (atPath (3 ∷ 1 ∷ 2 ∷ []) s) ≤ 512)
     × (length (atPath (3 ∷ 2 ∷ 1 ∷ []) s) ≤ 512)
-path-accepted s h = let t = accept-records s h in let p = path-counted s (t .0) (t .1) in let m = t .2 in
+path-accepted d s h = let t = accept-records d s h in let p = path-counted d s (t .0) (t .1) in let m = t .2 in
     (omega arith, omega arith)
+
+-- and of IDONTWANTs, which only 1.2 has
+pub idontwant-counted : (s : List ℕ) (r : ℕ) → counted (kind.Rpc (spoken V12)) s ≡ Records r
+    → length (atPath (3 ∷ 5 ∷ 1 ∷ []) s) ≤ r
+unfolding roleOf
+idontwant-counted =
+    let d = spoken V12 in
+    path-sub (kind.Rpc d) (kind.ControlMessage d) Merged 3 (5 ∷ 1 ∷ []) refl
+    (path-sub (kind.ControlMessage d) kind.ControlIDontWant Anew 5 (1 ∷ []) refl (path-id kind.ControlIDontWant 1 refl))
+
+pub idontwant-accepted : (s : List ℕ) → acceptOf (spoken V12) s ≡ Fine → length (atPath (3 ∷ 5 ∷ 1 ∷ []) s) ≤ 512
+idontwant-accepted s h =
+    let t = accept-records (spoken V12) s h in let p = idontwant-counted s (t .0) (t .1) in let m = t .2 in omega arith

@@ -7,6 +7,9 @@ use native.Mathlib.Omega.{arith}
 use lib.ListN.{length, drop, drop-of-length-le}
 use lib.Seq.{sets}
 use lib.Dec.{leb}
+use Rattle.basis.specs.declared.Edition.{Edition}
+use Rattle.basis.specs.declared.Edition.the-variants.{V12}
+use Rattle.basis.specs.Dialect.{spoken}
 use Rattle.basis.specs.Cases.{either, clash, both}
 use Rattle.rows.specs.Rows.{newest}
 use Rattle.rows.specs.Ids.{sameBytes, among}
@@ -46,7 +49,7 @@ use Rattle.node.specs.declared.Served.{Served}
 use Rattle.node.specs.State.{gatewayIn}
 use Rattle.node.specs.Calls.{lentOf, whenFine, taken, planned, admitAnswer, admitNode, admitSeen, admitCache}
 use Rattle.node.specs.Calls.{beatAnswer, beatNode, bytesFor, advertiseAnswer, offered, unseenOf, askBytes}
-use Rattle.node.specs.Calls.{askAnswer, whenTaken, wanted, cachedOf, roomOf, servedOf, replyBytes, replyTo}
+use Rattle.node.specs.Calls.{askAnswer, whenTaken, remaining, cachedOf, roomOf, servedOf, replyBytes, replyTo}
 use Rattle.node.specs.Calls.{serveAnswer, serveLeft}
 use Rattle.node.specs.WellFormed.{Typed}
 use Rattle.node.specs.StateLaws.{fine-tests, room-cap}
@@ -122,45 +125,45 @@ form-known g id true on h = rw h
 form-known g id false on h = rw (on refl, h) (or-true (holds (marked true id) (g .seen)))
 
 -- the same of the calls: after an admit that answers new, the id is not asked for, and its message is served
-module _ (n : Node) (ss cs body : List ℕ) (i : ℕ) (word : Bool) (at : ℕ) (m id : List ℕ) (typed : Typed n)
-    (plan : planned n ss cs body i word at ≡ taken m id)
-    (says : admitAnswer n ss at (planned n ss cs body i word at) ≡ admit.New)
+module _ (n : Node) (ss cs : List ℕ) (ed : Edition) (body : List ℕ) (i : ℕ) (word : Bool) (at : ℕ) (m id : List ℕ)
+    (typed : Typed n) (plan : planned n ss cs ed body i word at ≡ taken m id)
+    (says : admitAnswer n ss at (planned n ss cs ed body i word at) ≡ admit.New)
   where
     was-new : isNew at m id (gatewayIn n ss cs) ≡ true
     was-new =
-        let s = admit-says n ss cs body i word at m id typed plan in
+        let s = admit-says n ss cs ed body i word at m id typed plan in
         either (isNew at m id (gatewayIn n ss cs)) (λ t. t) (λ t. clash (let z = rw (t, says) at s in cc))
 
     -- what was taken without a signature was allowed
     allowed : isSigned m ≡ false → allowsUnsigned (n .cache .flags) ≡ true
     allowed u =
-        let t = plan-takes n ss cs body i word at m id .0 plan in
+        let t = plan-takes n ss cs ed body i word at m id .0 plan in
         either (allowsUnsigned (n .cache .flags)) (λ on. on)
         (λ off. clash (let z = fit-signed (n .cache .flags) m word (t .from-start) (t .from-end) (t .seqno-start) (t .seqno-end)
         (t .fit) off in cc))
 
     pub admitted-not-asked : (n .«max_seen» ≡ 0 → ⊥)
-        → unseenOf (admitNode n ss at (planned n ss cs body i word at))
-        (admitSeen n ss at (planned n ss cs body i word at)) (id ∷ []) ≡ []
+        → unseenOf (admitNode n ss at (planned n ss cs ed body i word at))
+        (admitSeen n ss at (planned n ss cs ed body i word at)) (id ∷ []) ≡ []
     unfolding gatewayIn afterAdmit
     admitted-not-asked some =
-        unseen-gateway (admitNode n ss at (planned n ss cs body i word at))
-        (admitSeen n ss at (planned n ss cs body i word at))
-        (admitCache n ss cs at (planned n ss cs body i word at)) (id ∷ [])
-        ∙ ap (λ (g : Gateway). lacking g (id ∷ [])) (admit-gateway n ss cs body i word at m id typed plan)
+        unseen-gateway (admitNode n ss at (planned n ss cs ed body i word at))
+        (admitSeen n ss at (planned n ss cs ed body i word at))
+        (admitCache n ss cs at (planned n ss cs ed body i word at)) (id ∷ [])
+        ∙ ap (λ (g : Gateway). lacking g (id ∷ [])) (admit-gateway n ss cs ed body i word at m id typed plan)
         ∙ seen-not-asked (afterAdmit at m id (gatewayIn n ss cs)) id
         (form-known (afterAdmit at m id (gatewayIn n ss cs)) id (isSigned m) allowed
         (new-is-seen at m id (gatewayIn n ss cs) was-new some))
 
     pub admitted-served : (n .cache .«max_messages» ≡ 0 → ⊥) → held id (cachedIn (n .cache) cs) ≡ false
-        → cachedOf (admitNode n ss at (planned n ss cs body i word at) .cache)
-        (admitCache n ss cs at (planned n ss cs body i word at)) (id ∷ []) ≡ m ∷ []
+        → cachedOf (admitNode n ss at (planned n ss cs ed body i word at) .cache)
+        (admitCache n ss cs at (planned n ss cs ed body i word at)) (id ∷ []) ≡ m ∷ []
     unfolding gatewayIn
     admitted-served some h =
-        cached-gateway (admitNode n ss at (planned n ss cs body i word at))
-        (admitSeen n ss at (planned n ss cs body i word at))
-        (admitCache n ss cs at (planned n ss cs body i word at)) (id ∷ [])
-        ∙ ap (λ (g : Gateway). having g (id ∷ [])) (admit-gateway n ss cs body i word at m id typed plan)
+        cached-gateway (admitNode n ss at (planned n ss cs ed body i word at))
+        (admitSeen n ss at (planned n ss cs ed body i word at))
+        (admitCache n ss cs at (planned n ss cs ed body i word at)) (id ∷ [])
+        ∙ ap (λ (g : Gateway). having g (id ∷ [])) (admit-gateway n ss cs ed body i word at m id typed plan)
         ∙ new-is-served at m id (gatewayIn n ss cs) was-new some h
 
 -- ---- an ask that never asks
@@ -206,16 +209,16 @@ pub data Quiet (n : Node) (ss cs : List ℕ) : Node → Type 0 where
   first : Quiet n ss cs n
   advertises : {k : Node} → Quiet n ss cs k → (topic : List ℕ) (windows : ℕ) (out : List ℕ) (r : Advertised)
       → r .answer ≡ advertiseAnswer k ss cs topic windows out → r .node ≡ k → Quiet n ss cs (r .node)
-  asks : {k : Node} → Quiet n ss cs k → (body out : List ℕ) (r : Asked) → r .answer ≡ askAnswer k ss cs body out
-      → r .node ≡ k → Quiet n ss cs (r .node)
-  serves : {k : Node} → Quiet n ss cs k → (body out : List ℕ) (r : Served) → r .answer ≡ serveAnswer k ss cs body out
-      → r .node ≡ k → Quiet n ss cs (r .node)
+  asks : {k : Node} → Quiet n ss cs k → (ed : Edition) (body out : List ℕ) (r : Asked)
+      → r .answer ≡ askAnswer k ss cs ed body out → r .node ≡ k → Quiet n ss cs (r .node)
+  serves : {k : Node} → Quiet n ss cs k → (ed : Edition) (body second out : List ℕ) (r : Served)
+      → r .answer ≡ serveAnswer k ss cs ed body second out → r .node ≡ k → Quiet n ss cs (r .node)
 
 quiet-same : {n : Node} {ss cs : List ℕ} {k : Node} → Quiet n ss cs k → k ≡ n
 quiet-same first = refl
 quiet-same (advertises q topic windows out r a e) = e ∙ quiet-same q
-quiet-same (asks q body out r a e) = e ∙ quiet-same q
-quiet-same (serves q body out r a e) = e ∙ quiet-same q
+quiet-same (asks q ed body out r a e) = e ∙ quiet-same q
+quiet-same (serves q ed body second out r a e) = e ∙ quiet-same q
 
 -- a buffer's length is all that a reply takes from it
 reply-same : (ms : List (List ℕ)) (out out2 : List ℕ) → length out2 ≡ length out → (replyTo ms out2 ≡ replyTo ms out)
@@ -225,34 +228,42 @@ reply-same [] out out2 e = (refl, rw e)
 reply-same (m ∷ ms) out out2 e = (rw e, rw e)
 
 -- the bytes that a serve writes at the front of the buffer; none where it is refused
-unfoldable pub servedBytes : Node → List ℕ → List ℕ → List ℕ → List ℕ → List ℕ
-servedBytes n ss cs body out =
-    whenFine (lentOf n ss cs) (whenTaken (acceptOf body) (replyBytes (cachedOf (n .cache) cs (wanted body)) out) []) []
+unfoldable pub servedBytes : Node → List ℕ → List ℕ → Edition → List ℕ → List ℕ → List ℕ → List ℕ
+servedBytes n ss cs ed body second out =
+    whenFine (lentOf n ss cs)
+    (whenTaken (acceptOf (spoken ed) body)
+    (whenTaken (acceptOf (spoken V12) second) (replyBytes (cachedOf (n .cache) cs (remaining body second)) out) []) []) []
 
-module _ (n : Node) (ss cs body : List ℕ) where
-  writes-by : (out : List ℕ) (l : Lent) (r : Checked) → lentOf n ss cs ≡ l → acceptOf body ≡ r
-      → serveLeft n ss cs body out ≡ sets out 0 (servedBytes n ss cs body out)
+module _ (n : Node) (ss cs : List ℕ) (ed : Edition) (body second : List ℕ) where
+  writes-by : (out : List ℕ) (l : Lent) (r q : Checked) → lentOf n ss cs ≡ l → acceptOf (spoken ed) body ≡ r
+      → acceptOf (spoken V12) second ≡ q
+      → serveLeft n ss cs ed body second out ≡ sets out 0 (servedBytes n ss cs ed body second out)
   unfolding serveLeft servedBytes
-  writes-by out (lent.Faulty why) r e a = rw e
-  writes-by out lent.Fine (checked.Refused why) e a = rw (e, a)
-  writes-by out lent.Fine checked.Fine e a = rw (e, a)
+  writes-by out (lent.Faulty why) r q e a b = rw e
+  writes-by out lent.Fine (checked.Refused why) q e a b = rw (e, a)
+  writes-by out lent.Fine checked.Fine (checked.Refused why) e a b = rw (e, a, b)
+  writes-by out lent.Fine checked.Fine checked.Fine e a b = rw (e, a, b)
 
-  pub serve-writes : (out : List ℕ) → serveLeft n ss cs body out ≡ sets out 0 (servedBytes n ss cs body out)
-  serve-writes out = writes-by out (lentOf n ss cs) (acceptOf body) refl refl
+  pub serve-writes : (out : List ℕ)
+      → serveLeft n ss cs ed body second out ≡ sets out 0 (servedBytes n ss cs ed body second out)
+  serve-writes out =
+      writes-by out (lentOf n ss cs) (acceptOf (spoken ed) body) (acceptOf (spoken V12) second) refl refl refl
 
   same-length : (out out2 : List ℕ) → length out2 ≡ length out
-      → (serveAnswer n ss cs body out2 ≡ serveAnswer n ss cs body out)
-      × (servedBytes n ss cs body out2 ≡ servedBytes n ss cs body out)
+      → (serveAnswer n ss cs ed body second out2 ≡ serveAnswer n ss cs ed body second out)
+      × (servedBytes n ss cs ed body second out2 ≡ servedBytes n ss cs ed body second out)
   unfolding serveAnswer servedBytes
   same-length out out2 e =
-      let r = reply-same (cachedOf (n .cache) cs (wanted body)) out out2 e in
+      let r = reply-same (cachedOf (n .cache) cs (remaining body second)) out out2 e in
       rw (r .0, r .1) (refl, refl)
 
--- the same request later, with a buffer as long, gets the same answer and the same bytes
-pub serve-again : {n k : Node} {ss cs : List ℕ} → Quiet n ss cs k → (body out out2 : List ℕ) → length out2 ≡ length out
-    → (serveAnswer k ss cs body out2 ≡ serveAnswer n ss cs body out)
-    × (servedBytes k ss cs body out2 ≡ servedBytes n ss cs body out)
-serve-again {n} {k} {ss} {cs} q body out out2 e = rw (quiet-same q) (same-length n ss cs body out out2 e)
+-- the same request later, with the same second body and a buffer as long, gets the same answer and the same bytes
+pub serve-again : {n k : Node} {ss cs : List ℕ} → Quiet n ss cs k → (ed : Edition) (body second out out2 : List ℕ)
+    → length out2 ≡ length out
+    → (serveAnswer k ss cs ed body second out2 ≡ serveAnswer n ss cs ed body second out)
+    × (servedBytes k ss cs ed body second out2 ≡ servedBytes n ss cs ed body second out)
+serve-again {n} {k} {ss} {cs} q ed body second out out2 e =
+    rw (quiet-same q) (same-length n ss cs ed body second out out2 e)
 
 -- ---- line 8: an id whose entry has expired is new, whatever the cache holds
 live-none : (at : ℕ) (es : List Entry) → allUpTo at (expiriesOf es) ≡ true → live at es ≡ []
@@ -290,12 +301,12 @@ pub last-beat : (n : Node) (ss cs : List ℕ) → lentOf n ss cs ≡ lent.Fine �
     → beatAnswer n ss cs (2 ^ 64 - 1) ≡ beat.Done
 last-beat n ss cs fine h = beat-says n ss cs (2 ^ 64 - 1) fine (omega arith)
 
-pub last-admit : (n : Node) (ss cs body : List ℕ) (i a e x y z w : ℕ) → lentOf n ss cs ≡ lent.Fine
-    → acceptOf body ≡ checked.Fine → messageAt body i ≡ found.At a e
+pub last-admit : (n : Node) (ss cs : List ℕ) (ed : Edition) (body : List ℕ) (i a e x y z w : ℕ)
+    → lentOf n ss cs ≡ lent.Fine → acceptOf (spoken ed) body ≡ checked.Fine → messageAt body i ≡ found.At a e
     → admissionOf (n .cache .flags) (between body a e) true ≡ admission.Fit x y z w → n .clock < 2 ^ 64
-    → planned n ss cs body i true (2 ^ 64 - 1) ≡ taken (between body a e) (idBytes (between body a e) x y z w)
-last-admit n ss cs body i a e x y z w fine ok there fit h =
-    plan-taken n ss cs body i (2 ^ 64 - 1) a e x y z w fine ok there fit (omega arith)
+    → planned n ss cs ed body i true (2 ^ 64 - 1) ≡ taken (between body a e) (idBytes (between body a e) x y z w)
+last-admit n ss cs ed body i a e x y z w fine ok there fit h =
+    plan-taken n ss cs ed body i (2 ^ 64 - 1) a e x y z w fine ok there fit (omega arith)
 
 -- with max_seen 0 every admit is new, and nothing is kept as seen
 pub none-seen : (at : ℕ) (m id : List ℕ) (g : Gateway) → g .max-seen ≡ 0 → g .seen ≡ [] → (isNew at m id g ≡ true)
@@ -314,17 +325,17 @@ no-room-none-seen n ss cs fine z =
     drop-of-length-le (entriesIn (n .«max_seen») (n .seen) ss) {i = 0}
     (omega (arith, length-entries (n .«max_seen») (n .seen) ss, w .within))
 
-pub no-room-admit : (n : Node) (ss cs body : List ℕ) (i : ℕ) (word : Bool) (at : ℕ) (m id : List ℕ) → Typed n
-    → planned n ss cs body i word at ≡ taken m id → n .«max_seen» ≡ 0
-    → (admitAnswer n ss at (planned n ss cs body i word at) ≡ admit.New)
-    × (gatewayIn (admitNode n ss at (planned n ss cs body i word at))
-    (admitSeen n ss at (planned n ss cs body i word at))
-    (admitCache n ss cs at (planned n ss cs body i word at)) .seen ≡ [])
+pub no-room-admit : (n : Node) (ss cs : List ℕ) (ed : Edition) (body : List ℕ) (i : ℕ) (word : Bool) (at : ℕ)
+    (m id : List ℕ) → Typed n → planned n ss cs ed body i word at ≡ taken m id → n .«max_seen» ≡ 0
+    → (admitAnswer n ss at (planned n ss cs ed body i word at) ≡ admit.New)
+    × (gatewayIn (admitNode n ss at (planned n ss cs ed body i word at))
+    (admitSeen n ss at (planned n ss cs ed body i word at))
+    (admitCache n ss cs at (planned n ss cs ed body i word at)) .seen ≡ [])
 unfolding gatewayIn
-no-room-admit n ss cs body i word at m id typed plan z =
-    let t = plan-takes n ss cs body i word at m id .0 plan in
+no-room-admit n ss cs ed body i word at m id typed plan z =
+    let t = plan-takes n ss cs ed body i word at m id .0 plan in
     let e = no-room-none-seen n ss cs (t .fine) z in
     let b = none-seen at m id (gatewayIn n ss cs) z e in (
-      admit-says n ss cs body i word at m id typed plan ∙ rw (b .0),
-      ap (λ (g : Gateway). g .seen) (admit-gateway n ss cs body i word at m id typed plan) ∙ b .1,
+      admit-says n ss cs ed body i word at m id typed plan ∙ rw (b .0),
+      ap (λ (g : Gateway). g .seen) (admit-gateway n ss cs ed body i word at m id typed plan) ∙ b .1,
     )

@@ -35,15 +35,15 @@ one-start ttl max-seen history max flags r s a b =
     (a .node ∙ sym (b .node))
 
 -- the stores as they are left
-pub record Admits (n : Node) (ss cs : List ℕ) (e : Edition) (body : List ℕ) (i : ℕ) (word : Bool) (at : ℕ) (r : Admitted)
-    (ids messages : List ℕ) : Type 0 where
+pub record Admits (n : Node) (ss cs : List ℕ) (e : Edition) (body : List ℕ) (i : ℕ) (word : Bool) (at : ℕ)
+    (r : Admitted) (ids messages : List ℕ) : Type 0 where
   pub answer : r .answer ≡ admitAnswer n ss at (planned n ss cs e body i word at)
   pub node : r .node ≡ admitNode n ss at (planned n ss cs e body i word at)
   pub seen : ids ≡ admitSeen n ss at (planned n ss cs e body i word at)
   pub cache : messages ≡ admitCache n ss cs at (planned n ss cs e body i word at)
 
-pub one-admit : (n : Node) (ss cs : List ℕ) (e : Edition) (body : List ℕ) (i : ℕ) (word : Bool) (at : ℕ) (r s : Admitted)
-    (ids messages ids2 messages2 : List ℕ)
+pub one-admit : (n : Node) (ss cs : List ℕ) (e : Edition) (body : List ℕ) (i : ℕ) (word : Bool) (at : ℕ)
+    (r s : Admitted) (ids messages ids2 messages2 : List ℕ)
     → Admits n ss cs e body i word at r ids messages → Admits n ss cs e body i word at s ids2 messages2 → (r ≡ s)
     × (ids ≡ ids2) × (messages ≡ messages2)
 one-admit n ss cs e body i word at r s ids messages ids2 messages2 a b = (
@@ -95,14 +95,15 @@ pub record Asks (n : Node) (ss cs : List ℕ) (e : Edition) (body out : List ℕ
   pub node : r .node ≡ n
   pub buffer : left ≡ askLeft n ss cs e body out
 
-pub one-ask : (n : Node) (ss cs : List ℕ) (e : Edition) (body out : List ℕ) (r s : Asked) (left left2 : List ℕ) → Asks n ss cs e body out r left
-    → Asks n ss cs e body out s left2 → (r ≡ s) × (left ≡ left2)
+pub one-ask : (n : Node) (ss cs : List ℕ) (e : Edition) (body out : List ℕ) (r s : Asked) (left left2 : List ℕ)
+    → Asks n ss cs e body out r left → Asks n ss cs e body out s left2 → (r ≡ s) × (left ≡ left2)
 one-ask n ss cs e body out r s left left2 a b = (
   ap₂ (λ (x : Ask) (m : Node). record { answer = x; node = m }) (a .answer ∙ sym (b .answer)) (a .node ∙ sym (b .node)),
   a .buffer ∙ sym (b .buffer),
 )
 
-pub record Serves (n : Node) (ss cs : List ℕ) (e : Edition) (body second out : List ℕ) (r : Served) (left : List ℕ) : Type 0 where
+pub record Serves (n : Node) (ss cs : List ℕ) (e : Edition) (body second out : List ℕ) (r : Served)
+    (left : List ℕ) : Type 0 where
   pub answer : r .answer ≡ serveAnswer n ss cs e body second out
   pub node : r .node ≡ n
   pub buffer : left ≡ serveLeft n ss cs e body second out

@@ -5,6 +5,7 @@ use mathlib.Core.Path.{_≡_}
 use mathlib.Core.Bool.{Bool, true}
 use mathlib.Core.List.{List}
 use lib.ListN.{length, getD}
+use Rattle.basis.specs.declared.Edition.{Edition}
 use Rattle.rows.specs.Rows.{placeOf}
 use Rattle.seen.specs.State.{idSize, maxIds}
 use Rattle.seen.specs.WellFormed as seen
@@ -35,16 +36,15 @@ pub record WellFormed (n : Node) (ss cs : List ℕ) : Type 0 where
   -- the message cache: its store, its settings, and the scope's other clauses
   pub messages : mcache.WellFormed (n .cache) cs
 
--- ---- the states that the calls reach: a fresh node with stores of the right lengths; then admits of anything at any
--- reading, the refused ones
--- too, and heartbeats. Advertise, ask and serve leave the node and its stores as they are.
+-- ---- the states that the calls reach: a fresh node with stores of the right lengths; then admits of anything, in any
+-- edition and at any reading, the refused ones too, and heartbeats. Advertise, ask and serve leave the node and its stores as they are.
 pub data Reached : Node → List ℕ → List ℕ → Type 0 where
   begun : (ttl max-seen history max flags : ℕ) (ss cs : List ℕ) → ttl < 2 ^ 64
       → legalSettings max-seen history max flags ≡ true
       → length ss ≡ max-seen * idSize → length cs ≡ max * messageSize
       → Reached (freshNode ttl max-seen history max flags) ss cs
-  admitted : {n : Node} {ss cs : List ℕ} → Reached n ss cs → (body : List ℕ) (i : ℕ) (word : Bool) (at : ℕ)
-      → at < 2 ^ 64
-      → Reached (admitNode n ss at (planned n ss cs body i word at))
-      (admitSeen n ss at (planned n ss cs body i word at)) (admitCache n ss cs at (planned n ss cs body i word at))
+  admitted : {n : Node} {ss cs : List ℕ} → Reached n ss cs → (ed : Edition) (body : List ℕ) (i : ℕ)
+      (word : Bool) (at : ℕ) → at < 2 ^ 64
+      → Reached (admitNode n ss at (planned n ss cs ed body i word at))
+      (admitSeen n ss at (planned n ss cs ed body i word at)) (admitCache n ss cs at (planned n ss cs ed body i word at))
   beaten : {n : Node} {ss cs : List ℕ} → Reached n ss cs → (at : ℕ) → at < 2 ^ 64 → Reached (beatNode n ss cs at) ss cs

@@ -10,6 +10,7 @@ use native.Mathlib.Nat.{zero-lt-suc}
 use lib.ListN.{length, drop, getD}
 use lib.Dec.{leb}
 use borrow.Author.Tests.{le-leb, leb-true}
+use Rattle.basis.specs.declared.Edition.{Edition}
 use Rattle.basis.specs.Cases.{either, both}
 use Rattle.rows.specs.declared.Ring.{Ring}
 use Rattle.rows.specs.Rows.{tab, placeOf, rowsIn, newest}
@@ -346,13 +347,14 @@ gateway-forward : (n : Node) (ss cs : List ℕ) (at : ℕ) → n .clock ≤ at �
 unfolding gatewayIn
 gateway-forward n ss cs at h = h
 
-pub admitted-keeps : (n : Node) (ss cs body : List ℕ) (i : ℕ) (word : Bool) (at : ℕ) → Keeps n ss cs → (r : Plan)
-    → planned n ss cs body i word at ≡ r
+pub admitted-keeps : (n : Node) (ss cs : List ℕ) (ed : Edition) (body : List ℕ) (i : ℕ) (word : Bool) (at : ℕ)
+    → Keeps n ss cs → (r : Plan)
+    → planned n ss cs ed body i word at ≡ r
     → Keeps (admitNode n ss at r) (admitSeen n ss at r) (admitCache n ss cs at r)
-admitted-keeps n ss cs body i word at k (no r) e = k
-admitted-keeps n ss cs body i word at k (taken m id) e =
-    let t = plan-takes n ss cs body i word at m id .0 e in
-    let g = rw e at (admit-gateway n ss cs body i word at m id (k .typed) e) in
+admitted-keeps n ss cs ed body i word at k (no r) e = k
+admitted-keeps n ss cs ed body i word at k (taken m id) e =
+    let t = plan-takes n ss cs ed body i word at m id .0 e in
+    let g = rw e at (admit-gateway n ss cs ed body i word at m id (k .typed) e) in
     let o = rw (← g) at (admit-ordered at (gatewayIn n ss cs) (gateway-forward n ss cs at (t .forward))
     (k .ordered) m id) in
     taken-keeps n ss cs at m id (k .typed) (t .fine) (takes-id-small t) (takes-small t) (takes-own t) o
@@ -405,8 +407,8 @@ beaten-keeps n ss cs at k beat.Done e =
 pub reached-keeps : {n : Node} {ss cs : List ℕ} → Reached n ss cs → Keeps n ss cs
 reached-keeps (begun ttl max-seen history max flags ss cs t l r s) =
     begun-keeps ttl max-seen history max flags ss cs l r s
-reached-keeps (admitted {n} {ss} {cs} r body i word at h) =
-    admitted-keeps n ss cs body i word at (reached-keeps r) (planned n ss cs body i word at) refl
+reached-keeps (admitted {n} {ss} {cs} r ed body i word at h) =
+    admitted-keeps n ss cs ed body i word at (reached-keeps r) (planned n ss cs ed body i word at) refl
 reached-keeps (beaten {n} {ss} {cs} r at h) = beaten-keeps n ss cs at (reached-keeps r) (beatAnswer n ss cs at) refl
 
 pub reached-fine : {n : Node} {ss cs : List ℕ} → Reached n ss cs → lentOf n ss cs ≡ lent.Fine

@@ -7,6 +7,8 @@ use mathlib.Core.Bool.{Bool, true, false, cond}
 use native.Mathlib.Omega.{arith}
 use lib.ListN.{length}
 use lib.Dec.{eqb}
+use Rattle.basis.specs.declared.Edition.{Edition}
+use Rattle.basis.specs.Dialect.{spoken}
 use Rattle.basis.specs.Cases.{either, clash, both}
 use Rattle.protobuf.specs.declared.Checked.{Checked}
 use Rattle.protobuf.specs.declared.Checked.the-variants as checked
@@ -37,7 +39,7 @@ use Rattle.node.specs.State.{wellFormed, seenFits}
 use Rattle.node.specs.Calls.{rightSizes, lentOf, laterNode, Plan, no, taken, planFit, planAt, planBody, planned}
 use Rattle.node.specs.Calls.{swept, heldAt, admitAnswer, admitNode, admitSeen, admitCache, beatAnswer, whenDone}
 use Rattle.node.specs.Calls.{beatNode, toldIn, advertiseBytes, advertiseAnswer, advertiseLeft, unseenOf, askBytes}
-use Rattle.node.specs.Calls.{explainAnswer, askAnswer, askLeft, wanted, cachedOf, serveAnswer, serveLeft}
+use Rattle.node.specs.Calls.{explainAnswer, askAnswer, askLeft, remaining, cachedOf, serveAnswer, serveLeft}
 use Rattle.node.specs.WellFormed.{Typed}
 use Rattle.node.specs.StateLaws.{fine-tests}
 use Rattle.node.specs.Laws.{Takes, plan-takes, takes-id-small, swept-fine, swept-sized, seen-inserted, beat-done}
@@ -97,7 +99,7 @@ module _ (k : ℕ) (n : Node) (ss cs : List ℕ) (typed : Typed n) where
       (either (rightSizes n ss cs) (λ u. rw (u, form-moved u)) (λ u. rw u))
 
   -- ---- admit
-  module _ (body : List ℕ) (i : ℕ) (word : Bool) (at : ℕ) where
+  module _ (ed : Edition) (body : List ℕ) (i : ℕ) (word : Bool) (at : ℕ) where
     fit-moved : (p : List ℕ) (r : Admission) → planFit (movedNode k n) at p r ≡ planFit n at p r
     unfolding movedNode
     fit-moved p (admission.Unfit why) = refl
@@ -112,27 +114,27 @@ module _ (k : ℕ) (n : Node) (ss cs : List ℕ) (typed : Typed n) where
     body-moved (checked.Refused why) = refl
     body-moved checked.Fine = at-moved (messageAt body i)
 
-    pub plan-moved : planned (movedNode k n) ss cs body i word at ≡ planned n ss cs body i word at
+    pub plan-moved : planned (movedNode k n) ss cs ed body i word at ≡ planned n ss cs ed body i word at
     unfolding planned
-    plan-moved = rw (lent-moved, body-moved (acceptOf body))
+    plan-moved = rw (lent-moved, body-moved (acceptOf (spoken ed) body))
 
-    module _ (m id : List ℕ) (t : Takes n ss cs body i word at m id) where
-      under-moved : planUnder (moved k (n .cache)) m id ≡ putPlanned (moved k (n .cache)) cs body i
+    module _ (m id : List ℕ) (t : Takes n ss cs ed body i word at m id) where
+      under-moved : planUnder (moved k (n .cache)) m id ≡ putPlanned (moved k (n .cache)) cs ed body i
       unfolding indexIn moved
-      under-moved = sym (wrap-free-put k (n .cache) cs (typed .messages) body i ∙ plan-put t)
+      under-moved = sym (wrap-free-put k (n .cache) cs (typed .messages) ed body i ∙ plan-put t)
 
       kept-moved : keptUnder m id (moved k (n .cache)) ≡ moved k (keptUnder m id (n .cache))
       unfolding keptUnder
       kept-moved =
           ap (keptIn (moved k (n .cache))) under-moved
-          ∙ wrap-free-kept k (n .cache) cs (typed .messages) body i
+          ∙ wrap-free-kept k (n .cache) cs (typed .messages) ed body i
           ∙ ap (λ (x : PutPlan). moved k (keptIn (n .cache) x)) (plan-put t)
 
       stored-moved : storedUnder (moved k (n .cache)) cs m id ≡ storedUnder (n .cache) cs m id
       unfolding storedUnder
       stored-moved =
           ap (storedIn (moved k (n .cache)) cs) under-moved
-          ∙ wrap-free-stored k (n .cache) cs (typed .messages) body i
+          ∙ wrap-free-stored k (n .cache) cs (typed .messages) ed body i
           ∙ ap (storedIn (n .cache) cs) (plan-put t)
 
       node-moved : admitNode (movedNode k n) ss at (taken m id) ≡ movedNode k (admitNode n ss at (taken m id))
@@ -151,26 +153,26 @@ module _ (k : ℕ) (n : Node) (ss cs : List ℕ) (typed : Typed n) where
     unfolding heldAt swept movedNode
     ids-moved m id = refl
 
-    admit-by : (r : Plan) → planned n ss cs body i word at ≡ r
+    admit-by : (r : Plan) → planned n ss cs ed body i word at ≡ r
         → (admitAnswer (movedNode k n) ss at r ≡ admitAnswer n ss at r)
         × (admitNode (movedNode k n) ss at r ≡ movedNode k (admitNode n ss at r))
         × (admitSeen (movedNode k n) ss at r ≡ admitSeen n ss at r)
         × (admitCache (movedNode k n) ss cs at r ≡ admitCache n ss cs at r)
     admit-by (no r) e = (refl, refl, refl, refl)
     admit-by (taken m id) e =
-        let t = plan-takes n ss cs body i word at m id .0 e in
+        let t = plan-takes n ss cs ed body i word at m id .0 e in
         (answer-moved m id, node-moved m id t, ids-moved m id, store-moved m id t)
 
     pub admit-moved :
-        (admitAnswer (movedNode k n) ss at (planned (movedNode k n) ss cs body i word at)
-        ≡ admitAnswer n ss at (planned n ss cs body i word at))
-        × (admitNode (movedNode k n) ss at (planned (movedNode k n) ss cs body i word at)
-        ≡ movedNode k (admitNode n ss at (planned n ss cs body i word at)))
-        × (admitSeen (movedNode k n) ss at (planned (movedNode k n) ss cs body i word at)
-        ≡ admitSeen n ss at (planned n ss cs body i word at))
-        × (admitCache (movedNode k n) ss cs at (planned (movedNode k n) ss cs body i word at)
-        ≡ admitCache n ss cs at (planned n ss cs body i word at))
-    admit-moved = rw plan-moved (admit-by (planned n ss cs body i word at) refl)
+        (admitAnswer (movedNode k n) ss at (planned (movedNode k n) ss cs ed body i word at)
+        ≡ admitAnswer n ss at (planned n ss cs ed body i word at))
+        × (admitNode (movedNode k n) ss at (planned (movedNode k n) ss cs ed body i word at)
+        ≡ movedNode k (admitNode n ss at (planned n ss cs ed body i word at)))
+        × (admitSeen (movedNode k n) ss at (planned (movedNode k n) ss cs ed body i word at)
+        ≡ admitSeen n ss at (planned n ss cs ed body i word at))
+        × (admitCache (movedNode k n) ss cs at (planned (movedNode k n) ss cs ed body i word at)
+        ≡ admitCache n ss cs at (planned n ss cs ed body i word at))
+    admit-moved = rw plan-moved (admit-by (planned n ss cs ed body i word at) refl)
 
   -- ---- heartbeat
   module _ (at : ℕ) where
@@ -227,30 +229,32 @@ module _ (k : ℕ) (n : Node) (ss cs : List ℕ) (typed : Typed n) where
   unfolding askBytes unseenOf movedNode moved
   asked-moved body = refl
 
-  pub ask-moved : (body out : List ℕ) → (askAnswer (movedNode k n) ss cs body out ≡ askAnswer n ss cs body out)
-      × (askLeft (movedNode k n) ss cs body out ≡ askLeft n ss cs body out)
+  pub ask-moved : (ed : Edition) (body out : List ℕ)
+      → (askAnswer (movedNode k n) ss cs ed body out ≡ askAnswer n ss cs ed body out)
+      × (askLeft (movedNode k n) ss cs ed body out ≡ askLeft n ss cs ed body out)
   unfolding askAnswer askLeft
-  ask-moved body out = (rw (lent-moved, asked-moved body), rw (lent-moved, asked-moved body))
+  ask-moved ed body out = (rw (lent-moved, asked-moved body), rw (lent-moved, asked-moved body))
 
   served-moved : (is : List (List ℕ)) → cachedOf (moved k (n .cache)) cs is ≡ cachedOf (n .cache) cs is
   unfolding cachedOf moved
   served-moved is = refl
 
-  pub serve-moved : (body out : List ℕ) → (serveAnswer (movedNode k n) ss cs body out ≡ serveAnswer n ss cs body out)
-      × (serveLeft (movedNode k n) ss cs body out ≡ serveLeft n ss cs body out)
+  pub serve-moved : (ed : Edition) (body second out : List ℕ)
+      → (serveAnswer (movedNode k n) ss cs ed body second out ≡ serveAnswer n ss cs ed body second out)
+      × (serveLeft (movedNode k n) ss cs ed body second out ≡ serveLeft n ss cs ed body second out)
   unfolding serveAnswer serveLeft movedNode
-  serve-moved body out =
-      let s = served-moved (wanted body) in
+  serve-moved ed body second out =
+      let s = served-moved (remaining body second) in
       (rw (lent-moved, s), rw (lent-moved, s))
 
 -- ---- what a call leaves has the types of a node, so that the same holds for the calls after it
 module _ (n : Node) (ss cs : List ℕ) (typed : Typed n) where
-  admit-by-plan : (body : List ℕ) (i : ℕ) (word : Bool) (at : ℕ) (r : Plan) → planned n ss cs body i word at ≡ r
-      → Typed (admitNode n ss at r)
+  admit-by-plan : (ed : Edition) (body : List ℕ) (i : ℕ) (word : Bool) (at : ℕ) (r : Plan)
+      → planned n ss cs ed body i word at ≡ r → Typed (admitNode n ss at r)
   unfolding laterNode
-  admit-by-plan body i word at (no r) e = typed
-  admit-by-plan body i word at (taken m id) e =
-      let t = plan-takes n ss cs body i word at m id .0 e in
+  admit-by-plan ed body i word at (no r) e = typed
+  admit-by-plan ed body i word at (taken m id) e =
+      let t = plan-takes n ss cs ed body i word at m id .0 e in
       let z = swept-sized n ss cs (t .fine) at (typed .ids) in
       let f = swept-fine n ss cs (t .fine) at (typed .ids) in
       let s = seen-inserted n ss cs (t .fine) at (typed .ids) (formOf m id) (omega (arith, takes-id-small t)) in
@@ -262,9 +266,9 @@ module _ (n : Node) (ss cs : List ℕ) (typed : Typed n) where
         messages = under-typed m id (n .cache) (typed .messages);
       }))
 
-  pub admit-typed : (body : List ℕ) (i : ℕ) (word : Bool) (at : ℕ)
-      → Typed (admitNode n ss at (planned n ss cs body i word at))
-  admit-typed body i word at = admit-by-plan body i word at (planned n ss cs body i word at) refl
+  pub admit-typed : (ed : Edition) (body : List ℕ) (i : ℕ) (word : Bool) (at : ℕ)
+      → Typed (admitNode n ss at (planned n ss cs ed body i word at))
+  admit-typed ed body i word at = admit-by-plan ed body i word at (planned n ss cs ed body i word at) refl
 
   beat-by-answer : (at : ℕ) (r : Beat) → beatAnswer n ss cs at ≡ r → Typed (beatNode n ss cs at)
   unfolding beatNode

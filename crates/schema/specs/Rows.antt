@@ -1,11 +1,14 @@
--- Bodies that are refused, with the place: where a varint is bad, in the body and in its submessages; where a field passes
--- the end; and for each of the nine paths but those of an iwant and a graft. Between them stand two controls, of which
--- the second is refused, and a varint that is short in its part and not in the body.
+-- Bodies that are refused, with the place: where a varint is bad, in the body and in its submessages; where a field
+-- passes the end; and for each of the nine paths of 1.1 but those of an iwant and a graft. Between them stand two
+-- controls, of which the second is refused, and a varint that is short in its part and not in the body. And bodies that
+-- the editions do not read alike, both readings beside each other.
 use Prim.Native.Nat.{ℕ}
 use mathlib.Core.Path.{_≡_, refl}
 use mathlib.Core.List.{[], _∷_, _++_}
 use lib.ListN.{replicate}
+use Rattle.basis.specs.declared.Edition.the-variants.{V11, V12}
 use Rattle.basis.specs.declared.Dialect.{Dialect}
+use Rattle.basis.specs.Dialect.{spoken}
 use Rattle.basis.specs.declared.Spot.the-variants.{At}
 use Rattle.peer_id.specs.declared.VarintError.the-variants.{BufferTooShort, Overflow, NonCanonical}
 use Rattle.peer_id.specs.Uvarint.{readUvarint, readFrom, groupOf}
@@ -16,7 +19,7 @@ use Rattle.protobuf.specs.declared.WireError.the-variants.{InvalidFieldNumber, 
 use Rattle.protobuf.specs.Field.{readTag, readLen, readVarint, skipFixed, skipField, readValue, readField}
 use Rattle.protobuf.specs.Walk.{walkFrom, walkAt}
 use Rattle.schema.specs.declared.Tested.{Tested}
-use Rattle.schema.specs.declared.Tested.the-variants.{Refused}
+use Rattle.schema.specs.declared.Tested.the-variants.{Records, Refused}
 use Rattle.schema.specs.Schema.{roleOf, rank, ownOf}
 use Rattle.schema.specs.Kinds.{toDepth, overKinds}
 use Rattle.schema.specs.Count.{textCount, counted}
@@ -54,3 +57,24 @@ unfolding readUvarint readFrom groupOf isUtf8 run readTag readLen readVarint ski
     walkFrom walkAt roleOf rank ownOf textCount textSpot toDepth overKinds counted spotIn bodyRecords
 rows d =
     (refl, refl, refl, refl, refl, refl, refl, refl, refl, refl, refl, refl, refl, refl, refl, refl, refl, refl, refl, refl, refl, refl)
+
+-- in 1.1 a control's field 5 is skipped; in 1.2 each entry and each id is a record, and the path is 3 5
+pub rows-editions :
+    (bodyRecords (spoken V11) (0x1a ∷ 0x03 ∷ 0x2a ∷ 0x01 ∷ 0x80 ∷ []) ≡ Records 0)
+    × (bodyRecords (spoken V12) (0x1a ∷ 0x03 ∷ 0x2a ∷ 0x01 ∷ 0x80 ∷ []) ≡ at (Varint BufferTooShort 0) 4 3 5 0)
+    × (bodyRecords (spoken V11) (0x1a ∷ 0x05 ∷ 0x2a ∷ 0x03 ∷ 0x0a ∷ 0x02 ∷ 0x41 ∷ []) ≡ Records 0)
+    × (bodyRecords (spoken V12) (0x1a ∷ 0x05 ∷ 0x2a ∷ 0x03 ∷ 0x0a ∷ 0x02 ∷ 0x41 ∷ [])
+    ≡ at (FieldOverflow 2 2 1) 6 3 5 0)
+    × (bodyRecords (spoken V11) (0x1a ∷ 0x05 ∷ 0x2a ∷ 0x03 ∷ 0x0a ∷ 0x01 ∷ 0xff ∷ []) ≡ Records 0)
+    × (bodyRecords (spoken V12) (0x1a ∷ 0x05 ∷ 0x2a ∷ 0x03 ∷ 0x0a ∷ 0x01 ∷ 0xff ∷ []) ≡ Records 2)
+    × (bodyRecords (spoken V11) (0x1a ∷ 0x07 ∷ 0x2a ∷ 0x03 ∷ 0x0a ∷ 0x01 ∷ 0x41 ∷ 0x22 ∷ 0x00 ∷ []) ≡ Records 1)
+    × (bodyRecords (spoken V12) (0x1a ∷ 0x07 ∷ 0x2a ∷ 0x03 ∷ 0x0a ∷ 0x01 ∷ 0x41 ∷ 0x22 ∷ 0x00 ∷ []) ≡ Records 3)
+    × (bodyRecords (spoken V11) (0x1a ∷ 0x02 ∷ 0x2a ∷ 0x00 ∷ 0x1a ∷ 0x02 ∷ 0x22 ∷ 0x00 ∷ []) ≡ Records 1)
+    × (bodyRecords (spoken V12) (0x1a ∷ 0x02 ∷ 0x2a ∷ 0x00 ∷ 0x1a ∷ 0x02 ∷ 0x22 ∷ 0x00 ∷ []) ≡ Records 2)
+    × (bodyRecords (spoken V11) (0x1a ∷ 0x02 ∷ 0x28 ∷ 0x07 ∷ []) ≡ Records 0)
+    × (bodyRecords (spoken V12) (0x1a ∷ 0x02 ∷ 0x28 ∷ 0x07 ∷ []) ≡ Records 0)
+    × (bodyRecords (spoken V11) (0x1a ∷ 0x04 ∷ 0x2a ∷ 0x02 ∷ 0x10 ∷ 0x07 ∷ []) ≡ Records 0)
+    × (bodyRecords (spoken V12) (0x1a ∷ 0x04 ∷ 0x2a ∷ 0x02 ∷ 0x10 ∷ 0x07 ∷ []) ≡ Records 1)
+unfolding readUvarint readFrom groupOf isUtf8 run readTag readLen readVarint skipFixed skipField readValue readField
+    walkFrom walkAt roleOf rank ownOf textCount textSpot toDepth overKinds counted spotIn bodyRecords
+rows-editions = (refl, refl, refl, refl, refl, refl, refl, refl, refl, refl, refl, refl, refl, refl)

@@ -5,18 +5,19 @@ use native.Mathlib.Omega.{arith}
 use borrow.Author.Needs.{needs}
 use lib.ListN.{length}
 use Rattle.rows.specs.Store.{idsIn}
-use Rattle.node.proofs.Asking.{Lacked, lacked-all, lacked-room, lacked-turn, lacked-done}
+use Rattle.node.specs.Calls.{unseenFrom}
+use Rattle.node.proofs.Asking.{Picked, picked-all, picked-room, picked-turn, picked-done, unseen-none, unseen-turn}
 use Rattle.node.proofs.unseen.Statement.{statement}
 use Rattle.node.proofs.unseen.Tie as tie
 
 abbrev Inv-loop : tie.InvT-loop
-Inv-loop lens store ring flags body from n to₀ k₀ i₀ to k i = Lacked flags (idsIn 129 ring lens store) body from n to k i × (length to ≡ length to₀)
+Inv-loop lens store ring flags body from n to₀ k₀ i₀ to k i = Picked (unseenFrom flags (idsIn 129 ring lens store)) body from n to k i × (length to ≡ length to₀)
 
 abbrev μ-loop : tie.MeasureT-loop
 μ-loop lens store ring flags body from n to₀ k₀ i₀ to k i = n - i
 
 loop-holds : tie.Need-loop-holds Inv-loop μ-loop
-loop-holds c = (lacked-all _ _ _ _ _ _, refl)
+loop-holds c = (picked-all _ _ _ _ _, refl)
 
 mul-a : tie.Need-mul-a Inv-loop μ-loop
 mul-a c = let p = (c .before .before .before .before .before .before .before .pre .1 .0 .room) in omega arith
@@ -52,7 +53,7 @@ is-unseen-requires : tie.Need-is-unseen-requires Inv-loop μ-loop
 is-unseen-requires c κs = (c .before .before .before .before .before .before .before .before .before .before .pre .0)
 
 add-where-requires : tie.Need-add-where-requires Inv-loop μ-loop
-add-where-requires c κs = let m = (c .before .before .before .before .before .before .loop) in lacked-room _ _ _ _ _ _ _ _ (m .inv .0) _ (c .before .before .before .before .before .loop-test .taken) (c .before .before .before .before .before .before .before .before .before .before .before .before .pre .1 .1) (m .inv .1)
+add-where-requires c κs = let m = (c .before .before .before .before .before .before .loop) in picked-room _ _ _ _ _ _ _ (m .inv .0) _ (c .before .before .before .before .before .loop-test .taken) (c .before .before .before .before .before .before .before .before .before .before .before .before .pre .1 .1) (m .inv .1)
 
 add-i : tie.Need-add-i Inv-loop μ-loop
 add-i c = search needs
@@ -62,11 +63,11 @@ loop-less c = search needs
 
 loop-again : tie.Need-loop-again Inv-loop μ-loop
 loop-again c = let m = (c .before .before .before .before .before .before .before .before .before .loop) in
-    let room = lacked-room _ _ _ _ _ _ _ _ (m .inv .0) _ (c .before .before .before .before .before .before .before .before .loop-test .taken) (c .before .before .before .before .before .before .before .before .before .before .before .before .before .before .before .pre .1 .1) (m .inv .1) in
+    let room = picked-room _ _ _ _ _ _ _ (m .inv .0) _ (c .before .before .before .before .before .before .before .before .loop-test .taken) (c .before .before .before .before .before .before .before .before .before .before .before .before .before .before .before .pre .1 .1) (m .inv .1) in
     let q = m .inv .1 in (
-      lacked-turn _ _ _ _ _ _ _ _ (m .inv .0) (c .before .before .before .before .before .before .before .before .loop-test .taken)
-          (c .before .before .before .before .before .before .before .before .before .before .before .before .before .before .before .pre .1 .0) room _
-          (c .before .before .before .before .is-unseen .ensures) _ _ (c .before .before .add-where .ensures .0) (c .before .before .add-where .ensures .1),
+      picked-turn _ _ _ _ _ _ _ (m .inv .0) (c .before .before .before .before .before .before .before .before .loop-test .taken)
+          (c .before .before .before .before .before .before .before .before .before .before .before .before .before .before .before .pre .1 .0) room
+          (c .before .before .before .before .is-unseen .result) (unseen-turn _ _ _ _ _ (c .before .before .before .before .is-unseen .ensures)) _ _ (c .before .before .add-where .ensures .0) (c .before .before .add-where .ensures .1),
       omega
           arith,
     )
@@ -75,7 +76,7 @@ same-length : tie.Need-same-length Inv-loop μ-loop
 same-length c = (c .before .loop .inv .1)
 
 returns : tie.Need-returns Inv-loop μ-loop
-returns c = lacked-done _ _ _ _ _ _ _ _ (c .before .loop .inv .0) (c .loop-test .left)
+returns c = picked-done _ _ _ _ _ _ _ (c .before .loop .inv .0) (unseen-none _ _) (c .loop-test .left)
 
 pub unseen-spec : {M : Type 1} → statement M
 unseen-spec =

@@ -65,8 +65,8 @@ same-length-2 : tie.Need-same-length-2
 same-length-2 c = search needs
 
 returns : tie.Need-returns
-returns c = let a = c .before .before .before .before .before .before .before .before .before .args in admits-all (a .self) (now (a .seen-store)) (now (a .cache-store)) (a .at) (now (a .body)) (a .index) (a .verified) _
-    (admits-no (a .self) (now (a .seen-store)) (now (a .cache-store)) (a .at) _ _ (plan-faulty (a .self) (now (a .seen-store)) (now (a .cache-store)) (now (a .body)) (a .index) (a .verified) (a .at) _ (sym (c .before .lent2 .given .1) ∙ (c .before .before .before .lent .ensures))))
+returns c = let a = c .before .before .before .before .before .before .before .before .before .args in admits-all (a .self) (now (a .seen-store)) (now (a .cache-store)) (a .at) (a .edition) (now (a .body)) (a .index) (a .verified) _
+    (admits-no (a .self) (now (a .seen-store)) (now (a .cache-store)) (a .at) _ _ (plan-faulty (a .self) (now (a .seen-store)) (now (a .cache-store)) (a .edition) (now (a .body)) (a .index) (a .verified) (a .at) _ (sym (c .before .lent2 .given .1) ∙ (c .before .before .before .lent .ensures))))
 
 same-length-3 : tie.Need-same-length-3
 same-length-3 c = search needs
@@ -76,9 +76,9 @@ same-length-4 c = search needs
 
 returns-2 : tie.Need-returns-2
 returns-2 c = let a = c .before .before .before .before .before .before .before .before .before .before .before .before .args in
-    admits-all (a .self) (now (a .seen-store)) (now (a .cache-store)) (a .at) (now (a .body)) (a .index) (a .verified) _
+    admits-all (a .self) (now (a .seen-store)) (now (a .cache-store)) (a .at) (a .edition) (now (a .body)) (a .index) (a .verified) _
     (admits-no (a .self) (now (a .seen-store)) (now (a .cache-store)) (a .at) _ _ (plan-refused (a .self) (now (a .seen-store)) (now (a .cache-store))
-    (now (a .body)) (a .index) (a .verified) (a .at) _ (sym (c .before .before .before .before .enum-told .given .1)
+    (a .edition) (now (a .body)) (a .index) (a .verified) (a .at) _ (sym (c .before .before .before .before .enum-told .given .1)
     ∙ (c .before .before .before .before .before .before .lent .ensures)) (sym (c .before .c .given .1) ∙ (c .before .before .before .accept .ensures))))
 
 same-length-5 : tie.Need-same-length-5
@@ -89,9 +89,9 @@ same-length-6 c = search needs
 
 returns-3 : tie.Need-returns-3
 returns-3 c = let a = c .before .before .before .before .before .before .before .before .before .before .before .before .before .before .before .args in
-    admits-all (a .self) (now (a .seen-store)) (now (a .cache-store)) (a .at) (now (a .body)) (a .index) (a .verified) _
+    admits-all (a .self) (now (a .seen-store)) (now (a .cache-store)) (a .at) (a .edition) (now (a .body)) (a .index) (a .verified) _
     (admits-no (a .self) (now (a .seen-store)) (now (a .cache-store)) (a .at) _ _ (plan-missing (a .self) (now (a .seen-store)) (now (a .cache-store))
-    (now (a .body)) (a .index) (a .verified) (a .at) _ (sym (c .before .before .before .before .before .before .before .enum-told .given .1)
+    (a .edition) (now (a .body)) (a .index) (a .verified) (a .at) _ (sym (c .before .before .before .before .before .before .before .enum-told .given .1)
     ∙ (c .before .before .before .before .before .before .before .before .before .lent .ensures)) (sym (c .before .before .before .before .enum-told2 .given .1)
     ∙ (c .before .before .before .before .before .before .accept .ensures)) (sym (c .before .m .given .1) ∙ (c .before .before .before .message-at .ensures))))
 
@@ -105,8 +105,8 @@ returns-4 : tie.Need-returns-4
 returns-4 c = let a =
     c .before .before .before .before .before .before .before .before .before .before .before .before .before .before .before .before .before .before .before
     .before .before .before .before .args in
-    admits-all (a .self) (now (a .seen-store)) (now (a .cache-store)) (a .at) (now (a .body)) (a .index) (a .verified) _
-    (admits-as (a .self) (now (a .seen-store)) (now (a .cache-store)) (a .at) _ _ (plan-at (a .self) (now (a .seen-store)) (now (a .cache-store)) (now (a .body))
+    admits-all (a .self) (now (a .seen-store)) (now (a .cache-store)) (a .at) (a .edition) (now (a .body)) (a .index) (a .verified) _
+    (admits-as (a .self) (now (a .seen-store)) (now (a .cache-store)) (a .at) _ _ (plan-at (a .self) (now (a .seen-store)) (now (a .cache-store)) (a .edition) (now (a .body))
     (a .index) (a .verified) (a .at) _ _
     (sym (c .before .before .before .before .before .before .before .before .before .before .before .before .before .before .before .enum-told .given .1)
     ∙ (c .before .before .before .before .before .before .before .before .before .before .before .before .before .before .before .before .before .lent

@@ -2,6 +2,9 @@
 use Prim.Native.Nat.{ℕ}
 use mathlib.Core.Path.{refl, sym, _∙_}
 use borrow.Author.Needs.{length-unmapped, needs}
+use Rattle.basis.specs.Dialect.{spoken}
+use Rattle.schema.specs.AcceptLaws.{accept-small}
+use Rattle.node.specs.PartsLaws.{path-accepted}
 use Rattle.node.proofs.Answers.{tested}
 use Rattle.node.proofs.Asking.{asks-faulty, asks-refused, asks-done}
 use Rattle.node.proofs.Node.ask.Statement.{statement}
@@ -39,14 +42,16 @@ request-for-requires c κs = let a = (c .before .before .before .before .before 
     (length-unmapped ℕ (a .self .cache .«topic_count») 64 (g .1 .1 .1 .1 .1 .1 .0 .1 .1 .1 .1 .1 .1 .1 .1 .1 .1 .1 .1 .0 .1 .0 .1))
     (length-unmapped ℕ (a .self .cache .«topic_start») 256 (g .1 .1 .1 .1 .1 .1 .0 .1 .1 .1 .1 .1 .1 .1 .1 .1 .1 .1 .1 .1 .0 .1 .0 .1))
     (length-unmapped ℕ (a .self .cache .«topic_len») 256 (g .1 .1 .1 .1 .1 .1 .0 .1 .1 .1 .1 .1 .1 .1 .1 .1 .1 .1 .1 .1 .1 .0 .1 .0 .1)) in
-    (r .rows, sym (c .before .before .before .accept .ensures) ∙ (c .before .enum-told2 .given .1))
+    let e = sym (c .before .before .before .accept .ensures) ∙ (c .before .enum-told2 .given .1) in
+    let d = spoken (a .edition) in
+    (r .rows, (accept-small d (a .body .now) e, path-accepted d (a .body .now) e .0))
 
 returns : tie.Need-returns
-returns c = let a = (c .before .before .before .before .before .before .before .before .args) in let r = asks-faulty (a .self) (a .seen-store .now) (a .cache-store .now) (a .body .now) (a .out .now) _ (c .before .before .before .lent .ensures) _ (c .before .lent2 .given .1) in record { answer = r .0; node = refl; buffer = r .1 }
+returns c = let a = (c .before .before .before .before .before .before .before .before .args) in let r = asks-faulty (a .self) (a .seen-store .now) (a .cache-store .now) (a .edition) (a .body .now) (a .out .now) _ (c .before .before .before .lent .ensures) _ (c .before .lent2 .given .1) in record { answer = r .0; node = refl; buffer = r .1 }
 
 returns-2 : tie.Need-returns-2
 returns-2 c = let a = (c .before .before .before .before .before .before .before .before .before .before .before .args) in
-    let r = asks-refused (a .self) (a .seen-store .now) (a .cache-store .now) (a .body .now) (a .out .now) _
+    let r = asks-refused (a .self) (a .seen-store .now) (a .cache-store .now) (a .edition) (a .body .now) (a .out .now) _
     (c .before .before .before .before .before .before .lent .ensures) (c .before .before .before .before .enum-told .given .1) _
     (c .before .before .before .accept .ensures) _ (c .before .c .given .1) in record { answer = r .0; node = refl; buffer = r .1 }
 
@@ -55,7 +60,7 @@ same-length c = search needs
 
 returns-3 : tie.Need-returns-3
 returns-3 c = let a = (c .before .before .before .before .before .before .before .before .before .before .before .before .before .before .args) in
-    let r = asks-done (a .self) (a .seen-store .now) (a .cache-store .now) (a .body .now) (a .out .now) _
+    let r = asks-done (a .self) (a .seen-store .now) (a .cache-store .now) (a .edition) (a .body .now) (a .out .now) _
     (c .before .before .before .before .before .before .before .before .before .lent .ensures)
     (c .before .before .before .before .before .before .before .enum-told .given .1) _ (c .before .before .before .before .before .before .accept .ensures)
     (c .before .before .before .before .enum-told2 .given .1) _ _ (c .before .before .request-for .ensures .0) (c .before .before .request-for .ensures .1) in

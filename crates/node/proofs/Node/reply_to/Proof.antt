@@ -1,12 +1,15 @@
--- `reply_to` meets its contract: the ids that the body names, each once, the messages that are cached of them, and those that fit written.
+-- `reply_to` meets its contract: the ids that the body names, each once, those that the second one does not decline, the messages that are cached of
+-- them, and those that fit written.
+use Prim.Native.Nat.{ℕ}
+use mathlib.Core.Path.{sym}
 use mathlib.Core.List.{[], _∷_}
 use native.Mathlib.Omega.{arith}
-use Rattle.node.specs.PartsLaws.{parts-none, parts-fewer, path-accepted}
-use Rattle.node.specs.AskLaws.{reply-fits}
-use Rattle.node.proofs.Asking.{named-room, first-is, first-few}
 use Rattle.mcache.specs.StateLaws.{kept-sound}
-use Rattle.node.proofs.Serving.{kept-size, messages-are, reply-none, reply-short, reply-put}
-use borrow.Author.Needs.{needs}
+use Rattle.node.specs.PartsLaws.{parts-none, parts-fewer}
+use Rattle.node.specs.AskLaws.{reply-fits}
+use Rattle.node.proofs.Asking.{named-room, named-few, first-is}
+use Rattle.node.proofs.Serving.{kept-size, rest-is, messages-are, reply-none, reply-short, reply-put}
+use borrow.Author.Needs.{length-unmapped, needs}
 use Rattle.node.proofs.Node.reply_to.Statement.{statement}
 use Rattle.node.proofs.Node.reply_to.Tie as tie
 
@@ -17,7 +20,9 @@ slice-aggregate-parts-at-2 : tie.Need-slice-aggregate-parts-at-2
 slice-aggregate-parts-at-2 c = search needs
 
 parts-at-requires : tie.Need-parts-at-requires
-parts-at-requires c κs = let a = (c .before .before .before .before .before .args) in let few = path-accepted (a .body .now) (c .before .before .before .before .before .pre .1) in ((omega arith, omega arith), (parts-none _ _, named-room (3 ∷ 2 ∷ 1 ∷ []) (a .body .now) (few .1)))
+parts-at-requires c κs =
+    let s = c .before .before .before .before .before .before in
+    ((omega arith, omega arith), (parts-none _ _, named-room (3 ∷ 2 ∷ 1 ∷ []) (s .args .body .now) (s .pre .1 .0)))
 
 slice-aggregate-first-mentions : tie.Need-slice-aggregate-first-mentions
 slice-aggregate-first-mentions c = search needs
@@ -28,17 +33,29 @@ slice-aggregate-first-mentions-2 c = search needs
 first-mentions-requires : tie.Need-first-mentions-requires
 first-mentions-requires c κs = search needs
 
+slice-aggregate-not-declined : tie.Need-slice-aggregate-not-declined
+slice-aggregate-not-declined c = search needs
+
+slice-aggregate-not-declined-2 : tie.Need-slice-aggregate-not-declined-2
+slice-aggregate-not-declined-2 c = search needs
+
+not-declined-requires : tie.Need-not-declined-requires
+not-declined-requires c κs = search needs
+
 ring-requires : tie.Need-ring-requires
 ring-requires c κs = search needs
 
 slice-aggregate-cached : tie.Need-slice-aggregate-cached
-slice-aggregate-cached c = search needs
+slice-aggregate-cached c =
+    let s = c .before .before .before .before .before .before .before .before .before .before .before .before .before .before .before .before .before .before .before .before .before .before in sym (length-unmapped ℕ (s .args .self .cache .len) 64 (s .good .0 .1 .1 .1 .1 .1 .1 .0 .1 .1 .1 .1 .1 .1 .1 .1 .1 .0 .1 .0 .1))
 
 slice-aggregate-cached-2 : tie.Need-slice-aggregate-cached-2
-slice-aggregate-cached-2 c = search needs
+slice-aggregate-cached-2 c =
+    let s = c .before .before .before .before .before .before .before .before .before .before .before .before .before .before .before .before .before .before .before .before .before .before .before in sym (length-unmapped ℕ (s .args .self .cache .«id_len») 64 (s .good .0 .1 .1 .1 .1 .1 .1 .0 .1 .1 .1 .1 .1 .1 .1 .1 .1 .1 .0 .1 .0 .1))
 
 slice-aggregate-cached-3 : tie.Need-slice-aggregate-cached-3
-slice-aggregate-cached-3 c = search needs
+slice-aggregate-cached-3 c =
+    let s = c .before .before .before .before .before .before .before .before .before .before .before .before .before .before .before .before .before .before .before .before .before .before .before .before in sym (length-unmapped ℕ (s .args .self .cache .ids) 8192 (s .good .0 .1 .1 .1 .1 .1 .1 .0 .1 .1 .1 .1 .1 .1 .1 .1 .1 .1 .1 .0 .1 .0 .1))
 
 slice-aggregate-cached-4 : tie.Need-slice-aggregate-cached-4
 slice-aggregate-cached-4 c = search needs
@@ -47,24 +64,31 @@ slice-aggregate-cached-5 : tie.Need-slice-aggregate-cached-5
 slice-aggregate-cached-5 c = search needs
 
 cached-requires : tie.Need-cached-requires
-cached-requires c κs = let a =
-    (c .before .before .before .before .before .before .before .before .before .before .before .before .before .before .before .before .before .before .before
-    .before .before .args) in let k =
-    (c .before .before .before .before .before .before .before .before .before .before .before .before .before .before .before .before .before .before .before
-    .before .before .pre .0) in let p =
-    (c .before .before .before .before .before .before .before .before .before .before .before .before .before .before .before .parts-at .ensures .1 .room) in
-    let q = (c .before .before .before .before .before .before .before .before .before .before .before .first-mentions .ensures .1 .1) in
-    rw (c .before .before .before .before .before .before .before .before .ring .ensures) (kept-sound (a .self .cache) (a .cache-store .now) k, ((k .rows .few, k .rows .lengths, k .short), ((c .before .before .before .before .before .before .before .before .before .before .before .first-mentions .ensures .1 .0), omega arith)))
+cached-requires c κs =
+    let r = c .before .before .before .before .before .before .before .before in
+    let d = r .before .before .before in
+    let s = d .before .before .before .before .before .before .before .before .before .before .before .before .before .before .before in
+    let a = s .args in
+    let k = s .pre .0 in
+    let m = d .before .before .before .before .before .before .before .before .parts-at .ensures .1 .room in
+    let n = d .before .before .before .before .first-mentions .ensures .1 .1 in
+    let o = d .not-declined .ensures .1 .1 in
+    rw (r .ring .ensures) (
+      kept-sound (a .self .cache) (a .cache-store .now) k,
+      ((k .rows .few, k .rows .lengths, k .short), (d .not-declined .ensures .1 .0, omega arith)),
+    )
 
 returns : tie.Need-returns
-returns c = let a =
-    (c .before .before .before .before .before .before .before .before .before .before .before .before .before .before .before .before .before .before .before
-    .before .before .before .before .before .args) in
-    let few = path-accepted (a .body .now)
-    (c .before .before .before .before .before .before .before .before .before .before .before .before .before .before .before .before .before .before .before
-    .before .before .before .before .before .pre .1) in
-    let f = first-is (3 ∷ 2 ∷ 1 ∷ []) (a .body .now) (few .1) _ _ _ (c .before .before .before .before .before .before .before .before .before .before .before .before .before .before .before .before .before .before .parts-at .ensures .0) _ _ (c .before .before .before .before .before .before .before .before .before .before .before .before .before .before .first-mentions .ensures .0) in
-    let q = messages-are (a .self .cache) (a .cache-store .now) (a .body .now) _ _ _ _ f (rw (c .before .before .before .before .before .before .before .before .before .before .before .ring .ensures) at (c .before .before .cached .ensures .0)) in
+returns c =
+    let r = c .before .before .before .before .before .before .before .before .before .before .before in
+    let d = r .before .before .before in
+    let s = d .before .before .before .before .before .before .before .before .before .before .before .before .before .before .before in
+    let a = s .args in
+    let f = first-is (3 ∷ 2 ∷ 1 ∷ []) (a .body .now) (s .pre .1 .0) _ _ _ (d .before .before .before .before .before .before .before .before .parts-at .ensures .0) _ _
+    (d .before .before .before .before .first-mentions .ensures .0) in
+    let x = rest-is (a .body .now) (a .unwanted .now) _ _ _ _ f (d .not-declined .ensures .0) in
+    let q = messages-are (a .self .cache) (a .cache-store .now) (a .body .now) (a .unwanted .now) _ _ _ _ x
+    (rw (r .ring .ensures) at (c .before .before .cached .ensures .0)) in
     reply-none _ (a .cache-store .now) _ _ (a .out .now) q (c .if1 .taken)
 
 reply-room-requires : tie.Need-reply-room-requires
@@ -74,15 +98,12 @@ slice-aggregate-parts-that-fit : tie.Need-slice-aggregate-parts-that-fit
 slice-aggregate-parts-that-fit c = search needs
 
 parts-that-fit-requires : tie.Need-parts-that-fit-requires
-parts-that-fit-requires c κs = let a =
-    (c .before .before .before .before .before .before .before .before .before .before .before .before .before .before .before .before .before .before .before
-    .before .before .before .before .before .before .before .args) in (
-      (rw (c .before .before .before .before .before .before .before .before .before .before .before .before .before .ring .ensures) at
-          (c .before .before .before .before .cached .ensures .1 .0)) (a .cache-store .now)
-          (c .before .before .before .before .before .before .before .before .before .before .before .before .before .before .before .before .before .before .before
-          .before .before .before .before .before .before .before .pre .0 .rows .room),
-      omega arith,
-    )
+parts-that-fit-requires c κs =
+    let r = c .before .before .before .before .before .before .before .before .before .before .before .before .before in
+    let d = r .before .before .before in
+    let s = d .before .before .before .before .before .before .before .before .before .before .before .before .before .before .before in
+    let a = s .args in
+    ((rw (r .ring .ensures) at (c .before .before .before .before .cached .ensures .1 .0)) (a .cache-store .now) (s .pre .0 .rows .room), omega arith)
 
 slice-aggregate-emit-parts : tie.Need-slice-aggregate-emit-parts
 slice-aggregate-emit-parts c = search needs
@@ -91,89 +112,68 @@ slice-aggregate-emit-parts-2 : tie.Need-slice-aggregate-emit-parts-2
 slice-aggregate-emit-parts-2 c = search needs
 
 emit-parts-requires : tie.Need-emit-parts-requires
-emit-parts-requires c κs = let a = (c .before .before .before .before .before .before .before .before .before .before .before .before .before .before .before .before .before .before .before .before .before .before .before .before .before .before .before .before .before .before .args) in
-    let m = (rw (c .before .before .before .before .before .before .before .before .before .before .before .before .before .before .before .before .before .ring
-    .ensures) at (c .before .before .before .before .before .before .before .before .cached .ensures .1 .0)) (a .cache-store .now)
-    (c .before .before .before .before .before .before .before .before .before .before .before .before .before .before .before .before .before .before
-    .before .before .before .before .before .before .before .before .before .before .before .before .pre .0 .rows .room) in (
-      parts-fewer (a .cache-store .now) _ 1 _ (omega (arith, (c .before .before .before .before .before .before .if1 .left))) m,
-      (
-        omega arith,
-        reply-fits (a .cache-store .now) _ 1
-            (kept-size (a .self .cache) (a .cache-store .now)
-            (c .before .before .before .before .before .before .before .before .before .before .before .before .before .before .before .before .before .before
-            .before .before .before .before .before .before .before .before .before .before .before .before .pre .0)) (omega arith),
-      ),
+emit-parts-requires c κs =
+    let r = c .before .before .before .before .before .before .before .before .before .before .before .before .before .before .before .before .before in
+    let d = r .before .before .before in
+    let s = d .before .before .before .before .before .before .before .before .before .before .before .before .before .before .before in
+    let a = s .args in
+    let m = (rw (r .ring .ensures) at (c .before .before .before .before .before .before .before .before .cached .ensures .1 .0)) (a .cache-store .now) (s .pre .0 .rows .room) in (
+      parts-fewer (a .cache-store .now) _ 1 _ (omega (arith, c .before .before .before .before .before .before .if1 .left)) m,
+      (omega arith, reply-fits (a .cache-store .now) _ 1 (kept-size (a .self .cache) (a .cache-store .now) (s .pre .0)) (omega arith)),
     )
 
 returns-2 : tie.Need-returns-2
-returns-2 c = let a =
-    (c .before .before .before .before .before .before .before .before .before .before .before .before .before .before .before .before .before .before .before
-    .before .before .before .before .before .before .before .before .before .before .before .before .before .args) in
-    let few = path-accepted (a .body .now)
-    (c .before .before .before .before .before .before .before .before .before .before .before .before .before .before .before .before .before .before .before
-    .before .before .before .before .before .before .before .before .before .before .before .before .before .pre .1) in
-    let f = first-is (3 ∷ 2 ∷ 1 ∷ []) (a .body .now) (few .1) _ _ _
-    (c .before .before .before .before .before .before .before .before .before .before .before .before .before .before .before .before .before .before
-    .before .before .before .before .before .before .before .before .parts-at .ensures .0) _ _
-    (c .before .before .before .before .before .before .before .before .before .before .before .before .before .before .before .before .before .before
-    .before .before .before .before .first-mentions .ensures .0) in
-    let q = messages-are (a .self .cache) (a .cache-store .now) (a .body .now) _ _ _ _ f (rw (c .before .before .before .before .before .before .before .before .before .before .before .before .before .before .before .before .before .before .before .ring .ensures) at (c .before .before .before .before .before .before .before .before .before .before .cached .ensures .0)) in
-    reply-short _ (a .cache-store .now) _ _ (a .out .now) q (c .before .before .before .before .before .before .before .before .if1 .left) _ _ (c .before .before .before .before .before .before .before .reply-room .ensures) (c .before .before .before .before .before .parts-that-fit .ensures .0) (c .before .before .before .before .if2 .taken) _ _ _ (c .before .emit-parts .ensures)
+returns-2 c =
+    let r = c .before .before .before .before .before .before .before .before .before .before .before .before .before .before .before .before .before .before .before in
+    let d = r .before .before .before in
+    let s = d .before .before .before .before .before .before .before .before .before .before .before .before .before .before .before in
+    let a = s .args in
+    let f = first-is (3 ∷ 2 ∷ 1 ∷ []) (a .body .now) (s .pre .1 .0) _ _ _ (d .before .before .before .before .before .before .before .before .parts-at .ensures .0) _ _
+    (d .before .before .before .before .first-mentions .ensures .0) in
+    let x = rest-is (a .body .now) (a .unwanted .now) _ _ _ _ f (d .not-declined .ensures .0) in
+    let q = messages-are (a .self .cache) (a .cache-store .now) (a .body .now) (a .unwanted .now) _ _ _ _ x
+    (rw (r .ring .ensures) at (c .before .before .before .before .before .before .before .before .before .before .cached .ensures .0)) in
+    reply-short _ (a .cache-store .now) _ _ (a .out .now) q (c .before .before .before .before .before .before .before .before .if1 .left) _ _ (c .before .before .before .before .before .before .before .reply-room .ensures) (c .before .before .before .before .before .parts-that-fit .ensures .0)
+    (c .before .before .before .before .if2 .taken) _ _ _ (c .before .emit-parts .ensures)
 
 slice-aggregate-emit-parts-3 : tie.Need-slice-aggregate-emit-parts-3
 slice-aggregate-emit-parts-3 c = search needs
 
 emit-parts-requires-2 : tie.Need-emit-parts-requires-2
-emit-parts-requires-2 c κs = let a =
-    (c .before .before .before .before .before .before .before .before .before .before .before .before .before .before .before .before .before .before .before
-    .before .before .before .before .before .before .before .before .before .before .before .args) in
-    let few = path-accepted (a .body .now)
-    (c .before .before .before .before .before .before .before .before .before .before .before .before .before .before .before .before .before .before .before
-    .before .before .before .before .before .before .before .before .before .before .before .pre .1) in
-    let n = first-few (3 ∷ 2 ∷ 1 ∷ []) (a .body .now) (few .1) _ _ _
-    (c .before .before .before .before .before .before .before .before .before .before .before .before .before .before .before .before .before .before
-    .before .before .before .before .before .before .parts-at .ensures .0) _ _
-    (c .before .before .before .before .before .before .before .before .before .before .before .before .before .before .before .before .before .before
-    .before .before .first-mentions .ensures .1 .1) (c .before .before .before .before .before .before .before .before .cached .ensures .1 .1) in
-    let m = (rw (c .before .before .before .before .before .before .before .before .before .before .before .before .before .before .before .before .before .ring
-    .ensures) at (c .before .before .before .before .before .before .before .before .cached .ensures .1 .0)) (a .cache-store .now)
-    (c .before .before .before .before .before .before .before .before .before .before .before .before .before .before .before .before .before .before
-    .before .before .before .before .before .before .before .before .before .before .before .before .pre .0 .rows .room) in
-    let l = (c .before .before .before .parts-that-fit .ensures .1) in (
+emit-parts-requires-2 c κs =
+    let r = c .before .before .before .before .before .before .before .before .before .before .before .before .before .before .before .before .before in
+    let d = r .before .before .before in
+    let s = d .before .before .before .before .before .before .before .before .before .before .before .before .before .before .before in
+    let a = s .args in
+    let n = named-few (3 ∷ 2 ∷ 1 ∷ []) (a .body .now) (s .pre .1 .0) _ _ _ (d .before .before .before .before .before .before .before .before .parts-at .ensures .0) in
+    let o = d .before .before .before .before .first-mentions .ensures .1 .1 in
+    let u = d .not-declined .ensures .1 .1 in
+    let v = c .before .before .before .before .before .before .before .before .cached .ensures .1 .1 in
+    let l = c .before .before .before .parts-that-fit .ensures .1 in
+    let m = (rw (r .ring .ensures) at (c .before .before .before .before .before .before .before .before .cached .ensures .1 .0)) (a .cache-store .now) (s .pre .0 .rows .room) in (
       parts-fewer (a .cache-store .now) _ _ _ l m,
-      (
-        omega arith,
-        reply-fits (a .cache-store .now) _ _
-            (kept-size (a .self .cache) (a .cache-store .now)
-            (c .before .before .before .before .before .before .before .before .before .before .before .before .before .before .before .before .before .before
-            .before .before .before .before .before .before .before .before .before .before .before .before .pre .0)) (omega arith),
-      ),
+      (omega arith, reply-fits (a .cache-store .now) _ _ (kept-size (a .self .cache) (a .cache-store .now) (s .pre .0)) (omega arith)),
     )
 
-sub-t21 : tie.Need-sub-t21
-sub-t21 c = search needs
+sub-t23 : tie.Need-sub-t23
+sub-t23 c = search needs
 
 same-length : tie.Need-same-length
 same-length c = search needs
 
 returns-3 : tie.Need-returns-3
-returns-3 c = let a =
-    (c .before .before .before .before .before .before .before .before .before .before .before .before .before .before .before .before .before .before .before
-    .before .before .before .before .before .before .before .before .before .before .before .before .before .before .args) in
-    let few = path-accepted (a .body .now)
-    (c .before .before .before .before .before .before .before .before .before .before .before .before .before .before .before .before .before .before .before
-    .before .before .before .before .before .before .before .before .before .before .before .before .before .before .pre .1) in
-    let f = first-is (3 ∷ 2 ∷ 1 ∷ []) (a .body .now) (few .1) _ _ _
-    (c .before .before .before .before .before .before .before .before .before .before .before .before .before .before .before .before .before .before
-    .before .before .before .before .before .before .before .before .before .parts-at .ensures .0) _ _
-    (c .before .before .before .before .before .before .before .before .before .before .before .before .before .before .before .before .before .before
-    .before .before .before .before .before .first-mentions .ensures .0) in
-    let q = messages-are (a .self .cache) (a .cache-store .now) (a .body .now) _ _ _ _ f (rw (c .before .before .before .before .before .before .before .before .before .before .before .before .before .before .before .before .before .before .before .before .ring .ensures) at (c .before .before .before .before .before .before .before .before .before .before .before .cached .ensures .0)) in
-    reply-put _ (a .cache-store .now) _ _ (a .out .now) q (c .before .before .before .before .before .before .before .before .before .if1 .left) _ _
-    (c .before .before .before .before .before .before .before .before .reply-room .ensures)
-    (c .before .before .before .before .before .before .parts-that-fit .ensures .0) (c .before .before .before .before .before .if2 .left)
-    (c .before .before .before .before .before .before .parts-that-fit .ensures .1) _ _ (c .before .before .emit-parts2 .ensures)
+returns-3 c =
+    let r = c .before .before .before .before .before .before .before .before .before .before .before .before .before .before .before .before .before .before .before .before in
+    let d = r .before .before .before in
+    let s = d .before .before .before .before .before .before .before .before .before .before .before .before .before .before .before in
+    let a = s .args in
+    let f = first-is (3 ∷ 2 ∷ 1 ∷ []) (a .body .now) (s .pre .1 .0) _ _ _ (d .before .before .before .before .before .before .before .before .parts-at .ensures .0) _ _
+    (d .before .before .before .before .first-mentions .ensures .0) in
+    let x = rest-is (a .body .now) (a .unwanted .now) _ _ _ _ f (d .not-declined .ensures .0) in
+    let q = messages-are (a .self .cache) (a .cache-store .now) (a .body .now) (a .unwanted .now) _ _ _ _ x
+    (rw (r .ring .ensures) at (c .before .before .before .before .before .before .before .before .before .before .before .cached .ensures .0)) in
+    reply-put _ (a .cache-store .now) _ _ (a .out .now) q (c .before .before .before .before .before .before .before .before .before .if1 .left) _ _ (c .before .before .before .before .before .before .before .before .reply-room .ensures) (c .before .before .before .before .before .before .parts-that-fit .ensures .0)
+    (c .before .before .before .before .before .if2 .left) (c .before .before .before .before .before .before .parts-that-fit .ensures .1) _ _ (c .before .before .emit-parts2 .ensures)
 
 pub reply-to-spec : {M : Type 1} → statement M
 reply-to-spec =
@@ -185,6 +185,9 @@ reply-to-spec =
     slice-aggregate-first-mentions
     slice-aggregate-first-mentions-2
     first-mentions-requires
+    slice-aggregate-not-declined
+    slice-aggregate-not-declined-2
+    not-declined-requires
     ring-requires
     slice-aggregate-cached
     slice-aggregate-cached-2
@@ -202,6 +205,6 @@ reply-to-spec =
     returns-2
     slice-aggregate-emit-parts-3
     emit-parts-requires-2
-    sub-t21
+    sub-t23
     same-length
     returns-3)

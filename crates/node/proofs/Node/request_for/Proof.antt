@@ -4,8 +4,7 @@ use mathlib.Core.Path.{sym}
 use mathlib.Core.List.{[], _∷_}
 use native.Mathlib.Omega.{arith}
 use borrow.Author.Needs.{length-unmapped, needs}
-use Rattle.schema.specs.AcceptLaws.{accept-small}
-use Rattle.node.specs.PartsLaws.{parts-none, path-accepted}
+use Rattle.node.specs.PartsLaws.{parts-none}
 use Rattle.node.specs.AskLaws.{request-fits}
 use Rattle.node.proofs.Asking.{named-room, first-is, first-few, ask-none, ask-short, ask-put}
 use Rattle.node.proofs.Node.request_for.Statement.{statement}
@@ -18,15 +17,14 @@ slice-aggregate-parts-at-2 : tie.Need-slice-aggregate-parts-at-2
 slice-aggregate-parts-at-2 c = search needs
 
 parts-at-requires : tie.Need-parts-at-requires
-parts-at-requires c κs = let a = (c .before .before .before .before .before .args) in let few = path-accepted (a .body .now)
-    (c .before .before .before .before .before .pre .1) in (
-      (omega arith, omega arith),
-      (
-        parts-none _ _,
-        named-room (3 ∷ 1 ∷ 2 ∷ []) (a .body .now)
-            (few .0),
-      ),
-    )
+parts-at-requires c κs = let a = (c .before .before .before .before .before .args) in let few = c .before .before .before .before .before .pre .1 in (
+  (omega arith, omega arith),
+  (
+    parts-none _ _,
+    named-room (3 ∷ 1 ∷ 2 ∷ []) (a .body .now)
+        (few .1),
+  ),
+)
 
 slice-aggregate-first-mentions : tie.Need-slice-aggregate-first-mentions
 slice-aggregate-first-mentions c = search needs
@@ -64,9 +62,7 @@ unseen-requires c κs = let p = (c .before .before .before .before .before .befo
 
 returns : tie.Need-returns
 returns c = let a = (c .before .before .before .before .before .before .before .before .before .before .before .before .before .before .before .before
-    .before .before .before .before .args) in let few = path-accepted (a .body .now)
-    (c .before .before .before .before .before .before .before .before .before .before .before .before .before .before .before .before .before .before
-    .before .before .pre .1) in let f = first-is (3 ∷ 1 ∷ 2 ∷ []) (a .body .now) (few .0) _ _ _
+    .before .before .before .before .args) in let few = c .before .before .before .before .before .before .before .before .before .before .before .before .before .before .before .before .before .before .before .before .pre .1 in let f = first-is (3 ∷ 1 ∷ 2 ∷ []) (a .body .now) (few .1) _ _ _
     (c .before .before .before .before .before .before .before .before .before .before .before .before .before .before .parts-at .ensures .0) _ _
     (c .before .before .before .before .before .before .before .before .before .before .first-mentions .ensures .0) in ask-none (a .self)
     (a .seen-store .now) (a .body .now) (a .out .now) _ _ _ _ f (rw (c .before .before .before .before .before .before .before .ring .ensures) at
@@ -81,25 +77,19 @@ slice-aggregate-emit-request-2 c = search needs
 emit-request-requires : tie.Need-emit-request-requires
 emit-request-requires c κs = let a =
     (c .before .before .before .before .before .before .before .before .before .before .before .before .before .before .before .before .before .before
-    .before .before .before .before .args) in let few = path-accepted (a .body .now)
-    (c .before .before .before .before .before .before .before .before .before .before .before .before .before .before .before .before .before .before
-    .before .before .before .before .pre .1) in let m = first-few (3 ∷ 1 ∷ 2 ∷ []) (a .body .now) (few .0) _ _ _
+    .before .before .before .before .args) in let few = c .before .before .before .before .before .before .before .before .before .before .before .before .before .before .before .before .before .before .before .before .before .before .pre .1 in let m = first-few (3 ∷ 1 ∷ 2 ∷ []) (a .body .now) (few .1) _ _ _
     (c .before .before .before .before .before .before .before .before .before .before .before .before .before .before .before .before .parts-at
     .ensures .0) _ _ (c .before .before .before .before .before .before .before .before .before .before .before .before .first-mentions .ensures .1
     .1) (c .before .before .before .before .unseen .ensures .1 .1) in (
       (c .before .before .before .before .unseen .ensures .1 .0),
       request-fits
-          (a .body .now) _ _ (accept-small (a .body .now)
-          (c .before .before .before .before .before .before .before .before .before .before .before .before .before .before .before .before .before .before
-          .before .before .before .before .pre .1)) m,
+          (a .body .now) _ _ (few .0) m,
     )
 
 returns-2 : tie.Need-returns-2
 returns-2 c = let a =
     (c .before .before .before .before .before .before .before .before .before .before .before .before .before .before .before .before .before .before
-    .before .before .before .before .before .before .before .args) in let few = path-accepted (a .body .now)
-    (c .before .before .before .before .before .before .before .before .before .before .before .before .before .before .before .before .before .before
-    .before .before .before .before .before .before .before .pre .1) in let f = first-is (3 ∷ 1 ∷ 2 ∷ []) (a .body .now) (few .0) _ _ _
+    .before .before .before .before .before .before .before .args) in let few = c .before .before .before .before .before .before .before .before .before .before .before .before .before .before .before .before .before .before .before .before .before .before .before .before .before .pre .1 in let f = first-is (3 ∷ 1 ∷ 2 ∷ []) (a .body .now) (few .1) _ _ _
     (c .before .before .before .before .before .before .before .before .before .before .before .before .before .before .before .before .before .before
     .before .parts-at .ensures .0) _ _
     (c .before .before .before .before .before .before .before .before .before .before .before .before .before .before .before .first-mentions
@@ -114,18 +104,14 @@ slice-aggregate-emit-request-3 c = search needs
 emit-request-requires-2 : tie.Need-emit-request-requires-2
 emit-request-requires-2 c κs = let a =
     (c .before .before .before .before .before .before .before .before .before .before .before .before .before .before .before .before .before .before
-    .before .before .before .before .before .before .before .before .before .args) in let few = path-accepted (a .body .now)
-    (c .before .before .before .before .before .before .before .before .before .before .before .before .before .before .before .before .before .before
-    .before .before .before .before .before .before .before .before .before .pre .1) in let m = first-few (3 ∷ 1 ∷ 2 ∷ []) (a .body .now)
-    (few .0) _ _ _ (c .before .before .before .before .before .before .before .before .before .before .before .before .before .before .before .before
+    .before .before .before .before .before .before .before .before .before .args) in let few = c .before .before .before .before .before .before .before .before .before .before .before .before .before .before .before .before .before .before .before .before .before .before .before .before .before .before .before .pre .1 in let m = first-few (3 ∷ 1 ∷ 2 ∷ []) (a .body .now)
+    (few .1) _ _ _ (c .before .before .before .before .before .before .before .before .before .before .before .before .before .before .before .before
     .before .before .before .before .before .parts-at .ensures .0) _ _
     (c .before .before .before .before .before .before .before .before .before .before .before .before .before .before .before .before .before
     .first-mentions .ensures .1 .1) (c .before .before .before .before .before .before .before .before .before .unseen .ensures .1 .1) in (
       (c .before .before .before .before .before .before .before .before .before .unseen .ensures .1 .0),
       request-fits (a .body .now) _ _
-          (accept-small (a .body .now)
-          (c .before .before .before .before .before .before .before .before .before .before .before .before .before .before .before .before .before .before
-          .before .before .before .before .before .before .before .before .before .pre .1)) m,
+          (few .0) m,
     )
 
 same-length : tie.Need-same-length
@@ -134,10 +120,8 @@ same-length c = search needs
 returns-3 : tie.Need-returns-3
 returns-3 c = let a =
     (c .before .before .before .before .before .before .before .before .before .before .before .before .before .before .before .before .before .before
-    .before .before .before .before .before .before .before .before .before .before .before .before .args) in let few = path-accepted (a .body .now)
-    (c .before .before .before .before .before .before .before .before .before .before .before .before .before .before .before .before .before .before
-    .before .before .before .before .before .before .before .before .before .before .before .before .pre .1) in let f = first-is (3 ∷ 1 ∷ 2 ∷ [])
-    (a .body .now) (few .0) _ _ _
+    .before .before .before .before .before .before .before .before .before .before .before .before .args) in let few = c .before .before .before .before .before .before .before .before .before .before .before .before .before .before .before .before .before .before .before .before .before .before .before .before .before .before .before .before .before .before .pre .1 in let f = first-is (3 ∷ 1 ∷ 2 ∷ [])
+    (a .body .now) (few .1) _ _ _
     (c .before .before .before .before .before .before .before .before .before .before .before .before .before .before .before .before .before .before
     .before .before .before .before .before .before .parts-at .ensures .0) _ _
     (c .before .before .before .before .before .before .before .before .before .before .before .before .before .before .before .before .before .before

@@ -1,7 +1,9 @@
--- `serve` meets its contract: the lent node and its stores, the body, and then the reply.
+-- `serve` meets its contract: the lent node and its stores, the body, and then the second body and the reply.
 use Prim.Native.Nat.{ℕ}
 use mathlib.Core.Path.{refl, sym, _∙_}
 use borrow.Author.Needs.{length-unmapped, needs}
+use Rattle.basis.specs.Dialect.{spoken}
+use Rattle.node.specs.PartsLaws.{path-accepted}
 use Rattle.node.proofs.Answers.{tested}
 use Rattle.node.proofs.Serving.{serves-faulty, serves-refused, serves-done}
 use Rattle.node.proofs.Node.serve.Statement.{statement}
@@ -25,9 +27,11 @@ enum-known-c c = search needs
 enum-told-2 : tie.Need-enum-told-2
 enum-told-2 c = search needs
 
-reply-to-requires : tie.Need-reply-to-requires
-reply-to-requires c κs = let a = (c .before .before .before .before .before .before .before .before .before .before .before .args) in
-    let g = c .before .before .before .before .before .before .before .before .before .before .before .good .0 in
+serve-taken-requires : tie.Need-serve-taken-requires
+serve-taken-requires c κs =
+    let s = c .before .before .before .before .before .before .before .before .before .before .before .before in
+    let a = s .args in
+    let g = s .good .0 in
     let r = tested (a .self) (a .seen-store .now) (a .cache-store .now) (sym (c .before .before .before .before .enum-told .given .1) ∙ c .before .before .before .before .before .before .lent .ensures)
     (length-unmapped ℕ (a .self .seen .expiry) 256 (g .1 .1 .1 .1 .1 .0 .1 .1 .1 .1 .0 .1 .0 .1))
     (length-unmapped ℕ (a .self .seen .len) 256 (g .1 .1 .1 .1 .1 .0 .1 .1 .1 .1 .1 .0 .1 .0 .1))
@@ -39,26 +43,32 @@ reply-to-requires c κs = let a = (c .before .before .before .before .before .be
     (length-unmapped ℕ (a .self .cache .«topic_count») 64 (g .1 .1 .1 .1 .1 .1 .0 .1 .1 .1 .1 .1 .1 .1 .1 .1 .1 .1 .1 .0 .1 .0 .1))
     (length-unmapped ℕ (a .self .cache .«topic_start») 256 (g .1 .1 .1 .1 .1 .1 .0 .1 .1 .1 .1 .1 .1 .1 .1 .1 .1 .1 .1 .1 .0 .1 .0 .1))
     (length-unmapped ℕ (a .self .cache .«topic_len») 256 (g .1 .1 .1 .1 .1 .1 .0 .1 .1 .1 .1 .1 .1 .1 .1 .1 .1 .1 .1 .1 .1 .0 .1 .0 .1)) in
-    (r .kept, sym (c .before .before .before .accept .ensures) ∙ (c .before .enum-told2 .given .1))
+    let e = sym (c .before .before .before .accept .ensures) ∙ c .before .enum-told2 .given .1 in
+    (r .kept, path-accepted (spoken (a .edition)) (a .body .now) e .1)
 
 returns : tie.Need-returns
-returns c = let a = (c .before .before .before .before .before .before .before .before .args) in let r = serves-faulty (a .self) (a .seen-store .now) (a .cache-store .now) (a .body .now) (a .out .now) _ (c .before .before .before .lent .ensures) _ (c .before .lent2 .given .1) in record { answer = r .0; node = refl; buffer = r .1 }
+returns c =
+    let a = c .before .before .before .before .before .before .before .before .before .args in
+    let r = serves-faulty (a .self) (a .seen-store .now) (a .cache-store .now) (a .edition) (a .body .now) (a .unwanted .now) (a .out .now) _
+    (c .before .before .before .lent .ensures) _ (c .before .lent2 .given .1) in
+    record { answer = r .0; node = refl; buffer = r .1 }
 
 returns-2 : tie.Need-returns-2
-returns-2 c = let a = (c .before .before .before .before .before .before .before .before .before .before .before .args) in
-    let r = serves-refused (a .self) (a .seen-store .now) (a .cache-store .now) (a .body .now) (a .out .now) _
-    (c .before .before .before .before .before .before .lent .ensures) (c .before .before .before .before .enum-told .given .1) _
-    (c .before .before .before .accept .ensures) _ (c .before .c .given .1) in record { answer = r .0; node = refl; buffer = r .1 }
+returns-2 c =
+    let a = c .before .before .before .before .before .before .before .before .before .before .before .before .args in
+    let r = serves-refused (a .self) (a .seen-store .now) (a .cache-store .now) (a .edition) (a .body .now) (a .unwanted .now) (a .out .now) _
+    (c .before .before .before .before .before .before .lent .ensures) (c .before .before .before .before .enum-told .given .1) _ (c .before .before .before .accept .ensures) _ (c .before .c .given .1) in
+    record { answer = r .0; node = refl; buffer = r .1 }
 
 same-length : tie.Need-same-length
 same-length c = search needs
 
 returns-3 : tie.Need-returns-3
-returns-3 c = let a = (c .before .before .before .before .before .before .before .before .before .before .before .before .before .before .args) in
-    let r = serves-done (a .self) (a .seen-store .now) (a .cache-store .now) (a .body .now) (a .out .now) _
-    (c .before .before .before .before .before .before .before .before .before .lent .ensures)
-    (c .before .before .before .before .before .before .before .enum-told .given .1) _ (c .before .before .before .before .before .before .accept .ensures)
-    (c .before .before .before .before .enum-told2 .given .1) _ _ (c .before .before .reply-to .ensures) in record { answer = r .0; node = refl; buffer = r .1 }
+returns-3 c =
+    let a = c .before .before .before .before .before .before .before .before .before .before .before .before .before .before .before .args in
+    let r = serves-done (a .self) (a .seen-store .now) (a .cache-store .now) (a .edition) (a .body .now) (a .unwanted .now) (a .out .now) _
+    (c .before .before .before .before .before .before .before .before .before .lent .ensures) (c .before .before .before .before .before .before .before .enum-told .given .1) _ (c .before .before .before .before .before .before .accept .ensures) (c .before .before .before .before .enum-told2 .given .1) _ _ (c .before .before .serve-taken .ensures) in
+    record { answer = r .0; node = refl; buffer = r .1 }
 
 pub serve-spec : {M : Type 1} → statement M
 serve-spec =
@@ -70,7 +80,7 @@ serve-spec =
     accept-requires
     enum-known-c
     enum-told-2
-    reply-to-requires
+    serve-taken-requires
     returns
     returns-2
     same-length
