@@ -380,8 +380,8 @@ message-role d f h =
     (λ u. clash (let k = simp (t, u) at h in cc)))
     (λ t. clash (let k = simp t at h in cc))
 
-read-along : (d : Dialect) (s : List ℕ) (i a e at n m : ℕ) → countAlong counted (kind.Rpc d) s (walkAt s at) ≡ count.Records m
-    → messageAlong i n (walkAt s at) ≡ At a e → (x : ℕ) × (counted kind.RawMessage (between s a e) ≡ count.Records x)
+read-along : (d : Dialect) (s : List ℕ) (i a e at n m : ℕ)
+    → countAlong counted (kind.Rpc d) s (walkAt s at) ≡ count.Records m → messageAlong i n (walkAt s at) ≡ At a e → (x : ℕ) × (counted kind.RawMessage (between s a e) ≡ count.Records x)
 read-along d s i a e =
     along s (λ (at : ℕ) (w : Fields). (n m : ℕ) → countAlong counted (kind.Rpc d) s w ≡ count.Records m
     → messageAlong i n w ≡ At a e → (x : ℕ) × (counted kind.RawMessage (between s a e) ≡ count.Records x))

@@ -10,6 +10,7 @@ use lib.ListN.{length, getD, take, length-append}
 use lib.Seq.{length-take-le, take-length}
 use lib.Dec.{eqb}
 use borrow.Author.Tests.{eqb-true, eqb-false}
+use Rattle.basis.specs.declared.Edition.{Edition}
 use Rattle.basis.specs.Cases.{either, clash}
 use Rattle.rows.specs.Ids.{sameBytes, among, distinct}
 use Rattle.rows.specs.IdsLaws.{same-equal, among-append, among-at, among-take, distinct-take, distinct-append, all-few}
@@ -65,12 +66,12 @@ pub record Admitted (set : List (List ℕ)) (x : Settings) (first past : ℕ) (r
   pub only : (m : List ℕ) → among m (gotAll (x .flags) got calls) ≡ true → among m got ≡ false → among m served ≡ true
 
 module _ {set : List (List ℕ)} {x : Settings} (ms : MessageSet (x .flags) set) {first past : ℕ} (rs : List ℕ) {left : ℕ}
-    (body : List ℕ) (at : ℕ → ℕ) (served : List (List ℕ)) (n : ℕ)
-    (brings-each : (i : ℕ) → i < n → brought (x .flags) (admit body i true (at i)) ≡ some (getD served i []))
+    (eds : ℕ → Edition) (body : List ℕ) (at : ℕ → ℕ) (served : List (List ℕ)) (n : ℕ)
+    (brings-each : (i : ℕ) → i < n → brought (x .flags) (admit (eds i) body i true (at i)) ≡ some (getD served i []))
     (inside : (i : ℕ) → i < n → among (getD served i []) set ≡ true) (few : n ≤ length served) where
   pub all-admitted : (k i : ℕ) {got : List (List ℕ)} {s : State} → i + k ≤ n
-      → Holding set x first past (readings (admits body at i k) ++ rs) left got s
-      → Admitted set x first past rs left got served i k (admits body at i k) s
+      → Holding set x first past (readings (admits eds body at i k) ++ rs) left got s
+      → Admitted set x first past rs left got served i k (admits eds body at i k) s
   unfolding admits readings gotAll afterAll
   all-admitted zero i l h =
       record {
@@ -84,13 +85,13 @@ module _ {set : List (List ℕ)} {x : Settings} (ms : MessageSet (x .flags) set)
   all-admitted (suc k) i {got} {s} l h =
       let m = getD served i [] in
       let e = brings-each i (omega arith) in
-      let ins = member-some (x .flags) set (admit body i true (at i)) m e (inside i (omega arith)) in
-      let next = holding-admit body i true (at i) h ms ins in
+      let ins = member-some (x .flags) set (admit (eds i) body i true (at i)) m e (inside i (omega arith)) in
+      let next = holding-admit (eds i) body i true (at i) h ms ins in
       let r = all-admitted k (suc i) (omega arith) next in
-      let g : gotNext (x .flags) got (admit body i true (at i)) ≡ withGot m got = ap (gotBy got) e in
+      let g : gotNext (x .flags) got (admit (eds i) body i true (at i)) ≡ withGot m got = ap (gotBy got) e in
       record {
         members = member ins (r .members);
-        none-refused = done (admit-done body i true (at i) h ms m e (inside i (omega arith))) (r .none-refused);
+        none-refused = done (admit-done (eds i) body i true (at i) h ms m e (inside i (omega arith))) (r .none-refused);
         holding = r .holding;
         keeps = λ o t. r .keeps o (ap (among o) g ∙ with-again o m got t);
         has = λ j a b.
@@ -143,30 +144,31 @@ module _ {set : List (List ℕ)} {x y : Settings} (ms : MessageSet (x .flags) se
 
   -- what is served is delivered
   reply-brings : (i : ℕ) → i < servedCount p a b
-      → brought (x .flags) (admit (replyOf p a b) i true (at i)) ≡ some (getD handed i [])
+      → brought (x .flags) (admit (p .admit-edition 0 i) (replyOf p a b) i true (at i)) ≡ some (getD handed i [])
   reply-brings i l =
       let e = served-is ha hb p fair in
       rw (replied ha hb p fair)
-      (brought-delivered (x .flags) handed (p .reply-out 0) (reply-delivers ha hb p fair) i (at i) (omega arith))
+      (brought-delivered (x .flags) handed (p .reply-out 0) (reply-delivers ha hb p fair) (p .admit-edition 0 i) i
+      (at i) (omega arith))
 
   inside : (i : ℕ) → i < servedCount p a b → among (getD handed i []) set ≡ true
   inside i l = hb .held .from-set (getD handed i []) (got-of i l .among-got)
 
   arrived : Admitted set x firstA pastA rs leftA gotA handed 0 (servedCount p a b)
-      (admits (replyOf p a b) at 0 (servedCount p a b)) a
+      (admits (p .admit-edition 0) (replyOf p a b) at 0 (servedCount p a b)) a
   unfolding askerRound readings
   arrived =
       let f = served-few in
       let n = replies-count ha hb p fair in
-      all-admitted ms rs (replyOf p a b) at handed (servedCount p a b) reply-brings inside (omega arith)
-      (servedCount p a b) 0 (omega arith) ha
+      all-admitted ms rs (p .admit-edition 0) (replyOf p a b) at handed (servedCount p a b) reply-brings inside
+      (omega arith) (servedCount p a b) 0 (omega arith) ha
 
   -- ---- the asker afterwards
   abbrev later : State
-  later = afterAll (admits (replyOf p a b) at 0 (servedCount p a b)) a
+  later = afterAll (admits (p .admit-edition 0) (replyOf p a b) at 0 (servedCount p a b)) a
 
   abbrev more : List (List ℕ)
-  more = gotAll (x .flags) gotA (admits (replyOf p a b) at 0 (servedCount p a b))
+  more = gotAll (x .flags) gotA (admits (p .admit-edition 0) (replyOf p a b) at 0 (servedCount p a b))
 
   abbrev tells : List (List ℕ)
   tells = toldOf (p .topic) (p .windows) (gatewayOf b)
@@ -259,11 +261,14 @@ module _ {set : List (List ℕ)} {x y : Settings} (ms : MessageSet (x .flags) se
   round-done =
       record {
         asker-members =
-            member (member-none (x .flags) set (ask (advertOf p b) (p .request-out 0)) refl) (arrived .members);
+            member (member-none (x .flags) set (ask (p .ask-edition 0) (advertOf p b) (p .request-out 0)) refl)
+            (arrived .members);
         asker-done = done (request-done ha hb p fair) (arrived .none-refused);
         teller-members =
             member (member-none (y .flags) set (advertise (p .topic) (p .windows) (p .advert-out 0)) refl)
-            (member (member-none (y .flags) set (serve (requestOf p a b) (p .reply-out 0)) refl) none-left);
+            (member
+            (member-none (y .flags) set (serve (p .serve-edition 0) (requestOf p a b) [] (p .reply-out 0)) refl)
+            none-left);
         teller-done = done (advert-done ha hb p fair) (done (reply-done ha hb p fair) all-done);
         asker-holds = arrived .holding;
         teller-holds = hb;

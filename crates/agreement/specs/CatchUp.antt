@@ -38,7 +38,7 @@ asker-beats p (suc r) at a b =
     let c = askerRound p (at 0) a b in
     let d = askerRounds (onward p) r (λ k. at (suc k)) (afterAll c a) (afterAll (tellerRound p a b) b) in
     let e = beats-append c d in
-    let f = admits-beats (replyOf p a b) (at 0) 0 (servedCount p a b) in
+    let f = admits-beats (p .admit-edition 0) (replyOf p a b) (at 0) 0 (servedCount p a b) in
     let g = asker-beats (onward p) r (λ k. at (suc k)) (afterAll c a) (afterAll (tellerRound p a b) b) in
     omega arith
 

@@ -8,6 +8,10 @@ use mathlib.Core.Option.{some}
 use native.Mathlib.Omega.{arith}
 use lib.ListN.{length, getD}
 use lib.Seq.{getD-take}
+use Rattle.basis.specs.declared.Edition.{Edition}
+use Rattle.basis.specs.declared.Edition.the-variants.{V11}
+use Rattle.basis.specs.declared.Dialect.{Dialect}
+use Rattle.basis.specs.Dialect.{spoken}
 use Rattle.basis.specs.Bytes.{Bytes}
 use Rattle.protobuf.specs.declared.Checked.the-variants.{Fine}
 use Rattle.rpc.specs.Rpc.{RawMessage, Rpc}
@@ -36,16 +40,16 @@ nth-raw here = refl
 nth-raw (there n) = nth-raw n
 
 -- ---- the message at an index of a body, byte for byte
-placed-by : {s : List ℕ} {x : Rpc} (i : ℕ) (r : MessageAt) → IsRpc s x → i < length (x .publish) → messageAt s i ≡ r
-    → Placed s i (getD (map (λ (m : RawMessage). m .raw) (x .publish)) i [])
+placed-by : {d : Dialect} {s : List ℕ} {x : Rpc} (i : ℕ) (r : MessageAt) → IsRpc d s x → i < length (x .publish)
+    → messageAt s i ≡ r → Placed s i (getD (map (λ (m : RawMessage). m .raw) (x .publish)) i [])
 placed-by i (At a e) g h q =
     let f = message-found i a e g q in
     record { start = a; next = e; found = q; bytes = sym (raw-is (f .2)) ∙ sym (nth-raw (f .1)) }
 placed-by i (Count k) g h q = let l = message-missing i k g q in absurd (omega (arith, l .1))
 
--- ---- a reply as it is read
+-- ---- a reply as it is read, in every dialect
 pub record Delivers (ms : List (List ℕ)) (out : List ℕ) : Type 0 where
-  pub accepted : acceptOf (replyBytes ms out) ≡ Fine
+  pub accepted : (d : Dialect) → acceptOf d (replyBytes ms out) ≡ Fine
   -- at an index below the number served stands exactly that message
   pub each : (i : ℕ) → i < servedOf ms out → Placed (replyBytes ms out) i (getD ms i [])
   pub no-more : (i : ℕ) → servedOf ms out ≤ i → messageAt (replyBytes ms out) i ≡ Count (servedOf ms out)
@@ -55,19 +59,19 @@ delivers ms out r =
     let s = replyBytes ms out in
     let n = r .count in
     record {
-      accepted = taken (r .within);
+      accepted = λ d. taken (r .within d);
       each = λ i h.
           subst (λ (m : List ℕ). Placed s i m)
           (ap (λ (l : List (List ℕ)). getD l i []) (r .messages) ∙ getD-take (servedOf ms out) ms i [] h)
-          (placed-by i (messageAt s i) (r .within .means) (omega arith) refl);
-      no-more = λ i h. none-in i (messageAt s i) (r .within .means) (omega arith) refl ∙ ap Count n;
+          (placed-by i (messageAt s i) (r .within (spoken V11) .means) (omega arith) refl);
+      no-more = λ i h. none-in i (messageAt s i) (r .within (spoken V11) .means) (omega arith) refl ∙ ap Count n;
     }
 
 -- an admit of such an index, with the host's word, brings that message
-pub brought-delivered : (flags : ℕ) (ms : List (List ℕ)) (out : List ℕ) → Delivers ms out → (i at : ℕ)
-    → i < servedOf ms out → brought flags (admit (replyBytes ms out) i true at) ≡ some (getD ms i [])
-brought-delivered flags ms out d i at h =
-    carried-brought flags (replyBytes ms out) i at (getD ms i []) (d .accepted) (d .each i h)
+pub brought-delivered : (flags : ℕ) (ms : List (List ℕ)) (out : List ℕ) → Delivers ms out → (ed : Edition) (i at : ℕ)
+    → i < servedOf ms out → brought flags (admit ed (replyBytes ms out) i true at) ≡ some (getD ms i [])
+brought-delivered flags ms out d ed i at h =
+    carried-brought flags ed (replyBytes ms out) i at (getD ms i []) (d .accepted (spoken ed)) (d .each i h)
 
 -- ---- the reply to the request of node a for what node b tells of
 module _ (b : Node) (bs bc topic : List ℕ) (windows : ℕ) (fine : lentOf b bs bc ≡ lent.Fine) (bytes : Bytes bc)
@@ -79,4 +83,4 @@ module _ (b : Node) (bs bc topic : List ℕ) (windows : ℕ) (fine : lentOf b bs
       delivers (having (gatewayIn b bs bc) (lacking (gatewayIn a «as» ac) (toldOf topic windows (gatewayIn b bs bc))))
       out
       (subst (λ (ms : List (List ℕ)). Replies ms out) (reply-has b bs bc topic windows fine bytes short a «as» ac)
-      (serve-means b bs bc body out fine bytes))
+      (serve-means b bs bc body [] out fine bytes))

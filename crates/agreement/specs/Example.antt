@@ -1,6 +1,6 @@
 -- An example: two gateways, two messages, of which one is lost on its way to the first gateway, and histories that meet
--- every premise. How often each message is got, new and a duplicate is computed for it; a round between the two follows
--- in ExampleRound.
+-- every premise, in which both editions are spoken. How often each message is got, new and a duplicate is computed for
+-- it; a round between the two follows in ExampleRound.
 use Prim.Native.Nat.{ℕ, zero, suc, _+_, _-_, _*_, _^_, _≤_, _<_}
 use mathlib.Core.Path.{_≡_, refl, sym, ap, subst, _∙_}
 use mathlib.Core.Bool.{true, or-true}
@@ -9,6 +9,8 @@ use native.Mathlib.Omega.{arith}
 use lib.ListN.{length, getD, replicate, length-replicate}
 use lib.Dec.{leb}
 use borrow.Author.Tests.{leb-true}
+use Rattle.basis.specs.declared.Edition.{Edition}
+use Rattle.basis.specs.declared.Edition.the-variants.{V11, V12}
 use Rattle.basis.specs.Cases.{either, clash, both}
 use Rattle.basis.specs.Bytes.{Bytes}
 use Rattle.basis.specs.Lists.{zeros-bytes}
@@ -103,20 +105,20 @@ first-body = 0x12 ∷ 0x77 ∷ first
 unfoldable pub second-body : List ℕ
 second-body = 0x12 ∷ 0x75 ∷ second
 
-pub first-carried : Carries 0 first-body first first-id
+pub first-carried : (ed : Edition) → Carries 0 ed first-body first first-id
 unfolding signature first first-body acceptOf bodyRecords counted overKinds toDepth textCount roleOf rank ownOf isUtf8
     run walkAt walkFrom readField readValue skipField skipFixed readVarint readLen readTag readUvarint readFrom groupOf
     messageAt givesId admissionOf onLimits topicsOf firstLong idParts slotsOf withField setPlace sameBytes isPeerId
     keyInside isKey fromBytes hashOf decodeProtobuf typeOf onData onTotal
-first-carried =
+first-carried ed =
     record { accepted = refl; placed = record { start = 2; next = 121; found = refl; bytes = refl }; own = refl }
 
-pub second-carried : Carries 0 second-body second second-id
+pub second-carried : (ed : Edition) → Carries 0 ed second-body second second-id
 unfolding signature second second-body acceptOf bodyRecords counted overKinds toDepth textCount roleOf rank ownOf isUtf8
     run walkAt walkFrom readField readValue skipField skipFixed readVarint readLen readTag readUvarint readFrom groupOf
     messageAt givesId admissionOf onLimits topicsOf firstLong idParts slotsOf withField setPlace sameBytes isPeerId
     keyInside isKey fromBytes hashOf decodeProtobuf typeOf onData onTotal
-second-carried =
+second-carried ed =
     record { accepted = refl; placed = record { start = 2; next = 119; found = refl; bytes = refl }; own = refl }
 
 -- ---- what a test of all numbers of a list says of each
@@ -183,8 +185,8 @@ second-in = two-in first second .1
 
 pub message-set : MessageSet 0 messages
 unfolding messages
-message-set = two-set 0 first second first-id second-id first-bytes second-bytes (first-carried .own)
-    (second-carried .own) ids-differ
+message-set = two-set 0 first second first-id second-id first-bytes second-bytes (first-carried V11 .own)
+    (second-carried V11 .own) ids-differ
 
 -- ---- the gateways
 abbrev pub settings-a : Settings
@@ -226,18 +228,20 @@ fresh-b = start-fresh settings-b (omega arith) refl
 -- ---- their calls: a gets the first message twice, and the second is lost on its way; b gets the second, the first,
 -- and the second again
 unfoldable pub calls-a : List Call
-calls-a = admit first-body 0 true 10 ∷ admit first-body 0 true 12 ∷ []
+calls-a = admit V11 first-body 0 true 10 ∷ admit V12 first-body 0 true 12 ∷ []
 
 unfoldable pub calls-b : List Call
-calls-b = admit second-body 0 true 7 ∷ admit first-body 0 true 8 ∷ heartbeat 9 ∷ admit second-body 0 true 11 ∷ []
+calls-b =
+    admit V12 second-body 0 true 7 ∷ admit V12 first-body 0 true 8 ∷ heartbeat 9 ∷ admit V11 second-body 0 true 11 ∷ []
 
 -- the same, written out
 abbrev pub script-a : List Act
-script-a = gets first-body first first-id 10 ∷ gets first-body first first-id 12 ∷ []
+script-a = gets V11 first-body first first-id 10 ∷ gets V12 first-body first first-id 12 ∷ []
 
 abbrev pub script-b : List Act
-script-b = gets second-body second second-id 7 ∷ gets first-body first first-id 8 ∷ beats 9 ∷ gets second-body second
-    second-id 11 ∷ []
+script-b =
+    gets V12 second-body second second-id 7 ∷ gets V12 first-body first first-id 8 ∷ beats 9
+    ∷ gets V11 second-body second second-id 11 ∷ []
 
 pub calls-a-written : callsOf script-a ≡ calls-a
 unfolding callsOf calls-a
@@ -248,12 +252,13 @@ unfolding callsOf calls-b
 calls-b-written = refl
 
 pub written-a : Written 0 0 script-a
-written-a = got 0 10 first-carried (omega arith) (got 10 12 first-carried (omega arith) nothing)
+written-a = got 0 10 (first-carried V11) (omega arith) (got 10 12 (first-carried V12) (omega arith) nothing)
 
 pub written-b : Written 0 0 script-b
 written-b =
-    got 0 7 second-carried (omega arith)
-    (got 7 8 first-carried (omega arith) (beaten 8 9 (omega arith) (got 9 11 second-carried (omega arith) nothing)))
+    got 0 7 (second-carried V12) (omega arith)
+    (got 7 8 (first-carried V12) (omega arith)
+    (beaten 8 9 (omega arith) (got 9 11 (second-carried V11) (omega arith) nothing)))
 
 inside-a : inSet messages script-a ≡ true
 unfolding inSet
@@ -334,6 +339,9 @@ play =
       advert-out = λ k. buffer k 0;
       request-out = λ k. buffer (k + 1) 7;
       reply-out = λ k. buffer (k + 2) 255;
+      ask-edition = λ k. V12;
+      serve-edition = λ k. V11;
+      admit-edition = λ k i. V12;
     }
 
 pub fair-for : (x y : Settings) → x .history-len ≤ 3 → y .history-len ≤ 3 → Fair play x y

@@ -6,6 +6,7 @@ use mathlib.Core.Bool.{true}
 use mathlib.Core.List.{List, [], _∷_, _++_, append-nil}
 use native.Mathlib.Omega.{arith}
 use lib.ListN.{length}
+use Rattle.basis.specs.declared.Edition.the-variants.{V11, V12}
 use Rattle.basis.specs.Cases.{either, clash}
 use Rattle.peer_id.specs.Uvarint.{uvarint, bytesOf, readUvarint, readFrom, groupOf}
 use Rattle.protobuf.specs.Field.{readTag, readLen, readVarint, skipFixed, skipField, readValue, readField}
@@ -192,12 +193,12 @@ reading k i = 20
 
 -- a's calls in it: it asks, and admits the message served
 pub one-round : askerRounds play 1 reading at-a at-b
-    ≡ ask (advertOf play at-b) (buffer 1 7) ∷ admit second-body 0 true 20 ∷ []
+    ≡ ask V12 (advertOf play at-b) (buffer 1 7) ∷ admit V12 second-body 0 true 20 ∷ []
 unfolding askerRounds
 one-round =
     append-nil (askerRound play (reading 0) at-a at-b)
     ∙ one-asked holding-a holding-b play fair second second-id wanted-is has-it (reading 0)
-    ∙ ap (λ (body : List ℕ). ask (advertOf play at-b) (buffer 1 7) ∷ admit body 0 true 20 ∷ []) body-written
+    ∙ ap (λ (body : List ℕ). ask V12 (advertOf play at-b) (buffer 1 7) ∷ admit V12 body 0 true 20 ∷ []) body-written
 
 -- all calls of each, with the round
 abbrev pub all-a : List Call
@@ -210,17 +211,19 @@ abbrev advert : List ℕ
 advert = advertOf play at-b
 
 abbrev script-all : List Act
-script-all = gets first-body first first-id 10 ∷ gets first-body first first-id 12 ∷ asks advert (buffer 1 7) ∷ gets
-    second-body second second-id 20 ∷ []
+script-all =
+    gets V11 first-body first first-id 10 ∷ gets V12 first-body first first-id 12 ∷ asks V12 advert (buffer 1 7)
+    ∷ gets V12 second-body second second-id 20 ∷ []
 
 all-a-written : callsOf script-all ≡ all-a
 unfolding callsOf calls-a
-all-a-written = ap (λ (cs : List Call). admit first-body 0 true 10 ∷ admit first-body 0 true 12 ∷ cs) (sym one-round)
+all-a-written =
+    ap (λ (cs : List Call). admit V11 first-body 0 true 10 ∷ admit V12 first-body 0 true 12 ∷ cs) (sym one-round)
 
 written-all : Written 0 0 script-all
 written-all =
-    got 0 10 first-carried (omega arith)
-    (got 10 12 first-carried (omega arith) (asked (got 12 20 second-carried (omega arith) nothing)))
+    got 0 10 (first-carried V11) (omega arith)
+    (got 10 12 (first-carried V12) (omega arith) (asked (got 12 20 (second-carried V12) (omega arith) nothing)))
 
 clock-script : Clock settings-a (readings (callsOf script-all))
 unfolding callsOf readings risesFrom allUpTo

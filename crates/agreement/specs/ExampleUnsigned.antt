@@ -8,6 +8,8 @@ use mathlib.Core.List.{List, [], _∷_, _++_, append-nil}
 use mathlib.Core.Option.{some}
 use native.Mathlib.Omega.{arith}
 use lib.ListN.{length, getD}
+use Rattle.basis.specs.declared.Edition.{Edition}
+use Rattle.basis.specs.declared.Edition.the-variants.{V11, V12}
 use Rattle.basis.specs.Bytes.{Bytes}
 use Rattle.peer_id.specs.Uvarint.{readUvarint, readFrom, groupOf}
 use Rattle.utf8.specs.Utf8.{isUtf8, run}
@@ -61,20 +63,20 @@ idOf n = first-sender ++ (n ∷ [])
 unfoldable pub unsignedBody : ℕ → List ℕ
 unsignedBody n = 0x12 ∷ 0x2e ∷ unsigned n
 
-pub first-carried : Carries 1 (unsignedBody 1) (unsigned 1) (idOf 1)
+pub first-carried : (ed : Edition) → Carries 1 ed (unsignedBody 1) (unsigned 1) (idOf 1)
 unfolding unsigned unsignedBody acceptOf bodyRecords counted overKinds toDepth textCount roleOf rank ownOf isUtf8 run
     walkAt walkFrom readField readValue skipField skipFixed readVarint readLen readTag readUvarint readFrom groupOf
     messageAt givesId admissionOf allowsUnsigned onLimits topicsOf firstLong idParts slotsOf withField setPlace
     sameBytes isPeerId fromBytes hashOf
-first-carried =
+first-carried ed =
     record { accepted = refl; placed = record { start = 2; next = 48; found = refl; bytes = refl }; own = refl }
 
-pub second-carried : Carries 1 (unsignedBody 2) (unsigned 2) (idOf 2)
+pub second-carried : (ed : Edition) → Carries 1 ed (unsignedBody 2) (unsigned 2) (idOf 2)
 unfolding unsigned unsignedBody acceptOf bodyRecords counted overKinds toDepth textCount roleOf rank ownOf isUtf8 run
     walkAt walkFrom readField readValue skipField skipFixed readVarint readLen readTag readUvarint readFrom groupOf
     messageAt givesId admissionOf allowsUnsigned onLimits topicsOf firstLong idParts slotsOf withField setPlace
     sameBytes isPeerId fromBytes hashOf
-second-carried =
+second-carried ed =
     record { accepted = refl; placed = record { start = 2; next = 48; found = refl; bytes = refl }; own = refl }
 
 first-bytes : Bytes (unsigned 1)
@@ -92,8 +94,8 @@ abbrev pub messages : List (List ℕ)
 messages = unsigned 1 ∷ unsigned 2 ∷ []
 
 pub message-set : MessageSet 1 messages
-message-set = two-set 1 (unsigned 1) (unsigned 2) (idOf 1) (idOf 2) first-bytes second-bytes (first-carried .own)
-    (second-carried .own) differ
+message-set = two-set 1 (unsigned 1) (unsigned 2) (idOf 1) (idOf 2) first-bytes second-bytes (first-carried V11 .own)
+    (second-carried V11 .own) differ
 
 -- ---- the gateways allow them
 abbrev pub settings-a : Settings
@@ -112,36 +114,36 @@ fresh-b = start-fresh settings-b (omega arith) refl
 
 -- ---- their calls: a gets the first message, without the host's word; b gets both, with it
 unfoldable pub calls-a : List Call
-calls-a = admit (unsignedBody 1) 0 false 10 ∷ []
+calls-a = admit V12 (unsignedBody 1) 0 false 10 ∷ []
 
 unfoldable pub calls-b : List Call
-calls-b = admit (unsignedBody 2) 0 true 7 ∷ admit (unsignedBody 1) 0 true 8 ∷ []
+calls-b = admit V11 (unsignedBody 2) 0 true 7 ∷ admit V11 (unsignedBody 1) 0 true 8 ∷ []
 
 abbrev script-b : List Act
-script-b = gets (unsignedBody 2) (unsigned 2) (idOf 2) 7 ∷ gets (unsignedBody 1) (unsigned 1) (idOf 1) 8 ∷ []
+script-b = gets V11 (unsignedBody 2) (unsigned 2) (idOf 2) 7 ∷ gets V11 (unsignedBody 1) (unsigned 1) (idOf 1) 8 ∷ []
 
 calls-b-written : callsOf script-b ≡ calls-b
 unfolding callsOf calls-b
 calls-b-written = refl
 
 written-b : Written 1 0 script-b
-written-b = got 0 7 second-carried (omega arith) (got 7 8 first-carried (omega arith) nothing)
+written-b = got 0 7 (second-carried V11) (omega arith) (got 7 8 (first-carried V11) (omega arith) nothing)
 
 inside-b : inSet messages script-b ≡ true
 unfolding inSet
 inside-b = simp (two-in (unsigned 1) (unsigned 2) .0, two-in (unsigned 1) (unsigned 2) .1)
 
 -- without the word, too, the message comes in
-pub wordless : (at : ℕ) → brought 1 (admit (unsignedBody 1) 0 false at) ≡ some (unsigned 1)
+pub wordless : (ed : Edition) (at : ℕ) → brought 1 (admit ed (unsignedBody 1) 0 false at) ≡ some (unsigned 1)
 unfolding unsigned unsignedBody brought vouched allowsUnsigned isSigned slotsOf withField setPlace acceptOf bodyRecords
     counted overKinds toDepth textCount roleOf rank ownOf isUtf8 run walkAt walkFrom readField readValue skipField
     skipFixed readVarint readLen readTag readUvarint readFrom groupOf messageAt
-wordless at = refl
+wordless ed at = refl
 
 -- ---- their histories meet the premises
 members-a : Members 1 messages calls-a
 unfolding calls-a
-members-a = member (member-some 1 messages (admit (unsignedBody 1) 0 false 10) (unsigned 1) (wordless 10)
+members-a = member (member-some 1 messages (admit V12 (unsignedBody 1) 0 false 10) (unsigned 1) (wordless V12 10)
     (two-in (unsigned 1) (unsigned 2) .0)) none-left
 
 clock-a : Clock settings-a (readings calls-a)
@@ -191,7 +193,7 @@ alike = refl
 -- ---- what came without the word is new once
 one-got : timesGot 1 (unsigned 1) calls-a ≡ 1
 unfolding calls-a timesGot
-one-got = rw (wordless 10, same-self (unsigned 1))
+one-got = rw (wordless V12 10, same-self (unsigned 1))
 
 pub new-at-a : timesNew 1 (unsigned 1) calls-a (start settings-a) ≡ 1
 new-at-a = new-exactly-once message-set premises-a (unsigned 1) (omega (arith, one-got)) .0
@@ -203,11 +205,11 @@ at-a = afterAll calls-a (start settings-a)
 abbrev pub at-b : State
 at-b = afterAll calls-b (start settings-b)
 
-a-takes : planIn (start settings-a) (unsignedBody 1) 0 false 10 ≡ taken (unsigned 1) (idOf 1)
+a-takes : planIn (start settings-a) V12 (unsignedBody 1) 0 false 10 ≡ taken (unsigned 1) (idOf 1)
 a-takes =
     let s = start settings-a in
-    brought-plan s 1 (fresh-flags fresh-a) (unsignedBody 1) 0 false 10 (unsigned 1) (idOf 1) (wordless 10)
-    (first-carried .own) (fresh-keeps fresh-a .fine) (omega (arith, node-clock s, fresh-clock fresh-a))
+    brought-plan s 1 (fresh-flags fresh-a) V12 (unsignedBody 1) 0 false 10 (unsigned 1) (idOf 1) (wordless V12 10)
+    (first-carried V12 .own) (fresh-keeps fresh-a .fine) (omega (arith, node-clock s, fresh-clock fresh-a))
 
 unfoldable pub gateway-a : Gateway
 gateway-a = afterAdmit 10 (unsigned 1) (idOf 1) (startedBy settings-a)
@@ -218,7 +220,7 @@ gateway-b = gatewayAfter script-b (startedBy settings-b)
 pub a-is : gatewayOf at-a ≡ gateway-a
 unfolding calls-a afterAll gateway-a
 a-is =
-    admit-leaves (start settings-a) (unsignedBody 1) 0 false 10 (unsigned 1) (idOf 1) a-takes
+    admit-leaves (start settings-a) V12 (unsignedBody 1) 0 false 10 (unsigned 1) (idOf 1) a-takes
     (fresh-keeps fresh-a .typed)
     ∙ ap (afterAdmit 10 (unsigned 1) (idOf 1)) (fresh-starts fresh-a)
 
@@ -262,7 +264,7 @@ abbrev pub reading : ℕ → ℕ → ℕ
 reading k i = 20
 
 one-round : askerRounds play 1 reading at-a at-b
-    ≡ ask (advertOf play at-b) (buffer 1 7) ∷ admit (bytesField 2 (unsigned 2)) 0 true 20 ∷ []
+    ≡ ask V12 (advertOf play at-b) (buffer 1 7) ∷ admit V12 (bytesField 2 (unsigned 2)) 0 true 20 ∷ []
 unfolding askerRounds
 one-round =
     append-nil (askerRound play (reading 0) at-a at-b)
@@ -270,7 +272,7 @@ one-round =
     (ap₂ (λ (g h : Gateway). lacking g (toldOf topic 3 h)) a-is b-is ∙ a-wants)
     (ap (λ (g : Gateway). having g (idOf 2 ∷ [])) b-is ∙ b-has) (reading 0)
 
-clock-round : (cs : List Call) (body out : List ℕ) (b : List ℕ) → cs ≡ ask b out ∷ admit body 0 true 20 ∷ []
+clock-round : (cs : List Call) (body out : List ℕ) (b : List ℕ) → cs ≡ ask V12 b out ∷ admit V12 body 0 true 20 ∷ []
     → Clock settings-a (readings (calls-a ++ cs))
 unfolding calls-a readings risesFrom allUpTo
 clock-round cs body out b e =

@@ -4,6 +4,8 @@ use mathlib.Core.Path.{_≡_}
 use mathlib.Core.Bool.{Bool}
 use mathlib.Core.List.{List, _∷_}
 use borrow.Author.Tests.{le-ltb}
+use Rattle.basis.specs.declared.Edition.{Edition}
+use Rattle.basis.specs.Dialect.{spoken}
 use Rattle.basis.specs.Cases.{clash}
 use Rattle.protobuf.specs.declared.Checked.{Checked}
 use Rattle.protobuf.specs.declared.Checked.the-variants as checked
@@ -38,19 +40,19 @@ module _ (n : Node) (at : ℕ) (h : n .clock ≤ at) (k : ℕ) where
   of-body word body i (checked.Refused why) e = clash (cc)
   of-body word body i checked.Fine e = of-at word body (messageAt body i) e
 
-  of-lent : (word : Bool) (body : List ℕ) (i : ℕ) (l : Lent)
-      → onLent (λ (why : Fault). no (answer.Faulty why)) l (planBody n at word body i (acceptOf body))
+  of-lent : (ed : Edition) (word : Bool) (body : List ℕ) (i : ℕ) (l : Lent)
+      → onLent (λ (why : Fault). no (answer.Faulty why)) l (planBody n at word body i (acceptOf (spoken ed) body))
       ≡ no (answer.ClockBack k) → ⊥
-  of-lent word body i (lent.Faulty why) e = clash (cc)
-  of-lent word body i lent.Fine e = of-body word body i (acceptOf body) e
+  of-lent ed word body i (lent.Faulty why) e = clash (cc)
+  of-lent ed word body i lent.Fine e = of-body word body i (acceptOf (spoken ed) body) e
 
-  never-back : (ss cs body : List ℕ) (i : ℕ) (word : Bool) → planned n ss cs body i word at ≡ no (answer.ClockBack k)
-      → ⊥
+  never-back : (ss cs : List ℕ) (ed : Edition) (body : List ℕ) (i : ℕ) (word : Bool)
+      → planned n ss cs ed body i word at ≡ no (answer.ClockBack k) → ⊥
   unfolding planned
-  never-back ss cs body i word e = of-lent word body i (lentOf n ss cs) e
+  never-back ss cs ed body i word e = of-lent ed word body i (lentOf n ss cs) e
 
 pub admit-not-back : {set : List (List ℕ)} {x : Settings} {first past : ℕ} {got : List (List ℕ)} {s : State}
-    (body : List ℕ) (i : ℕ) (word : Bool) (at : ℕ) {rs : List ℕ} {left : ℕ}
-    → Holding set x first past (at ∷ rs) left got s → (k : ℕ) → planIn s body i word at ≡ no (answer.ClockBack k) → ⊥
-admit-not-back {s} body i word at h k e = never-back (s .node) at (admit-forward body i word at h) k (s .ids)
-    (s .messages) body i word e
+    (ed : Edition) (body : List ℕ) (i : ℕ) (word : Bool) (at : ℕ) {rs : List ℕ} {left : ℕ}
+    → Holding set x first past (at ∷ rs) left got s → (k : ℕ) → planIn s ed body i word at ≡ no (answer.ClockBack k) → ⊥
+admit-not-back {s} ed body i word at h k e = never-back (s .node) at (admit-forward ed body i word at h) k (s .ids)
+    (s .messages) ed body i word e

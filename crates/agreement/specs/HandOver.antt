@@ -1,5 +1,5 @@
--- A round's request, of node a that is given the advertisement of node b: it is taken and names exactly those of the
--- ids that b tells of and a does not hold, each once; and b has every message that is asked for.
+-- A round's request, of node a that is given the advertisement of node b: in every dialect it is taken and names
+-- exactly those of the ids that b tells of and a does not hold, each once; and b has every message that is asked for.
 use Prim.Native.Nat.{ℕ, suc, _+_, _≤_}
 use mathlib.Core.Path.{_≡_, refl, sym, ap, subst, _∙_}
 use mathlib.Core.Bool.{true, false, not}
@@ -7,6 +7,9 @@ use mathlib.Core.List.{List, [], _∷_, _++_, append-nil}
 use mathlib.Core.Logic.{_↔_}
 use native.Mathlib.Omega.{arith}
 use lib.ListN.{length, length-append}
+use Rattle.basis.specs.declared.Edition.the-variants.{V11}
+use Rattle.basis.specs.declared.Dialect.{Dialect}
+use Rattle.basis.specs.Dialect.{spoken}
 use Rattle.basis.specs.Cases.{either, clash, both}
 use Rattle.basis.specs.Bytes.{Bytes}
 use Rattle.rows.specs.Ids.{sameBytes, among, distinct}
@@ -27,9 +30,10 @@ use Rattle.node.specs.declared.Node.{Node}
 use Rattle.node.specs.declared.Lent.the-variants as lent
 use Rattle.node.specs.Gateway.{Gateway, toldOf, knows, lacking, having, advertisement, request}
 use Rattle.node.specs.State.{gatewayIn}
-use Rattle.node.specs.Calls.{lentOf, bytesFor, advertiseBytes, offered, unseenOf, askBytes, wanted, cachedOf}
+use Rattle.node.specs.Calls.{lentOf, bytesFor, advertiseBytes, offered, unseenOf, askBytes, wanted, remaining, cachedOf}
 use Rattle.node.specs.Laws.{told-gateway, unseen-gateway, cached-gateway}
 use Rattle.node.specs.Readers.{asked-exactly}
+use Rattle.node.specs.Declined.{all-remain}
 use Rattle.node.specs.WireLaws.{advertisement-bytes, request-bytes}
 use Rattle.outputs.specs.Named.{wantsOf}
 use Rattle.outputs.specs.Offered.{wanted-once}
@@ -92,17 +96,17 @@ request-shorter g topic is =
     omega (arith, ap length (request-bytes (lacking g is)), ap length (advertisement-bytes topic is))
 
 -- so it is within capacity where the advertisement is
-request-within : (g : Gateway) (topic : List ℕ) (is : List (List ℕ))
-    → Within (encodeRpc (advertisement topic is)) (advertisement topic is)
-    → Within (encodeRpc (request (lacking g is))) (request (lacking g is))
-request-within g topic is w =
+request-within : (d : Dialect) (g : Gateway) (topic : List ℕ) (is : List (List ℕ))
+    → Within d (encodeRpc (advertisement topic is)) (advertisement topic is)
+    → Within d (encodeRpc (request (lacking g is))) (request (lacking g is))
+request-within d g topic is w =
     let s = request-shorter g topic is in
     let f = lacking-few g is in
     let a = records-asked (lacking g is) in
     let t = records-told topic is in
     let m = w .small in
     let n = w .few in
-    record { means = request-means (lacking g is) (omega arith); small = omega arith; few = omega arith }
+    record { means = request-means d (lacking g is) (omega arith); small = omega arith; few = omega arith }
 
 -- a request is some bytes
 request-some : (ids : List (List ℕ)) → encodeRpc (request ids) ≡ [] → ⊥
@@ -161,40 +165,49 @@ module _ (b : Node) (bs bc topic : List ℕ) (windows : ℕ) (fine : lentOf b bs
     unfolding lacking
     some-told there e = there (ap (lacking (gatewayIn a «as» ac)) e)
 
-    pub request-meant : (asked ≡ [] → ⊥) → Within (askBytes a «as» (advertiseBytes b bc topic windows)) (request asked)
+    pub request-meant : (asked ≡ [] → ⊥) → (d : Dialect)
+        → Within d (askBytes a «as» (advertiseBytes b bc topic windows)) (request asked)
     unfolding advertiseBytes
-    request-meant there =
+    request-meant there d =
         let t = toldOf topic windows (gatewayIn b bs bc) in
         let e : advertiseBytes b bc topic windows ≡ encodeRpc (advertisement topic t) =
         ap (λ (l : List (List ℕ)). bytesFor l (advertisement topic l)) (told-gateway b bs bc topic windows fine)
         ∙ some-bytes t (advertisement topic t) (some-told there) in
-        let w : Within (encodeRpc (advertisement topic t)) (advertisement topic t) =
-        subst (λ (s : List ℕ). Within s (advertisement topic t)) e
-        (advert-means b bs bc topic windows fine bytes short (some-told there)) in
-        subst (λ (s : List ℕ). Within s (request asked)) (sym (request-is ∙ some-bytes asked (request asked) there))
-        (request-within (gatewayIn a «as» ac) topic t w)
+        let w : Within d (encodeRpc (advertisement topic t)) (advertisement topic t) =
+        subst (λ (s : List ℕ). Within d s (advertisement topic t)) e
+        (advert-means b bs bc topic windows fine bytes short (some-told there) d) in
+        subst (λ (s : List ℕ). Within d s (request asked)) (sym (request-is ∙ some-bytes asked (request asked) there))
+        (request-within d (gatewayIn a «as» ac) topic t w)
 
     -- and so is the request
-    pub request-rpc : (x : Rpc) × (Within (askBytes a «as» (advertiseBytes b bc topic windows)) x) × (wantsOf x ≡ asked)
+    pub request-rpc : (x : Rpc) × ((d : Dialect) → Within d (askBytes a «as» (advertiseBytes b bc topic windows)) x)
+        × (wantsOf x ≡ asked)
     unfolding request
     request-rpc =
         by-cases asked
-        (λ e. (nothing, subst (λ (s : List ℕ). Within s nothing) (sym (asked-something .1 e)) nothing-means, sym e))
+        (λ e. (
+          nothing,
+          λ d. subst (λ (s : List ℕ). Within d s nothing) (sym (asked-something .1 e)) (nothing-means d),
+          sym e,
+        ))
         (λ there. (request asked, request-meant there, append-nil asked))
 
     -- the request is taken, and it wants what is lacking
-    pub request-taken : (acceptOf (askBytes a «as» (advertiseBytes b bc topic windows)) ≡ Fine)
+    pub request-taken : ((d : Dialect) → acceptOf d (askBytes a «as» (advertiseBytes b bc topic windows)) ≡ Fine)
         × (wanted (askBytes a «as» (advertiseBytes b bc topic windows)) ≡ lacking (gatewayIn a «as» ac)
         (toldOf topic windows (gatewayIn b bs bc)))
     request-taken = (
-      taken (request-rpc .1),
-      wanted-once (request-rpc .1 .means) ∙ ap once (request-rpc .2) ∙ once-same asked asked-once,
+      λ d. taken (request-rpc .1 d),
+      wanted-once (request-rpc .1 (spoken V11) .means) ∙ ap once (request-rpc .2) ∙ once-same asked asked-once,
     )
 
     -- ---- node b has every message that is asked for
-    pub reply-has : cachedOf (b .cache) bc (wanted (askBytes a «as» (advertiseBytes b bc topic windows)))
+    pub reply-has : cachedOf (b .cache) bc (remaining (askBytes a «as» (advertiseBytes b bc topic windows)) [])
         ≡ having (gatewayIn b bs bc) (lacking (gatewayIn a «as» ac) (toldOf topic windows (gatewayIn b bs bc)))
-    reply-has = ap (cachedOf (b .cache) bc) (request-taken .1) ∙ cached-gateway b bs bc asked
+    reply-has =
+        ap (cachedOf (b .cache) bc)
+        (all-remain (askBytes a «as» (advertiseBytes b bc topic windows)) ∙ request-taken .1)
+        ∙ cached-gateway b bs bc asked
 
     pub reply-all : length
         (having (gatewayIn b bs bc) (lacking (gatewayIn a «as» ac) (toldOf topic windows (gatewayIn b bs bc))))

@@ -10,6 +10,7 @@ use native.Mathlib.Nat.{zero-lt-suc}
 use lib.ListN.{length, getD, length-append}
 use lib.Dec.{leb, ltb, eqb}
 use borrow.Author.Tests.{leb-true}
+use Rattle.basis.specs.declared.Edition.{Edition}
 use Rattle.basis.specs.Cases.{either, clash, both}
 use Rattle.basis.specs.Bytes.{Bytes}
 use Rattle.basis.specs.Lists.{sets-bytes}
@@ -311,8 +312,8 @@ admit-bytes : (n : Node) (ss cs : List ℕ) (at : ℕ) (m id : List ℕ) → Byt
 admit-bytes n ss cs at m id h g =
     either (heldAt n ss at (formOf m id)) (λ t. simp t h) (λ t. simp t (stored-bytes (n .cache) cs m id h g))
 
-module _ {set : List (List ℕ)} {x : Settings} {first past : ℕ} {got : List (List ℕ)} {s : State} (body : List ℕ) (i : ℕ)
-    (word : Bool) (at : ℕ) {rs : List ℕ} {left : ℕ}
+module _ {set : List (List ℕ)} {x : Settings} {first past : ℕ} {got : List (List ℕ)} {s : State} (ed : Edition)
+    (body : List ℕ) (i : ℕ) (word : Bool) (at : ℕ) {rs : List ℕ} {left : ℕ}
     (h : Holding set x first past (at ∷ rs) left got s) where
   -- its reading
   pub admit-reads : Reads x first past (gatewayOf s .clock) at rs left
@@ -322,7 +323,7 @@ module _ {set : List (List ℕ)} {x : Settings} {first past : ℕ} {got : List (
   pub admit-forward : s .node .clock ≤ at
   admit-forward = rw (← node-clock s) (admit-reads .forward)
 
-  module _ (ms : MessageSet (x .flags) set) (m : List ℕ) (e : brought (x .flags) (admit body i word at) ≡ some m)
+  module _ (ms : MessageSet (x .flags) set) (m : List ℕ) (e : brought (x .flags) (admit ed body i word at) ≡ some m)
       (inside : among m set ≡ true) where
     -- the message passes admission
     abbrev id : List ℕ
@@ -332,8 +333,8 @@ module _ {set : List (List ℕ)} {x : Settings} {first past : ℕ} {got : List (
     own = ms .admissible m inside .1
 
     -- so it is taken
-    pub admit-takes : planIn s body i word at ≡ taken m (ms .admissible m inside .0)
-    admit-takes = brought-plan s (x .flags) (h .held .flags) body i word at m id e own (h .kept .fine) admit-forward
+    pub admit-takes : planIn s ed body i word at ≡ taken m (ms .admissible m inside .0)
+    admit-takes = brought-plan s (x .flags) (h .held .flags) ed body i word at m id e own (h .kept .fine) admit-forward
 
     -- and is seen exactly where it is among those got
     admit-held : heldAt (s .node) (s .ids) at (formOf m id) ≡ among m got
@@ -344,23 +345,23 @@ module _ {set : List (List ℕ)} {x : Settings} {first past : ℕ} {got : List (
         ∙ Bool·not-not (among m got)
 
     -- ---- a message of the set that comes in is answered duplicate where it was got before, and else new
-    pub admit-answers : answerIn s body i word at ≡ cond (among m got) answer.Duplicate answer.New
+    pub admit-answers : answerIn s ed body i word at ≡ cond (among m got) answer.Duplicate answer.New
     admit-answers = rw (admit-takes, admit-held)
 
-    pub admit-done : refusalAt s (admit body i word at) ≡ 0
-    admit-done = taken-number s body i word at m id admit-takes
+    pub admit-done : refusalAt s (admit ed body i word at) ≡ 0
+    admit-done = taken-number s ed body i word at m id admit-takes
 
-    some-stored : Bytes (after (admit body i word at) s .messages)
+    some-stored : Bytes (after (admit ed body i word at) s .messages)
     unfolding after
     some-stored = rw admit-takes
         (admit-bytes (s .node) (s .ids) (s .messages) at m id (h .bytes) (ms .bytes m inside))
 
-    admit-holding : Holding set x first past rs left (withGot m got) (after (admit body i word at) s)
+    admit-holding : Holding set x first past rs left (withGot m got) (after (admit ed body i word at) s)
     admit-holding =
-        let g = sym (admit-leaves s body i word at m id admit-takes (h .kept .typed)) in
-        let c = admit-clock s body i word at m id admit-takes (h .kept .typed) in
+        let g = sym (admit-leaves s ed body i word at m id admit-takes (h .kept .typed)) in
+        let c = admit-clock s ed body i word at m id admit-takes (h .kept .typed) in
         record {
-          kept = after-keeps (admit body i word at) s (h .kept);
+          kept = after-keeps (admit ed body i word at) s (h .kept);
           held =
               subst (λ (k : Gateway). Holds set x first past (withGot m got) k) g
               (holds-admit (h .held) at (admit-reads .lasting) ms (admit-reads .later) m id inside own);
@@ -368,18 +369,19 @@ module _ {set : List (List ℕ)} {x : Settings} {first past : ℕ} {got : List (
           ahead = subst (λ (k : ℕ). Ahead x first past k rs left) (sym c) (admit-reads .rest);
         }
 
-  module _ (ms : MessageSet (x .flags) set) (inside : MemberAt (x .flags) set (admit body i word at)) where
-    by-brought : (o : Option (List ℕ)) → brought (x .flags) (admit body i word at) ≡ o
-        → Holding set x first past rs left (gotBy got o) (after (admit body i word at) s)
+  module _ (ms : MessageSet (x .flags) set) (inside : MemberAt (x .flags) set (admit ed body i word at)) where
+    by-brought : (o : Option (List ℕ)) → brought (x .flags) (admit ed body i word at) ≡ o
+        → Holding set x first past rs left (gotBy got o) (after (admit ed body i word at) s)
     by-brought none e =
-        let p = unbrought-plan s (x .flags) (h .held .flags) body i word at e in
-        subst (λ (t : State). Holding set x first past rs left got t) (sym (admit-none s body i word at (p .0) (p .1)))
+        let p = unbrought-plan s (x .flags) (h .held .flags) ed body i word at e in
+        subst (λ (t : State). Holding set x first past rs left got t)
+        (sym (admit-none s ed body i word at (p .0) (p .1)))
         (record { kept = h .kept; held = h .held; bytes = h .bytes; ahead = reads-kept admit-reads })
-    by-brought (some m) e = admit-holding ms m e (inside m (brings-that (x .flags) m (admit body i word at) .1 e))
+    by-brought (some m) e = admit-holding ms m e (inside m (brings-that (x .flags) m (admit ed body i word at) .1 e))
 
-    pub holding-admit : Holding set x first past rs left (gotNext (x .flags) got (admit body i word at))
-        (after (admit body i word at) s)
-    holding-admit = by-brought (brought (x .flags) (admit body i word at)) refl
+    pub holding-admit : Holding set x first past rs left (gotNext (x .flags) got (admit ed body i word at))
+        (after (admit ed body i word at) s)
+    holding-admit = by-brought (brought (x .flags) (admit ed body i word at)) refl
 
 -- ---- a heartbeat
 module _ {set : List (List ℕ)} {x : Settings} {first past : ℕ} {got : List (List ℕ)} {s : State} (at : ℕ) {rs : List ℕ}
@@ -426,11 +428,11 @@ left-same : {set : List (List ℕ)} {x : Settings} {first past : ℕ} {rs : List
 left-same {set} {x} {first} {past} {rs} {got} {s} a b e h = subst (λ (n : ℕ). Holding set x first past rs n got s) e h
 
 abbrev pub pastNext : ℕ → Call → ℕ
-pastNext past (admit body i word at) = past
+pastNext past (admit ed body i word at) = past
 pastNext past (heartbeat at) = suc past
 pastNext past (advertise topic windows out) = past
-pastNext past (ask body out) = past
-pastNext past (serve body out) = past
+pastNext past (ask ed body out) = past
+pastNext past (serve ed body second out) = past
 pastNext past (explain id topic windows) = past
 
 unfoldable pub pastAll : ℕ → List Call → ℕ
@@ -443,12 +445,12 @@ module _ {set : List (List ℕ)} {x : Settings} {first past : ℕ} {got : List (
   pub holding-next : (c : Call) → Holding set x first past (reading c ++ rs) (beat c + left) got s
       → MemberAt (x .flags) set c → Holding set x first (pastNext past c) rs left (gotNext (x .flags) got c) (after c s)
   unfolding after brought
-  holding-next (admit body i word at) h inside =
-      holding-admit body i word at (left-same (0 + left) left (omega arith) h) ms inside
+  holding-next (admit ed body i word at) h inside =
+      holding-admit ed body i word at (left-same (0 + left) left (omega arith) h) ms inside
   holding-next (heartbeat at) h inside = holding-beat at left (left-same (1 + left) (suc left) (omega arith) h)
   holding-next (advertise topic windows out) h inside = left-same (0 + left) left (omega arith) h
-  holding-next (ask body out) h inside = left-same (0 + left) left (omega arith) h
-  holding-next (serve body out) h inside = left-same (0 + left) left (omega arith) h
+  holding-next (ask ed body out) h inside = left-same (0 + left) left (omega arith) h
+  holding-next (serve ed body second out) h inside = left-same (0 + left) left (omega arith) h
   holding-next (explain id topic windows) h inside = left-same (0 + left) left (omega arith) h
 
 -- ---- after some calls, with readings and heartbeats that come after them

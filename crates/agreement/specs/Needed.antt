@@ -9,6 +9,9 @@ use mathlib.Core.List.{List, [], _∷_, _++_}
 use native.Mathlib.Omega.{arith}
 use lib.ListN.{length, getD, replicate, length-replicate, getD-replicate}
 use borrow.Author.Tests.{lt-ltb, le-ltb, lt-leb}
+use Rattle.basis.specs.declared.Edition.{Edition}
+use Rattle.basis.specs.declared.Edition.the-variants.{V11, V12}
+use Rattle.basis.specs.Dialect.{spoken}
 use Rattle.basis.specs.Cases.{either}
 use Rattle.basis.specs.Writing.{answer}
 use Rattle.peer_id.specs.Uvarint.{uvarint, bytesOf, readUvarint, readFrom, groupOf}
@@ -36,9 +39,10 @@ use Rattle.admission.specs.AdmissionLaws.{vouched-same}
 use Rattle.admission.specs.Told.{unfitTold}
 use Rattle.rows.specs.Ids.{sameBytes, among}
 use Rattle.rows.specs.Rows.{newest}
-use Rattle.node.specs.Parts.{fitting}
+use Rattle.node.specs.Parts.{atPath, onceAfter, without, fitting}
 use Rattle.node.specs.PartsLaws.{fitting-stop}
 use Rattle.seen.specs.Entries.{holds, until, inserted, live}
+use Rattle.mcache.specs.declared.MessageCache.{MessageCache}
 use Rattle.mcache.specs.Messages.{held, put, shift, get, carrying, enterId, inOrder, gossipIds}
 use Rattle.node.specs.declared.Node.{Node}
 use Rattle.node.specs.declared.Fault.{Fault}
@@ -48,24 +52,29 @@ use Rattle.node.specs.declared.Admit.the-variants as answered
 use Rattle.node.specs.declared.Beat.the-variants as beat
 use Rattle.node.specs.declared.Advertise.the-variants as told
 use Rattle.node.specs.declared.Ask.the-variants as asked
+use Rattle.node.specs.declared.Serve.{Serve}
 use Rattle.node.specs.declared.Serve.the-variants as served
 use Rattle.node.specs.Gateway.{Gateway, started, marked, isNew, afterAdmit, afterBeat, toldOf, knows, lacking, having}
 use Rattle.node.specs.State.{gatewayIn, risesFrom}
 use Rattle.node.specs.Calls.{onLent, lentOf, planned, no, admitAnswer, beatAnswer, advertiseBytes, advertiseAnswer}
 use Rattle.node.specs.Calls.{askBytes, askAnswer}
-use Rattle.node.specs.Calls.{roomOf, servedOf, replyTo, serveNumber}
+use Rattle.node.specs.Calls.{wanted, unwantedIn, remaining, rowsFor, cachedOf, roomOf, servedOf, replyTo, serveNumber}
+use Rattle.node.specs.Calls.{serveAnswer, serveLeft}
 use Rattle.history.specs.History.{State, gatewayOf, Settings, Fresh, Call, admit, heartbeat, advertise, ask, serve}
 use Rattle.history.specs.History.{explain, planIn, after, afterAll, refusalAt, brought, brings, isNew as newAnswer, times}
-use Rattle.history.specs.History.{timesNew}
+use Rattle.history.specs.History.{timesNew, servedBytes, servedMessages, admits}
 use Rattle.history.specs.Laws.{after-append, startedBy, history-keeps, fresh-starts, refused-stays, after-flags}
 use Rattle.history.specs.Laws.{history-flags, brings-exactly}
-use Rattle.agreement.specs.Round.{missing, lacked, Play, onward, Fair, fair-onward, replyOf, askerRound}
-use Rattle.agreement.specs.Round.{tellerRound, askerRounds, tellerRounds}
+use Rattle.agreement.specs.Round.{missing, lacked, Play, onward, Fair, fair-onward, advertOf, requestOf, replyOf}
+use Rattle.agreement.specs.Round.{servedCount, askerRound, tellerRound, askerRounds, tellerRounds}
 use Rattle.agreement.specs.Holding.{Holding, holding-fresh}
 use Rattle.agreement.specs.Played.{one-replied, one-round}
 use Rattle.agreement.specs.CatchUp.{teller-stays}
 use Rattle.agreement.specs.Fifteen.{longest-field, some-fit, longest-fit}
-use Rattle.agreement.specs.Example.{signature, first-sender, settings-a, start, fresh-a, play, fair-for}
+use Rattle.agreement.specs.Example.{signature, first-sender, second-id, settings-a, start, fresh-a, fresh-b}
+use Rattle.agreement.specs.Example.{calls-b, play, fair-for}
+use Rattle.agreement.specs.ExampleRound.{a-lacks-the-second, request-bytes}
+use Rattle.agreement.specs.ExampleRound.{at-a as lacking-a, at-b as holding-it}
 use Rattle.agreement.specs.ExampleUnsigned.{unsigned, idOf, unsignedBody, messages, at-a, gateway-a, a-is}
 use Rattle.agreement.specs.ExampleUnsigned.{holding-a, settings-a as open-settings}
 
@@ -175,13 +184,13 @@ unsigned-unfit flags off = rw off
 
 -- a message that does not pass under some flags is answered new in no state of a gateway with these
 module _ (flags : ℕ) (m : List ℕ) (why : Unfit) (u : admissionOf flags m true ≡ admission.Unfit why) where
-  unfit-plan : (s : State) → gatewayOf s .flags ≡ flags → (body : List ℕ) (i : ℕ) (word : Bool) (at : ℕ)
-      → brings flags m (admit body i word at) ≡ true
-      → planIn s body i word at ≡ onLent (λ (f : Fault). no (answered.Faulty f))
+  unfit-plan : (s : State) → gatewayOf s .flags ≡ flags → (ed : Edition) (body : List ℕ) (i : ℕ) (word : Bool) (at : ℕ)
+      → brings flags m (admit ed body i word at) ≡ true
+      → planIn s ed body i word at ≡ onLent (λ (f : Fault). no (answered.Faulty f))
       (lentOf (s .node) (s .ids) (s .messages)) (no (answered.Unfit why))
   unfolding planned gatewayIn
-  unfit-plan s same body i word at t =
-      let p = brings-exactly flags m body i word at .0 t in
+  unfit-plan s same ed body i word at t =
+      let p = brings-exactly flags m ed body i word at .0 t in
       let q = p .2 in
       let e : admissionOf (s .node .cache .flags) m word ≡ admission.Unfit why =
       ap (λ (f : ℕ). admissionOf f m word) same ∙ vouched-same flags m word (p .0) ∙ u in
@@ -195,46 +204,50 @@ module _ (flags : ℕ) (m : List ℕ) (why : Unfit) (u : admissionOf flags m tru
   never-new : (calls : List Call) (s : State) → gatewayOf s .flags ≡ flags → timesNew flags m calls s ≡ 0
   unfolding times
   never-new [] s same = refl
-  never-new (admit body i word at ∷ cs) s same =
-      let c = admit body i word at in
+  never-new (admit ed body i word at ∷ cs) s same =
+      let c = admit ed body i word at in
       let r = never-new cs (after c s) (after-flags c s ∙ same) in
       either (brings flags m c)
-      (λ t. rw (t, unfit-plan s same body i word at t, not-new s at (lentOf (s .node) (s .ids) (s .messages)), r))
+      (λ t. rw (t, unfit-plan s same ed body i word at t, not-new s at (lentOf (s .node) (s .ids) (s .messages)), r))
       (λ t. rw (t, r))
   never-new (heartbeat at ∷ cs) s same =
       rw (never-new cs (after (heartbeat at) s) (after-flags (heartbeat at) s ∙ same))
   never-new (advertise name windows out ∷ cs) s same =
       let c = advertise name windows out in rw (never-new cs (after c s) (after-flags c s ∙ same))
-  never-new (ask body out ∷ cs) s same =
-      let c = ask body out in rw (never-new cs (after c s) (after-flags c s ∙ same))
-  never-new (serve body out ∷ cs) s same =
-      let c = serve body out in rw (never-new cs (after c s) (after-flags c s ∙ same))
+  never-new (ask ed body out ∷ cs) s same =
+      let c = ask ed body out in rw (never-new cs (after c s) (after-flags c s ∙ same))
+  never-new (serve ed body second out ∷ cs) s same =
+      let c = serve ed body second out in rw (never-new cs (after c s) (after-flags c s ∙ same))
   never-new (explain id name windows ∷ cs) s same =
       let c = explain id name windows in rw (never-new cs (after c s) (after-flags c s ∙ same))
 
--- at a gateway with these flags it comes in, is called new in no history, and is refused by this number each time
+-- at a gateway with these flags it comes in, in either edition, is called new in no history, and is refused by this
+-- number each time
 pub record Unanswered (flags number : ℕ) (m body : List ℕ) : Type 0 where
-  pub comes-in : (at : ℕ) → brings flags m (admit body 0 true at) ≡ true
+  pub comes-in : (ed : Edition) (at : ℕ) → brings flags m (admit ed body 0 true at) ≡ true
   pub never-new : (calls : List Call) (s : State) → gatewayOf s .flags ≡ flags → timesNew flags m calls s ≡ 0
-  pub refused : {x : Settings} {s : State} → Fresh x s → x .flags ≡ flags → (before : List Call) (at : ℕ)
-      → refusalAt (afterAll before s) (admit body 0 true at) ≡ number
+  pub refused : {x : Settings} {s : State} → Fresh x s → x .flags ≡ flags → (before : List Call) (ed : Edition) (at : ℕ)
+      → refusalAt (afterAll before s) (admit ed body 0 true at) ≡ number
 
 unanswered : (flags : ℕ) (m body : List ℕ) (why : Unfit) → admissionOf flags m true ≡ admission.Unfit why
-    → ((at : ℕ) → brings flags m (admit body 0 true at) ≡ true) → Unanswered flags (unfitTold why .number) m body
+    → ((ed : Edition) (at : ℕ) → brings flags m (admit ed body 0 true at) ≡ true)
+    → Unanswered flags (unfitTold why .number) m body
 unanswered flags m body why u b =
     record {
       comes-in = b;
       never-new = never-new flags m why u;
-      refused = λ {x} {s} f same before at.
-          let e = unfit-plan flags m why u (afterAll before s) (history-flags before f ∙ same) body 0 true at (b at) in
+      refused = λ {x} {s} f same before ed at.
+          let e = unfit-plan flags m why u (afterAll before s) (history-flags before f ∙ same) ed body 0 true at
+          (b ed at) in
           rw (e, history-keeps before f .fine);
     }
 
-unsigned-brought : (flags at : ℕ) → brings flags (unsigned 1) (admit (unsignedBody 1) 0 true at) ≡ true
+unsigned-brought : (flags : ℕ) (ed : Edition) (at : ℕ)
+    → brings flags (unsigned 1) (admit ed (unsignedBody 1) 0 true at) ≡ true
 unfolding unsigned unsignedBody brought vouched acceptOf bodyRecords counted overKinds toDepth textCount roleOf rank
     ownOf isUtf8 run walkAt walkFrom readField readValue skipField skipFixed readVarint readLen readTag readUvarint
     readFrom groupOf messageAt sameBytes
-unsigned-brought flags at = refl
+unsigned-brought flags ed at = refl
 
 pub needs-admissible : (flags : ℕ) → allowsUnsigned flags ≡ false → Unanswered flags 25 (unsigned 1) (unsignedBody 1)
 needs-admissible flags off =
@@ -252,11 +265,11 @@ unfolding signature admissionOf idParts slotsOf withField setPlace walkAt walkFr
     skipFixed readVarint readLen readTag readUvarint readFrom groupOf roleOf isPeerId fromBytes hashOf
 stranger-unfit flags = refl
 
-stranger-brought : (flags at : ℕ) → brings flags stranger (admit strangerBody 0 true at) ≡ true
+stranger-brought : (flags : ℕ) (ed : Edition) (at : ℕ) → brings flags stranger (admit ed strangerBody 0 true at) ≡ true
 unfolding signature brought vouched acceptOf bodyRecords counted overKinds toDepth textCount roleOf rank ownOf isUtf8
     run walkAt walkFrom readField readValue skipField skipFixed readVarint readLen readTag readUvarint readFrom groupOf
     messageAt sameBytes
-stranger-brought flags at = refl
+stranger-brought flags ed at = refl
 
 pub needs-peer-id : (flags : ℕ) → Unanswered flags 34 stranger strangerBody
 needs-peer-id flags =
@@ -271,7 +284,7 @@ pub record NeverArrives (p : Play) (m id : List ℕ) (a b : State) : Type 0 wher
   pub on : allowsUnsigned (gatewayOf b .flags) ≡ true
   pub asks : lacking (gatewayOf a) (toldOf (p .topic) (p .windows) (gatewayOf b)) ≡ id ∷ []
   pub served : replyOf p a b ≡ bytesField 2 m
-  pub refused : (at : ℕ) → refusalAt a (admit (replyOf p a b) 0 true at) ≡ 25
+  pub refused : (ed : Edition) (at : ℕ) → refusalAt a (admit ed (replyOf p a b) 0 true at) ≡ 25
   pub stays : (r : ℕ) (at : ℕ → ℕ → ℕ) → afterAll (askerRounds p r at a b) a ≡ a
   pub lacks : (r : ℕ) (at : ℕ → ℕ → ℕ)
       → lacked (p .topic) (afterAll (askerRounds p r at a b) a) (afterAll (tellerRounds p r at a b) b)
@@ -325,11 +338,11 @@ one-on : allowsUnsigned 1 ≡ true
 unfolding allowsUnsigned
 one-on = refl
 
-asker-refuses : (at : ℕ) → refusalAt asker (admit (bytesField 2 (unsigned 1)) 0 true at) ≡ 25
+asker-refuses : (ed : Edition) (at : ℕ) → refusalAt asker (admit ed (bytesField 2 (unsigned 1)) 0 true at) ≡ 25
 unfolding afterAll
-asker-refuses at =
-    ap (λ (body : List ℕ). refusalAt asker (admit body 0 true at)) body-written
-    ∙ needs-admissible 0 zero-off .refused fresh-a refl [] at
+asker-refuses ed at =
+    ap (λ (body : List ℕ). refusalAt asker (admit ed body 0 true at)) body-written
+    ∙ needs-admissible 0 zero-off .refused fresh-a refl [] ed at
 
 mixed-fair : Fair play settings-a open-settings
 mixed-fair = fair-for settings-a open-settings (omega arith) (omega arith)
@@ -347,8 +360,8 @@ module _ (p : Play) (fair : Fair p settings-a open-settings) (t : p .topic ≡ t
   one-stays at =
       ap (λ (cs : List Call). afterAll cs asker)
       (one-round holding-asker holding-a p fair (unsigned 1) (idOf 1) asked-for has-it at)
-      ∙ refused-stays (admit (bytesField 2 (unsigned 1)) 0 true (at 0)) asker
-      (λ z. let y = asker-refuses (at 0) in absurd (omega arith))
+      ∙ refused-stays (admit (p .admit-edition 0 0) (bytesField 2 (unsigned 1)) 0 true (at 0)) asker
+      (λ z. let y = asker-refuses (p .admit-edition 0 0) (at 0) in absurd (omega arith))
 
 told-stays : (p : Play) → afterAll (tellerRound p asker at-a) at-a ≡ at-a
 unfolding tellerRound afterAll after
@@ -381,7 +394,8 @@ needs-alike =
       on = ap allowsUnsigned (holding-a .held .flags) ∙ one-on;
       asks = asked-for play mixed-fair refl refl;
       served = served-it;
-      refused = λ at. ap (λ (body : List ℕ). refusalAt asker (admit body 0 true at)) served-it ∙ asker-refuses at;
+      refused = λ ed at.
+          ap (λ (body : List ℕ). refusalAt asker (admit ed body 0 true at)) served-it ∙ asker-refuses ed at;
       stays = ever-stays;
       lacks = λ r at.
           ap₂ (λ (s b : State). lacked topic s b) (ever-stays r at) (teller-stays play r at asker at-a)
@@ -437,15 +451,91 @@ unfolding signature isSigned slotsOf withField setPlace roleOf walkAt walkFrom r
     newest until held put missing knows allowsUnsigned lacking gossipIds inOrder enterId carrying topicsOf
 needs-undisturbed = record { lacks = refl; asks = refl }
 
+-- ---- no second body is lent in a round
+-- a round as those of Round, but for the second body that its serve is lent
+module _ (p : Play) (second : List ℕ) (a b : State) where
+  abbrev pub replyWith : Serve
+  replyWith =
+      serveAnswer (b .node) (b .ids) (b .messages) (p .serve-edition 0) (requestOf p a b) second (p .reply-out 0)
+
+  abbrev pub bytesWith : List ℕ
+  bytesWith =
+      servedBytes replyWith
+      (serveLeft (b .node) (b .ids) (b .messages) (p .serve-edition 0) (requestOf p a b) second (p .reply-out 0))
+
+  abbrev pub askerWith : (ℕ → ℕ) → List Call
+  askerWith at =
+      ask (p .ask-edition 0) (advertOf p b) (p .request-out 0)
+      ∷ admits (p .admit-edition 0) bytesWith at 0 (servedMessages replyWith)
+
+  abbrev pub tellerWith : List Call
+  tellerWith =
+      advertise (p .topic) (p .windows) (p .advert-out 0)
+      ∷ serve (p .serve-edition 0) (requestOf p a b) second (p .reply-out 0) ∷ []
+
+  -- a message is lacking and asked for; the serve is not refused, and neither writes nor leaves one, so nothing is
+  -- admitted; and after the round it is lacking as before
+  pub record Withheld : Type 0 where
+    pub lacks : length (lacked (p .topic) a b) ≡ 1
+    pub answers : replyWith ≡ served.Reply 0 0 0
+    pub still : (at : ℕ → ℕ)
+        → lacked (p .topic) (afterAll (askerWith at) a) (afterAll tellerWith b) ≡ lacked (p .topic) a b
+
+  withheld : length (lacked (p .topic) a b) ≡ 1 → replyWith ≡ served.Reply 0 0 0 → Withheld
+  unfolding admits afterAll after
+  withheld one none = record { lacks = one; answers = none; still = λ at. rw none }
+
+-- without one it is the round
+pub with-none : (p : Play) (a b : State) (at : ℕ → ℕ)
+    → (askerWith p [] a b at ≡ askerRound p at a b) × (tellerWith p [] a b ≡ tellerRound p a b)
+unfolding askerRound tellerRound replyOf servedCount
+with-none p a b at = (refl, refl)
+
+-- the example's gateways: the teller is lent an IDONTWANT of the id of the message that it holds and the asker lacks
+abbrev pub unwantedBody : List ℕ
+unwantedBody = 26 ∷ 43 ∷ 42 ∷ 41 ∷ 10 ∷ 39 ∷ second-id
+
+abbrev wantedBody : List ℕ
+wantedBody = 26 ∷ 43 ∷ 18 ∷ 41 ∷ 10 ∷ 39 ∷ second-id
+
+bodies-taken : (acceptOf (spoken V11) wantedBody ≡ checked.Fine) × (acceptOf (spoken V12) unwantedBody ≡ checked.Fine)
+unfolding acceptOf bodyRecords counted overKinds toDepth textCount roleOf rank ownOf isUtf8 run walkAt walkFrom
+    readField readValue skipField skipFixed readVarint readLen readTag readUvarint readFrom groupOf
+bodies-taken = (refl, refl)
+
+none-remain : remaining wantedBody unwantedBody ≡ []
+unfolding remaining wanted unwantedIn atPath onceAfter without among sameBytes walkAt walkFrom readField readValue
+    skipField skipFixed readVarint readLen readTag readUvarint readFrom groupOf
+none-remain = refl
+
+none-cached : (c : MessageCache) (st : List ℕ) → cachedOf c st [] ≡ []
+unfolding cachedOf rowsFor
+none-cached c st = refl
+
+none-served : replyWith play unwantedBody lacking-a holding-it ≡ served.Reply 0 0 0
+unfolding serveAnswer
+none-served =
+    rw (
+      request-bytes,
+      history-keeps calls-b fresh-b .fine,
+      bodies-taken .0,
+      bodies-taken .1,
+      none-remain,
+      none-cached (holding-it .node .cache) (holding-it .messages),
+    )
+
+pub needs-no-idontwant : Withheld play unwantedBody lacking-a holding-it
+needs-no-idontwant = withheld play unwantedBody lacking-a holding-it (ap length a-lacks-the-second) none-served
+
 -- ---- the clock never falls
 -- a message that would be taken, and a heartbeat, are refused by 31 at a reading before the clock
-pub needs-rises : (n : Node) (ss cs body : List ℕ) (i at a e x y z w : ℕ) → lentOf n ss cs ≡ lent.Fine
-    → acceptOf body ≡ checked.Fine → messageAt body i ≡ found.At a e
+pub needs-rises : (n : Node) (ss cs : List ℕ) (ed : Edition) (body : List ℕ) (i at a e x y z w : ℕ)
+    → lentOf n ss cs ≡ lent.Fine → acceptOf (spoken ed) body ≡ checked.Fine → messageAt body i ≡ found.At a e
     → admissionOf (n .cache .flags) (between body a e) true ≡ admission.Fit x y z w → at < n .clock
-    → (planned n ss cs body i true at ≡ no (answered.ClockBack (n .clock)))
+    → (planned n ss cs ed body i true at ≡ no (answered.ClockBack (n .clock)))
     × (beatAnswer n ss cs at ≡ beat.ClockBack (n .clock))
 unfolding planned beatAnswer
-needs-rises n ss cs body i at a e x y z w fine ok there fit h = let t = lt-ltb at (n .clock) h in
+needs-rises n ss cs ed body i at a e x y z w fine ok there fit h = let t = lt-ltb at (n .clock) h in
     (rw (fine, ok, there, fit, t), rw (fine, t))
 
 -- ---- the topic has at most 1,024 bytes
@@ -465,11 +555,11 @@ unfolding advertiseAnswer answer
 needs-advert-room n ss cs out topic windows fine short h =
     rw (fine, le-ltb 1024 (length topic) short, lt-leb (length (advertiseBytes n cs topic windows)) (length out) h)
 
-pub needs-request-room : (n : Node) (ss cs out body : List ℕ) → lentOf n ss cs ≡ lent.Fine
-    → acceptOf body ≡ checked.Fine → length out < length (askBytes n ss body)
-    → askAnswer n ss cs body out ≡ asked.Room (length (askBytes n ss body))
+pub needs-request-room : (n : Node) (ss cs out : List ℕ) (ed : Edition) (body : List ℕ) → lentOf n ss cs ≡ lent.Fine
+    → acceptOf (spoken ed) body ≡ checked.Fine → length out < length (askBytes n ss body)
+    → askAnswer n ss cs ed body out ≡ asked.Room (length (askBytes n ss body))
 unfolding askAnswer answer
-needs-request-room n ss cs out body fine ok h = rw (fine, ok, lt-leb (length (askBytes n ss body)) (length out) h)
+needs-request-room n ss cs out ed body fine ok h = rw (fine, ok, lt-leb (length (askBytes n ss body)) (length out) h)
 
 -- fifteen messages fit 61,485 bytes
 pub reply-room-enough : (ms : List (List ℕ)) → ((i : ℕ) → i < length ms → length (getD ms i []) ≤ 4096)

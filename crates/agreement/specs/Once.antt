@@ -8,6 +8,7 @@ use mathlib.Core.Option.{Option, none, some}
 use native.Mathlib.Omega.{arith}
 use lib.Dec.{leb}
 use borrow.Author.Tests.{le-leb, lt-leb}
+use Rattle.basis.specs.declared.Edition.{Edition}
 use Rattle.basis.specs.Cases.{either, clash}
 use Rattle.rows.specs.Ids.{sameBytes, among}
 use Rattle.rows.specs.IdsLaws.{same-self, same-equal, among-append}
@@ -100,16 +101,17 @@ one-more {a} {b} {c} {d} {e} {f} (once-more p q r t u) s =
 
 module _ {set : List (List ℕ)} {x : Settings} (ms : MessageSet (x .flags) set) (m : List ℕ) where
   module _ {first past : ℕ} {got : List (List ℕ)} {s : State} where
-    admit-one : {rs : List ℕ} {left : ℕ} (body : List ℕ) (i : ℕ) (word : Bool) (at : ℕ)
-        → Holding set x first past (at ∷ rs) left got s → MemberAt (x .flags) set (admit body i word at)
-        → One (cond (brings (x .flags) m (admit body i word at)) 1 0)
-        (countAt isNew (x .flags) m s (admit body i word at)) (countAt isDuplicate (x .flags) m s (admit body i word at))
-        (among m got) (among m (gotNext (x .flags) got (admit body i word at)))
-    admit-one body i word at h inside =
-        let c = admit body i word at in
+    admit-one : {rs : List ℕ} {left : ℕ} (ed : Edition) (body : List ℕ) (i : ℕ) (word : Bool) (at : ℕ)
+        → Holding set x first past (at ∷ rs) left got s → MemberAt (x .flags) set (admit ed body i word at)
+        → One (cond (brings (x .flags) m (admit ed body i word at)) 1 0)
+        (countAt isNew (x .flags) m s (admit ed body i word at))
+        (countAt isDuplicate (x .flags) m s (admit ed body i word at))
+        (among m got) (among m (gotNext (x .flags) got (admit ed body i word at)))
+    admit-one ed body i word at h inside =
+        let c = admit ed body i word at in
         either (brings (x .flags) m c)
         (λ t.
-        let a = admit-answers body i word at h ms m (brings-that (x .flags) m c .0 t) (inside m t) in
+        let a = admit-answers ed body i word at h ms m (brings-that (x .flags) m c .0 t) (inside m t) in
         let n = next-that m got (brought (x .flags) c) t in
         either (among m got) (λ u. once-more (rw t) (rw (t, a, u)) (rw (t, a, u)) u n)
         (λ u. first-time (rw t) (rw (t, a, u)) (rw (t, a, u)) u n))
@@ -120,11 +122,11 @@ module _ {set : List (List ℕ)} {x : Settings} (ms : MessageSet (x .flags) set)
         → One (cond (brings (x .flags) m c) 1 0) (countAt isNew (x .flags) m s c) (countAt isDuplicate (x .flags) m s c)
         (among m got) (among m (gotNext (x .flags) got c))
     unfolding brought
-    call-one rs left (admit body i word at) h inside = admit-one body i word at h inside
+    call-one rs left (admit ed body i word at) h inside = admit-one ed body i word at h inside
     call-one rs left (heartbeat at) h inside = not-this refl refl refl refl
     call-one rs left (advertise topic windows out) h inside = not-this refl refl refl refl
-    call-one rs left (ask body out) h inside = not-this refl refl refl refl
-    call-one rs left (serve body out) h inside = not-this refl refl refl refl
+    call-one rs left (ask ed body out) h inside = not-this refl refl refl refl
+    call-one rs left (serve ed body second out) h inside = not-this refl refl refl refl
     call-one rs left (explain id topic windows) h inside = not-this refl refl refl refl
 
   some-calls : {first past : ℕ} {got : List (List ℕ)} {s : State} (calls : List Call)
@@ -155,14 +157,14 @@ module _ {set : List (List ℕ)} {x : Settings} {calls : List Call} {s : State} 
       (n, new-or-duplicate ∙ ap (λ (k : ℕ). k + timesDuplicate (x .flags) m calls s) n)
 
 -- ---- an admit of a history that brings a message: how it is answered, after the calls before it
-pub record Delivered (flags : ℕ) (m : List ℕ) (before : List Call) (body : List ℕ) (i : ℕ) (word : Bool) (at : ℕ)
-    (s : State) : Type 0 where
+pub record Delivered (flags : ℕ) (m : List ℕ) (before : List Call) (ed : Edition) (body : List ℕ) (i : ℕ) (word : Bool)
+    (at : ℕ) (s : State) : Type 0 where
   -- new where no call before it brought the message
-  pub first-time : timesGot flags m before ≡ 0 → answerIn (afterAll before s) body i word at ≡ answer.New
+  pub first-time : timesGot flags m before ≡ 0 → answerIn (afterAll before s) ed body i word at ≡ answer.New
   -- duplicate where one did
-  pub other-times : 1 ≤ timesGot flags m before → answerIn (afterAll before s) body i word at ≡ answer.Duplicate
+  pub other-times : 1 ≤ timesGot flags m before → answerIn (afterAll before s) ed body i word at ≡ answer.Duplicate
   -- and never refused
-  pub not-refused : refusalAt (afterAll before s) (admit body i word at) ≡ 0
+  pub not-refused : refusalAt (afterAll before s) (admit ed body i word at) ≡ 0
 
 members-split : {flags : ℕ} {set : List (List ℕ)} (cs ds : List Call) → Members flags set (cs ++ ds)
     → Members flags set cs × Members flags set ds
@@ -172,33 +174,33 @@ members-split (c ∷ cs) ds h =
     (member (members-here h) (r .0), r .1)
 
 module _ {set : List (List ℕ)} {x : Settings} {s : State} (ms : MessageSet (x .flags) set) (before rest : List Call)
-    (body : List ℕ) (i : ℕ) (word : Bool) (at : ℕ)
-    (p : Premises set x (before ++ (admit body i word at ∷ rest)) s) where
+    (ed : Edition) (body : List ℕ) (i : ℕ) (word : Bool) (at : ℕ)
+    (p : Premises set x (before ++ (admit ed body i word at ∷ rest)) s) where
   abbrev calls : List Call
-  calls = before ++ (admit body i word at ∷ rest)
+  calls = before ++ (admit ed body i word at ∷ rest)
 
   at-admit : Holding set x (firstOf calls) (pastAll 0 before) (at ∷ readings rest) (beats rest)
       (gotAll (x .flags) [] before) (afterAll before s)
   unfolding readings beats
   at-admit =
-      let e = readings-append before (admit body i word at ∷ rest) in
+      let e = readings-append before (admit ed body i word at ∷ rest) in
       let f : beats calls ≡ beats before + beats rest =
-      beats-append before (admit body i word at ∷ rest) ∙ omega arith in
+      beats-append before (admit ed body i word at ∷ rest) ∙ omega arith in
       holding-on ms before (at ∷ readings rest) (beats rest)
       (subst (λ (n : ℕ). Holding set x (firstOf calls) 0 (readings before ++ (at ∷ readings rest)) n [] s) f
       (subst (λ (l : List ℕ). Holding set x (firstOf calls) 0 l (beats calls) [] s) e (holding-start p)))
-      (members-split before (admit body i word at ∷ rest) (p .members) .0)
+      (members-split before (admit ed body i word at ∷ rest) (p .members) .0)
 
-  pub delivered-is-got : (m : List ℕ) → brings (x .flags) m (admit body i word at) ≡ true
-      → Delivered (x .flags) m before body i word at s
+  pub delivered-is-got : (m : List ℕ) → brings (x .flags) m (admit ed body i word at) ≡ true
+      → Delivered (x .flags) m before ed body i word at s
   delivered-is-got m t =
-      let c = admit body i word at in
+      let c = admit ed body i word at in
       let inside = members-here (members-split before (c ∷ rest) (p .members) .1) m t in
       let e = brings-that (x .flags) m c .0 t in
-      let a = admit-answers body i word at at-admit ms m e inside in
+      let a = admit-answers ed body i word at at-admit ms m e inside in
       let g = got-exactly (x .flags) m before in
       record {
         first-time = λ z. rw (a, g, lt-leb 1 (timesGot (x .flags) m before) (omega arith));
         other-times = λ l. rw (a, g, le-leb 1 (timesGot (x .flags) m before) l);
-        not-refused = admit-done body i word at at-admit ms m e inside;
+        not-refused = admit-done ed body i word at at-admit ms m e inside;
       }

@@ -1,5 +1,6 @@
--- What the calls of a round answer and write, with full buffers: none is refused; the advertisement, the request and
--- the reply are those of the definitions; and the reply has fifteen messages, or all that are asked for.
+-- What the calls of a round answer and write, with full buffers and in any editions: none is refused; the
+-- advertisement, the request and the reply are those of the definitions; and the reply has fifteen messages, or all
+-- that are asked for.
 use Prim.Native.Nat.{ℕ, zero, suc, _-_, _≤_, _<_, min}
 use mathlib.Core.Path.{_≡_, refl, sym, ap, subst, _∙_}
 use mathlib.Core.Bool.{true}
@@ -8,6 +9,8 @@ use native.Mathlib.Omega.{arith}
 use lib.ListN.{length, getD, take}
 use lib.Seq.{sets}
 use borrow.Author.Tests.{le-ltb}
+use Rattle.basis.specs.declared.Edition.the-variants.{V11, V12}
+use Rattle.basis.specs.Dialect.{spoken}
 use Rattle.basis.specs.Cases.{either}
 use Rattle.basis.specs.Lists.{answer-fits, written-fits}
 use Rattle.rows.specs.Ids.{sameBytes, among}
@@ -27,9 +30,10 @@ use Rattle.node.specs.declared.Ask.the-variants as asked
 use Rattle.node.specs.declared.Serve.{Serve}
 use Rattle.node.specs.Gateway.{Gateway, toldOf, lacking, having, maxRpcSize}
 use Rattle.node.specs.Calls.{lentOf, advertiseAnswer, advertiseLeft, advertiseBytes, askAnswer, askLeft, askBytes}
-use Rattle.node.specs.Calls.{serveAnswer, serveLeft, cachedOf, wanted, roomOf, servedOf, replyBytes, replyTo}
+use Rattle.node.specs.Calls.{serveAnswer, serveLeft, cachedOf, remaining, roomOf, servedOf, replyBytes, replyTo}
 use Rattle.node.specs.Calls.{serveNumber}
 use Rattle.node.specs.ReplyLaws.{reply-some}
+use Rattle.node.specs.Declined.{empty-taken}
 use Rattle.outputs.specs.Adverts.{advert-rpc, advert-taken}
 use Rattle.history.specs.History.{State, gatewayOf, Settings, admit, advertise, ask, serve, refusalAt, servedBytes}
 use Rattle.history.specs.History.{servedMessages, admits}
@@ -93,7 +97,8 @@ module _ {set : List (List ℕ)} {y : Settings} {firstB pastB leftB : ℕ} {rsB 
 
   adverted-small : length adverted ≤ length out
   adverted-small =
-      let w = advert-rpc (b .node) (b .ids) (b .messages) topic windows (hb .kept .fine) (hb .bytes) short .1 .small in
+      let w = advert-rpc (b .node) (b .ids) (b .messages) topic windows (hb .kept .fine) (hb .bytes) short .1
+      (spoken V11) .small in
       omega arith
 
   advertise-answer : advertiseAnswer (b .node) (b .ids) (b .messages) topic windows out ≡ told.Bytes (length adverted)
@@ -139,23 +144,25 @@ module _ {set : List (List ℕ)} {x y : Settings} {firstA pastA leftA firstB pas
   asking-small : length asking ≤ length (p .request-out 0)
   asking-small =
       let w = request-rpc (b .node) (b .ids) (b .messages) (p .topic) (p .windows) fineB (hb .bytes) (fair .topic-short)
-      (a .node) (a .ids) (a .messages) .1 .small in
+      (a .node) (a .ids) (a .messages) .1 (spoken V11) .small in
       let r = fair .request-room 0 in
       omega arith
 
-  advert-accepted : acceptOf advert ≡ checked.Fine
+  advert-accepted : acceptOf (spoken (p .ask-edition 0)) advert ≡ checked.Fine
   advert-accepted = advert-taken (b .node) (b .ids) (b .messages) (p .topic) (p .windows) fineB (hb .bytes)
-      (fair .topic-short)
+      (fair .topic-short) (spoken (p .ask-edition 0))
 
-  request-answer : askAnswer (a .node) (a .ids) (a .messages) advert (p .request-out 0) ≡ asked.Bytes (length asking)
+  request-answer : askAnswer (a .node) (a .ids) (a .messages) (p .ask-edition 0) advert (p .request-out 0)
+      ≡ asked.Bytes (length asking)
   unfolding askAnswer
   request-answer = rw (fineA, advert-accepted, answer-fits asking (p .request-out 0) asking-small)
 
-  request-left : askLeft (a .node) (a .ids) (a .messages) advert (p .request-out 0) ≡ sets (p .request-out 0) 0 asking
+  request-left : askLeft (a .node) (a .ids) (a .messages) (p .ask-edition 0) advert (p .request-out 0)
+      ≡ sets (p .request-out 0) 0 asking
   unfolding askLeft
   request-left = rw (fineA, advert-accepted) (written-fits asking (p .request-out 0) asking-small)
 
-  pub request-done : refusalAt a (ask (advertOf p b) (p .request-out 0)) ≡ 0
+  pub request-done : refusalAt a (ask (p .ask-edition 0) (advertOf p b) (p .request-out 0)) ≡ 0
   request-done = rw (advert-is, request-answer)
 
   pub requested : requestOf p a b ≡ askBytes (a .node) (a .ids)
@@ -208,28 +215,28 @@ module _ {set : List (List ℕ)} {x y : Settings} {firstA pastA leftA firstB pas
   enough-replies : min 15 (length replies) ≤ servedOf replies (p .reply-out 0)
   enough-replies = served-enough replies (p .reply-out 0) (fair .reply-room 0) reply-short
 
-  reply-cached : cachedOf (b .node .cache) (b .messages) (wanted asking) ≡ replies
+  reply-cached : cachedOf (b .node .cache) (b .messages) (remaining asking []) ≡ replies
   unfolding replies wants
   reply-cached = reply-has (b .node) (b .ids) (b .messages) (p .topic) (p .windows) fineB (hb .bytes)
       (fair .topic-short) (a .node) (a .ids) (a .messages)
 
-  request-accepted : acceptOf asking ≡ checked.Fine
+  request-accepted : acceptOf (spoken (p .serve-edition 0)) asking ≡ checked.Fine
   request-accepted = request-taken (b .node) (b .ids) (b .messages) (p .topic) (p .windows) fineB (hb .bytes)
-      (fair .topic-short) (a .node) (a .ids) (a .messages) .0
+      (fair .topic-short) (a .node) (a .ids) (a .messages) .0 (spoken (p .serve-edition 0))
 
   reply-answer : replyAnswer p a b ≡ replyTo replies (p .reply-out 0)
   unfolding serveAnswer
-  reply-answer = rw (requested, fineB, request-accepted, reply-cached)
+  reply-answer = rw (requested, fineB, request-accepted, empty-taken (spoken V12), reply-cached)
 
-  reply-left : serveLeft (b .node) (b .ids) (b .messages) (requestOf p a b) (p .reply-out 0) ≡ sets (p .reply-out 0) 0
-      (replyBytes replies (p .reply-out 0))
+  reply-left : serveLeft (b .node) (b .ids) (b .messages) (p .serve-edition 0) (requestOf p a b) [] (p .reply-out 0)
+      ≡ sets (p .reply-out 0) 0 (replyBytes replies (p .reply-out 0))
   unfolding serveLeft
-  reply-left = rw (requested, fineB, request-accepted, reply-cached)
+  reply-left = rw (requested, fineB, request-accepted, empty-taken (spoken V12), reply-cached)
 
   abbrev answers : Answers replies (p .reply-out 0) (replyTo replies (p .reply-out 0))
   answers = reply-answers replies (p .reply-out 0) enough-replies
 
-  pub reply-done : refusalAt b (serve (requestOf p a b) (p .reply-out 0)) ≡ 0
+  pub reply-done : refusalAt b (serve (p .serve-edition 0) (requestOf p a b) [] (p .reply-out 0)) ≡ 0
   reply-done = rw reply-answer (answers .done)
 
   pub replied : replyOf p a b ≡ replyBytes replies (p .reply-out 0)
@@ -270,6 +277,8 @@ module _ {set : List (List ℕ)} {x y : Settings} {firstA pastA leftA firstB pas
         (append-nil (bytesField 2 m))
 
     pub one-round : (at : ℕ → ℕ)
-        → askerRound p at a b ≡ ask (advertOf p b) (p .request-out 0) ∷ admit (bytesField 2 m) 0 true (at 0) ∷ []
+        → askerRound p at a b
+        ≡ ask (p .ask-edition 0) (advertOf p b) (p .request-out 0)
+        ∷ admit (p .admit-edition 0 0) (bytesField 2 m) 0 true (at 0) ∷ []
     unfolding askerRound admits
     one-round at = rw (one-served, one-replied)

@@ -1,5 +1,5 @@
--- The request is exact: given the other's advertisement, a gateway writes a request exactly where it lacks something
--- that the other holds, and the request names exactly that, each id once.
+-- The request is exact: given the other's advertisement, in either edition, a gateway writes a request exactly where it
+-- lacks something that the other holds, and the request names exactly that, each id once, in every dialect.
 use Prim.Native.Nat.{ℕ}
 use mathlib.Core.Path.{_≡_, refl, sym, ap, subst, _∙_}
 use mathlib.Core.Bool.{true}
@@ -7,6 +7,7 @@ use mathlib.Core.List.{List, [], _∷_}
 use mathlib.Core.Logic.{_↔_}
 use native.Mathlib.Omega.{arith}
 use lib.ListN.{length}
+use Rattle.basis.specs.declared.Dialect.{Dialect}
 use Rattle.rows.specs.Ids.{among, distinct}
 use Rattle.canon.specs.Taken.{Within}
 use Rattle.mcache.specs.Messages.{idsOf}
@@ -22,12 +23,12 @@ use Rattle.agreement.specs.Played.{advert-done, request-done, requested}
 pub record ExactRequest (p : Play) (a b : State) : Type 0 where
   -- neither call is refused
   pub advert-taken : refusalAt b (advertise (p .topic) (p .windows) (p .advert-out 0)) ≡ 0
-  pub ask-taken : refusalAt a (ask (advertOf p b) (p .request-out 0)) ≡ 0
+  pub ask-taken : refusalAt a (ask (p .ask-edition 0) (advertOf p b) (p .request-out 0)) ≡ 0
   -- no bytes are written exactly where nothing is lacking
   pub quiet : (requestOf p a b ≡ []) ↔ (lacked (p .topic) a b ≡ [])
   -- and else they are a body with one IWANT of these ids
   pub ids : List (List ℕ)
-  pub names : (lacked (p .topic) a b ≡ [] → ⊥) → Within (requestOf p a b) (request ids)
+  pub names : (lacked (p .topic) a b ≡ [] → ⊥) → (d : Dialect) → Within d (requestOf p a b) (request ids)
   -- each once, and exactly those of the messages that are lacking
   pub once : distinct ids ≡ true
   pub exactly : (i : List ℕ) → among i ids ≡ among i (idsOf (lacked (p .topic) a b))
@@ -57,11 +58,11 @@ exact-request {a} {b} ha hb p fair =
         λ z. e ∙ s .1 (empty-same (lacked (p .topic) a b) w (sym n) z),
       );
       ids = w;
-      names = λ there.
-          subst (λ (l : List ℕ). Within l (request w)) (sym e)
+      names = λ there d.
+          subst (λ (l : List ℕ). Within d l (request w)) (sym e)
           (request-meant (b .node) (b .ids) (b .messages) (p .topic) (p .windows) fb (hb .bytes) (fair .topic-short)
           (a .node) (a .ids) (a .messages)
-          (λ z. there (empty-same w (lacked (p .topic) a b) n z)));
+          (λ z. there (empty-same w (lacked (p .topic) a b) n z)) d);
       once = wants-once hb (p .topic) (p .windows) (fair .windows-y) a;
       exactly = wants-exactly hb (p .topic) (p .windows) (fair .windows-y) a;
       count = n;

@@ -1,9 +1,10 @@
--- Rounds for one topic, between a gateway that asks and one that tells: advertise, ask, serve, admit all served with
--- the host's word. And what the one lacks of the other.
+-- Rounds for one topic, between a gateway that asks and one that tells: advertise, ask, serve without a second body,
+-- admit all served with the host's word, each call in an edition of its own. And what the one lacks of the other.
 use Prim.Native.Nat.{ℕ, zero, suc, _≤_}
 use mathlib.Core.Bool.{cond, not, _&&_}
 use mathlib.Core.List.{List, [], _∷_, _++_}
 use lib.ListN.{length}
+use Rattle.basis.specs.declared.Edition.{Edition}
 use Rattle.rows.specs.Ids.{among}
 use Rattle.mcache.specs.Messages.{Cached, topics}
 use Rattle.node.specs.declared.Serve.{Serve}
@@ -22,14 +23,18 @@ missing topic asker (c ∷ cs) =
 abbrev pub lacked : List ℕ → State → State → List Cached
 lacked topic a b = missing topic (gatewayOf a) (gatewayOf b .cache)
 
--- ---- what rounds are played with: the topic, the windows told of, and the buffers, which are others for each call of
--- each round; `advert-out k` is lent to the advertise of the k-th round
+-- ---- what rounds are played with: the topic, the windows told of, and the buffers and editions, which are others for
+-- each call of each round; `advert-out k` is lent to the advertise of the k-th round, `admit-edition k i` is its i-th
+-- admit's
 pub record Play : Type 0 where
   pub topic : List ℕ
   pub windows : ℕ
   pub advert-out : ℕ → List ℕ
   pub request-out : ℕ → List ℕ
   pub reply-out : ℕ → List ℕ
+  pub ask-edition : ℕ → Edition
+  pub serve-edition : ℕ → Edition
+  pub admit-edition : ℕ → ℕ → Edition
 
 -- the same from the second round on
 abbrev pub onward : Play → Play
@@ -40,6 +45,9 @@ onward p =
       advert-out = λ k. p .advert-out (suc k);
       request-out = λ k. p .request-out (suc k);
       reply-out = λ k. p .reply-out (suc k);
+      ask-edition = λ k. p .ask-edition (suc k);
+      serve-edition = λ k. p .serve-edition (suc k);
+      admit-edition = λ k. p .admit-edition (suc k);
     }
 
 -- the scope's premises on these, for gateways with these settings
@@ -92,16 +100,18 @@ module _ (p : Play) where
   -- a's request, given b's advertisement
   unfoldable pub requestOf : State → State → List ℕ
   requestOf a b =
-      askedBytes (askAnswer (a .node) (a .ids) (a .messages) (advertOf b) (p .request-out 0))
-      (askLeft (a .node) (a .ids) (a .messages) (advertOf b) (p .request-out 0))
+      askedBytes (askAnswer (a .node) (a .ids) (a .messages) (p .ask-edition 0) (advertOf b) (p .request-out 0))
+      (askLeft (a .node) (a .ids) (a .messages) (p .ask-edition 0) (advertOf b) (p .request-out 0))
 
-  -- b's reply, given a's request
+  -- b's reply, given a's request and no second body
   abbrev pub replyAnswer : State → State → Serve
-  replyAnswer a b = serveAnswer (b .node) (b .ids) (b .messages) (requestOf a b) (p .reply-out 0)
+  replyAnswer a b =
+      serveAnswer (b .node) (b .ids) (b .messages) (p .serve-edition 0) (requestOf a b) [] (p .reply-out 0)
 
   unfoldable pub replyOf : State → State → List ℕ
   replyOf a b =
-      servedBytes (replyAnswer a b) (serveLeft (b .node) (b .ids) (b .messages) (requestOf a b) (p .reply-out 0))
+      servedBytes (replyAnswer a b)
+      (serveLeft (b .node) (b .ids) (b .messages) (p .serve-edition 0) (requestOf a b) [] (p .reply-out 0))
 
   unfoldable pub servedCount : State → State → ℕ
   servedCount a b = servedMessages (replyAnswer a b)
@@ -109,10 +119,14 @@ module _ (p : Play) where
 -- as the calls of each gateway
 module _ (p : Play) where
   unfoldable pub askerRound : (ℕ → ℕ) → State → State → List Call
-  askerRound at a b = ask (advertOf p b) (p .request-out 0) ∷ admits (replyOf p a b) at 0 (servedCount p a b)
+  askerRound at a b =
+      ask (p .ask-edition 0) (advertOf p b) (p .request-out 0)
+      ∷ admits (p .admit-edition 0) (replyOf p a b) at 0 (servedCount p a b)
 
   unfoldable pub tellerRound : State → State → List Call
-  tellerRound a b = advertise (p .topic) (p .windows) (p .advert-out 0) ∷ serve (requestOf p a b) (p .reply-out 0) ∷ []
+  tellerRound a b =
+      advertise (p .topic) (p .windows) (p .advert-out 0)
+      ∷ serve (p .serve-edition 0) (requestOf p a b) [] (p .reply-out 0) ∷ []
 
 -- ---- so many rounds, one after the other, and no other call of either; `at k i` is the reading at the i-th admit of
 -- the k-th round

@@ -13,21 +13,21 @@ use Rattle.agreement.specs.Holding.{member-none, member-some}
 
 unfoldable pub inSet : List (List ℕ) → List Act → Bool
 inSet set [] = true
-inSet set (gets body m id at ∷ xs) = among m set && inSet set xs
+inSet set (gets ed body m id at ∷ xs) = among m set && inSet set xs
 inSet set (beats at ∷ xs) = inSet set xs
-inSet set (asks body out ∷ xs) = inSet set xs
+inSet set (asks ed body out ∷ xs) = inSet set xs
 
 pub script-members : (flags : ℕ) (set : List (List ℕ)) {clock : ℕ} {xs : List Act} → Written flags clock xs
     → inSet set xs ≡ true → Members flags set (callsOf xs)
 unfolding inSet callsOf brought
 script-members flags set nothing h = none-left
-script-members flags set (got clock at {body} {m} {xs} c up w) h =
+script-members flags set (got clock at {ed} {body} {m} {xs = xs} c up w) h =
     let b = both (among m set) (inSet set xs) h in
     member
-    (member-some flags set (admit body 0 true at) m (carried-brought flags body 0 at m (c .accepted) (c .placed))
+    (member-some flags set (admit ed body 0 true at) m (carried-brought flags ed body 0 at m (c .accepted) (c .placed))
     (b .0))
     (script-members flags set w (b .1))
 script-members flags set (beaten clock at up w) h =
     member (member-none flags set (heartbeat at) refl) (script-members flags set w h)
-script-members flags set (asked {body} {out} w) h =
-    member (member-none flags set (ask body out) refl) (script-members flags set w h)
+script-members flags set (asked {ed = ed} {body} {out} w) h =
+    member (member-none flags set (ask ed body out) refl) (script-members flags set w h)

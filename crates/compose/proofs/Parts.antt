@@ -22,10 +22,11 @@ use Rattle.schema.specs.declared.Place.the-variants as place
 use Rattle.schema.specs.declared.Number.{Number}
 use Rattle.schema.specs.declared.Number.the-variants as number
 use Rattle.schema.specs.declared.Slots.{Slots}
+use Rattle.schema.specs.Schema.{ownOf}
 use Rattle.message.specs.declared.Record.{Record}
 use Rattle.message.specs.Rows.{kindCode, kindFrom, recordFrom}
 use Rattle.meaning.specs.ReadBack.{bytesAt, numberAt, rawOf}
-use Rattle.meaning.specs.Table.{kind-back}
+use Rattle.meaning.specs.Table.{IsRecord}
 use Rattle.rpc.specs.Grammar.{nonzero}
 use Rattle.rpc.specs.Encode.{optional, repeated, flag, encodeSubOpts, encodeGraft, encodePeerInfo, encodePrune, signPrefix, signBytes}
 use Rattle.compose.specs.Lent.{rowsFrom, isCode, insideAt, fieldsInside, rowInside}
@@ -34,10 +35,10 @@ use Rattle.compose.specs.Weighed.{capped}
 use Rattle.compose.specs.Puts.{Puts, capped-small, capped-add, puts-short, puts-field, flagged}
 use Rattle.compose.specs.Puts.{Written, of-sub-opts, of-message, of-graft, of-prune, rowBytes, rowPart, eachRow, topicPart, peerPart}
 use Rattle.compose.specs.Puts.{slotAt, fieldPart, hasRow, controlBytes}
-use Rattle.compose.specs.Laws.{rows-step, rows-end, peers-step, topics-step, no-peers, no-topics}
+use Rattle.compose.specs.Laws.{code-kind, rows-step, rows-end, peers-step, topics-step, no-peers, no-topics}
 
 -- ---- codes and kinds
-small-code : (c : ℕ) → c ≤ 10 → kindCode (kindFrom c) ≡ c
+small-code : (c : ℕ) → c ≤ 11 → kindCode (kindFrom c) ≡ c
 unfolding kindFrom kindCode
 small-code zero h = refl
 small-code (suc zero) h = refl
@@ -50,12 +51,13 @@ small-code (suc (suc (suc (suc (suc (suc (suc zero))))))) h = refl
 small-code (suc (suc (suc (suc (suc (suc (suc (suc zero)))))))) h = refl
 small-code (suc (suc (suc (suc (suc (suc (suc (suc (suc zero))))))))) h = refl
 small-code (suc (suc (suc (suc (suc (suc (suc (suc (suc (suc zero)))))))))) h = refl
-small-code (suc (suc (suc (suc (suc (suc (suc (suc (suc (suc (suc c))))))))))) h = absurd (omega arith)
+small-code (suc (suc (suc (suc (suc (suc (suc (suc (suc (suc (suc zero))))))))))) h = refl
+small-code (suc (suc (suc (suc (suc (suc (suc (suc (suc (suc (suc (suc c)))))))))))) h = absurd (omega arith)
 
-other-code : (c : ℕ) → 10 < c → kindCode (kindFrom c) ≡ 0
+other-code : (c : ℕ) → 11 < c → kindCode (kindFrom c) ≡ 0
 unfolding kindFrom kindCode
 other-code c h =
-    let no : (k : ℕ) → k ≤ 10 → eqb c k ≡ false = λ k l. ne-eqb c k (λ e. absurd (omega arith)) in
+    let no : (k : ℕ) → k ≤ 11 → eqb c k ≡ false = λ k l. ne-eqb c k (λ e. absurd (omega arith)) in
     simp (
       no 1 (omega arith),
       no 2 (omega arith),
@@ -67,22 +69,20 @@ other-code c h =
       no 8 (omega arith),
       no 9 (omega arith),
       no 10 (omega arith),
+      no 11 (omega arith),
     )
 
 code-from : (c d : ℕ) → 1 ≤ d → d ≤ 10 → eqb c d ≡ eqb (kindCode (kindFrom c)) d
 code-from c d l h =
-    either (ltb 10 c)
-    (λ t. let u = ltb-true 10 c t in
+    either (ltb 11 c)
+    (λ t. let u = ltb-true 11 c t in
     ne-eqb c d (λ e. absurd (omega arith))
     ∙ sym (ap (λ (x : ℕ). eqb x d) (other-code c u) ∙ ne-eqb 0 d (λ e. absurd (omega arith))))
-    (λ t. sym (ap (λ (x : ℕ). eqb x d) (small-code c (ltb-false 10 c t))))
+    (λ t. sym (ap (λ (x : ℕ). eqb x d) (small-code c (ltb-false 11 c t))))
 
 pub row-code : (t : List ℕ) (i c : ℕ) → 1 ≤ c → c ≤ 10 → eqb (getD t (i * 20) 0) c ≡ eqb (kindCode (recordFrom t (i * 20) .kind)) c
 unfolding recordFrom
 row-code t i c l h = code-from (getD t (i * 20) 0) c l h
-
-pub code-kind : (k : Kind) (c : ℕ) → eqb (kindCode k) c ≡ true → k ≡ kindFrom c
-code-kind k c h = sym (kind-back k) ∙ ap kindFrom (eqb-true (kindCode k) c h)
 
 -- ---- what lies within
 pub place-inside : (n at a e : ℕ) (p : Place) → insideAt n at p ≡ true → p ≡ place.Present a e → (a ≤ e) × (at + e ≤ n)
@@ -101,10 +101,10 @@ row-inside-is n r h =
     (leb-true (r .start) (r .end) (a .0), leb-true (r .end) n (b .0), b .1)
 
 -- the fields of a row of the kind with that code
-pub fields-are : (n c : ℕ) (r : Record) → rowInside n r ≡ true → isCode c r ≡ true
+pub fields-are : (n c : ℕ) (r : Record) → IsRecord (kindFrom c) → rowInside n r ≡ true → isCode c r ≡ true
     → fieldsInside n (r .start) (kindFrom c) (r .slots) ≡ true
-fields-are n c r h k =
-    subst (λ (x : Kind). fieldsInside n (r .start) x (r .slots) ≡ true) (code-kind (r .kind) c k) (row-inside-is n r h .2)
+fields-are n c r o h k =
+    subst (λ (x : Kind). fieldsInside n (r .start) x (r .slots) ≡ true) (code-kind (r .kind) c o k) (row-inside-is n r h .2)
 
 -- the places that they have
 pub record MessageInside (n at : ℕ) (t : Slots) : Type 0 where
@@ -124,9 +124,9 @@ message-inside-is n at t h =
     record { from = a .0; «data» = b .0; seqno = c .0; signature = d .0; key = d .1 }
 
 pub message-row : (n : ℕ) (r x : Record) → r ≡ x → rowInside n x ≡ true → isCode 2 x ≡ true → MessageInside n (r .start) (r .slots)
-unfolding kindFrom
+unfolding ownOf kindFrom
 message-row n r x e h k =
-    subst (λ (y : Record). MessageInside n (y .start) (y .slots)) (sym e) (message-inside-is n (x .start) (x .slots) (fields-are n 2 x h k))
+    subst (λ (y : Record). MessageInside n (y .start) (y .slots)) (sym e) (message-inside-is n (x .start) (x .slots) (fields-are n 2 x refl h k))
 
 pub sub-opts-inside : (n at : ℕ) (t : Slots) → fieldsInside n at kind.SubOpts t ≡ true → insideAt n at (t .first) ≡ true
 unfolding fieldsInside
@@ -137,23 +137,23 @@ unfolding fieldsInside
 graft-inside n at t h = h
 
 pub prune-row : (n : ℕ) (r x : Record) → r ≡ x → rowInside n x ≡ true → isCode 9 x ≡ true → insideAt n (r .start) (r .slots .first) ≡ true
-unfolding kindFrom fieldsInside
-prune-row n r x e h k = subst (λ (y : Record). insideAt n (y .start) (y .slots .first) ≡ true) (sym e) (fields-are n 9 x h k)
+unfolding ownOf kindFrom fieldsInside
+prune-row n r x e h k = subst (λ (y : Record). insideAt n (y .start) (y .slots .first) ≡ true) (sym e) (fields-are n 9 x refl h k)
 
 pub sub-opts-row : (n : ℕ) (r x : Record) → r ≡ x → rowInside n x ≡ true → isCode 1 x ≡ true
     → fieldsInside n (r .start) kind.SubOpts (r .slots) ≡ true
-unfolding kindFrom
-sub-opts-row n r x e h k = subst (λ (y : Record). fieldsInside n (y .start) kind.SubOpts (y .slots) ≡ true) (sym e) (fields-are n 1 x h k)
+unfolding ownOf kindFrom
+sub-opts-row n r x e h k = subst (λ (y : Record). fieldsInside n (y .start) kind.SubOpts (y .slots) ≡ true) (sym e) (fields-are n 1 x refl h k)
 
 pub graft-row : (n : ℕ) (r x : Record) → r ≡ x → rowInside n x ≡ true → isCode 8 x ≡ true
     → fieldsInside n (r .start) kind.ControlGraft (r .slots) ≡ true
-unfolding kindFrom
-graft-row n r x e h k = subst (λ (y : Record). fieldsInside n (y .start) kind.ControlGraft (y .slots) ≡ true) (sym e) (fields-are n 8 x h k)
+unfolding ownOf kindFrom
+graft-row n r x e h k = subst (λ (y : Record). fieldsInside n (y .start) kind.ControlGraft (y .slots) ≡ true) (sym e) (fields-are n 8 x refl h k)
 
 pub peer-row : (n : ℕ) (r x : Record) → r ≡ x → rowInside n x ≡ true → isCode 10 x ≡ true
     → fieldsInside n (r .start) kind.PeerInfo (r .slots) ≡ true
-unfolding kindFrom
-peer-row n r x e h k = subst (λ (y : Record). fieldsInside n (y .start) kind.PeerInfo (y .slots) ≡ true) (sym e) (fields-are n 10 x h k)
+unfolding ownOf kindFrom
+peer-row n r x e h k = subst (λ (y : Record). fieldsInside n (y .start) kind.PeerInfo (y .slots) ≡ true) (sym e) (fields-are n 10 x refl h k)
 
 pub peer-inside : (n at : ℕ) (t : Slots) → fieldsInside n at kind.PeerInfo t ≡ true
     → (insideAt n at (t .first) ≡ true) × (insideAt n at (t .second) ≡ true)

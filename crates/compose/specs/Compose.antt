@@ -33,17 +33,18 @@ moved at place.Absent = place.Absent
 moved at (place.Present a e) = place.Present (at + a) (at + e)
 
 abbrev pub textIn : Kind → Record → Place
-textIn kind.Rpc r = place.Absent
+textIn (kind.Rpc d) r = place.Absent
 textIn kind.SubOpts r = moved (r .start) (r .slots .first)
 textIn kind.RawMessage r = place.Absent
 textIn kind.Topic r = place.Present (r .start) (r .end)
-textIn kind.ControlMessage r = place.Absent
+textIn (kind.ControlMessage d) r = place.Absent
 textIn kind.ControlIHave r = place.Absent
 textIn kind.ControlIWant r = place.Absent
 textIn kind.MessageId r = place.Absent
 textIn kind.ControlGraft r = moved (r .start) (r .slots .first)
 textIn kind.ControlPrune r = moved (r .start) (r .slots .first)
 textIn kind.PeerInfo r = place.Absent
+textIn kind.ControlIDontWant r = place.Absent
 
 unfoldable pub textOf : Record → Place
 textOf r = textIn (r .kind) r

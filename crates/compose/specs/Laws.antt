@@ -1,8 +1,8 @@
--- Laws of lent rows and of what they say, for the writers and for composed: a row and those after it; each list by its first row; the RPC by walks over rows of one kind; and rows that are lent well lie within the bytes.
+-- Laws of lent rows and of what they say, for the writers and for composed: a kind by its code; a row and those after it; each list by its first row; the RPC by walks over rows of one kind; and rows that are lent well lie within the bytes.
 use Prim.Native.Nat.{ℕ, zero, suc, _+_, _-_, _*_, _/_, _%_, _≤_, _<_}
 use mathlib.Core.Path.{_≡_, refl, sym, ap, ap₂, subst, _∙_}
 use mathlib.Core.Bool.{Bool, true, false, cond, _&&_, _||_}
-use mathlib.Core.List.{List, [], _∷_, _++_, map}
+use mathlib.Core.List.{List, [], _∷_, _++_, map, append-nil}
 use mathlib.Core.Option.{some}
 use native.Mathlib.Omega.{arith}
 use lib.ListN.{length}
@@ -12,16 +12,39 @@ use Rattle.basis.specs.Cases.{either, both}
 use Rattle.protobuf.specs.Encode.{bytesField}
 use Rattle.schema.specs.declared.Kind.{Kind}
 use Rattle.schema.specs.declared.Kind.the-variants as kind
+use Rattle.schema.specs.Schema.{ownOf}
 use Rattle.message.specs.declared.Record.{Record}
-use Rattle.message.specs.Rows.{kindCode, recordFrom}
+use Rattle.message.specs.Rows.{kindCode, kindFrom, recordFrom}
 use Rattle.meaning.specs.ReadBack.{rawOf, nothing, gatherKind, gather}
-use Rattle.meaning.specs.Table.{rowsIn}
+use Rattle.meaning.specs.Table.{IsRecord, kind-back, rowsIn}
 use Rattle.rpc.specs.Rpc.{SubOpts, RawMessage, ControlGraft, PeerInfo, ControlPrune, ControlMessage}
 use Rattle.rpc.specs.Encode.{optional, repeated, encodeSubOpts, encodeGraft, encodePrune, encodeControl, encodeRpc}
 use Rattle.compose.specs.Lent.{rowsFrom, lentRows, isCode, rowInside, heldBy, lentFrom, lentWell, Inside}
 use Rattle.compose.specs.Said.{encodeMessage, renewed, subscriptionsIn, messagesIn, graftsIn, prunesIn, topicsFrom, peersFrom}
 use Rattle.compose.specs.Said.{subOptsOf, graftOf, peerOf, pruneOf, messageOf, controlOf, said}
 use Rattle.compose.specs.Puts.{rowBytes, eachRow, hasRow, controlBytes}
+
+-- ---- a kind by its code
+-- a code tells whether its kind is a record, and of a record which it is
+own-code : (k : Kind) → ownOf (kindFrom (kindCode k)) ≡ ownOf k
+unfolding ownOf kindFrom kindCode
+own-code (kind.Rpc d) = refl
+own-code kind.SubOpts = refl
+own-code kind.RawMessage = refl
+own-code kind.Topic = refl
+own-code (kind.ControlMessage d) = refl
+own-code kind.ControlIHave = refl
+own-code kind.ControlIWant = refl
+own-code kind.MessageId = refl
+own-code kind.ControlGraft = refl
+own-code kind.ControlPrune = refl
+own-code kind.PeerInfo = refl
+own-code kind.ControlIDontWant = refl
+
+pub code-kind : (k : Kind) (c : ℕ) → IsRecord (kindFrom c) → eqb (kindCode k) c ≡ true → k ≡ kindFrom c
+code-kind k c o h =
+    let e : kindFrom (kindCode k) ≡ kindFrom c = ap kindFrom (eqb-true (kindCode k) c h) in
+    sym (kind-back k (sym (own-code k) ∙ ap ownOf e ∙ o)) ∙ e
 
 -- ---- a row and those after it
 rows-left : (t : List ℕ) (i n : ℕ) → i < n → rowsIn t i (n - i) ≡ recordFrom t (i * 20) ∷ rowsIn t (i + 1) (n - (i + 1))
@@ -51,17 +74,18 @@ module _ (b : List ℕ) (r : Record) (rs : List Record) where
     where
       by : (k : Kind) → gatherKind k b r (gather b rs nothing) .subscriptions
           ≡ cond (eqb (kindCode k) 1) (subOptsOf b r ∷ gather b rs nothing .subscriptions) (gather b rs nothing .subscriptions)
-      by kind.Rpc = refl
+      by (kind.Rpc d) = refl
       by kind.SubOpts = refl
       by kind.RawMessage = refl
       by kind.Topic = refl
-      by kind.ControlMessage = refl
+      by (kind.ControlMessage d) = refl
       by kind.ControlIHave = refl
       by kind.ControlIWant = refl
       by kind.MessageId = refl
       by kind.ControlGraft = refl
       by kind.ControlPrune = refl
       by kind.PeerInfo = refl
+      by kind.ControlIDontWant = refl
 
   pub messages-step : messagesIn b (r ∷ rs) ≡ cond (isCode 2 r) (messageOf b r rs ∷ messagesIn b rs) (messagesIn b rs)
   unfolding messagesIn topicsFrom kindCode
@@ -69,17 +93,18 @@ module _ (b : List ℕ) (r : Record) (rs : List Record) where
     where
       by : (k : Kind) → gatherKind k b r (gather b rs nothing) .publish
           ≡ cond (eqb (kindCode k) 2) (messageOf b r rs ∷ gather b rs nothing .publish) (gather b rs nothing .publish)
-      by kind.Rpc = refl
+      by (kind.Rpc d) = refl
       by kind.SubOpts = refl
       by kind.RawMessage = refl
       by kind.Topic = refl
-      by kind.ControlMessage = refl
+      by (kind.ControlMessage d) = refl
       by kind.ControlIHave = refl
       by kind.ControlIWant = refl
       by kind.MessageId = refl
       by kind.ControlGraft = refl
       by kind.ControlPrune = refl
       by kind.PeerInfo = refl
+      by kind.ControlIDontWant = refl
 
   pub grafts-step : graftsIn b (r ∷ rs) ≡ cond (isCode 8 r) (graftOf b r ∷ graftsIn b rs) (graftsIn b rs)
   unfolding graftsIn kindCode
@@ -87,17 +112,18 @@ module _ (b : List ℕ) (r : Record) (rs : List Record) where
     where
       by : (k : Kind) → gatherKind k b r (gather b rs nothing) .control .graft
           ≡ cond (eqb (kindCode k) 8) (graftOf b r ∷ gather b rs nothing .control .graft) (gather b rs nothing .control .graft)
-      by kind.Rpc = refl
+      by (kind.Rpc d) = refl
       by kind.SubOpts = refl
       by kind.RawMessage = refl
       by kind.Topic = refl
-      by kind.ControlMessage = refl
+      by (kind.ControlMessage d) = refl
       by kind.ControlIHave = refl
       by kind.ControlIWant = refl
       by kind.MessageId = refl
       by kind.ControlGraft = refl
       by kind.ControlPrune = refl
       by kind.PeerInfo = refl
+      by kind.ControlIDontWant = refl
 
   pub prunes-step : prunesIn b (r ∷ rs) ≡ cond (isCode 9 r) (pruneOf b r rs ∷ prunesIn b rs) (prunesIn b rs)
   unfolding prunesIn peersFrom kindCode
@@ -105,17 +131,18 @@ module _ (b : List ℕ) (r : Record) (rs : List Record) where
     where
       by : (k : Kind) → gatherKind k b r (gather b rs nothing) .control .prune
           ≡ cond (eqb (kindCode k) 9) (pruneOf b r rs ∷ gather b rs nothing .control .prune) (gather b rs nothing .control .prune)
-      by kind.Rpc = refl
+      by (kind.Rpc d) = refl
       by kind.SubOpts = refl
       by kind.RawMessage = refl
       by kind.Topic = refl
-      by kind.ControlMessage = refl
+      by (kind.ControlMessage d) = refl
       by kind.ControlIHave = refl
       by kind.ControlIWant = refl
       by kind.MessageId = refl
       by kind.ControlGraft = refl
       by kind.ControlPrune = refl
       by kind.PeerInfo = refl
+      by kind.ControlIDontWant = refl
 
   pub topics-step : topicsFrom b (r ∷ rs) ≡ cond (isCode 2 r) [] (cond (isCode 3 r) (rawOf b r ∷ topicsFrom b rs) (topicsFrom b rs))
   unfolding topicsFrom kindCode
@@ -123,17 +150,18 @@ module _ (b : List ℕ) (r : Record) (rs : List Record) where
     where
       by : (k : Kind) → gatherKind k b r (gather b rs nothing) .topics
           ≡ cond (eqb (kindCode k) 2) [] (cond (eqb (kindCode k) 3) (rawOf b r ∷ gather b rs nothing .topics) (gather b rs nothing .topics))
-      by kind.Rpc = refl
+      by (kind.Rpc d) = refl
       by kind.SubOpts = refl
       by kind.RawMessage = refl
       by kind.Topic = refl
-      by kind.ControlMessage = refl
+      by (kind.ControlMessage d) = refl
       by kind.ControlIHave = refl
       by kind.ControlIWant = refl
       by kind.MessageId = refl
       by kind.ControlGraft = refl
       by kind.ControlPrune = refl
       by kind.PeerInfo = refl
+      by kind.ControlIDontWant = refl
 
   pub peers-step : peersFrom b (r ∷ rs) ≡ cond (isCode 9 r) [] (cond (isCode 10 r) (peerOf b r ∷ peersFrom b rs) (peersFrom b rs))
   unfolding peersFrom kindCode
@@ -141,17 +169,18 @@ module _ (b : List ℕ) (r : Record) (rs : List Record) where
     where
       by : (k : Kind) → gatherKind k b r (gather b rs nothing) .peers
           ≡ cond (eqb (kindCode k) 9) [] (cond (eqb (kindCode k) 10) (peerOf b r ∷ gather b rs nothing .peers) (gather b rs nothing .peers))
-      by kind.Rpc = refl
+      by (kind.Rpc d) = refl
       by kind.SubOpts = refl
       by kind.RawMessage = refl
       by kind.Topic = refl
-      by kind.ControlMessage = refl
+      by (kind.ControlMessage d) = refl
       by kind.ControlIHave = refl
       by kind.ControlIWant = refl
       by kind.MessageId = refl
       by kind.ControlGraft = refl
       by kind.ControlPrune = refl
       by kind.PeerInfo = refl
+      by kind.ControlIDontWant = refl
 
 -- no rows say nothing
 pub no-subscriptions : (b : List ℕ) → subscriptionsIn b [] ≡ []
@@ -254,8 +283,10 @@ control-bytes : (gs : List ControlGraft) (ps : List ControlPrune)
     ≡ cond (isSome gs || isSome ps) (bytesField 3 (repeated (λ g. bytesField 3 (encodeGraft g)) gs ++ repeated (λ p. bytesField 4 (encodePrune p)) ps)) []
 unfolding encodeControl
 control-bytes [] [] = refl
-control-bytes [] (p ∷ ps) = refl
-control-bytes (g ∷ gs) ps = refl
+control-bytes [] (p ∷ ps) = ap (bytesField 3) (append-nil (repeated (λ p. bytesField 4 (encodePrune p)) (p ∷ ps)))
+control-bytes (g ∷ gs) ps =
+    ap (λ (l : List ℕ). bytesField 3 (repeated (λ g. bytesField 3 (encodeGraft g)) (g ∷ gs) ++ l))
+    (append-nil (repeated (λ p. bytesField 4 (encodePrune p)) ps))
 
 pub control-rows : (b : List ℕ) (rs : List Record)
     → optional (λ c. bytesField 3 (encodeControl c)) (controlOf (graftsIn b rs) (prunesIn b rs)) ≡ controlBytes b rs

@@ -34,20 +34,21 @@ insideAt n at (place.Present a e) = leb a e && leb (at + e) n
 
 -- the fields that a kind has; others are not looked at
 unfoldable pub fieldsInside : ℕ → ℕ → Kind → Slots → Bool
-fieldsInside n at kind.Rpc t = true
+fieldsInside n at (kind.Rpc d) t = true
 fieldsInside n at kind.SubOpts t = insideAt n at (t .first)
 fieldsInside n at kind.RawMessage t =
     insideAt n at (t .first)
     && (insideAt n at (t .second)
     && (insideAt n at (t .third) && (insideAt n at (t .fourth) && insideAt n at (t .fifth))))
 fieldsInside n at kind.Topic t = true
-fieldsInside n at kind.ControlMessage t = true
+fieldsInside n at (kind.ControlMessage d) t = true
 fieldsInside n at kind.ControlIHave t = true
 fieldsInside n at kind.ControlIWant t = true
 fieldsInside n at kind.MessageId t = true
 fieldsInside n at kind.ControlGraft t = insideAt n at (t .first)
 fieldsInside n at kind.ControlPrune t = insideAt n at (t .first)
 fieldsInside n at kind.PeerInfo t = insideAt n at (t .first) && insideAt n at (t .second)
+fieldsInside n at kind.ControlIDontWant t = true
 
 -- a row: its own start and end, and its fields
 unfoldable pub rowInside : ℕ → Record → Bool
@@ -56,17 +57,18 @@ rowInside n r = leb (r .start) (r .end) && (leb (r .end) n && fieldsInside n (r 
 -- ---- each row's kind is one of six, and a topic comes after a message, a peer after a prune: m says that a message came
 -- before it, p that a prune did
 unfoldable pub heldBy : Bool → Bool → Kind → Bool
-heldBy m p kind.Rpc = false
+heldBy m p (kind.Rpc d) = false
 heldBy m p kind.SubOpts = true
 heldBy m p kind.RawMessage = true
 heldBy m p kind.Topic = m
-heldBy m p kind.ControlMessage = false
+heldBy m p (kind.ControlMessage d) = false
 heldBy m p kind.ControlIHave = false
 heldBy m p kind.ControlIWant = false
 heldBy m p kind.MessageId = false
 heldBy m p kind.ControlGraft = true
 heldBy m p kind.ControlPrune = true
 heldBy m p kind.PeerInfo = p
+heldBy m p kind.ControlIDontWant = false
 
 abbrev pub lentFrom : ℕ → Bool → Bool → List Record → Bool
 lentFrom n m p [] = true

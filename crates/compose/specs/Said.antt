@@ -96,8 +96,8 @@ messageOf b r rs =
 -- ---- the RPC
 abbrev pub controlOf : List ControlGraft → List ControlPrune → Option ControlMessage
 controlOf [] [] = none
-controlOf [] (p ∷ ps) = some (record { ihave = []; iwant = []; graft = []; prune = p ∷ ps })
-controlOf (g ∷ gs) ps = some (record { ihave = []; iwant = []; graft = g ∷ gs; prune = ps })
+controlOf [] (p ∷ ps) = some (record { ihave = []; iwant = []; graft = []; prune = p ∷ ps; idontwant = [] })
+controlOf (g ∷ gs) ps = some (record { ihave = []; iwant = []; graft = g ∷ gs; prune = ps; idontwant = [] })
 
 unfoldable pub said : List ℕ → List Record → Rpc
 said b rs =

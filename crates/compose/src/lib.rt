@@ -114,7 +114,7 @@ fn row_at(records: &[u64], i: usize) -> Record
     match found {
         RecordAt::Record(r) => r,
         RecordAt::Nothing => Record {
-            kind: Kind::Rpc,
+            kind: Kind::Topic,
             start: 0,
             end: 0,
             slots: Slots {
@@ -188,11 +188,11 @@ fn fields_inside(len: usize, at: usize, kind: Kind, slots: Slots) -> bool
     let first = slots.first;
     let second = slots.second;
     match kind {
-        Kind::Rpc => true,
+        Kind::Rpc(_) => true,
         Kind::SubOpts => inside(len, at, first),
         Kind::RawMessage => message_inside(len, at, slots),
         Kind::Topic => true,
-        Kind::ControlMessage => true,
+        Kind::ControlMessage(_) => true,
         Kind::ControlIHave => true,
         Kind::ControlIWant => true,
         Kind::MessageId => true,
@@ -204,6 +204,7 @@ fn fields_inside(len: usize, at: usize, kind: Kind, slots: Slots) -> bool
             }
             false
         }
+        Kind::ControlIDontWant => true,
     }
 }
 
@@ -227,17 +228,18 @@ fn held_by(message: bool, prune: bool, kind: Kind) -> bool
     ensures { λ r. ⌜ r ≡ heldBy message prune kind ⌝ }
 {
     match kind {
-        Kind::Rpc => false,
+        Kind::Rpc(_) => false,
         Kind::SubOpts => true,
         Kind::RawMessage => true,
         Kind::Topic => message,
-        Kind::ControlMessage => false,
+        Kind::ControlMessage(_) => false,
         Kind::ControlIHave => false,
         Kind::ControlIWant => false,
         Kind::MessageId => false,
         Kind::ControlGraft => true,
         Kind::ControlPrune => true,
         Kind::PeerInfo => prune,
+        Kind::ControlIDontWant => false,
     }
 }
 
@@ -305,17 +307,18 @@ fn text_fine(bytes: &[u8], r: Record) -> Lists
     let slots = r.slots;
     let first = slots.first;
     match kind {
-        Kind::Rpc => Lists::Fine,
+        Kind::Rpc(_) => Lists::Fine,
         Kind::SubOpts => text_at(bytes, r.start, first),
         Kind::RawMessage => Lists::Fine,
         Kind::Topic => utf8_at(bytes, r.start, r.end),
-        Kind::ControlMessage => Lists::Fine,
+        Kind::ControlMessage(_) => Lists::Fine,
         Kind::ControlIHave => Lists::Fine,
         Kind::ControlIWant => Lists::Fine,
         Kind::MessageId => Lists::Fine,
         Kind::ControlGraft => text_at(bytes, r.start, first),
         Kind::ControlPrune => text_at(bytes, r.start, first),
         Kind::PeerInfo => Lists::Fine,
+        Kind::ControlIDontWant => Lists::Fine,
     }
 }
 

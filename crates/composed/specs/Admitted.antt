@@ -10,6 +10,7 @@ use mathlib.Core.Logic.{_↔_}
 use native.Mathlib.Omega.{arith}
 use lib.ListN.{length}
 use lib.Dec.{ltb, eqb}
+use Rattle.basis.specs.declared.Dialect.{Dialect}
 use Rattle.basis.specs.Bytes.{Bytes}
 use Rattle.basis.specs.Cases.{either, clash}
 use Rattle.basis.specs.Refusals.{missing-from, invalid-from, not-peer-id, invalid-seqno, key-without-signature}
@@ -335,7 +336,8 @@ each-means : {ds : List (List ℕ)} {ms : List RawMessage} → Pairs IsMessage d
 each-means no-pairs = none-left
 each-means (i paired r) = own-raw i and each-means r
 
-publish-means : {w : List ℕ} {x : Rpc} → IsRpc w x → Each (λ (m : RawMessage). IsMessage (m .raw) m) (x .publish)
+publish-means : {d : Dialect} {w : List ℕ} {x : Rpc} → IsRpc d w x
+    → Each (λ (m : RawMessage). IsMessage (m .raw) m) (x .publish)
 publish-means (is-rpc g a b c) = each-means b
 
 each-taken : (flags : ℕ) (ms : List RawMessage) → firstUnfit flags ms ≡ Fine
@@ -345,7 +347,8 @@ each-taken flags (m ∷ ms) h (i and r) =
     let a = both-fine (weighed flags m) (firstUnfit flags ms) h in weighed-taken flags m i (a .0) and each-taken flags ms (a .1) r
 
 -- each message of the RPC that lists say is taken, where they are written
-pub written-admitted : (flags : ℕ) (t b w : List ℕ) → writeTested flags t b ≡ Fine → Within w (said b (lentRows t))
+pub written-admitted : {d : Dialect} (flags : ℕ) (t b w : List ℕ) → writeTested flags t b ≡ Fine
+    → Within d w (said b (lentRows t))
     → Each (λ (m : RawMessage). Taken flags (m .raw)) (said b (lentRows t) .publish)
 unfolding said
 written-admitted flags t b w h i =

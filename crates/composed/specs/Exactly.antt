@@ -24,9 +24,10 @@ use Rattle.schema.specs.declared.Kind.the-variants as kind
 use Rattle.schema.specs.declared.Place.{Place}
 use Rattle.schema.specs.declared.Place.the-variants as place
 use Rattle.schema.specs.declared.Slots.{Slots}
+use Rattle.schema.specs.Schema.{ownOf}
 use Rattle.message.specs.declared.Record.{Record}
 use Rattle.message.specs.Rows.{kindCode, kindFrom}
-use Rattle.meaning.specs.Table.{kind-back}
+use Rattle.meaning.specs.Table.{IsRecord, kind-back}
 use Rattle.rpc.specs.Rpc.{RawMessage}
 use Rattle.rpc.specs.Grammar.{Each, none-left, _and_}
 use Rattle.rpc.specs.Encode.{encodeRpc, signBytes}
@@ -44,6 +45,7 @@ use Rattle.compose.specs.Compose.{moved, textIn, textOf, textFine, textsFine, c
 use Rattle.compose.specs.Compose.{lengthFine, flagsFine, writeTested, writeAnswer, writeLeft, signAt, signedAt, signAnswer, signLeft}
 use Rattle.compose.specs.Told.{wrongTold, composedTold}
 use Rattle.compose.specs.Puts.{capped-small}
+use Rattle.compose.specs.Laws.{code-kind}
 use Rattle.composed.specs.Signed.{nth-drop}
 
 -- ---- 42: which lists are lent well
@@ -176,8 +178,10 @@ all-true : {a b : Bool} → a ≡ true → b ≡ true → a && b ≡ true
 all-true {a} {b} h k = rw (h, k)
 
 -- a kind by its code
-by-code : (k j : Kind) (c : ℕ) → kindCode j ≡ c → eqb (kindCode k) c ≡ true → k ≡ j
-by-code k j c e h = sym (kind-back k) ∙ ap kindFrom (eqb-true (kindCode k) c h ∙ sym e) ∙ kind-back j
+by-code : (k j : Kind) (c : ℕ) → IsRecord j → kindCode j ≡ c → eqb (kindCode k) c ≡ true → k ≡ j
+by-code k j c o e h =
+    let f : kindFrom c ≡ j = ap kindFrom (sym e) ∙ kind-back j o in
+    code-kind k c (ap ownOf f ∙ o) h ∙ f
 
 has-code : (k j : Kind) (c : ℕ) → kindCode j ≡ c → k ≡ j → eqb (kindCode k) c ≡ true
 has-code k j c e h = eq-eqb (kindCode k) c (ap kindCode h ∙ e)
@@ -190,11 +194,19 @@ code-prune : kindCode kind.ControlPrune ≡ 9
 unfolding kindCode
 code-prune = refl
 
+own-message : IsRecord kind.RawMessage
+unfolding ownOf
+own-message = refl
+
+own-prune : IsRecord kind.ControlPrune
+unfolding ownOf
+own-prune = refl
+
 -- a test that says whether such a row came before, one row further
-stands-on : (k : Kind) (c : ℕ) (e : kindCode k ≡ c) (t : Bool) (before : List Record) (r : Record)
+stands-on : (k : Kind) (c : ℕ) (o : IsRecord k) (e : kindCode k ≡ c) (t : Bool) (before : List Record) (r : Record)
     → (t ≡ true → Stands k before) → t || isCode c r ≡ true → Stands k (r ∷ before)
-stands-on k c e true before r f h = later (f refl)
-stands-on k c e false before r f h = first (by-code (r .kind) k c e h)
+stands-on k c o e true before r f h = later (f refl)
+stands-on k c o e false before r f h = first (by-code (r .kind) k c o e h)
 
 stood-on : (k : Kind) (c : ℕ) (e : kindCode k ≡ c) (t : Bool) (before : List Record) (r : Record)
     → (Stands k before → t ≡ true) → Stands k (r ∷ before) → t || isCode c r ≡ true
@@ -206,7 +218,7 @@ module _ (n at : ℕ) (before : List Record) (m p : Bool) (t : Slots) where
   kind-lent : (m ≡ true → Stands kind.RawMessage before) → (p ≡ true → Stands kind.ControlPrune before) → (k : Kind)
       → heldBy m p k ≡ true → fieldsInside n at k t ≡ true → KindLent n at before t k
   unfolding heldBy fieldsInside
-  kind-lent f g kind.Rpc h i = clash (cc)
+  kind-lent f g (kind.Rpc d) h i = clash (cc)
   kind-lent f g kind.SubOpts h i = sub-opts (place-lent n at (t .first) i)
   kind-lent f g kind.RawMessage h i =
       let p₁ = insideAt n at (t .first) in
@@ -221,7 +233,7 @@ module _ (n at : ℕ) (before : List Record) (m p : Bool) (t : Slots) where
       message (place-lent n at (t .first) (a .0)) (place-lent n at (t .second) (b .0)) (place-lent n at (t .third) (c .0))
       (place-lent n at (t .fourth) (d .0)) (place-lent n at (t .fifth) (d .1))
   kind-lent f g kind.Topic h i = topic (f h)
-  kind-lent f g kind.ControlMessage h i = clash (cc)
+  kind-lent f g (kind.ControlMessage d) h i = clash (cc)
   kind-lent f g kind.ControlIHave h i = clash (cc)
   kind-lent f g kind.ControlIWant h i = clash (cc)
   kind-lent f g kind.MessageId h i = clash (cc)
@@ -230,6 +242,7 @@ module _ (n at : ℕ) (before : List Record) (m p : Bool) (t : Slots) where
   kind-lent f g kind.PeerInfo h i =
       let a = both (insideAt n at (t .first)) (insideAt n at (t .second)) i in
       peer-info (g h) (place-lent n at (t .first) (a .0)) (place-lent n at (t .second) (a .1))
+  kind-lent f g kind.ControlIDontWant h i = clash (cc)
 
   kind-held : (Stands kind.RawMessage before → m ≡ true) → (Stands kind.ControlPrune before → p ≡ true) → {k : Kind}
       → KindLent n at before t k → (heldBy m p k ≡ true) × (fieldsInside n at k t ≡ true)
@@ -263,7 +276,8 @@ rows-lent n m p before (r ∷ rs) f g h =
       fields = kind-lent n (r .start) before m p (r .slots) f g (r .kind) (a .0) (d .1);
     })
     (rows-lent n (m || isCode 2 r) (p || isCode 9 r) (r ∷ before) rs
-    (stands-on kind.RawMessage 2 code-message m before r f) (stands-on kind.ControlPrune 9 code-prune p before r g) (b .1))
+    (stands-on kind.RawMessage 2 own-message code-message m before r f)
+    (stands-on kind.ControlPrune 9 own-prune code-prune p before r g) (b .1))
 
 rows-well : {n : ℕ} {before rs : List Record} (m p : Bool) → (Stands kind.RawMessage before → m ≡ true)
     → (Stands kind.ControlPrune before → p ≡ true) → RowsLent n before rs → lentFrom n m p rs ≡ true
@@ -303,20 +317,21 @@ moved-at r k a e h t (place.Present x y) f g =
     subst (λ (z : ℕ). TopicAt r z e) p (subst (λ (z : ℕ). TopicAt r (r .start + x) z) q (field h t f))
 
 topic-there : (r : Record) (k : Kind) (a e : ℕ) → r .kind ≡ k → textIn k r ≡ place.Present a e → TopicAt r a e
-topic-there r kind.Rpc a e h g = clash (cc)
+topic-there r (kind.Rpc d) a e h g = clash (cc)
 topic-there r kind.SubOpts a e h g = moved-at r kind.SubOpts a e h sub-opts (r .slots .first) refl g
 topic-there r kind.RawMessage a e h g = clash (cc)
 topic-there r kind.Topic a e h g =
     let p : r .start ≡ a = cc in
     let q : r .end ≡ e = cc in
     subst (λ (z : ℕ). TopicAt r z e) p (subst (λ (z : ℕ). TopicAt r (r .start) z) q (own h))
-topic-there r kind.ControlMessage a e h g = clash (cc)
+topic-there r (kind.ControlMessage d) a e h g = clash (cc)
 topic-there r kind.ControlIHave a e h g = clash (cc)
 topic-there r kind.ControlIWant a e h g = clash (cc)
 topic-there r kind.MessageId a e h g = clash (cc)
 topic-there r kind.ControlGraft a e h g = moved-at r kind.ControlGraft a e h graft (r .slots .first) refl g
 topic-there r kind.ControlPrune a e h g = moved-at r kind.ControlPrune a e h prune (r .slots .first) refl g
 topic-there r kind.PeerInfo a e h g = clash (cc)
+topic-there r kind.ControlIDontWant a e h g = clash (cc)
 
 topic-moved : (r : Record) {k : Kind} → HasTopic k → textIn k r ≡ moved (r .start) (r .slots .first)
 topic-moved r sub-opts = refl

@@ -1,4 +1,6 @@
--- What decode leaves of a body without IHAVE and IWANT can be lent as it is, and says the same RPC with each message made anew; so every RPC that lists can say can be lent, and what was written, lent again, is written again.
+-- What decode leaves in any dialect of a body without IHAVE, IWANT and IDONTWANT can be lent as it is, and says the
+-- same RPC with each message made anew; so every RPC that lists can say can be lent, and what was written, lent again,
+-- is written again.
 use Prim.Native.Nat.{ℕ, _+_, _-_, _*_, _/_, _%_, _≤_, _<_}
 use mathlib.Core.Path.{_≡_, refl, sym, ap, ap₂, subst, _∙_}
 use mathlib.Core.Bool.{true, false}
@@ -9,6 +11,7 @@ use lib.ListN.{length, take, drop, drop-of-length-le}
 use lib.Seq.{sets, sets-eq, take-at}
 use lib.Dec.{eqb}
 use borrow.Author.Tests.{eq-eqb, eqb-true, le-leb, le-ltb}
+use Rattle.basis.specs.declared.Dialect.{Dialect}
 use Rattle.basis.specs.Cases.{both}
 use Rattle.basis.specs.Bytes.{Bytes}
 use Rattle.basis.specs.Told.{done}
@@ -16,16 +19,17 @@ use Rattle.basis.specs.Writing.{written}
 use Rattle.schema.specs.declared.Kind.the-variants as kind
 use Rattle.schema.specs.declared.Tested.{Tested}
 use Rattle.message.specs.declared.Record.{Record}
-use Rattle.message.specs.Rows.{rowsOf, wordsOfAll}
+use Rattle.message.specs.Rows.{rowsOf, wordsOfAll, firstDialect}
 use Rattle.message.specs.RowsLaws.{all-length}
 use Rattle.message.specs.Decode.{hasControl, onCount, decodeAnswer, leaves, decodeTable}
 use Rattle.message.specs.Told.{decodedTold}
-use Rattle.rpc.specs.Rpc.{SubOpts, RawMessage, ControlGraft, ControlPrune, ControlMessage, Rpc}
+use Rattle.rpc.specs.Rpc.{SubOpts, RawMessage, ControlIHave, ControlIWant, ControlGraft, ControlPrune}
+use Rattle.rpc.specs.Rpc.{ControlIDontWant, ControlMessage, Rpc}
 use Rattle.rpc.specs.Grammar.{Each, none-left, _and_, joined, IsRpc, is-rpc}
 use Rattle.rpc.specs.Encode.{encodeRpc}
 use Rattle.meaning.specs.ReadBack.{Gathered, nothing, gather}
 use Rattle.meaning.specs.Back.{state, flat, joined-some, rpc-gathered, one-rpc}
-use Rattle.meaning.specs.Table.{rowsIn, table-back}
+use Rattle.meaning.specs.Table.{AllRecords, all-records, rowsIn, table-back}
 use Rattle.meaning.specs.Size.{recordsIn, rpc-records}
 use Rattle.meaning.specs.Decoded.{Within, accepted-exactly, records-within}
 use Rattle.canonical.specs.Means.{opt}
@@ -46,24 +50,24 @@ use Rattle.composed.specs.LendingTexts.{waits-lent, texts-fine, meant-te
 use Rattle.composed.specs.LendingWords.{body-words}
 
 -- ---- a table of records, read as it is lent
-pub words-lent : (rs : List Record) → lentRows (wordsOfAll rs) ≡ rs
-words-lent rs =
+pub words-lent : (rs : List Record) → AllRecords rs → lentRows (wordsOfAll rs) ≡ rs
+words-lent rs own =
     let ws = wordsOfAll rs in
     let l = all-length rs in
     let n : length ws / 20 - 0 ≡ length rs = omega arith in
     let z : drop (0 + length ws) ws ≡ [] = drop-of-length-le ws {i = 0 + length ws} (omega arith) in
     let e : sets ws 0 ws ≡ ws = sets-eq ws ws 0 (omega arith) ∙ ap (λ (x : List ℕ). ws ++ x) z ∙ append-nil ws in
-    ap (rowsIn ws 0) n ∙ ap (λ (t : List ℕ). rowsIn t 0 (length rs)) (sym e) ∙ table-back ws rs (omega arith)
+    ap (rowsIn ws 0) n ∙ ap (λ (t : List ℕ). rowsIn t 0 (length rs)) (sym e) ∙ table-back ws rs own (omega arith)
 
 words-whole : (rs : List Record) → eqb (length (wordsOfAll rs) % 20) 0 ≡ true
 words-whole rs = let l = all-length rs in eq-eqb (length (wordsOfAll rs) % 20) 0 (omega arith)
 
 -- ---- what a body that is meant says, lent again
 quiet-flat : (cs : List ControlMessage) → Each Quiet (opt (joined cs)) → Quiet (flat cs)
-quiet-flat [] q = record { ihave = refl; iwant = refl }
+quiet-flat [] q = record { ihave = refl; iwant = refl; idontwant = refl }
 quiet-flat (c ∷ cs) q = one (subst (λ (o : Option ControlMessage). Each Quiet (opt o)) (joined-some c cs) q)
   where
-    one : {d : ControlMessage} → Each Quiet (d ∷ []) → Quiet d
+    one : {c : ControlMessage} → Each Quiet (c ∷ []) → Quiet c
     one (p and none-left) = p
 
 control-flat : (cs : List ControlMessage) → controlOf (flat cs .graft) (flat cs .prune) ≡ controlAnew (joined cs)
@@ -82,20 +86,28 @@ said-gathered b rs ss ms cs e =
     }) e
     ∙ ap (λ (o : Option ControlMessage). record { subscriptions = ss; publish = map renewed ms; control = o }) (control-flat cs)
 
-meant-lends : {s : List ℕ} {x : Rpc} → IsRpc s x → recordsIn x ≤ 512 → Each Quiet (opt (x .control))
-    → Lends (wordsOfAll (rowsOf kind.Rpc 0 s)) s (anew x)
+meant-lends : {d : Dialect} {s : List ℕ} {x : Rpc} → IsRpc d s x → recordsIn x ≤ 512 → Each Quiet (opt (x .control))
+    → Lends (wordsOfAll (rowsOf (kind.Rpc d) 0 s)) s (anew x)
 unfolding lentWell
-meant-lends (is-rpc {s = s} {es = es} {ss = ss} {ms = ms} {cs = cs} g h1 h2 h3) few q =
-    let rs = rowsOf kind.Rpc 0 s in
-    let e = rpc-gathered s es ss ms cs g h1 h2 h3 in
-    let n = rpc-records (is-rpc g h1 h2 h3) in
+meant-lends {d} (is-rpc {s = s} {es = es} {ss = ss} {ms = ms} {cs = cs} g h1 h2 h3) few q =
+    let rs = rowsOf (kind.Rpc d) 0 s in
+    let own = all-records (kind.Rpc d) 0 s in
+    let e = rpc-gathered d s es ss ms cs g h1 h2 h3 in
+    let n = rpc-records {d = d} (is-rpc g h1 h2 h3) in
     let c = quiet-flat cs q in
     let w : Waits false false (gather s rs nothing) =
     subst (Waits false false) (sym e)
-    (record { topics = λ i. refl; peers = λ i. refl; ids = refl; ihave = c .ihave; iwant = c .iwant }) in
-    let l = waits-lent s (length s) false false rs (rows-inside kind.Rpc 0 (length s) s (omega arith)) w in
-    let u = texts-fine s rs (subst Texts (sym e) (meant-texts h1 h2 h3)) in
-    let k = words-lent rs in
+    (record {
+      topics = λ i. refl;
+      peers = λ i. refl;
+      ids = refl;
+      ihave = c .ihave;
+      iwant = c .iwant;
+      idontwant = c .idontwant;
+    }) in
+    let l = waits-lent s (length s) false false rs own (rows-inside (kind.Rpc d) 0 (length s) s (omega arith)) w in
+    let u = texts-fine s rs (subst Texts (sym e) (meant-texts d h1 h2 h3)) in
+    let k = words-lent rs own in
     let m = all-length rs in
     record {
       fine = of-taken (wordsOfAll rs) s
@@ -108,37 +120,40 @@ meant-lends (is-rpc {s = s} {es = es} {ss = ss} {ms = ms} {cs = cs} g h1 h2 h3) 
       says = ap (said s) k ∙ said-gathered s rs ss ms cs e;
     }
 
--- the words that decode writes for a body within capacity without IHAVE and IWANT, over the body, are lent well, and
--- say its RPC, each message made anew
-pub lend-decoded : {s : List ℕ} {x : Rpc} → Within s x → Each Quiet (opt (x .control))
-    → Lends (wordsOfAll (rowsOf kind.Rpc 0 s)) s (anew x)
+-- the words that decode writes in a dialect for a body within capacity without IHAVE, IWANT and IDONTWANT, over the
+-- body, are lent well, and say its RPC, each message made anew
+pub lend-decoded : {d : Dialect} {s : List ℕ} {x : Rpc} → Within d s x → Each Quiet (opt (x .control))
+    → Lends (wordsOfAll (rowsOf (kind.Rpc d) 0 s)) s (anew x)
 lend-decoded w q = meant-lends (w .means) (w .few) q
 
 -- and those words are what stands at the front of a table with room for them
-pub decoded-words : {s : List ℕ} {x : Rpc} (table : List ℕ) → Within s x → recordsIn x ≤ length table / 20
-    → take (recordsIn x * 20) (decodeTable s table) ≡ wordsOfAll (rowsOf kind.Rpc 0 s)
+pub decoded-words : {d : Dialect} {s : List ℕ} {x : Rpc} (table : List ℕ) → Within d s x
+    → recordsIn x ≤ length table / 20
+    → take (recordsIn x * 20) (decodeTable d s table) ≡ wordsOfAll (rowsOf (kind.Rpc d) 0 s)
 unfolding decodeTable decodeAnswer
-decoded-words {s} {x} table w r =
+decoded-words {d} {s} {x} table w r =
     let n = recordsIn x in
-    let ws = wordsOfAll (rowsOf kind.Rpc 0 s) in
-    let l : length ws ≡ n * 20 = all-length (rowsOf kind.Rpc 0 s) ∙ omega (arith, rpc-records (w .means)) in
-    ap (λ (c : Tested). take (n * 20) (leaves s table (onCount (length table / 20) (hasControl s) c))) (records-within w)
+    let ws = wordsOfAll (rowsOf (kind.Rpc d) 0 s) in
+    let l : length ws ≡ n * 20 = all-length (rowsOf (kind.Rpc d) 0 s) ∙ omega (arith, rpc-records (w .means)) in
+    ap (λ (c : Tested). take (n * 20) (leaves d s table (onCount (length table / 20) (hasControl s) c)))
+    (records-within w)
     ∙ simp (le-ltb (length table / 20) n r)
     (ap (take (n * 20)) (sets-eq ws table 0 (omega arith)) ∙ take-at ws (drop (0 + length ws) table) (n * 20) l)
 
--- so what decode leaves of a body without IHAVE and IWANT can be lent as it is
-pub decoded-lends : (s table : List ℕ) (n c : ℕ) (x : Rpc) → Bytes s → decodedTold (decodeAnswer s (length table)) ≡ done (n ∷ c ∷ [])
-    → IsRpc s x → Each Quiet (opt (x .control))
-    → Lends (take (n * 20) (decodeTable s table)) s (anew x) × Words (take (n * 20) (decodeTable s table))
-decoded-lends s table n c x b e i q =
-    let a = accepted-exactly s (length table) n c b .0 e in
+-- so what decode leaves of a body without IHAVE, IWANT and IDONTWANT can be lent as it is
+pub decoded-lends : (d : Dialect) (s table : List ℕ) (n c : ℕ) (x : Rpc) → Bytes s
+    → decodedTold (decodeAnswer d s (length table)) ≡ done (n ∷ c ∷ []) → IsRpc d s x → Each Quiet (opt (x .control))
+    → Lends (take (n * 20) (decodeTable d s table)) s (anew x) × Words (take (n * 20) (decodeTable d s table))
+decoded-lends d s table n c x b e i q =
+    let a = accepted-exactly d s (length table) n c b .0 e in
     let r = one-rpc (a .within .means) i in
-    let w : Within s x = subst (Within s) r (a .within) in
+    let w : Within d s x = subst (Within d s) r (a .within) in
     let k : n ≡ recordsIn x = a .count ∙ ap recordsIn r in
-    let t : take (n * 20) (decodeTable s table) ≡ wordsOfAll (rowsOf kind.Rpc 0 s) =
-    ap (λ (j : ℕ). take (j * 20) (decodeTable s table)) k ∙ decoded-words table w (omega (arith, a .room, a .count)) in (
+    let t : take (n * 20) (decodeTable d s table) ≡ wordsOfAll (rowsOf (kind.Rpc d) 0 s) =
+    ap (λ (j : ℕ). take (j * 20) (decodeTable d s table)) k
+    ∙ decoded-words table w (omega (arith, a .room, a .count)) in (
       subst (λ (u : List ℕ). Lends u s (anew x)) (sym t) (lend-decoded w q),
-      subst Words (sym t) (body-words s b (omega (arith, w .small))),
+      subst Words (sym t) (body-words d s b (omega (arith, w .small))),
     )
 
 -- ---- every RPC that lists can say
@@ -159,7 +174,7 @@ publish-same none-left = refl
 publish-same (e and es) = ap₂ (λ (m : RawMessage) (ms : List RawMessage). m ∷ ms) (renewed-same e) (publish-same es)
 
 control-same : (gs : List ControlGraft) (ps : List ControlPrune) → 0 < length gs + length ps
-    → controlOf gs ps ≡ some (record { ihave = []; iwant = []; graft = gs; prune = ps })
+    → controlOf gs ps ≡ some (record { ihave = []; iwant = []; graft = gs; prune = ps; idontwant = [] })
 control-same [] [] h = absurd (omega arith)
 control-same [] (p ∷ ps) h = refl
 control-same (g ∷ gs) ps h = refl
@@ -168,7 +183,12 @@ spoken-same : (o : Option ControlMessage) → Each Spoken (opt o) → controlAne
 spoken-same none q = refl
 spoken-same (some c) (q and none-left) =
     control-same (c .graft) (c .prune) (q .there)
-    ∙ ap₂ (λ h w. some (record { ihave = h; iwant = w; graft = c .graft; prune = c .prune })) (sym (q .quiet .ihave)) (sym (q .quiet .iwant))
+    ∙ ap₂ (λ (h : List ControlIHave) (w : List ControlIWant).
+    some (record { ihave = h; iwant = w; graft = c .graft; prune = c .prune; idontwant = [] })) (sym (q .quiet .ihave))
+    (sym (q .quiet .iwant))
+    ∙ ap (λ (n : List ControlIDontWant).
+    some (record { ihave = c .ihave; iwant = c .iwant; graft = c .graft; prune = c .prune; idontwant = n }))
+    (sym (q .quiet .idontwant))
 
 pub anew-same : (x : Rpc) → Sayable x → anew x ≡ x
 anew-same x q =
@@ -180,24 +200,26 @@ quiet-of none-left = none-left
 quiet-of (p and ps) = p .quiet and quiet-of ps
 
 -- its encoding, with decode's words of it
-pub lend-sayable : (x : Rpc) → Sayable x → Within (encodeRpc x) x → Lends (wordsOfAll (rowsOf kind.Rpc 0 (encodeRpc x))) (encodeRpc x) x
-lend-sayable x q w =
-    subst (Lends (wordsOfAll (rowsOf kind.Rpc 0 (encodeRpc x))) (encodeRpc x)) (anew-same x q) (lend-decoded w (quiet-of (q .control)))
+pub lend-sayable : (d : Dialect) (x : Rpc) → Sayable x → Within d (encodeRpc x) x
+    → Lends (wordsOfAll (rowsOf (kind.Rpc d) 0 (encodeRpc x))) (encodeRpc x) x
+lend-sayable d x q w =
+    subst (Lends (wordsOfAll (rowsOf (kind.Rpc d) 0 (encodeRpc x))) (encodeRpc x)) (anew-same x q)
+    (lend-decoded w (quiet-of (q .control)))
 
-pub every-rpc : (x : Rpc) → Sayable x → Within (encodeRpc x) x → Bytes (encodeRpc x) → CanSay x
-every-rpc x q w b =
+pub every-rpc : (d : Dialect) (x : Rpc) → Sayable x → Within d (encodeRpc x) x → Bytes (encodeRpc x) → CanSay x
+every-rpc d x q w b =
     record {
-      table = wordsOfAll (rowsOf kind.Rpc 0 (encodeRpc x));
+      table = wordsOfAll (rowsOf (kind.Rpc d) 0 (encodeRpc x));
       bytes = encodeRpc x;
-      words = body-words (encodeRpc x) b (omega (arith, w .small));
+      words = body-words d (encodeRpc x) b (omega (arith, w .small));
       octets = b;
-      lends = lend-sayable x q w;
+      lends = lend-sayable d x q w;
     }
 
 -- where texts are UTF-8, numbers are below 2^64, and the encoding is within capacity
 pub every-plain-rpc : (x : Rpc) → Sayable x → Plain x → Bytes (encodeRpc x) → length (encodeRpc x) ≤ 65536 → recordsIn x ≤ 512
     → CanSay x
-every-plain-rpc x q p b l n = every-rpc x q (plain-within x p q l n) b
+every-plain-rpc x q p b l n = every-rpc firstDialect x q (plain-within firstDialect x p q l n) b
 
 -- ---- and it is written under known flags, where no message is refused: a test looks at a message's fields alone
 weighed-renewed : (flags : ℕ) (m : RawMessage) → weighed flags (renewed m) ≡ weighed flags m
@@ -252,17 +274,18 @@ unfolding lentWell
 whole-rows t b h =
     eqb-true (length t % 20) 0 (both (eqb (length t % 20) 0) (lentFrom (length b) false false (lentRows t)) h .0)
 
-pub written-again : (flags : ℕ) (t b table : List ℕ) → Words t → writeTested flags t b ≡ Fine → length t ≤ length table
-    → Alike flags t b (take (length t) (decodeTable (bodyOf t b) table)) (bodyOf t b)
-written-again flags t b table w h l =
+pub written-again : (d : Dialect) (flags : ℕ) (t b table : List ℕ) → Words t → writeTested flags t b ≡ Fine
+    → length t ≤ length table
+    → Alike flags t b (take (length t) (decodeTable d (bodyOf t b) table)) (bodyOf t b)
+written-again d flags t b table w h l =
     let p = passed-of flags t b h in
-    let m = written-means flags t b w h in
+    let m = written-means d flags t b w h in
     let n = lent-records t b (p .taken .well) in
     let z = whole-rows t b (p .taken .well) in
     let k : length t ≡ recordsIn (saidOf t b) * 20 = omega arith in
-    let e : take (length t) (decodeTable (bodyOf t b) table) ≡ wordsOfAll (rowsOf kind.Rpc 0 (bodyOf t b)) =
-    ap (λ (i : ℕ). take i (decodeTable (bodyOf t b) table)) k ∙ decoded-words table m (omega arith) in
-    let d = lend-sayable (saidOf t b) (said-sayable b (lentRows t)) m in
+    let e : take (length t) (decodeTable d (bodyOf t b) table) ≡ wordsOfAll (rowsOf (kind.Rpc d) 0 (bodyOf t b)) =
+    ap (λ (i : ℕ). take i (decodeTable d (bodyOf t b) table)) k ∙ decoded-words table m (omega arith) in
+    let c = lend-sayable d (saidOf t b) (said-sayable b (lentRows t)) m in
     subst (λ (u : List ℕ). Alike flags t b u (bodyOf t b)) (sym e)
-    (alike-of flags t b (wordsOfAll (rowsOf kind.Rpc 0 (bodyOf t b))) (bodyOf t b) h
-    (lends-tested flags d (p .known) (unfit-said flags b (lentRows t) ∙ p .fit) (p .short)) (d .says))
+    (alike-of flags t b (wordsOfAll (rowsOf (kind.Rpc d) 0 (bodyOf t b))) (bodyOf t b) h
+    (lends-tested flags c (p .known) (unfit-said flags b (lentRows t) ∙ p .fit) (p .short)) (c .says))

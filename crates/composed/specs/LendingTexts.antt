@@ -4,6 +4,7 @@ use mathlib.Core.Path.{_≡_, refl, sym, _∙_}
 use mathlib.Core.Bool.{Bool, true, _&&_, _||_, or-false, or-true}
 use mathlib.Core.List.{List, [], _∷_}
 use lib.Dec.{eqb}
+use Rattle.basis.specs.declared.Dialect.{Dialect}
 use Rattle.basis.specs.Cases.{either, clash}
 use Rattle.utf8.specs.Grammar.{Utf8}
 use Rattle.utf8.specs.Laws.{exactly}
@@ -20,14 +21,14 @@ use Rattle.rpc.specs.Grammar.{Each, none-left, _and_, Pairs, no-pairs, _paired_
 use Rattle.rpc.specs.Grammar.{IsSubOpts, is-sub-opts, IsMessage, is-message, IsGraft, is-graft, IsPrune, is-prune, IsControl, is-control}
 use Rattle.meaning.specs.ReadBack.{bytesAt, Gathered, nothing, gatherKind, gather}
 use Rattle.meaning.specs.Back.{state, flat}
+use Rattle.meaning.specs.Table.{AllRecords, each-append}
 use Rattle.canonical.specs.Means.{opt, each-last, numbers-small}
 use Rattle.compose.specs.declared.Lists.the-variants.{Fine}
 use Rattle.compose.specs.Lent.{isCode, rowInside, heldBy, lentFrom}
 use Rattle.compose.specs.Compose.{moved, textIn, textOf, textFine, textsFine}
 use Rattle.composed.specs.Written.{PlainPrune, PlainControl}
-use Rattle.composed.specs.Means.{each-append}
 use Rattle.composed.specs.WrittenRows.{fine-both, Texts, Waits}
-use Rattle.composed.specs.LendingRows.{Stood, and-both}
+use Rattle.composed.specs.LendingRows.{Lies, and-both}
 
 -- ---- held
 record Held (k : Kind) (m p : Bool) (g : Gathered) : Type 0 where
@@ -37,7 +38,7 @@ record Held (k : Kind) (m p : Bool) (g : Gathered) : Type 0 where
 held-kind : (k : Kind) (b : List ℕ) (r : Record) (g : Gathered) (m p : Bool) → ownOf k ≡ 1 → Waits m p (gatherKind k b r g)
     → Held k m p g
 unfolding heldBy kindCode ownOf
-held-kind kind.Rpc b r g m p o w = clash (o)
+held-kind (kind.Rpc d) b r g m p o w = clash (o)
 held-kind kind.SubOpts b r g m p o w =
     record {
       holds = refl;
@@ -47,6 +48,7 @@ held-kind kind.SubOpts b r g m p o w =
         ids = w .ids;
         ihave = w .ihave;
         iwant = w .iwant;
+        idontwant = w .idontwant;
       };
     }
 held-kind kind.RawMessage b r g m p o w =
@@ -58,6 +60,7 @@ held-kind kind.RawMessage b r g m p o w =
         ids = w .ids;
         ihave = w .ihave;
         iwant = w .iwant;
+        idontwant = w .idontwant;
       };
     }
 held-kind kind.Topic b r g m p o w =
@@ -69,9 +72,10 @@ held-kind kind.Topic b r g m p o w =
         ids = w .ids;
         ihave = w .ihave;
         iwant = w .iwant;
+        idontwant = w .idontwant;
       };
     }
-held-kind kind.ControlMessage b r g m p o w = clash (o)
+held-kind (kind.ControlMessage d) b r g m p o w = clash (o)
 held-kind kind.ControlIHave b r g m p o w = let z = w .ihave in clash (cc)
 held-kind kind.ControlIWant b r g m p o w = let z = w .iwant in clash (cc)
 held-kind kind.MessageId b r g m p o w = let z = w .ids in clash (cc)
@@ -84,6 +88,7 @@ held-kind kind.ControlGraft b r g m p o w =
         ids = w .ids;
         ihave = w .ihave;
         iwant = w .iwant;
+        idontwant = w .idontwant;
       };
     }
 held-kind kind.ControlPrune b r g m p o w =
@@ -95,6 +100,7 @@ held-kind kind.ControlPrune b r g m p o w =
         ids = w .ids;
         ihave = w .ihave;
         iwant = w .iwant;
+        idontwant = w .idontwant;
       };
     }
 held-kind kind.PeerInfo b r g m p o w =
@@ -106,19 +112,21 @@ held-kind kind.PeerInfo b r g m p o w =
         ids = w .ids;
         ihave = w .ihave;
         iwant = w .iwant;
+        idontwant = w .idontwant;
       };
     }
+held-kind kind.ControlIDontWant b r g m p o w = let z = w .idontwant in clash (cc)
 
 -- rows that lie within n bytes, where nothing waits, are lent well
-pub waits-lent : (b : List ℕ) (n : ℕ) (m p : Bool) (rs : List Record) → Each (Stood n) rs → Waits m p (gather b rs nothing)
-    → lentFrom n m p rs ≡ true
-waits-lent b n m p [] none-left w = refl
-waits-lent b n m p (r ∷ rs) (i and is) w =
-    let h = held-kind (r .kind) b r (gather b rs nothing) m p (i .own) w in
+pub waits-lent : (b : List ℕ) (n : ℕ) (m p : Bool) (rs : List Record) → AllRecords rs → Each (Lies n) rs
+    → Waits m p (gather b rs nothing) → lentFrom n m p rs ≡ true
+waits-lent b n m p [] none-left none-left w = refl
+waits-lent b n m p (r ∷ rs) (o and os) (i and is) w =
+    let h = held-kind (r .kind) b r (gather b rs nothing) m p o w in
     let m' = m || isCode 2 r in
     let p' = p || isCode 9 r in
     and-both (heldBy m p (r .kind)) (rowInside n r && lentFrom n m' p' rs) (h .holds)
-    (and-both (rowInside n r) (lentFrom n m' p' rs) (i .inside) (waits-lent b n m' p' rs is (h .rest)))
+    (and-both (rowInside n r) (lentFrom n m' p' rs) i (waits-lent b n m' p' rs os is (h .rest)))
 
 -- ---- texts
 between-text : (b : List ℕ) (a e : ℕ) → Utf8 (between b a e) → textFine b (place.Present a e) ≡ Fine
@@ -142,7 +150,7 @@ record Told (k : Kind) (b : List ℕ) (r : Record) (g : Gathered) : Type 0 where
 
 told-kind : (k : Kind) (b : List ℕ) (r : Record) (g : Gathered) → Texts (gatherKind k b r g) → Told k b r g
 unfolding textFine
-told-kind kind.Rpc b r g o = record { fine = refl; rest = o }
+told-kind (kind.Rpc d) b r g o = record { fine = refl; rest = o }
 told-kind kind.SubOpts b r g o =
     record {
       fine = at-text b (r .start) (r .slots .first) (each-head (o .subscriptions));
@@ -176,7 +184,7 @@ told-kind kind.Topic b r g o =
         prunes = o .prunes;
       };
     }
-told-kind kind.ControlMessage b r g o = record { fine = refl; rest = o }
+told-kind (kind.ControlMessage d) b r g o = record { fine = refl; rest = o }
 told-kind kind.ControlIHave b r g o =
     record {
       fine = refl;
@@ -219,6 +227,17 @@ told-kind kind.PeerInfo b r g o =
       fine = refl;
       rest = record { topics = o .topics; subscriptions = o .subscriptions; publish = o .publish; grafts = o .grafts; prunes = o .prunes };
     }
+told-kind kind.ControlIDontWant b r g o =
+    record {
+      fine = refl;
+      rest = record {
+        topics = o .topics;
+        subscriptions = o .subscriptions;
+        publish = o .publish;
+        grafts = o .grafts;
+        prunes = o .prunes;
+      };
+    }
 
 pub texts-fine : (b : List ℕ) (rs : List Record) → Texts (gather b rs nothing) → textsFine b rs ≡ Fine
 unfolding textOf
@@ -245,8 +264,9 @@ graft-plain _ _ (is-graft g u) = each-last u
 prune-plain : (d : List ℕ) (p : ControlPrune) → IsPrune d p → PlainPrune p
 prune-plain _ _ (is-prune g u h) = record { topic = each-last u; backoff = each-last (numbers-small 3 g) }
 
-control-plain : (d : List ℕ) (c : ControlMessage) → IsControl d c → PlainControl c
-control-plain _ _ (is-control g h1 h2 h3 h4) = record { grafts = pairs-each graft-plain h3; prunes = pairs-each prune-plain h4 }
+control-plain : (d : Dialect) (s : List ℕ) (c : ControlMessage) → IsControl d s c → PlainControl c
+control-plain d _ _ (is-control g h1 h2 h3 h4 h5) =
+    record { grafts = pairs-each graft-plain h3; prunes = pairs-each prune-plain h4 }
 
 flat-plain : {cs : List ControlMessage} → Each PlainControl cs → PlainControl (flat cs)
 flat-plain none-left = record { grafts = none-left; prunes = none-left }
@@ -254,10 +274,11 @@ flat-plain (p and ps) =
     let q = flat-plain ps in
     record { grafts = each-append (p .grafts) (q .grafts); prunes = each-append (p .prunes) (q .prunes) }
 
-pub meant-texts : {d1 d2 d3 : List (List ℕ)} {ss : List SubOpts} {ms : List RawMessage} {cs : List ControlMessage}
-    → Pairs IsSubOpts d1 ss → Pairs IsMessage d2 ms → Pairs IsControl d3 cs → Texts (state [] [] [] ss ms (flat cs))
-meant-texts h1 h2 h3 =
-    let c = flat-plain (pairs-each control-plain h3) in
+pub meant-texts : (d : Dialect) {d1 d2 d3 : List (List ℕ)} {ss : List SubOpts} {ms : List RawMessage}
+    {cs : List ControlMessage}
+    → Pairs IsSubOpts d1 ss → Pairs IsMessage d2 ms → Pairs (IsControl d) d3 cs → Texts (state [] [] [] ss ms (flat cs))
+meant-texts d h1 h2 h3 =
+    let c = flat-plain (pairs-each (control-plain d) h3) in
     record {
       topics = none-left;
       subscriptions = pairs-each sub-opts-plain h1;

@@ -5,6 +5,7 @@ use mathlib.Core.List.{List, [], _∷_}
 use native.Mathlib.Omega.{arith}
 use lib.ListN.{length, drop}
 use lib.Dec.{eqb}
+use Rattle.basis.specs.declared.Dialect.{Dialect}
 use Rattle.basis.specs.Cases.{either, clash}
 use Rattle.basis.specs.Bytes.{Bytes}
 use Rattle.basis.specs.Lists.{take-bytes, drop-bytes}
@@ -43,9 +44,9 @@ use Rattle.message.specs.declared.Record.{Record}
 use Rattle.message.specs.Rows.{kindCode, numberWords, placeWords, placesWords, wordsOf, wordsOfAll, roleRows, rowsAlong, ownRows, rowsOf}
 use Rattle.message.specs.RowsLaws.{rows-along}
 use Rattle.rpc.specs.Grammar.{Each, none-left, _and_}
+use Rattle.meaning.specs.Table.{each-append}
 use Rattle.canonical.specs.Means.{Small}
 use Rattle.composed.specs.Written.{Words}
-use Rattle.composed.specs.Means.{each-append}
 
 -- ---- a field's value
 module _ (s : List ℕ) (b : Bytes s) (l : length s < 2 ^ 64) (f : Field) where
@@ -94,17 +95,18 @@ place-words s l (place.Present a e) h = let g = h a e refl in three (omega arith
 
 code-small : (k : Kind) → Small (kindCode k)
 unfolding kindCode
-code-small kind.Rpc = omega arith
+code-small (kind.Rpc d) = omega arith
 code-small kind.SubOpts = omega arith
 code-small kind.RawMessage = omega arith
 code-small kind.Topic = omega arith
-code-small kind.ControlMessage = omega arith
+code-small (kind.ControlMessage d) = omega arith
 code-small kind.ControlIHave = omega arith
 code-small kind.ControlIWant = omega arith
 code-small kind.MessageId = omega arith
 code-small kind.ControlGraft = omega arith
 code-small kind.ControlPrune = omega arith
 code-small kind.PeerInfo = omega arith
+code-small kind.ControlIDontWant = omega arith
 
 record-words : (r : Record) → Small (r .start) → Small (r .end) → Each Small (numberWords (r .slots .number))
     → Each Small (placesWords (r .slots)) → Each Small (wordsOf r)
@@ -224,5 +226,6 @@ each-words none-left i = omega arith
 each-words (p and ps) zero = p
 each-words (p and ps) (suc i) = each-words ps i
 
-pub body-words : (s : List ℕ) → Bytes s → length s < 2 ^ 64 → Words (wordsOfAll (rowsOf kind.Rpc 0 s))
-body-words s b l = each-words (all-words (rows-words kind.Rpc 0 s b (omega arith)))
+pub body-words : (d : Dialect) (s : List ℕ) → Bytes s → length s < 2 ^ 64
+    → Words (wordsOfAll (rowsOf (kind.Rpc d) 0 s))
+body-words d s b l = each-words (all-words (rows-words (kind.Rpc d) 0 s b (omega arith)))

@@ -1,4 +1,5 @@
--- The encoding of an RPC that lists can say means it, where texts are UTF-8, numbers are below 2^64 and the whole fits a length; and within capacity it is accepted.
+-- The encoding of an RPC that lists can say means it in every dialect, where texts are UTF-8, numbers are below 2^64
+-- and the whole fits a length; and within capacity it is accepted.
 use Prim.Native.Nat.{ℕ, _+_, _^_, _≤_, _<_}
 use mathlib.Core.Path.{_≡_, refl, sym, ap, ap₂, subst, _∙_}
 use mathlib.Core.Bool.{cond}
@@ -8,6 +9,7 @@ use native.Mathlib.Omega.{arith}
 use lib.ListN.{length, length-append}
 use lib.Dec.{eqb}
 use borrow.Author.Tests.{eqb-true}
+use Rattle.basis.specs.declared.Dialect.{Dialect}
 use Rattle.basis.specs.Cases.{either}
 use Rattle.utf8.specs.Grammar.{Utf8}
 use Rattle.protobuf.specs.Grammar.{Entry}
@@ -16,18 +18,16 @@ use Rattle.protobuf.specs.EncodeLaws.{field-holds}
 use Rattle.rpc.specs.Rpc.{SubOpts, RawMessage, ControlGraft, PeerInfo, ControlPrune, ControlMessage, Rpc}
 use Rattle.rpc.specs.Grammar.{bytesIn, last, Each, none-left, _and_, no-pairs, _paired_}
 use Rattle.rpc.specs.Grammar.{IsSubOpts, IsMessage, is-message, IsIHave, IsIWant, IsGraft, IsPeerInfo, IsPrune, IsRpc}
-use Rattle.rpc.specs.Encode.{optional, repeated, flag, encodeSubOpts, encodeIHave, encodeIWant, encodeGraft, encodePeerInfo, encodePrune, encodeControl, encodeRpc}
+use Rattle.rpc.specs.Encode.{optional, repeated, flag, encodeSubOpts, encodeIHave, encodeIWant, encodeGraft}
+use Rattle.rpc.specs.Encode.{encodePeerInfo, encodePrune, encodeIDontWant, encodeControl, encodeRpc}
 use Rattle.meaning.specs.Back.{mkMessage, same-message}
 use Rattle.meaning.specs.Size.{recordsIn}
 use Rattle.meaning.specs.Decoded.{Within}
 use Rattle.canonical.specs.Means.{Sized, opt, bytesEntries, body-append, bytes-body, bytes-here, bytes-there, found, optional-opt, last-opt, means-as}
-use Rattle.canonical.specs.Means.{fields-sized, field-sized, Entries, Sound, sub-opts-means, graft-means, peer-info-means, prune-means, rpc-sound}
+use Rattle.canonical.specs.Means.{fields-sized, field-sized, Entries, IDontWants, no-idontwants, Sound, sub-opts-means}
+use Rattle.canonical.specs.Means.{graft-means, peer-info-means, prune-means, rpc-sound}
 use Rattle.compose.specs.Said.{encodeFields, encodeMessage, renewed}
 use Rattle.composed.specs.Written.{PlainPrune, PlainControl, Plain, Spoken, Sayable}
-
-pub each-append : {A : Type 0} {P : A → Type 0} {xs ys : List A} → Each P xs → Each P ys → Each P (xs ++ ys)
-each-append none-left q = q
-each-append (p and ps) q = p and each-append ps q
 
 -- ---- entries whose encodings mean them, one by one
 entries-of : {X : Type 0} {P : X → Type 0} (R : List ℕ → X → Type 0) (enc : X → List ℕ) (n : ℕ)
@@ -151,26 +151,29 @@ prune-of p q k =
     prune-means p (field-sized 1 (p .«topic_id») (omega arith)) (q .topic)
     (entries-of IsPeerInfo encodePeerInfo 2 (λ i e z. peer-of i z) (every (p .peers)) (omega arith)) (q .backoff)
 
-control-of : (c : ControlMessage) → PlainControl c → Spoken c → Sized (encodeControl c) → Sound c
+control-of : (d : Dialect) (c : ControlMessage) → PlainControl c → Spoken c → Sized (encodeControl c) → Sound d c
 unfolding encodeControl
-control-of c p q k =
+control-of d c p q k =
     let x1 = repeated (λ h. bytesField 1 (encodeIHave h)) (c .ihave) in
     let x2 = repeated (λ w. bytesField 2 (encodeIWant w)) (c .iwant) in
     let x3 = repeated (λ g. bytesField 3 (encodeGraft g)) (c .graft) in
     let x4 = repeated (λ p. bytesField 4 (encodePrune p)) (c .prune) in
-    let l1 = length-append x1 (x2 ++ (x3 ++ x4)) in let l2 = length-append x2 (x3 ++ x4) in let l3 = length-append x3 x4 in
+    let x5 = repeated (λ n. bytesField 5 (encodeIDontWant n)) (c .idontwant) in
+    let l1 = length-append x1 (x2 ++ (x3 ++ (x4 ++ x5))) in let l2 = length-append x2 (x3 ++ (x4 ++ x5)) in
+    let l3 = length-append x3 (x4 ++ x5) in let l4 = length-append x4 x5 in
     record {
       ihaves = no-entries IsIHave encodeIHave (c .ihave) (q .quiet .ihave);
       iwants = no-entries IsIWant encodeIWant (c .iwant) (q .quiet .iwant);
       grafts = entries-of IsGraft encodeGraft 3 graft-of (p .grafts) (omega arith);
       prunes = entries-of IsPrune encodePrune 4 prune-of (p .prunes) (omega arith);
+      idontwants = subst (IDontWants (d .edition)) (sym (q .quiet .idontwant)) (no-idontwants (d .edition));
     }
 
-controls-of : (o : Option ControlMessage) → Each PlainControl (opt o) → Each Spoken (opt o)
-    → length (optional (λ c. bytesField 3 (encodeControl c)) o) < 2 ^ 64 → Each Sound (opt o)
-controls-of none p q k = none-left
-controls-of (some c) (p and none-left) (q and none-left) k =
-    let g = field-holds 3 (encodeControl c) in control-of c p q (omega arith) and none-left
+controls-of : (d : Dialect) (o : Option ControlMessage) → Each PlainControl (opt o) → Each Spoken (opt o)
+    → length (optional (λ c. bytesField 3 (encodeControl c)) o) < 2 ^ 64 → Each (Sound d) (opt o)
+controls-of d none p q k = none-left
+controls-of d (some c) (p and none-left) (q and none-left) k =
+    let g = field-holds 3 (encodeControl c) in control-of d c p q (omega arith) and none-left
 
 -- ---- the RPC
 rpc-length : (x : Rpc) → length (encodeRpc x)
@@ -180,15 +183,17 @@ rpc-length : (x : Rpc) → length (encodeRpc x)
 unfolding encodeRpc
 rpc-length x = simp length-append
 
-pub plain-means : (x : Rpc) → Plain x → Sayable x → length (encodeRpc x) < 2 ^ 64 → IsRpc (encodeRpc x) x
-plain-means x p q k =
+pub plain-means : (d : Dialect) (x : Rpc) → Plain x → Sayable x → length (encodeRpc x) < 2 ^ 64
+    → IsRpc d (encodeRpc x) x
+plain-means d x p q k =
     let l = rpc-length x in
-    rpc-sound x
+    rpc-sound d x
     (entries-of IsSubOpts encodeSubOpts 1 sub-opts-of (p .subscriptions) (omega arith))
     (entries-of IsMessage (λ m. m .raw) 2 (λ m i z. message-means m (i .0) z (i .1)) (each-both (q .raws) (p .publish)) (omega arith))
-    (controls-of (x .control) (p .control) (q .control) (omega arith))
+    (controls-of d (x .control) (p .control) (q .control) (omega arith))
     k
 
 -- it is accepted where it is within capacity
-pub plain-within : (x : Rpc) → Plain x → Sayable x → length (encodeRpc x) ≤ 65536 → recordsIn x ≤ 512 → Within (encodeRpc x) x
-plain-within x p q l n = record { means = plain-means x p q (omega arith); small = l; few = n }
+pub plain-within : (d : Dialect) (x : Rpc) → Plain x → Sayable x → length (encodeRpc x) ≤ 65536 → recordsIn x ≤ 512
+    → Within d (encodeRpc x) x
+plain-within d x p q l n = record { means = plain-means d x p q (omega arith); small = l; few = n }

@@ -23,9 +23,9 @@ use Rattle.rpc.specs.Rpc.{RawMessage, ControlGraft, ControlPrune, ControlMessag
 use Rattle.rpc.specs.Grammar.{Each, none-left, _and_, nonzero}
 use Rattle.rpc.specs.Encode.{optional, repeated, flag, encodeSubOpts, encodeGraft, encodePeerInfo, encodePrune, encodeControl, encodeRpc}
 use Rattle.meaning.specs.ReadBack.{bytesAt, numberAt, Gathered, nothing, gatherKind, gather}
+use Rattle.meaning.specs.Table.{each-append}
 use Rattle.canonical.specs.Means.{opt}
 use Rattle.compose.specs.Said.{encodeFields, encodeMessage, renewed, subscriptionsIn, messagesIn, graftsIn, prunesIn, controlOf, said}
-use Rattle.composed.specs.Means.{each-append}
 
 -- ---- each of a list is a byte
 abbrev Low : List ℕ → Type 0
@@ -100,7 +100,7 @@ module _ (b : List ℕ) (h : Bytes b) where
 
   octets-kind : (k : Kind) (r : Record) (g : Gathered) → Octets g → Octets (gatherKind k b r g)
   unfolding encodePeerInfo encodeSubOpts encodeMessage encodeFields encodeGraft encodePrune
-  octets-kind kind.Rpc r g o = o
+  octets-kind (kind.Rpc d) r g o = o
   octets-kind kind.SubOpts r g o =
       record {
         topics = o .topics;
@@ -134,7 +134,7 @@ module _ (b : List ℕ) (h : Bytes b) where
         grafts = o .grafts;
         prunes = o .prunes;
       }
-  octets-kind kind.ControlMessage r g o = o
+  octets-kind (kind.ControlMessage d) r g o = o
   octets-kind kind.ControlIHave r g o = record { topics = o .topics; peers = o .peers; subscriptions = o .subscriptions; publish = o .publish; grafts = o .grafts; prunes = o .prunes }
   octets-kind kind.ControlIWant r g o = record { topics = o .topics; peers = o .peers; subscriptions = o .subscriptions; publish = o .publish; grafts = o .grafts; prunes = o .prunes }
   octets-kind kind.MessageId r g o = record { topics = o .topics; peers = o .peers; subscriptions = o .subscriptions; publish = o .publish; grafts = o .grafts; prunes = o .prunes }
@@ -168,6 +168,15 @@ module _ (b : List ℕ) (h : Bytes b) where
         grafts = o .grafts;
         prunes = o .prunes;
       }
+  octets-kind kind.ControlIDontWant r g o =
+      record {
+        topics = o .topics;
+        peers = o .peers;
+        subscriptions = o .subscriptions;
+        publish = o .publish;
+        grafts = o .grafts;
+        prunes = o .prunes;
+      }
 
   octets : (rs : List Record) → Octets (gather b rs nothing)
   octets [] =
@@ -189,9 +198,10 @@ control-low : (gs : List ControlGraft) (ps : List ControlPrune) → Each (λ g. 
     → Low (optional (λ c. bytesField 3 (encodeControl c)) (controlOf gs ps))
 unfolding encodeControl
 control-low [] [] p q = none-left
-control-low [] (x ∷ ps) p q = field-low 3 _ (repeated-low 4 encodePrune (x ∷ ps) q)
+control-low [] (x ∷ ps) p q = field-low 3 _ (each-append (repeated-low 4 encodePrune (x ∷ ps) q) none-left)
 control-low (g ∷ gs) ps p q =
-    field-low 3 _ (each-append (repeated-low 3 encodeGraft (g ∷ gs) p) (repeated-low 4 encodePrune ps q))
+    field-low 3 _
+    (each-append (repeated-low 3 encodeGraft (g ∷ gs) p) (each-append (repeated-low 4 encodePrune ps q) none-left))
 
 said-low : (b : List ℕ) (rs : List Record) → Bytes b → Low (encodeRpc (said b rs))
 unfolding encodeRpc said subscriptionsIn messagesIn graftsIn prunesIn

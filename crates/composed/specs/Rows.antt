@@ -1,14 +1,13 @@
 -- Lists and answers, worked out, as one theorem over the calls: for every lent buffer, what `write_rpc` and `sign_fields` tell and leave. Each row is computed.
 -- The flags are 0, where no others are named.
-use Prim.Native.Nat.{ℕ, zero, suc, _+_, _-_, _/_, _%_, _<_}
-use mathlib.Core.Path.{_≡_, refl, sym, ap, _∙_}
+use Prim.Native.Nat.{ℕ, zero, suc, _/_, _%_, _<_}
+use mathlib.Core.Path.{_≡_, refl, ap, _∙_}
 use mathlib.Core.Bool.{true, false, cond}
-use mathlib.Core.List.{List, [], _∷_, _++_, append-nil}
+use mathlib.Core.List.{List, [], _∷_, _++_}
 use native.Mathlib.Omega.{arith}
-use lib.ListN.{length, drop, replicate, drop-of-length-le}
-use lib.Seq.{sets, sets-eq}
+use lib.ListN.{length, drop, replicate}
 use Rattle.message.specs.RowsLaws.{all-length}
-use Rattle.meaning.specs.Table.{rowsIn, table-back}
+use Rattle.meaning.specs.Table.{IsRecord, AllRecords}
 use lib.Dec.{leb}
 use borrow.Author.Tests.{leb-true}
 use Rattle.basis.specs.declared.Told.{Told}
@@ -27,6 +26,7 @@ use Rattle.schema.specs.declared.Place.{Place}
 use Rattle.schema.specs.declared.Place.the-variants as place
 use Rattle.schema.specs.declared.Number.{Number}
 use Rattle.schema.specs.declared.Number.the-variants as number
+use Rattle.schema.specs.Schema.{ownOf}
 use Rattle.schema.specs.Made.{numberFrom, placeFrom}
 use Rattle.message.specs.declared.Record.{Record}
 use Rattle.message.specs.Rows.{bareRow, kindCode, numberWords, placeWords, placesWords, wordsOf, wordsOfAll, kindFrom, recordFrom}
@@ -36,6 +36,7 @@ use Rattle.admission.specs.Admission.{firstLong, isKey, keyMatches, keyInside, 
 use Rattle.admission.specs.Rows.{zeros, peer, head, signature}
 use Rattle.admission.specs.declared.Unfit.the-variants.{KeyWithoutSignature, InvalidSignatureLength, MessageTooLong}
 use Rattle.rpc.specs.Rpc.{RawMessage}
+use Rattle.rpc.specs.Grammar.{none-left, _and_}
 use Rattle.canonical.specs.Calls.{Writes, fits, short}
 use Rattle.compose.specs.declared.Wrong.{Wrong}
 use Rattle.compose.specs.declared.Wrong.the-variants.{BadSetting, NotLent, InvalidUtf8, TooManyRecords, Unfit, TooLong}
@@ -50,6 +51,7 @@ use Rattle.compose.specs.Compose.{signAnswer, signLeft}
 use Rattle.compose.specs.Told.{wrongTold, composedTold}
 use Rattle.compose.specs.Off.{tested-unknown}
 use Rattle.composed.specs.Exactly.{put-writes}
+use Rattle.composed.specs.Lending.{words-lent}
 
 -- ---- what a row of the table says
 -- the bytes xs are written, or 12 is told with the room that they need, and nothing changes
@@ -251,31 +253,22 @@ messages =
     }
 
 -- ---- many rows, and long ones: by the rows, and not by the words of the table
-words-back : (rs : List Record) → lentRows (wordsOfAll rs) ≡ rs
-words-back rs =
-    let t = wordsOfAll rs in
-    let l = all-length rs in
-    let n : length t / 20 - 0 ≡ length rs = omega arith in
-    let s : sets t 0 t ≡ t =
-    sets-eq t t 0 (omega arith) ∙ ap (λ (z : List ℕ). t ++ z) (drop-of-length-le t {i = 0 + length t} (omega arith)) ∙ append-nil t in
-    ap (rowsIn t 0) n ∙ ap (λ (z : List ℕ). rowsIn z 0 (length rs)) (sym s) ∙ table-back t rs (omega arith)
-
 listsBy : List Record → List ℕ → ℕ → Lists
 listsBy rs b n = cond (lentFrom (length b) false false rs) (andThen (textsFine b rs) (countFine n)) (Refused NotLent)
 
-module _ (rs : List Record) (b : List ℕ) (n : ℕ) (h : length rs ≡ n) where
+module _ (rs : List Record) (b : List ℕ) (n : ℕ) (own : AllRecords rs) (h : length rs ≡ n) where
   lists-by : listsOf (wordsOfAll rs) b ≡ listsBy rs b n
   unfolding listsOf lentWell listsBy
   lists-by =
       let l = all-length rs in
       let m : length (wordsOfAll rs) % 20 ≡ 0 = omega arith in
       let k : length (wordsOfAll rs) / 20 ≡ n = omega arith in
-      rw (words-back rs, m, k)
+      rw (words-lent rs own, m, k)
 
   tested-by : writeTested 0 (wordsOfAll rs) b
       ≡ andThen (listsBy rs b n) (andThen (firstUnfit 0 (messagesIn b rs)) (lengthFine (encodeRpc (said b rs))))
   unfolding knownFlags flagsFine writeTested
-  tested-by = rw (lists-by, words-back rs)
+  tested-by = rw (lists-by, words-lent rs own)
 
 -- GRAFTs without topic
 abbrev pub pairs : ℕ → List ℕ
@@ -301,35 +294,42 @@ pub record LargeRows : Type 0 where
   pub same-bytes : RefusesAs (wordsOfAll (replicate 66 (graft (at 0 1000)))) (replicate 1000 0x74)
       (told rpc-too-long (66400 ∷ []))
 
-large-by : (rs : List Record) (b xs : List ℕ) (n : ℕ) → length rs ≡ n
+large-by : (rs : List Record) (b xs : List ℕ) (n : ℕ) → AllRecords rs → length rs ≡ n
     → andThen (listsBy rs b n) (andThen (firstUnfit 0 (messagesIn b rs)) (lengthFine (encodeRpc (said b rs)))) ≡ Fine
     → encodeRpc (said b rs) ≡ xs → leb (length xs) 65536 ≡ true → WritesAs (wordsOfAll rs) b xs
-large-by rs b xs n h k e l =
-    writes-by 0 (wordsOfAll rs) b xs (tested-by rs b n h ∙ k)
-    (ap (λ (z : List Record). encodeRpc (said b z)) (words-back rs) ∙ e) l
+large-by rs b xs n own h k e l =
+    writes-by 0 (wordsOfAll rs) b xs (tested-by rs b n own h ∙ k)
+    (ap (λ (z : List Record). encodeRpc (said b z)) (words-lent rs own) ∙ e) l
 
-large-refused : (rs : List Record) (b : List ℕ) (n : ℕ) (w : Wrong) → length rs ≡ n
+large-refused : (rs : List Record) (b : List ℕ) (n : ℕ) (w : Wrong) → AllRecords rs → length rs ≡ n
     → andThen (listsBy rs b n) (andThen (firstUnfit 0 (messagesIn b rs)) (lengthFine (encodeRpc (said b rs)))) ≡ Refused w
     → RefusesAs (wordsOfAll rs) b (wrongTold w)
-large-refused rs b n w h k = refuses-by 0 (wordsOfAll rs) b w (tested-by rs b n h ∙ k)
+large-refused rs b n w own h k = refuses-by 0 (wordsOfAll rs) b w (tested-by rs b n own h ∙ k)
+
+-- a row, so many times
+all-alike : (r : Record) (n : ℕ) → IsRecord (r .kind) → AllRecords (replicate n r)
+all-alike r zero p = none-left
+all-alike r (suc n) p = p and all-alike r n p
 
 large : LargeRows
-unfolding listsBy uvarint bytesOf isUtf8 run tag bytesField varintField kindCode encodeGraft encodeControl encodeRpc insideAt fieldsInside rowInside
+unfolding ownOf listsBy uvarint bytesOf isUtf8 run tag bytesField varintField kindCode encodeGraft encodeControl encodeRpc insideAt fieldsInside rowInside
     heldBy subscriptionsIn messagesIn graftsIn prunesIn topicsFrom peersFrom said textOf textFine countFine lengthFine capped
 large =
     record {
       grafts = (
-        large-refused (replicate 513 (graft no)) [] 513 (TooManyRecords 513) refl refl,
-        large-by (replicate 512 (graft no)) [] _ 512 refl refl refl refl,
+        large-refused (replicate 513 (graft no)) [] 513 (TooManyRecords 513) (all-alike (graft no) 513 refl) refl refl,
+        large-by (replicate 512 (graft no)) [] _ 512 (all-alike (graft no) 512 refl) refl refl refl refl,
         refl,
       );
-      messages = large-refused (replicate 513 (message no no no no no)) [] 513 (TooManyRecords 513) refl refl;
+      messages = large-refused (replicate 513 (message no no no no no)) [] 513 (TooManyRecords 513)
+          (all-alike (message no no no no no) 513 refl) refl refl;
       longest = (
-        large-by (graft (at 0 65524) ∷ []) (replicate 65524 0x74) _ 1 refl refl refl refl,
+        large-by (graft (at 0 65524) ∷ []) (replicate 65524 0x74) _ 1 (refl and none-left) refl refl refl refl,
         refl,
-        large-refused (graft (at 0 65525) ∷ []) (replicate 65525 0x74) 1 (TooLong 65537) refl refl,
+        large-refused (graft (at 0 65525) ∷ []) (replicate 65525 0x74) 1 (TooLong 65537) (refl and none-left) refl refl,
       );
-      same-bytes = large-refused (replicate 66 (graft (at 0 1000))) (replicate 1000 0x74) 66 (TooLong 66400) refl refl;
+      same-bytes = large-refused (replicate 66 (graft (at 0 1000))) (replicate 1000 0x74) 66 (TooLong 66400)
+          (all-alike (graft (at 0 1000)) 66 refl) refl refl;
     }
 
 pub rows : SmallRows × MessageRows × LargeRows

@@ -1,5 +1,6 @@
 -- What is signed of a message that lists say: the prefix and the fields 1 to 4; a signature and a key, there or not, change nothing. So the bytes to sign that
--- `sign_fields` gives before there is a signature are those that `sign_bytes` finds in a body written with any.
+-- `sign_fields` gives before there is a signature are those that `sign_bytes` finds in every dialect in a body written
+-- with any.
 use Prim.Native.Nat.{ℕ, _≤_}
 use mathlib.Core.Path.{_≡_, refl, sym, ap, _∙_}
 use mathlib.Core.List.{List, _∷_, _++_, map}
@@ -7,6 +8,7 @@ use native.Mathlib.Omega.{arith}
 use lib.ListN.{length, drop, length-append}
 use lib.Dec.{ltb, leb}
 use borrow.Author.Tests.{ltb-false}
+use Rattle.basis.specs.declared.Dialect.{Dialect}
 use Rattle.basis.specs.Cases.{either, clash}
 use Rattle.basis.specs.Writing.{answer, written}
 use Rattle.ids.specs.Ids.{messageAt, ofWritten}
@@ -74,16 +76,16 @@ module _ (t b : List ℕ) (i : ℕ) (m : RawMessage) (h : listsOf t b ≡ Fine) 
       let d = nth-drop n in
       ap (leaving out (signedAt (drop i ms) out)) h ∙ ap (λ (l : List RawMessage). signedAt l out) (d .1)
 
--- ---- sign_bytes, of message i of a body that means an RPC within capacity
-module _ {w : List ℕ} {x : Rpc} (k : Within w x) (i : ℕ) (m : RawMessage) (n : Nth i (x .publish) m) where
-  body-tells : (out : List ℕ) → body.signAnswer w i out ≡ ofWritten (answer (signBytes m) out)
+-- ---- sign_bytes in a dialect, of message i of a body that means an RPC within capacity
+module _ {d : Dialect} {w : List ℕ} {x : Rpc} (k : Within d w x) (i : ℕ) (m : RawMessage) (n : Nth i (x .publish) m) where
+  body-tells : (out : List ℕ) → body.signAnswer d w i out ≡ ofWritten (answer (signBytes m) out)
   unfolding body.signAnswer
   body-tells out =
       let f = found-in i (messageAt w i) (k .means) n refl in
       ap (body.signChecked w i out) (taken k) ∙ ap (body.signAt w out) (f .2)
       ∙ ap (λ (l : List ℕ). ofWritten (answer l out)) (sign-written (f .3))
 
-  body-leaves : (out : List ℕ) → body.signLeft w i out ≡ written (signBytes m) out
+  body-leaves : (out : List ℕ) → body.signLeft d w i out ≡ written (signBytes m) out
   unfolding body.signLeft
   body-leaves out =
       let f = found-in i (messageAt w i) (k .means) n refl in
@@ -121,14 +123,14 @@ nth-weighed flags (there {x = x} {xs = ms} n) h = nth-weighed flags n (both-fine
 
 -- ---- of two lendings, message i of which has the same from, data, seqno and topics: what `sign_fields` tells and leaves on
 -- the first is what `sign_bytes` tells and leaves on a body w of the second, which may be written under some flags
-pub signs-alike : (flags : ℕ) (t₁ b₁ t₂ b₂ w : List ℕ) (i : ℕ) (m₁ m₂ : RawMessage)
+pub signs-alike : (d : Dialect) (flags : ℕ) (t₁ b₁ t₂ b₂ w : List ℕ) (i : ℕ) (m₁ m₂ : RawMessage)
     → listsOf t₁ b₁ ≡ Fine → Nth i (messagesIn b₁ (lentRows t₁)) m₁
     → writeTested flags t₂ b₂ ≡ Fine → Nth i (messagesIn b₂ (lentRows t₂)) m₂
-    → SameFields m₁ m₂ → Within w (said b₂ (lentRows t₂)) → (out : List ℕ)
-    → (composedTold (signAnswer t₁ b₁ i out) ≡ messageTold (body.signAnswer w i out))
-    × (signLeft t₁ b₁ i out ≡ body.signLeft w i out)
+    → SameFields m₁ m₂ → Within d w (said b₂ (lentRows t₂)) → (out : List ℕ)
+    → (composedTold (signAnswer t₁ b₁ i out) ≡ messageTold (body.signAnswer d w i out))
+    × (signLeft t₁ b₁ i out ≡ body.signLeft d w i out)
 unfolding said
-signs-alike flags t₁ b₁ t₂ b₂ w i m₁ m₂ h₁ n₁ h₂ n₂ s k out =
+signs-alike d flags t₁ b₁ t₂ b₂ w i m₁ m₂ h₁ n₁ h₂ n₂ s k out =
     let e : signBytes m₁ ≡ signBytes (renewed m₂) = same-signed s ∙ renewed-signed m₂ in
     let l = sign-small m₂ (weighed-small flags m₂ (nth-weighed flags n₂ (passed-of flags t₂ b₂ h₂ .fit))) in
     let l' : length (signBytes m₁) ≤ 18446744073709551615 = rw (same-signed s) l in

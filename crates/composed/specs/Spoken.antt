@@ -1,11 +1,14 @@
 -- What Admitted and Signed say of a body that means the RPC, said of the body that is written: every message of it is admitted wherever it is vouched for; a message with
--- the signature that is asked for is refused as admission refuses its bytes; and the bytes to sign are those that `sign_bytes` finds in it, whichever signature went in.
+-- the signature that is asked for is refused as admission refuses its bytes; and the bytes to sign are those that
+-- `sign_bytes` finds in it in every dialect, whichever signature went in.
 use Prim.Native.Nat.{ℕ, _^_, _<_}
 use mathlib.Core.Path.{_≡_, refl}
 use mathlib.Core.Bool.{Bool}
 use mathlib.Core.List.{List, [], _∷_, map}
 use lib.ListN.{length}
+use Rattle.basis.specs.declared.Dialect.{Dialect}
 use Rattle.utf8.specs.Grammar.{Utf8}
+use Rattle.message.specs.Rows.{firstDialect}
 use Rattle.ids.specs.Told.{messageTold}
 use Rattle.rpc.specs.Rpc.{RawMessage}
 use Rattle.rpc.specs.Grammar.{Each, none-left, _and_, IsMessage}
@@ -29,7 +32,7 @@ use Rattle.composed.specs.Signed.{SameFields, signs-alike}
 -- what is written is admitted
 pub spoken-admitted : (flags : ℕ) (t b : List ℕ) → Words t → writeTested flags t b ≡ Fine
     → Each (λ (m : RawMessage). Taken flags (m .raw)) (saidOf t b .publish)
-spoken-admitted flags t b w h = written-admitted flags t b (bodyOf t b) h (written-means flags t b w h)
+spoken-admitted flags t b w h = written-admitted flags t b (bodyOf t b) h (written-means firstDialect flags t b w h)
 
 -- a message that lists say, of less than 2^64 bytes, has its own bytes
 renewed-same : (m : RawMessage) → encodeMessage m ≡ encodeMessage (renewed m)
@@ -57,11 +60,11 @@ spoken-as-admission flags t b w h =
     each-as flags (messagesIn b (lentRows t)) (each-means (messagesIn b (lentRows t)) (said-plain t b w (taken-of t b h .texts) .publish))
 
 -- of two lendings, message i of which has the same from, data, seqno and topics: what `sign_fields` tells and leaves on the first is what `sign_bytes` tells and
--- leaves on the body that is written from the second under any flags
-pub spoken-signed : (flags : ℕ) (t₁ b₁ t₂ b₂ : List ℕ) (i : ℕ) (m₁ m₂ : RawMessage)
+-- leaves in a dialect on the body that is written from the second under any flags
+pub spoken-signed : (d : Dialect) (flags : ℕ) (t₁ b₁ t₂ b₂ : List ℕ) (i : ℕ) (m₁ m₂ : RawMessage)
     → listsOf t₁ b₁ ≡ Fine → Nth i (messagesIn b₁ (lentRows t₁)) m₁
     → Words t₂ → writeTested flags t₂ b₂ ≡ Fine → Nth i (messagesIn b₂ (lentRows t₂)) m₂ → SameFields m₁ m₂ → (out : List ℕ)
-    → (composedTold (signAnswer t₁ b₁ i out) ≡ messageTold (body.signAnswer (bodyOf t₂ b₂) i out))
-    × (signLeft t₁ b₁ i out ≡ body.signLeft (bodyOf t₂ b₂) i out)
-spoken-signed flags t₁ b₁ t₂ b₂ i m₁ m₂ h₁ n₁ w h₂ n₂ s out =
-    signs-alike flags t₁ b₁ t₂ b₂ (bodyOf t₂ b₂) i m₁ m₂ h₁ n₁ h₂ n₂ s (written-means flags t₂ b₂ w h₂) out
+    → (composedTold (signAnswer t₁ b₁ i out) ≡ messageTold (body.signAnswer d (bodyOf t₂ b₂) i out))
+    × (signLeft t₁ b₁ i out ≡ body.signLeft d (bodyOf t₂ b₂) i out)
+spoken-signed d flags t₁ b₁ t₂ b₂ i m₁ m₂ h₁ n₁ w h₂ n₂ s out =
+    signs-alike d flags t₁ b₁ t₂ b₂ (bodyOf t₂ b₂) i m₁ m₂ h₁ n₁ h₂ n₂ s (written-means d flags t₂ b₂ w h₂) out

@@ -5,6 +5,7 @@ use mathlib.Core.List.{List, [], _∷_, _++_, map}
 use mathlib.Core.Option.{Option, none, some}
 use lib.ListN.{length, drop, getD}
 use lib.Dec.{eqb}
+use Rattle.basis.specs.declared.Dialect.{Dialect}
 use Rattle.basis.specs.Bytes.{Bytes}
 use Rattle.basis.specs.Told.{done}
 use Rattle.utf8.specs.Grammar.{Utf8}
@@ -40,10 +41,12 @@ pub record Plain (x : Rpc) : Type 0 where
   pub publish : Each (λ m. Each Utf8 (m .«topic_ids»)) (x .publish)
   pub control : Each PlainControl (opt (x .control))
 
--- ---- what lists can say: no IHAVE and no IWANT, no empty control, and each message stands as its fields are encoded
+-- ---- what lists can say: no IHAVE, no IWANT and no IDONTWANT, no empty control, and each message stands as its fields
+-- are encoded
 pub record Quiet (c : ControlMessage) : Type 0 where
   pub ihave : c .ihave ≡ []
   pub iwant : c .iwant ≡ []
+  pub idontwant : c .idontwant ≡ []
 
 pub record Spoken (c : ControlMessage) : Type 0 where
   pub quiet : Quiet c
@@ -81,10 +84,11 @@ pub record Wrote (flags : ℕ) (t b out : List ℕ) (n : ℕ) : Type 0 where
   pub fits : n ≤ length out
   pub left : writeLeft flags t b out ≡ bodyOf t b ++ drop n out
 
--- decode takes a body, lent that table: it tells n records and whether there is a control, and they read back as the RPC
-pub record Reads (s : List ℕ) (x : Rpc) (n : ℕ) (table : List ℕ) : Type 0 where
-  pub told : decodedTold (decodeAnswer s (length table)) ≡ done (n ∷ present (x .control) ∷ [])
-  pub says : readBack s (rowsIn (decodeTable s table) 0 n) (eqb (present (x .control)) 1) ≡ x
+-- decode takes a body in a dialect, lent that table: it tells n records and whether there is a control, and they read
+-- back as the RPC
+pub record Reads (d : Dialect) (s : List ℕ) (x : Rpc) (n : ℕ) (table : List ℕ) : Type 0 where
+  pub told : decodedTold (decodeAnswer d s (length table)) ≡ done (n ∷ present (x .control) ∷ [])
+  pub says : readBack s (rowsIn (decodeTable d s table) 0 n) (eqb (present (x .control)) 1) ≡ x
 
 -- lists u over c say the same RPC as t over b, and are written alike under some flags
 pub record Alike (flags : ℕ) (t b u c : List ℕ) : Type 0 where

@@ -1,4 +1,5 @@
--- A write that is not refused leaves the encoding of the RPC that the lists say; these bytes are accepted and mean that RPC, and decode's records of them read back as it.
+-- A write that is not refused leaves the encoding of the RPC that the lists say; these bytes are accepted and mean that
+-- RPC in every dialect, and decode's records of them read back as it.
 use Prim.Native.Nat.{ℕ, _/_, _%_, _≤_}
 use mathlib.Core.Path.{_≡_, refl, sym, ap, _∙_}
 use mathlib.Core.Bool.{true, false}
@@ -7,6 +8,7 @@ use native.Mathlib.Omega.{arith}
 use lib.ListN.{length, drop}
 use lib.Dec.{leb, eqb}
 use borrow.Author.Tests.{leb-true}
+use Rattle.basis.specs.declared.Dialect.{Dialect}
 use Rattle.basis.specs.Cases.{either, clash, both}
 use Rattle.basis.specs.Bytes.{Bytes}
 use Rattle.basis.specs.Writing.{written}
@@ -55,21 +57,22 @@ well-from t b h = both (eqb (length t % 20) 0) (lentFrom (length b) false false 
 pub lent-records : (t b : List ℕ) → lentWell t b ≡ true → recordsIn (saidOf t b) ≡ length t / 20
 lent-records t b h = said-records b (length b) (lentRows t) (well-from t b h) ∙ rows-length t
 
-module _ (flags : ℕ) (t b : List ℕ) (w : Words t) (h : writeTested flags t b ≡ lists.Fine) where
+module _ (d : Dialect) (flags : ℕ) (t b : List ℕ) (w : Words t) (h : writeTested flags t b ≡ lists.Fine) where
   -- they are accepted, and mean the RPC that the lists say
-  pub written-means : Within (bodyOf t b) (saidOf t b)
+  pub written-means : Within d (bodyOf t b) (saidOf t b)
   written-means =
       let p = passed-of flags t b h in
       let n = lent-records t b (p .taken .well) in
-      plain-within (saidOf t b) (said-plain t b w (p .taken .texts)) (said-sayable b (lentRows t)) (p .short)
+      plain-within d (saidOf t b) (said-plain t b w (p .taken .texts)) (said-sayable b (lentRows t)) (p .short)
       (omega (arith, p .taken .few))
 
   -- decode takes them, with a record for each row, and the records read back as that RPC
-  pub written-read : Bytes b → (table : List ℕ) → length t / 20 ≤ length table / 20 → Reads (bodyOf t b) (saidOf t b) (length t / 20) table
+  pub written-read : Bytes b → (table : List ℕ) → length t / 20 ≤ length table / 20
+      → Reads d (bodyOf t b) (saidOf t b) (length t / 20) table
   written-read c table r =
       let p = passed-of flags t b h in
       let n = lent-records t b (p .taken .well) in
-      let told = accepted-exactly (bodyOf t b) (length table) (length t / 20) (present (saidOf t b .control))
+      let told = accepted-exactly d (bodyOf t b) (length table) (length t / 20) (present (saidOf t b .control))
       (said-bytes b (lentRows t) c) .1
       (record {
         rpc = saidOf t b;
@@ -80,5 +83,6 @@ module _ (flags : ℕ) (t b : List ℕ) (w : Words t) (h : writeTested flags t b
       }) in
       record {
         told = told;
-        says = table-means (bodyOf t b) table (length t / 20) (present (saidOf t b .control)) (saidOf t b) told (written-means .means);
+        says = table-means d (bodyOf t b) table (length t / 20) (present (saidOf t b .control)) (saidOf t b) told
+            (written-means .means);
       }

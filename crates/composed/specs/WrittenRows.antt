@@ -145,7 +145,7 @@ pub record Texts (g : Gathered) : Type 0 where
 -- the same in what is gathered of a row that has no text
 texts-kind : (k : Kind) (b : List ℕ) (r : Record) (g : Gathered) → textFine b (textIn k r) ≡ Fine → SmallNumber r → Texts g
     → Texts (gatherKind k b r g)
-texts-kind kind.Rpc b r g h n o = o
+texts-kind (kind.Rpc d) b r g h n o = o
 texts-kind kind.SubOpts b r g h n o =
     record {
       topics = o .topics;
@@ -170,7 +170,7 @@ texts-kind kind.Topic b r g h n o =
       grafts = o .grafts;
       prunes = o .prunes;
     }
-texts-kind kind.ControlMessage b r g h n o = o
+texts-kind (kind.ControlMessage d) b r g h n o = o
 texts-kind kind.ControlIHave b r g h n o =
     record { topics = o .topics; subscriptions = o .subscriptions; publish = o .publish; grafts = o .grafts; prunes = o .prunes }
 texts-kind kind.ControlIWant b r g h n o =
@@ -195,6 +195,14 @@ texts-kind kind.ControlPrune b r g h n o =
     }
 texts-kind kind.PeerInfo b r g h n o =
     record { topics = o .topics; subscriptions = o .subscriptions; publish = o .publish; grafts = o .grafts; prunes = o .prunes }
+texts-kind kind.ControlIDontWant b r g h n o =
+    record {
+      topics = o .topics;
+      subscriptions = o .subscriptions;
+      publish = o .publish;
+      grafts = o .grafts;
+      prunes = o .prunes;
+    }
 
 texts-rows : (b : List ℕ) (rs : List Record) → textsFine b rs ≡ Fine → Each SmallNumber rs → Texts (gather b rs nothing)
 unfolding textOf
@@ -234,12 +242,12 @@ renewed-raws (m ∷ ms) = let e : renewed m .raw ≡ encodeMessage (renewed m) =
 spoken-control : (gs : List ControlGraft) (ps : List ControlPrune) → Each Spoken (opt (controlOf gs ps))
 spoken-control [] [] = none-left
 spoken-control [] (x ∷ ps) =
-    let c : Spoken (record { ihave = []; iwant = []; graft = []; prune = x ∷ ps }) =
-    record { quiet = record { ihave = refl; iwant = refl }; there = omega arith } in
+    let c : Spoken (record { ihave = []; iwant = []; graft = []; prune = x ∷ ps; idontwant = [] }) =
+    record { quiet = record { ihave = refl; iwant = refl; idontwant = refl }; there = omega arith } in
     c and none-left
 spoken-control (g ∷ gs) ps =
-    let c : Spoken (record { ihave = []; iwant = []; graft = g ∷ gs; prune = ps }) =
-    record { quiet = record { ihave = refl; iwant = refl }; there = omega arith } in
+    let c : Spoken (record { ihave = []; iwant = []; graft = g ∷ gs; prune = ps; idontwant = [] }) =
+    record { quiet = record { ihave = refl; iwant = refl; idontwant = refl }; there = omega arith } in
     c and none-left
 
 pub said-sayable : (b : List ℕ) (rs : List Record) → Sayable (said b rs)
@@ -253,30 +261,75 @@ pub record Waits (m p : Bool) (g : Gathered) : Type 0 where
   pub ids : g .ids ≡ []
   pub ihave : g .control .ihave ≡ []
   pub iwant : g .control .iwant ≡ []
+  pub idontwant : g .control .idontwant ≡ []
 
 waits-kind : (k : Kind) (b : List ℕ) (r : Record) (g : Gathered) (m p : Bool) → heldBy m p k ≡ true
     → Waits (m || eqb (kindCode k) 2) (p || eqb (kindCode k) 9) g → Waits m p (gatherKind k b r g)
 unfolding heldBy kindCode
-waits-kind kind.Rpc b r g m p h w = clash (cc)
+waits-kind (kind.Rpc d) b r g m p h w = clash (cc)
 waits-kind kind.SubOpts b r g m p h w =
-    record { topics = λ e. w .topics (or-false m ∙ e); peers = λ e. w .peers (or-false p ∙ e); ids = w .ids; ihave = w .ihave; iwant = w .iwant }
+    record {
+      topics = λ e. w .topics (or-false m ∙ e);
+      peers = λ e. w .peers (or-false p ∙ e);
+      ids = w .ids;
+      ihave = w .ihave;
+      iwant = w .iwant;
+      idontwant = w .idontwant;
+    }
 waits-kind kind.RawMessage b r g m p h w =
-    record { topics = λ e. refl; peers = λ e. w .peers (or-false p ∙ e); ids = w .ids; ihave = w .ihave; iwant = w .iwant }
+    record {
+      topics = λ e. refl;
+      peers = λ e. w .peers (or-false p ∙ e);
+      ids = w .ids;
+      ihave = w .ihave;
+      iwant = w .iwant;
+      idontwant = w .idontwant;
+    }
 waits-kind kind.Topic b r g m p h w =
-    record { topics = λ e. clash (cc); peers = λ e. w .peers (or-false p ∙ e); ids = w .ids; ihave = w .ihave; iwant = w .iwant }
-waits-kind kind.ControlMessage b r g m p h w = clash (cc)
+    record {
+      topics = λ e. clash (cc);
+      peers = λ e. w .peers (or-false p ∙ e);
+      ids = w .ids;
+      ihave = w .ihave;
+      iwant = w .iwant;
+      idontwant = w .idontwant;
+    }
+waits-kind (kind.ControlMessage d) b r g m p h w = clash (cc)
 waits-kind kind.ControlIHave b r g m p h w = clash (cc)
 waits-kind kind.ControlIWant b r g m p h w = clash (cc)
 waits-kind kind.MessageId b r g m p h w = clash (cc)
 waits-kind kind.ControlGraft b r g m p h w =
-    record { topics = λ e. w .topics (or-false m ∙ e); peers = λ e. w .peers (or-false p ∙ e); ids = w .ids; ihave = w .ihave; iwant = w .iwant }
+    record {
+      topics = λ e. w .topics (or-false m ∙ e);
+      peers = λ e. w .peers (or-false p ∙ e);
+      ids = w .ids;
+      ihave = w .ihave;
+      iwant = w .iwant;
+      idontwant = w .idontwant;
+    }
 waits-kind kind.ControlPrune b r g m p h w =
-    record { topics = λ e. w .topics (or-false m ∙ e); peers = λ e. refl; ids = w .ids; ihave = w .ihave; iwant = w .iwant }
+    record {
+      topics = λ e. w .topics (or-false m ∙ e);
+      peers = λ e. refl;
+      ids = w .ids;
+      ihave = w .ihave;
+      iwant = w .iwant;
+      idontwant = w .idontwant;
+    }
 waits-kind kind.PeerInfo b r g m p h w =
-    record { topics = λ e. w .topics (or-false m ∙ e); peers = λ e. clash (cc); ids = w .ids; ihave = w .ihave; iwant = w .iwant }
+    record {
+      topics = λ e. w .topics (or-false m ∙ e);
+      peers = λ e. clash (cc);
+      ids = w .ids;
+      ihave = w .ihave;
+      iwant = w .iwant;
+      idontwant = w .idontwant;
+    }
+waits-kind kind.ControlIDontWant b r g m p h w = clash (cc)
 
 pub lent-waits : (b : List ℕ) (n : ℕ) (m p : Bool) (rs : List Record) → lentFrom n m p rs ≡ true → Waits m p (gather b rs nothing)
-lent-waits b n m p [] h = record { topics = λ e. refl; peers = λ e. refl; ids = refl; ihave = refl; iwant = refl }
+lent-waits b n m p [] h =
+    record { topics = λ e. refl; peers = λ e. refl; ids = refl; ihave = refl; iwant = refl; idontwant = refl }
 lent-waits b n m p (r ∷ rs) h =
     let m' = m || isCode 2 r in
     let p' = p || isCode 9 r in
@@ -287,17 +340,18 @@ lent-waits b n m p (r ∷ rs) h =
 -- ---- each row is one record
 held-own : (k : Kind) (m p : Bool) → heldBy m p k ≡ true → ownOf k ≡ 1
 unfolding heldBy ownOf
-held-own kind.Rpc m p h = clash (cc)
+held-own (kind.Rpc d) m p h = clash (cc)
 held-own kind.SubOpts m p h = refl
 held-own kind.RawMessage m p h = refl
 held-own kind.Topic m p h = refl
-held-own kind.ControlMessage m p h = clash (cc)
+held-own (kind.ControlMessage d) m p h = clash (cc)
 held-own kind.ControlIHave m p h = refl
 held-own kind.ControlIWant m p h = refl
 held-own kind.MessageId m p h = refl
 held-own kind.ControlGraft m p h = refl
 held-own kind.ControlPrune m p h = refl
 held-own kind.PeerInfo m p h = refl
+held-own kind.ControlIDontWant m p h = refl
 
 lent-weight : (n : ℕ) (m p : Bool) (rs : List Record) → lentFrom n m p rs ≡ true → weight rs ≡ length rs
 lent-weight n m p [] h = refl
@@ -332,6 +386,7 @@ said-records b n rs h =
     let i = ap length (w .ids) in
     let x = ap (sumOf (λ h. 1 + length (h .«message_ids»))) (w .ihave) in
     let y = ap (sumOf (λ h. 1 + length (h .«message_ids»))) (w .iwant) in
+    let z = ap (sumOf (λ h. 1 + length (h .«message_ids»))) (w .idontwant) in
     let r = renewed-sum (g .publish) in
     let c = control-records (g .control .graft) (g .control .prune) in
     omega arith

@@ -23,15 +23,17 @@ pub data Answer : Type 0 where
   explained : Explain → Answer
 
 unfoldable pub answerAt : State → Call → Answer
-answerAt s (admit body i word at) = admitted (admitAnswer (s .node) (s .ids) at (planIn s body i word at))
+answerAt s (admit ed body i word at) = admitted (admitAnswer (s .node) (s .ids) at (planIn s ed body i word at))
 answerAt s (heartbeat at) = beaten (beatAnswer (s .node) (s .ids) (s .messages) at)
 answerAt s (advertise topic windows out) =
     advertised (advertiseAnswer (s .node) (s .ids) (s .messages) topic windows out)
     (advertiseLeft (s .node) (s .ids) (s .messages) topic windows out)
-answerAt s (ask body out) =
-    asked (askAnswer (s .node) (s .ids) (s .messages) body out) (askLeft (s .node) (s .ids) (s .messages) body out)
-answerAt s (serve body out) =
-    served (serveAnswer (s .node) (s .ids) (s .messages) body out) (serveLeft (s .node) (s .ids) (s .messages) body out)
+answerAt s (ask ed body out) =
+    asked (askAnswer (s .node) (s .ids) (s .messages) ed body out)
+    (askLeft (s .node) (s .ids) (s .messages) ed body out)
+answerAt s (serve ed body second out) =
+    served (serveAnswer (s .node) (s .ids) (s .messages) ed body second out)
+    (serveLeft (s .node) (s .ids) (s .messages) ed body second out)
 answerAt s (explain id topic windows) =
     explained (explainAnswer (s .node) (s .ids) (s .messages) id topic windows)
 

@@ -27,41 +27,41 @@ same-state n m a b c d p q r = rw (p, q, r)
 module _ (k : ℕ) (s : State) (typed : Typed (s .node)) where
   pub answer-free : (c : Call) → answerAt (movedState k s) c ≡ answerAt s c
   unfolding answerAt movedState
-  answer-free (admit body i word at) =
-      ap admitted (admit-moved k (s .node) (s .ids) (s .messages) typed body i word at .0)
+  answer-free (admit ed body i word at) =
+      ap admitted (admit-moved k (s .node) (s .ids) (s .messages) typed ed body i word at .0)
   answer-free (heartbeat at) = ap beaten (beat-moved k (s .node) (s .ids) (s .messages) typed at .0)
   answer-free (advertise topic windows out) =
       let m = advertise-moved k (s .node) (s .ids) (s .messages) typed topic windows out in
       ap₂ (λ (x : Advertise) (l : List ℕ). advertised x l) (m .0) (m .1)
-  answer-free (ask body out) =
-      let m = ask-moved k (s .node) (s .ids) (s .messages) typed body out in
+  answer-free (ask ed body out) =
+      let m = ask-moved k (s .node) (s .ids) (s .messages) typed ed body out in
       ap₂ (λ (x : Ask) (l : List ℕ). asked x l) (m .0) (m .1)
-  answer-free (serve body out) =
-      let m = serve-moved k (s .node) (s .ids) (s .messages) typed body out in
+  answer-free (serve ed body second out) =
+      let m = serve-moved k (s .node) (s .ids) (s .messages) typed ed body second out in
       ap₂ (λ (x : Serve) (l : List ℕ). served x l) (m .0) (m .1)
   answer-free (explain id topic windows) =
       ap explained (explain-moved k (s .node) (s .ids) (s .messages) typed id topic windows)
 
   pub after-free : (c : Call) → after c (movedState k s) ≡ movedState k (after c s)
   unfolding after movedState
-  after-free (admit body i word at) =
-      let m = admit-moved k (s .node) (s .ids) (s .messages) typed body i word at in
+  after-free (admit ed body i word at) =
+      let m = admit-moved k (s .node) (s .ids) (s .messages) typed ed body i word at in
       same-state _ _ _ _ _ _ (m .1) (m .2) (m .3)
   after-free (heartbeat at) =
       same-state _ _ _ _ _ _ (beat-moved k (s .node) (s .ids) (s .messages) typed at .1) refl refl
   after-free (advertise topic windows out) = refl
-  after-free (ask body out) = refl
-  after-free (serve body out) = refl
+  after-free (ask ed body out) = refl
+  after-free (serve ed body second out) = refl
   after-free (explain id topic windows) = refl
 
 -- a node's types stay
 after-typed : (s : State) → Typed (s .node) → (c : Call) → Typed (after c s .node)
 unfolding after
-after-typed s typed (admit body i word at) = admit-typed (s .node) (s .ids) (s .messages) typed body i word at
+after-typed s typed (admit ed body i word at) = admit-typed (s .node) (s .ids) (s .messages) typed ed body i word at
 after-typed s typed (heartbeat at) = beaten-typed (s .node) (s .ids) (s .messages) typed at
 after-typed s typed (advertise topic windows out) = typed
-after-typed s typed (ask body out) = typed
-after-typed s typed (serve body out) = typed
+after-typed s typed (ask ed body out) = typed
+after-typed s typed (serve ed body second out) = typed
 after-typed s typed (explain id topic windows) = typed
 
 -- ---- all calls: the same answers and buffers, and at the end the state that stands k further

@@ -7,6 +7,8 @@ use mathlib.Core.Bool.{Bool, true, false, cond}
 use mathlib.Core.List.{List, [], _∷_, _++_}
 use mathlib.Core.Option.{Option, none, some}
 use lib.ListN.{length, getD, take}
+use Rattle.basis.specs.declared.Edition.{Edition}
+use Rattle.basis.specs.Dialect.{spoken}
 use Rattle.basis.specs.Bytes.{Bytes}
 use Rattle.rows.specs.Ids.{sameBytes}
 use Rattle.protobuf.specs.declared.Checked.{Checked}
@@ -60,38 +62,39 @@ pub record Fresh (x : Settings) (s : State) : Type 0 where
 
 -- ---- calls
 pub data Call : Type 0 where
-  -- body, message index, the host's word, now
-  admit : List ℕ → ℕ → Bool → ℕ → Call
+  -- the stream's edition, body, message index, the host's word, now
+  admit : Edition → List ℕ → ℕ → Bool → ℕ → Call
   heartbeat : ℕ → Call
   -- topic, windows, buffer
   advertise : List ℕ → ℕ → List ℕ → Call
-  -- body, buffer
-  ask : List ℕ → List ℕ → Call
-  serve : List ℕ → List ℕ → Call
+  -- edition, body, buffer
+  ask : Edition → List ℕ → List ℕ → Call
+  -- edition, body, second body, buffer
+  serve : Edition → List ℕ → List ℕ → List ℕ → Call
   -- id, topic, windows
   explain : List ℕ → List ℕ → ℕ → Call
 
 -- what an admit is to do
-abbrev pub planIn : State → List ℕ → ℕ → Bool → ℕ → Plan
-planIn s body i word at = planned (s .node) (s .ids) (s .messages) body i word at
+abbrev pub planIn : State → Edition → List ℕ → ℕ → Bool → ℕ → Plan
+planIn s ed body i word at = planned (s .node) (s .ids) (s .messages) ed body i word at
 
 -- and what it answers
-abbrev pub answerIn : State → List ℕ → ℕ → Bool → ℕ → Admit
-answerIn s body i word at = admitAnswer (s .node) (s .ids) at (planIn s body i word at)
+abbrev pub answerIn : State → Edition → List ℕ → ℕ → Bool → ℕ → Admit
+answerIn s ed body i word at = admitAnswer (s .node) (s .ids) at (planIn s ed body i word at)
 
 -- the node and stores as a call leaves them
 unfoldable pub after : Call → State → State
-after (admit body i word at) s =
+after (admit ed body i word at) s =
     record {
-      node = admitNode (s .node) (s .ids) at (planIn s body i word at);
-      ids = admitSeen (s .node) (s .ids) at (planIn s body i word at);
-      messages = admitCache (s .node) (s .ids) (s .messages) at (planIn s body i word at);
+      node = admitNode (s .node) (s .ids) at (planIn s ed body i word at);
+      ids = admitSeen (s .node) (s .ids) at (planIn s ed body i word at);
+      messages = admitCache (s .node) (s .ids) (s .messages) at (planIn s ed body i word at);
     }
 after (heartbeat at) s =
     record { node = beatNode (s .node) (s .ids) (s .messages) at; ids = s .ids; messages = s .messages }
 after (advertise topic windows out) s = s
-after (ask body out) s = s
-after (serve body out) s = s
+after (ask ed body out) s = s
+after (serve ed body second out) s = s
 after (explain id topic windows) s = s
 
 unfoldable pub afterAll : List Call → State → State
@@ -100,11 +103,11 @@ afterAll (c ∷ cs) s = afterAll cs (after c s)
 
 -- ---- the readings of the clock, in their order, and the heartbeats
 abbrev pub reading : Call → List ℕ
-reading (admit body i word at) = at ∷ []
+reading (admit ed body i word at) = at ∷ []
 reading (heartbeat at) = at ∷ []
 reading (advertise topic windows out) = []
-reading (ask body out) = []
-reading (serve body out) = []
+reading (ask ed body out) = []
+reading (serve ed body second out) = []
 reading (explain id topic windows) = []
 
 unfoldable pub readings : List Call → List ℕ
@@ -116,11 +119,11 @@ abbrev pub firstOf : List Call → ℕ
 firstOf calls = getD (readings calls) 0 0
 
 abbrev pub beat : Call → ℕ
-beat (admit body i word at) = 0
+beat (admit ed body i word at) = 0
 beat (heartbeat at) = 1
 beat (advertise topic windows out) = 0
-beat (ask body out) = 0
-beat (serve body out) = 0
+beat (ask ed body out) = 0
+beat (serve ed body second out) = 0
 beat (explain id topic windows) = 0
 
 unfoldable pub beats : List Call → ℕ
@@ -129,12 +132,12 @@ beats (c ∷ cs) = beat c + beats cs
 
 -- ---- refusals: the number of the one that a call meets, 0 where it is done
 abbrev pub refusalAt : State → Call → ℕ
-refusalAt s (admit body i word at) = admitNumber (answerIn s body i word at)
+refusalAt s (admit ed body i word at) = admitNumber (answerIn s ed body i word at)
 refusalAt s (heartbeat at) = beatNumber (beatAnswer (s .node) (s .ids) (s .messages) at)
 refusalAt s (advertise topic windows out) =
     advertiseNumber (advertiseAnswer (s .node) (s .ids) (s .messages) topic windows out)
-refusalAt s (ask body out) = askNumber (askAnswer (s .node) (s .ids) (s .messages) body out)
-refusalAt s (serve body out) = serveNumber (serveAnswer (s .node) (s .ids) (s .messages) body out)
+refusalAt s (ask ed body out) = askNumber (askAnswer (s .node) (s .ids) (s .messages) ed body out)
+refusalAt s (serve ed body second out) = serveNumber (serveAnswer (s .node) (s .ids) (s .messages) ed body second out)
 refusalAt s (explain id topic windows) =
     explainNumber (explainAnswer (s .node) (s .ids) (s .messages) id topic windows)
 
@@ -187,11 +190,12 @@ whereAccepted checked.Fine m = m
 whereAccepted (checked.Refused why) m = none
 
 unfoldable pub brought : ℕ → Call → Option (List ℕ)
-brought flags (admit body i word at) = whereAccepted (acceptOf body) (standing flags word body (messageAt body i))
+brought flags (admit ed body i word at) =
+    whereAccepted (acceptOf (spoken ed) body) (standing flags word body (messageAt body i))
 brought flags (heartbeat at) = none
 brought flags (advertise topic windows out) = none
-brought flags (ask body out) = none
-brought flags (serve body out) = none
+brought flags (ask ed body out) = none
+brought flags (serve ed body second out) = none
 brought flags (explain id topic windows) = none
 
 abbrev pub isThat : List ℕ → Option (List ℕ) → Bool
@@ -228,12 +232,12 @@ isDuplicate (answer.ClockBack clock) = 0
 
 -- an admit that brings the message counts as its answer counts, and no other call does
 abbrev pub countAt : (Admit → ℕ) → ℕ → List ℕ → State → Call → ℕ
-countAt f flags m s (admit body i word at) =
-    cond (brings flags m (admit body i word at)) (f (answerIn s body i word at)) 0
+countAt f flags m s (admit ed body i word at) =
+    cond (brings flags m (admit ed body i word at)) (f (answerIn s ed body i word at)) 0
 countAt f flags m s (heartbeat at) = 0
 countAt f flags m s (advertise topic windows out) = 0
-countAt f flags m s (ask body out) = 0
-countAt f flags m s (serve body out) = 0
+countAt f flags m s (ask ed body out) = 0
+countAt f flags m s (serve ed body second out) = 0
 countAt f flags m s (explain id topic windows) = 0
 
 unfoldable pub times : (Admit → ℕ) → ℕ → List ℕ → List Call → State → ℕ
@@ -247,6 +251,6 @@ abbrev pub timesDuplicate : ℕ → List ℕ → List Call → State → ℕ
 timesDuplicate flags m calls s = times isDuplicate flags m calls s
 
 -- ---- admits of k messages of a body, from an index on, each with the host's word and at its reading
-unfoldable pub admits : List ℕ → (ℕ → ℕ) → ℕ → ℕ → List Call
-admits body at i zero = []
-admits body at i (suc k) = admit body i true (at i) ∷ admits body at (suc i) k
+unfoldable pub admits : Edition → List ℕ → (ℕ → ℕ) → ℕ → ℕ → List Call
+admits ed body at i zero = []
+admits ed body at i (suc k) = admit ed body i true (at i) ∷ admits ed body at (suc i) k

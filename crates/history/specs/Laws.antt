@@ -7,6 +7,8 @@ use mathlib.Core.List.{List, [], _∷_, _++_, append-assoc}
 use mathlib.Core.Logic.{_↔_}
 use mathlib.Core.Option.{Option, none, some}
 use native.Mathlib.Omega.{arith}
+use Rattle.basis.specs.declared.Edition.{Edition}
+use Rattle.basis.specs.Dialect.{spoken}
 use Rattle.basis.specs.Cases.{either, clash}
 use Rattle.rows.specs.IdsLaws.{same-self, same-equal}
 use Rattle.protobuf.specs.declared.Checked.{Checked}
@@ -74,10 +76,10 @@ times-append f flags m [] ds s = omega arith
 times-append f flags m (c ∷ cs) ds s = let r = times-append f flags m cs ds (after c s) in omega arith
 
 -- admits are no heartbeats
-pub admits-beats : (body : List ℕ) (at : ℕ → ℕ) (i k : ℕ) → beats (admits body at i k) ≡ 0
+pub admits-beats : (ed : Edition) (body : List ℕ) (at : ℕ → ℕ) (i k : ℕ) → beats (admits ed body at i k) ≡ 0
 unfolding admits beats
-admits-beats body at i zero = refl
-admits-beats body at i (suc k) = let r = admits-beats body at (suc i) k in omega arith
+admits-beats ed body at i zero = refl
+admits-beats ed body at i (suc k) = let r = admits-beats ed body at (suc i) k in omega arith
 
 -- ---- the clock
 pub node-clock : (s : State) → gatewayOf s .clock ≡ s .node .clock
@@ -110,13 +112,13 @@ Kept s = Keeps (s .node) (s .ids) (s .messages)
 
 pub after-keeps : (c : Call) (s : State) → Kept s → Kept (after c s)
 unfolding after
-after-keeps (admit body i word at) s k =
-    admitted-keeps (s .node) (s .ids) (s .messages) body i word at k (planIn s body i word at) refl
+after-keeps (admit ed body i word at) s k =
+    admitted-keeps (s .node) (s .ids) (s .messages) ed body i word at k (planIn s ed body i word at) refl
 after-keeps (heartbeat at) s k =
     beaten-keeps (s .node) (s .ids) (s .messages) at k (beatAnswer (s .node) (s .ids) (s .messages) at) refl
 after-keeps (advertise topic windows out) s k = k
-after-keeps (ask body out) s k = k
-after-keeps (serve body out) s k = k
+after-keeps (ask ed body out) s k = k
+after-keeps (serve ed body second out) s k = k
 after-keeps (explain id topic windows) s k = k
 
 pub all-keep : (calls : List Call) (s : State) → Kept s → Kept (afterAll calls s)
@@ -145,22 +147,23 @@ pub fresh-flags : {x : Settings} {s : State} → Fresh x s → gatewayOf s .flag
 fresh-flags {x} {s} f = ap (λ (g : Gateway). g .flags) (fresh-starts f) ∙ started-flags x
 
 -- ---- an admit
-module _ (s : State) (body : List ℕ) (i : ℕ) (word : Bool) (at : ℕ) where
+module _ (s : State) (ed : Edition) (body : List ℕ) (i : ℕ) (word : Bool) (at : ℕ) where
   -- that takes nothing
-  pub admit-none : (r : Admit) → planIn s body i word at ≡ no r → after (admit body i word at) s ≡ s
+  pub admit-none : (r : Admit) → planIn s ed body i word at ≡ no r → after (admit ed body i word at) s ≡ s
   unfolding after
   admit-none r e = rw e
 
   -- that takes a message
-  module _ (m id : List ℕ) (e : planIn s body i word at ≡ taken m id) where
-    pub taken-number : refusalAt s (admit body i word at) ≡ 0
+  module _ (m id : List ℕ) (e : planIn s ed body i word at ≡ taken m id) where
+    pub taken-number : refusalAt s (admit ed body i word at) ≡ 0
     taken-number = rw e (either (heldAt (s .node) (s .ids) at (formOf m id)) (λ t. simp t) (λ t. simp t))
 
-    pub admit-leaves : Typed (s .node) → gatewayOf (after (admit body i word at) s) ≡ afterAdmit at m id (gatewayOf s)
+    pub admit-leaves : Typed (s .node)
+        → gatewayOf (after (admit ed body i word at) s) ≡ afterAdmit at m id (gatewayOf s)
     unfolding after
-    admit-leaves typed = admit-gateway (s .node) (s .ids) (s .messages) body i word at m id typed e
+    admit-leaves typed = admit-gateway (s .node) (s .ids) (s .messages) ed body i word at m id typed e
 
-    pub admit-clock : Typed (s .node) → gatewayOf (after (admit body i word at) s) .clock ≡ at
+    pub admit-clock : Typed (s .node) → gatewayOf (after (admit ed body i word at) s) .clock ≡ at
     admit-clock typed = ap (λ (g : Gateway). g .clock) (admit-leaves typed) ∙ after-admit-clock at m id (gatewayOf s)
 
 -- ---- a heartbeat whose reading is not before the clock
@@ -194,13 +197,13 @@ beat-stays s at (beaten.ClockBack clock) e h = rw e
 
 pub refused-stays : (c : Call) (s : State) → (refusalAt s c ≡ 0 → ⊥) → after c s ≡ s
 unfolding after
-refused-stays (admit body i word at) s h = plan-stays s at (planIn s body i word at) h
+refused-stays (admit ed body i word at) s h = plan-stays s at (planIn s ed body i word at) h
 refused-stays (heartbeat at) s h =
     ap (λ (n : Node). record { node = n; ids = s .ids; messages = s .messages })
     (beat-stays s at (beatAnswer (s .node) (s .ids) (s .messages) at) refl h)
 refused-stays (advertise topic windows out) s h = refl
-refused-stays (ask body out) s h = refl
-refused-stays (serve body out) s h = refl
+refused-stays (ask ed body out) s h = refl
+refused-stays (serve ed body second out) s h = refl
 refused-stays (explain id topic windows) s h = refl
 
 -- ---- no call changes the flags
@@ -219,12 +222,12 @@ beat-flags n ss cs at (beaten.ClockBack clock) e = rw e
 
 pub after-flags : (c : Call) (s : State) → gatewayOf (after c s) .flags ≡ gatewayOf s .flags
 unfolding after gatewayIn
-after-flags (admit body i word at) s = plan-flags (s .node) (s .ids) at (planIn s body i word at)
+after-flags (admit ed body i word at) s = plan-flags (s .node) (s .ids) at (planIn s ed body i word at)
 after-flags (heartbeat at) s =
     beat-flags (s .node) (s .ids) (s .messages) at (beatAnswer (s .node) (s .ids) (s .messages) at) refl
 after-flags (advertise topic windows out) s = refl
-after-flags (ask body out) s = refl
-after-flags (serve body out) s = refl
+after-flags (ask ed body out) s = refl
+after-flags (serve ed body second out) s = refl
 after-flags (explain id topic windows) s = refl
 
 all-flags : (calls : List Call) (s : State) → gatewayOf (afterAll calls s) .flags ≡ gatewayOf s .flags
@@ -238,15 +241,15 @@ history-flags {x} {s} calls f = all-flags calls s ∙ fresh-flags f
 
 -- ---- what a call brings
 -- an admit brings m exactly where m is vouched for, the body is accepted, and m stands at the index
-module _ (flags : ℕ) (body : List ℕ) (i : ℕ) (at : ℕ) where
-  vouched-brought : (word : Bool) (m : List ℕ) → vouched flags m word ≡ true → acceptOf body ≡ checked.Fine
-      → Placed body i m → brought flags (admit body i word at) ≡ some m
+module _ (flags : ℕ) (ed : Edition) (body : List ℕ) (i : ℕ) (at : ℕ) where
+  vouched-brought : (word : Bool) (m : List ℕ) → vouched flags m word ≡ true
+      → acceptOf (spoken ed) body ≡ checked.Fine → Placed body i m → brought flags (admit ed body i word at) ≡ some m
   unfolding brought
   vouched-brought word m v ok p = rw (ok, p .found, p .bytes, v)
 
   -- so does each with the host's word
-  pub carried-brought : (m : List ℕ) → acceptOf body ≡ checked.Fine → Placed body i m
-      → brought flags (admit body i true at) ≡ some m
+  pub carried-brought : (m : List ℕ) → acceptOf (spoken ed) body ≡ checked.Fine → Placed body i m
+      → brought flags (admit ed body i true at) ≡ some m
   unfolding vouched
   carried-brought m ok p = vouched-brought true m refl ok p
 
@@ -262,16 +265,16 @@ module _ (flags : ℕ) (body : List ℕ) (i : ℕ) (at : ℕ) where
         (λ t. clash (let b = rw t at h in cc))
     brought-at (Count n) q h = clash (cc)
 
-    brought-accepted : (r : Checked) → acceptOf body ≡ r
+    brought-accepted : (r : Checked) → acceptOf (spoken ed) body ≡ r
         → whereAccepted r (standing flags word body (messageAt body i)) ≡ some m
-        → (vouched flags m word ≡ true) × (acceptOf body ≡ checked.Fine) × Placed body i m
+        → (vouched flags m word ≡ true) × (acceptOf (spoken ed) body ≡ checked.Fine) × Placed body i m
     brought-accepted checked.Fine e h = let p = brought-at (messageAt body i) refl h in (p .0, e, p .1)
     brought-accepted (checked.Refused why) e h = clash (cc)
 
-    pub brought-carried : brought flags (admit body i word at) ≡ some m
-        → (vouched flags m word ≡ true) × (acceptOf body ≡ checked.Fine) × Placed body i m
+    pub brought-carried : brought flags (admit ed body i word at) ≡ some m
+        → (vouched flags m word ≡ true) × (acceptOf (spoken ed) body ≡ checked.Fine) × Placed body i m
     unfolding brought
-    brought-carried h = brought-accepted (acceptOf body) refl h
+    brought-carried h = brought-accepted (acceptOf (spoken ed) body) refl h
 
 brings-brought : (m : List ℕ) (o : Option (List ℕ)) → isThat m o ≡ true → o ≡ some m
 brings-brought m none h = clash (cc)
@@ -281,30 +284,32 @@ brings-brought m (some k) h = ap some (same-equal k m h)
 pub brings-that : (flags : ℕ) (m : List ℕ) (c : Call) → (brings flags m c ≡ true) ↔ (brought flags c ≡ some m)
 brings-that flags m c = (brings-brought m (brought flags c), λ e. rw e (same-self m))
 
-pub brings-exactly : (flags : ℕ) (m body : List ℕ) (i : ℕ) (word : Bool) (at : ℕ)
-    → (brings flags m (admit body i word at) ≡ true)
-    ↔ ((vouched flags m word ≡ true) × (acceptOf body ≡ checked.Fine) × Placed body i m)
-brings-exactly flags m body i word at = (
-  λ h. brought-carried flags body i at word m (brings-that flags m (admit body i word at) .0 h),
-  λ p. brings-that flags m (admit body i word at) .1 (vouched-brought flags body i at word m (p .0) (p .1) (p .2)),
+pub brings-exactly : (flags : ℕ) (m : List ℕ) (ed : Edition) (body : List ℕ) (i : ℕ) (word : Bool) (at : ℕ)
+    → (brings flags m (admit ed body i word at) ≡ true)
+    ↔ ((vouched flags m word ≡ true) × (acceptOf (spoken ed) body ≡ checked.Fine) × Placed body i m)
+brings-exactly flags m ed body i word at = (
+  λ h. brought-carried flags ed body i at word m (brings-that flags m (admit ed body i word at) .0 h),
+  λ p. brings-that flags m (admit ed body i word at) .1
+      (vouched-brought flags ed body i at word m (p .0) (p .1) (p .2)),
 )
 
 -- ---- an admit takes what it brings under the gateway's flags, and nothing else
 abbrev TakesNone : Plan → Type 0
 TakesNone p = (r : Admit) × (p ≡ no r)
 
-module _ (s : State) (flags : ℕ) (same : gatewayOf s .flags ≡ flags) (body : List ℕ) (i : ℕ) (word : Bool)
-    (at : ℕ) where
+module _ (s : State) (flags : ℕ) (same : gatewayOf s .flags ≡ flags) (ed : Edition) (body : List ℕ) (i : ℕ)
+    (word : Bool) (at : ℕ) where
   here : s .node .cache .flags ≡ flags
   unfolding gatewayIn
   here = same
 
   -- a message that passes admission, where the state is well formed and the clock does not go back
-  pub brought-plan : (m id : List ℕ) → brought flags (admit body i word at) ≡ some m → givesId flags m id ≡ true
-      → lentOf (s .node) (s .ids) (s .messages) ≡ lent.Fine → s .node .clock ≤ at → planIn s body i word at ≡ taken m id
+  pub brought-plan : (m id : List ℕ) → brought flags (admit ed body i word at) ≡ some m → givesId flags m id ≡ true
+      → lentOf (s .node) (s .ids) (s .messages) ≡ lent.Fine → s .node .clock ≤ at
+      → planIn s ed body i word at ≡ taken m id
   unfolding planned
   brought-plan m id e own fine h =
-      let c = brought-carried flags body i at word m e in
+      let c = brought-carried flags ed body i at word m e in
       let p = c .2 in
       let v = vouched-same (s .node .cache .flags) m word (rw here (c .0)) in
       rw (fine, c .1, p .found, p .bytes, v) (fit-plan (s .node) at m id (rw here own) h)
@@ -327,13 +332,15 @@ module _ (s : State) (flags : ℕ) (same : gatewayOf s .flags ≡ flags) (body :
   of-body checked.Fine h = of-at (messageAt body i) h
   of-body (checked.Refused why) h = (answer.Refused why, refl)
 
-  of-lent : (l : Lent) → whereAccepted (acceptOf body) (standing flags word body (messageAt body i)) ≡ none
+  of-lent : (l : Lent) → whereAccepted (acceptOf (spoken ed) body) (standing flags word body (messageAt body i)) ≡ none
       → TakesNone
-      (onLent (λ (why : Fault). no (answer.Faulty why)) l (planBody (s .node) at word body i (acceptOf body)))
-  of-lent lent.Fine h = of-body (acceptOf body) h
+      (onLent (λ (why : Fault). no (answer.Faulty why)) l
+      (planBody (s .node) at word body i (acceptOf (spoken ed) body)))
+  of-lent lent.Fine h = of-body (acceptOf (spoken ed) body) h
   of-lent (lent.Faulty why) h = (answer.Faulty why, refl)
 
   -- where it brings nothing, it takes nothing
-  pub unbrought-plan : brought flags (admit body i word at) ≡ none → (r : Admit) × (planIn s body i word at ≡ no r)
+  pub unbrought-plan : brought flags (admit ed body i word at) ≡ none
+      → (r : Admit) × (planIn s ed body i word at ≡ no r)
   unfolding planned brought
   unbrought-plan h = of-lent (lentOf (s .node) (s .ids) (s .messages)) h

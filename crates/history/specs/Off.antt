@@ -4,6 +4,7 @@ use mathlib.Core.Path.{_≡_, refl}
 use mathlib.Core.Bool.{Bool, true, false, cond}
 use mathlib.Core.List.{List}
 use mathlib.Core.Option.{Option, none, some}
+use Rattle.basis.specs.Dialect.{spoken}
 use Rattle.protobuf.specs.declared.Checked.{Checked}
 use Rattle.protobuf.specs.declared.Checked.the-variants as checked
 use Rattle.protobuf.specs.Walk.{between}
@@ -22,11 +23,12 @@ standingWas body (At a e) = some (between body a e)
 standingWas body (Count n) = none
 
 unfoldable pub broughtWas : Call → Option (List ℕ)
-broughtWas (admit body i word at) = cond word (whereAccepted (acceptOf body) (standingWas body (messageAt body i))) none
+broughtWas (admit ed body i word at) =
+    cond word (whereAccepted (acceptOf (spoken ed) body) (standingWas body (messageAt body i))) none
 broughtWas (heartbeat at) = none
 broughtWas (advertise topic windows out) = none
-broughtWas (ask body out) = none
-broughtWas (serve body out) = none
+broughtWas (ask ed body out) = none
+broughtWas (serve ed body second out) = none
 broughtWas (explain id topic windows) = none
 
 -- ---- with the flag off it is that
@@ -47,11 +49,11 @@ module _ (flags : ℕ) (off : allowsUnsigned flags ≡ false) where
 
   pub brought-off : (c : Call) → brought flags c ≡ broughtWas c
   unfolding brought broughtWas
-  brought-off (admit body i word at) =
-      accepted-off word (acceptOf body) (standing flags word body (messageAt body i))
+  brought-off (admit ed body i word at) =
+      accepted-off word (acceptOf (spoken ed) body) (standing flags word body (messageAt body i))
       (standingWas body (messageAt body i)) (standing-off word body (messageAt body i))
   brought-off (heartbeat at) = refl
   brought-off (advertise topic windows out) = refl
-  brought-off (ask body out) = refl
-  brought-off (serve body out) = refl
+  brought-off (ask ed body out) = refl
+  brought-off (serve ed body second out) = refl
   brought-off (explain id topic windows) = refl

@@ -6,6 +6,7 @@ use mathlib.Core.Bool.{true, cond}
 use mathlib.Core.List.{List, [], _∷_}
 use mathlib.Core.Option.{some}
 use native.Mathlib.Omega.{arith}
+use Rattle.basis.specs.declared.Edition.{Edition}
 use Rattle.basis.specs.Cases.{either}
 use Rattle.rows.specs.Ids.{sameBytes}
 use Rattle.node.specs.Gateway.{formOf}
@@ -31,29 +32,30 @@ pub record Acted (flags : ℕ) (xs : List Act) (s : State) : Type 0 where
       → gotIn m xs ≡ timesNew flags m (callsOf xs) s + timesDuplicate flags m (callsOf xs) s
 
 -- the counts of one admit
-module _ (flags : ℕ) (s : State) (kept : Kept s) (body m id : List ℕ) (at : ℕ)
-    (b : brought flags (admit body 0 true at) ≡ some m) (e : planIn s body 0 true at ≡ taken m id) (k : List ℕ) where
-  admit-got : cond (brings flags k (admit body 0 true at)) 1 0 ≡ gotBy k (gets body m id at)
-  admit-got = rw b
+module _ (flags : ℕ) (s : State) (kept : Kept s) (ed : Edition) (body m id : List ℕ) (at : ℕ)
+    (b : brought flags (admit ed body 0 true at) ≡ some m) (e : planIn s ed body 0 true at ≡ taken m id) (k : List ℕ)
+  where
+    admit-got : cond (brings flags k (admit ed body 0 true at)) 1 0 ≡ gotBy k (gets ed body m id at)
+    admit-got = rw b
 
-  admit-new : countAt newAnswer flags k s (admit body 0 true at) ≡ newBy k (gets body m id at) (gatewayOf s)
-  admit-new =
-      let n = is-new (s .node) (s .ids) (s .messages) (kept .fine) at m id in
-      rw (b, e, n) (either (heldAt (s .node) (s .ids) at (formOf m id)) (λ t. rw t) (λ t. rw t))
+    admit-new : countAt newAnswer flags k s (admit ed body 0 true at) ≡ newBy k (gets ed body m id at) (gatewayOf s)
+    admit-new =
+        let n = is-new (s .node) (s .ids) (s .messages) (kept .fine) at m id in
+        rw (b, e, n) (either (heldAt (s .node) (s .ids) at (formOf m id)) (λ t. rw t) (λ t. rw t))
 
-  admit-answered : gotBy k (gets body m id at) ≡ countAt newAnswer flags k s (admit body 0 true at)
-      + countAt isDuplicate flags k s (admit body 0 true at)
-  admit-answered =
-      rw (b, e)
-      (either (sameBytes m k)
-      (λ t. either (heldAt (s .node) (s .ids) at (formOf m id)) (λ u. rw (t, u)) (λ u. rw (t, u)))
-      (λ t. rw t))
+    admit-answered : gotBy k (gets ed body m id at) ≡ countAt newAnswer flags k s (admit ed body 0 true at)
+        + countAt isDuplicate flags k s (admit ed body 0 true at)
+    admit-answered =
+        rw (b, e)
+        (either (sameBytes m k)
+        (λ t. either (heldAt (s .node) (s .ids) at (formOf m id)) (λ u. rw (t, u)) (λ u. rw (t, u)))
+        (λ t. rw t))
 
 -- an ask
-ask-kept : (flags : ℕ) (xs : List Act) (s : State) (body out : List ℕ) → Acted flags xs s
-    → Acted flags (asks body out ∷ xs) s
+ask-kept : (flags : ℕ) (xs : List Act) (s : State) (ed : Edition) (body out : List ℕ) → Acted flags xs s
+    → Acted flags (asks ed body out ∷ xs) s
 unfolding callsOf gatewayAfter gotIn newIn afterAll times timesGot brought after
-ask-kept flags xs s body out rest =
+ask-kept flags xs s ed body out rest =
     record {
       gateway = rest .gateway;
       times-got = λ k. ap (λ (n : ℕ). 0 + n) (rest .times-got k);
@@ -66,21 +68,23 @@ pub acted : (flags : ℕ) (xs : List Act) (s : State) → Kept s → gatewayOf s
 unfolding callsOf gatewayAfter gotIn newIn afterAll times timesGot brought
 acted flags [] s kept same nothing =
     record { gateway = refl; times-got = λ m. refl; times-new = λ m. refl; answered = λ m. refl }
-acted flags (gets body m id at ∷ xs) s kept same (got clock now c forward w) =
-    let b = carried-brought flags body 0 at m (c .accepted) (c .placed) in
-    let e = brought-plan s flags same body 0 true at m id b (c .own) (kept .fine)
+acted flags (gets ed body m id at ∷ xs) s kept same (got clock now c forward w) =
+    let b = carried-brought flags ed body 0 at m (c .accepted) (c .placed) in
+    let e = brought-plan s flags same ed body 0 true at m id b (c .own) (kept .fine)
     (subst (λ (k : ℕ). k ≤ at) (node-clock s) forward) in
-    let a = admit body 0 true at in
-    let g = admit-leaves s body 0 true at m id e (kept .typed) in
-    let later = sym (admit-clock s body 0 true at m id e (kept .typed)) in
+    let a = admit ed body 0 true at in
+    let g = admit-leaves s ed body 0 true at m id e (kept .typed) in
+    let later = sym (admit-clock s ed body 0 true at m id e (kept .typed)) in
     let rest = acted flags xs (after a s) (after-keeps a s kept) (after-flags a s ∙ same)
     (subst (λ (k : ℕ). Written flags k xs) later w) in
     record {
       gateway = rest .gateway ∙ ap (gatewayAfter xs) g;
-      times-got = λ k. ap₂ (λ (a b : ℕ). a + b) (admit-got flags s kept body m id at b e k) (rest .times-got k);
-      times-new = λ k. ap₂ (λ (a b : ℕ). a + b) (admit-new flags s kept body m id at b e k) (rest .times-new k
+      times-got = λ k. ap₂ (λ (a b : ℕ). a + b) (admit-got flags s kept ed body m id at b e k) (rest .times-got k);
+      times-new = λ k. ap₂ (λ (a b : ℕ). a + b) (admit-new flags s kept ed body m id at b e k) (rest .times-new k
           ∙ ap (newIn k xs) g);
-      answered = λ k. let r = rest .answered k in let o = admit-answered flags s kept body m id at b e k in omega arith;
+      answered = λ k.
+          let r = rest .answered k in
+          let o = admit-answered flags s kept ed body m id at b e k in omega arith;
     }
 acted flags (beats at ∷ xs) s kept same (beaten clock now forward w) =
     let f = subst (λ (k : ℕ). k ≤ at) (node-clock s) forward in
@@ -94,7 +98,8 @@ acted flags (beats at ∷ xs) s kept same (beaten clock now forward w) =
       times-new = λ k. ap (λ (n : ℕ). 0 + n) (rest .times-new k ∙ ap (newIn k xs) g);
       answered = λ k. let r = rest .answered k in omega arith;
     }
-acted flags (asks body out ∷ xs) s kept same (asked w) = ask-kept flags xs s body out (acted flags xs s kept same w)
+acted flags (asks ed body out ∷ xs) s kept same (asked w) =
+    ask-kept flags xs s ed body out (acted flags xs s kept same w)
 
 -- ---- from a fresh node
 pub fresh-acted : {x : Settings} {s : State} (xs : List Act) → Fresh x s → Written (x .flags) 0 xs

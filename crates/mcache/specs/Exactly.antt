@@ -196,10 +196,11 @@ module _ (c : MessageCache) (st : List ℕ) (y : Typed c) where
   plan-exactly : (ed : Edition) (body : List ℕ) (i : ℕ) → Exactly c st (putNumber (answered (planned c st ed body i)))
   unfolding planned
   plan-exactly ed body i =
-      by-put (lentOf c st) (planBody c body i (acceptOf (spoken ed) body)) (body-low c body i (acceptOf (spoken ed) body)) refl
+      by-put (lentOf c st) (planBody c body i (acceptOf (spoken ed) body))
+      (body-low c body i (acceptOf (spoken ed) body)) refl
 
-  pub put-lent-exactly : (ed : Edition) (body : List ℕ) (i : ℕ) (r : PutDone) (left : List ℕ) → Puts c st ed body i r left
-      → Exactly c st (putNumber (r .answer))
+  pub put-lent-exactly : (ed : Edition) (body : List ℕ) (i : ℕ) (r : PutDone) (left : List ℕ)
+      → Puts c st ed body i r left → Exactly c st (putNumber (r .answer))
   put-lent-exactly ed body i r left p = rw (p .answer) (plan-exactly ed body i)
 
   -- ---- 29: the state is well formed and the topic has more than 1,024 bytes; its length stands beside it

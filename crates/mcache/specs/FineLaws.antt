@@ -266,8 +266,8 @@ of-body : (c : MessageCache) (ed : Edition) (body m id : List ℕ) (i : ℕ) (r 
 of-body c ed body m id i (checked.Refused why) a h = clash (cc)
 of-body c ed body m id i checked.Fine a h = of-at c ed body m id i (messageAt body i) a refl h
 
-pub planned-keeps : (c : MessageCache) (st : List ℕ) (ed : Edition) (body m id : List ℕ) (i : ℕ) → lentOf c st ≡ lent.Fine
-    → planned c st ed body i ≡ keep m id → Enters c m id
+pub planned-keeps : (c : MessageCache) (st : List ℕ) (ed : Edition) (body m id : List ℕ) (i : ℕ)
+    → lentOf c st ≡ lent.Fine → planned c st ed body i ≡ keep m id → Enters c m id
 unfolding planned
 planned-keeps c st ed body m id i f h = of-body c ed body m id i (acceptOf (spoken ed) body) refl (rw f at h)
 
@@ -383,14 +383,15 @@ entered-fine c st m id t z k =
     rw (entered-some m id c some, stored-some c st m some)
     (tests-fine (grown m id c) (sets st (spot c * messageSize) m) (grown-tests c st m id t z k some)))
 
-put-by : (c : MessageCache) (st : List ℕ) (ed : Edition) (body : List ℕ) (i : ℕ) → lentOf c st ≡ lent.Fine → Sized c → (r : Plan)
-    → planned c st ed body i ≡ r → lentOf (keptIn c r) (storedIn c st r) ≡ lent.Fine
+put-by : (c : MessageCache) (st : List ℕ) (ed : Edition) (body : List ℕ) (i : ℕ) → lentOf c st ≡ lent.Fine
+    → Sized c → (r : Plan) → planned c st ed body i ≡ r → lentOf (keptIn c r) (storedIn c st r) ≡ lent.Fine
 put-by c st ed body i f z (no r) e = f
-put-by c st ed body i f z (keep m id) e = entered-fine c st m id (fine-tests c st f) z (planned-keeps c st ed body m id i f e)
+put-by c st ed body i f z (keep m id) e =
+    entered-fine c st m id (fine-tests c st f) z (planned-keeps c st ed body m id i f e)
 
 -- whatever is asked, refused puts too
-pub put-fine : (c : MessageCache) (st : List ℕ) (ed : Edition) (body : List ℕ) (i : ℕ) → lentOf c st ≡ lent.Fine → Sized c
-    → lentOf (keptIn c (planned c st ed body i)) (storedIn c st (planned c st ed body i)) ≡ lent.Fine
+pub put-fine : (c : MessageCache) (st : List ℕ) (ed : Edition) (body : List ℕ) (i : ℕ) → lentOf c st ≡ lent.Fine
+    → Sized c → lentOf (keptIn c (planned c st ed body i)) (storedIn c st (planned c st ed body i)) ≡ lent.Fine
 put-fine c st ed body i f z = put-by c st ed body i f z (planned c st ed body i) refl
 
 -- a message that may be taken, put under its id, whatever it came from
@@ -499,7 +500,8 @@ typed-by : (c : MessageCache) → Typed c → (r : Plan) → Typed (keptIn c r)
 typed-by c y (no r) = y
 typed-by c y (keep m id) = entered-typed m id c y
 
-pub put-typed : (c : MessageCache) (st : List ℕ) (ed : Edition) (body : List ℕ) (i : ℕ) → Typed c → Typed (keptIn c (planned c st ed body i))
+pub put-typed : (c : MessageCache) (st : List ℕ) (ed : Edition) (body : List ℕ) (i : ℕ) → Typed c
+    → Typed (keptIn c (planned c st ed body i))
 put-typed c st ed body i y = typed-by c y (planned c st ed body i)
 
 pub under-typed : (m id : List ℕ) (c : MessageCache) → Typed c → Typed (keptUnder m id c)

@@ -140,7 +140,8 @@ not-stored : (c : MessageCache) (st : List ℕ) (r : Plan) → (answered r ≡ p
 not-stored c st (no r) n = (refl, refl)
 not-stored c st (keep m id) n = absurd (n refl)
 
-pub put-refused : (c : MessageCache) (st : List ℕ) (ed : Edition) (body : List ℕ) (i : ℕ) → (putNumber (answered (planned c st ed body i)) ≡ 0 → ⊥)
+pub put-refused : (c : MessageCache) (st : List ℕ) (ed : Edition) (body : List ℕ) (i : ℕ)
+    → (putNumber (answered (planned c st ed body i)) ≡ 0 → ⊥)
     → (keptIn c (planned c st ed body i) ≡ c) × (storedIn c st (planned c st ed body i) ≡ st)
 put-refused c st ed body i n = not-stored c st (planned c st ed body i) (λ e. n (ap putNumber e))
 

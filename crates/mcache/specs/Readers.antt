@@ -67,7 +67,8 @@ module _
         → (putTold (answered (planned c st ed body i)) ≡ done (0 ∷ [])) × (keptIn c (planned c st ed body i) ≡ c)
         × (storedIn c st (planned c st ed body i) ≡ st)
     held-not-replaced h =
-        let p : planned c st ed body i ≡ no put.Held = rw h at (put-plan c st ed body i a e x y z w fine ok there fit) in
+        let p : planned c st ed body i ≡ no put.Held =
+        rw h at (put-plan c st ed body i a e x y z w fine ok there fit) in
         (ap (λ (r : Plan). putTold (answered r)) p, ap (keptIn c) p, ap (storedIn c st) p)
 
     -- a put into a full cache: the oldest goes, the others stay, and the message is the newest
@@ -141,8 +142,8 @@ grown-written c st m id fine z some k =
       topics = new-topics c st m id t z (k .id-small) (k .small) some ∙ kept-all (c .flags) m id (k .own);
     }
 
-pub freed-place-used : (c : MessageCache) (st : List ℕ) (ed : Edition) (body m id : List ℕ) (i : ℕ) → lentOf c st ≡ lent.Fine → Sized c
-    → (c .«max_messages» ≡ 0 → ⊥) → planned c st ed body i ≡ keep m id
+pub freed-place-used : (c : MessageCache) (st : List ℕ) (ed : Edition) (body m id : List ℕ) (i : ℕ)
+    → lentOf c st ≡ lent.Fine → Sized c → (c .«max_messages» ≡ 0 → ⊥) → planned c st ed body i ≡ keep m id
     → Written c (keptIn c (planned c st ed body i)) st (storedIn c st (planned c st ed body i)) m
 freed-place-used c st ed body m id i fine z some e =
     rw (e, entered-some m id c some, stored-some c st m some)

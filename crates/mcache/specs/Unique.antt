@@ -75,8 +75,8 @@ one-start history max flags r s a b =
     ap₂ (λ (x : Start) (d : MessageCache). record { answer = x; cache = d }) (a .answer ∙ sym (b .answer))
     (a .cache ∙ sym (b .cache))
 
-pub one-put : (c : MessageCache) (st : List ℕ) (e : Edition) (body : List ℕ) (i : ℕ) (r s : PutDone) (left left2 : List ℕ)
-    → Puts c st e body i r left → Puts c st e body i s left2 → (r ≡ s) × (left ≡ left2)
+pub one-put : (c : MessageCache) (st : List ℕ) (e : Edition) (body : List ℕ) (i : ℕ) (r s : PutDone)
+    (left left2 : List ℕ) → Puts c st e body i r left → Puts c st e body i s left2 → (r ≡ s) × (left ≡ left2)
 one-put c st e body i r s left left2 a b = (
   same-put r s (a .answer ∙ sym (b .answer)) (a .cache ∙ sym (b .cache)),
   a .store ∙ sym (b .store),

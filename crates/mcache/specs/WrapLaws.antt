@@ -224,12 +224,12 @@ module _ (k : ℕ) (c : MessageCache) (st : List ℕ) (y : Typed c) where
   wrap-free-told topic windows = (rw wrap-free, rw wrap-free)
 
   -- and the same states, but for the numbers: so the answers of all later calls are the same too
-  pub wrap-free-kept : (ed : Edition) (body : List ℕ) (i : ℕ) → keptIn (moved k c) (planned (moved k c) st ed body i) ≡ moved k
-      (keptIn c (planned c st ed body i))
+  pub wrap-free-kept : (ed : Edition) (body : List ℕ) (i : ℕ)
+      → keptIn (moved k c) (planned (moved k c) st ed body i) ≡ moved k (keptIn c (planned c st ed body i))
   wrap-free-kept ed body i = ap (keptIn (moved k c)) (wrap-free-put ed body i) ∙ kept-moved k c (planned c st ed body i)
 
-  pub wrap-free-stored : (ed : Edition) (body : List ℕ) (i : ℕ) → storedIn (moved k c) st (planned (moved k c) st ed body i)
-      ≡ storedIn c st (planned c st ed body i)
+  pub wrap-free-stored : (ed : Edition) (body : List ℕ) (i : ℕ)
+      → storedIn (moved k c) st (planned (moved k c) st ed body i) ≡ storedIn c st (planned c st ed body i)
   wrap-free-stored ed body i = ap (storedIn (moved k c) st) (wrap-free-put ed body i)
       ∙ storing-moved k c st (planned c st ed body i)
 

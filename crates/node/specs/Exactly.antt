@@ -1,26 +1,31 @@
 -- 40, 41 and 42, each exactly: of a lent node and its stores, and of every call that is given them; 40 of a start; and
--- what a heartbeat tells, whole.
+-- what a heartbeat and a serve tell, whole.
 use Prim.Native.Nat.{ℕ, _*_, _/_, _≤_, _<_}
-use mathlib.Core.Path.{_≡_, refl, ap, subst}
+use mathlib.Core.Path.{_≡_, refl, sym, ap, subst, _∙_}
 use mathlib.Core.List.{List, [], _∷_}
 use mathlib.Core.Bool.{Bool, true, false, and-false}
 use mathlib.Core.Logic.{_↔_, _⊎_, inl, inr}
 use native.Mathlib.Omega.{arith}
 use lib.ListN.{length}
 use lib.Dec.{leb, ltb, eqb}
-use borrow.Author.Tests.{leb-false, lt-leb, ltb-true, ltb-false, lt-ltb, le-ltb, eqb-true, eqb-false, eq-eqb, ne-eqb}
+use borrow.Author.Tests.{leb-true, leb-false, lt-leb, ltb-true, ltb-false, lt-ltb, le-ltb, eqb-true, eqb-false, eq-eqb}
+use borrow.Author.Tests.{ne-eqb}
 use Rattle.basis.specs.declared.Edition.{Edition}
 use Rattle.basis.specs.declared.Edition.the-variants.{V12}
 use Rattle.basis.specs.Dialect.{spoken}
 use Rattle.basis.specs.Cases.{either, clash}
 use Rattle.basis.specs.declared.Told.{Told}
-use Rattle.basis.specs.Refusals.{bad-setting, bad-store, malformed, clock-back}
+use Rattle.basis.specs.Refusals.{bad-setting, bad-store, malformed, clock-back, short-room}
 use Rattle.basis.specs.Told.{told, done}
 use Rattle.basis.specs.Writing.{answer}
+use Rattle.protobuf.specs.declared.Refusal.{Refusal as Placed}
 use Rattle.protobuf.specs.declared.Checked.{Checked}
 use Rattle.protobuf.specs.declared.Checked.the-variants as checked
 use Rattle.protobuf.specs.RefusalLaws.{wire-range}
+use Rattle.protobuf.specs.Told.{refusalTold}
 use Rattle.protobuf.specs.Walk.{between}
+use Rattle.protobuf.specs.Encode.{bytesField}
+use Rattle.rpc.specs.Encode.{repeated}
 use Rattle.schema.specs.Accept.{acceptOf}
 use Rattle.ids.specs.declared.MessageAt.{MessageAt}
 use Rattle.ids.specs.declared.MessageAt.the-variants as found
@@ -40,14 +45,18 @@ use Rattle.node.specs.declared.Node.{Node}
 use Rattle.node.specs.declared.Fault.{Fault}
 use Rattle.node.specs.declared.Lent.{Lent}
 use Rattle.node.specs.declared.Lent.the-variants as lent
+use Rattle.node.specs.declared.Serve.{Serve}
+use Rattle.node.specs.Parts.{fitting}
+use Rattle.node.specs.PartsLaws.{fitting-more, fitting-stop}
 use Rattle.node.specs.Told.{faultTold, lentTold, startTold, admitTold, beatTold, advertiseTold, askTold}
 use Rattle.node.specs.Told.{offerTold, explainTold, serveTold}
-use Rattle.node.specs.State.{legalSettings, wellFormed}
+use Rattle.node.specs.State.{gatewayIn, legalSettings, wellFormed}
 use Rattle.node.specs.Calls.{startAnswer, rightSizes, lentOf, planFit, planAt, planBody, planned, heldAt}
 use Rattle.node.specs.Calls.{admitAnswer, beatAnswer, advertiseBytes, advertiseAnswer, askBytes, askAnswer}
-use Rattle.node.specs.Gateway.{formOf, Reply, sent, short, replyFor}
-use Rattle.node.specs.Calls.{explainAnswer, remaining, cachedOf, roomOf, replied, serveAnswer}
+use Rattle.node.specs.Gateway.{formOf, having, replyRoom, writtenIn, sentIn, leftIn, Reply, sent, short, replyFor}
+use Rattle.node.specs.Calls.{explainAnswer, remaining, cachedOf, roomOf, replied, replyTo, serveAnswer}
 use Rattle.node.specs.WellFormed.{Typed, WellFormed}
+use Rattle.node.specs.Laws.{cached-gateway}
 use Rattle.node.specs.WellFormedLaws.{fine-well-formed-node, well-formed-node-fine}
 
 -- ---- the lent node and its stores
@@ -158,7 +167,8 @@ module _ (n : Node) (ss cs : List ℕ) where
         (λ v. by-form t u v)),
   )
 
--- ---- the calls that are given them: 40, 41 and 42 are their numbers exactly where they are that of the lent state
+-- ---- the calls that are given them: 40, 41 and 42 are their numbers exactly where they are that of the lent state,
+-- whatever the edition, which lentOf does not take
 -- a number that is the fault's where there is one, and else below 40
 as-lent : (l : Lent) (x k : ℕ) → ((why : Fault) → l ≡ lent.Faulty why → x ≡ faultTold why .number)
     → (l ≡ lent.Fine → x < bad-setting) → bad-setting ≤ k → (x ≡ k) ↔ (lentTold l .number ≡ k)
@@ -318,6 +328,121 @@ module _ (n : Node) (ss cs : List ℕ) (at : ℕ) where
 
   pub beat-exactly : (a : Told) → (beatTold (beatAnswer n ss cs at) ≡ a) ↔ BeatTells n ss cs at a
   beat-exactly a = (λ e. subst (BeatTells n ss cs at) e (beat-tells (lentOf n ss cs) refl), beat-only)
+
+-- ---- a serve, whole, in the order of its refusals: 40, 41, 42; why the body that asks is refused; why the second one
+-- is; 12 where the first of the messages that remain does not fit, with its field's length; else the bytes written,
+-- the messages written and those left
+abbrev pub FirstFits : ℕ → List (List ℕ) → Type 0
+FirstFits room [] = Unit {0}
+FirstFits room (m ∷ ms) = length (bytesField 2 m) ≤ room
+
+-- nothing is refused before 12
+pub record Passes (n : Node) (ss cs : List ℕ) (ed : Edition) (body second : List ℕ) : Type 0 where
+  pub fine : lentOf n ss cs ≡ lent.Fine
+  pub asks : acceptOf (spoken ed) body ≡ checked.Fine
+  pub declines : acceptOf (spoken V12) second ≡ checked.Fine
+
+pub data ServeTells (n : Node) (ss cs : List ℕ) (ed : Edition) (body second out : List ℕ) : Told → Type 0 where
+  node-faulty : {why : Fault} → lentOf n ss cs ≡ lent.Faulty why
+      → ServeTells n ss cs ed body second out (faultTold why)
+  body-refused : {why : Placed} → lentOf n ss cs ≡ lent.Fine → acceptOf (spoken ed) body ≡ checked.Refused why
+      → ServeTells n ss cs ed body second out (refusalTold why)
+  second-refused : {why : Placed} → lentOf n ss cs ≡ lent.Fine → acceptOf (spoken ed) body ≡ checked.Fine
+      → acceptOf (spoken V12) second ≡ checked.Refused why → ServeTells n ss cs ed body second out (refusalTold why)
+  first-short : Passes n ss cs ed body second → {m : List ℕ} {ms : List (List ℕ)}
+      → having (gatewayIn n ss cs) (remaining body second) ≡ m ∷ ms → replyRoom (length out) < length (bytesField 2 m)
+      → ServeTells n ss cs ed body second out (told short-room (length (bytesField 2 m) ∷ []))
+  replies : Passes n ss cs ed body second → {ms : List (List ℕ)}
+      → having (gatewayIn n ss cs) (remaining body second) ≡ ms → FirstFits (replyRoom (length out)) ms
+      → ServeTells n ss cs ed body second out
+      (done
+      (length (repeated (bytesField 2) (sentIn (replyRoom (length out)) ms))
+      ∷ length (sentIn (replyRoom (length out)) ms)
+      ∷ length (leftIn (replyRoom (length out)) ms)
+      ∷ []))
+
+-- the first fits where some are written, and only there
+none-written : (room : ℕ) (m : List ℕ) (ms : List (List ℕ)) → eqb (writtenIn room (m ∷ ms)) 0 ≡ true
+    → room < length (bytesField 2 m)
+none-written room m ms t =
+    either (leb (length (bytesField 2 m)) room)
+    (λ u.
+    let a = fitting-more 2 room m ms (leb-true _ _ u) in
+    let b = eqb-true (writtenIn room (m ∷ ms)) 0 t in
+    absurd (omega arith))
+    (λ u. leb-false _ _ u)
+
+some-written : (room : ℕ) (m : List ℕ) (ms : List (List ℕ)) → length (bytesField 2 m) ≤ room
+    → eqb (writtenIn room (m ∷ ms)) 0 ≡ false
+some-written room m ms h =
+    let a = fitting-more 2 room m ms h in ne-eqb (writtenIn room (m ∷ ms)) 0 (λ z. omega arith)
+
+module _ (n : Node) (ss cs : List ℕ) (ed : Edition) (body second out : List ℕ) where
+  abbrev Tells : Told → Type 0
+  Tells = ServeTells n ss cs ed body second out
+
+  by-messages : Passes n ss cs ed body second → (ms : List (List ℕ))
+      → having (gatewayIn n ss cs) (remaining body second) ≡ ms → Tells (serveTold (replyTo ms out))
+  unfolding roomOf fitting
+  by-messages p [] h = replies p h tt
+  by-messages p (m ∷ ms) h =
+      let room = replyRoom (length out) in
+      either (eqb (writtenIn room (m ∷ ms)) 0) (λ t. rw t (first-short p h (none-written room m ms t)))
+      (λ t. rw t (replies p h
+      (either (leb (length (bytesField 2 m)) room) (λ u. leb-true _ _ u)
+      (λ u. clash (let z = eq-eqb (writtenIn room (m ∷ ms)) 0 (fitting-stop 2 room m ms (leb-false _ _ u)) in cc)))))
+
+  messages-only : (ms : List (List ℕ)) → FirstFits (replyRoom (length out)) ms
+      → serveTold (replyTo ms out)
+      ≡ done
+      (length (repeated (bytesField 2) (sentIn (replyRoom (length out)) ms))
+      ∷ length (sentIn (replyRoom (length out)) ms)
+      ∷ length (leftIn (replyRoom (length out)) ms)
+      ∷ [])
+  unfolding roomOf fitting
+  messages-only [] h = refl
+  messages-only (m ∷ ms) h = rw (some-written (replyRoom (length out)) m ms h)
+
+  short-only : (m : List ℕ) (ms : List (List ℕ)) → replyRoom (length out) < length (bytesField 2 m)
+      → serveTold (replyTo (m ∷ ms) out) ≡ told short-room (length (bytesField 2 m) ∷ [])
+  unfolding roomOf
+  short-only m ms h =
+      rw (eq-eqb (writtenIn (replyRoom (length out)) (m ∷ ms)) 0 (fitting-stop 2 (replyRoom (length out)) m ms h))
+
+  -- where nothing is refused before, the reply
+  passes-reply : Passes n ss cs ed body second
+      → serveAnswer n ss cs ed body second out ≡ replyTo (having (gatewayIn n ss cs) (remaining body second)) out
+  unfolding serveAnswer
+  passes-reply p = rw (p .fine, p .asks, p .declines, cached-gateway n ss cs (remaining body second))
+
+  serve-tells : (l : Lent) (r q : Checked) → lentOf n ss cs ≡ l → acceptOf (spoken ed) body ≡ r
+      → acceptOf (spoken V12) second ≡ q → Tells (serveTold (serveAnswer n ss cs ed body second out))
+  unfolding serveAnswer
+  serve-tells (lent.Faulty why) r q e a b = rw e (node-faulty e)
+  serve-tells lent.Fine (checked.Refused why) q e a b = rw (e, a) (body-refused e a)
+  serve-tells lent.Fine checked.Fine (checked.Refused why) e a b = rw (e, a, b) (second-refused e a b)
+  serve-tells lent.Fine checked.Fine checked.Fine e a b =
+      let p : Passes n ss cs ed body second = record { fine = e; asks = a; declines = b } in
+      subst (λ (r : Serve). Tells (serveTold r)) (sym (passes-reply p))
+      (by-messages p (having (gatewayIn n ss cs) (remaining body second)) refl)
+
+  serve-only : {a : Told} → Tells a → serveTold (serveAnswer n ss cs ed body second out) ≡ a
+  unfolding serveAnswer
+  serve-only (node-faulty e) = rw e
+  serve-only (body-refused e a) = rw (e, a)
+  serve-only (second-refused e a b) = rw (e, a, b)
+  serve-only (first-short p {m} {ms} h l) =
+      ap serveTold (passes-reply p) ∙ ap (λ (x : List (List ℕ)). serveTold (replyTo x out)) h ∙ short-only m ms l
+  serve-only (replies p {ms} h l) =
+      ap serveTold (passes-reply p) ∙ ap (λ (x : List (List ℕ)). serveTold (replyTo x out)) h ∙ messages-only ms l
+
+  pub serve-tells-exactly : (a : Told)
+      → (serveTold (serveAnswer n ss cs ed body second out) ≡ a) ↔ ServeTells n ss cs ed body second out a
+  serve-tells-exactly a = (
+    λ e. subst (ServeTells n ss cs ed body second out) e
+        (serve-tells (lentOf n ss cs) (acceptOf (spoken ed) body) (acceptOf (spoken V12) second) refl refl refl),
+    λ t. serve-only t,
+  )
 
 -- ---- a start: max_seen above 256, history_len 0 or above 16, max_messages above 64, flags above the known ones
 module _ (max-seen history max flags : ℕ) where

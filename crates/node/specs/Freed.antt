@@ -42,7 +42,8 @@ pub record Freed (n : Node) (ss cs : List ℕ) (at : ℕ) (m id : List ℕ) (d :
 
 -- what an admit takes, a put of the same message would put
 pub plan-put : {n : Node} {ss cs : List ℕ} {ed : Edition} {body : List ℕ} {i : ℕ} {word : Bool} {at : ℕ}
-    {m id : List ℕ} → Takes n ss cs ed body i word at m id → putPlanned (n .cache) cs ed body i ≡ planUnder (n .cache) m id
+    {m id : List ℕ} → Takes n ss cs ed body i word at m id
+    → putPlanned (n .cache) cs ed body i ≡ planUnder (n .cache) m id
 plan-put {n} {ss} {cs} {ed} {body} {i} {word} {at} {m} {id} t =
     let f = fine-tests n ss cs (t .fine) in
     let p = put-plan (n .cache) cs ed body i (t .start) (t .next) (t .from-start) (t .from-end) (t .seqno-start)
@@ -55,7 +56,8 @@ new-plan : (n : Node) (ss : List ℕ) (at : ℕ) (m id : List ℕ) → admitAnsw
 new-plan n ss at m id h = either (heldAt n ss at (formOf m id)) (λ t. clash (let z = rw t at h in cc)) (λ t. t)
 
 module _ (n : Node) (ss cs : List ℕ) (ed : Edition) (body : List ℕ) (i : ℕ) (word : Bool) (at : ℕ) (m id : List ℕ)
-    (typed : Typed n) (plan : planned n ss cs ed body i word at ≡ taken m id) (new : heldAt n ss at (formOf m id) ≡ false) where
+    (typed : Typed n) (plan : planned n ss cs ed body i word at ≡ taken m id)
+    (new : heldAt n ss at (formOf m id) ≡ false) where
   ids-written : (n .«max_seen» ≡ 0 → ⊥)
       → seen.Written (n .«max_seen») (swept n at) (admitNode n ss at (taken m id) .seen) ss
       (admitSeen n ss at (taken m id)) (formOf m id)
@@ -80,7 +82,8 @@ module _ (n : Node) (ss cs : List ℕ) (ed : Edition) (body : List ℕ) (i : ℕ
       let f = fine-tests n ss cs (t .fine) in
       let u : ltb (indexIn (n .cache) id) (n .cache .count) ≡ false = sym (held-index (n .cache) cs id) ∙ h in
       let p : putPlanned (n .cache) cs ed body i ≡ keep m id = rw u at (plan-put t) in
-      rw (new, u) (rw p at (mcache.freed-place-used (n .cache) cs ed body m id i (f .messages) (typed .messages .sized) some p))
+      rw (new, u)
+      (rw p at (mcache.freed-place-used (n .cache) cs ed body m id i (f .messages) (typed .messages .sized) some p))
 
   message-none : n .cache .«max_messages» ≡ 0 → admitCache n ss cs at (taken m id) ≡ cs
   unfolding storedUnder storedAt

@@ -192,7 +192,7 @@ replyFor room (m ∷ ms) =
     cond (eqb (writtenIn room (m ∷ ms)) 0) (short (length (bytesField 2 m)))
     (sent (sentIn room (m ∷ ms)) (leftIn room (m ∷ ms)))
 
--- serve, given a body: `named` are the ids in its IWANTs, each is served once, in order of first mention; `unwanted` are
--- the ids in the IDONTWANTs of a second body, which are left out
+-- serve, given a body: `named` are the ids in its IWANTs, each is served once, in order of first mention; `unwanted`
+-- are the ids in the IDONTWANTs of a second body, which are left out
 unfoldable pub serveOf : List (List ℕ) → List (List ℕ) → ℕ → Gateway → Reply
 serveOf named unwanted buffer g = replyFor (replyRoom buffer) (having g (without unwanted (once named)))

@@ -271,7 +271,8 @@ module _ (n : Node) (ss cs : List ℕ) (ed : Edition) (body : List ℕ) (i : ℕ
       rw (plan, is-new n ss cs (t .fine) at m id) (either (heldAt n ss at (formOf m id)) (λ u. rw u) (λ u. rw u))
 
   pub admit-gateway : gatewayIn (admitNode n ss at (planned n ss cs ed body i word at))
-      (admitSeen n ss at (planned n ss cs ed body i word at)) (admitCache n ss cs at (planned n ss cs ed body i word at))
+      (admitSeen n ss at (planned n ss cs ed body i word at))
+      (admitCache n ss cs at (planned n ss cs ed body i word at))
       ≡ afterAdmit at m id (gatewayIn n ss cs)
   unfolding gatewayIn afterAdmit laterNode
   admit-gateway =
@@ -485,4 +486,5 @@ module _ (n : Node) (ss cs out : List ℕ) where
   pub serve-refused : (ed : Edition) (body second : List ℕ)
       → (serveNumber (serveAnswer n ss cs ed body second out) ≡ 0 → ⊥) → serveLeft n ss cs ed body second out ≡ out
   serve-refused ed body second h =
-      serve-by ed body second (lentOf n ss cs) (acceptOf (spoken ed) body) (acceptOf (spoken V12) second) refl refl refl h
+      serve-by ed body second (lentOf n ss cs) (acceptOf (spoken ed) body) (acceptOf (spoken V12) second) refl refl refl
+      h

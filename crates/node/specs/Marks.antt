@@ -129,8 +129,8 @@ module _ (n : Node) (ss cs : List ℕ) (ed : Edition) (body : List ℕ) (i : ℕ
       let g = admit-gateway n ss cs ed body i word at u id typed plan in
       let a : isNew later m id (gatewayIn nextNode nextSeen nextCache) ≡ true =
       ap (isNew later m id) g ∙ other-mark-new at later u m id (gatewayIn n ss cs) l differ new in
-      admit-says nextNode nextSeen nextCache ed2 body2 j word2 later m id (admit-typed n ss cs typed ed body i word at) plan2
-      ∙ rw a
+      admit-says nextNode nextSeen nextCache ed2 body2 j word2 later m id (admit-typed n ss cs typed ed body i word at)
+      plan2 ∙ rw a
 
 -- ---- the cache keeps whichever came first
 -- an admit under an id that is cached leaves what is served of it

@@ -250,15 +250,6 @@ pub once-same : (is : List (List ℕ)) → distinct is ≡ true → once is ≡ 
 once-same is d = once-from [] is d
 
 -- ---- those that are not among others
-module _ (others is : List (List ℕ)) (i : List ℕ) where
-  pub without-skip : among i others ≡ true → without others (i ∷ is) ≡ without others is
-  unfolding without
-  without-skip h = simp h
-
-  pub without-keep : among i others ≡ false → without others (i ∷ is) ≡ i ∷ without others is
-  unfolding without
-  without-keep h = simp h
-
 -- without none, all
 pub without-none : (is : List (List ℕ)) → without [] is ≡ is
 unfolding without among
@@ -278,6 +269,16 @@ without-among others (i ∷ is) x =
     either (among x others) (λ u. rw (e, u, same-self x) (rw u at r ∙ and-false (among x is)))
     (λ u. rw (e, u, same-self x)))
     (λ t. either (among i others) (λ u. rw (u, t) r) (λ u. rw (u, t) r))
+
+pub without-distinct : (others is : List (List ℕ)) → distinct is ≡ true → distinct (without others is) ≡ true
+unfolding without distinct
+without-distinct others [] d = refl
+without-distinct others (i ∷ is) d =
+    let b = both (not (among i is)) (distinct is) d in
+    let r = without-distinct others is (b .1) in
+    either (among i others) (λ t. rw t r)
+    (λ t. either (among i is) (λ u. clash (let z = rw u at (b .0) in cc))
+    (λ u. rw (t, without-among others is i, u, r)))
 
 -- ---- how many fit
 module _ (n room : ℕ) (m : List ℕ) (ms : List (List ℕ)) where

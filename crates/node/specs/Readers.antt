@@ -232,7 +232,8 @@ unfoldable pub servedBytes : Node → List ℕ → List ℕ → Edition → List
 servedBytes n ss cs ed body second out =
     whenFine (lentOf n ss cs)
     (whenTaken (acceptOf (spoken ed) body)
-    (whenTaken (acceptOf (spoken V12) second) (replyBytes (cachedOf (n .cache) cs (remaining body second)) out) []) []) []
+    (whenTaken (acceptOf (spoken V12) second) (replyBytes (cachedOf (n .cache) cs (remaining body second)) out) []) [])
+    []
 
 module _ (n : Node) (ss cs : List ℕ) (ed : Edition) (body second : List ℕ) where
   writes-by : (out : List ℕ) (l : Lent) (r q : Checked) → lentOf n ss cs ≡ l → acceptOf (spoken ed) body ≡ r

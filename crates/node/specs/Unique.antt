@@ -108,8 +108,8 @@ pub record Serves (n : Node) (ss cs : List ℕ) (e : Edition) (body second out :
   pub node : r .node ≡ n
   pub buffer : left ≡ serveLeft n ss cs e body second out
 
-pub one-serve : (n : Node) (ss cs : List ℕ) (e : Edition) (body second out : List ℕ) (r s : Served) (left left2 : List ℕ)
-    → Serves n ss cs e body second out r left → Serves n ss cs e body second out s left2 → (r ≡ s) × (left ≡ left2)
+pub one-serve : (n : Node) (ss cs : List ℕ) (e : Edition) (body second out : List ℕ) (r s : Served)
+    (left left2 : List ℕ) → Serves n ss cs e body second out r left → Serves n ss cs e body second out s left2 → (r ≡ s) × (left ≡ left2)
 one-serve n ss cs e body second out r s left left2 a b = (
   ap₂ (λ (x : Serve) (m : Node). record { answer = x; node = m }) (a .answer ∙ sym (b .answer))
       (a .node ∙ sym (b .node)),

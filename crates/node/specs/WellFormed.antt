@@ -37,7 +37,8 @@ pub record WellFormed (n : Node) (ss cs : List ℕ) : Type 0 where
   pub messages : mcache.WellFormed (n .cache) cs
 
 -- ---- the states that the calls reach: a fresh node with stores of the right lengths; then admits of anything, in any
--- edition and at any reading, the refused ones too, and heartbeats. Advertise, ask and serve leave the node and its stores as they are.
+-- edition and at any reading, the refused ones too, and heartbeats. Advertise, ask and serve leave the node and its
+-- stores as they are.
 pub data Reached : Node → List ℕ → List ℕ → Type 0 where
   begun : (ttl max-seen history max flags : ℕ) (ss cs : List ℕ) → ttl < 2 ^ 64
       → legalSettings max-seen history max flags ≡ true
@@ -46,5 +47,6 @@ pub data Reached : Node → List ℕ → List ℕ → Type 0 where
   admitted : {n : Node} {ss cs : List ℕ} → Reached n ss cs → (ed : Edition) (body : List ℕ) (i : ℕ)
       (word : Bool) (at : ℕ) → at < 2 ^ 64
       → Reached (admitNode n ss at (planned n ss cs ed body i word at))
-      (admitSeen n ss at (planned n ss cs ed body i word at)) (admitCache n ss cs at (planned n ss cs ed body i word at))
+      (admitSeen n ss at (planned n ss cs ed body i word at))
+      (admitCache n ss cs at (planned n ss cs ed body i word at))
   beaten : {n : Node} {ss cs : List ℕ} → Reached n ss cs → (at : ℕ) → at < 2 ^ 64 → Reached (beatNode n ss cs at) ss cs

@@ -920,8 +920,8 @@ impl Node {
                 node: self,
             },
             Lent::Fine => {
-                let c = accept(Dialect { edition }, body);
-                match c {
+                let tested = accept(Dialect { edition }, body);
+                match tested {
                     Checked::Refused(why) => Served {
                         answer: Serve::Refused(why),
                         node: self,

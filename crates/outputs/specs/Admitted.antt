@@ -1,4 +1,4 @@
--- What an admit takes, and what it tells, whole: by the RPC that the body means and the gateway.
+-- What an admit takes, and what it tells, whole: by the RPC that the body means in the call's edition and the gateway.
 use Prim.Native.Nat.{ℕ, _≤_, _<_}
 use mathlib.Core.Path.{_≡_, refl, sym, ap, subst, _∙_}
 use mathlib.Core.Bool.{Bool, cond}
@@ -7,6 +7,8 @@ use mathlib.Core.Logic.{_↔_}
 use lib.ListN.{length}
 use lib.Dec.{ltb}
 use borrow.Author.Tests.{ltb-true, ltb-false, lt-ltb, le-ltb}
+use Rattle.basis.specs.declared.Edition.{Edition}
+use Rattle.basis.specs.Dialect.{spoken}
 use Rattle.basis.specs.Cases.{either}
 use Rattle.basis.specs.Bytes.{Bytes}
 use Rattle.basis.specs.declared.Told.{Told}
@@ -44,12 +46,13 @@ use Rattle.node.specs.State.{gatewayIn}
 use Rattle.node.specs.Calls.{lentOf, onLent, no, taken, planFit, planAt, planBody, planned, heldAt, admitAnswer}
 use Rattle.node.specs.Laws.{Takes, plan-takes, is-new}
 
--- the state is fine; the body means an RPC within capacity; m is its message i, as it stood in the body; it is fit under
--- the node's flags and with the host's word, and id is its id; and the clock is not ahead
-pub record AdmitTakes (n : Node) (ss cs body : List ℕ) (i : ℕ) (word : Bool) (at : ℕ) (m id : List ℕ) : Type 0 where
+-- the state is fine; the body means an RPC within capacity, in the edition; m is its message i, as it stood in the
+-- body; it is fit under the node's flags and with the host's word, and id is its id; and the clock is not ahead
+pub record AdmitTakes (n : Node) (ss cs : List ℕ) (ed : Edition) (body : List ℕ) (i : ℕ) (word : Bool) (at : ℕ)
+    (m id : List ℕ) : Type 0 where
   pub fine : lentOf n ss cs ≡ lent.Fine
   pub rpc : Rpc
-  pub within : Within body rpc
+  pub within : Within (spoken ed) body rpc
   pub message : RawMessage
   pub indexed : Nth i (rpc .publish) message
   pub raw : message .raw ≡ m
@@ -63,29 +66,34 @@ pub record AdmitTakes (n : Node) (ss cs body : List ℕ) (i : ℕ) (word : Bool)
 
 -- what an admit tells: each row of the table where the ones before it do not apply; then new, or a duplicate, as the
 -- gateway has it
-pub data AdmitTells (n : Node) (ss cs body : List ℕ) (i : ℕ) (word : Bool) (at : ℕ) : Told → Type 0 where
+pub data AdmitTells (n : Node) (ss cs : List ℕ) (ed : Edition) (body : List ℕ) (i : ℕ) (word : Bool) (at : ℕ)
+    : Told → Type 0 where
   -- 40, 41, 42
-  faulty : {why : Fault} → lentOf n ss cs ≡ lent.Faulty why → AdmitTells n ss cs body i word at (faultTold why)
+  faulty : {why : Fault} → lentOf n ss cs ≡ lent.Faulty why → AdmitTells n ss cs ed body i word at (faultTold why)
   -- 10, 1 to 7, 11
-  refuses : {a : Told} → lentOf n ss cs ≡ lent.Fine → Refusal body a → AdmitTells n ss cs body i word at a
+  refuses : {a : Told} → lentOf n ss cs ≡ lent.Fine → Refusal (spoken ed) body a
+      → AdmitTells n ss cs ed body i word at a
   -- 20: no message at that index, with the number of messages
-  no-such : {x : Rpc} → lentOf n ss cs ≡ lent.Fine → Within body x → length (x .publish) ≤ i
-      → AdmitTells n ss cs body i word at (told no-message (length (x .publish) ∷ []))
+  no-such : {x : Rpc} → lentOf n ss cs ≡ lent.Fine → Within (spoken ed) body x → length (x .publish) ≤ i
+      → AdmitTells n ss cs ed body i word at (told no-message (length (x .publish) ∷ []))
   -- 21 to 30 and 34 to 36
-  unfit : {x : Rpc} {m : RawMessage} {why : Unfit} → lentOf n ss cs ≡ lent.Fine → Within body x → Nth i (x .publish) m
-      → admissionOf (n .cache .flags) (m .raw) word ≡ admission.Unfit why → AdmitTells n ss cs body i word at (unfitTold why)
+  unfit : {x : Rpc} {m : RawMessage} {why : Unfit} → lentOf n ss cs ≡ lent.Fine → Within (spoken ed) body x
+      → Nth i (x .publish) m → admissionOf (n .cache .flags) (m .raw) word ≡ admission.Unfit why
+      → AdmitTells n ss cs ed body i word at (unfitTold why)
   -- 31: now below the clock, with the clock
-  back : {x : Rpc} {m : RawMessage} {a e b f : ℕ} → lentOf n ss cs ≡ lent.Fine → Within body x → Nth i (x .publish) m
-      → admissionOf (n .cache .flags) (m .raw) word ≡ admission.Fit a e b f → at < n .clock
-      → AdmitTells n ss cs body i word at (told clock-back (n .clock ∷ []))
+  back : {x : Rpc} {m : RawMessage} {a e b f : ℕ} → lentOf n ss cs ≡ lent.Fine → Within (spoken ed) body x
+      → Nth i (x .publish) m → admissionOf (n .cache .flags) (m .raw) word ≡ admission.Fit a e b f → at < n .clock
+      → AdmitTells n ss cs ed body i word at (told clock-back (n .clock ∷ []))
   -- 1 where the id of the message is new, 0 where it is not
-  says : {x : Rpc} {m : RawMessage} {a e b f : ℕ} {id : List ℕ} → lentOf n ss cs ≡ lent.Fine → Within body x
+  says : {x : Rpc} {m : RawMessage} {a e b f : ℕ} {id : List ℕ} → lentOf n ss cs ≡ lent.Fine
+      → Within (spoken ed) body x
       → Nth i (x .publish) m → admissionOf (n .cache .flags) (m .raw) word ≡ admission.Fit a e b f → n .clock ≤ at
       → messageId m ≡ the-id id
-      → AdmitTells n ss cs body i word at (done (cond (isNew at (m .raw) id (gatewayIn n ss cs)) 1 0 ∷ []))
+      → AdmitTells n ss cs ed body i word at (done (cond (isNew at (m .raw) id (gatewayIn n ss cs)) 1 0 ∷ []))
 
-module _ (n : Node) (ss cs body : List ℕ) (i : ℕ) (word : Bool) (at : ℕ) (m id : List ℕ) where
-  of-rpc : AdmitTakes n ss cs body i word at m id → Takes n ss cs body i word at m id
+module _ (n : Node) (ss cs : List ℕ) (ed : Edition) (body : List ℕ) (i : ℕ) (word : Bool) (at : ℕ)
+    (m id : List ℕ) where
+  of-rpc : AdmitTakes n ss cs ed body i word at m id → Takes n ss cs ed body i word at m id
   of-rpc t =
       let f = found-in i (messageAt body i) (t .within .means) (t .indexed) refl in
       let b : m ≡ between body (f .0) (f .1) = sym (t .raw) ∙ raw-is (f .3) in
@@ -111,9 +119,9 @@ module _ (n : Node) (ss cs body : List ℕ) (i : ℕ) (word : Bool) (at : ℕ) (
         forward = t .forward;
       }
 
-  in-rpc : Bytes body → Takes n ss cs body i word at m id → AdmitTakes n ss cs body i word at m id
+  in-rpc : Bytes body → Takes n ss cs ed body i word at m id → AdmitTakes n ss cs ed body i word at m id
   in-rpc b t =
-      let x = taken-exactly body b .0 (t .accepted) in
+      let x = taken-exactly (spoken ed) body b .0 (t .accepted) in
       let f = message-found i (t .start) (t .next) (x .1 .means) (t .there) in
       record {
         fine = t .fine;
@@ -135,15 +143,16 @@ module _ (n : Node) (ss cs body : List ℕ) (i : ℕ) (word : Bool) (at : ℕ) (
       }
 
   -- an admit takes the message m under id exactly then
-  pub admit-takes : Bytes body → (planned n ss cs body i word at ≡ taken m id) ↔ AdmitTakes n ss cs body i word at m id
+  pub admit-takes : Bytes body
+      → (planned n ss cs ed body i word at ≡ taken m id) ↔ AdmitTakes n ss cs ed body i word at m id
   admit-takes b =
-      let p = plan-takes n ss cs body i word at m id in
+      let p = plan-takes n ss cs ed body i word at m id in
       (λ h. in-rpc b (p .0 h), λ t. p .1 (of-rpc t))
 
 -- ---- what it tells
-module _ (n : Node) (ss cs body : List ℕ) (i : ℕ) (word : Bool) (at : ℕ) where
+module _ (n : Node) (ss cs : List ℕ) (ed : Edition) (body : List ℕ) (i : ℕ) (word : Bool) (at : ℕ) where
   abbrev Tells : Told → Type 0
-  Tells a = AdmitTells n ss cs body i word at a
+  Tells a = AdmitTells n ss cs ed body i word at a
 
   -- what is told of a message that is taken under an id
   abbrev newTold : List ℕ → List ℕ → Told
@@ -155,7 +164,7 @@ module _ (n : Node) (ss cs body : List ℕ) (i : ℕ) (word : Bool) (at : ℕ) w
       rw (is-new n ss cs fine at p id) (either (heldAt n ss at (formOf p id)) (λ t. rw t) (λ t. rw t))
 
   -- ---- it tells one of these
-  module _ (fine : lentOf n ss cs ≡ lent.Fine) (x : Rpc) (w : Within body x) where
+  module _ (fine : lentOf n ss cs ≡ lent.Fine) (x : Rpc) (w : Within (spoken ed) body x) where
     of-fit : (p : List ℕ) (m : RawMessage) → Nth i (x .publish) m → IsMessage p m → (q : Admission)
         → admissionOf (n .cache .flags) p word ≡ q → Tells (admitTold (admitAnswer n ss at (planFit n at p q)))
     of-fit p m k g (admission.Unfit why) e =
@@ -174,27 +183,28 @@ module _ (n : Node) (ss cs body : List ℕ) (i : ℕ) (word : Bool) (at : ℕ) w
         let f = message-found i a z (w .means) e in
         of-fit (between body a z) (f .0) (f .1) (f .2) (admissionOf (n .cache .flags) (between body a z) word) refl
 
-  of-body : Bytes body → lentOf n ss cs ≡ lent.Fine → (r : Checked) → acceptOf body ≡ r
+  of-body : Bytes body → lentOf n ss cs ≡ lent.Fine → (r : Checked) → acceptOf (spoken ed) body ≡ r
       → Tells (admitTold (admitAnswer n ss at (planBody n at word body i r)))
-  of-body b fine (checked.Refused why) e = refuses fine (refused-exactly body (refusalTold why) b .0 (why, e, refl))
+  of-body b fine (checked.Refused why) e =
+      refuses fine (refused-exactly (spoken ed) body (refusalTold why) b .0 (why, e, refl))
   of-body b fine checked.Fine e =
-      let x = taken-exactly body b .0 e in of-at fine (x .0) (x .1) (messageAt body i) refl
+      let x = taken-exactly (spoken ed) body b .0 e in of-at fine (x .0) (x .1) (messageAt body i) refl
 
   of-lent : Bytes body → (l : Lent) → lentOf n ss cs ≡ l → Tells (admitTold (admitAnswer n ss at
-      (onLent (λ (why : Fault). no (admit.Faulty why)) l (planBody n at word body i (acceptOf body)))))
+      (onLent (λ (why : Fault). no (admit.Faulty why)) l (planBody n at word body i (acceptOf (spoken ed) body)))))
   of-lent b (lent.Faulty why) e = faulty e
-  of-lent b lent.Fine e = of-body b e (acceptOf body) refl
+  of-lent b lent.Fine e = of-body b e (acceptOf (spoken ed) body) refl
 
-  tells : Bytes body → Tells (admitTold (admitAnswer n ss at (planned n ss cs body i word at)))
+  tells : Bytes body → Tells (admitTold (admitAnswer n ss at (planned n ss cs ed body i word at)))
   unfolding planned
   tells b = of-lent b (lentOf n ss cs) refl
 
   -- ---- and no other
-  only : Bytes body → {a : Told} → Tells a → admitTold (admitAnswer n ss at (planned n ss cs body i word at)) ≡ a
+  only : Bytes body → {a : Told} → Tells a → admitTold (admitAnswer n ss at (planned n ss cs ed body i word at)) ≡ a
   unfolding planned
   only b (faulty e) = rw e
   only b {a} (refuses fine r) =
-      let g = refused-exactly body a b .1 r in rw (fine, g .1) (g .2)
+      let g = refused-exactly (spoken ed) body a b .1 r in rw (fine, g .1) (g .2)
   only b (no-such fine w l) = rw (fine, accepted w, none-in i (messageAt body i) (w .means) l refl)
   only b (unfit fine w k e) =
       let f = found-in i (messageAt body i) (w .means) k refl in
@@ -215,5 +225,6 @@ module _ (n : Node) (ss cs body : List ℕ) (i : ℕ) (word : Bool) (at : ℕ) w
       (new-told fine p id ∙ ap (λ (l : List ℕ). newTold l id) (sym (raw-is (f .3))))
 
   pub admit-exactly : Bytes body → (a : Told)
-      → (admitTold (admitAnswer n ss at (planned n ss cs body i word at)) ≡ a) ↔ AdmitTells n ss cs body i word at a
-  admit-exactly b a = (λ e. subst (AdmitTells n ss cs body i word at) e (tells b), only b)
+      → (admitTold (admitAnswer n ss at (planned n ss cs ed body i word at)) ≡ a)
+      ↔ AdmitTells n ss cs ed body i word at a
+  admit-exactly b a = (λ e. subst (AdmitTells n ss cs ed body i word at) e (tells b), only b)

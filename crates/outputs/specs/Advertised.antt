@@ -1,5 +1,5 @@
--- An advertisement is a body with one IHAVE that names a topic and the ids of cached messages that carry it; it is
--- canonical. A topic that is not UTF-8 is carried by no cached message, and nothing is written of it.
+-- An advertisement is a body with one IHAVE that names a topic and the ids of cached messages that carry it, in every
+-- dialect; it is canonical. A topic that is not UTF-8 is carried by no cached message, and nothing is written of it.
 use Prim.Native.Nat.{ℕ, suc, _+_, _*_, _≤_}
 use mathlib.Core.Path.{_≡_, refl, sym, ap, _∙_}
 use mathlib.Core.Bool.{true, _&&_}
@@ -7,6 +7,7 @@ use mathlib.Core.List.{List, [], _∷_, _++_}
 use native.Mathlib.Omega.{arith}
 use lib.ListN.{length, length-append}
 use lib.Dec.{ltb}
+use Rattle.basis.specs.declared.Dialect.{Dialect}
 use Rattle.basis.specs.Cases.{either}
 use Rattle.basis.specs.Bytes.{Bytes}
 use Rattle.utf8.specs.Grammar.{Utf8}
@@ -130,13 +131,13 @@ unfolding among
 first-among i is = rw (same-self i)
 
 of-ids : (topic : List ℕ) (ids : List (List ℕ)) → length topic ≤ 1024 → Told ids 64
-    → ((i : List ℕ) → among i ids ≡ true → Utf8 topic) → (ids ≡ [] → ⊥)
-    → Within (bytesFor ids (advertisement topic ids)) (advertisement topic ids)
-of-ids topic [] h t text there = absurd (there refl)
-of-ids topic (i ∷ is) h t text there =
+    → ((i : List ℕ) → among i ids ≡ true → Utf8 topic) → (ids ≡ [] → ⊥) → (d : Dialect)
+    → Within d (bytesFor ids (advertisement topic ids)) (advertisement topic ids)
+of-ids topic [] h t text there d = absurd (there refl)
+of-ids topic (i ∷ is) h t text there d =
     let l = advertisement-small topic (i ∷ is) h t in
     record {
-      means = advertisement-means topic (i ∷ is) (text i (first-among i is)) (omega arith);
+      means = advertisement-means d topic (i ∷ is) (text i (first-among i is)) (omega arith);
       small = omega arith;
       few = omega (arith, records-told topic (i ∷ is), t .few);
     }
@@ -167,17 +168,17 @@ module _ (n : Node) (ss cs topic : List ℕ) (windows : ℕ) (fine : lentOf n ss
   text : (i : List ℕ) → among i (toldIn n cs topic windows) ≡ true → Utf8 topic
   text i h = told-text (n .cache) cs topic windows cache-fine bytes i (ap (among i) (sym told-is) ∙ h)
 
-  pub advertise-means : length topic ≤ 1024 → (toldIn n cs topic windows ≡ [] → ⊥)
-      → Within (advertiseBytes n cs topic windows) (advertisement topic (toldIn n cs topic windows))
+  pub advertise-means : length topic ≤ 1024 → (toldIn n cs topic windows ≡ [] → ⊥) → (d : Dialect)
+      → Within d (advertiseBytes n cs topic windows) (advertisement topic (toldIn n cs topic windows))
   unfolding advertiseBytes
   advertise-means h there = of-ids topic (toldIn n cs topic windows) h few text there
 
-  pub advertise-stays : length topic ≤ 1024 → (toldIn n cs topic windows ≡ [] → ⊥)
-      → canonBody (advertiseBytes n cs topic windows) ≡ advertiseBytes n cs topic windows
+  pub advertise-stays : length topic ≤ 1024 → (toldIn n cs topic windows ≡ [] → ⊥) → (d : Dialect)
+      → canonBody d (advertiseBytes n cs topic windows) ≡ advertiseBytes n cs topic windows
   unfolding advertiseBytes
-  advertise-stays h there =
+  advertise-stays h there d =
       let ids = toldIn n cs topic windows in
-      canon-written (advertise-means h there .means) ∙ sym (some-bytes ids (advertisement topic ids) there)
+      canon-written (advertise-means h there d .means) ∙ sym (some-bytes ids (advertisement topic ids) there)
 
   pub no-topic-no-bytes : (Utf8 topic → ⊥) → (toldIn n cs topic windows ≡ []) × (advertiseBytes n cs topic windows ≡ [])
   no-topic-no-bytes no-text = let e = of-none topic (toldIn n cs topic windows) text no-text in

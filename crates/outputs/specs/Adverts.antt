@@ -1,5 +1,5 @@
--- An advertisement as a body that is read: it is taken, also where it is empty, and offers exactly what is told of. So
--- an id is explained as listed exactly where it stands in the advertisement that is written.
+-- An advertisement as a body that is read: in every dialect it is taken, also where it is empty, and offers exactly
+-- what is told of. So an id is explained as listed exactly where it stands in the advertisement that is written.
 use Prim.Native.Nat.{ℕ, _≤_}
 use mathlib.Core.Path.{_≡_, sym, ap, subst, _∙_}
 use mathlib.Core.Bool.{true}
@@ -9,6 +9,9 @@ use native.Mathlib.Omega.{arith}
 use lib.ListN.{length, take}
 use lib.Dec.{leb}
 use borrow.Author.Tests.{leb-true, leb-false, le-ltb}
+use Rattle.basis.specs.declared.Edition.the-variants.{V11}
+use Rattle.basis.specs.declared.Dialect.{Dialect}
+use Rattle.basis.specs.Dialect.{spoken}
 use Rattle.basis.specs.Cases.{either, clash}
 use Rattle.basis.specs.Bytes.{Bytes}
 use Rattle.basis.specs.Lists.{answer-fits, answer-short, written-fits}
@@ -46,22 +49,22 @@ module _ (b : Node) (bs bc topic : List ℕ) (windows : ℕ) (fine : lentOf b bs
   told-is = told-gateway b bs bc topic windows fine
 
   -- where there is something to tell of
-  pub advert-means : (toldOf topic windows (gatewayIn b bs bc) ≡ [] → ⊥)
-      → Within (advertiseBytes b bc topic windows) (advertisement topic (toldOf topic windows (gatewayIn b bs bc)))
-  advert-means there =
-      subst (λ (l : List (List ℕ)). Within (advertiseBytes b bc topic windows) (advertisement topic l)) told-is
-      (advertise-means b bs bc topic windows fine bytes short (λ e. there (sym told-is ∙ e)))
+  pub advert-means : (toldOf topic windows (gatewayIn b bs bc) ≡ [] → ⊥) → (d : Dialect)
+      → Within d (advertiseBytes b bc topic windows) (advertisement topic (toldOf topic windows (gatewayIn b bs bc)))
+  advert-means there d =
+      subst (λ (l : List (List ℕ)). Within d (advertiseBytes b bc topic windows) (advertisement topic l)) told-is
+      (advertise-means b bs bc topic windows fine bytes short (λ e. there (sym told-is ∙ e)) d)
 
   -- it is a body within capacity, also where it is empty
-  pub advert-rpc : (x : Rpc) × (Within (advertiseBytes b bc topic windows) x)
+  pub advert-rpc : (x : Rpc) × ((d : Dialect) → Within d (advertiseBytes b bc topic windows) x)
       × (offersOf x ≡ toldOf topic windows (gatewayIn b bs bc))
   unfolding advertisement
   advert-rpc =
       by-cases (toldOf topic windows (gatewayIn b bs bc))
       (λ e. (
         nothing,
-        subst (λ (s : List ℕ). Within s nothing) (sym (advertise-none b bc topic windows (told-is ∙ e)))
-            nothing-means,
+        λ d. subst (λ (s : List ℕ). Within d s nothing) (sym (advertise-none b bc topic windows (told-is ∙ e)))
+            (nothing-means d),
         sym e,
       ))
       (λ there. (
@@ -71,13 +74,13 @@ module _ (b : Node) (bs bc topic : List ℕ) (windows : ℕ) (fine : lentOf b bs
       ))
 
   -- it is taken, also where it is empty
-  pub advert-taken : acceptOf (advertiseBytes b bc topic windows) ≡ Fine
-  advert-taken = taken (advert-rpc .1)
+  pub advert-taken : (d : Dialect) → acceptOf d (advertiseBytes b bc topic windows) ≡ Fine
+  advert-taken d = taken (advert-rpc .1 d)
 
   -- and offers what is told of
   pub advert-offers : offered (advertiseBytes b bc topic windows) ≡ toldOf topic windows (gatewayIn b bs bc)
   advert-offers =
-      offered-once (advert-rpc .1 .means) ∙ ap once (advert-rpc .2)
+      offered-once (advert-rpc .1 (spoken V11) .means) ∙ ap once (advert-rpc .2)
       ∙ once-same (toldOf topic windows (gatewayIn b bs bc)) (told-distinct topic windows (gatewayIn b bs bc .cache))
 
   -- ---- it stands at the front of a buffer that has the room

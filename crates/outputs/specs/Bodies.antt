@@ -1,5 +1,5 @@
--- Bodies that are a field or several, each of bytes, and what they mean: messages that are published; a control, with
--- one IHAVE or one IWANT; and nothing.
+-- Bodies that are a field or several, each of bytes, and what they mean, in every dialect: messages that are published;
+-- a control, with one IHAVE or one IWANT; and nothing.
 use Prim.Native.Nat.{ℕ, _^_, _≤_, _<_, _+_}
 use mathlib.Core.Path.{_≡_, refl, sym, ap, ap₂, subst}
 use mathlib.Core.Bool.{false}
@@ -8,6 +8,9 @@ use mathlib.Core.Option.{Option, none, some}
 use native.Mathlib.Omega.{arith}
 use lib.ListN.{length, length-append}
 use lib.Dec.{eqb}
+use Rattle.basis.specs.declared.Edition.{Edition}
+use Rattle.basis.specs.declared.Edition.the-variants.{V11, V12}
+use Rattle.basis.specs.declared.Dialect.{Dialect}
 use Rattle.basis.specs.Cases.{clash}
 use Rattle.utf8.specs.Grammar.{Utf8}
 use Rattle.protobuf.specs.Grammar.{Body, none as no-fields}
@@ -15,8 +18,8 @@ use Rattle.protobuf.specs.Encode.{bytesField}
 use Rattle.protobuf.specs.EncodeLaws.{field-holds}
 use Rattle.rpc.specs.Rpc.{RawMessage, ControlIHave, ControlIWant, ControlMessage, Rpc}
 use Rattle.rpc.specs.Grammar.{bytesIn, last, Each, none-left, _and_, Pairs, no-pairs, _paired_, IsSubOpts, IsMessage}
-use Rattle.rpc.specs.Grammar.{IsIHave, is-ihave, IsIWant, is-iwant, IsGraft, IsPrune, IsControl, is-control, IsRpc}
-use Rattle.rpc.specs.Grammar.{is-rpc}
+use Rattle.rpc.specs.Grammar.{IsIHave, is-ihave, IsIWant, is-iwant, IsGraft, IsPrune, IsIDontWant, idontwantsIn}
+use Rattle.rpc.specs.Grammar.{IsControl, is-control, IsRpc, is-rpc}
 use Rattle.rpc.specs.Encode.{encodeRpc, repeated}
 use Rattle.meaning.specs.Size.{recordsIn}
 use Rattle.canonical.specs.Means.{body-append, Sized, bytesEntries, bytes-body, bytes-here, bytes-there, fields-sized, found}
@@ -29,6 +32,12 @@ use Rattle.node.specs.WireLaws.{advertisement-bytes, request-bytes}
 no-subs : {X : Type 0} (R : List ℕ → X → Type 0) (n m : ℕ) (ds : List (List ℕ)) → eqb n m ≡ false
     → Pairs R (bytesIn m (bytesEntries n ds)) []
 no-subs R n m ds e = subst (λ (l : List (List ℕ)). Pairs R l []) (sym (bytes-there n m e ds)) no-pairs
+
+-- nor an IDONTWANT, to either edition
+no-idontwants : (e : Edition) (n : ℕ) (ds : List (List ℕ)) → eqb n 5 ≡ false
+    → Pairs IsIDontWant (idontwantsIn e (bytesEntries n ds)) []
+no-idontwants V11 n ds e = no-pairs
+no-idontwants V12 n ds e = no-subs IsIDontWant n 5 ds e
 
 -- and those that are
 subs : {X : Type 0} (R : List ℕ → X → Type 0) (n : ℕ) {ds : List (List ℕ)} {xs : List X} → Pairs R ds xs
@@ -44,46 +53,49 @@ one-field n l m d z = subst (λ (s : List ℕ). Body s (bytesEntries n (d ∷ []
 abbrev pub nothing : Rpc
 nothing = record { subscriptions = []; publish = []; control = none }
 
-pub nothing-means : Within [] nothing
+pub nothing-means : (d : Dialect) → Within d [] nothing
 unfolding recordsIn
-nothing-means = record { means = is-rpc no-fields no-pairs no-pairs no-pairs; small = omega arith; few = omega arith }
+nothing-means d = record { means = is-rpc no-fields no-pairs no-pairs no-pairs; small = omega arith; few = omega arith }
 
 -- ---- messages
 abbrev pub published : List RawMessage → Rpc
 published ms = record { subscriptions = []; publish = ms; control = none }
 
-pub messages-mean : {ds : List (List ℕ)} {ms : List RawMessage} → Each Sized ds → Pairs IsMessage ds ms
-    → IsRpc (repeated (bytesField 2) ds) (published ms)
-messages-mean {ds} {ms} z p =
+pub messages-mean : (d : Dialect) {ds : List (List ℕ)} {ms : List RawMessage} → Each Sized ds → Pairs IsMessage ds ms
+    → IsRpc d (repeated (bytesField 2) ds) (published ms)
+messages-mean d {ds} {ms} z p =
     is-rpc (bytes-body 2 (omega arith) (omega arith) ds z) (no-subs IsSubOpts 2 1 ds refl) (subs IsMessage 2 p)
-    (no-subs IsControl 2 3 ds refl)
+    (no-subs (IsControl d) 2 3 ds refl)
 
 -- ---- a control, and in it one IHAVE or one IWANT
 abbrev pub oneIHave : ControlIHave → ControlMessage
-oneIHave h = record { ihave = h ∷ []; iwant = []; graft = []; prune = [] }
+oneIHave h = record { ihave = h ∷ []; iwant = []; graft = []; prune = []; idontwant = [] }
 
 abbrev pub oneIWant : ControlIWant → ControlMessage
-oneIWant w = record { ihave = []; iwant = w ∷ []; graft = []; prune = [] }
+oneIWant w = record { ihave = []; iwant = w ∷ []; graft = []; prune = []; idontwant = [] }
 
-pub control-means : {d : List ℕ} {c : ControlMessage} → Sized d → IsControl d c → IsRpc (bytesField 3 d) (controlled c)
-control-means {d} {c} z p =
-    let ds = d ∷ [] in
-    is-rpc (one-field 3 (omega arith) (omega arith) d z) (no-subs IsSubOpts 3 1 ds refl) (no-subs IsMessage 3 2 ds refl)
-    (subs IsControl 3 (p paired no-pairs))
+pub control-means : {d : Dialect} {s : List ℕ} {c : ControlMessage} → Sized s → IsControl d s c
+    → IsRpc d (bytesField 3 s) (controlled c)
+control-means {d} {s} {c} z p =
+    let ds = s ∷ [] in
+    is-rpc (one-field 3 (omega arith) (omega arith) s z) (no-subs IsSubOpts 3 1 ds refl) (no-subs IsMessage 3 2 ds refl)
+    (subs (IsControl d) 3 (p paired no-pairs))
 
-pub ihave-means : {d : List ℕ} {h : ControlIHave} → Sized d → IsIHave d h → IsControl (bytesField 1 d) (oneIHave h)
-ihave-means {d} {h} z p =
-    let ds = d ∷ [] in
-    is-control (one-field 1 (omega arith) (omega arith) d z) (subs IsIHave 1 (p paired no-pairs))
+pub ihave-means : (d : Dialect) {s : List ℕ} {h : ControlIHave} → Sized s → IsIHave s h
+    → IsControl d (bytesField 1 s) (oneIHave h)
+ihave-means d {s} {h} z p =
+    let ds = s ∷ [] in
+    is-control (one-field 1 (omega arith) (omega arith) s z) (subs IsIHave 1 (p paired no-pairs))
     (no-subs IsIWant 1 2 ds refl)
-    (no-subs IsGraft 1 3 ds refl) (no-subs IsPrune 1 4 ds refl)
+    (no-subs IsGraft 1 3 ds refl) (no-subs IsPrune 1 4 ds refl) (no-idontwants (d .edition) 1 ds refl)
 
-pub iwant-means : {d : List ℕ} {w : ControlIWant} → Sized d → IsIWant d w → IsControl (bytesField 2 d) (oneIWant w)
-iwant-means {d} {w} z p =
-    let ds = d ∷ [] in
-    is-control (one-field 2 (omega arith) (omega arith) d z) (no-subs IsIHave 2 1 ds refl)
+pub iwant-means : (d : Dialect) {s : List ℕ} {w : ControlIWant} → Sized s → IsIWant s w
+    → IsControl d (bytesField 2 s) (oneIWant w)
+iwant-means d {s} {w} z p =
+    let ds = s ∷ [] in
+    is-control (one-field 2 (omega arith) (omega arith) s z) (no-subs IsIHave 2 1 ds refl)
     (subs IsIWant 2 (p paired no-pairs))
-    (no-subs IsGraft 2 3 ds refl) (no-subs IsPrune 2 4 ds refl)
+    (no-subs IsGraft 2 3 ds refl) (no-subs IsPrune 2 4 ds refl) (no-idontwants (d .edition) 2 ds refl)
 
 -- a topic and ids
 pub topic-ids : (topic : List ℕ) (ids : List (List ℕ)) → Utf8 topic → Sized topic → Each Sized ids
@@ -124,11 +136,11 @@ pub some-bytes : (ids : List (List ℕ)) (x : Rpc) → (ids ≡ [] → ⊥) → 
 some-bytes [] x there = absurd (there refl)
 some-bytes (i ∷ is) x there = refl
 
-pub advertisement-means : (topic : List ℕ) (ids : List (List ℕ)) → Utf8 topic
+pub advertisement-means : (d : Dialect) (topic : List ℕ) (ids : List (List ℕ)) → Utf8 topic
     → length (encodeRpc (advertisement topic ids)) < 2 ^ 64
-    → IsRpc (encodeRpc (advertisement topic ids)) (advertisement topic ids)
+    → IsRpc d (encodeRpc (advertisement topic ids)) (advertisement topic ids)
 unfolding advertisement
-advertisement-means topic ids u h =
+advertisement-means d topic ids u h =
     let t = bytesField 1 topic in
     let i = repeated (bytesField 2) ids in
     let e = advertisement-bytes topic ids in
@@ -138,18 +150,18 @@ advertisement-means topic ids u h =
     let l = length-append t i in
     let f = field-holds 1 topic in
     rw e (control-means (omega arith)
-    (ihave-means (omega arith) (topic-ids topic ids u (omega arith) (fields-sized 2 ids (omega arith)))))
+    (ihave-means d (omega arith) (topic-ids topic ids u (omega arith) (fields-sized 2 ids (omega arith)))))
 
-pub request-means : (ids : List (List ℕ)) → length (encodeRpc (request ids)) < 2 ^ 64
-    → IsRpc (encodeRpc (request ids)) (request ids)
+pub request-means : (d : Dialect) (ids : List (List ℕ)) → length (encodeRpc (request ids)) < 2 ^ 64
+    → IsRpc d (encodeRpc (request ids)) (request ids)
 unfolding request
-request-means ids h =
+request-means d ids h =
     let i = repeated (bytesField 1) ids in
     let e = request-bytes ids in
     let n = ap length e in
     let a = field-holds 3 (bytesField 2 i) in
     let b = field-holds 2 i in
-    rw e (control-means (omega arith) (iwant-means (omega arith) (ids-alone ids (fields-sized 1 ids (omega arith)))))
+    rw e (control-means (omega arith) (iwant-means d (omega arith) (ids-alone ids (fields-sized 1 ids (omega arith)))))
 
 -- ---- how many records they have
 pub records-told : (topic : List ℕ) (ids : List (List ℕ)) → recordsIn (advertisement topic ids) ≡ 1 + length ids

@@ -1,5 +1,5 @@
 -- Advertise, ask and serve, each in one theorem: what the call answers and what it leaves, for every lent buffer, by
--- the gateway and the RPC that the body means; and where ask and serve refuse a body.
+-- the gateway and the RPC that the body means in the call's edition; and where ask and serve refuse a body.
 use Prim.Native.Nat.{ℕ, _≤_, _<_}
 use mathlib.Core.Path.{_≡_, refl, sym, ap, subst, _∙_}
 use mathlib.Core.List.{List, [], _∷_}
@@ -9,6 +9,10 @@ use lib.ListN.{length, take}
 use lib.Seq.{sets}
 use lib.Dec.{eqb}
 use borrow.Author.Tests.{lt-ltb, eqb-true, eqb-false}
+use Rattle.basis.specs.declared.Edition.{Edition}
+use Rattle.basis.specs.declared.Edition.the-variants.{V12}
+use Rattle.basis.specs.declared.Dialect.{Dialect}
+use Rattle.basis.specs.Dialect.{spoken}
 use Rattle.basis.specs.Cases.{either, clash}
 use Rattle.basis.specs.Bytes.{Bytes}
 use Rattle.basis.specs.declared.Told.{Told}
@@ -27,10 +31,10 @@ use Rattle.protobuf.specs.Encode.{bytesField}
 use Rattle.schema.specs.Accept.{acceptOf}
 use Rattle.rpc.specs.Rpc.{Rpc}
 use Rattle.rpc.specs.Encode.{encodeRpc, repeated}
-use Rattle.meaning.specs.Decoded.{Refusal, Gated, refusal-gated, gated-bound}
-use Rattle.canon.specs.Taken.{Within, taken, refused-exactly}
-use Rattle.node.specs.Parts.{once}
-use Rattle.node.specs.PartsLaws.{fitting-stop}
+use Rattle.meaning.specs.Decoded.{Refusal, Gated, refusal-gated, gated-bound, refusal-within}
+use Rattle.canon.specs.Taken.{Within, taken, taken-exactly, refused-exactly}
+use Rattle.node.specs.Parts.{once, without}
+use Rattle.node.specs.PartsLaws.{fitting-stop, without-none}
 use Rattle.node.specs.declared.Node.{Node}
 use Rattle.node.specs.declared.Lent.the-variants as lent
 use Rattle.node.specs.declared.Serve.the-variants as serve
@@ -39,24 +43,26 @@ use Rattle.node.specs.Gateway.{rpcBytes, ifAny, toldOf, advertisement, advertis
 use Rattle.node.specs.Gateway.{having, replyRoom, Reply, sent, short, sentBytes, replyFor, serveOf}
 use Rattle.node.specs.State.{gatewayIn}
 use Rattle.node.specs.Calls.{lentOf, advertised, advertiseAnswer, advertiseLeft, offered, unseenOf, asked, askAnswer}
-use Rattle.node.specs.Calls.{askLeft, wanted, cachedOf, roomOf, servedOf, replyBytes, replied, replyTo, serveAnswer}
+use Rattle.node.specs.Calls.{askLeft, remaining, cachedOf, roomOf, servedOf, replyBytes, replied, replyTo, serveAnswer}
 use Rattle.node.specs.Calls.{serveLeft, toldIn, advertiseBytes, askBytes, askOn, serveOn}
 use Rattle.node.specs.ReplyLaws.{reply-within, reply-short, reply-some, sent-bytes}
 use Rattle.node.specs.Laws.{told-gateway, unseen-gateway, cached-gateway, advertise-says, ask-says, serve-says}
-use Rattle.outputs.specs.Named.{offersOf, wantsOf}
-use Rattle.outputs.specs.Outcomes.{Writes, ReplyIs, NoRoom, ServeExactly, NamesExactly, AdvertiseExactly}
-use Rattle.outputs.specs.Offered.{offered-means, wanted-means, offered-once, wanted-once}
+use Rattle.outputs.specs.Named.{offersOf, wantsOf, unwantedOf}
+use Rattle.outputs.specs.Outcomes.{Writes, ReplyIs, NoRoom, ServeExactly, ServeRefuses, asking, declining}
+use Rattle.outputs.specs.Outcomes.{NamesExactly, AdvertiseExactly}
+use Rattle.outputs.specs.Offered.{offered-means, wanted-means, unwanted-means, offered-once, remaining-means}
+use Rattle.outputs.specs.Bodies.{nothing, nothing-means}
 use Rattle.outputs.specs.Replied.{Replies, serve-means, serve-counts, serve-room}
 use Rattle.outputs.specs.Requested.{request-within}
 use Rattle.outputs.specs.Advertised.{advertise-means, no-topic-no-bytes}
 
 -- ---- bytes at the front of a buffer
-front : (x : Rpc) (s out : List ℕ) → s ≡ encodeRpc x → Within s x → length s ≤ length out
+front : (x : Rpc) (s out : List ℕ) → s ≡ encodeRpc x → ((d : Dialect) → Within d s x) → length s ≤ length out
     → Writes x (length s) out (sets out 0 s)
 front x s out e w h =
     let p : take (length s) (sets out 0 s) ≡ s = put-sets out 0 s (omega arith) in
     record {
-      means = rw p w;
+      means = λ d. rw p (w d);
       bytes = p ∙ e;
       count = ap length e;
       fits = h;
@@ -146,7 +152,7 @@ module _ (ms : List (List ℕ)) (out : List ℕ) (r : Replies ms out) where
 -- ---- advertise and ask: x is the RPC that names the ids
 names-exactly : (ids : List (List ℕ)) (x : Rpc) (out : List ℕ) (tells : Written → Told)
     → ((k : ℕ) → tells (wrote.Bytes k) ≡ done (k ∷ [])) → ((k : ℕ) → tells (wrote.Room k) ≡ told short-room (k ∷ []))
-    → ((ids ≡ [] → ⊥) → Within (rpcBytes (ifAny ids x)) x)
+    → ((ids ≡ [] → ⊥) → (d : Dialect) → Within d (rpcBytes (ifAny ids x)) x)
     → NamesExactly ids x out (tells (answer (rpcBytes (ifAny ids x)) out)) (written (rpcBytes (ifAny ids x)) out)
 names-exactly [] x out tells on-bytes on-room w =
     record {
@@ -167,17 +173,17 @@ names-exactly (i ∷ is) x out tells on-bytes on-room w =
 
 -- ---- a body that is refused, of a call that tells this for each outcome of the one test, and none of 10, 1 to 7 and 11
 -- where the body is taken
-module _ (body : List ℕ) (b : Bytes body) (tell : Checked → Told)
+module _ (d : Dialect) (body : List ℕ) (b : Bytes body) (tell : Checked → Told)
     (on-wrong : (why : Placed) → tell (checked.Refused why) ≡ refusalTold why)
     (other : Gated (tell checked.Fine .number) → ⊥) where
-  refused-of : (c : Checked) → acceptOf body ≡ c → (a : Told) → tell c ≡ a → Gated (a .number) → Refusal body a
-  refused-of (checked.Refused why) e a h g = refused-exactly body a b .0 (why, e, sym (on-wrong why) ∙ h)
+  refused-of : (c : Checked) → acceptOf d body ≡ c → (a : Told) → tell c ≡ a → Gated (a .number) → Refusal d body a
+  refused-of (checked.Refused why) e a h g = refused-exactly d body a b .0 (why, e, sym (on-wrong why) ∙ h)
   refused-of checked.Fine e a h g = absurd (other (subst (λ (t : Told). Gated (t .number)) (sym h) g))
 
-  body-refused : (a : Told) → ((tell (acceptOf body) ≡ a) × Gated (a .number)) ↔ Refusal body a
+  body-refused : (a : Told) → ((tell (acceptOf d body) ≡ a) × Gated (a .number)) ↔ Refusal d body a
   body-refused a = (
-    λ p. refused-of (acceptOf body) refl a (p .0) (p .1),
-    λ r. let g = refused-exactly body a b .1 r in (ap tell (g .1) ∙ on-wrong (g .0) ∙ g .2, refusal-gated r),
+    λ p. refused-of (acceptOf d body) refl a (p .0) (p .1),
+    λ r. let g = refused-exactly d body a b .1 r in (ap tell (g .1) ∙ on-wrong (g .0) ∙ g .2, refusal-gated r),
   )
 
 ask-other : (w : Written) → Gated (askTold (asked w) .number) → ⊥
@@ -188,64 +194,114 @@ serve-other : (r : Reply) → Gated (serveTold (replied r) .number) → ⊥
 serve-other (sent ws ls) g = omega (arith, gated-bound g .0)
 serve-other (short needed) g = omega (arith, gated-bound g .1)
 
+-- of a serve that answers r where both bodies are taken
+module _ (ed : Edition) (body second : List ℕ) (b : Bytes body) (b2 : Bytes second) (r : Reply) where
+  second-refused : (a : Told)
+      → ((serveTold (serveOn (replied r) (acceptOf (spoken V12) second)) ≡ a) × Gated (a .number))
+      ↔ Refusal (spoken V12) second a
+  second-refused =
+      body-refused (spoken V12) second b2 (λ c. serveTold (serveOn (replied r) c)) (λ why. refl) (serve-other r)
+
+  abbrev servedOn : Checked → Told
+  servedOn c = serveTold (serveOn (serveOn (replied r) (acceptOf (spoken V12) second)) c)
+
+  refuses : (c : Checked) → acceptOf (spoken ed) body ≡ c → (a : Told) → servedOn c ≡ a → Gated (a .number)
+      → ServeRefuses ed body second a
+  refuses (checked.Refused why) e a h g = asking (refused-exactly (spoken ed) body a b .0 (why, e, h))
+  refuses checked.Fine e a h g = declining (taken-exactly (spoken ed) body b .0 e .1) (second-refused a .0 (h, g))
+
+  refuses-only : (a : Told) → ServeRefuses ed body second a
+      → (servedOn (acceptOf (spoken ed) body) ≡ a) × Gated (a .number)
+  refuses-only a (asking h) =
+      let g = refused-exactly (spoken ed) body a b .1 h in (ap servedOn (g .1) ∙ g .2, refusal-gated h)
+  refuses-only a (declining w h) = let g = second-refused a .1 h in (ap servedOn (taken w) ∙ g .0, g .1)
+
 -- ---- the calls, on a lent state that is fine
 module _ (n : Node) (ss cs out : List ℕ) (fine : lentOf n ss cs ≡ lent.Fine) where
-  -- serve: the gateway and the RPC that the body means fix what is answered and left
-  pub serve-fixed : (body : List ℕ) (x : Rpc) → Within body x
-      → (serveAnswer n ss cs body out ≡ replied (serveOf (wantsOf x) (length out) (gatewayIn n ss cs)))
-      × (serveLeft n ss cs body out ≡ sets out 0 (sentBytes (serveOf (wantsOf x) (length out) (gatewayIn n ss cs))))
-  serve-fixed body x w = rw (← wanted-means (w .means)) (serve-says n ss cs out fine body (taken w))
+  module _ (ed : Edition) (body : List ℕ) (x : Rpc) (w : Within (spoken ed) body x) where
+    -- serve: the gateway and the RPCs that the two bodies mean fix what is answered and left
+    pub serve-fixed : (second : List ℕ) (y : Rpc) → Within (spoken V12) second y
+        → (serveAnswer n ss cs ed body second out
+        ≡ replied (serveOf (wantsOf x) (unwantedOf y) (length out) (gatewayIn n ss cs)))
+        × (serveLeft n ss cs ed body second out
+        ≡ sets out 0 (sentBytes (serveOf (wantsOf x) (unwantedOf y) (length out) (gatewayIn n ss cs))))
+    serve-fixed second y v =
+        rw (← wanted-means (w .means), ← unwanted-means (v .means))
+        (serve-says n ss cs out fine ed body (taken w) second (taken v))
 
-  -- and so
-  pub serve-exactly : (body : List ℕ) (x : Rpc) → Bytes cs → Within body x
-      → ServeExactly (having (gatewayIn n ss cs) (once (wantsOf x))) out (serveTold (serveAnswer n ss cs body out))
-      (serveLeft n ss cs body out)
-  unfolding serveOf roomOf
-  serve-exactly body x bytes w =
-      let ms = having (gatewayIn n ss cs) (once (wantsOf x)) in
-      let e : cachedOf (n .cache) cs (wanted body) ≡ ms =
-      cached-gateway n ss cs (wanted body) ∙ ap (having (gatewayIn n ss cs)) (wanted-once (w .means)) in
-      let r : Replies ms out = rw e at (serve-means n ss cs body out fine bytes) in
-      let f = serve-fixed body x w in
-      let a : serveAnswer n ss cs body out ≡ replyTo ms out = f .0 in
-      let b : serveLeft n ss cs body out ≡ sets out 0 (replyBytes ms out) =
-      f .1 ∙ ap (sets out 0) (sent-bytes ms out) in
-      rw (a, b) (reply-exactly ms out r)
+    -- and so
+    pub serve-exactly : (second : List ℕ) (y : Rpc) → Bytes cs → Within (spoken V12) second y
+        → ServeExactly (having (gatewayIn n ss cs) (without (unwantedOf y) (once (wantsOf x)))) out
+        (serveTold (serveAnswer n ss cs ed body second out)) (serveLeft n ss cs ed body second out)
+    unfolding serveOf roomOf
+    serve-exactly second y bytes v =
+        let ms = having (gatewayIn n ss cs) (without (unwantedOf y) (once (wantsOf x))) in
+        let e : cachedOf (n .cache) cs (remaining body second) ≡ ms =
+        cached-gateway n ss cs (remaining body second)
+        ∙ ap (having (gatewayIn n ss cs)) (remaining-means (w .means) (v .means)) in
+        let r : Replies ms out = rw e at (serve-means n ss cs body second out fine bytes) in
+        let f = serve-fixed second y v in
+        let a : serveAnswer n ss cs ed body second out ≡ replyTo ms out = f .0 in
+        let b : serveLeft n ss cs ed body second out ≡ sets out 0 (replyBytes ms out) =
+        f .1 ∙ ap (sets out 0) (sent-bytes ms out) in
+        rw (a, b) (reply-exactly ms out r)
 
-  -- it tells 10, 1 to 7 or 11 exactly where the body is refused so
-  pub serve-refused-exactly : (body : List ℕ) → Bytes body → (a : Told)
-      → ((serveTold (serveAnswer n ss cs body out) ≡ a) × Gated (a .number)) ↔ Refusal body a
+    -- with no second body: all that are cached and named
+    pub serve-alone : Bytes cs
+        → ServeExactly (having (gatewayIn n ss cs) (once (wantsOf x))) out
+        (serveTold (serveAnswer n ss cs ed body [] out)) (serveLeft n ss cs ed body [] out)
+    serve-alone bytes =
+        subst (λ (l : List (List ℕ)). ServeExactly (having (gatewayIn n ss cs) l) out
+        (serveTold (serveAnswer n ss cs ed body [] out)) (serveLeft n ss cs ed body [] out))
+        (without-none (once (wantsOf x))) (serve-exactly [] nothing bytes (nothing-means (spoken V12)))
+
+  -- it tells 10, 1 to 7 or 11 exactly where one of the bodies is refused so, the one that asks before the second
+  pub serve-refused-exactly : (ed : Edition) (body second : List ℕ) → Bytes body → Bytes second → (a : Told)
+      → ((serveTold (serveAnswer n ss cs ed body second out) ≡ a) × Gated (a .number)) ↔ ServeRefuses ed body second a
   unfolding serveAnswer
-  serve-refused-exactly body b a =
-      let r = replyFor (roomOf out) (cachedOf (n .cache) cs (wanted body)) in
-      rw fine (body-refused body b (λ c. serveTold (serveOn (replied r) c)) (λ why. refl) (serve-other r) a)
+  serve-refused-exactly ed body second b b2 a =
+      let r = replyFor (roomOf out) (cachedOf (n .cache) cs (remaining body second)) in
+      rw fine (
+        λ p. refuses ed body second b b2 r (acceptOf (spoken ed) body) refl a (p .0) (p .1),
+        refuses-only ed body second b b2 r a,
+      )
+
+  -- and with no second body, where the body that asks is
+  pub serve-alone-refused : (ed : Edition) (body : List ℕ) → Bytes body → (a : Told)
+      → ((serveTold (serveAnswer n ss cs ed body [] out) ≡ a) × Gated (a .number)) ↔ Refusal (spoken ed) body a
+  serve-alone-refused ed body b a =
+      let e = serve-refused-exactly ed body [] b (λ i. omega arith) a in (λ p. first (e .0 p), λ h. e .1 (asking h))
+    where
+      first : ServeRefuses ed body [] a → Refusal (spoken ed) body a
+      first (asking h) = h
+      first (declining w h) = absurd (refusal-within h (nothing-means (spoken V12)))
 
   -- ask: the same
-  pub ask-fixed : (body : List ℕ) (x : Rpc) → Within body x
-      → (askAnswer n ss cs body out ≡ asked (answer (rpcBytes (askOf (offersOf x) (gatewayIn n ss cs))) out))
-      × (askLeft n ss cs body out ≡ written (rpcBytes (askOf (offersOf x) (gatewayIn n ss cs))) out)
-  ask-fixed body x w = rw (← offered-means (w .means)) (ask-says n ss cs out fine body (taken w))
+  pub ask-fixed : (ed : Edition) (body : List ℕ) (x : Rpc) → Within (spoken ed) body x
+      → (askAnswer n ss cs ed body out ≡ asked (answer (rpcBytes (askOf (offersOf x) (gatewayIn n ss cs))) out))
+      × (askLeft n ss cs ed body out ≡ written (rpcBytes (askOf (offersOf x) (gatewayIn n ss cs))) out)
+  ask-fixed ed body x w = rw (← offered-means (w .means)) (ask-says n ss cs out fine ed body (taken w))
 
-  pub ask-exactly : (body : List ℕ) (x : Rpc) → Within body x
+  pub ask-exactly : (ed : Edition) (body : List ℕ) (x : Rpc) → Within (spoken ed) body x
       → NamesExactly (lacking (gatewayIn n ss cs) (once (offersOf x)))
-      (request (lacking (gatewayIn n ss cs) (once (offersOf x)))) out (askTold (askAnswer n ss cs body out))
-      (askLeft n ss cs body out)
+      (request (lacking (gatewayIn n ss cs) (once (offersOf x)))) out (askTold (askAnswer n ss cs ed body out))
+      (askLeft n ss cs ed body out)
   unfolding askOf askBytes
-  ask-exactly body x w =
+  ask-exactly ed body x w =
       let ids = lacking (gatewayIn n ss cs) (once (offersOf x)) in
       let e : unseenOf n ss (offered body) ≡ ids =
       unseen-gateway n ss cs (offered body) ∙ ap (lacking (gatewayIn n ss cs)) (offered-once (w .means)) in
-      let f = ask-fixed body x w in
+      let f = ask-fixed ed body x w in
       rw (f .0, f .1)
       (names-exactly ids (request ids) out (λ a. askTold (asked a)) (λ k. refl) (λ k. refl)
       (λ there. rw e at (request-within n ss w (λ z. there (sym e ∙ z)))))
 
-  pub ask-refused-exactly : (body : List ℕ) → Bytes body → (a : Told)
-      → ((askTold (askAnswer n ss cs body out) ≡ a) × Gated (a .number)) ↔ Refusal body a
+  pub ask-refused-exactly : (ed : Edition) (body : List ℕ) → Bytes body → (a : Told)
+      → ((askTold (askAnswer n ss cs ed body out) ≡ a) × Gated (a .number)) ↔ Refusal (spoken ed) body a
   unfolding askAnswer
-  ask-refused-exactly body b a =
+  ask-refused-exactly ed body b a =
       let w = answer (askBytes n ss body) out in
-      rw fine (body-refused body b (λ c. askTold (askOn (asked w) c)) (λ why. refl) (ask-other w) a)
+      rw fine (body-refused (spoken ed) body b (λ c. askTold (askOn (asked w) c)) (λ why. refl) (ask-other w) a)
 
   advertise-long : (topic : List ℕ) (windows : ℕ) → 1024 < length topic
       → (advertiseTold (advertiseAnswer n ss cs topic windows out) ≡ told topic-too-long (length topic ∷ []))

@@ -1,5 +1,5 @@
--- The ids that stand in the IHAVEs and in the IWANTs of a body are those that its RPC names; and they are no more than
--- its records.
+-- The ids that stand in the IHAVEs, in the IWANTs and, in 1.2, in the IDONTWANTs of a body are those that its RPC
+-- names; and they are no more than its records.
 use Prim.Native.Nat.{ℕ, _+_, _≤_}
 use mathlib.Core.Path.{_≡_, refl, sym, ap, ap₂, _∙_}
 use mathlib.Core.Bool.{cond}
@@ -7,18 +7,22 @@ use mathlib.Core.List.{List, [], _∷_, _++_, append-assoc, append-nil}
 use mathlib.Core.Option.{Option, none, some}
 use native.Mathlib.Omega.{arith}
 use lib.ListN.{length, length-append}
+use Rattle.basis.specs.declared.Edition.the-variants.{V12}
+use Rattle.basis.specs.declared.Dialect.{Dialect}
+use Rattle.basis.specs.Dialect.{spoken}
 use Rattle.protobuf.specs.declared.Field.{Field}
 use Rattle.protobuf.specs.Grammar.{Entry, Body}
 use Rattle.protobuf.specs.Walk.{whole, fieldsOf, entriesOf, isBytes, valueIn}
 use Rattle.protobuf.specs.Exactly.{body-walks}
-use Rattle.rpc.specs.Rpc.{ControlIHave, ControlIWant, ControlMessage, Rpc}
-use Rattle.rpc.specs.Grammar.{bytesIn, Pairs, no-pairs, _paired_, IsIHave, is-ihave, IsIWant, is-iwant, IsControl}
-use Rattle.rpc.specs.Grammar.{is-control, joinTo, joined, IsRpc, is-rpc}
+use Rattle.rpc.specs.Rpc.{ControlIHave, ControlIWant, ControlIDontWant, ControlMessage, Rpc}
+use Rattle.rpc.specs.Grammar.{bytesIn, Pairs, no-pairs, _paired_, IsIHave, is-ihave, IsIWant, is-iwant}
+use Rattle.rpc.specs.Grammar.{IsIDontWant, is-idontwant, IsControl, is-control, joinTo, joined, IsRpc, is-rpc}
 use Rattle.meaning.specs.Entries.{put-bytes}
 use Rattle.meaning.specs.Size.{sumOf, someRecords, recordsIn}
-use Rattle.node.specs.Parts.{valuesAlong, inEach, atPath, once}
-use Rattle.node.specs.Calls.{offered, wanted}
-use Rattle.outputs.specs.Named.{ihaveIds, iwantIds, offersIn, wantsIn, offersOf, wantsOf}
+use Rattle.node.specs.Parts.{valuesAlong, inEach, atPath, once, without}
+use Rattle.node.specs.Calls.{offered, wanted, unwantedIn, remaining}
+use Rattle.outputs.specs.Named.{ihaveIds, iwantIds, idontwantIds, offersIn, wantsIn, declinedIn, offersOf}
+use Rattle.outputs.specs.Named.{wantsOf, unwantedOf}
 
 -- ---- along the walk of a body stand the values of its fields
 values-list : (n : ℕ) (s : List ℕ) (fs : List Field) → valuesAlong n s (whole fs) ≡ bytesIn n (entriesOf s fs)
@@ -63,22 +67,33 @@ module _ {X : Type 0} (all : List X → List (List ℕ)) (own : X → List (List
   ids-few [] = omega (arith, ap length empty)
   ids-few (x ∷ xs) = omega (arith, length-append (own x) (all xs), ap length (more x xs), ids-few xs)
 
--- ---- one IHAVE, one IWANT, one control
+-- ---- one IHAVE, one IWANT, one IDONTWANT, one control
 ihave-ids : (d : List ℕ) (h : ControlIHave) → IsIHave d h → atPath (2 ∷ []) d ≡ h .«message_ids»
 ihave-ids _ _ (is-ihave {s = s} {es = es} g u) = path-body 2 [] s es g ∙ each-itself (bytesIn 2 es)
 
 iwant-ids : (d : List ℕ) (w : ControlIWant) → IsIWant d w → atPath (1 ∷ []) d ≡ w .«message_ids»
 iwant-ids _ _ (is-iwant {s = s} {es = es} g) = path-body 1 [] s es g ∙ each-itself (bytesIn 1 es)
 
-control-offers : (d : List ℕ) (c : ControlMessage) → IsControl d c → atPath (1 ∷ 2 ∷ []) d ≡ ihaveIds (c .ihave)
-control-offers _ _ (is-control {s = s} {es = es} g h1 h2 h3 h4) =
+idontwant-ids : (d : List ℕ) (w : ControlIDontWant) → IsIDontWant d w → atPath (1 ∷ []) d ≡ w .«message_ids»
+idontwant-ids _ _ (is-idontwant {s = s} {es = es} g) = path-body 1 [] s es g ∙ each-itself (bytesIn 1 es)
+
+control-offers : {d : Dialect} (s : List ℕ) (c : ControlMessage) → IsControl d s c
+    → atPath (1 ∷ 2 ∷ []) s ≡ ihaveIds (c .ihave)
+control-offers _ _ (is-control {s = s} {es = es} g h1 h2 h3 h4 h5) =
     path-body 1 (2 ∷ []) s es g ∙ in-pairs ihaveIds (λ h. h .«message_ids») refl
     (λ h hs. refl) (atPath (2 ∷ [])) ihave-ids h1
 
-control-wants : (d : List ℕ) (c : ControlMessage) → IsControl d c → atPath (2 ∷ 1 ∷ []) d ≡ iwantIds (c .iwant)
-control-wants _ _ (is-control {s = s} {es = es} g h1 h2 h3 h4) =
+control-wants : {d : Dialect} (s : List ℕ) (c : ControlMessage) → IsControl d s c
+    → atPath (2 ∷ 1 ∷ []) s ≡ iwantIds (c .iwant)
+control-wants _ _ (is-control {s = s} {es = es} g h1 h2 h3 h4 h5) =
     path-body 2 (1 ∷ []) s es g ∙ in-pairs iwantIds (λ w. w .«message_ids») refl
     (λ w ws. refl) (atPath (1 ∷ [])) iwant-ids h2
+
+control-declines : (s : List ℕ) (c : ControlMessage) → IsControl (spoken V12) s c
+    → atPath (5 ∷ 1 ∷ []) s ≡ idontwantIds (c .idontwant)
+control-declines _ _ (is-control {s = s} {es = es} g h1 h2 h3 h4 h5) =
+    path-body 5 (1 ∷ []) s es g ∙ in-pairs idontwantIds (λ w. w .«message_ids») refl
+    (λ w ws. refl) (atPath (1 ∷ [])) idontwant-ids h5
 
 -- ---- controls are joined, and so are the ids that they name
 offers-join : (c : ControlMessage) (o : Option ControlMessage)
@@ -90,27 +105,46 @@ wants-join : (c : ControlMessage) (o : Option ControlMessage) → iwantIds (c .i
 wants-join c none = append-nil (iwantIds (c .iwant))
 wants-join c (some d) = all-append iwantIds (λ w. w .«message_ids») refl (λ w ws. refl) (c .iwant) (d .iwant)
 
--- ---- the ids in the IHAVEs of a body, and in its IWANTs
-pub offered-means : {s : List ℕ} {x : Rpc} → IsRpc s x → atPath (3 ∷ 1 ∷ 2 ∷ []) s ≡ offersOf x
+declines-join : (c : ControlMessage) (o : Option ControlMessage)
+    → idontwantIds (c .idontwant) ++ declinedIn o ≡ declinedIn (joinTo c o)
+declines-join c none = append-nil (idontwantIds (c .idontwant))
+declines-join c (some d) =
+    all-append idontwantIds (λ w. w .«message_ids») refl (λ w ws. refl) (c .idontwant) (d .idontwant)
+
+-- ---- the ids in the IHAVEs of a body, in its IWANTs, and in the IDONTWANTs of one that is read in 1.2
+pub offered-means : {d : Dialect} {s : List ℕ} {x : Rpc} → IsRpc d s x → atPath (3 ∷ 1 ∷ 2 ∷ []) s ≡ offersOf x
 offered-means (is-rpc {s = s} {es = es} g h1 h2 h3) =
     path-body 3 (1 ∷ 2 ∷ []) s es g
     ∙ in-pairs (λ cs. offersIn (joined cs)) (λ c. ihaveIds (c .ihave)) refl (λ c cs. offers-join c (joined cs))
     (atPath (1 ∷ 2 ∷ [])) control-offers h3
 
-pub wanted-means : {s : List ℕ} {x : Rpc} → IsRpc s x → atPath (3 ∷ 2 ∷ 1 ∷ []) s ≡ wantsOf x
+pub wanted-means : {d : Dialect} {s : List ℕ} {x : Rpc} → IsRpc d s x → atPath (3 ∷ 2 ∷ 1 ∷ []) s ≡ wantsOf x
 wanted-means (is-rpc {s = s} {es = es} g h1 h2 h3) =
     path-body 3 (2 ∷ 1 ∷ []) s es g
     ∙ in-pairs (λ cs. wantsIn (joined cs)) (λ c. iwantIds (c .iwant)) refl (λ c cs. wants-join c (joined cs))
     (atPath (2 ∷ 1 ∷ [])) control-wants h3
 
+pub unwanted-means : {s : List ℕ} {x : Rpc} → IsRpc (spoken V12) s x → unwantedIn s ≡ unwantedOf x
+unfolding unwantedIn
+unwanted-means (is-rpc {s = s} {es = es} g h1 h2 h3) =
+    path-body 3 (5 ∷ 1 ∷ []) s es g
+    ∙ in-pairs (λ cs. declinedIn (joined cs)) (λ c. idontwantIds (c .idontwant)) refl
+    (λ c cs. declines-join c (joined cs)) (atPath (5 ∷ 1 ∷ [])) control-declines h3
+
 -- each at its first mention
-pub offered-once : {s : List ℕ} {x : Rpc} → IsRpc s x → offered s ≡ once (offersOf x)
+pub offered-once : {d : Dialect} {s : List ℕ} {x : Rpc} → IsRpc d s x → offered s ≡ once (offersOf x)
 unfolding offered
 offered-once h = ap once (offered-means h)
 
-pub wanted-once : {s : List ℕ} {x : Rpc} → IsRpc s x → wanted s ≡ once (wantsOf x)
+pub wanted-once : {d : Dialect} {s : List ℕ} {x : Rpc} → IsRpc d s x → wanted s ≡ once (wantsOf x)
 unfolding wanted
 wanted-once h = ap once (wanted-means h)
+
+-- those that the one asks for and the other does not decline
+pub remaining-means : {d : Dialect} {s t : List ℕ} {x y : Rpc} → IsRpc d s x → IsRpc (spoken V12) t y
+    → remaining s t ≡ without (unwantedOf y) (once (wantsOf x))
+unfolding remaining
+remaining-means g h = ap₂ without (unwanted-means h) (wanted-once g)
 
 -- ---- fewer ids than records: ids that are offered stand in an IHAVE, which is one record more
 offers-in : (o : Option ControlMessage) → 1 ≤ length (offersIn o) → 1 + length (offersIn o) ≤ someRecords o

@@ -1,11 +1,15 @@
 -- What advertise, ask and serve answer (`t`, the scope's number and the values beside it) and how they leave the lent
--- buffer (`left` of `out`), in the scope's words.
+-- buffer (`left` of `out`), in the scope's words. What is written means the same in every dialect.
 use Prim.Native.Nat.{ℕ, _+_, _≤_, _<_}
 use mathlib.Core.Path.{_≡_}
 use mathlib.Core.List.{List, [], _∷_, map}
 use mathlib.Core.Option.{none}
 use mathlib.Core.Logic.{_↔_, _⊎_}
 use lib.ListN.{length, take, drop}
+use Rattle.basis.specs.declared.Edition.{Edition}
+use Rattle.basis.specs.declared.Edition.the-variants.{V12}
+use Rattle.basis.specs.declared.Dialect.{Dialect}
+use Rattle.basis.specs.Dialect.{spoken}
 use Rattle.basis.specs.declared.Told.{Told}
 use Rattle.basis.specs.Told.{told, done}
 use Rattle.basis.specs.Refusals.{topic-too-long, short-room}
@@ -13,13 +17,14 @@ use Rattle.utf8.specs.Grammar.{Utf8}
 use Rattle.protobuf.specs.Encode.{bytesField}
 use Rattle.rpc.specs.Rpc.{RawMessage, Rpc}
 use Rattle.rpc.specs.Encode.{encodeRpc, repeated}
+use Rattle.meaning.specs.Decoded.{Refusal}
 use Rattle.canon.specs.Taken.{Within}
 use Rattle.node.specs.Gateway.{advertisement, replyRoom}
 
 -- ---- the buffer as it is left: k bytes at the front that are an RPC, and after them what was there
 pub record Writes (x : Rpc) (k : ℕ) (out left : List ℕ) : Type 0 where
   -- they are a body within capacity that means x
-  pub means : Within (take k left) x
+  pub means : (d : Dialect) → Within d (take k left) x
   -- and, of the bodies that do, the one that `Rpc::encode` writes
   pub bytes : take k left ≡ encodeRpc x
   pub count : k ≡ length (encodeRpc x)
@@ -48,7 +53,8 @@ pub record AdvertiseExactly (topic : List ℕ) (ids : List (List ℕ)) (out : Li
   -- none where the topic isn't UTF-8
   pub not-text : (Utf8 topic → ⊥) → ids ≡ []
 
--- ---- serve: `ms` are the cached messages that its IWANTs name, each once, in order of first mention
+-- ---- serve: `ms` are the cached messages that its IWANTs name, each once, in order of first mention, without those
+-- whose ids a second body's IDONTWANTs name
 -- a reply of k bytes, w messages written and l left
 pub record ReplyIs (ms : List (List ℕ)) (out left : List ℕ) (k w l : ℕ) : Type 0 where
   pub reply : Rpc
@@ -80,3 +86,8 @@ pub record ServeExactly (ms : List (List ℕ)) (out : List ℕ) (t : Told) (left
   -- there is no third answer
   pub no-other : ((k : ℕ) × (w : ℕ) × (l : ℕ) × (t ≡ done (k ∷ w ∷ l ∷ [])))
       ⊎ ((needed : ℕ) × (t ≡ told short-room (needed ∷ [])))
+
+-- 10, 1 to 7 or 11 of the body that asks, in the call's edition; or, where that is taken, of the second body, in 1.2
+pub data ServeRefuses (ed : Edition) (body second : List ℕ) (t : Told) : Type 0 where
+  asking : Refusal (spoken ed) body t → ServeRefuses ed body second t
+  declining : {x : Rpc} → Within (spoken ed) body x → Refusal (spoken V12) second t → ServeRefuses ed body second t

@@ -1,5 +1,6 @@
--- A reply to a body is a body that publishes cached messages, byte for byte, as many as the room has, from the first
--- on; and it is canonical. What is answered counts them, and those that are left.
+-- A reply to a body is, in every dialect, a body that publishes cached messages, byte for byte, as many as the room
+-- has, from the first on; and it is canonical. What is answered counts them, and those that are left. A message that a
+-- second body declines is in neither count.
 use Prim.Native.Nat.{ℕ, suc, _+_, _-_, _≤_, _<_}
 use mathlib.Core.Path.{_≡_, refl, sym, ap, _∙_}
 use mathlib.Core.Bool.{true}
@@ -10,6 +11,10 @@ use lib.ListN.{length, take, length-map}
 use lib.Seq.{length-take-le}
 use lib.Dec.{ltb, eqb}
 use borrow.Author.Tests.{ltb-true, eqb-true, eqb-false}
+use Rattle.basis.specs.declared.Edition.{Edition}
+use Rattle.basis.specs.declared.Edition.the-variants.{V12}
+use Rattle.basis.specs.declared.Dialect.{Dialect}
+use Rattle.basis.specs.Dialect.{spoken}
 use Rattle.basis.specs.Cases.{either, clash}
 use Rattle.basis.specs.Bytes.{Bytes}
 use Rattle.rows.specs.declared.Ring.{Ring}
@@ -22,7 +27,7 @@ use Rattle.rows.specs.StoreLaws.{index-among}
 use Rattle.protobuf.specs.declared.Checked.the-variants as checked
 use Rattle.protobuf.specs.Encode.{bytesField}
 use Rattle.rpc.specs.Rpc.{RawMessage, Rpc}
-use Rattle.rpc.specs.Grammar.{Each, none-left, _and_}
+use Rattle.rpc.specs.Grammar.{Each, none-left, _and_, IsRpc}
 use Rattle.rpc.specs.Encode.{repeated, encodeRpc}
 use Rattle.meaning.specs.Size.{recordsIn}
 use Rattle.schema.specs.Accept.{acceptOf}
@@ -33,13 +38,14 @@ use Rattle.mcache.specs.declared.MessageCache.{MessageCache}
 use Rattle.mcache.specs.State.{messageIn, ringOf, messageIdSize}
 use Rattle.mcache.specs.StateLaws.{Tests, fine-tests}
 use Rattle.node.specs.Parts.{atPath, fitting}
-use Rattle.node.specs.PartsLaws.{once-distinct, fitting-next}
+use Rattle.node.specs.PartsLaws.{once-distinct, without-distinct, fitting-next}
 use Rattle.node.specs.declared.Node.{Node}
 use Rattle.node.specs.declared.Lent.the-variants as lent
 use Rattle.node.specs.declared.Serve.the-variants as serve
 use Rattle.node.specs.Gateway.{having, serveOf}
 use Rattle.node.specs.State.{gatewayIn}
-use Rattle.node.specs.Calls.{lentOf, wanted, rowsFor, cachedOf, roomOf, servedOf, replyBytes, replyTo, serveAnswer}
+use Rattle.node.specs.Calls.{lentOf, wanted, unwantedIn, remaining, rowsFor, cachedOf, roomOf, servedOf, replyBytes}
+use Rattle.node.specs.Calls.{replyTo, serveAnswer}
 use Rattle.node.specs.ReplyLaws.{reply-bytes, served-le, reply-within, reply-short, reply-some}
 use Rattle.node.specs.Laws.{serve-says}
 use Rattle.node.specs.StateLaws.{fine-tests as node-tests}
@@ -63,6 +69,12 @@ rows-each f ring held (i ∷ is) h =
     let r = rows-each f ring held is h in
     either (ltb (indexOf i held) (length held)) (λ t. simp t (h (indexOf i held) (ltb-true _ _ t) and r))
     (λ t. simp t r)
+
+-- ---- the ids that remain are each there once
+remaining-distinct : (body second : List ℕ) → distinct (remaining body second) ≡ true
+unfolding remaining wanted
+remaining-distinct body second =
+    without-distinct (unwantedIn second) (wanted body) (once-distinct (atPath (3 ∷ 2 ∷ 1 ∷ []) body))
 
 module _ (c : MessageCache) (st : List ℕ) (t : Tests c st) (is : List (List ℕ)) where
   held-count : length (idsIn messageIdSize (ringOf c) (c .«id_len») (c .ids)) ≡ c .count
@@ -88,14 +100,14 @@ module _ (c : MessageCache) (st : List ℕ) (t : Tests c st) (is : List (List �
 -- ---- the reply
 pub record Replies (ms : List (List ℕ)) (out : List ℕ) : Type 0 where
   pub rpc : Rpc
-  pub within : Within (replyBytes ms out) rpc
+  pub within : (d : Dialect) → Within d (replyBytes ms out) rpc
   pub no-subscriptions : rpc .subscriptions ≡ []
   pub no-control : rpc .control ≡ none
   -- the messages are the first of ms, byte for byte
   pub messages : map (λ (m : RawMessage). m .raw) (rpc .publish) ≡ take (servedOf ms out) ms
   pub count : length (rpc .publish) ≡ servedOf ms out
   pub encoded : replyBytes ms out ≡ encodeRpc rpc
-  pub stays : canonBody (replyBytes ms out) ≡ replyBytes ms out
+  pub stays : (d : Dialect) → canonBody d (replyBytes ms out) ≡ replyBytes ms out
 
 raw-fields : (vs : List RawMessage) → repeated (λ m. bytesField 2 (m .raw)) vs ≡ repeated (bytesField 2)
     (map (λ (m : RawMessage). m .raw) vs)
@@ -114,32 +126,36 @@ replies ms out h n =
     let l = served-le ms out in
     let t = length-take-le k ms l in
     let r = all-messages (each-take k h) in
-    let w = messages-mean (r .sized) (r .means) in
+    let w : (d : Dialect) → IsRpc d (repeated (bytesField 2) (take k ms)) (published (r .values)) =
+    λ d. messages-mean d (r .sized) (r .means) in
     let e = ap (repeated (bytesField 2)) (r .raws) in
     record {
       rpc = published (r .values);
-      within = record { means = w; small = omega (arith, reply-within ms out); few = omega (arith, r .few) };
+      within = λ d. record {
+        means = w d;
+        small = omega (arith, reply-within ms out);
+        few = omega (arith, r .few);
+      };
       no-subscriptions = refl;
       no-control = refl;
       messages = r .raws;
       count = sym (length-map (r .values) (λ (m : RawMessage). m .raw)) ∙ ap length (r .raws) ∙ t;
       encoded = sym (published-bytes (r .values) ∙ e);
-      stays = canon-written w ∙ published-bytes (r .values) ∙ e;
+      stays = λ d. canon-written (w d) ∙ published-bytes (r .values) ∙ e;
     }
 
-module _ (n : Node) (ss cs body out : List ℕ) (fine : lentOf n ss cs ≡ lent.Fine) (bytes : Bytes cs) where
+module _ (n : Node) (ss cs body second out : List ℕ) (fine : lentOf n ss cs ≡ lent.Fine) (bytes : Bytes cs) where
   abbrev ms : List (List ℕ)
-  ms = cachedOf (n .cache) cs (wanted body)
+  ms = cachedOf (n .cache) cs (remaining body second)
 
-  pub serve-means : Replies (cachedOf (n .cache) cs (wanted body)) out
-  unfolding wanted
+  pub serve-means : Replies (cachedOf (n .cache) cs (remaining body second)) out
   serve-means =
       let t = fine-tests (n .cache) cs (node-tests n ss cs fine .messages) in
-      replies ms out (cached-messages (n .cache) cs t (wanted body) bytes)
-      (cached-few (n .cache) cs t (wanted body) (once-distinct (atPath (3 ∷ 2 ∷ 1 ∷ []) body)))
+      replies ms out (cached-messages (n .cache) cs t (remaining body second) bytes)
+      (cached-few (n .cache) cs t (remaining body second) (remaining-distinct body second))
 
-  pub serve-stays : canonBody (replyBytes (cachedOf (n .cache) cs (wanted body)) out) ≡ replyBytes
-      (cachedOf (n .cache) cs (wanted body)) out
+  pub serve-stays : (d : Dialect) → canonBody d (replyBytes (cachedOf (n .cache) cs (remaining body second)) out)
+      ≡ replyBytes (cachedOf (n .cache) cs (remaining body second)) out
   serve-stays = serve-means .stays
 
 -- ---- what is answered
@@ -197,10 +213,13 @@ serve-room (m ∷ ms) out k h =
     (omega arith, rw (reply-bytes (m ∷ ms) out, z)))
     (λ t. clash (let q = reply-some m ms out (eqb-false s 0 t) in cc))
 
--- ---- of a call: it counts the messages that are cached and named, those written and those left
-pub serve-tells : (n : Node) (ss cs body out : List ℕ) (k w l : ℕ) → lentOf n ss cs ≡ lent.Fine
-    → acceptOf body ≡ checked.Fine → serveAnswer n ss cs body out ≡ serve.Reply k w l
-    → Counts (having (gatewayIn n ss cs) (wanted body)) out k w l
-unfolding serveOf wanted roomOf
-serve-tells n ss cs body out k w l fine ok h =
-    serve-counts (having (gatewayIn n ss cs) (wanted body)) out k w l (sym (serve-says n ss cs out fine body ok .0) ∙ h)
+-- ---- of a call: it counts the messages that are cached, named and not declined, those written and those left
+pub serve-tells : (n : Node) (ss cs : List ℕ) (ed : Edition) (body second out : List ℕ) (k w l : ℕ)
+    → lentOf n ss cs ≡ lent.Fine → acceptOf (spoken ed) body ≡ checked.Fine
+    → acceptOf (spoken V12) second ≡ checked.Fine
+    → serveAnswer n ss cs ed body second out ≡ serve.Reply k w l
+    → Counts (having (gatewayIn n ss cs) (remaining body second)) out k w l
+unfolding serveOf remaining wanted roomOf
+serve-tells n ss cs ed body second out k w l fine ok too h =
+    serve-counts (having (gatewayIn n ss cs) (remaining body second)) out k w l
+    (sym (serve-says n ss cs out fine ed body ok second too .0) ∙ h)

@@ -1,11 +1,12 @@
--- A request is a body with one IWANT that names the ids offered and not held; it is canonical, and never longer than
--- the body that offers them.
+-- A request is a body with one IWANT that names the ids offered and not held, in every dialect; it is canonical, and
+-- never longer than the body that offers them.
 use Prim.Native.Nat.{ℕ, _+_, _≤_}
 use mathlib.Core.Path.{_≡_, refl, sym, ap, _∙_}
 use mathlib.Core.List.{List, [], _∷_, _++_, append-nil}
 use mathlib.Core.Option.{Option, none, some}
 use native.Mathlib.Omega.{arith}
 use lib.ListN.{length, length-append}
+use Rattle.basis.specs.declared.Dialect.{Dialect}
 use Rattle.basis.specs.Cases.{either}
 use Rattle.basis.specs.Bytes.{Bytes}
 use Rattle.rows.specs.Ids.{among}
@@ -15,7 +16,7 @@ use Rattle.protobuf.specs.Encode.{bytesField}
 use Rattle.protobuf.specs.EncodeLaws.{heads-same}
 use Rattle.rpc.specs.Rpc.{ControlIHave, ControlMessage, Rpc}
 use Rattle.rpc.specs.Encode.{optional, repeated, encodeIHave, encodeIWant, encodeSubOpts, encodeGraft, encodePrune}
-use Rattle.rpc.specs.Encode.{encodeControl, encodeRpc}
+use Rattle.rpc.specs.Encode.{encodeIDontWant, encodeControl, encodeRpc}
 use Rattle.meaning.specs.Size.{sumOf}
 use Rattle.schema.specs.Accept.{acceptOf}
 use Rattle.canon.specs.Canon.{canonBody}
@@ -136,8 +137,9 @@ control-in : (c : ControlMessage) → 1 ≤ length (ihaveIds (c .ihave))
 unfolding encodeControl
 control-in c h =
     let rest = repeated (λ w. bytesField 2 (encodeIWant w)) (c .iwant)
-    ++ (repeated (λ g. bytesField 3 (encodeGraft g)) (c .graft) ++ repeated (λ p. bytesField 4 (encodePrune p))
-    (c .prune)) in
+    ++ (repeated (λ g. bytesField 3 (encodeGraft g)) (c .graft)
+    ++ (repeated (λ p. bytesField 4 (encodePrune p)) (c .prune)
+    ++ repeated (λ w. bytesField 5 (encodeIDontWant w)) (c .idontwant))) in
     let l = length-append (repeated (λ k. bytesField 1 (encodeIHave k)) (c .ihave)) rest in
     let a = some-in (c .ihave) h in
     omega arith
@@ -181,25 +183,26 @@ module _ (x : Rpc) (i : List ℕ) (is : List (List ℕ)) (less : Less (i ∷ is)
       (bytesField 2 (repeated (bytesField 1) (offersOf x))) b in
       omega (arith, rpc-in x some-offered)
 
-  means : {body : List ℕ} → Within body x → Within (encodeRpc (request ids)) (request ids)
-  means {body} w =
+  means : {d : Dialect} {body : List ℕ} → Within d body x → (e : Dialect)
+      → Within e (encodeRpc (request ids)) (request ids)
+  means {body = body} w e =
       let a = shorter in
       let b = never-longer (w .means) in
       let c = offers-fewer x some-offered in
       let d = less-count ids (offersOf x) less in
       record {
-        means = request-means ids (omega (arith, w .small));
+        means = request-means e ids (omega (arith, w .small));
         small = omega (arith, w .small);
         few = omega (arith, w .few, records-asked ids);
       }
 
-of-ids : {body : List ℕ} {x : Rpc} → Within body x → (ids : List (List ℕ)) → Less ids (offersOf x) → (ids ≡ [] → ⊥)
-    → Within (bytesFor ids (request ids)) (request ids)
+of-ids : {d : Dialect} {body : List ℕ} {x : Rpc} → Within d body x → (ids : List (List ℕ)) → Less ids (offersOf x)
+    → (ids ≡ [] → ⊥) → (e : Dialect) → Within e (bytesFor ids (request ids)) (request ids)
 of-ids w [] less there = absurd (there refl)
 of-ids {x = x} w (i ∷ is) less there = means x i is less w
 
-ids-shorter : {body : List ℕ} {x : Rpc} → Within body x → (ids : List (List ℕ)) → Less ids (offersOf x)
-    → length (bytesFor ids (request ids)) ≤ length body
+ids-shorter : {d : Dialect} {body : List ℕ} {x : Rpc} → Within d body x → (ids : List (List ℕ))
+    → Less ids (offersOf x) → length (bytesFor ids (request ids)) ≤ length body
 ids-shorter w [] less = omega arith
 ids-shorter {x = x} w (i ∷ is) less = omega (arith, shorter x i is less, never-longer (w .means))
 
@@ -209,30 +212,32 @@ unfolding askBytes
 ask-none n ss body e = let ids = unseenOf n ss (offered body) in no-bytes ids (request ids) e
 
 -- ---- the request for what is offered by a body that means an RPC
-pub request-within : (n : Node) (ss : List ℕ) {body : List ℕ} {x : Rpc} → Within body x
-    → (unseenOf n ss (offered body) ≡ [] → ⊥) → Within (askBytes n ss body) (request (unseenOf n ss (offered body)))
+pub request-within : {d : Dialect} (n : Node) (ss : List ℕ) {body : List ℕ} {x : Rpc} → Within d body x
+    → (unseenOf n ss (offered body) ≡ [] → ⊥) → (e : Dialect)
+    → Within e (askBytes n ss body) (request (unseenOf n ss (offered body)))
 unfolding askBytes
 request-within n ss {body} w there =
     of-ids w (unseenOf n ss (offered body)) (rw (← offered-means (w .means)) (asked-less n ss body)) there
 
 -- ---- the request for what is offered by a body that is taken
-module _ (n : Node) (ss body : List ℕ) (fine : acceptOf body ≡ Fine) (bytes : Bytes body) where
+module _ (d : Dialect) (n : Node) (ss body : List ℕ) (fine : acceptOf d body ≡ Fine) (bytes : Bytes body) where
   abbrev asked : List (List ℕ)
   asked = unseenOf n ss (offered body)
 
-  abbrev meant : (x : Rpc) × Within body x
-  meant = taken-exactly body bytes .0 fine
+  abbrev meant : (x : Rpc) × Within d body x
+  meant = taken-exactly d body bytes .0 fine
 
   less-asked : Less asked (offersOf (meant .0))
   less-asked = rw (← offered-means (meant .1 .means)) (asked-less n ss body)
 
-  pub ask-means : (unseenOf n ss (offered body) ≡ [] → ⊥)
-      → Within (askBytes n ss body) (request (unseenOf n ss (offered body)))
+  pub ask-means : (unseenOf n ss (offered body) ≡ [] → ⊥) → (e : Dialect)
+      → Within e (askBytes n ss body) (request (unseenOf n ss (offered body)))
   ask-means there = request-within n ss (meant .1) there
 
-  pub ask-stays : (unseenOf n ss (offered body) ≡ [] → ⊥) → canonBody (askBytes n ss body) ≡ askBytes n ss body
+  pub ask-stays : (unseenOf n ss (offered body) ≡ [] → ⊥) → (e : Dialect)
+      → canonBody e (askBytes n ss body) ≡ askBytes n ss body
   unfolding askBytes
-  ask-stays there = canon-written (ask-means there .means) ∙ sym (some-bytes asked (request asked) there)
+  ask-stays there e = canon-written (ask-means there e .means) ∙ sym (some-bytes asked (request asked) there)
 
   -- never longer than the body
   pub request-shorter : length (askBytes n ss body) ≤ length body

@@ -290,23 +290,22 @@ fn is_varint(role: Role) -> bool
     }
 }
 
-// What a field of a message is, by its number and wire type.
+// What a field of a message is, by its number and wire type. The type is tested first: so this is small enough to be part of each walk.
 pub fn role_of(kind: Kind, field: u64, wire_type: u8) -> Role
     ensures { λ r. ⌜ r ≡ roleOf kind field «wire_type» ⌝ }
 {
-    let role = row_of(kind, field);
-    let number = is_varint(role);
     if wire_type == WIRE_LEN {
-        if number {
+        let role = row_of(kind, field);
+        if is_varint(role) {
             return Role::Skip;
         }
         return role;
     }
     if wire_type == WIRE_VARINT {
-        if number {
+        let role = row_of(kind, field);
+        if is_varint(role) {
             return role;
         }
-        return Role::Skip;
     }
     Role::Skip
 }

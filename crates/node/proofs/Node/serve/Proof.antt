@@ -21,8 +21,8 @@ enum-told c = search needs
 accept-requires : tie.Need-accept-requires
 accept-requires c κs = search needs
 
-enum-known-c : tie.Need-enum-known-c
-enum-known-c c = search needs
+enum-known-tested : tie.Need-enum-known-tested
+enum-known-tested c = search needs
 
 enum-told-2 : tie.Need-enum-told-2
 enum-told-2 c = search needs
@@ -57,7 +57,7 @@ returns-2 : tie.Need-returns-2
 returns-2 c =
     let a = c .before .before .before .before .before .before .before .before .before .before .before .before .args in
     let r = serves-refused (a .self) (a .seen-store .now) (a .cache-store .now) (a .edition) (a .body .now) (a .unwanted .now) (a .out .now) _
-    (c .before .before .before .before .before .before .lent .ensures) (c .before .before .before .before .enum-told .given .1) _ (c .before .before .before .accept .ensures) _ (c .before .c .given .1) in
+    (c .before .before .before .before .before .before .lent .ensures) (c .before .before .before .before .enum-told .given .1) _ (c .before .before .before .accept .ensures) _ (c .before .tested .given .1) in
     record { answer = r .0; node = refl; buffer = r .1 }
 
 same-length : tie.Need-same-length
@@ -78,7 +78,7 @@ serve-spec =
     enum-known-lent
     enum-told
     accept-requires
-    enum-known-c
+    enum-known-tested
     enum-told-2
     serve-taken-requires
     returns
