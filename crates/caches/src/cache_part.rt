@@ -1,4 +1,4 @@
-// Kinds 6 to 10 and 16: the cache part.
+// Kinds 6 to 10, 16 and 17: the cache part.
 ghost use Prim.Native.Nat.{_≤_};
 ghost use lib.ListN.{length};
 use super::answers::put_line;
@@ -7,6 +7,7 @@ use super::say::last;
 use super::say::print;
 use super::say::print_line;
 use super::say::start;
+use basis::Edition;
 use lines::refusal_line;
 use lines::told_line;
 use mcache::GossipIds;
@@ -90,8 +91,15 @@ fn begin_flagged(n: u64, content: &[u8], part: CachePart, out: &mut [u8]) -> Cac
     begin(n, 14, flags, content, part, out)
 }
 
-// Kind 7.
-fn put(n: u64, content: &[u8], part: CachePart, store: &mut [u8], out: &mut [u8]) -> CachePart
+// Kind 7, with the body in an edition.
+fn put(
+    n: u64,
+    edition: Edition,
+    content: &[u8],
+    part: CachePart,
+    store: &mut [u8],
+    out: &mut [u8],
+) -> CachePart
     requires { ⌜ 256 ≤ length (now out) ⌝ }
 {
     if content.len() < 2 {
@@ -99,7 +107,7 @@ fn put(n: u64, content: &[u8], part: CachePart, store: &mut [u8], out: &mut [u8]
     }
     let index = basis::little_at(content, 0, 2) as usize;
     let cache = part.cache;
-    let r = cache.put(store, &content[2..], index);
+    let r = cache.put(store, edition, &content[2..], index);
     let answer = r.answer;
     let left = r.cache;
     let k = put_line(n, told_put(answer), out);
@@ -109,6 +117,21 @@ fn put(n: u64, content: &[u8], part: CachePart, store: &mut [u8], out: &mut [u8]
         started: true,
         cache: left,
     }
+}
+
+// Kind 17: the number of an edition, and then as kind 7.
+fn put_in(n: u64, content: &[u8], part: CachePart, store: &mut [u8], out: &mut [u8]) -> CachePart
+    requires { ⌜ 256 ≤ length (now out) ⌝ }
+{
+    if content.len() < 1 {
+        return bad(part);
+    }
+    let number = basis::little_at(content, 0, 1);
+    if 1 < number {
+        return bad(part);
+    }
+    let edition = basis::edition_of(number);
+    put(n, edition, &content[1..], part, store, out)
 }
 
 // Kind 8.
@@ -235,10 +258,11 @@ fn call(
     requires { ⌜ 256 ≤ length (now out) ⌝ }
 {
     match kind {
-        7 => put(n, content, part, store, out),
+        7 => put(n, Edition::V11, content, part, store, out),
         8 => shift(n, content, part, store, out),
         9 => gossip(n, content, part, store, out),
         10 => get(n, content, part, store, out),
+        17 => put_in(n, content, part, store, out),
         _ => bad(part),
     }
 }

@@ -5,6 +5,7 @@ use mathlib.Core.List.{List, [], _∷_, _++_, map}
 use mathlib.Core.Bool.{true, cond}
 use lib.ListN.{length}
 use lib.Dec.{ltb, eqb}
+use Rattle.basis.specs.declared.Dialect.{Dialect}
 use Rattle.basis.specs.declared.Told.{Told}
 use Rattle.text.specs.Line.{decimal, number, hex}
 use Rattle.protobuf.specs.Walk.{between}
@@ -62,17 +63,18 @@ peerText s t = ((32 ∷ 32 ∷ 112 ∷ 101 ∷ 101 ∷ 114 ∷ []) ++ placeText 
 
 -- a topic and a message id: the whole of it. No record is an RPC or a control.
 unfoldable pub recordText : Kind → List ℕ → Slots → List ℕ
-recordText kind.Rpc s t = 32 ∷ 32 ∷ 114 ∷ 112 ∷ 99 ∷ []
+recordText (kind.Rpc d) s t = 32 ∷ 32 ∷ 114 ∷ 112 ∷ 99 ∷ []
 recordText kind.SubOpts s t = subText s t
 recordText kind.RawMessage s t = messageText s t
 recordText kind.Topic s t = (32 ∷ 32 ∷ 116 ∷ 111 ∷ 112 ∷ 105 ∷ 99 ∷ []) ++ bytesText s
-recordText kind.ControlMessage s t = 32 ∷ 32 ∷ 99 ∷ 111 ∷ 110 ∷ 116 ∷ 114 ∷ 111 ∷ 108 ∷ []
+recordText (kind.ControlMessage d) s t = 32 ∷ 32 ∷ 99 ∷ 111 ∷ 110 ∷ 116 ∷ 114 ∷ 111 ∷ 108 ∷ []
 recordText kind.ControlIHave s t = (32 ∷ 32 ∷ 105 ∷ 104 ∷ 97 ∷ 118 ∷ 101 ∷ []) ++ placeText s (t .first)
 recordText kind.ControlIWant s t = 32 ∷ 32 ∷ 105 ∷ 119 ∷ 97 ∷ 110 ∷ 116 ∷ []
 recordText kind.MessageId s t = (32 ∷ 32 ∷ 105 ∷ 100 ∷ []) ++ bytesText s
 recordText kind.ControlGraft s t = (32 ∷ 32 ∷ 103 ∷ 114 ∷ 97 ∷ 102 ∷ 116 ∷ []) ++ placeText s (t .first)
 recordText kind.ControlPrune s t = pruneText s t
 recordText kind.PeerInfo s t = peerText s t
+recordText kind.ControlIDontWant s t = 32 ∷ 32 ∷ 105 ∷ 100 ∷ 111 ∷ 110 ∷ 116 ∷ 119 ∷ 97 ∷ 110 ∷ 116 ∷ []
 
 -- ---- lines
 -- a record of a body; nothing where it does not lie within the body, which each does after decode
@@ -87,8 +89,8 @@ rowLine b found.Nothing = []
 rowLine b (found.Record r) = recordLine b r
 
 -- the lines of the records of a body that decode takes
-unfoldable pub linesOf : List ℕ → List (List ℕ)
-linesOf b = map (recordLine b) (rowsOf kind.Rpc 0 b)
+unfoldable pub linesOf : Dialect → List ℕ → List (List ℕ)
+linesOf d b = map (recordLine b) (rowsOf (kind.Rpc d) 0 b)
 
 -- ` decode ok`, the number of records and ` control` or ` plain`
 unfoldable pub decodedText : Told → List ℕ

@@ -4,6 +4,9 @@ use mathlib.Core.Path.{_≡_, refl}
 use mathlib.Core.List.{[], _∷_, _++_}
 use mathlib.Core.Option.{none, some}
 use lib.ListN.{replicate}
+use Rattle.basis.specs.declared.Edition.the-variants.{V11, V12}
+use Rattle.basis.specs.declared.Dialect.{Dialect}
+use Rattle.basis.specs.Dialect.{spoken}
 use Rattle.basis.specs.Refusals.{malformed, invalid-utf8}
 use Rattle.basis.specs.Told.{told, done}
 use Rattle.basis.specs.Little.{little}
@@ -64,16 +67,16 @@ senders = (refl, refl, refl, refl, refl, refl)
 -- `1 decode refused 7 1 at 3 in 1` for the scope's body `0a 03 12 01 ff`, `2 decode ok 0 control` for `1a 00 1a 00`;
 -- and the records' lines: `  message =0a01410a0142 =42 - - - -` for `12 06 0a 01 41 0a 01 42`, `  sub 1 -` and
 -- `  prune = 0`, where empty is not absent
-pub bodies :
-    (decodeLine 1 (decodedTold (decodeAnswer (0x0a ∷ 0x03 ∷ 0x12 ∷ 0x01 ∷ 0xff ∷ []) 10240)) ≡ 49 ∷ 32 ∷ 100 ∷ 101 ∷ 99
+pub bodies : (d : Dialect)
+    → (decodeLine 1 (decodedTold (decodeAnswer d (0x0a ∷ 0x03 ∷ 0x12 ∷ 0x01 ∷ 0xff ∷ []) 10240)) ≡ 49 ∷ 32 ∷ 100 ∷ 101 ∷ 99
     ∷ 111 ∷ 100 ∷ 101 ∷ 32 ∷ 114 ∷ 101 ∷ 102 ∷ 117 ∷ 115 ∷ 101 ∷ 100 ∷ 32 ∷ 55 ∷ 32 ∷ 49 ∷ 32 ∷ 97 ∷ 116 ∷ 32 ∷ 51
     ∷ 32 ∷ 105 ∷ 110 ∷ 32 ∷ 49 ∷ 10 ∷ [])
-    × (decodeLine 2 (decodedTold (decodeAnswer (0x1a ∷ 0x00 ∷ 0x1a ∷ 0x00 ∷ []) 10240)) ≡ 50 ∷ 32 ∷ 100 ∷ 101 ∷ 99 ∷ 111
+    × (decodeLine 2 (decodedTold (decodeAnswer d (0x1a ∷ 0x00 ∷ 0x1a ∷ 0x00 ∷ []) 10240)) ≡ 50 ∷ 32 ∷ 100 ∷ 101 ∷ 99 ∷ 111
     ∷ 100 ∷ 101 ∷ 32 ∷ 111 ∷ 107 ∷ 32 ∷ 48 ∷ 32 ∷ 99 ∷ 111 ∷ 110 ∷ 116 ∷ 114 ∷ 111 ∷ 108 ∷ 10 ∷ [])
-    × (linesOf (0x12 ∷ 0x06 ∷ 0x0a ∷ 0x01 ∷ 0x41 ∷ 0x0a ∷ 0x01 ∷ 0x42 ∷ [])
+    × (linesOf d (0x12 ∷ 0x06 ∷ 0x0a ∷ 0x01 ∷ 0x41 ∷ 0x0a ∷ 0x01 ∷ 0x42 ∷ [])
     ≡ (32 ∷ 32 ∷ 109 ∷ 101 ∷ 115 ∷ 115 ∷ 97 ∷ 103 ∷ 101 ∷ 32 ∷ 61 ∷ 48 ∷ 97 ∷ 48 ∷ 49 ∷ 52 ∷ 49 ∷ 48 ∷ 97 ∷ 48 ∷ 49
     ∷ 52 ∷ 50 ∷ 32 ∷ 61 ∷ 52 ∷ 50 ∷ 32 ∷ 45 ∷ 32 ∷ 45 ∷ 32 ∷ 45 ∷ 32 ∷ 45 ∷ 10 ∷ []) ∷ [])
-    × (linesOf (0x0a ∷ 0x02 ∷ 0x08 ∷ 0x07 ∷ 0x1a ∷ 0x06 ∷ 0x22 ∷ 0x04 ∷ 0x0a ∷ 0x00 ∷ 0x18 ∷ 0x00 ∷ [])
+    × (linesOf d (0x0a ∷ 0x02 ∷ 0x08 ∷ 0x07 ∷ 0x1a ∷ 0x06 ∷ 0x22 ∷ 0x04 ∷ 0x0a ∷ 0x00 ∷ 0x18 ∷ 0x00 ∷ [])
     ≡ (32 ∷ 32 ∷ 115 ∷ 117 ∷ 98 ∷ 32 ∷ 49 ∷ 32 ∷ 45 ∷ 10 ∷ [])
     ∷ (32 ∷ 32 ∷ 112 ∷ 114 ∷ 117 ∷ 110 ∷ 101 ∷ 32 ∷ 61 ∷ 32 ∷ 48 ∷ 10 ∷ []) ∷ [])
 unfolding decodeLine decodedText linesOf recordLine recordText subText messageText pruneText placeText bytesText
@@ -81,7 +84,20 @@ unfolding decodeLine decodedText linesOf recordLine recordText subText messageTe
     groupOf isUtf8 run readTag readLen readVarint skipFixed skipField readValue readField walkFrom walkAt roleOf rank
     ownOf textCount toDepth overKinds counted textSpot spotIn bodyRecords setPlace withField slotsOf hasField ownRows
     rowsOf hasControl decodeAnswer
-bodies = (refl, refl, refl, refl)
+bodies d = (refl, refl, refl, refl)
+
+-- `1a 07 2a 03 0a 01 41 22 00`: `  idontwant`, `  id =41` and `  prune - -` in 1.2, the last alone in 1.1
+pub editions :
+    (linesOf (spoken V12) (0x1a ∷ 0x07 ∷ 0x2a ∷ 0x03 ∷ 0x0a ∷ 0x01 ∷ 0x41 ∷ 0x22 ∷ 0x00 ∷ [])
+    ≡ (32 ∷ 32 ∷ 105 ∷ 100 ∷ 111 ∷ 110 ∷ 116 ∷ 119 ∷ 97 ∷ 110 ∷ 116 ∷ 10 ∷ [])
+    ∷ (32 ∷ 32 ∷ 105 ∷ 100 ∷ 32 ∷ 61 ∷ 52 ∷ 49 ∷ 10 ∷ [])
+    ∷ (32 ∷ 32 ∷ 112 ∷ 114 ∷ 117 ∷ 110 ∷ 101 ∷ 32 ∷ 45 ∷ 32 ∷ 45 ∷ 10 ∷ []) ∷ [])
+    × (linesOf (spoken V11) (0x1a ∷ 0x07 ∷ 0x2a ∷ 0x03 ∷ 0x0a ∷ 0x01 ∷ 0x41 ∷ 0x22 ∷ 0x00 ∷ [])
+    ≡ (32 ∷ 32 ∷ 112 ∷ 114 ∷ 117 ∷ 110 ∷ 101 ∷ 32 ∷ 45 ∷ 32 ∷ 45 ∷ 10 ∷ []) ∷ [])
+unfolding linesOf recordLine recordText pruneText placeText bytesText countText hex readUvarint readFrom groupOf
+    readTag readLen readVarint skipFixed skipField readValue readField walkFrom walkAt roleOf rank ownOf toDepth
+    overKinds setPlace withField slotsOf ownRows rowsOf
+editions = (refl, refl)
 
 -- lists: a subscription with its number and its topic over `t`, with room for 7 bytes; no row and no bytes; and what is
 -- bad: a mask of 64, a row that lacks a byte, room for 65,601 bytes, 641 rows

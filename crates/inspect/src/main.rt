@@ -1,8 +1,8 @@
 // Answers records from standard input, a line for each: the record's number from 1, the call, the answer. A record is its content's length
 // (u32), its kind (u16) and its content, little-endian. Kinds: 1 decode (body), 2 encode (body), 3 sign (index u16, body),
 // 4 id (index u16, body), 5 walk (place u64, body), 6 varint (bytes), 7 utf8 (bytes), 8 key (bytes), 9 peer (bytes),
-// 10 write (lists), 11 tosign (index u16, lists); what lists are stands in specs/Lists.antt.
-// After the line of kind 1 come those of the body's records.
+// 10 write (lists), 11 tosign (index u16, lists); what lists are stands in specs/Lists.antt. 21 to 24 are a dialect u8 (0 is gossipsub 1.1, 1 is
+// 1.2), and then as 1 to 4, which read in 1.1. After the line of kinds 1 and 21 come those of the body's records.
 mod lists;
 mod made;
 mod records;
@@ -15,6 +15,8 @@ ghost use lib.Dec.{ltb};
 ghost use Rattle.text.specs.Line.{Puts};
 ghost use Rattle.lines.specs.Lines.{Wrote};
 ghost use Rattle.inspect.specs.Answers.{walk, varint, walkAnswer, varintAnswer, utf8Answer, answerTo, lineOf};
+use basis::Dialect;
+use basis::dialect_of;
 use compose::sign_fields;
 use compose::told::told_composed;
 use compose::write_rpc;
@@ -190,11 +192,11 @@ fn print_rows(body: &[u8], table: &[u64], count: usize, out: &mut [u8]) -> bool
 }
 
 // Kind 1: prints the line of record n, and those of the body's records. Answers whether to go on.
-fn reply_decode(n: u64, body: &[u8], table: &mut [u64], out: &mut [u8]) -> bool
+fn reply_decode(n: u64, dialect: Dialect, body: &[u8], table: &mut [u64], out: &mut [u8]) -> bool
     requires { ⌜ length (now body) ≤ 65600 ⌝ }
     requires { ⌜ 787456 ≤ length (now out) ⌝ }
 {
-    let d = message::decode(body, table);
+    let d = message::decode(dialect, body, table);
     let t = told_decoded(d);
     let k = decode_line(n, t, out);
     if !print(out, k) {
@@ -205,17 +207,17 @@ fn reply_decode(n: u64, body: &[u8], table: &mut [u64], out: &mut [u8]) -> bool
 }
 
 // Kind 2.
-fn reply_encode(n: u64, body: &[u8], made: &mut [u8], out: &mut [u8]) -> bool
+fn reply_encode(n: u64, dialect: Dialect, body: &[u8], made: &mut [u8], out: &mut [u8]) -> bool
     requires { ⌜ length (now made) ≤ 65600 ⌝ }
     requires { ⌜ 787456 ≤ length (now out) ⌝ }
 {
-    let e = encode::encode(body, made);
+    let e = encode::encode(dialect, body, made);
     let k = encode_line(n, made, told_encoded(e), out);
     print(out, k)
 }
 
 // Kind 3: the index, and then the body.
-fn reply_sign(n: u64, content: &[u8], made: &mut [u8], out: &mut [u8]) -> bool
+fn reply_sign(n: u64, dialect: Dialect, content: &[u8], made: &mut [u8], out: &mut [u8]) -> bool
     requires { ⌜ length (now made) ≤ 65600 ⌝ }
     requires { ⌜ 787456 ≤ length (now out) ⌝ }
 {
@@ -223,13 +225,13 @@ fn reply_sign(n: u64, content: &[u8], made: &mut [u8], out: &mut [u8]) -> bool
         return last(b"bad\n");
     }
     let index = basis::little_at(content, 0, 2);
-    let r = encode::sign_bytes(&content[2..], index as usize, made);
+    let r = encode::sign_bytes(dialect, &content[2..], index as usize, made);
     let k = sign_line(n, made, told_message(r), out);
     print(out, k)
 }
 
 // Kind 4: the index, and then the body.
-fn reply_id(n: u64, content: &[u8], made: &mut [u8], out: &mut [u8]) -> bool
+fn reply_id(n: u64, dialect: Dialect, content: &[u8], made: &mut [u8], out: &mut [u8]) -> bool
     requires { ⌜ length (now made) ≤ 65600 ⌝ }
     requires { ⌜ 787456 ≤ length (now out) ⌝ }
 {
@@ -237,9 +239,55 @@ fn reply_id(n: u64, content: &[u8], made: &mut [u8], out: &mut [u8]) -> bool
         return last(b"bad\n");
     }
     let index = basis::little_at(content, 0, 2);
-    let r = ids::message_id(&content[2..], index as usize, made);
+    let r = ids::message_id(dialect, &content[2..], index as usize, made);
     let k = id_line(n, made, told_message(r), out);
     print(out, k)
+}
+
+// Kinds 1 to 4 in a dialect, those that write bytes with their buffer.
+fn reply_body(
+    n: u64,
+    kind: u64,
+    dialect: Dialect,
+    content: &[u8],
+    table: &mut [u64],
+    made: &mut [u8],
+    out: &mut [u8],
+) -> bool
+    requires { ⌜ length (now content) ≤ 65600 ⌝ }
+    requires { ⌜ 65600 ≤ length (now made) ⌝ }
+    requires { ⌜ 787456 ≤ length (now out) ⌝ }
+{
+    match kind {
+        1 => reply_decode(n, dialect, content, table, out),
+        2 => reply_encode(n, dialect, content, &mut made[..65536], out),
+        3 => reply_sign(n, dialect, content, &mut made[..65600], out),
+        _ => reply_id(n, dialect, content, &mut made[..65536], out),
+    }
+}
+
+// Kinds 21 to 24: the number of a dialect, and then the content of `kind`, one of 1 to 4.
+fn reply_spoken(
+    n: u64,
+    kind: u64,
+    content: &[u8],
+    table: &mut [u64],
+    made: &mut [u8],
+    out: &mut [u8],
+) -> bool
+    requires { ⌜ length (now content) ≤ 65600 ⌝ }
+    requires { ⌜ 65600 ≤ length (now made) ⌝ }
+    requires { ⌜ 787456 ≤ length (now out) ⌝ }
+{
+    if content.len() < 1 {
+        return last(b"bad\n");
+    }
+    let number = basis::little_at(content, 0, 1);
+    if 1 < number {
+        return last(b"bad\n");
+    }
+    let dialect = dialect_of(number);
+    reply_body(n, kind, dialect, &content[1..], table, made, out)
 }
 
 // The line of an RPC that is written from lists, in all of `made`. Each message must be signed.
@@ -341,21 +389,11 @@ fn reply_lists(
     reply_tosign(n, index as usize, &content[2..], table, made, out)
 }
 
-// The kinds that write bytes, each with its buffer, and then the others.
-fn reply_line(n: u64, kind: u64, content: &[u8], made: &mut [u8], out: &mut [u8]) -> bool
+// Kinds 5 to 9.
+fn reply_line(n: u64, kind: u64, content: &[u8], out: &mut [u8]) -> bool
     requires { ⌜ length (now content) ≤ 65600 ⌝ }
-    requires { ⌜ 65600 ≤ length (now made) ⌝ }
     requires { ⌜ 787456 ≤ length (now out) ⌝ }
 {
-    if kind == 2 {
-        return reply_encode(n, content, &mut made[..65536], out);
-    }
-    if kind == 3 {
-        return reply_sign(n, content, &mut made[..65600], out);
-    }
-    if kind == 4 {
-        return reply_id(n, content, &mut made[..65536], out);
-    }
     if has_answer(kind, content) {
         let k = line(n, kind, content, out);
         return print(out, k);
@@ -383,12 +421,11 @@ fn reply(
     if got < len {
         return last(b"bad\n");
     }
-    if kind == 1 {
-        return reply_decode(n, &content[..len], table, out);
-    }
     match kind {
+        1..=4 => reply_body(n, kind, dialect_of(0), &content[..len], table, made, out),
         10 | 11 => reply_lists(n, kind, &content[..len], table, made, out),
-        _ => reply_line(n, kind, &content[..len], made, out),
+        21..=24 => reply_spoken(n, kind - 20, &content[..len], table, made, out),
+        _ => reply_line(n, kind, &content[..len], out),
     }
 }
 

@@ -154,17 +154,18 @@ fn put_record(out: &mut [u8], s: &[u8], kind: Kind, slots: Slots) -> usize
 {
     let topic_id = slots.first;
     match kind {
-        Kind::Rpc => put_word(out, 0, b"  rpc"),
+        Kind::Rpc(_) => put_word(out, 0, b"  rpc"),
         Kind::SubOpts => put_sub(out, s, slots),
         Kind::RawMessage => put_message(out, s, slots),
         Kind::Topic => put_whole(out, b"  topic", s),
-        Kind::ControlMessage => put_word(out, 0, b"  control"),
+        Kind::ControlMessage(_) => put_word(out, 0, b"  control"),
         Kind::ControlIHave => put_first(out, b"  ihave", s, topic_id),
         Kind::ControlIWant => put_word(out, 0, b"  iwant"),
         Kind::MessageId => put_whole(out, b"  id", s),
         Kind::ControlGraft => put_first(out, b"  graft", s, topic_id),
         Kind::ControlPrune => put_prune(out, s, slots),
         Kind::PeerInfo => put_peer(out, s, slots),
+        Kind::ControlIDontWant => put_word(out, 0, b"  idontwant"),
     }
 }
 

@@ -11,6 +11,7 @@ use answers::beat_line;
 use answers::serve_line;
 use answers::set_line;
 use answers::why_line;
+use basis::Edition;
 use basis::little_at;
 use node::Node;
 use node::Start;
@@ -153,10 +154,11 @@ fn set(n: u64, most: usize, content: &[u8], run: Run, out: &mut [u8]) -> Run {
     set_with(n, most, 0, content, run, out)
 }
 
-// Kind 2.
-fn admit(
+// Kind 2, with the body in an edition.
+pub fn admit(
     n: u64,
     full: bool,
+    edition: Edition,
     content: &[u8],
     run: Run,
     seen_store: &mut [u8],
@@ -171,6 +173,7 @@ fn admit(
     let r = node.admit(
         seen_store,
         cache_store,
+        edition,
         &content[body..],
         index,
         verified,
@@ -219,11 +222,12 @@ fn advertise(
     print(out, k, r.node, run)
 }
 
-// Kind 5.
-fn ask(
+// Kind 5, with the body in an edition.
+pub fn ask(
     n: u64,
     full: bool,
-    content: &[u8],
+    edition: Edition,
+    body: &[u8],
     run: Run,
     seen_store: &[u8],
     cache_store: &[u8],
@@ -231,17 +235,19 @@ fn ask(
     out: &mut [u8],
 ) -> Run {
     let node = run.node;
-    let r = node.ask(seen_store, cache_store, content, made);
+    let r = node.ask(seen_store, cache_store, edition, body, made);
     let answer = r.answer;
     let k = ask_line(n, full, made, told_ask(answer), out);
     print(out, k, r.node, run)
 }
 
-// Kind 6.
-fn serve(
+// Kind 6, with the body in an edition, and beside it a body whose IDONTWANTs count.
+pub fn serve(
     n: u64,
     full: bool,
-    content: &[u8],
+    edition: Edition,
+    body: &[u8],
+    unwanted: &[u8],
     run: Run,
     seen_store: &[u8],
     cache_store: &[u8],
@@ -249,7 +255,7 @@ fn serve(
     out: &mut [u8],
 ) -> Run {
     let node = run.node;
-    let r = node.serve(seen_store, cache_store, content, made);
+    let r = node.serve(seen_store, cache_store, edition, body, unwanted, made);
     let answer = r.answer;
     let k = serve_line(n, full, made, told_serve(answer), out);
     print(out, k, r.node, run)
@@ -282,7 +288,8 @@ pub fn why(
     print(out, k, r.node, run)
 }
 
-// A record that fits its kind, with the parts of the stores that are lent. `most` bounds the last setting.
+// A record that fits its kind, with the parts of the stores that are lent. `most` bounds the last setting. A body is read in 1.1, and none is lent beside
+// it.
 pub fn call_node(
     n: u64,
     most: usize,
@@ -297,10 +304,40 @@ pub fn call_node(
 ) -> Run {
     match kind {
         1 => set(n, most, content, run, out),
-        2 => admit(n, full, content, run, seen_store, cache_store, out),
+        2 => admit(
+            n,
+            full,
+            Edition::V11,
+            content,
+            run,
+            seen_store,
+            cache_store,
+            out,
+        ),
         3 => beat(n, full, content, run, seen_store, cache_store, out),
         4 => advertise(n, full, content, run, seen_store, cache_store, made, out),
-        5 => ask(n, full, content, run, seen_store, cache_store, made, out),
-        _ => serve(n, full, content, run, seen_store, cache_store, made, out),
+        5 => ask(
+            n,
+            full,
+            Edition::V11,
+            content,
+            run,
+            seen_store,
+            cache_store,
+            made,
+            out,
+        ),
+        _ => serve(
+            n,
+            full,
+            Edition::V11,
+            content,
+            b"",
+            run,
+            seen_store,
+            cache_store,
+            made,
+            out,
+        ),
     }
 }

@@ -7,6 +7,7 @@ use mathlib.Core.Bool.{Bool, true, false, cond}
 use mathlib.Core.List.{List}
 use lib.ListN.{length}
 use Rattle.basis.specs.Bytes.{Bytes}
+use Rattle.basis.specs.Dialect.{editionOf, dialectOf}
 use Rattle.message.specs.Refused.{refused-decode as decode-refused}
 use Rattle.ids.specs.Refused.{refused-id as id-refused}
 use Rattle.encode.specs.Refused.{refused-encode as encode-refused, refused-sign as sign-refused}
@@ -36,12 +37,12 @@ refused-start {s} {ttl} {max-seen} {history} {max} {flags} a h =
     (λ z. h (a .number ∙ z))
 
 module _ {s : List ℕ} (size : length s ≡ nodeSize) (bytes : Bytes s) {ss cs : List ℕ} where
-  pub refused-admit : {body : List ℕ} {i : ℕ} {word : Bool} {at : ℕ} {vs : List ℕ} {r : ℕ}
+  pub refused-admit : {edition : ℕ} {body : List ℕ} {i : ℕ} {word : Bool} {at : ℕ} {vs : List ℕ} {r : ℕ}
       {ws made ids messages : List ℕ}
-      → Admits s ss cs body i word at vs r ws made ids messages → (r ≡ 0 → ⊥)
+      → Admits s ss cs edition body i word at vs r ws made ids messages → (r ≡ 0 → ⊥)
       → (made ≡ s) × (ids ≡ ss) × (messages ≡ cs)
-  refused-admit {body} {i} {word} {at} a h =
-      let k = admit-refused (nodeIn s) ss cs body i word at (λ z. h (a .number ∙ z)) in
+  refused-admit {edition} {body} {i} {word} {at} a h =
+      let k = admit-refused (nodeIn s) ss cs (editionOf edition) body i word at (λ z. h (a .number ∙ z)) in
       (a .node ∙ ap nodeBytes (k .0) ∙ loaded-stored s size bytes, a .seen ∙ k .1, a .cache ∙ k .2)
 
   pub refused-beat : {at : ℕ} {vs : List ℕ} {r : ℕ} {ws made : List ℕ} → Beats s ss cs at vs r ws made → (r ≡ 0 → ⊥)
@@ -55,25 +56,28 @@ module _ {s ss cs out vs : List ℕ} {r : ℕ} {ws left : List ℕ} where
   refused-advertise {topic} {windows} a h =
       a .buffer ∙ advertise-refused (nodeIn s) ss cs out topic windows (λ z. h (a .number ∙ z))
 
-  pub refused-ask : {body : List ℕ} → Asks s ss cs body out vs r ws left → (r ≡ 0 → ⊥) → left ≡ out
-  refused-ask {body} a h = a .buffer ∙ ask-refused (nodeIn s) ss cs out body (λ z. h (a .number ∙ z))
+  pub refused-ask : {edition : ℕ} {body : List ℕ} → Asks s ss cs edition body out vs r ws left → (r ≡ 0 → ⊥) → left ≡ out
+  refused-ask {edition} {body} a h =
+      a .buffer ∙ ask-refused (nodeIn s) ss cs out (editionOf edition) body (λ z. h (a .number ∙ z))
 
-  pub refused-serve : {body : List ℕ} → Serves s ss cs body out vs r ws left → (r ≡ 0 → ⊥) → left ≡ out
-  refused-serve {body} a h = a .buffer ∙ serve-refused (nodeIn s) ss cs out body (λ z. h (a .number ∙ z))
+  pub refused-serve : {edition : ℕ} {body second : List ℕ} → Serves s ss cs edition body second out vs r ws left
+      → (r ≡ 0 → ⊥) → left ≡ out
+  refused-serve {edition} {body} {second} a h =
+      a .buffer ∙ serve-refused (nodeIn s) ss cs out (editionOf edition) body second (λ z. h (a .number ∙ z))
 
 -- ---- bodies
-module _ {body vs : List ℕ} {r : ℕ} {ws : List ℕ} where
-  pub refused-encode : {out left : List ℕ} → Encodes body out vs r ws left → (r ≡ 0 → ⊥) → left ≡ out
-  refused-encode {out} a h = a .buffer ∙ encode-refused body out (λ z. h (a .number ∙ z))
+module _ {dialect : ℕ} {body vs : List ℕ} {r : ℕ} {ws : List ℕ} where
+  pub refused-encode : {out left : List ℕ} → Encodes dialect body out vs r ws left → (r ≡ 0 → ⊥) → left ≡ out
+  refused-encode {out} a h = a .buffer ∙ encode-refused (dialectOf dialect) body out (λ z. h (a .number ∙ z))
 
-  pub refused-sign : {i : ℕ} {out left : List ℕ} → Signs body i out vs r ws left → (r ≡ 0 → ⊥) → left ≡ out
-  refused-sign {i} {out} a h = a .buffer ∙ sign-refused body i out (λ z. h (a .number ∙ z))
+  pub refused-sign : {i : ℕ} {out left : List ℕ} → Signs dialect body i out vs r ws left → (r ≡ 0 → ⊥) → left ≡ out
+  refused-sign {i} {out} a h = a .buffer ∙ sign-refused (dialectOf dialect) body i out (λ z. h (a .number ∙ z))
 
-  pub refused-id : {i : ℕ} {out left : List ℕ} → Identifies body i out vs r ws left → (r ≡ 0 → ⊥) → left ≡ out
-  refused-id {i} {out} a h = a .buffer ∙ id-refused body i out (λ z. h (a .number ∙ z))
+  pub refused-id : {i : ℕ} {out left : List ℕ} → Identifies dialect body i out vs r ws left → (r ≡ 0 → ⊥) → left ≡ out
+  refused-id {i} {out} a h = a .buffer ∙ id-refused (dialectOf dialect) body i out (λ z. h (a .number ∙ z))
 
-  pub refused-decode : {t rows : List ℕ} → Decodes body t vs r ws rows → (r ≡ 0 → ⊥) → rows ≡ t
-  refused-decode {t} a h = a .table ∙ decode-refused body t (λ z. h (a .number ∙ z))
+  pub refused-decode : {t rows : List ℕ} → Decodes dialect body t vs r ws rows → (r ≡ 0 → ⊥) → rows ≡ t
+  refused-decode {t} a h = a .table ∙ decode-refused (dialectOf dialect) body t (λ z. h (a .number ∙ z))
 
 -- ---- speaking first
 module _ {t b vs : List ℕ} {r : ℕ} {ws out left : List ℕ} where

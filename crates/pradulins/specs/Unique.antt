@@ -1,7 +1,7 @@
 -- The contract of each function of the C interface that is lent something, as a record of what it says of the number
 -- that is returned, the values that are handed out, and every other lent byte; and that it leaves no choice: two results
 -- that meet it are the same. Number and values are those of the answer, as Told of its crate has them, and a refusal
--- of a body's bytes also hands out its place; the other values stay.
+-- of a body's bytes also hands out its place; the other values stay. An edition and a dialect are numbers here.
 use Prim.Native.Nat.{ℕ}
 use mathlib.Core.Path.{_≡_, sym, _∙_}
 use mathlib.Core.Bool.{Bool, cond}
@@ -9,6 +9,7 @@ use mathlib.Core.List.{List, []}
 use lib.ListN.{length}
 use lib.Seq.{sets}
 use Rattle.basis.specs.declared.Told.{Told}
+use Rattle.basis.specs.Dialect.{editionOf, dialectOf}
 use Rattle.protobuf.specs.Told.{encodedTold, walkTold}
 use Rattle.protobuf.specs.Field.{walkStep}
 use Rattle.message.specs.Told.{decodedTold}
@@ -39,22 +40,22 @@ pub one-start : {s : List ℕ} {ttl max-seen history max flags r r₂ : ℕ} {ma
 one-start a b = (a .number ∙ sym (b .number), a .node ∙ sym (b .node))
 
 -- what an admit tells
-abbrev pub admitTells : List ℕ → List ℕ → List ℕ → List ℕ → ℕ → Bool → ℕ → Told
-admitTells s ss cs body i word at =
-    admitTold (admitAnswer (nodeIn s) ss at (planned (nodeIn s) ss cs body i word at))
+abbrev pub admitTells : List ℕ → List ℕ → List ℕ → ℕ → List ℕ → ℕ → Bool → ℕ → Told
+admitTells s ss cs edition body i word at =
+    admitTold (admitAnswer (nodeIn s) ss at (planned (nodeIn s) ss cs (editionOf edition) body i word at))
 
-pub record Admits (s ss cs body : List ℕ) (i : ℕ) (word : Bool) (at : ℕ) (vs : List ℕ) (r : ℕ)
+pub record Admits (s ss cs : List ℕ) (edition : ℕ) (body : List ℕ) (i : ℕ) (word : Bool) (at : ℕ) (vs : List ℕ) (r : ℕ)
     (ws made ids messages : List ℕ) : Type 0 where
-  pub number : r ≡ admitTells s ss cs body i word at .number
-  pub values : ws ≡ handed (admitTells s ss cs body i word at) vs
-  pub node : made ≡ nodeBytes (admitNode (nodeIn s) ss at (planned (nodeIn s) ss cs body i word at))
-  pub seen : ids ≡ admitSeen (nodeIn s) ss at (planned (nodeIn s) ss cs body i word at)
-  pub cache : messages ≡ admitCache (nodeIn s) ss cs at (planned (nodeIn s) ss cs body i word at)
+  pub number : r ≡ admitTells s ss cs edition body i word at .number
+  pub values : ws ≡ handed (admitTells s ss cs edition body i word at) vs
+  pub node : made ≡ nodeBytes (admitNode (nodeIn s) ss at (planned (nodeIn s) ss cs (editionOf edition) body i word at))
+  pub seen : ids ≡ admitSeen (nodeIn s) ss at (planned (nodeIn s) ss cs (editionOf edition) body i word at)
+  pub cache : messages ≡ admitCache (nodeIn s) ss cs at (planned (nodeIn s) ss cs (editionOf edition) body i word at)
 
-pub one-admit : {s ss cs body : List ℕ} {i : ℕ} {word : Bool} {at : ℕ} {vs : List ℕ} {r r₂ : ℕ}
+pub one-admit : {s ss cs : List ℕ} {edition : ℕ} {body : List ℕ} {i : ℕ} {word : Bool} {at : ℕ} {vs : List ℕ} {r r₂ : ℕ}
     {ws ws₂ made made₂ ids ids₂ messages messages₂ : List ℕ}
-    → Admits s ss cs body i word at vs r ws made ids messages
-    → Admits s ss cs body i word at vs r₂ ws₂ made₂ ids₂ messages₂
+    → Admits s ss cs edition body i word at vs r ws made ids messages
+    → Admits s ss cs edition body i word at vs r₂ ws₂ made₂ ids₂ messages₂
     → (r ≡ r₂) × (ws ≡ ws₂) × (made ≡ made₂) × (ids ≡ ids₂) × (messages ≡ messages₂)
 one-admit a b = (
   a .number ∙ sym (b .number),
@@ -100,23 +101,24 @@ pub one-explain : {s ss cs id topic : List ℕ} {windows : ℕ} {vs : List ℕ} 
     → Explains s ss cs id topic windows vs r ws → Explains s ss cs id topic windows vs r₂ ws₂ → (r ≡ r₂) × (ws ≡ ws₂)
 one-explain a b = (a .number ∙ sym (b .number), a .values ∙ sym (b .values))
 
-pub record Asks (s ss cs body out vs : List ℕ) (r : ℕ) (ws left : List ℕ) : Type 0 where
-  pub number : r ≡ askTold (askAnswer (nodeIn s) ss cs body out) .number
-  pub values : ws ≡ handed (askTold (askAnswer (nodeIn s) ss cs body out)) vs
-  pub buffer : left ≡ askLeft (nodeIn s) ss cs body out
+pub record Asks (s ss cs : List ℕ) (edition : ℕ) (body out vs : List ℕ) (r : ℕ) (ws left : List ℕ) : Type 0 where
+  pub number : r ≡ askTold (askAnswer (nodeIn s) ss cs (editionOf edition) body out) .number
+  pub values : ws ≡ handed (askTold (askAnswer (nodeIn s) ss cs (editionOf edition) body out)) vs
+  pub buffer : left ≡ askLeft (nodeIn s) ss cs (editionOf edition) body out
 
-pub one-ask : {s ss cs body out vs : List ℕ} {r r₂ : ℕ} {ws ws₂ left left₂ : List ℕ}
-    → Asks s ss cs body out vs r ws left → Asks s ss cs body out vs r₂ ws₂ left₂
+pub one-ask : {s ss cs : List ℕ} {edition : ℕ} {body out vs : List ℕ} {r r₂ : ℕ} {ws ws₂ left left₂ : List ℕ}
+    → Asks s ss cs edition body out vs r ws left → Asks s ss cs edition body out vs r₂ ws₂ left₂
     → (r ≡ r₂) × (ws ≡ ws₂) × (left ≡ left₂)
 one-ask a b = (a .number ∙ sym (b .number), a .values ∙ sym (b .values), a .buffer ∙ sym (b .buffer))
 
-pub record Serves (s ss cs body out vs : List ℕ) (r : ℕ) (ws left : List ℕ) : Type 0 where
-  pub number : r ≡ serveTold (serveAnswer (nodeIn s) ss cs body out) .number
-  pub values : ws ≡ handed (serveTold (serveAnswer (nodeIn s) ss cs body out)) vs
-  pub buffer : left ≡ serveLeft (nodeIn s) ss cs body out
+-- the second body is the one whose IDONTWANTs count
+pub record Serves (s ss cs : List ℕ) (edition : ℕ) (body second out vs : List ℕ) (r : ℕ) (ws left : List ℕ) : Type 0 where
+  pub number : r ≡ serveTold (serveAnswer (nodeIn s) ss cs (editionOf edition) body second out) .number
+  pub values : ws ≡ handed (serveTold (serveAnswer (nodeIn s) ss cs (editionOf edition) body second out)) vs
+  pub buffer : left ≡ serveLeft (nodeIn s) ss cs (editionOf edition) body second out
 
-pub one-serve : {s ss cs body out vs : List ℕ} {r r₂ : ℕ} {ws ws₂ left left₂ : List ℕ}
-    → Serves s ss cs body out vs r ws left → Serves s ss cs body out vs r₂ ws₂ left₂
+pub one-serve : {s ss cs : List ℕ} {edition : ℕ} {body second out vs : List ℕ} {r r₂ : ℕ} {ws ws₂ left left₂ : List ℕ}
+    → Serves s ss cs edition body second out vs r ws left → Serves s ss cs edition body second out vs r₂ ws₂ left₂
     → (r ≡ r₂) × (ws ≡ ws₂) × (left ≡ left₂)
 one-serve a b = (a .number ∙ sym (b .number), a .values ∙ sym (b .values), a .buffer ∙ sym (b .buffer))
 
@@ -138,41 +140,41 @@ pub one-state : {s ss cs vs : List ℕ} {r r₂ : ℕ} {ws ws₂ : List ℕ} →
 one-state a b = (a .number ∙ sym (b .number), a .values ∙ sym (b .values))
 
 -- ---- bodies
-pub record Encodes (body out vs : List ℕ) (r : ℕ) (ws left : List ℕ) : Type 0 where
-  pub number : r ≡ encodedTold (encodeAnswer body out) .number
-  pub values : ws ≡ handed (encodedTold (encodeAnswer body out)) vs
-  pub buffer : left ≡ encodeLeft body out
+pub record Encodes (dialect : ℕ) (body out vs : List ℕ) (r : ℕ) (ws left : List ℕ) : Type 0 where
+  pub number : r ≡ encodedTold (encodeAnswer (dialectOf dialect) body out) .number
+  pub values : ws ≡ handed (encodedTold (encodeAnswer (dialectOf dialect) body out)) vs
+  pub buffer : left ≡ encodeLeft (dialectOf dialect) body out
 
-pub one-encode : {body out vs : List ℕ} {r r₂ : ℕ} {ws ws₂ left left₂ : List ℕ} → Encodes body out vs r ws left
-    → Encodes body out vs r₂ ws₂ left₂ → (r ≡ r₂) × (ws ≡ ws₂) × (left ≡ left₂)
+pub one-encode : {dialect : ℕ} {body out vs : List ℕ} {r r₂ : ℕ} {ws ws₂ left left₂ : List ℕ} → Encodes dialect body out vs r ws left
+    → Encodes dialect body out vs r₂ ws₂ left₂ → (r ≡ r₂) × (ws ≡ ws₂) × (left ≡ left₂)
 one-encode a b = (a .number ∙ sym (b .number), a .values ∙ sym (b .values), a .buffer ∙ sym (b .buffer))
 
-pub record Signs (body : List ℕ) (i : ℕ) (out vs : List ℕ) (r : ℕ) (ws left : List ℕ) : Type 0 where
-  pub number : r ≡ messageTold (signAnswer body i out) .number
-  pub values : ws ≡ handed (messageTold (signAnswer body i out)) vs
-  pub buffer : left ≡ signLeft body i out
+pub record Signs (dialect : ℕ) (body : List ℕ) (i : ℕ) (out vs : List ℕ) (r : ℕ) (ws left : List ℕ) : Type 0 where
+  pub number : r ≡ messageTold (signAnswer (dialectOf dialect) body i out) .number
+  pub values : ws ≡ handed (messageTold (signAnswer (dialectOf dialect) body i out)) vs
+  pub buffer : left ≡ signLeft (dialectOf dialect) body i out
 
-pub one-sign : {body : List ℕ} {i : ℕ} {out vs : List ℕ} {r r₂ : ℕ} {ws ws₂ left left₂ : List ℕ}
-    → Signs body i out vs r ws left → Signs body i out vs r₂ ws₂ left₂ → (r ≡ r₂) × (ws ≡ ws₂) × (left ≡ left₂)
+pub one-sign : {dialect : ℕ} {body : List ℕ} {i : ℕ} {out vs : List ℕ} {r r₂ : ℕ} {ws ws₂ left left₂ : List ℕ}
+    → Signs dialect body i out vs r ws left → Signs dialect body i out vs r₂ ws₂ left₂ → (r ≡ r₂) × (ws ≡ ws₂) × (left ≡ left₂)
 one-sign a b = (a .number ∙ sym (b .number), a .values ∙ sym (b .values), a .buffer ∙ sym (b .buffer))
 
-pub record Identifies (body : List ℕ) (i : ℕ) (out vs : List ℕ) (r : ℕ) (ws left : List ℕ) : Type 0 where
-  pub number : r ≡ messageTold (idAnswer [] body i out) .number
-  pub values : ws ≡ handed (messageTold (idAnswer [] body i out)) vs
-  pub buffer : left ≡ idLeft [] body i out
+pub record Identifies (dialect : ℕ) (body : List ℕ) (i : ℕ) (out vs : List ℕ) (r : ℕ) (ws left : List ℕ) : Type 0 where
+  pub number : r ≡ messageTold (idAnswer [] (dialectOf dialect) body i out) .number
+  pub values : ws ≡ handed (messageTold (idAnswer [] (dialectOf dialect) body i out)) vs
+  pub buffer : left ≡ idLeft [] (dialectOf dialect) body i out
 
-pub one-id : {body : List ℕ} {i : ℕ} {out vs : List ℕ} {r r₂ : ℕ} {ws ws₂ left left₂ : List ℕ}
-    → Identifies body i out vs r ws left → Identifies body i out vs r₂ ws₂ left₂
+pub one-id : {dialect : ℕ} {body : List ℕ} {i : ℕ} {out vs : List ℕ} {r r₂ : ℕ} {ws ws₂ left left₂ : List ℕ}
+    → Identifies dialect body i out vs r ws left → Identifies dialect body i out vs r₂ ws₂ left₂
     → (r ≡ r₂) × (ws ≡ ws₂) × (left ≡ left₂)
 one-id a b = (a .number ∙ sym (b .number), a .values ∙ sym (b .values), a .buffer ∙ sym (b .buffer))
 
-pub record Decodes (body t vs : List ℕ) (r : ℕ) (ws rows : List ℕ) : Type 0 where
-  pub number : r ≡ decodedTold (decodeAnswer body (length t)) .number
-  pub values : ws ≡ handed (decodedTold (decodeAnswer body (length t))) vs
-  pub table : rows ≡ decodeTable body t
+pub record Decodes (dialect : ℕ) (body t vs : List ℕ) (r : ℕ) (ws rows : List ℕ) : Type 0 where
+  pub number : r ≡ decodedTold (decodeAnswer (dialectOf dialect) body (length t)) .number
+  pub values : ws ≡ handed (decodedTold (decodeAnswer (dialectOf dialect) body (length t))) vs
+  pub table : rows ≡ decodeTable (dialectOf dialect) body t
 
-pub one-decode : {body t vs : List ℕ} {r r₂ : ℕ} {ws ws₂ rows rows₂ : List ℕ} → Decodes body t vs r ws rows
-    → Decodes body t vs r₂ ws₂ rows₂ → (r ≡ r₂) × (ws ≡ ws₂) × (rows ≡ rows₂)
+pub one-decode : {dialect : ℕ} {body t vs : List ℕ} {r r₂ : ℕ} {ws ws₂ rows rows₂ : List ℕ} → Decodes dialect body t vs r ws rows
+    → Decodes dialect body t vs r₂ ws₂ rows₂ → (r ≡ r₂) × (ws ≡ ws₂) × (rows ≡ rows₂)
 one-decode a b = (a .number ∙ sym (b .number), a .values ∙ sym (b .values), a .table ∙ sym (b .table))
 
 pub record Walks (body : List ℕ) (at : ℕ) (vs : List ℕ) (r : ℕ) (ws : List ℕ) : Type 0 where

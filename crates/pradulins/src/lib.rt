@@ -10,6 +10,8 @@ ghost use Rattle.pradulins.specs.Unique.{Starts, Admits, Beats, Advertis
 ghost use Rattle.pradulins.specs.Unique.{Encodes, Signs, Identifies, Decodes, Walks, Writes, SignsFields};
 use basis::Spot;
 use basis::Told;
+use basis::dialect_of;
+use basis::edition_of;
 use basis::refusals;
 use compose::sign_fields;
 use compose::told::told_composed;
@@ -38,7 +40,7 @@ use stored::NODE_SIZE;
 use stored::load;
 use stored::store;
 
-pub const VERSION: u32 = 700;
+pub const VERSION: u32 = 800;
 
 pub const FORMAT: u32 = 3;
 
@@ -120,12 +122,14 @@ pub extern "C" fn pradulins_start(
     t.number as u32
 }
 
-// Admits the message at an index of a body, with the host's word on its signature, at a reading of the clock.
+// Admits the message at an index of a body, with the host's word on its signature, at a reading of the clock. The body is read in the edition of its
+// stream; here and below only the lowest bit of that number counts.
 #[no_mangle]
 pub extern "C" fn pradulins_admit(
     node: &mut [u8; NODE_SIZE],
     seen_store: &mut [u8],
     cache_store: &mut [u8],
+    edition: u32,
     body: &[u8],
     index: usize,
     verified: bool,
@@ -133,11 +137,12 @@ pub extern "C" fn pradulins_admit(
     values: &mut [u64; 8],
 ) -> u32
     ensures { λ r. ⌜ Admits (now (node .entry)) (now («seen_store» .entry)) (now («cache_store» .entry))
-        (now (body .entry)) index verified at (now (values .entry)) r (now (values .exit)) (now (node .exit))
+        edition (now (body .entry)) index verified at (now (values .entry)) r (now (values .exit)) (now (node .exit))
         (now («seen_store» .exit)) (now («cache_store» .exit)) ⌝ }
 {
     let n = load(node);
-    let r = n.admit(seen_store, cache_store, body, index, verified, at);
+    let spoken = edition_of(edition as u64);
+    let r = n.admit(seen_store, cache_store, spoken, body, index, verified, at);
     let m = r.node;
     store(m, node);
     let answer = r.answer;
@@ -212,34 +217,39 @@ pub extern "C" fn pradulins_ask(
     node: &[u8; NODE_SIZE],
     seen_store: &[u8],
     cache_store: &[u8],
+    edition: u32,
     body: &[u8],
     out: &mut [u8],
     values: &mut [u64; 8],
 ) -> u32
     ensures { λ r. ⌜ Asks (now (node .entry)) (now («seen_store» .entry)) (now («cache_store» .entry))
-        (now (body .entry)) (now (out .entry)) (now (values .entry)) r (now (values .exit)) (now (out .exit)) ⌝ }
+        edition (now (body .entry)) (now (out .entry)) (now (values .entry)) r (now (values .exit)) (now (out .exit)) ⌝ }
 {
     let n = load(node);
-    let r = n.ask(seen_store, cache_store, body, out);
+    let spoken = edition_of(edition as u64);
+    let r = n.ask(seen_store, cache_store, spoken, body, out);
     let answer = r.answer;
     tell(told_ask(answer), values)
 }
 
-// Writes the cached messages that the IWANTs of a body name, as many as there is room for.
+// Writes the cached messages that the IWANTs of a body name and the IDONTWANTs of a second one do not, as many as there is room for.
 #[no_mangle]
 pub extern "C" fn pradulins_serve(
     node: &[u8; NODE_SIZE],
     seen_store: &[u8],
     cache_store: &[u8],
+    edition: u32,
     body: &[u8],
+    unwanted: &[u8],
     out: &mut [u8],
     values: &mut [u64; 8],
 ) -> u32
     ensures { λ r. ⌜ Serves (now (node .entry)) (now («seen_store» .entry)) (now («cache_store» .entry))
-        (now (body .entry)) (now (out .entry)) (now (values .entry)) r (now (values .exit)) (now (out .exit)) ⌝ }
+        edition (now (body .entry)) (now (unwanted .entry)) (now (out .entry)) (now (values .entry)) r (now (values .exit)) (now (out .exit)) ⌝ }
 {
     let n = load(node);
-    let r = n.serve(seen_store, cache_store, body, out);
+    let spoken = edition_of(edition as u64);
+    let r = n.serve(seen_store, cache_store, spoken, body, unwanted, out);
     let answer = r.answer;
     tell(told_serve(answer), values)
 }
@@ -313,53 +323,69 @@ pub extern "C" fn pradulins_state(
 
 // ---- bodies
 
-// Writes a body anew in canonical bytes.
+// Writes a body anew in canonical bytes. Only the lowest bit of a dialect counts, here and below: it is the edition.
 #[no_mangle]
-pub extern "C" fn pradulins_encode(body: &[u8], out: &mut [u8], values: &mut [u64; 8]) -> u32
-    ensures { λ r. ⌜ Encodes (now (body .entry)) (now (out .entry)) (now (values .entry)) r (now (values .exit))
+pub extern "C" fn pradulins_encode(
+    dialect: u32,
+    body: &[u8],
+    out: &mut [u8],
+    values: &mut [u64; 8],
+) -> u32
+    ensures { λ r. ⌜ Encodes dialect (now (body .entry)) (now (out .entry)) (now (values .entry)) r (now (values .exit))
         (now (out .exit)) ⌝ }
 {
-    let answer = encode(body, out);
+    let spoken = dialect_of(dialect as u64);
+    let answer = encode(spoken, body, out);
     tell(told_encoded(answer), values)
 }
 
 // Writes the bytes to sign of the message at an index.
 #[no_mangle]
 pub extern "C" fn pradulins_sign_bytes(
+    dialect: u32,
     body: &[u8],
     index: usize,
     out: &mut [u8],
     values: &mut [u64; 8],
 ) -> u32
-    ensures { λ r. ⌜ Signs (now (body .entry)) index (now (out .entry)) (now (values .entry)) r (now (values .exit))
+    ensures { λ r. ⌜ Signs dialect (now (body .entry)) index (now (out .entry)) (now (values .entry)) r (now (values .exit))
         (now (out .exit)) ⌝ }
 {
-    let answer = sign_bytes(body, index, out);
+    let spoken = dialect_of(dialect as u64);
+    let answer = sign_bytes(spoken, body, index, out);
     tell(told_message(answer), values)
 }
 
 // Writes the id of the message at an index.
 #[no_mangle]
 pub extern "C" fn pradulins_message_id(
+    dialect: u32,
     body: &[u8],
     index: usize,
     out: &mut [u8],
     values: &mut [u64; 8],
 ) -> u32
-    ensures { λ r. ⌜ Identifies (now (body .entry)) index (now (out .entry)) (now (values .entry)) r
+    ensures { λ r. ⌜ Identifies dialect (now (body .entry)) index (now (out .entry)) (now (values .entry)) r
         (now (values .exit)) (now (out .exit)) ⌝ }
 {
-    let answer = message_id(body, index, out);
+    let spoken = dialect_of(dialect as u64);
+    let answer = message_id(spoken, body, index, out);
     tell(told_message(answer), values)
 }
 
 // Decodes a body into a table of records, 20 numbers each.
 #[no_mangle]
-pub extern "C" fn pradulins_decode(body: &[u8], table: &mut [u64], values: &mut [u64; 8]) -> u32
-    ensures { λ r. ⌜ Decodes (now (body .entry)) (now (table .entry)) (now (values .entry)) r (now (values .exit))
+pub extern "C" fn pradulins_decode(
+    dialect: u32,
+    body: &[u8],
+    table: &mut [u64],
+    values: &mut [u64; 8],
+) -> u32
+    ensures { λ r. ⌜ Decodes dialect (now (body .entry)) (now (table .entry)) (now (values .entry)) r (now (values .exit))
         (now (table .exit)) ⌝ }
 {
-    let answer = decode(body, table);
+    let spoken = dialect_of(dialect as u64);
+    let answer = decode(spoken, body, table);
     tell(told_decoded(answer), values)
 }
 

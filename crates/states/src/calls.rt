@@ -1,15 +1,20 @@
 // The calls of a run, and their lines.
 use super::hurt::hurt;
 use super::state::put_state;
+use basis::Edition;
+use basis::edition_of;
 use basis::little_at;
 use lines::either_line;
 use lines::words_line;
 use mcache::told::told_lookup;
 use play::calls::Run;
+use play::calls::admit;
+use play::calls::ask;
 use play::calls::call_node;
 use play::calls::misfit;
 use play::calls::no_question;
 use play::calls::print;
+use play::calls::serve;
 use play::calls::set_with;
 use play::calls::stop;
 use play::calls::why;
@@ -60,10 +65,73 @@ fn set_flags(n: u64, content: &[u8], run: Run, out: &mut [u8]) -> Run {
     set_with(n, 64, flags, content, run, out)
 }
 
-// Kinds 4, 5 and 6, which begin with the room of the buffer.
+// Kind 26 behind its room: the length of the lent body, that body, and then the body.
+fn serve_lent(
+    n: u64,
+    edition: Edition,
+    content: &[u8],
+    run: Run,
+    seen_store: &[u8],
+    cache_store: &[u8],
+    made: &mut [u8],
+    out: &mut [u8],
+) -> Run {
+    if content.len() < 4 {
+        return stop(run, b"bad\n");
+    }
+    let len = little_at(content, 0, 4) as usize;
+    if content.len() - 4 < len {
+        return stop(run, b"bad\n");
+    }
+    let body = 4 + len;
+    serve(
+        n,
+        true,
+        edition,
+        &content[body..],
+        &content[4..body],
+        run,
+        seen_store,
+        cache_store,
+        made,
+        out,
+    )
+}
+
+// A kind that writes, behind its room, in all of `made`.
+fn write_in(
+    n: u64,
+    kind: u64,
+    edition: Edition,
+    content: &[u8],
+    run: Run,
+    seen_store: &mut [u8],
+    cache_store: &mut [u8],
+    made: &mut [u8],
+    out: &mut [u8],
+) -> Run {
+    match kind {
+        25 => ask(
+            n,
+            true,
+            edition,
+            content,
+            run,
+            seen_store,
+            cache_store,
+            made,
+            out,
+        ),
+        26 => serve_lent(n, edition, content, run, seen_store, cache_store, made, out),
+        _ => on_node(n, kind, content, run, seen_store, cache_store, made, out),
+    }
+}
+
+// Kinds 4, 5 and 6, and 25 and 26 behind their edition, which begin with the room of the buffer.
 fn write(
     n: u64,
     kind: u64,
+    edition: Edition,
     content: &[u8],
     run: Run,
     seen_store: &mut [u8],
@@ -78,14 +146,62 @@ fn write(
     if made.len() < room {
         return stop(run, b"bad\n");
     }
-    on_node(
+    write_in(
         n,
         kind,
+        edition,
         &content[4..],
         run,
         seen_store,
         cache_store,
         &mut made[..room],
+        out,
+    )
+}
+
+// Kinds 22, 25 and 26: the number of an edition, and then as 2, 5 and 6.
+fn in_edition(
+    n: u64,
+    kind: u64,
+    content: &[u8],
+    run: Run,
+    seen_store: &mut [u8],
+    cache_store: &mut [u8],
+    made: &mut [u8],
+    out: &mut [u8],
+) -> Run {
+    if content.len() < 1 {
+        return stop(run, b"bad\n");
+    }
+    let number = little_at(content, 0, 1);
+    if 1 < number {
+        return stop(run, b"bad\n");
+    }
+    let edition = edition_of(number);
+    if kind == 22 {
+        if misfit(2, content.len() - 1) {
+            return stop(run, b"bad\n");
+        }
+        return admit(
+            n,
+            true,
+            edition,
+            &content[1..],
+            run,
+            seen_store,
+            cache_store,
+            out,
+        );
+    }
+    write(
+        n,
+        kind,
+        edition,
+        &content[1..],
+        run,
+        seen_store,
+        cache_store,
+        made,
         out,
     )
 }
@@ -228,13 +344,24 @@ fn on_lent(
     out: &mut [u8],
 ) -> Run {
     match kind {
-        4..=6 => write(n, kind, content, run, seen_store, cache_store, made, out),
+        4..=6 => write(
+            n,
+            kind,
+            Edition::V11,
+            content,
+            run,
+            seen_store,
+            cache_store,
+            made,
+            out,
+        ),
         8 => harm(n, content, run, seen_store, cache_store, out),
         9 => contains(n, content, run, seen_store, out),
         10 => lookup(n, content, run, cache_store, out),
         11 => state(n, run, seen_store, cache_store, made, out),
         12 => question(n, content, run, seen_store, cache_store, out),
         21 => set_flags(n, content, run, out),
+        22 | 25 | 26 => in_edition(n, kind, content, run, seen_store, cache_store, made, out),
         _ => on_node(n, kind, content, run, seen_store, cache_store, made, out),
     }
 }

@@ -1,5 +1,6 @@
 // Loops over calls of the two caches, for the benchmark in bench/: a program in C times whole loops. What a loop answers depends on every call, so that
 // none can be left out. Only that they are safe and end is proved.
+use basis::Edition;
 use mcache::Gossip;
 use mcache::MessageCache;
 use mcache::Put;
@@ -151,7 +152,7 @@ fn put_at(cache: MessageCache, store: &mut [u8], bodies: &[u8], at: usize, size:
         };
     }
     let end = at + size;
-    cache.put(store, &bodies[at..end], 0)
+    cache.put(store, Edition::V11, &bodies[at..end], 0)
 }
 
 // The cache after so many puts of the bodies in turn, each of this size.

@@ -1,81 +1,25 @@
--- `inspect::reply_line` is safe: each buffer is a part of what is lent.
+-- `inspect::reply_line` is safe: a line is put where there is an answer.
 use mathlib.Core.Path.{sym, _∙_}
 use native.Mathlib.Omega.{arith}
 use borrow.Author.Tests.{ltb-true}
-use Rattle.lines.specs.Laws.{prefix}
-use Rattle.inspect.proofs.Answering.{front-small}
 use borrow.Author.Needs.{needs}
 use Rattle.inspect.proofs.reply_line.Statement.{statement}
 use Rattle.inspect.proofs.reply_line.Tie as tie
-
-slice-relend-prefix-reply-encode : tie.Need-slice-relend-prefix-reply-encode
-slice-relend-prefix-reply-encode c = search needs
-
-slice-aggregate-reply-encode : tie.Need-slice-aggregate-reply-encode
-slice-aggregate-reply-encode c = prefix 65536 (c .before .before .before .before .before .args .made .now) (omega arith)
-
-reply-encode-requires : tie.Need-reply-encode-requires
-reply-encode-requires c κs = (front-small 65536 65600 (c .before .before .before .before .before .before .args .made .now) (omega arith), omega arith)
-
-same-length : tie.Need-same-length
-same-length c = search needs
-
-same-length-2 : tie.Need-same-length-2
-same-length-2 c = search needs
-
-returns : tie.Need-returns
-returns c = search needs
-
-slice-relend-prefix-reply-sign : tie.Need-slice-relend-prefix-reply-sign
-slice-relend-prefix-reply-sign c = search needs
-
-slice-aggregate-reply-sign : tie.Need-slice-aggregate-reply-sign
-slice-aggregate-reply-sign c = prefix 65600 (c .before .before .before .before .before .before .args .made .now) (omega arith)
-
-reply-sign-requires : tie.Need-reply-sign-requires
-reply-sign-requires c κs = (front-small 65600 65600 (c .before .before .before .before .before .before .before .args .made .now) (omega arith), omega arith)
-
-same-length-3 : tie.Need-same-length-3
-same-length-3 c = search needs
-
-same-length-4 : tie.Need-same-length-4
-same-length-4 c = search needs
-
-returns-2 : tie.Need-returns-2
-returns-2 c = search needs
-
-slice-relend-prefix-reply-id : tie.Need-slice-relend-prefix-reply-id
-slice-relend-prefix-reply-id c = search needs
-
-slice-aggregate-reply-id : tie.Need-slice-aggregate-reply-id
-slice-aggregate-reply-id c = prefix 65536 (c .before .before .before .before .before .before .before .args .made .now) (omega arith)
-
-reply-id-requires : tie.Need-reply-id-requires
-reply-id-requires c κs = (front-small 65536 65600 (c .before .before .before .before .before .before .before .before .args .made .now) (omega arith), omega arith)
-
-same-length-5 : tie.Need-same-length-5
-same-length-5 c = search needs
-
-same-length-6 : tie.Need-same-length-6
-same-length-6 c = search needs
-
-returns-3 : tie.Need-returns-3
-returns-3 c = search needs
 
 has-answer-requires : tie.Need-has-answer-requires
 has-answer-requires c κs = search needs
 
 line-requires : tie.Need-line-requires
-line-requires c κs = (ltb-true _ _ (sym (c .before .before .has-answer .ensures) ∙ c .before .if4 .taken), (omega arith, omega arith))
+line-requires c κs = (ltb-true _ _ (sym (c .before .before .has-answer .ensures) ∙ c .before .if1 .taken), (omega arith, omega arith))
 
 print-requires : tie.Need-print-requires
 print-requires c κs = search needs
 
-same-length-7 : tie.Need-same-length-7
-same-length-7 c = search needs
+same-length : tie.Need-same-length
+same-length c = search needs
 
-returns-4 : tie.Need-returns-4
-returns-4 c = search needs
+returns : tie.Need-returns
+returns c = search needs
 
 slice-aggregate-last : tie.Need-slice-aggregate-last
 slice-aggregate-last c = search needs
@@ -83,36 +27,18 @@ slice-aggregate-last c = search needs
 last-requires : tie.Need-last-requires
 last-requires c κs = search needs
 
-returns-5 : tie.Need-returns-5
-returns-5 c = search needs
+returns-2 : tie.Need-returns-2
+returns-2 c = search needs
 
 pub reply-line-spec : {M : Type 1} → statement M
 reply-line-spec =
     tie.close
     (tie.spec
-    slice-relend-prefix-reply-encode
-    slice-aggregate-reply-encode
-    reply-encode-requires
-    same-length
-    same-length-2
-    returns
-    slice-relend-prefix-reply-sign
-    slice-aggregate-reply-sign
-    reply-sign-requires
-    same-length-3
-    same-length-4
-    returns-2
-    slice-relend-prefix-reply-id
-    slice-aggregate-reply-id
-    reply-id-requires
-    same-length-5
-    same-length-6
-    returns-3
     has-answer-requires
     line-requires
     print-requires
-    same-length-7
-    returns-4
+    same-length
+    returns
     slice-aggregate-last
     last-requires
-    returns-5)
+    returns-2)

@@ -17,17 +17,20 @@ pradulins-admit-spec =
     (λ c κs. search needs)
     (λ c κs. search needs)
     (λ c κs. search needs)
+    (λ c κs. search needs)
     (λ c. search needs)
     (λ c. search needs)
-    (λ c. let node = c .before .before .before .before .before .before .before .before .before .before .before .before .before .load .ensures in
-    let did = c .before .before .before .before .before .before .before .before .before .before .admit .ensures in
-    let t = told-as admitTold
-    (now (c .before .before .before .before .before .before .before .before .before .before .before .before .before .before .before .before .before .before
-    .args .values)) (rw node at (did .answer)) (c .before .before .told-admit .ensures) (c .tell .ensures) in
+    (λ c. let p = c .before .before .before .before .before .before .before .before .before .before in
+    let q = p .before .before .before in
+    let node = q .before .load .ensures in
+    let edition = q .edition-of .ensures in
+    let did = p .admit .ensures in
+    let t = told-as admitTold (now (q .before .before .before .before .before .before .args .values)) (rw (node, edition) at (did .answer))
+    (c .before .before .told-admit .ensures) (c .tell .ensures) in
     record {
       number = t .0;
       values = t .1;
-      node = (c .before .before .before .store .ensures) ∙ ap nodeBytes (rw node at (did .node));
-      seen = rw node at (did .seen);
-      cache = rw node at (did .cache);
+      node = (c .before .before .before .store .ensures) ∙ ap nodeBytes (rw (node, edition) at (did .node));
+      seen = rw (node, edition) at (did .seen);
+      cache = rw (node, edition) at (did .cache);
     }))

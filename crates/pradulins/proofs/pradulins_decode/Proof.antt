@@ -13,7 +13,12 @@ pradulins-decode-spec =
     (λ c κs. search needs)
     (λ c κs. search needs)
     (λ c κs. search needs)
+    (λ c κs. search needs)
     (λ c. search needs)
-    (λ c. let did = c .before .before .before .before .before .decode .ensures in
-    let t = told-as decodedTold (now (c .before .before .before .before .before .before .before .before .before .args .values)) (did .answer) (c .before .before .told-decoded .ensures) (c .tell .ensures) in
-    record { number = t .0; values = t .1; table = did .lent }))
+    (λ c. let p = c .before .before .before .before .before in
+    let q = p .before .before in
+    let dialect = q .dialect-of .ensures in
+    let did = p .decode .ensures in
+    let t = told-as decodedTold (now (q .before .before .before .args .values)) (rw dialect at (did .answer))
+    (c .before .before .told-decoded .ensures) (c .tell .ensures) in
+    record { number = t .0; values = t .1; table = rw dialect at (did .lent) }))

@@ -13,7 +13,12 @@ pradulins-encode-spec =
     (λ c κs. search needs)
     (λ c κs. search needs)
     (λ c κs. search needs)
+    (λ c κs. search needs)
     (λ c. search needs)
-    (λ c. let did = c .before .before .before .before .before .encode .ensures in
-    let t = told-as encodedTold (now (c .before .before .before .before .before .before .before .before .before .args .values)) (did .answer) (c .before .before .told-encoded .ensures) (c .tell .ensures) in
-    record { number = t .0; values = t .1; buffer = did .lent }))
+    (λ c. let p = c .before .before .before .before .before in
+    let q = p .before .before in
+    let dialect = q .dialect-of .ensures in
+    let did = p .encode .ensures in
+    let t = told-as encodedTold (now (q .before .before .before .args .values)) (rw dialect at (did .answer))
+    (c .before .before .told-encoded .ensures) (c .tell .ensures) in
+    record { number = t .0; values = t .1; buffer = rw dialect at (did .lent) }))

@@ -96,6 +96,15 @@ enum-told-11 c = search needs
 put-peer-requires : tie.Need-put-peer-requires
 put-peer-requires c κs = search needs
 
+enum-told-12 : tie.Need-enum-told-12
+enum-told-12 c = search needs
+
+slice-aggregate-put-word-4 : tie.Need-slice-aggregate-put-word-4
+slice-aggregate-put-word-4 c = search needs
+
+put-word-requires-4 : tie.Need-put-word-requires-4
+put-word-requires-4 c κs = search needs
+
 same-length : tie.Need-same-length
 same-length c = search needs
 
@@ -173,6 +182,13 @@ returns-11 : tie.Need-returns-11
 unfolding recordText
 returns-11 c = puts-as (ap (λ (k : Kind). recordText k (c .before .before .before .before .before .before .before .before .args .s .now) (c .before .before .before .before .before .before .before .before .args .slots)) (sym (c .before .before .before .before .enum-told11 .given .1))) (omega arith) (c .before .before .put-peer .ensures)
 
+same-length-12 : tie.Need-same-length-12
+same-length-12 c = search needs
+
+returns-12 : tie.Need-returns-12
+unfolding recordText
+returns-12 c = puts-as (ap (λ (k : Kind). recordText k (c .before .before .before .before .before .before .before .before .before .args .s .now) (c .before .before .before .before .before .before .before .before .before .args .slots)) (sym (c .before .before .before .before .before .enum-told12 .given .1))) (omega arith) (wrote-puts (omega arith) (c .before .before .put-word4 .ensures))
+
 pub put-record-spec : {M : Type 1} → statement M
 put-record-spec =
     tie.close
@@ -206,6 +222,9 @@ put-record-spec =
     put-prune-requires
     enum-told-11
     put-peer-requires
+    enum-told-12
+    slice-aggregate-put-word-4
+    put-word-requires-4
     same-length
     returns
     same-length-2
@@ -227,4 +246,6 @@ put-record-spec =
     same-length-10
     returns-10
     same-length-11
-    returns-11)
+    returns-11
+    same-length-12
+    returns-12)
