@@ -878,9 +878,9 @@ def flag_named():
                    ("insert", 6, 5, 1, b"\x00" + NAME), *marks, ("shift",), *look, other, *look, ("clean", 11), *marks]
 
 
-def edition_named():
-    """Puts in either edition: bodies with the field that 1.2 adds, alone and beside a message; records and sizes about the limits; a signature, which is field 5 of a
-    message."""
+def edition_named(few=False):
+    """Puts in either edition: bodies with the field that 1.2 adds, alone and beside a message; records and sizes about the limits, but for sizes where there are to be
+    few bytes; a signature, which is field 5 of a message."""
     x, look = put_step(X)[2], looks([NAME], [b"t"], 1)
     for edition in EDITIONS:
         yield [("cache", 2, 4, 0)] + [("put_in", edition, 0, body) for text, *_ in EDITION_ROWS for row in [bytes.fromhex(text)] for body in (row, row + x, x + row)] + look
@@ -888,7 +888,7 @@ def edition_named():
         for ids in (508, 509, 510, 511):
             more = tagged(3, tagged(5, b"\x0a\x00" * ids))
             yield [("cache", 2, 4, 0), ("put_in", edition, 0, x + more), ("put_in", edition, 1, more + x), ("put_in", edition, 0, more + x), *look]
-        for size in (MAX_BODY - 1, MAX_BODY, MAX_BODY + 1, MAX_CONTENT - 3):
+        for size in (MAX_BODY - 1, MAX_BODY, MAX_BODY + 1, MAX_CONTENT - 3) if not few else ():
             yield [("cache", 2, 4, 0), ("put_in", edition, 0, padded(x, size)), *look]
         yield [("flagged", 2, 4, 0, 1), ("put_in", edition, 0, tagged(2, plain(U))), ("put_in", 1 - edition, 0, x), *look, ("shift",), ("put_in", edition, 0, x), ("shift",), *look]
     yield [("cache", 2, 4, 0), ("put_in", V1_2, 0, x), ("put_in", V1_1, 0, x), *look]
