@@ -1365,10 +1365,10 @@ def some_unwanted(r, names):
 
 def editioned(r, step, names):
     """An admit, an ask or a serve in some edition, sometimes with the field that 1.2 adds in its body; serve with a second body."""
-    how = r.randrange(8)
-    if how < 2:
-        step = (*step[:-1], step[-1] + (declining_body(r) if how else declines(*r.sample(names, min(len(names), 2)))))
-    elif how == 2:
+    how = r.randrange(40)
+    if how < 9:
+        step = (*step[:-1], step[-1] + (declining_body(r) if how == 0 else declines(*r.sample(names, min(len(names), 2)))))
+    elif how == 9:
         step = (*step[:-1], bytes.fromhex(r.choice(EDITION_ROWS)[0]) + step[-1])
     return in_edition(r.choice(EDITIONS), step, some_unwanted(r, names))
 
