@@ -443,7 +443,7 @@ fn served_without() {
         assert_eq!(gateway.admit(V1_2, body, 0, true, 5), Ok(Admitted::New));
     }
     let gateway = gateway;
-    let request = named(2, &[&mx, &my]);
+    let (request, offer) = (named(2, &[&mx, &my]), gateway.advertise(b"t", 1).unwrap());
     let (dont_x, dont_y, want_x) = (named(5, &[&mx]), named(5, &[&my]), named(2, &[&mx]));
     let reply =
         |bodies: &[&Vec<u8>], left| Ok(Reply { body: bodies.iter().flat_map(|body| body.iter().copied()).collect(), messages: bodies.len(), left });
@@ -453,7 +453,7 @@ fn served_without() {
         assert_eq!((serve(&dont_x), serve(&dont_y)), (reply(&[&y], 0), reply(&[&x], 0)));
         assert_eq!((serve(&[&dont_x[..], &dont_y].concat()), serve(&named(5, &[&my, &mx, &my]))), (reply(&[], 0), reply(&[], 0)));
         // Only the IDONTWANTs of the second body count.
-        assert_eq!((serve(&want_x), serve(&named(1, &[&mx])), serve(&x)), (reply(&[&x, &y], 0), reply(&[&x, &y], 0), reply(&[&x, &y], 0)));
+        assert_eq!((serve(&want_x), serve(&offer), serve(&x)), (reply(&[&x, &y], 0), reply(&[&x, &y], 0), reply(&[&x, &y], 0)));
         assert_eq!(gateway.serve(edition, &[&request[..], &dont_x].concat()), reply(&[&x, &y], 0));
         assert_eq!(
             (serve(&named(5, &[&mx[..38], b"", &[&mx[..], &[0]].concat()])), serve(&named(5, &[]))),
