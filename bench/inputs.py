@@ -46,6 +46,10 @@ def iwant(ids):
     return field(3, field(2, b"".join(field(1, one) for one in ids)))
 
 
+def idontwant(ids):
+    return field(3, field(5, b"".join(field(1, one) for one in ids)))
+
+
 def unit(i, size):
     """A mixed body of this size with 8 records: a subscription, a message with its topic, an offer with an id, a graft, a prune with a peer."""
     rest = (field(1, b"\x08\x01" + field(2, b"ct/brain"))
@@ -98,6 +102,11 @@ def bodies():
     yield "cut", mixed(FULL)[:-1]
 
 
+def newer():
+    """(name, body) of edition 1.2: a control full of what is not wanted, with the ids of `requested-ids`."""
+    yield "declined-ids", idontwant([some(46, i) for i in range(MAX_RECORDS - 1)])
+
+
 def some_text(i):
     return ("topic-%04d-" % i * 12)[:118].encode()
 
@@ -145,7 +154,7 @@ def lists(name, rows):
 
 
 def write(folder):
-    """Writes the inputs, and gives the file names of the bodies and of the lists."""
+    """Writes the inputs, and gives the file names of the bodies, those of edition 1.2 among them, and of the lists."""
     os.makedirs(folder, exist_ok=True)
 
     def put(name, data):
@@ -157,6 +166,10 @@ def write(folder):
         assert len(body) <= FULL, name
         put(name + ".bin", body)
         names.append(name + ".bin")
+    for name, body in newer():
+        assert len(body) <= FULL, name
+        put(name + ".v12", body)
+        names.append(name + ".v12")
     for name in LISTS:
         for rows in ROWS:
             names.append("%s-%d.rows" % (name, rows))
@@ -170,9 +183,11 @@ def write(folder):
         assert len({len(one) for one in made}) == 1
         put(name + "-bodies", b"".join(made))
         put(name + "-ids", b"".join(map(id_of, range(count))))
-    # The node sees 256 of the large ones and keeps the last 64 of them. It is offered 256, of which it saw the half, and asked for all that it keeps.
+    # The node sees 256 of the large ones and keeps the last 64 of them. It is offered 256, of which it saw the half, and asked for all that it keeps; of these the half
+    # is not wanted, the others among the 511 that are not wanted it never saw.
     put("offer", ihave(b"t", [id_of(i) for i in range(128, 384)]))
     put("request", iwant([id_of(i) for i in range(192, 256)]))
+    put("unwanted", idontwant([id_of(i) for i in (*range(1000, 1479), *range(192, 256, 2))]))
     return names
 
 

@@ -4,7 +4,7 @@
  *
  *     compare time|count REPETITIONS CLEAR FOLDER FILE...
  *
- * A FILE is a body (.bin) or lists (.rows).
+ * A FILE is a body (.bin), a body of edition 1.2, which the Rust does not have (.v12), or lists (.rows).
  * For each case a line: its name, and then for each repetition the nanoseconds per call of ours and of the Rust's (0 where the Rust has no such call).
  * With `count`, the line has the number of calls, and each loop stands between marks: system calls `getppid`, which the counting plugin of the emulator looks for,
  * and requests to write down what was counted, which valgrind takes.
@@ -83,7 +83,8 @@ static struct bytes read_file(const char *folder, const char *name)
 
 /* ---- what a loop is given */
 
-static struct bytes body, ids, others, bodies, cached_ids, offer, request;
+static struct bytes body, ids, others, bodies, cached_ids, offer, request, unwanted;
+static uint32_t dialect = PRADULINS_V1_1;
 static size_t message_index, rows, body_size, cached_id_size;
 static int clear;
 
@@ -110,7 +111,7 @@ static uint64_t our_decode(uint64_t times)
     while (times-- > 0) {
         if (clear)
             memset(table, 0, sizeof table);
-        sum += pradulins_decode(body.at, body.len, table, PRADULINS_TABLE_WORDS, values) + values[0];
+        sum += pradulins_decode(dialect, body.at, body.len, table, PRADULINS_TABLE_WORDS, values) + values[0];
     }
     return sum;
 }
@@ -120,7 +121,7 @@ static uint64_t our_encode(uint64_t times)
     uint64_t sum = 0;
     while (times-- > 0) {
         clear_out();
-        sum += pradulins_encode(body.at, body.len, out, sizeof out, values) + values[0];
+        sum += pradulins_encode(dialect, body.at, body.len, out, sizeof out, values) + values[0];
     }
     return sum;
 }
@@ -130,7 +131,7 @@ static uint64_t our_sign(uint64_t times)
     uint64_t sum = 0;
     while (times-- > 0) {
         clear_out();
-        sum += pradulins_sign_bytes(body.at, body.len, message_index, out, sizeof out, values) + values[0];
+        sum += pradulins_sign_bytes(dialect, body.at, body.len, message_index, out, sizeof out, values) + values[0];
     }
     return sum;
 }
@@ -280,7 +281,7 @@ static uint64_t turn;
 static uint32_t admit_next(void)
 {
     size_t at = turn++ % (bodies.len / body_size) * body_size;
-    return pradulins_admit(node, seen, seen_len, cache, cache_len, bodies.at + at, body_size, 0, true, 1, values);
+    return pradulins_admit(node, seen, seen_len, cache, cache_len, PRADULINS_V1_1, bodies.at + at, body_size, 0, true, 1, values);
 }
 
 static void fill_node(void)
@@ -308,7 +309,8 @@ static uint64_t node_admit_dup(uint64_t times)
 {
     uint64_t sum = 0;
     while (times-- > 0) {
-        sum += pradulins_admit(node, seen, seen_len, cache, cache_len, bodies.at + 255 * body_size, body_size, 0, true, 1, values) + values[0];
+        sum += pradulins_admit(node, seen, seen_len, cache, cache_len, PRADULINS_V1_1, bodies.at + 255 * body_size, body_size, 0, true, 1, values);
+        sum += values[0];
     }
     return sum;
 }
@@ -342,7 +344,7 @@ static uint64_t node_advertise(uint64_t times)
 static uint64_t node_explain(uint64_t times)
 {
     uint64_t sum = 0;
-    if (pradulins_message_id(bodies.at + 255 * body_size, body_size, 0, out, PRADULINS_OUT_SIZE, values))
+    if (pradulins_message_id(PRADULINS_V1_1, bodies.at + 255 * body_size, body_size, 0, out, PRADULINS_OUT_SIZE, values))
         fail("refused", "message_id");
     size_t id_len = values[0];
     while (times-- > 0) {
@@ -358,19 +360,31 @@ static uint64_t node_ask(uint64_t times)
     uint64_t sum = 0;
     while (times-- > 0) {
         clear_out();
-        sum += pradulins_ask(node, seen, seen_len, cache, cache_len, offer.at, offer.len, out, PRADULINS_OUT_SIZE, values) + values[0];
+        sum += pradulins_ask(node, seen, seen_len, cache, cache_len, PRADULINS_V1_1, offer.at, offer.len, out, PRADULINS_OUT_SIZE, values) + values[0];
+    }
+    return sum;
+}
+
+static uint64_t serve(uint32_t edition, struct bytes second, uint64_t times)
+{
+    uint64_t sum = 0;
+    while (times-- > 0) {
+        clear_out();
+        sum += pradulins_serve(node, seen, seen_len, cache, cache_len, edition, request.at, request.len, second.at, second.len, out, PRADULINS_OUT_SIZE, values);
+        sum += values[0];
     }
     return sum;
 }
 
 static uint64_t node_serve(uint64_t times)
 {
-    uint64_t sum = 0;
-    while (times-- > 0) {
-        clear_out();
-        sum += pradulins_serve(node, seen, seen_len, cache, cache_len, request.at, request.len, out, PRADULINS_OUT_SIZE, values) + values[0];
-    }
-    return sum;
+    return serve(PRADULINS_V1_1, (struct bytes){request.at, 0}, times);
+}
+
+/* The same, lent a body that declines 511 messages: the half of what is requested, and others. */
+static uint64_t node_serve_without(uint64_t times)
+{
+    return serve(PRADULINS_V1_2, unwanted, times);
 }
 
 /* Only the node's bytes are read, and the call is refused for the length of a store. */
@@ -498,18 +512,37 @@ static void body_cases(const char *folder, const char *file)
     char name[256];
     body = read_file(folder, file);
     size_t stem = strlen(file) - 4;
-    agree(file, pradulins_encode(body.at, body.len, out, sizeof out, values), false);
+    agree(file, pradulins_encode(dialect, body.at, body.len, out, sizeof out, values), false);
     snprintf(name, sizeof name, "decode/%.*s", (int)stem, file);
     measure(name, our_decode, their_decode, 0, 8);
     snprintf(name, sizeof name, "reencode/%.*s", (int)stem, file);
     measure(name, our_encode, their_encode, 0, 8);
     /* of the last message */
-    if (pradulins_sign_bytes(body.at, body.len, (size_t)-1, out, sizeof out, values) == PRADULINS_NO_MESSAGE && values[0] > 0) {
+    if (pradulins_sign_bytes(dialect, body.at, body.len, (size_t)-1, out, sizeof out, values) == PRADULINS_NO_MESSAGE && values[0] > 0) {
         message_index = values[0] - 1;
-        agree(file, pradulins_sign_bytes(body.at, body.len, message_index, out, sizeof out, values), true);
+        agree(file, pradulins_sign_bytes(dialect, body.at, body.len, message_index, out, sizeof out, values), true);
         snprintf(name, sizeof name, "sign/%.*s", (int)stem, file);
         measure(name, our_sign, their_sign, 0, 8);
     }
+    free(body.at);
+}
+
+/* In edition 1.2: ours alone. What is written anew is the body itself. */
+static void edition_cases(const char *folder, const char *file)
+{
+    char name[256];
+    body = read_file(folder, file);
+    size_t stem = strlen(file) - 4;
+    dialect = PRADULINS_V1_2;
+    if (pradulins_decode(dialect, body.at, body.len, table, PRADULINS_TABLE_WORDS, values) || values[0] != PRADULINS_MAX_RECORDS)
+        fail("other records than are there", file);
+    if (pradulins_encode(dialect, body.at, body.len, out, sizeof out, values) || values[0] != body.len || memcmp(out, body.at, body.len) != 0)
+        fail("other bytes than its own", file);
+    snprintf(name, sizeof name, "decode-1.2/%.*s", (int)stem, file);
+    measure(name, our_decode, NULL, 0, 8);
+    snprintf(name, sizeof name, "reencode-1.2/%.*s", (int)stem, file);
+    measure(name, our_encode, NULL, 0, 8);
+    dialect = PRADULINS_V1_1;
     free(body.at);
 }
 
@@ -547,10 +580,10 @@ static void list_cases(const char *folder, const char *file)
     free(all.at);
 }
 
-static bool is_lists(const char *file)
+static bool ends_in(const char *file, const char *end)
 {
-    size_t len = strlen(file);
-    return len > 5 && strcmp(file + len - 5, ".rows") == 0;
+    size_t len = strlen(file), less = strlen(end);
+    return len > less && strcmp(file + len - less, end) == 0;
 }
 
 static void seen_cases(size_t count)
@@ -597,6 +630,9 @@ static void node_cases(void)
     measure("node/explain", node_explain, NULL, 0, 8);
     measure("node/ask", node_ask, NULL, 0, 8);
     measure("node/serve", node_serve, NULL, 0, 8);
+    if (node_serve_without(1) != 16 * body_size || values[1] != 16 || values[2] != 16)
+        fail("other messages are left out", "serve");
+    measure("node/serve-without", node_serve_without, NULL, 0, 8);
     measure("node/read", node_load, NULL, 0, 8);
     measure("node/read-write", node_store, NULL, 0, 8);
     measure("node/read-test", node_test, NULL, 0, 8);
@@ -612,8 +648,10 @@ int main(int argc, char **argv)
     clear = atoi(argv[3]);
     const char *folder = argv[4];
     for (int i = 5; i < argc; i++) {
-        if (is_lists(argv[i]))
+        if (ends_in(argv[i], ".rows"))
             list_cases(folder, argv[i]);
+        else if (ends_in(argv[i], ".v12"))
+            edition_cases(folder, argv[i]);
         else
             body_cases(folder, argv[i]);
     }
@@ -631,6 +669,7 @@ int main(int argc, char **argv)
     body_size = bodies.len / 512;
     offer = read_file(folder, "offer");
     request = read_file(folder, "request");
+    unwanted = read_file(folder, "unwanted");
     node_cases();
     return 0;
 }

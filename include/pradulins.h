@@ -29,17 +29,20 @@ extern "C" {
 /* ---- version */
 
 /*
- * The version that this header is of, 0.7.0: 10000 times the first number, 100 times the second, and the third. pradulins_version() is that of the archive.
- * Since 0.4.0 `values` has 8 numbers, where it had 4, and since 0.7.0 pradulins_start and pradulins_write_rpc have an argument more: a program that was made with an
- * earlier header is not to be linked with this archive. Make it anew, and hold pradulins_version() to PRADULINS_VERSION before the first call.
+ * The version that this header is of, 0.8.0: 10000 times the first number, 100 times the second, and the third. pradulins_version() is that of the archive.
+ * Since 0.4.0 `values` has 8 numbers, where it had 4; since 0.7.0 pradulins_start and pradulins_write_rpc have an argument more, and since 0.8.0 all calls that read a
+ * body, but for pradulins_walk: a program that was made with an earlier header is not to be linked with this archive. Make it anew, and hold pradulins_version() to
+ * PRADULINS_VERSION before the first call.
  * Since 0.5.0 a message's from is a peer id, and pradulins_admit meets 34, 35 and 36 ("senders", below).
  * Since 0.6.0 a host speaks first: pradulins_write_rpc and pradulins_sign_fields ("speaking first", below), and the refusal 13.
  * Since 0.7.0 a node has flags, of which the first allows messages that nobody signed ("flags", below); with flags 0 every answer is as before.
+ * Since 0.8.0 a body is read in an edition of gossipsub, 1.1 or 1.2 ("editions", below), and pradulins_serve can be lent a second body; in 1.1, and without a second body,
+ * every answer is as before.
  * The format is that of a node's bytes and its stores: a state that was saved under another format is not to be loaded. pradulins_format() is the archive's: hold
  * it to PRADULINS_FORMAT before the first call, since a node of another format may have another length. Format 3 came with 0.7.0: a node keeps its flags in 8 bytes at
  * its end, and has 12,440 bytes where it had 12,432. Nodes of the formats 1 and 2 are not taken over: start anew, and catch up.
  */
-#define PRADULINS_VERSION 700
+#define PRADULINS_VERSION 800
 #define PRADULINS_FORMAT 3
 
 /* ---- sizes */
@@ -133,10 +136,27 @@ extern "C" {
 #define PRADULINS_KIND_TOPIC 3       /* a topic of the message before it: all its bytes */
 #define PRADULINS_KIND_IHAVE 5       /* field 0: topic_id */
 #define PRADULINS_KIND_IWANT 6
-#define PRADULINS_KIND_MESSAGE_ID 7  /* an id of the IHAVE or IWANT before it: all its bytes */
+#define PRADULINS_KIND_MESSAGE_ID 7  /* an id of the IHAVE, IWANT or IDONTWANT before it: all its bytes */
 #define PRADULINS_KIND_GRAFT 8       /* field 0: topic_id */
 #define PRADULINS_KIND_PRUNE 9       /* field 0: topic_id. Number: backoff */
 #define PRADULINS_KIND_PEER_INFO 10  /* of the PRUNE before it. Fields: peer_id, signed_peer_record */
+#define PRADULINS_KIND_IDONTWANT 11  /* in edition 1.2 alone. Its ids follow it, as those of an IWANT do */
+
+/* ---- editions */
+
+/*
+ * A stream speaks one edition of gossipsub: the one that both sides agreed on when it was opened (/meshsub/1.1.0 or /meshsub/1.2.0). So each call that reads a body is told
+ * the edition of the stream that the body came by. It is no setting of a node, and one node may be given bodies of either. An older stream is read as 1.1.
+ *
+ * What 1.2 adds is the IDONTWANT: field 5 of a control, with ids in its field 1. Whoever sends it has these messages, and does not want to be sent them. In 1.1 this field
+ * is skipped as an unknown one, whatever it holds. In 1.2 it is read: what is wrong in it is refused (1 to 6, with a place in the fields 3, 5), the IDONTWANT and each of
+ * its ids are records, and pradulins_encode writes IDONTWANTs behind the PRUNEs. All else is read alike, and a message is the same in both. A body that is accepted in 1.2
+ * is accepted in 1.1; one without such a field gets the same answers in both.
+ *
+ * `edition`, of calls on a node, and `dialect`, of calls on a body alone, are one of these two. Only the lowest bit counts; leave the others 0.
+ */
+#define PRADULINS_V1_1 0
+#define PRADULINS_V1_2 1
 
 /* ---- senders */
 
@@ -205,14 +225,14 @@ extern "C" {
 uint32_t pradulins_start(uint8_t node[PRADULINS_NODE_SIZE], uint64_t ttl, size_t max_seen, size_t history_len, size_t max_messages, uint32_t flags);
 
 /*
- * Admits the message at `index` of `body` (from 0), where `verified` is the host's word on its signature ("senders", above), and `at` the reading of the
- * host's clock. The node drops the ids whose time is over, and then takes the message if its id is not seen.
+ * Admits the message at `index` of `body` (from 0), read in `edition`, where `verified` is the host's word on its signature ("senders", above), and `at` the reading
+ * of the host's clock. The node drops the ids whose time is over, and then takes the message if its id is not seen.
  * values[0]: 1 where the message is new, and was stored; 0 where it is a duplicate. Both set the clock.
  * Refused: 40, 41, 42, 10, 1 to 7, 11, 20, 21, 22, 34, 23, 24 or 25, 26, 35, 36, 27, 28, 29, 30, 31, in this order. Where unsigned messages are allowed ("flags",
  * above), one with neither signature nor key meets none of 25, 26, 35, 36 and 27, whatever `verified` is.
  */
 uint32_t pradulins_admit(uint8_t node[PRADULINS_NODE_SIZE], uint8_t *seen_store, size_t seen_store_len, uint8_t *cache_store,
-                         size_t cache_store_len, const uint8_t *body, size_t body_len, size_t index, bool verified, uint64_t at,
+                         size_t cache_store_len, uint32_t edition, const uint8_t *body, size_t body_len, size_t index, bool verified, uint64_t at,
                          uint64_t values[PRADULINS_VALUES]);
 
 /*
@@ -249,21 +269,28 @@ uint32_t pradulins_explain(const uint8_t node[PRADULINS_NODE_SIZE], const uint8_
 #define PRADULINS_OFFER_OLDER_WINDOW 3  /* its message is in the cache with that topic, in a window that the newest `windows` do not reach */
 
 /*
- * Writes to `out` a body that requests what `body` offers and the node has not seen ("flags", above): one IWANT, each id once.
+ * Writes to `out` a body that requests what `body`, read in `edition`, offers and the node has not seen ("flags", above): one IWANT, each id once.
  * values[0]: how many bytes were written; 0 where there is nothing to ask for.
  * Refused: 40, 41, 42, 10, 1 to 7, 11, 12.
  */
 uint32_t pradulins_ask(const uint8_t node[PRADULINS_NODE_SIZE], const uint8_t *seen_store, size_t seen_store_len, const uint8_t *cache_store,
-                       size_t cache_store_len, const uint8_t *body, size_t body_len, uint8_t *out, size_t out_len, uint64_t values[PRADULINS_VALUES]);
+                       size_t cache_store_len, uint32_t edition, const uint8_t *body, size_t body_len, uint8_t *out, size_t out_len,
+                       uint64_t values[PRADULINS_VALUES]);
 
 /*
- * Writes to `out` a body with the cached messages that `body` requests, each once, as many as fit `out` and PRADULINS_MAX_BODY.
+ * Writes to `out` a body with the cached messages that `body`, read in `edition`, requests, each once, as many as fit `out` and PRADULINS_MAX_BODY.
+ *
+ * `unwanted` is a second body: one that the same neighbour sent before, with IDONTWANTs in it. It is read in 1.2 whatever `edition` is. Messages with the ids of its
+ * IDONTWANTs are passed over, and are counted neither as written nor as left out. What else stands in it changes nothing, and neither do IDONTWANTs in `body` itself. Where
+ * `unwanted_len` is 0 there is none, wherever `unwanted` points to: pass `body, 0`, for example.
+ *
  * values[0]: how many bytes were written; values[1]: how many messages these are; values[2]: how many cached ones were left out, to be requested again.
- * Refused: 40, 41, 42, 10, 1 to 7, 11, 12 (where not even the first fits).
+ * Refused: 40, 41, 42; 10, 1 to 7, 11 of `body`; 10, 1 to 7, 11 of `unwanted`; 12, where not even the first message that is wanted fits, with the bytes that it needs. A
+ * place (1 to 7) counts from the start of the body that is refused, and 10 and 11 are of each body by itself; which of the two it is, pradulins_decode tells.
  */
 uint32_t pradulins_serve(const uint8_t node[PRADULINS_NODE_SIZE], const uint8_t *seen_store, size_t seen_store_len, const uint8_t *cache_store,
-                         size_t cache_store_len, const uint8_t *body, size_t body_len, uint8_t *out, size_t out_len,
-                         uint64_t values[PRADULINS_VALUES]);
+                         size_t cache_store_len, uint32_t edition, const uint8_t *body, size_t body_len, const uint8_t *unwanted,
+                         size_t unwanted_len, uint8_t *out, size_t out_len, uint64_t values[PRADULINS_VALUES]);
 
 /* ---- what a node holds */
 
@@ -282,40 +309,42 @@ uint32_t pradulins_settings(const uint8_t node[PRADULINS_NODE_SIZE], uint64_t va
 uint32_t pradulins_state(const uint8_t node[PRADULINS_NODE_SIZE], const uint8_t *seen_store, size_t seen_store_len, const uint8_t *cache_store,
                          size_t cache_store_len, uint64_t values[PRADULINS_VALUES]);
 
-/* ---- bodies */
+/* ---- bodies: each is read in the edition that `dialect` says */
 
 /*
  * Writes `body` anew to `out`, in canonical bytes: what means the same gives the same bytes. They are never longer than the body.
  * values[0]: how many bytes were written.
  * Refused: 10, 1 to 7, 11, 12.
  */
-uint32_t pradulins_encode(const uint8_t *body, size_t body_len, uint8_t *out, size_t out_len, uint64_t values[PRADULINS_VALUES]);
+uint32_t pradulins_encode(uint32_t dialect, const uint8_t *body, size_t body_len, uint8_t *out, size_t out_len, uint64_t values[PRADULINS_VALUES]);
 
 /*
  * Writes to `out` the bytes that the signature of the message at `index` is made over. They are at most 14 bytes longer than the body.
  * values[0]: how many bytes were written.
  * Refused: 10, 1 to 7, 11, 20, 12.
  */
-uint32_t pradulins_sign_bytes(const uint8_t *body, size_t body_len, size_t index, uint8_t *out, size_t out_len, uint64_t values[PRADULINS_VALUES]);
+uint32_t pradulins_sign_bytes(uint32_t dialect, const uint8_t *body, size_t body_len, size_t index, uint8_t *out, size_t out_len,
+                              uint64_t values[PRADULINS_VALUES]);
 
 /*
  * Writes to `out` the id of the message at `index`: its from and its seqno.
  * values[0]: how many bytes were written.
  * Refused: 10, 1 to 7, 11, 20, 21, 22, 23, 12.
  */
-uint32_t pradulins_message_id(const uint8_t *body, size_t body_len, size_t index, uint8_t *out, size_t out_len, uint64_t values[PRADULINS_VALUES]);
+uint32_t pradulins_message_id(uint32_t dialect, const uint8_t *body, size_t body_len, size_t index, uint8_t *out, size_t out_len,
+                              uint64_t values[PRADULINS_VALUES]);
 
 /*
  * Reads a body into a table of records, 20 numbers each (see above), in the order in which the body has them. `table_len` counts numbers.
  * values[0]: how many records were written; values[1]: 1 where the body has a control, which is no record itself; else 0.
  * Refused: 10, 1 to 7, 11, 12.
  */
-uint32_t pradulins_decode(const uint8_t *body, size_t body_len, uint64_t *table, size_t table_len, uint64_t values[PRADULINS_VALUES]);
+uint32_t pradulins_decode(uint32_t dialect, const uint8_t *body, size_t body_len, uint64_t *table, size_t table_len, uint64_t values[PRADULINS_VALUES]);
 
 /*
  * The top-level field at a place of a body. Start at 0 and go on at values[3].
  * values[0]: the field's number, 0 at the end (then nothing else is handed out); values[1]: its wire type; values[2]: the place after its tag;
- * values[3]: the place of the next field. What the field holds is not read further than to skip it.
+ * values[3]: the place of the next field. What the field holds is not read further than to skip it, so the edition does not matter.
  * Refused: 10, 1 to 6.
  */
 uint32_t pradulins_walk(const uint8_t *body, size_t body_len, size_t at, uint64_t values[PRADULINS_VALUES]);
@@ -324,7 +353,7 @@ uint32_t pradulins_walk(const uint8_t *body, size_t body_len, size_t at, uint64_
 
 /*
  * An RPC of the host's own is written from rows: records as pradulins_decode writes them, 20 numbers each, over bytes that the host lends. What pradulins_decode
- * gave of a body without IHAVE and IWANT can be lent as it is, beside that body. A row that is made by hand (pradulins_row, below) has start = end = 0; then the
+ * gave of a body without IHAVE, IWANT and IDONTWANT can be lent as it is, beside that body. A row that is made by hand (pradulins_row, below) has start = end = 0; then the
  * places of its fields count from the start of the lent bytes. Places may overlap, and rows may share them.
  *
  *     PRADULINS_KIND_SUB_OPTS    number: 1 subscribes and 0 ends it; any other is written as 1. Field 0: topic_id

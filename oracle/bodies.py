@@ -5,12 +5,16 @@ the records by kind, so the order in which the body has them is found here by
 `order`, a walk over the fields that looks at nothing but their numbers, types and
 lengths. For `encode`, `sign` and `id` the oracle's `writes` tells all at once.
 Where a refusal stands in the body, which the Rust does not tell, is from places.py.
+The Rust has edition 1.1; bodies with the field that 1.2 adds to a control are made
+here, too, and what 1.2 says of them stands in editions.py.
 Everything random comes from one seeded `random.Random`.
 """
 
+import itertools
+
 import wire
 from oracle import NUMBER, parse_decode
-from places import MORE_ROWS, PATHS, ROWS, TEXT_PATHS, find, with_place
+from places import EDITION_ROWS, MORE_ROWS, PATHS, ROWS, TEXT_PATHS, V1_1, V1_2, find, with_place
 from wire import EDGES, MAX_BODY, MAX_CONTENT, PLACE, blob, damaged, edge_field, then_random, varint
 
 MAX_RECORDS = 512
@@ -188,6 +192,8 @@ PARTS = {
     "peer": {1: "bytes", 2: "bytes"},
 }
 RPC = {1: "sub", 2: "message", 3: "control"}
+# The same by the edition.
+PARTS_IN = {V1_1: PARTS, V1_2: {**PARTS, "control": {**PARTS["control"], 5: "idontwant"}, "idontwant": {1: "bytes"}}}
 
 
 def other_field(r, known):
@@ -205,7 +211,7 @@ def other_field(r, known):
     return varint(field * 8 + kind) + blob(r, 8 if kind == 1 else 4)
 
 
-def part(r, field, what, spoil):
+def part(r, field, what, spoil, parts=PARTS):
     if what == "number":
         return counted(field, r.choice((0, 1, 2, 127, 128, r.choice(EDGES))))
     if what == "text":
@@ -215,10 +221,10 @@ def part(r, field, what, spoil):
     if what == "bytes":
         n = r.choice((0, 0, 1, 2, 3, 8, r.randrange(40), 127, 128) if r.randrange(12) == 0 else (0, 1, 2, 3))
         return tagged(field, blob(r, n))
-    return tagged(field, within(r, PARTS[what], spoil))
+    return tagged(field, within(r, parts[what], spoil, parts))
 
 
-def within(r, known, spoil):
+def within(r, known, spoil, parts=PARTS):
     """The bytes of a submessage: known fields, some of them twice, and fields that are skipped."""
     out = []
     for _ in range(r.choice((0, 1, 1, 2, 2, 3, 4, 6))):
@@ -229,13 +235,29 @@ def within(r, known, spoil):
             out.append(other_field(r, known))
         else:
             field = r.choice(list(known))
-            out.append(part(r, field, known[field], spoil))
+            out.append(part(r, field, known[field], spoil, parts))
     return b"".join(out)
 
 
 def random_body(r):
     kind = r.randrange(8)
     body = within(r, RPC, kind > 5)
+    return damaged(r, body) if kind in (4, 5) else body
+
+
+def declining_body(r):
+    """A body with the field that 1.2 adds, mostly in several controls: as it should be or with something wrong in it, among other entries and messages."""
+    kind, parts = r.randrange(8), PARTS_IN[V1_2]
+    spoil, out = kind > 5, []
+    for _ in range(r.choice((1, 1, 2, 3))):
+        if r.randrange(5) == 0:
+            out.append(within(r, RPC, spoil, parts))
+            continue
+        entries = [part(r, field, parts["control"][field], spoil, parts) for field in r.choices((5, 5, 5, 1, 2, 3, 4), k=r.choice((1, 1, 2, 3, 5)))]
+        if r.randrange(6) == 0:
+            entries.insert(r.randrange(len(entries) + 1), other_field(r, parts["control"]))
+        out.append(tagged(3, b"".join(entries)))
+    body = b"".join(out)
     return damaged(r, body) if kind in (4, 5) else body
 
 
@@ -284,11 +306,11 @@ def named():
         yield bytes.fromhex(text.replace(" ", ""))
 
 
-def placed():
+def placed(edition=V1_1):
     """The rows about the place of a refusal; and each refusal in each message that can have it, behind a field that is taken and before one that is not."""
     for text, _ in ROWS + MORE_ROWS:
         yield bytes.fromhex(text)
-    for path in PATHS:
+    for path in PATHS[edition]:
         for text in ("80", "80" * 9 + "02", "8000", "0a05", "0b", "00"):
             yield enclosed(b"\xa8\x01\x00" + bytes.fromhex(text), path)
     for path in TEXT_PATHS:
@@ -367,6 +389,56 @@ def enumerated():
         yield from topic_bodies(data)
 
 
+def entries():
+    """An entry of each kind, empty and with something in it, two of field 5, and fields 5 of other types."""
+    yield from (tagged(field, b"") for field in range(1, 6))
+    yield from (tagged(1, tagged(1, b"t") + tagged(2, b"i")), tagged(2, tagged(1, b"i")), tagged(3, tagged(1, b"t")), tagged(4, tagged(2, tagged(1, b"p"))))
+    yield from (tagged(5, tagged(1, b"i")), tagged(5, tagged(1, b"") + tagged(2, b"x") + tagged(1, b"j")), counted(5, 7), b"\x29" + bytes(8), b"\x2d" + bytes(4))
+
+
+def declined():
+    """Bodies about the field that 1.2 adds: its rows, every entry of up to 2 bytes, entries beside one another in one control and in two, ids of all lengths, and
+    the number 5 in every other message."""
+    for text, *_ in EDITION_ROWS:
+        yield bytes.fromhex(text)
+    for body in placed(V1_2):
+        yield body
+    for inner in each(range(256), 2):
+        yield tagged(3, tagged(5, inner))
+    for inner in each(wire.WALK_BYTES, 3, 3):
+        yield tagged(3, tagged(5, inner))
+    for inner in each(wire.WALK_BYTES, 2):
+        yield tagged(3, b"\x2a" + inner)
+        yield tagged(3, tagged(5, inner) + b"\x22\x00")
+    for one in entries():
+        for other in entries():
+            yield tagged(3, one + other)
+            yield tagged(3, one) + tagged(3, other)
+            yield tagged(3, one + tagged(5, tagged(1, b"k")) + other) + tagged(2, one)
+    for size in (0, 1, 2, 39, 126, 127, 128, 129, 300, 16384):
+        yield tagged(3, tagged(5, tagged(1, b"i" * size)))
+        yield tagged(3, tagged(5, tagged(1, b"i" * size) * 3)) + tagged(2, tagged(5, b"s" * size))
+    for path in PATHS[V1_2]:
+        yield enclosed(tagged(5, b"\x80"), path).replace(b"\x0b", b"")
+
+
+def declined_long():
+    """The same about the largest size, and about the most records."""
+    for size in (65535, 65536, 65537, MAX_CONTENT - 3):
+        yield tagged(3, tagged(5, bytes(size - 8)))
+        yield tagged(3, tagged(5, tagged(1, bytes(size - 12))))
+        yield tagged(3, tagged(5, b"\x0a\x00" * ((size - 8) // 2)))
+    for n in (510, 511, 512, 513, 600):
+        ids = b"\x0a\x00" * (n - 1)
+        yield tagged(3, tagged(5, ids))
+        yield tagged(3, b"\x2a\x00" * n)
+        yield tagged(3, b"\x2a\x00") * n
+        yield tagged(3, tagged(2, ids[:n]) + tagged(5, ids[:n]))
+        yield tagged(1, b"") * (n // 2) + tagged(3, b"\x2a\x02\x0a\x00" * (n // 4))
+        yield tagged(3, tagged(5, ids) + b"\x0b")
+        yield tagged(3, tagged(5, ids + b"\x80"))
+
+
 def filled(size, field):
     """One field of so many bytes."""
     n = size - 4
@@ -421,4 +493,17 @@ def many(r, n):
 
 
 def bodies(r, count):
-    return then_random(r, count, (named(), placed(), enumerated(), long(r)), random_body)
+    return then_random(r, count, (named(), placed(), enumerated(), long(r), declined(), declined_long()), some_body)
+
+
+def some_body(r):
+    return declining_body(r) if r.randrange(5) == 0 else random_body(r)
+
+
+def of_editions(r, count):
+    """Bodies for both editions: all about the field that 1.2 adds, some of the others, and random ones that mostly have it."""
+    def mostly(r):
+        return r.choice((declining_body, declining_body, declining_body, random_body, messages_body))(r)
+    some = itertools.islice(enumerated(), 0, None, 29)
+    few = itertools.islice(long(r), 0, None, 7)
+    return then_random(r, count, (declined(), declined_long(), named(), some, few, id_bodies(), backoff_bodies()), mostly)

@@ -3,33 +3,34 @@
 A step is a call, its numbers and then its bytes: ("seen", rows), ("insert", now,
 ttl, max, id), ("clean", now), ("next",), ("contains", id), ("cache", history_len,
 max_messages, next arrival number), ("flagged", history_len, max_messages, next arrival
-number, flags), whose line says `cache`, ("put", index, body), ("shift",), ("gossip",
-windows, topic), ("get", id). A history is a list of steps that starts its parts
+number, flags), whose line says `cache`, ("put", index, body), ("put_in", edition, index,
+body), whose line says `put`, ("shift",), ("gossip", windows, topic), ("get", id). A history is a list of steps that starts its parts
 itself, so histories can stand one after the other in one input.
 
 `expected` takes an input as bytes. What the caches hold, and what a body says or
 why it is refused (1 to 7), is the Rust's answer; where in the body, places.py has
-found. The limits that the Rust does not
+found; in edition 1.2, which the Rust does not have, both are editions.py's. The limits that the Rust does not
 have (10, 11, 20 to 30, 33, 40) are the scope's and stand here, as does the form
 of the records; what a sender and its key must be (34 to 36) stands in peers.py.
 Everything random comes from one seeded `random.Random`.
 """
 
+import editions
 import nodes
 import peers
-from bodies import BROKEN, MAX_RECORDS, PARTS, RPC, many, other_field, random_message, refusal, tagged, within
+from bodies import BROKEN, MAX_RECORDS, PARTS, RPC, declining_body, many, other_field, random_message, refusal, tagged, within
 from oracle import hexed, parse_decode
 from peers import A, B, ECDSA, F, HASHES, KEYLESS, KEYS, LONGEST, NO_KEYS, NO_PEERS, RSA, SENDERS, identity, key_bytes, mismatch, peer_of
-from places import MORE_ROWS, ROWS, find, with_place
+from places import EDITION_ROWS, EDITIONS, MORE_ROWS, ROWS, V1_1, V1_2, find, with_place
 from records import Records
 from wire import MAX_BODY, MAX_CONTENT, TOP, blob, damaged, edge_field, header, then_random, varint
 
 # Of each call: its kind, how many bytes its numbers have, and whether bytes follow them.
 FORM = {"seen": (1, (2,), False), "insert": (2, (8, 8, 2), True), "clean": (3, (8,), False), "next": (4, (), False),
         "contains": (5, (), True), "cache": (6, (2, 2, 8), False), "put": (7, (2,), True), "shift": (8, (), False),
-        "gossip": (9, (2,), True), "get": (10, (), True), "flagged": (16, (2, 2, 8, 2), False)}
+        "gossip": (9, (2,), True), "get": (10, (), True), "flagged": (16, (2, 2, 8, 2), False), "put_in": (17, (1, 2), True)}
 # The call that a line names, where it is not the step's own.
-CALLED = {"flagged": "cache"}
+CALLED = {"flagged": "cache", "put_in": "put"}
 RECORDS = Records(FORM, MAX_CONTENT)
 record, records = RECORDS.record, RECORDS.records
 MAX_ROWS = 256
@@ -64,7 +65,7 @@ def steps_of(data):
     for step in RECORDS.steps(data):
         if isinstance(step, str):
             return steps, step
-        if step[0] == "seen" and step[1] > MAX_ROWS:
+        if (step[0] == "seen" and step[1] > MAX_ROWS) or (step[0] == "put_in" and step[1] not in EDITIONS):
             return steps, "bad"
         begins = CALLED.get(step[0], step[0])
         if begins == "seen" or (begins == "cache" and legal(step)):
@@ -107,9 +108,24 @@ def unfit(message, flags=0):
     return "refused 30 %d" % size["raw"] if size["raw"] > MAX_MESSAGE else None
 
 
-def judged(body, index, told, flags):
-    """(why a put is refused or None, id, the message's bytes), all texts, from the oracle's answer to `decode`."""
-    refused = with_place(refusal(body, told), find, body)
+def put_of(step):
+    """(edition, index, body) of a put; None of another step."""
+    return {"put": (V1_1, *step[1:]), "put_in": step[1:]}.get(step[0])
+
+
+def refused_in_1_2(body):
+    """Why a body is refused in 1.2, or None."""
+    try:
+        editions.read(body, V1_2)
+    except editions.Refused as why:
+        return str(why)
+    return None
+
+
+def judged(edition, index, body, told, flags):
+    """(why a put is refused or None, id, the message's bytes), all texts, from the oracle's answer to `decode`. What 1.2 accepts the Rust does, too, and a message
+    is the same in both editions."""
+    refused = with_place(refusal(body, told), find, body) if edition == V1_1 else refused_in_1_2(body)
     if refused:
         return refused, None, None
     messages = parse_decode(told)[3]["publish"]
@@ -129,7 +145,7 @@ def without_rust(step, rows, put):
         return "refused 33 %d" % len(step[-1])
     if call == "gossip" and len(step[2]) > MAX_TOPIC:
         return "refused 29 %d" % len(step[2])
-    return put[0] if call == "put" else None
+    return put[0] if put else None
 
 
 def commands(step, put):
@@ -138,8 +154,8 @@ def commands(step, put):
     if call in ("cache", "flagged"):
         # From 0 on the unchanged file answers, else the copy whose arrival number can be set.
         return ["mc_new %d %d" % step[1:3] + (" %d" % step[3] if step[3] else "")]
-    if call == "put":
-        return ["mc_get " + put[1], "mc_put %s %d" % (hexed(step[2]), step[1])]
+    if put:
+        return ["mc_get " + put[1], "mc_put %s %d" % (hexed(step[-1]), step[-2])]
     if call == "clean":
         return ["seen_gc %d" % step[1], "seen_dump"]
     if call == "insert":
@@ -163,7 +179,7 @@ def answer(step, told, put, kept):
     if call == "next":
         assert words[0] == "some" or told == ["none"], told
         return words[-1]
-    if call == "put":
+    if put:
         assert told[1] == "ok " + put[1], told
         if words[0] == "some":
             return "held"
@@ -184,11 +200,11 @@ def answer(step, told, put, kept):
 def expected(oracle, data):
     """The lines for an input."""
     steps, end = steps_of(data)
-    given = list({step[2] for step in steps if step[0] == "put"})
+    given = list({step[-1] for step in steps if put_of(step)})
     decoded = dict(zip(given, oracle.batch("decode " + hexed(body) for body in given)))
     rows, flags, asked = 0, 0, []
     for step in steps:
-        put = judged(step[2], step[1], decoded[step[2]], flags) if step[0] == "put" else None
+        put = judged(*put_of(step), decoded[step[-1]], flags) if put_of(step) else None
         rows = step[1] if step[0] == "seen" else rows
         flags = flags_of(step) if step[0] in ("cache", "flagged") and legal(step) else flags
         known = without_rust(step, rows, put)
@@ -597,8 +613,23 @@ def history(r):
     return cache_history(r) if how < 200 else merged(r, seen_history(r), cache_history(r))
 
 
+def editioned(r, step):
+    """A put in some edition, often with the field that 1.2 adds in its body; other steps as they are."""
+    if step[0] != "put" or len(step[2]) > MAX_BODY - 200 or r.randrange(3) == 0:
+        return step
+    how, body = r.randrange(6), step[2]
+    if how < 2:
+        body = body + declining_body(r) if how else declining_body(r) + body
+    elif how == 2:
+        body += bytes.fromhex(r.choice(EDITION_ROWS)[0])
+    elif how == 3:
+        body += tagged(3, tagged(5, b"\x0a\x00" * r.choice((1, 2, 500, 509, 510, 511))))
+    return ("put_in", r.choice(EDITIONS), step[1], body)
+
+
 def some_history(r):
-    return flagged_history(r) if r.randrange(4) == 0 else history(r)
+    steps = flagged_history(r) if r.randrange(4) == 0 else history(r)
+    return [editioned(r, step) for step in steps] if r.randrange(4) == 0 else steps
 
 
 def spoiling(r):
@@ -847,6 +878,22 @@ def flag_named():
                    ("insert", 6, 5, 1, b"\x00" + NAME), *marks, ("shift",), *look, other, *look, ("clean", 11), *marks]
 
 
+def edition_named(few=False):
+    """Puts in either edition: bodies with the field that 1.2 adds, alone and beside a message; records and sizes about the limits, but for sizes where there are to be
+    few bytes; a signature, which is field 5 of a message."""
+    x, look = put_step(X)[2], looks([NAME], [b"t"], 1)
+    for edition in EDITIONS:
+        yield [("cache", 2, 4, 0)] + [("put_in", edition, 0, body) for text, *_ in EDITION_ROWS for row in [bytes.fromhex(text)] for body in (row, row + x, x + row)] + look
+        yield [("cache", 2, 4, 0)] + [("put_in", edition, 0, bytes.fromhex(text)) for text, told in ROWS + MORE_ROWS if told] + [("put_in", edition, 0, x), *look]
+        for ids in (508, 509, 510, 511):
+            more = tagged(3, tagged(5, b"\x0a\x00" * ids))
+            yield [("cache", 2, 4, 0), ("put_in", edition, 0, x + more), ("put_in", edition, 1, more + x), ("put_in", edition, 0, more + x), *look]
+        for size in (MAX_BODY - 1, MAX_BODY, MAX_BODY + 1, MAX_CONTENT - 3) if not few else ():
+            yield [("cache", 2, 4, 0), ("put_in", edition, 0, padded(x, size)), *look]
+        yield [("flagged", 2, 4, 0, 1), ("put_in", edition, 0, tagged(2, plain(U))), ("put_in", 1 - edition, 0, x), *look, ("shift",), ("put_in", edition, 0, x), ("shift",), *look]
+    yield [("cache", 2, 4, 0), ("put_in", V1_2, 0, x), ("put_in", V1_1, 0, x), *look]
+
+
 def named():
     """The edges of every call, each refusal, and both parts beside each other."""
     yield from seen_named()
@@ -858,4 +905,4 @@ def named():
 
 
 def histories(r, count):
-    return then_random(r, count, (named(), topic_named(), placed_named(), flag_named()), some_history)
+    return then_random(r, count, (named(), topic_named(), placed_named(), flag_named(), edition_named()), some_history)

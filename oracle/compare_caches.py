@@ -8,7 +8,7 @@ about every edge and every refusal, and --count random ones (caches.py), many in
 run. Then come short runs that end in `bad` or `long`: random ones, one for ten
 histories, and fixed ones whose texts are written here. Every line is compared; the
 limits that the Rust does not have are the scope's own, and the place behind a refusal
-1 to 7 is that of places.py. Prints the counts, and the
+1 to 7 is that of places.py. What is wrong with a body in edition 1.2 is editions.py's to say. Prints the counts, and the
 first differences with the steps that lead to them; the exit status is 0 where there
 are none.
 """
@@ -118,8 +118,14 @@ def endings():
         if call not in ("seen", "cache", "flagged"):
             yield "%s before its part" % call, other + whole + begun, "1 %s ok\nbad\n" % started
             yield "%s first" % call, whole, "bad\n"
-        if call in ("put", "shift", "gossip", "get"):
+        if call in ("put", "put_in", "shift", "gossip", "get"):
             yield "%s after a refused start" % call, seen + refused + whole, "1 seen ok\n2 cache refused 40\nbad\n"
+    for edition in (2, 3, 128, 255):
+        yield "edition %d" % edition, begun + caches.record(("put_in", edition, 0, caches.put_step(caches.X)[2])) + seen, "1 seen ok\n2 cache ok\nbad\n"
+    yield "the longest put in an edition", begun + wire.header(most, 17) + b"\x01" + bytes(most - 1), "1 seen ok\n2 cache ok\n3 put refused 10 65597\n"
+    x, cut = caches.put_step(caches.X)[2], bytes.fromhex("1a032a0180")
+    yield "editions", caches.records([("cache", 1, 1, 0), ("put_in", 1, 0, x + cut), ("put_in", 0, 0, x + cut), ("put_in", 1, 0, x), ("put", 0, x + cut)]), \
+        "1 cache ok\n2 put refused 1 at 118 in 3 5\n3 put stored\n4 put held\n5 put held\n"
     for rows in (257, 512, 65535):
         yield "%d rows" % rows, begun + caches.record(("seen", rows)) + seen, "1 seen ok\n2 cache ok\nbad\n"
     yield "256 rows", caches.record(("seen", 256)), "1 seen ok\n"

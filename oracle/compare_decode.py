@@ -5,7 +5,8 @@
 
 BINARY is target/bin/inspect, after `rt check inspect`. The bodies are all short
 ones, the rows of the scope, topics about every row of RFC 3629, bodies about
-the largest size and the most records, and --count random ones (bodies.py). Every
+the largest size and the most records, bodies with the field that edition 1.2 adds,
+which 1.1 and the Rust skip, and --count random ones (bodies.py). Every
 field of every record is compared, in the order of the lent table, and every
 refusal with its values; 10 and 11 are the scope's own. Of a refusal 1 to 7 the
 line goes on with its place: what stands before ` at ` is held to the Rust, the rest
@@ -62,7 +63,7 @@ def enclosed(number, path):
 def met_all(counts):
     """Asserts that each refusal was met at each place that it can have."""
     wanted = {enclosed(number, " ".join(map(str, path))) for number in places.OF_A_BODY
-              for path in (places.TEXT_PATHS if number == places.NOT_UTF8 else places.PATHS)}
+              for path in (places.TEXT_PATHS if number == places.NOT_UTF8 else places.PATHS[places.V1_1])}
     missing = {name for name in wanted if not counts[name]}
     assert not missing, missing
 
@@ -102,9 +103,10 @@ def endings():
             yield text, wire.record(("decode", bytes.fromhex(text), 0)), "1 decode %s\n" % told
 
 
-def compare_all(about, source, compare, endings, test=lambda counts: None):
-    """The bodies of `source` by `compare`, chunk by chunk, then the runs of `endings`; prints what it found. `test` looks at the counts."""
-    given = arguments(about, 400000, "inspect")
+def compare_all(about, source, compare, endings, test=lambda counts: None, count=400000):
+    """The bodies of `source` by `compare`, chunk by chunk, then the runs of `endings`; prints what it found. `test` looks at the counts; `count` is how many random
+    bodies there are if nothing else is said."""
+    given = arguments(about, count, "inspect")
     counts, differ, n = collections.Counter(), [], 0
     source = source(random.Random(given.seed), given.count)
     with tempfile.TemporaryDirectory() as folder:
@@ -117,7 +119,7 @@ def compare_all(about, source, compare, endings, test=lambda counts: None):
         if got != expected:
             differ.append((len(text), name.encode(), expected.split("\n"), got.split("\n")))
     for what, k in sorted(counts.items()):
-        print("%-28s %8d" % (what, k))
+        print("%-40s %8d" % (what, k))
     test(counts)
     print("%d bodies, seed %d: %d differences" % (n, given.seed, len(differ)))
     for size, body, expected, got in sorted(differ)[:SHOWN]:

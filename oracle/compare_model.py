@@ -6,7 +6,8 @@
 Two parts of nodes.py are held to the Rust: what it reads in a body, with every refusal
 and its values (10 and 11 are the scope's own), and what the node keeps. On the same bodies
 the finder of places.py is held to it: it must find a refusal where the Rust has one, with
-the same number, and at the Rust's own offset from where its message starts. For the
+the same number, and at the Rust's own offset from where its message starts. In edition 1.2, which the
+Rust does not have, both are held to editions.py, and the Rust to that in 1.1. For the
 second part the same histories are played on a node that keeps nothing itself but asks the
 Rust's caches; every line is compared. They are played again where unsigned messages are allowed, with many messages
 that have no signature; then the id under which a message is seen is the Rust's, too, by whether its `verify` says that it is signed. Third, what is a key and a peer id (peers.py) on those of keys.py,
@@ -25,6 +26,7 @@ import sys
 
 import admissions
 import bodies
+import editions
 import keys
 import nodes
 import places
@@ -35,12 +37,14 @@ from compare_caches import first_difference, line_at
 from compare_trace import shown, what
 from compare_wire import SHOWN
 from oracle import Oracle, hexed, parse_decode
+from places import V1_1, V1_2
 from programs import build
 
 CHUNK = 4000
 COUNT = 2000
 SHORT = 40  # one of so many short bodies and short histories is taken
 FEW = 7  # and one of so many fixed messages
+FIELDS = ("from", "data", "seqno", "signature", "key")
 
 
 class RustNode(nodes.Node):
@@ -88,17 +92,30 @@ class RustNode(nodes.Node):
         return list(map(bytes.fromhex, told[2:])) if told[0] == "ok" else []
 
 
-def read(body):
+def read(body, edition=V1_1):
     """What the model reads, in the form of the Rust's answer."""
     try:
-        got = nodes.Body(body)
+        got = nodes.Body(body, edition)
     except nodes.Refused as why:
         return " ".join(["refused"] + list(map(str, why.args)))
     messages = []
     for raw, known in got.messages:
         last = {field: content.hex() for field, content in known}
         messages.append([raw.hex(), [content.hex() for field, content in known if field == 4]] + [last.get(field) for field in (1, 2, 3, 5, 6)])
-    return got.records, messages, [one.hex() for one in got.have], [one.hex() for one in got.want]
+    return got.records, messages, *([one.hex() for one in names] for names in (got.have, got.want, got.dont))
+
+
+def other_read(body, edition):
+    """The same by the model of editions."""
+    try:
+        rpc = editions.read(body, edition)
+    except editions.Refused as why:
+        return "refused " + " ".join(map(str, (why.number, *why.values)))
+    messages = [[one.raw.hex(), [topic.hex() for topic in one.each("topic")]] + [None if part is None else part.hex() for part in map(one.last, FIELDS)]
+                for one in rpc.each("publish")]
+    entries = [pair for control in rpc.each("control") for pair in control.fields]
+    return len(editions.records(rpc)), messages, *([name.hex() for kind, one in entries if kind == entry for name in one.each("messageIDs")]
+                                                   for entry in ("ihave", "iwant", "idontwant"))
 
 
 def rust_read(body, told):
@@ -108,7 +125,7 @@ def rust_read(body, told):
     _, records, _, rpc = parse_decode(told)
     messages = [[one[key] for key in ("raw", "topic_ids", "from", "data", "seqno", "signature", "key")] for one in rpc["publish"]]
     control = rpc["control"] or {"ihave": [], "iwant": []}
-    return records, messages, *([name for one in control[key] for name in one["message_ids"]] for key in ("ihave", "iwant"))
+    return records, messages, *([name for one in control[key] for name in one["message_ids"]] for key in ("ihave", "iwant")), []
 
 
 def placed(expected, place):
@@ -122,8 +139,11 @@ def some_bodies(r, count):
     yield from bodies.placed()
     yield from itertools.islice(bodies.enumerated(), r.randrange(SHORT), None, SHORT)
     yield from bodies.long(r)
+    yield from itertools.islice(bodies.declined(), r.randrange(SHORT), None, SHORT)
+    yield from bodies.declined_long()
+    yield from (bytes.fromhex(text) for text, *_ in places.EDITION_ROWS)
     for _ in range(10 * count):
-        yield r.choice((bodies.random_body, bodies.random_body, bodies.messages_body))(r)
+        yield r.choice((bodies.random_body, bodies.random_body, bodies.messages_body, bodies.declining_body))(r)
 
 
 def compare_bodies(oracle, r, count, counts, differ):
@@ -136,6 +156,19 @@ def compare_bodies(oracle, r, count, counts, differ):
                 differ.append((["body " + body[:200].hex()], expected, got))
             if len(body) <= nodes.MAX_BODY and not placed(expected, places.find(body)):
                 differ.append((["place in " + body[:200].hex()], expected, places.find(body)))
+            compare_editions(body, expected, counts, differ)
+
+
+def compare_editions(body, rust, counts, differ):
+    """The two models and the finder of places, in 1.2; and the Rust and the other model."""
+    if other_read(body, V1_1) != rust:
+        differ.append((["body in 1.1 " + body[:200].hex()], rust, other_read(body, V1_1)))
+    expected, got = other_read(body, V1_2), read(body, V1_2)
+    counts["body in 1.2 " + (" ".join(expected.split(" ")[:2]) if isinstance(expected, str) else "read")] += 1
+    if expected != got:
+        differ.append((["body in 1.2 " + body[:200].hex()], expected, got))
+    if len(body) <= nodes.MAX_BODY and not placed(expected, places.find(body, V1_2)):
+        differ.append((["place in 1.2 in " + body[:200].hex()], expected, places.find(body, V1_2)))
 
 
 def compare_history(oracle, steps, flags, counts, differ):
@@ -157,7 +190,7 @@ def of_both_forms():
 
 def compare_histories(oracle, r, count, counts, differ):
     short = itertools.islice(traces.short_histories(), r.randrange(SHORT), None, SHORT)
-    for steps in itertools.chain(traces.named(), short, (traces.some_history(r) for _ in range(count))):
+    for steps in itertools.chain(traces.named(), traces.declined_histories(), short, (traces.some_history(r) for _ in range(count))):
         compare_history(oracle, steps, 0, counts, differ)
     assert oracle.ask("word 1") == "ok"
     random_ones = (traces.some_history(r) for _ in range(count))

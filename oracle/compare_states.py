@@ -7,8 +7,8 @@ BINARY is target/bin/states, after `rt check states`. The model is states.py, ov
 nodes.py. The histories (state_histories.py) are fixed ones, each a run of its own: every refusal
 with its values, every clause of 42 broken alone, states that look odd and are well formed, stores
 of other lengths, buffers that just fit and just do not, full capacities, arrival numbers at the
-wrap, unsigned messages where they are allowed and where not; the fixed histories of `trace`, many in
-one run, and short ones of both forms of a message; and --count random ones, in which numbers of
+wrap, unsigned messages where they are allowed and where not, bodies in either edition, second bodies of serve; the fixed histories of `trace`, many in
+one run, in 1.1 and in mixed editions, and short ones of both forms of a message; and --count random ones, in which numbers of
 the state are set. Then come runs that end in `bad` or `long`, whose texts are written here. Every
 line is compared; the place behind a refusal 1 to 7 is that of places.py. Prints the counts, and the first differences with the fewest steps found that
 lead to them; the exit status is 0 where there are none.
@@ -25,7 +25,7 @@ import states
 from compare_wire import arguments
 from differences import Model, first_difference, line_at, printed_by, sort_of
 from records import header
-from state_histories import STATE, cut_why, flag_table, loose_rows
+from state_histories import STATE, cut_why, edition_table, flag_table, loose_rows
 from states import MAX_CONTENT, record, records
 from traces import beat, senders
 
@@ -93,7 +93,7 @@ def endings():
         yield "too long, %d bytes of the header" % n, begun + header(most + 1, 11)[:n], ok + "long\n"
     yield "the longest content", begun + header(most, 11) + bytes(most) + begun, ok + "2 state 0 0 0 0 0 0 0 0 0\n3 set ok\n"
     yield "the longest content, cut", begun + header(most, 11) + bytes(most - 1), ok + "bad\n"
-    for kind in (0, 13, 14, 255, 256, 257, 0x0b00, 65535):
+    for kind in (0, 13, 14, 20, 23, 24, 27, 255, 256, 257, 0x0b00, 65535):
         for n in (0, 14):
             yield "kind %d with %d bytes" % (kind, n), begun + header(n, kind) + bytes(n) + begun, ok + "bad\n"
     for size, rest in ((1, 0), (3, 2), (256, 255), (65535, 300)):
@@ -110,6 +110,18 @@ def endings():
     table = list(flag_table())
     yield "the scope's unsigned messages", records([step for step, _ in table]), \
         "".join("%d %s %s\n" % (n, states.CALLED.get(step[0], step[0]), told) for n, (step, told) in enumerate(table, 1))
+    table = list(edition_table())
+    yield "the scope's editions", records([step for step, _ in table]), \
+        "".join("%d %s %s\n" % (n, states.CALLED.get(step[0], step[0]), told) for n, (step, told) in enumerate(table, 1))
+    for edition in (2, 3, 128, 255):
+        for step in (("admit_in", edition, 5, 0, 1, b""), ("ask_in", edition, 0, b""), ("serve_in", edition, 0, b"", b"")):
+            yield "%s %d" % step[:2], begun + record(step) + begun, ok + "bad\n"
+    for size, rest in ((1, 0), (3, 2), (256, 255), (65536, 300), (2**31, 9), (2**32 - 1, 9)):
+        for edition in (0, 1):
+            content = bytes([edition]) + bytes(4) + size.to_bytes(4, "little") + bytes(rest)
+            yield "a second body of %d bytes in %d" % (size, rest), begun + header(len(content), 26) + content + begun, ok + "bad\n"
+    yield "the longest second body", begun + records([("serve_in", 1, 0, bytes(most - 9), b""), ("serve_in", 0, 0, b"", bytes(most - 9)), ("serve_in", 0, 0, b"", b"")]), \
+        ok + "2 serve refused 10 65591\n3 serve refused 10 65591\n4 serve 0 0 0\n"
     for flags in (2, 3, 255, 256, 257, 65535):
         yield "flags %d" % flags, records([("flagged", 10, 4, 2, 4, flags), beat(5)]), "1 set refused 40\n2 beat ok\n"
     for call, (kind, _, rest) in states.FORM.items():
@@ -118,9 +130,10 @@ def endings():
             yield "%s with %d bytes" % (call, n), begun + header(n, kind) + bytes(n) + begun, ok + "bad\n"
         for n in (least + 1, least + 2, least + 256) if not rest else ():
             yield "%s with %d bytes" % (call, n), begun + header(n, kind) + bytes(n) + begun, ok + "bad\n"
-    for call, given in (("advertise", (0, b"t")), ("ask", (b"",)), ("serve", (b"",))):
+    for call, *given in (("advertise", 0, b"t"), ("ask", b""), ("serve", b""), ("ask_in", b""), ("serve_in", b"", b"")):
         for room in (65601, 65602, 2**31, 2**32 - 1):
-            yield "%s with room %d" % (call, room), begun + record((call, room, *given)) + begun, ok + "bad\n"
+            before = [1] if call.endswith("_in") else []
+            yield "%s with room %d" % (call, room), begun + record((call, *before, room, *given)) + begun, ok + "bad\n"
     for step in (("lend", states.SEEN_BYTES + 1, 0), ("lend", 0, states.CACHE_BYTES + 1), ("lend", 2**32 - 1, 0), ("lend", 0, 2**32 - 1)):
         yield "lend %d %d" % step[1:], begun + record(step) + begun, ok + "bad\n"
 

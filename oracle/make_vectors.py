@@ -11,9 +11,10 @@ histories of caches.py and some random ones; they show every call and every refu
 Both have rows about the place of a refusal at their end; after them `caches` has
 unsigned messages, with the flags that allow them and without, and `inspect` has public
 keys and peer ids (keys.py), and lists to write from (lists.py): the rows of the scope,
-some of the fixed ones and random ones. The answers in stdout are the Rust's,
+some of the fixed ones and random ones. Last come bodies in both editions, by the kinds
+that have a dialect, and puts in both. The answers in stdout are the Rust's,
 from the oracle, never the program's; the limits that the Rust does not have are the
-scope's own, and the places are those of places.py. Each run ends with a length that
+scope's own, the places are those of places.py, and what is said in 1.2 is editions.py's. Each run ends with a length that
 is too long, its kind cut off.
 """
 
@@ -22,10 +23,12 @@ import random
 
 import bodies
 import caches
+import editions
 import keys
 import lists
 import wire
 from oracle import HERE, Oracle
+from places import EDITION_ROWS, EDITIONS, V1_1, V1_2
 from programs import build
 
 SEED = 20
@@ -43,6 +46,10 @@ LISTS_SEED = 26
 SOME_LISTS = 150
 RANDOM_LISTS = 150
 SHORT_LISTS = 800
+EDITIONS_SEED = 27
+SOME_DECLINED = 60
+RANDOM_DECLINED = 130
+SHORT_DECLINED = 200
 CACHES_SEED = 23
 CACHES_RECORDS = 1950
 
@@ -143,6 +150,40 @@ def chosen_lists(r):
     yield from short(lists.random_cases(r, RANDOM_LISTS))
 
 
+def chosen_editions(r):
+    """The rows of the scope, each refusal in an IDONTWANT, the most records, some of the fixed ones and random ones that are short; among these messages, too."""
+    there = [bytes.fromhex(text) for text, *_ in EDITION_ROWS]
+    yield from there
+    yield from (body for body in bodies.placed(V1_2) if body not in set(bodies.placed()))
+    for ids in (511, 512):
+        yield bodies.tagged(3, bodies.tagged(5, b"\x0a\x00" * ids))
+    short = [body for body in bodies.declined() if len(body) <= SHORT_DECLINED]
+    yield from r.sample(short[-len(short) // 20:], SOME_DECLINED)
+    yield from r.sample(short, SOME_DECLINED)
+    made = (bodies.declining_body(r) + (bodies.random_message(r) if r.randrange(3) == 0 else b"") for _ in range(RANDOM_DECLINED))
+    yield from (body for body in made if len(body) <= SHORT_DECLINED)
+
+
+def edition_cases(r):
+    """(case, edition): of each body decode and encode in both editions; of those with a message its sign bytes and its id."""
+    for body in chosen_editions(r):
+        calls = ["decode", "encode"] + (["sign", "id"] if any((field, wire) == (2, 2) for field, wire, _ in caches.cut(body)) else [])
+        for call in calls:
+            for edition in EDITIONS:
+                yield (call, body, 0), edition
+
+
+def edition_lines(oracle, cases):
+    """Their lines: the Rust's in 1.1, the model's in 1.2; each refusal of a body is met in both, and in an IDONTWANT."""
+    told = []
+    for case, edition in cases:
+        asked = wire.command(case)
+        told.append("\n".join(lines(case, asked, oracle.ask(asked)) if edition == V1_1 else editions.lines(case, edition)))
+    met = {line.split(" ")[2] for line in told if " refused " in line and line.endswith(" in 3 5")}
+    assert met == set("123456"), met
+    return told
+
+
 def list_lines(oracle, cases):
     """The lines of cases of lists, without their numbers."""
     told = [lists.answer(case, oracle.ask) for case in cases]
@@ -189,8 +230,9 @@ def make_inspect(oracle):
     commands = [wire.command(case) for case in cases]
     answers = oracle.batch(commands)
     of_lists = list(chosen_lists(random.Random(LISTS_SEED)))
-    save("inspect", [wire.record(case) for case in cases] + [lists.record(case) for case in of_lists],
-         ["\n".join(lines(*one)) for one in zip(cases, commands, answers)] + list_lines(oracle, of_lists))
+    of_editions = list(edition_cases(random.Random(EDITIONS_SEED)))
+    save("inspect", [wire.record(case) for case in cases] + [lists.record(case) for case in of_lists] + [wire.record(*case) for case in of_editions],
+         ["\n".join(lines(*one)) for one in zip(cases, commands, answers)] + list_lines(oracle, of_lists) + edition_lines(oracle, of_editions))
 
 
 def make_caches(oracle):
@@ -200,6 +242,7 @@ def make_caches(oracle):
         steps += caches.history(r)
     steps += [step for one in caches.placed_named() for step in one]
     steps += [step for one in caches.flag_named() for step in one]
+    steps += [step for one in caches.edition_named(few=True) for step in one]
     told = [line.split(" ", 1)[1] for line in caches.expected(oracle, caches.records(steps))]
     assert len(told) == len(steps) and {step[0] for step in steps} == set(caches.FORM)
     refused = {tuple(line.split(" ")[0:3:2]) for line in told if line.split(" ")[1] == "refused"}

@@ -8,11 +8,12 @@ A step is a call, its numbers and then its bytes: ("set", ttl, max_seen, history
 max_messages), ("admit", now, index, verified, body), ("beat", now), ("advertise",
 windows, topic), ("ask", body), ("serve", body). `expected` takes an input as bytes
 and gives the lines of the run. A node has flags, too, which the trace program does not
-know: there they are 0.
+know: there they are 0. Nor does it know editions: there all bodies are read in 1.1.
 """
 
-from bodies import PARTS, RPC, tagged
+from bodies import PARTS_IN, RPC, tagged
 from peers import NOT_PEER_ID, mismatch, peer_of
+from places import V1_1, V1_2
 from records import Records
 
 TOP = 2**64 - 1
@@ -46,11 +47,11 @@ REFUSALS = {"set": {40}, "admit": BODY | ADMISSION, "beat": {31}, "advertise": {
 
 
 class Refused(Exception):
-    """A refusal: its number, and the values beside it."""
+    """A refusal: its number, and the values beside it; of a body that is refused also that body and its edition, else None."""
 
     def __init__(self, number, *values):
         super().__init__(number, *values)
-        self.number = number
+        self.number, self.body = number, None
 
 
 # --- reading a body ------------------------------------------------------------
@@ -102,21 +103,22 @@ def is_utf8(data):
 
 
 # The field of a submessage whose entries are records of their own: topics and message ids.
-LISTED = {"message": 4, "ihave": 2, "iwant": 1}
+LISTED = {"message": 4, "ihave": 2, "iwant": 1, "idontwant": 1}
 
 
-def read(data, name):
+def read(data, name, edition=V1_1):
     """The known fields of a submessage, as (field, content), and how many records stand inside it.
     The content of a submessage is (its bytes, its own known fields)."""
-    known, got, records = PARTS.get(name, RPC), [], 0
+    parts, got, records = PARTS_IN[edition], [], 0
+    known = parts.get(name, RPC)
     for field, wire, place, content in fields(data):
         what = known.get(field)
         if what is None or wire != (0 if what == "number" else 2):
             continue
         if what == "text" and not is_utf8(content):
             raise Refused(7, place)
-        if what in PARTS:
-            inner, inside = read(content, what)
+        if what in parts:
+            inner, inside = read(content, what, edition)
             content = content, inner
             records += inside + (what != "control")
         records += field == LISTED.get(name)
@@ -125,18 +127,26 @@ def read(data, name):
 
 
 class Body:
-    """What the calls need of a body: its messages, as (bytes, known fields), and the ids in its IHAVEs and in its IWANTs."""
+    """What the calls need of a body: its messages, as (bytes, known fields), and the ids in its IHAVEs, in its IWANTs and, in 1.2, in its IDONTWANTs."""
 
-    def __init__(self, data):
+    def __init__(self, data, edition=V1_1):
+        try:
+            self.read(data, edition)
+        except Refused as why:
+            why.body = data, edition
+            raise
+
+    def read(self, data, edition):
         if len(data) > MAX_BODY:
             raise Refused(10, len(data))
-        rpc, self.records = read(data, "rpc")
+        rpc, self.records = read(data, "rpc", edition)
         if self.records > MAX_RECORDS:
             raise Refused(11, self.records)
         self.messages = [content for field, content in rpc if field == 2]
         control = [entry for field, (_, entries) in rpc if field == 3 for entry in entries]
         self.have = [one for field, content in control if field == 1 for number, one in content[1] if number == 2]
         self.want = [one for field, content in control if field == 2 for number, one in content[1] if number == 1]
+        self.dont = [one for field, content in control if field == 5 for number, one in content[1] if number == 1]
 
 
 # --- the node --------------------------------------------------------------------
@@ -254,8 +264,8 @@ class Node:
 
     # The calls.
 
-    def admit(self, now, index, verified, body):
-        messages = Body(body).messages
+    def admit(self, now, index, verified, body, edition=V1_1):
+        messages = Body(body, edition).messages
         if index >= len(messages):
             raise Refused(20, len(messages))
         name, topics = admission(messages[index], verified, self.flags)
@@ -297,13 +307,14 @@ class Node:
             return "topic"
         return "listed" if age < windows else "window %d" % age
 
-    def ask(self, body):
-        names = [name for name in once(Body(body).have) if not self.knows(name)]
+    def ask(self, body, edition=V1_1):
+        names = [name for name in once(Body(body, edition).have) if not self.knows(name)]
         return fitted(tagged(3, tagged(2, b"".join(tagged(1, name) for name in names)))) if names else b""
 
-    def serve(self, body, room=ROOM):
-        """(the reply, how many messages were written, how many were left)."""
-        found = [raw for raw in map(self.cached, once(Body(body).want)) if raw is not None]
+    def serve(self, body, room=ROOM, edition=V1_1, unwanted=b""):
+        """(the reply, how many messages were written, how many were left). What the IDONTWANTs of a second body name, which is read in 1.2, is passed over."""
+        wanted, declined = once(Body(body, edition).want), Body(unwanted, V1_2).dont
+        found = [raw for raw in (self.cached(name) for name in wanted if name not in declined) if raw is not None]
         reply, written = b"", 0
         for raw in found:
             field = tagged(2, raw)

@@ -1,7 +1,7 @@
 """Where in a body a refusal stands: a finder of places that shares nothing with the readers it is held against.
 
-It is written from the encoding of Protocol Buffers and the scope's rules for reading a body. It goes over the bytes once, from the first to
-the last, and cuts nothing: each place is one in the whole body, and the messages that are open at a place are a list, each with its end.
+It is written from the encoding of Protocol Buffers and the scope's rules for reading a body, in either edition of gossipsub. It goes over the bytes once, from the
+first to the last, and cuts nothing: each place is one in the whole body, and the messages that are open at a place are a list, each with its end.
 `find` gives the first refusal 1 to 7 of a body, `find_field` that of a walk's one step, as a Place or None. The numbers and the values beside
 them are the Rust's to say; the comparisons put a place behind the Rust's words by `with_place`, which also holds the two to each other: they
 must have the same number, and the Rust's own offset must be the place, counted from the start of the message that it stands in.
@@ -12,11 +12,21 @@ import collections
 # The refusal's number, its place, the numbers of the fields around that, the outermost first, and where the innermost of these messages starts.
 Place = collections.namedtuple("Place", "number offset fields start")
 
-# Which fields of a message are messages, and which one is text; with a length before them, both.
+# The editions of gossipsub, by the numbers that records and calls have for them.
+V1_1, V1_2 = EDITIONS = 0, 1
+
+# Which fields of a message are messages, by the edition, and which one is text; with a length before them, both.
 MESSAGES = {
-    "RPC": {1: "SubOpts", 2: "Message", 3: "Control"},
-    "Control": {1: "IHave", 2: "IWant", 3: "Graft", 4: "Prune"},
-    "Prune": {2: "PeerInfo"},
+    V1_1: {
+        "RPC": {1: "SubOpts", 2: "Message", 3: "Control"},
+        "Control": {1: "IHave", 2: "IWant", 3: "Graft", 4: "Prune"},
+        "Prune": {2: "PeerInfo"},
+    },
+    V1_2: {
+        "RPC": {1: "SubOpts", 2: "Message", 3: "Control"},
+        "Control": {1: "IHave", 2: "IWant", 3: "Graft", 4: "Prune", 5: "IDontWant"},
+        "Prune": {2: "PeerInfo"},
+    },
 }
 TEXT = {"SubOpts": 2, "Message": 4, "IHave": 1, "Graft": 1, "Prune": 1}
 
@@ -28,8 +38,9 @@ LAST_FIELD = 2**29 - 1
 # Which of the values beside a refusal is the Rust's own offset.
 OWN_OFFSET = {PASSES_END: 0, WIRE_TYPE: 1, FIELD_NUMBER: 1, NOT_UTF8: 0}
 
-# Every path that a place can have, and those of a text.
-PATHS = [(), (1,), (2,), (3,), (3, 1), (3, 2), (3, 3), (3, 4), (3, 4, 2)]
+# Every path that a place can have in an edition, and those of a text in either.
+PATHS = {V1_1: [(), (1,), (2,), (3,), (3, 1), (3, 2), (3, 3), (3, 4), (3, 4, 2)]}
+PATHS[V1_2] = PATHS[V1_1] + [(3, 5)]
 TEXT_PATHS = [(1,), (2,), (3, 1), (3, 3), (3, 4)]
 
 
@@ -79,7 +90,7 @@ def is_text(data):
     return True
 
 
-def find(body):
+def find(body, edition=V1_1):
     """The first refusal in reading order, with the fields around its place, the outermost first; None where there is none."""
     at, path, around = 0, [], [("RPC", 0, len(body))]
     try:
@@ -90,7 +101,7 @@ def find(body):
                 del path[-1:]
                 continue
             number, wire, tag_end, start, after = field_at(body, at, end)
-            inner = MESSAGES.get(name, {}).get(number) if wire == LENGTH else None
+            inner = MESSAGES[edition].get(name, {}).get(number) if wire == LENGTH else None
             if inner:
                 around.append((inner, start, after))
                 path.append(number)
@@ -188,4 +199,36 @@ MORE_ROWS = [
     ("1a0212001a041a020c00", "refused 5 4 1 at 9 in 3 3"),
     ("0a06" + "8080808010" + "00", "refused 6 536870912 0 at 2 in 1"),
     ("1a020a00" * 3 + "00", "refused 6 0 12 at 12"),
+]
+
+# Bodies about the field that 1.2 adds to a control, and what is told of each in 1.1 and in 1.2; None where it is taken.
+EDITION_ROWS = [
+    ("1a032a0180", None, "refused 1 at 4 in 3 5"),
+    ("1a052a030a0241", None, "refused 4 2 2 1 at 6 in 3 5"),
+    ("1a052a030a01ff", None, None),
+    ("1a072a030a01412200", None, None),
+    ("1a022a001a022200", None, None),
+    ("1a022807", None, None),
+    ("1a042a021007", None, None),
+    # Each other refusal in it, and a second entry, in a second control.
+    ("1a0c2a0a" + "80" * 9 + "02", None, "refused 2 at 4 in 3 5"),
+    ("1a052a030a8000", None, "refused 3 at 5 in 3 5"),
+    ("1a032a010b", None, "refused 5 3 1 at 5 in 3 5"),
+    ("1a032a0100", None, "refused 6 0 0 at 4 in 3 5"),
+    ("1a032a010d", None, "refused 4 1 4 0 at 5 in 3 5"),
+    ("1a022a001a062a002a020a01", None, "refused 4 2 1 0 at 12 in 3 5"),
+    # Its ids are no text, and other fields in it are passed over; a field 5 of another type is not entered.
+    ("1a062a040a02c080", None, None),
+    ("1a072a0512030a0180", None, None),
+    ("1a0929" + "80" * 8, None, None),
+    ("1a052d80808080", None, None),
+    # What is refused before it, and behind it; its own tag and its own length are refused in both.
+    ("1a060a01802a0180", "refused 1 at 4 in 3 1", "refused 1 at 4 in 3 1"),
+    ("1a042a01800b", "refused 5 3 4 at 6 in 3", "refused 1 at 4 in 3 5"),
+    ("1a022a05", "refused 4 2 5 0 at 4 in 3", "refused 4 2 5 0 at 4 in 3"),
+    ("1a012a", "refused 1 at 3 in 3", "refused 1 at 3 in 3"),
+    ("1a012b", "refused 5 3 1 at 3 in 3", "refused 5 3 1 at 3 in 3"),
+    # The number 5 elsewhere: in a message it is the signature, and at the top it is not known.
+    ("12032a0180", None, None),
+    ("2a0180", None, None),
 ]

@@ -5,13 +5,16 @@ call, its numbers and then its bytes.
 """
 
 
+LENGTHS = (2, 4)  # bytes of the length before the first of two strings; True, which is 1, is none of them
+
+
 def header(length, kind):
     return length.to_bytes(4, "little") + kind.to_bytes(2, "little")
 
 
 class Records:
-    """The records of one program. `form` has of each call its kind, how many bytes its numbers have, and whether bytes follow them: True, or 2 for two
-    strings of bytes, of which the first has its length before it, in 2 bytes. Content above `most` bytes ends a run; `more` has kinds with another most."""
+    """The records of one program. `form` has of each call its kind, how many bytes its numbers have, and whether bytes follow them: True, or 2 or 4 for two
+    strings of bytes, of which the first has its length before it, in so many bytes. Content above `most` bytes ends a run; `more` has kinds with another most."""
 
     def __init__(self, form, most, more=None):
         self.form, self.most, self.more = form, most, more or {}
@@ -19,16 +22,17 @@ class Records:
 
     def record(self, step):
         kind, sizes, rest = self.form[step[0]]
-        assert len(step) == 1 + len(sizes) + rest, step[0]
+        two = rest in LENGTHS
+        assert len(step) == 1 + len(sizes) + (2 if two else rest), step[0]
         content = b"".join(n.to_bytes(size, "little") for n, size in zip(step[1:], sizes))
-        content += (len(step[-2]).to_bytes(2, "little") + step[-2] if rest == 2 else b"") + (step[-1] if rest else b"")
+        content += (len(step[-2]).to_bytes(rest, "little") + step[-2] if two else b"") + (step[-1] if rest else b"")
         assert len(content) <= self.more.get(kind, self.most), step[0]
         return header(len(content), kind) + content
 
     def least(self, call):
         """How many bytes the content of a call has at least."""
         _, sizes, rest = self.form[call]
-        return sum(sizes) + (2 if rest == 2 else 0)
+        return sum(sizes) + (rest if rest in LENGTHS else 0)
 
     def records(self, steps):
         return b"".join(map(self.record, steps))
@@ -45,8 +49,8 @@ class Records:
         for size in sizes:
             step.append(int.from_bytes(content[at:at + size], "little"))
             at += size
-        if rest == 2:
-            start = at + 2
+        if rest in LENGTHS:
+            start = at + rest
             at = start + int.from_bytes(content[at:start], "little")
             if at > len(content):
                 return None

@@ -10,23 +10,25 @@ one seeded `random.Random`.
 import itertools
 
 import caches
+import nodes
 import peers
 import states
 import traces
-from bodies import tagged
+from bodies import counted, declining_body, tagged
 from caches import NAME, OTHER_TYPES, REFUSED, TOPIC_MESSAGES, U, X, grown, padded, plain, topic_message, x_with
 from nodes import ALLOW_UNSIGNED, MAX_BODY, MAX_MESSAGE, MAX_TOPICS, ROOM, TOP
 from peers import A, B, F, HASHED, KEY, KEYLESS, LONGEST, RSA_KEY, identity, key_bytes
-from places import MORE_ROWS, ROWS
+from places import EDITION_ROWS, EDITIONS, MORE_ROWS, ROWS, V1_1, V1_2
 from records import header
 from states import ARRIVAL, CACHE_BYTE, CACHE_BYTES, CLOCK, COUNT, EXPIRY, FLAGS, HISTORY_LEN, ID_LEN, IDS, LEN, MAX_HELD, MAX_ID, MAX_IDS, MAX_MADE, \
     NEXT, ROW, SEEN_BYTE, SEEN_BYTES, SEEN_COUNT, SEEN_LEN, SEEN_START, SLOTS, START, TOPIC_COUNT, TOPIC_LEN, TOPIC_START, TTL, WINDOW, Run, \
     taken, topic_places
-from traces import admit, beat, body_of, control, ihave, tells, wants, x_body
-from wire import then_random
+from traces import admit, beat, body_of, control, ihave, iwant, tells, wants, x_body
+from wire import damaged, then_random
 
 STATE = ("state", b"")
 ROOMED = ("advertise", "ask", "serve")
+EDITIONED = ("admit", "ask", "serve")
 
 
 def wide(step, room=ROOM):
@@ -1029,6 +1031,171 @@ def short_mark_histories(length=4):
             yield steps + looks
 
 
+# --- editions ----------------------------------------------------------------------------------------
+
+def in_edition(edition, step, unwanted=b""):
+    """An admit, an ask or a serve in an edition; serve with a second body."""
+    if step[0] == "serve":
+        return ("serve_in", edition, step[1], unwanted, step[2])
+    return (step[0] + "_in", edition, *step[1:])
+
+
+def dont(*names):
+    """An IDONTWANT as a field of a control."""
+    return tagged(5, b"".join(tagged(1, name) for name in names))
+
+
+def declines(*names):
+    """A body whose one IDONTWANT names these ids."""
+    return control(dont(*names))
+
+
+def serve_in(unwanted, *names, edition=V1_2, room=ROOM):
+    return in_edition(edition, serve(*names, room=room), unwanted)
+
+
+def edition_table():
+    """The scope's rows about editions on a node, as (step, answer): X and Y are cached."""
+    x, y = body_of(X), body_of(x_with(seqno=[b"\x02"]))
+    one, other = NAME, id_of(2)
+    assert len(x) == len(y) == 114 and one != other
+    yield ("set", 1000, 4, 2, 4), "ok"
+    yield in_edition(V1_2, admit(100, x)), "new"
+    yield in_edition(V1_1, admit(100, y)), "new"
+    yield in_edition(V1_2, admit(100, y)), "dup"
+    both = "228 %s 2 0" % (x + y).hex()
+    for edition in EDITIONS:
+        def serving(unwanted, *names, room=ROOM):
+            return serve_in(unwanted, *names, edition=edition, room=room)
+        yield serving(declines(one), one, other), "114 %s 1 0" % y.hex()
+        yield serving(declines(one), one, other, room=114), "114 %s 1 0" % y.hex()
+        yield serving(declines(one), one, other, room=113), "refused 12 114"
+        yield serving(wants(one), one, other), both
+        yield serving(b"\x00", one, other), "refused 6 0 0 at 0"
+        yield in_edition(edition, ("serve", ROOM, b"\x80"), b"\x00"), "refused 1 at 0"
+        yield serving(declines(one), one), "0 0 0"
+        # None, or one that declines nothing of it; an IDONTWANT beside the IWANT is none of the second body.
+        for unwanted in (b"", control(), declines(), declines(b"", A, one + b"\x00", b"\x01" + one), x, tells(one), control(counted(5, 7))):
+            yield serving(unwanted, one, other), both
+        yield in_edition(edition, ("serve", ROOM, wants(one, other) + declines(one))), both
+        yield in_edition(edition, ("serve", ROOM, wants(one, other) + declines(one)), wants(one, other) + declines(one)), "114 %s 1 0" % y.hex()
+        # It is read in 1.2, whatever the edition of the call, and a place is one in it.
+        yield serving(bytes.fromhex("1a032a0180"), one, other), "refused 1 at 4 in 3 5"
+        yield serving(declines(one) + bytes.fromhex("1a032a0180"), one, room=0), "refused 1 at %d in 3 5" % (len(declines(one)) + 4)
+        yield serving(control(tagged(5, b"\x0a\x00" * 512)), one, other), "refused 11 513"
+        yield serving(control(tagged(5, b"\x0a\x00" * 511)), one, other), both
+    # What 1.1 skips and 1.2 reads.
+    cut = bytes.fromhex("1a032a0180")
+    for edition, told in ((V1_1, None), (V1_2, "refused 1 at 4 in 3 5")):
+        yield in_edition(edition, admit(100, cut + x)), told or "dup"
+        yield in_edition(edition, ("ask", ROOM, cut + tells(one))), told or "0"
+        yield in_edition(edition, ("serve", ROOM, cut + wants(one))), told or "114 %s 1 0" % x.hex()
+        for ids, refused in ((511, "refused 11 513"), (510, None), (512, "refused 11 514")):
+            many = control(tagged(5, b"\x0a\x00" * ids))
+            yield in_edition(edition, ("ask", ROOM, tells() + many)), (refused if edition else None) or "0"
+
+
+# Bodies that are refused by themselves, of every sort; and those that are read.
+FAULTY = [bytes.fromhex(text) for text in ("80", "80" * 9 + "02", "8000", "0a05", "0b", "00", "0a031201ff", "1a032a0180")] + [b"\x0a\x00" * 513]
+READ = [b"", wants(id_of(3)), declines(id_of(4))]
+
+
+def unwanted_bodies(play):
+    """Second bodies about the ids that a node has cached: each alone, in any order, twice, in several entries and controls, and what looks like it."""
+    names = [play.run.cache.id_at(place) for place in play.messages()]
+    for name in names:
+        yield declines(name)
+        yield declines(name[:-1], name + b"\x00", b"\x01" + name, name[1:], b"", name * 3)
+        yield control(iwant([name]), ihave([name]), tagged(4, tagged(2, tagged(1, name)))) + tagged(2, tagged(5, name)) + tagged(5, tagged(1, name))
+        yield control(tagged(5, tagged(2, name) + counted(1, 7) + tagged(1, name)))
+        yield control(dont(b"x", name), counted(5, 1), dont()) + tagged(1, b"") + control(dont(b"y"))
+    yield declines(*names)
+    yield declines(*reversed(names), *names)
+    yield b"".join(map(declines, names))
+    yield control(*map(dont, names[1:]))
+    yield control(dont(b"z"), *map(dont, names[:-1])) + body_of(X)
+
+
+def edition_histories():
+    yield [step for step, _ in edition_table()]
+    # Every body that is refused, in either edition, by each call, and as the second body.
+    rows = [bytes.fromhex(text) for text, *_ in EDITION_ROWS + ROWS + MORE_ROWS]
+    for edition in EDITIONS:
+        play = turned()
+        for row in rows:
+            for body in (row, named_message(9) + row, wants(id_of(3)) + row):
+                for step in (admit(20, body), ("ask", 0, body), ("serve", ROOM, body)):
+                    play.add(in_edition(edition, step))
+                play.add(serve_in(body, id_of(3), edition=edition))
+        yield play.add(STATE, *CALLS).steps
+    # The order: 40, 41, 42; the body that asks; the second body; room. Nothing is changed.
+    for edition in EDITIONS:
+        play = turned()
+        for lent in ((515, 12288), (517, 12288), (516, 12287), (516, 12288)):
+            play.add(("lend", *lent))
+            for body, unwanted in itertools.product(FAULTY + READ, repeat=2):
+                play.add(in_edition(edition, ("serve", 0, body), unwanted))
+            play.add(STATE)
+        play.add(hurt(COUNT, 9))
+        for body, unwanted in itertools.product((FAULTY[0], *READ), repeat=2):
+            play.add(in_edition(edition, ("serve", ROOM, body), unwanted), in_edition(edition, ("ask", ROOM, body)), in_edition(edition, admit(20, body)))
+        yield play.steps
+    # What is left out, on rings that have turned and that have not; with room for all, and about what the first that remains needs.
+    for make in (turned, straight, topical, mixed, keyed):
+        play = make()
+        names = [play.run.cache.id_at(place) for place in play.messages()]
+        for unwanted in list(unwanted_bodies(play)):
+            for asked in (names, names[::-1], [b"x", *names, names[0]], names[:1]):
+                play.add(*about(play, unwanted, asked))
+        yield play.add(STATE, *CALLS).steps
+    yield from full_editions()
+
+
+def about(play, unwanted, names):
+    """A serve with a second body, with room for all of the reply and with rooms about its first message and its last."""
+    step = serve_in(unwanted, *names)
+    held = play.run.made[:]
+    answer = play.run.answer(step)
+    play.run.made[:] = held
+    sizes = [] if answer.startswith("refused") else [len(tagged(2, raw)) for raw, _ in nodes.Body(nodes.made(answer)).messages]
+    rooms = {0, ROOM, sum(sizes)} | {n for size in sizes[:1] for n in (size - 1, size)} | {sum(sizes) - 1 for _ in sizes[:1]}
+    return [serve_in(unwanted, *names, edition=n % 2, room=room) for n, room in enumerate(sorted(rooms))]
+
+
+def full_editions():
+    """As many messages as a node keeps and as many ids as a body has; replies that are longer than a body, of which some are declined."""
+    names = [F + n.to_bytes(2, "big") for n in range(80)]
+    big = [body_of(filled(x_with(from_=[F], seqno=[name[len(F):]]), MAX_MESSAGE)) for name in names]
+    play = Play(("set", 1000, 256, 16, 64), *[in_edition(n % 2, admit(1, body)) for n, body in enumerate(big)], STATE)
+    kept = names[16:]
+    for unwanted in ([], kept[:1], kept[:40], kept[20:], kept[::2], kept[1:], kept, names[:16], [b"%d" % n for n in range(440)] + kept[:63]):
+        play.add(serve_in(declines(*unwanted), *kept), serve_in(declines(*unwanted), *reversed(names), edition=V1_1, room=2 * 4099))
+    others = [b"%d" % n for n in range(512)]
+    for n in (510, 511, 512):
+        play.add(serve_in(declines(*others[:n]), kept[3]), serve_in(declines(*others[:n - 1], kept[3]), kept[3], kept[4], room=4099), serve_in(declines(kept[3]), *others[:n]))
+    x = declines(kept[3])
+    for size in (MAX_BODY - 1, MAX_BODY, MAX_BODY + 1):
+        play.add(serve_in(padded(x, size), kept[3], kept[4], room=4099), serve_in(padded(b"\x0b", size), kept[3]))
+    yield play.add(STATE).steps
+
+
+def editions_in_few_bytes():
+    """The scope's rows, a few bodies that are refused, in either edition and as either body, and the order of refusals."""
+    play = Play(*[step for step, _ in edition_table()], STATE)
+    play.add(*turned().steps)
+    for text, *_ in EDITION_ROWS[:13]:
+        row = bytes.fromhex(text)
+        play.add(in_edition(V1_2, admit(20, row)), in_edition(V1_1, ("ask", 0, row)), in_edition(V1_2, ("serve", ROOM, wants(id_of(9)) + row)), serve_in(row, id_of(9), edition=V1_1))
+    for lent in ((515, 12288), (517, 12288), (516, 12288)):
+        play.add(("lend", *lent))
+        for body, unwanted in itertools.product(FAULTY[:1] + READ[1:], FAULTY[5:6] + READ[2:]):
+            play.add(in_edition(V1_2, ("serve", 0, body), unwanted))
+    names = [id_of(n) for n in (2, 3, 4)]
+    for unwanted in (declines(names[0]), declines(names[2], names[1]), control(dont(names[1]), dont(b"x")) + declines(names[0]), tells(*names)):
+        play.add(serve_in(unwanted, *names, room=2 * 114), serve_in(unwanted, *names, edition=V1_1, room=113))
+    return play.add(in_edition(V1_2, admit(20, named_message(9) + declines(id_of(9)))), in_edition(V1_2, ask(id_of(9), b"B")), STATE).steps
+
+
 def refusal_histories():
     """Every refusal of a body or a message, with its values, and nothing changed."""
     play = turned()
@@ -1053,7 +1220,7 @@ def refusal_histories():
 
 def named():
     for part in (refusal_histories, broken_histories, odd_histories, kept_histories, reuse_histories, lent_histories, buffer_histories, full_histories,
-                 wrap_histories, unused_histories, small_histories, contains_histories, why_histories, flag_histories):
+                 wrap_histories, unused_histories, small_histories, contains_histories, why_histories, flag_histories, edition_histories):
         yield from part()
 
 
@@ -1063,6 +1230,11 @@ def of_traces():
     for steps in traces.named():
         yield [wide(step) for step in steps] + [STATE]
         yield [("flagged", *step[1:], ALLOW_UNSIGNED) if step[0] == "set" else wide(step) for step in steps] + [STATE]
+        # In either edition, and mixed: no body of a trace has the field that 1.2 adds, but for those that are made for it.
+        yield [in_edition(n % 3 and V1_2, wide(step)) if step[0] in EDITIONED else wide(step) for n, step in enumerate(steps)] + [STATE]
+    for steps in traces.declined_histories():
+        for edition in EDITIONS:
+            yield [in_edition(edition, wide(step)) if step[0] in EDITIONED else wide(step) for step in steps] + [STATE]
     for steps in traces.short_histories(3):
         yield [wide(step) for step in steps] + [STATE]
     for steps in short_mark_histories():
@@ -1173,6 +1345,34 @@ def some_topics(r, play):
         + [why(r.randrange(2), who + seqno, topic) for who, seqno in senders for topic in topics[-2:]]
 
 
+def some_unwanted(r, names):
+    """A second body: mostly ids that a request may name, in IDONTWANTs; or others, or something wrong."""
+    how = r.randrange(24)
+    if how < 3:
+        return b""
+    if how == 3:
+        return declining_body(r)
+    if how == 4:
+        return wants(*r.sample(names, min(len(names), 3)))
+    entries = [dont(*[r.choice(names) if r.randrange(6) else traces.near(r, r.choice(names)) for _ in range(r.choice((0, 1, 1, 2, 3, 6)))])
+               for _ in range(r.choice((1, 1, 2, 3)))]
+    at = r.randrange(len(entries) + 1)
+    body = control(*entries[:at]) + r.choice((b"", tagged(1, b""), wants(names[0]))) + (control(*entries[at:]) if at < len(entries) else b"")
+    if how == 5:
+        return body + bytes.fromhex(r.choice(EDITION_ROWS)[0])
+    return damaged(r, body) if how == 6 else body
+
+
+def editioned(r, step, names):
+    """An admit, an ask or a serve in some edition, sometimes with the field that 1.2 adds in its body; serve with a second body."""
+    how = r.randrange(40)
+    if how < 9:
+        step = (*step[:-1], step[-1] + (declining_body(r) if how == 0 else declines(*r.sample(names, min(len(names), 2)))))
+    elif how == 9:
+        step = (*step[:-1], bytes.fromhex(r.choice(EDITION_ROWS)[0]) + step[-1])
+    return in_edition(r.choice(EDITIONS), step, some_unwanted(r, names))
+
+
 def with_flags(r, step):
     """Settings with flags; other steps as they are."""
     return ("flagged", *step[1:], r.choice((0, 1, 1, 1, 2, 3, 65535))) if step[0] == "set" else step
@@ -1180,7 +1380,7 @@ def with_flags(r, step):
 
 def history(r):
     """A random history of a trace with any rooms, in which numbers are set and other lengths are lent, with a look at the state now and then. In half of
-    them flags are among the settings, and many messages have no signature."""
+    them flags are among the settings, and many messages have no signature. A third of the bodies come in an edition."""
     names, topics = caches.names(r), traces.some_topics(r)
     flagged = r.randrange(2) == 0
     if flagged:
@@ -1199,8 +1399,10 @@ def history(r):
         got = r.sample(steps[1:], min(n, len(steps) - 1)) + ([some_alone(r, pool)] if r.randrange(3) == 0 else [])
         return [wide(step) for step in got if step[0] not in ("set", "flagged")] + [some_why(r, names, topics)]
 
+    ids = traces.named_by(pool)
     for step in steps[1:]:
-        play.add(some_room(r, play, step) if step[0] in ROOMED else step)
+        step = some_room(r, play, step) if step[0] in ROOMED else step
+        play.add(editioned(r, step, ids) if step[0] in EDITIONED and len(step[-1]) < ROOM and r.randrange(3) == 0 else step)
         how = r.randrange(16)
         if how == 0:
             play.add(STATE)

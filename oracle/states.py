@@ -12,7 +12,9 @@ A step is a call, its numbers and then its bytes: ("set", ttl, max_seen, history
 max_messages), ("flagged", ttl, max_seen, history_len, max_messages, flags), whose line says
 `set`, ("admit", now, index, verified, body), ("beat", now), ("advertise", room, windows, topic),
 ("ask", room, body), ("serve", room, body), ("lend", seen length, cache length), ("hurt", what,
-place, value), ("contains", id), ("lookup", id), ("state", b""), ("why", windows, id, topic). `expected` takes an input as bytes and gives the lines of the run.
+place, value), ("contains", id), ("lookup", id), ("state", b""), ("why", windows, id, topic); and with an edition, 0 or 1, ("admit_in", edition, now, index,
+verified, body), ("ask_in", edition, room, body), ("serve_in", edition, room, the second body, body), whose lines say `admit`, `ask` and `serve`. `expected` takes an
+input as bytes and gives the lines of the run.
 `node_bytes` and `from_bytes` are a node as the bytes that hosts keep, after
 crates/stored/specs/Layout.antt.
 """
@@ -23,7 +25,7 @@ import struct
 
 import nodes
 from nodes import MAX_FLAGS, MAX_HISTORY, MAX_MESSAGE, MAX_MESSAGES, MAX_NAME, MAX_SEEN, MAX_TOPICS, ROOM, TOP, Refused, shown
-from places import find, with_place
+from places import EDITIONS, V1_1, find, with_place
 from records import Records
 
 MAX_CONTENT = 65600
@@ -38,7 +40,8 @@ CACHE_BYTES = 65 * MAX_MESSAGE
 # Of each call: its kind, how many bytes its numbers have, and whether bytes follow them.
 FORM = {"set": (1, (8, 2, 2, 2), False), "admit": (2, (8, 2, 1), True), "beat": (3, (8,), False), "advertise": (4, (4, 2), True),
         "ask": (5, (4,), True), "serve": (6, (4,), True), "lend": (7, (4, 4), False), "hurt": (8, (1, 4, 8), False), "contains": (9, (), True),
-        "lookup": (10, (), True), "state": (11, (), True), "why": (12, (2,), 2), "flagged": (21, (8, 2, 2, 2, 2), False)}
+        "lookup": (10, (), True), "state": (11, (), True), "why": (12, (2,), 2), "flagged": (21, (8, 2, 2, 2, 2), False),
+        "admit_in": (22, (1, 8, 2, 1), True), "ask_in": (25, (1, 4), True), "serve_in": (26, (1, 4), 4)}
 RECORDS = Records(FORM, MAX_CONTENT)
 record, records = RECORDS.record, RECORDS.records
 
@@ -277,11 +280,11 @@ class Run:
     # The calls.
 
     def answer(self, step):
-        """What a line says after its number and its call. A refusal 1 to 7 is one of the step's last bytes, and has its place in them."""
+        """What a line says after its number and its call. A refusal 1 to 7 is one of a body that the step has, and has its place there."""
         try:
             return getattr(self, step[0])(*step[1:])
         except Refused as why:
-            return with_place("refused " + " ".join(map(str, why.args)), find, step[-1])
+            return with_place("refused " + " ".join(map(str, why.args)), find, *(why.body or ()))
 
     def set(self, *settings):
         self.begin(*settings)
@@ -289,13 +292,13 @@ class Run:
 
     flagged = set
 
-    def admit(self, now, index, verified, body):
+    def admit(self, now, index, verified, body, edition=V1_1):
         node = self.lent()
         known = [name for name, *_ in node.cache]
-        answer = node.admit(now, index, verified == 1, body)
+        answer = node.admit(now, index, verified == 1, body, edition)
         self.clean(now)
         if answer == "new":
-            message = nodes.Body(body).messages[index]
+            message = nodes.Body(body, edition).messages[index]
             name = nodes.admission(message, True, self.cache.flags)[0]
             if self.max_seen:
                 self.seen.drop(self.max_seen, max(0, self.seen.count + 1 - self.max_seen))
@@ -330,12 +333,21 @@ class Run:
     def advertise(self, room, windows, topic):
         return self.write(self.lent().advertise(windows, topic), room)
 
-    def ask(self, room, body):
-        return self.write(self.lent().ask(body), room)
+    def ask(self, room, body, edition=V1_1):
+        return self.write(self.lent().ask(body, edition), room)
 
-    def serve(self, room, body):
-        reply, written, left = self.lent().serve(body, min(room, ROOM))
+    def serve(self, room, body, edition=V1_1, unwanted=b""):
+        reply, written, left = self.lent().serve(body, min(room, ROOM), edition, unwanted)
         return "%s %d %d" % (self.write(reply, room), written, left)
+
+    def admit_in(self, edition, *given):
+        return self.admit(*given, edition)
+
+    def ask_in(self, edition, *given):
+        return self.ask(*given, edition)
+
+    def serve_in(self, edition, room, unwanted, body):
+        return self.serve(room, body, edition, unwanted)
 
     def why(self, windows, name, topic):
         return self.lent().explain(windows, name, topic)
@@ -438,13 +450,15 @@ def from_bytes(data):
 # --- the lines -----------------------------------------------------------------
 
 # The call that a line names, where it is not the step's own.
-CALLED = {"flagged": "set"}
+CALLED = {"flagged": "set", "admit_in": "admit", "ask_in": "ask", "serve_in": "serve"}
 
 
 def wrong(step):
-    """Whether a room or a length lent is more than the program has."""
+    """Whether a room or a length lent is more than the program has, or an edition is none."""
     if step[0] in ("advertise", "ask", "serve"):
         return step[1] > MAX_MADE
+    if step[0] in ("admit_in", "ask_in", "serve_in"):
+        return step[1] not in EDITIONS or (step[0] != "admit_in" and step[2] > MAX_MADE)
     return step[0] == "lend" and (step[1] > SEEN_BYTES or step[2] > CACHE_BYTES)
 
 

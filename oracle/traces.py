@@ -15,6 +15,7 @@ from caches import LONG_TOPICS, LONGEST_TOPICS, NAME, REFUSED, TOPICS, X
 from caches import clipped, fields_of, grown, loosened, message, padded, plain, some_put, unfit_puts, x_with
 from nodes import MAX_CONTENT, MAX_RECORDS, TOP, Run, made, record, records
 from peers import A, B, ECDSA, F, HASHED, ID, KEY, LONGEST
+from places import EDITION_ROWS
 from records import header
 from wire import blob, damaged, then_random
 
@@ -529,13 +530,26 @@ def named():
         yield from part()
 
 
+def declined_histories():
+    """Bodies with the field that edition 1.2 adds to a control: a trace reads 1.1, and skips it whatever it holds."""
+    x, steps = body_of(X), [("set", 1000, 4, 2, 4)]
+    for text, *_ in EDITION_ROWS:
+        row = bytes.fromhex(text)
+        steps += [admit(100, row + x), admit(100, x + row), ("ask", tells(NAME, b"B") + row), ("serve", row + wants(NAME)), advertise(1)]
+    steps += [("serve", wants(NAME) + control(tagged(5, tagged(1, NAME)))), ("serve", control(tagged(5, tagged(1, NAME)), iwant([NAME])))]
+    for n in (511, 512, 513):
+        many_ids = control(tagged(5, b"\x0a\x00" * n))
+        steps += [admit(100, x + many_ids), ("ask", many_ids + tells(b"B")), ("serve", many_ids + wants(NAME))]
+    yield steps
+
+
 def some_history(r):
     how = r.randrange(150)
     return full_node(r) if how == 0 else catch_up(r) if how < 12 else history(r)
 
 
 def histories(r, count):
-    return then_random(r, count, (named(), short_histories()), some_history)
+    return then_random(r, count, (named(), short_histories(), declined_histories()), some_history)
 
 
 # --- runs that end early -------------------------------------------------------------------------

@@ -13,17 +13,23 @@ from places import find_field, with_place
 from records import header
 
 KIND = {"decode": 1, "encode": 2, "sign": 3, "id": 4, "walk": 5, "varint": 6, "utf8": 7, "key": 8, "peer": 9, "write": 10, "tosign": 11}
+IN_DIALECT = {"decode": 21, "encode": 22, "sign": 23, "id": 24}
 PLACE = {"sign": 2, "id": 2, "walk": 8, "tosign": 2}  # bytes of the number before the body or the lists
 MAX_CONTENT = 65600
 MAX_BODY = 65536
 TOP = 2**64 - 1
 
 
-def record(case):
+def record(case, dialect=None):
+    """The record of a case; with a dialect, of the kind that has it before the same content."""
     call, data, place = case
     content = place.to_bytes(PLACE.get(call, 0), "little") + data
+    if dialect is None:
+        kind = KIND[call]
+    else:
+        kind, content = IN_DIALECT[call], bytes([dialect]) + content
     assert len(content) <= MAX_CONTENT
-    return header(len(content), KIND[call]) + content
+    return header(len(content), kind) + content
 
 
 def command(case):

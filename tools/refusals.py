@@ -54,6 +54,7 @@ AT = {
 }
 FIELDS = {
     (1,): "subscription", (2,): "message", (3,): "control", (3, 1): "ihave", (3, 2): "iwant", (3, 3): "graft", (3, 4): "prune", (3, 4, 2): "peer",
+    (3, 5): "idontwant",
 }
 
 

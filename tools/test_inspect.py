@@ -177,6 +177,34 @@ class Bodies(Case):
             "  offer (IHAVE) of no topic: no ids", "  request (IWANT): no ids", "  graft: no topic"])
         self.assertTrue(lines[-2].startswith("canonical: no; in canonical form it has %d bytes, 2 saved:" % (len(body) - 2)), lines[-2])
 
+    def test_editions(self):
+        """The scope's rows: field 5 of a control, skipped in 1.1, which is also what is taken without a word, and read in 1.2."""
+        body = "1a 07 2a 03 0a 01 41 22 00"
+        older = ["accepted: 9 bytes, 1 record", "control", "  prune: no topic, no backoff, no peers", "canonical: no; in canonical form it has 4 bytes, 5 saved:", "  1a022200"]
+        self.assertEqual(self.shown(body), older)
+        self.assertEqual(self.shown(body, "--edition", "1.1"), older)
+        newer = ["accepted in edition 1.2: 9 bytes, 3 records", "control", "  not wanted (IDONTWANT): 1 id", '    41 "A"', "  prune: no topic, no backoff, no peers",
+                 "canonical: no; in canonical form it has 9 bytes, none saved:", "  1a0722002a030a0141"]
+        for words in (("--edition", "1.2", body), (body, "--edition=1.2"), ("--edition=1.2", "-"), (self.file("body", bytes.fromhex(body.replace(" ", ""))), "--edition", "1.2")):
+            self.assertEqual(self.shown(*words, given=bytes.fromhex(body.replace(" ", ""))), newer)
+        self.assertEqual(self.shown("--edition", "1.2", "1a 04 2a 02 10 07"), [
+            "accepted in edition 1.2: 6 bytes, 1 record", "control", "  not wanted (IDONTWANT): no ids", "canonical: no; in canonical form it has 4 bytes, 2 saved:", "  1a022a00"])
+        self.assertEqual(self.shown("--edition", "1.2", "1a 02 28 07")[:2], ["accepted in edition 1.2: 4 bytes, no records", "control: empty"])
+        self.assertEqual(self.shown("1a 03 2a 01 80")[:2], ["accepted: 5 bytes, no records", "control: empty"])
+        self.assertEqual(self.shown("--edition", "1.2", "1a 03 2a 01 80", status=1), [
+            "refused 1: a varint is cut short", "  at byte 4 of the body, where the varint was to stand", "  in control (field 3), idontwant (field 5)", "",
+            "      0  1a 03 2a 01 80", "                     ^^", "", "  in numbers: refused 1 at 4 in 3 5"])
+        # A message is the same in both; its ids and sign bytes are asked for in the edition.
+        both = [self.shown(X + " 1a052a030a0141", "--sign", *words) for words in ((), ("--edition", "1.2"))]
+        self.assertEqual(both[0][1:9] + both[0][-2:], both[1][1:9] + both[1][-2:])
+        self.assertEqual(both[1][9:12], ["control", "  not wanted (IDONTWANT): 1 id", '    41 "A"'])
+        # Sizes: the dialect takes a byte of what the program takes.
+        self.assertEqual(self.shown("00*65536 00*63", "--edition", "1.2", status=1), ["refused 10: the body has above 65,536 bytes: it has 65,599 bytes"])
+        self.assertEqual(self.wrong("00*65536 00*64", "--edition", "1.2"),
+                         "inspect: the body has 65,600 bytes, and the program takes at most 65,599. Every body above 65,536 bytes is refused (10)\n")
+        self.assertEqual(self.shown("--edition", "1.2", "1a81082afe07 0a00*511")[0], "accepted in edition 1.2: 1,028 bytes, 512 records")
+        self.assertEqual(self.shown("--edition", "1.2", "1a83082a8008 0a00*512", status=1), ["refused 11: the body has above 512 records: it has 513"])
+
     def test_canonical(self):
         self.assertEqual(self.shown("1a00", "1a00"), ["accepted: 4 bytes, no records", "control: empty", "canonical: no; in canonical form it has 2 bytes, 2 saved:", "  1a00"])
         self.assertEqual(self.shown("1a00"), ["accepted: 2 bytes, no records", "control: empty", "canonical: yes"])
@@ -319,7 +347,7 @@ class Bodies(Case):
         status, out, err = self.call("-h")
         self.assertEqual((status, err), (0, ""))
         examples = re.findall(r"^  tools/inspect (.*)$", out, re.MULTILINE)
-        self.assertEqual(len(examples), 7)
+        self.assertEqual(len(examples), 8)
         self.addCleanup(os.chdir, os.getcwd())
         os.chdir(TOP)
         for line in examples:
@@ -352,16 +380,19 @@ class Bodies(Case):
         import bodies
         r = random.Random(3)
         words, show = INSPECT.running(PROGRAM), INSPECT.Shown(False)
-        seen = set()
-        for body in [*bodies.named(), *(bodies.random_body(r) for _ in range(40)), *(bodies.messages_body(r) for _ in range(20)), bodies.many(r, 500)]:
-            lines, status = INSPECT.answer(words, body, INSPECT.ALL, show)
-            self.assertTrue(lines[0].startswith("refused " if status else "accepted: "))
-            seen.update(line.split()[0] for line in lines if line)
-            place = places.find(body)
-            if place:
-                self.assertEqual(lines[-1].partition(" at ")[2], places.words(place).removeprefix(" at "))
-        for word in ("subscribe", "message", "from", "offer", "request", "graft:", "prune:", "peer", "canonical:", "sign"):
-            self.assertIn(word, seen)
+        for number, edition in enumerate(INSPECT.EDITIONS):
+            seen = set()
+            for body in [*bodies.named(), *(bodies.random_body(r) for _ in range(40)), *(bodies.messages_body(r) for _ in range(20)), bodies.many(r, 500),
+                         *(bodies.declining_body(r) for _ in range(40)), *(bytes.fromhex(text) for text, *_ in places.EDITION_ROWS)]:
+                lines, status = INSPECT.answer(words, body, INSPECT.ALL, show, edition)
+                self.assertTrue(lines[0].startswith("refused " if status else ("accepted: ", "accepted in edition 1.2: ")[number]))
+                seen.update(line.split()[0] for line in lines if line)
+                place = places.find(body, number)
+                if place:
+                    self.assertEqual(lines[-1].partition(" at ")[2], places.words(place).removeprefix(" at "))
+            for word in ("subscribe", "message", "from", "offer", "request", "graft:", "prune:", "peer", "canonical:", "sign"):
+                self.assertIn(word, seen)
+            self.assertEqual("not" in seen, edition == "1.2")
 
 
 # Of each mistake: the words, and what is said of it.
@@ -400,6 +431,11 @@ MISTAKES = [
     (("--key", "080"), "'080' has an odd number of hex digits"),
     (("--peer", "00", "0"), "word 2: '0' has an odd number of hex digits"),
     (("--key", "--peer", "00"), "argument --peer: not allowed with argument --key"),
+    (("--edition", "1.3", "1a00"), "argument --edition: '1.3' is no edition that is known: expected 1.1 or 1.2"),
+    (("--edition", "1a00"), "argument --edition: '1a00' is no edition that is known: expected 1.1 or 1.2"),
+    (("1a00", "--edition"), "argument --edition: expected one argument"),
+    (("--edition", "1.2", "--key", "00"), "--edition is for a body, and a key has none"),
+    (("--peer", "00", "--edition", "1.1"), "--edition is for a body, and a peer id has none"),
     (("--key", "--sign", "--", "00"), "argument --sign: not allowed with argument --key"),
 ]
 
@@ -475,6 +511,16 @@ class Programs(Case):
         os.chmod(silent, 0o755)
         self.assertIn("the program gave 0 of 1 answer", self.told(silent, "--key", ""))
 
+    def test_a_program_without_editions(self):
+        self.assertEqual(self.told(self.stub("bad"), "--edition", "1.2", "1a00"), "inspect: the program does not know edition 1.2: it is of an earlier version, and "
+                         "`rt check inspect` makes it anew\n")
+        self.assertIn("none that it should give", self.told(self.stub("bad"), "--edition", "1.1", "1a00"))
+        # In 1.1 it is asked as ever.
+        for edition, kind in (("1.1", b"\x01\x00\x1a\x00"), ("1.2", b"\x15\x00\x01\x1a\x00")):
+            with mock.patch.object(INSPECT, "printed", side_effect=INSPECT.Failure("asked")) as asked:
+                self.assertIn("asked", self.told(self.stub(""), "--edition", edition, "1a00"))
+            self.assertEqual(asked.call_args[0][1][4:4 + len(kind)], kind)
+
     def test_a_program_without_keys(self):
         for words in (("--key", "00"), ("--peer", "00")):
             self.assertEqual(self.told(self.stub("bad"), *words), "inspect: the program does not know keys and peer ids: it is of an earlier version, and "
@@ -491,10 +537,10 @@ class Programs(Case):
                          "makes it anew\n")
 
     def test_a_field_of_a_later_edition(self):
-        program = self.stub("1 decode refused 1 at 1 in 3 5\n2 encode refused 1 at 1 in 3 5")
+        program = self.stub("1 decode refused 1 at 1 in 3 6\n2 encode refused 1 at 1 in 3 6")
         with mock.patch.object(INSPECT.x86, "running", lambda path: [path]):
             lines = self.shown("--program", program, "1a00", status=1)
-        self.assertEqual((lines[2], lines[-1]), ("  in control (field 3), not known (field 5)", "  in numbers: refused 1 at 1 in 3 5"))
+        self.assertEqual((lines[2], lines[-1]), ("  in control (field 3), not known (field 6)", "  in numbers: refused 1 at 1 in 3 6"))
 
 
 class Words(unittest.TestCase):
@@ -519,7 +565,7 @@ class Words(unittest.TestCase):
             self.assertEqual(refused(text.split()), told)
             self.assertTrue(told[2] is None or INSPECT.refusals.in_numbers(*told) == text)
         self.assertEqual(set(INSPECT.refusals.AT), set(INSPECT.OF_A_BODY))
-        self.assertEqual(set(INSPECT.refusals.FIELDS) | {()}, set(places.PATHS))
+        self.assertEqual(set(INSPECT.refusals.FIELDS) | {()}, set(places.PATHS[places.V1_2]))
         # The crate calls the fields the same.
         with open(os.path.join(TOP, "host", "src", "place.rs"), encoding="utf-8") as file:
             names = re.findall(r'^ *\[([0-9, ]+)\] => "(\w+)",$', file.read(), re.MULTILINE)

@@ -34,7 +34,7 @@ int main(void)
 {
     const uint8_t body[] = {0x1a, 0x00, 0x1a, 0x00};
     uint64_t values[PRADULINS_VALUES];
-    uint32_t started = pradulins_start(node, 1000, 4, 2, 4, 0), written = pradulins_encode(body, sizeof body, out, sizeof out, values);
+    uint32_t started = pradulins_start(node, 1000, 4, 2, 4, 0), written = pradulins_encode(PRADULINS_V1_1, body, sizeof body, out, sizeof out, values);
     printf("%u %u %u %02x%02x\\n", started, written, (unsigned)values[0], out[0], out[1]);
     return 0;
 }

@@ -1,6 +1,6 @@
 #!/usr/bin/env python3
 """Tests of what the oracle's comparisons and bench/bench say where something is missing, of the finder of places, of the models' peer ids, keys and
-admission, and of the model of lists. They need neither the Rust's files nor a program.
+admission, and of the models of editions and of lists. They need neither the Rust's files nor a program.
 
     python3 tools/test_oracle.py
 """
@@ -22,6 +22,8 @@ sys.path.insert(0, ORACLE)
 import admissions  # noqa: E402
 import bodies  # noqa: E402
 import caches  # noqa: E402
+import compare_editions  # noqa: E402
+import editions  # noqa: E402
 import keys  # noqa: E402
 import lists  # noqa: E402
 import nodes  # noqa: E402
@@ -32,9 +34,10 @@ import state_histories  # noqa: E402
 import states  # noqa: E402
 import traces  # noqa: E402
 import wire  # noqa: E402
+from places import V1_1, V1_2  # noqa: E402
 
-RUST = ("compare_wire", "compare_decode", "compare_write", "compare_caches", "compare_keys", "compare_admission", "compare_lists")
-PROGRAM = {"compare_wire": "inspect", "compare_decode": "inspect", "compare_write": "inspect", "compare_caches": "caches", "compare_trace": "trace",
+RUST = ("compare_wire", "compare_decode", "compare_write", "compare_editions", "compare_caches", "compare_keys", "compare_admission", "compare_lists")
+PROGRAM = {"compare_wire": "inspect", "compare_decode": "inspect", "compare_write": "inspect", "compare_editions": "inspect", "compare_caches": "caches", "compare_trace": "trace",
            "compare_states": "states", "make_states": "states", "compare_why": "why", "make_why": "why", "compare_keys": "inspect",
            "compare_admission": "states", "compare_lists": "inspect"}
 
@@ -145,10 +148,10 @@ class Case(unittest.TestCase):
         self.assertFalse(os.path.exists(os.path.join(build, "target")))
 
 
-def model(body):
+def model(body, edition=V1_1):
     """Why the model's reader refuses a body, in the words of a line without a place; None where it takes it."""
     try:
-        nodes.Body(body)
+        nodes.Body(body, edition)
     except nodes.Refused as why:
         return "refused " + " ".join(map(str, why.args))
     return None
@@ -163,8 +166,21 @@ class Places(unittest.TestCase):
         self.assertEqual(len({text for text, _ in places.ROWS + places.MORE_ROWS}), len(places.ROWS + places.MORE_ROWS))
         # Every path stands among them, and each refusal.
         found = [places.find(body) for body in bodies.placed()]
-        self.assertEqual({place.fields for place in found if place}, set(places.PATHS))
+        self.assertEqual({place.fields for place in found if place}, set(places.PATHS[V1_1]))
         self.assertEqual({place.number for place in found if place}, set(places.OF_A_BODY))
+
+    def test_the_rows_of_editions(self):
+        for text, *told in places.EDITION_ROWS:
+            body = bytes.fromhex(text)
+            for edition, line in enumerate(told):
+                self.assertEqual(places.with_place(model(body, edition), places.find, body, edition), line, text)
+        for text, line in places.ROWS + places.MORE_ROWS:
+            body = bytes.fromhex(text)
+            self.assertEqual(places.find(body, V1_2), places.find(body), text)
+        found = [places.find(body, V1_2) for body in bodies.placed(V1_2)]
+        self.assertEqual({place.fields for place in found if place}, set(places.PATHS[V1_2]))
+        self.assertEqual({place.number for place in found if place and place.fields == (3, 5)}, set(places.OF_A_BODY) - {places.NOT_UTF8})
+        self.assertEqual(set(places.PATHS[V1_2]) - set(places.PATHS[V1_1]), {(3, 5)})
 
     def test_varints(self):
         for text, end, number in (("", 0, 1), ("80", 1, 1), ("8001", 1, 1), ("80" * 9, 9, 1), ("80" * 10, 9, 1), ("80" * 10, 10, 2), ("80" * 9 + "02", 10, 2),
@@ -210,10 +226,10 @@ class Places(unittest.TestCase):
             self.assertEqual(place is not None, refused, body.hex())
             if refused:
                 self.assertTrue(places.agrees(told, place), body.hex())
-                self.assertIn(place.fields, places.PATHS)
+                self.assertIn(place.fields, places.PATHS[V1_1])
                 self.assertTrue(place.start <= place.offset <= len(body))
                 met.add(place.fields)
-        self.assertEqual(met, set(places.PATHS))
+        self.assertEqual(met, set(places.PATHS[V1_1]))
 
     def test_walks(self):
         body = bytes.fromhex("1a06220412020a05")
@@ -249,6 +265,97 @@ class Places(unittest.TestCase):
         told = [line for line in lines if " refused " in line]
         self.assertTrue(told and all(" at " in line for line in told))
         self.assertIn(" ask refused 4 2 5 0 at 8 in 3 4 2", {line[line.index(" "):] for line in told})
+
+
+class Editions(unittest.TestCase):
+    """The model of both editions, beside the other two, which share nothing with it."""
+
+    def test_one_line_more(self):
+        one, other = ({(name, field.number): (field.name, field.what, field.repeated) for name, fields in editions.MESSAGES[edition].items() for field in fields}
+                      for edition in (V1_1, V1_2))
+        self.assertEqual({key: other[key] for key in other if key not in one}, {("ControlMessage", 5): ("idontwant", "ControlIDontWant", True)})
+        self.assertEqual({key: other[key] for key in one}, one)
+        # Which fields are messages and which is text, as the finder of places has it.
+        for edition in (V1_1, V1_2):
+            names = {"RPC": "RPC", "SubOpts": "SubOpts", "Message": "Message", "ControlMessage": "Control", "PeerInfo": "PeerInfo"}
+            names.update({"Control" + name: name for name in ("IHave", "IWant", "Graft", "Prune", "IDontWant")})
+            for message, fields in editions.MESSAGES[edition].items():
+                inner = {field.number: names[field.what] for field in fields if field.what in names}
+                self.assertEqual(inner, places.MESSAGES[edition].get(names[message], {}), message)
+                self.assertEqual([field.number for field in fields if field.what == "string"], [places.TEXT[names[message]]] if names[message] in places.TEXT else [])
+
+    def test_the_rows(self):
+        for text, *told in compare_editions.ROWS:
+            body = bytes.fromhex(text)
+            for edition, one in enumerate(told):
+                lines = [editions.lines((call, body, 0), edition) for call in ("decode", "encode")]
+                got = "".join("%d %s\n" % (n, "\n".join(each)) for n, each in enumerate(lines, 1))
+                self.assertEqual(got, compare_editions.row_text(one), text)
+        self.assertEqual([row[0] for row in compare_editions.ROWS], [row[0] for row in places.EDITION_ROWS[:7]])
+        for ids, told in ((511, "decode ok 512 control"), (512, "decode refused 11 513")):
+            body = bodies.tagged(3, bodies.tagged(5, b"\x0a\x00" * ids))
+            self.assertEqual([editions.lines(("decode", body, 0), edition)[0] for edition in (V1_1, V1_2)], ["decode ok 0 control", told])
+
+    def test_beside_the_others(self):
+        r, met = random.Random(5), set()
+        some = itertools.islice(bodies.declined(), 0, None, 23)
+        for body in itertools.chain(some, bodies.named(), bodies.placed(V1_2), (bodies.declining_body(r) for _ in range(1500)), (bodies.random_body(r) for _ in range(500))):
+            for edition in (V1_1, V1_2):
+                first, *rest = editions.lines(("decode", body, 0), edition)
+                told = model(body, edition)
+                if told is None:
+                    self.assertEqual(first.split(" ")[:3], ["decode", "ok", str(len(rest))], body.hex())
+                    self.assertEqual(nodes.Body(body, edition).records, len(rest))
+                    met.update(line.split(" ")[2] for line in rest)
+                else:
+                    self.assertEqual(first, "decode " + places.with_place(told, places.find, body, edition), body.hex())
+                    met.add(first.partition(" in ")[2])
+        self.assertLessEqual({"idontwant", "id", "prune", "3 5", "3 4 2"}, met)
+
+    def test_what_is_written(self):
+        """It is read as the same, is in canonical form, and no longer; and the laws between the editions."""
+        r, accepted, alike = random.Random(6), 0, 0
+        for body in itertools.chain(itertools.islice(bodies.declined(), 0, None, 31), (bodies.declining_body(r) for _ in range(1500)), (bodies.messages_body(r) for _ in range(300))):
+            lines = {edition: [editions.lines((call, body, 0), edition) for call in ("decode", "encode", "sign", "id")] for edition in (V1_1, V1_2)}
+            if not editions.differ(body):
+                self.assertEqual(lines[V1_1], lines[V1_2])
+                alike += 1
+            for edition in (V1_1, V1_2):
+                if " refused " in lines[edition][0][0]:
+                    self.assertTrue(edition == V1_2 or " refused " in lines[V1_2][0][0])
+                    continue
+                made = editions.encoded(editions.read(body, edition), edition)
+                self.assertLessEqual(len(made), len(body))
+                self.assertEqual(editions.encoded(editions.read(made, edition), edition), made)
+                self.assertEqual(sorted(editions.records(editions.read(made, edition))), sorted(lines[edition][0][1:]))
+                accepted += 1
+        self.assertGreater(accepted, 1500)
+        self.assertGreater(alike, 200)
+
+    def test_utf8(self):
+        for data in wire.utf8_rows():
+            self.assertEqual(editions.is_utf8(data), nodes.is_utf8(data), data.hex())
+
+    def test_on_a_node(self):
+        table = list(state_histories.edition_table())
+        lines = states.expected(states.records([step for step, _ in table]))
+        self.assertEqual([line.split(" ", 2)[2] for line in lines], [told for _, told in table])
+        # Without a second body it is the serve of before; a body that declines nothing changes nothing.
+        run = states.Run(state_histories.turned().steps)
+        names = [state_histories.id_of(n) for n in (2, 3, 4)]
+        for room in (0, 113, 114, 228, 341, 342, nodes.ROOM):
+            plain = run.answer(state_histories.serve(*names, room=room))
+            for edition, unwanted in itertools.product((V1_1, V1_2), (b"", traces.wants(*names), state_histories.declines(b"x"))):
+                self.assertEqual(run.answer(state_histories.serve_in(unwanted, *names, edition=edition, room=room)), plain)
+
+    def test_records(self):
+        self.assertEqual(wire.record(("sign", b"\x1a\x00", 258), V1_2).hex(), "05000000" + "1700" + "01" + "0201" + "1a00")
+        self.assertEqual(states.record(("serve_in", 1, 258, b"\x80", b"\x1a\x00")).hex(), "0c000000" + "1a00" + "01" + "02010000" + "01000000" + "80" + "1a00")
+        self.assertEqual(caches.record(("put_in", 1, 258, b"\x1a\x00")).hex(), "05000000" + "1100" + "01" + "0201" + "1a00")
+        # A second body that passes the content.
+        for size, ok in ((0, True), (3, True), (4, False), (2**32 - 1, False)):
+            content = b"\x01" + bytes(4) + size.to_bytes(4, "little") + b"abc"
+            self.assertEqual(states.RECORDS.step_of(26, content), ("serve_in", 1, 0, b"abc"[:size], b"abc"[size:]) if ok else None)
 
 
 def field(number, data):
@@ -353,9 +460,11 @@ class Senders(unittest.TestCase):
         """Under flags, too, most calls are answered, and both forms are met."""
         r, met = random.Random(9), collections.Counter()
         for _ in range(150):
-            met.update(" ".join(line.split(" ")[1:3]) for line in states.expected(states.records(state_histories.history(r))))
+            for words in (line.split(" ") for line in states.expected(states.records(state_histories.history(r)))):
+                # Of states that were hurt nothing is asked.
+                met.update([" ".join(words[1:3])] if words[2:4] not in (["refused", "40"], ["refused", "41"], ["refused", "42"]) else [])
         self.assertGreater(met["admit new"] + met["admit dup"], met["admit refused"])
-        r, runs = random.Random(9), [states.Run(state_histories.history(r)) for _ in range(150)]
+        runs = [states.Run(state_histories.history(r)) for _ in range(250)]
         marks = collections.Counter(name[:1] for run in runs if not run.broken() for name, _ in run.held()[0])
         self.assertGreater(min(marks[b"\x00"], marks[b"\x01"]), 50)
 

@@ -44,6 +44,9 @@ enum { TTL = 3600000, MAX_SEEN = 256, HISTORY_LEN = 4, MAX_MESSAGES = 64, FLAGS 
 /* The most windows that are offered. */
 enum { WINDOWS = 4 };
 
+/* The edition in which a body is read. A file has none: a real gateway takes that of the stream by which the body came, which both sides agreed on. */
+enum { EDITION = PRADULINS_V1_1 };
+
 /* A node and its two stores. The stores lie one after the other, as in a saved state. */
 struct gateway {
     uint8_t node[PRADULINS_NODE_SIZE];
@@ -383,7 +386,7 @@ static int admit_all(struct gateway *g, const struct clock *clock, const uint8_t
     static uint8_t sign[PRADULINS_SIGN_SIZE];
     uint64_t values[PRADULINS_VALUES];
     int bad = 0;
-    uint32_t r = pradulins_decode(body, body_len, table, PRADULINS_TABLE_WORDS, values);
+    uint32_t r = pradulins_decode(EDITION, body, body_len, table, PRADULINS_TABLE_WORDS, values);
     if (r) {
         printf("the body is ");
         put_refusal(stdout, r, values, true);
@@ -394,10 +397,10 @@ static int admit_all(struct gateway *g, const struct clock *clock, const uint8_t
         const uint64_t *record = table + i * PRADULINS_RECORD_WORDS;
         if (record[PRADULINS_RECORD_KIND] != PRADULINS_KIND_MESSAGE)
             continue;
-        r = pradulins_sign_bytes(body, body_len, index, sign, sizeof sign, values);
+        r = pradulins_sign_bytes(EDITION, body, body_len, index, sign, sizeof sign, values);
         if (!r) {
             bool word = verified(sign, values[0], record, body);
-            r = pradulins_admit(g->node, g->seen, g->seen_len, g->cache, g->cache_len, body, body_len, index, word, read_clock(clock), values);
+            r = pradulins_admit(g->node, g->seen, g->seen_len, g->cache, g->cache_len, EDITION, body, body_len, index, word, read_clock(clock), values);
         }
         printf("message %zu: ", index);
         if (r)

@@ -2,7 +2,8 @@
  * Plays the records of the programs `inspect`, `trace`, `states` and `why` through pradulins.h, and prints their lines: on the same input the same lines are
  * expected. For what the interface does not have (kinds 6 to 9 of `inspect`, 9 and 10 of `states`) the line is the record's number and `-`. Beside that
  * it watches the memory of each call: a refused one changes none but `values`, one that succeeds writes only what it counts, and `values` gets as many
- * numbers as the header says. Each call on a body or on rows is made again with room that just suffices and with one byte or number less. Rows are also written where
+ * numbers as the header says. Each call on a body or on rows is made again with room that just suffices and with one byte or number less, and each on a body under other
+ * numbers of the same edition: only the lowest bit counts. A reply without a second body is also made with second bodies that decline nothing. Rows are also written where
  * unsigned messages are allowed, which changes nothing where all messages have a signature, and under flags that are not known. Before each call on a node,
  * pradulins_settings and pradulins_state are asked: they tell what stands in the node's bytes, or the refusal that the call then answers.
  */
@@ -235,48 +236,58 @@ static void put_record(const uint64_t *row, const uint8_t *body)
         put_place(row, body, 0);
         put_place(row, body, 1);
         break;
+    case PRADULINS_KIND_IDONTWANT:
+        printf("  idontwant");
+        break;
     default:
         expect(0, "a record of no known kind");
     }
 }
 
 /* A call on a body, by its kind, with so much room. */
-static uint32_t body_call(uint64_t kind, const uint8_t *body, size_t len, size_t index, size_t room)
+static uint32_t body_call(uint64_t kind, uint32_t dialect, const uint8_t *body, size_t len, size_t index, size_t room)
 {
     switch (kind) {
     case 1:
-        return pradulins_decode(body, len, table, room, values);
+        return pradulins_decode(dialect, body, len, table, room, values);
     case 2:
-        return pradulins_encode(body, len, made, room, values);
+        return pradulins_encode(dialect, body, len, made, room, values);
     case 3:
-        return pradulins_sign_bytes(body, len, index, made, room, values);
+        return pradulins_sign_bytes(dialect, body, len, index, made, room, values);
     default:
-        return pradulins_message_id(body, len, index, made, room, values);
+        return pradulins_message_id(dialect, body, len, index, made, room, values);
     }
 }
 
+/* The same edition by another number: only the lowest bit counts. Which one depends on the record. */
+static uint32_t other_number(uint32_t edition)
+{
+    static const uint32_t more[] = {2, UINT32_C(1) << 31, 256, UINT32_MAX - 1};
+    return edition ^ more[n % (sizeof more / sizeof *more)];
+}
+
 /* The same call with other room: what it answered before, with the room that it needed and with none to spare; and 12 with less. */
-static void rooms(uint64_t kind, const uint8_t *body, size_t len, size_t index, uint32_t r)
+static void rooms(uint64_t kind, uint32_t dialect, const uint8_t *body, size_t len, size_t index, uint32_t r)
 {
     uint64_t first = values[0], place[PRADULINS_VALUES - PRADULINS_OFFSET];
     memcpy(place, values + PRADULINS_OFFSET, sizeof place);
     size_t unit = kind == 1 ? PRADULINS_RECORD_WORDS : 1, needed = r ? 0 : first * unit;
     before();
-    uint32_t again = body_call(kind, body, len, index, needed);
+    uint32_t again = body_call(kind, other_number(dialect), body, len, index, needed);
     after(again, kind == 1 ? 2 : 1, kind == 1 || again ? 0 : values[0], kind == 1 && !again ? values[0] : 0, 1);
     expect(again == r && (pradulins_refusal_values(r) == 0 || values[0] == first), "another answer with just enough room");
     expect(memcmp(place, values + PRADULINS_OFFSET, sizeof place) == 0, "another place with just enough room");
     if (needed > 0) {
         before();
-        again = body_call(kind, body, len, index, needed - 1);
+        again = body_call(kind, dialect, body, len, index, needed - 1);
         after(again, 0, 0, 0, 1);
         expect(again == PRADULINS_ROOM && values[0] == first, "no refusal 12 with too little room");
     }
 }
 
-static void inspect_body(uint64_t kind, const char *word, const uint8_t *body, size_t len, size_t index, size_t room)
+static void inspect_body(uint64_t kind, uint32_t dialect, const char *word, const uint8_t *body, size_t len, size_t index, size_t room)
 {
-    uint32_t r = body_call(kind, body, len, index, room);
+    uint32_t r = body_call(kind, dialect, body, len, index, room);
     after(r, kind == 1 ? 2 : 1, kind == 1 || r ? 0 : values[0], kind == 1 && !r ? values[0] : 0, 1);
     start_line(word);
     if (r) {
@@ -291,7 +302,7 @@ static void inspect_body(uint64_t kind, const char *word, const uint8_t *body, s
         put_made();
     }
     putchar('\n');
-    rooms(kind, body, len, index, r);
+    rooms(kind, dialect, body, len, index, r);
 }
 
 static void inspect_walk(const uint8_t *body, size_t len, size_t at)
@@ -403,22 +414,40 @@ static int inspect_rows(uint64_t kind, size_t len)
     return 1;
 }
 
+/* Kinds 1 to 4; what they are given stands from `at` on. */
+static int inspect_in(uint64_t kind, uint32_t dialect, size_t at, size_t len)
+{
+    const uint8_t *body = content + at;
+    len -= at;
+    switch (kind) {
+    case 1:
+        inspect_body(kind, dialect, "decode", body, len, 0, PRADULINS_TABLE_WORDS);
+        return 1;
+    case 2:
+        inspect_body(kind, dialect, "encode", body, len, 0, 65536);
+        return 1;
+    default:
+        if (len < 2)
+            return 0;
+        inspect_body(kind, dialect, kind == 3 ? "sign" : "id", body + 2, len - 2, number_at(body, 0, 2), kind == 3 ? 65600 : 65536);
+        return 1;
+    }
+}
+
 static int inspect(uint64_t kind, size_t len)
 {
     before();
     switch (kind) {
     case 1:
-        inspect_body(kind, "decode", content, len, 0, PRADULINS_TABLE_WORDS);
-        return 1;
     case 2:
-        inspect_body(kind, "encode", content, len, 0, 65536);
-        return 1;
     case 3:
     case 4:
-        if (len < 2)
-            return 0;
-        inspect_body(kind, kind == 3 ? "sign" : "id", content + 2, len - 2, number_at(content, 0, 2), kind == 3 ? 65600 : 65536);
-        return 1;
+        return inspect_in(kind, PRADULINS_V1_1, 0, len);
+    case 21:
+    case 22:
+    case 23:
+    case 24:
+        return len > 0 && content[0] <= 1 && inspect_in(kind - 20, content[0], 1, len);
     case 5:
         if (len < 8)
             return 0;
@@ -488,14 +517,16 @@ static void expect_fault(uint32_t told, uint32_t answered)
     expect(told == (answered >= PRADULINS_BAD_SETTING ? answered : 0), "the state is told to be otherwise than the call finds it");
 }
 
-static int admit(size_t len, int full)
+/* What it is given stands from `at` on. */
+static int admit(uint32_t edition, size_t at, size_t len, int full)
 {
-    if (len < 11 || (!full && content[10] > 1))
+    const uint8_t *given = content + at;
+    if (len < at + 11 || (!full && given[10] > 1))
         return 0;
     uint32_t told = told_fault();
     before();
-    uint32_t r = pradulins_admit(node, seen, seen_len, cache, cache_len, content + 11, len - 11, number_at(content, 8, 2), content[10] == 1,
-                                 number_at(content, 0, 8), values);
+    uint32_t r = pradulins_admit(node, seen, seen_len, cache, cache_len, edition, given + 11, len - at - 11, number_at(given, 8, 2), given[10] == 1,
+                                 number_at(given, 0, 8), values);
     after(r, 1, 0, 0, 0);
     expect_fault(told, r);
     start_line("admit");
@@ -525,9 +556,30 @@ static int beat(size_t len, int full)
     return 1;
 }
 
-/* advertise, ask and serve, with a buffer of this room; what they are given stands from `at` on. */
-static int write_call(uint64_t kind, size_t at, size_t len, size_t room, int full)
+/* The same reply in other ways: under another number of the edition, and beside second bodies that decline nothing. `r` was answered, in `made` and `values`. */
+static void same_reply(uint32_t edition, const uint8_t *body, size_t len, const uint8_t *unwanted, size_t unwanted_len, size_t room, uint32_t r)
 {
+    /* An id that no message has, an IWANT of nothing, a control with a field 5 of another type. */
+    static const uint8_t others[][6] = {{0x1a, 4, 0x2a, 2, 0x0a, 0}, {0x1a, 2, 0x12, 0, 0x1a, 0}, {0x1a, 2, 0x28, 7, 0x1a, 0}};
+    uint64_t first[PRADULINS_VALUES];
+    memcpy(first, values, sizeof first);
+    for (size_t i = 0; i < (unwanted_len ? 1 : 1 + sizeof others / sizeof *others); i++) {
+        before();
+        uint32_t again = pradulins_serve(node, seen, seen_len, cache, cache_len, other_number(edition), body, len, i ? others[i - 1] : unwanted,
+                                         i ? sizeof *others : unwanted_len, made, room, values);
+        after(again, 3, again ? 0 : values[0], 0, 1);
+        expect(again == r && memcmp(first, values, sizeof first) == 0, "another reply by another number, or beside a body that declines nothing");
+        expect(memcmp(made, made_before, sizeof made) == 0, "another reply's bytes");
+    }
+}
+
+/*
+ * advertise, ask and serve, with a buffer of this room; what they are given stands from `at` on. Of serve, the first `unwanted_len` bytes of that are the second body.
+ */
+static int write_call(uint64_t kind, uint32_t edition, size_t at, size_t unwanted_len, size_t len, size_t room, int full)
+{
+    const uint8_t *body = content + at + unwanted_len;
+    size_t body_len = len - at - unwanted_len;
     uint32_t r, told = told_fault();
     before();
     switch (kind) {
@@ -538,11 +590,11 @@ static int write_call(uint64_t kind, size_t at, size_t len, size_t room, int ful
         start_line("advertise");
         break;
     case 5:
-        r = pradulins_ask(node, seen, seen_len, cache, cache_len, content + at, len - at, made, room, values);
+        r = pradulins_ask(node, seen, seen_len, cache, cache_len, edition, body, body_len, made, room, values);
         start_line("ask");
         break;
     default:
-        r = pradulins_serve(node, seen, seen_len, cache, cache_len, content + at, len - at, made, room, values);
+        r = pradulins_serve(node, seen, seen_len, cache, cache_len, edition, body, body_len, content + at, unwanted_len, made, room, values);
         start_line("serve");
     }
     after(r, kind == 6 ? 3 : 1, r ? 0 : values[0], 0, 1);
@@ -557,6 +609,8 @@ static int write_call(uint64_t kind, size_t at, size_t len, size_t room, int ful
         }
     }
     putchar('\n');
+    if (kind == 6)
+        same_reply(edition, body, body_len, content + at, unwanted_len, room, r);
     return 1;
 }
 
@@ -609,13 +663,13 @@ static int trace(uint64_t kind, size_t len)
         return 0;
     switch (kind) {
     case 2:
-        return admit(len, 0);
+        return admit(PRADULINS_V1_1, 0, len, 0);
     case 3:
         return beat(len, 0);
     case 4:
     case 5:
     case 6:
-        return write_call(kind, 0, len, 65536, 0);
+        return write_call(kind, PRADULINS_V1_1, 0, 0, len, 65536, 0);
     default:
         return 0;
     }
@@ -755,21 +809,41 @@ static int state(void)
     return 1;
 }
 
+/* A room that stands at a place, and what follows it. */
+static int write_in(uint64_t kind, uint32_t edition, size_t at, size_t len)
+{
+    if (len < at + 4 || number_at(content, at, 4) > MADE)
+        return 0;
+    return write_call(kind, edition, at + 4, 0, len, number_at(content, at, 4), 1);
+}
+
+/* Kinds 22, 25 and 26: an edition, and then what 2, 5 and 6 have; of the last the second body stands between room and body, with its length before it. */
+static int in_edition(uint64_t kind, size_t len)
+{
+    if (len < 1 || content[0] > 1)
+        return 0;
+    if (kind == 22)
+        return admit(content[0], 1, len, 1);
+    if (kind == 25)
+        return write_in(5, content[0], 1, len);
+    if (len < 9 || number_at(content, 1, 4) > MADE || number_at(content, 5, 4) > len - 9)
+        return 0;
+    return write_call(6, content[0], 9, number_at(content, 5, 4), len, number_at(content, 1, 4), 1);
+}
+
 static int states(uint64_t kind, size_t len)
 {
     switch (kind) {
     case 1:
         return set(len, 65535, 0);
     case 2:
-        return admit(len, 1);
+        return admit(PRADULINS_V1_1, 0, len, 1);
     case 3:
         return beat(len, 1);
     case 4:
     case 5:
     case 6:
-        if (len < 4 || number_at(content, 0, 4) > MADE)
-            return 0;
-        return write_call(kind, 4, len, number_at(content, 0, 4), 1);
+        return write_in(kind, PRADULINS_V1_1, 0, len);
     case 7:
         return lend(len);
     case 8:
@@ -783,6 +857,10 @@ static int states(uint64_t kind, size_t len)
         return why(len, 1);
     case 21:
         return set(len, 65535, 2);
+    case 22:
+    case 25:
+    case 26:
+        return in_edition(kind, len);
     default:
         return 0;
     }

@@ -1,7 +1,7 @@
 """The rows of the scope's tables, as records of the programs `inspect` and `states`, with the lines that the scope asks for.
 
-Each line is written from the scope, not from a program; those about the place of a refusal stand in oracle/places.py. `inspect()`, `lists()` and `states()` give
-(input, lines). Refusal 33 is not here: the seen part alone has it, which the C interface does not lend.
+Each line is written from the scope, not from a program; those about the place of a refusal stand in oracle/places.py. `inspect()`, `editions()`, `lists()` and
+`states()` give (input, lines). Refusal 33 is not here: the seen part alone has it, which the C interface does not lend.
 """
 
 import os
@@ -117,6 +117,63 @@ def inspect():
     records, lines = b"", []
     for n, (call, body, place, told) in enumerate(rows(), 1):
         records += wire.record((call, bytes.fromhex(body), place))
+        lines += ["%d %s %s" % (n, call, told[0])] + told[1:]
+    return records, lines
+
+
+# ---- bodies in both editions
+
+V1_1, V1_2 = 0, 1
+
+
+def declined(ids):
+    """A control with one IDONTWANT of so many empty ids."""
+    return field(3, field(5, b"\x0a\x00" * ids)).hex()
+
+
+# Bodies, and what is told of each in 1.1 and in 1.2: what it is written as, and its records; or why it is refused.
+IN_EDITIONS = (
+    ("1a032a0180", ("2 1a00",), "1 at 4 in 3 5"),
+    ("1a052a030a0241", ("2 1a00",), "4 2 2 1 at 6 in 3 5"),
+    ("1a052a030a01ff", ("2 1a00",), ("7 1a052a030a01ff", "idontwant", "id =ff")),
+    ("1a072a030a01412200", ("4 1a022200", "prune - -"), ("9 1a0722002a030a0141", "idontwant", "id =41", "prune - -")),
+    ("1a022a001a022200", ("4 1a022200", "prune - -"), ("6 1a0422002a00", "idontwant", "prune - -")),
+    ("1a022807", ("2 1a00",), ("2 1a00",)),
+    ("1a042a021007", ("2 1a00",), ("4 1a022a00", "idontwant")),
+    (declined(511), ("2 1a00",), ("1028 " + declined(511), "idontwant", *["id ="] * 511)),
+    (declined(512), ("2 1a00",), "11 513"),
+    # Entries of every kind, in several controls: joined in their order, and the new ones last.
+    ("1a0a2a030a014212030a01431a0b2a002a030a014422000a00", ("11 1a090a0012030a01432200", "iwant", "id =43", "prune - -", "ihave -"),
+     ("23 1a150a0012030a014322002a030a01422a002a030a0144", "idontwant", "id =42", "iwant", "id =43", "idontwant", "idontwant", "id =44", "prune - -", "ihave -")),
+)
+
+
+def edition_rows():
+    """(dialect, call, body, place, lines). What has no such field is told alike in both."""
+    for call, body, place, told in rows():
+        if call != "walk":
+            yield V1_1, call, body, place, told
+            yield V1_2, call, body, place, told
+    for body, *both in IN_EDITIONS:
+        for dialect, told in enumerate(both):
+            if isinstance(told, str):
+                for call in ("decode", "encode", "sign", "id"):
+                    yield dialect, call, body, 0, ["refused " + told]
+                continue
+            written, *records = told
+            yield dialect, "decode", body, 0, ["ok %d control" % len(records)] + ["  " + one for one in records]
+            yield dialect, "encode", body, 0, [written]
+            yield dialect, "sign", body, 0, ["refused 20 0"]
+            # Beside a message, which is the same in both: neither its signature nor anything of the control is signed.
+            for whole in (X.hex() + body, body + X.hex()) if len(body) < 1000 else ():
+                yield dialect, "sign", whole, 0, [SIGNED]
+                yield dialect, "id", whole, 0, ["39 %s01" % SENDER.hex()]
+
+
+def editions():
+    records, lines = b"", []
+    for n, (dialect, call, body, place, told) in enumerate(edition_rows(), 1):
+        records += wire.record((call, bytes.fromhex(body), place), dialect)
         lines += ["%d %s %s" % (n, call, told[0])] + told[1:]
     return records, lines
 
@@ -270,8 +327,11 @@ def rows_in(body):
     return [row(MESSAGE, fields=[fields.get(number) for number in (1, 2, 3, 5, 6)], own=(start, len(body))), *topics], body
 
 
-# Records that end a run with `bad`: rows that are cut, a mask above 63, more room or more rows than there may be, and one that is too short.
-BAD = (lent([row(GRAFT, 1, [(0, 1)])[:-1]]), lent([row(GRAFT)[:17]]), lent([], count=1), lent([bytes([GRAFT, 64]) + bytes(16)]), lent([], room=65601),
+# Records that end a run of `inspect` with `bad`: rows that are cut, a mask above 63, more room or more rows than there may be, and one that is too short; a dialect that
+# is none, and what is too short for one.
+BAD = (*(header(1 + size, kind) + bytes([dialect]) + bytes(size) for kind, size in ((21, 0), (22, 0), (23, 2), (24, 2)) for dialect in (2, 3, 128, 255)),
+       *(header(size, kind) + b"\x01" * size for kind, size in ((21, 0), (22, 0), (23, 0), (23, 1), (23, 2), (24, 0), (24, 1), (24, 2))), header(3, 20) + bytes(3),
+       header(3, 25) + bytes(3), lent([row(GRAFT, 1, [(0, 1)])[:-1]]), lent([row(GRAFT)[:17]]), lent([], count=1), lent([bytes([GRAFT, 64]) + bytes(16)]), lent([], room=65601),
        lent([row(GRAFT)] * 641), header(5, 10) + bytes(5), header(7, 11) + bytes(7), lent([row(GRAFT, 1)[:-1]], index=0))
 
 
@@ -406,6 +466,77 @@ def training():
     yield ("admit", 100, 0, 1, X), "admit new"
 
 
+# X with another seqno, and what asks for both; what declines the first, and the same as an IWANT.
+Y = message(seqno=b"\x02")
+ID_Y = SENDER + b"\x02"
+
+
+def naming(entry, *ids):
+    """A control with one entry of ids: an IWANT (2) or an IDONTWANT (5)."""
+    return field(3, field(entry, b"".join(field(1, one) for one in ids)))
+
+
+def in_editions():
+    """The same for bodies in both editions, and for what serve is lent."""
+    both, dont, want = naming(2, ID, ID_Y), naming(5, ID), naming(2, ID)
+    served = {"X": "114 %s 1 0" % X.hex(), "Y": "114 %s 1 0" % Y.hex(), "XY": "228 %s%s 2 0" % (X.hex(), Y.hex()), "": "0 0 0"}
+    yield SETTINGS, "set ok"
+    for body, told in [*REFUSED, ("1a032a0180", None), ("1a052a030a0241", None), ("0a00" * 513, "11 513"), (bytes(65537).hex(), "10 65537")]:
+        body = bytes.fromhex(body)
+        for edition in (V1_1, V1_2):
+            place = "1 at 4 in 3 5" if len(body) == 5 else "4 2 2 1 at 6 in 3 5"
+            refused = told or (place if edition == V1_2 else None)
+            yield ("admit_in", edition, 100, 0, 1, body), "admit refused " + (refused or "20 0")
+            yield ("ask_in", edition, ROOM, body), "ask " + ("refused " + refused if refused else "0")
+            if len(body) < 60000:
+                yield ("serve_in", edition, ROOM, b"", body), "serve " + ("refused " + refused if refused else "0 0 0")
+                # As the second body it is read in 1.2, whatever the edition of the first.
+                yield ("serve_in", edition, 0, body, both), "serve refused " + (told or place)
+    yield ("admit_in", V1_2, 100, 0, 1, X), "admit new"
+    yield ("admit_in", V1_1, 100, 0, 1, Y), "admit new"
+    yield ("admit_in", V1_2, 100, 0, 1, Y + dont), "admit dup"
+    for edition in (V1_1, V1_2):
+        for unwanted, told in ((b"", "XY"), (dont, "Y"), (naming(5, ID_Y), "X"), (naming(5, ID_Y, ID), ""), (dont + naming(5, ID_Y), ""), (dont + dont, "Y"),
+                               (want, "XY"), (OFFER, "XY"), (X, "XY"), (naming(5), "XY"), (naming(5, SENDER, ID + b"\0", b"\x01" + ID, b""), "XY"),
+                               (field(5, field(1, ID)), "XY"), (field(3, field(5, field(2, ID))), "XY"), (bytes.fromhex("1a022807"), "XY")):
+            yield ("serve_in", edition, ROOM, unwanted, both), "serve " + served[told]
+        # Not the IDONTWANTs of the body that asks; but the same body may be both.
+        yield ("serve_in", edition, ROOM, b"", both + dont), "serve " + served["XY"]
+        yield ("serve_in", edition, ROOM, both + dont, both + dont), "serve " + served["Y"]
+        yield ("serve_in", edition, ROOM, dont, want), "serve " + served[""]
+        # Room is for what remains, and what is declined counts neither as written nor as left.
+        yield ("serve_in", edition, 114, dont, both), "serve " + served["Y"]
+        yield ("serve_in", edition, 113, dont, both), "serve refused 12 114"
+        yield ("serve_in", edition, 227, b"", both), "serve 114 %s 1 1" % X.hex()
+        yield ("serve_in", edition, 0, dont, want), "serve " + served[""]
+        # The body that asks is tested first, and room last.
+        yield ("serve_in", edition, ROOM, b"\x00", both), "serve refused 6 0 0 at 0"
+        yield ("serve_in", edition, ROOM, b"\x00", b"\x80"), "serve refused 1 at 0"
+        yield ("serve_in", edition, 0, b"\x00", both), "serve refused 6 0 0 at 0"
+        yield ("serve_in", edition, 0, dont + b"\x80", both), "serve refused 1 at %d" % len(dont)
+        yield ("serve_in", edition, ROOM, bytes.fromhex(declined(511)), both), "serve " + served["XY"]
+        yield ("serve_in", edition, ROOM, bytes.fromhex(declined(512)), both), "serve refused 11 513"
+    # 40, 41 and 42 come before both.
+    for lent, told in (((3 * 129, 4 * 4096), "40"), ((5 * 129, 4 * 4096), "41"), ((4 * 129, 4 * 4096), "42")):
+        yield ("lend", *lent), "lend ok"
+        if told == "42":
+            yield ("hurt", program.COUNT, 0, 5), "hurt ok"
+        for edition in (V1_1, V1_2):
+            yield ("serve_in", edition, ROOM, b"\x00", b"\x80"), "serve refused " + told
+            yield ("ask_in", edition, ROOM, b"\x80"), "ask refused " + told
+            yield ("admit_in", edition, 100, 0, 1, b"\x80"), "admit refused " + told
+
+
+# Records that end a run of `states` with `bad`: an edition that is none, a room above what there is, and what is too short.
+BAD_STATES = (
+    *(program.record(step) for edition in (2, 255) for step in (("admit_in", edition, 1, 0, 1, X), ("ask_in", edition, ROOM, b""), ("serve_in", edition, ROOM, b"", b""))),
+    program.record(("ask_in", 1, 65601, b"")), program.record(("serve_in", 1, 65601, b"", b"")), program.record(("serve_in", 0, 2**32 - 1, b"", b"")),
+    *(header(size, kind) + bytes(size) for kind, size in ((22, 0), (22, 11), (25, 0), (25, 4), (26, 0), (26, 4), (26, 8))),
+    *(header(9 + rest, 26) + bytes(5) + size.to_bytes(4, "little") + bytes(rest) for size, rest in ((1, 0), (4, 3), (2**32 - 1, 9))),
+    header(20, 23) + bytes(20), header(20, 24) + bytes(20), header(20, 27) + bytes(20),
+)
+
+
 def steps():
     """(step, the line without its number)."""
     for bad in ((257, 2, 4), (4, 0, 4), (4, 17, 4), (4, 2, 65)):
@@ -509,6 +640,7 @@ def steps():
     # Nothing was changed by all that.
     yield ("admit", 100, 0, 1, X), "admit dup"
     yield from training()
+    yield from in_editions()
 
 
 def states():

@@ -3,7 +3,7 @@
  * made on nodes that are fresh, filled and damaged, and on stores of other lengths. Each time the answer and the values are tested, that values which
  * are not named stay, and that no byte of the node and the stores changed. And rows that no record of a program can say: flags that are neither 0 nor 1, numbers
  * where nothing is to be looked at, a table that is no whole rows, and the table that decode wrote. And a node's flags, and messages that nobody signed, admitted and
- * written.
+ * written. And editions: the numbers that say one, and what serve is lent as its second body.
  */
 #include "player.h"
 
@@ -107,7 +107,7 @@ static void admit(uint8_t key, uint64_t at, size_t seen_len, size_t cache_len)
 {
     uint8_t body[NOTICE];
     put_notice(body, key);
-    expect(pradulins_admit(node, seen, seen_len, cache, cache_len, body, sizeof body, 0, true, at, values) == PRADULINS_OK && values[0] == 1,
+    expect(pradulins_admit(node, seen, seen_len, cache, cache_len, PRADULINS_V1_1, body, sizeof body, 0, true, at, values) == PRADULINS_OK && values[0] == 1,
            "a notice is not new");
 }
 
@@ -358,13 +358,13 @@ static void read_and_said(void)
     memcpy(in_order + 4 + NOTICE, more + 4, sizeof more - 4);
 
     before();
-    expect(pradulins_decode(body, sizeof body, rows, ROWS * PRADULINS_RECORD_WORDS, values) == PRADULINS_OK && values[0] == 6, "a body is not read");
+    expect(pradulins_decode(PRADULINS_V1_1, body, sizeof body, rows, ROWS * PRADULINS_RECORD_WORDS, values) == PRADULINS_OK && values[0] == 6, "a body is not read");
     size_t words = values[0] * PRADULINS_RECORD_WORDS;
     rows_say(words, body, sizeof body, in_order, sizeof in_order);
     before_rows();
     expect(pradulins_sign_fields(rows, words, body, sizeof body, 0, out, sizeof out, values) == PRADULINS_OK && values[0] == 60, "nothing to sign");
     before();
-    expect(pradulins_sign_bytes(body, sizeof body, 0, sign, sizeof sign, values) == PRADULINS_OK && values[0] == 60, "no sign bytes");
+    expect(pradulins_sign_bytes(PRADULINS_V1_1, body, sizeof body, 0, sign, sizeof sign, values) == PRADULINS_OK && values[0] == 60, "no sign bytes");
     expect(memcmp(sign, out, 60) == 0, "other bytes to sign than are verified");
 }
 
@@ -385,7 +385,7 @@ static void put_unsigned(uint8_t body[UNSIGNED], uint8_t key)
 static void admits(const uint8_t *body, size_t len, bool verified, uint32_t number, int is_new, size_t seen_len, size_t cache_len)
 {
     before();
-    uint32_t r = pradulins_admit(node, seen, seen_len, cache, cache_len, body, len, 0, verified, 100, values);
+    uint32_t r = pradulins_admit(node, seen, seen_len, cache, cache_len, PRADULINS_V1_1, body, len, 0, verified, 100, values);
     expect(r == number, "an admit answers otherwise");
     if (r)
         after(0, NULL, "values beside a refusal of an admit");
@@ -415,14 +415,15 @@ static void unsigned_messages(void)
     expect(pradulins_start(node, 1000, 4, 2, 3, PRADULINS_ALLOW_UNSIGNED) == PRADULINS_OK, "settings are refused at start");
     admits(without, UNSIGNED, false, PRADULINS_OK, 1, 4 * 129, 3 * 4096);
     admits(without, UNSIGNED, true, PRADULINS_OK, 0, 4 * 129, 3 * 4096);
-    expect(pradulins_ask(node, seen, 4 * 129, cache, 3 * 4096, offer, sizeof offer, made, sizeof made, values) == PRADULINS_OK && values[0] == 0,
-           "what was seen unsigned is asked for");
+    expect(pradulins_ask(node, seen, 4 * 129, cache, 3 * 4096, PRADULINS_V1_1, offer, sizeof offer, made, sizeof made, values) == PRADULINS_OK
+           && values[0] == 0, "what was seen unsigned is asked for");
     admits(with, NOTICE, false, PRADULINS_NOT_VERIFIED, 0, 4 * 129, 3 * 4096);
     admits(with, NOTICE, true, PRADULINS_OK, 1, 4 * 129, 3 * 4096);
     admits(with, NOTICE, true, PRADULINS_OK, 0, 4 * 129, 3 * 4096);
     state_is(4 * 129, 3 * 4096, 100, 2, 1);
-    expect(pradulins_serve(node, seen, 4 * 129, cache, 3 * 4096, request, sizeof request, made, sizeof made, values) == PRADULINS_OK
-           && values[0] == UNSIGNED && values[1] == 1 && values[2] == 0 && memcmp(made, without, UNSIGNED) == 0, "what came first is not served");
+    expect(pradulins_serve(node, seen, 4 * 129, cache, 3 * 4096, PRADULINS_V1_1, request, sizeof request, request, 0, made, sizeof made, values)
+           == PRADULINS_OK && values[0] == UNSIGNED && values[1] == 1 && values[2] == 0 && memcmp(made, without, UNSIGNED) == 0,
+           "what came first is not served");
     with_number(FLAGS_AT, 0, refused_without_the_flag);
 
     /* A node without the flag, in whose list only the unsigned form stands, asks, and refuses what it gets. */
@@ -431,7 +432,7 @@ static void unsigned_messages(void)
     admits(with, NOTICE, true, PRADULINS_OK, 1, 4 * 129, 3 * 4096);
     expect(seen[0] == 1, "the mark of the first id stands elsewhere");
     seen[0] = 0;
-    expect(pradulins_ask(node, seen, 4 * 129, cache, 3 * 4096, offer, sizeof offer, made, sizeof made, values) == PRADULINS_OK
+    expect(pradulins_ask(node, seen, 4 * 129, cache, 3 * 4096, PRADULINS_V1_1, offer, sizeof offer, made, sizeof made, values) == PRADULINS_OK
            && values[0] == sizeof request && memcmp(made, request, sizeof request) == 0, "what was seen signed alone is not asked for");
     seen[0] = 1;
 }
@@ -453,7 +454,7 @@ static void unsigned_messages_written(void)
     size_t words = 2 * PRADULINS_RECORD_WORDS;
     put_notice(with, 'A');
     put_unsigned(without, 'A');
-    expect(pradulins_decode(without, UNSIGNED, rows, ROWS * PRADULINS_RECORD_WORDS, values) == PRADULINS_OK && values[0] == 2, "a body is not read");
+    expect(pradulins_decode(PRADULINS_V1_1, without, UNSIGNED, rows, ROWS * PRADULINS_RECORD_WORDS, values) == PRADULINS_OK && values[0] == 2, "a body is not read");
     writes(words, without, UNSIGNED, 0, PRADULINS_SIGNATURE_LENGTH, 0, NULL);
     writes(words, without, UNSIGNED, PRADULINS_ALLOW_UNSIGNED, PRADULINS_OK, UNSIGNED, without);
     writes(words, without, UNSIGNED, 2, PRADULINS_BAD_SETTING, 0, NULL);
@@ -466,9 +467,168 @@ static void unsigned_messages_written(void)
     pradulins_row_field(rows, 3, 0, 0);
     writes(words, without, UNSIGNED, PRADULINS_ALLOW_UNSIGNED, PRADULINS_SIGNATURE_LENGTH, 0, NULL);
     /* A signed one, under either. */
-    expect(pradulins_decode(with, NOTICE, rows, ROWS * PRADULINS_RECORD_WORDS, values) == PRADULINS_OK && values[0] == 2, "a body is not read");
+    expect(pradulins_decode(PRADULINS_V1_1, with, NOTICE, rows, ROWS * PRADULINS_RECORD_WORDS, values) == PRADULINS_OK && values[0] == 2, "a body is not read");
     writes(words, with, NOTICE, 0, PRADULINS_OK, NOTICE, with);
     writes(words, with, NOTICE, PRADULINS_ALLOW_UNSIGNED, PRADULINS_OK, NOTICE, with);
+}
+
+/* ---- editions */
+
+/* Numbers of each edition: only the lowest bit counts. */
+static const uint32_t v1_1[] = {PRADULINS_V1_1, 2, 4, 256, UINT32_C(1) << 31, UINT32_MAX - 1}, v1_2[] = {PRADULINS_V1_2, 3, 5, 257, (UINT32_C(1) << 31) + 1, UINT32_MAX};
+enum { NUMBERS = sizeof v1_1 / sizeof *v1_1 };
+
+/* A record of the table: its kind and where it stands, and nothing in it. */
+static void row_is(size_t place, uint64_t kind, uint64_t start, uint64_t end)
+{
+    uint64_t wanted[PRADULINS_RECORD_WORDS];
+    pradulins_row(wanted, kind, start, end);
+    expect(memcmp(rows + place * PRADULINS_RECORD_WORDS, wanted, sizeof wanted) == 0, "another record");
+}
+
+/* A body in one edition: how many records it has, and what it is written as. */
+static void reads(uint32_t dialect, const uint8_t *body, size_t len, uint64_t records, const uint8_t *as, size_t as_len)
+{
+    const uint64_t wanted[] = {records, 1}, written[] = {as_len};
+    memset(rows, 0x5e, sizeof rows);
+    before_rows();
+    expect(pradulins_decode(dialect, body, len, rows, sizeof rows / sizeof *rows, values) == PRADULINS_OK, "a body is not read");
+    after(2, wanted, "another number of records");
+    before_rows();
+    expect(pradulins_encode(dialect, body, len, out, sizeof out, values) == PRADULINS_OK, "a body is not written anew");
+    after(1, written, "another number of bytes anew");
+    expect(memcmp(out, as, as_len) == 0, "other bytes anew");
+}
+
+static void bodies_in_editions(void)
+{
+    static const uint8_t body[] = {0x1a, 7, 0x2a, 3, 0x0a, 1, 'A', 0x22, 0}, older[] = {0x1a, 2, 0x22, 0}, newer[] = {0x1a, 7, 0x22, 0, 0x2a, 3, 0x0a, 1, 'A'};
+    static const uint8_t cut[] = {0x1a, 3, 0x2a, 1, 0x80};
+    static const uint64_t place[] = {UNTOUCHED, UNTOUCHED, UNTOUCHED, UNTOUCHED, 4, 3, 5, 0};
+    uint8_t notice[NOTICE], sign[80];
+    put_notice(notice, 'A');
+    for (int i = 0; i < NUMBERS; i++) {
+        reads(v1_1[i], body, sizeof body, 1, older, sizeof older);
+        row_is(0, PRADULINS_KIND_PRUNE, 9, 9);
+        reads(v1_2[i], body, sizeof body, 3, newer, sizeof newer);
+        row_is(0, PRADULINS_KIND_IDONTWANT, 4, 7);
+        row_is(1, PRADULINS_KIND_MESSAGE_ID, 6, 7);
+        row_is(2, PRADULINS_KIND_PRUNE, 9, 9);
+        /* What 1.2 alone refuses, with its place. */
+        reads(v1_1[i], cut, sizeof cut, 0, (const uint8_t *)"\x1a\x00", 2);
+        before();
+        expect(pradulins_decode(v1_2[i], cut, sizeof cut, rows, sizeof rows / sizeof *rows, values) == PRADULINS_VARINT_SHORT, "a cut IDONTWANT is read");
+        after(PRADULINS_VALUES, place, "another place in an IDONTWANT");
+        /* The signature of a message, which is its field 5, is never signed. */
+        for (int edition = 0; edition < 2; edition++) {
+            uint32_t dialect = edition ? v1_2[i] : v1_1[i];
+            expect(pradulins_sign_bytes(dialect, notice, NOTICE, 0, sign, sizeof sign, values) == PRADULINS_OK && values[0] == 60, "no sign bytes");
+            expect(memcmp(sign, "libp2p-pubsub:", 14) == 0 && memcmp(sign + 14, notice + 2, 46) == 0, "other sign bytes");
+            expect(pradulins_message_id(dialect, notice, NOTICE, 0, sign, sizeof sign, values) == PRADULINS_OK && values[0] == 39, "no id");
+        }
+    }
+    /* They are read, and not written from rows. */
+    reads(PRADULINS_V1_2, body, sizeof body, 3, newer, sizeof newer);
+    rows_are_none(PRADULINS_RECORD_WORDS, body, sizeof body);
+    rows_are_none(3 * PRADULINS_RECORD_WORDS, body, sizeof body);
+}
+
+/* A body with one control, in it one entry with ids of 39 bytes: those of the notices of these keys. */
+static size_t put_ids(uint8_t *body, uint8_t entry, const char *keys)
+{
+    size_t count = strlen(keys), at = 4;
+    body[0] = 0x1a;
+    body[1] = (uint8_t)(2 + 41 * count);
+    body[2] = entry;
+    body[3] = (uint8_t)(41 * count);
+    for (; *keys; keys++, at += 41) {
+        uint8_t notice[NOTICE];
+        put_notice(notice, (uint8_t)*keys);
+        body[at] = 0x0a;
+        body[at + 1] = 39;
+        memcpy(body + at + 2, notice + 4, 38);
+        body[at + 40] = 1;
+    }
+    return at;
+}
+
+enum { IWANT = 0x12, IDONTWANT = 0x2a, IDS_SIZE = 4 + 3 * 41 };
+
+/* What serve answers to a request with a second body, in so much room: messages of these keys, and so many left. */
+static void serves(const uint8_t *body, size_t len, const uint8_t *unwanted, size_t unwanted_len, size_t room, const char *keys, uint64_t left)
+{
+    const uint64_t wanted[] = {NOTICE * strlen(keys), strlen(keys), left};
+    for (int i = 0; i < 2 * NUMBERS; i++) {
+        before_rows();
+        expect(pradulins_serve(node, seen, 4 * 129, cache, 3 * 4096, i < NUMBERS ? v1_1[i] : v1_2[i - NUMBERS], body, len, unwanted, unwanted_len, out, room, values)
+               == PRADULINS_OK, "serve is refused");
+        after(3, wanted, "another reply");
+        for (size_t k = 0; k < strlen(keys); k++) {
+            uint8_t notice[NOTICE];
+            put_notice(notice, (uint8_t)keys[k]);
+            expect(memcmp(out + k * NOTICE, notice, NOTICE) == 0, "another message in a reply");
+        }
+        for (size_t k = NOTICE * strlen(keys); k < sizeof out; k++)
+            expect(out[k] == 0x5e, "a byte behind a reply changed");
+    }
+}
+
+/* Or a refusal, with so many values. */
+static void serve_refuses(const uint8_t *body, size_t len, const uint8_t *unwanted, size_t unwanted_len, size_t room, uint32_t number, int count, const uint64_t *wanted)
+{
+    for (int i = 0; i < 2 * NUMBERS; i++) {
+        before_rows();
+        expect(pradulins_serve(node, seen, 4 * 129, cache, 3 * 4096, i < NUMBERS ? v1_1[i] : v1_2[i - NUMBERS], body, len, unwanted, unwanted_len, out, room, values)
+               == number, "serve is not refused as it should be");
+        after(count, wanted, "other values beside a refusal of serve");
+        for (size_t k = 0; k < sizeof out; k++)
+            expect(out[k] == 0x5e, "a byte changed beside a refusal of serve");
+    }
+}
+
+static void second_bodies(void)
+{
+    static const uint64_t room[] = {NOTICE}, number[] = {0, 0, UNTOUCHED, UNTOUCHED, 0, 0, 0, 0}, many[] = {513}, large[] = {PRADULINS_MAX_BODY + 1};
+    static const uint64_t short_at_0[] = {UNTOUCHED, UNTOUCHED, UNTOUCHED, UNTOUCHED, 0, 0, 0, 0}, in_entry[] = {UNTOUCHED, UNTOUCHED, UNTOUCHED, UNTOUCHED, 4, 3, 5, 0};
+    static uint8_t long_body[PRADULINS_MAX_BODY + 1], records[2 * 513];
+    uint8_t both[IDS_SIZE], one[IDS_SIZE], dont[IDS_SIZE], other[IDS_SIZE], joined[2 * IDS_SIZE];
+    size_t both_len = put_ids(both, IWANT, "AB"), one_len = put_ids(one, IWANT, "A"), dont_len = put_ids(dont, IDONTWANT, "A"), other_len;
+
+    expect(pradulins_start(node, 1000, 4, 2, 3, 0) == PRADULINS_OK, "settings are refused at start");
+    admit('A', 100, 4 * 129, 3 * 4096);
+    admit('B', 100, 4 * 129, 3 * 4096);
+
+    serves(both, both_len, both, 0, sizeof out, "A", 1);
+    serves(both, both_len, dont, dont_len, sizeof out, "B", 0);
+    serves(both, both_len, dont, dont_len, NOTICE, "B", 0);
+    serve_refuses(both, both_len, dont, dont_len, NOTICE - 1, PRADULINS_ROOM, 1, room);
+    serves(one, one_len, dont, dont_len, sizeof out, "", 0);
+    serves(one, one_len, dont, dont_len, 0, "", 0);
+    /* Not its IWANTs; nor the IDONTWANTs of the body itself, unless it is lent as the second, too. */
+    serves(both, both_len, one, one_len, sizeof out, "A", 1);
+    memcpy(joined, both, both_len);
+    memcpy(joined + both_len, dont, dont_len);
+    serves(joined, both_len + dont_len, joined, 0, sizeof out, "A", 1);
+    serves(joined, both_len + dont_len, joined, both_len + dont_len, sizeof out, "B", 0);
+    /* In any order, several times, in several controls. */
+    other_len = put_ids(other, IDONTWANT, "BA");
+    serves(both, both_len, other, other_len, sizeof out, "", 0);
+    other_len = put_ids(other, IDONTWANT, "CBB");
+    serves(both, both_len, other, other_len, sizeof out, "A", 0);
+    memcpy(joined, other, other_len);
+    memcpy(joined + other_len, dont, dont_len);
+    serves(both, both_len, joined, other_len + dont_len, sizeof out, "", 0);
+
+    /* The body that asks is tested first; a place counts from the start of the body that is refused. */
+    serve_refuses(both, both_len, (const uint8_t *)"", 1, sizeof out, PRADULINS_FIELD_NUMBER, PRADULINS_VALUES, number);
+    serve_refuses((const uint8_t *)"\x80", 1, (const uint8_t *)"", 1, sizeof out, PRADULINS_VARINT_SHORT, PRADULINS_VALUES, short_at_0);
+    serve_refuses(both, both_len, (const uint8_t *)"\x1a\x03\x2a\x01\x80", 5, 0, PRADULINS_VARINT_SHORT, PRADULINS_VALUES, in_entry);
+    for (size_t i = 0; i < sizeof records; i += 2)
+        records[i] = 0x0a;
+    serve_refuses(both, both_len, records, sizeof records, 0, PRADULINS_TOO_MANY_RECORDS, 1, many);
+    serves(both, both_len, records, sizeof records - 2, sizeof out, "A", 1);
+    serve_refuses(both, both_len, long_body, sizeof long_body, 0, PRADULINS_BODY_TOO_LARGE, 1, large);
+    serve_refuses(long_body, sizeof long_body, records, sizeof records, 0, PRADULINS_BODY_TOO_LARGE, 1, large);
 }
 
 /* ---- words */
@@ -508,6 +668,8 @@ int test_self(void)
     read_and_said();
     unsigned_messages();
     unsigned_messages_written();
+    bodies_in_editions();
+    second_bodies();
     printf("%d checks, %d failed\n", checks, faults);
     return faults ? 1 : 0;
 }

@@ -1,26 +1,68 @@
 //! Bodies: read into records, walked field by field, written anew; the bytes to sign and the id of a message.
 
-use crate::{answered, made, sys, Refusal, MAX_BODY, MAX_RECORDS, RECORD_WORDS, VALUES};
+use crate::{answered, fits, made, sys, Refusal, MAX_BODY, MAX_RECORDS, RECORD_WORDS, VALUES};
+
+/// The edition of gossipsub in which a body is read: that of the stream by which it came, which both sides agreed on when it was opened.
+///
+/// It is no setting of a gateway: each call that reads a body is told the edition, and one gateway may be given bodies of either. What
+/// [`V1_2`](Edition::V1_2) adds is [`Record::IDontWant`]. All else is read alike, and a message is the same in both; a body that is accepted in 1.2 is
+/// accepted in 1.1.
+///
+#[cfg_attr(not(no_archive), doc = "```")]
+#[cfg_attr(no_archive, doc = "```no_run")]
+/// use pradulins::{decode, Edition, Record};
+///
+/// // A control with field 5, and in that an id.
+/// let body = [0x1a, 5, 0x2a, 3, 0x0a, 1, b'A'];
+/// assert_eq!(decode(Edition::V1_1, &body)?.records, []);
+/// assert_eq!(decode(Edition::V1_2, &body)?.records, [Record::IDontWant, Record::MessageId(b"A")]);
+/// # Ok::<(), pradulins::Refusal>(())
+/// ```
+#[derive(Clone, Copy, Debug, PartialEq, Eq, Hash)]
+pub enum Edition {
+    /// Gossipsub 1.1, `/meshsub/1.1.0`, and what is older. Field 5 of a control is skipped, whatever it holds.
+    V1_1,
+    /// Gossipsub 1.2, `/meshsub/1.2.0`. Field 5 of a control is an IDONTWANT.
+    V1_2,
+}
+
+impl Edition {
+    /// The number by which the library knows it. An archive of an earlier version takes none, so that it is not to be called.
+    pub(crate) fn number(self) -> u32 {
+        fits(sys::format(), sys::version());
+        match self {
+            Edition::V1_1 => 0,
+            Edition::V1_2 => 1,
+        }
+    }
+}
 
 /// A body in canonical bytes: bodies that mean the same give the same bytes, and they are never longer.
 ///
 /// Refused: what is wrong with the body (1 to 7, 10, 11).
-pub fn reencode(body: &[u8]) -> Result<Vec<u8>, Refusal> {
-    made(body.len().min(MAX_BODY), |out, values| sys::encode(body, out, values))
+///
+/// # Panics
+///
+/// If the program is linked with an archive of another version. So do [`sign_bytes`], [`message_id`], [`decode`] and [`messages`].
+pub fn reencode(edition: Edition, body: &[u8]) -> Result<Vec<u8>, Refusal> {
+    let dialect = edition.number();
+    made(body.len().min(MAX_BODY), |out, values| sys::encode(dialect, body, out, values))
 }
 
 /// The bytes that the signature of the message at `index` is made over.
 ///
 /// Refused: what is wrong with the body (1 to 7, 10, 11), [`Refusal::NoMessage`].
-pub fn sign_bytes(body: &[u8], index: usize) -> Result<Vec<u8>, Refusal> {
-    made(body.len().min(MAX_BODY) + 14, |out, values| sys::sign_bytes(body, index, out, values))
+pub fn sign_bytes(edition: Edition, body: &[u8], index: usize) -> Result<Vec<u8>, Refusal> {
+    let dialect = edition.number();
+    made(body.len().min(MAX_BODY) + 14, |out, values| sys::sign_bytes(dialect, body, index, out, values))
 }
 
 /// The id of the message at `index`: its from and its seqno.
 ///
 /// Refused: what is wrong with the body (1 to 7, 10, 11), [`Refusal::NoMessage`], and 21, 22 and 23.
-pub fn message_id(body: &[u8], index: usize) -> Result<Vec<u8>, Refusal> {
-    made(128, |out, values| sys::message_id(body, index, out, values))
+pub fn message_id(edition: Edition, body: &[u8], index: usize) -> Result<Vec<u8>, Refusal> {
+    let dialect = edition.number();
+    made(128, |out, values| sys::message_id(dialect, body, index, out, values))
 }
 
 /// What a body says.
@@ -66,7 +108,7 @@ pub enum Record<'a> {
     },
     /// A request; the ids follow.
     IWant,
-    /// An id of the offer or the request before it.
+    /// An id of the offer, the request or the IDONTWANT before it.
     MessageId(&'a [u8]),
     /// A peer joins the mesh of a topic.
     Graft {
@@ -87,6 +129,9 @@ pub enum Record<'a> {
         /// Its record.
         signed_peer_record: Option<&'a [u8]>,
     },
+    /// In [`Edition::V1_2`] alone: a peer has messages already and does not want to be sent them ([`Gateway::serve_without`](crate::Gateway::serve_without)); the ids
+    /// follow.
+    IDontWant,
 }
 
 /// The bytes of a field of a record, from the numbers of its row.
@@ -116,6 +161,7 @@ fn record_of<'a>(body: &'a [u8], row: &[u64]) -> Record<'a> {
         8 => Record::Graft { topic_id: topic_id() },
         9 => Record::Prune { topic_id: topic_id(), backoff: number },
         10 => Record::PeerInfo { peer_id: bytes(0), signed_peer_record: bytes(1) },
+        11 => Record::IDontWant,
         kind => panic!("libpradulins.a wrote a record of kind {kind}, which there is not"),
     }
 }
@@ -123,11 +169,12 @@ fn record_of<'a>(body: &'a [u8], row: &[u64]) -> Record<'a> {
 /// Reads a body.
 ///
 /// Refused: what is wrong with it (1 to 7, 10, 11).
-pub fn decode(body: &[u8]) -> Result<Decoded<'_>, Refusal> {
+pub fn decode(edition: Edition, body: &[u8]) -> Result<Decoded<'_>, Refusal> {
+    let dialect = edition.number();
     // A record takes at least a byte of tag and one of length.
     let mut table = vec![0; (body.len() / 2).min(MAX_RECORDS) * RECORD_WORDS];
     let mut values = [0; VALUES];
-    answered(sys::decode(body, &mut table, &mut values), &values)?;
+    answered(sys::decode(dialect, body, &mut table, &mut values), &values)?;
     let rows = &table[..values[0] as usize * RECORD_WORDS];
     Ok(Decoded { control: values[1] == 1, records: rows.chunks_exact(RECORD_WORDS).map(|row| record_of(body, row)).collect() })
 }
@@ -171,8 +218,8 @@ fn messages_of<'a>(records: &[Record<'a>]) -> Vec<Message<'a>> {
 /// The messages of a body, in one reading of it. Whether they would be admitted is not looked at.
 ///
 /// Refused: what is wrong with the body (1 to 7, 10, 11).
-pub fn messages(body: &[u8]) -> Result<Vec<Message<'_>>, Refusal> {
-    Ok(messages_of(&decode(body)?.records))
+pub fn messages(edition: Edition, body: &[u8]) -> Result<Vec<Message<'_>>, Refusal> {
+    Ok(messages_of(&decode(edition, body)?.records))
 }
 
 /// A top-level field of a body.
@@ -196,7 +243,7 @@ pub struct Walk<'a> {
     done: bool,
 }
 
-/// Walks over the top-level fields of a body. What a field holds is not looked at.
+/// Walks over the top-level fields of a body. What a field holds is not looked at, so the edition does not matter.
 ///
 /// Refused: what is wrong with a field (1 to 6), or a body above 65,536 bytes. No field encloses the [`Place`](crate::Place) of such a refusal.
 pub fn walk(body: &[u8]) -> Walk<'_> {
@@ -264,6 +311,13 @@ mod tests {
         assert_eq!(at(8, None, &[]), Record::Graft { topic_id: None });
         assert_eq!(at(9, Some(60), &[Some((0, 1))]), Record::Prune { topic_id: Some("a"), backoff: Some(60) });
         assert_eq!(at(10, None, &[None, Some((0, 8))]), Record::PeerInfo { peer_id: None, signed_peer_record: Some(b"abcdefgh") });
+        assert_eq!(at(11, None, &[]), Record::IDontWant);
+    }
+
+    #[test]
+    #[should_panic(expected = "wrote a record of kind 12, which there is not")]
+    fn no_other_kind() {
+        record_of(b"", &row(12, 0, 0, None, &[]));
     }
 
     #[test]

@@ -255,7 +255,7 @@ mod tests {
     #[cfg(not(no_archive))]
     mod gateways {
         use super::*;
-        use crate::{body_of, Admitted, Refusal, Settings};
+        use crate::{body_of, Admitted, Edition, Refusal, Settings};
 
         /// Half an hour: less than the wall clock steps by.
         const SETTINGS: Settings = Settings { ttl: HOUR / 2, max_seen: 256, history_len: 4, max_messages: 4, allow_unsigned: false };
@@ -280,7 +280,7 @@ mod tests {
             let mut gateway = Gateway::start(SETTINGS).unwrap();
             let mut wrong = Wrong::default();
             for turn in 0..36 {
-                match gateway.admit(&notice(turn as u8 + 1), 0, true, read()) {
+                match gateway.admit(Edition::V1_1, &notice(turn as u8 + 1), 0, true, read()) {
                     Ok(admitted) => wrong.not_new += usize::from(admitted != Admitted::New),
                     Err(Refusal::ClockBack { .. }) => wrong.refused += 1,
                     Err(refusal) => panic!("{refusal}"),
@@ -290,7 +290,7 @@ mod tests {
                 }
                 wrong.refused += usize::from(gateway.heartbeat(read()).is_err());
                 for old in turn.saturating_sub(5)..=turn {
-                    match gateway.admit(&notice(old as u8 + 1), 0, true, read()) {
+                    match gateway.admit(Edition::V1_1, &notice(old as u8 + 1), 0, true, read()) {
                         Ok(admitted) => wrong.forgotten += usize::from(admitted != Admitted::Duplicate),
                         Err(_) => wrong.refused += 1,
                     }
@@ -332,7 +332,7 @@ mod tests {
         /// A gateway that was saved at a reading and loaded again.
         fn saved_at(reading: u64) -> Gateway {
             let mut gateway = Gateway::start(SETTINGS).unwrap();
-            assert_eq!(gateway.admit(&notice(1), 0, true, reading), Ok(Admitted::New));
+            assert_eq!(gateway.admit(Edition::V1_1, &notice(1), 0, true, reading), Ok(Admitted::New));
             Gateway::load(&gateway.save()).unwrap()
         }
 
@@ -342,10 +342,10 @@ mod tests {
             let mut gateway = saved_at(far);
             let clock = Clock::after(&gateway);
             assert!(clock.now() >= far && clock.ahead_of(&gateway) < HOUR / 2);
-            assert_eq!(gateway.admit(&notice(1), 0, true, clock.now()), Ok(Admitted::Duplicate));
-            assert_eq!(gateway.admit(&notice(2), 0, true, clock.now()), Ok(Admitted::New));
+            assert_eq!(gateway.admit(Edition::V1_1, &notice(1), 0, true, clock.now()), Ok(Admitted::Duplicate));
+            assert_eq!(gateway.admit(Edition::V1_1, &notice(2), 0, true, clock.now()), Ok(Admitted::New));
             let wall = utc(SystemTime::now());
-            assert!(matches!(gateway.admit(&notice(3), 0, true, wall), Err(Refusal::ClockBack { clock }) if clock >= far));
+            assert!(matches!(gateway.admit(Edition::V1_1, &notice(3), 0, true, wall), Err(Refusal::ClockBack { clock }) if clock >= far));
             assert_eq!(Clock::start().ahead_of(&gateway), 0);
         }
 
@@ -354,10 +354,10 @@ mod tests {
             let mut gateway = saved_at(HOUR);
             let set = Set::at(0);
             let clock = Running::new(&set, gateway.clock());
-            assert_eq!(gateway.admit(&notice(1), 0, true, clock.now()), Ok(Admitted::Duplicate));
+            assert_eq!(gateway.admit(Edition::V1_1, &notice(1), 0, true, clock.now()), Ok(Admitted::Duplicate));
             set.pass(MINUTE);
-            assert_eq!(gateway.admit(&notice(2), 0, true, clock.now()), Ok(Admitted::New));
-            assert_eq!(gateway.admit(&notice(3), 0, true, set.wall.get()), Err(Refusal::ClockBack { clock: HOUR + MINUTE }));
+            assert_eq!(gateway.admit(Edition::V1_1, &notice(2), 0, true, clock.now()), Ok(Admitted::New));
+            assert_eq!(gateway.admit(Edition::V1_1, &notice(3), 0, true, set.wall.get()), Err(Refusal::ClockBack { clock: HOUR + MINUTE }));
         }
 
         #[test]
@@ -368,8 +368,8 @@ mod tests {
             assert!(Clock::after(&gateway).ahead_of(&gateway) >= SETTINGS.ttl);
             let clock = Clock::at(gateway.clock());
             assert!(clock.ahead_of(&gateway) < SETTINGS.ttl);
-            assert_eq!(gateway.admit(&notice(1), 0, true, clock.now()), Ok(Admitted::Duplicate));
-            assert_eq!(gateway.admit(&notice(2), 0, true, clock.now()), Ok(Admitted::New));
+            assert_eq!(gateway.admit(Edition::V1_1, &notice(1), 0, true, clock.now()), Ok(Admitted::Duplicate));
+            assert_eq!(gateway.admit(Edition::V1_1, &notice(2), 0, true, clock.now()), Ok(Admitted::New));
             assert_eq!(gateway.heartbeat(clock.now()), Ok(()));
             assert_eq!(gateway.seen(), 2);
             // Before the gateway's clock it is refused.
@@ -381,7 +381,7 @@ mod tests {
             let mut gateway = saved_at(utc(SystemTime::now()) - HOUR);
             let clock = Clock::after(&gateway);
             assert!(clock.ahead_of(&gateway) >= SETTINGS.ttl);
-            assert_eq!(gateway.admit(&notice(1), 0, true, clock.now()), Ok(Admitted::New));
+            assert_eq!(gateway.admit(Edition::V1_1, &notice(1), 0, true, clock.now()), Ok(Admitted::New));
             assert!(clock.ahead_of(&gateway) < SETTINGS.ttl);
         }
     }

@@ -8,7 +8,7 @@ use crate::{answered, fits, flags, made, sys, Record, Refusal, MAX_BODY, RECORD_
 /// the same records again: subscriptions first, then messages, grafts and prunes, each in the order in which they came. A message is made anew from its fields:
 /// its `raw` is not looked at.
 ///
-/// Refused: [`Refusal::Malformed`], of a topic without a message or a peer without a prune before it, and of offers, requests and ids, which are not written so;
+/// Refused: [`Refusal::Malformed`], of a topic without a message or a peer without a prune before it, and of offers, requests, IDONTWANTs and ids, which are not written so;
 /// [`Refusal::TooManyRecords`]; what admission would refuse of a message (21, 22, 34, 23, 26, 35, 36, 28, 29, 30), message by message, where an absent signature
 /// is one of 0 bytes ([`Rpc::allow_unsigned`] has such messages written); [`Refusal::RpcTooLong`].
 ///
@@ -88,6 +88,7 @@ impl Rows {
             Record::Graft { topic_id } => self.row(8, b"", None, &[topic_id.map(str::as_bytes)]),
             Record::Prune { topic_id, backoff } => self.row(9, b"", backoff, &[topic_id.map(str::as_bytes)]),
             Record::PeerInfo { peer_id, signed_peer_record } => self.row(10, b"", None, &[peer_id, signed_peer_record]),
+            Record::IDontWant => self.row(11, b"", None, &[]),
         }
     }
 
@@ -221,7 +222,7 @@ impl<'a> Rpc<'a> {
 /// let draft = Draft { from: &peer_id, seqno: &17u64.to_be_bytes(), data: Some(b"study 17"), topics: &["ct"], key: None };
 /// let signature = sign(&draft.sign_fields()?); // by the host's own key
 /// let body = Rpc::new().publish(&draft, &signature).write()?;
-/// # assert_eq!(pradulins::sign_bytes(&body, 0), draft.sign_fields());
+/// # assert_eq!(pradulins::sign_bytes(pradulins::Edition::V1_1, &body, 0), draft.sign_fields());
 /// # Ok::<(), pradulins::Refusal>(())
 /// ```
 #[derive(Clone, Copy, Debug, PartialEq, Eq)]
@@ -284,6 +285,7 @@ mod tests {
             Record::IHave { topic_id: Some("u") },
             Record::IWant,
             Record::MessageId(b"id"),
+            Record::IDontWant,
         ];
         let rows = Rows::of(&records);
         assert_eq!(rows.bytes, b"abfsigktpruid");
@@ -299,9 +301,10 @@ mod tests {
             row(5, [0, 0], None, &[Some([10, 11])]),
             row(6, [0, 0], None, &[]),
             row(7, [11, 13], None, &[]),
+            row(11, [0, 0], None, &[]),
         ];
         assert_eq!(rows.table, wanted.concat());
-        assert_eq!(rows.sign_room(), 14 + 13 + 11 * 14);
+        assert_eq!(rows.sign_room(), 14 + 13 + 11 * 15);
     }
 
     #[test]

@@ -1,6 +1,6 @@
 //! The node with its two stores.
 
-use crate::{answered, fits, flags, made, sys, Refusal, ALLOW_UNSIGNED, CACHE_PLACE, MAX_BODY, NODE_SIZE, SEEN_ROW, VALUES};
+use crate::{answered, fits, flags, made, sys, Edition, Refusal, ALLOW_UNSIGNED, CACHE_PLACE, MAX_BODY, NODE_SIZE, SEEN_ROW, VALUES};
 
 /// What a gateway keeps, and how long.
 #[derive(Clone, Copy, Debug, PartialEq, Eq, Hash)]
@@ -54,7 +54,7 @@ pub struct Reply {
     pub left: usize,
 }
 
-/// What was written to a lent buffer by [`Gateway::serve_into`].
+/// What was written to a lent buffer by [`Gateway::serve_into`] or [`Gateway::serve_without_into`].
 #[derive(Clone, Copy, Debug, PartialEq, Eq, Hash)]
 pub struct Served {
     /// How many bytes were written.
@@ -112,14 +112,15 @@ impl Gateway {
         Ok(Gateway { node, seen: vec![0; max_seen * SEEN_ROW], cache: vec![0; max_messages * CACHE_PLACE] })
     }
 
-    /// Admits the message at `index` of `body` (from 0). `verified` is the host's word that its signature was verified, and of a sender that is a SHA-256,
+    /// Admits the message at `index` of `body` (from 0), which came by a stream of this edition. `verified` is the host's word that its signature was verified, and of a sender that is a SHA-256,
     /// that the message's key maps to it ([Senders](crate#senders)); `now` is the host's clock ([`Clock::now`](crate::Clock::now)).
     ///
     /// Refused: what is wrong with the body (1 to 7, 10, 11), the index (20) or the message (21, 22, 34, 23 to 26, 35, 36, 27 to 30), in this order, and then
     /// [`Refusal::ClockBack`]. With [`Settings::allow_unsigned`] a message with neither signature nor key meets none of 25, 26, 35, 36 and 27, whatever `verified` is.
-    pub fn admit(&mut self, body: &[u8], index: usize, verified: bool, now: u64) -> Result<Admitted, Refusal> {
+    pub fn admit(&mut self, edition: Edition, body: &[u8], index: usize, verified: bool, now: u64) -> Result<Admitted, Refusal> {
         let mut values = [0; VALUES];
-        answered(sys::admit(&mut self.node, &mut self.seen, &mut self.cache, body, index, verified, now, &mut values), &values)?;
+        let edition = edition.number();
+        answered(sys::admit(&mut self.node, &mut self.seen, &mut self.cache, edition, body, index, verified, now, &mut values), &values)?;
         Ok(if values[0] == 1 { Admitted::New } else { Admitted::Duplicate })
     }
 
@@ -164,29 +165,48 @@ impl Gateway {
         })
     }
 
-    /// A body that asks for what `body` offers and was not seen; empty where that is nothing.
+    /// A body that asks for what `body`, which came by a stream of this edition, offers and was not seen; empty where that is nothing.
     ///
     /// Refused: what is wrong with the body (1 to 7, 10, 11).
-    pub fn ask(&self, body: &[u8]) -> Result<Vec<u8>, Refusal> {
-        made(MAX_BODY, |out, values| sys::ask(&self.node, &self.seen, &self.cache, body, out, values))
+    pub fn ask(&self, edition: Edition, body: &[u8]) -> Result<Vec<u8>, Refusal> {
+        made(MAX_BODY, |out, values| sys::ask(&self.node, &self.seen, &self.cache, edition.number(), body, out, values))
     }
 
     /// The same into a lent buffer; how many bytes were written.
     ///
     /// Refused also: [`Refusal::Room`].
-    pub fn ask_into(&self, body: &[u8], out: &mut [u8]) -> Result<usize, Refusal> {
+    pub fn ask_into(&self, edition: Edition, body: &[u8], out: &mut [u8]) -> Result<usize, Refusal> {
         let mut values = [0; VALUES];
-        answered(sys::ask(&self.node, &self.seen, &self.cache, body, out, &mut values), &values)?;
+        answered(sys::ask(&self.node, &self.seen, &self.cache, edition.number(), body, out, &mut values), &values)?;
         Ok(values[0] as usize)
     }
 
-    /// The messages that `body` asks for and are kept, as many as fit a body.
+    /// The messages that `body`, which came by a stream of this edition, asks for and are kept, as many as fit a body.
     ///
     /// Refused: what is wrong with the body (1 to 7, 10, 11).
-    pub fn serve(&self, body: &[u8]) -> Result<Reply, Refusal> {
+    pub fn serve(&self, edition: Edition, body: &[u8]) -> Result<Reply, Refusal> {
+        self.serve_without(edition, body, &[])
+    }
+
+    /// The same into a lent buffer.
+    ///
+    /// Refused also: [`Refusal::Room`], where not even the first message fits.
+    pub fn serve_into(&self, edition: Edition, body: &[u8], out: &mut [u8]) -> Result<Served, Refusal> {
+        self.serve_without_into(edition, body, &[], out)
+    }
+
+    /// As [`Gateway::serve`], without the messages that the neighbour does not want: those whose ids are in the IDONTWANTs of `unwanted`, a body that it sent
+    /// before. They count neither as written nor as left.
+    ///
+    /// `unwanted` is read in [`Edition::V1_2`] whatever the edition of `body`, and what else stands in it changes nothing. IDONTWANTs in `body` itself do not
+    /// count. An empty `unwanted` is none.
+    ///
+    /// Refused: what is wrong with `body` (1 to 7, 10, 11), then the same of `unwanted`. A [`Place`](crate::Place) is one in the body that is refused; which of the
+    /// two that is, [`decode`](crate::decode) tells.
+    pub fn serve_without(&self, edition: Edition, body: &[u8], unwanted: &[u8]) -> Result<Reply, Refusal> {
         let (mut messages, mut left) = (0, 0);
         let body = made(MAX_BODY, |out, values| {
-            let number = sys::serve(&self.node, &self.seen, &self.cache, body, out, values);
+            let number = sys::serve(&self.node, &self.seen, &self.cache, edition.number(), body, unwanted, out, values);
             (messages, left) = (values[1] as usize, values[2] as usize);
             number
         })?;
@@ -195,10 +215,10 @@ impl Gateway {
 
     /// The same into a lent buffer.
     ///
-    /// Refused also: [`Refusal::Room`], where not even the first message fits.
-    pub fn serve_into(&self, body: &[u8], out: &mut [u8]) -> Result<Served, Refusal> {
+    /// Refused also: [`Refusal::Room`], where not even the first message that is wanted fits.
+    pub fn serve_without_into(&self, edition: Edition, body: &[u8], unwanted: &[u8], out: &mut [u8]) -> Result<Served, Refusal> {
         let mut values = [0; VALUES];
-        answered(sys::serve(&self.node, &self.seen, &self.cache, body, out, &mut values), &values)?;
+        answered(sys::serve(&self.node, &self.seen, &self.cache, edition.number(), body, unwanted, out, &mut values), &values)?;
         Ok(Served { bytes: values[0] as usize, messages: values[1] as usize, left: values[2] as usize })
     }
 
@@ -303,7 +323,7 @@ mod tests {
             assert_eq!((gateway.settings(), gateway.clock(), gateway.seen(), gateway.messages()), (settings, 0, 0, 0));
             for from in 1..=7 {
                 let now = 1 << (9 * u64::from(from) - 1);
-                gateway.admit(&body_of(from, &[0x1a, 1, 1, 0x22, 1, b't']), 0, true, now).unwrap();
+                gateway.admit(Edition::V1_1, &body_of(from, &[0x1a, 1, 1, 0x22, 1, b't']), 0, true, now).unwrap();
                 agree(&gateway);
                 assert_eq!((gateway.clock(), gateway.messages()), (now, usize::from(from).min(max_messages)));
             }

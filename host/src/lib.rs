@@ -3,11 +3,11 @@
 //! nothing, and its users write no `unsafe`.
 //!
 //! A host admits each message of a body that came in. Here `verify` and `file` are its own: the check of a signature, and what it does with a notice
-//! that is new.
+//! that is new. The [`Edition`] is that of the stream by which the body came; see "Editions".
 //!
 #![cfg_attr(not(no_archive), doc = "```")]
 #![cfg_attr(no_archive, doc = "```no_run")]
-//! use pradulins::{messages, sign_bytes, Admitted, Clock, Gateway, LoadError, Message, Settings};
+//! use pradulins::{messages, sign_bytes, Admitted, Clock, Edition, Gateway, LoadError, Message, Settings};
 //! use std::io::ErrorKind;
 //! # fn verify(_message: &Message, _signed: &[u8]) -> bool { true }
 //! # fn file(_message: &Message) {}
@@ -21,9 +21,10 @@
 //!     loaded => loaded?,
 //! };
 //! let clock = Clock::after(&gateway);
-//! for message in messages(&body)? {
-//!     let verified = verify(&message, &sign_bytes(&body, message.index)?);
-//!     match gateway.admit(&body, message.index, verified, clock.now()) {
+//! let edition = Edition::V1_1;
+//! for message in messages(edition, &body)? {
+//!     let verified = verify(&message, &sign_bytes(edition, &body, message.index)?);
+//!     match gateway.admit(edition, &body, message.index, verified, clock.now()) {
 //!         Ok(Admitted::New) => file(&message),
 //!         Ok(Admitted::Duplicate) => {}
 //!         Err(refusal) => eprintln!("message {}: {refusal}", message.index),
@@ -41,17 +42,18 @@
 //!
 #![cfg_attr(not(no_archive), doc = "```")]
 #![cfg_attr(no_archive, doc = "```no_run")]
-//! # use pradulins::{Admitted, Gateway, Settings};
+//! # use pradulins::{Admitted, Edition, Gateway, Settings};
 //! # let settings = Settings { ttl: 3_600_000, max_seen: 256, history_len: 4, max_messages: 64, allow_unsigned: false };
+//! # let edition = Edition::V1_2;
 //! # let (mut first, mut second) = (Gateway::start(settings)?, Gateway::start(settings)?);
 //! # let sender = [&[0, 0x24, 8, 1, 0x12, 0x20][..], &[b'A'; 32]].concat();
 //! # let body = [&[0x12, 0x70, 0x0a, 0x26][..], &sender, &[0x1a, 1, 1, 0x22, 1, b't', 0x2a, 0x40], &[0; 64]].concat();
-//! # first.admit(&body, 0, true, 100)?;
+//! # first.admit(edition, &body, 0, true, 100)?;
 //! let offer = first.advertise(b"t", 4)?;
-//! let request = second.ask(&offer)?;
-//! let reply = first.serve(&request)?;
+//! let request = second.ask(edition, &offer)?;
+//! let reply = first.serve(edition, &request)?;
 //! assert_eq!((reply.messages, reply.left), (1, 0));
-//! assert_eq!(second.admit(&reply.body, 0, true, 7)?, Admitted::New);
+//! assert_eq!(second.admit(edition, &reply.body, 0, true, 7)?, Admitted::New);
 //! assert_eq!(first.advertise(b"t", 4)?, second.advertise(b"t", 4)?);
 //! # Ok::<(), pradulins::Refusal>(())
 //! ```
@@ -62,7 +64,7 @@
 #![cfg_attr(not(no_archive), doc = "```")]
 #![cfg_attr(no_archive, doc = "```no_run")]
 //! use pradulins::{Draft, Rpc};
-//! # use pradulins::{Admitted, Gateway, Settings};
+//! # use pradulins::{Admitted, Edition, Gateway, Settings};
 //! # fn sign(_bytes: &[u8]) -> [u8; 64] { [0; 64] }
 //! # let sender = [&[0, 0x24, 8, 1, 0x12, 0x20][..], &[b'A'; 32]].concat();
 //! # let mut neighbour = Gateway::start(Settings { ttl: 3_600_000, max_seen: 256, history_len: 4, max_messages: 64, allow_unsigned: false })?;
@@ -70,7 +72,7 @@
 //! let draft = Draft { from: &sender, seqno: &17u64.to_be_bytes(), data: Some(b"study 17"), topics: &["ct"], key: None };
 //! let signature = sign(&draft.sign_fields()?);
 //! let body = Rpc::new().subscribe("ct").graft("ct").publish(&draft, &signature).write()?;
-//! # assert_eq!(neighbour.admit(&body, 0, true, 1)?, Admitted::New);
+//! # assert_eq!(neighbour.admit(Edition::V1_1, &body, 0, true, 1)?, Admitted::New);
 //! # Ok::<(), pradulins::Refusal>(())
 //! ```
 //!
@@ -79,9 +81,32 @@
 //! Where somebody asks why a notice is not offered, [`Gateway::explain`] says it by the notice's id: that it is not in the cache, that it is there without
 //! the topic, or how old its window is ([`Offer`]). What a gateway that was saved would say, `tools/why` of the repository tells.
 //!
+//! # Editions
+//!
+//! A stream speaks one [`Edition`] of gossipsub, 1.1 or 1.2: the one that both sides agreed on when it was opened. Each call that reads a body is told it. In 1.2 a
+//! neighbour says which messages it has already, by IDONTWANTs ([`Record::IDontWant`]). Keep the body in which it said so, and lend it beside the neighbour's next
+//! request: [`Gateway::serve_without`] leaves these messages out.
+//!
+#![cfg_attr(not(no_archive), doc = "```")]
+#![cfg_attr(no_archive, doc = "```no_run")]
+//! # use pradulins::{message_id, Edition, Gateway, Settings};
+//! # let mut gateway = Gateway::start(Settings { ttl: 3_600_000, max_seen: 256, history_len: 4, max_messages: 64, allow_unsigned: false })?;
+//! # let sender = [&[0, 0x24, 8, 1, 0x12, 0x20][..], &[b'A'; 32]].concat();
+//! # let body = [&[0x12, 0x70, 0x0a, 0x26][..], &sender, &[0x1a, 1, 1, 0x22, 1, b't', 0x2a, 0x40], &[0; 64]].concat();
+//! # gateway.admit(Edition::V1_2, &body, 0, true, 100)?;
+//! # let id = message_id(Edition::V1_2, &body, 0)?;
+//! # let request = [&[0x1a, 0x2b, 0x12, 0x29, 0x0a, 0x27], &id[..]].concat();
+//! # let unwanted = [&[0x1a, 0x2b, 0x2a, 0x29, 0x0a, 0x27], &id[..]].concat();
+//! # assert_eq!(gateway.serve(Edition::V1_2, &request)?.messages, 1);
+//! let reply = gateway.serve_without(Edition::V1_2, &request, &unwanted)?;
+//! # assert_eq!((reply.body.len(), reply.messages, reply.left), (0, 0, 0));
+//! # Ok::<(), pradulins::Refusal>(())
+//! ```
+//!
 //! # What the host does
 //!
 //! - Framing: how bodies are parted on the wire. The example in host/examples/catch_up has one way.
+//! - Which [`Edition`] a stream speaks.
 //! - The making of signatures: over [`Draft::sign_fields`], before a message is published.
 //! - The check of signatures: over [`sign_bytes`] of a message, with its key or that of its sender. What came of it is passed to [`Gateway::admit`],
 //!   which takes it at its word; see "Senders".
@@ -120,13 +145,13 @@
 //!
 #![cfg_attr(not(no_archive), doc = "```")]
 #![cfg_attr(no_archive, doc = "```no_run")]
-//! # use pradulins::{Admitted, Draft, Gateway, Rpc, Settings};
+//! # use pradulins::{Admitted, Draft, Edition, Gateway, Rpc, Settings};
 //! # let sender = [&[0, 0x24, 8, 1, 0x12, 0x20][..], &[b'A'; 32]].concat();
 //! let settings = Settings { ttl: 3_600_000, max_seen: 256, history_len: 4, max_messages: 64, allow_unsigned: true };
 //! let mut gateway = Gateway::start(settings)?;
 //! let draft = Draft { from: &sender, seqno: &[1], data: Some(b"a study to learn with"), topics: &["ct"], key: None };
 //! let body = Rpc::new().allow_unsigned(settings.allow_unsigned).publish_unsigned(&draft).write()?;
-//! assert_eq!(gateway.admit(&body, 0, false, 1)?, Admitted::New);
+//! assert_eq!(gateway.admit(Edition::V1_1, &body, 0, false, 1)?, Admitted::New);
 //! # Ok::<(), pradulins::Refusal>(())
 //! ```
 //!
@@ -163,9 +188,9 @@
 //!
 #![cfg_attr(not(no_archive), doc = "```")]
 #![cfg_attr(no_archive, doc = "```no_run")]
-//! # use pradulins::{decode, Place};
+//! # use pradulins::{decode, Edition, Place};
 //! // A control, in it a prune, in it a peer: its field 1 is to have 5 bytes, and none is there.
-//! let refusal = decode(&[0x1a, 6, 0x22, 4, 0x12, 2, 0x0a, 5]).unwrap_err();
+//! let refusal = decode(Edition::V1_1, &[0x1a, 6, 0x22, 4, 0x12, 2, 0x0a, 5]).unwrap_err();
 //! let place = refusal.place().unwrap();
 //! assert_eq!((place.offset(), place.fields()), (8, &[3, 4, 2][..]));
 //! assert_eq!(refusal.to_string(), "refused 4: a field of 5 bytes passes the end, 0 remain, at byte 8 of the body, in control, prune, peer");
@@ -177,8 +202,9 @@
 //! in, or in the folder that the environment variable `PRADULINS_LIB_DIR` names (by its whole path: another counts from this crate's folder). Where
 //! there is none, or only one from before version 0.6.0, or for another machine, the crate can be checked and those of its tests run that call nothing of it;
 //! `tools/host` of the repository runs all tests and the example on Arm, too. An archive of another [`FORMAT`], or of a version with other values or other
-//! refusals, is found when a gateway is started or loaded, before an RPC is written, and when a call is refused, which then panics. A crate from before 0.7.0
-//! does not find it before an RPC is written, and one from before 0.4.0 not at all: do not link these with an archive of this version.
+//! refusals, is found when a gateway is started or loaded, before a body is read or an RPC is written, and when a call is refused, which then panics. A crate from
+//! before 0.8.0 does not find it before a body is read, one from before 0.7.0 not before an RPC is written, and one from before 0.4.0 not at all: do not link these
+//! with an archive of this version.
 
 mod body;
 mod clock;
@@ -189,7 +215,7 @@ mod refusal;
 mod saved;
 mod sys;
 
-pub use body::{decode, message_id, messages, reencode, sign_bytes, walk, walk_from, Decoded, Field, Message, Record, Walk};
+pub use body::{decode, message_id, messages, reencode, sign_bytes, walk, walk_from, Decoded, Edition, Field, Message, Record, Walk};
 pub use clock::Clock;
 pub use compose::{sign_fields, sign_fields_into, write_rpc, write_rpc_into, Draft, Rpc};
 pub use gateway::{Admitted, Gateway, Offer, Reply, Served, Settings};
@@ -224,7 +250,7 @@ pub const MAX_BODY: usize = 65536;
 pub const MAX_RECORDS: usize = 512;
 
 /// The archives that this crate can be linked with, by their version without its last number: in others a call hands out other values or other refusals.
-const ARCHIVES: u32 = 7;
+const ARCHIVES: u32 = 8;
 
 /// Holds the archive that the program is linked with to this crate: another format, or a version with other answers, is a fault of the build.
 fn fits(format: u32, version: u32) {
@@ -293,21 +319,21 @@ mod tests {
     #[test]
     #[should_panic(expected = "is for format 4, and this crate for format 3: link the archive of the crate's own version")]
     fn an_archive_of_another_format() {
-        fits(FORMAT, 700);
-        fits(FORMAT, 799);
-        fits(FORMAT + 1, 700);
-    }
-
-    #[test]
-    #[should_panic(expected = "is of version 0.6.0, and this crate of 0.7.")]
-    fn an_archive_of_an_earlier_version() {
-        fits(FORMAT, 600);
-    }
-
-    #[test]
-    #[should_panic(expected = "is of version 0.8.0, and this crate of 0.7.")]
-    fn an_archive_of_a_later_version() {
         fits(FORMAT, 800);
+        fits(FORMAT, 899);
+        fits(FORMAT + 1, 800);
+    }
+
+    #[test]
+    #[should_panic(expected = "is of version 0.7.0, and this crate of 0.8.")]
+    fn an_archive_of_an_earlier_version() {
+        fits(FORMAT, 700);
+    }
+
+    #[test]
+    #[should_panic(expected = "is of version 0.9.0, and this crate of 0.8.")]
+    fn an_archive_of_a_later_version() {
+        fits(FORMAT, 900);
     }
 
     #[cfg(not(no_archive))]
@@ -323,6 +349,9 @@ mod tests {
         assert!(header.contains(&format!("#define PRADULINS_VALUES {VALUES}\n")));
         assert!(header.contains(&format!("#define PRADULINS_NODE_SIZE {NODE_SIZE}\n")));
         assert!(header.contains(&format!("#define PRADULINS_ALLOW_UNSIGNED {ALLOW_UNSIGNED}\n")));
+        for (name, edition) in [("1_1", Edition::V1_1), ("1_2", Edition::V1_2)] {
+            assert!(header.contains(&format!("#define PRADULINS_V{name} {}\n", edition.number())));
+        }
         assert_eq!(archive_version() / 100, ARCHIVES);
     }
 }

@@ -50,7 +50,8 @@ impl Place {
         &self.fields[..count]
     }
 
-    /// What these fields are called: `subscription`, `message` or `control`; in a control `ihave`, `iwant`, `graft` or `prune`; in a prune `peer`.
+    /// What these fields are called: `subscription`, `message` or `control`; in a control `ihave`, `iwant`, `graft`, `prune` or,
+    /// in edition 1.2, `idontwant`; in a prune `peer`.
     pub fn names(&self) -> impl Iterator<Item = &'static str> + '_ {
         (1..=self.fields().len()).map(|depth| name(&self.fields[..depth]))
     }
@@ -67,6 +68,7 @@ fn name(path: &[u64]) -> &'static str {
         [3, 3] => "graft",
         [3, 4] => "prune",
         [3, 4, 2] => "peer",
+        [3, 5] => "idontwant",
         _ => "a field that is not known",
     }
 }
@@ -92,7 +94,7 @@ mod tests {
     use super::*;
 
     /// Every path that the library gives.
-    const PATHS: [(&[u64], &str); 9] = [
+    const PATHS: [(&[u64], &str); 10] = [
         (&[], ""),
         (&[1], ", in subscription"),
         (&[2], ", in message"),
@@ -102,6 +104,7 @@ mod tests {
         (&[3, 3], ", in control, graft"),
         (&[3, 4], ", in control, prune"),
         (&[3, 4, 2], ", in control, prune, peer"),
+        (&[3, 5], ", in control, idontwant"),
     ];
 
     #[test]
@@ -114,7 +117,7 @@ mod tests {
             assert_eq!(format!("{place:?}"), format!("Place {{ offset: 8, fields: {fields:?} }}"));
         }
         // A field that a later edition may add.
-        assert_eq!(Place::new(0, &[3, 5]).to_string(), "byte 0 of the body, in control, a field that is not known");
+        assert_eq!(Place::new(0, &[3, 6]).to_string(), "byte 0 of the body, in control, a field that is not known");
     }
 
     #[test]

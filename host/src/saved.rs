@@ -481,7 +481,7 @@ mod tests {
     #[cfg(not(no_archive))]
     mod states {
         use super::*;
-        use crate::{body_of, Admitted, Settings};
+        use crate::{body_of, Admitted, Edition, Settings};
 
         const SETTINGS: Settings = Settings { ttl: 1000, max_seen: 4, history_len: 2, max_messages: 2, allow_unsigned: false };
 
@@ -499,7 +499,7 @@ mod tests {
         fn filled() -> Gateway {
             let mut gateway = Gateway::start(SETTINGS).unwrap();
             for key in b'A'..b'D' {
-                assert_eq!(gateway.admit(&body(key), 0, true, 5), Ok(Admitted::New));
+                assert_eq!(gateway.admit(Edition::V1_1, &body(key), 0, true, 5), Ok(Admitted::New));
             }
             gateway
         }
@@ -548,7 +548,7 @@ mod tests {
             const FLAGS: usize = 12_432;
             let unsigned = [&[0x12, 0x2e, 0x0a, 0x26][..], &body(b'U')[4..42], b"\x1a\x01\x01\x22\x01t"].concat();
             let mut training = Gateway::start(Settings { allow_unsigned: true, ..SETTINGS }).unwrap();
-            assert_eq!(training.admit(&unsigned, 0, false, 5), Ok(Admitted::New));
+            assert_eq!(training.admit(Edition::V1_1, &unsigned, 0, false, 5), Ok(Admitted::New));
             let with = |gateway: &Gateway, flags: u8| word(Gateway::load(&resealed(gateway, |rest| rest[FLAGS] = flags)));
             assert_eq!((with(&training, 1), with(&training, 0)), ("loaded".to_string(), "Refused(Malformed)".to_string()));
             assert!(Gateway::load(&training.save()).unwrap().settings().allow_unsigned);
@@ -644,20 +644,20 @@ mod tests {
         #[test]
         fn damage_that_is_well_formed() {
             let gateway = filled();
-            let request = Gateway::start(SETTINGS).unwrap().ask(&gateway.advertise(b"t", 2).unwrap()).unwrap();
+            let request = Gateway::start(SETTINGS).unwrap().ask(Edition::V1_1, &gateway.advertise(b"t", 2).unwrap()).unwrap();
             // A byte of a message's data: it is served as it now stands.
             let damaged = Gateway::load(&resealed(&gateway, |rest| rest[CACHE + DATA] = b'D')).unwrap();
-            let (right, wrong) = (gateway.serve(&request).unwrap().body, damaged.serve(&request).unwrap().body);
+            let (right, wrong) = (gateway.serve(Edition::V1_1, &request).unwrap().body, damaged.serve(Edition::V1_1, &request).unwrap().body);
             assert_eq!(right.iter().zip(&wrong).filter(|(a, b)| a != b).map(|(_, b)| *b).collect::<Vec<_>>(), b"D");
             // A byte of an id that was seen: the notice is new again.
             let mut damaged = Gateway::load(&resealed(&gateway, |rest| rest[SEEN + 1] = b'Z')).unwrap();
-            assert_eq!(gateway.clone().admit(&body(b'A'), 0, true, 5), Ok(Admitted::Duplicate));
-            assert_eq!(damaged.admit(&body(b'A'), 0, true, 5), Ok(Admitted::New));
+            assert_eq!(gateway.clone().admit(Edition::V1_1, &body(b'A'), 0, true, 5), Ok(Admitted::Duplicate));
+            assert_eq!(damaged.admit(Edition::V1_1, &body(b'A'), 0, true, 5), Ok(Admitted::New));
             // An expiry far ahead: it admits once, and what that leaves is refused ever after, since expiries may not fall.
             let newest = EXPIRIES + 2 * 8;
             let mut damaged = Gateway::load(&resealed(&gateway, |rest| rest[newest + 6] = 1)).unwrap();
-            assert_eq!(damaged.admit(&body(b'E'), 0, true, 6), Ok(Admitted::New));
-            assert_eq!(damaged.admit(&body(b'F'), 0, true, 7), Err(Refusal::Malformed));
+            assert_eq!(damaged.admit(Edition::V1_1, &body(b'E'), 0, true, 6), Ok(Admitted::New));
+            assert_eq!(damaged.admit(Edition::V1_1, &body(b'F'), 0, true, 7), Err(Refusal::Malformed));
             assert_eq!(damaged.heartbeat(7), Err(Refusal::Malformed));
             assert_eq!(word(Gateway::load(&damaged.save())), "Refused(Malformed)");
         }

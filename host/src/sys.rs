@@ -16,6 +16,7 @@ mod calls {
             seen_store_len: usize,
             cache_store: *mut u8,
             cache_store_len: usize,
+            edition: u32,
             body: *const u8,
             body_len: usize,
             index: usize,
@@ -64,6 +65,7 @@ mod calls {
             seen_store_len: usize,
             cache_store: *const u8,
             cache_store_len: usize,
+            edition: u32,
             body: *const u8,
             body_len: usize,
             out: *mut u8,
@@ -76,8 +78,11 @@ mod calls {
             seen_store_len: usize,
             cache_store: *const u8,
             cache_store_len: usize,
+            edition: u32,
             body: *const u8,
             body_len: usize,
+            unwanted: *const u8,
+            unwanted_len: usize,
             out: *mut u8,
             out_len: usize,
             values: *mut u64,
@@ -91,10 +96,26 @@ mod calls {
             cache_store_len: usize,
             values: *mut u64,
         ) -> u32;
-        pub fn pradulins_encode(body: *const u8, body_len: usize, out: *mut u8, out_len: usize, values: *mut u64) -> u32;
-        pub fn pradulins_sign_bytes(body: *const u8, body_len: usize, index: usize, out: *mut u8, out_len: usize, values: *mut u64) -> u32;
-        pub fn pradulins_message_id(body: *const u8, body_len: usize, index: usize, out: *mut u8, out_len: usize, values: *mut u64) -> u32;
-        pub fn pradulins_decode(body: *const u8, body_len: usize, table: *mut u64, table_len: usize, values: *mut u64) -> u32;
+        pub fn pradulins_encode(dialect: u32, body: *const u8, body_len: usize, out: *mut u8, out_len: usize, values: *mut u64) -> u32;
+        pub fn pradulins_sign_bytes(
+            dialect: u32,
+            body: *const u8,
+            body_len: usize,
+            index: usize,
+            out: *mut u8,
+            out_len: usize,
+            values: *mut u64,
+        ) -> u32;
+        pub fn pradulins_message_id(
+            dialect: u32,
+            body: *const u8,
+            body_len: usize,
+            index: usize,
+            out: *mut u8,
+            out_len: usize,
+            values: *mut u64,
+        ) -> u32;
+        pub fn pradulins_decode(dialect: u32, body: *const u8, body_len: usize, table: *mut u64, table_len: usize, values: *mut u64) -> u32;
         pub fn pradulins_walk(body: *const u8, body_len: usize, at: usize, values: *mut u64) -> u32;
         pub fn pradulins_write_rpc(
             records: *const u64,
@@ -131,18 +152,18 @@ mod calls {
     }
     missing! {
         pradulins_start(*mut u8, u64, usize, usize, usize, u32);
-        pradulins_admit(*mut u8, *mut u8, usize, *mut u8, usize, *const u8, usize, usize, bool, u64, *mut u64);
+        pradulins_admit(*mut u8, *mut u8, usize, *mut u8, usize, u32, *const u8, usize, usize, bool, u64, *mut u64);
         pradulins_heartbeat(*mut u8, *const u8, usize, *const u8, usize, u64, *mut u64);
         pradulins_advertise(*const u8, *const u8, usize, *const u8, usize, *const u8, usize, usize, *mut u8, usize, *mut u64);
         pradulins_explain(*const u8, *const u8, usize, *const u8, usize, *const u8, usize, *const u8, usize, usize, *mut u64);
-        pradulins_ask(*const u8, *const u8, usize, *const u8, usize, *const u8, usize, *mut u8, usize, *mut u64);
-        pradulins_serve(*const u8, *const u8, usize, *const u8, usize, *const u8, usize, *mut u8, usize, *mut u64);
+        pradulins_ask(*const u8, *const u8, usize, *const u8, usize, u32, *const u8, usize, *mut u8, usize, *mut u64);
+        pradulins_serve(*const u8, *const u8, usize, *const u8, usize, u32, *const u8, usize, *const u8, usize, *mut u8, usize, *mut u64);
         pradulins_settings(*const u8, *mut u64);
         pradulins_state(*const u8, *const u8, usize, *const u8, usize, *mut u64);
-        pradulins_encode(*const u8, usize, *mut u8, usize, *mut u64);
-        pradulins_sign_bytes(*const u8, usize, usize, *mut u8, usize, *mut u64);
-        pradulins_message_id(*const u8, usize, usize, *mut u8, usize, *mut u64);
-        pradulins_decode(*const u8, usize, *mut u64, usize, *mut u64);
+        pradulins_encode(u32, *const u8, usize, *mut u8, usize, *mut u64);
+        pradulins_sign_bytes(u32, *const u8, usize, usize, *mut u8, usize, *mut u64);
+        pradulins_message_id(u32, *const u8, usize, usize, *mut u8, usize, *mut u64);
+        pradulins_decode(u32, *const u8, usize, *mut u64, usize, *mut u64);
         pradulins_walk(*const u8, usize, usize, *mut u64);
         pradulins_write_rpc(*const u64, usize, *const u8, usize, u32, *mut u8, usize, *mut u64);
         pradulins_sign_fields(*const u64, usize, *const u8, usize, usize, *mut u8, usize, *mut u64);
@@ -162,6 +183,7 @@ pub(crate) fn admit(
     node: &mut Node,
     seen: &mut [u8],
     cache: &mut [u8],
+    edition: u32,
     body: &[u8],
     index: usize,
     verified: bool,
@@ -175,6 +197,7 @@ pub(crate) fn admit(
             seen.len(),
             cache.as_mut_ptr(),
             cache.len(),
+            edition,
             body.as_ptr(),
             body.len(),
             index,
@@ -225,7 +248,7 @@ pub(crate) fn explain(node: &Node, seen: &[u8], cache: &[u8], id: &[u8], topic: 
     }
 }
 
-pub(crate) fn ask(node: &Node, seen: &[u8], cache: &[u8], body: &[u8], out: &mut [u8], values: &mut Values) -> u32 {
+pub(crate) fn ask(node: &Node, seen: &[u8], cache: &[u8], edition: u32, body: &[u8], out: &mut [u8], values: &mut Values) -> u32 {
     unsafe {
         calls::pradulins_ask(
             node.as_ptr(),
@@ -233,6 +256,7 @@ pub(crate) fn ask(node: &Node, seen: &[u8], cache: &[u8], body: &[u8], out: &mut
             seen.len(),
             cache.as_ptr(),
             cache.len(),
+            edition,
             body.as_ptr(),
             body.len(),
             out.as_mut_ptr(),
@@ -242,7 +266,8 @@ pub(crate) fn ask(node: &Node, seen: &[u8], cache: &[u8], body: &[u8], out: &mut
     }
 }
 
-pub(crate) fn serve(node: &Node, seen: &[u8], cache: &[u8], body: &[u8], out: &mut [u8], values: &mut Values) -> u32 {
+#[allow(clippy::too_many_arguments)]
+pub(crate) fn serve(node: &Node, seen: &[u8], cache: &[u8], edition: u32, body: &[u8], unwanted: &[u8], out: &mut [u8], values: &mut Values) -> u32 {
     unsafe {
         calls::pradulins_serve(
             node.as_ptr(),
@@ -250,8 +275,11 @@ pub(crate) fn serve(node: &Node, seen: &[u8], cache: &[u8], body: &[u8], out: &m
             seen.len(),
             cache.as_ptr(),
             cache.len(),
+            edition,
             body.as_ptr(),
             body.len(),
+            unwanted.as_ptr(),
+            unwanted.len(),
             out.as_mut_ptr(),
             out.len(),
             values.as_mut_ptr(),
@@ -267,20 +295,20 @@ pub(crate) fn state(node: &Node, seen: &[u8], cache: &[u8], values: &mut Values)
     unsafe { calls::pradulins_state(node.as_ptr(), seen.as_ptr(), seen.len(), cache.as_ptr(), cache.len(), values.as_mut_ptr()) }
 }
 
-pub(crate) fn encode(body: &[u8], out: &mut [u8], values: &mut Values) -> u32 {
-    unsafe { calls::pradulins_encode(body.as_ptr(), body.len(), out.as_mut_ptr(), out.len(), values.as_mut_ptr()) }
+pub(crate) fn encode(dialect: u32, body: &[u8], out: &mut [u8], values: &mut Values) -> u32 {
+    unsafe { calls::pradulins_encode(dialect, body.as_ptr(), body.len(), out.as_mut_ptr(), out.len(), values.as_mut_ptr()) }
 }
 
-pub(crate) fn sign_bytes(body: &[u8], index: usize, out: &mut [u8], values: &mut Values) -> u32 {
-    unsafe { calls::pradulins_sign_bytes(body.as_ptr(), body.len(), index, out.as_mut_ptr(), out.len(), values.as_mut_ptr()) }
+pub(crate) fn sign_bytes(dialect: u32, body: &[u8], index: usize, out: &mut [u8], values: &mut Values) -> u32 {
+    unsafe { calls::pradulins_sign_bytes(dialect, body.as_ptr(), body.len(), index, out.as_mut_ptr(), out.len(), values.as_mut_ptr()) }
 }
 
-pub(crate) fn message_id(body: &[u8], index: usize, out: &mut [u8], values: &mut Values) -> u32 {
-    unsafe { calls::pradulins_message_id(body.as_ptr(), body.len(), index, out.as_mut_ptr(), out.len(), values.as_mut_ptr()) }
+pub(crate) fn message_id(dialect: u32, body: &[u8], index: usize, out: &mut [u8], values: &mut Values) -> u32 {
+    unsafe { calls::pradulins_message_id(dialect, body.as_ptr(), body.len(), index, out.as_mut_ptr(), out.len(), values.as_mut_ptr()) }
 }
 
-pub(crate) fn decode(body: &[u8], table: &mut [u64], values: &mut Values) -> u32 {
-    unsafe { calls::pradulins_decode(body.as_ptr(), body.len(), table.as_mut_ptr(), table.len(), values.as_mut_ptr()) }
+pub(crate) fn decode(dialect: u32, body: &[u8], table: &mut [u64], values: &mut Values) -> u32 {
+    unsafe { calls::pradulins_decode(dialect, body.as_ptr(), body.len(), table.as_mut_ptr(), table.len(), values.as_mut_ptr()) }
 }
 
 pub(crate) fn walk(body: &[u8], at: usize, values: &mut Values) -> u32 {

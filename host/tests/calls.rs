@@ -2,7 +2,10 @@
 #![cfg(not(no_archive))]
 
 use pradulins::{decode, message_id, messages, reencode, sign_bytes, sign_fields, sign_fields_into, walk, walk_from, write_rpc, write_rpc_into};
-use pradulins::{Admitted, Clock, Draft, Gateway, LoadError, Message, Offer, Place, Record, Refusal, Reply, Rpc, Served, Settings, NODE_SIZE};
+use pradulins::{
+    Admitted, Clock, Draft, Edition, Gateway, LoadError, Message, Offer, Place, Record, Refusal, Reply, Rpc, Served, Settings, NODE_SIZE,
+};
+use Edition::{V1_1, V1_2};
 
 const SETTINGS: Settings = Settings { ttl: 1000, max_seen: 4, history_len: 2, max_messages: 4, allow_unsigned: false };
 
@@ -86,14 +89,14 @@ fn the_trace_of_the_scope() {
     let x = [&[0x12, 0x70, 0x0a, 0x26][..], &sender, &[0x1a, 1, 1, 0x22, 1, b't', 0x2a, 0x40], &[0; 64]].concat();
     assert_eq!((x.len(), &x), (114, &notice(&sender).body()));
     let mut gateway = Gateway::start(SETTINGS).unwrap();
-    assert_eq!(gateway.admit(&x, 0, true, 100), Ok(Admitted::New));
+    assert_eq!(gateway.admit(V1_1, &x, 0, true, 100), Ok(Admitted::New));
     let offer = [&[0x1a, 0x2e, 0x0a, 0x2c, 0x0a, 1, b't', 0x12, 0x27][..], &sender, &[1]].concat();
     assert_eq!((gateway.advertise(b"t", 1), offer.len()), (Ok(offer), 48));
-    assert_eq!(gateway.admit(&x, 0, true, 100), Ok(Admitted::Duplicate));
+    assert_eq!(gateway.admit(V1_1, &x, 0, true, 100), Ok(Admitted::Duplicate));
     assert_eq!(gateway.heartbeat(1100), Ok(()));
     assert_eq!(gateway.advertise(b"t", 1), Ok(vec![]));
-    assert_eq!(gateway.admit(&x, 0, true, 1099), Err(Refusal::ClockBack { clock: 1100 }));
-    assert_eq!(gateway.admit(&x, 0, true, 1100), Ok(Admitted::New));
+    assert_eq!(gateway.admit(V1_1, &x, 0, true, 1099), Err(Refusal::ClockBack { clock: 1100 }));
+    assert_eq!(gateway.admit(V1_1, &x, 0, true, 1100), Ok(Admitted::New));
     assert_eq!((gateway.settings(), gateway.clock(), gateway.seen(), gateway.messages()), (SETTINGS, 1100, 1, 1));
 }
 
@@ -121,23 +124,23 @@ fn a_training_mesh() {
     let request = [&[0x1a, 0x2b, 0x12, 0x29, 0x0a, 0x27][..], &id].concat();
     let mut gateway = Gateway::start(training).unwrap();
     assert_eq!(gateway.settings(), training);
-    assert_eq!(gateway.ask(&offer), Ok(request.clone()));
-    assert_eq!(gateway.admit(&u, 0, false, 100), Ok(Admitted::New));
-    assert_eq!(gateway.admit(&u, 0, true, 100), Ok(Admitted::Duplicate));
-    assert_eq!(gateway.ask(&offer), Ok(vec![]));
+    assert_eq!(gateway.ask(V1_1, &offer), Ok(request.clone()));
+    assert_eq!(gateway.admit(V1_1, &u, 0, false, 100), Ok(Admitted::New));
+    assert_eq!(gateway.admit(V1_1, &u, 0, true, 100), Ok(Admitted::Duplicate));
+    assert_eq!(gateway.ask(V1_1, &offer), Ok(vec![]));
     // The signed message of the same id is tested as ever, and new; the cache keeps the one that came first.
-    assert_eq!(gateway.admit(&x, 0, false, 100), Err(Refusal::NotVerified));
-    assert_eq!(gateway.admit(&x, 0, true, 100), Ok(Admitted::New));
-    assert_eq!(gateway.admit(&x, 0, true, 100), Ok(Admitted::Duplicate));
-    assert_eq!(gateway.admit(&u, 0, true, 100), Ok(Admitted::Duplicate));
-    assert_eq!(gateway.serve(&request), Ok(Reply { body: u.clone(), messages: 1, left: 0 }));
+    assert_eq!(gateway.admit(V1_1, &x, 0, false, 100), Err(Refusal::NotVerified));
+    assert_eq!(gateway.admit(V1_1, &x, 0, true, 100), Ok(Admitted::New));
+    assert_eq!(gateway.admit(V1_1, &x, 0, true, 100), Ok(Admitted::Duplicate));
+    assert_eq!(gateway.admit(V1_1, &u, 0, true, 100), Ok(Admitted::Duplicate));
+    assert_eq!(gateway.serve(V1_1, &request), Ok(Reply { body: u.clone(), messages: 1, left: 0 }));
     assert_eq!((gateway.seen(), gateway.messages()), (2, 1));
     assert!(Gateway::load(&gateway.save()).unwrap() == gateway);
     // And the other way round.
     let mut other = Gateway::start(training).unwrap();
-    assert_eq!(other.admit(&x, 0, true, 100), Ok(Admitted::New));
-    assert_eq!((other.ask(&offer), other.admit(&u, 0, false, 100)), (Ok(vec![]), Ok(Admitted::New)));
-    assert_eq!(other.serve(&request), Ok(Reply { body: x.clone(), messages: 1, left: 0 }));
+    assert_eq!(other.admit(V1_1, &x, 0, true, 100), Ok(Admitted::New));
+    assert_eq!((other.ask(V1_1, &offer), other.admit(V1_1, &u, 0, false, 100)), (Ok(vec![]), Ok(Admitted::New)));
+    assert_eq!(other.serve(V1_1, &request), Ok(Reply { body: x.clone(), messages: 1, left: 0 }));
     // What else an unsigned message must be.
     for (message, told) in [
         (unsigned.key(&[]), Err(Refusal::KeyWithoutSignature)),
@@ -149,15 +152,15 @@ fn a_training_mesh() {
         (notice(&[&[0x12, 0x20][..], &[7; 32]].concat()).signature(None), Ok(Admitted::New)),
     ] {
         for verified in [false, true] {
-            assert_eq!(gateway.clone().admit(&message.body(), 0, verified, 100), told);
+            assert_eq!(gateway.clone().admit(V1_1, &message.body(), 0, verified, 100), told);
         }
     }
     // One that does not allow them.
     let mut strict = Gateway::start(SETTINGS).unwrap();
-    assert_eq!(strict.admit(&u, 0, true, 100), Err(Refusal::MissingSignature));
-    assert_eq!(strict.ask(&gateway.advertise(b"t", 2).unwrap()), Ok(request.clone()));
-    assert_eq!(strict.admit(&gateway.serve(&request).unwrap().body, 0, true, 100), Err(Refusal::MissingSignature));
-    assert_eq!((strict.ask(&offer), strict.admit(&x, 0, true, 100)), (Ok(request), Ok(Admitted::New)));
+    assert_eq!(strict.admit(V1_1, &u, 0, true, 100), Err(Refusal::MissingSignature));
+    assert_eq!(strict.ask(V1_1, &gateway.advertise(b"t", 2).unwrap()), Ok(request.clone()));
+    assert_eq!(strict.admit(V1_1, &gateway.serve(V1_1, &request).unwrap().body, 0, true, 100), Err(Refusal::MissingSignature));
+    assert_eq!((strict.ask(V1_1, &offer), strict.admit(V1_1, &x, 0, true, 100)), (Ok(request), Ok(Admitted::New)));
 }
 
 /// An unsigned message is written where it is allowed, as it is; a key alone is not.
@@ -177,7 +180,7 @@ fn unsigned_messages_are_written() {
     assert_eq!((&out[..48], &out[48..]), (&body[..], &[7; 12][..]));
     assert_eq!(rpc.clone().allow_unsigned(false).write(), Err(Refusal::SignatureLength { length: 0 }));
     let mut neighbour = Gateway::start(Settings { allow_unsigned: true, ..SETTINGS }).unwrap();
-    assert_eq!(neighbour.admit(&body, 0, false, 5), Ok(Admitted::New));
+    assert_eq!(neighbour.admit(V1_1, &body, 0, false, 5), Ok(Admitted::New));
     // Of other messages it changes nothing, and the tests of an unsigned one stay.
     let refused = |rpc: Rpc| rpc.allow_unsigned(true).write().unwrap_err();
     assert_eq!(refused(Rpc::new().publish_unsigned(&Draft { key: Some(&[]), ..draft })), Refusal::KeyWithoutSignature);
@@ -201,15 +204,15 @@ fn the_257th_notice() {
         sender.seqno(Some(&n.to_be_bytes())).body()
     };
     for n in 1..=256 {
-        assert_eq!(gateway.admit(&notice(n), 0, true, u64::from(n)), Ok(Admitted::New));
+        assert_eq!(gateway.admit(V1_1, &notice(n), 0, true, u64::from(n)), Ok(Admitted::New));
     }
-    assert_eq!(gateway.admit(&notice(1), 0, true, 256), Ok(Admitted::Duplicate));
+    assert_eq!(gateway.admit(V1_1, &notice(1), 0, true, 256), Ok(Admitted::Duplicate));
     assert_eq!((gateway.seen(), gateway.messages()), (256, 64));
-    assert_eq!(gateway.admit(&notice(257), 0, true, 257), Ok(Admitted::New));
+    assert_eq!(gateway.admit(V1_1, &notice(257), 0, true, 257), Ok(Admitted::New));
     assert_eq!((gateway.seen(), gateway.messages()), (256, 64));
-    assert_eq!(gateway.admit(&notice(2), 0, true, 257), Ok(Admitted::Duplicate));
-    assert_eq!(gateway.admit(&notice(1), 0, true, 257), Ok(Admitted::New));
-    assert_eq!(gateway.admit(&notice(2), 0, true, 257), Ok(Admitted::New));
+    assert_eq!(gateway.admit(V1_1, &notice(2), 0, true, 257), Ok(Admitted::Duplicate));
+    assert_eq!(gateway.admit(V1_1, &notice(1), 0, true, 257), Ok(Admitted::New));
+    assert_eq!(gateway.admit(V1_1, &notice(2), 0, true, 257), Ok(Admitted::New));
 }
 
 /// Each answer, the edges of id and topic, and that `Listed` is said of exactly what is advertised.
@@ -219,7 +222,7 @@ fn why_a_notice_is_not_offered() {
     let (a, b) = (&id(b'A', 1)[..], &id(b'B', 1)[..]);
     let older = |age| Ok::<_, Refusal>(Offer::OlderWindow { age });
     assert_eq!(gateway.explain(a, b"t", 1), Ok(Offer::NotCached));
-    gateway.admit(&body(b'A'), 0, true, 100).unwrap();
+    gateway.admit(V1_1, &body(b'A'), 0, true, 100).unwrap();
     assert_eq!(gateway.explain(a, b"t", 1), Ok(Offer::Listed));
     assert_eq!(gateway.explain(a, b"t", usize::MAX), Ok(Offer::Listed));
     assert_eq!(gateway.explain(a, b"t", 0), older(0));
@@ -234,13 +237,13 @@ fn why_a_notice_is_not_offered() {
     }
     assert_eq!(gateway.explain(a, &[b't'; 1025], 1), Err(Refusal::TopicTooLong { length: 1025 }));
     gateway.heartbeat(200).unwrap();
-    gateway.admit(&body(b'B'), 0, true, 200).unwrap();
+    gateway.admit(V1_1, &body(b'B'), 0, true, 200).unwrap();
     assert_eq!((gateway.explain(a, b"t", 1), gateway.explain(b, b"t", 1)), (older(1), Ok(Offer::Listed)));
     assert_eq!(gateway.explain(a, b"t", 0), older(1));
     assert_eq!(gateway.explain(a, b"u", 0), Ok(Offer::WithoutTopic));
     for (topic, windows) in [(b"t", 0), (b"t", 1), (b"t", 2), (b"t", 9), (b"u", 2)] {
         let offer = gateway.advertise(topic, windows).unwrap();
-        let records = decode(&offer).unwrap().records;
+        let records = decode(V1_1, &offer).unwrap().records;
         for id in [a, b, &id(b'C', 1), &a[..38], b""] {
             assert_eq!(gateway.explain(id, topic, windows) == Ok(Offer::Listed), records.contains(&Record::MessageId(id)));
         }
@@ -255,31 +258,31 @@ fn why_a_notice_is_not_offered() {
 fn lent_buffers_may_be_too_short() {
     let x = body(b'A');
     let mut gateway = Gateway::start(SETTINGS).unwrap();
-    gateway.admit(&x, 0, true, 100).unwrap();
+    gateway.admit(V1_1, &x, 0, true, 100).unwrap();
     let mut out = [7; 117];
     assert_eq!(gateway.advertise_into(b"t", 1, &mut out[..47]), Err(Refusal::Room { needed: 48 }));
     let request = [&[0x1a, 0x2b, 0x12, 0x29, 0x0a, 0x27], &id(b'A', 1)[..]].concat();
-    assert_eq!(gateway.serve_into(&request, &mut out[..113]), Err(Refusal::Room { needed: 114 }));
+    assert_eq!(gateway.serve_into(V1_1, &request, &mut out[..113]), Err(Refusal::Room { needed: 114 }));
     assert_eq!(out, [7; 117]);
-    assert_eq!(gateway.serve_into(&request, &mut out), Ok(Served { bytes: 114, messages: 1, left: 0 }));
+    assert_eq!(gateway.serve_into(V1_1, &request, &mut out), Ok(Served { bytes: 114, messages: 1, left: 0 }));
     assert_eq!((&out[..114], &out[114..]), (&x[..], &[7; 3][..]));
     let fresh = Gateway::start(SETTINGS).unwrap();
-    assert_eq!(fresh.ask_into(&gateway.advertise(b"t", 1).unwrap(), &mut out), Ok(45));
+    assert_eq!(fresh.ask_into(V1_1, &gateway.advertise(b"t", 1).unwrap(), &mut out), Ok(45));
     assert_eq!(out[..45], request);
 }
 
 #[test]
 fn bodies() {
     let x = body(b'A');
-    assert_eq!(reencode(&[0x1a, 0, 0x1a, 0]), Ok(vec![0x1a, 0]));
-    assert_eq!(reencode(&x).as_ref(), Ok(&x));
-    assert_eq!(message_id(&x, 0), Ok(id(b'A', 1)));
+    assert_eq!(reencode(V1_1, &[0x1a, 0, 0x1a, 0]), Ok(vec![0x1a, 0]));
+    assert_eq!(reencode(V1_1, &x).as_ref(), Ok(&x));
+    assert_eq!(message_id(V1_1, &x, 0), Ok(id(b'A', 1)));
     // Ids are of any sender: that it is a peer id is asked where a message is admitted.
-    assert_eq!(message_id(&notice(b"A").body(), 0), Ok(vec![b'A', 1]));
-    assert_eq!(message_id(&x, 1), Err(Refusal::NoMessage { messages: 1 }));
-    assert_eq!(sign_bytes(&[0x12, 6, 0x0a, 1, 0x41, 0x0a, 1, 0x42], 0).unwrap(), b"libp2p-pubsub:\x0a\x01\x42");
-    assert_eq!(reencode(&vec![0; 65537]), Err(Refusal::BodyTooLarge { length: 65537 }));
-    assert_eq!(decode(&[0x0a, 0].repeat(513)), Err(Refusal::TooManyRecords { records: 513 }));
+    assert_eq!(message_id(V1_1, &notice(b"A").body(), 0), Ok(vec![b'A', 1]));
+    assert_eq!(message_id(V1_1, &x, 1), Err(Refusal::NoMessage { messages: 1 }));
+    assert_eq!(sign_bytes(V1_1, &[0x12, 6, 0x0a, 1, 0x41, 0x0a, 1, 0x42], 0).unwrap(), b"libp2p-pubsub:\x0a\x01\x42");
+    assert_eq!(reencode(V1_1, &vec![0; 65537]), Err(Refusal::BodyTooLarge { length: 65537 }));
+    assert_eq!(decode(V1_1, &[0x0a, 0].repeat(513)), Err(Refusal::TooManyRecords { records: 513 }));
     for (bytes, refusal) in [
         (&[0x80][..], Refusal::VarintShort { place: Place::new(0, &[]) }),
         (&[0x80, 0], Refusal::VarintNotMinimal { place: Place::new(0, &[]) }),
@@ -288,8 +291,23 @@ fn bodies() {
         (&[0x0a, 5, 8], Refusal::FieldOverflow { offset: 2, length: 5, remaining: 1, place: Place::new(2, &[]) }),
         (&[0x0a, 3, 0x12, 1, 0xff], Refusal::Utf8 { offset: 1, place: Place::new(3, &[1]) }),
     ] {
-        assert_eq!(decode(bytes), Err(refusal));
+        assert_eq!(decode(V1_1, bytes), Err(refusal));
     }
+}
+
+/// A body that every call which reads it refuses alike.
+fn refused_by_each(gateway: &mut Gateway, edition: Edition, bytes: &[u8], refusal: Refusal) {
+    assert_eq!(decode(edition, bytes), Err(refusal), "{bytes:02x?}");
+    assert_eq!(messages(edition, bytes), Err(refusal));
+    assert_eq!(reencode(edition, bytes), Err(refusal));
+    assert_eq!(sign_bytes(edition, bytes, 0), Err(refusal));
+    assert_eq!(message_id(edition, bytes, 0), Err(refusal));
+    assert_eq!(gateway.admit(edition, bytes, 0, true, 5), Err(refusal));
+    assert_eq!(gateway.ask(edition, bytes), Err(refusal));
+    assert_eq!(gateway.serve(edition, bytes), Err(refusal));
+    assert_eq!(gateway.ask_into(edition, bytes, &mut []), Err(refusal));
+    assert_eq!(gateway.serve_into(edition, bytes, &mut []), Err(refusal));
+    assert_eq!(gateway.serve_without(edition, bytes, &[0x80]), Err(refusal));
 }
 
 /// Where in a body a refusal stands: bodies, the number, the offset and the fields around it; by every call that reads a body.
@@ -323,18 +341,12 @@ fn places() {
     ];
     let mut gateway = Gateway::start(SETTINGS).unwrap();
     for (bytes, number, offset, fields) in rows {
-        let refusal = decode(bytes).unwrap_err();
+        let refusal = decode(V1_1, bytes).unwrap_err();
         assert_eq!((refusal.number(), refusal.place()), (number, Some(Place::new(offset, fields))), "{bytes:02x?}");
         assert!(refusal.to_string().contains(&format!(" at byte {offset} of the body")), "{refusal}");
-        assert_eq!(messages(bytes), Err(refusal));
-        assert_eq!(reencode(bytes), Err(refusal));
-        assert_eq!(sign_bytes(bytes, 0), Err(refusal));
-        assert_eq!(message_id(bytes, 0), Err(refusal));
-        assert_eq!(gateway.admit(bytes, 0, true, 5), Err(refusal));
-        assert_eq!(gateway.ask(bytes), Err(refusal));
-        assert_eq!(gateway.serve(bytes), Err(refusal));
-        assert_eq!(gateway.ask_into(bytes, &mut []), Err(refusal));
-        assert_eq!(gateway.serve_into(bytes, &mut []), Err(refusal));
+        for edition in [V1_1, V1_2] {
+            refused_by_each(&mut gateway, edition, bytes, refusal);
+        }
         // A walk looks at the body's own fields alone: what a field encloses it does not find.
         let walked = walk(bytes).find_map(Result::err);
         if fields.is_empty() {
@@ -345,14 +357,127 @@ fn places() {
     // What is no fault of a body's bytes has no place.
     let x = body(b'A');
     for refusal in [
-        decode(&vec![0; 65537]).unwrap_err(),
-        decode(&[0x0a, 0].repeat(513)).unwrap_err(),
-        message_id(&x, 1).unwrap_err(),
-        gateway.admit(&x, 0, false, 5).unwrap_err(),
+        decode(V1_1, &vec![0; 65537]).unwrap_err(),
+        decode(V1_1, &[0x0a, 0].repeat(513)).unwrap_err(),
+        message_id(V1_1, &x, 1).unwrap_err(),
+        gateway.admit(V1_1, &x, 0, false, 5).unwrap_err(),
         gateway.advertise(&[b't'; 1025], 1).unwrap_err(),
     ] {
         assert_eq!(refusal.place(), None);
         assert!(!refusal.to_string().contains("of the body"));
+    }
+}
+
+/// The scope's rows on editions: field 5 of a control, skipped in 1.1 and read in 1.2.
+#[test]
+fn editions() {
+    const ID: Record = Record::MessageId(b"A");
+    let prune = Record::Prune { topic_id: None, backoff: None };
+    // Bodies that both accept: what each writes, and the records in 1.2; in 1.1 there are none but the prune.
+    type Row<'a> = (&'a [u8], &'a [u8], &'a [u8], &'a [Record<'a>]);
+    let rows: [Row; 5] = [
+        (&[0x1a, 5, 0x2a, 3, 0x0a, 1, 0xff], &[0x1a, 0], &[0x1a, 5, 0x2a, 3, 0x0a, 1, 0xff], &[Record::IDontWant, Record::MessageId(&[0xff])]),
+        (
+            &[0x1a, 7, 0x2a, 3, 0x0a, 1, b'A', 0x22, 0],
+            &[0x1a, 2, 0x22, 0],
+            &[0x1a, 7, 0x22, 0, 0x2a, 3, 0x0a, 1, b'A'],
+            &[Record::IDontWant, ID, prune],
+        ),
+        (&[0x1a, 2, 0x2a, 0, 0x1a, 2, 0x22, 0], &[0x1a, 2, 0x22, 0], &[0x1a, 4, 0x22, 0, 0x2a, 0], &[Record::IDontWant, prune]),
+        (&[0x1a, 2, 0x28, 7], &[0x1a, 0], &[0x1a, 0], &[]),
+        (&[0x1a, 4, 0x2a, 2, 0x10, 7], &[0x1a, 0], &[0x1a, 2, 0x2a, 0], &[Record::IDontWant]),
+    ];
+    for (body, first, second, records) in rows {
+        let older: Vec<Record> = records.iter().copied().filter(|record| *record == prune).collect();
+        for (edition, written, records) in [(V1_1, first, &older[..]), (V1_2, second, records)] {
+            assert_eq!(reencode(edition, body).as_deref(), Ok(written), "{body:02x?}");
+            let decoded = decode(edition, body).unwrap();
+            assert_eq!((decoded.control, &decoded.records[..]), (true, records), "{body:02x?}");
+            // What was written means the same, and is in canonical form.
+            assert_eq!(reencode(edition, written).as_deref(), Ok(written));
+        }
+    }
+    // Bodies that 1.2 alone refuses, where it says so, and in which fields.
+    let mut gateway = Gateway::start(SETTINGS).unwrap();
+    let short = Refusal::VarintShort { place: Place::new(4, &[3, 5]) };
+    let long = Refusal::FieldOverflow { offset: 2, length: 2, remaining: 1, place: Place::new(6, &[3, 5]) };
+    for (body, refusal) in [(&[0x1a, 3, 0x2a, 1, 0x80][..], short), (&[0x1a, 5, 0x2a, 3, 0x0a, 2, b'A'], long)] {
+        assert_eq!(reencode(V1_1, body), Ok(vec![0x1a, 0]));
+        assert_eq!((gateway.ask(V1_1, body), gateway.serve(V1_1, body).map(|reply| reply.left)), (Ok(vec![]), Ok(0)));
+        assert_eq!(gateway.admit(V1_1, body, 0, true, 5), Err(Refusal::NoMessage { messages: 0 }));
+        refused_by_each(&mut gateway, V1_2, body, refusal);
+        assert_eq!(gateway.serve_without(V1_1, &[], body), Err(refusal));
+        assert!(refusal.to_string().ends_with(" of the body, in control, idontwant"), "{refusal}");
+    }
+    // Each entry and each id is a record.
+    for (ids, told) in [(511, Ok(512)), (512, Err(Refusal::TooManyRecords { records: 513 }))] {
+        let body = field(3, &field(5, &[0x0a, 0].repeat(ids)));
+        assert_eq!(decode(V1_1, &body).map(|decoded| decoded.records.len()), Ok(0));
+        assert_eq!(decode(V1_2, &body).map(|decoded| decoded.records.len()), told);
+    }
+    // A message is the same in both, its signature, field 5, too.
+    let x = [&body(b'A')[..], &[0x1a, 5, 0x2a, 3, 0x0a, 1, b'A']].concat();
+    for edition in [V1_1, V1_2] {
+        assert_eq!(messages(edition, &x), messages(V1_1, &x[..114]));
+        assert_eq!((sign_bytes(edition, &x, 0), message_id(edition, &x, 0)), (sign_bytes(V1_1, &x[..114], 0), Ok(id(b'A', 1))));
+        assert_eq!(gateway.clone().admit(edition, &x, 0, true, 5), Ok(Admitted::New));
+    }
+    // They are read, and not written from records.
+    let records = decode(V1_2, &x[114..]).unwrap().records;
+    assert_eq!((records.len(), write_rpc(&records)), (2, Err(Refusal::Malformed)));
+}
+
+/// A control with one entry of ids, in its field: an IWANT (2) or an IDONTWANT (5).
+fn named(entry: u8, ids: &[&[u8]]) -> Vec<u8> {
+    field(3, &field(entry, &ids.iter().map(|id| field(1, id)).collect::<Vec<_>>().concat()))
+}
+
+/// The scope's rows on serve with a second body.
+#[test]
+fn served_without() {
+    let sender = notice(&peer_id(KEY));
+    let (x, y) = (sender.body(), sender.seqno(Some(&[2])).body());
+    let (mx, my) = (message_id(V1_1, &x, 0).unwrap(), message_id(V1_1, &y, 0).unwrap());
+    let mut gateway = Gateway::start(SETTINGS).unwrap();
+    for body in [&x, &y] {
+        assert_eq!(gateway.admit(V1_2, body, 0, true, 5), Ok(Admitted::New));
+    }
+    let gateway = gateway;
+    let (request, offer) = (named(2, &[&mx, &my]), gateway.advertise(b"t", 1).unwrap());
+    let (dont_x, dont_y, want_x) = (named(5, &[&mx]), named(5, &[&my]), named(2, &[&mx]));
+    let reply =
+        |bodies: &[&Vec<u8>], left| Ok(Reply { body: bodies.iter().flat_map(|body| body.iter().copied()).collect(), messages: bodies.len(), left });
+    for edition in [V1_1, V1_2] {
+        let serve = |unwanted: &[u8]| gateway.serve_without(edition, &request, unwanted);
+        assert_eq!((serve(&[]), gateway.serve(edition, &request)), (reply(&[&x, &y], 0), reply(&[&x, &y], 0)));
+        assert_eq!((serve(&dont_x), serve(&dont_y)), (reply(&[&y], 0), reply(&[&x], 0)));
+        assert_eq!((serve(&[&dont_x[..], &dont_y].concat()), serve(&named(5, &[&my, &mx, &my]))), (reply(&[], 0), reply(&[], 0)));
+        // Only the IDONTWANTs of the second body count.
+        assert_eq!((serve(&want_x), serve(&offer), serve(&x)), (reply(&[&x, &y], 0), reply(&[&x, &y], 0), reply(&[&x, &y], 0)));
+        assert_eq!(gateway.serve(edition, &[&request[..], &dont_x].concat()), reply(&[&x, &y], 0));
+        assert_eq!(
+            (serve(&named(5, &[&mx[..38], b"", &[&mx[..], &[0]].concat()])), serve(&named(5, &[]))),
+            (reply(&[&x, &y], 0), reply(&[&x, &y], 0))
+        );
+        assert_eq!(gateway.serve_without(edition, &want_x, &dont_x), reply(&[], 0));
+        // Room is for what is wanted: the field of Y has as many bytes as its body.
+        let mut out = vec![7; 300];
+        assert_eq!(gateway.serve_without_into(edition, &request, &dont_x, &mut out[..y.len() - 1]), Err(Refusal::Room { needed: y.len() as u64 }));
+        assert_eq!(out, [7; 300]);
+        assert_eq!(gateway.serve_without_into(edition, &request, &dont_x, &mut out[..y.len()]), Ok(Served { bytes: 114, messages: 1, left: 0 }));
+        assert_eq!((&out[..114], &out[114..]), (&y[..], &[7; 186][..]));
+        assert_eq!(gateway.serve_into(edition, &request, &mut out[..114]), Ok(Served { bytes: 114, messages: 1, left: 1 }));
+        assert_eq!(gateway.serve_without_into(edition, &want_x, &dont_x, &mut []), Ok(Served { bytes: 0, messages: 0, left: 0 }));
+        // The request is tested first, and each body by itself.
+        let number = Refusal::FieldNumber { number: 0, offset: 0, place: Place::new(0, &[]) };
+        let short = Refusal::VarintShort { place: Place::new(0, &[]) };
+        assert_eq!((serve(&[0]), gateway.serve_without(edition, &[0x80], &[0])), (Err(number), Err(short)));
+        assert_eq!(serve(&[0x1a, 3, 0x2a, 1, 0x80]), Err(Refusal::VarintShort { place: Place::new(4, &[3, 5]) }));
+        assert_eq!(serve(&[0x0a, 0].repeat(513)), Err(Refusal::TooManyRecords { records: 513 }));
+        assert_eq!(serve(&vec![0; 65_537]), Err(Refusal::BodyTooLarge { length: 65_537 }));
+        assert_eq!(serve(&named(5, &[&b""[..]; 511])), reply(&[&x, &y], 0));
+        assert_eq!(serve(&named(5, &[&b""[..]; 512])), Err(Refusal::TooManyRecords { records: 513 }));
+        assert_eq!(gateway.serve_without_into(edition, &request, &[0], &mut []), Err(number));
     }
 }
 
@@ -435,7 +560,7 @@ fn senders() {
                 (Some((number, _)), Some((27, _))) if matches!(number, 28..=30) => fit,
                 _ => refused.or(fit),
             };
-            let answer = told(gateway.admit(&body, 0, verified, now));
+            let answer = told(gateway.admit(V1_1, &body, 0, verified, now));
             assert_eq!(answer, wanted.map_or(Ok(Admitted::New), |(number, values)| Err((number, values.to_vec(), None))), "row {n}");
             assert_eq!(gateway == before, answer.is_err());
         }
@@ -446,7 +571,7 @@ fn senders() {
             Some((24 | 25, _)) => Some((26, &[0][..])),
             refused => refused,
         };
-        let written = write_rpc(&decode(&body).unwrap().records).map_err(|refusal| (refusal.number(), refusal.values()));
+        let written = write_rpc(&decode(V1_1, &body).unwrap().records).map_err(|refusal| (refusal.number(), refusal.values()));
         assert_eq!(written, refused.map_or(Ok(body), |(number, values)| Err((number, values.to_vec()))), "row {n}");
     }
 }
@@ -454,14 +579,14 @@ fn senders() {
 #[test]
 fn records() {
     let x = body(b'A');
-    let decoded = decode(&x).unwrap();
+    let decoded = decode(V1_1, &x).unwrap();
     assert!(!decoded.control);
     let sender = peer_id([b'A'; 32]);
     let message = Record::Message { raw: &x[2..], from: Some(&sender), data: None, seqno: Some(&[1]), signature: Some(&[0; 64]), key: None };
     assert_eq!(decoded.records, [message, Record::Topic("t")]);
     let id = id(b'A', 1);
     let offer = [&[0x1a, 0x2e, 0x0a, 0x2c, 0x0a, 1, b't', 0x12, 0x27], &id[..]].concat();
-    let decoded = decode(&offer).unwrap();
+    let decoded = decode(V1_1, &offer).unwrap();
     assert!(decoded.control);
     assert_eq!(decoded.records, [Record::IHave { topic_id: Some("t") }, Record::MessageId(&id)]);
 }
@@ -493,12 +618,12 @@ fn messages_with_their_topics() {
         key: Some(b"k"),
         topics: vec!["t", "u"],
     };
-    assert_eq!(messages(&both), Ok(vec![one, other]));
-    for message in messages(&both).unwrap() {
-        assert_eq!(sign_bytes(&both, message.index).unwrap()[16..54], *message.from.unwrap());
+    assert_eq!(messages(V1_1, &both), Ok(vec![one, other]));
+    for message in messages(V1_1, &both).unwrap() {
+        assert_eq!(sign_bytes(V1_1, &both, message.index).unwrap()[16..54], *message.from.unwrap());
     }
-    assert_eq!(messages(&[]), Ok(vec![]));
-    assert_eq!(messages(&[0x80]), Err(Refusal::VarintShort { place: Place::new(0, &[]) }));
+    assert_eq!(messages(V1_1, &[]), Ok(vec![]));
+    assert_eq!(messages(V1_1, &[0x80]), Err(Refusal::VarintShort { place: Place::new(0, &[]) }));
 }
 
 /// A subscription, a message that is absent in every field, and a graft.
@@ -545,7 +670,8 @@ fn speaking_first() {
     assert_eq!(write_rpc(&vec![graft(&long[..1000]); 66]), Err(Refusal::RpcTooLong { length: 66_400 }));
     // What stands before all that it could belong to; offers and requests.
     let ihave = Record::IHave { topic_id: Some("t") };
-    for records in [&[Record::Topic("t"), EMPTY][..], &[peer, prune], &[EMPTY, peer], &[prune, Record::Topic("t")], &[ihave], &[Record::IWant]] {
+    let entries = [&[ihave][..], &[Record::IWant], &[Record::IDontWant]];
+    for records in [&[Record::Topic("t"), EMPTY][..], &[peer, prune], &[EMPTY, peer], &[prune, Record::Topic("t")]].into_iter().chain(entries) {
         assert_eq!(write_rpc(records), Err(Refusal::Malformed));
         assert_eq!(sign_fields(records, 0), Err(Refusal::Malformed));
     }
@@ -581,15 +707,15 @@ fn published_messages() {
     let body = rpc.write().unwrap();
     let mut neighbour = Gateway::start(SETTINGS).unwrap();
     for (index, draft, signature) in [(0, other, [9; 64]), (1, draft, [8; 64])] {
-        assert_eq!(sign_bytes(&body, index), draft.sign_fields());
+        assert_eq!(sign_bytes(V1_1, &body, index), draft.sign_fields());
         assert_eq!(sign_fields(rpc.records(), index), draft.sign_fields());
-        let message = &messages(&body).unwrap()[index];
+        let message = &messages(V1_1, &body).unwrap()[index];
         assert_eq!((message.from, message.seqno, message.data), (Some(draft.from), Some(draft.seqno), draft.data));
         assert_eq!((&message.topics[..], message.signature, message.key), (draft.topics, Some(&signature[..]), draft.key));
-        assert_eq!(neighbour.admit(&body, index, true, 5), Ok(Admitted::New));
+        assert_eq!(neighbour.admit(V1_1, &body, index, true, 5), Ok(Admitted::New));
     }
     // What was read can be said again: it comes out as it was read, for it is in order.
-    assert_eq!(write_rpc(&decode(&body).unwrap().records), Ok(body));
+    assert_eq!(write_rpc(&decode(V1_1, &body).unwrap().records), Ok(body));
 
     // What admission would refuse.
     let refused = |draft: &Draft, signature: &[u8]| Rpc::new().publish(draft, signature).write().unwrap_err();
@@ -626,13 +752,13 @@ fn a_state_is_saved_and_loaded() {
     let mut gateway = Gateway::start(Settings { ttl: 3_600_000, ..SETTINGS }).unwrap();
     let mut clock = Clock::after(&gateway);
     for key in b'A'..b'H' {
-        assert_eq!(gateway.admit(&body(key), 0, true, clock.now()), Ok(Admitted::New));
+        assert_eq!(gateway.admit(V1_1, &body(key), 0, true, clock.now()), Ok(Admitted::New));
         let loaded = Gateway::load(&gateway.save()).unwrap();
         assert!(loaded == gateway);
         assert_eq!(loaded.advertise(b"t", 2), gateway.advertise(b"t", 2));
         gateway = loaded;
         clock = Clock::after(&gateway);
-        assert_eq!(gateway.admit(&body(key), 0, true, clock.now()), Ok(Admitted::Duplicate));
+        assert_eq!(gateway.admit(V1_1, &body(key), 0, true, clock.now()), Ok(Admitted::Duplicate));
     }
     let saved = gateway.save();
     assert!(matches!(Gateway::load(&[]), Err(LoadError::Short { found: 0 })));
@@ -647,7 +773,7 @@ fn a_state_is_saved_and_loaded() {
 fn damage_is_refused_or_harmless() {
     let mut gateway = Gateway::start(SETTINGS).unwrap();
     for key in b'A'..b'D' {
-        gateway.admit(&body(key), 0, true, 5).unwrap();
+        gateway.admit(V1_1, &body(key), 0, true, 5).unwrap();
     }
     let (node, seen, cache) = gateway.parts();
     let whole = [&node[..], seen, cache].concat();
@@ -661,7 +787,7 @@ fn damage_is_refused_or_harmless() {
         let (before, clock) = (other.clone(), other.clock());
         let loaded = Gateway::load(&other.save());
         assert_eq!(other.explain(&id(b'A', 1), b"t", 1).is_err(), loaded.is_err());
-        match other.admit(&body(b'Z'), 0, true, clock) {
+        match other.admit(V1_1, &body(b'Z'), 0, true, clock) {
             Err(refusal) => {
                 assert!(matches!(refusal.number(), 40..=42));
                 assert!(other == before && matches!(loaded, Err(LoadError::Refused(Refusal::BadStore | Refusal::Malformed))));

@@ -4,7 +4,7 @@
 
 use crate::rows::lists;
 use pradulins::{decode, message_id, reencode, sign_bytes, sign_fields, sign_fields_into, walk_from, write_rpc, write_rpc_into};
-use pradulins::{Admitted, Gateway, Offer, Record, Refusal, Rpc, Settings, CACHE_PLACE, NODE_SIZE, SEEN_ROW};
+use pradulins::{Admitted, Edition, Gateway, Offer, Record, Refusal, Rpc, Settings, CACHE_PLACE, MAX_BODY, NODE_SIZE, SEEN_ROW};
 use std::fmt::Write as _;
 use std::io::{Result, Write};
 
@@ -66,6 +66,7 @@ fn record(record: &Record) -> String {
         Record::Graft { topic_id } => format!("graft {}", text(topic_id)),
         Record::Prune { topic_id, backoff } => format!("prune {} {}", text(topic_id), backoff.map_or("-".to_string(), |b| b.to_string())),
         Record::PeerInfo { peer_id, signed_peer_record } => format!("peer {} {}", shown(*peer_id), shown(*signed_peer_record)),
+        Record::IDontWant => "idontwant".to_string(),
     }
 }
 
@@ -94,13 +95,30 @@ fn on_rows(records: &[Record], room: usize, index: Option<usize>) -> std::result
     answer.map(|count| made(&out[..count]))
 }
 
-/// The line of a call on a body; an error where the record ends the run.
+/// The edition that a number names, and what stands behind it; an error where it names none.
+fn in_edition(content: &[u8]) -> std::result::Result<(Edition, &[u8]), ()> {
+    match content.split_first() {
+        Some((0, rest)) => Ok((Edition::V1_1, rest)),
+        Some((1, rest)) => Ok((Edition::V1_2, rest)),
+        _ => Err(()),
+    }
+}
+
+/// The line of a call on a body; an error where the record ends the run. Kinds 21 to 24 are 1 to 4 with an edition before their content.
 fn inspect(kind: u64, content: &[u8], n: u64) -> std::result::Result<String, ()> {
+    if (21..=24).contains(&kind) {
+        let (edition, content) = in_edition(content)?;
+        return inspect_in(edition, kind - 20, content, n);
+    }
+    inspect_in(Edition::V1_1, kind, content, n)
+}
+
+fn inspect_in(edition: Edition, kind: u64, content: &[u8], n: u64) -> std::result::Result<String, ()> {
     let indexed = |least| if content.len() < least { Err(()) } else { Ok(content.split_at(least)) };
     let line = match kind {
         1 => {
             let mut lines = String::new();
-            let answer = decode(content).map(|decoded| {
+            let answer = decode(edition, content).map(|decoded| {
                 for one in &decoded.records {
                     let _ = write!(lines, "\n  {}", record(one));
                 }
@@ -108,14 +126,14 @@ fn inspect(kind: u64, content: &[u8], n: u64) -> std::result::Result<String, ()>
             });
             format!("{n} decode {}{lines}", said(answer, true))
         }
-        2 => format!("{n} encode {}", said(reencode(content).map(|bytes| made(&bytes)), true)),
+        2 => format!("{n} encode {}", said(reencode(edition, content).map(|bytes| made(&bytes)), true)),
         3 => {
             let (index, body) = indexed(2)?;
-            format!("{n} sign {}", said(sign_bytes(body, number(index) as usize).map(|bytes| made(&bytes)), true))
+            format!("{n} sign {}", said(sign_bytes(edition, body, number(index) as usize).map(|bytes| made(&bytes)), true))
         }
         4 => {
             let (index, body) = indexed(2)?;
-            format!("{n} id {}", said(message_id(body, number(index) as usize).map(|bytes| made(&bytes)), true))
+            format!("{n} id {}", said(message_id(edition, body, number(index) as usize).map(|bytes| made(&bytes)), true))
         }
         5 => {
             let (place, body) = indexed(8)?;
@@ -222,7 +240,7 @@ fn trace(kind: u64, content: &[u8], n: u64, gateway: &mut Option<Gateway>) -> st
     let mut node = Gateway::load(&saved).map_err(|_| ())?;
     let line = match kind {
         2 if content.len() >= 11 && content[10] <= 1 => {
-            let admitted = node.admit(&content[11..], number(&content[8..10]) as usize, content[10] == 1, number(&content[..8]));
+            let admitted = node.admit(Edition::V1_1, &content[11..], number(&content[8..10]) as usize, content[10] == 1, number(&content[..8]));
             let word = |admitted| if admitted == Admitted::New { "new" } else { "dup" };
             format!("{n} admit {}", said(admitted.map(|a| word(a).to_string()), false))
         }
@@ -230,9 +248,9 @@ fn trace(kind: u64, content: &[u8], n: u64, gateway: &mut Option<Gateway>) -> st
         4 if content.len() >= 2 => {
             format!("{n} advertise {}", said(node.advertise(&content[2..], number(&content[..2]) as usize).map(|b| made(&b)), false))
         }
-        5 => format!("{n} ask {}", said(node.ask(content).map(|bytes| made(&bytes)), false)),
+        5 => format!("{n} ask {}", said(node.ask(Edition::V1_1, content).map(|bytes| made(&bytes)), false)),
         6 => {
-            let reply = node.serve(content).map(|reply| format!("{} {} {}", made(&reply.body), reply.messages, reply.left));
+            let reply = node.serve(Edition::V1_1, content).map(|reply| format!("{} {} {}", made(&reply.body), reply.messages, reply.left));
             format!("{n} serve {}", said(reply, false))
         }
         _ => return Err(()),
@@ -279,9 +297,9 @@ impl States {
         Ok("ok".to_string())
     }
 
-    fn admit(&mut self, content: &[u8]) -> std::result::Result<String, Refusal> {
+    fn admit(&mut self, edition: Edition, content: &[u8]) -> std::result::Result<String, Refusal> {
         let mut gateway = self.gateway();
-        let admitted = gateway.admit(&content[11..], number(&content[8..10]) as usize, content[10] == 1, number(&content[..8]))?;
+        let admitted = gateway.admit(edition, &content[11..], number(&content[8..10]) as usize, content[10] == 1, number(&content[..8]))?;
         self.save(&gateway);
         Ok(if admitted == Admitted::New { "new" } else { "dup" }.to_string())
     }
@@ -298,14 +316,39 @@ impl States {
         Ok(made(&self.made[..count]))
     }
 
-    fn ask(&mut self, body: &[u8], room: usize) -> std::result::Result<String, Refusal> {
-        let count = self.gateway().ask_into(body, &mut self.made[..room])?;
+    fn ask(&mut self, edition: Edition, body: &[u8], room: usize) -> std::result::Result<String, Refusal> {
+        let count = self.gateway().ask_into(edition, body, &mut self.made[..room])?;
         Ok(made(&self.made[..count]))
     }
 
-    fn serve(&mut self, body: &[u8], room: usize) -> std::result::Result<String, Refusal> {
-        let served = self.gateway().serve_into(body, &mut self.made[..room])?;
+    fn serve(&mut self, edition: Edition, body: &[u8], unwanted: &[u8], room: usize) -> std::result::Result<String, Refusal> {
+        let gateway = self.gateway();
+        let served = gateway.serve_without_into(edition, body, unwanted, &mut self.made[..room])?;
+        if room == MAX_BODY {
+            let reply = gateway.serve_without(edition, body, unwanted)?;
+            assert!(reply.body == self.made[..served.bytes] && (reply.messages, reply.left) == (served.messages, served.left));
+            assert!(!unwanted.is_empty() || gateway.serve(edition, body)? == reply);
+        }
         Ok(format!("{} {} {}", made(&self.made[..served.bytes]), served.messages, served.left))
+    }
+
+    /// Kinds 22, 25 and 26: an edition, and then what 2, 5 and 6 have; of the last the lent body stands between room and body, with its length before it.
+    fn in_edition(&mut self, kind: u64, content: &[u8], n: u64) -> std::result::Result<String, ()> {
+        let (edition, content) = in_edition(content)?;
+        if kind == 22 {
+            return if content.len() < 11 { Err(()) } else { Ok(format!("{n} admit {}", said(self.admit(edition, content), true))) };
+        }
+        let room = number(content.get(..4).ok_or(())?) as usize;
+        if room > self.made.len() {
+            return Err(());
+        }
+        let body = &content[4..];
+        if kind == 25 {
+            return Ok(format!("{n} ask {}", said(self.ask(edition, body, room), true)));
+        }
+        let size = number(body.get(..4).ok_or(())?) as usize;
+        let unwanted = body[4..].get(..size).ok_or(())?;
+        Ok(format!("{n} serve {}", said(self.serve(edition, &body[4 + size..], unwanted, room), true)))
     }
 
     /// Sets a number of the node or a byte of a store, as the C player does.
@@ -355,11 +398,11 @@ impl States {
         let room = if content.len() < 4 { 0 } else { number(&content[..4]) as usize };
         let line = match kind {
             1 if content.len() == 14 => format!("{n} set {}", said(self.set(content), true)),
-            2 if content.len() >= 11 => format!("{n} admit {}", said(self.admit(content), true)),
+            2 if content.len() >= 11 => format!("{n} admit {}", said(self.admit(Edition::V1_1, content), true)),
             3 if content.len() == 8 => format!("{n} beat {}", said(self.beat(content), true)),
             4 if content.len() >= 6 && room <= 65600 => format!("{n} advertise {}", said(self.advertise(&content[4..], room), true)),
-            5 if content.len() >= 4 && room <= 65600 => format!("{n} ask {}", said(self.ask(&content[4..], room), true)),
-            6 if content.len() >= 4 && room <= 65600 => format!("{n} serve {}", said(self.serve(&content[4..], room), true)),
+            5 if content.len() >= 4 && room <= 65600 => format!("{n} ask {}", said(self.ask(Edition::V1_1, &content[4..], room), true)),
+            6 if content.len() >= 4 && room <= 65600 => format!("{n} serve {}", said(self.serve(Edition::V1_1, &content[4..], &[], room), true)),
             7 if content.len() == 8 && room <= self.seen.len() && number(&content[4..]) as usize <= self.cache.len() => {
                 self.lent = [room, number(&content[4..]) as usize];
                 format!("{n} lend ok")
@@ -376,6 +419,7 @@ impl States {
             }
             21 if content.len() == 16 && number(&content[14..]) > 1 => format!("{n} -"),
             21 if content.len() == 16 => format!("{n} set {}", said(self.set(content), true)),
+            22 | 25 | 26 => self.in_edition(kind, content, n)?,
             _ => return Err(()),
         };
         Ok(line)

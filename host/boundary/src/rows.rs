@@ -92,6 +92,7 @@ fn record<'a>(row: &Row, bytes: &'a [u8]) -> Option<Record<'a>> {
         8 => Record::Graft { topic_id: topic_id()? },
         9 => Record::Prune { topic_id: topic_id()?, backoff: row.number },
         10 => Record::PeerInfo { peer_id: field(0)?, signed_peer_record: field(1)? },
+        11 => Record::IDontWant,
         _ => return None,
     })
 }

@@ -1,6 +1,6 @@
 //! A writer to be killed, and what is then loaded.
 
-use pradulins::{Gateway, LoadError, Settings};
+use pradulins::{Edition, Gateway, LoadError, Settings};
 use std::error::Error;
 use std::io::{ErrorKind, Write};
 
@@ -28,7 +28,7 @@ pub fn write(path: &str, out: &mut dyn Write) -> Result<(), Box<dyn Error>> {
     };
     loop {
         let now = gateway.clock() + 1;
-        gateway.admit(&notice(now), 0, true, now)?;
+        gateway.admit(Edition::V1_1, &notice(now), 0, true, now)?;
         gateway.save_to(path)?;
         writeln!(out, "{now}")?;
         out.flush()?;

@@ -1,6 +1,6 @@
 //! A gateway speaks first: it subscribes, grafts and publishes in one body. The other reads what is said, admits the notice, and answers a prune.
 
-use super::notice::{said_with, sender};
+use super::notice::{said_with, sender, EDITION};
 use super::rounds::Site;
 use pradulins::{decode, Record, Rpc};
 use std::error::Error;
@@ -25,7 +25,7 @@ fn words(record: &Record) -> Option<String> {
 fn told(from: &Site, to: &mut Site, body: &[u8], out: &mut dyn Write) -> Result<(), Box<dyn Error>> {
     to.receive(body);
     let body = to.body()?;
-    let said: Vec<String> = decode(&body)?.records.iter().filter_map(words).collect();
+    let said: Vec<String> = decode(EDITION, &body)?.records.iter().filter_map(words).collect();
     writeln!(out, "  {} hears of {}, in {} bytes: {}", to.name, from.name, body.len(), said.join(", "))?;
     let new = to.admit_all(&body)?;
     if new > 0 {

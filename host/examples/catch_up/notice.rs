@@ -1,6 +1,9 @@
 //! Notices: bodies with one message each. Key and signature are stand-ins, to show where a host's own stand: anybody can make them.
 
-use pradulins::{decode, sign_bytes, Draft, Message, Record, Refusal, Rpc};
+use pradulins::{decode, sign_bytes, Draft, Edition, Message, Record, Refusal, Rpc};
+
+/// What all links of the story speak. A host asks its stream, by the protocol that both sides agreed on.
+pub const EDITION: Edition = Edition::V1_2;
 
 /// 64 bytes over what is to be signed. A host signs with its key instead.
 fn stand_in(signed: &[u8]) -> [u8; 64] {
@@ -50,10 +53,26 @@ pub fn notice(site: &str, seqno: u64, topic: &str, data: &[u8]) -> Result<Vec<u8
 /// The host's word on a message of a body: whether its signature is right. A host verifies it with the key in the sender's peer id; or, where that is a hash,
 /// with the message's own key, and tests that the key has this hash.
 pub fn verified(body: &[u8], message: &Message) -> Result<bool, Refusal> {
-    Ok(message.signature == Some(&stand_in(&sign_bytes(body, message.index)?)[..]))
+    Ok(message.signature == Some(&stand_in(&sign_bytes(EDITION, body, message.index)?)[..]))
 }
 
-/// How many ids a body names.
-pub fn ids(body: &[u8]) -> Result<usize, Refusal> {
-    Ok(decode(body)?.records.iter().filter(|record| matches!(record, Record::MessageId(_))).count())
+/// The ids that a body names.
+pub fn ids(body: &[u8]) -> Result<Vec<&[u8]>, Refusal> {
+    let id = |record| if let Record::MessageId(id) = record { Some(id) } else { None };
+    Ok(decode(EDITION, body)?.records.into_iter().filter_map(id).collect())
+}
+
+/// A field with a length before it; of up to 16,383 bytes.
+fn field(number: u8, content: &[u8]) -> Vec<u8> {
+    let length = match content.len() {
+        size @ 0..=127 => vec![size as u8],
+        size => vec![size as u8 | 128, (size >> 7) as u8],
+    };
+    [&[number << 3 | 2], &length[..], content].concat()
+}
+
+/// A body that says which notices are not wanted: a control, in it one IDONTWANT with their ids.
+pub fn unwanted(ids: &[&[u8]]) -> Vec<u8> {
+    let ids: Vec<Vec<u8>> = ids.iter().map(|id| field(1, id)).collect();
+    field(3, &field(5, &ids.concat()))
 }

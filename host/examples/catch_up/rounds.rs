@@ -2,7 +2,7 @@
 
 use super::frame::{put_frame, Frames};
 use super::join;
-use super::notice::{ids, notice, verified};
+use super::notice::{ids, notice, unwanted, verified, EDITION};
 use pradulins::{messages, Admitted, Clock, Gateway, Settings};
 use std::error::Error;
 use std::io::Write;
@@ -44,8 +44,8 @@ impl Site {
     /// Admits every message of a body; how many were new.
     pub fn admit_all(&mut self, body: &[u8]) -> Result<usize, Box<dyn Error>> {
         let mut new = 0;
-        for message in messages(body)? {
-            let admitted = self.gateway.admit(body, message.index, verified(body, &message)?, self.clock.now())?;
+        for message in messages(EDITION, body)? {
+            let admitted = self.gateway.admit(EDITION, body, message.index, verified(body, &message)?, self.clock.now())?;
             new += usize::from(admitted == Admitted::New);
         }
         Ok(new)
@@ -54,8 +54,8 @@ impl Site {
 
 /// What a gateway says of a notice at a reading: in words that do not tell the time.
 fn told(gateway: &mut Gateway, body: &[u8], now: u64) -> Result<String, Box<dyn Error>> {
-    let message = &messages(body)?[0];
-    Ok(match gateway.admit(body, message.index, verified(body, message)?, now) {
+    let message = &messages(EDITION, body)?[0];
+    Ok(match gateway.admit(EDITION, body, message.index, verified(body, message)?, now) {
         Ok(Admitted::New) => "new".to_string(),
         Ok(Admitted::Duplicate) => "a duplicate".to_string(),
         Err(refusal) => format!("refused {}", refusal.number()),
@@ -80,15 +80,15 @@ fn round(number: usize, giver: &mut Site, taker: &mut Site, out: &mut dyn Write)
     let offer = giver.gateway.advertise(TOPIC.as_bytes(), WINDOWS)?;
     taker.receive(&offer);
     let offer = taker.body()?;
-    let request = taker.gateway.ask(&offer)?;
+    let request = taker.gateway.ask(EDITION, &offer)?;
     writeln!(
         out,
         "round {number}: {} offers {} ids in {} bytes; {} asks for {} in {}",
         giver.name,
-        ids(&offer)?,
+        ids(&offer)?.len(),
         offer.len(),
         taker.name,
-        ids(&request)?,
+        ids(&request)?.len(),
         request.len()
     )?;
     if request.is_empty() {
@@ -96,7 +96,7 @@ fn round(number: usize, giver: &mut Site, taker: &mut Site, out: &mut dyn Write)
     }
     giver.receive(&request);
     let request = giver.body()?;
-    let reply = giver.gateway.serve(&request)?;
+    let reply = giver.gateway.serve(EDITION, &request)?;
     taker.receive(&reply.body);
     let body = taker.body()?;
     let new = taker.admit_all(&body)?;
@@ -141,8 +141,22 @@ pub fn run(out: &mut dyn Write) -> Result<(), Box<dyn Error>> {
         if same { "the same bytes" } else { "other bytes" }
     )?;
 
+    newcomer(&north, settings, out)?;
     clocks(&mut south, out)?;
     restart(south, out)
+}
+
+/// A third gateway asks for all that is offered. Before it is served, some of it comes in by another link, and it says that it does not want these notices any more:
+/// they are left out of the reply, and do not count as left to be asked for again.
+fn newcomer(giver: &Site, settings: Settings, out: &mut dyn Write) -> Result<(), Box<dyn Error>> {
+    let gateway = Gateway::start(settings)?;
+    let request = gateway.ask(EDITION, &giver.gateway.advertise(TOPIC.as_bytes(), WINDOWS)?)?;
+    let wanted = ids(&request)?;
+    let said = unwanted(&wanted[..20]);
+    let (all, rest) = (giver.gateway.serve(EDITION, &request)?, giver.gateway.serve_without(EDITION, &request, &said)?);
+    writeln!(out, "east asks {} for {} notices: it would serve {}, and leave {}", giver.name, wanted.len(), all.messages, all.left)?;
+    writeln!(out, "  east does not want {} of them any more: {} serves {}, and leaves {}", ids(&said)?.len(), giver.name, rest.messages, rest.left)?;
+    Ok(())
 }
 
 /// What a wall clock that steps by an hour would do. By the site's own clock, nothing: it does not look at the wall clock again. The machine's is not
