@@ -271,7 +271,8 @@ fn unseen(
     k
 }
 
-// Puts the parts that the IDONTWANTs of a second body do not name into another table; how many those are.
+// Puts the parts that the IDONTWANTs of a second body do not name into another table; how many those are. Where there is no second body, no table is made
+// for its ids.
 fn not_declined(body: &[u8], from: &[usize], n: usize, unwanted: &[u8], to: &mut [usize]) -> usize
     requires { ⌜ Parts (now body) (now from) n ⌝ }
     requires { ⌜ n * 2 ≤ length (now to) ⌝ }
@@ -280,6 +281,9 @@ fn not_declined(body: &[u8], from: &[usize], n: usize, unwanted: &[u8], to: &mut
     ensures { λ r. ⌜ Parts (now (body .entry)) (now (to .exit)) r ⌝ }
     ensures { λ r. ⌜ r ≤ n ⌝ }
 {
+    if unwanted.len() == 0 {
+        return parts_without(body, from, n, unwanted, from, 0, to);
+    }
     let mut declined = [0usize; 2 * MAX_RECORDS];
     let path = [3u64, 5, 1];
     let m = parts_at(unwanted, 0, unwanted.len(), &path, &mut declined, 0);
