@@ -29,8 +29,12 @@ returns : tie.Need-returns
 returns c =
     let s = c .before .before .before .before .before .before .before .before .before in
     let q = c .before .before .parts-without .ensures in
-    let u = none-declined (s .args .unwanted .now) (s .args .from .now) (c .before .before .before .before .if1 .taken) in
-    (q .0 ∙ ap (λ (l : List (List ℕ)). without l (partsIn (s .args .body .now) (s .args .from .now) (s .args .n))) u, q .1)
+    let u = none-declined (s .args .unwanted .now) (s .args .from .now) (c .before .before .before .before .if1 .taken)
+    in (
+      q .0 ∙ ap (λ (l : List (List ℕ)). without l (partsIn (s .args .body .now) (s .args .from .now) (s .args .n))) u,
+      q
+          .1,
+    )
 
 slice-aggregate-parts-at : tie.Need-slice-aggregate-parts-at
 slice-aggregate-parts-at c = search needs
@@ -55,10 +59,15 @@ same-length-2 c = search needs
 returns-2 : tie.Need-returns-2
 unfolding unwantedIn
 returns-2 c =
-    let s = c .before .before .before .before .before .before .before .before .before .before .before .before .before .before in
+    let s = c .before .before .before .before .before .before .before .before .before .before .before .before .before
+    .before in
     let q = c .before .before .parts-without2 .ensures in
-    let u = named-is (3 ∷ 5 ∷ 1 ∷ []) (s .args .unwanted .now) (s .pre .1 .1) _ _ _ (c .before .before .before .before .before .before .parts-at .ensures .0) in
-    (q .0 ∙ ap (λ (l : List (List ℕ)). without l (partsIn (s .args .body .now) (s .args .from .now) (s .args .n))) u, q .1)
+    let u = named-is (3 ∷ 5 ∷ 1 ∷ []) (s .args .unwanted .now) (s .pre .1 .1) _ _ _ (c .before .before .before .before
+    .before .before .parts-at .ensures .0) in (
+      q .0 ∙ ap (λ (l : List (List ℕ)). without l (partsIn (s .args .body .now) (s .args .from .now) (s .args .n))) u,
+      q
+          .1,
+    )
 
 pub not-declined-spec : {M : Type 1} → statement M
 not-declined-spec =

@@ -47,15 +47,21 @@ ring-requires c κs = search needs
 
 slice-aggregate-cached : tie.Need-slice-aggregate-cached
 slice-aggregate-cached c =
-    let s = c .before .before .before .before .before .before .before .before .before .before .before .before .before .before .before .before .before .before .before .before .before .before in sym (length-unmapped ℕ (s .args .self .cache .len) 64 (s .good .0 .1 .1 .1 .1 .1 .1 .0 .1 .1 .1 .1 .1 .1 .1 .1 .1 .0 .1 .0 .1))
+    let s = c .before .before .before .before .before .before .before .before .before .before .before .before .before
+    .before .before .before .before .before .before .before .before .before in sym (length-unmapped ℕ (s .args .self
+    .cache .len) 64 (s .good .0 .1 .1 .1 .1 .1 .1 .0 .1 .1 .1 .1 .1 .1 .1 .1 .1 .0 .1 .0 .1))
 
 slice-aggregate-cached-2 : tie.Need-slice-aggregate-cached-2
 slice-aggregate-cached-2 c =
-    let s = c .before .before .before .before .before .before .before .before .before .before .before .before .before .before .before .before .before .before .before .before .before .before .before in sym (length-unmapped ℕ (s .args .self .cache .«id_len») 64 (s .good .0 .1 .1 .1 .1 .1 .1 .0 .1 .1 .1 .1 .1 .1 .1 .1 .1 .1 .0 .1 .0 .1))
+    let s = c .before .before .before .before .before .before .before .before .before .before .before .before .before
+    .before .before .before .before .before .before .before .before .before .before in sym (length-unmapped ℕ (s .args
+    .self .cache .«id_len») 64 (s .good .0 .1 .1 .1 .1 .1 .1 .0 .1 .1 .1 .1 .1 .1 .1 .1 .1 .1 .0 .1 .0 .1))
 
 slice-aggregate-cached-3 : tie.Need-slice-aggregate-cached-3
 slice-aggregate-cached-3 c =
-    let s = c .before .before .before .before .before .before .before .before .before .before .before .before .before .before .before .before .before .before .before .before .before .before .before .before in sym (length-unmapped ℕ (s .args .self .cache .ids) 8192 (s .good .0 .1 .1 .1 .1 .1 .1 .0 .1 .1 .1 .1 .1 .1 .1 .1 .1 .1 .1 .0 .1 .0 .1))
+    let s = c .before .before .before .before .before .before .before .before .before .before .before .before .before
+    .before .before .before .before .before .before .before .before .before .before .before in sym (length-unmapped ℕ
+    (s .args .self .cache .ids) 8192 (s .good .0 .1 .1 .1 .1 .1 .1 .0 .1 .1 .1 .1 .1 .1 .1 .1 .1 .1 .1 .0 .1 .0 .1))
 
 slice-aggregate-cached-4 : tie.Need-slice-aggregate-cached-4
 slice-aggregate-cached-4 c = search needs
@@ -67,7 +73,8 @@ cached-requires : tie.Need-cached-requires
 cached-requires c κs =
     let r = c .before .before .before .before .before .before .before .before in
     let d = r .before .before .before in
-    let s = d .before .before .before .before .before .before .before .before .before .before .before .before .before .before .before in
+    let s = d .before .before .before .before .before .before .before .before .before .before .before .before .before
+    .before .before in
     let a = s .args in
     let k = s .pre .0 in
     let m = d .before .before .before .before .before .before .before .before .parts-at .ensures .1 .room in
@@ -82,9 +89,11 @@ returns : tie.Need-returns
 returns c =
     let r = c .before .before .before .before .before .before .before .before .before .before .before in
     let d = r .before .before .before in
-    let s = d .before .before .before .before .before .before .before .before .before .before .before .before .before .before .before in
+    let s = d .before .before .before .before .before .before .before .before .before .before .before .before .before
+    .before .before in
     let a = s .args in
-    let f = first-is (3 ∷ 2 ∷ 1 ∷ []) (a .body .now) (s .pre .1 .0) _ _ _ (d .before .before .before .before .before .before .before .before .parts-at .ensures .0) _ _
+    let f = first-is (3 ∷ 2 ∷ 1 ∷ []) (a .body .now) (s .pre .1 .0) _ _ _ (d .before .before .before .before .before
+    .before .before .before .parts-at .ensures .0) _ _
     (d .before .before .before .before .first-mentions .ensures .0) in
     let x = rest-is (a .body .now) (a .unwanted .now) _ _ _ _ f (d .not-declined .ensures .0) in
     let q = messages-are (a .self .cache) (a .cache-store .now) (a .body .now) (a .unwanted .now) _ _ _ _ x
@@ -101,9 +110,13 @@ parts-that-fit-requires : tie.Need-parts-that-fit-requires
 parts-that-fit-requires c κs =
     let r = c .before .before .before .before .before .before .before .before .before .before .before .before .before in
     let d = r .before .before .before in
-    let s = d .before .before .before .before .before .before .before .before .before .before .before .before .before .before .before in
-    let a = s .args in
-    ((rw (r .ring .ensures) at (c .before .before .before .before .cached .ensures .1 .0)) (a .cache-store .now) (s .pre .0 .rows .room), omega arith)
+    let s = d .before .before .before .before .before .before .before .before .before .before .before .before .before
+    .before .before in
+    let a = s .args in (
+      (rw (r .ring .ensures) at (c .before .before .before .before .cached .ensures .1 .0)) (a .cache-store .now) (s
+          .pre .0 .rows .room),
+      omega arith,
+    )
 
 slice-aggregate-emit-parts : tie.Need-slice-aggregate-emit-parts
 slice-aggregate-emit-parts c = search needs
@@ -113,27 +126,44 @@ slice-aggregate-emit-parts-2 c = search needs
 
 emit-parts-requires : tie.Need-emit-parts-requires
 emit-parts-requires c κs =
-    let r = c .before .before .before .before .before .before .before .before .before .before .before .before .before .before .before .before .before in
+    let r = c .before .before .before .before .before .before .before .before .before .before .before .before .before
+    .before .before .before .before in
     let d = r .before .before .before in
-    let s = d .before .before .before .before .before .before .before .before .before .before .before .before .before .before .before in
+    let s = d .before .before .before .before .before .before .before .before .before .before .before .before .before
+    .before .before in
     let a = s .args in
-    let m = (rw (r .ring .ensures) at (c .before .before .before .before .before .before .before .before .cached .ensures .1 .0)) (a .cache-store .now) (s .pre .0 .rows .room) in (
-      parts-fewer (a .cache-store .now) _ 1 _ (omega (arith, c .before .before .before .before .before .before .if1 .left)) m,
-      (omega arith, reply-fits (a .cache-store .now) _ 1 (kept-size (a .self .cache) (a .cache-store .now) (s .pre .0)) (omega arith)),
+    let m = (rw (r .ring .ensures) at (c .before .before .before .before .before .before .before .before .cached
+    .ensures .1 .0)) (a .cache-store .now) (s .pre .0 .rows .room) in (
+      parts-fewer (a .cache-store .now) _ 1 _ (omega (
+        arith,
+        c .before .before .before .before .before .before .if1
+            .left,
+      )) m,
+      (
+        omega arith,
+        reply-fits (a .cache-store .now) _ 1 (kept-size (a .self .cache) (a .cache-store .now) (s .pre .0))
+            (omega arith),
+      ),
     )
 
 returns-2 : tie.Need-returns-2
 returns-2 c =
-    let r = c .before .before .before .before .before .before .before .before .before .before .before .before .before .before .before .before .before .before .before in
+    let r = c .before .before .before .before .before .before .before .before .before .before .before .before .before
+    .before .before .before .before .before .before in
     let d = r .before .before .before in
-    let s = d .before .before .before .before .before .before .before .before .before .before .before .before .before .before .before in
+    let s = d .before .before .before .before .before .before .before .before .before .before .before .before .before
+    .before .before in
     let a = s .args in
-    let f = first-is (3 ∷ 2 ∷ 1 ∷ []) (a .body .now) (s .pre .1 .0) _ _ _ (d .before .before .before .before .before .before .before .before .parts-at .ensures .0) _ _
+    let f = first-is (3 ∷ 2 ∷ 1 ∷ []) (a .body .now) (s .pre .1 .0) _ _ _ (d .before .before .before .before .before
+    .before .before .before .parts-at .ensures .0) _ _
     (d .before .before .before .before .first-mentions .ensures .0) in
     let x = rest-is (a .body .now) (a .unwanted .now) _ _ _ _ f (d .not-declined .ensures .0) in
     let q = messages-are (a .self .cache) (a .cache-store .now) (a .body .now) (a .unwanted .now) _ _ _ _ x
-    (rw (r .ring .ensures) at (c .before .before .before .before .before .before .before .before .before .before .cached .ensures .0)) in
-    reply-short _ (a .cache-store .now) _ _ (a .out .now) q (c .before .before .before .before .before .before .before .before .if1 .left) _ _ (c .before .before .before .before .before .before .before .reply-room .ensures) (c .before .before .before .before .before .parts-that-fit .ensures .0)
+    (rw (r .ring .ensures) at (c .before .before .before .before .before .before .before .before .before .before
+    .cached .ensures .0)) in
+    reply-short _ (a .cache-store .now) _ _ (a .out .now) q (c .before .before .before .before .before .before .before
+    .before .if1 .left) _ _ (c .before .before .before .before .before .before .before .reply-room .ensures) (c .before
+    .before .before .before .before .parts-that-fit .ensures .0)
     (c .before .before .before .before .if2 .taken) _ _ _ (c .before .emit-parts .ensures)
 
 slice-aggregate-emit-parts-3 : tie.Need-slice-aggregate-emit-parts-3
@@ -141,18 +171,26 @@ slice-aggregate-emit-parts-3 c = search needs
 
 emit-parts-requires-2 : tie.Need-emit-parts-requires-2
 emit-parts-requires-2 c κs =
-    let r = c .before .before .before .before .before .before .before .before .before .before .before .before .before .before .before .before .before in
+    let r = c .before .before .before .before .before .before .before .before .before .before .before .before .before
+    .before .before .before .before in
     let d = r .before .before .before in
-    let s = d .before .before .before .before .before .before .before .before .before .before .before .before .before .before .before in
+    let s = d .before .before .before .before .before .before .before .before .before .before .before .before .before
+    .before .before in
     let a = s .args in
-    let n = named-few (3 ∷ 2 ∷ 1 ∷ []) (a .body .now) (s .pre .1 .0) _ _ _ (d .before .before .before .before .before .before .before .before .parts-at .ensures .0) in
+    let n = named-few (3 ∷ 2 ∷ 1 ∷ []) (a .body .now) (s .pre .1 .0) _ _ _ (d .before .before .before .before .before
+    .before .before .before .parts-at .ensures .0) in
     let o = d .before .before .before .before .first-mentions .ensures .1 .1 in
     let u = d .not-declined .ensures .1 .1 in
     let v = c .before .before .before .before .before .before .before .before .cached .ensures .1 .1 in
     let l = c .before .before .before .parts-that-fit .ensures .1 in
-    let m = (rw (r .ring .ensures) at (c .before .before .before .before .before .before .before .before .cached .ensures .1 .0)) (a .cache-store .now) (s .pre .0 .rows .room) in (
+    let m = (rw (r .ring .ensures) at (c .before .before .before .before .before .before .before .before .cached
+    .ensures .1 .0)) (a .cache-store .now) (s .pre .0 .rows .room) in (
       parts-fewer (a .cache-store .now) _ _ _ l m,
-      (omega arith, reply-fits (a .cache-store .now) _ _ (kept-size (a .self .cache) (a .cache-store .now) (s .pre .0)) (omega arith)),
+      (
+        omega arith,
+        reply-fits (a .cache-store .now) _ _ (kept-size (a .self .cache) (a .cache-store .now) (s .pre .0))
+            (omega arith),
+      ),
     )
 
 -- those written are at most those cached, which are at most those that remain, and these at most those named
@@ -162,7 +200,8 @@ sub-t23 c =
     let g = p .before .before .before .before .before in
     let l = p .parts-that-fit .ensures .1 in
     let v = g .cached .ensures .1 .1 in
-    let u = g .before .before .before .before .before .before .before .before .before .before .before .before .not-declined .ensures .1 .1 in
+    let u = g .before .before .before .before .before .before .before .before .before .before .before .before
+    .not-declined .ensures .1 .1 in
     omega arith
 
 same-length : tie.Need-same-length
@@ -170,17 +209,24 @@ same-length c = search needs
 
 returns-3 : tie.Need-returns-3
 returns-3 c =
-    let r = c .before .before .before .before .before .before .before .before .before .before .before .before .before .before .before .before .before .before .before .before in
+    let r = c .before .before .before .before .before .before .before .before .before .before .before .before .before
+    .before .before .before .before .before .before .before in
     let d = r .before .before .before in
-    let s = d .before .before .before .before .before .before .before .before .before .before .before .before .before .before .before in
+    let s = d .before .before .before .before .before .before .before .before .before .before .before .before .before
+    .before .before in
     let a = s .args in
-    let f = first-is (3 ∷ 2 ∷ 1 ∷ []) (a .body .now) (s .pre .1 .0) _ _ _ (d .before .before .before .before .before .before .before .before .parts-at .ensures .0) _ _
+    let f = first-is (3 ∷ 2 ∷ 1 ∷ []) (a .body .now) (s .pre .1 .0) _ _ _ (d .before .before .before .before .before
+    .before .before .before .parts-at .ensures .0) _ _
     (d .before .before .before .before .first-mentions .ensures .0) in
     let x = rest-is (a .body .now) (a .unwanted .now) _ _ _ _ f (d .not-declined .ensures .0) in
     let q = messages-are (a .self .cache) (a .cache-store .now) (a .body .now) (a .unwanted .now) _ _ _ _ x
-    (rw (r .ring .ensures) at (c .before .before .before .before .before .before .before .before .before .before .before .cached .ensures .0)) in
-    reply-put _ (a .cache-store .now) _ _ (a .out .now) q (c .before .before .before .before .before .before .before .before .before .if1 .left) _ _ (c .before .before .before .before .before .before .before .before .reply-room .ensures) (c .before .before .before .before .before .before .parts-that-fit .ensures .0)
-    (c .before .before .before .before .before .if2 .left) (c .before .before .before .before .before .before .parts-that-fit .ensures .1) _ _ (c .before .before .emit-parts2 .ensures)
+    (rw (r .ring .ensures) at (c .before .before .before .before .before .before .before .before .before .before
+    .before .cached .ensures .0)) in
+    reply-put _ (a .cache-store .now) _ _ (a .out .now) q (c .before .before .before .before .before .before .before
+    .before .before .if1 .left) _ _ (c .before .before .before .before .before .before .before .before .reply-room
+    .ensures) (c .before .before .before .before .before .before .parts-that-fit .ensures .0)
+    (c .before .before .before .before .before .if2 .left) (c .before .before .before .before .before .before
+    .parts-that-fit .ensures .1) _ _ (c .before .before .emit-parts2 .ensures)
 
 pub reply-to-spec : {M : Type 1} → statement M
 reply-to-spec =

@@ -32,7 +32,8 @@ serve-taken-requires c κs =
     let s = c .before .before .before .before .before .before .before .before .before .before .before .before in
     let a = s .args in
     let g = s .good .0 in
-    let r = tested (a .self) (a .seen-store .now) (a .cache-store .now) (sym (c .before .before .before .before .enum-told .given .1) ∙ c .before .before .before .before .before .before .lent .ensures)
+    let r = tested (a .self) (a .seen-store .now) (a .cache-store .now) (sym (c .before .before .before .before
+    .enum-told .given .1) ∙ c .before .before .before .before .before .before .lent .ensures)
     (length-unmapped ℕ (a .self .seen .expiry) 256 (g .1 .1 .1 .1 .1 .0 .1 .1 .1 .1 .0 .1 .0 .1))
     (length-unmapped ℕ (a .self .seen .len) 256 (g .1 .1 .1 .1 .1 .0 .1 .1 .1 .1 .1 .0 .1 .0 .1))
     (length-unmapped ℕ (a .self .cache .generation) 64 (g .1 .1 .1 .1 .1 .1 .0 .1 .1 .1 .1 .1 .1 .1 .0 .1 .0 .1))
@@ -40,24 +41,30 @@ serve-taken-requires c κs =
     (length-unmapped ℕ (a .self .cache .len) 64 (g .1 .1 .1 .1 .1 .1 .0 .1 .1 .1 .1 .1 .1 .1 .1 .1 .0 .1 .0 .1))
     (length-unmapped ℕ (a .self .cache .«id_len») 64 (g .1 .1 .1 .1 .1 .1 .0 .1 .1 .1 .1 .1 .1 .1 .1 .1 .1 .0 .1 .0 .1))
     (length-unmapped ℕ (a .self .cache .ids) 8192 (g .1 .1 .1 .1 .1 .1 .0 .1 .1 .1 .1 .1 .1 .1 .1 .1 .1 .1 .0 .1 .0 .1))
-    (length-unmapped ℕ (a .self .cache .«topic_count») 64 (g .1 .1 .1 .1 .1 .1 .0 .1 .1 .1 .1 .1 .1 .1 .1 .1 .1 .1 .1 .0 .1 .0 .1))
-    (length-unmapped ℕ (a .self .cache .«topic_start») 256 (g .1 .1 .1 .1 .1 .1 .0 .1 .1 .1 .1 .1 .1 .1 .1 .1 .1 .1 .1 .1 .0 .1 .0 .1))
-    (length-unmapped ℕ (a .self .cache .«topic_len») 256 (g .1 .1 .1 .1 .1 .1 .0 .1 .1 .1 .1 .1 .1 .1 .1 .1 .1 .1 .1 .1 .1 .0 .1 .0 .1)) in
+    (length-unmapped ℕ (a .self .cache .«topic_count») 64 (g .1 .1 .1 .1 .1 .1 .0 .1 .1 .1 .1 .1 .1 .1 .1 .1 .1 .1 .1
+    .0 .1 .0 .1))
+    (length-unmapped ℕ (a .self .cache .«topic_start») 256 (g .1 .1 .1 .1 .1 .1 .0 .1 .1 .1 .1 .1 .1 .1 .1 .1 .1 .1 .1
+    .1 .0 .1 .0 .1))
+    (length-unmapped ℕ (a .self .cache .«topic_len») 256 (g .1 .1 .1 .1 .1 .1 .0 .1 .1 .1 .1 .1 .1 .1 .1 .1 .1 .1 .1 .1
+    .1 .0 .1 .0 .1)) in
     let e = sym (c .before .before .before .accept .ensures) ∙ c .before .enum-told2 .given .1 in
     (r .kept, path-accepted (spoken (a .edition)) (a .body .now) e .1)
 
 returns : tie.Need-returns
 returns c =
     let a = c .before .before .before .before .before .before .before .before .before .args in
-    let r = serves-faulty (a .self) (a .seen-store .now) (a .cache-store .now) (a .edition) (a .body .now) (a .unwanted .now) (a .out .now) _
+    let r = serves-faulty (a .self) (a .seen-store .now) (a .cache-store .now) (a .edition) (a .body .now) (a .unwanted
+    .now) (a .out .now) _
     (c .before .before .before .lent .ensures) _ (c .before .lent2 .given .1) in
     record { answer = r .0; node = refl; buffer = r .1 }
 
 returns-2 : tie.Need-returns-2
 returns-2 c =
     let a = c .before .before .before .before .before .before .before .before .before .before .before .before .args in
-    let r = serves-refused (a .self) (a .seen-store .now) (a .cache-store .now) (a .edition) (a .body .now) (a .unwanted .now) (a .out .now) _
-    (c .before .before .before .before .before .before .lent .ensures) (c .before .before .before .before .enum-told .given .1) _ (c .before .before .before .accept .ensures) _ (c .before .tested .given .1) in
+    let r = serves-refused (a .self) (a .seen-store .now) (a .cache-store .now) (a .edition) (a .body .now) (a
+    .unwanted .now) (a .out .now) _
+    (c .before .before .before .before .before .before .lent .ensures) (c .before .before .before .before .enum-told
+    .given .1) _ (c .before .before .before .accept .ensures) _ (c .before .tested .given .1) in
     record { answer = r .0; node = refl; buffer = r .1 }
 
 same-length : tie.Need-same-length
@@ -65,9 +72,14 @@ same-length c = search needs
 
 returns-3 : tie.Need-returns-3
 returns-3 c =
-    let a = c .before .before .before .before .before .before .before .before .before .before .before .before .before .before .before .args in
-    let r = serves-done (a .self) (a .seen-store .now) (a .cache-store .now) (a .edition) (a .body .now) (a .unwanted .now) (a .out .now) _
-    (c .before .before .before .before .before .before .before .before .before .lent .ensures) (c .before .before .before .before .before .before .before .enum-told .given .1) _ (c .before .before .before .before .before .before .accept .ensures) (c .before .before .before .before .enum-told2 .given .1) _ _ (c .before .before .serve-taken .ensures) in
+    let a = c .before .before .before .before .before .before .before .before .before .before .before .before .before
+    .before .before .args in
+    let r = serves-done (a .self) (a .seen-store .now) (a .cache-store .now) (a .edition) (a .body .now) (a .unwanted
+    .now) (a .out .now) _
+    (c .before .before .before .before .before .before .before .before .before .lent .ensures) (c .before .before
+    .before .before .before .before .before .enum-told .given .1) _ (c .before .before .before .before .before .before
+    .accept .ensures) (c .before .before .before .before .enum-told2 .given .1) _ _ (c .before .before .serve-taken
+    .ensures) in
     record { answer = r .0; node = refl; buffer = r .1 }
 
 pub serve-spec : {M : Type 1} → statement M
