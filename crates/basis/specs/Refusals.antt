@@ -45,6 +45,18 @@ unsupported-wire-type = 5
 abbrev pub invalid-field-number : ℕ
 invalid-field-number = 6
 
+-- an end tag with no open group, or of another number, where groups are passed over; nothing
+abbrev pub end-group : ℕ
+end-group = 14
+
+-- groups deeper than 32; nothing
+abbrev pub group-depth : ℕ
+group-depth = 15
+
+-- the body, or a submessage, ended inside a group; nothing
+abbrev pub group-open : ℕ
+group-open = 16
+
 -- topic not UTF-8; offset
 abbrev pub invalid-utf8 : ℕ
 invalid-utf8 = 7

@@ -12,7 +12,7 @@ ghost use Rattle.basis.specs.Writing.{endIn, setIn};
 ghost use Rattle.basis.specs.Little.{little, bytesOf};
 ghost use Rattle.basis.specs.Told.{told, placed};
 ghost use Rattle.basis.specs.Spot.{at};
-ghost use Rattle.basis.specs.Dialect.{editionOf, dialectOf};
+ghost use Rattle.basis.specs.Dialect.{editionOf, modeOf, dialectOf};
 ghost use Rattle.basis.specs.Unique.{Leaves};
 
 // The editions of gossipsub: 1.1, and 1.2, whose controls also hold IDONTWANTs.
@@ -21,9 +21,16 @@ pub enum Edition {
     V12,
 }
 
+// The reading modes: groups, the wire types 3 and 4, are refused, as the Rust does; or they are passed over.
+pub enum Mode {
+    Plain,
+    Groups,
+}
+
 // How a body is read.
 pub struct Dialect {
     pub edition: Edition,
+    pub mode: Mode,
 }
 
 // The edition that a number names: only its lowest bit counts, 0 for 1.1 and 1 for 1.2.
@@ -36,12 +43,23 @@ pub fn edition_of(number: u64) -> Edition
     Edition::V12
 }
 
-// The dialect that a number names, by the same bit.
+// The mode that a number names, by its second bit.
+pub fn mode_of(number: u64) -> Mode
+    ensures { λ r. ⌜ r ≡ modeOf number ⌝ }
+{
+    if number / 2 % 2 == 0 {
+        return Mode::Plain;
+    }
+    Mode::Groups
+}
+
+// The dialect that a number names, by both bits.
 pub fn dialect_of(number: u64) -> Dialect
     ensures { λ r. ⌜ r ≡ dialectOf number ⌝ }
 {
     let edition = edition_of(number);
-    Dialect { edition }
+    let mode = mode_of(number);
+    Dialect { edition, mode }
 }
 
 // Where in a body a refusal stands: how many bytes after the body's start, and the numbers of the fields that enclose it, the outermost first, 0

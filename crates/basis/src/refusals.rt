@@ -32,6 +32,15 @@ pub const UNSUPPORTED_WIRE_TYPE: u8 = 5;
 // Field number; number, offset.
 pub const INVALID_FIELD_NUMBER: u8 = 6;
 
+// An end tag with no open group, or of another number, where groups are passed over; nothing.
+pub const END_GROUP: u8 = 14;
+
+// Groups deeper than 32; nothing.
+pub const GROUP_DEPTH: u8 = 15;
+
+// The body, or a submessage, ended inside a group; nothing.
+pub const GROUP_OPEN: u8 = 16;
+
 // Topic not UTF-8; offset.
 pub const INVALID_UTF8: u8 = 7;
 

@@ -1,11 +1,13 @@
 -- Reading the fields of a body, with every refusal of the scope's table and its values, in the Rust's reading order. A
 -- place past the end answers as the end does. specs/Grammar.antt has the Protocol Buffers document's own words, and
 -- specs/Exactly.antt joins the two.
-use Prim.Native.Nat.{ℕ, _+_, _-_, _/_, _%_}
+use Prim.Native.Nat.{ℕ, zero, suc, _+_, _-_, _/_, _%_}
 use mathlib.Core.List.{List}
 use mathlib.Core.Bool.{cond}
 use lib.ListN.{length, take, drop}
 use lib.Dec.{ltb, leb, eqb}
+use Rattle.basis.specs.declared.Mode.{Mode}
+use Rattle.basis.specs.declared.Mode.the-variants.{Plain, Groups}
 use Rattle.peer_id.specs.declared.Uvarint.{Uvarint}
 use Rattle.peer_id.specs.declared.Uvarint.the-variants.{Value as Read, Refused as Unread}
 use Rattle.peer_id.specs.Uvarint.{readUvarint}
@@ -13,6 +15,7 @@ use Rattle.utf8.specs.Utf8.{isUtf8}
 use Rattle.protobuf.specs.declared.WireError.{WireError}
 use Rattle.protobuf.specs.declared.WireError.the-variants.{Varint, FieldOverflow, UnsupportedWireType}
 use Rattle.protobuf.specs.declared.WireError.the-variants.{InvalidFieldNumber, InvalidUtf8, TooLarge}
+use Rattle.protobuf.specs.declared.WireError.the-variants.{EndGroup, GroupDepth, GroupOpen}
 use Rattle.protobuf.specs.declared.Tag.{Tag}
 use Rattle.protobuf.specs.declared.Tag.the-variants as tag
 use Rattle.protobuf.specs.declared.Part.{Part}
@@ -27,6 +30,7 @@ use Rattle.protobuf.specs.declared.Step.the-variants as step
 use Rattle.protobuf.specs.declared.Walk.{Walk}
 use Rattle.protobuf.specs.declared.Walk.the-variants as walk
 use Rattle.protobuf.specs.Refusal.{here, nowhere}
+use Rattle.protobuf.specs.Grammar.{maxGroups}
 
 -- a varint read at a place: its refusal, which points at the place, or what f makes of its value and the place after it
 abbrev pub after : {A : Type 0} → ℕ → (WireError → A) → (ℕ → ℕ → A) → Uvarint → A
@@ -74,14 +78,51 @@ abbrev pub pastPart : Part → Skip
 pastPart (part.Bytes a e) = skip.Next e
 pastPart (part.Refused why) = skip.Refused why
 
--- past a value; 5 points after the tag
-unfoldable pub skipField : List ℕ → ℕ → ℕ → Skip
-skipField s at type =
+-- past a value that is no group; 5 points after the tag
+unfoldable pub skipValue : List ℕ → ℕ → ℕ → Skip
+skipValue s at type =
     cond (eqb type 0) (pastValue (readVarint s at))
     (cond (eqb type 2) (pastPart (readLen s at))
     (cond (eqb type 5) (skipFixed (length s) at 4)
     (cond (eqb type 1) (skipFixed (length s) at 8)
     (skip.Refused (UnsupportedWireType type at)))))
+
+-- ---- groups. `go l at n` passes the fields of a group n from `at`, and its end tag, where l groups more may open
+-- a start tag: 15 where no group more may open
+abbrev pub opened : (ℕ → ℕ → ℕ → Skip) → ℕ → ℕ → ℕ → Skip
+opened go zero at n = skip.Refused GroupDepth
+opened go (suc l) at n = go l at n
+
+-- past the value of a field n, a group or not: 14 at an end tag, as no group is open here that it could end
+unfoldable pub passed : (ℕ → ℕ → ℕ → Skip) → ℕ → List ℕ → ℕ → ℕ → ℕ → Skip
+passed go l s at n type =
+    cond (eqb type 3) (opened go l at n) (cond (eqb type 4) (skip.Refused EndGroup) (skipValue s at type))
+
+-- and then on, where it is passed
+abbrev pub andOn : (ℕ → Skip) → Skip → Skip
+andOn go (skip.Next e) = go e
+andOn go (skip.Refused why) = skip.Refused why
+
+-- in a group n, from a tag on: 16 at the end, 14 at an end tag of another number
+abbrev pub inGroup : (ℕ → ℕ → ℕ → Skip) → ℕ → List ℕ → ℕ → Tag → Skip
+inGroup go l s n tag.End = skip.Refused GroupOpen
+inGroup go l s n (tag.Refused why) = skip.Refused why
+inGroup go l s n (tag.Field m type to) =
+    cond (eqb type 4) (cond (eqb m n) (skip.Next to) (skip.Refused EndGroup))
+    (andOn (λ e. go l e n) (passed go l s to m type))
+
+-- the first number only bounds the recursion: each tag takes a byte, so one more than the bytes left is always enough
+unfoldable pub skipFrom : ℕ → List ℕ → ℕ → ℕ → ℕ → Skip
+skipFrom zero s l at n = skip.Refused GroupOpen
+skipFrom (suc k) s l at n = inGroup (skipFrom k s) l s n (readTag s at)
+
+unfoldable pub skipGroup : ℕ → List ℕ → ℕ → ℕ → Skip
+skipGroup l s at n = skipFrom (suc (length s - at)) s l at n
+
+-- past the value of a field n, where l groups more may open
+unfoldable pub skipField : Mode → ℕ → List ℕ → ℕ → ℕ → ℕ → Skip
+skipField Plain l s at n type = skipValue s at type
+skipField Groups l s at n type = passed (λ j. skipGroup j s) l s at n type
 
 -- ---- a field, with its value
 abbrev pub ofValue : ℕ → ℕ → ℕ → VarintValue → Step
@@ -99,28 +140,28 @@ ofSkip n type at (skip.Next e) =
     step.At (record { field = n; «wire_type» = type; «tag_end» = at; value = 0; start = at; next = e })
 ofSkip n type at (skip.Refused why) = step.Refused why
 
-unfoldable pub readValue : List ℕ → ℕ → ℕ → ℕ → Step
-readValue s n type at =
+unfoldable pub readValue : Mode → List ℕ → ℕ → ℕ → ℕ → Step
+readValue mode s n type at =
     cond (eqb type 0) (ofValue n type at (readVarint s at))
-    (cond (eqb type 2) (ofPart n type at (readLen s at)) (ofSkip n type at (skipField s at type)))
+    (cond (eqb type 2) (ofPart n type at (readLen s at)) (ofSkip n type at (skipField mode maxGroups s at n type)))
 
-abbrev pub ofTag : List ℕ → Tag → Step
-ofTag s tag.End = step.End
-ofTag s (tag.Refused why) = step.Refused why
-ofTag s (tag.Field n type at) = readValue s n type at
+abbrev pub ofTag : Mode → List ℕ → Tag → Step
+ofTag mode s tag.End = step.End
+ofTag mode s (tag.Refused why) = step.Refused why
+ofTag mode s (tag.Field n type at) = readValue mode s n type at
 
-unfoldable pub readField : List ℕ → ℕ → Step
-readField s at = ofTag s (readTag s at)
+unfoldable pub readField : Mode → List ℕ → ℕ → Step
+readField mode s at = ofTag mode s (readTag s at)
 
 -- ---- the host's walk: a tag and what it skips, of a body of at most 65,536 bytes
 abbrev pub walkSkip : ℕ → ℕ → ℕ → Skip → Walk
 walkSkip n type at (skip.Next e) = walk.Field n type at (record { at = e })
 walkSkip n type at (skip.Refused why) = walk.Refused (here why)
 
-abbrev pub walkTag : List ℕ → Tag → Walk
-walkTag s tag.End = walk.End
-walkTag s (tag.Refused why) = walk.Refused (here why)
-walkTag s (tag.Field n type at) = walkSkip n type at (skipField s at type)
+abbrev pub walkTag : Mode → List ℕ → Tag → Walk
+walkTag mode s tag.End = walk.End
+walkTag mode s (tag.Refused why) = walk.Refused (here why)
+walkTag mode s (tag.Field n type at) = walkSkip n type at (skipField mode maxGroups s at n type)
 
-unfoldable pub walkStep : List ℕ → ℕ → Walk
-walkStep s at = cond (ltb 65536 (length s)) (walk.Refused (nowhere (TooLarge (length s)))) (walkTag s (readTag s at))
+unfoldable pub walkStep : Mode → List ℕ → ℕ → Walk
+walkStep mode s at = cond (ltb 65536 (length s)) (walk.Refused (nowhere (TooLarge (length s)))) (walkTag mode s (readTag s at))

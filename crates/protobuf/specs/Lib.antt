@@ -3,9 +3,9 @@
 -- On the way to them: EncodeLaws.
 pub mod Refusal
 pub mod Told
+pub mod Grammar
 pub mod Field
 pub mod Laws
-pub mod Grammar
 pub mod Walk
 pub mod RefusalLaws
 pub mod WalkLaws

@@ -4,7 +4,7 @@ use Prim.Native.Nat.{ℕ}
 use mathlib.Core.List.{List, [], _∷_}
 use Rattle.basis.specs.declared.Told.{Told}
 use Rattle.basis.specs.Refusals.{too-large, field-overflow, unsupported-wire-type, invalid-field-number, invalid-utf8}
-use Rattle.basis.specs.Refusals.{too-many-records, short-room}
+use Rattle.basis.specs.Refusals.{too-many-records, short-room, end-group, group-depth, group-open}
 use Rattle.basis.specs.Told.{told, placed, done, valuesOf}
 use Rattle.peer_id.specs.Told.{varintTold}
 use Rattle.protobuf.specs.declared.Cursor.{Cursor}
@@ -35,6 +35,9 @@ wireTold (wire.FieldOverflow offset size remaining) = told field-overflow (offse
 wireTold (wire.UnsupportedWireType type offset) = told unsupported-wire-type (type ∷ offset ∷ [])
 wireTold (wire.InvalidFieldNumber field offset) = told invalid-field-number (field ∷ offset ∷ [])
 wireTold (wire.InvalidUtf8 offset) = told invalid-utf8 (offset ∷ [])
+wireTold wire.EndGroup = told end-group []
+wireTold wire.GroupDepth = told group-depth []
+wireTold wire.GroupOpen = told group-open []
 wireTold (wire.TooLarge len) = told too-large (len ∷ [])
 wireTold (wire.TooManyRecords records) = told too-many-records (records ∷ [])
 

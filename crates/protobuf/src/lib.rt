@@ -10,9 +10,10 @@ ghost use mathlib.Core.Bool.{true};
 ghost use Rattle.basis.specs.Writing.{endIn, setIn};
 ghost use Rattle.basis.specs.Unique.{Leaves};
 ghost use Rattle.peer_id.specs.Uvarint.{readUvarint};
-ghost use Rattle.protobuf.specs.Field.{readTag, readLen, readString, readVarint, skipFixed, skipField, readValue, readField, walkStep};
+ghost use Rattle.protobuf.specs.Field.{readTag, readLen, readString, readVarint, skipFixed, skipField, skipGroup, readValue, readField, walkStep};
 ghost use Rattle.protobuf.specs.Refusal.{spotOf, here, nowhere};
 ghost use Rattle.protobuf.specs.Encode.{tag, varintField, bytesField, tagRefused, encoded, left};
+use basis::Mode;
 use basis::Spot;
 use basis::has_room;
 use peer_id::Uvarint;
@@ -21,14 +22,21 @@ use peer_id::put_uvarint;
 use peer_id::read_uvarint;
 use peer_id::uvarint_len;
 
-// Wire types: varint, 64-bit, length-delimited, 32-bit.
+// Wire types: varint, 64-bit, length-delimited, start and end of a group, 32-bit.
 pub const WIRE_VARINT: u8 = 0;
 
 pub const WIRE_I64: u8 = 1;
 
 pub const WIRE_LEN: u8 = 2;
 
+pub const WIRE_START_GROUP: u8 = 3;
+
+pub const WIRE_END_GROUP: u8 = 4;
+
 pub const WIRE_I32: u8 = 5;
+
+// How many groups may stand open, one in another.
+pub const MAX_GROUPS: u8 = 32;
 
 // The largest field number, 2^29 - 1.
 pub const MAX_FIELD_NUMBER: u64 = 536870911;
@@ -36,7 +44,7 @@ pub const MAX_FIELD_NUMBER: u64 = 536870911;
 // The largest body, in bytes.
 pub const MAX_RPC_SIZE: usize = 65536;
 
-// Why a body is refused: 1 to 7 with the Rust's names, then 10 and 11, which the Rust does not have. An offset counts from the start of the slice
+// Why a body is refused: 1 to 7 with the Rust's names, then 14 to 16 of groups, and 10 and 11, which the Rust does not have. An offset counts from the start of the slice
 // that was read: of a bad varint it is its first byte's, and the Rust does not have it.
 pub enum WireError {
     Varint {
@@ -59,6 +67,9 @@ pub enum WireError {
     InvalidUtf8 {
         offset: usize,
     },
+    EndGroup,
+    GroupDepth,
+    GroupOpen,
     TooLarge {
         len: usize,
     },
@@ -90,6 +101,9 @@ pub fn spot_of(why: WireError) -> Spot
         } => Spot::at(offset),
         WireError::InvalidFieldNumber { field: _, offset } => Spot::at(offset),
         WireError::InvalidUtf8 { offset } => Spot::at(offset),
+        WireError::EndGroup => Spot::Nowhere,
+        WireError::GroupDepth => Spot::Nowhere,
+        WireError::GroupOpen => Spot::Nowhere,
         WireError::TooLarge { len: _ } => Spot::Nowhere,
         WireError::TooManyRecords { records: _ } => Spot::Nowhere,
     }
@@ -278,9 +292,16 @@ fn advance(input: &[u8], idx: usize, n: usize) -> Skip
     Skip::Next(idx + n)
 }
 
-// Past the value of a field whose tag ends at idx.
-pub fn skip_field(input: &[u8], idx: usize, wire_type: u8) -> Skip
-    ensures { λ r. ⌜ r ≡ skipField (now (input .entry)) idx «wire_type» ⌝ }
+// Past the value of a field whose tag ends at idx, where so many groups more may open.
+pub fn skip_field(
+    mode: Mode,
+    levels: u8,
+    input: &[u8],
+    idx: usize,
+    field: u64,
+    wire_type: u8,
+) -> Skip
+    ensures { λ r. ⌜ r ≡ skipField mode levels (now (input .entry)) idx field «wire_type» ⌝ }
 {
     if wire_type == WIRE_VARINT {
         let v = read_varint_value(input, idx);
@@ -302,15 +323,67 @@ pub fn skip_field(input: &[u8], idx: usize, wire_type: u8) -> Skip
     if wire_type == WIRE_I64 {
         return advance(input, idx, 8);
     }
+    if let Mode::Groups = mode {
+        if wire_type == WIRE_START_GROUP {
+            if levels == 0 {
+                return Skip::Refused(WireError::GroupDepth);
+            }
+            return skip_group(levels - 1, input, idx, field);
+        }
+        if wire_type == WIRE_END_GROUP {
+            return Skip::Refused(WireError::EndGroup);
+        }
+    }
     Skip::Refused(WireError::UnsupportedWireType {
         wire_type,
         offset: idx,
     })
 }
 
+// Past the fields of a group, from idx, and its end tag, which has the group's number. The fields are gone along in a loop: only a group in the
+// group is a call.
+fn skip_group(levels: u8, input: &[u8], idx: usize, field: u64) -> Skip
+    ensures { λ r. ⌜ r ≡ skipGroup levels (now (input .entry)) idx field ⌝ }
+{
+    let mut at = idx;
+    while at < input.len() {
+        let t = read_tag(input, at);
+        match t {
+            Tag::End => {
+                return Skip::Refused(WireError::GroupOpen);
+            }
+            Tag::Refused(why) => {
+                return Skip::Refused(why);
+            }
+            Tag::Field {
+                field: number,
+                wire_type,
+                next,
+            } => {
+                if wire_type == WIRE_END_GROUP {
+                    if number == field {
+                        return Skip::Next(next);
+                    }
+                    return Skip::Refused(WireError::EndGroup);
+                }
+                let k = skip_field(Mode::Groups, levels, input, next, number, wire_type);
+                match k {
+                    Skip::Refused(why) => {
+                        return Skip::Refused(why);
+                    }
+                    Skip::Next(end) => {
+                        at = end;
+                    }
+                }
+            }
+        }
+    }
+    Skip::Refused(WireError::GroupOpen)
+}
+
 // The value of a field whose tag ends at tag_end.
-fn read_value(input: &[u8], field: u64, wire_type: u8, tag_end: usize) -> Step
-    ensures { λ r. ⌜ r ≡ readValue (now (input .entry)) field «wire_type» «tag_end» ⌝ }
+fn read_value(mode: Mode, input: &[u8], field: u64, wire_type: u8, tag_end: usize) -> Step
+    ensures { λ r. ⌜ r ≡ readValue mode (now (input .entry)) field «wire_type» «tag_end» ⌝ }
 {
     if wire_type == WIRE_VARINT {
         let v = read_varint_value(input, tag_end);
@@ -340,7 +413,7 @@ fn read_value(input: &[u8], field: u64, wire_type: u8, tag_end: usize) -> Step
             }),
         };
     }
-    let k = skip_field(input, tag_end, wire_type);
+    let k = skip_field(mode, MAX_GROUPS, input, tag_end, field, wire_type);
     match k {
         Skip::Refused(why) => Step::Refused(why),
         Skip::Next(next) => Step::At(Field {
@@ -355,8 +428,8 @@ fn read_value(input: &[u8], field: u64, wire_type: u8, tag_end: usize) -> Step
 }
 
 // The field at idx, its tag and its value, however long they are.
-fn read_long_field(input: &[u8], idx: usize) -> Step
-    ensures { λ r. ⌜ r ≡ readField (now (input .entry)) idx ⌝ }
+fn read_long_field(mode: Mode, input: &[u8], idx: usize) -> Step
+    ensures { λ r. ⌜ r ≡ readField mode (now (input .entry)) idx ⌝ }
 {
     let t = read_tag(input, idx);
     match t {
@@ -366,7 +439,7 @@ fn read_long_field(input: &[u8], idx: usize) -> Step
             field,
             wire_type,
             next,
-        } => read_value(input, field, wire_type, next),
+        } => read_value(mode, input, field, wire_type, next),
     }
 }
 
@@ -396,8 +469,8 @@ fn is_middle(t: u8, b: u8, h: u8) -> bool
 }
 
 // The same; a number whose tag and value are a byte each, and a length of two bytes, are read without a call.
-fn read_any_field(input: &[u8], idx: usize) -> Step
-    ensures { λ r. ⌜ r ≡ readField (now (input .entry)) idx ⌝ }
+fn read_any_field(mode: Mode, input: &[u8], idx: usize) -> Step
+    ensures { λ r. ⌜ r ≡ readField mode (now (input .entry)) idx ⌝ }
 {
     if idx < input.len() {
         let tag_end = idx + 1;
@@ -435,7 +508,7 @@ fn read_any_field(input: &[u8], idx: usize) -> Step
             }
         }
     }
-    read_long_field(input, idx)
+    read_long_field(mode, input, idx)
 }
 
 // Whether a tag and what follows it, a length or a value, are a byte each, and the tag is of this wire type.
@@ -459,15 +532,15 @@ fn is_short(wire_type: u8, t: u8, b: u8) -> bool
 
 // The field at idx, its tag and its value: the step that every decoder of a submessage takes. A length-delimited field whose tag and length are a byte each is
 // read without a call.
-pub fn read_field(input: &[u8], idx: usize) -> Step
-    ensures { λ r. ⌜ r ≡ readField (now (input .entry)) idx ⌝ }
+pub fn read_field(mode: Mode, input: &[u8], idx: usize) -> Step
+    ensures { λ r. ⌜ r ≡ readField mode (now (input .entry)) idx ⌝ }
 {
     if input.len() <= idx {
         return Step::End;
     }
     let tag_end = idx + 1;
     if input.len() <= tag_end {
-        return read_any_field(input, idx);
+        return read_any_field(mode, input, idx);
     }
     let t = input[idx];
     let l = input[tag_end];
@@ -485,7 +558,7 @@ pub fn read_field(input: &[u8], idx: usize) -> Step
             });
         }
     }
-    read_any_field(input, idx)
+    read_any_field(mode, input, idx)
 }
 
 // A place in a body, from which the host reads one top-level field after the other.
@@ -507,8 +580,8 @@ pub enum Walk {
 
 impl Cursor {
     // The field at the cursor, as read_tag and skip_field give it.
-    pub fn step(self, body: &[u8]) -> Walk
-        ensures { λ r. ⌜ r ≡ walkStep (now (body .entry)) (self .at) ⌝ }
+    pub fn step(self, mode: Mode, body: &[u8]) -> Walk
+        ensures { λ r. ⌜ r ≡ walkStep mode (now (body .entry)) (self .at) ⌝ }
     {
         let at = self.at;
         if MAX_RPC_SIZE < body.len() {
@@ -523,7 +596,7 @@ impl Cursor {
                 wire_type,
                 next,
             } => {
-                let k = skip_field(body, next, wire_type);
+                let k = skip_field(mode, MAX_GROUPS, body, next, field, wire_type);
                 match k {
                     Skip::Refused(why) => Walk::Refused(Refusal::here(why)),
                     Skip::Next(end) => Walk::Field {

@@ -35,6 +35,9 @@ pub fn told_wire(why: WireError) -> Told
             offset as u64,
         ),
         WireError::InvalidUtf8 { offset } => Told::one(refusals::INVALID_UTF8, offset as u64),
+        WireError::EndGroup => Told::none(refusals::END_GROUP),
+        WireError::GroupDepth => Told::none(refusals::GROUP_DEPTH),
+        WireError::GroupOpen => Told::none(refusals::GROUP_OPEN),
         WireError::TooLarge { len } => Told::one(refusals::TOO_LARGE, len as u64),
         WireError::TooManyRecords { records } => Told::one(
             refusals::TOO_MANY_RECORDS,

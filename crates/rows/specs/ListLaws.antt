@@ -36,3 +36,8 @@ pub map-drop : {A B : Type 0} (f : A → B) (k : ℕ) (l : List A) → map f (dr
 map-drop f zero l = refl
 map-drop f (suc k) [] = refl
 map-drop f (suc k) (x ∷ l) = map-drop f k l
+
+pub map-take : {A B : Type 0} (f : A → B) (k : ℕ) (l : List A) → map f (take k l) ≡ take k (map f l)
+map-take f zero l = refl
+map-take f (suc k) [] = refl
+map-take {B = B} f (suc k) (x ∷ l) = ap (λ (m : List B). f x ∷ m) (map-take f k l)

@@ -1,5 +1,5 @@
--- `basis::dialect_of` meets its contract: its edition is the one that the number names.
-use mathlib.Core.Path.{ap}
+-- `basis::dialect_of` meets its contract: its edition and its mode are those that the number names.
+use mathlib.Core.Path.{ap₂}
 use Rattle.basis.specs.Dialect.{spoken, dialectOf}
 use borrow.Author.Needs.{needs}
 use Rattle.basis.proofs.dialect_of.Statement.{statement}
@@ -8,9 +8,12 @@ use Rattle.basis.proofs.dialect_of.Tie as tie
 edition-of-requires : tie.Need-edition-of-requires
 edition-of-requires c κs = search needs
 
+mode-of-requires : tie.Need-mode-of-requires
+mode-of-requires c κs = search needs
+
 returns : tie.Need-returns
 unfolding dialectOf
-returns c = ap spoken (c .edition-of .ensures)
+returns c = ap₂ spoken (c .mode-of .ensures) (c .before .edition-of .ensures)
 
 pub dialect-of-spec : {M : Type 1} → statement M
-dialect-of-spec = tie.close (tie.spec edition-of-requires returns)
+dialect-of-spec = tie.close (tie.spec edition-of-requires mode-of-requires returns)
