@@ -41,6 +41,13 @@ pub data BodyIn : ℕ → List ℕ → List Entry → Type 0 where
       → BodyIn (suc l) (uvarint (n * 8 + 3) ++ ((v ++ uvarint (n * 8 + 4)) ++ rest))
       (record { field = n; payload = group v } ∷ es)
 
+-- what may stand after the tag of a field n, so that the field can stand in a body: a value, or a group's fields and its
+-- end tag
+pub data Holds : ℕ → ℕ → ℕ → List ℕ → Payload → Type 0 where
+  value : {l n type : ℕ} {v : List ℕ} {p : Payload} → Value type v p → Holds l n type v p
+  grouped : {l n : ℕ} {v : List ℕ} {is : List Entry} → BodyIn l v is
+      → Holds (suc l) n 3 (v ++ uvarint (n * 8 + 4)) (group v)
+
 abbrev pub maxGroups : ℕ
 maxGroups = 32
 

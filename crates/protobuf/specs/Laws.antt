@@ -101,7 +101,7 @@ value-moves s at type e h =
     (λ t1. clash (let k = simp (t0, t2, t5, t1) at h in cc)))))
 
 -- ---- groups: what passes the fields of a group moves on, and the bound on the recursion does not show
-abbrev Moves : List ℕ → (ℕ → ℕ → ℕ → Skip) → Type 0
+abbrev pub Moves : List ℕ → (ℕ → ℕ → ℕ → Skip) → Type 0
 Moves s go = (l at n e : ℕ) → skip.Next e ≡ go l at n → (at < e) × (e ≤ length s)
 
 module _ (s : List ℕ) (go : ℕ → ℕ → ℕ → Skip) (moves : Moves s go) where
@@ -163,7 +163,7 @@ module _ (s : List ℕ) (go : ℕ → ℕ → ℕ → Skip) (moves : Moves s go)
         (λ x p. let y = passed-moves l e m type x p in h l x n (omega arith) (y .1))
         ∙ ap (andOn (λ x. to l x n)) (same-passed l e m type (λ j. h j e m (t .0) (t .1)))))
 
-from-moves : (k : ℕ) (s : List ℕ) → Moves s (skipFrom k s)
+pub from-moves : (k : ℕ) (s : List ℕ) → Moves s (skipFrom k s)
 unfolding skipFrom
 from-moves zero s l at n e h = clash (cc)
 from-moves (suc k) s l at n e h = in-moves s (skipFrom k s) (from-moves k s) l at n e (readTag s at) refl h

@@ -1,6 +1,6 @@
 -- To be believed: Refusal, Told, Field, Grammar, Faults, Walk, Encode.
 -- Theorems: Laws, RefusalLaws, WalkLaws, Exactly, FaultLaws, Rows, Refused.
--- On the way to them: EncodeLaws.
+-- On the way to them: EncodeLaws, Spelt, GroupLaws.
 pub mod Refusal
 pub mod Told
 pub mod Grammar
@@ -9,6 +9,8 @@ pub mod Laws
 pub mod Walk
 pub mod RefusalLaws
 pub mod WalkLaws
+pub mod Spelt
+pub mod GroupLaws
 pub mod Exactly
 pub mod Encode
 pub mod Faults
